@@ -1,0 +1,61 @@
+-- What a command does to its source and its sink.
+use Rattle.std.specs.Prelude.{◌≡◌, ℕ, ◌+◌, List, Option, Result, Ok, Err}
+use Rattle.std.specs.Io.KnownBytes.{Consumes, IsAtEnd, Appends, Keeps}
+use Rattle.boc.specs.declared.fault.Fault.{Fault}
+use Rattle.boc.specs.declared.fault.Fault.TheVariants as faults
+use Rattle.boc.specs.Streams.{StopsAt}
+
+-- the source gave an input to its end, and this text is the answer to it
+pub record AnswersInput (IsAnswer : List ℕ → List ℕ → Type 0) (before after : Option (List ℕ)) (text : List ℕ) : Type 0 where
+  pub input : List ℕ
+  pub taken : Consumes before after input
+  pub whole : IsAtEnd after
+  pub answers : IsAnswer input text
+
+-- The answer went out, and nothing else. Where the sink failed, a beginning of the answer did; after every other fault nothing.
+abbrev pub Leaves : {A : Type 0} → (List ℕ → Type 0) → Result A Fault → Option (List ℕ) → Option (List ℕ) → Type 0
+Leaves IsText (Ok done) old new = (text : List ℕ) × IsText text × Appends old new text
+Leaves IsText (Err (faults.Sink gone)) old new = (text : List ℕ) × IsText text × StopsAt gone text old new
+Leaves IsText (Err (faults.Words e)) old new = Keeps old new
+Leaves IsText (Err (faults.Program r)) old new = Keeps old new
+Leaves IsText (Err faults.Behaviours) old new = Keeps old new
+Leaves IsText (Err faults.Memory) old new = Keeps old new
+Leaves IsText (Err faults.Source) old new = Keeps old new
+
+-- the source failed where that is the answer, and there alone
+abbrev pub CountsSource : {A : Type 0} → Result A Fault → ℕ → ℕ → Type 0
+CountsSource (Err faults.Source) old new = new ≡ old + 1
+CountsSource (Err (faults.Sink gone)) old new = new ≡ old
+CountsSource (Err (faults.Words e)) old new = new ≡ old
+CountsSource (Err (faults.Program r)) old new = new ≡ old
+CountsSource (Err faults.Behaviours) old new = new ≡ old
+CountsSource (Err faults.Memory) old new = new ≡ old
+CountsSource (Ok done) old new = new ≡ old
+
+-- the sink failed where that is the answer, and there alone
+abbrev pub CountsSink : {A : Type 0} → Result A Fault → ℕ → ℕ → Type 0
+CountsSink (Err (faults.Sink gone)) old new = new ≡ old + 1
+CountsSink (Err faults.Source) old new = new ≡ old
+CountsSink (Err (faults.Words e)) old new = new ≡ old
+CountsSink (Err (faults.Program r)) old new = new ≡ old
+CountsSink (Err faults.Behaviours) old new = new ≡ old
+CountsSink (Err faults.Memory) old new = new ≡ old
+CountsSink (Ok done) old new = new ≡ old
+
+-- a fault of what was read, of its run or of memory, and of no device
+abbrev pub IsOfInput : Fault → Type 0
+IsOfInput (faults.Words e) = ⊥
+IsOfInput (faults.Program r) = Unit {0}
+IsOfInput faults.Behaviours = Unit {0}
+IsOfInput faults.Memory = Unit {0}
+IsOfInput faults.Source = ⊥
+IsOfInput (faults.Sink gone) = ⊥
+
+-- a fault of the words, or want of memory
+abbrev pub IsOfWords : Fault → Type 0
+IsOfWords (faults.Words e) = Unit {0}
+IsOfWords faults.Memory = Unit {0}
+IsOfWords (faults.Program r) = ⊥
+IsOfWords faults.Behaviours = ⊥
+IsOfWords faults.Source = ⊥
+IsOfWords (faults.Sink gone) = ⊥

@@ -1,0 +1,138 @@
+// Why a command did not do what it was asked for.
+
+use crate::whole::{Stopped, TextFault};
+use boc_eval::serial::SerialFault;
+use boc_reader::{ReadFault, ReadFaultKind};
+use std::alloc::{AllocError, AllocFailed, Global};
+use thiserror::Error;
+
+/// Why a command was refused or failed. Its text is the line for standard error.
+#[derive(Debug, Drop, Error)]
+pub enum Fault {
+    /// The words of the command line, with the parser's own text.
+    #[error("{0}")]
+    Words(clap::Error),
+    /// The program text.
+    #[error("boc: {0}")]
+    Program(ReadFault),
+    /// The serial run would need more behaviours than a run may have.
+    #[error("boc: run: 2 Behaviours")]
+    Behaviours,
+    /// Memory was refused.
+    #[error("boc: memory")]
+    Memory,
+    /// The source failed.
+    #[error("boc: device")]
+    Source,
+    /// The sink failed, after the first `gone` bytes of the output.
+    #[error("boc: device")]
+    Sink { gone: usize },
+}
+
+impl Fault {
+    ghost use Rattle.std.specs.Prelude.{◌≡◌};
+    ghost use Rattle.boc.specs.Faults.{status_of, gone_of};
+
+    /// The status of the program: 2 where the words were refused, 3 where the input was, 4 where the
+    /// run was, 5 where memory was or a device failed.
+    pub fn status(&self) -> u8
+        ensures { result ≡ status_of self.now }
+    {
+        match self {
+            Fault::Words(_) => 2,
+            Fault::Program(_) => 3,
+            Fault::Behaviours => 4,
+            Fault::Memory | Fault::Source | Fault::Sink { .. } => 5,
+        }
+    }
+
+    /// How many bytes of the output went out before the sink failed, where it failed.
+    pub fn gone(&self) -> Option<usize>
+        ensures { result ≡ gone_of self.now }
+    {
+        match self {
+            Fault::Sink { gone } => Some(*gone),
+            _ => None,
+        }
+    }
+
+    /// The line for standard error, without its line feed. For refused words it is the parser's text.
+    pub fn line(&self, alloc: Global) -> Result<String, AllocError> {
+        self.to_string(alloc)
+    }
+}
+
+impl From<TextFault> for Fault {
+    ghost use Rattle.std.specs.Prelude.{◌≡◌};
+    ghost use Rattle.boc.specs.Faults.{of_text};
+
+    ghost from_gives = { λ t f. f ≡ of_text t };
+
+    fn from(fault: TextFault) -> Fault {
+        match fault {
+            TextFault::Memory => Fault::Memory,
+            TextFault::Device => Fault::Source,
+        }
+    }
+}
+
+impl From<ReadFault> for Fault {
+    ghost use Rattle.std.specs.Prelude.{◌≡◌};
+    ghost use Rattle.boc.specs.Faults.{of_read};
+
+    ghost from_gives = { λ r f. f ≡ of_read r r.kind };
+
+    fn from(fault: ReadFault) -> Fault {
+        match fault.kind {
+            ReadFaultKind::Memory => Fault::Memory,
+            _ => Fault::Program(fault),
+        }
+    }
+}
+
+impl From<SerialFault> for Fault {
+    ghost use Rattle.std.specs.Prelude.{◌≡◌};
+    ghost use Rattle.boc.specs.Faults.{of_serial};
+
+    ghost from_gives = { λ s f. f ≡ of_serial s };
+
+    fn from(fault: SerialFault) -> Fault {
+        match fault {
+            SerialFault::Memory => Fault::Memory,
+            SerialFault::Behaviours => Fault::Behaviours,
+        }
+    }
+}
+
+impl From<Stopped> for Fault {
+    ghost use Rattle.std.specs.Prelude.{◌≡◌};
+    ghost use Rattle.boc.specs.declared.fault.Fault.TheVariants.{Sink};
+
+    ghost from_gives = { λ s f. f ≡ Sink s.gone };
+
+    fn from(stopped: Stopped) -> Fault {
+        Fault::Sink { gone: stopped.gone }
+    }
+}
+
+impl From<AllocError> for Fault {
+    ghost use Rattle.std.specs.Prelude.{◌≡◌};
+    ghost use Rattle.boc.specs.declared.fault.Fault.TheVariants.{Memory};
+
+    ghost from_gives = { λ _ f. f ≡ Memory };
+
+    fn from(_error: AllocError) -> Fault {
+        Fault::Memory
+    }
+}
+
+impl<T: Drop> From<AllocFailed<T>> for Fault {
+    ghost use Rattle.std.specs.Prelude.{◌≡◌};
+    ghost use Rattle.boc.specs.declared.fault.Fault.TheVariants.{Memory};
+
+    ghost from_gives = { λ _ f. f ≡ Memory };
+
+    fn from(_error: AllocFailed<T>) -> Fault {
+        Fault::Memory
+    }
+}

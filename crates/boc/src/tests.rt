@@ -1,0 +1,217 @@
+use crate::bytes::Bytes;
+use crate::fail_at::FailAt;
+use crate::fault::Fault;
+use crate::values::values_cmd;
+use crate::words::{Command, read_words};
+use std::alloc::{AllocError, Global};
+use std::test::*;
+
+const TRANSFER: &str = "cown a = 10; cown b = 0;
+def add(k; x) { x = x + k; }
+def move(k; x, y) { x = x - k; y = y + k; }
+main { when add(5; a); when move(3; a, b); when add(1; b); }
+";
+
+/// What `values` did: its status, its line on standard error, and its output.
+#[derive(Drop)]
+struct Answer {
+    status: u8,
+    line: String,
+    output: Vec<u8>,
+}
+
+fn bytes(alloc: Global, text: &str) -> Result<Bytes, AllocError> {
+    Ok(Bytes::new(Vec::from_slice(alloc, text.as_bytes())?))
+}
+
+fn answered(alloc: Global, text: &str) -> Result<Answer, AllocError> {
+    let mut source = bytes(alloc, text)?;
+    let mut sink = bytes(alloc, "")?;
+    let (status, line) = match values_cmd(alloc, &mut source, &mut sink) {
+        Ok(()) => (0, String::new(alloc)),
+        Err(fault) => (fault.status(), fault.line(alloc)?),
+    };
+    Ok(Answer {
+        status,
+        line,
+        output: sink.bytes,
+    })
+}
+
+#[test]
+fn values_of_programs(rt: HostRuntime) -> Result<(), Fail> {
+    for (text, output) in [
+        (TRANSFER, "a 12\nb 4\n"),
+        ("main { }", ""),
+        (
+            "cown a = 10; cown b = 0;
+             def move(k; x, y) { x = x - k; y = y + k; }
+             main { when move(1; a, a); }",
+            "a 10\nb 0\n",
+        ),
+        (
+            "cown a = 9223372036854775807; def up(; x) { x = x + 1; x = 0; } main { when up(; a); }",
+            "a 9223372036854775807\n",
+        ),
+        (
+            "cown low = -9223372036854775807; main { }",
+            "low -9223372036854775807\n",
+        ),
+    ] {
+        let answer = answered(rt.alloc(), text)?;
+        assert_eq!(rt; answer.status, 0, "{text}");
+        assert_eq!(rt; answer.line.as_str(), "", "{text}");
+        assert_eq!(rt; answer.output.as_slice(), output.as_bytes(), "{text}");
+    }
+    Ok(())
+}
+
+#[test]
+fn refusals(rt: HostRuntime) -> Result<(), Fail> {
+    for (text, status, line) in [
+        (
+            "def f(;) { when f(;); } main { when f(;); }",
+            4,
+            "boc: run: 2 Behaviours",
+        ),
+        ("main { when f(;); }", 3, "boc: line 1: 5 UnknownName"),
+        ("main { work 1; }", 3, "boc: line 1: 3 Unexpected"),
+        ("", 3, "boc: line 1: 3 Unexpected"),
+        ("main { when f(1", 3, "boc: line 1: 3 Unexpected"),
+        ("main { x = 01; }", 3, "boc: line 1: 2 BadToken"),
+        (
+            "cown a = 9223372036854775808; main { }",
+            3,
+            "boc: line 1: 4 NumberTooLarge",
+        ),
+        (
+            "cown a = 0;\ncown a = 1; main { }",
+            3,
+            "boc: line 2: 6 NameTaken",
+        ),
+        (
+            "def f(k; x) { } main { when f(; ); }",
+            3,
+            "boc: line 1: 7 WrongCount",
+        ),
+        (
+            "def f(a, b, c, d, e, f, g, h, i;) { } main { }",
+            3,
+            "boc: line 1: 8 TooMany",
+        ),
+        ("main {\n\u{e9} }", 3, "boc: line 2: 1 NotAscii"),
+    ] {
+        let answer = answered(rt.alloc(), text)?;
+        assert_eq!(rt; answer.status, status, "{text}");
+        assert_eq!(rt; answer.line.as_str(), line, "{text}");
+        assert_eq!(rt; answer.output.len(), 0, "{text}");
+    }
+    Ok(())
+}
+
+/// An empty program with so many spaces behind it.
+fn padded(alloc: Global, spaces: usize) -> Result<Bytes, AllocError> {
+    let mut text = Vec::from_slice(alloc, b"main { }")?;
+    let end = 8 + spaces;
+    text.resize(end, b' ')?;
+    Ok(Bytes::new(text))
+}
+
+#[test]
+fn longest_text(rt: HostRuntime) -> Result<(), Fail> {
+    let alloc = rt.alloc();
+    let mut sink = bytes(alloc, "")?;
+    assert!(rt; values_cmd(alloc, &mut padded(alloc, 65_528)?, &mut sink).is_ok());
+    let mut source = padded(alloc, 70_000)?;
+    match values_cmd(alloc, &mut source, &mut sink) {
+        Err(fault) => assert_eq!(rt; fault.line(alloc)?.as_str(), "boc: line 1: 9 TooLong"),
+        Ok(()) => assert!(rt; false, "a text of 70,008 bytes is taken"),
+    }
+    assert_eq!(rt; source.taken, 65_537);
+    assert_eq!(rt; sink.bytes.len(), 0);
+    Ok(())
+}
+
+#[test]
+fn one_read_fails(rt: HostRuntime) -> Result<(), Fail> {
+    let alloc = rt.alloc();
+    let reads = TRANSFER.len().div_ceil(5) as u64 + 1;
+    for k in 1..=reads + 1 {
+        let mut source = FailAt::new(bytes(alloc, TRANSFER)?, k, 5);
+        let mut sink = bytes(alloc, "")?;
+        match values_cmd(alloc, &mut source, &mut sink) {
+            Ok(()) => {
+                assert_eq!(rt; k, reads + 1);
+                assert_eq!(rt; sink.bytes.as_slice(), b"a 12\nb 4\n".as_slice());
+            }
+            Err(fault) => {
+                assert!(rt; k <= reads);
+                assert_eq!(rt; fault.line(alloc)?.as_str(), "boc: device");
+                assert_eq!(rt; fault.status(), 5);
+                assert_eq!(rt; sink.bytes.len(), 0);
+            }
+        }
+    }
+    Ok(())
+}
+
+#[test]
+fn one_write_fails(rt: HostRuntime) -> Result<(), Fail> {
+    let alloc = rt.alloc();
+    for (k, gone) in [(1, Some(0)), (2, Some(7)), (3, None)] {
+        let mut source = bytes(alloc, TRANSFER)?;
+        let mut sink = FailAt::new(bytes(alloc, "")?, k, 7);
+        let went_out = match values_cmd(alloc, &mut source, &mut sink) {
+            Ok(()) => 9,
+            Err(fault) => {
+                assert_eq!(rt; fault.line(alloc)?.as_str(), "boc: device");
+                assert_eq!(rt; fault.status(), 5);
+                assert_eq!(rt; fault.gone(), gone);
+                fault.gone().unwrap_or(0)
+            }
+        };
+        assert_eq!(rt;
+            Some(sink.inner.bytes.as_slice()),
+            b"a 12\nb 4\n".get(..went_out)
+        );
+    }
+    Ok(())
+}
+
+fn words(alloc: Global, given: &[&str]) -> Result<Vec<String>, AllocError> {
+    let mut words = Vec::new(alloc);
+    for word in given {
+        words.push(String::from_str(alloc, word)?)?;
+    }
+    Ok(words)
+}
+
+#[test]
+fn command_lines(rt: HostRuntime) -> Result<(), Fail> {
+    let alloc = rt.alloc();
+    let found = read_words(alloc, &words(alloc, &["boc", "values"])?);
+    assert!(rt; matches!(found, Ok(Command::Values)));
+    for given in [
+        ["boc", "--help"].as_slice(),
+        &["boc", "help"],
+        &["boc", "values", "-h"],
+    ] {
+        let found = read_words(alloc, &words(alloc, given)?);
+        assert!(rt; matches!(found, Ok(Command::Help(_))), "{given:?}");
+    }
+    for given in [
+        ["boc"].as_slice(),
+        &["boc", "nothing"],
+        &["boc", "values", "more"],
+        &["boc", "values", "--p", "2"],
+    ] {
+        match read_words(alloc, &words(alloc, given)?) {
+            Err(fault) => {
+                assert!(rt; matches!(fault, Fault::Words(_)), "{given:?}");
+                assert_eq!(rt; fault.status(), 2, "{given:?}");
+            }
+            Ok(_) => assert!(rt; false, "{given:?} is taken"),
+        }
+    }
+    Ok(())
+}

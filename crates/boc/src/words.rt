@@ -1,0 +1,80 @@
+// The words of the command line.
+
+ghost use Rattle.boc.specs.Commands.{IsOfWords};
+ghost use Rattle.std.specs.Prelude.{IfErr};
+
+use crate::fault::Fault;
+use clap::error::ErrorKind;
+use std::alloc::{AllocError, Global};
+
+/// What the words ask for.
+#[derive(Debug, Drop)]
+pub enum Command {
+    /// The values after the serial run of a program.
+    Values,
+    /// The parser's own text, for standard output.
+    Help(String),
+}
+
+/// What the words of a command line ask for, the program's own name first.
+///
+/// Words that the parser refuses are a fault with its text.
+pub fn read_words(alloc: Global, words: &[String]) -> Result<Command, Fault>
+    ensures { IfErr result IsOfWords }
+{
+    match parsed(alloc, words) {
+        Ok(command) => Ok(command),
+        Err(error) => refused(alloc, error),
+    }
+}
+
+/// The fault of words that are no text.
+pub fn not_text(alloc: Global) -> Fault
+    ensures { IsOfWords result }
+{
+    let error = match parser(alloc) {
+        Ok(mut parser) => parser.error(ErrorKind::ValueValidation, "a word is no text"),
+        Err(_) => return Fault::Memory,
+    };
+    match error {
+        Ok(error) => Fault::Words(error),
+        Err(_) => Fault::Memory,
+    }
+}
+
+/// What the parser accepts.
+fn parser<'a>(alloc: Global) -> Result<clap::Command<'a>, AllocError> {
+    let values = clap::Command::new(alloc, "values").about(
+        "Reads a program, runs it serially, and prints the values of its cowns",
+    );
+    clap::Command::new(alloc, "boc")
+        .about("Runs and profiles programs under behaviour-oriented concurrency")
+        .subcommand_required(true)
+        .arg_required_else_help(true)
+        .subcommand(values)
+}
+
+/// The command that the parser finds in the words.
+fn parsed(alloc: Global, words: &[String]) -> Result<Command, clap::Error> {
+    let mut parser = parser(alloc)?;
+    let name = parser
+        .try_get_matches_from_mut(words)?
+        .subcommand_name()
+        .is_some_and(|name| name == "values");
+    if name {
+        Ok(Command::Values)
+    } else {
+        Err(parser.error(ErrorKind::MissingSubcommand, "no command is named")?)
+    }
+}
+
+/// What becomes of words that have no matches: a call for help is answered.
+fn refused(alloc: Global, error: clap::Error) -> Result<Command, Fault>
+    ensures { IfErr result IsOfWords }
+{
+    match error.kind() {
+        ErrorKind::OutOfMemory => Err(Fault::Memory),
+        ErrorKind::DisplayHelp => Ok(Command::Help(error.to_string(alloc)?)),
+        _ => Err(Fault::Words(error)),
+    }
+}

@@ -1,0 +1,39 @@
+-- Lists of declarations and of statements, as what they form.
+use Rattle.std.proofs.Common.{◌≡◌, ℕ, ◌+◌, List, [], ◌∷◌, length, refl, ap, arith}
+use Rattle.boc_types.specs.Words.{Word}
+use Rattle.boc_types.specs.Shape.{each_words, list_nodes, Cown, members, cowns_declared, HaveMembers, Def, AreSmallDefs, Stmt, stmt_words, stmt_nodes, block_words, block_nodes, IsSmallBlock}
+use Rattle.boc_reader.specs.Grammar.{cown_phrase, def_phrase, stmt_phrase}
+use Rattle.boc_reader.specs.Views.{block_from}
+use Rattle.boc_reader.proofs.Each.{AllSmall}
+
+pub cowns_declared-list : (cs : List Cown) → cowns_declared cs ≡ list_nodes (λ c. members c.size) cs
+cowns_declared-list [] = refl
+cowns_declared-list (c ∷ cs) = ap (λ n. members c.size + n) (cowns_declared-list cs)
+
+pub have_members : (cs : List Cown) → AllSmall cown_phrase cs → HaveMembers cs
+have_members [] h = tt
+have_members (c ∷ cs) h = (h.0, have_members cs h.1)
+
+pub length-list : {X : Type 0} (xs : List X) → length xs ≡ list_nodes (λ (x : X). 1) xs
+length-list [] = refl
+length-list (x ∷ xs) = let h = length-list xs in omega arith
+
+pub small_defs : (ds : List Def) → AllSmall def_phrase ds → AreSmallDefs ds
+small_defs [] h = tt
+small_defs (d ∷ ds) h = (h.0, small_defs ds h.1)
+
+pub block_words-list : (ss : List Stmt) (rest : List Word) → each_words stmt_words ss rest ≡ block_words (block_from ss) rest
+block_words-list [] rest = refl
+block_words-list (s ∷ ss) rest = ap (stmt_words s) (block_words-list ss rest)
+
+pub block_nodes-list : (ss : List Stmt) → block_nodes (block_from ss) ≡ list_nodes stmt_nodes ss
+block_nodes-list [] = refl
+block_nodes-list (s ∷ ss) = ap (λ n. stmt_nodes s + n) (block_nodes-list ss)
+
+pub small_block : (ss : List Stmt) → AllSmall stmt_phrase ss → IsSmallBlock (block_from ss)
+small_block [] h = tt
+small_block (s ∷ ss) h = (h.0, small_block ss h.1)
+
+pub names_nodes : (xs : List (List ℕ)) → list_nodes (λ (x : List ℕ). 0) xs ≡ 0
+names_nodes [] = refl
+names_nodes (x ∷ xs) = let h = names_nodes xs in omega arith

@@ -1,0 +1,38 @@
+-- Phrases of a kind, one after another.
+use Rattle.std.proofs.Common.{◌≡◌, ℕ, ◌+◌, ◌<◌, ◌≤◌, List, [], ◌∷◌, ◌++◌, length, sym, ap, ◌∙◌, refl, subst, arith}
+use Rattle.boc_types.specs.Words.{Word}
+use Rattle.boc_types.specs.Shape.{each_words, list_nodes}
+use Rattle.boc_reader.specs.Phrases.{Ahead, Phrase, Stands}
+
+abbrev pub AllSmall : {X : Type 0} → Phrase X → List X → Type 0
+AllSmall kind [] = Unit {0}
+AllSmall kind (x ∷ xs) = kind.IsSmall x × AllSmall kind xs
+
+-- these were read
+pub record ReadEach {X : Type 0} (kind : Phrase X) (old now : Ahead) (xs : List X) : Type 0 where
+  pub words : old.words ≡ each_words kind.words xs now.words
+  pub room : list_nodes kind.nodes xs + now.room ≡ old.room
+  pub small : AllSmall kind xs
+  pub shorter : length now.words ≤ length old.words
+
+each_words-append : {X : Type 0} (words : X → List Word → List Word) (xs : List X) (x : X) (rest : List Word) → each_words words (xs ++ x ∷ []) rest ≡ each_words words xs (words x rest)
+each_words-append words [] x rest = refl
+each_words-append words (y ∷ ys) x rest = ap (words y) (each_words-append words ys x rest)
+
+pub list_nodes-append : {X : Type 0} (nodes : X → ℕ) (xs ys : List X) → list_nodes nodes (xs ++ ys) ≡ list_nodes nodes xs + list_nodes nodes ys
+list_nodes-append nodes [] ys = omega arith
+list_nodes-append nodes (x ∷ xs) ys = let h = list_nodes-append nodes xs ys in omega arith
+
+all_small_more : {X : Type 0} (kind : Phrase X) (xs : List X) (x : X) → AllSmall kind xs → kind.IsSmall x → AllSmall kind (xs ++ x ∷ [])
+all_small_more kind [] x h k = (k, tt)
+all_small_more kind (y ∷ ys) x h k = (h.0, all_small_more kind ys x h.1 k)
+
+pub read_each_more : {X : Type 0} (kind : Phrase X) (old mid new : Ahead) (xs all : List X) (x : X) → ReadEach kind old mid xs → Stands kind mid x new.words → kind.nodes x + new.room ≡ mid.room → length new.words < length mid.words → all ≡ xs ++ x ∷ [] → ReadEach kind old new all
+read_each_more kind old mid new xs all x so_far item room shorter more =
+    let n = list_nodes-append kind.nodes xs (x ∷ []) in
+    subst (ReadEach kind old new) (sym more) (record {
+      words = so_far.words ∙ ap (each_words kind.words xs) item.words ∙ sym (each_words-append kind.words xs x new.words);
+      room = omega (arith, so_far.room);
+      small = all_small_more kind xs x so_far.small item.small;
+      shorter = omega (arith, so_far.shorter);
+    })

@@ -1,0 +1,14 @@
+pub mod Texts
+pub mod Each
+pub mod Lists
+pub mod Blocks
+pub mod ResolvingLists
+pub mod ResolvingScopes
+pub mod ResolvingTop
+pub mod ResolvingKeeps
+pub mod ResolvingExprs
+pub mod ResolvingBodies
+pub mod ResolvingSlots
+pub mod ResolvingParameters
+pub mod ResolvingOrder
+pub mod ResolvingPrograms

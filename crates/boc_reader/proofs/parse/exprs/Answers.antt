@@ -1,0 +1,25 @@
+use Rattle.std.proofs.Common.{map, length, ap, sym, ◌∙◌, arith}
+use Rattle.std.proofs.lemmas.List.{map_push, length-map}
+use Rattle.boc_types.specs.declared.token.Sign.TheVariants.{Close, Semicolon}
+use Rattle.boc_reader.specs.Phrases.{Ahead}
+use Rattle.boc_reader.specs.Grammar.{expr_phrase}
+use Rattle.boc_reader.specs.Views.{expr_of}
+use Rattle.boc_reader.proofs.Lists.{read_comma, read_last}
+use Rattle.boc_reader.proofs.parse.exprs.Goals as goal
+
+pub returns-then-accept-2-clause-answers : goal.returns-then-accept-2-clause-answers
+returns-then-accept-2-clause-answers c =
+    let item = c.in_ok-expr.ensures.answers in
+    let taken = c.if-accept-2.ensures.taken in
+    read_last expr_phrase Semicolon _ _ _ _ _ _ _ c.exprs.invariant item.0 item.1 c.in_ok-expr.ensures.shorter taken.0 taken.1
+    (omega (arith, length-map c.exprs.all.items expr_of, c.if-len-eq-LISTED.false, c.len.ensures, c.exprs.invariant.few))
+    (ap (map expr_of) c.in_ok-push.ensures.items ∙ map_push expr_of c.exprs.all.items c.in_ok-expr.field-0)
+
+pub exprs-preserved : goal.exprs-preserved
+exprs-preserved c =
+    let item = c.in_ok-expr.ensures.answers in
+    let same = c.if-accept-2.ensures.stays.0 in
+    read_comma expr_phrase _ _ _ _ _ _ _ c.exprs.invariant item.0 item.1 c.in_ok-expr.ensures.shorter
+    (ap (λ (a : Ahead). a.words) (sym same) ∙ c.in_ok-take.ensures.0) (c.in_ok-take.ensures.1 ∙ ap (λ (a : Ahead). a.room) same)
+    (omega (arith, length-map c.exprs.all.items expr_of, c.if-len-eq-LISTED.false, c.len.ensures, c.exprs.invariant.few))
+    (ap (map expr_of) c.in_ok-push.ensures.items ∙ map_push expr_of c.exprs.all.items c.in_ok-expr.field-0)

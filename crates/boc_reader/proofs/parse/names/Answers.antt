@@ -1,0 +1,26 @@
+use Rattle.std.proofs.Common.{map, length, ap, sym, ◌∙◌, arith, ◌≤◌}
+use Rattle.std.proofs.lemmas.List.{map_push, length-map}
+use Rattle.boc_reader.specs.Phrases.{Ahead, Stands}
+use Rattle.boc_reader.specs.Grammar.{name_phrase}
+use Rattle.boc_reader.specs.Views.{name_of}
+use Rattle.boc_reader.proofs.Lists.{read_comma, read_last}
+use Rattle.boc_reader.proofs.parse.names.Goals as goal
+
+pub returns-then-accept-2-clause-answers : goal.returns-then-accept-2-clause-answers
+returns-then-accept-2-clause-answers c =
+    let taken = c.if-accept-2.ensures.taken in
+    read_last name_phrase c.args.close _ _ c.name.new.self _ _ _ _ c.names.invariant
+    (record { words = c.in_ok-name.ensures.0; ends = tt; fits = omega arith; small = tt })
+    (omega (arith, c.in_ok-name.ensures.1)) (omega (arith, ap length c.in_ok-name.ensures.0)) taken.0 taken.1
+    (omega (arith, length-map c.names.all.items name_of, c.if-len-eq-LISTED.false, c.len.ensures, c.names.invariant.few))
+    (ap (map name_of) c.in_ok-push.ensures.items ∙ map_push name_of c.names.all.items c.in_ok-name.field-0)
+
+pub names-preserved : goal.names-preserved
+names-preserved c =
+    let same = c.if-accept-2.ensures.stays.0 in
+    read_comma name_phrase _ _ c.name.new.self _ _ _ _ c.names.invariant
+    (record { words = c.in_ok-name.ensures.0; ends = tt; fits = omega arith; small = tt })
+    (omega (arith, c.in_ok-name.ensures.1)) (omega (arith, ap length c.in_ok-name.ensures.0))
+    (ap (λ (a : Ahead). a.words) (sym same) ∙ c.in_ok-take.ensures.0) (c.in_ok-take.ensures.1 ∙ ap (λ (a : Ahead). a.room) same)
+    (omega (arith, length-map c.names.all.items name_of, c.if-len-eq-LISTED.false, c.len.ensures, c.names.invariant.few))
+    (ap (map name_of) c.in_ok-push.ensures.items ∙ map_push name_of c.names.all.items c.in_ok-name.field-0)

@@ -1,0 +1,25 @@
+use Rattle.std.proofs.Common.{map, length, ap, sym, ◌∙◌, arith}
+use Rattle.std.proofs.lemmas.List.{map_push, length-map}
+use Rattle.boc_types.specs.declared.token.Sign.TheVariants.{Close, Semicolon}
+use Rattle.boc_reader.specs.Phrases.{Ahead}
+use Rattle.boc_reader.specs.Grammar.{ref_phrase}
+use Rattle.boc_reader.specs.Views.{ref_of}
+use Rattle.boc_reader.proofs.Lists.{read_comma, read_last}
+use Rattle.boc_reader.proofs.parse.refs.Goals as goal
+
+pub returns-then-accept-2-clause-answers : goal.returns-then-accept-2-clause-answers
+returns-then-accept-2-clause-answers c =
+    let item = c.in_ok-reference.ensures.answers in
+    let taken = c.if-accept-2.ensures.taken in
+    read_last ref_phrase Close _ _ _ _ _ _ _ c.refs.invariant item.0 item.1 c.in_ok-reference.ensures.shorter taken.0 taken.1
+    (omega (arith, length-map c.refs.all.items ref_of, c.if-len-eq-LISTED.false, c.len.ensures, c.refs.invariant.few))
+    (ap (map ref_of) c.in_ok-push.ensures.items ∙ map_push ref_of c.refs.all.items c.in_ok-reference.field-0)
+
+pub refs-preserved : goal.refs-preserved
+refs-preserved c =
+    let item = c.in_ok-reference.ensures.answers in
+    let same = c.if-accept-2.ensures.stays.0 in
+    read_comma ref_phrase _ _ _ _ _ _ _ c.refs.invariant item.0 item.1 c.in_ok-reference.ensures.shorter
+    (ap (λ (a : Ahead). a.words) (sym same) ∙ c.in_ok-take.ensures.0) (c.in_ok-take.ensures.1 ∙ ap (λ (a : Ahead). a.room) same)
+    (omega (arith, length-map c.refs.all.items ref_of, c.if-len-eq-LISTED.false, c.len.ensures, c.refs.invariant.few))
+    (ap (map ref_of) c.in_ok-push.ensures.items ∙ map_push ref_of c.refs.all.items c.in_ok-reference.field-0)

@@ -1,0 +1,108 @@
+-- What the names of a phrase stand for, as the program keeps it in memory.
+use Rattle.std.specs.Prelude.{◌≡◌, ℕ, ◌+◌, ◌≤◌, List, [], ◌∷◌, ◌++◌, map, length, Option, Some, None, Result, Ok, Err, if◌then◌else◌}
+use Rattle.std.proofs.Common.{Bor}
+use Rattle.std.specs.Option.{option_map, option_and_then}
+use Rattle.boc_types.specs.declared.body.Operator.{Operator}
+use Rattle.boc_types.specs.declared.body.Expr.{Expr}
+use Rattle.boc_types.specs.declared.body.Stmt.{Stmt}
+use Rattle.boc_types.specs.declared.body.Stmt.TheVariants as stmts
+use Rattle.boc_types.specs.View.{term_of, place_of}
+use Rattle.boc_types.specs.Shape.{Cown, Def, Tree, members}
+use Rattle.boc_types.specs.Names.{Named, Left, Step, Set, Spend, Choose, Loop, Spawn, Global, Callee, Top, Outside, PlainBody, PlainProgram, among, top_names, are_free, body_names, plain_cown}
+use Rattle.boc_reader.specs.declared.fault.Fault.{Fault}
+use Rattle.boc_reader.specs.declared.fault.Fault.TheVariants.{Memory, At}
+use Rattle.boc_reader.specs.declared.fault.NameFault.{NameFault}
+use Rattle.boc_reader.specs.declared.names.top.Global.{Global as Global'}
+use Rattle.boc_reader.specs.declared.names.top.Callee.{Callee as Callee'}
+use Rattle.boc_reader.specs.declared.names.top.Top.{Top as Top'}
+use Rattle.boc_reader.specs.declared.names.top.Outside.{Outside as Outside'}
+use Rattle.boc_reader.specs.Views.{name_of}
+
+-- what was resolved is what the names give, and a fault is told where they give nothing, unless memory was refused
+abbrev pub Yields : {X Y : Type 0} → (Y → X) → Result Y (Fault NameFault) → Option X → Type 0
+Yields view (Ok y) found = found ≡ Some (view y)
+Yields view (Err Memory) found = Unit {0}
+Yields view (Err (At kind place)) found = found ≡ None
+
+-- the same of a statement, with the names in scope behind it
+abbrev pub YieldsIn : {X Y : Type 0} → (Y → X) → Result Y (Fault NameFault) → List Named → Option (X × List Named) → Type 0
+YieldsIn view (Ok y) scope found = found ≡ Some (view y, scope)
+YieldsIn view (Err Memory) scope found = Unit {0}
+YieldsIn view (Err (At kind place)) scope found = found ≡ None
+
+abbrev pub names_of : List (Bor Named) → List Named
+names_of ns = map (λ n. n.now) ns
+
+abbrev pub left_of : Option (Expr × Operator) → Left
+left_of left = option_map (λ l. (term_of l.0, l.1)) left
+
+abbrev pub step_of : Stmt → Step
+step_of (stmts.Assign slot e) = Set slot (term_of e)
+step_of (stmts.Work e) = Spend (term_of e)
+step_of (stmts.If e a b) = Choose (term_of e) a b
+step_of (stmts.Repeat e a) = Loop (term_of e) a
+step_of (stmts.When kind args refs) = Spawn kind (map term_of args.items) (map place_of refs.items)
+
+abbrev pub global_of : Global' → Global
+global_of g = record { name = g.name.now; first = g.first; size = g.size }
+
+abbrev pub callee_of : Callee' → Callee
+callee_of d = record { name = d.name.now; args = d.args; cowns = d.cowns }
+
+abbrev pub declared_of : Top' → Top
+declared_of t = record { cowns = map global_of t.cowns.items; defs = map callee_of t.defs.items }
+
+abbrev pub outside_of : Outside' → Outside
+outside_of o = record { top = declared_of o.top.now; held = map name_of o.held.now }
+
+-- the scope with further names, where each is free where it is declared
+abbrev pub scope_with : Top → List Named → List Named → Option (List Named)
+scope_with top scope xs = if are_free top scope xs then Some (scope ++ xs) else None
+
+-- the cowns end at `most` at the latest
+abbrev pub EndWithin : ℕ → List Global → Type 0
+EndWithin most [] = Unit {0}
+EndWithin most (g ∷ gs) = (g.first + members g.size ≤ most) × EndWithin most gs
+
+-- The same names in the order of the text, where a fault is found at the first of its places.
+
+abbrev pub cown_names : List Global → List Named
+cown_names gs = map (λ g. g.name) gs
+
+abbrev pub global_at : ℕ → Cown → Global
+global_at n c = record { name = c.name; first = n; size = c.size }
+
+abbrev pub callee_for : Def → Callee
+callee_for d = record { name = d.name; args = length d.params; cowns = length d.cowns }
+
+-- the cowns behind others, where no name stands twice
+abbrev pub cowns_behind : List Global → ℕ → List Cown → Option (List Global)
+cowns_behind before n [] = Some before
+cowns_behind before n (c ∷ cs) =
+    if among (cown_names before) c.name then None else cowns_behind (before ++ global_at n c ∷ []) (n + members c.size) cs
+
+-- the defs behind others, where the first def of a name counts, and none that has a cown's name
+abbrev pub defs_behind : List Global → List Callee → List Def → List Callee
+defs_behind cowns before [] = before
+defs_behind cowns before (d ∷ ds) =
+    if among (top_names (record { cowns = cowns; defs = before })) d.name then defs_behind cowns before ds
+    else defs_behind cowns (before ++ callee_for d ∷ []) ds
+
+abbrev pub def_names : Top → Def → Option PlainBody
+def_names top d = body_names top d.params d.cowns d.block
+
+-- the bodies of defs, where none of them has a name that stands before it
+abbrev pub bodies_behind : Top → List Named → List Def → Option (List PlainBody)
+bodies_behind top before [] = Some []
+bodies_behind top before (d ∷ ds) =
+    if among before d.name then None
+    else option_and_then (λ b. option_map (λ bs. b ∷ bs) (bodies_behind top (before ++ d.name ∷ []) ds)) (def_names top d)
+
+abbrev pub top_in_order : Tree → Option Top
+top_in_order t = option_map (λ gs. let top : Top = record { cowns = gs; defs = defs_behind gs [] t.defs } in top) (cowns_behind [] 0 t.cowns)
+
+-- the program of a tree, by way of what is declared at its top, the bodies of its defs, and main's
+abbrev pub program_in_order : Tree → Option PlainProgram
+program_in_order t =
+    option_and_then (λ top. option_and_then (λ defs. option_map (λ main. let p : PlainProgram = record { cowns = map plain_cown t.cowns; bodies = main ∷ defs } in p)
+    (body_names top [] [] t.main)) (bodies_behind top (cown_names top.cowns) t.defs)) (top_in_order t)

@@ -1,0 +1,220 @@
+// A place among the tokens.
+
+ghost use Rattle.std.specs.Prelude.{◌≡◌, ◌≢◌, ◌+◌, ◌<◌, ◌∷◌, [], ℕ, List, drop, MatchResult, MatchOption};
+ghost use Rattle.std.specs.Bool.{OnTrue, OnFalse};
+ghost use Rattle.boc_types.specs.Words.{Word, name, number, keyword, sign};
+ghost use Rattle.boc_types.specs.Shape.{sum_sign};
+ghost use Rattle.boc_types.specs.declared.level.SumOperator.{SumOperator};
+ghost use Rattle.boc_reader.specs.Placed.{word_of, words_of, Refusal};
+
+use crate::fault::{Fault, ShapeFault};
+use crate::natural::Natural;
+use crate::shape::Spot;
+use crate::token::{Placed, Token};
+use boc_types::level::SumOperator;
+use boc_types::token::{Keyword, Sign};
+use std::marker::Model;
+use std::mem;
+
+/// What is left of the tokens, and the room there: how many more nodes the body may have, or how
+/// many more cowns or defs the text.
+#[derive(Drop)]
+pub struct Cursor<'t, 'a> {
+    rest: &'t [Placed<'a>],
+    end: usize,
+    room: u32,
+}
+
+impl<'t, 'a> Model for Cursor<'t, 'a> {
+    ghost use Rattle.boc_reader.specs.Placed.{words_of};
+    ghost use Rattle.boc_reader.specs.Phrases.{Ahead};
+
+    ghost Value = { Ahead };
+
+    ghost view = { λ c. record { words = words_of c.rest.now; room = c.room } };
+}
+
+impl<'t, 'a> Cursor<'t, 'a> {
+    /// In front of all tokens of a text that ends at this byte.
+    pub fn new(tokens: &'t [Placed<'a>], end: usize, room: u32) -> Cursor<'t, 'a>
+        ensures words { result.words ≡ words_of tokens.now }
+        ensures room { result.room ≡ room }
+    {
+        Cursor {
+            rest: tokens,
+            end,
+            room,
+        }
+    }
+
+    /// The place of the next token, or the end of the text.
+    pub fn place(&self) -> usize {
+        match self.rest {
+            [] => self.end,
+            [first, ..] => first.at,
+        }
+    }
+
+    /// The next token is not what the grammar allows there.
+    pub fn unexpected(&self) -> Fault<ShapeFault> {
+        Fault::At(ShapeFault::Unexpected, self.place())
+    }
+
+    /// The next token.
+    pub fn peek(&self) -> Option<Token<'a>>
+        ensures { MatchOption result (self.now.words ≡ [])
+            (λ t. self.now.words ≡ word_of t ∷ drop 1 self.now.words) }
+    {
+        match self.rest {
+            [] => None,
+            [first, ..] => Some(first.token),
+        }
+    }
+
+    /// Goes past the next token.
+    pub fn skip(&mut self)
+        requires { self.old.words ≢ [] }
+        ensures words { self.new.words ≡ drop 1 self.old.words }
+        ensures room { self.new.room ≡ self.old.room }
+    {
+        self.rest = &self.rest[1..];
+    }
+
+    /// Sets the room, and gives back what there was.
+    pub fn refill(&mut self, room: u32) -> u32
+        ensures words { self.new.words ≡ self.old.words }
+        ensures room { self.new.room ≡ room }
+        ensures had { result ≡ self.old.room }
+    {
+        mem::replace(&mut self.room, room)
+    }
+
+    /// Takes so much room for what stands at this byte.
+    pub fn take_room(&mut self, count: u64, at: usize) -> Result<(), Fault<ShapeFault>>
+        ensures words { self.new.words ≡ self.old.words }
+        ensures room { MatchResult result (λ _. count + self.new.room ≡ self.old.room)
+            (λ f. Refusal f (self.old.room < count)) }
+    {
+        if u64::from(self.room) < count {
+            return Err(Fault::At(ShapeFault::TooMany, at));
+        }
+        self.room -= count as u32;
+        Ok(())
+    }
+
+    /// Takes the room of one node, which the next token begins.
+    pub fn node(&mut self) -> Result<(), Fault<ShapeFault>>
+        ensures words { self.new.words ≡ self.old.words }
+        ensures room { MatchResult result (λ _. 1 + self.new.room ≡ self.old.room)
+            (λ f. Refusal f (self.old.room ≡ 0)) }
+    {
+        self.take_room(1, self.place())
+    }
+
+    /// Whether the next token is this keyword.
+    pub fn is_next(&self, wanted: Keyword) -> bool
+        ensures next { OnTrue result (self.now.words ≡ keyword wanted ∷ drop 1 self.now.words) }
+        ensures other { OnFalse result ((after : List Word) → self.now.words ≢ keyword wanted ∷ after) }
+    {
+        matches!(self.peek(), Some(Token::Keyword(found)) if found == wanted)
+    }
+
+    /// Goes past this sign, if it is next.
+    pub fn accept(&mut self, wanted: Sign) -> bool
+        ensures taken { OnTrue result ((self.old.words ≡ sign wanted ∷ self.new.words) × (self.new.room ≡ self.old.room)) }
+        ensures stays { OnFalse result ((self.new ≡ self.old) × ((after : List Word) → self.old.words ≢ sign wanted ∷ after)) }
+    {
+        match self.peek() {
+            Some(Token::Sign(found)) if found == wanted => {
+                self.skip();
+                true
+            }
+            _ => false,
+        }
+    }
+
+    /// Goes past this sign.
+    pub fn take(&mut self, wanted: Sign) -> Result<(), Fault<ShapeFault>>
+        ensures { MatchResult result (λ _. (self.old.words ≡ sign wanted ∷ self.new.words) × (self.new.room ≡ self.old.room))
+            (λ f. Refusal f ((after : List Word) → self.old.words ≢ sign wanted ∷ after)) }
+    {
+        match self.peek() {
+            Some(Token::Sign(found)) if found == wanted => {
+                self.skip();
+                Ok(())
+            }
+            _ => Err(self.unexpected()),
+        }
+    }
+
+    /// Goes past this keyword.
+    pub fn keyword(&mut self, wanted: Keyword) -> Result<(), Fault<ShapeFault>>
+        ensures { MatchResult result (λ _. (self.old.words ≡ keyword wanted ∷ self.new.words) × (self.new.room ≡ self.old.room))
+            (λ f. Refusal f ((after : List Word) → self.old.words ≢ keyword wanted ∷ after)) }
+    {
+        match self.peek() {
+            Some(Token::Keyword(found)) if found == wanted => {
+                self.skip();
+                Ok(())
+            }
+            _ => Err(self.unexpected()),
+        }
+    }
+
+    /// Goes past a name.
+    pub fn name(&mut self) -> Result<Spot<'a>, Fault<ShapeFault>>
+        ensures { MatchResult result (λ x. (self.old.words ≡ name x.name.now ∷ self.new.words) × (self.new.room ≡ self.old.room))
+            (λ f. Refusal f ((x : List ℕ) (after : List Word) → self.old.words ≢ name x ∷ after)) }
+    {
+        match self.peek() {
+            Some(Token::Name(name)) => {
+                let at = self.place();
+                self.skip();
+                Ok(Spot { name, at })
+            }
+            _ => Err(self.unexpected()),
+        }
+    }
+
+    /// Goes past a number.
+    pub fn number(&mut self) -> Result<Natural, Fault<ShapeFault>>
+        ensures { MatchResult result (λ n. (self.old.words ≡ number n.value ∷ self.new.words) × (self.new.room ≡ self.old.room))
+            (λ f. Refusal f ((n : ℕ) (after : List Word) → self.old.words ≢ number n ∷ after)) }
+    {
+        match self.peek() {
+            Some(Token::Number(n)) => {
+                self.skip();
+                Ok(n)
+            }
+            _ => Err(self.unexpected()),
+        }
+    }
+
+    /// Goes past an operator between terms, which is a node, if one is next.
+    pub fn sum_operator(&mut self) -> Result<Option<SumOperator>, Fault<ShapeFault>>
+        ensures { MatchResult result
+            (λ found. MatchOption found
+            ((self.new ≡ self.old) × ((op : SumOperator) (after : List Word) → self.old.words ≢ sign (sum_sign op) ∷ after))
+            (λ op. (self.old.words ≡ sign (sum_sign op) ∷ self.new.words) × (1 + self.new.room ≡ self.old.room)))
+            (λ f. Refusal f ((self.old.room ≡ 0) × (op : SumOperator) × (self.old.words ≡ sign (sum_sign op) ∷ drop 1 self.old.words))) }
+    {
+        let op = match self.peek() {
+            Some(Token::Sign(Sign::Plus)) => SumOperator::Add,
+            Some(Token::Sign(Sign::Minus)) => SumOperator::Subtract,
+            _ => return Ok(None),
+        };
+        self.node()?;
+        self.skip();
+        Ok(Some(op))
+    }
+
+    /// Tells that no token is left.
+    pub fn end(&self) -> Result<(), Fault<ShapeFault>>
+        ensures { MatchResult result (λ _. self.now.words ≡ []) (λ f. Refusal f (self.now.words ≢ [])) }
+    {
+        match self.peek() {
+            None => Ok(()),
+            Some(_) => Err(self.unexpected()),
+        }
+    }
+}

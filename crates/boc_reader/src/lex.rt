@@ -1,0 +1,281 @@
+// From bytes to tokens.
+
+ghost use Rattle.std.specs.Prelude.{◌≡◌, ◌≢◌, ◌+◌, ◌<◌, ◌≤◌, ◌^◌, ◌&&◌, ◌∷◌, ◌++◌, [], ℕ, List, All, length, nat_lt, MatchResult, MatchOption, IfSome, IfOk, true, false, Some, None};
+ghost use Rattle.std.specs.Bool.{OnTrue};
+ghost use Rattle.std.specs.Char.{is_ascii_digit};
+ghost use Rattle.std.specs.List.{take_while, list_all};
+ghost use Rattle.std.specs.Str.{IsAscii};
+ghost use Rattle.boc_reader.specs.Placed.{word_of, words_of, Refusal};
+ghost use Rattle.boc_types.specs.Words.{sign};
+ghost use Rattle.boc_types.specs.Tokens.{is_word_byte, is_blank, is_numeral, value_of, begins_with_digit, word_of_run, keyword_of, single_sign, pair_sign, put, words_of_text, IsApart};
+
+use crate::fault::{Fault, TokenFault};
+use crate::natural::Natural;
+use crate::token::{Placed, Token};
+use boc_types::token::{Keyword, Sign};
+use std::alloc::Global;
+
+fn is_word_byte(b: u8) -> bool
+    ensures { result ≡ is_word_byte b }
+{
+    b.is_ascii_alphanumeric() || b == b'_'
+}
+
+fn is_blank(b: u8) -> bool
+    ensures { result ≡ is_blank b }
+{
+    b == b' ' || b == b'\t' || b == b'\r' || b == b'\n'
+}
+
+// How many word bytes stand at the front.
+fn run_len(text: &[u8]) -> usize
+    ensures { result ≡ length (take_while is_word_byte text.now) }
+{
+    text.iter().take_while(|b| is_word_byte(**b)).count()
+}
+
+fn keyword_of(run: &[u8]) -> Option<Keyword>
+    ensures { result ≡ keyword_of run.now }
+{
+    if run == b"cown".as_slice() {
+        Some(Keyword::Cown)
+    } else if run == b"def".as_slice() {
+        Some(Keyword::Def)
+    } else if run == b"main".as_slice() {
+        Some(Keyword::Main)
+    } else if run == b"let".as_slice() {
+        Some(Keyword::Let)
+    } else if run == b"work".as_slice() {
+        Some(Keyword::Work)
+    } else if run == b"if".as_slice() {
+        Some(Keyword::If)
+    } else if run == b"else".as_slice() {
+        Some(Keyword::Else)
+    } else if run == b"repeat".as_slice() {
+        Some(Keyword::Repeat)
+    } else if run == b"when".as_slice() {
+        Some(Keyword::When)
+    } else {
+        None
+    }
+}
+
+fn pair_sign(b: u8) -> Option<Sign>
+    ensures { result ≡ pair_sign b }
+{
+    match b {
+        b'=' => Some(Sign::Equal),
+        b'!' => Some(Sign::NotEqual),
+        b'<' => Some(Sign::AtMost),
+        b'>' => Some(Sign::AtLeast),
+        _ => None,
+    }
+}
+
+fn single_sign(b: u8) -> Option<Sign>
+    ensures { result ≡ single_sign b }
+{
+    match b {
+        b'=' => Some(Sign::Assign),
+        b'<' => Some(Sign::Less),
+        b'>' => Some(Sign::Greater),
+        b'+' => Some(Sign::Plus),
+        b'-' => Some(Sign::Minus),
+        b'*' => Some(Sign::Star),
+        b'/' => Some(Sign::Slash),
+        b'%' => Some(Sign::Percent),
+        b'(' => Some(Sign::Open),
+        b')' => Some(Sign::Close),
+        b'{' => Some(Sign::OpenBlock),
+        b'}' => Some(Sign::CloseBlock),
+        b'[' => Some(Sign::OpenIndex),
+        b']' => Some(Sign::CloseIndex),
+        b';' => Some(Sign::Semicolon),
+        b',' => Some(Sign::Comma),
+        _ => None,
+    }
+}
+
+fn are_digits(run: &[u8]) -> bool
+    ensures value { result ≡ list_all is_ascii_digit run.now }
+    ensures digits { OnTrue result (All (λ d. (48 ≤ d) × (d ≤ 57)) run.now) }
+{
+    run.iter().all(|d| d.is_ascii_digit())
+}
+
+fn is_numeral(run: &[u8]) -> bool
+    ensures value { result ≡ is_numeral run.now }
+    ensures digits { OnTrue result (All (λ d. (48 ≤ d) × (d ≤ 57)) run.now) }
+{
+    match run.split_first() {
+        None => false,
+        Some((first, others)) => are_digits(run) && (b'0' < *first || others.is_empty()),
+    }
+}
+
+const LARGEST: u64 = 9_223_372_036_854_775_807;
+
+fn number_of(run: &[u8]) -> Result<Natural, TokenFault>
+    ensures { MatchResult result (λ n. (is_numeral run.now ≡ true) × (value_of run.now < 2 ^ 63) × (n.value ≡ value_of run.now))
+        (λ _. (is_numeral run.now && nat_lt (value_of run.now) (2 ^ 63)) ≡ false) }
+{
+    if !is_numeral(run) {
+        return Err(TokenFault::BadToken);
+    }
+    let mut value = 0;
+    for byte in run {
+        let digit = u64::from(*byte - b'0');
+        if (LARGEST - digit) / 10 < value {
+            return Err(TokenFault::NumberTooLarge);
+        }
+        value = 10 * value + digit;
+    }
+    Ok(Natural { value })
+}
+
+// ASCII bytes, as the text that they are.
+fn ascii(bytes: &[u8]) -> &str
+    requires { IsAscii bytes.now }
+    ensures { result.now ≡ bytes.now }
+{
+    match str::from_utf8(bytes) {
+        Ok(text) => text,
+        Err(_) => unreachable!(),
+    }
+}
+
+fn begins_with_digit(run: &[u8]) -> bool
+    ensures { result ≡ begins_with_digit run.now }
+{
+    match run {
+        [] => false,
+        [first, ..] => first.is_ascii_digit(),
+    }
+}
+
+const LONGEST_NAME: usize = 32;
+
+// What a run of word bytes is.
+#[tactic(auto, unfolding(boc_types::specs::Tokens::word_of_run))]
+fn word<'a>(run: &'a [u8]) -> Result<Token<'a>, TokenFault>
+    requires { IsAscii run.now }
+    ensures { MatchResult result (λ t. word_of_run run.now ≡ Some (word_of t)) (λ _. word_of_run run.now ≡ None) }
+{
+    if begins_with_digit(run) {
+        return Ok(Token::Number(number_of(run)?));
+    }
+    match keyword_of(run) {
+        Some(keyword) => Ok(Token::Keyword(keyword)),
+        None if run.len() <= LONGEST_NAME => Ok(Token::Name(ascii(run))),
+        None => Err(TokenFault::BadToken),
+    }
+}
+
+// What follows a comment: the line feed, the end, or a byte that no text may have.
+fn after_comment(text: &[u8]) -> &[u8]
+    ensures skipped { words_of_text (35 ∷ text.now) ≡ words_of_text result.now }
+    ensures shorter { length result.now ≤ length text.now }
+{
+    let mut rest = text;
+    while let Some((first, after)) = rest.split_first() {
+        if *first == b'\n' || *first >= 128 {
+            break;
+        }
+        rest = after;
+    }
+    rest
+}
+
+// The longest run of word bytes at the front, and what follows it.
+fn split_run(text: &[u8]) -> Option<(&[u8], &[u8])>
+    ensures words { MatchOption result ((b : ℕ) (bs : List ℕ) → text.now ≡ b ∷ bs → is_word_byte b ≡ false)
+        (λ x. words_of_text text.now ≡ put (word_of_run x.0.now) (words_of_text x.1.now)) }
+    ensures ascii { IfSome result (λ x. IsAscii x.0.now) }
+    ensures shorter { IfSome result (λ x. length x.1.now < length text.now) }
+{
+    let len = run_len(text);
+    if len == 0 {
+        return None;
+    }
+    Some(text.split_at(len))
+}
+
+// A sign of two bytes at the front, and what follows it.
+fn split_pair(first: u8, after: &[u8]) -> Option<(Sign, &[u8])>
+    ensures words { MatchOption result (IsApart first after.now)
+        (λ x. words_of_text (first ∷ after.now) ≡ put (Some (sign x.0)) (words_of_text x.1.now)) }
+    ensures shorter { IfSome result (λ x. length x.1.now < length after.now) }
+{
+    match after.split_first() {
+        Some((second, others)) if *second == b'=' => match pair_sign(first) {
+            Some(sign) => Some((sign, others)),
+            None => None,
+        },
+        _ => None,
+    }
+}
+
+// The sign at the front, and what follows it.
+fn split_sign(first: u8, after: &[u8]) -> Result<(Sign, &[u8]), TokenFault>
+    requires no_word { is_word_byte first ≡ false }
+    requires no_blank { is_blank first ≡ false }
+    requires no_comment { first ≢ 35 }
+    ensures words { MatchResult result
+        (λ x. words_of_text (first ∷ after.now) ≡ put (Some (sign x.0)) (words_of_text x.1.now))
+        (λ _. words_of_text (first ∷ after.now) ≡ None) }
+    ensures shorter { IfOk result (λ x. length x.1.now ≤ length after.now) }
+{
+    if let Some(found) = split_pair(first, after) {
+        return Ok(found);
+    }
+    match single_sign(first) {
+        Some(sign) => Ok((sign, after)),
+        None if first >= 128 => Err(TokenFault::NotAscii),
+        None => Err(TokenFault::BadToken),
+    }
+}
+
+// The token at the front, and what follows it.
+fn split_token(text: &[u8]) -> Result<(Token<'_>, &[u8]), TokenFault>
+    requires some { text.now ≢ [] }
+    requires no_blank { (b : ℕ) (bs : List ℕ) → text.now ≡ b ∷ bs → (is_blank b ≡ false) × (b ≢ 35) }
+    ensures words { MatchResult result
+        (λ x. words_of_text text.now ≡ put (Some (word_of x.0)) (words_of_text x.1.now))
+        (λ _. words_of_text text.now ≡ None) }
+    ensures shorter { IfOk result (λ x. length x.1.now < length text.now) }
+{
+    if let Some((run, after)) = split_run(text) {
+        return Ok((word(run)?, after));
+    }
+    let Some((first, after)) = text.split_first() else {
+        unreachable!()
+    };
+    let (sign, after) = split_sign(*first, after)?;
+    Ok((Token::Sign(sign), after))
+}
+
+/// The tokens of a text, each with its place.
+pub fn tokens(alloc: Global, text: &[u8]) -> Result<Vec<Placed<'_>>, Fault<TokenFault>>
+    ensures { MatchResult result (λ v. words_of_text text.now ≡ Some (words_of v.items))
+        (λ f. Refusal f (words_of_text text.now ≡ None)) }
+{
+    let mut all = Vec::new(alloc);
+    let mut rest = text;
+    while let Some((first, after)) = rest.split_first() {
+        if is_blank(*first) {
+            rest = after;
+        } else if *first == b'#' {
+            rest = after_comment(after);
+        } else {
+            let at = text.len() - rest.len();
+            match split_token(rest) {
+                Ok((token, after)) => {
+                    all.push(Placed { token, at })?;
+                    rest = after;
+                }
+                Err(kind) => return Err(Fault::At(kind, at)),
+            }
+        }
+    }
+    Ok(all)
+}

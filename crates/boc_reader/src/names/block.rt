@@ -1,0 +1,183 @@
+// Statements, with every name resolved.
+
+ghost use Rattle.std.specs.Prelude.{◌≡◌, OnOk, map, take, length};
+ghost use Rattle.boc_types.specs.View.{place_of};
+ghost use Rattle.boc_types.specs.Shape.{member};
+ghost use Rattle.boc_types.specs.Names.{slot_of as slot_of_spec, global, held_or_single, ref_names, all_names, call_names, stmt_names, block_names};
+ghost use Rattle.boc_reader.specs.Views.{expr_of, ref_of, stmt_of, block_of};
+ghost use Rattle.boc_reader.specs.Resolving.{Yields, YieldsIn, names_of, step_of, outside_of};
+
+use crate::fault::{Fault, NameFault};
+use crate::names::expr::{resolve_expr, resolve_exprs, slot_of};
+use crate::names::top::{Outside, parameter_of};
+use crate::shape::{self, Ref, Spot};
+use boc_types::body::{Block, CownRef, Stmt};
+use std::alloc::Global;
+
+/// The cown that a name alone stands for: a cown parameter, or a single cown.
+fn resolve_alone(outside: &Outside<'_, '_>, spot: &Spot<'_>) -> Result<CownRef, Fault<NameFault>>
+    ensures { Yields place_of result (held_or_single (slot_of_spec (outside_of outside.now).held spot.now.name.now) (global (outside_of outside.now).top spot.now.name.now)) }
+{
+    if let Some(parameter) = parameter_of(outside.held, spot.name) {
+        return Ok(CownRef::Held(parameter));
+    }
+    match outside.top.cown(spot.name) {
+        None => Err(Fault::At(NameFault::UnknownName, spot.at)),
+        Some(cown) if cown.size.is_some() => Err(Fault::At(NameFault::WrongCount, spot.at)),
+        Some(cown) => Ok(CownRef::Single(cown.first)),
+    }
+}
+
+/// A member of an array.
+fn resolve_member(
+    alloc: Global,
+    outside: &Outside<'_, '_>,
+    scope: &[&str],
+    spot: &Spot<'_>,
+    index: &shape::Expr<'_>,
+) -> Result<CownRef, Fault<NameFault>>
+    ensures { Yields place_of result (ref_names (outside_of outside.now) (names_of scope.now) (member spot.now.name.now (expr_of index.now))) }
+{
+    let Some(cown) = outside.top.cown(spot.name) else {
+        let kind = if parameter_of(outside.held, spot.name).is_some() {
+            NameFault::WrongCount
+        } else {
+            NameFault::UnknownName
+        };
+        return Err(Fault::At(kind, spot.at));
+    };
+    let Some(size) = cown.size else {
+        return Err(Fault::At(NameFault::WrongCount, spot.at));
+    };
+    let index = resolve_expr(alloc, scope, index)?;
+    Ok(CownRef::Member {
+        first: cown.first,
+        size,
+        index,
+    })
+}
+
+fn resolve_ref(
+    alloc: Global,
+    outside: &Outside<'_, '_>,
+    scope: &[&str],
+    reference: &Ref<'_>,
+) -> Result<CownRef, Fault<NameFault>>
+    ensures { Yields place_of result (ref_names (outside_of outside.now) (names_of scope.now) (ref_of reference.now)) }
+{
+    match reference {
+        Ref::Alone(spot) => resolve_alone(outside, spot),
+        Ref::Member(spot, index) => resolve_member(alloc, outside, scope, spot, index),
+    }
+}
+
+/// Each of several references, in their order.
+fn resolve_refs(
+    alloc: Global,
+    outside: &Outside<'_, '_>,
+    scope: &[&str],
+    references: &[Ref<'_>],
+) -> Result<Vec<CownRef>, Fault<NameFault>>
+    ensures { Yields (λ v. map place_of v.items) result (all_names (ref_names (outside_of outside.now) (names_of scope.now)) (map ref_of references.now)) }
+{
+    let mut all = Vec::new(alloc);
+    for reference in references {
+        let cown = resolve_ref(alloc, outside, scope, reference)?;
+        all.push(cown)?;
+    }
+    Ok(all)
+}
+
+/// A `when`, which gives its def as many arguments and cowns as it takes.
+fn resolve_call(
+    alloc: Global,
+    outside: &Outside<'_, '_>,
+    scope: &[&str],
+    def: &Spot<'_>,
+    args: &[shape::Expr<'_>],
+    references: &[Ref<'_>],
+) -> Result<Stmt, Fault<NameFault>>
+    ensures { Yields step_of result (call_names (outside_of outside.now) (names_of scope.now) def.now.name.now (map expr_of args.now) (map ref_of references.now)) }
+{
+    let Some((kind, callee)) = outside.top.def(def.name) else {
+        return Err(Fault::At(NameFault::UnknownName, def.at));
+    };
+    if callee.args != args.len() || callee.cowns != references.len() {
+        return Err(Fault::At(NameFault::WrongCount, def.at));
+    }
+    let args = resolve_exprs(alloc, scope, args)?;
+    let references = resolve_refs(alloc, outside, scope, references)?;
+    Ok(Stmt::When(kind, args, references))
+}
+
+/// A statement. A `let` puts its name into the scope, once its expression is resolved.
+#[cycle(resolve)]
+fn resolve_stmt<'a>(
+    alloc: Global,
+    outside: &Outside<'_, 'a>,
+    scope: &mut Vec<&'a str>,
+    stmt: &shape::Stmt<'a>,
+) -> Result<Stmt, Fault<NameFault>>
+    ensures names { YieldsIn step_of result (names_of scope.new.items) (stmt_names (stmt_of stmt.now) (outside_of outside.now) (names_of scope.old.items)) }
+    ensures grows { OnOk result (take (length scope.old.items) scope.new.items ≡ scope.old.items) }
+{
+    match stmt {
+        shape::Stmt::Let(spot, value) => {
+            if !outside.top.leaves_free(scope, spot.name) {
+                return Err(Fault::At(NameFault::NameTaken, spot.at));
+            }
+            let value = resolve_expr(alloc, scope, value)?;
+            let slot = scope.len();
+            scope.push(spot.name)?;
+            Ok(Stmt::Assign(slot, value))
+        }
+        shape::Stmt::Assign(spot, value) => {
+            let Some(slot) = slot_of(scope, spot.name) else {
+                return Err(Fault::At(NameFault::UnknownName, spot.at));
+            };
+            let value = resolve_expr(alloc, scope, value)?;
+            Ok(Stmt::Assign(slot, value))
+        }
+        shape::Stmt::Work(ticks) => Ok(Stmt::Work(resolve_expr(alloc, scope, ticks)?)),
+        shape::Stmt::If(condition, block) => {
+            let condition = resolve_expr(alloc, scope, condition)?;
+            let block = resolve_block(alloc, outside, scope, block)?;
+            Ok(Stmt::If(condition, block, Block::new(Vec::new(alloc))))
+        }
+        shape::Stmt::IfElse(condition, block, other) => {
+            let condition = resolve_expr(alloc, scope, condition)?;
+            let block = resolve_block(alloc, outside, scope, block)?;
+            let other = resolve_block(alloc, outside, scope, other)?;
+            Ok(Stmt::If(condition, block, other))
+        }
+        shape::Stmt::Repeat(turns, block) => {
+            let turns = resolve_expr(alloc, scope, turns)?;
+            let block = resolve_block(alloc, outside, scope, block)?;
+            Ok(Stmt::Repeat(turns, block))
+        }
+        shape::Stmt::When(def, args, references) => {
+            resolve_call(alloc, outside, scope, def, args, references)
+        }
+    }
+}
+
+/// The statements of a block. The names that it declares are free again behind it.
+#[cycle(resolve)]
+pub fn resolve_block<'a>(
+    alloc: Global,
+    outside: &Outside<'_, 'a>,
+    scope: &mut Vec<&'a str>,
+    block: &[shape::Stmt<'a>],
+) -> Result<Block, Fault<NameFault>>
+    ensures names { Yields (λ code. code) result (block_names (block_of block.now) (outside_of outside.now) (names_of scope.old.items)) }
+    ensures scope { OnOk result (scope.new.items ≡ scope.old.items) }
+{
+    let depth = scope.len();
+    let mut stmts = Vec::new(alloc);
+    for stmt in block {
+        let stmt = resolve_stmt(alloc, outside, scope, stmt)?;
+        stmts.push(stmt)?;
+    }
+    scope.truncate(depth);
+    Ok(Block::new(stmts))
+}

@@ -1,0 +1,115 @@
+// Program texts.
+
+ghost use Rattle.std.specs.Prelude.{◌≡◌, ◌≤◌, length, take, IfOk};
+ghost use Rattle.boc_types.specs.Spells.{Spells};
+ghost use Rattle.boc_reader.specs.Lines.{line_after};
+
+use crate::fault::{Fault, NameFault, ReadFault, ReadFaultKind, ShapeFault, TokenFault};
+use crate::lex::tokens;
+use crate::names::resolve_program;
+use crate::parse::parse_tree;
+use boc_types::program::Program;
+use std::alloc::Global;
+
+/// The most bytes of a text.
+const LONGEST: usize = 65_536;
+
+const NO_MEMORY: ReadFault = ReadFault {
+    line: 0,
+    kind: ReadFaultKind::Memory,
+};
+
+/// The program that a text spells. A text that is too long is refused for that. Any other goes
+/// through three passes, for its tokens, its shape and its names: the first pass that finds a fault
+/// tells the first one in the text.
+pub fn read_program(alloc: Global, text: &[u8]) -> Result<Program, ReadFault>
+    ensures { IfOk result (Spells text.now) }
+{
+    if text.len() > LONGEST {
+        return Err(ReadFault {
+            line: line_after(text.split_at(LONGEST).0),
+            kind: ReadFaultKind::TooLong,
+        });
+    }
+    let tokens = match tokens(alloc, text) {
+        Ok(tokens) => tokens,
+        Err(fault) => return Err(no_words(text, fault)),
+    };
+    let tree = match parse_tree(alloc, &tokens, text.len()) {
+        Ok(tree) => tree,
+        Err(fault) => return Err(no_shape(text, fault)),
+    };
+    match resolve_program(alloc, &tree) {
+        Ok(program) => Ok(program),
+        Err(fault) => Err(no_names(text, fault)),
+    }
+}
+
+// A fault of the first pass.
+fn no_words(text: &[u8], fault: Fault<TokenFault>) -> ReadFault
+    requires { length text.now ≤ 65536 }
+{
+    let (kind, at) = match fault {
+        Fault::Memory => return NO_MEMORY,
+        Fault::At(TokenFault::NotAscii, at) => (ReadFaultKind::NotAscii, at),
+        Fault::At(TokenFault::BadToken, at) => (ReadFaultKind::BadToken, at),
+        Fault::At(TokenFault::NumberTooLarge, at) => (ReadFaultKind::NumberTooLarge, at),
+    };
+    ReadFault {
+        line: line_at(text, at),
+        kind,
+    }
+}
+
+// A fault of the second pass.
+fn no_shape(text: &[u8], fault: Fault<ShapeFault>) -> ReadFault
+    requires { length text.now ≤ 65536 }
+{
+    let (kind, at) = match fault {
+        Fault::Memory => return NO_MEMORY,
+        Fault::At(ShapeFault::Unexpected, at) => (ReadFaultKind::Unexpected, at),
+        Fault::At(ShapeFault::TooMany, at) => (ReadFaultKind::TooMany, at),
+    };
+    ReadFault {
+        line: line_at(text, at),
+        kind,
+    }
+}
+
+// A fault of the third pass.
+fn no_names(text: &[u8], fault: Fault<NameFault>) -> ReadFault
+    requires { length text.now ≤ 65536 }
+{
+    let (kind, at) = match fault {
+        Fault::Memory => return NO_MEMORY,
+        Fault::At(NameFault::UnknownName, at) => (ReadFaultKind::UnknownName, at),
+        Fault::At(NameFault::NameTaken, at) => (ReadFaultKind::NameTaken, at),
+        Fault::At(NameFault::WrongCount, at) => (ReadFaultKind::WrongCount, at),
+    };
+    ReadFault {
+        line: line_at(text, at),
+        kind,
+    }
+}
+
+// The number of the line in which a byte stands, or the last one at the end of the text.
+fn line_at(text: &[u8], at: usize) -> u32
+    requires { length text.now ≤ 65536 }
+    ensures { result ≡ line_after (take at text.now) }
+{
+    line_after(&text[..at.min(text.len())])
+}
+
+// The number of the line that these bytes lead to.
+fn line_after(front: &[u8]) -> u32
+    requires { length front.now ≤ 65536 }
+    ensures { result ≡ line_after front.now }
+{
+    let mut line = 1;
+    for byte in front {
+        if *byte == b'\n' {
+            line += 1;
+        }
+    }
+    line
+}

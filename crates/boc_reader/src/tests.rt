@@ -1,0 +1,161 @@
+use crate::fault::{Fault, ReadFault, ReadFaultKind, ShapeFault, TokenFault};
+use crate::lex::tokens;
+use crate::parse::parse_tree;
+use crate::read::read_program;
+use ReadFaultKind::{BadToken, NotAscii, NumberTooLarge, TooLong, TooMany, Unexpected};
+use std::alloc::{AllocError, Global};
+use std::test::*;
+
+// What is wrong with the tokens or the shape of a text, and at which byte. A text with a tree has no fault.
+fn fault(alloc: Global, text: &[u8]) -> Option<(ReadFaultKind, usize)> {
+    let tokens = match tokens(alloc, text) {
+        Ok(tokens) => tokens,
+        Err(Fault::Memory) => return Some((ReadFaultKind::Memory, 0)),
+        Err(Fault::At(TokenFault::NotAscii, at)) => return Some((NotAscii, at)),
+        Err(Fault::At(TokenFault::BadToken, at)) => return Some((BadToken, at)),
+        Err(Fault::At(TokenFault::NumberTooLarge, at)) => return Some((NumberTooLarge, at)),
+    };
+    match parse_tree(alloc, &tokens, text.len()) {
+        Ok(_) => None,
+        Err(Fault::Memory) => Some((ReadFaultKind::Memory, 0)),
+        Err(Fault::At(ShapeFault::Unexpected, at)) => Some((Unexpected, at)),
+        Err(Fault::At(ShapeFault::TooMany, at)) => Some((TooMany, at)),
+    }
+}
+
+// So many times the same between a front and a back.
+fn repeated(
+    alloc: Global,
+    front: &[u8],
+    piece: &[u8],
+    count: u32,
+    back: &[u8],
+) -> Result<Vec<u8>, AllocError> {
+    let mut text = Vec::new(alloc);
+    text.extend_from_slice(front)?;
+    for _ in 0..count {
+        text.extend_from_slice(piece)?;
+    }
+    text.extend_from_slice(back)?;
+    Ok(text)
+}
+
+fn line(alloc: Global, text: &[u8]) -> Option<(ReadFaultKind, u32)> {
+    match read_program(alloc, text) {
+        Ok(_) => None,
+        Err(ReadFault { line, kind }) => Some((kind, line)),
+    }
+}
+
+#[test]
+fn tokens_of_texts(rt: HostRuntime) {
+    let a = rt.alloc();
+    assert_eq!(rt; fault(a, b"main{x=1;}# to the end \x01"), None);
+    assert_eq!(rt; fault(a, b"main{x=01;}"), Some((BadToken, 7)));
+    assert_eq!(rt; fault(a, b"main{x=1_;}"), Some((BadToken, 7)));
+    assert_eq!(rt; fault(a, b"main{x!1;}"), Some((BadToken, 6)));
+    assert_eq!(rt; fault(a, b"main\x0B{}"), Some((BadToken, 4)));
+    assert_eq!(rt; fault(a, b"main{}\x00"), Some((BadToken, 6)));
+    assert_eq!(rt; fault(a, b"main{}#\xC3"), Some((NotAscii, 7)));
+    assert_eq!(rt; fault(a, b"main{x=9223372036854775807;}"), None);
+    assert_eq!(rt;
+        fault(a, b"main{x=9223372036854775808;}"),
+        Some((NumberTooLarge, 7))
+    );
+    assert_eq!(rt;
+        fault(a, b"main{abcdefghijklmnopqrstuvwxyz_ABCDE=1;}"),
+        None
+    );
+    assert_eq!(rt;
+        fault(a, b"main{abcdefghijklmnopqrstuvwxyz_ABCDEF=1;}"),
+        Some((BadToken, 5))
+    );
+}
+
+#[test]
+fn shapes(rt: HostRuntime) {
+    let a = rt.alloc();
+    assert_eq!(rt; fault(a, b""), Some((Unexpected, 0)));
+    assert_eq!(rt;
+        fault(
+            a,
+            b"cown a = -1; cown b = 2; def f(n, m; x, y) { x = x + n - m; } main { when f(1, 2 + 3; a, b); }"
+        ),
+        None
+    );
+    assert_eq!(rt; fault(a, b"main{work 1;}"), Some((Unexpected, 5)));
+    assert_eq!(rt; fault(a, b"main{x=1;"), Some((Unexpected, 9)));
+    assert_eq!(rt; fault(a, b"main{}main{}"), Some((Unexpected, 6)));
+    assert_eq!(rt; fault(a, b"main{}cown a=1;"), Some((Unexpected, 6)));
+    assert_eq!(rt; fault(a, b"def main(;){}main{}"), Some((Unexpected, 4)));
+    assert_eq!(rt; fault(a, b"main{when f(1,;);}"), Some((Unexpected, 14)));
+    assert_eq!(rt; fault(a, b"main{x=1+;}"), Some((Unexpected, 9)));
+}
+
+#[test]
+fn eight_of_a_kind(rt: HostRuntime) {
+    let a = rt.alloc();
+    assert_eq!(rt; fault(a, b"main{when f(1,2,3,4,5,6,7,8;);}"), None);
+    assert_eq!(rt;
+        fault(a, b"main{when f(1,2,3,4,5,6,7,8,9;);}"),
+        Some((TooMany, 28))
+    );
+    assert_eq!(rt;
+        fault(a, b"main{when f(1,2,3,4,5,6,7,8,;);}"),
+        Some((Unexpected, 28))
+    );
+    assert_eq!(rt; fault(a, b"main{when f(;a,b,c,d,e,f,g,h);}"), None);
+    assert_eq!(rt;
+        fault(a, b"main{when f(;a,b,c,d,e,f,g,h,i);}"),
+        Some((TooMany, 29))
+    );
+    assert_eq!(rt;
+        fault(a, b"main{when f(;a,b,c,d,e,f,g,h,1);}"),
+        Some((Unexpected, 29))
+    );
+    assert_eq!(rt; fault(a, b"def f(a,b,c,d,e,f,g,h;){}main{}"), None);
+    assert_eq!(rt;
+        fault(a, b"def f(a,b,c,d,e,f,g,h,i;){}main{}"),
+        Some((TooMany, 22))
+    );
+    assert_eq!(rt;
+        fault(a, b"def f(;a,b,c,d,e,f,g,h,i){}main{}"),
+        Some((TooMany, 23))
+    );
+}
+
+#[test]
+fn limits(rt: HostRuntime) -> Result<(), Fail> {
+    let a = rt.alloc();
+    let cowns = repeated(a, b"", b"cown a=0;", 256, b"main{}")?;
+    assert_eq!(rt; fault(a, cowns.as_slice()), None);
+    let cowns = repeated(a, b"", b"cown a=0;", 257, b"main{}")?;
+    assert_eq!(rt; fault(a, cowns.as_slice()), Some((TooMany, 2_309)));
+    let defs = repeated(a, b"", b"def f(;){}", 64, b"main{}")?;
+    assert_eq!(rt; fault(a, defs.as_slice()), None);
+    let defs = repeated(a, b"", b"def f(;){}", 65, b"main{}")?;
+    assert_eq!(rt; fault(a, defs.as_slice()), Some((TooMany, 640)));
+    let nodes = repeated(a, b"main{x=1", b"+1", 499, b";}")?;
+    assert_eq!(rt; fault(a, nodes.as_slice()), None);
+    let nodes = repeated(a, b"main{x=1", b"+1", 500, b";}")?;
+    assert_eq!(rt; fault(a, nodes.as_slice()), Some((TooMany, 1_006)));
+    let refs = repeated(a, b"def f(;){}main{", b"when f(;);", 1_000, b"}")?;
+    assert_eq!(rt; fault(a, refs.as_slice()), None);
+    let refs = repeated(a, b"def f(;){}main{", b"when f(;);", 1_001, b"}")?;
+    assert_eq!(rt; fault(a, refs.as_slice()), Some((TooMany, 10_015)));
+    Ok(())
+}
+
+#[test]
+fn lines(rt: HostRuntime) -> Result<(), Fail> {
+    let a = rt.alloc();
+    assert_eq!(rt; line(a, b""), Some((Unexpected, 1)));
+    assert_eq!(rt; line(a, b"main {\n\xC3"), Some((NotAscii, 2)));
+    assert_eq!(rt; line(a, b"main {\r\n\n x = 1\n"), Some((Unexpected, 4)));
+    assert_eq!(rt; line(a, b"main {\r x = 1 }"), Some((Unexpected, 1)));
+    let long = repeated(a, b"main{}", b"\n", 65_530, b"")?;
+    assert_eq!(rt; line(a, long.as_slice()), Some((ReadFaultKind::Memory, 0)));
+    let long = repeated(a, b"main{}", b"\n", 65_531, b"")?;
+    assert_eq!(rt; line(a, long.as_slice()), Some((TooLong, 65_531)));
+    Ok(())
+}

@@ -1,0 +1,20 @@
+// The tokens of a text, with where they stand.
+
+use crate::natural::Natural;
+use boc_types::token::{Keyword, Sign};
+
+/// A token. A name is the part of the text that spells it.
+#[derive(Clone, Copy, Debug)]
+pub enum Token<'a> {
+    Name(&'a str),
+    Number(Natural),
+    Keyword(Keyword),
+    Sign(Sign),
+}
+
+/// A token, and the place of its first byte.
+#[derive(Clone, Copy, Debug)]
+pub struct Placed<'a> {
+    pub token: Token<'a>,
+    pub at: usize,
+}

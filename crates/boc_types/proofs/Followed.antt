@@ -1,0 +1,68 @@
+-- A statement and what follows it.
+use Rattle.std.proofs.Common.{◌≡◌, ℕ, ◌+◌, ◌≤◌, ◌<◌, List, ◌∷◌, [], arith, refl, sym, length, IsTrue, false, true, Bool, map}
+use Rattle.std.specs.Prelude.{◌&&◌, nat_lt, nat_le}
+use Rattle.boc_types.specs.Resolved.{Scope, fits, nodes, expr_fits, ref_fits, every}
+use Rattle.boc_types.specs.declared.body.Stmt.{Stmt}
+use Rattle.boc_types.specs.declared.body.Stmt.TheVariants as stmt
+use Rattle.boc_types.specs.Syntax.{Code, Done, code_size}
+use Rattle.boc_types.specs.Signatures.{Test, whens_pass}
+use Rattle.boc_types.specs.View.{before, code_of, term_of, place_of}
+
+pub then_not_done : (s : Stmt) (rest : Code) → before s rest ≡ Done → ⊥
+then_not_done (stmt.Assign slot e) rest h = cc
+then_not_done (stmt.Work e) rest h = cc
+then_not_done (stmt.If e a b) rest h = cc
+then_not_done (stmt.Repeat e a) rest h = cc
+then_not_done (stmt.When kind args refs) rest h = cc
+
+pub then_size : (s : Stmt) (rest : Code) → code_size (before s rest) ≡ code_size (before s Done) + code_size rest
+then_size (stmt.Assign slot e) rest = omega arith
+then_size (stmt.Work e) rest = omega arith
+then_size (stmt.If e a b) rest = omega arith
+then_size (stmt.Repeat e a) rest = omega arith
+then_size (stmt.When kind args refs) rest = omega arith
+
+pub then_positive : (s : Stmt) → 1 ≤ code_size (before s Done)
+then_positive (stmt.Assign slot e) = omega arith
+then_positive (stmt.Work e) = omega arith
+then_positive (stmt.If e a b) = omega arith
+then_positive (stmt.Repeat e a) = omega arith
+then_positive (stmt.When kind args refs) = omega arith
+
+pub apart : (xs ys : List Stmt) → length xs ≡ 0 → 1 ≤ length ys → code_of xs ≡ code_of ys → IsTrue false
+apart [] [] h k e = absurd (omega arith)
+apart [] (y ∷ ys) h k e = absurd (then_not_done y (code_of ys) (sym e))
+apart (x ∷ xs) ys h k e = absurd (omega arith)
+
+pub apart_too : (xs ys : List Stmt) → 1 ≤ length xs → length ys ≡ 0 → code_of xs ≡ code_of ys → IsTrue false
+apart_too xs ys h k e = apart ys xs k h (sym e)
+
+pub nodes_before : (s : Stmt) (rest : Code) → nodes (before s rest) ≡ nodes (before s Done) + nodes rest
+nodes_before (stmt.Assign slot e) rest = omega arith
+nodes_before (stmt.Work e) rest = omega arith
+nodes_before (stmt.If e a b) rest = omega arith
+nodes_before (stmt.Repeat e a) rest = omega arith
+nodes_before (stmt.When kind args refs) rest = omega arith
+
+and_swap : (x r : Bool) → (x && r) ≡ ((x && true) && r)
+and_swap true r = refl
+and_swap false r = refl
+
+pub fits_before : (scope : Scope) (s : Stmt) (rest : Code) → fits scope (before s rest) ≡ (fits scope (before s Done) && fits scope rest)
+fits_before scope (stmt.Assign slot e) rest = and_swap (nat_lt slot scope.slots && expr_fits scope.slots (term_of e)) (fits scope rest)
+fits_before scope (stmt.Work e) rest = and_swap (expr_fits scope.slots (term_of e)) (fits scope rest)
+fits_before scope (stmt.If e a b) rest = and_swap (expr_fits scope.slots (term_of e) && (fits scope a && fits scope b)) (fits scope rest)
+fits_before scope (stmt.Repeat e a) rest = and_swap (expr_fits scope.slots (term_of e) && fits scope a) (fits scope rest)
+fits_before scope (stmt.When kind args refs) rest =
+    and_swap ((nat_le (length (map term_of args.items)) 8 && nat_le (length (map place_of refs.items)) 8)
+    && (every (map (expr_fits scope.slots) (map term_of args.items)) && every (map (ref_fits scope) (map place_of refs.items)))) (fits scope rest)
+
+and_pair_swap : (a b r : Bool) → ((a && b) && r) ≡ (((a && b) && true) && r)
+and_pair_swap a b r = and_swap (a && b) r
+
+pub whens_before : (test : Test) (s : Stmt) (rest : Code) → whens_pass test (before s rest) ≡ (whens_pass test (before s Done) && whens_pass test rest)
+whens_before test (stmt.Assign slot e) rest = refl
+whens_before test (stmt.Work e) rest = refl
+whens_before test (stmt.If e a b) rest = and_pair_swap (whens_pass test a) (whens_pass test b) (whens_pass test rest)
+whens_before test (stmt.Repeat e a) rest = and_swap (whens_pass test a) (whens_pass test rest)
+whens_before test (stmt.When kind args refs) rest = and_swap (test kind (map term_of args.items) (map place_of refs.items)) (whens_pass test rest)

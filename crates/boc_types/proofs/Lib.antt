@@ -1,0 +1,7 @@
+pub mod Followed
+pub mod Truth
+pub mod Law
+pub mod Rising
+pub mod Fitting
+pub mod Queued
+pub mod Transfer

@@ -1,0 +1,121 @@
+-- The definitions tried on a program: one that adds to a cown and moves a part of it to another.
+use Rattle.std.proofs.Common.{◌≡◌, ℕ, List, [], ◌∷◌, ◌++◌, Some, None, false, refl, codes, decimal, pos, ℤ, lit≤}
+use Rattle.boc_types.specs.declared.level.SumOperator.TheVariants as sums
+use Rattle.boc_types.specs.declared.body.Operator.TheVariants as operators
+use Rattle.boc_types.specs.declared.body.Body.{Body}
+use Rattle.boc_types.specs.declared.cown.Cown.{Cown}
+use Rattle.boc_types.specs.declared.program.Program.{Program}
+use Rattle.boc_types.specs.Shape.{Expr, plain, one_term, more_terms, Term, one_factor, unsigned, literal, variable, alone, assign, when, Block, done, next, Cown as CownShape, Def, Tree, tree_words}
+use Rattle.boc_types.specs.Tokens.{words_of_text, cut, word_of_run}
+use Rattle.boc_types.specs.Names.{PlainBody, PlainCown, PlainProgram, tree_names}
+use Rattle.boc_types.specs.Syntax as resolved
+use Rattle.boc_types.specs.Spells.{plain_program}
+use Rattle.boc_types.specs.Serial.{after_turns, rows}
+use Rattle.boc_types.specs.Texts.{values_text}
+
+abbrev text : List ℕ
+text = codes "cown a = 10; cown b = 0; # two accounts\ndef add(k; x) { x = x + k; }\ndef move(k; x, y) { x = x - k; y = y + k; }\nmain { when add(5; a); when move(3; a, b); when add(1; b); }\n"
+
+abbrev of_name : List ℕ → Term
+of_name x = one_factor (unsigned (variable x))
+
+abbrev of_number : ℕ → Expr
+of_number n = plain (one_term (one_factor (unsigned (literal n))))
+
+abbrev tree : Tree
+tree = record {
+  cowns = (record { name = codes "a"; size = None; negative = false; value = 10 }) ∷ (record { name = codes "b"; size = None; negative = false; value = 0 }) ∷ [];
+  defs = (record {
+    name = codes "add";
+    params = codes "k" ∷ [];
+    cowns = codes "x" ∷ [];
+    block = next (assign (codes "x") (plain (more_terms (of_name (codes "x")) sums.Add (one_term (of_name (codes "k")))))) done;
+  }) ∷ (record {
+    name = codes "move";
+    params = codes "k" ∷ [];
+    cowns = codes "x" ∷ codes "y" ∷ [];
+    block = next (assign (codes "x") (plain (more_terms (of_name (codes "x")) sums.Subtract (one_term (of_name (codes "k"))))))
+        (next (assign (codes "y") (plain (more_terms (of_name (codes "y")) sums.Add (one_term (of_name (codes "k")))))) done);
+  }) ∷ [];
+  main = next (when (codes "add") (of_number 5 ∷ []) (alone (codes "a") ∷ []))
+      (next (when (codes "move") (of_number 3 ∷ []) (alone (codes "a") ∷ alone (codes "b") ∷ []))
+      (next (when (codes "add") (of_number 1 ∷ []) (alone (codes "b") ∷ [])) done));
+}
+
+pub tokens : words_of_text text ≡ Some (tree_words tree)
+unfolding words_of_text cut word_of_run
+tokens = refl
+
+abbrev cowns : List Cown
+cowns = (record { name = codes "a"; size = None; initial = pos 10 }) ∷ (record { name = codes "b"; size = None; initial = pos 0 }) ∷ []
+
+abbrev main_body : Body
+main_body = record {
+  params = 0;
+  cown_params = 0;
+  slots = 0;
+  block = resolved.When 1 (resolved.Number (pos 5) ∷ []) (resolved.Single 0 ∷ [])
+      (resolved.When 2 (resolved.Number (pos 3) ∷ []) (resolved.Single 0 ∷ resolved.Single 1 ∷ [])
+      (resolved.When 1 (resolved.Number (pos 1) ∷ []) (resolved.Single 1 ∷ []) resolved.Done));
+  few_params = lit≤ tt;
+  few_cowns = lit≤ tt;
+  few_slots = lit≤ tt;
+  parameters_are_slots = lit≤ tt;
+  few_nodes = lit≤ tt;
+  resolved = refl;
+}
+
+abbrev add_body : Body
+add_body = record {
+  params = 1;
+  cown_params = 1;
+  slots = 2;
+  block = resolved.Assign 1 (resolved.Binary operators.Add (resolved.Slot 1) (resolved.Slot 0)) resolved.Done;
+  few_params = lit≤ tt;
+  few_cowns = lit≤ tt;
+  few_slots = lit≤ tt;
+  parameters_are_slots = lit≤ tt;
+  few_nodes = lit≤ tt;
+  resolved = refl;
+}
+
+abbrev move_body : Body
+move_body = record {
+  params = 1;
+  cown_params = 2;
+  slots = 3;
+  block = resolved.Assign 1 (resolved.Binary operators.Subtract (resolved.Slot 1) (resolved.Slot 0))
+      (resolved.Assign 2 (resolved.Binary operators.Add (resolved.Slot 2) (resolved.Slot 0)) resolved.Done);
+  few_params = lit≤ tt;
+  few_cowns = lit≤ tt;
+  few_slots = lit≤ tt;
+  parameters_are_slots = lit≤ tt;
+  few_nodes = lit≤ tt;
+  resolved = refl;
+}
+
+abbrev program : Program
+program = record {
+  cowns = cowns;
+  bodies = main_body ∷ add_body ∷ move_body ∷ [];
+  few_cowns = lit≤ tt;
+  few_defs = lit≤ tt;
+  main = refl;
+  calls = refl;
+}
+
+pub names : tree_names tree ≡ Some (plain_program program)
+names = refl
+
+-- four turns, and nothing is left to do
+pub ends : (after_turns program 4).queue ≡ []
+ends = refl
+
+pub four_rows : rows (after_turns program 4) ≡ 4
+four_rows = refl
+
+pub values : (after_turns program 4).values ≡ pos 12 ∷ pos 4 ∷ []
+values = refl
+
+pub lines : values_text cowns (pos 12 ∷ pos 4 ∷ []) ≡ (codes "a " ++ decimal 12 ++ codes "\n") ++ ((codes "b " ++ decimal 4 ++ codes "\n") ++ [])
+lines = refl

@@ -1,0 +1,123 @@
+// Whether the parts of a program fit together.
+
+ghost use Rattle.std.specs.Prelude.{◌≡◌, ◌+◌, ◌≤◌, IsTrue, map, length};
+ghost use Rattle.boc_types.specs.View.{term_of, place_of, code_of, before};
+ghost use Rattle.boc_types.specs.Syntax.{Done};
+ghost use Rattle.boc_types.specs.Resolved.{every};
+ghost use Rattle.boc_types.specs.Signatures.{signature_of, ref_below as ref_below_spec, call_fits as call_fits_spec, calls_fit as calls_fit_spec, whens_pass};
+ghost use Rattle.boc_types.specs.Programs.{cown_count, has_main as has_main_spec, program_fits as program_fits_spec};
+ghost use Rattle.boc_types.specs.Spent.{spent};
+
+use crate::body::{Block, Body, CownRef, Expr, Stmt};
+use crate::cown::Cown;
+
+/// The cown that a reference names is one of `cowns`, where `held` are held.
+fn ref_below(reference: &CownRef, held: usize, cowns: usize) -> bool
+    ensures { result ≡ ref_below_spec held cowns (place_of reference.now) }
+{
+    match reference {
+        CownRef::Held(parameter) => *parameter < held,
+        CownRef::Single(cown) => (*cown as usize) < cowns,
+        CownRef::Member { first, size, .. } => u64::from(*first) + u64::from(*size) <= cowns as u64,
+    }
+}
+
+fn refs_below(references: &[CownRef], held: usize, cowns: usize) -> bool
+    ensures { result ≡ every (map (ref_below_spec held cowns) (map place_of references.now)) }
+{
+    match references {
+        [] => true,
+        [first, rest @ ..] => ref_below(first, held, cowns) && refs_below(rest, held, cowns),
+    }
+}
+
+/// A `when` gives a body as many arguments and cowns as it takes, and names cowns that are there.
+fn call_fits(
+    bodies: &[Body],
+    held: usize,
+    cowns: usize,
+    kind: usize,
+    args: &[Expr],
+    references: &[CownRef],
+) -> bool
+    ensures { result ≡ call_fits_spec (map signature_of bodies.now) held cowns kind (map term_of args.now) (map place_of references.now) }
+{
+    match bodies.get(kind) {
+        None => false,
+        Some(body) => {
+            args.len() == body.params
+                && references.len() == body.cown_params
+                && refs_below(references, held, cowns)
+        }
+    }
+}
+
+#[cycle(calls)]
+fn block_calls_fit(block: &Block, bodies: &[Body], held: usize, cowns: usize) -> bool
+    ensures { result ≡ whens_pass (call_fits_spec (map signature_of bodies.now) held cowns) block.now }
+{
+    stmts_calls_fit(block.as_slice(), bodies, held, cowns)
+}
+
+#[cycle(calls)]
+#[tactic(auto, using(crate::proofs::Followed::whens_before, crate::proofs::Followed::then_size, crate::proofs::Followed::then_positive))]
+fn stmts_calls_fit(stmts: &[Stmt], bodies: &[Body], held: usize, cowns: usize) -> bool
+    ensures { result ≡ whens_pass (call_fits_spec (map signature_of bodies.now) held cowns) (code_of stmts.now) }
+{
+    match stmts {
+        [] => true,
+        [first, rest @ ..] => {
+            stmt_calls_fit(first, bodies, held, cowns) && stmts_calls_fit(rest, bodies, held, cowns)
+        }
+    }
+}
+
+#[cycle(calls)]
+fn stmt_calls_fit(stmt: &Stmt, bodies: &[Body], held: usize, cowns: usize) -> bool
+    ensures { result ≡ whens_pass (call_fits_spec (map signature_of bodies.now) held cowns) (before stmt.now Done) }
+{
+    match stmt {
+        Stmt::Assign(..) | Stmt::Work(_) => true,
+        Stmt::If(_, first, second) => {
+            block_calls_fit(first, bodies, held, cowns)
+                && block_calls_fit(second, bodies, held, cowns)
+        }
+        Stmt::Repeat(_, block) => block_calls_fit(block, bodies, held, cowns),
+        Stmt::When(kind, args, references) => {
+            call_fits(bodies, held, cowns, *kind, args, references)
+        }
+    }
+}
+
+/// Every `when` of these bodies fits, in a program that has all of `bodies`.
+pub(crate) fn calls_fit(callers: &[Body], bodies: &[Body], cowns: usize) -> bool
+    ensures { result ≡ every (map (calls_fit_spec (map signature_of bodies.now) cowns) callers.now) }
+{
+    match callers {
+        [] => true,
+        [first, rest @ ..] => {
+            block_calls_fit(&first.block, bodies, first.cown_params, cowns)
+                && calls_fit(rest, bodies, cowns)
+        }
+    }
+}
+
+/// The first body takes nothing.
+pub(crate) fn has_main(bodies: &[Body]) -> bool
+    ensures { result ≡ has_main_spec bodies.now }
+{
+    match bodies {
+        [] => false,
+        [main, ..] => main.params == 0 && main.cown_params == 0,
+    }
+}
+
+/// What is left of a number of cowns after these declarations.
+pub(crate) fn after_cowns(cowns: &[Cown], left: usize) -> Option<usize>
+    ensures { spent result (cown_count cowns.now) left }
+{
+    match cowns {
+        [] => Some(left),
+        [first, rest @ ..] => { after_cowns(rest, left.checked_sub(first.members())?) }
+    }
+}

@@ -1,0 +1,196 @@
+// Whether the parts of a body fit together.
+
+ghost use Rattle.std.specs.Prelude.{◌≡◌, ◌&&◌, ◌+◌, ◌<◌, ◌≤◌, IsTrue, IfOk, MatchOption, map, length};
+ghost use Rattle.boc_types.specs.View.{term_of, place_of, code_of, before};
+ghost use Rattle.boc_types.specs.Syntax.{Done};
+ghost use Rattle.boc_types.specs.Resolved.{Scope, fits, every, expr_fits as expr_fits_spec, ref_fits as ref_fits_spec, nodes, expr_nodes, ref_nodes, total};
+ghost use Rattle.boc_types.specs.Spent.{spent};
+ghost use Rattle.boc_types.specs.Parts.{MakesBody, IsMadeOf};
+
+use crate::body::{Block, Body, CownRef, Expr, Stmt};
+use std::alloc::{AllocError, Global};
+
+/// Every slot of an expression is there.
+fn expr_fits(expr: &Expr, slots: usize) -> bool
+    ensures { result ≡ expr_fits_spec slots (term_of expr.now) }
+{
+    match expr {
+        Expr::Number(_) => true,
+        Expr::Slot(slot) => *slot < slots,
+        Expr::Negate(inner) => expr_fits(inner, slots),
+        Expr::Binary(_, left, right) => expr_fits(left, slots) && expr_fits(right, slots),
+    }
+}
+
+fn exprs_fit(exprs: &[Expr], slots: usize) -> bool
+    ensures { result ≡ every (map (expr_fits_spec slots) (map term_of exprs.now)) }
+{
+    match exprs {
+        [] => true,
+        [first, rest @ ..] => expr_fits(first, slots) && exprs_fit(rest, slots),
+    }
+}
+
+fn ref_fits(reference: &CownRef, slots: usize, cowns: usize) -> bool
+    ensures { result ≡ ref_fits_spec (record { slots = slots; cowns = cowns }) (place_of reference.now) }
+{
+    match reference {
+        CownRef::Held(parameter) => *parameter < cowns,
+        CownRef::Single(cown) => *cown < 256,
+        CownRef::Member { first, size, index } => {
+            u64::from(*first) + u64::from(*size) <= 256 && expr_fits(index, slots)
+        }
+    }
+}
+
+fn refs_fit(references: &[CownRef], slots: usize, cowns: usize) -> bool
+    ensures { result ≡ every (map (ref_fits_spec (record { slots = slots; cowns = cowns })) (map place_of references.now)) }
+{
+    match references {
+        [] => true,
+        [first, rest @ ..] => ref_fits(first, slots, cowns) && refs_fit(rest, slots, cowns),
+    }
+}
+
+#[cycle(fits)]
+fn block_fits(block: &Block, slots: usize, cowns: usize) -> bool
+    ensures { result ≡ fits (record { slots = slots; cowns = cowns }) block.now }
+{
+    stmts_fit(block.as_slice(), slots, cowns)
+}
+
+#[cycle(fits)]
+#[tactic(auto, using(crate::proofs::Followed::fits_before, crate::proofs::Followed::then_size, crate::proofs::Followed::then_positive))]
+fn stmts_fit(stmts: &[Stmt], slots: usize, cowns: usize) -> bool
+    ensures { result ≡ fits (record { slots = slots; cowns = cowns }) (code_of stmts.now) }
+{
+    match stmts {
+        [] => true,
+        [first, rest @ ..] => stmt_fits(first, slots, cowns) && stmts_fit(rest, slots, cowns),
+    }
+}
+
+#[cycle(fits)]
+fn stmt_fits(stmt: &Stmt, slots: usize, cowns: usize) -> bool
+    ensures { result ≡ fits (record { slots = slots; cowns = cowns }) (before stmt.now Done) }
+{
+    match stmt {
+        Stmt::Assign(slot, expr) => *slot < slots && expr_fits(expr, slots),
+        Stmt::Work(expr) => expr_fits(expr, slots),
+        Stmt::If(condition, first, second) => {
+            expr_fits(condition, slots)
+                && block_fits(first, slots, cowns)
+                && block_fits(second, slots, cowns)
+        }
+        Stmt::Repeat(turns, block) => expr_fits(turns, slots) && block_fits(block, slots, cowns),
+        Stmt::When(_, args, refs) => {
+            args.len() <= 8
+                && refs.len() <= 8
+                && exprs_fit(args, slots)
+                && refs_fit(refs, slots, cowns)
+        }
+    }
+}
+
+/// What is left of a number of nodes after an expression.
+fn after_expr(expr: &Expr, left: usize) -> Option<usize>
+    ensures { spent result (expr_nodes (term_of expr.now)) left }
+{
+    let left = match expr {
+        Expr::Number(_) | Expr::Slot(_) => left,
+        Expr::Negate(inner) => after_expr(inner, left)?,
+        Expr::Binary(_, first, second) => after_expr(second, after_expr(first, left)?)?,
+    };
+    left.checked_sub(1)
+}
+
+fn after_exprs(exprs: &[Expr], left: usize) -> Option<usize>
+    ensures { spent result (total (map expr_nodes (map term_of exprs.now))) left }
+{
+    match exprs {
+        [] => Some(left),
+        [first, rest @ ..] => after_exprs(rest, after_expr(first, left)?),
+    }
+}
+
+fn after_ref(reference: &CownRef, left: usize) -> Option<usize>
+    ensures { spent result (ref_nodes (place_of reference.now)) left }
+{
+    match reference {
+        CownRef::Held(_) | CownRef::Single(_) => left.checked_sub(1),
+        CownRef::Member { index, .. } => after_expr(index, left)?.checked_sub(1),
+    }
+}
+
+fn after_refs(references: &[CownRef], left: usize) -> Option<usize>
+    ensures { spent result (total (map ref_nodes (map place_of references.now))) left }
+{
+    match references {
+        [] => Some(left),
+        [first, rest @ ..] => after_refs(rest, after_ref(first, left)?),
+    }
+}
+
+#[cycle(after)]
+fn after_block(block: &Block, left: usize) -> Option<usize>
+    ensures { spent result (nodes block.now) left }
+{
+    after_stmts(block.as_slice(), left)
+}
+
+#[cycle(after)]
+#[tactic(auto, using(crate::proofs::Followed::nodes_before, crate::proofs::Followed::then_size, crate::proofs::Followed::then_positive))]
+fn after_stmts(stmts: &[Stmt], left: usize) -> Option<usize>
+    ensures { spent result (nodes (code_of stmts.now)) left }
+{
+    match stmts {
+        [] => Some(left),
+        [first, rest @ ..] => after_stmts(rest, after_stmt(first, left)?),
+    }
+}
+
+#[cycle(after)]
+fn after_stmt(stmt: &Stmt, left: usize) -> Option<usize>
+    ensures { spent result (nodes (before stmt.now Done)) left }
+{
+    let left = match stmt {
+        Stmt::Assign(_, expr) | Stmt::Work(expr) => after_expr(expr, left)?,
+        Stmt::If(condition, first, second) => {
+            after_block(second, after_block(first, after_expr(condition, left)?)?)?
+        }
+        Stmt::Repeat(turns, block) => after_block(block, after_expr(turns, left)?)?,
+        Stmt::When(_, args, refs) => after_refs(refs, after_exprs(args, left)?)?,
+    };
+    left.checked_sub(1)
+}
+
+impl Body {
+    /// A body of these parts, or `None` where they break a limit or name a slot that is not there.
+    ///
+    /// `slots` counts the value parameters, the cown parameters and the locals. This is the one place
+    /// that makes a body. It takes no memory yet: the allocator is there for what is made of a block
+    /// beside it.
+    pub fn checked(
+        alloc: Global,
+        params: usize,
+        cown_params: usize,
+        slots: usize,
+        block: Block,
+    ) -> Result<Option<Body>, AllocError>
+        ensures { IfOk result (λ o. MatchOption o (MakesBody params cown_params slots block → ⊥) (IsMadeOf params cown_params slots block)) }
+    {
+        let _ = alloc;
+        if params > 8 || cown_params > 8 || slots > 1016 || params + cown_params > slots {
+            return Ok(None);
+        }
+        if after_block(&block, 1000).is_none() || !block_fits(&block, slots, cown_params) {
+            return Ok(None);
+        }
+        Ok(Some(Body {
+            params,
+            cown_params,
+            slots,
+            block,
+        }))
+    }
+}

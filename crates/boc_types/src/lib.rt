@@ -1,0 +1,20 @@
+//! The types of programs, and all definitions: what a text spells, what a body means, and what a run of
+//! a program gives.
+//!
+//! The types keep the limits of the language, and that every name is resolved. `specs/` has the
+//! definitions, which the contracts of all crates cite.
+#![tactic(auto)]
+
+pub mod body;
+mod calls;
+mod check;
+pub mod cown;
+mod equality;
+pub mod laws;
+pub mod level;
+pub mod lists;
+pub mod program;
+mod same;
+pub mod short;
+pub mod text;
+pub mod token;

@@ -54,10 +54,7 @@ fn fitting(cowns: Vec<Cown>, bodies: Vec<Body>) -> Program
     requires { MakesProgram cowns.items bodies.items }
     ensures { let p : PlainProgram = record { cowns = map plain_declared cowns.items; bodies = map plain_body bodies.items } in plain_program result ≡ p }
 {
-    match Program::checked(CownList::new(cowns), BodyList::new(bodies)) {
-        Some(program) => program,
-        None => unreachable!(),
-    }
+    Program::new(CownList::new(cowns), BodyList::new(bodies))
 }
 
 /// The cowns and the bodies of a tree, main's body first.

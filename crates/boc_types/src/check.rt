@@ -165,11 +165,30 @@ fn after_stmt(stmt: &Stmt, left: usize) -> Option<usize>
 }
 
 impl Body {
-    /// A body of these parts, or `None` where they break a limit or name a slot that is not there.
+    /// A body of these parts, which fit together. This is the one place that makes a body.
     ///
-    /// `slots` counts the value parameters, the cown parameters and the locals. This is the one place
-    /// that makes a body. It takes no memory yet: the allocator is there for what is made of a block
-    /// beside it.
+    /// `slots` counts the value parameters, the cown parameters and the locals. It takes no memory yet:
+    /// the allocator is there for what will be made of a block beside it.
+    pub fn new(
+        alloc: Global,
+        params: usize,
+        cown_params: usize,
+        slots: usize,
+        block: Block,
+    ) -> Result<Body, AllocError>
+        requires { MakesBody params cown_params slots block }
+        ensures { IfOk result (IsMadeOf params cown_params slots block) }
+    {
+        let _ = alloc;
+        Ok(Body {
+            params,
+            cown_params,
+            slots,
+            block,
+        })
+    }
+
+    /// A body of these parts, or `None` where they break a limit or name a slot that is not there.
     pub fn checked(
         alloc: Global,
         params: usize,
@@ -179,18 +198,13 @@ impl Body {
     ) -> Result<Option<Body>, AllocError>
         ensures { IfOk result (λ o. MatchOption o (MakesBody params cown_params slots block → ⊥) (IsMadeOf params cown_params slots block)) }
     {
-        let _ = alloc;
         if params > 8 || cown_params > 8 || slots > 1016 || params + cown_params > slots {
             return Ok(None);
         }
         if after_block(&block, 1000).is_none() || !block_fits(&block, slots, cown_params) {
             return Ok(None);
         }
-        Ok(Some(Body {
-            params,
-            cown_params,
-            slots,
-            block,
-        }))
+        let body = Body::new(alloc, params, cown_params, slots, block)?;
+        Ok(Some(body))
     }
 }

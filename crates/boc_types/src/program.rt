@@ -31,6 +31,15 @@ impl Program {
     ghost use Rattle.std.specs.Prelude.{MatchOption};
     ghost use Rattle.boc_types.specs.Program.{MakesProgram};
 
+    /// A program of these parts, which fit together, main's body first. It takes no memory.
+    pub fn new(cowns: CownList, bodies: BodyList) -> Program
+        requires { MakesProgram cowns bodies }
+        ensures cowns { result.cowns ≡ cowns }
+        ensures bodies { result.bodies ≡ bodies }
+    {
+        Program { cowns, bodies }
+    }
+
     /// A program of these parts, main's body first, or `None` where they break a limit, main takes
     /// anything, or a `when` does not fit the body that it names.
     pub fn checked(cowns: CownList, bodies: BodyList) -> Option<Program>
@@ -41,7 +50,7 @@ impl Program {
         if all.len() > MOST_BODIES || !has_main(all) || !calls_fit(all, all, MOST_COWNS - left) {
             return None;
         }
-        Some(Program { cowns, bodies })
+        Some(Program::new(cowns, bodies))
     }
 
     /// The body of a kind.

@@ -95,10 +95,7 @@ fn fitting(
     ensures { IfOk result (λ body. let b : PlainBody = record { params = params; cown_params = cown_params; slots = deepest names block; code = block } in plain_body body ≡ b) }
 {
     let slots = block_slots(&block, names);
-    match Body::checked(alloc, params, cown_params, slots, block)? {
-        Some(body) => Ok(body),
-        None => unreachable!(),
-    }
+    Body::new(alloc, params, cown_params, slots, block)
 }
 
 /// The body of these parameters and this block.

@@ -3,7 +3,8 @@ use Rattle.std.specs.Prelude.{◌≡◌, ℕ, ◌+◌, List, Option, Result, Ok,
 use Rattle.std.specs.Io.KnownBytes.{Consumes, IsAtEnd, Appends, Keeps}
 use Rattle.boc.specs.declared.fault.Fault.{Fault}
 use Rattle.boc.specs.declared.fault.Fault.TheVariants as faults
-use Rattle.boc.specs.Streams.{StopsAt}
+use Rattle.boc_reader.specs.Meanings.{Means}
+use Rattle.boc.specs.Streams.{StopsAt, ReadsWhole}
 
 -- the source gave an input to its end, and this text is the answer to it
 pub record AnswersInput (IsAnswer : List ℕ → List ℕ → Type 0) (before after : Option (List ℕ)) (text : List ℕ) : Type 0 where
@@ -42,14 +43,30 @@ CountsSink (Err faults.Behaviours) old new = new ≡ old
 CountsSink (Err faults.Memory) old new = new ≡ old
 CountsSink (Ok done) old new = new ≡ old
 
--- a fault of what was read, of its run or of memory, and of no device
-abbrev pub IsOfInput : Fault → Type 0
-IsOfInput (faults.Words e) = ⊥
-IsOfInput (faults.Program r) = Unit {0}
-IsOfInput faults.Behaviours = Unit {0}
-IsOfInput faults.Memory = Unit {0}
-IsOfInput faults.Source = ⊥
-IsOfInput (faults.Sink gone) = ⊥
+-- a fault of a program text says what is wrong with it, and no device failed
+abbrev pub IsOfInput : List ℕ → Fault → Type 0
+IsOfInput text (faults.Words e) = ⊥
+IsOfInput text (faults.Program r) = Means r.kind text
+IsOfInput text faults.Behaviours = Unit {0}
+IsOfInput text faults.Memory = Unit {0}
+IsOfInput text faults.Source = ⊥
+IsOfInput text (faults.Sink gone) = ⊥
+
+-- an input was taken, up to a limit, of which this is known
+pub record TakesInput (Known : List ℕ → Type 0) (limit : ℕ) (before after : Option (List ℕ)) : Type 0 where
+  pub input : List ℕ
+  pub taken : ReadsWhole before after input limit
+  pub known : Known input
+
+-- a program text is refused for what was taken of the source
+abbrev pub Refuses : {A : Type 0} → ℕ → Result A Fault → Option (List ℕ) → Option (List ℕ) → Type 0
+Refuses limit (Err (faults.Program r)) before after = TakesInput (Means r.kind) limit before after
+Refuses limit (Err (faults.Words e)) before after = ⊥
+Refuses limit (Err faults.Behaviours) before after = Unit {0}
+Refuses limit (Err faults.Memory) before after = Unit {0}
+Refuses limit (Err faults.Source) before after = Unit {0}
+Refuses limit (Err (faults.Sink gone)) before after = Unit {0}
+Refuses limit (Ok done) before after = Unit {0}
 
 -- a fault of the words, or want of memory
 abbrev pub IsOfWords : Fault → Type 0

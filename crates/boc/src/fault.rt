@@ -1,7 +1,7 @@
 // Why a command did not do what it was asked for.
 
 use crate::whole::{Stopped, TextFault};
-use boc_eval::serial::SerialFault;
+use boc_eval::SerialFault;
 use boc_reader::{ReadFault, ReadFaultKind};
 use std::alloc::{AllocError, AllocFailed, Global};
 use thiserror::Error;

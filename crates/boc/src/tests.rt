@@ -54,6 +54,18 @@ fn values_of_programs(rt: HostRuntime) -> Result<(), Fail> {
             "a 9223372036854775807\n",
         ),
         (
+            "cown c[4] = 0; def w(n; x) { work n; x = x + n; }
+             main { when w(6; c[0]); when w(6; c[1]); when w(6; c[2]); when w(6; c[3]); }",
+            "c[0] 6\nc[1] 6\nc[2] 6\nc[3] 6\n",
+        ),
+        (
+            "cown a = 0;
+             def down(n; x) { x = x + n; if n > 0 { when down(n - 1; x); } }
+             main { when down(2; a); }",
+            "a 3\n",
+        ),
+        ("main { work 1; }", ""),
+        (
             "cown low = -9223372036854775807; main { }",
             "low -9223372036854775807\n",
         ),
@@ -75,7 +87,13 @@ fn refusals(rt: HostRuntime) -> Result<(), Fail> {
             "boc: run: 2 Behaviours",
         ),
         ("main { when f(;); }", 3, "boc: line 1: 5 UnknownName"),
-        ("main { work 1; }", 3, "boc: line 1: 3 Unexpected"),
+        ("main { x = 1; }", 3, "boc: line 1: 5 UnknownName"),
+        (
+            "main { let n = 9223372036854775808; }",
+            3,
+            "boc: line 1: 4 NumberTooLarge",
+        ),
+        ("cown c[257] = 0; main { }", 3, "boc: line 1: 8 TooMany"),
         ("", 3, "boc: line 1: 3 Unexpected"),
         ("main { when f(1", 3, "boc: line 1: 3 Unexpected"),
         ("main { x = 01; }", 3, "boc: line 1: 2 BadToken"),
@@ -129,6 +147,52 @@ fn longest_text(rt: HostRuntime) -> Result<(), Fail> {
     }
     assert_eq!(rt; source.taken, 65_537);
     assert_eq!(rt; sink.bytes.len(), 0);
+    Ok(())
+}
+
+/// A program with a number in so many pairs of parentheses.
+fn nested(alloc: Global, pairs: usize) -> Result<Bytes, AllocError> {
+    let mut text = Vec::from_slice(alloc, b"main { work ")?;
+    for _ in 0..pairs {
+        text.push(b'(')?;
+    }
+    text.push(b'1')?;
+    for _ in 0..pairs {
+        text.push(b')')?;
+    }
+    text.extend_from_slice(b"; }")?;
+    Ok(Bytes::new(text))
+}
+
+#[test]
+fn deepest_nesting(rt: HostRuntime) -> Result<(), Fail> {
+    let alloc = rt.alloc();
+    let mut sink = bytes(alloc, "")?;
+    assert!(rt; values_cmd(alloc, &mut nested(alloc, 998)?, &mut sink).is_ok());
+    for pairs in [999, 30_000] {
+        match values_cmd(alloc, &mut nested(alloc, pairs)?, &mut sink) {
+            Err(fault) => assert_eq!(rt; fault.line(alloc)?.as_str(), "boc: line 1: 8 TooMany"),
+            Ok(()) => assert!(rt; false, "{pairs} pairs are taken"),
+        }
+    }
+    Ok(())
+}
+
+#[test]
+fn beginnings_are_unexpected(rt: HostRuntime) -> Result<(), Fail> {
+    let alloc = rt.alloc();
+    let whole = TRANSFER.trim_end();
+    for (end, _) in whole.char_indices() {
+        let Some(beginning) = whole.get(..end) else {
+            continue;
+        };
+        let answer = answered(alloc, beginning)?;
+        assert_eq!(rt; answer.status, 3, "{beginning}");
+        assert!(rt;
+            answer.line.as_str().ends_with(": 3 Unexpected"),
+            "{beginning}"
+        );
+    }
     Ok(())
 }
 

@@ -2,13 +2,13 @@
 
 ghost use Rattle.std.specs.Prelude.{◌≡◌, ◌<◌, ◌≤◌, length, MatchResult};
 ghost use Rattle.boc_types.specs.Answers.{IsValuesAnswer};
-ghost use Rattle.boc.specs.Commands.{AnswersInput, Leaves, CountsSource, CountsSink, IsOfInput};
+ghost use Rattle.boc.specs.Commands.{AnswersInput, Leaves, CountsSource, CountsSink, IsOfInput, Refuses};
 
 use crate::fault::Fault;
 use crate::stream::{Sink, Source};
 use crate::values_text::values_text;
 use crate::whole::{put_out, read_all};
-use boc_eval::serial::serial_values;
+use boc_eval::serial_values;
 use boc_reader::read_program;
 use std::alloc::Global;
 
@@ -18,7 +18,8 @@ const MOST_TAKEN: usize = 65_537;
 /// Reads a program, runs its behaviours one at a time, main first and the others in the order in which
 /// they are spawned, and writes the cowns' values at the end, a line each.
 ///
-/// Nothing is written unless the whole text stands. After a failing write a beginning of it went out.
+/// A program text is refused only where it spells no program. Nothing is written unless the whole output
+/// stands. After a failing write a beginning of it went out.
 pub fn values_cmd<S: Source, W: Sink>(
     alloc: Global,
     source: &mut S,
@@ -27,6 +28,7 @@ pub fn values_cmd<S: Source, W: Sink>(
     requires source { S.failures source.old < u64.MAX }
     requires sink { W.failures sink.old < u64.MAX }
     ensures written { Leaves (AnswersInput IsValuesAnswer (S.remaining source.old) (S.remaining source.new)) result (W.written sink.old) (W.written sink.new) }
+    ensures refused { Refuses 65537 result (S.remaining source.old) (S.remaining source.new) }
     ensures source { CountsSource result (S.failures source.old) (S.failures source.new) }
     ensures sink { CountsSink result (W.failures sink.old) (W.failures sink.new) }
 {
@@ -38,7 +40,7 @@ pub fn values_cmd<S: Source, W: Sink>(
 
 /// The text of the values of the program that a text spells.
 fn values_answer(alloc: Global, text: &[u8]) -> Result<Vec<u8>, Fault>
-    ensures { MatchResult result (λ answer. IsValuesAnswer text.now answer.items × (length text.now ≤ 65536)) IsOfInput }
+    ensures { MatchResult result (λ answer. IsValuesAnswer text.now answer.items × (length text.now ≤ 65536)) (IsOfInput text.now) }
 {
     let program = read_program(alloc, text)?;
     let values = serial_values(alloc, &program)?;

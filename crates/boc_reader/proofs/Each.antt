@@ -8,10 +8,16 @@ abbrev pub AllSmall : {X : Type 0} → Phrase X → List X → Type 0
 AllSmall kind [] = Unit {0}
 AllSmall kind (x ∷ xs) = kind.IsSmall x × AllSmall kind xs
 
+-- each is followed by what may follow it
+abbrev pub AllEnd : {X : Type 0} → Phrase X → List X → List Word → Type 0
+AllEnd kind [] rest = Unit {0}
+AllEnd kind (x ∷ xs) rest = kind.Ends x (each_words kind.words xs rest) × AllEnd kind xs rest
+
 -- these were read
 pub record ReadEach {X : Type 0} (kind : Phrase X) (old now : Ahead) (xs : List X) : Type 0 where
   pub words : old.words ≡ each_words kind.words xs now.words
   pub room : list_nodes kind.nodes xs + now.room ≡ old.room
+  pub ends : AllEnd kind xs now.words
   pub small : AllSmall kind xs
   pub shorter : length now.words ≤ length old.words
 
@@ -27,12 +33,18 @@ all_small_more : {X : Type 0} (kind : Phrase X) (xs : List X) (x : X) → AllSma
 all_small_more kind [] x h k = (k, tt)
 all_small_more kind (y ∷ ys) x h k = (h.0, all_small_more kind ys x h.1 k)
 
+all_end_more : {X : Type 0} (kind : Phrase X) (xs : List X) (x : X) (rest : List Word) → AllEnd kind xs (kind.words x rest) → kind.Ends x rest → AllEnd kind (xs ++ x ∷ []) rest
+all_end_more kind [] x rest h k = (k, tt)
+all_end_more kind (y ∷ ys) x rest h k =
+    (subst (kind.Ends y) (sym (each_words-append kind.words ys x rest)) h.0, all_end_more kind ys x rest h.1 k)
+
 pub read_each_more : {X : Type 0} (kind : Phrase X) (old mid new : Ahead) (xs all : List X) (x : X) → ReadEach kind old mid xs → Stands kind mid x new.words → kind.nodes x + new.room ≡ mid.room → length new.words < length mid.words → all ≡ xs ++ x ∷ [] → ReadEach kind old new all
 read_each_more kind old mid new xs all x so_far item room shorter more =
     let n = list_nodes-append kind.nodes xs (x ∷ []) in
     subst (ReadEach kind old new) (sym more) (record {
       words = so_far.words ∙ ap (each_words kind.words xs) item.words ∙ sym (each_words-append kind.words xs x new.words);
       room = omega (arith, so_far.room);
+      ends = all_end_more kind xs x new.words (subst (AllEnd kind xs) item.words so_far.ends) item.ends;
       small = all_small_more kind xs x so_far.small item.small;
       shorter = omega (arith, so_far.shorter);
     })

@@ -1,6 +1,16 @@
 pub mod Texts
+pub mod Refused
+pub mod Operators
+pub mod Expressions
 pub mod Each
+pub mod Ended
 pub mod Lists
+pub mod Listed
+pub mod Items
+pub mod Calls
+pub mod Statements
+pub mod Declarations
+pub mod Spellings
 pub mod Blocks
 pub mod ResolvingLists
 pub mod ResolvingScopes

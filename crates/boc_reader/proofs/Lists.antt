@@ -1,5 +1,5 @@
 -- Any number of a kind, with commas between them.
-use Rattle.std.proofs.Common.{◌≡◌, ◌≢◌, ℕ, ◌+◌, ◌<◌, ◌≤◌, List, [], ◌∷◌, ◌++◌, length, refl, sym, ap, ◌∙◌, subst, arith, length-append}
+use Rattle.std.proofs.Common.{◌≡◌, ◌+◌, ◌<◌, ◌≤◌, List, [], ◌∷◌, ◌++◌, length, refl, sym, ap, ◌∙◌, subst, arith, length-append}
 use Rattle.boc_types.specs.declared.token.Sign.{Sign}
 use Rattle.boc_types.specs.declared.token.Sign.TheVariants.{Comma}
 use Rattle.boc_types.specs.Words.{Word, sign}

@@ -1,12 +1,12 @@
 -- What resolved names keep: the slots and cown parameters that are there, and the limits on nodes.
-use Rattle.std.proofs.Common.{◌≡◌, ℕ, suc, ◌+◌, ◌<◌, ◌≤◌, Bool, true, false, List, [], ◌∷◌, map, length, Option, Some, None, IsTrue, refl, sym, ap, ◌∙◌, subst, arith}
+use Rattle.std.proofs.Common.{◌≡◌, ℕ, ◌+◌, ◌<◌, ◌≤◌, Bool, true, false, List, map, length, Option, Some, None, IsTrue, refl, arith}
 use Rattle.std.specs.Prelude.{◌&&◌, nat_lt, nat_le, max, if◌then◌else◌}
 use Rattle.std.specs.Option.{option_map, option_and_then}
 use Rattle.std.proofs.lemmas.Bool.Decides.{nat_tests}
-use Rattle.boc_types.specs.Syntax.{Term, Binary, Place, Code, Done, Assign, Work, If, Repeat, When}
+use Rattle.boc_types.specs.Syntax.{Term, Place, Code, Done, Assign, Work, If, Repeat, When}
 use Rattle.boc_types.specs.Resolved.{every, expr_fits, ref_fits, fits, expr_nodes, ref_nodes, nodes, total}
 use Rattle.boc_types.specs.Signatures.{Test, whens_pass}
-use Rattle.boc_types.specs.Names.{Left, joined, deepest}
+use Rattle.boc_types.specs.Names.{Left, deepest}
 
 -- what an option was made from
 

@@ -1,5 +1,5 @@
 -- Tests and places of lists, wherever their names lie.
-use Rattle.std.proofs.Common.{◌≡◌, ℕ, ◌+◌, List, [], ◌∷◌, ◌++◌, Bool, true, false, cond, map, Option, Some, None, refl, ap, sym, ◌∙◌, arith}
+use Rattle.std.proofs.Common.{◌≡◌, ◌+◌, List, [], ◌∷◌, ◌++◌, Bool, true, false, cond, map, Option, Some, None, refl, ap, sym, ◌∙◌, arith}
 use Rattle.std.specs.Prelude.{position, find, ◌||◌, nat_lt, length, slice_get}
 use Rattle.std.specs.List.{prefix_len, list_any, position_or_len}
 use Rattle.std.specs.Option.{option_map, option_and_then}

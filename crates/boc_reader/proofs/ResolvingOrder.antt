@@ -1,7 +1,6 @@
 -- What is found in the order of the text is what the names of the tree give.
-use Rattle.std.proofs.Common.{◌≡◌, ℕ, ◌+◌, ◌≤◌, Bool, true, false, List, [], ◌∷◌, ◌++◌, map, length, Option, Some, None, refl, sym, ap, ◌∙◌, subst, arith, append_assoc, cond}
+use Rattle.std.proofs.Common.{◌≡◌, ℕ, ◌+◌, ◌≤◌, Bool, true, false, List, [], ◌∷◌, ◌++◌, map, Option, Some, None, refl, sym, ap, ◌∙◌, subst, arith, append_assoc}
 use Rattle.std.specs.Prelude.{not, ◌&&◌, ◌||◌, if◌then◌else◌}
-use Rattle.std.specs.List.{list_any}
 use Rattle.std.specs.Option.{option_map, option_and_then}
 use Rattle.std.specs.Str.{bytes_eq}
 use Rattle.std.proofs.lemmas.List.{append-nil, map-append}
@@ -10,7 +9,7 @@ use Rattle.std.proofs.lemmas.Slice.Eq.{bytes_eq-Decides}
 use Rattle.std.proofs.lemmas.Bool.Decides.{same_from_decides, Decides-like}
 use Rattle.boc_types.specs.Shape.{Cown, Def, Tree, members, cowns_declared}
 use Rattle.boc_types.specs.Names.{Named, Global, Callee, Top, PlainBody, PlainProgram, among, top_names, are_distinct, globals, callees, top_of, all_names, body_names, plain_cown, tree_names}
-use Rattle.boc_reader.specs.Resolving.{EndWithin, cown_names, global_at, callee_for, cowns_behind, defs_behind, def_names, bodies_behind, top_in_order, program_in_order}
+use Rattle.boc_reader.specs.Resolving.{EndWithin, cown_names, global_at, callee_for, cowns_behind, defs_behind, def_names, bodies_behind, program_in_order}
 
 -- names of which none is among those before it
 abbrev pub are_new : List Named → List Named → Bool

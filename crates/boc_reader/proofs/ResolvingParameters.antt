@@ -1,7 +1,7 @@
 -- Parameters in the scope, and bodies that fit.
-use Rattle.std.proofs.Common.{◌≡◌, ℕ, ◌+◌, ◌≤◌, Bool, true, false, List, [], ◌∷◌, ◌++◌, Bor, map, length, Option, Some, None, Result, Ok, Err, refl, sym, ap, ◌∙◌, subst, cond, append_assoc}
+use Rattle.std.proofs.Common.{◌≡◌, ℕ, ◌≤◌, Bool, true, false, List, [], ◌∷◌, ◌++◌, Bor, map, length, Option, Some, None, Result, Ok, Err, refl, sym, ap, ◌∙◌, subst, append_assoc}
 use Rattle.std.specs.Prelude.{◌&&◌, if◌then◌else◌}
-use Rattle.std.specs.Option.{option_map, option_and_then}
+use Rattle.std.specs.Option.{option_and_then}
 use Rattle.std.specs.Result.{IsErrAnd}
 use Rattle.std.proofs.lemmas.List.{append-nil, length-map}
 use Rattle.boc_types.specs.declared.program.Program.{Program}
@@ -28,11 +28,6 @@ are_free-append top scope [] ys = ap (λ s. are_free top s ys) (sym (append-nil 
 are_free-append top scope (x ∷ xs) ys =
     ap (λ b. is_free top scope x && b) (are_free-append top (scope ++ x ∷ []) xs ys ∙ ap (λ s. are_free top (scope ++ x ∷ []) xs && are_free top s ys) (append_assoc scope (x ∷ []) xs))
     ∙ and_assoc (is_free top scope x) (are_free top (scope ++ x ∷ []) xs) (are_free top (scope ++ (x ∷ xs)) ys)
-
-tests_then : (a b : Bool) (s : List Named) (t u : List Named) → t ≡ u → (let o : Option (List Named) = if a && b then Some t else None in o) ≡ option_and_then (λ (z : List Named). if b then Some u else None) (if a then Some s else None)
-tests_then true true s t u h = ap Some h
-tests_then true false s t u h = refl
-tests_then false b s t u h = refl
 
 scope_with_both : (a b c : Bool) (s t u : List Named) → c ≡ (a && b) → u ≡ t → (let o : Option (List Named) = if c then Some u else None in o) ≡ (let o : Option (List Named) = if a then (if b then Some t else None) else None in o)
 scope_with_both true b c s t u h e = rw h (ap (λ v. let o : Option (List Named) = if b then Some v else None in o) e)

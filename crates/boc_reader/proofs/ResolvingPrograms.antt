@@ -8,20 +8,19 @@ use Rattle.std.proofs.lemmas.Option.{slice_get-map}
 use Rattle.std.proofs.lemmas.Bool.Decides.{nat_tests}
 use Rattle.boc_types.specs.declared.body.Body.{Body}
 use Rattle.boc_types.specs.declared.cown.Cown.{Cown as Cown'}
-use Rattle.boc_types.specs.Syntax.{Term, Place}
-use Rattle.boc_types.specs.Shape.{Expr, Ref, Block, Cown, Def, Tree, members, cowns_declared, IsSmallBlock, IsSmallBody, IsSmallDef, AreSmallDefs, IsWithinLimits}
+use Rattle.boc_types.specs.Shape.{Block, Cown, Def, Tree, members, cowns_declared, IsSmallBlock, AreSmallDefs, IsWithinLimits}
 use Rattle.boc_types.specs.Resolved.{every}
-use Rattle.boc_types.specs.Signatures.{Signature, signature_of, Test, whens_pass, ref_below, counts_fit, call_fits, calls_fit}
-use Rattle.boc_types.specs.Programs.{size_of, cown_count, program_fits, has_main}
+use Rattle.boc_types.specs.Signatures.{Signature, signature_of, whens_pass, counts_fit, call_fits, calls_fit}
+use Rattle.boc_types.specs.Programs.{size_of, cown_count, has_main}
 use Rattle.boc_types.specs.Program.{MakesProgram}
-use Rattle.boc_types.specs.Names.{Named, Global, Callee, Top, Outside, Step, kind_of, callee, takes, deepest, PlainBody, PlainCown, PlainProgram, body_names, callees, top_of, top_names, are_distinct, all_names, plain_cown, tree_names}
-use Rattle.boc_types.specs.Spells.{plain_body, plain_declared, plain_program}
+use Rattle.boc_types.specs.Names.{Named, Callee, Top, Outside, kind_of, callee, takes, PlainBody, PlainCown, PlainProgram, body_names, callees, top_of, top_names, are_distinct, all_names, plain_cown, tree_names}
+use Rattle.boc_types.specs.Spells.{plain_body, plain_declared}
 use Rattle.boc_reader.specs.Resolving.{EndWithin, def_names, callee_for}
 use Rattle.boc_reader.proofs.ResolvingLists.{find-position}
-use Rattle.boc_reader.proofs.ResolvingKeeps.{ThenMade, then_made, MapMade, map_made, test_made, both}
+use Rattle.boc_reader.proofs.ResolvingKeeps.{then_made, map_made, test_made, both}
 use Rattle.boc_reader.proofs.ResolvingExprs.{exprs_keep, refs_keep, Allows}
-use Rattle.boc_reader.proofs.ResolvingBodies.{CallMade, CallsPass, Around, block_keeps, BodyMade, body_made}
-use Rattle.boc_reader.proofs.ResolvingOrder.{globals_end, plain_of}
+use Rattle.boc_reader.proofs.ResolvingBodies.{CallsPass, block_keeps, body_made}
+use Rattle.boc_reader.proofs.ResolvingOrder.{globals_end}
 
 same_number : (a b : ℕ) → a ≡ b → IsTrue (nat_eq a b)
 same_number a b h = grind (arith, nat_tests)

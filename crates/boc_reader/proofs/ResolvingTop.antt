@@ -1,5 +1,5 @@
 -- The look-ups at the top, wherever the names lie.
-use Rattle.std.proofs.Common.{◌≡◌, ℕ, suc, ◌+◌, List, Bor, length, get_or, Bool, true, false, map, Option, Some, None, refl, ap, sym, ◌∙◌}
+use Rattle.std.proofs.Common.{◌≡◌, ℕ, suc, List, Bor, length, get_or, Bool, true, false, map, Option, Some, refl, ap, sym, ◌∙◌}
 use Rattle.std.specs.Prelude.{position, find, not, ◌||◌, slice_get}
 use Rattle.std.specs.List.{list_any}
 use Rattle.std.specs.Option.{option_map, option_and_then}

@@ -1,68 +1,229 @@
 -- The kinds of phrases.
-use Rattle.std.specs.Prelude.{ℕ, ◌+◌, ◌≤◌, List, [], ◌∷◌, length}
+use Rattle.std.specs.Prelude.{◌≡◌, ◌≢◌, [], ℕ, ◌+◌, ◌≤◌, Bool, List, ◌∷◌, length, Option, Some, None}
 use Rattle.boc_types.specs.declared.token.Sign.{Sign}
-use Rattle.boc_types.specs.declared.token.Sign.TheVariants.{Open, Close, OpenBlock, CloseBlock, Semicolon}
-use Rattle.boc_types.specs.Words.{Word, name, sign}
-use Rattle.boc_types.specs.Shape.{Expr, expr_words, expr_nodes, Sum, sum_words, sum_nodes, Term, term_words, term_nodes, Atom, atom_words, atom_nodes, Ref, ref_words, ref_nodes, Stmt, stmt_words, stmt_nodes, IsSmallStmt, Block, block_words, block_nodes, IsSmallBlock, IsSmallBody, braced_words, list_words, list_nodes, each_words, name_words, written_words, call_words, Cown, cown_words, cowns_declared, members, HasMembers, HaveMembers, Def, def_words, IsSmallDef, AreSmallDefs}
+use Rattle.boc_types.specs.declared.token.Sign.TheVariants.{Open, Close, OpenIndex, CloseBlock, Semicolon, Assign}
+use Rattle.boc_types.specs.declared.token.Sign.TheVariants as signs
+use Rattle.boc_types.specs.declared.token.Keyword.{Keyword}
+use Rattle.boc_types.specs.declared.token.Keyword.TheVariants.{Else, Cown as CownWord, Def as DefWord, Main}
+use Rattle.boc_types.specs.declared.level.Comparison.{Comparison}
+use Rattle.boc_types.specs.declared.level.SumOperator.{SumOperator}
+use Rattle.boc_types.specs.declared.level.TermOperator.{TermOperator}
+use Rattle.boc_types.specs.Words.{Word, name, number, keyword, sign}
+use Rattle.boc_types.specs.Shape.{comparison_sign, sum_sign, term_sign, Expr, plain, compared, expr_words, expr_nodes, Sum, sum_words, sum_nodes, Term, term_words, term_nodes, Unary, unary_words, unary_nodes, Atom, atom_words, atom_nodes, Ref, alone, member, ref_words, ref_nodes, Stmt, declare, assign, work, if_only, if_else, repeat, when, stmt_words, stmt_nodes, IsSmallStmt, Block, block_words, block_nodes, IsSmallBlock, IsSmallBody, braced_words, list_words, list_nodes, each_words, name_words, written_words, Cown, cown_words, cowns_declared, members, HasMembers, HaveMembers, size_words, minus_words, Def, def_words, IsSmallDef, AreSmallDefs, Tree, HasShape}
 use Rattle.boc_reader.specs.Phrases.{Phrase}
 
+-- the sign isn't next
+abbrev pub NoSign : Sign → List Word → Type 0
+NoSign s rest = (after : List Word) → rest ≢ sign s ∷ after
+
+-- the keyword isn't next
+abbrev pub NoKeyword : Keyword → List Word → Type 0
+NoKeyword k rest = (after : List Word) → rest ≢ keyword k ∷ after
+
+-- no operator of a level is next
+abbrev pub NoOperator : {Op : Type 0} → (Op → Sign) → List Word → Type 0
+NoOperator {Op} op_sign rest = (op : Op) (after : List Word) → rest ≢ sign (op_sign op) ∷ after
+
+-- how tightly an operator binds: 0 is for a sign that is none
+abbrev pub tightness : Sign → ℕ
+tightness signs.Equal = 1
+tightness signs.NotEqual = 1
+tightness signs.Less = 1
+tightness signs.AtMost = 1
+tightness signs.Greater = 1
+tightness signs.AtLeast = 1
+tightness signs.Plus = 2
+tightness signs.Minus = 2
+tightness signs.Star = 3
+tightness signs.Slash = 3
+tightness signs.Percent = 3
+tightness s = 0
+
+-- no operator follows that the phrase would take in
+abbrev pub EndsSum : List Word → Type 0
+EndsSum rest = NoOperator term_sign rest × NoOperator sum_sign rest
+
+abbrev pub EndsExpr : Expr → List Word → Type 0
+EndsExpr (plain s) rest = EndsSum rest × NoOperator comparison_sign rest
+EndsExpr (compared s op t) rest = EndsSum rest
+
 abbrev pub expr_phrase : Phrase Expr
-expr_phrase = record { words = expr_words; nodes = expr_nodes; Ends = λ _. Unit {0}; IsSmall = λ _. Unit {0} }
+expr_phrase = record { words = expr_words; nodes = expr_nodes; Ends = EndsExpr; IsSmall = λ _. Unit {0} }
 
 abbrev pub sum_phrase : Phrase Sum
-sum_phrase = record { words = sum_words; nodes = sum_nodes; Ends = λ _. Unit {0}; IsSmall = λ _. Unit {0} }
+sum_phrase = record { words = sum_words; nodes = sum_nodes; Ends = λ _. EndsSum; IsSmall = λ _. Unit {0} }
 
 abbrev pub term_phrase : Phrase Term
-term_phrase = record { words = term_words; nodes = term_nodes; Ends = λ _. Unit {0}; IsSmall = λ _. Unit {0} }
+term_phrase = record { words = term_words; nodes = term_nodes; Ends = λ _. NoOperator term_sign; IsSmall = λ _. Unit {0} }
+
+abbrev pub unary_phrase : Phrase Unary
+unary_phrase = record { words = unary_words; nodes = unary_nodes; Ends = λ _ _. Unit {0}; IsSmall = λ _. Unit {0} }
 
 abbrev pub atom_phrase : Phrase Atom
-atom_phrase = record { words = atom_words; nodes = atom_nodes; Ends = λ _. Unit {0}; IsSmall = λ _. Unit {0} }
+atom_phrase = record { words = atom_words; nodes = atom_nodes; Ends = λ _ _. Unit {0}; IsSmall = λ _. Unit {0} }
 
-abbrev pub ref_phrase : Phrase Ref
-ref_phrase = record { words = ref_words; nodes = ref_nodes; Ends = λ _. Unit {0}; IsSmall = λ _. Unit {0} }
+abbrev pub tail_words : {Op X : Type 0} → (Op → Sign) → (X → List Word → List Word) → Option (Op × X) → List Word → List Word
+tail_words op_sign words None rest = rest
+tail_words op_sign words (Some p) rest = sign (op_sign p.0) ∷ words p.1 rest
 
-abbrev pub name_phrase : Phrase (List ℕ)
-name_phrase = record { words = name_words; nodes = λ _. 0; Ends = λ _. Unit {0}; IsSmall = λ _. Unit {0} }
+abbrev pub tail_nodes : {Op X : Type 0} → (X → ℕ) → Option (Op × X) → ℕ
+tail_nodes nodes None = 0
+tail_nodes nodes (Some p) = 1 + nodes p.1
+
+abbrev pub EndsTail : {Op X : Type 0} → (Op → Sign) → (X → List Word → Type 0) → Option (Op × X) → List Word → Type 0
+EndsTail op_sign Ends None rest = NoOperator op_sign rest
+EndsTail op_sign Ends (Some p) rest = Ends p.1 rest
+
+-- an operator and what it takes in, or no operator
+abbrev pub tail_phrase : {Op X : Type 0} → (Op → Sign) → Phrase X → Phrase (Option (Op × X))
+tail_phrase op_sign kind = record { words = tail_words op_sign kind.words; nodes = tail_nodes kind.nodes; Ends = EndsTail op_sign kind.Ends; IsSmall = λ _. Unit {0} }
+
+abbrev pub compared_phrase : Phrase (Option (Comparison × Sum))
+compared_phrase = tail_phrase comparison_sign sum_phrase
+
+abbrev pub more_terms_phrase : Phrase (Option (SumOperator × Sum))
+more_terms_phrase = tail_phrase sum_sign sum_phrase
+
+abbrev pub more_factors_phrase : Phrase (Option (TermOperator × Term))
+more_factors_phrase = tail_phrase term_sign term_phrase
+
+-- a phrase, and the sign behind it
+abbrev pub closed_phrase : {X : Type 0} → Phrase X → Sign → Phrase X
+closed_phrase kind close = record { words = λ x rest. kind.words x (sign close ∷ rest); nodes = kind.nodes; Ends = λ _ _. Unit {0}; IsSmall = kind.IsSmall }
+
+-- a phrase, and one of another kind behind it
+abbrev pub pair_phrase : {X Y : Type 0} → Phrase X → Phrase Y → Phrase (X × Y)
+pair_phrase first second = record {
+  words = λ p rest. first.words p.0 (second.words p.1 rest);
+  nodes = λ p. first.nodes p.0 + second.nodes p.1;
+  Ends = λ p rest. second.Ends p.1 rest;
+  IsSmall = λ p. first.IsSmall p.0 × second.IsSmall p.1;
+}
 
 -- at most eight of a kind, and the sign behind them
 abbrev pub list_phrase : {X : Type 0} → Phrase X → Sign → Phrase (List X)
-list_phrase kind close = record { words = λ xs rest. list_words kind.words xs (sign close ∷ rest); nodes = list_nodes kind.nodes; Ends = λ _. Unit {0}; IsSmall = λ xs. length xs ≤ 8 }
+list_phrase kind close = record { words = λ xs rest. list_words kind.words xs (sign close ∷ rest); nodes = list_nodes kind.nodes; Ends = λ _ _. Unit {0}; IsSmall = λ xs. length xs ≤ 8 }
 
--- what stands behind the name in an assignment
+abbrev pub name_phrase : Phrase (List ℕ)
+name_phrase = record { words = name_words; nodes = λ _. 0; Ends = λ _ _. Unit {0}; IsSmall = λ _. Unit {0} }
+
+abbrev pub EndsRef : Ref → List Word → Type 0
+EndsRef (alone x) rest = NoSign OpenIndex rest
+EndsRef (member x e) rest = Unit {0}
+
+abbrev pub ref_phrase : Phrase Ref
+ref_phrase = record { words = ref_words; nodes = ref_nodes; Ends = EndsRef; IsSmall = λ _. Unit {0} }
+
+-- what stands behind a name that is written to
 abbrev pub written_phrase : Phrase Expr
-written_phrase = record { words = written_words; nodes = expr_nodes; Ends = λ _. Unit {0}; IsSmall = λ _. Unit {0} }
+written_phrase = record { words = written_words; nodes = expr_nodes; Ends = λ _ _. Unit {0}; IsSmall = λ _. Unit {0} }
+
+-- what stands behind `let`
+abbrev pub let_phrase : Phrase (List ℕ × Expr)
+let_phrase = pair_phrase name_phrase written_phrase
+
+-- the arguments of a `when`, and its references
+abbrev pub arguments_phrase : Phrase (List Expr × List Ref)
+arguments_phrase = pair_phrase (list_phrase expr_phrase Semicolon) (list_phrase ref_phrase Close)
 
 -- what stands behind `when`
-abbrev pub call_phrase : Phrase (List ℕ × List Expr × List Ref)
-call_phrase = record { words = λ w. call_words w.0 w.1 w.2; nodes = λ w. list_nodes expr_nodes w.1 + list_nodes ref_nodes w.2; Ends = λ _. Unit {0}; IsSmall = λ w. (length w.1 ≤ 8) × (length w.2 ≤ 8) }
+abbrev pub call_phrase : Phrase (List ℕ × (List Expr × List Ref))
+call_phrase = record {
+  words = λ p rest. name p.0 ∷ sign Open ∷ arguments_phrase.words p.1 (sign Semicolon ∷ rest);
+  nodes = λ p. arguments_phrase.nodes p.1;
+  Ends = λ _ _. Unit {0};
+  IsSmall = λ p. arguments_phrase.IsSmall p.1;
+}
 
-abbrev pub stmt_phrase : Phrase Stmt
-stmt_phrase = record { words = stmt_words; nodes = stmt_nodes; Ends = λ _. Unit {0}; IsSmall = IsSmallStmt }
+-- a block in its braces
+abbrev pub braced_phrase : Phrase Block
+braced_phrase = record { words = braced_words; nodes = block_nodes; Ends = λ _ _. Unit {0}; IsSmall = IsSmallBlock }
 
 -- statements, and the brace behind them
 abbrev pub block_phrase : Phrase Block
-block_phrase = record { words = λ b rest. block_words b (sign CloseBlock ∷ rest); nodes = block_nodes; Ends = λ _. Unit {0}; IsSmall = IsSmallBlock }
+block_phrase = record { words = λ b rest. block_words b (sign CloseBlock ∷ rest); nodes = block_nodes; Ends = λ _ _. Unit {0}; IsSmall = IsSmallBlock }
 
--- a block with room of its own
+abbrev pub else_words : Option Block → List Word → List Word
+else_words None rest = rest
+else_words (Some b) rest = keyword Else ∷ braced_words b rest
+
+abbrev pub else_nodes : Option Block → ℕ
+else_nodes None = 0
+else_nodes (Some b) = block_nodes b
+
+abbrev pub EndsElse : Option Block → List Word → Type 0
+EndsElse None rest = NoKeyword Else rest
+EndsElse (Some b) rest = Unit {0}
+
+abbrev pub IsSmallElse : Option Block → Type 0
+IsSmallElse None = Unit {0}
+IsSmallElse (Some b) = IsSmallBlock b
+
+-- `else` and its block, or nothing
+abbrev pub else_phrase : Phrase (Option Block)
+else_phrase = record { words = else_words; nodes = else_nodes; Ends = EndsElse; IsSmall = IsSmallElse }
+
+-- what stands behind `if`
+abbrev pub if_phrase : Phrase (Expr × (Block × Option Block))
+if_phrase = pair_phrase expr_phrase (pair_phrase braced_phrase else_phrase)
+
+-- what stands behind `repeat`
+abbrev pub repeat_phrase : Phrase (Expr × Block)
+repeat_phrase = pair_phrase expr_phrase braced_phrase
+
+abbrev pub EndsStmt : Stmt → List Word → Type 0
+EndsStmt (declare x e) rest = Unit {0}
+EndsStmt (assign x e) rest = Unit {0}
+EndsStmt (work e) rest = Unit {0}
+EndsStmt (if_only e b) rest = NoKeyword Else rest
+EndsStmt (if_else e b c) rest = Unit {0}
+EndsStmt (repeat e b) rest = Unit {0}
+EndsStmt (when f es rs) rest = Unit {0}
+
+abbrev pub stmt_phrase : Phrase Stmt
+stmt_phrase = record { words = stmt_words; nodes = stmt_nodes; Ends = EndsStmt; IsSmall = IsSmallStmt }
+
+-- a block in its braces, with room of its own
 abbrev pub body_phrase : Phrase Block
-body_phrase = record { words = braced_words; nodes = λ _. 0; Ends = λ _. Unit {0}; IsSmall = IsSmallBody }
+body_phrase = record { words = braced_words; nodes = λ _. 0; Ends = λ _ _. Unit {0}; IsSmall = IsSmallBody }
+
+abbrev pub EndsSize : Option ℕ → List Word → Type 0
+EndsSize None rest = NoSign OpenIndex rest
+EndsSize (Some n) rest = Unit {0}
+
+-- what stands behind the name of a cown, and makes it an array
+abbrev pub size_phrase : Phrase (Option ℕ)
+size_phrase = record { words = size_words; nodes = members; Ends = EndsSize; IsSmall = HasMembers }
+
+-- a value that a cown begins with, behind a minus or without one
+abbrev pub initial_phrase : Phrase (Bool × ℕ)
+initial_phrase = record { words = λ v rest. sign Assign ∷ minus_words v.0 (number v.1 ∷ sign Semicolon ∷ rest); nodes = λ _. 0; Ends = λ _ _. Unit {0}; IsSmall = λ _. Unit {0} }
 
 abbrev pub cown_phrase : Phrase Cown
-cown_phrase = record { words = cown_words; nodes = λ c. members c.size; Ends = λ _. Unit {0}; IsSmall = λ c. HasMembers c.size }
+cown_phrase = record { words = cown_words; nodes = λ c. members c.size; Ends = λ _ _. Unit {0}; IsSmall = λ c. HasMembers c.size }
 
 abbrev pub cowns_phrase : Phrase (List Cown)
-cowns_phrase = record { words = each_words cown_words; nodes = cowns_declared; Ends = λ _. Unit {0}; IsSmall = HaveMembers }
+cowns_phrase = record { words = each_words cown_words; nodes = cowns_declared; Ends = λ _. NoKeyword CownWord; IsSmall = HaveMembers }
 
 -- what stands between `def` and its block
-abbrev pub signature_words : List ℕ → List (List ℕ) → List (List ℕ) → List Word → List Word
-signature_words f params cowns rest =
-    name f ∷ sign Open ∷ list_words name_words params (sign Semicolon ∷ list_words name_words cowns (sign Close ∷ rest))
-
-abbrev pub signature_phrase : Phrase (List ℕ × List (List ℕ) × List (List ℕ))
-signature_phrase = record { words = λ s. signature_words s.0 s.1 s.2; nodes = λ _. 0; Ends = λ _. Unit {0}; IsSmall = λ s. (length s.1 ≤ 8) × (length s.2 ≤ 8) }
+abbrev pub signature_phrase : Phrase (List ℕ × (List (List ℕ) × List (List ℕ)))
+signature_phrase = record {
+  words = λ s rest. name s.0 ∷ sign Open ∷ list_words name_words s.1.0 (sign Semicolon ∷ list_words name_words s.1.1 (sign Close ∷ rest));
+  nodes = λ _. 0;
+  Ends = λ _ _. Unit {0};
+  IsSmall = λ s. (length s.1.0 ≤ 8) × (length s.1.1 ≤ 8);
+}
 
 abbrev pub def_phrase : Phrase Def
-def_phrase = record { words = def_words; nodes = λ _. 1; Ends = λ _. Unit {0}; IsSmall = IsSmallDef }
+def_phrase = record { words = def_words; nodes = λ _. 1; Ends = λ _ _. Unit {0}; IsSmall = IsSmallDef }
 
 abbrev pub defs_phrase : Phrase (List Def)
-defs_phrase = record { words = each_words def_words; nodes = length; Ends = λ _. Unit {0}; IsSmall = AreSmallDefs }
+defs_phrase = record { words = each_words def_words; nodes = length; Ends = λ _. NoKeyword DefWord; IsSmall = AreSmallDefs }
+
+-- main's body, and the end of the text
+abbrev pub main_phrase : Phrase Block
+main_phrase = record { words = λ b rest. keyword Main ∷ braced_words b rest; nodes = λ _. 0; Ends = λ _ rest. rest ≡ []; IsSmall = IsSmallBody }
+
+-- the words are not those of a tree within the limits
+abbrev pub NoShape : List Word → Type 0
+NoShape words = (t : Tree) → HasShape words t → ⊥

@@ -1,17 +1,21 @@
 // A place among the tokens.
 
-ghost use Rattle.std.specs.Prelude.{◌≡◌, ◌≢◌, ◌+◌, ◌<◌, ◌∷◌, [], ℕ, List, drop, MatchResult, MatchOption};
+ghost use Rattle.std.specs.Prelude.{◌≡◌, ◌≢◌, ◌+◌, ◌<◌, ◌∷◌, [], ℕ, List, drop, MatchResult, MatchOption, MatchBool};
 ghost use Rattle.std.specs.Bool.{OnTrue, OnFalse};
 ghost use Rattle.boc_types.specs.Words.{Word, name, number, keyword, sign};
-ghost use Rattle.boc_types.specs.Shape.{sum_sign};
+ghost use Rattle.boc_types.specs.Shape.{comparison_sign, sum_sign, term_sign};
+ghost use Rattle.boc_types.specs.declared.level.Comparison.{Comparison};
 ghost use Rattle.boc_types.specs.declared.level.SumOperator.{SumOperator};
+ghost use Rattle.boc_types.specs.declared.level.TermOperator.{TermOperator};
+ghost use Rattle.boc_types.specs.declared.token.Sign.TheVariants.{Minus};
+ghost use Rattle.boc_reader.specs.Grammar.{NoSign, NoKeyword, NoOperator};
 ghost use Rattle.boc_reader.specs.Placed.{word_of, words_of, Refusal};
 
 use crate::fault::{Fault, ShapeFault};
 use crate::natural::Natural;
 use crate::shape::Spot;
 use crate::token::{Placed, Token};
-use boc_types::level::SumOperator;
+use boc_types::level::{Comparison, SumOperator, TermOperator};
 use boc_types::token::{Keyword, Sign};
 use std::marker::Model;
 use std::mem;
@@ -111,10 +115,22 @@ impl<'t, 'a> Cursor<'t, 'a> {
         self.take_room(1, self.place())
     }
 
+    /// Goes past the next token, which begins a node.
+    pub fn begin(&mut self) -> Result<(), Fault<ShapeFault>>
+        requires { self.old.words ≢ [] }
+        ensures { MatchResult result
+            (λ _. (self.new.words ≡ drop 1 self.old.words) × (1 + self.new.room ≡ self.old.room))
+            (λ f. Refusal f (self.old.room ≡ 0)) }
+    {
+        self.node()?;
+        self.skip();
+        Ok(())
+    }
+
     /// Whether the next token is this keyword.
     pub fn is_next(&self, wanted: Keyword) -> bool
         ensures next { OnTrue result (self.now.words ≡ keyword wanted ∷ drop 1 self.now.words) }
-        ensures other { OnFalse result ((after : List Word) → self.now.words ≢ keyword wanted ∷ after) }
+        ensures other { OnFalse result (NoKeyword wanted self.now.words) }
     {
         matches!(self.peek(), Some(Token::Keyword(found)) if found == wanted)
     }
@@ -122,7 +138,7 @@ impl<'t, 'a> Cursor<'t, 'a> {
     /// Goes past this sign, if it is next.
     pub fn accept(&mut self, wanted: Sign) -> bool
         ensures taken { OnTrue result ((self.old.words ≡ sign wanted ∷ self.new.words) × (self.new.room ≡ self.old.room)) }
-        ensures stays { OnFalse result ((self.new ≡ self.old) × ((after : List Word) → self.old.words ≢ sign wanted ∷ after)) }
+        ensures stays { OnFalse result ((self.new ≡ self.old) × NoSign wanted self.old.words) }
     {
         match self.peek() {
             Some(Token::Sign(found)) if found == wanted => {
@@ -136,7 +152,7 @@ impl<'t, 'a> Cursor<'t, 'a> {
     /// Goes past this sign.
     pub fn take(&mut self, wanted: Sign) -> Result<(), Fault<ShapeFault>>
         ensures { MatchResult result (λ _. (self.old.words ≡ sign wanted ∷ self.new.words) × (self.new.room ≡ self.old.room))
-            (λ f. Refusal f ((after : List Word) → self.old.words ≢ sign wanted ∷ after)) }
+            (λ f. Refusal f (NoSign wanted self.old.words)) }
     {
         match self.peek() {
             Some(Token::Sign(found)) if found == wanted => {
@@ -150,7 +166,7 @@ impl<'t, 'a> Cursor<'t, 'a> {
     /// Goes past this keyword.
     pub fn keyword(&mut self, wanted: Keyword) -> Result<(), Fault<ShapeFault>>
         ensures { MatchResult result (λ _. (self.old.words ≡ keyword wanted ∷ self.new.words) × (self.new.room ≡ self.old.room))
-            (λ f. Refusal f ((after : List Word) → self.old.words ≢ keyword wanted ∷ after)) }
+            (λ f. Refusal f (NoKeyword wanted self.old.words)) }
     {
         match self.peek() {
             Some(Token::Keyword(found)) if found == wanted => {
@@ -190,11 +206,32 @@ impl<'t, 'a> Cursor<'t, 'a> {
         }
     }
 
+    /// Goes past a comparison, which is a node, if one is next.
+    pub fn comparison(&mut self) -> Result<Option<Comparison>, Fault<ShapeFault>>
+        ensures { MatchResult result
+            (λ found. MatchOption found
+            ((self.new ≡ self.old) × NoOperator comparison_sign self.old.words)
+            (λ op. (self.old.words ≡ sign (comparison_sign op) ∷ self.new.words) × (1 + self.new.room ≡ self.old.room)))
+            (λ f. Refusal f ((self.old.room ≡ 0) × (op : Comparison) × (self.old.words ≡ sign (comparison_sign op) ∷ drop 1 self.old.words))) }
+    {
+        let op = match self.peek() {
+            Some(Token::Sign(Sign::Equal)) => Comparison::Equal,
+            Some(Token::Sign(Sign::NotEqual)) => Comparison::NotEqual,
+            Some(Token::Sign(Sign::Less)) => Comparison::Less,
+            Some(Token::Sign(Sign::AtMost)) => Comparison::AtMost,
+            Some(Token::Sign(Sign::Greater)) => Comparison::Greater,
+            Some(Token::Sign(Sign::AtLeast)) => Comparison::AtLeast,
+            _ => return Ok(None),
+        };
+        self.begin()?;
+        Ok(Some(op))
+    }
+
     /// Goes past an operator between terms, which is a node, if one is next.
     pub fn sum_operator(&mut self) -> Result<Option<SumOperator>, Fault<ShapeFault>>
         ensures { MatchResult result
             (λ found. MatchOption found
-            ((self.new ≡ self.old) × ((op : SumOperator) (after : List Word) → self.old.words ≢ sign (sum_sign op) ∷ after))
+            ((self.new ≡ self.old) × NoOperator sum_sign self.old.words)
             (λ op. (self.old.words ≡ sign (sum_sign op) ∷ self.new.words) × (1 + self.new.room ≡ self.old.room)))
             (λ f. Refusal f ((self.old.room ≡ 0) × (op : SumOperator) × (self.old.words ≡ sign (sum_sign op) ∷ drop 1 self.old.words))) }
     {
@@ -203,9 +240,41 @@ impl<'t, 'a> Cursor<'t, 'a> {
             Some(Token::Sign(Sign::Minus)) => SumOperator::Subtract,
             _ => return Ok(None),
         };
-        self.node()?;
-        self.skip();
+        self.begin()?;
         Ok(Some(op))
+    }
+
+    /// Goes past an operator between factors, which is a node, if one is next.
+    pub fn term_operator(&mut self) -> Result<Option<TermOperator>, Fault<ShapeFault>>
+        ensures { MatchResult result
+            (λ found. MatchOption found
+            ((self.new ≡ self.old) × NoOperator term_sign self.old.words)
+            (λ op. (self.old.words ≡ sign (term_sign op) ∷ self.new.words) × (1 + self.new.room ≡ self.old.room)))
+            (λ f. Refusal f ((self.old.room ≡ 0) × (op : TermOperator) × (self.old.words ≡ sign (term_sign op) ∷ drop 1 self.old.words))) }
+    {
+        let op = match self.peek() {
+            Some(Token::Sign(Sign::Star)) => TermOperator::Multiply,
+            Some(Token::Sign(Sign::Slash)) => TermOperator::Divide,
+            Some(Token::Sign(Sign::Percent)) => TermOperator::Remainder,
+            _ => return Ok(None),
+        };
+        self.begin()?;
+        Ok(Some(op))
+    }
+
+    /// Goes past a minus, which is a node, if one is next.
+    pub fn minus(&mut self) -> Result<bool, Fault<ShapeFault>>
+        ensures { MatchResult result
+            (λ found. MatchBool found
+            ((self.old.words ≡ sign Minus ∷ self.new.words) × (1 + self.new.room ≡ self.old.room))
+            ((self.new ≡ self.old) × NoSign Minus self.old.words))
+            (λ f. Refusal f (self.old.room ≡ 0)) }
+    {
+        if !matches!(self.peek(), Some(Token::Sign(Sign::Minus))) {
+            return Ok(false);
+        }
+        self.begin()?;
+        Ok(true)
     }
 
     /// Tells that no token is left.

@@ -1,17 +1,20 @@
 // From tokens to the syntax tree, by recursive descent.
 
-ghost use Rattle.std.specs.Prelude.{◌<◌, length, map, OnOk, IfOk};
+ghost use Rattle.std.specs.Prelude.{◌≡◌, ◌≢◌, ◌<◌, ◌≤◌, length, map, OnOk, MatchResult};
+ghost use Rattle.std.specs.Option.{option_map};
 ghost use Rattle.boc_types.specs.Shape.{HasShape};
-ghost use Rattle.boc_types.specs.declared.token.Sign.TheVariants.{Semicolon, Close};
+ghost use Rattle.boc_types.specs.declared.token.Sign.TheVariants.{Semicolon, Close, Comma};
 ghost use Rattle.boc_reader.specs.Phrases.{Answers};
-ghost use Rattle.boc_reader.specs.Grammar.{expr_phrase, sum_phrase, term_phrase, ref_phrase, name_phrase, list_phrase, written_phrase, call_phrase, stmt_phrase, block_phrase, body_phrase, cown_phrase, cowns_phrase, signature_phrase, def_phrase, defs_phrase};
-ghost use Rattle.boc_reader.specs.Placed.{words_of};
-ghost use Rattle.boc_reader.specs.Views.{name_of, expr_of, sum_of, term_of, ref_of, stmt_of, block_of, cown_of, def_of, tree_of};
+ghost use Rattle.boc_reader.specs.Grammar.{NoShape, tightness, expr_phrase, compared_phrase, sum_phrase, more_terms_phrase, term_phrase, more_factors_phrase, unary_phrase, atom_phrase, closed_phrase, ref_phrase, name_phrase, list_phrase, written_phrase, let_phrase, arguments_phrase, call_phrase, stmt_phrase, block_phrase, braced_phrase, else_phrase, pair_phrase, if_phrase, repeat_phrase, body_phrase, size_phrase, initial_phrase, cown_phrase, cowns_phrase, signature_phrase, def_phrase, defs_phrase, main_phrase};
+ghost use Rattle.boc_reader.specs.Placed.{words_of, Refusal};
+ghost use Rattle.boc_reader.specs.Views.{name_of, expr_of, sum_of, term_of, unary_of, atom_of, ref_of, stmt_of, block_of, cown_of, def_of, tree_of};
 
 use crate::cursor::Cursor;
 use crate::fault::{Fault, ShapeFault};
+use crate::natural::Natural;
 use crate::shape::{Atom, CownShape, DefShape, Expr, Ref, Spot, Stmt, Sum, Term, Tree, Unary};
 use crate::token::{Placed, Token};
+use boc_types::level::{Comparison, SumOperator, TermOperator};
 use boc_types::token::{Keyword, Sign};
 use std::alloc::Global;
 
@@ -31,16 +34,25 @@ type Read<T> = Result<T, Fault<ShapeFault>>;
 
 /// The tree of a text that has these tokens and ends at this byte.
 pub fn parse_tree<'a>(alloc: Global, tokens: &[Placed<'a>], end: usize) -> Read<Tree<'a>>
-    ensures { IfOk result (λ t. HasShape (words_of tokens.now) (tree_of t)) }
+    ensures { MatchResult result (λ t. HasShape (words_of tokens.now) (tree_of t))
+        (λ f. Refusal f (NoShape (words_of tokens.now))) }
 {
     let mut cursor = Cursor::new(tokens, end, COWNS);
     let cowns = cowns(alloc, &mut cursor)?;
     cursor.refill(DEFS);
     let defs = defs(alloc, &mut cursor)?;
-    cursor.keyword(Keyword::Main)?;
-    let main = body(alloc, &mut cursor)?;
-    cursor.end()?;
+    let main = main_block(alloc, &mut cursor)?;
     Ok(Tree { cowns, defs, main })
+}
+
+// Main's body, and the end of the text.
+fn main_block<'a>(alloc: Global, cursor: &mut Cursor<'_, 'a>) -> Read<Vec<Stmt<'a>>>
+    ensures { Answers main_phrase (λ v. block_of v.items) cursor.old result cursor.new }
+{
+    cursor.keyword(Keyword::Main)?;
+    let main = body(alloc, cursor)?;
+    cursor.end()?;
+    Ok(main)
 }
 
 fn cowns<'a>(alloc: Global, cursor: &mut Cursor<'_, 'a>) -> Read<Vec<CownShape<'a>>>
@@ -59,17 +71,45 @@ fn cown<'a>(cursor: &mut Cursor<'_, 'a>) -> Read<CownShape<'a>>
 {
     cursor.keyword(Keyword::Cown)?;
     let name = cursor.name()?;
-    cursor.take_room(1, name.at)?;
+    let size = size(cursor, name.at)?;
+    let (negative, value) = initial(cursor)?;
+    Ok(CownShape {
+        name,
+        size,
+        negative,
+        value,
+    })
+}
+
+// The size of an array, or none for a single cown, whose name stands at this byte.
+fn size(cursor: &mut Cursor<'_, '_>, name_at: usize) -> Read<Option<u64>>
+    ensures answers { Answers size_phrase (λ n. n) cursor.old result cursor.new }
+    ensures shorter { OnOk result (length cursor.new.words ≤ length cursor.old.words) }
+{
+    if !cursor.accept(Sign::OpenIndex) {
+        cursor.take_room(1, name_at)?;
+        return Ok(None);
+    }
+    let at = cursor.place();
+    let size = cursor.number()?.value;
+    if size == 0 {
+        return Err(Fault::At(ShapeFault::Unexpected, at));
+    }
+    cursor.take_room(size, at)?;
+    cursor.take(Sign::CloseIndex)?;
+    Ok(Some(size))
+}
+
+// The value that a cown begins with, and whether there is a minus before it.
+fn initial(cursor: &mut Cursor<'_, '_>) -> Read<(bool, Natural)>
+    ensures answers { Answers initial_phrase (λ v. (v.0, v.1.value)) cursor.old result cursor.new }
+    ensures shorter { OnOk result (length cursor.new.words < length cursor.old.words) }
+{
     cursor.take(Sign::Assign)?;
     let negative = cursor.accept(Sign::Minus);
     let value = cursor.number()?;
     cursor.take(Sign::Semicolon)?;
-    Ok(CownShape {
-        name,
-        size: None,
-        negative,
-        value,
-    })
+    Ok((negative, value))
 }
 
 fn defs<'a>(alloc: Global, cursor: &mut Cursor<'_, 'a>) -> Read<Vec<DefShape<'a>>>
@@ -88,7 +128,7 @@ fn def<'a>(alloc: Global, cursor: &mut Cursor<'_, 'a>) -> Read<DefShape<'a>>
 {
     cursor.node()?;
     cursor.keyword(Keyword::Def)?;
-    let (name, params, cowns) = signature(alloc, cursor)?;
+    let (name, (params, cowns)) = signature(alloc, cursor)?;
     let block = body(alloc, cursor)?;
     Ok(DefShape {
         name,
@@ -98,23 +138,23 @@ fn def<'a>(alloc: Global, cursor: &mut Cursor<'_, 'a>) -> Read<DefShape<'a>>
     })
 }
 
+type Signature<'a> = (Spot<'a>, (Vec<Spot<'a>>, Vec<Spot<'a>>));
+
 // The name of a def, and its parameters.
-fn signature<'a>(
-    alloc: Global,
-    cursor: &mut Cursor<'_, 'a>,
-) -> Read<(Spot<'a>, Vec<Spot<'a>>, Vec<Spot<'a>>)>
-    ensures answers { Answers signature_phrase (λ s. (name_of s.0, map name_of s.1.items, map name_of s.2.items)) cursor.old result cursor.new }
+fn signature<'a>(alloc: Global, cursor: &mut Cursor<'_, 'a>) -> Read<Signature<'a>>
+    ensures answers { Answers signature_phrase (λ s. (name_of s.0, (map name_of s.1.0.items, map name_of s.1.1.items))) cursor.old result cursor.new }
     ensures shorter { OnOk result (length cursor.new.words < length cursor.old.words) }
 {
     let name = cursor.name()?;
     cursor.take(Sign::Open)?;
     let params = names(alloc, cursor, Sign::Semicolon)?;
     let cowns = names(alloc, cursor, Sign::Close)?;
-    Ok((name, params, cowns))
+    Ok((name, (params, cowns)))
 }
 
 // Names, and the sign behind them.
 fn names<'a>(alloc: Global, cursor: &mut Cursor<'_, 'a>, close: Sign) -> Read<Vec<Spot<'a>>>
+    requires { close ≢ Comma }
     ensures answers { Answers (list_phrase name_phrase close) (λ v. map name_of v.items) cursor.old result cursor.new }
     ensures shorter { OnOk result (length cursor.new.words < length cursor.old.words) }
 {
@@ -134,7 +174,7 @@ fn names<'a>(alloc: Global, cursor: &mut Cursor<'_, 'a>, close: Sign) -> Read<Ve
     }
 }
 
-// The fault where eight of a kind have been read and a comma.
+// The fault where eight parameters or references have been read, and a comma.
 fn ninth(cursor: &Cursor<'_, '_>) -> Fault<ShapeFault> {
     match cursor.peek() {
         Some(Token::Name(_)) => Fault::At(ShapeFault::TooMany, cursor.place()),
@@ -142,19 +182,30 @@ fn ninth(cursor: &Cursor<'_, '_>) -> Fault<ShapeFault> {
     }
 }
 
-// A block, with the room of a whole body.
+// A block in its braces, with the room of a whole body.
 fn body<'a>(alloc: Global, cursor: &mut Cursor<'_, 'a>) -> Read<Vec<Stmt<'a>>>
     ensures answers { Answers body_phrase (λ v. block_of v.items) cursor.old result cursor.new }
     ensures shorter { OnOk result (length cursor.new.words < length cursor.old.words) }
 {
-    cursor.take(Sign::OpenBlock)?;
     let outer = cursor.refill(NODES);
-    let body = block(alloc, cursor)?;
+    let body = braced(alloc, cursor)?;
     cursor.refill(outer);
     Ok(body)
 }
 
+// A block in its braces.
+#[cycle(body)]
+fn braced<'a>(alloc: Global, cursor: &mut Cursor<'_, 'a>) -> Read<Vec<Stmt<'a>>>
+    ensures answers { Answers braced_phrase (λ v. block_of v.items) cursor.old result cursor.new }
+    ensures shorter { OnOk result (length cursor.new.words < length cursor.old.words) }
+{
+    cursor.take(Sign::OpenBlock)?;
+    let body = block(alloc, cursor)?;
+    Ok(body)
+}
+
 // Statements, and the brace behind them.
+#[cycle(body)]
 fn block<'a>(alloc: Global, cursor: &mut Cursor<'_, 'a>) -> Read<Vec<Stmt<'a>>>
     ensures answers { Answers block_phrase (λ v. block_of v.items) cursor.old result cursor.new }
     ensures shorter { OnOk result (length cursor.new.words < length cursor.old.words) }
@@ -166,6 +217,7 @@ fn block<'a>(alloc: Global, cursor: &mut Cursor<'_, 'a>) -> Read<Vec<Stmt<'a>>>
     Ok(all)
 }
 
+#[cycle(body)]
 fn stmt<'a>(alloc: Global, cursor: &mut Cursor<'_, 'a>) -> Read<Stmt<'a>>
     ensures answers { Answers stmt_phrase stmt_of cursor.old result cursor.new }
     ensures shorter { OnOk result (length cursor.new.words < length cursor.old.words) }
@@ -173,45 +225,123 @@ fn stmt<'a>(alloc: Global, cursor: &mut Cursor<'_, 'a>) -> Read<Stmt<'a>>
     match cursor.peek() {
         Some(Token::Name(_)) => {
             cursor.node()?;
-            let name = cursor.name()?;
-            let value = written(alloc, cursor)?;
+            let (name, value) = assigned(alloc, cursor)?;
             Ok(Stmt::Assign(name, value))
         }
+        Some(Token::Keyword(Keyword::Let)) => {
+            cursor.begin()?;
+            let (name, value) = assigned(alloc, cursor)?;
+            Ok(Stmt::Let(name, value))
+        }
+        Some(Token::Keyword(Keyword::Work)) => {
+            cursor.begin()?;
+            let ticks = closed(alloc, cursor, Sign::Semicolon)?;
+            Ok(Stmt::Work(ticks))
+        }
+        Some(Token::Keyword(Keyword::If)) => {
+            cursor.begin()?;
+            let (test, (body, other)) = choice(alloc, cursor)?;
+            match other {
+                None => Ok(Stmt::If(test, body)),
+                Some(other) => Ok(Stmt::IfElse(test, body, other)),
+            }
+        }
+        Some(Token::Keyword(Keyword::Repeat)) => {
+            cursor.begin()?;
+            let (turns, body) = repeated(alloc, cursor)?;
+            Ok(Stmt::Repeat(turns, body))
+        }
         Some(Token::Keyword(Keyword::When)) => {
-            cursor.node()?;
-            cursor.skip();
-            let (def, args, refs) = call(alloc, cursor)?;
+            cursor.begin()?;
+            let (def, (args, refs)) = call(alloc, cursor)?;
             Ok(Stmt::When(def, args, refs))
         }
         _ => Err(cursor.unexpected()),
     }
 }
 
-// What stands behind a name that is written to.
+type Choice<'a> = (Expr<'a>, (Vec<Stmt<'a>>, Option<Vec<Stmt<'a>>>));
+
+// What stands behind `if`.
+#[cycle(body)]
+fn choice<'a>(alloc: Global, cursor: &mut Cursor<'_, 'a>) -> Read<Choice<'a>>
+    ensures answers { Answers if_phrase (λ w. (expr_of w.0, (block_of w.1.0.items, option_map (λ b. block_of b.items) w.1.1))) cursor.old result cursor.new }
+    ensures shorter { OnOk result (length cursor.new.words < length cursor.old.words) }
+{
+    let test = expr(alloc, cursor)?;
+    let blocks = blocks(alloc, cursor)?;
+    Ok((test, blocks))
+}
+
+// A block, and that of an `else`, if one is there.
+#[cycle(body)]
+fn blocks<'a>(
+    alloc: Global,
+    cursor: &mut Cursor<'_, 'a>,
+) -> Read<(Vec<Stmt<'a>>, Option<Vec<Stmt<'a>>>)>
+    ensures answers { Answers (pair_phrase braced_phrase else_phrase) (λ w. (block_of w.0.items, option_map (λ b. block_of b.items) w.1)) cursor.old result cursor.new }
+    ensures shorter { OnOk result (length cursor.new.words < length cursor.old.words) }
+{
+    let body = braced(alloc, cursor)?;
+    if !cursor.is_next(Keyword::Else) {
+        return Ok((body, None));
+    }
+    cursor.skip();
+    let other = braced(alloc, cursor)?;
+    Ok((body, Some(other)))
+}
+
+// What stands behind `repeat`.
+#[cycle(body)]
+fn repeated<'a>(alloc: Global, cursor: &mut Cursor<'_, 'a>) -> Read<(Expr<'a>, Vec<Stmt<'a>>)>
+    ensures answers { Answers repeat_phrase (λ w. (expr_of w.0, block_of w.1.items)) cursor.old result cursor.new }
+    ensures shorter { OnOk result (length cursor.new.words < length cursor.old.words) }
+{
+    let turns = expr(alloc, cursor)?;
+    let body = braced(alloc, cursor)?;
+    Ok((turns, body))
+}
+
+// A name, and what is written to it.
+fn assigned<'a>(alloc: Global, cursor: &mut Cursor<'_, 'a>) -> Read<(Spot<'a>, Expr<'a>)>
+    ensures answers { Answers let_phrase (λ w. (name_of w.0, expr_of w.1)) cursor.old result cursor.new }
+    ensures shorter { OnOk result (length cursor.new.words < length cursor.old.words) }
+{
+    let name = cursor.name()?;
+    let value = written(alloc, cursor)?;
+    Ok((name, value))
+}
+
 fn written<'a>(alloc: Global, cursor: &mut Cursor<'_, 'a>) -> Read<Expr<'a>>
     ensures answers { Answers written_phrase expr_of cursor.old result cursor.new }
     ensures shorter { OnOk result (length cursor.new.words < length cursor.old.words) }
 {
     cursor.take(Sign::Assign)?;
-    let value = expr(alloc, cursor)?;
-    cursor.take(Sign::Semicolon)?;
+    let value = closed(alloc, cursor, Sign::Semicolon)?;
     Ok(value)
 }
 
+type Arguments<'a> = (Vec<Expr<'a>>, Vec<Ref<'a>>);
+
 // What stands behind `when`.
-fn call<'a>(
-    alloc: Global,
-    cursor: &mut Cursor<'_, 'a>,
-) -> Read<(Spot<'a>, Vec<Expr<'a>>, Vec<Ref<'a>>)>
-    ensures answers { Answers call_phrase (λ w. (name_of w.0, map expr_of w.1.items, map ref_of w.2.items)) cursor.old result cursor.new }
+fn call<'a>(alloc: Global, cursor: &mut Cursor<'_, 'a>) -> Read<(Spot<'a>, Arguments<'a>)>
+    ensures answers { Answers call_phrase (λ w. (name_of w.0, (map expr_of w.1.0.items, map ref_of w.1.1.items))) cursor.old result cursor.new }
     ensures shorter { OnOk result (length cursor.new.words < length cursor.old.words) }
 {
     let def = cursor.name()?;
     cursor.take(Sign::Open)?;
+    let arguments = arguments(alloc, cursor)?;
+    cursor.take(Sign::Semicolon)?;
+    Ok((def, arguments))
+}
+
+fn arguments<'a>(alloc: Global, cursor: &mut Cursor<'_, 'a>) -> Read<Arguments<'a>>
+    ensures answers { Answers arguments_phrase (λ w. (map expr_of w.0.items, map ref_of w.1.items)) cursor.old result cursor.new }
+    ensures shorter { OnOk result (length cursor.new.words < length cursor.old.words) }
+{
     let args = exprs(alloc, cursor)?;
     let refs = refs(alloc, cursor)?;
-    cursor.take(Sign::Semicolon)?;
-    Ok((def, args, refs))
+    Ok((args, refs))
 }
 
 // Arguments, and the semicolon behind them.
@@ -235,10 +365,12 @@ fn exprs<'a>(alloc: Global, cursor: &mut Cursor<'_, 'a>) -> Read<Vec<Expr<'a>>>
     }
 }
 
-// The fault where eight arguments have been read and a comma.
+// The fault where eight arguments have been read, and a comma.
 fn ninth_argument(cursor: &Cursor<'_, '_>) -> Fault<ShapeFault> {
     match cursor.peek() {
-        Some(Token::Number(_) | Token::Name(_)) => Fault::At(ShapeFault::TooMany, cursor.place()),
+        Some(Token::Number(_) | Token::Name(_) | Token::Sign(Sign::Open | Sign::Minus)) => {
+            Fault::At(ShapeFault::TooMany, cursor.place())
+        }
         _ => cursor.unexpected(),
     }
 }
@@ -256,7 +388,7 @@ fn refs<'a>(alloc: Global, cursor: &mut Cursor<'_, 'a>) -> Read<Vec<Ref<'a>>>
         if all.len() == LISTED {
             return Err(ninth(cursor));
         }
-        all.push(reference(cursor)?)?;
+        all.push(reference(alloc, cursor)?)?;
         if cursor.accept(Sign::Close) {
             return Ok(all);
         }
@@ -264,52 +396,151 @@ fn refs<'a>(alloc: Global, cursor: &mut Cursor<'_, 'a>) -> Read<Vec<Ref<'a>>>
     }
 }
 
-fn reference<'a>(cursor: &mut Cursor<'_, 'a>) -> Read<Ref<'a>>
+fn reference<'a>(alloc: Global, cursor: &mut Cursor<'_, 'a>) -> Read<Ref<'a>>
     ensures answers { Answers ref_phrase ref_of cursor.old result cursor.new }
     ensures shorter { OnOk result (length cursor.new.words < length cursor.old.words) }
 {
-    let at = cursor.place();
     let name = cursor.name()?;
-    cursor.take_room(1, at)?;
-    Ok(Ref::Alone(name))
+    cursor.take_room(1, name.at)?;
+    if !cursor.accept(Sign::OpenIndex) {
+        return Ok(Ref::Alone(name));
+    }
+    let index = closed(alloc, cursor, Sign::CloseIndex)?;
+    Ok(Ref::Member(name, index))
 }
 
+// An expression, and the sign behind it.
+#[cycle(expr)]
+fn closed<'a>(alloc: Global, cursor: &mut Cursor<'_, 'a>, close: Sign) -> Read<Expr<'a>>
+    requires { tightness close ≡ 0 }
+    ensures answers { Answers (closed_phrase expr_phrase close) expr_of cursor.old result cursor.new }
+    ensures shorter { OnOk result (length cursor.new.words < length cursor.old.words) }
+{
+    let inner = expr(alloc, cursor)?;
+    cursor.take(close)?;
+    Ok(inner)
+}
+
+#[cycle(expr)]
 fn expr<'a>(alloc: Global, cursor: &mut Cursor<'_, 'a>) -> Read<Expr<'a>>
     ensures answers { Answers expr_phrase expr_of cursor.old result cursor.new }
     ensures shorter { OnOk result (length cursor.new.words < length cursor.old.words) }
 {
-    Ok(Expr::Plain(sum(alloc, cursor)?))
+    let left = sum(alloc, cursor)?;
+    match compared(alloc, cursor)? {
+        None => Ok(Expr::Plain(left)),
+        Some((op, right)) => Ok(Expr::Compared(left, op, right)),
+    }
 }
 
-fn sum<'a>(alloc: Global, cursor: &mut Cursor<'_, 'a>) -> Read<Sum<'a>>
-    ensures answers { Answers sum_phrase sum_of cursor.old result cursor.new }
-    ensures shorter { OnOk result (length cursor.new.words < length cursor.old.words) }
+// A comparison and what stands behind it, or nothing.
+#[cycle(expr)]
+fn compared<'a>(alloc: Global, cursor: &mut Cursor<'_, 'a>) -> Read<Option<(Comparison, Sum<'a>)>>
+    ensures answers { Answers compared_phrase (option_map (λ w. (w.0, sum_of w.1))) cursor.old result cursor.new }
+    ensures shorter { OnOk result (length cursor.new.words ≤ length cursor.old.words) }
 {
-    let first = term(cursor)?;
-    match cursor.sum_operator()? {
-        None => Ok(Sum::One(first)),
+    match cursor.comparison()? {
+        None => Ok(None),
         Some(op) => {
-            let others = sum(alloc, cursor)?;
-            Ok(Sum::More(first, op, Box::new(alloc, others)?))
+            let right = sum(alloc, cursor)?;
+            Ok(Some((op, right)))
         }
     }
 }
 
-fn term<'a>(cursor: &mut Cursor<'_, 'a>) -> Read<Term<'a>>
+#[cycle(expr)]
+fn sum<'a>(alloc: Global, cursor: &mut Cursor<'_, 'a>) -> Read<Sum<'a>>
+    ensures answers { Answers sum_phrase sum_of cursor.old result cursor.new }
+    ensures shorter { OnOk result (length cursor.new.words < length cursor.old.words) }
+{
+    let first = term(alloc, cursor)?;
+    match more_terms(alloc, cursor)? {
+        None => Ok(Sum::One(first)),
+        Some((op, others)) => Ok(Sum::More(first, op, others)),
+    }
+}
+
+// An operator and the terms behind it, or nothing.
+#[cycle(expr)]
+fn more_terms<'a>(
+    alloc: Global,
+    cursor: &mut Cursor<'_, 'a>,
+) -> Read<Option<(SumOperator, Box<Sum<'a>>)>>
+    ensures answers { Answers more_terms_phrase (option_map (λ w. (w.0, sum_of w.1.value))) cursor.old result cursor.new }
+    ensures shorter { OnOk result (length cursor.new.words ≤ length cursor.old.words) }
+{
+    match cursor.sum_operator()? {
+        None => Ok(None),
+        Some(op) => {
+            let others = sum(alloc, cursor)?;
+            Ok(Some((op, Box::new(alloc, others)?)))
+        }
+    }
+}
+
+#[cycle(expr)]
+fn term<'a>(alloc: Global, cursor: &mut Cursor<'_, 'a>) -> Read<Term<'a>>
     ensures answers { Answers term_phrase term_of cursor.old result cursor.new }
     ensures shorter { OnOk result (length cursor.new.words < length cursor.old.words) }
 {
-    let atom = match cursor.peek() {
+    let first = unary(alloc, cursor)?;
+    match more_factors(alloc, cursor)? {
+        None => Ok(Term::One(first)),
+        Some((op, others)) => Ok(Term::More(first, op, others)),
+    }
+}
+
+// An operator and the factors behind it, or nothing.
+#[cycle(expr)]
+fn more_factors<'a>(
+    alloc: Global,
+    cursor: &mut Cursor<'_, 'a>,
+) -> Read<Option<(TermOperator, Box<Term<'a>>)>>
+    ensures answers { Answers more_factors_phrase (option_map (λ w. (w.0, term_of w.1.value))) cursor.old result cursor.new }
+    ensures shorter { OnOk result (length cursor.new.words ≤ length cursor.old.words) }
+{
+    match cursor.term_operator()? {
+        None => Ok(None),
+        Some(op) => {
+            let others = term(alloc, cursor)?;
+            Ok(Some((op, Box::new(alloc, others)?)))
+        }
+    }
+}
+
+#[cycle(expr)]
+fn unary<'a>(alloc: Global, cursor: &mut Cursor<'_, 'a>) -> Read<Unary<'a>>
+    ensures answers { Answers unary_phrase unary_of cursor.old result cursor.new }
+    ensures shorter { OnOk result (length cursor.new.words < length cursor.old.words) }
+{
+    if !cursor.minus()? {
+        let atom = atom(alloc, cursor)?;
+        return Ok(Unary::Plain(atom));
+    }
+    let inner = unary(alloc, cursor)?;
+    Ok(Unary::Negated(Box::new(alloc, inner)?))
+}
+
+#[cycle(expr)]
+fn atom<'a>(alloc: Global, cursor: &mut Cursor<'_, 'a>) -> Read<Atom<'a>>
+    ensures answers { Answers atom_phrase atom_of cursor.old result cursor.new }
+    ensures shorter { OnOk result (length cursor.new.words < length cursor.old.words) }
+{
+    match cursor.peek() {
         Some(Token::Number(n)) => {
-            cursor.node()?;
-            cursor.skip();
-            Atom::Number(n)
+            cursor.begin()?;
+            Ok(Atom::Number(n))
         }
-        Some(Token::Name(_)) => {
-            cursor.node()?;
-            Atom::Name(cursor.name()?)
+        Some(Token::Name(name)) => {
+            let at = cursor.place();
+            cursor.begin()?;
+            Ok(Atom::Name(Spot { name, at }))
         }
-        _ => return Err(cursor.unexpected()),
-    };
-    Ok(Term::One(Unary::Plain(atom)))
+        Some(Token::Sign(Sign::Open)) => {
+            cursor.begin()?;
+            let inner = closed(alloc, cursor, Sign::Close)?;
+            Ok(Atom::Parens(Box::new(alloc, inner)?))
+        }
+        _ => Err(cursor.unexpected()),
+    }
 }

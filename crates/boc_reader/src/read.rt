@@ -1,7 +1,11 @@
 // Program texts.
 
-ghost use Rattle.std.specs.Prelude.{◌≡◌, ◌≤◌, length, take, IfOk};
-ghost use Rattle.boc_types.specs.Spells.{Spells};
+ghost use Rattle.std.specs.Prelude.{◌≡◌, ◌≢◌, ◌≤◌, ℕ, List, length, take, MatchResult};
+ghost use Rattle.boc_types.specs.Spells.{Spells, plain_program};
+ghost use Rattle.boc_types.specs.declared.program.Program.{Program};
+ghost use Rattle.boc_reader.specs.Placed.{Refusal};
+ghost use Rattle.boc_reader.specs.Meanings.{HasNoWords, HasNoShape, HasNoNames, Means};
+ghost use Rattle.boc_reader.specs.declared.fault.ReadFaultKind.{ReadFaultKind};
 ghost use Rattle.boc_reader.specs.Lines.{line_after};
 
 use crate::fault::{Fault, NameFault, ReadFault, ReadFaultKind, ShapeFault, TokenFault};
@@ -23,7 +27,7 @@ const NO_MEMORY: ReadFault = ReadFault {
 /// through three passes, for its tokens, its shape and its names: the first pass that finds a fault
 /// tells the first one in the text.
 pub fn read_program(alloc: Global, text: &[u8]) -> Result<Program, ReadFault>
-    ensures { IfOk result (Spells text.now) }
+    ensures { MatchResult result (Spells text.now) (λ f. Means f.kind text.now) }
 {
     if text.len() > LONGEST {
         return Err(ReadFault {
@@ -47,7 +51,9 @@ pub fn read_program(alloc: Global, text: &[u8]) -> Result<Program, ReadFault>
 
 // A fault of the first pass.
 fn no_words(text: &[u8], fault: Fault<TokenFault>) -> ReadFault
-    requires { length text.now ≤ 65536 }
+    requires short { length text.now ≤ 65536 }
+    requires none { Refusal fault (HasNoWords text.now) }
+    ensures { Means result.kind text.now }
 {
     let (kind, at) = match fault {
         Fault::Memory => return NO_MEMORY,
@@ -63,7 +69,9 @@ fn no_words(text: &[u8], fault: Fault<TokenFault>) -> ReadFault
 
 // A fault of the second pass.
 fn no_shape(text: &[u8], fault: Fault<ShapeFault>) -> ReadFault
-    requires { length text.now ≤ 65536 }
+    requires short { length text.now ≤ 65536 }
+    requires none { Refusal fault (HasNoShape text.now) }
+    ensures { Means result.kind text.now }
 {
     let (kind, at) = match fault {
         Fault::Memory => return NO_MEMORY,
@@ -78,7 +86,9 @@ fn no_shape(text: &[u8], fault: Fault<ShapeFault>) -> ReadFault
 
 // A fault of the third pass.
 fn no_names(text: &[u8], fault: Fault<NameFault>) -> ReadFault
-    requires { length text.now ≤ 65536 }
+    requires short { length text.now ≤ 65536 }
+    requires none { Refusal fault (HasNoNames text.now) }
+    ensures { Means result.kind text.now }
 {
     let (kind, at) = match fault {
         Fault::Memory => return NO_MEMORY,
@@ -113,3 +123,10 @@ fn line_after(front: &[u8]) -> u32
     }
     line
 }
+
+/// A text of which a fault is told, but for want of memory, spells no program, and a text spells one
+/// program at most.
+pub fn refused_is_none()
+    ensures none { (kind : ReadFaultKind) (text : List ℕ) (p : Program) → kind ≢ ReadFaultKind.Memory → Means kind text → Spells text p → ⊥ }
+    ensures one { (text : List ℕ) (p q : Program) → Spells text p → Spells text q → plain_program p ≡ plain_program q }
+{}

@@ -79,17 +79,35 @@ fn shapes(rt: HostRuntime) {
     assert_eq!(rt;
         fault(
             a,
-            b"cown a = -1; cown b = 2; def f(n, m; x, y) { x = x + n - m; } main { when f(1, 2 + 3; a, b); }"
+            b"cown a = -1; cown b[3] = 2; def f(n, m; x, y) { x = x + n - m; } main { when f(1, 2 + 3; a, b[1]); }"
         ),
         None
     );
-    assert_eq!(rt; fault(a, b"main{work 1;}"), Some((Unexpected, 5)));
+    assert_eq!(rt;
+        fault(
+            a,
+            b"main{let x=-(1+2)*3%4/-5;work x<=2;if x{}else{if x!=1{x=0;}}repeat 3{}}"
+        ),
+        None
+    );
     assert_eq!(rt; fault(a, b"main{x=1;"), Some((Unexpected, 9)));
     assert_eq!(rt; fault(a, b"main{}main{}"), Some((Unexpected, 6)));
     assert_eq!(rt; fault(a, b"main{}cown a=1;"), Some((Unexpected, 6)));
     assert_eq!(rt; fault(a, b"def main(;){}main{}"), Some((Unexpected, 4)));
     assert_eq!(rt; fault(a, b"main{when f(1,;);}"), Some((Unexpected, 14)));
     assert_eq!(rt; fault(a, b"main{x=1+;}"), Some((Unexpected, 9)));
+    assert_eq!(rt; fault(a, b"main{x=1<2<3;}"), Some((Unexpected, 10)));
+    assert_eq!(rt; fault(a, b"main{x=(1<2)<3;}"), None);
+    assert_eq!(rt; fault(a, b"main{x=+1;}"), Some((Unexpected, 7)));
+    assert_eq!(rt; fault(a, b"main{else{}}"), Some((Unexpected, 5)));
+    assert_eq!(rt; fault(a, b"main{if 1{};}"), Some((Unexpected, 11)));
+    assert_eq!(rt;
+        fault(a, b"main{if 1{}else{}else{}}"),
+        Some((Unexpected, 17))
+    );
+    assert_eq!(rt; fault(a, b"main{when f(;a[]);}"), Some((Unexpected, 15)));
+    assert_eq!(rt; fault(a, b"cown a[b]=1;main{}"), Some((Unexpected, 7)));
+    assert_eq!(rt; fault(a, b"cown a=--1;main{}"), Some((Unexpected, 8)));
 }
 
 #[test]
@@ -125,12 +143,31 @@ fn eight_of_a_kind(rt: HostRuntime) {
 }
 
 #[test]
+fn cowns(rt: HostRuntime) -> Result<(), Fail> {
+    let a = rt.alloc();
+    let singles = repeated(a, b"", b"cown a=0;", 256, b"main{}")?;
+    assert_eq!(rt; fault(a, singles.as_slice()), None);
+    let singles = repeated(a, b"", b"cown a=0;", 257, b"main{}")?;
+    assert_eq!(rt; fault(a, singles.as_slice()), Some((TooMany, 2_309)));
+    let singles = repeated(a, b"", b"cown a=0;", 256, b"cown x;")?;
+    assert_eq!(rt; fault(a, singles.as_slice()), Some((TooMany, 2_309)));
+    let members = repeated(a, b"", b"cown a[64]=0;", 4, b"main{}")?;
+    assert_eq!(rt; fault(a, members.as_slice()), None);
+    let members = repeated(a, b"cown b=0;", b"cown a[64]=0;", 4, b"main{}")?;
+    assert_eq!(rt; fault(a, members.as_slice()), Some((TooMany, 55)));
+    assert_eq!(rt; fault(a, b"cown a[256]=0;main{}"), None);
+    assert_eq!(rt; fault(a, b"cown a[257]=0;main{}"), Some((TooMany, 7)));
+    assert_eq!(rt; fault(a, b"cown a[0]=0;main{}"), Some((Unexpected, 7)));
+    assert_eq!(rt;
+        fault(a, b"cown a[9223372036854775807]=0;main{}"),
+        Some((TooMany, 7))
+    );
+    Ok(())
+}
+
+#[test]
 fn limits(rt: HostRuntime) -> Result<(), Fail> {
     let a = rt.alloc();
-    let cowns = repeated(a, b"", b"cown a=0;", 256, b"main{}")?;
-    assert_eq!(rt; fault(a, cowns.as_slice()), None);
-    let cowns = repeated(a, b"", b"cown a=0;", 257, b"main{}")?;
-    assert_eq!(rt; fault(a, cowns.as_slice()), Some((TooMany, 2_309)));
     let defs = repeated(a, b"", b"def f(;){}", 64, b"main{}")?;
     assert_eq!(rt; fault(a, defs.as_slice()), None);
     let defs = repeated(a, b"", b"def f(;){}", 65, b"main{}")?;
@@ -139,10 +176,42 @@ fn limits(rt: HostRuntime) -> Result<(), Fail> {
     assert_eq!(rt; fault(a, nodes.as_slice()), None);
     let nodes = repeated(a, b"main{x=1", b"+1", 500, b";}")?;
     assert_eq!(rt; fault(a, nodes.as_slice()), Some((TooMany, 1_006)));
-    let refs = repeated(a, b"def f(;){}main{", b"when f(;);", 1_000, b"}")?;
-    assert_eq!(rt; fault(a, refs.as_slice()), None);
-    let refs = repeated(a, b"def f(;){}main{", b"when f(;);", 1_001, b"}")?;
-    assert_eq!(rt; fault(a, refs.as_slice()), Some((TooMany, 10_015)));
+    let calls = repeated(a, b"def f(;){}main{", b"when f(;);", 1_000, b"}")?;
+    assert_eq!(rt; fault(a, calls.as_slice()), None);
+    let calls = repeated(a, b"def f(;){}main{", b"when f(;);", 1_001, b"}")?;
+    assert_eq!(rt; fault(a, calls.as_slice()), Some((TooMany, 10_015)));
+    let bodies = repeated(a, b"def f(;){x=1", b"+1", 499, b";}main{x=1;}")?;
+    assert_eq!(rt; fault(a, bodies.as_slice()), None);
+    Ok(())
+}
+
+// So many times an opening, and as many times what closes it, with a middle between them.
+fn nested(
+    alloc: Global,
+    opening: &[u8],
+    depth: u32,
+    middle: &[u8],
+    closing: &[u8],
+) -> Result<Vec<u8>, AllocError> {
+    let mut text = repeated(alloc, b"main{", opening, depth, middle)?;
+    for _ in 0..depth {
+        text.extend_from_slice(closing)?;
+    }
+    text.push(b'}')?;
+    Ok(text)
+}
+
+#[test]
+fn nesting(rt: HostRuntime) -> Result<(), Fail> {
+    let a = rt.alloc();
+    let loops = nested(a, b"repeat 1{", 250, b"x=1;", b"}")?;
+    assert_eq!(rt; fault(a, loops.as_slice()), None);
+    let choices = nested(a, b"if(((1)))<2{}else{", 100, b"", b"}")?;
+    assert_eq!(rt; fault(a, choices.as_slice()), None);
+    let minuses = repeated(a, b"main{x=", b"-", 998, b"1;}")?;
+    assert_eq!(rt; fault(a, minuses.as_slice()), None);
+    let minuses = repeated(a, b"main{x=", b"-", 999, b"1;}")?;
+    assert_eq!(rt; fault(a, minuses.as_slice()), Some((TooMany, 1_006)));
     Ok(())
 }
 
@@ -154,7 +223,7 @@ fn lines(rt: HostRuntime) -> Result<(), Fail> {
     assert_eq!(rt; line(a, b"main {\r\n\n x = 1\n"), Some((Unexpected, 4)));
     assert_eq!(rt; line(a, b"main {\r x = 1 }"), Some((Unexpected, 1)));
     let long = repeated(a, b"main{}", b"\n", 65_530, b"")?;
-    assert_eq!(rt; line(a, long.as_slice()), Some((ReadFaultKind::Memory, 0)));
+    assert_eq!(rt; line(a, long.as_slice()), None);
     let long = repeated(a, b"main{}", b"\n", 65_531, b"")?;
     assert_eq!(rt; line(a, long.as_slice()), Some((TooLong, 65_531)));
     Ok(())

@@ -1,17 +1,16 @@
 -- The wishes of a body whose calls fit, fit.
-use Rattle.std.proofs.Common.{◌≡◌, ℕ, zero, suc, ◌+◌, ◌<◌, ◌≤◌, List, [], ◌∷◌, map, length, sym, ap, ◌∙◌, refl, arith, IsTrue, ℤ, pos, negsuc, Bool, true, false, Ok, Err, Option, Some, None}
-use Rattle.std.specs.Prelude.{slice_get, slice_index, slice_set, nat_lt, nat_le, nat_eq, ◌&&◌, if◌then◌else◌}
+use Rattle.std.proofs.Common.{◌≡◌, ℕ, zero, suc, ◌+◌, ◌<◌, ◌≤◌, List, [], ◌∷◌, map, length, ap, ◌∙◌, refl, arith, IsTrue, ℤ, pos, negsuc, Bool, true, false, Ok, Err, Option, Some, None}
+use Rattle.std.specs.Prelude.{slice_get, slice_index, nat_lt, nat_eq, if◌then◌else◌}
 use Rattle.std.proofs.lemmas.List.{length-map}
 use Rattle.std.proofs.lemmas.Bool.Decides.{nat_tests}
 use Rattle.boc_types.specs.declared.body.Body.{Body}
-use Rattle.boc_types.specs.declared.body.EndStatus.{EndStatus}
 use Rattle.boc_types.specs.declared.body.EndStatus.TheVariants.{Done, OutOfRange, SameCown}
 use Rattle.boc_types.specs.Syntax.{Term, Place, Held, Single, Member}
 use Rattle.boc_types.specs.declared.short.Input.{Input}
 use Rattle.boc_types.specs.Value.{OrFault, value, values, then_value}
-use Rattle.boc_types.specs.Meaning.{State, Rest, Wish, whole, start, ends, meaning, member, cown_of, cowns_of, distinct, has_same_twice, cowns_held}
+use Rattle.boc_types.specs.Meaning.{State, start, ends, meaning, member, cown_of, cowns_of, distinct, has_same_twice, cowns_held}
 use Rattle.boc_types.specs.Resolved.{every}
-use Rattle.boc_types.specs.Signatures.{Signature, ref_below, counts_fit, call_fits, calls_fit, AllBelow, CountsAre, WishFits, WishesFit}
+use Rattle.boc_types.specs.Signatures.{Signature, ref_below, counts_fit, call_fits, calls_fit, AllBelow, CountsAre, WishesFit}
 use Rattle.boc_types.proofs.Law.{Keeps, law}
 use Rattle.boc_types.proofs.Truth.{and_true}
 

@@ -1,5 +1,5 @@
 -- A statement and what follows it.
-use Rattle.std.proofs.Common.{◌≡◌, ℕ, ◌+◌, ◌≤◌, ◌<◌, List, ◌∷◌, [], arith, refl, sym, length, IsTrue, false, true, Bool, map}
+use Rattle.std.proofs.Common.{◌≡◌, ◌+◌, ◌≤◌, List, ◌∷◌, [], arith, refl, sym, length, IsTrue, false, true, Bool, map}
 use Rattle.std.specs.Prelude.{◌&&◌, nat_lt, nat_le}
 use Rattle.boc_types.specs.Resolved.{Scope, fits, nodes, expr_fits, ref_fits, every}
 use Rattle.boc_types.specs.declared.body.Stmt.{Stmt}

@@ -1,18 +1,18 @@
 -- A behaviour that fits has a body, and its wishes fit.
-use Rattle.std.proofs.Common.{◌≡◌, add-one, ℕ, zero, suc, ◌+◌, ◌<◌, ◌≤◌, List, [], ◌∷◌, ◌++◌, map, length, refl, sym, ap, ◌∙◌, arith, IsTrue, ℤ, Option, Some, None, subst, Bool, length-set, length-append}
-use Rattle.std.specs.Prelude.{slice_get, slice_set, replicate, nat_eq, take, drop, ◌&&◌}
+use Rattle.std.proofs.Common.{◌≡◌, add-one, ℕ, zero, suc, ◌+◌, ◌<◌, ◌≤◌, List, [], ◌∷◌, ◌++◌, map, length, refl, sym, ap, ◌∙◌, arith, IsTrue, ℤ, Some, subst, Bool, length-set, length-append}
+use Rattle.std.specs.Prelude.{slice_get, slice_set, replicate, nat_eq, take, drop}
 use Rattle.std.proofs.lemmas.List.{length-map, length-replicate}
 use Rattle.std.proofs.lemmas.Bool.Decides.{nat_tests}
 use Rattle.boc_types.specs.declared.cown.Cown.{Cown}
 use Rattle.boc_types.specs.declared.body.Body.{Body}
 use Rattle.boc_types.specs.declared.program.Program.{Program}
-use Rattle.boc_types.specs.declared.short.Input.{Input}
 use Rattle.boc_types.specs.Meaning.{Wish, meaning, cowns_held}
 use Rattle.boc_types.specs.Programs.{cown_count, initial_values, size_of, has_main}
 use Rattle.boc_types.specs.Resolved.{every}
-use Rattle.boc_types.specs.Signatures.{Signature, signature_of, calls_fit, CountsAre, AllBelow, WishesFit}
+use Rattle.boc_types.specs.Signatures.{signature_of, calls_fit, CountsAre, AllBelow, WishesFit}
 use Rattle.boc_types.specs.Serial.{Behaviour, Serial, behaviour_of, inputs_of, written, turn_of, run_kind, after_turns, rows}
 use Rattle.boc_types.specs.Turns.{BehaviourFits, QueueFits, EndsWith, HasTooMany, Stands, Turned, wishes_by, turn_wishes}
+use Rattle.boc_types.proofs.SerialRows.{rows_at_most}
 use Rattle.boc_types.proofs.Truth.{and_true}
 use Rattle.boc_types.proofs.Fitting.{meaning_fits}
 
@@ -96,12 +96,15 @@ stands_next p b rest values so_far queue after now s t rows few = record {
 }
 
 pub stands_end : (p : Program) (queue : List Behaviour) (values : List ℤ) (so_far : ℕ) → Stands p queue values so_far → queue ≡ [] → EndsWith p values
-stands_end p queue values so_far s e = record {
-  turns = s.turns;
-  over = ap (λ (r : Serial). r.queue) s.state ∙ e;
-  values_are = ap (λ (r : Serial). r.values) s.state;
-  few = let h : rows (after_turns p s.turns) ≡ s.turns + length queue = ap rows s.state in omega (arith, h, s.rows_are, s.few);
-}
+stands_end p queue values so_far s e =
+    let over : (after_turns p s.turns).queue ≡ [] = ap (λ (r : Serial). r.queue) s.state ∙ e in
+    let rows_are : rows (after_turns p s.turns) ≡ s.turns + length queue = ap rows s.state in
+    record {
+      turns = s.turns;
+      over = over;
+      values_are = ap (λ (r : Serial). r.values) s.state;
+      few = λ n. omega (arith, rows_at_most p s.turns over n, rows_are, s.rows_are, s.few);
+    }
 
 pub stands_over : (p : Program) (b : Behaviour) (rest : List Behaviour) (values : List ℤ) (so_far : ℕ) → Stands p (b ∷ rest) values so_far → 65535 < so_far + turn_wishes p b values → HasTooMany p
 stands_over p b rest values so_far s h =

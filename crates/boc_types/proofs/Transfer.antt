@@ -1,13 +1,13 @@
 -- The definitions tried on a program: one that adds to a cown and moves a part of it to another.
-use Rattle.std.proofs.Common.{◌≡◌, ℕ, List, [], ◌∷◌, ◌++◌, Some, None, false, refl, codes, decimal, pos, ℤ, lit≤}
+use Rattle.std.proofs.Common.{◌≡◌, ℕ, List, [], ◌∷◌, ◌++◌, Some, None, false, refl, codes, decimal, pos, lit≤}
 use Rattle.boc_types.specs.declared.level.SumOperator.TheVariants as sums
 use Rattle.boc_types.specs.declared.body.Operator.TheVariants as operators
 use Rattle.boc_types.specs.declared.body.Body.{Body}
 use Rattle.boc_types.specs.declared.cown.Cown.{Cown}
 use Rattle.boc_types.specs.declared.program.Program.{Program}
-use Rattle.boc_types.specs.Shape.{Expr, plain, one_term, more_terms, Term, one_factor, unsigned, literal, variable, alone, assign, when, Block, done, next, Cown as CownShape, Def, Tree, tree_words}
+use Rattle.boc_types.specs.Shape.{Expr, plain, one_term, more_terms, Term, one_factor, unsigned, literal, variable, alone, assign, when, done, next, Tree, tree_words}
 use Rattle.boc_types.specs.Tokens.{words_of_text, cut, word_of_run}
-use Rattle.boc_types.specs.Names.{PlainBody, PlainCown, PlainProgram, tree_names}
+use Rattle.boc_types.specs.Names.{tree_names}
 use Rattle.boc_types.specs.Syntax as resolved
 use Rattle.boc_types.specs.Spells.{plain_program}
 use Rattle.boc_types.specs.Serial.{after_turns, rows}

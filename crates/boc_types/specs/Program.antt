@@ -1,5 +1,5 @@
 -- The parts of a program.
-use Rattle.std.specs.Prelude.{ℕ, ◌≤◌, IsTrue, List, length}
+use Rattle.std.specs.Prelude.{◌≤◌, IsTrue, List, length}
 use Rattle.boc_types.specs.declared.cown.Cown.{Cown}
 use Rattle.boc_types.specs.declared.body.Body.{Body}
 use Rattle.boc_types.specs.Programs.{cown_count, program_fits, has_main}

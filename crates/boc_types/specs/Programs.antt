@@ -1,8 +1,8 @@
 -- A program whose calls fit.
-use Rattle.std.specs.Prelude.{ℕ, ◌+◌, IsTrue, nat_eq, ◌&&◌, true, false, Bool, List, [], ◌∷◌, Option, Some, None, map, ℤ, replicate, ◌++◌}
+use Rattle.std.specs.Prelude.{ℕ, ◌+◌, nat_eq, ◌&&◌, false, Bool, List, [], ◌∷◌, map, ℤ, replicate, ◌++◌}
 use Rattle.boc_types.specs.declared.cown.Cown.{Cown}
 use Rattle.boc_types.specs.declared.body.Body.{Body}
-use Rattle.boc_types.specs.Signatures.{Signature, signature_of, calls_fit}
+use Rattle.boc_types.specs.Signatures.{signature_of, calls_fit}
 use Rattle.boc_types.specs.Resolved.{every}
 pub use Rattle.boc_types.specs.Sizes.{size_of}
 

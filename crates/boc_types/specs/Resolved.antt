@@ -1,5 +1,5 @@
 -- Every slot and cown parameter that a body names is there.
-use Rattle.std.specs.Prelude.{ℕ, ◌+◌, nat_lt, nat_le, Bool, true, false, ◌&&◌, List, [], ◌∷◌, map, length}
+use Rattle.std.specs.Prelude.{ℕ, ◌+◌, nat_lt, nat_le, Bool, true, ◌&&◌, List, [], ◌∷◌, map, length}
 use Rattle.boc_types.specs.Syntax.{Term, Number, Slot, Negate, Binary, Place, Held, Single, Member, Code, Done, Assign, Work, If, Repeat, When}
 
 -- how many slots there are, and how many cown parameters

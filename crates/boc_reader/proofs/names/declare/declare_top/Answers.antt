@@ -1,5 +1,4 @@
-use Rattle.std.proofs.Common.{◌≡◌, ◌∙◌, ap, sym, map, [], Some}
-use Rattle.boc_reader.specs.declared.shape.CownShape.{CownShape}
+use Rattle.std.proofs.Common.{◌∙◌, ap, sym, map, []}
 use Rattle.boc_reader.specs.Views.{cown_of}
 use Rattle.boc_reader.specs.Resolving.{global_of, cowns_behind}
 use Rattle.boc_reader.proofs.ResolvingOrder.{cowns_end}

@@ -1,0 +1,33 @@
+// What a body wishes for.
+
+ghost use Rattle.std.specs.Prelude.{◌≡◌};
+ghost use Rattle.boc_eval.specs.Wishes.{wish_of};
+
+use boc_types::short::{Args, Cowns};
+
+/// A wish for a behaviour, made by a `when`.
+#[derive(Drop, Debug)]
+pub struct SpawnWish {
+    /// The ticks that the body had counted when it made the wish, from 2 to 1,000,000.
+    pub offset: u32,
+    /// The place of the behaviour's body among the program's bodies.
+    pub kind: usize,
+    /// The values of the behaviour's value parameters.
+    pub args: Args,
+    /// The cowns of the behaviour's cown parameters, in their order. No cown stands here twice.
+    pub cowns: Cowns,
+}
+
+impl SpawnWish {
+    /// The same wish once more. It takes no memory.
+    pub(crate) fn duplicate(&self) -> SpawnWish
+        ensures { wish_of result ≡ wish_of self.now }
+    {
+        SpawnWish {
+            offset: self.offset,
+            kind: self.kind,
+            args: Args::try_from(self.args.as_slice()).unwrap(),
+            cowns: Cowns::try_from(self.cowns.as_slice()).unwrap(),
+        }
+    }
+}

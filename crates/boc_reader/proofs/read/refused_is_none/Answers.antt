@@ -1,0 +1,8 @@
+use Rattle.boc_reader.proofs.Spellings.{none_spelled, one_program}
+use Rattle.boc_reader.proofs.read.refused_is_none.Goals as goal
+
+pub returns-clause-none : goal.returns-clause-none
+returns-clause-none c = none_spelled
+
+pub returns-clause-one : goal.returns-clause-one
+returns-clause-one c = one_program

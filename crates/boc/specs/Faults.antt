@@ -28,6 +28,7 @@ gone_of faults.Behaviours = None
 gone_of faults.Memory = None
 gone_of faults.Source = None
 
+-- the fault of an input that could not be taken in
 abbrev pub of_text : TextFault → Fault
 of_text texts.Memory = faults.Memory
 of_text texts.Device = faults.Source
@@ -37,6 +38,7 @@ abbrev pub of_read : ReadFault → ReadFaultKind → Fault
 of_read r kinds.Memory = faults.Memory
 of_read r _ = faults.Program r
 
+-- the fault of a serial run
 abbrev pub of_serial : SerialFault → Fault
 of_serial serial.Memory = faults.Memory
 of_serial serial.Behaviours = faults.Behaviours

@@ -1,3 +1,5 @@
+ghost use Rattle.std.specs.Prelude.{◌≡◌, IfOk};
+
 use crate::bytes::Bytes;
 use crate::fail_at::FailAt;
 use crate::fault::Fault;
@@ -12,20 +14,24 @@ def move(k; x, y) { x = x - k; y = y + k; }
 main { when add(5; a); when move(3; a, b); when add(1; b); }
 ";
 
-/// What `values` did: its status, its line on standard error, and its output.
+/// What `values` did: its status, its line on standard error, its output, and how much it took of its input.
 #[derive(Drop)]
 struct Answer {
     status: u8,
     line: String,
     output: Vec<u8>,
+    taken: usize,
 }
 
-fn bytes(alloc: Global, text: &str) -> Result<Bytes, AllocError> {
+fn bytes(alloc: Global, text: &str) -> Result<Bytes, AllocError>
+    ensures { IfOk result (λ b. b.failures ≡ 0) }
+{
     Ok(Bytes::new(Vec::from_slice(alloc, text.as_bytes())?))
 }
 
-fn answered(alloc: Global, text: &str) -> Result<Answer, AllocError> {
-    let mut source = bytes(alloc, text)?;
+fn answered_to(alloc: Global, mut source: Bytes) -> Result<Answer, AllocError>
+    requires { source.failures ≡ 0 }
+{
     let mut sink = bytes(alloc, "")?;
     let (status, line) = match values_cmd(alloc, &mut source, &mut sink) {
         Ok(()) => (0, String::new(alloc)),
@@ -35,7 +41,13 @@ fn answered(alloc: Global, text: &str) -> Result<Answer, AllocError> {
         status,
         line,
         output: sink.bytes,
+        taken: source.taken,
     })
+}
+
+fn answered(alloc: Global, text: &str) -> Result<Answer, AllocError> {
+    let source = bytes(alloc, text)?;
+    answered_to(alloc, source)
 }
 
 #[test]
@@ -128,30 +140,32 @@ fn refusals(rt: HostRuntime) -> Result<(), Fail> {
 }
 
 /// An empty program with so many spaces behind it.
-fn padded(alloc: Global, spaces: usize) -> Result<Bytes, AllocError> {
+fn padded(alloc: Global, spaces: u32) -> Result<Bytes, AllocError>
+    ensures { IfOk result (λ b. b.failures ≡ 0) }
+{
     let mut text = Vec::from_slice(alloc, b"main { }")?;
-    let end = 8 + spaces;
-    text.resize(end, b' ')?;
+    for _ in 0..spaces {
+        text.push(b' ')?;
+    }
     Ok(Bytes::new(text))
 }
 
 #[test]
 fn longest_text(rt: HostRuntime) -> Result<(), Fail> {
     let alloc = rt.alloc();
-    let mut sink = bytes(alloc, "")?;
-    assert!(rt; values_cmd(alloc, &mut padded(alloc, 65_528)?, &mut sink).is_ok());
-    let mut source = padded(alloc, 70_000)?;
-    match values_cmd(alloc, &mut source, &mut sink) {
-        Err(fault) => assert_eq!(rt; fault.line(alloc)?.as_str(), "boc: line 1: 9 TooLong"),
-        Ok(()) => assert!(rt; false, "a text of 70,008 bytes is taken"),
-    }
-    assert_eq!(rt; source.taken, 65_537);
-    assert_eq!(rt; sink.bytes.len(), 0);
+    let answer = answered_to(alloc, padded(alloc, 65_528)?)?;
+    assert_eq!(rt; answer.status, 0);
+    let answer = answered_to(alloc, padded(alloc, 70_000)?)?;
+    assert_eq!(rt; answer.line.as_str(), "boc: line 1: 9 TooLong");
+    assert_eq!(rt; answer.taken, 65_537);
+    assert_eq!(rt; answer.output.len(), 0);
     Ok(())
 }
 
 /// A program with a number in so many pairs of parentheses.
-fn nested(alloc: Global, pairs: usize) -> Result<Bytes, AllocError> {
+fn nested(alloc: Global, pairs: u32) -> Result<Bytes, AllocError>
+    ensures { IfOk result (λ b. b.failures ≡ 0) }
+{
     let mut text = Vec::from_slice(alloc, b"main { work ")?;
     for _ in 0..pairs {
         text.push(b'(')?;
@@ -167,13 +181,11 @@ fn nested(alloc: Global, pairs: usize) -> Result<Bytes, AllocError> {
 #[test]
 fn deepest_nesting(rt: HostRuntime) -> Result<(), Fail> {
     let alloc = rt.alloc();
-    let mut sink = bytes(alloc, "")?;
-    assert!(rt; values_cmd(alloc, &mut nested(alloc, 998)?, &mut sink).is_ok());
+    let answer = answered_to(alloc, nested(alloc, 998)?)?;
+    assert_eq!(rt; answer.status, 0);
     for pairs in [999, 30_000] {
-        match values_cmd(alloc, &mut nested(alloc, pairs)?, &mut sink) {
-            Err(fault) => assert_eq!(rt; fault.line(alloc)?.as_str(), "boc: line 1: 8 TooMany"),
-            Ok(()) => assert!(rt; false, "{pairs} pairs are taken"),
-        }
+        let answer = answered_to(alloc, nested(alloc, pairs)?)?;
+        assert_eq!(rt; answer.line.as_str(), "boc: line 1: 8 TooMany", "{pairs}");
     }
     Ok(())
 }

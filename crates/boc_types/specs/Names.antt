@@ -39,6 +39,7 @@ pub record Top : Type 0 where
   pub cowns : List Global
   pub defs : List Callee
 
+-- the names declared at the top, in the order of the text
 abbrev pub top_names : Top → List Named
 top_names top = map (λ g. g.name) top.cowns ++ map (λ d. d.name) top.defs
 
@@ -51,6 +52,7 @@ pub record Outside : Type 0 where
 abbrev pub slot_of : List Named → Named → Option ℕ
 slot_of scope x = position (λ y. bytes_eq y x) scope
 
+-- the operator of a comparison
 abbrev pub compares : Comparison → Operator
 compares comparisons.Equal = operators.Equal
 compares comparisons.NotEqual = operators.NotEqual
@@ -59,10 +61,12 @@ compares comparisons.AtMost = operators.AtMost
 compares comparisons.Greater = operators.Greater
 compares comparisons.AtLeast = operators.AtLeast
 
+-- the operator between two terms
 abbrev pub adds : SumOperator → Operator
 adds sums.Add = operators.Add
 adds sums.Subtract = operators.Subtract
 
+-- the operator between two factors
 abbrev pub multiplies : TermOperator → Operator
 multiplies terms.Multiply = operators.Multiply
 multiplies terms.Divide = operators.Divide
@@ -72,6 +76,7 @@ multiplies terms.Remainder = operators.Remainder
 abbrev pub Left : Type 0
 Left = Option (resolved.Term × Operator)
 
+-- an operand, behind what stands to its left
 abbrev pub joined : Left → resolved.Term → resolved.Term
 joined None e = e
 joined (Some l) e = resolved.Binary l.1 l.0 e
@@ -117,6 +122,7 @@ abbrev pub member_of : Option Global → resolved.Term → Option resolved.Place
 member_of None e = None
 member_of (Some g) e = option_map (λ n. resolved.Member g.first n e) g.size
 
+-- the cown or array of a name, where one is declared
 abbrev pub global : Top → Named → Option Global
 global top x = find (λ g. bytes_eq g.name x) top.cowns
 
@@ -125,6 +131,7 @@ abbrev pub held_or_single : Option ℕ → Option Global → Option resolved.Pla
 held_or_single (Some i) g = Some (resolved.Held i)
 held_or_single None g = single g
 
+-- the cown that a reference stands for
 abbrev pub ref_names : Outside → List Named → Ref → Option resolved.Place
 ref_names outside scope (alone x) = held_or_single (slot_of outside.held x) (global outside.top x)
 ref_names outside scope (member x e) = option_and_then (member_of (global outside.top x)) (expr_names e scope)
@@ -137,6 +144,7 @@ pub data Step : Type 0 where
   Loop : resolved.Term → resolved.Code → Step
   Spawn : ℕ → List resolved.Term → List resolved.Place → Step
 
+-- a statement, and then those that follow it
 abbrev pub then_code : Step → resolved.Code → resolved.Code
 then_code (Set slot e) rest = resolved.Assign slot e rest
 then_code (Spend e) rest = resolved.Work e rest
@@ -153,6 +161,7 @@ abbrev pub takes : Option Callee → ℕ → ℕ → Bool
 takes None args cowns = false
 takes (Some d) args cowns = nat_eq d.args args && nat_eq d.cowns cowns
 
+-- the def of a name, where one is declared
 abbrev pub callee : Top → Named → Option Callee
 callee top f = find (λ d. bytes_eq d.name f) top.defs
 
@@ -205,11 +214,13 @@ pub record PlainBody : Type 0 where
   pub slots : ℕ
   pub code : resolved.Code
 
+-- the same of a cown: its name, its size where it is an array, and its initial value
 pub record PlainCown : Type 0 where
   pub name : Named
   pub size : Option ℕ
   pub initial : ℤ
 
+-- the same of a program: its cowns, and its bodies with main's first
 pub record PlainProgram : Type 0 where
   pub cowns : List PlainCown
   pub bodies : List PlainBody
@@ -227,13 +238,16 @@ body_names top params held block =
     (block_names block (record { top = top; held = held }) (params ++ held))
     else None
 
+-- the cowns of these declarations, numbered from n on
 abbrev pub globals : ℕ → List Cown → List Global
 globals n [] = []
 globals n (c ∷ cs) = (record { name = c.name; first = n; size = c.size }) ∷ globals (n + members c.size) cs
 
+-- the defs of these declarations
 abbrev pub callees : List Def → List Callee
 callees ds = map (λ d. let c : Callee = record { name = d.name; args = length d.params; cowns = length d.cowns } in c) ds
 
+-- what a tree declares at the top
 abbrev pub top_of : Tree → Top
 top_of t = record { cowns = globals 0 t.cowns; defs = callees t.defs }
 
@@ -242,9 +256,11 @@ abbrev pub are_distinct : List Named → Bool
 are_distinct [] = true
 are_distinct (x ∷ xs) = not (among xs x) && are_distinct xs
 
+-- the number behind its minus, or without one
 abbrev pub initial_value : Cown → ℤ
 initial_value c = if c.negative then neg_ℤ (pos c.value) else pos c.value
 
+-- the cown of a declaration
 abbrev pub plain_cown : Cown → PlainCown
 plain_cown c = record { name = c.name; size = c.size; initial = initial_value c }
 

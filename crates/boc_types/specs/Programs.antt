@@ -11,10 +11,12 @@ abbrev pub initial_values : List Cown → List ℤ
 initial_values [] = []
 initial_values (c ∷ cs) = replicate (size_of c.size) c.initial ++ initial_values cs
 
+-- how many cowns the declarations make
 abbrev pub cown_count : List Cown → ℕ
 cown_count [] = 0
 cown_count (c ∷ cs) = size_of c.size + cown_count cs
 
+-- every call of every body fits
 abbrev pub program_fits : List Cown → List Body → Bool
 program_fits cowns bodies = every (map (calls_fit (map signature_of bodies) (cown_count cowns)) bodies)
 

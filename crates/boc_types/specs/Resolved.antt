@@ -7,21 +7,25 @@ pub record Scope : Type 0 where
   pub slots : ℕ
   pub cowns : ℕ
 
+-- each slot of an expression is one of n
 abbrev pub expr_fits : ℕ → Term → Bool
 expr_fits n (Number z) = true
 expr_fits n (Slot i) = nat_lt i n
 expr_fits n (Negate e) = expr_fits n e
 expr_fits n (Binary op a b) = expr_fits n a && expr_fits n b
 
+-- each slot and cown parameter of a place is there
 abbrev pub ref_fits : Scope → Place → Bool
 ref_fits scope (Held i) = nat_lt i scope.cowns
 ref_fits scope (Single cown) = nat_lt cown 256
 ref_fits scope (Member first size index) = nat_le (first + size) 256 && expr_fits scope.slots index
 
+-- all of these hold
 abbrev pub every : List Bool → Bool
 every [] = true
 every (b ∷ bs) = b && every bs
 
+-- each slot and cown parameter that statements name is there, and no call has more than eight arguments or cowns
 abbrev pub fits : Scope → Code → Bool
 fits scope Done = true
 fits scope (Assign slot e rest) = (nat_lt slot scope.slots && expr_fits scope.slots e) && fits scope rest
@@ -33,6 +37,7 @@ fits scope (When kind args places rest) =
     && (every (map (expr_fits scope.slots) args) && every (map (ref_fits scope) places)))
     && fits scope rest
 
+-- the sum of these
 abbrev pub total : List ℕ → ℕ
 total [] = 0
 total (n ∷ ns) = n + total ns
@@ -44,11 +49,13 @@ expr_nodes (Slot i) = 1
 expr_nodes (Negate e) = expr_nodes e + 1
 expr_nodes (Binary op a b) = expr_nodes a + expr_nodes b + 1
 
+-- the nodes of a place
 abbrev pub ref_nodes : Place → ℕ
 ref_nodes (Held i) = 1
 ref_nodes (Single cown) = 1
 ref_nodes (Member first size index) = expr_nodes index + 1
 
+-- the nodes of statements
 abbrev pub nodes : Code → ℕ
 nodes Done = 0
 nodes (Assign slot e rest) = expr_nodes e + 1 + nodes rest

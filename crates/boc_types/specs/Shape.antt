@@ -69,6 +69,7 @@ pub record Def : Type 0 where
   pub cowns : List (List ℕ)
   pub block : Block
 
+-- the whole of a text
 pub record Tree : Type 0 where
   pub cowns : List Cown
   pub defs : List Def
@@ -76,6 +77,7 @@ pub record Tree : Type 0 where
 
 -- The words of a phrase are given with those that follow it.
 
+-- the sign of each comparison
 abbrev pub comparison_sign : Comparison → Sign
 comparison_sign comparisons.Equal = signs.Equal
 comparison_sign comparisons.NotEqual = signs.NotEqual
@@ -84,10 +86,12 @@ comparison_sign comparisons.AtMost = signs.AtMost
 comparison_sign comparisons.Greater = signs.Greater
 comparison_sign comparisons.AtLeast = signs.AtLeast
 
+-- the sign of each operator between terms
 abbrev pub sum_sign : SumOperator → Sign
 sum_sign sums.Add = signs.Plus
 sum_sign sums.Subtract = signs.Minus
 
+-- the sign of each operator between factors
 abbrev pub term_sign : TermOperator → Sign
 term_sign terms.Multiply = signs.Star
 term_sign terms.Divide = signs.Slash
@@ -130,6 +134,7 @@ abbrev pub each_words : {X : Type 0} → (X → List Word → List Word) → Lis
 each_words words [] rest = rest
 each_words words (x ∷ xs) rest = words x (each_words words xs rest)
 
+-- the words of a reference
 abbrev pub ref_words : Ref → List Word → List Word
 ref_words (alone x) rest = name x ∷ rest
 ref_words (member x e) rest = name x ∷ sign signs.OpenIndex ∷ expr_words e (sign signs.CloseIndex ∷ rest)
@@ -159,24 +164,30 @@ abbrev mutual
   block_words done rest = rest
   block_words (next s b) rest = stmt_words s (block_words b rest)
 
+-- a block with the braces round it
 abbrev pub braced_words : Block → List Word → List Word
 braced_words b rest = sign signs.OpenBlock ∷ block_words b (sign signs.CloseBlock ∷ rest)
 
+-- the word of a name
 abbrev pub name_words : List ℕ → List Word → List Word
 name_words x rest = name x ∷ rest
 
+-- the size of an array in its brackets, or nothing
 abbrev pub size_words : Option ℕ → List Word → List Word
 size_words None rest = rest
 size_words (Some n) rest = sign signs.OpenIndex ∷ number n ∷ sign signs.CloseIndex ∷ rest
 
+-- a minus, or nothing
 abbrev pub minus_words : Bool → List Word → List Word
 minus_words false rest = rest
 minus_words true rest = sign signs.Minus ∷ rest
 
+-- the declaration of a cown
 abbrev pub cown_words : Cown → List Word → List Word
 cown_words c rest =
     keyword keywords.Cown ∷ name c.name ∷ size_words c.size (sign signs.Assign ∷ minus_words c.negative (number c.value ∷ sign signs.Semicolon ∷ rest))
 
+-- a def with its parameters and its block
 abbrev pub def_words : Def → List Word → List Word
 def_words d rest =
     keyword keywords.Def ∷ name d.name ∷ sign signs.Open ∷ list_words name_words d.params (sign signs.Semicolon ∷ list_words name_words d.cowns (sign signs.Close ∷ braced_words d.block rest))
@@ -209,10 +220,12 @@ abbrev mutual
   atom_nodes (variable x) = 1
   atom_nodes (parens e) = 1 + expr_nodes e
 
+-- the nodes of several of a kind
 abbrev pub list_nodes : {X : Type 0} → (X → ℕ) → List X → ℕ
 list_nodes nodes [] = 0
 list_nodes nodes (x ∷ xs) = nodes x + list_nodes nodes xs
 
+-- a reference is a node, beside those of its index
 abbrev pub ref_nodes : Ref → ℕ
 ref_nodes (alone x) = 1
 ref_nodes (member x e) = 1 + expr_nodes e
@@ -257,6 +270,7 @@ pub record IsSmallDef (d : Def) : Type 0 where
   pub cowns : length d.cowns ≤ 8
   pub body : IsSmallBody d.block
 
+-- every def keeps the limits
 abbrev pub AreSmallDefs : List Def → Type 0
 AreSmallDefs [] = Unit {0}
 AreSmallDefs (d ∷ ds) = IsSmallDef d × AreSmallDefs ds
@@ -266,6 +280,7 @@ abbrev pub HasMembers : Option ℕ → Type 0
 HasMembers None = Unit {0}
 HasMembers (Some n) = 1 ≤ n
 
+-- every array has members
 abbrev pub HaveMembers : List Cown → Type 0
 HaveMembers [] = Unit {0}
 HaveMembers (c ∷ cs) = HasMembers c.size × HaveMembers cs
@@ -275,6 +290,7 @@ abbrev pub members : Option ℕ → ℕ
 members None = 1
 members (Some n) = n
 
+-- how many cowns the declarations make, each member of an array counted
 abbrev pub cowns_declared : List Cown → ℕ
 cowns_declared [] = 0
 cowns_declared (c ∷ cs) = members c.size + cowns_declared cs

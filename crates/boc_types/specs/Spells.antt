@@ -8,12 +8,15 @@ use Rattle.boc_types.specs.Tokens.{words_of_text}
 use Rattle.boc_types.specs.Shape.{Tree, HasShape}
 use Rattle.boc_types.specs.Names.{PlainBody, PlainCown, PlainProgram, tree_names}
 
+-- a body without the facts that its type keeps
 abbrev pub plain_body : Body → PlainBody
 plain_body b = record { params = b.params; cown_params = b.cown_params; slots = b.slots; code = b.block }
 
+-- a declaration of cowns, seen plainly
 abbrev pub plain_declared : Cown → PlainCown
 plain_declared c = record { name = c.name; size = c.size; initial = c.initial }
 
+-- a program without the facts that its type keeps
 abbrev pub plain_program : Program → PlainProgram
 plain_program p = record { cowns = map plain_declared p.cowns; bodies = map plain_body p.bodies }
 

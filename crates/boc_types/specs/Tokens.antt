@@ -14,6 +14,7 @@ use Rattle.boc_types.specs.Words.{Word, name, number, keyword, sign}
 abbrev pub is_word_byte : ℕ → Bool
 is_word_byte b = is_ascii_alphanumeric b || b == 95
 
+-- the bytes that separate words: space, tab, carriage return and line feed
 abbrev pub is_blank : ℕ → Bool
 is_blank b = b == 32 || b == 9 || b == 13 || b == 10
 
@@ -34,6 +35,7 @@ abbrev pub join : ℕ → List Piece → List Piece
 join b (run bs ∷ ps) = run (b ∷ bs) ∷ ps
 join b ps = run (b ∷ []) ∷ ps
 
+-- a byte in front of what has been cut: it joins a run, or stands by itself
 abbrev pub in_front : ℕ → List Piece → List Piece
 in_front b ps = if is_word_byte b then join b ps else single b ∷ ps
 
@@ -47,6 +49,7 @@ cut [] = []
 cut (b ∷ []) = in_front b []
 cut (b ∷ c ∷ bs) = if begins_pair b && c == 61 then pair b ∷ cut bs else in_front b (cut (c ∷ bs))
 
+-- how each keyword is spelled
 abbrev pub spelled : Keyword → List ℕ
 spelled keywords.Cown = codes "cown"
 spelled keywords.Def = codes "def"
@@ -58,9 +61,11 @@ spelled keywords.Else = codes "else"
 spelled keywords.Repeat = codes "repeat"
 spelled keywords.When = codes "when"
 
+-- the keyword that these bytes spell
 abbrev pub keyword_of : List ℕ → Option Keyword
 keyword_of bs = find (λ k. bytes_eq bs (spelled k)) (keywords.Cown ∷ keywords.Def ∷ keywords.Main ∷ keywords.Let ∷ keywords.Work ∷ keywords.If ∷ keywords.Else ∷ keywords.Repeat ∷ keywords.When ∷ [])
 
+-- the value of digits
 abbrev pub value_of : List ℕ → ℕ
 value_of ds = fold (λ v d. 10 * v + (d - 48)) 0 ds
 
@@ -69,6 +74,7 @@ abbrev pub is_numeral : List ℕ → Bool
 is_numeral [] = false
 is_numeral (d ∷ ds) = list_all is_ascii_digit (d ∷ ds) && (nat_lt 48 d || length ds == 0)
 
+-- the first byte is a digit
 abbrev pub begins_with_digit : List ℕ → Bool
 begins_with_digit [] = false
 begins_with_digit (d ∷ ds) = is_ascii_digit d
@@ -87,6 +93,7 @@ pair_sign b =
     else (if b == 60 then Some signs.AtMost
     else (if b == 62 then Some signs.AtLeast else None)))
 
+-- a sign of one byte
 abbrev pub single_sign : ℕ → Option Sign
 single_sign b =
     if b == 61 then Some signs.Assign
@@ -112,6 +119,7 @@ put None ws = None
 put (Some w) None = None
 put (Some w) (Some ws) = Some (w ∷ ws)
 
+-- the words of pieces, where each is a word or a blank
 abbrev pub words_of_pieces : List Piece → Option (List Word)
 words_of_pieces [] = Some []
 words_of_pieces (run bs ∷ ps) = put (word_of_run bs) (words_of_pieces ps)

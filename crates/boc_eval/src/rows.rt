@@ -1,0 +1,110 @@
+// The behaviours of a serial run, in the order in which they were spawned.
+
+ghost use Rattle.std.specs.Prelude.{◌≡◌, ◌<◌, ◌≤◌, [], ◌∷◌, ◌++◌, length, OnOk};
+ghost use Rattle.boc_types.specs.Serial.{Behaviour};
+ghost use Rattle.boc_eval.specs.Behaviours.{IsConsistent, behaviour_at, behaviours_of};
+
+use boc_types::short::CownNo;
+use std::alloc::{AllocError, Global};
+
+/// A part of a list, from one place up to another.
+#[derive(Clone, Copy)]
+pub struct Span {
+    pub from: u32,
+    pub to: u32,
+}
+
+/// A behaviour, and where its arguments and its cowns stand among those of all behaviours.
+#[derive(Clone, Copy)]
+pub struct Row {
+    pub kind: usize,
+    pub args: Span,
+    pub cowns: Span,
+}
+
+/// A row for each behaviour of a run, in the order in which they were spawned.
+#[derive(Drop)]
+pub struct Rows {
+    pub rows: Vec<Row>,
+    /// The arguments of all behaviours, one behaviour after another.
+    pub args: Vec<i64>,
+    /// The cowns of all behaviours, one behaviour after another.
+    pub cowns: Vec<CownNo>,
+}
+
+impl Rows {
+    /// No rows.
+    pub fn new(alloc: Global) -> Rows
+        ensures sound { IsConsistent result }
+        ensures empty { result.rows.items ≡ [] }
+    {
+        Rows {
+            rows: Vec::new(alloc),
+            args: Vec::new(alloc),
+            cowns: Vec::new(alloc),
+        }
+    }
+
+    /// How many behaviours there are.
+    pub fn len(&self) -> usize
+        ensures { result ≡ length self.now.rows.items }
+    {
+        self.rows.len()
+    }
+
+    /// Adds a behaviour behind the others.
+    pub fn push(&mut self, kind: usize, args: &[i64], cowns: &[CownNo]) -> Result<(), AllocError>
+        requires sound { IsConsistent self.old }
+        requires few { length self.old.rows.items < 65535 }
+        requires few_args { length args.now ≤ 8 }
+        requires few_cowns { length cowns.now ≤ 8 }
+        ensures sound { OnOk result (IsConsistent self.new) }
+        ensures behaviours { OnOk result (behaviours_of self.new ≡ behaviours_of self.old
+            ++ (let b : Behaviour = record { kind = kind; args = args.now; cowns = cowns.now } in b) ∷ []) }
+    {
+        let args_from = self.args.len() as u32;
+        let cowns_from = self.cowns.len() as u32;
+        self.args.extend_from_slice(args)?;
+        self.cowns.extend_from_slice(cowns)?;
+        self.rows.push(Row {
+            kind,
+            args: Span {
+                from: args_from,
+                to: self.args.len() as u32,
+            },
+            cowns: Span {
+                from: cowns_from,
+                to: self.cowns.len() as u32,
+            },
+        })?;
+        Ok(())
+    }
+
+    /// The kind of a behaviour.
+    pub fn kind(&self, row: usize) -> usize
+        requires { row < length self.now.rows.items }
+        ensures { result ≡ (behaviour_at self.now row).kind }
+    {
+        self.rows[row].kind
+    }
+
+    /// The arguments of a behaviour.
+    pub fn args(&self, row: usize) -> &[i64]
+        requires sound { IsConsistent self.now }
+        requires there { row < length self.now.rows.items }
+        ensures { result.now ≡ (behaviour_at self.now row).args }
+    {
+        let Span { from, to } = self.rows[row].args;
+        &self.args[from as usize..to as usize]
+    }
+
+    /// The cowns of a behaviour.
+    pub fn cowns(&self, row: usize) -> &[CownNo]
+        requires sound { IsConsistent self.now }
+        requires there { row < length self.now.rows.items }
+        ensures { result.now ≡ (behaviour_at self.now row).cowns }
+    {
+        let Span { from, to } = self.rows[row].cowns;
+        &self.cowns[from as usize..to as usize]
+    }
+}

@@ -1,10 +1,11 @@
 -- What a command does to its source and its sink.
-use Rattle.std.specs.Prelude.{◌≡◌, ℕ, ◌+◌, List, Option, Result, Ok, Err}
+use Rattle.std.specs.Prelude.{◌≡◌, ℕ, ◌+◌, List, Option, IfSome, Result, Ok, Err}
 use Rattle.std.specs.Io.KnownBytes.{Consumes, IsAtEnd, Appends, Keeps}
 use Rattle.boc.specs.declared.fault.Fault.{Fault}
 use Rattle.boc.specs.declared.fault.Fault.TheVariants as faults
 use Rattle.boc_reader.specs.Meanings.{Means}
-use Rattle.boc.specs.Streams.{StopsAt, ReadsWhole}
+use Rattle.boc_types.specs.Records.{IsFirstFault}
+use Rattle.boc_text.specs.Streams.{StopsAt, ReadsWhole}
 
 -- the source gave an input to its end, and this text is the answer to it
 pub record AnswersInput (IsAnswer : List ℕ → List ℕ → Type 0) (before after : Option (List ℕ)) (text : List ℕ) : Type 0 where
@@ -19,6 +20,7 @@ Leaves IsText (Ok done) old new = (text : List ℕ) × IsText text × Appends ol
 Leaves IsText (Err (faults.Sink gone)) old new = (text : List ℕ) × IsText text × StopsAt gone text old new
 Leaves IsText (Err (faults.Words e)) old new = Keeps old new
 Leaves IsText (Err (faults.Program r)) old new = Keeps old new
+Leaves IsText (Err (faults.Record r)) old new = Keeps old new
 Leaves IsText (Err faults.Behaviours) old new = Keeps old new
 Leaves IsText (Err faults.Memory) old new = Keeps old new
 Leaves IsText (Err faults.Source) old new = Keeps old new
@@ -29,6 +31,7 @@ CountsSource (Err faults.Source) old new = new ≡ old + 1
 CountsSource (Err (faults.Sink gone)) old new = new ≡ old
 CountsSource (Err (faults.Words e)) old new = new ≡ old
 CountsSource (Err (faults.Program r)) old new = new ≡ old
+CountsSource (Err (faults.Record r)) old new = new ≡ old
 CountsSource (Err faults.Behaviours) old new = new ≡ old
 CountsSource (Err faults.Memory) old new = new ≡ old
 CountsSource (Ok done) old new = new ≡ old
@@ -39,6 +42,7 @@ CountsSink (Err (faults.Sink gone)) old new = new ≡ old + 1
 CountsSink (Err faults.Source) old new = new ≡ old
 CountsSink (Err (faults.Words e)) old new = new ≡ old
 CountsSink (Err (faults.Program r)) old new = new ≡ old
+CountsSink (Err (faults.Record r)) old new = new ≡ old
 CountsSink (Err faults.Behaviours) old new = new ≡ old
 CountsSink (Err faults.Memory) old new = new ≡ old
 CountsSink (Ok done) old new = new ≡ old
@@ -47,6 +51,7 @@ CountsSink (Ok done) old new = new ≡ old
 abbrev pub IsOfInput : List ℕ → Fault → Type 0
 IsOfInput text (faults.Words e) = ⊥
 IsOfInput text (faults.Program r) = Means r.kind text
+IsOfInput text (faults.Record r) = ⊥
 IsOfInput text faults.Behaviours = Unit {0}
 IsOfInput text faults.Memory = Unit {0}
 IsOfInput text faults.Source = ⊥
@@ -61,6 +66,7 @@ pub record TakesInput (Known : List ℕ → Type 0) (limit : ℕ) (before after 
 -- a program text is refused for what was taken of the source
 abbrev pub Refuses : {A : Type 0} → ℕ → Result A Fault → Option (List ℕ) → Option (List ℕ) → Type 0
 Refuses limit (Err (faults.Program r)) before after = TakesInput (Means r.kind) limit before after
+Refuses limit (Err (faults.Record r)) before after = ⊥
 Refuses limit (Err (faults.Words e)) before after = ⊥
 Refuses limit (Err faults.Behaviours) before after = Unit {0}
 Refuses limit (Err faults.Memory) before after = Unit {0}
@@ -68,11 +74,23 @@ Refuses limit (Err faults.Source) before after = Unit {0}
 Refuses limit (Err (faults.Sink gone)) before after = Unit {0}
 Refuses limit (Ok done) before after = Unit {0}
 
+-- the text of a record is refused for its first fault, where the source told it
+abbrev pub RefusesRecord : {A : Type 0} → Result A Fault → Option (List ℕ) → Type 0
+RefusesRecord (Err (faults.Record r)) before = IfSome before (λ text. IsFirstFault text r.line r.kind)
+RefusesRecord (Err (faults.Words e)) before = ⊥
+RefusesRecord (Err (faults.Program r)) before = ⊥
+RefusesRecord (Err faults.Behaviours) before = ⊥
+RefusesRecord (Err faults.Memory) before = Unit {0}
+RefusesRecord (Err faults.Source) before = Unit {0}
+RefusesRecord (Err (faults.Sink gone)) before = Unit {0}
+RefusesRecord (Ok done) before = Unit {0}
+
 -- a fault of the words, or want of memory
 abbrev pub IsOfWords : Fault → Type 0
 IsOfWords (faults.Words e) = Unit {0}
 IsOfWords faults.Memory = Unit {0}
 IsOfWords (faults.Program r) = ⊥
+IsOfWords (faults.Record r) = ⊥
 IsOfWords faults.Behaviours = ⊥
 IsOfWords faults.Source = ⊥
 IsOfWords (faults.Sink gone) = ⊥

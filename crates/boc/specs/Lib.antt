@@ -1,3 +1,2 @@
-pub mod Streams
 pub mod Faults
 pub mod Commands

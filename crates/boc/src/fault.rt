@@ -1,8 +1,10 @@
 // Why a command did not do what it was asked for.
 
-use crate::whole::{Stopped, TextFault};
 use boc_eval::SerialFault;
 use boc_reader::{ReadFault, ReadFaultKind};
+use boc_record::RecordFault;
+use boc_text::{Stopped, TextFault};
+use boc_types::verdict::RecordFaultKind;
 use std::alloc::{AllocError, AllocFailed, Global};
 use thiserror::Error;
 
@@ -15,6 +17,9 @@ pub enum Fault {
     /// The program text.
     #[error("boc: {0}")]
     Program(ReadFault),
+    /// The text of a record.
+    #[error("boc: {0}")]
+    Record(RecordFault),
     /// The serial run would need more behaviours than a run may have.
     #[error("boc: run: 2 Behaviours")]
     Behaviours,
@@ -40,7 +45,7 @@ impl Fault {
     {
         match self {
             Fault::Words(_) => 2,
-            Fault::Program(_) => 3,
+            Fault::Program(_) | Fault::Record(_) => 3,
             Fault::Behaviours => 4,
             Fault::Memory | Fault::Source | Fault::Sink { .. } => 5,
         }
@@ -86,6 +91,21 @@ impl From<ReadFault> for Fault {
         match fault.kind {
             ReadFaultKind::Memory => Fault::Memory,
             _ => Fault::Program(fault),
+        }
+    }
+}
+
+impl From<RecordFault> for Fault {
+    ghost use Rattle.std.specs.Prelude.{◌≡◌};
+    ghost use Rattle.boc.specs.Faults.{of_record};
+
+    ghost from_gives = { λ r f. f ≡ of_record r r.kind };
+
+    fn from(fault: RecordFault) -> Fault {
+        match fault.kind {
+            RecordFaultKind::Memory => Fault::Memory,
+            RecordFaultKind::Device => Fault::Source,
+            _ => Fault::Record(fault),
         }
     }
 }

@@ -1,24 +1,21 @@
 //! The program `boc`: commands over programs of behaviours, from standard input to standard output.
 #![tactic(auto)]
 
-mod bytes;
-mod counted;
-mod decimal;
-mod fail_at;
+mod check;
 mod fault;
-mod stream;
+mod profile;
 #[cfg(test)]
 mod tests;
 mod values;
 mod values_text;
-mod whole;
 mod words;
 
-use crate::counted::Counted;
+use crate::check::check_cmd;
 use crate::fault::Fault;
+use crate::profile::profile_cmd;
 use crate::values::values_cmd;
-use crate::whole::put_out;
 use crate::words::{Command, not_text, read_words};
+use boc_text::{Counted, put_out};
 use std::process::ExitCode;
 use std::{env, io};
 
@@ -39,6 +36,8 @@ fn run(rt: HostRuntime) -> Result<(), Fault> {
     let mut output = Counted::new(rt.stdout());
     match read_words(rt.alloc(), &words)? {
         Command::Values => values_cmd(rt.alloc(), &mut Counted::new(rt.stdin()), &mut output),
+        Command::Check => check_cmd(rt.alloc(), &mut Counted::new(rt.stdin()), &mut output),
+        Command::Profile => profile_cmd(rt.alloc(), &mut Counted::new(rt.stdin()), &mut output),
         Command::Help(text) => {
             put_out(&mut output, text.as_bytes())?;
             Ok(())

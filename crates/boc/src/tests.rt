@@ -1,10 +1,11 @@
 ghost use Rattle.std.specs.Prelude.{◌≡◌, IfOk};
 
-use crate::bytes::Bytes;
-use crate::fail_at::FailAt;
+use crate::check::check_cmd;
 use crate::fault::Fault;
+use crate::profile::profile_cmd;
 use crate::values::values_cmd;
 use crate::words::{Command, read_words};
+use boc_text::{Bytes, FailAt};
 use std::alloc::{AllocError, Global};
 use std::test::*;
 
@@ -254,6 +255,186 @@ fn one_write_fails(rt: HostRuntime) -> Result<(), Fail> {
     Ok(())
 }
 
+// The run of TRANSFER by one worker.
+const RECORD: &str = "boc 1 2
++ 0 0 0
+> 0
++ 1 0 2 0
++ 2 0 3 0 1
++ 3 0 4 1
+< 0 4 0
+> 1
+< 1 2 0
+> 2
+< 2 3 0
+> 3
+< 3 2 0
+.
+";
+
+#[test]
+fn records_are_checked(rt: HostRuntime) -> Result<(), Fail> {
+    let alloc = rt.alloc();
+    let no_cowns =
+        "boc 1 0\n+ 0 0 0\n> 0\n+ 1 0 2\n+ 2 0 3\n< 0 3 0\n> 1\n< 1 4 0\n> 2\n< 2 4 0\n.\n";
+    for (text, output) in [(RECORD, "ok 4\n"), (no_cowns, "ok 3\n")] {
+        let mut sink = bytes(alloc, "")?;
+        let result = check_cmd(alloc, &mut bytes(alloc, text)?, &mut sink);
+        assert!(rt; result.is_ok(), "{text}");
+        assert_eq!(rt; sink.bytes.as_slice(), output.as_bytes());
+    }
+    Ok(())
+}
+
+#[test]
+fn faulty_records_are_refused(rt: HostRuntime) -> Result<(), Fail> {
+    let alloc = rt.alloc();
+    let begun = "boc 1 1\n+ 0 0 0\n> 0\n+ 1 0 2 0\n";
+    let cut = RECORD.trim_end_matches(".\n");
+    for (text, after, line) in [
+        (cut, "", "boc: line 14: 11 Truncated"),
+        (RECORD, "x", "boc: line 15: 12 After"),
+        (
+            begun,
+            "+ 2 0 3 0\n> 1\n> 2\n",
+            "boc: line 7: 7 StartNotAllowed",
+        ),
+        (begun, "+ 2 0 3 0\n> 1\n.\n", "boc: line 7: 10 Unended"),
+        (begun, "+ 2 0 2 0\n", "boc: line 5: 5 Offset"),
+        ("", "", "boc: line 1: 11 Truncated"),
+        ("main { }", "\n", "boc: line 1: 1 Header"),
+    ] {
+        let whole = format!(in alloc; "{text}{after}")?;
+        let mut sink = bytes(alloc, "")?;
+        match check_cmd(alloc, &mut bytes(alloc, whole.as_str())?, &mut sink) {
+            Ok(()) => assert!(rt; false, "{whole} is taken"),
+            Err(fault) => {
+                assert_eq!(rt; fault.line(alloc)?.as_str(), line);
+                assert_eq!(rt; fault.status(), 3, "{line}");
+                assert_eq!(rt; sink.bytes.len(), 0, "{line}");
+            }
+        }
+    }
+    Ok(())
+}
+
+#[test]
+fn one_read_of_a_record_fails(rt: HostRuntime) -> Result<(), Fail> {
+    let alloc = rt.alloc();
+    let reads = RECORD.len().div_ceil(5) as u64 + 1;
+    for k in 1..=reads + 1 {
+        let mut source = FailAt::new(bytes(alloc, RECORD)?, k, 5);
+        let mut sink = bytes(alloc, "")?;
+        match check_cmd(alloc, &mut source, &mut sink) {
+            Ok(()) => {
+                assert_eq!(rt; k, reads + 1);
+                assert_eq!(rt; sink.bytes.as_slice(), b"ok 4\n".as_slice());
+            }
+            Err(fault) => {
+                assert!(rt; k <= reads);
+                assert_eq!(rt; fault.line(alloc)?.as_str(), "boc: device");
+                assert_eq!(rt; fault.status(), 5);
+                assert_eq!(rt; sink.bytes.len(), 0);
+            }
+        }
+    }
+    Ok(())
+}
+
+#[test]
+fn one_write_of_a_check_fails(rt: HostRuntime) -> Result<(), Fail> {
+    let alloc = rt.alloc();
+    for (k, gone) in [(1, Some(0)), (2, Some(2)), (3, Some(4)), (4, None)] {
+        let mut sink = FailAt::new(bytes(alloc, "")?, k, 2);
+        let went_out = match check_cmd(alloc, &mut bytes(alloc, RECORD)?, &mut sink) {
+            Ok(()) => 5,
+            Err(fault) => {
+                assert_eq!(rt; fault.line(alloc)?.as_str(), "boc: device");
+                assert_eq!(rt; fault.gone(), gone);
+                fault.gone().unwrap_or(0)
+            }
+        };
+        assert_eq!(rt;
+            Some(sink.inner.bytes.as_slice()),
+            b"ok 4\n".get(..went_out)
+        );
+    }
+    Ok(())
+}
+
+// The report on RECORD.
+const REPORT: &str = "rows 4
+work 11
+span 9
+chain
+0 spawn 2
+1 order 2
+2 order 3
+3 end 2
+plan
+0 0 4
+1 2 4
+2 4 7
+3 7 9
+";
+
+#[test]
+fn records_are_profiled(rt: HostRuntime) -> Result<(), Fail> {
+    let alloc = rt.alloc();
+    let empty = "boc 1 0\n+ 0 0 0\n> 0\n< 0 1 0\n.\n";
+    let no_cowns =
+        "boc 1 0\n+ 0 0 0\n> 0\n+ 1 0 2\n+ 2 0 3\n< 0 3 0\n> 1\n< 1 4 0\n> 2\n< 2 4 0\n.\n";
+    let countdown =
+        "boc 1 1\n+ 0 0 0\n> 0\n+ 1 0 2 0\n< 0 2 0\n> 1\n+ 2 1 4 0\n< 1 4 0\n> 2\n+ 3 2 4 0\n< 2 4 0\n> 3\n< 3 3 0\n.\n";
+    for (text, output) in [
+        (RECORD, REPORT),
+        (
+            empty,
+            "rows 1\nwork 1\nspan 1\nchain\n0 end 1\nplan\n0 0 1\n",
+        ),
+        (
+            no_cowns,
+            "rows 3\nwork 11\nspan 7\nchain\n0 spawn 3\n2 end 4\nplan\n0 0 3\n1 2 6\n2 3 7\n",
+        ),
+        (
+            countdown,
+            "rows 4\nwork 13\nspan 13\nchain\n0 spawn 2\n1 spawn 4\n2 spawn 4\n3 end 3\nplan\n0 0 2\n1 2 6\n2 6 10\n3 10 13\n",
+        ),
+    ] {
+        let mut sink = bytes(alloc, "")?;
+        let result = profile_cmd(alloc, &mut bytes(alloc, text)?, &mut sink);
+        assert!(rt; result.is_ok(), "{text}");
+        assert_eq!(rt; String::from_utf8(sink.bytes)?.as_str(), output);
+    }
+    Ok(())
+}
+
+#[test]
+fn one_read_or_write_of_a_profile_fails(rt: HostRuntime) -> Result<(), Fail> {
+    let alloc = rt.alloc();
+    for k in 1..=RECORD.len() as u64 + 1 {
+        let mut source = FailAt::new(bytes(alloc, RECORD)?, k, 1);
+        let mut sink = bytes(alloc, "")?;
+        let result = profile_cmd(alloc, &mut source, &mut sink);
+        assert!(rt; matches!(result, Err(Fault::Source)), "{k}");
+        assert_eq!(rt; sink.bytes.len(), 0);
+    }
+    for k in 1..=REPORT.len().div_ceil(7) as u64 {
+        let mut sink = FailAt::new(bytes(alloc, "")?, k, 7);
+        let result = profile_cmd(alloc, &mut bytes(alloc, RECORD)?, &mut sink);
+        let gone = 7 * (k as usize - 1);
+        assert!(rt;
+            matches!(result, Err(Fault::Sink { gone: told }) if told == gone),
+            "{k}"
+        );
+        assert_eq!(rt;
+            Some(sink.inner.bytes.as_slice()),
+            REPORT.as_bytes().get(..gone)
+        );
+    }
+    Ok(())
+}
+
 fn words(alloc: Global, given: &[&str]) -> Result<Vec<String>, AllocError> {
     let mut words = Vec::new(alloc);
     for word in given {
@@ -267,6 +448,10 @@ fn command_lines(rt: HostRuntime) -> Result<(), Fail> {
     let alloc = rt.alloc();
     let found = read_words(alloc, &words(alloc, &["boc", "values"])?);
     assert!(rt; matches!(found, Ok(Command::Values)));
+    let found = read_words(alloc, &words(alloc, &["boc", "check"])?);
+    assert!(rt; matches!(found, Ok(Command::Check)));
+    let found = read_words(alloc, &words(alloc, &["boc", "profile"])?);
+    assert!(rt; matches!(found, Ok(Command::Profile)));
     for given in [
         ["boc", "--help"].as_slice(),
         &["boc", "help"],
@@ -280,6 +465,8 @@ fn command_lines(rt: HostRuntime) -> Result<(), Fail> {
         &["boc", "nothing"],
         &["boc", "values", "more"],
         &["boc", "values", "--p", "2"],
+        &["boc", "check", "record"],
+        &["boc", "profile", "--p", "2"],
     ] {
         match read_words(alloc, &words(alloc, given)?) {
             Err(fault) => {

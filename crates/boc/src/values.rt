@@ -5,11 +5,10 @@ ghost use Rattle.boc_types.specs.Answers.{IsValuesAnswer};
 ghost use Rattle.boc.specs.Commands.{AnswersInput, Leaves, CountsSource, CountsSink, IsOfInput, Refuses};
 
 use crate::fault::Fault;
-use crate::stream::{Sink, Source};
 use crate::values_text::values_text;
-use crate::whole::{put_out, read_all};
 use boc_eval::serial_values;
 use boc_reader::read_program;
+use boc_text::{Sink, Source, put_out, read_all};
 use std::alloc::Global;
 
 /// The most that is taken of a program text: one byte more than it may have.

@@ -4,7 +4,7 @@ ghost use Rattle.std.specs.Prelude.{◌≡◌, ◌++◌, [], ◌+◌, ◌^◌, �
 ghost use Rattle.boc_types.specs.Programs.{cown_count, size_of};
 ghost use Rattle.boc_types.specs.Texts.{values_text as values_text_spec, value_line, member_lines, cown_lines};
 
-use crate::decimal::{put_number, put_signed};
+use boc_text::{put_number, put_signed};
 use boc_types::cown::Cown;
 use std::alloc::{AllocError, Global};
 

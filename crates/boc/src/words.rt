@@ -12,6 +12,10 @@ use std::alloc::{AllocError, Global};
 pub enum Command {
     /// The values after the serial run of a program.
     Values,
+    /// Whether the input is the text of a record, and of how many rows.
+    Check,
+    /// The report on the rows of a record.
+    Profile,
     /// The parser's own text, for standard output.
     Help(String),
 }
@@ -47,24 +51,29 @@ fn parser<'a>(alloc: Global) -> Result<clap::Command<'a>, AllocError> {
     let values = clap::Command::new(alloc, "values").about(
         "Reads a program, runs it serially, and prints the values of its cowns",
     );
+    let check = clap::Command::new(alloc, "check").about(
+        "Reads the record of a run, checks that it keeps the rules, and prints how many rows it has",
+    );
+    let profile = clap::Command::new(alloc, "profile").about(
+        "Reads the record of a run, and prints its work, its span, its costliest chain and its earliest plan",
+    );
     clap::Command::new(alloc, "boc")
         .about("Runs and profiles programs under behaviour-oriented concurrency")
         .subcommand_required(true)
         .arg_required_else_help(true)
-        .subcommand(values)
+        .subcommand(values)?
+        .subcommand(check)?
+        .subcommand(profile)
 }
 
 /// The command that the parser finds in the words.
 fn parsed(alloc: Global, words: &[String]) -> Result<Command, clap::Error> {
     let mut parser = parser(alloc)?;
-    let name = parser
-        .try_get_matches_from_mut(words)?
-        .subcommand_name()
-        .is_some_and(|name| name == "values");
-    if name {
-        Ok(Command::Values)
-    } else {
-        Err(parser.error(ErrorKind::MissingSubcommand, "no command is named")?)
+    match parser.try_get_matches_from_mut(words)?.subcommand_name() {
+        Some("values") => Ok(Command::Values),
+        Some("check") => Ok(Command::Check),
+        Some("profile") => Ok(Command::Profile),
+        _ => Err(parser.error(ErrorKind::MissingSubcommand, "no command is named")?),
     }
 }
 

@@ -6,3 +6,4 @@ pub mod Fitting
 pub mod SerialRows
 pub mod Queued
 pub mod Transfer
+pub mod Children

@@ -12,6 +12,15 @@ use Rattle.boc_types.specs.Syntax as resolved
 use Rattle.boc_types.specs.Spells.{plain_program}
 use Rattle.boc_types.specs.Serial.{after_turns, rows}
 use Rattle.boc_types.specs.Texts.{values_text}
+use Rattle.boc_types.specs.declared.body.EndStatus.TheVariants.{Done}
+use Rattle.boc_types.specs.declared.event.Event.{Event}
+use Rattle.boc_types.specs.declared.event.Event.TheVariants.{Spawn, Start, End}
+use Rattle.boc_types.specs.Legal.{Entry, Life, Ended, entries}
+use Rattle.boc_types.specs.Records.{record_text}
+use Rattle.boc_types.specs.Run.{Member, config_of}
+use Rattle.std.specs.Prelude.{map}
+use Rattle.std.specs.Fmt.{digits}
+use Rattle.arrayvec.specs.ArrayVec.{ArrayVec}
 
 abbrev text : List ℕ
 text = codes "cown a = 10; cown b = 0; # two accounts\ndef add(k; x) { x = x + k; }\ndef move(k; x, y) { x = x - k; y = y + k; }\nmain { when add(5; a); when move(3; a, b); when add(1; b); }\n"
@@ -119,3 +128,36 @@ values = refl
 
 pub lines : values_text cowns (pos 12 ∷ pos 4 ∷ []) ≡ (codes "a " ++ decimal 12 ++ codes "\n") ++ ((codes "b " ++ decimal 4 ++ codes "\n") ++ [])
 lines = refl
+
+-- a spawn of a row
+abbrev spawned : ℕ → ℕ → ℕ → List ℕ → Event
+spawned row parent offset cowns = Spawn row parent offset (record { items = cowns })
+
+-- the run by one worker
+abbrev log : List Event
+log = spawned 0 0 0 [] ∷ Start 0 ∷ spawned 1 0 2 (0 ∷ []) ∷ spawned 2 0 3 (0 ∷ 1 ∷ []) ∷ spawned 3 0 4 (1 ∷ []) ∷ End 0 4 Done
+    ∷ Start 1 ∷ End 1 2 Done ∷ Start 2 ∷ End 2 3 Done ∷ Start 3 ∷ End 3 2 Done ∷ []
+
+abbrev ended : ℕ → ℕ → List ℕ → ℕ → ℕ → Entry
+ended parent offset cowns last ticks = record {
+  parent = parent;
+  offset = offset;
+  cowns = cowns;
+  life = Ended;
+  last = last;
+  ticks = ticks;
+  status = Done;
+}
+
+pub rows_of_log : entries log ≡ ended 0 0 [] 4 4 ∷ ended 0 2 (0 ∷ []) 0 2 ∷ ended 0 3 (0 ∷ 1 ∷ []) 0 3 ∷ ended 0 4 (1 ∷ []) 0 2 ∷ []
+rows_of_log = refl
+
+pub text_of_log : record_text 2 log ≡ codes "boc 1 2\n+ 0 0 0\n> 0\n+ 1 0 2 0\n+ 2 0 3 0 1\n+ 3 0 4 1\n< 0 4 0\n> 1\n< 1 2 0\n> 2\n< 2 3 0\n> 3\n< 3 2 0\n.\n"
+unfolding digits
+text_of_log = refl
+
+pub values_of_log : (config_of program log).values ≡ pos 12 ∷ pos 4 ∷ []
+values_of_log = refl
+
+pub lives_of_log : map (λ (m : Member). m.life) (config_of program log).members ≡ Ended ∷ Ended ∷ Ended ∷ Ended ∷ []
+lives_of_log = refl

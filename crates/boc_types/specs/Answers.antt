@@ -1,9 +1,14 @@
 -- What the commands answer to the bytes that come in.
-use Rattle.std.specs.Prelude.{◌≡◌, ℕ, ℤ, List}
+use Rattle.std.specs.Prelude.{◌≡◌, ℕ, ℤ, List, length}
 use Rattle.boc_types.specs.declared.program.Program.{Program}
 use Rattle.boc_types.specs.Spells.{Spells}
+use Rattle.boc_types.specs.declared.rows.Row.{Row}
+use Rattle.boc_types.specs.declared.chain.Step.{Step}
+use Rattle.boc_types.specs.Plans.{IsEarliest, IsEnd, HasEnds, work_of}
+use Rattle.boc_types.specs.Chains.{IsPicked}
 use Rattle.boc_types.specs.Turns.{EndsWith}
-use Rattle.boc_types.specs.Texts.{values_text}
+use Rattle.boc_types.specs.Texts.{values_text, check_text, report_text}
+use Rattle.boc_types.specs.Records.{Recorded, IsRecord, record_text}
 
 -- the output is the text of the values at the end of the own order of a program that the input spells
 pub record IsValuesAnswer (input output : List ℕ) : Type 0 where
@@ -12,3 +17,29 @@ pub record IsValuesAnswer (input output : List ℕ) : Type 0 where
   pub values : List ℤ
   pub ends : EndsWith program values
   pub text : output ≡ values_text program.cowns values
+
+-- the input is the text of a record, and the output tells how many rows it has
+pub record IsCheckAnswer (input output : List ℕ) : Type 0 where
+  pub recorded : Recorded
+  pub kept : IsRecord recorded
+  pub spells : input ≡ record_text recorded.cowns recorded.events
+  pub text : output ≡ check_text (length recorded.rows)
+
+-- the text of the report on some rows: their work, the span, the chain that is picked, and the earliest plan
+pub record IsReport (rows : List Row) (output : List ℕ) : Type 0 where
+  pub starts : List ℕ
+  pub earliest : IsEarliest rows starts
+  pub ends : List ℕ
+  pub ends_are : HasEnds rows starts ends
+  pub span : ℕ
+  pub span_is : IsEnd rows starts span
+  pub steps : List Step
+  pub picked : IsPicked rows starts steps
+  pub text : output ≡ report_text (work_of rows) span steps starts ends
+
+-- the input is the text of a record, and the output is the report on its rows
+pub record IsProfileAnswer (input output : List ℕ) : Type 0 where
+  pub recorded : Recorded
+  pub kept : IsRecord recorded
+  pub spells : input ≡ record_text recorded.cowns recorded.events
+  pub report : IsReport recorded.rows output

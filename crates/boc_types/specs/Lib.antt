@@ -21,4 +21,10 @@ pub mod Shape
 pub mod Names
 pub mod Spells
 pub mod Texts
+pub mod Rows
+pub mod Plans
+pub mod Chains
+pub mod Legal
+pub mod Records
+pub mod Run
 pub mod Answers

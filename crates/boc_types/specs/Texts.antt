@@ -1,5 +1,8 @@
 -- The texts that the program writes.
-use Rattle.std.specs.Prelude.{ℕ, suc, List, [], ◌∷◌, ◌++◌, Option, Some, None, take, drop, ℤ, codes, decimal}
+use Rattle.std.specs.Prelude.{ℕ, suc, List, [], ◌∷◌, ◌++◌, Option, Some, None, take, drop, length, ℤ, codes, decimal}
+use Rattle.boc_types.specs.declared.chain.Step.{Step}
+use Rattle.boc_types.specs.declared.chain.Via.{Via}
+use Rattle.boc_types.specs.declared.chain.Via.TheVariants.{Spawn, Order, Last}
 use Rattle.std.specs.Fmt.{signed_decimal}
 use Rattle.boc_types.specs.declared.cown.Cown.{Cown}
 use Rattle.boc_types.specs.Sizes.{size_of}
@@ -27,3 +30,45 @@ cown_lines name (Some n) vs = member_lines name 0 vs
 abbrev pub values_text : List Cown → List ℤ → List ℕ
 values_text [] vs = []
 values_text (c ∷ cs) vs = cown_lines c.name c.size (take (size_of c.size) vs) ++ values_text cs (drop (size_of c.size) vs)
+
+-- how many rows a record has
+abbrev pub check_text : ℕ → List ℕ
+check_text rows = codes "ok " ++ decimal rows ++ codes "\n"
+
+-- what stands between the row and the weight of a step: the link to the next one
+abbrev pub via_word : Via → List ℕ
+via_word Spawn = codes " spawn "
+via_word Order = codes " order "
+via_word Last = codes " end "
+
+-- the line of a step of a chain
+abbrev pub step_line : Step → List ℕ
+step_line s = decimal s.row ++ via_word s.via ++ decimal s.weight ++ codes "\n"
+
+-- the lines of a chain's steps
+abbrev pub step_lines : List Step → List ℕ
+step_lines [] = []
+step_lines (s ∷ steps) = step_line s ++ step_lines steps
+
+-- the line of a row in a plan: its number, its start and its end
+abbrev pub plan_line : ℕ → ℕ → ℕ → List ℕ
+plan_line r start end = decimal r ++ codes " " ++ decimal start ++ codes " " ++ decimal end ++ codes "\n"
+
+-- the lines of the rows of a plan from row r on
+abbrev pub plan_lines : ℕ → List ℕ → List ℕ → List ℕ
+plan_lines r [] ends = []
+plan_lines r (start ∷ starts) [] = []
+plan_lines r (start ∷ starts) (end ∷ ends) = plan_line r start end ++ plan_lines (suc r) starts ends
+
+-- a line of a word and a number
+abbrev pub number_line : List ℕ → ℕ → List ℕ
+number_line word n = word ++ decimal n ++ codes "\n"
+
+-- the numbers at the head of a report: how many rows, their work, and the span
+abbrev pub report_head : ℕ → ℕ → ℕ → List ℕ
+report_head rows work span = number_line (codes "rows ") rows ++ number_line (codes "work ") work ++ number_line (codes "span ") span
+
+-- a report: the numbers, the chain, and the plan
+abbrev pub report_text : ℕ → ℕ → List Step → List ℕ → List ℕ → List ℕ
+report_text work span steps starts ends =
+    report_head (length starts) work span ++ codes "chain\n" ++ step_lines steps ++ codes "plan\n" ++ plan_lines 0 starts ends

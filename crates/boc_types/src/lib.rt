@@ -7,14 +7,20 @@
 
 pub mod body;
 mod calls;
+pub mod chain;
 mod check;
 pub mod cown;
 mod equality;
+pub mod event;
 pub mod laws;
 pub mod level;
 pub mod lists;
 pub mod program;
+pub mod record;
+pub mod row_test;
+pub mod rows;
 mod same;
 pub mod short;
 pub mod text;
 pub mod token;
+pub mod verdict;

@@ -1,0 +1,4 @@
+pub mod Remembering
+pub mod Placing
+pub mod Chaining
+pub mod Checking

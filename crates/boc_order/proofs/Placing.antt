@@ -1,0 +1,298 @@
+-- One more row gets its place.
+use Rattle.std.proofs.Common.{◌≡◌, ℕ, ◌+◌, ◌*◌, ◌<◌, ◌≤◌, ◌⊎◌, Bool, true, false, List, [], ◌∷◌, ◌++◌, length, replicate, Option, Some, None, get_or, refl, sym, ap, subst, inl, inr, arith}
+use Rattle.std.specs.Prelude.{slice_index, slice_index_or, nat_lt, MatchOption}
+use Rattle.std.specs.List.{Contains, All}
+use Rattle.std.proofs.lemmas.Bool.{cases_lt, cases_eq}
+use Rattle.std.proofs.lemmas.List.{get_or_append_left, get_or_push, length_push, length-replicate, get_or-replicate}
+use Rattle.boc_types.specs.declared.rows.Row.{Row}
+use Rattle.boc_types.specs.Rows.{IsRows, parent_of, offset_of, ticks_of, cowns_of}
+use Rattle.boc_types.proofs.Children.{IsRow, row_read}
+use Rattle.boc_types.specs.Plans.{start_of, end_of, Ordered}
+use Rattle.boc_types.specs.Chains.{IsSpawnTight, IsOrderTight}
+use Rattle.boc_order.specs.declared.latest.Latest.{Latest}
+use Rattle.boc_order.specs.Latest.{latest_among, noted, IsLatestOf}
+use Rattle.boc_order.specs.Placed.{placement, Placed, ArePlaced}
+use Rattle.boc_order.proofs.Remembering.{IsLatest-same, among_latest, noted_latest, length-noted, AtAny, NotedAt}
+
+-- the rows below n that need cown c
+pub record Had (rows : List Row) (n c r : ℕ) : Type 0 where
+  pub below : r < n
+  pub needs : Contains (cowns_of rows r) c
+
+-- the memory after n rows
+pub record Remembers (rows : List Row) (ends : List ℕ) (memory : List (Option Latest)) (n : ℕ) : Type 0 where
+  pub there : length memory ≡ 256
+  pub at : (c : ℕ) → c < 256 → IsLatestOf (Had rows n c) (slice_index ends) (slice_index_or memory c None)
+
+-- no cown is in use before the first row
+pub remembers_none : (rows : List Row) (ends : List ℕ) → Remembers rows ends (replicate 256 None) 0
+remembers_none rows ends = record {
+  there = length-replicate 256 (let o : Option Latest = None in o);
+  at = λ c k. (let o : Option Latest = None in rw (get_or-replicate 256 c o o k) (λ a m. omega (arith, m.below)));
+}
+
+-- among the rows before n that are ordered before it, the latest
+pub ordered_latest : (rows : List Row) (ends : List ℕ) (memory : List (Option Latest)) (n : ℕ) →
+    All (λ c. c < 256) (cowns_of rows n) → Remembers rows ends memory n →
+    IsLatestOf (λ a. Ordered rows a n) (slice_index ends) (latest_among memory None (cowns_of rows n))
+ordered_latest rows ends memory n small p =
+    IsLatest-same (λ r. ⊥ ⊎ AtAny (Had rows n) (cowns_of rows n) r) (λ a. Ordered rows a n) (slice_index ends) (slice_index ends) _
+    (λ r m. elim m [ inl m ↦ absurd m | inr m ↦ record { before = m.2.below; shared = (m.0, m.2.needs, m.1) } ])
+    (λ r m. inr (m.shared.0, m.shared.2, record { below = m.before; needs = m.shared.1 }))
+    (λ r m. refl)
+    (among_latest (Had rows n) (λ r. ⊥) (slice_index ends) memory None (cowns_of rows n) small p.at (λ a m. m))
+
+-- what the placement of row n says, ends being those of the rows before it
+pub record Waits (rows : List Row) (ends : List ℕ) (n spawned at : ℕ) (waits_for : Option ℕ) : Type 0 where
+  pub spawned_then : spawned ≤ at
+  pub in_order : (a : ℕ) → Ordered rows a n → slice_index ends a ≤ at
+  pub tight : MatchOption waits_for (at ≡ spawned)
+      (λ a. (spawned < at) × Ordered rows a n × (slice_index ends a ≡ at) × ((o : ℕ) → Ordered rows o n → slice_index ends o ≡ at → a ≤ o))
+
+pub placement_waits : (rows : List Row) (ends : List ℕ) (n spawned : ℕ) (best : Option Latest) →
+    IsLatestOf (λ a. Ordered rows a n) (slice_index ends) best →
+    Waits rows ends n spawned (placement spawned best).0 (placement spawned best).1
+placement_waits rows ends n spawned None p = record {
+  spawned_then = omega arith;
+  in_order = λ a m. absurd (p a m);
+  tight = refl;
+}
+placement_waits rows ends n spawned (Some last) p = go (nat_lt spawned last.end) refl
+  where
+    go : (b : Bool) → nat_lt spawned last.end ≡ b →
+        Waits rows ends n spawned (placement spawned (Some last)).0 (placement spawned (Some last)).1
+    go true e = rw e (let h : spawned < last.end = grind (arith) in record {
+      spawned_then = omega arith;
+      in_order = p.latest;
+      tight = (h, p.member, p.ends_then, p.least);
+    })
+    go false e = rw e (let h : last.end ≤ spawned = grind (arith) in record {
+      spawned_then = omega arith;
+      in_order = λ a m. omega (arith, p.latest a m);
+      tight = refl;
+    })
+
+-- the same values below n
+abbrev pub Agrees : List ℕ → List ℕ → ℕ → Type 0
+Agrees xs ys n = (r : ℕ) → r < n → slice_index ys r ≡ slice_index xs r
+
+pub Agrees-push : (xs : List ℕ) (x n : ℕ) → length xs ≡ n → Agrees xs (xs ++ x ∷ []) n
+Agrees-push xs x n l r h = get_or_append_left xs (x ∷ []) 0 r (omega arith)
+
+module _ (rows : List Row) (hr : IsRows rows) (starts starts' : List ℕ) (n : ℕ) (agree : Agrees starts starts' n) where
+  spawn_tight : (b : ℕ) → b < n → IsSpawnTight rows starts b → IsSpawnTight rows starts' b
+  spawn_tight b h (a, child, e) =
+      let before : a < b = omega (arith, hr.parent_before b child.not_main child.there, child.parent) in
+      (a, child, omega (arith, agree a (omega arith), agree b h))
+
+  order_tight : (a b : ℕ) → b < n → IsOrderTight rows starts a b → IsOrderTight rows starts' a b
+  order_tight a b h (o, e) = (o, omega (arith, agree a (omega (arith, o.before)), agree b h))
+
+-- a placed row stays placed
+module _ (rows : List Row) (hr : IsRows rows) (starts starts' ends ends' : List ℕ) (n : ℕ)
+    (agree : Agrees starts starts' n) (agree_ends : Agrees ends ends' n) where
+  back : Agrees starts' starts n
+  back r h = sym (agree r h)
+
+  still_tight : (w : Option ℕ) (b : ℕ) → b < n →
+      MatchOption w (IsSpawnTight rows starts b)
+      (λ a. (IsSpawnTight rows starts b → ⊥) × IsOrderTight rows starts a b × ((other : ℕ) → IsOrderTight rows starts other b → a ≤ other)) →
+      MatchOption w (IsSpawnTight rows starts' b)
+      (λ a. (IsSpawnTight rows starts' b → ⊥) × IsOrderTight rows starts' a b × ((other : ℕ) → IsOrderTight rows starts' other b → a ≤ other))
+  still_tight None b h p = spawn_tight rows hr starts starts' n agree b h p
+  still_tight (Some a) b h p = (
+    λ t. p.0 (spawn_tight rows hr starts' starts n back b h t),
+    order_tight rows hr starts starts' n agree a b h p.1,
+    λ o t. p.2 o (order_tight rows hr starts' starts n back o b h t),
+  )
+
+  pub still_placed : (w : Option ℕ) (b : ℕ) → b < n → Placed rows starts ends w b → Placed rows starts' ends' w b
+  still_placed w b h p = record {
+    main = λ e. omega (arith, p.main e, agree b h);
+    ends_then = omega (arith, p.ends_then, agree b h, agree_ends b h);
+    low = omega (arith, p.low, agree_ends b h);
+    spawned = λ a child.
+        (let before : a < n = omega (arith, hr.parent_before b child.not_main child.there, child.parent) in
+        omega (arith, p.spawned a child, agree a before, agree b h));
+    in_order = λ a o.
+        (let before : a < n = omega (arith, o.before) in
+        omega (arith, p.in_order a o, agree a before, agree b h));
+    tight = λ k. still_tight w b h (p.tight k);
+  }
+
+-- the next row
+module _ (rows : List Row) (hr : IsRows rows) (starts ends : List ℕ) (after : List (Option ℕ)) (n : ℕ) (there : n < length rows)
+    (done : ArePlaced rows starts ends after n) (spawned at : ℕ) (waits_for : Option ℕ) where
+  -- the tick at which row n is spawned
+  pub record Spawned : Type 0 where
+    pub main : n ≡ 0 → spawned ≡ 0
+    pub child : 0 < n → spawned ≡ start_of starts (parent_of rows n) + offset_of rows n
+
+  module _ (sp : Spawned) (w : Waits rows ends n spawned at waits_for) where
+    agree : Agrees starts (starts ++ at ∷ []) n
+    agree = Agrees-push starts at n done.starts_len
+
+    agree_ends : Agrees ends (ends ++ (at + ticks_of rows n) ∷ []) n
+    agree_ends = Agrees-push ends (at + ticks_of rows n) n done.ends_len
+
+    here : slice_index (starts ++ at ∷ []) n ≡ at
+    here = get_or_push starts at 0 n done.starts_len
+
+    here_ends : slice_index (ends ++ (at + ticks_of rows n) ∷ []) n ≡ at + ticks_of rows n
+    here_ends = get_or_push ends (at + ticks_of rows n) 0 n done.ends_len
+
+    pub spawned_low : spawned ≤ n * 1000000
+    spawned_low = elim (cases_eq n 0) [
+      | inl e ↦ omega (arith, sp.main e)
+      | inr ne ↦ (
+          let above : 0 < n = omega arith in
+          let before : parent_of rows n < n = hr.parent_before n above there in
+          let p = done.placed (parent_of rows n) before in
+          omega (arith, sp.child above, p.low, p.ends_then, hr.ticks_cover n above there))
+    ]
+
+    at_low_by : (o : Option ℕ) → MatchOption o (at ≡ spawned)
+        (λ a. (spawned < at) × Ordered rows a n × (slice_index ends a ≡ at) × ((o : ℕ) → Ordered rows o n → slice_index ends o ≡ at → a ≤ o)) → at ≤ n * 1000000
+    at_low_by None t = omega (arith, t, spawned_low)
+    at_low_by (Some a) t =
+        let before : a < n = t.1.before in
+        omega (arith, (done.placed a before).low, t.2)
+
+    pub at_low : at ≤ n * 1000000
+    at_low = at_low_by waits_for w.tight
+
+    end_same : (a : ℕ) → a < n → end_of rows (starts ++ at ∷ []) a ≡ slice_index ends a
+    end_same a h = omega (arith, agree a h, (done.placed a h).ends_then)
+
+    tight_by : (o : Option ℕ) → 0 < n → MatchOption o (at ≡ spawned)
+        (λ a. (spawned < at) × Ordered rows a n × (slice_index ends a ≡ at) × ((o : ℕ) → Ordered rows o n → slice_index ends o ≡ at → a ≤ o)) →
+        MatchOption o (IsSpawnTight rows (starts ++ at ∷ []) n)
+        (λ a. (IsSpawnTight rows (starts ++ at ∷ []) n → ⊥) × IsOrderTight rows (starts ++ at ∷ []) a n ×
+        ((other : ℕ) → IsOrderTight rows (starts ++ at ∷ []) other n → a ≤ other))
+    tight_by None above t =
+        let before : parent_of rows n < n = hr.parent_before n above there in (
+          parent_of rows n,
+          record { not_main = above; there = there; parent = refl },
+          omega (arith, agree (parent_of rows n) before, here, sp.child above, t),
+        )
+    tight_by (Some a) above t =
+        let before : parent_of rows n < n = hr.parent_before n above there in (
+          λ s. (
+              let same : slice_index (starts ++ at ∷ []) s.0 ≡ slice_index starts s.0 = agree s.0 (omega (arith, s.1.parent)) in
+              let at_parent : slice_index starts s.0 ≡ slice_index starts (parent_of rows n) = ap (slice_index starts) (sym s.1.parent) in
+              omega (arith, s.2, here, sp.child above, t.0)),
+          (t.1, omega (arith, end_same a t.1.before, here, t.2)),
+          λ other h. t.3 other h.0 (omega (arith, end_same other h.0.before, here, h.1)),
+        )
+
+    pub next_placed : Placed rows (starts ++ at ∷ []) (ends ++ (at + ticks_of rows n) ∷ []) waits_for n
+    next_placed = record {
+      main = λ e. omega (arith, here, at_low);
+      ends_then = omega (arith, here, here_ends);
+      low = omega (arith, here_ends, at_low, hr.ticks_high n there);
+      spawned = λ a child.
+          (let above : 0 < n = child.not_main in
+          let before : parent_of rows n < n = hr.parent_before n above there in
+          let same : slice_index (starts ++ at ∷ []) a ≡ slice_index starts a = agree a (omega (arith, child.parent)) in
+          let at_parent : slice_index starts a ≡ slice_index starts (parent_of rows n) = ap (slice_index starts) (sym child.parent) in
+          omega (arith, here, sp.child above, w.spawned_then));
+      in_order = λ a o. omega (arith, here, end_same a o.before, w.in_order a o);
+      tight = λ k. tight_by waits_for k w.tight;
+    }
+
+    placed_by : (b : ℕ) → (b < n) ⊎ (b ≡ n) →
+        Placed rows (starts ++ at ∷ []) (ends ++ (at + ticks_of rows n) ∷ []) (slice_index_or (after ++ waits_for ∷ []) b None) b
+    placed_by b (inl h) =
+        let same : slice_index_or (after ++ waits_for ∷ []) b None ≡ slice_index_or after b None =
+        get_or_append_left after (waits_for ∷ []) None b (omega (arith, done.after_len)) in
+        rw same (still_placed rows hr starts (starts ++ at ∷ []) ends (ends ++ (at + ticks_of rows n) ∷ []) n agree agree_ends
+        (slice_index_or after b None) b h (done.placed b h))
+    placed_by b (inr e) =
+        subst (λ (x : ℕ). Placed rows (starts ++ at ∷ []) (ends ++ (at + ticks_of rows n) ∷ []) (slice_index_or (after ++ waits_for ∷ []) x None) x) (sym e)
+        (let same : slice_index_or (after ++ waits_for ∷ []) n None ≡ waits_for = get_or_push after waits_for None n done.after_len in
+        rw same next_placed)
+
+    pub more_placed : ArePlaced rows (starts ++ at ∷ []) (ends ++ (at + ticks_of rows n) ∷ []) (after ++ waits_for ∷ []) (n + 1)
+    more_placed = record {
+      starts_len = omega (arith, length_push starts at, done.starts_len);
+      ends_len = omega (arith, length_push ends (at + ticks_of rows n), done.ends_len);
+      after_len = omega (arith, length_push after waits_for, done.after_len);
+      placed = λ b h. placed_by b (elim (cases_lt b n) [ inl l ↦ inl l | inr g ↦ inr (omega arith) ]);
+    }
+
+    -- the memory, once row n was noted at its cowns
+    pub remembers_more : (memory : List (Option Latest)) → All (λ c. c < 256) (cowns_of rows n) → Remembers rows ends memory n →
+        (c : ℕ) → c < 256 → IsLatestOf (Had rows (n + 1) c) (slice_index (ends ++ (at + ticks_of rows n) ∷ []))
+        (slice_index_or (noted (record { end = at + ticks_of rows n; row = n }) memory (cowns_of rows n)) c None)
+    remembers_more memory small p c h =
+        IsLatest-same (NotedAt (Had rows n) (cowns_of rows n) n c) (Had rows (n + 1) c) e' e' _
+        (λ r m. elim m [
+          | inl m ↦ record { below = omega (arith, m.below); needs = m.needs }
+          | inr m ↦ record { below = omega (arith, m.1); needs = subst (λ (x : ℕ). Contains (cowns_of rows x) c) (sym m.1) m.0 }
+        ])
+        (λ r m. elim (cases_lt r n) [
+          | inl l ↦ inl (record { below = l; needs = m.needs })
+          | inr g ↦ (let same : r ≡ n = omega (arith, m.below) in inr (subst (λ (x : ℕ). Contains (cowns_of rows x) c) same m.needs, same))
+        ])
+        (λ r m. refl)
+        (noted_latest (Had rows n) e' (record { end = at + ticks_of rows n; row = n }) memory (cowns_of rows n) small here_ends p.there
+        (λ d k. IsLatest-same (Had rows n d) (Had rows n d) (slice_index ends) e' _ (λ r m. m) (λ r m. m) (λ r m. agree_ends r m.below) (p.at d k))
+        c h)
+      where
+        e' : ℕ → ℕ
+        e' = slice_index (ends ++ (at + ticks_of rows n) ∷ [])
+
+-- all of it, for a row that was read and its place
+module _ (rows : List Row) (hr : IsRows rows) (starts ends : List ℕ) (after : List (Option ℕ)) (memory : List (Option Latest)) (n : ℕ)
+    (done : ArePlaced rows starts ends after n) (remembers : Remembers rows ends memory n)
+    (there : n < length rows) (x : Row) (is_row : x ≡ get_or rows n x) where
+  is : IsRow rows n x
+  is = row_read rows n x there is_row
+
+  pub read_small : All (λ c. c < 256) x.cowns.items
+  read_small = rw is.cowns at (hr.cowns_below n there)
+
+  pub read_parent : 0 < n → x.parent < n
+  read_parent h = omega (arith, hr.parent_before n h there, is.parent)
+
+  pub read_spawned_low : 0 < n → slice_index starts x.parent + x.offset ≤ n * 1000000
+  read_spawned_low h =
+      let before : parent_of rows n < n = hr.parent_before n h there in
+      let p = done.placed (parent_of rows n) before in
+      let l : slice_index starts (parent_of rows n) + offset_of rows n ≤ n * 1000000 =
+      omega (arith, p.low, p.ends_then, hr.ticks_cover n h there) in
+      rw (is.parent, is.offset) at l
+
+  module _ (spawned : ℕ) (main : n ≡ 0 → spawned ≡ 0) (child : 0 < n → spawned ≡ slice_index starts x.parent + x.offset)
+      (place : ℕ × Option ℕ) (placed : place ≡ placement spawned (latest_among memory None x.cowns.items)) where
+    sp : Spawned rows hr starts ends after n there done spawned place.0 place.1
+    sp = record { main = main; child = λ h. rw (is.parent, is.offset) (child h) }
+
+    waits : Waits rows ends n spawned place.0 place.1
+    waits = rw placed (rw (← is.cowns) (placement_waits rows ends n spawned (latest_among memory None (cowns_of rows n))
+        (ordered_latest rows ends memory n (hr.cowns_below n there) remembers)))
+
+    pub read_low : place.0 ≤ n * 1000000
+    read_low = at_low rows hr starts ends after n there done spawned place.0 place.1 sp waits
+
+    pub read_placed : ArePlaced rows (starts ++ place.0 ∷ []) (ends ++ (place.0 + x.ticks) ∷ []) (after ++ place.1 ∷ []) (n + 1)
+    read_placed = rw (← is.ticks) (more_placed rows hr starts ends after n there done spawned place.0 place.1 sp waits)
+
+    pub read_remembers : Remembers rows (ends ++ (place.0 + x.ticks) ∷ []) (noted (record { end = place.0 + x.ticks; row = n }) memory x.cowns.items) (n + 1)
+    read_remembers = rw (← is.ticks, ← is.cowns) (record {
+      there = omega (arith, length-noted (record { end = place.0 + ticks_of rows n; row = n }) memory (cowns_of rows n), remembers.there);
+      at = remembers_more rows hr starts ends after n there done spawned place.0 place.1 sp waits memory (hr.cowns_below n there) remembers;
+    })
+
+-- before the first row
+pub placed_none : (rows : List Row) (starts ends : List ℕ) (after : List (Option ℕ)) → starts ≡ [] → ends ≡ [] → after ≡ [] → ArePlaced rows starts ends after 0
+placed_none rows starts ends after p q r = rw (p, q, r) (record {
+  starts_len = refl;
+  ends_len = refl;
+  after_len = refl;
+  placed = λ b h. absurd (omega (arith, h));
+})
+
+pub place_is : (place : ℕ × Option ℕ) (spawned : ℕ) (best : Option Latest) (memory : List (Option Latest)) (xs ys : List ℕ) →
+    place ≡ placement spawned best → best ≡ latest_among memory None xs → xs ≡ ys → place ≡ placement spawned (latest_among memory None ys)
+place_is place spawned best memory xs ys p q r = cc

@@ -1,0 +1,14 @@
+use Rattle.std.proofs.Common.{◌<◌, length, reverse}
+use Rattle.boc_types.specs.Plans.{end_of}
+use Rattle.boc_order.specs.Back.{LeadsTo}
+use Rattle.boc_order.proofs.back.chain_back.Given as goal
+
+-- the steps so far, the last one first, lead on from the row
+abbrev pub invariant-loop-row : goal.invariant-loop-row
+invariant-loop-row l = record {
+  there : l.row < length l.rows;
+  leads : LeadsTo l.rows l.plan.starts.items (end_of l.rows l.plan.starts.items l.last) l.row (reverse l.steps.items);
+}
+
+abbrev pub decreases-loop-row : goal.decreases-loop-row
+decreases-loop-row l = l.row

@@ -1,0 +1,69 @@
+// The profile of some rows.
+
+ghost use Rattle.std.specs.Prelude.{◌≡◌, ℕ, ◌<◌, ◌≤◌, length, IfOk, slice_index};
+ghost use Rattle.boc_types.specs.Rows.{IsRows};
+ghost use Rattle.boc_types.specs.Plans.{work_of, HasEnds, IsEnd, IsEarliest, NoneEndsBefore};
+ghost use Rattle.boc_types.specs.Chains.{IsPicked, weight_of};
+
+use crate::back::chain_back;
+use crate::plan::earliest_plan;
+use crate::report::Profile;
+use boc_types::rows::{Row, Rows};
+use std::alloc::{AllocError, Global};
+
+// The number of the row that ends last; of several, the least.
+fn last_row(ends: &[u64]) -> usize
+    requires { 0 < length ends.now }
+    ensures there { result < length ends.now }
+    ensures latest { (k : ℕ) → k < length ends.now → slice_index ends.now k ≤ slice_index ends.now result }
+    ensures first { (k : ℕ) → k < result → slice_index ends.now k < slice_index ends.now result }
+{
+    let mut last = 0;
+    for (number, end) in ends.iter().enumerate() {
+        if ends[last] < *end {
+            last = number;
+        }
+    }
+    last
+}
+
+// The ticks of all rows together.
+fn work(rows: &[Row]) -> u64
+    requires { IsRows rows.now }
+    ensures { result ≡ work_of rows.now }
+{
+    rows.iter().map(|row| u64::from(row.ticks)).sum()
+}
+
+/// The work of the rows, their earliest plan, and the costliest chain of rows.
+///
+/// A plan gives each row the tick at which it starts. It keeps if no row starts before its parent's start and
+/// its offset, nor before the end of a row with a smaller number that shares a cown with it. The earliest plan
+/// keeps and starts each row as early as any plan that keeps; the span is its end. The chain leads back from
+/// the row that ends last, of several the least, by the links that are tight in that plan: the spawn where that
+/// is tight, else the least row whose end the row waited for.
+///
+/// It takes memory that grows with the number of rows, and time that grows with that of rows and their cowns.
+/// `AllocError` says that memory was refused.
+pub fn profile(alloc: Global, rows: &Rows) -> Result<Profile, AllocError>
+    ensures work { IfOk result (λ p. p.work ≡ work_of rows.now) }
+    ensures earliest { IfOk result (λ p. IsEarliest rows.now p.starts.items) }
+    ensures ends { IfOk result (λ p. HasEnds rows.now p.starts.items p.ends.items) }
+    ensures span { IfOk result (λ p. IsEnd rows.now p.starts.items p.span) }
+    ensures picked { IfOk result (λ p. IsPicked rows.now p.starts.items p.chain.steps.items) }
+    ensures weight { IfOk result (λ p. weight_of p.chain.steps.items ≡ p.span) }
+    ensures no_sooner { IfOk result (λ p. NoneEndsBefore rows.now p.span) }
+{
+    let plan = earliest_plan(alloc, rows)?;
+    let list = rows.as_slice();
+    let last = last_row(&plan.ends);
+    let chain = chain_back(alloc, list, &plan, last as u32)?;
+    let span = plan.ends[last];
+    Ok(Profile {
+        work: work(list),
+        span,
+        starts: plan.starts,
+        ends: plan.ends,
+        chain,
+    })
+}

@@ -1,0 +1,15 @@
+//! The earliest plan of a record's rows, and the chain of rows that costs as many ticks as that plan.
+#![tactic(auto)]
+
+mod analysis;
+mod back;
+mod check;
+mod latest;
+mod plan;
+mod report;
+#[cfg(test)]
+mod tests;
+
+pub use analysis::profile;
+pub use check::check_chain;
+pub use report::Profile;

@@ -1,0 +1,99 @@
+// Why a record was not read or written.
+
+use boc_rules::RuleFault;
+use boc_text::Stopped;
+use boc_types::event::BrokenRule;
+use boc_types::verdict::RecordFaultKind;
+use std::alloc::{AllocError, AllocFailed};
+use thiserror::Error;
+
+/// Why a text was refused as a record: its first faulty line, counted from 1, and what is wrong with it.
+#[derive(Clone, Copy, PartialEq, Eq, Debug, Error)]
+#[error("line {line}: {}", kind_text(*.kind))]
+pub struct RecordFault {
+    pub line: u64,
+    pub kind: RecordFaultKind,
+}
+
+// The number and the name of a kind.
+fn kind_text(kind: RecordFaultKind) -> &'static str {
+    match kind {
+        RecordFaultKind::Header => "1 Header",
+        RecordFaultKind::Form => "2 Form",
+        RecordFaultKind::NumberNotNext => "3 NumberNotNext",
+        RecordFaultKind::ParentNotRunning => "4 ParentNotRunning",
+        RecordFaultKind::Offset => "5 Offset",
+        RecordFaultKind::Cowns => "6 Cowns",
+        RecordFaultKind::StartNotAllowed => "7 StartNotAllowed",
+        RecordFaultKind::EndNotAllowed => "8 EndNotAllowed",
+        RecordFaultKind::TooMany => "9 TooMany",
+        RecordFaultKind::Unended => "10 Unended",
+        RecordFaultKind::Truncated => "11 Truncated",
+        RecordFaultKind::After => "12 After",
+        RecordFaultKind::Memory => "13 Memory",
+        RecordFaultKind::Device => "14 Device",
+    }
+}
+
+/// Why a record was not written.
+#[derive(Clone, Copy, PartialEq, Eq, Debug, Error)]
+pub enum WriteFault {
+    /// Memory was refused, and nothing went out.
+    #[error("memory")]
+    Memory,
+    /// The sink failed, after the first `gone` bytes of the text.
+    #[error("device")]
+    Device { gone: usize },
+}
+
+impl From<AllocError> for WriteFault {
+    ghost use Rattle.std.specs.Prelude.{◌≡◌};
+    ghost use Rattle.boc_record.specs.declared.fault.WriteFault.TheVariants.{Memory};
+
+    ghost from_gives = { λ _ f. f ≡ Memory };
+
+    fn from(_error: AllocError) -> WriteFault {
+        WriteFault::Memory
+    }
+}
+
+impl<T: Drop> From<AllocFailed<T>> for WriteFault {
+    ghost use Rattle.std.specs.Prelude.{◌≡◌};
+    ghost use Rattle.boc_record.specs.declared.fault.WriteFault.TheVariants.{Memory};
+
+    ghost from_gives = { λ _ f. f ≡ Memory };
+
+    fn from(_error: AllocFailed<T>) -> WriteFault {
+        WriteFault::Memory
+    }
+}
+
+impl From<Stopped> for WriteFault {
+    ghost use Rattle.std.specs.Prelude.{◌≡◌};
+    ghost use Rattle.boc_record.specs.declared.fault.WriteFault.TheVariants.{Device};
+
+    ghost from_gives = { λ s f. f ≡ Device s.gone };
+
+    fn from(stopped: Stopped) -> WriteFault {
+        WriteFault::Device { gone: stopped.gone }
+    }
+}
+
+ghost use Rattle.std.specs.Prelude.{◌≡◌};
+ghost use Rattle.boc_record.specs.Reading.{kind_of_fault};
+
+/// What a line has wrong whose event is refused.
+pub fn kind_of(fault: RuleFault) -> RecordFaultKind
+    ensures { result ≡ kind_of_fault fault }
+{
+    match fault {
+        RuleFault::Broken(BrokenRule::NumberNotNext) => RecordFaultKind::NumberNotNext,
+        RuleFault::Broken(BrokenRule::ParentNotRunning) => RecordFaultKind::ParentNotRunning,
+        RuleFault::Broken(BrokenRule::Offset) => RecordFaultKind::Offset,
+        RuleFault::Broken(BrokenRule::Cowns) => RecordFaultKind::Cowns,
+        RuleFault::Broken(BrokenRule::StartNotAllowed) => RecordFaultKind::StartNotAllowed,
+        RuleFault::Broken(BrokenRule::EndNotAllowed) => RecordFaultKind::EndNotAllowed,
+        RuleFault::Broken(BrokenRule::TooMany) => RecordFaultKind::TooMany,
+        RuleFault::Memory => RecordFaultKind::Memory,
+    }
+}

@@ -1,0 +1,134 @@
+// From a text to its record.
+
+ghost use Rattle.std.specs.Prelude.{◌≡◌, ◌<◌, ◌+◌, ◌^◌, length, false, OnOk};
+ghost use Rattle.boc_text.specs.Lines.{to_come};
+ghost use Rattle.boc_types.specs.Legal.{IsLegal};
+ghost use Rattle.boc_record.specs.Reading.{Reads, CountsRead, CountsPart, ReadsItem, ReadsHeader, ReadsEnd, Finishes};
+
+use crate::fault::{RecordFault, kind_of};
+use crate::line::{cowns_of_header, event_of_line};
+use boc_rules::Rules;
+use boc_text::{Lines, Next, Source};
+use boc_types::event::Event;
+use boc_types::record::Record;
+use boc_types::verdict::RecordFaultKind;
+use std::alloc::Global;
+
+/// Reads a record, line by line, to the end of the source.
+///
+/// A text that is no record's is refused at its first faulty line. Lines have at most 80 bytes, without their
+/// line feed.
+pub fn read_record<S: Source>(alloc: Global, source: &mut S) -> Result<Record, RecordFault>
+    requires { S.failures source.old < u64.MAX }
+    ensures record_or_fault { Reads result (S.remaining source.old) (S.remaining source.new) }
+    ensures failures { CountsRead result (S.failures source.old) (S.failures source.new) }
+{
+    let mut lines = Lines::new();
+    let mut rules = match read_header(alloc, &mut lines, source) {
+        Ok(rules) => rules,
+        Err(kind) => return Err(RecordFault { line: 1, kind }),
+    };
+    loop {
+        let line = line_after(&rules);
+        match next_item(&mut lines, source) {
+            Ok(Some(event)) => {
+                if let Err(fault) = rules.apply(&event) {
+                    let kind = kind_of(fault);
+                    return Err(RecordFault { line, kind });
+                }
+            }
+            Ok(None) => return finish(rules, &mut lines, source),
+            Err(kind) => return Err(RecordFault { line, kind }),
+        }
+    }
+}
+
+/// The number of the line that follows the first one and those of the events so far.
+fn line_after(rules: &Rules) -> u64
+    ensures value { result ≡ length rules.now.events + 2 }
+    ensures few { length rules.now.events < 2 ^ 63 }
+    ensures legal { IsLegal rules.now.cowns rules.now.events }
+{
+    rules.events().len() as u64 + 2
+}
+
+/// Reads the first line, and gives the rules over its cowns.
+fn read_header<S: Source>(
+    alloc: Global,
+    lines: &mut Lines,
+    source: &mut S,
+) -> Result<Rules, RecordFaultKind>
+    requires failures { S.failures source.old < u64.MAX }
+    requires open { lines.old.is_over ≡ false }
+    ensures header { ReadsHeader result (to_come lines.old (S.remaining source.old)) (to_come lines.new (S.remaining source.new)) }
+    ensures open { OnOk result (lines.new.is_over ≡ false) }
+    ensures failures { CountsPart result (S.failures source.old) (S.failures source.new) }
+{
+    match lines.next_line(source) {
+        Next::Line(line) => match cowns_of_header(&line) {
+            Some(cowns) => match Rules::new(alloc, cowns) {
+                Ok(rules) => Ok(rules),
+                Err(_) => Err(RecordFaultKind::Memory),
+            },
+            None => Err(RecordFaultKind::Header),
+        },
+        Next::TooLong => Err(RecordFaultKind::Header),
+        Next::End | Next::Cut => Err(RecordFaultKind::Truncated),
+        Next::Device => Err(RecordFaultKind::Device),
+    }
+}
+
+/// Reads the next line: an event, or `None` for the last line.
+fn next_item<S: Source>(lines: &mut Lines, source: &mut S) -> Result<Option<Event>, RecordFaultKind>
+    requires failures { S.failures source.old < u64.MAX }
+    requires open { lines.old.is_over ≡ false }
+    ensures item { ReadsItem result (to_come lines.old (S.remaining source.old)) (to_come lines.new (S.remaining source.new)) }
+    ensures open { OnOk result (lines.new.is_over ≡ false) }
+    ensures failures { CountsPart result (S.failures source.old) (S.failures source.new) }
+{
+    match lines.next_line(source) {
+        Next::Line(line) if line.as_slice() == b".".as_slice() => Ok(None),
+        Next::Line(line) => match event_of_line(&line) {
+            Some(event) => Ok(Some(event)),
+            None => Err(RecordFaultKind::Form),
+        },
+        Next::TooLong => Err(RecordFaultKind::Form),
+        Next::End | Next::Cut => Err(RecordFaultKind::Truncated),
+        Next::Device => Err(RecordFaultKind::Device),
+    }
+}
+
+/// The record of a complete run, of which the last line was read, where nothing follows it.
+fn finish<S: Source>(rules: Rules, lines: &mut Lines, source: &mut S) -> Result<Record, RecordFault>
+    requires failures { S.failures source.old < u64.MAX }
+    requires open { lines.old.is_over ≡ false }
+    ensures end { Finishes rules result (to_come lines.old (S.remaining source.old)) (S.remaining source.new) }
+    ensures failures { CountsRead result (S.failures source.old) (S.failures source.new) }
+{
+    let line = line_after(&rules);
+    let Ok(record) = rules.into_record() else {
+        let kind = RecordFaultKind::Unended;
+        return Err(RecordFault { line, kind });
+    };
+    match read_end(lines, source) {
+        Ok(()) => Ok(record),
+        Err(kind) => Err(RecordFault {
+            line: line + 1,
+            kind,
+        }),
+    }
+}
+
+/// Sees that nothing follows.
+fn read_end<S: Source>(lines: &mut Lines, source: &mut S) -> Result<(), RecordFaultKind>
+    requires failures { S.failures source.old < u64.MAX }
+    requires open { lines.old.is_over ≡ false }
+    ensures end { ReadsEnd result (to_come lines.old (S.remaining source.old)) (S.remaining source.new) }
+    ensures failures { CountsPart result (S.failures source.old) (S.failures source.new) }
+{
+    match lines.next_line(source) {
+        Next::End => Ok(()),
+        Next::Device => Err(RecordFaultKind::Device),
+        Next::Line(_) | Next::Cut | Next::TooLong => Err(RecordFaultKind::After),
+    }
+}

@@ -1,0 +1,46 @@
+-- Texts that grow by a line.
+use Rattle.std.proofs.Common.{zero, suc, get_or, length, take, append_assoc, ◌≡◌, ℕ, ◌+◌, ◌<◌, ◌∷◌, List, [], ◌++◌, refl, sym, ap, ◌∙◌, subst, arith}
+use Rattle.std.proofs.lemmas.List.{append-nil}
+use Rattle.std.proofs.Math.Seq.{take-suc}
+use Rattle.boc_types.specs.declared.chain.Step.{Step}
+use Rattle.boc_types.specs.Texts.{step_line, step_lines, plan_line, plan_lines}
+
+add_one : (i : ℕ) → i + 1 ≡ suc i
+add_one i = omega arith
+
+zero_more : (i : ℕ) → i ≡ 0 + i
+zero_more i = omega arith
+
+-- one step more
+steps_more : (steps : List Step) (step : Step) → step_lines (steps ++ step ∷ []) ≡ step_lines steps ++ step_line step
+steps_more [] step = append-nil (step_line step)
+steps_more (first ∷ steps) step = ap (λ xs. step_line first ++ xs) (steps_more steps step) ∙ sym (append_assoc (step_line first) (step_lines steps) (step_line step))
+
+-- the line of one step more
+pub put_step_more : (before text after : List ℕ) (steps : List Step) (i : ℕ) (d : Step) → i < length steps → text ≡ before ++ step_lines (take i steps)
+    → after ≡ text ++ step_line (get_or steps i d) → after ≡ before ++ step_lines (take (i + 1) steps)
+put_step_more before text after steps i d h e put =
+    put ∙ ap (λ xs. xs ++ step_line (get_or steps i d)) e ∙ append_assoc before (step_lines (take i steps)) (step_line (get_or steps i d))
+    ∙ ap (λ xs. before ++ xs) (sym (steps_more (take i steps) (get_or steps i d)) ∙ ap step_lines (sym (take-suc steps i d h) ∙ ap (λ n. take n steps) (sym (add_one i))))
+
+-- the lines of the first rows of a plan, and that of the next one
+rows_more : (r i : ℕ) (starts ends : List ℕ) → i < length starts → length starts ≡ length ends
+    → plan_lines r (take (suc i) starts) (take (suc i) ends) ≡ plan_lines r (take i starts) (take i ends) ++ plan_line (r + i) (get_or starts i 0) (get_or ends i 0)
+rows_more r i [] ends h e = absurd (omega (arith, h))
+rows_more r i (start ∷ starts) [] h e = absurd (omega (arith, e))
+rows_more r zero (start ∷ starts) (end ∷ ends) h e =
+    append-nil (plan_line r start end) ∙ ap (λ n. plan_line n start end) (omega arith)
+rows_more r (suc i) (start ∷ starts) (end ∷ ends) h e =
+    ap (λ xs. plan_line r start end ++ xs) (rows_more (suc r) i starts ends (omega (arith, h)) (omega (arith, e))
+    ∙ ap (λ n. plan_lines (suc r) (take i starts) (take i ends) ++ plan_line n (get_or starts i 0) (get_or ends i 0)) (omega arith))
+    ∙ sym (append_assoc (plan_line r start end) (plan_lines (suc r) (take i starts) (take i ends)) (plan_line (r + suc i) (get_or starts i 0) (get_or ends i 0)))
+
+-- the line of one row more
+pub put_row_more : (before text after : List ℕ) (starts ends : List ℕ) (i : ℕ) → i < length starts → length starts ≡ length ends
+    → text ≡ before ++ plan_lines 0 (take i starts) (take i ends) → after ≡ text ++ plan_line i (get_or starts i 0) (get_or ends i 0)
+    → after ≡ before ++ plan_lines 0 (take (i + 1) starts) (take (i + 1) ends)
+put_row_more before text after starts ends i h same e put =
+    put ∙ ap (λ xs. xs ++ plan_line i (get_or starts i 0) (get_or ends i 0)) e
+    ∙ append_assoc before (plan_lines 0 (take i starts) (take i ends)) (plan_line i (get_or starts i 0) (get_or ends i 0))
+    ∙ ap (λ xs. before ++ xs) (ap (λ n. plan_lines 0 (take i starts) (take i ends) ++ plan_line n (get_or starts i 0) (get_or ends i 0)) (zero_more i)
+    ∙ sym (rows_more 0 i starts ends h same) ∙ ap (λ n. plan_lines 0 (take n starts) (take n ends)) (sym (add_one i)))

@@ -1,0 +1,6 @@
+//! The texts of reports.
+#![tactic(auto)]
+
+mod profile_lines;
+
+pub use profile_lines::profile_text;

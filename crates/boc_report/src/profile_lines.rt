@@ -1,0 +1,111 @@
+// The report on the rows of a record.
+
+ghost use Rattle.std.specs.Prelude.{◌≡◌, ◌++◌, ℕ, List, length, OnOk, IfOk};
+ghost use Rattle.boc_types.specs.Texts.{number_line, report_head, report_text, step_line, step_lines, plan_line, plan_lines, via_word};
+
+use boc_order::Profile;
+use boc_text::put_number;
+use boc_types::chain::{Step, Via};
+use std::alloc::{AllocError, Global};
+
+/// The most bytes of the lines before the chain, of `chain` and of `plan`.
+const MOST_HEAD: usize = 100;
+
+/// The most bytes of the line of a step.
+const MOST_STEP: usize = 30;
+
+/// The most bytes of the line of a row in a plan, of which starts and ends have at most eleven digits.
+const MOST_ROW: usize = 32;
+
+/// The text of the report on a profile: how many rows, their work and the span, the chain, and the plan with each
+/// row's start and end, a line each. Its memory is taken at once.
+pub fn profile_text(alloc: Global, profile: &Profile) -> Result<Vec<u8>, AllocError>
+    requires { length profile.now.starts.items ≡ length profile.now.ends.items }
+    ensures { IfOk result (λ text. text.items
+        ≡ report_text profile.now.work profile.now.span profile.now.chain.steps.items profile.now.starts.items profile.now.ends.items) }
+{
+    let steps = profile.chain.steps.as_slice();
+    let rows = profile.starts.len();
+    let mut text = Vec::with_capacity(alloc, most_bytes(steps.len(), rows))?;
+    put_line(&mut text, b"rows ", rows as u64)?;
+    put_line(&mut text, b"work ", profile.work)?;
+    put_line(&mut text, b"span ", profile.span)?;
+    text.extend_from_slice(b"chain\n")?;
+    put_steps(&mut text, steps)?;
+    text.extend_from_slice(b"plan\n")?;
+    put_plan(&mut text, &profile.starts, &profile.ends)?;
+    Ok(text)
+}
+
+// The room for a report of so many steps and rows.
+fn most_bytes(steps: usize, rows: usize) -> usize {
+    let chain = steps.saturating_mul(MOST_STEP);
+    let plan = rows.saturating_mul(MOST_ROW);
+    chain.saturating_add(plan).saturating_add(MOST_HEAD)
+}
+
+// A line of a word and a number.
+fn put_line(text: &mut Vec<u8>, word: &[u8], number: u64) -> Result<(), AllocError>
+    ensures { OnOk result (text.new.items ≡ text.old.items ++ number_line word.now number) }
+{
+    text.extend_from_slice(word)?;
+    put_number(text, number)?;
+    text.push(b'\n')?;
+    Ok(())
+}
+
+// The lines of a chain's steps.
+fn put_steps(text: &mut Vec<u8>, steps: &[Step]) -> Result<(), AllocError>
+    ensures { OnOk result (text.new.items ≡ text.old.items ++ step_lines steps.now) }
+{
+    for step in steps {
+        put_step(text, *step)?;
+    }
+    Ok(())
+}
+
+// The line of a step.
+fn put_step(text: &mut Vec<u8>, step: Step) -> Result<(), AllocError>
+    ensures { OnOk result (text.new.items ≡ text.old.items ++ step_line step) }
+{
+    put_number(text, u64::from(step.row))?;
+    put_via(text, step.via)?;
+    put_number(text, u64::from(step.weight))?;
+    text.push(b'\n')?;
+    Ok(())
+}
+
+// What stands between the row and the weight of a step.
+fn put_via(text: &mut Vec<u8>, via: Via) -> Result<(), AllocError>
+    ensures { OnOk result (text.new.items ≡ text.old.items ++ via_word via) }
+{
+    match via {
+        Via::Spawn => text.extend_from_slice(b" spawn "),
+        Via::Order => text.extend_from_slice(b" order "),
+        Via::Last => text.extend_from_slice(b" end "),
+    }
+}
+
+// The lines of the rows of a plan.
+fn put_plan(text: &mut Vec<u8>, starts: &[u64], ends: &[u64]) -> Result<(), AllocError>
+    requires { length starts.now ≡ length ends.now }
+    ensures { OnOk result (text.new.items ≡ text.old.items ++ plan_lines 0 starts.now ends.now) }
+{
+    for row in 0..starts.len() {
+        put_row(text, row as u64, starts[row], ends[row])?;
+    }
+    Ok(())
+}
+
+// The line of a row in a plan.
+fn put_row(text: &mut Vec<u8>, row: u64, start: u64, end: u64) -> Result<(), AllocError>
+    ensures { OnOk result (text.new.items ≡ text.old.items ++ plan_line row start end) }
+{
+    put_number(text, row)?;
+    text.push(b' ')?;
+    put_number(text, start)?;
+    text.push(b' ')?;
+    put_number(text, end)?;
+    text.push(b'\n')?;
+    Ok(())
+}

@@ -1,0 +1,244 @@
+-- What is kept of a run stays that of its log as a row is changed, or put behind the others.
+use Rattle.std.proofs.Common.{◌≡◌, ℕ, zero, suc, ◌+◌, ◌<◌, ◌≤◌, ◌≢◌, ◌⊎◌, List, [], ◌∷◌, ◌++◌, length, map, get_or, refl, sym, ◌∙◌, ap, subst, inl, inr, arith, length-append, get_or-set_same, get_or-set_other}
+use Rattle.std.proofs.Math.ListN.{length-set}
+use Rattle.std.specs.Prelude.{slice_get, slice_set, Option, Some, None, All}
+use Rattle.std.specs.Option.{option_map_or}
+use Rattle.std.specs.List.{Contains}
+use Rattle.std.proofs.lemmas.List.{get_or-map, length-map}
+use Rattle.std.proofs.lemmas.Option.{slice_get_within}
+use Rattle.std.proofs.lemmas.Bool.{cases_eq, cases_order}
+use Rattle.boc_types.specs.declared.rows.Row.{Row}
+use Rattle.boc_types.specs.Legal.{Entry, entry_cowns}
+use Rattle.boc_types.specs.Records.{IsRowOf, AreRowsOf}
+use Rattle.boc_rules.specs.declared.stage.Stage.{Stage}
+use Rattle.boc_rules.specs.Turns.{IsLatest, AreBefore, noted}
+use Rattle.boc_rules.specs.Kept.{IsStageOf, AreStagesOf, AreLatest, over_one, over}
+use Rattle.boc_rules.proofs.Lists.{got_set, set_same, set_other, got_push, push_below, push_last, got_at}
+use Rattle.boc_rules.proofs.Next.{cowns_at}
+
+-- two runs have the same cowns at the rows below a number
+pub record SameBelow (old new : List Entry) (n : ℕ) : Type 0 where
+  pub cowns : (r : ℕ) → r < n → entry_cowns new r ≡ entry_cowns old r
+
+carry : (old new : List Entry) (r c : ℕ) → entry_cowns new r ≡ entry_cowns old r → Contains (entry_cowns old r) c → Contains (entry_cowns new r) c
+carry old new r c e h = subst (λ (cs : List ℕ). Contains cs c) (sym e) h
+
+back : (old new : List Entry) (r c : ℕ) → entry_cowns new r ≡ entry_cowns old r → Contains (entry_cowns new r) c → Contains (entry_cowns old r) c
+back old new r c e h = subst (λ (cs : List ℕ). Contains cs c) e h
+
+latest_same : (old new : List Entry) (c n : ℕ) (latest : Option ℕ) → SameBelow old new n → IsLatest old c n latest → IsLatest new c n latest
+latest_same old new c n None same is = λ r less has. is r less (back old new r c (same.cowns r less) has)
+latest_same old new c n (Some latest) same is =
+    (is.0, carry old new latest c (same.cowns latest is.0) is.1, λ r more less has. is.2 r more less (back old new r c (same.cowns r less) has))
+
+-- the next row hasn't this cown
+latest_passes : (run : List Entry) (c n : ℕ) (latest : Option ℕ) → (Contains (entry_cowns run n) c → ⊥) → IsLatest run c n latest → IsLatest run c (suc n) latest
+latest_passes run c n None lacks is = λ r less has.
+    elim (cases_order r n) [
+      | inl e ↦ lacks (subst (λ (k : ℕ). Contains (entry_cowns run k) c) e has)
+      | inr p ↦ elim p [ inl below ↦ is r below has | inr above ↦ absurd (omega arith) ]
+    ]
+latest_passes run c n (Some latest) lacks is =
+    let last : latest < n = is.0 in (
+      omega (arith, last),
+      is.1,
+      λ r more less has.
+          elim (cases_order r n) [
+            | inl e ↦ lacks (subst (λ (k : ℕ). Contains (entry_cowns run k) c) e has)
+            | inr p ↦ elim p [ inl below ↦ is.2 r more below has | inr above ↦ absurd (omega arith) ]
+          ],
+    )
+
+before_same : (old new : List Entry) (r : ℕ) (before : List (Option ℕ)) → SameBelow old new (suc r) → AreBefore old r before → AreBefore new r before
+before_same old new r before same are =
+    let here : entry_cowns new r ≡ entry_cowns old r = same.cowns r (omega arith) in
+    let below : SameBelow old new r = record { cowns = λ k less. same.cowns k (omega arith) } in record {
+      all = are.all ∙ ap length (sym here);
+      each = λ k less.
+          let inside : k < length (entry_cowns old r) = subst (λ (cs : List ℕ). k < length cs) here less in
+          subst (λ (cs : List ℕ). IsLatest new (get_or cs k 0) r (get_or before k None)) (sym here) (latest_same old new (get_or (entry_cowns old r) k 0) r (get_or before k None) below (are.each k inside));
+    }
+
+-- Row r changes, and keeps its cowns.
+pub record IsSet (run : List Entry) (r : ℕ) (e v : Entry) : Type 0 where
+  pub is : slice_get run r ≡ Some e
+  pub cowns : v.cowns ≡ e.cowns
+
+pub same_set : (run : List Entry) (r : ℕ) (e v : Entry) (n : ℕ) → IsSet run r e v → SameBelow run (slice_set run r v) n
+same_set run r e v n h = record {
+  cowns = λ k less.
+      elim (cases_eq k r) [
+        | inl p ↦
+            subst (λ (m : ℕ). entry_cowns (slice_set run r v) m ≡ entry_cowns run m) (sym p)
+            (cowns_at (slice_set run r v) r v (set_same run r v e h.is) ∙ h.cowns ∙ sym (cowns_at run r e h.is))
+        | inr p ↦ ap (λ (o : Option Entry). option_map_or (λ (x : Entry). x.cowns) o []) (set_other run r k v p)
+      ];
+}
+
+row_case : (run : List Entry) (rows : List Row) (r : ℕ) (v : Entry) (y : Row) → AreRowsOf run rows → IsRowOf v y → (k : ℕ) (f : Entry) (z : Row)
+    → ((k ≡ r) × (v ≡ f)) ⊎ ((k ≢ r) × (slice_get run k ≡ Some f)) → ((k ≡ r) × (y ≡ z)) ⊎ ((k ≢ r) × (slice_get rows k ≡ Some z)) → IsRowOf f z
+row_case run rows r v y are is k f z (inl p) (inl q) = subst (λ (a : Entry). IsRowOf a z) p.1 (subst (IsRowOf v) q.1 is)
+row_case run rows r v y are is k f z (inl p) (inr q) = absurd (q.0 p.0)
+row_case run rows r v y are is k f z (inr p) (inl q) = absurd (p.0 q.0)
+row_case run rows r v y are is k f z (inr p) (inr q) = are.each k f z p.1 q.1
+
+pub rows_set : (run : List Entry) (rows : List Row) (r : ℕ) (e v : Entry) (x y : Row) → AreRowsOf run rows → IsSet run r e v → slice_get rows r ≡ Some x → IsRowOf v y → AreRowsOf (slice_set run r v) (slice_set rows r y)
+rows_set run rows r e v x y are h at is = record {
+  all = length-set rows r y ∙ are.all ∙ sym (length-set run r v);
+  each = λ k f z g i. row_case run rows r v y are is k f z (got_set run r k v f g) (got_set rows r k y z i);
+}
+
+-- the changed row has the same line in the rows
+pub rows_stay : (run : List Entry) (rows : List Row) (r : ℕ) (e v : Entry) → AreRowsOf run rows → IsSet run r e v → ((y : Row) → IsRowOf e y → IsRowOf v y) → AreRowsOf (slice_set run r v) rows
+rows_stay run rows r e v are h goes = record {
+  all = are.all ∙ sym (length-set run r v);
+  each = λ k f z g i.
+      elim (got_set run r k v f g) [
+        | inl p ↦ subst (λ (a : Entry). IsRowOf a z) p.1 (goes z (are.each k e z (got_at run k r e p.0 h.is) i))
+        | inr p ↦ are.each k f z p.1 i
+      ];
+}
+
+stage_case : (run : List Entry) (stages : List Stage) (r : ℕ) (v : Entry) (y : Stage) → AreStagesOf run stages → IsStageOf v y → (k : ℕ) (f : Entry) (z : Stage)
+    → ((k ≡ r) × (v ≡ f)) ⊎ ((k ≢ r) × (slice_get run k ≡ Some f)) → ((k ≡ r) × (y ≡ z)) ⊎ ((k ≢ r) × (slice_get stages k ≡ Some z)) → IsStageOf f z
+stage_case run stages r v y are is k f z (inl p) (inl q) = subst (λ (a : Entry). IsStageOf a z) p.1 (subst (IsStageOf v) q.1 is)
+stage_case run stages r v y are is k f z (inl p) (inr q) = absurd (q.0 p.0)
+stage_case run stages r v y are is k f z (inr p) (inl q) = absurd (p.0 q.0)
+stage_case run stages r v y are is k f z (inr p) (inr q) = are.each k f z p.1 q.1
+
+pub stages_set : (run : List Entry) (stages : List Stage) (r : ℕ) (e v : Entry) (x y : Stage) → AreStagesOf run stages → IsSet run r e v → slice_get stages r ≡ Some x → IsStageOf v y → y.before.items ≡ x.before.items
+    → AreStagesOf (slice_set run r v) (slice_set stages r y)
+stages_set run stages r e v x y are h at is stays = record {
+  all = length-set stages r y ∙ are.all ∙ sym (length-set run r v);
+  each = λ k f z g i. stage_case run stages r v y are is k f z (got_set run r k v f g) (got_set stages r k y z i);
+  before = λ k z i.
+      before_same run (slice_set run r v) k z.before.items (same_set run r e v (suc k) h)
+      (elim (got_set stages r k y z i) [
+        | inl p ↦
+            subst (AreBefore run k) (sym stays ∙ ap (λ (a : Stage). a.before.items) p.1) (are.before k x (got_at stages k r x p.0 at))
+        | inr p ↦ are.before k z p.1
+      ]);
+}
+
+pub latest_set : (run : List Entry) (r : ℕ) (e v : Entry) (cowns : ℕ) (latest : List (Option ℕ)) → AreLatest run cowns latest → IsSet run r e v → AreLatest (slice_set run r v) cowns latest
+latest_set run r e v cowns latest are h = record {
+  all = are.all;
+  each = λ c less.
+      subst (λ (n : ℕ). IsLatest (slice_set run r v) c n (get_or latest c None)) (sym (length-set run r v))
+      (latest_same run (slice_set run r v) c (length run) (get_or latest c None) (same_set run r e v (length run) h) (are.each c less));
+}
+
+pub over_set : (run : List Entry) (r : ℕ) (e v : Entry) → slice_get run r ≡ Some e → over (slice_set run r v) + over_one e.life ≡ over run + over_one v.life
+over_set [] r e v g = absurd (let f : None ≡ Some e = g in cc)
+over_set (x ∷ run) zero e v g =
+    let f : Some x ≡ Some e = g in
+    let h : x ≡ e = cc in omega (arith, ap (λ (z : Entry). over_one z.life) h)
+over_set (x ∷ run) (suc r) e v g = omega (arith, over_set run r e v g)
+
+-- One row more.
+pub same_push : (run : List Entry) (v : Entry) (n : ℕ) → n ≤ length run → SameBelow run (run ++ (v ∷ [])) n
+same_push run v n h = record { cowns = λ k less. ap (λ (o : Option Entry). option_map_or (λ (x : Entry). x.cowns) o []) (push_below run k v (omega arith)) }
+
+row_push_case : (run : List Entry) (rows : List Row) (v : Entry) (y : Row) → AreRowsOf run rows → IsRowOf v y → (k : ℕ) (f : Entry) (z : Row)
+    → (slice_get run k ≡ Some f) ⊎ ((k ≡ length run) × (v ≡ f)) → (slice_get rows k ≡ Some z) ⊎ ((k ≡ length rows) × (y ≡ z)) → IsRowOf f z
+row_push_case run rows v y are is k f z (inl p) (inl q) = are.each k f z p q
+row_push_case run rows v y are is k f z (inl p) (inr q) = absurd (omega (arith, q.0, are.all, slice_get_within run k f p))
+row_push_case run rows v y are is k f z (inr p) (inl q) = absurd (omega (arith, p.0, are.all, slice_get_within rows k z q))
+row_push_case run rows v y are is k f z (inr p) (inr q) = subst (λ (a : Entry). IsRowOf a z) p.1 (subst (IsRowOf v) q.1 is)
+
+pub rows_push : (run : List Entry) (rows : List Row) (v : Entry) (y : Row) → AreRowsOf run rows → IsRowOf v y → AreRowsOf (run ++ (v ∷ [])) (rows ++ (y ∷ []))
+rows_push run rows v y are is = record {
+  all = omega (arith, length-append rows (y ∷ []), length-append run (v ∷ []), are.all);
+  each = λ k f z g i. row_push_case run rows v y are is k f z (got_push run k v f g) (got_push rows k y z i);
+}
+
+stage_push_case : (run : List Entry) (stages : List Stage) (v : Entry) (y : Stage) → AreStagesOf run stages → IsStageOf v y → (k : ℕ) (f : Entry) (z : Stage)
+    → (slice_get run k ≡ Some f) ⊎ ((k ≡ length run) × (v ≡ f)) → (slice_get stages k ≡ Some z) ⊎ ((k ≡ length stages) × (y ≡ z)) → IsStageOf f z
+stage_push_case run stages v y are is k f z (inl p) (inl q) = are.each k f z p q
+stage_push_case run stages v y are is k f z (inl p) (inr q) = absurd (omega (arith, q.0, are.all, slice_get_within run k f p))
+stage_push_case run stages v y are is k f z (inr p) (inl q) = absurd (omega (arith, p.0, are.all, slice_get_within stages k z q))
+stage_push_case run stages v y are is k f z (inr p) (inr q) = subst (λ (a : Entry). IsStageOf a z) p.1 (subst (IsStageOf v) q.1 is)
+
+-- what is found on the cowns of the new row
+before_new : (run : List Entry) (v : Entry) (cowns : ℕ) (latest : List (Option ℕ)) → AreLatest run cowns latest → All (λ c. c < cowns) v.cowns → AreBefore (run ++ (v ∷ [])) (length run) (map (λ c. get_or latest c None) v.cowns)
+before_new run v cowns latest are below =
+    let new = run ++ (v ∷ []) in
+    let here : entry_cowns new (length run) ≡ v.cowns = cowns_at new (length run) v (push_last run v) in record {
+      all = length-map v.cowns (λ c. get_or latest c None) ∙ ap length (sym here);
+      each = λ k less.
+          let inside : k < length v.cowns = subst (λ (cs : List ℕ). k < length cs) here less in
+          let c = get_or v.cowns k 0 in
+          subst (λ (cs : List ℕ). IsLatest new (get_or cs k 0) (length run) (get_or (map (λ c. get_or latest c None) v.cowns) k None)) (sym here)
+          (subst (IsLatest new c (length run)) (sym (get_or-map (λ c. get_or latest c None) v.cowns k 0 None inside))
+          (latest_same run new c (length run) (get_or latest c None) (same_push run v (length run) (omega arith)) (are.each c (below k 0 inside))));
+    }
+
+pub stages_push : (run : List Entry) (stages : List Stage) (v : Entry) (y : Stage) (cowns : ℕ) (latest : List (Option ℕ)) → AreStagesOf run stages → IsStageOf v y → AreLatest run cowns latest → All (λ c. c < cowns) v.cowns
+    → y.before.items ≡ map (λ c. get_or latest c None) v.cowns → AreStagesOf (run ++ (v ∷ [])) (stages ++ (y ∷ []))
+stages_push run stages v y cowns latest are is on below found = record {
+  all = omega (arith, length-append stages (y ∷ []), length-append run (v ∷ []), are.all);
+  each = λ k f z g i. stage_push_case run stages v y are is k f z (got_push run k v f g) (got_push stages k y z i);
+  before = λ k z i.
+      elim (got_push stages k y z i) [
+        | inl p ↦
+            let inside = slice_get_within stages k z p in
+            before_same run (run ++ (v ∷ [])) k z.before.items (same_push run v (suc k) (omega (arith, are.all, inside))) (are.before k z p)
+        | inr p ↦
+            subst (λ (a : Stage). AreBefore (run ++ (v ∷ [])) k a.before.items) p.1
+            (subst (λ (m : ℕ). AreBefore (run ++ (v ∷ [])) m y.before.items) (sym (p.0 ∙ are.all))
+            (subst (AreBefore (run ++ (v ∷ [])) (length run)) (sym found) (before_new run v cowns latest on below)))
+      ];
+}
+
+length-noted : (latest : List (Option ℕ)) (cs : List ℕ) (row : ℕ) → length (noted latest cs row) ≡ length latest
+length-noted latest [] row = refl
+length-noted latest (c ∷ cs) row = length-noted (slice_set latest c (Some row)) cs row ∙ length-set latest c (Some row)
+
+other_place : (x : ℕ) (cs : List ℕ) (c : ℕ) → c ≢ x → (Contains cs c → ⊥) → (k : ℕ) → k < length (x ∷ cs) → get_or (x ∷ cs) k c ≡ c → ⊥
+other_place x cs c n lacks zero less is = n (sym is)
+other_place x cs c n lacks (suc k) less is = lacks (k, omega arith, is)
+
+other_cown : (x : ℕ) (cs : List ℕ) (c : ℕ) → c ≢ x → (Contains cs c → ⊥) → Contains (x ∷ cs) c → ⊥
+other_cown x cs c n lacks h = other_place x cs c n lacks h.0 h.1 h.2
+
+-- a cown is among those of the row, or it isn't and what is known of it stays
+noted_cases : (latest : List (Option ℕ)) (cs : List ℕ) (row c : ℕ) → c < length latest
+    → (Contains cs c × (get_or (noted latest cs row) c None ≡ Some row)) ⊎ ((Contains cs c → ⊥) × (get_or (noted latest cs row) c None ≡ get_or latest c None))
+noted_cases latest [] row c less = inr ((λ h. let f : h.0 < 0 = h.1 in omega arith), refl)
+noted_cases latest (x ∷ cs) row c less =
+    let rest = noted_cases (slice_set latest x (Some row)) cs row c (omega (arith, length-set latest x (Some row), less)) in
+    elim rest [
+      | inl p ↦ inl ((suc p.0.0, omega (arith, p.0.1), p.0.2), p.1)
+      | inr p ↦ elim (cases_eq c x) [
+        | inl e ↦
+            inl (
+              (zero, omega arith, sym e),
+              p.1 ∙ subst (λ (k : ℕ). get_or (slice_set latest x (Some row)) k None ≡ Some row) (sym e) (get_or-set_same latest x (Some row) None (subst (λ (k : ℕ). k < length latest) e less)),
+            )
+        | inr n ↦ inr (other_cown x cs c n p.0, p.1 ∙ get_or-set_other latest x c (Some row) None n)
+      ]
+    ]
+
+pub latest_push : (run : List Entry) (v : Entry) (cowns : ℕ) (latest : List (Option ℕ)) → AreLatest run cowns latest → AreLatest (run ++ (v ∷ [])) cowns (noted latest v.cowns (length run))
+latest_push run v cowns latest are =
+    let new = run ++ (v ∷ []) in
+    let n = length run in
+    let long : suc n ≡ length new = omega (arith, length-append run (v ∷ [])) in
+    let here : entry_cowns new n ≡ v.cowns = cowns_at new n v (push_last run v) in record {
+      all = length-noted latest v.cowns n ∙ are.all;
+      each = λ c less.
+          subst (λ (m : ℕ). IsLatest new c m (get_or (noted latest v.cowns n) c None)) long
+          (elim (noted_cases latest v.cowns n c (omega (arith, are.all, less))) [
+            | inl p ↦
+                subst (IsLatest new c (suc n)) (sym p.1)
+                (omega arith, subst (λ (cs : List ℕ). Contains cs c) (sym here) p.0, λ r more below has. absurd (omega arith))
+            | inr p ↦
+                subst (IsLatest new c (suc n)) (sym p.1)
+                (latest_passes new c n (get_or latest c None) (λ has. p.0 (subst (λ (cs : List ℕ). Contains cs c) here has))
+                (latest_same run new c n (get_or latest c None) (same_push run v n (omega arith)) (are.each c less)))
+          ]);
+    }
+
+pub over_push : (run : List Entry) (v : Entry) → over (run ++ (v ∷ [])) ≡ over run + over_one v.life
+over_push [] v = omega arith
+over_push (x ∷ run) v = omega (arith, over_push run v)

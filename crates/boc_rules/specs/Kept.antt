@@ -1,0 +1,114 @@
+-- What is kept of a run under way, and how an event changes it.
+use Rattle.std.specs.Prelude.{◌≡◌, ℕ, ◌+◌, ◌<◌, ◌≤◌, List, [], ◌∷◌, ◌++◌, length, map, Option, Some, None, slice_get, slice_set, slice_index_or, vec_len, vec_capacity}
+use Rattle.boc_types.specs.declared.body.EndStatus.{EndStatus}
+use Rattle.boc_types.specs.declared.body.EndStatus.TheVariants as statuses
+use Rattle.boc_types.specs.declared.event.Event.{Event}
+use Rattle.boc_types.specs.declared.rows.Row.{Row}
+use Rattle.boc_types.specs.Legal as legal
+use Rattle.boc_types.specs.Legal.{Entry, entries, IsLegal}
+use Rattle.boc_types.specs.Records.{AreRowsOf}
+use Rattle.arrayvec.specs.ArrayVec.{ArrayVec}
+use Rattle.boc_rules.specs.declared.stage.Life.{Life}
+use Rattle.boc_rules.specs.declared.stage.Life.TheVariants.{Pending, Running, Ended}
+use Rattle.boc_rules.specs.declared.stage.Stage.{Stage}
+use Rattle.boc_rules.specs.declared.run.Run.{Run}
+use Rattle.boc_rules.specs.Turns.{IsLatest, AreBefore, noted}
+
+-- what has become of a row
+abbrev pub meant : Life → legal.Life
+meant Pending = legal.Pending
+meant Running = legal.Running
+meant Ended = legal.Ended
+
+-- the stage of a row
+pub record IsStageOf (entry : Entry) (stage : Stage) : Type 0 where
+  pub life : meant stage.life ≡ entry.life
+  pub last : stage.last ≡ entry.last
+
+-- the stages of a run's rows, one for each
+pub record AreStagesOf (run : List Entry) (stages : List Stage) : Type 0 where
+  pub all : length stages ≡ length run
+  pub each : (r : ℕ) (entry : Entry) (stage : Stage) → slice_get run r ≡ Some entry → slice_get stages r ≡ Some stage → IsStageOf entry stage
+  pub before : (r : ℕ) (stage : Stage) → slice_get stages r ≡ Some stage → AreBefore run r stage.before.items
+
+-- the latest row of a run on each of so many cowns
+pub record AreLatest (run : List Entry) (cowns : ℕ) (latest : List (Option ℕ)) : Type 0 where
+  pub all : length latest ≡ cowns
+  pub each : (c : ℕ) → c < cowns → IsLatest run c (length run) (slice_index_or latest c None)
+
+-- 1 for a row that is over
+abbrev pub over_one : legal.Life → ℕ
+over_one legal.Ended = 1
+over_one _ = 0
+
+-- how many rows are over
+abbrev pub over : List Entry → ℕ
+over [] = 0
+over (entry ∷ entries) = over_one entry.life + over entries
+
+-- what is kept is that of a legal log
+pub record Keeps (cowns : ℕ) (events : List Event) (rows : List Row) (stages : List Stage) (latest : List (Option ℕ)) (ended : ℕ) : Type 0 where
+  pub few : cowns ≤ 256
+  pub legal : IsLegal cowns events
+  pub rows_are : AreRowsOf (entries events) rows
+  pub stages_are : AreStagesOf (entries events) stages
+  pub latest_are : AreLatest (entries events) cowns latest
+  pub ended_is : ended ≡ over (entries events)
+
+-- what is kept of a run is that of a legal log
+abbrev pub IsKept : Run → Type 0
+IsKept run = Keeps run.cowns run.events.items run.rows.items run.stages.items run.latest.items run.ended
+
+-- one more event and one more row have room
+pub record HasRoom (run : Run) : Type 0 where
+  pub events : vec_len run.events < vec_capacity run.events
+  pub rows : vec_len run.rows < vec_capacity run.rows
+  pub stages : vec_len run.stages < vec_capacity run.stages
+
+-- the same run, whose lists may have more room
+pub record IsSameRun (old new : Run) : Type 0 where
+  pub cowns : new.cowns ≡ old.cowns
+  pub events : new.events.items ≡ old.events.items
+  pub rows : new.rows.items ≡ old.rows.items
+  pub stages : new.stages.items ≡ old.stages.items
+  pub latest : new.latest.items ≡ old.latest.items
+  pub ended : new.ended ≡ old.ended
+
+-- the stages with one of them changed
+abbrev pub staged : List Stage → ℕ → (Stage → Stage) → Option Stage → List Stage
+staged stages row change None = stages
+staged stages row change (Some stage) = slice_set stages row (change stage)
+
+-- the rows with one of them changed
+abbrev pub placed : List Row → ℕ → (Row → Row) → Option Row → List Row
+placed rows r change None = rows
+placed rows r change (Some row) = slice_set rows r (change row)
+
+-- a row was put behind the others
+pub record IsSpawned (old new : Run) (row parent offset : ℕ) (cowns : ArrayVec ℕ) : Type 0 where
+  pub cowns_stay : new.cowns ≡ old.cowns
+  pub events_stay : new.events ≡ old.events
+  pub rows : new.rows.items ≡ old.rows.items ++ record { parent = parent; offset = offset; cowns = cowns; ticks = 0; status = statuses.Done } ∷ []
+  pub stages : new.stages.items ≡
+      staged old.stages.items parent (λ s. record s { last = offset }) (slice_get old.stages.items parent)
+      ++ record { life = Pending; last = 0; before = record { items = map (λ c. slice_index_or old.latest.items c None) cowns.items } } ∷ []
+  pub latest : new.latest.items ≡ noted old.latest.items cowns.items row
+  pub ended : new.ended ≡ old.ended
+
+-- a row runs
+pub record IsStarted (old new : Run) (row : ℕ) : Type 0 where
+  pub cowns_stay : new.cowns ≡ old.cowns
+  pub events_stay : new.events ≡ old.events
+  pub rows_stay : new.rows.items ≡ old.rows.items
+  pub stages : new.stages.items ≡ staged old.stages.items row (λ s. record s { life = Running }) (slice_get old.stages.items row)
+  pub latest_stay : new.latest.items ≡ old.latest.items
+  pub ended : new.ended ≡ old.ended
+
+-- a row is over
+pub record IsEnded (old new : Run) (row ticks : ℕ) (status : EndStatus) : Type 0 where
+  pub cowns_stay : new.cowns ≡ old.cowns
+  pub events_stay : new.events ≡ old.events
+  pub rows : new.rows.items ≡ placed old.rows.items row (λ x. record x { ticks = ticks; status = status }) (slice_get old.rows.items row)
+  pub stages : new.stages.items ≡ staged old.stages.items row (λ s. record s { life = Ended }) (slice_get old.stages.items row)
+  pub latest_stay : new.latest.items ≡ old.latest.items
+  pub ended : new.ended ≡ old.ended + 1

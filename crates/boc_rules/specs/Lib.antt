@@ -1,0 +1,5 @@
+pub mod Log
+pub mod Turns
+pub mod Kept
+pub mod Judges
+pub mod Rules

@@ -1,0 +1,187 @@
+//! Lines of a source, one at a time.
+
+ghost use Rattle.std.specs.Prelude.{◌≡◌, ◌+◌, ◌-◌, ◌<◌, ◌≤◌, [], false, length, take, drop, slice_range, IfOk};
+ghost use Rattle.std.specs.Bool.{OnTrue, OnFalse};
+ghost use Rattle.std.specs.Io.KnownBytes.{Keeps, IsAtEnd};
+ghost use Rattle.boc_text.specs.Streams.{CountsFailure};
+ghost use Rattle.boc_text.specs.Lines.{to_come, BeginsWith, Answers, Exhausts, CountsStop, stops};
+
+use crate::stream::{Failed, Source};
+use arrayvec::ArrayVec;
+use memchr::memchr;
+use std::marker::Model;
+
+/// The most bytes that a line may have, without its line feed.
+pub const MOST_LINE: usize = 80;
+
+/// How many bytes are taken in ahead.
+const CAPACITY: usize = 8192;
+
+/// What comes next of the lines of a source.
+#[derive(Drop, Debug)]
+pub enum Next {
+    /// A line, without its line feed.
+    Line(ArrayVec<u8, MOST_LINE>),
+    /// No more bytes come.
+    End,
+    /// The bytes end within a line: some stand behind the last line feed.
+    Cut,
+    /// More than 80 bytes come before the next line feed.
+    TooLong,
+    /// The source failed.
+    Device,
+}
+
+/// What stands at the front of bytes.
+enum Front {
+    /// A line of so many bytes, and its line feed.
+    Line(usize),
+    /// A line that may go on.
+    Open,
+    /// More bytes than a line may have.
+    TooLong,
+}
+
+fn front_of(bytes: &[u8]) -> Front
+    ensures { BeginsWith result bytes.now }
+{
+    let most = bytes.len().min(MOST_LINE + 1);
+    match memchr(b'\n', &bytes[..most]) {
+        Some(len) => Front::Line(len),
+        None if most > MOST_LINE => Front::TooLong,
+        None => Front::Open,
+    }
+}
+
+// Moves at most 80 bytes to the front.
+fn move_to_front(buffer: &mut [u8], start: usize, end: usize)
+    requires ordered { start ≤ end }
+    requires within { end ≤ length buffer.old }
+    requires few { end - start ≤ MOST_LINE }
+    ensures front { take (end - start) buffer.new ≡ slice_range buffer.old start end }
+{
+    let len = end - start;
+    let mut moved = [0; MOST_LINE];
+    moved[..len].copy_from_slice(&buffer[start..end]);
+    buffer[..len].copy_from_slice(&moved[..len]);
+}
+
+/// The lines of a source. Bytes are taken in ahead, and no memory is allocated.
+///
+/// The source is handed in at each call, and is to be the same at all of them. Contracts see the bytes
+/// that are taken in and not given yet, and whether the lines are over.
+#[derive(Drop)]
+pub struct Lines {
+    buffer: [u8; CAPACITY],
+    start: usize,
+    end: usize,
+    is_over: bool,
+}
+
+impl Model for Lines {
+    ghost use Rattle.std.specs.Prelude.{◌≤◌, slice_range};
+    ghost use Rattle.boc_text.specs.declared.lines.TheConstants.{CAPACITY};
+    ghost use Rattle.boc_text.specs.Lines.{Lines as Ahead};
+
+    ghost Value = { Ahead };
+
+    ghost view = { λ l. record { buffered = slice_range l.buffer l.start l.end; is_over = l.is_over } };
+
+    ghost invariant = { λ l. (l.start ≤ l.end) × (l.end ≤ CAPACITY) };
+}
+
+impl Lines {
+    /// The lines of a source of which nothing is taken in yet.
+    pub fn new() -> Lines
+        ensures buffered { result.buffered ≡ [] }
+        ensures is_over { result.is_over ≡ false }
+    {
+        Lines {
+            buffer: [0; CAPACITY],
+            start: 0,
+            end: 0,
+            is_over: false,
+        }
+    }
+
+    fn buffered(&self) -> &[u8]
+        ensures { result.now ≡ self.now.buffered }
+    {
+        &self.buffer[self.start..self.end]
+    }
+
+    // Gives the line of so many bytes, and drops its line feed.
+    fn take_line(&mut self, len: usize) -> ArrayVec<u8, MOST_LINE>
+        requires few { len ≤ MOST_LINE }
+        requires within { len < length self.old.buffered }
+        ensures line { result.items ≡ take len self.old.buffered }
+        ensures rest { self.new.buffered ≡ drop (len + 1) self.old.buffered }
+        ensures is_over { self.new.is_over ≡ self.old.is_over }
+    {
+        let mut line = ArrayVec::new();
+        let Ok(()) = line.try_extend_from_slice(&self.buffered()[..len]) else {
+            unreachable!()
+        };
+        self.start += len + 1;
+        line
+    }
+
+    // Takes in more bytes, and says how many.
+    fn refill<S: Source>(&mut self, source: &mut S) -> Result<usize, Failed>
+        requires can_fail { S.failures source.old < u64.MAX }
+        requires few { length self.old.buffered ≤ MOST_LINE }
+        ensures bytes { Keeps (to_come self.old (S.remaining source.old)) (to_come self.new (S.remaining source.new)) }
+        ensures count { IfOk result (λ n. length self.new.buffered ≡ length self.old.buffered + n) }
+        ensures end { IfOk result (λ n. n ≡ 0 → IsAtEnd (S.remaining source.new)) }
+        ensures is_over { self.new.is_over ≡ self.old.is_over }
+        ensures failures { CountsFailure result (S.failures source.old) (S.failures source.new) }
+    {
+        let len = self.end - self.start;
+        move_to_front(&mut self.buffer, self.start, self.end);
+        self.start = 0;
+        self.end = len;
+        let count = source.read(&mut self.buffer[len..])?;
+        self.end += count;
+        Ok(count)
+    }
+
+    // The next line of lines that are not over.
+    fn advance<S: Source>(&mut self, source: &mut S) -> Next
+        requires { S.failures source.old < u64.MAX }
+        ensures answer { Answers result (to_come self.old (S.remaining source.old)) (to_come self.new (S.remaining source.new)) }
+        ensures exhausts { Exhausts result (S.remaining source.new) }
+        ensures failures { CountsStop result (S.failures source.old) (S.failures source.new) }
+        ensures is_over { self.new.is_over ≡ self.old.is_over }
+    {
+        loop {
+            match front_of(self.buffered()) {
+                Front::Line(len) => return Next::Line(self.take_line(len)),
+                Front::TooLong => return Next::TooLong,
+                Front::Open => match self.refill(source) {
+                    Ok(0) if self.buffered().is_empty() => return Next::End,
+                    Ok(0) => return Next::Cut,
+                    Ok(_) => {}
+                    Err(Failed) => return Next::Device,
+                },
+            }
+        }
+    }
+
+    /// The next line, without its line feed. Each answer but a line ends the lines: from then on the
+    /// answer is `End`, and nothing is read.
+    pub fn next_line<S: Source>(&mut self, source: &mut S) -> Next
+        requires { S.failures source.old < u64.MAX }
+        ensures over { OnTrue self.old.is_over ((result ≡ Next.End) × (self.new ≡ self.old) × (source.new ≡ source.old)) }
+        ensures answer { OnFalse self.old.is_over (Answers result (to_come self.old (S.remaining source.old)) (to_come self.new (S.remaining source.new))) }
+        ensures exhausts { OnFalse self.old.is_over (Exhausts result (S.remaining source.new)) }
+        ensures stops { self.new.is_over ≡ stops result }
+        ensures failures { CountsStop result (S.failures source.old) (S.failures source.new) }
+    {
+        if self.is_over {
+            return Next::End;
+        }
+        let next = self.advance(source);
+        self.is_over = !matches!(next, Next::Line(_));
+        next
+    }
+}

@@ -1,0 +1,65 @@
+// The rows of a record: for each behaviour who spawned it, what it needed, and how long it ran.
+
+ghost use Rattle.std.specs.Prelude.{◌≡◌};
+
+use crate::body::EndStatus;
+use crate::short::Cowns;
+use std::marker::Model;
+
+/// A behaviour of a finished run.
+#[derive(Drop, Debug)]
+pub struct Row {
+    /// The row that spawned it; 0 for main.
+    pub parent: u32,
+    /// The ticks that its parent had counted when it was spawned; 0 for main.
+    pub offset: u32,
+    /// Its cowns, which rise strictly.
+    pub cowns: Cowns,
+    /// The ticks that it took, from 1 to 1,000,000.
+    pub ticks: u32,
+    /// How it ended.
+    pub status: EndStatus,
+}
+
+/// The behaviours of a finished run in the order of their spawns, main first.
+///
+/// There are 1 to 65,535. Cowns rise strictly and are below 256. Main has parent 0, offset 0 and no cowns.
+/// Each other row's parent has a smaller number. The offsets of one parent's children rise strictly from at
+/// least 1. Ticks are 1 to 1,000,000, and at least the offset of the last child.
+#[derive(Drop, Debug)]
+pub struct Rows {
+    list: Vec<Row>,
+}
+
+impl Model for Rows {
+    ghost use Rattle.std.specs.Prelude.{List};
+    ghost use Rattle.boc_types.specs.declared.rows.Row.{Row};
+
+    ghost Value = { List Row };
+
+    ghost use Rattle.boc_types.specs.Rows.{IsRows};
+
+    ghost view = { λ r. r.list.items };
+
+    ghost invariant = { λ r. IsRows r.list.items };
+}
+
+impl Rows {
+    ghost use Rattle.boc_types.specs.Rows.{IsRows};
+
+    /// These rows, main first. It takes no memory.
+    pub fn new(list: Vec<Row>) -> Rows
+        requires { IsRows list.items }
+        ensures { result ≡ list.items }
+    {
+        Rows { list }
+    }
+
+    /// The rows in the order of their numbers.
+    pub fn as_slice(&self) -> &[Row]
+        ensures same { result.now ≡ self.now }
+        ensures shape { IsRows self.now }
+    {
+        self.list.as_slice()
+    }
+}

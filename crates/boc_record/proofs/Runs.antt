@@ -1,40 +1,26 @@
 -- A text of fields has one reading.
-use Rattle.std.proofs.Common.{zero, suc, ◌⊎◌, ◌*◌, ◌-◌, ◌/◌, ◌%◌, ◌^◌, get_or, length, take, drop, append_assoc, ◌≡◌, ◌≢◌, ℕ, ◌+◌, ◌≤◌, ◌<◌, ◌∷◌, List, [], ◌++◌, true, false, cond, refl, sym, ap, ◌∙◌, subst, arith, inl, inr, All}
-use Rattle.std.specs.Prelude.{decimal, codes}
+use Rattle.std.proofs.Common.{zero, suc, ◌⊎◌, ◌*◌, ◌-◌, ◌/◌, ◌%◌, ◌^◌, get_or, length, take, drop, append_assoc, ◌≡◌, ◌≢◌, ℕ, ◌+◌, ◌≤◌, ◌<◌, ◌∷◌, List, [], ◌++◌, true, false, cond, refl, sym, ap, ◌∙◌, subst, arith, inl, inr, All, lit<}
+use Rattle.std.specs.Prelude.{decimal, codes, fold, Bool, nat_eq, if◌then◌else◌}
 use Rattle.std.proofs.lemmas.Bool.Decides.{nat_tests}
-use Rattle.std.proofs.lemmas.Bool.{cases_Bool}
-use Rattle.std.proofs.lemmas.List.{take-append-drop, append-nil, length-append}
-use Rattle.std.proofs.lemmas.List.Folds.{length-prefix_len}
-use Rattle.std.proofs.lemmas.Fmt.{decimal_by_steps, decimal_injective}
+use Rattle.std.proofs.lemmas.Bool.{cases_order}
+use Rattle.std.proofs.lemmas.List.{take-append-drop, append-nil, length-append, length-take, length-drop, take_all, get_or-take, get_or_append_left, get_or-append_right}
+use Rattle.std.specs.Str.Parse.{AllDigits, digits_value}
+use Rattle.std.specs.Int.{IsInRange}
+use Rattle.std.specs.Char.{is_ascii_digit}
+use Rattle.std.proofs.lemmas.Str.Parse.{IsNumeralModel, FoldsDigits, numerals_by_fold, numerals_by_value, tells_digits, tells_by_index, digit_at, digits_value_short}
+use Rattle.std.proofs.lemmas.Fmt.{decimal_by_steps, decimal_injective, length-decimal-le, decimal_digit, decimal_nonempty, first_decimal, digits_decimal, digits_value-decimal, decimal-digits_value}
 use Rattle.std.proofs.Math.Seq.{take-append_seam, drop-append_seam}
-use Rattle.std.specs.List.{AllByRecursion, prefix_len, take_while}
+use Rattle.std.specs.List.{AllByRecursion}
 use Rattle.boc_types.specs.Records.{field, fields}
-use Rattle.boc_record.specs.Fields.{is_in_field, IsApart, IsField, AreSmall}
+use Rattle.boc_record.specs.Fields.{IsApart, IsFront, IsField, AreSmall}
+
+-- a byte that stands within a field: no space
+abbrev pub is_in_field : ℕ → Bool
+is_in_field b = if nat_eq b 32 then false else true
 
 -- no byte is a space
 abbrev pub InField : List ℕ → Type 0
 InField ds = AllByRecursion (λ b. is_in_field b ≡ true) ds
-
-is_space : (b : ℕ) → is_in_field b ≡ false → b ≡ 32
-is_space b e = grind (arith, nat_tests)
-
--- a text is a run without spaces, and what begins with the first space
-pub split_run : (bs : List ℕ) → (w : List ℕ) × (rest : List ℕ) × (bs ≡ w ++ rest) × InField w × IsApart rest × (length w ≡ prefix_len is_in_field bs)
-split_run [] = ([], [], refl, tt, tt, refl)
-split_run (b ∷ bs) =
-    elim (cases_Bool (is_in_field b)) [
-      | inl e ↦ let s = split_run bs in (b ∷ s.0, s.1, ap (λ xs. b ∷ xs) s.2, (e, s.3), s.4, rw e (omega (arith, s.5)))
-      | inr e ↦ ([], b ∷ bs, refl, tt, is_space b e, rw e refl)
-    ]
-
--- what the first so many bytes are, and those behind them
-pub run_at : (bs : List ℕ) (n : ℕ) → n ≡ length (take_while is_in_field bs) → InField (take n bs) × IsApart (drop n bs)
-run_at bs n e =
-    let s = split_run bs in
-    let k : n ≡ length s.0 = e ∙ length-prefix_len is_in_field bs ∙ sym s.5 in
-    let t : take n bs ≡ s.0 = ap (λ m. take m bs) k ∙ ap (take (length s.0)) s.2 ∙ take-append_seam s.0 s.1 in
-    let d : drop n bs ≡ s.1 = ap (λ m. drop m bs) k ∙ ap (drop (length s.0)) s.2 ∙ drop-append_seam s.0 s.1 in
-    (subst InField (sym t) s.3, subst IsApart (sym d) s.4)
 
 no_space : is_in_field 32 ≡ true → ⊥
 no_space e = grind (arith, nat_tests)
@@ -109,20 +95,124 @@ front_fields (n ∷ done) rest (m ∷ all) p q a e =
     let more = front_fields done rest all (small_rest n done p) (small_rest m all q) a same.1 in
     (more.0, ap (λ x. x ∷ all) (sym same.0) ∙ ap (λ xs. n ∷ xs) more.1, more.2, more.3)
 
--- the field at the front of a text whose first run after a space is a number
-pub is_field : (text after : List ℕ) (k n : ℕ) → text ≡ 32 ∷ after → k ≡ length (take_while is_in_field after) → n < 2 ^ 32 → take k after ≡ decimal n → IsField text n (drop k after)
-is_field text after k n e h small t = record {
-  small = small;
-  is = e ∙ ap (λ xs. 32 ∷ xs) (sym (take-append-drop k after) ∙ ap (λ xs. xs ++ drop k after) t);
-  apart = (run_at after k h).1;
-}
+-- the number that digits are worth, one after another
+abbrev pub value_of : List ℕ → ℕ
+value_of ds = fold (λ v d. 10 * v + (d - 48)) 0 ds
 
--- there is none where that run is no number
-pub no_field : (text after : List ℕ) (k : ℕ) → text ≡ 32 ∷ after → k ≡ length (take_while is_in_field after) → ((n : ℕ) → n < 2 ^ 32 → take k after ≡ decimal n → ⊥) → (n : ℕ) (rest : List ℕ) → IsField text n rest → ⊥
-no_field text after k e h none n rest f =
-    let r = run_at after k h in
-    let both : take k after ++ drop k after ≡ decimal n ++ rest = take-append-drop k after ∙ ap (drop 1) (sym e ∙ f.is) in
-    none n f.small (one_split (take k after) (decimal n) (drop k after) rest r.0 (decimal_in_field n (wide n f.small)) r.1 f.apart both).0
+-- each byte is a digit
+abbrev pub AreDigits : List ℕ → Type 0
+AreDigits ds = (i : ℕ) → i < length ds → IsInRange 48 57 (get_or ds i 0)
+
+folds : FoldsDigits (λ n ds. fold (λ v d. 10 * v + (d - 48)) n ds)
+folds = record { empty = λ n. refl; more = λ n c cs h. ap (λ v. fold (λ v d. 10 * v + (d - 48)) (v + (c - 48)) cs) (omega arith) }
+
+own : IsNumeralModel AreDigits value_of
+own = numerals_by_fold AreDigits tells_by_index (λ n ds. fold (λ v d. 10 * v + (d - 48)) n ds) folds
+
+taken_digits : (text : List ℕ) (i : ℕ) → i ≤ length text → ((k : ℕ) → k < i → IsInRange 48 57 (get_or text k 0)) → AreDigits (take i text)
+taken_digits text i within digits k less =
+    let below : k < i = omega (arith, less, length-take i text) in
+    subst (IsInRange 48 57) (sym (get_or-take i text k 0 below)) (digits k below)
+
+-- digits that were read so far stand at the front
+pub front_so_far : (text : List ℕ) (i value : ℕ) → i ≤ length text → i ≤ 10 → value ≡ value_of (take i text) → ((k : ℕ) → k < i → IsInRange 48 57 (get_or text k 0))
+    → (i < 10 → i < length text → ¬ (IsInRange 48 57 (get_or text i 0))) → IsFront text i value
+front_so_far text i value within few is digits ends =
+    let all : AllDigits 10 (take i text) = own.to (take i text) (taken_digits text i within digits) in record {
+      within = within;
+      few = few;
+      digits = all;
+      worth = sym (own.same (take i text) all) ∙ sym is;
+      ends = ends;
+    }
+
+-- they are worth less than a number of one digit more
+pub few_worth : (text : List ℕ) (i value : ℕ) → i ≤ length text → i < 10 → value ≡ value_of (take i text) → ((k : ℕ) → k < i → IsInRange 48 57 (get_or text k 0)) → value < 10 ^ 9
+few_worth text i value within few is digits =
+    omega (arith, is, digits_value_short own (take i text) 9 (taken_digits text i within digits) (omega (arith, length-take i text, few)))
+
+-- a text that is apart begins with no digit
+apart_no_digit : (rest : List ℕ) → IsApart rest → 0 < length rest → IsInRange 48 57 (get_or rest 0 0) → ⊥
+apart_no_digit [] a some h = omega (arith, some)
+apart_no_digit (b ∷ rest) a some h = grind (arith, nat_tests)
+
+-- digits stand at the front of a text that begins with a number, up to the number's end
+pub same_front : (text rest : List ℕ) (len value n : ℕ) → IsFront text len value → n < 2 ^ 32 → text ≡ decimal n ++ rest → IsApart rest → (len ≡ length (decimal n)) × (value ≡ n) × (drop len text ≡ rest)
+same_front text rest len value n f small e apart =
+    let k = length (decimal n) in
+    let few : k ≤ 10 = length-decimal-le 10 n (omega arith) (omega (arith, small)) (wide n small) in
+    let total : length text ≡ k + length rest = ap length e ∙ length-append (decimal n) rest in
+    let own = numerals_by_value (AllDigits 10) tells_digits in
+    elim (cases_order len k) [
+      | inl same ↦
+          let front : take len text ≡ decimal n = ap (λ m. take m text) same ∙ ap (take k) e ∙ take-append_seam (decimal n) rest in
+          (same, sym f.worth ∙ ap (digits_value 10) front ∙ digits_value-decimal own n (wide n small), ap (λ m. drop m text) same ∙ ap (drop k) e ∙ drop-append_seam (decimal n) rest)
+      | inr other ↦ elim other [
+        | inl less ↦
+            let digit = digit_at (decimal n) len (digits_decimal own n (wide n small)) less in
+            let at : get_or text len 0 ≡ get_or (decimal n) len 0 = ap (λ t. get_or t len 0) e ∙ get_or_append_left (decimal n) rest 0 len less in
+            absurd (f.ends (omega (arith, few, less)) (omega (arith, total, less)) (subst (IsInRange 48 57) (sym at) digit))
+        | inr more ↦
+            let long : k < length (take len text) = omega (arith, more, f.within, length-take len text) in
+            let digit = digit_at (take len text) k f.digits long in
+            let at : get_or (take len text) k 0 ≡ get_or rest 0 0 = get_or-take len text k 0 more ∙ ap (λ t. get_or t k 0) e ∙ get_or-append_right (decimal n) rest k k 0 refl (omega arith) ∙ ap (λ m. get_or rest m 0) (omega arith) in
+            let some : 0 < length rest = omega (arith, total, more, f.within) in
+            absurd (apart_no_digit rest apart some (subst (IsInRange 48 57) at digit))
+      ]
+    ]
+
+-- there is no field where those digits are no number, or something stands right behind them
+pub no_field : (text after : List ℕ) (len value : ℕ) → text ≡ 32 ∷ after → IsFront after len value → ((n : ℕ) → n < 2 ^ 32 → take len after ≡ decimal n → value ≡ n → IsApart (drop len after) → ⊥)
+    → (n : ℕ) (rest : List ℕ) → IsField text n rest → ⊥
+no_field text after len value e f none n rest field =
+    let is : after ≡ decimal n ++ rest = ap (drop 1) (sym e ∙ field.is) in
+    let s = same_front after rest len value n f field.small is field.apart in
+    none n field.small (ap (λ m. take m after) s.0 ∙ ap (take (length (decimal n))) is ∙ take-append_seam (decimal n) rest) s.1 (subst IsApart (sym s.2) field.apart)
+
+-- the field at the front of a text that begins with a space and digits
+pub is_field : (text after : List ℕ) (len value : ℕ) → text ≡ 32 ∷ after → IsFront after len value → 0 < len → (get_or after 0 0 ≡ 48 → len ≡ 1) → IsApart (drop len after) → value < 2 ^ 32 → IsField text value (drop len after)
+is_field text after len value e f some lead apart small =
+    let own = numerals_by_value (AllDigits 10) tells_digits in
+    let long : length (take len after) ≡ len = omega (arith, length-take len after, f.within) in
+    let first : get_or (take len after) 0 0 ≡ get_or after 0 0 = get_or-take len after 0 0 some in
+    let fits : digits_value 10 (take len after) < 2 ^ 64 = omega (arith, f.worth, small) in
+    let front : take len after ≡ decimal value =
+    sym (decimal-digits_value own (take len after) f.digits (omega (arith, long, some)) (λ z. long ∙ lead (sym first ∙ z)) fits) ∙ ap decimal f.worth in record {
+      small = small;
+      is = e ∙ ap (λ xs. 32 ∷ xs) (sym (take-append-drop len after) ∙ ap (λ xs. xs ++ drop len after) front);
+      apart = apart;
+    }
+
+-- what the front of a text has where it is a number
+pub front_leads : (after : List ℕ) (len n : ℕ) → len ≤ length after → n < 2 ^ 32 → take len after ≡ decimal n → (0 < len) × (get_or after 0 0 ≡ 48 → len ≡ 1)
+front_leads after len zero within small t =
+    let one : len ≡ 1 = omega (arith, length-take len after, within, ap length (t ∙ decimal_digit 0 (lit< tt))) in
+    (omega (arith, one), λ z. one)
+front_leads after len (suc n) within small t =
+    let long : length (take len after) ≡ len = omega (arith, length-take len after, within) in
+    let some : 0 < len = omega (arith, long, ap length t, decimal_nonempty (suc n) (wide (suc n) small)) in
+    let first : get_or after 0 0 ≡ get_or (decimal (suc n)) 0 0 = sym (get_or-take len after 0 0 some) ∙ ap (λ l. get_or l 0 0) t in
+    (some, λ z. absurd (omega (arith, z, first, first_decimal (suc n) (omega arith) (wide (suc n) small))))
+
+-- a text that is apart begins with a space, if with anything
+pub apart_first : (rest : List ℕ) → IsApart rest → 0 < length rest → get_or rest 0 0 ≡ 32
+apart_first [] a some = absurd (omega (arith, some))
+apart_first (b ∷ rest) a some = a
+
+pub first_apart : (rest : List ℕ) → (0 < length rest → get_or rest 0 0 ≡ 32) → IsApart rest
+first_apart [] h = tt
+first_apart (b ∷ rest) h = h (omega arith)
+
+-- all that stands behind so many
+pub whole_tail : (xs : List ℕ) (n : ℕ) → take (length xs - n) (drop n xs) ≡ drop n xs
+whole_tail xs n = take_all (length xs - n) (drop n xs) (omega (arith, length-drop n xs))
+
+pub no_digit : (b : ℕ) (r : Bool) → r ≡ is_ascii_digit b → r ≡ false → ¬ (IsInRange 48 57 b)
+no_digit b r e failed h = let f : is_ascii_digit b ≡ false = sym e ∙ failed in grind (arith, nat_tests)
+
+pub nothing_left : (xs : List ℕ) → length xs ≡ 0 → xs ≡ []
+nothing_left [] e = refl
+nothing_left (x ∷ xs) e = absurd (omega (arith, e))
 
 apart_of : (done rest all : List ℕ) → (0 < length done → IsApart rest) → fields done ++ rest ≡ fields all → IsApart rest
 apart_of [] rest all h e = subst IsApart (sym e) (fields_apart all)
@@ -140,15 +230,15 @@ field_of rest (n ∷ more) h e small = (n, fields more, subst (λ t. IsField t n
 
 -- where no field follows, the text is not made of fields
 pub no_numbers : (text done rest : List ℕ) → text ≡ fields done ++ rest → AreSmall done → (0 < length done → IsApart rest) → 0 < length rest
-    → ((n : ℕ) (left : List ℕ) → IsField rest n left → ⊥) → (all : List ℕ) → AreSmall all → length all ≤ 11 → text ≡ fields all → ⊥
+    → ((n : ℕ) (left : List ℕ) → IsField rest n left → ⊥) → (all : List ℕ) → AreSmall all → length all ≤ 8 → text ≡ fields all → ⊥
 no_numbers text done rest e small apart more none all small_all few is =
     let s = split_numbers text done rest all e small apart small_all is in
     let f = field_of rest s.0 more s.2 s.3 in
     none f.0 f.1 f.2
 
--- nor is it made of so few where eleven were read and something follows
+-- nor is it made of so few where eight were read and something follows
 pub too_many : (text done rest : List ℕ) → text ≡ fields done ++ rest → AreSmall done → (0 < length done → IsApart rest) → 0 < length rest
-    → length done ≡ 11 → (all : List ℕ) → AreSmall all → length all ≤ 11 → text ≡ fields all → ⊥
+    → length done ≡ 8 → (all : List ℕ) → AreSmall all → length all ≤ 8 → text ≡ fields all → ⊥
 too_many text done rest e small apart more full all small_all few is =
     let s = split_numbers text done rest all e small apart small_all is in
     let f = field_of rest s.0 more s.2 s.3 in

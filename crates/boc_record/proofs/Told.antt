@@ -7,9 +7,9 @@ use Rattle.boc_types.specs.declared.body.EndStatus.TheVariants as statuses
 use Rattle.boc_types.specs.declared.event.Event.{Event}
 use Rattle.boc_types.specs.declared.event.Event.TheVariants.{Spawn, Start, End}
 use Rattle.boc_types.specs.Records.{field, fields, event_line, header, status_number, IsHeader, IsEventLine, IsSmallEvent}
-use Rattle.boc_record.specs.Fields.{IsField, AreSmall, sign_of, numbers_of, HasFewCowns, Tells}
+use Rattle.boc_record.specs.Fields.{IsField, AreSmall, sign_of, numbers_of, Tells}
 use Rattle.std.specs.Prelude.{codes, MatchOption, Option, Some, None}
-use Rattle.boc_record.proofs.Runs.{small_first, small_rest, front_fields, one_field}
+use Rattle.boc_record.proofs.Runs.{small_rest, first_field, one_field}
 
 -- an event's line is its sign and its numbers
 pub line_is : (event : Event) → event_line event ≡ sign_of event ∷ fields (numbers_of event)
@@ -29,87 +29,82 @@ small_status statuses.SameCown = omega arith
 small_status statuses.Negative = omega arith
 small_status statuses.TickCap = omega arith
 
--- the numbers of a small event are small, and few
-pub small_numbers : (event : Event) → IsSmallEvent event → AreSmall (numbers_of event) × (length (numbers_of event) ≤ 11)
+-- a text is that of small numbers
+pub record IsTextOf (text ns : List ℕ) : Type 0 where
+  pub small : AreSmall ns
+  pub is : text ≡ fields ns
+
+-- the first field of such a text is that of the first number
+pub next_field : (text rest : List ℕ) (n m : ℕ) (ns : List ℕ) → IsField text n rest → IsTextOf text (m ∷ ns) → (n ≡ m) × IsTextOf rest ns
+next_field text rest n m ns f t =
+    let same = one_field text rest (fields ns) n m f (subst (λ x. IsField x m (fields ns)) (sym t.is) (first_field m ns t.small)) in
+    (same.0, record { small = small_rest m ns t.small; is = same.1 })
+
+-- and it is there
+pub has_field : (text : List ℕ) (m : ℕ) (ns : List ℕ) → ((n : ℕ) (rest : List ℕ) → IsField text n rest → ⊥) → IsTextOf text (m ∷ ns) → ⊥
+has_field text m ns none t = none m (fields ns) (subst (λ x. IsField x m (fields ns)) (sym t.is) (first_field m ns t.small))
+
+-- the numbers of a small event are small
+small_numbers : (event : Event) → IsSmallEvent event → AreSmall (numbers_of event)
 small_numbers (Spawn row parent offset cowns) s =
-    (All-cons (λ n. n < 2 ^ 32) row (parent ∷ offset ∷ cowns.items) s.0 (All-cons (λ n. n < 2 ^ 32) parent (offset ∷ cowns.items) s.1 (All-cons (λ n. n < 2 ^ 32) offset cowns.items s.2 s.3)), omega (arith, s.4))
-small_numbers (Start row) s = (All-cons (λ n. n < 2 ^ 32) row [] s nothing_small, omega arith)
+    All-cons (λ n. n < 2 ^ 32) row (parent ∷ offset ∷ cowns.items) s.0 (All-cons (λ n. n < 2 ^ 32) parent (offset ∷ cowns.items) s.1 (All-cons (λ n. n < 2 ^ 32) offset cowns.items s.2 s.3))
+small_numbers (Start row) s = All-cons (λ n. n < 2 ^ 32) row [] s nothing_small
 small_numbers (End row ticks status) s =
-    (All-cons (λ n. n < 2 ^ 32) row (ticks ∷ status_number status ∷ []) s.0 (All-cons (λ n. n < 2 ^ 32) ticks (status_number status ∷ []) s.1 (All-cons (λ n. n < 2 ^ 32) (status_number status) [] (small_status status) nothing_small)), omega arith)
+    All-cons (λ n. n < 2 ^ 32) row (ticks ∷ status_number status ∷ []) s.0 (All-cons (λ n. n < 2 ^ 32) ticks (status_number status ∷ []) s.1 (All-cons (λ n. n < 2 ^ 32) (status_number status) [] (small_status status) nothing_small))
 
--- an event whose numbers are small is small
-pub small_event : (event : Event) → HasFewCowns event → AreSmall (numbers_of event) → IsSmallEvent event
-small_event (Spawn row parent offset cowns) few s =
-    let rest = small_rest row (parent ∷ offset ∷ cowns.items) s in
-    let others = small_rest parent (offset ∷ cowns.items) rest in (
-      small_first row (parent ∷ offset ∷ cowns.items) s,
-      small_first parent (offset ∷ cowns.items) rest,
-      small_first offset cowns.items others,
-      small_rest offset cowns.items others,
-      few,
-    )
-small_event (Start row) few s = small_first row [] s
-small_event (End row ticks status) few s =
-    let rest : List ℕ = ticks ∷ status_number status ∷ [] in
-    (small_first row rest s, small_first ticks (status_number status ∷ []) (small_rest row rest s))
+-- the text of a spawn
+pub record IsSpawnText (text : List ℕ) : Type 0 where
+  pub row : ℕ
+  pub parent : ℕ
+  pub offset : ℕ
+  pub cowns : List ℕ
+  pub few : length cowns ≤ 8
+  pub of : IsTextOf text (row ∷ parent ∷ offset ∷ cowns)
 
--- numbers behind a sign, and the event that they tell
-pub told : (text rest : List ℕ) (sign : ℕ) (numbers : List ℕ) (event : Event) → text ≡ sign ∷ rest → AreSmall numbers → rest ≡ fields numbers → Tells sign numbers event
-    → IsSmallEvent event × (text ≡ event_line event)
-told text rest sign numbers event e small is t = (
-  small_event event t.few (subst AreSmall (sym t.numbers_are) small),
-  e ∙ ap (λ x. x ∷ rest) (sym t.sign_is) ∙ ap (λ xs. sign_of event ∷ xs) (is ∙ ap fields (sym t.numbers_are)) ∙ sym (line_is event),
-)
+pub spawn_text : (text : List ℕ) (event : Event) → Tells 43 text event → IsSpawnText text
+spawn_text text (Spawn row parent offset cowns) t = record {
+  row = row;
+  parent = parent;
+  offset = offset;
+  cowns = cowns.items;
+  few = t.small.4;
+  of = record { small = small_numbers (Spawn row parent offset cowns) t.small; is = t.is };
+}
+spawn_text text (Start row) t = absurd (omega (arith, t.sign_is))
+spawn_text text (End row ticks status) t = absurd (omega (arith, t.sign_is))
 
-nothing : (more : List ℕ) → [] ≡ fields more → more ≡ []
-nothing [] e = refl
-nothing (n ∷ more) e = absurd (omega (arith, ap length e))
+-- the text of a start
+pub start_text : (text : List ℕ) (event : Event) → Tells 62 text event → (row : ℕ) × IsTextOf text (row ∷ [])
+start_text text (Spawn row parent offset cowns) t = absurd (omega (arith, t.sign_is))
+start_text text (Start row) t = (row, record { small = small_numbers (Start row) t.small; is = t.is })
+start_text text (End row ticks status) t = absurd (omega (arith, t.sign_is))
 
--- numbers are told by their fields
-pub same_numbers : (ns ms : List ℕ) → AreSmall ns → AreSmall ms → fields ns ≡ fields ms → ns ≡ ms
-same_numbers ns ms p q e =
-    let f = front_fields ns [] ms p q tt (append-nil (fields ns) ∙ e) in
-    sym (f.1 ∙ ap (λ xs. ns ++ xs) (nothing f.0 f.2) ∙ append-nil ns)
+-- the text of an end
+pub record IsEndText (text : List ℕ) : Type 0 where
+  pub row : ℕ
+  pub ticks : ℕ
+  pub status : EndStatus
+  pub of : IsTextOf text (row ∷ ticks ∷ status_number status ∷ [])
 
--- a line of a sign and numbers that tell no event is no event's
-pub untold : (text rest : List ℕ) (sign : ℕ) (numbers : List ℕ) → text ≡ sign ∷ rest → AreSmall numbers → rest ≡ fields numbers
-    → ((event : Event) → sign_of event ≡ sign → numbers_of event ≡ numbers → ⊥) → IsEventLine text → ⊥
-untold text rest sign numbers e small is none given =
-    let event = given.0 in
-    let both : sign ∷ rest ≡ sign_of event ∷ fields (numbers_of event) = sym e ∙ given.2 ∙ line_is event in
-    none event (sym (ap (λ xs. get_or xs 0 0) both))
-    (same_numbers (numbers_of event) numbers (small_numbers event given.1).0 small (sym (ap (drop 1) both) ∙ is))
-
--- nor is one that is no sign and fields
-pub no_fields : (text rest : List ℕ) (sign : ℕ) → text ≡ sign ∷ rest → ((ns : List ℕ) → AreSmall ns → length ns ≤ 11 → rest ≡ fields ns → ⊥) → IsEventLine text → ⊥
-no_fields text rest sign e none given =
-    let event = given.0 in
-    let small = small_numbers event given.1 in
-    none (numbers_of event) small.0 small.1 (ap (drop 1) (sym e ∙ given.2 ∙ line_is event))
-
--- numbers that are too few tell no spawn
-pub no_spawn : (numbers : List ℕ) → (3 ≤ length numbers → ⊥) → (event : Event) → sign_of event ≡ 43 → numbers_of event ≡ numbers → ⊥
-no_spawn numbers none (Spawn row parent offset cowns) s e = none (subst (λ xs. 3 ≤ length xs) e (omega arith))
-no_spawn numbers none (Start row) s e = absurd (omega (arith, s))
-no_spawn numbers none (End row ticks status) s e = absurd (omega (arith, s))
-
-pub no_start : (numbers : List ℕ) → (length numbers ≡ 1 → ⊥) → (event : Event) → sign_of event ≡ 62 → numbers_of event ≡ numbers → ⊥
-no_start numbers none (Spawn row parent offset cowns) s e = absurd (omega (arith, s))
-no_start numbers none (Start row) s e = none (ap length (sym e))
-no_start numbers none (End row ticks status) s e = absurd (omega (arith, s))
-
-pub no_end : (numbers : List ℕ) → ((row ticks : ℕ) (status : EndStatus) → numbers ≡ row ∷ ticks ∷ status_number status ∷ [] → ⊥)
-    → (event : Event) → sign_of event ≡ 60 → numbers_of event ≡ numbers → ⊥
-no_end numbers none (Spawn row parent offset cowns) s e = absurd (omega (arith, s))
-no_end numbers none (Start row) s e = absurd (omega (arith, s))
-no_end numbers none (End row ticks status) s e = none row ticks status (sym e)
+pub end_text : (text : List ℕ) (event : Event) → Tells 60 text event → IsEndText text
+end_text text (Spawn row parent offset cowns) t = absurd (omega (arith, t.sign_is))
+end_text text (Start row) t = absurd (omega (arith, t.sign_is))
+end_text text (End row ticks status) t = record {
+  row = row;
+  ticks = ticks;
+  status = status;
+  of = record { small = small_numbers (End row ticks status) t.small; is = t.is };
+}
 
 -- what is told, or why nothing is
-pub judged : (result : Option Event) (text rest : List ℕ) (sign : ℕ) (numbers : List ℕ) (No : Type 0) → MatchOption result No (Tells sign numbers)
-    → text ≡ sign ∷ rest → AreSmall numbers → rest ≡ fields numbers → (No → (event : Event) → sign_of event ≡ sign → numbers_of event ≡ numbers → ⊥)
-    → MatchOption result (IsEventLine text → ⊥) (λ event. IsSmallEvent event × (text ≡ event_line event))
-judged None text rest sign numbers No h e small is none = untold text rest sign numbers e small is (none h)
-judged (Some event) text rest sign numbers No h e small is none = told text rest sign numbers event e small is h
+pub judged : (result : Option Event) (text rest : List ℕ) (sign : ℕ) → MatchOption result ((event : Event) → Tells sign rest event → ⊥) (λ event. Tells sign rest event)
+    → text ≡ sign ∷ rest → MatchOption result (IsEventLine text → ⊥) (λ event. IsSmallEvent event × (text ≡ event_line event))
+judged None text rest sign none e = λ given.
+    let event = given.0 in
+    let both : sign ∷ rest ≡ sign_of event ∷ fields (numbers_of event) = sym e ∙ given.2 ∙ line_is event in
+    none event (record { sign_is = sym (ap (λ xs. get_or xs 0 0) both); small = given.1; is = ap (drop 1) both })
+judged (Some event) text rest sign t e =
+    (t.small, e ∙ ap (λ x. x ∷ rest) (sym t.sign_is) ∙ ap (λ xs. sign_of event ∷ xs) t.is ∙ sym (line_is event))
 
 -- a header is its number behind what every header has
 pub header_field : (text rest : List ℕ) → text ≡ codes "boc 1" ++ rest → (given : IsHeader text) → IsField rest given.0 []

@@ -1,12 +1,10 @@
 -- Fields of a line, read from the front.
-use Rattle.std.specs.Prelude.{◌≡◌, ℕ, ◌<◌, ◌^◌, ◌++◌, Bool, true, false, nat_eq, if◌then◌else◌, List, [], ◌∷◌, All, length, ◌≤◌}
-use Rattle.boc_types.specs.Records.{field, status_number}
+use Rattle.std.specs.Prelude.{◌≡◌, ℕ, ◌<◌, ◌^◌, ◌++◌, List, [], ◌∷◌, All, length, take, slice_index_or, ◌≤◌}
+use Rattle.std.specs.Str.Parse.{AllDigits, digits_value}
+use Rattle.std.specs.Int.{IsInRange}
+use Rattle.boc_types.specs.Records.{field, fields, status_number, IsSmallEvent}
 use Rattle.boc_types.specs.declared.event.Event.{Event}
 use Rattle.boc_types.specs.declared.event.Event.TheVariants.{Spawn, Start, End}
-
--- a byte that stands within a field: no space
-abbrev pub is_in_field : ℕ → Bool
-is_in_field b = if nat_eq b 32 then false else true
 
 -- a text that ends, or goes on with a space
 abbrev pub IsApart : List ℕ → Type 0
@@ -18,6 +16,14 @@ pub record IsField (text : List ℕ) (n : ℕ) (rest : List ℕ) : Type 0 where
   pub small : n < 2 ^ 32
   pub is : text ≡ field n ++ rest
   pub apart : IsApart rest
+
+-- so many digits stand at the front of a text, ten at most, and are worth so much
+pub record IsFront (text : List ℕ) (len value : ℕ) : Type 0 where
+  pub within : len ≤ length text
+  pub few : len ≤ 10
+  pub digits : AllDigits 10 (take len text)
+  pub worth : digits_value 10 (take len text) ≡ value
+  pub ends : len < 10 → len < length text → ¬ (IsInRange 48 57 (slice_index_or text len 0))
 
 -- numbers of 32 bits
 abbrev pub AreSmall : List ℕ → Type 0
@@ -35,14 +41,8 @@ numbers_of (Spawn row parent offset cowns) = row ∷ parent ∷ offset ∷ cowns
 numbers_of (Start row) = row ∷ []
 numbers_of (End row ticks status) = row ∷ ticks ∷ status_number status ∷ []
 
--- an event has at most eight cowns
-abbrev pub HasFewCowns : Event → Type 0
-HasFewCowns (Spawn row parent offset cowns) = length cowns.items ≤ 8
-HasFewCowns (Start row) = Unit {0}
-HasFewCowns (End row ticks status) = Unit {0}
-
--- a sign and numbers tell an event
-pub record Tells (sign : ℕ) (numbers : List ℕ) (event : Event) : Type 0 where
+-- fields behind a sign tell an event
+pub record Tells (sign : ℕ) (text : List ℕ) (event : Event) : Type 0 where
   pub sign_is : sign_of event ≡ sign
-  pub numbers_are : numbers_of event ≡ numbers
-  pub few : HasFewCowns event
+  pub small : IsSmallEvent event
+  pub is : text ≡ fields (numbers_of event)

@@ -1,24 +1,28 @@
 // The fields of a line: numbers, each behind a space.
 
 ghost use Rattle.std.specs.Prelude.{◌≡◌, ◌≤◌, ◌^◌, ◌<◌, ◌++◌, [], ℕ, List, All, length, MatchOption};
-ghost use Rattle.std.specs.List.{take_while};
 ghost use Rattle.boc_types.specs.Records.{fields as fields_spec};
-ghost use Rattle.boc_record.specs.Fields.{is_in_field, IsField, AreSmall};
+ghost use Rattle.boc_record.specs.Fields.{IsFront, IsField, AreSmall};
 
-use arrayvec::ArrayVec;
-use boc_text::read_number;
+use boc_types::short::Cowns;
 
-/// The most fields of a line: a row, its parent, an offset and eight cowns.
-pub const MOST_FIELDS: usize = 11;
+/// The most digits of a number of 32 bits.
+const MOST_DIGITS: usize = 10;
 
-/// The numbers of a line.
-pub type Numbers = ArrayVec<u32, MOST_FIELDS>;
-
-// How many bytes stand in front of the next space, or of the end.
-fn run_len(text: &[u8]) -> usize
-    ensures { result ≡ length (take_while is_in_field text.now) }
+// How many digits stand at the front of a text, ten at most, and what they are worth.
+fn front_digits(text: &[u8]) -> (usize, u64)
+    ensures { IsFront text.now result.0 result.1 }
 {
-    text.iter().take_while(|b| **b != b' ').count()
+    let most = text.len().min(MOST_DIGITS);
+    let mut value: u64 = 0;
+    for i in 0..most {
+        let byte = text[i];
+        if !byte.is_ascii_digit() {
+            return (i, value);
+        }
+        value = 10 * value + u64::from(byte - b'0');
+    }
+    (most, value)
 }
 
 /// The field at the front of a text, and what stands behind it.
@@ -29,24 +33,37 @@ pub fn split_field(text: &[u8]) -> Option<(u32, &[u8])>
     if *first != b' ' {
         return None;
     }
-    let (digits, rest) = after.split_at(run_len(after));
-    Some((read_number(digits)?, rest))
+    let (len, value) = front_digits(after);
+    if len == 0 {
+        return None;
+    }
+    if after[0] == b'0' && len > 1 {
+        return None;
+    }
+    let rest = &after[len..];
+    if !rest.is_empty() && rest[0] != b' ' {
+        return None;
+    }
+    if value > u64::from(u32::MAX) {
+        return None;
+    }
+    Some((value as u32, rest))
 }
 
-/// The numbers of a text of at most eleven fields.
-pub fn numbers(text: &[u8]) -> Option<Numbers>
-    ensures { MatchOption result ((ns : List ℕ) → AreSmall ns → length ns ≤ 11 → text.now ≡ fields_spec ns → ⊥)
-        (λ v. AreSmall v.items × (text.now ≡ fields_spec v.items)) }
+/// The cowns of a text of at most eight fields.
+pub fn cowns_of(text: &[u8]) -> Option<Cowns>
+    ensures { MatchOption result ((ns : List ℕ) → AreSmall ns → length ns ≤ 8 → text.now ≡ fields_spec ns → ⊥)
+        (λ v. AreSmall v.items × (length v.items ≤ 8) × (text.now ≡ fields_spec v.items)) }
 {
-    let mut numbers = Numbers::new();
+    let mut cowns = Cowns::new();
     let mut rest = text;
     while !rest.is_empty() {
-        let (number, after) = split_field(rest)?;
-        if numbers.is_full() {
+        let (cown, after) = split_field(rest)?;
+        if cowns.is_full() {
             return None;
         }
-        numbers.push(number);
+        cowns.push(cown);
         rest = after;
     }
-    Some(numbers)
+    Some(cowns)
 }

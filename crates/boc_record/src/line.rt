@@ -1,13 +1,12 @@
 // The lines of a record.
 
-ghost use Rattle.std.specs.Prelude.{◌≡◌, ◌≤◌, ◌∷◌, ◌++◌, [], ℕ, List, codes, length, MatchOption};
+ghost use Rattle.std.specs.Prelude.{◌≡◌, ◌≤◌, ◌++◌, ℕ, List, codes, MatchOption};
 ghost use Rattle.boc_types.specs.Records.{header, event_line, status_number, IsHeader, IsEventLine, IsSmallEvent};
 ghost use Rattle.boc_record.specs.Fields.{Tells};
 
-use crate::fields::{numbers, split_field};
+use crate::fields::{cowns_of, split_field};
 use boc_types::body::EndStatus;
 use boc_types::event::Event;
-use boc_types::short::Cowns;
 
 /// The most cowns of a record.
 const MOST_COWNS: u32 = 256;
@@ -37,55 +36,54 @@ fn after_version(line: &[u8]) -> Option<&[u8]>
 pub fn event_of_line(line: &[u8]) -> Option<Event>
     ensures { MatchOption result (IsEventLine line.now → ⊥) (λ event. IsSmallEvent event × (line.now ≡ event_line event)) }
 {
-    let (sign, rest) = line.split_first()?;
-    let numbers = numbers(rest)?;
+    let (sign, fields) = line.split_first()?;
     match sign {
-        b'+' => spawn_of(&numbers),
-        b'>' => start_of(&numbers),
-        b'<' => end_of(&numbers),
+        b'+' => spawn_of(fields),
+        b'>' => start_of(fields),
+        b'<' => end_of(fields),
         _ => None,
     }
 }
 
-/// The spawn that these numbers tell: a row, its parent, an offset and cowns.
-fn spawn_of(numbers: &[u32]) -> Option<Event>
-    requires { length numbers.now ≤ 11 }
-    ensures { MatchOption result (3 ≤ length numbers.now → ⊥) (λ event. Tells 43 numbers.now event) }
+/// The spawn that these fields tell: a row, its parent, an offset and cowns.
+fn spawn_of(fields: &[u8]) -> Option<Event>
+    ensures { MatchOption result ((event : Event) → Tells 43 fields.now event → ⊥) (λ event. Tells 43 fields.now event) }
 {
-    match numbers {
-        [row, parent, offset, cowns @ ..] => Some(Event::Spawn {
-            row: *row,
-            parent: *parent,
-            offset: *offset,
-            cowns: Cowns::try_from(cowns).unwrap(),
-        }),
-        _ => None,
-    }
+    let (row, after_row) = split_field(fields)?;
+    let (parent, after_parent) = split_field(after_row)?;
+    let (offset, after_offset) = split_field(after_parent)?;
+    let cowns = cowns_of(after_offset)?;
+    Some(Event::Spawn {
+        row,
+        parent,
+        offset,
+        cowns,
+    })
 }
 
-/// The start that these numbers tell: a row.
-fn start_of(numbers: &[u32]) -> Option<Event>
-    ensures { MatchOption result (length numbers.now ≡ 1 → ⊥) (λ event. Tells 62 numbers.now event) }
+/// The start that these fields tell: a row.
+fn start_of(fields: &[u8]) -> Option<Event>
+    ensures { MatchOption result ((event : Event) → Tells 62 fields.now event → ⊥) (λ event. Tells 62 fields.now event) }
 {
-    match numbers {
-        [row] => Some(Event::Start { row: *row }),
-        _ => None,
+    let (row, after_row) = split_field(fields)?;
+    if !after_row.is_empty() {
+        return None;
     }
+    Some(Event::Start { row })
 }
 
-/// The end that these numbers tell: a row, its ticks and its status.
-fn end_of(numbers: &[u32]) -> Option<Event>
-    ensures { MatchOption result ((row ticks : ℕ) (status : EndStatus) → numbers.now ≡ row ∷ ticks ∷ status_number status ∷ [] → ⊥)
-        (λ event. Tells 60 numbers.now event) }
+/// The end that these fields tell: a row, its ticks and its status.
+fn end_of(fields: &[u8]) -> Option<Event>
+    ensures { MatchOption result ((event : Event) → Tells 60 fields.now event → ⊥) (λ event. Tells 60 fields.now event) }
 {
-    match numbers {
-        [row, ticks, status] => Some(Event::End {
-            row: *row,
-            ticks: *ticks,
-            status: status_of(*status)?,
-        }),
-        _ => None,
+    let (row, after_row) = split_field(fields)?;
+    let (ticks, after_ticks) = split_field(after_row)?;
+    let (number, after_number) = split_field(after_ticks)?;
+    if !after_number.is_empty() {
+        return None;
     }
+    let status = status_of(number)?;
+    Some(Event::End { row, ticks, status })
 }
 
 /// The status of a number.

@@ -86,9 +86,10 @@ fn next_item<S: Source>(lines: &mut Lines, source: &mut S) -> Result<Option<Even
     ensures open { OnOk result (lines.new.is_over ≡ false) }
     ensures failures { CountsPart result (S.failures source.old) (S.failures source.new) }
 {
-    match lines.next_line(source) {
+    let next = lines.next_line(source);
+    match &next {
         Next::Line(line) if line.as_slice() == b".".as_slice() => Ok(None),
-        Next::Line(line) => match event_of_line(&line) {
+        Next::Line(line) => match event_of_line(line) {
             Some(event) => Ok(Some(event)),
             None => Err(RecordFaultKind::Form),
         },

@@ -16,37 +16,39 @@ use Rattle.boc_types.specs.Records.{AreRowsOf}
 use Rattle.boc_rules.specs.declared.stage.Life.TheVariants.{Pending, Running, Ended}
 use Rattle.boc_rules.specs.declared.stage.Stage.{Stage}
 use Rattle.boc_rules.specs.Turns.{noted}
-use Rattle.boc_rules.specs.Kept.{AreStagesOf, AreLatest, over_one, over, Keeps, staged, placed}
+use Rattle.boc_rules.specs.Kept.{AreStagesOf, AreFound, AreLatest, over_one, over, Keeps, staged, placed}
 use Rattle.boc_rules.proofs.Lists.{got_in}
 use Rattle.boc_rules.proofs.Next.{living, after_more, legal_more}
-use Rattle.boc_rules.proofs.Keeping.{IsSet, rows_set, rows_stay, stages_set, latest_set, over_set, rows_push, stages_push, latest_push, over_push}
+use Rattle.boc_rules.proofs.Keeping.{IsSet, rows_set, rows_stay, stages_set, found_set, latest_set, over_set, rows_push, stages_push, found_push, latest_push, over_push}
 
 -- what is kept is that of these rows
-pub record IsThatOf (run : List Entry) (cowns : ℕ) (rows : List Row) (stages : List Stage) (latest : List (Option ℕ)) (ended : ℕ) : Type 0 where
+pub record IsThatOf (run : List Entry) (cowns : ℕ) (rows : List Row) (stages : List Stage) (found latest : List (Option ℕ)) (ended : ℕ) : Type 0 where
   pub rows_are : AreRowsOf run rows
   pub stages_are : AreStagesOf run stages
+  pub found_are : AreFound run stages found
   pub latest_are : AreLatest run cowns latest
   pub ended_is : ended ≡ over run
 
-that : (cowns : ℕ) (events : List Event) (rows : List Row) (stages : List Stage) (latest : List (Option ℕ)) (ended : ℕ) → Keeps cowns events rows stages latest ended → IsThatOf (entries events) cowns rows stages latest ended
-that cowns events rows stages latest ended k = record { rows_are = k.rows_are; stages_are = k.stages_are; latest_are = k.latest_are; ended_is = k.ended_is }
+that : (cowns : ℕ) (events : List Event) (rows : List Row) (stages : List Stage) (found latest : List (Option ℕ)) (ended : ℕ) → Keeps cowns events rows stages found latest ended → IsThatOf (entries events) cowns rows stages found latest ended
+that cowns events rows stages found latest ended k = record { rows_are = k.rows_are; stages_are = k.stages_are; found_are = k.found_are; latest_are = k.latest_are; ended_is = k.ended_is }
 
-keeps_more : (cowns : ℕ) (events : List Event) (event : Event) (rows rows' : List Row) (stages stages' : List Stage) (latest latest' : List (Option ℕ)) (ended ended' : ℕ) → Keeps cowns events rows stages latest ended → IsAllowed cowns (entries events) event
-    → IsThatOf (after (entries events) event) cowns rows' stages' latest' ended' → Keeps cowns (events ++ (event ∷ [])) rows' stages' latest' ended'
-keeps_more cowns events event rows rows' stages stages' latest latest' ended ended' k a t =
+keeps_more : (cowns : ℕ) (events : List Event) (event : Event) (rows rows' : List Row) (stages stages' : List Stage) (found found' latest latest' : List (Option ℕ)) (ended ended' : ℕ) → Keeps cowns events rows stages found latest ended → IsAllowed cowns (entries events) event
+    → IsThatOf (after (entries events) event) cowns rows' stages' found' latest' ended' → Keeps cowns (events ++ (event ∷ [])) rows' stages' found' latest' ended'
+keeps_more cowns events event rows rows' stages stages' found found' latest latest' ended ended' k a t =
     let e = sym (after_more [] events event) in
-    let u : IsThatOf (entries (events ++ (event ∷ []))) cowns rows' stages' latest' ended' = subst (λ (run : List Entry). IsThatOf run cowns rows' stages' latest' ended') e t in record {
+    let u : IsThatOf (entries (events ++ (event ∷ []))) cowns rows' stages' found' latest' ended' = subst (λ (run : List Entry). IsThatOf run cowns rows' stages' found' latest' ended') e t in record {
       few = k.few;
       legal = legal_more cowns [] events event k.legal a;
       rows_are = u.rows_are;
       stages_are = u.stages_are;
+      found_are = u.found_are;
       latest_are = u.latest_are;
       ended_is = u.ended_is;
     }
 
-that_start : (run : List Entry) (cowns : ℕ) (rows : List Row) (stages : List Stage) (latest : List (Option ℕ)) (ended row : ℕ) → IsThatOf run cowns rows stages latest ended → MayStart run row
-    → IsThatOf (changed run row (λ x. record x { life = legal.Running }) (slice_get run row)) cowns rows (staged stages row (λ s. record s { life = Running }) (slice_get stages row)) latest ended
-that_start run cowns rows stages latest ended row t may =
+that_start : (run : List Entry) (cowns : ℕ) (rows : List Row) (stages : List Stage) (found latest : List (Option ℕ)) (ended row : ℕ) → IsThatOf run cowns rows stages found latest ended → MayStart run row
+    → IsThatOf (changed run row (λ x. record x { life = legal.Running }) (slice_get run row)) cowns rows (staged stages row (λ s. record s { life = Running }) (slice_get stages row)) found latest ended
+that_start run cowns rows stages found latest ended row t may =
     let e = living run row legal.Pending may.waits in
     let v : Entry = record e.0 { life = legal.Running } in
     let h : IsSet run row e.0 v = record { is = e.1; cowns = refl } in
@@ -55,19 +57,20 @@ that_start run cowns rows stages latest ended row t may =
     let y : Stage = record x.0 { life = Running } in
     let was = t.stages_are.each row e.0 x.0 e.1 x.1 in
     let counted = over_set run row e.0 v e.1 in
-    subst (λ (r : List Entry). IsThatOf r cowns rows (staged stages row (λ s. record s { life = Running }) (slice_get stages row)) latest ended) (sym (ap (changed run row (λ z. record z { life = legal.Running })) e.1))
-    (subst (λ (s : List Stage). IsThatOf (slice_set run row v) cowns rows s latest ended) (sym (ap (staged stages row (λ s. record s { life = Running })) x.1))
+    subst (λ (r : List Entry). IsThatOf r cowns rows (staged stages row (λ s. record s { life = Running }) (slice_get stages row)) found latest ended) (sym (ap (changed run row (λ z. record z { life = legal.Running })) e.1))
+    (subst (λ (s : List Stage). IsThatOf (slice_set run row v) cowns rows s found latest ended) (sym (ap (staged stages row (λ s. record s { life = Running })) x.1))
     (record {
       rows_are = rows_stay run rows row e.0 v t.rows_are h (λ y is. record { parent = is.parent; offset = is.offset; cowns = is.cowns; ticks = is.ticks; status = is.status });
-      stages_are = stages_set run stages row e.0 v x.0 y t.stages_are h x.1 (record { life = refl; last = was.last }) refl;
+      stages_are = stages_set run stages row e.0 v x.0 y t.stages_are h x.1 (record { life = refl; last = was.last });
+      found_are = found_set run stages found row e.0 v x.0 y t.found_are h x.1 refl refl;
       latest_are = latest_set run row e.0 v cowns latest t.latest_are h;
       ended_is = omega (arith, counted, ap over_one e.2, t.ended_is);
     }))
 
-that_end : (run : List Entry) (cowns : ℕ) (rows : List Row) (stages : List Stage) (latest : List (Option ℕ)) (ended row ticks : ℕ) (status : EndStatus) → IsThatOf run cowns rows stages latest ended → MayEnd run row ticks
+that_end : (run : List Entry) (cowns : ℕ) (rows : List Row) (stages : List Stage) (found latest : List (Option ℕ)) (ended row ticks : ℕ) (status : EndStatus) → IsThatOf run cowns rows stages found latest ended → MayEnd run row ticks
     → IsThatOf (changed run row (λ x. record x { life = legal.Ended; ticks = ticks; status = status }) (slice_get run row)) cowns (placed rows row (λ x. record x { ticks = ticks; status = status }) (slice_get rows row))
-    (staged stages row (λ s. record s { life = Ended }) (slice_get stages row)) latest (ended + 1)
-that_end run cowns rows stages latest ended row ticks status t may =
+    (staged stages row (λ s. record s { life = Ended }) (slice_get stages row)) found latest (ended + 1)
+that_end run cowns rows stages found latest ended row ticks status t may =
     let e = living run row legal.Running may.runs in
     let v : Entry = record e.0 { life = legal.Ended; ticks = ticks; status = status } in
     let h : IsSet run row e.0 v = record { is = e.1; cowns = refl } in
@@ -81,27 +84,29 @@ that_end run cowns rows stages latest ended row ticks status t may =
     let was = t.stages_are.each row e.0 x.0 e.1 x.1 in
     let row_was = t.rows_are.each row e.0 z.0 e.1 z.1 in
     let counted = over_set run row e.0 v e.1 in
-    subst (λ (r : List Entry). IsThatOf r cowns (placed rows row (λ x. record x { ticks = ticks; status = status }) (slice_get rows row)) (staged stages row (λ s. record s { life = Ended }) (slice_get stages row)) latest (ended + 1))
+    subst (λ (r : List Entry). IsThatOf r cowns (placed rows row (λ x. record x { ticks = ticks; status = status }) (slice_get rows row)) (staged stages row (λ s. record s { life = Ended }) (slice_get stages row)) found latest (ended + 1))
     (sym (ap (changed run row (λ z. record z { life = legal.Ended; ticks = ticks; status = status })) e.1))
-    (subst (λ (s : List Stage). IsThatOf (slice_set run row v) cowns (placed rows row (λ x. record x { ticks = ticks; status = status }) (slice_get rows row)) s latest (ended + 1)) (sym (ap (staged stages row (λ s. record s { life = Ended })) x.1))
-    (subst (λ (s : List Row). IsThatOf (slice_set run row v) cowns s (slice_set stages row y) latest (ended + 1)) (sym (ap (placed rows row (λ x. record x { ticks = ticks; status = status })) z.1))
+    (subst (λ (s : List Stage). IsThatOf (slice_set run row v) cowns (placed rows row (λ x. record x { ticks = ticks; status = status }) (slice_get rows row)) s found latest (ended + 1)) (sym (ap (staged stages row (λ s. record s { life = Ended })) x.1))
+    (subst (λ (s : List Row). IsThatOf (slice_set run row v) cowns s (slice_set stages row y) found latest (ended + 1)) (sym (ap (placed rows row (λ x. record x { ticks = ticks; status = status })) z.1))
     (record {
       rows_are = rows_set run rows row e.0 v z.0 w t.rows_are h z.1 (record { parent = row_was.parent; offset = row_was.offset; cowns = row_was.cowns; ticks = refl; status = refl });
-      stages_are = stages_set run stages row e.0 v x.0 y t.stages_are h x.1 (record { life = refl; last = was.last }) refl;
+      stages_are = stages_set run stages row e.0 v x.0 y t.stages_are h x.1 (record { life = refl; last = was.last });
+      found_are = found_set run stages found row e.0 v x.0 y t.found_are h x.1 refl refl;
       latest_are = latest_set run row e.0 v cowns latest t.latest_are h;
       ended_is = omega (arith, counted, ap over_one e.2, t.ended_is);
     })))
 
 -- the parent has a further child
-that_child : (run : List Entry) (cowns : ℕ) (rows : List Row) (stages : List Stage) (latest : List (Option ℕ)) (ended parent offset : ℕ) (e : Entry) (x : Stage) → IsThatOf run cowns rows stages latest ended → slice_get run parent ≡ Some e → slice_get stages parent ≡ Some x
-    → IsThatOf (slice_set run parent (record e { last = offset })) cowns rows (slice_set stages parent (record x { last = offset })) latest ended
-that_child run cowns rows stages latest ended parent offset e x t is at =
+that_child : (run : List Entry) (cowns : ℕ) (rows : List Row) (stages : List Stage) (found latest : List (Option ℕ)) (ended parent offset : ℕ) (e : Entry) (x : Stage) → IsThatOf run cowns rows stages found latest ended → slice_get run parent ≡ Some e → slice_get stages parent ≡ Some x
+    → IsThatOf (slice_set run parent (record e { last = offset })) cowns rows (slice_set stages parent (record x { last = offset })) found latest ended
+that_child run cowns rows stages found latest ended parent offset e x t is at =
     let v : Entry = record e { last = offset } in
     let h : IsSet run parent e v = record { is = is; cowns = refl } in
     let was = t.stages_are.each parent e x is at in
     let counted = over_set run parent e v is in record {
       rows_are = rows_stay run rows parent e v t.rows_are h (λ y is. record { parent = is.parent; offset = is.offset; cowns = is.cowns; ticks = is.ticks; status = is.status });
-      stages_are = stages_set run stages parent e v x (record x { last = offset }) t.stages_are h at (record { life = was.life; last = refl }) refl;
+      stages_are = stages_set run stages parent e v x (record x { last = offset }) t.stages_are h at (record { life = was.life; last = refl });
+      found_are = found_set run stages found parent e v x (record x { last = offset }) t.found_are h at refl refl;
       latest_are = latest_set run parent e v cowns latest t.latest_are h;
       ended_is = omega (arith, counted, t.ended_is);
     }
@@ -110,15 +115,16 @@ abbrev new_row : ℕ → ℕ → ArrayVec ℕ → Row
 new_row parent offset cowns = record { parent = parent; offset = offset; cowns = cowns; ticks = 0; status = statuses.Done }
 
 abbrev new_stage : List (Option ℕ) → ArrayVec ℕ → Stage
-new_stage latest cowns = record { life = Pending; last = 0; before = record { items = map (λ c. get_or latest c None) cowns.items } }
+new_stage found cowns = record { life = Pending; last = 0; from = length found; to = length found + length cowns.items }
 
 -- a new row stands behind the others
-that_push : (run : List Entry) (count : ℕ) (rows : List Row) (stages : List Stage) (latest : List (Option ℕ)) (ended row parent offset : ℕ) (cowns : ArrayVec ℕ) → IsThatOf run count rows stages latest ended → row ≡ length run → All (λ c. c < count) cowns.items
-    → IsThatOf (run ++ (pending parent offset cowns.items ∷ [])) count (rows ++ (new_row parent offset cowns ∷ [])) (stages ++ (new_stage latest cowns ∷ [])) (noted latest cowns.items row) ended
-that_push run count rows stages latest ended row parent offset cowns t next below =
+that_push : (run : List Entry) (count : ℕ) (rows : List Row) (stages : List Stage) (found latest : List (Option ℕ)) (ended row parent offset : ℕ) (cowns : ArrayVec ℕ) → IsThatOf run count rows stages found latest ended → row ≡ length run → All (λ c. c < count) cowns.items
+    → IsThatOf (run ++ (pending parent offset cowns.items ∷ [])) count (rows ++ (new_row parent offset cowns ∷ [])) (stages ++ (new_stage found cowns ∷ [])) (found ++ map (λ c. get_or latest c None) cowns.items) (noted latest cowns.items row) ended
+that_push run count rows stages found latest ended row parent offset cowns t next below =
     let v = pending parent offset cowns.items in record {
       rows_are = rows_push run rows v (new_row parent offset cowns) t.rows_are (record { parent = refl; offset = refl; cowns = refl; ticks = refl; status = refl });
-      stages_are = stages_push run stages v (new_stage latest cowns) count latest t.stages_are (record { life = refl; last = refl }) t.latest_are below refl;
+      stages_are = stages_push run stages v (new_stage found cowns) t.stages_are (record { life = refl; last = refl });
+      found_are = found_push run stages found v (new_stage found cowns) count latest t.stages_are t.found_are t.latest_are below refl refl;
       latest_are = subst (λ (n : ℕ). AreLatest (run ++ (v ∷ [])) count (noted latest cowns.items n)) (sym next) (latest_push run v count latest t.latest_are);
       ended_is = omega (arith, over_push run v, t.ended_is);
     }
@@ -127,43 +133,43 @@ no_stages : (stages : List Stage) → length stages ≡ 0 → stages ≡ []
 no_stages [] e = refl
 no_stages (x ∷ stages) e = absurd (omega arith)
 
-that_spawn : (run : List Entry) (count : ℕ) (rows : List Row) (stages : List Stage) (latest : List (Option ℕ)) (ended row parent offset : ℕ) (cowns : ArrayVec ℕ) → IsThatOf run count rows stages latest ended → row ≡ length run
+that_spawn : (run : List Entry) (count : ℕ) (rows : List Row) (stages : List Stage) (found latest : List (Option ℕ)) (ended row parent offset : ℕ) (cowns : ArrayVec ℕ) → IsThatOf run count rows stages found latest ended → row ≡ length run
     → IsParent run parent → MayNeed count run cowns.items
     → IsThatOf (changed run parent (λ x. record x { last = offset }) (slice_get run parent) ++ (pending parent offset cowns.items ∷ [])) count (rows ++ (new_row parent offset cowns ∷ []))
-    (staged stages parent (λ s. record s { last = offset }) (slice_get stages parent) ++ (new_stage latest cowns ∷ [])) (noted latest cowns.items row) ended
-that_spawn [] count rows stages latest ended row parent offset cowns t next p m =
+    (staged stages parent (λ s. record s { last = offset }) (slice_get stages parent) ++ (new_stage found cowns ∷ [])) (found ++ map (λ c. get_or latest c None) cowns.items) (noted latest cowns.items row) ended
+that_spawn [] count rows stages found latest ended row parent offset cowns t next p m =
     let none : stages ≡ [] = no_stages stages t.stages_are.all in
     let same : staged stages parent (λ s. record s { last = offset }) (slice_get stages parent) ≡ stages = subst (λ (s : List Stage). staged s parent (λ s. record s { last = offset }) (slice_get s parent) ≡ s) (sym none) refl in
-    subst (λ (s : List Stage). IsThatOf (pending parent offset cowns.items ∷ []) count (rows ++ (new_row parent offset cowns ∷ [])) (s ++ (new_stage latest cowns ∷ [])) (noted latest cowns.items row) ended) (sym same)
-    (that_push [] count rows stages latest ended row parent offset cowns t next (subst (λ (cs : List ℕ). All (λ c. c < count) cs) (sym m) (λ k d h. absurd (omega arith))))
-that_spawn (main ∷ others) count rows stages latest ended row parent offset cowns t next p m =
+    subst (λ (s : List Stage). IsThatOf (pending parent offset cowns.items ∷ []) count (rows ++ (new_row parent offset cowns ∷ [])) (s ++ (new_stage found cowns ∷ [])) (found ++ map (λ c. get_or latest c None) cowns.items) (noted latest cowns.items row) ended) (sym same)
+    (that_push [] count rows stages found latest ended row parent offset cowns t next (subst (λ (cs : List ℕ). All (λ c. c < count) cs) (sym m) (λ k d h. absurd (omega arith))))
+that_spawn (main ∷ others) count rows stages found latest ended row parent offset cowns t next p m =
     let run = main ∷ others in
     let e = living run parent legal.Running p in
     let inside : parent < length stages = omega (arith, t.stages_are.all, slice_get_within run parent e.0 e.1) in
     let x = got_in stages parent inside in
     let v : Entry = record e.0 { last = offset } in
     let y : Stage = record x.0 { last = offset } in
-    subst (λ (r : List Entry). IsThatOf (r ++ (pending parent offset cowns.items ∷ [])) count (rows ++ (new_row parent offset cowns ∷ [])) (staged stages parent (λ s. record s { last = offset }) (slice_get stages parent) ++ (new_stage latest cowns ∷ [])) (noted latest cowns.items row) ended)
+    subst (λ (r : List Entry). IsThatOf (r ++ (pending parent offset cowns.items ∷ [])) count (rows ++ (new_row parent offset cowns ∷ [])) (staged stages parent (λ s. record s { last = offset }) (slice_get stages parent) ++ (new_stage found cowns ∷ [])) (found ++ map (λ c. get_or latest c None) cowns.items) (noted latest cowns.items row) ended)
     (sym (ap (changed run parent (λ z. record z { last = offset })) e.1))
-    (subst (λ (s : List Stage). IsThatOf (slice_set run parent v ++ (pending parent offset cowns.items ∷ [])) count (rows ++ (new_row parent offset cowns ∷ [])) (s ++ (new_stage latest cowns ∷ [])) (noted latest cowns.items row) ended)
+    (subst (λ (s : List Stage). IsThatOf (slice_set run parent v ++ (pending parent offset cowns.items ∷ [])) count (rows ++ (new_row parent offset cowns ∷ [])) (s ++ (new_stage found cowns ∷ [])) (found ++ map (λ c. get_or latest c None) cowns.items) (noted latest cowns.items row) ended)
     (sym (ap (staged stages parent (λ s. record s { last = offset })) x.1))
-    (that_push (slice_set run parent v) count rows (slice_set stages parent y) latest ended row parent offset cowns
-    (that_child run count rows stages latest ended parent offset e.0 x.0 t e.1 x.1) (next ∙ sym (length-set run parent v)) m.1))
+    (that_push (slice_set run parent v) count rows (slice_set stages parent y) found latest ended row parent offset cowns
+    (that_child run count rows stages found latest ended parent offset e.0 x.0 t e.1 x.1) (next ∙ sym (length-set run parent v)) m.1))
 
-pub keeps_start : (cowns : ℕ) (events : List Event) (rows : List Row) (stages : List Stage) (latest : List (Option ℕ)) (ended row : ℕ) → Keeps cowns events rows stages latest ended → IsAllowed cowns (entries events) (Start row)
-    → Keeps cowns (events ++ (Start row ∷ [])) rows (staged stages row (λ s. record s { life = Running }) (slice_get stages row)) latest ended
-keeps_start cowns events rows stages latest ended row k a =
-    keeps_more cowns events (Start row) rows rows stages (staged stages row (λ s. record s { life = Running }) (slice_get stages row)) latest latest ended ended k a
-    (that_start (entries events) cowns rows stages latest ended row (that cowns events rows stages latest ended k) (a rules.StartNotAllowed))
+pub keeps_start : (cowns : ℕ) (events : List Event) (rows : List Row) (stages : List Stage) (found latest : List (Option ℕ)) (ended row : ℕ) → Keeps cowns events rows stages found latest ended → IsAllowed cowns (entries events) (Start row)
+    → Keeps cowns (events ++ (Start row ∷ [])) rows (staged stages row (λ s. record s { life = Running }) (slice_get stages row)) found latest ended
+keeps_start cowns events rows stages found latest ended row k a =
+    keeps_more cowns events (Start row) rows rows stages (staged stages row (λ s. record s { life = Running }) (slice_get stages row)) found found latest latest ended ended k a
+    (that_start (entries events) cowns rows stages found latest ended row (that cowns events rows stages found latest ended k) (a rules.StartNotAllowed))
 
-pub keeps_end : (cowns : ℕ) (events : List Event) (rows : List Row) (stages : List Stage) (latest : List (Option ℕ)) (ended row ticks : ℕ) (status : EndStatus) → Keeps cowns events rows stages latest ended → IsAllowed cowns (entries events) (End row ticks status)
-    → Keeps cowns (events ++ (End row ticks status ∷ [])) (placed rows row (λ x. record x { ticks = ticks; status = status }) (slice_get rows row)) (staged stages row (λ s. record s { life = Ended }) (slice_get stages row)) latest (ended + 1)
-keeps_end cowns events rows stages latest ended row ticks status k a =
-    keeps_more cowns events (End row ticks status) rows (placed rows row (λ x. record x { ticks = ticks; status = status }) (slice_get rows row)) stages (staged stages row (λ s. record s { life = Ended }) (slice_get stages row)) latest latest ended (ended + 1) k a
-    (that_end (entries events) cowns rows stages latest ended row ticks status (that cowns events rows stages latest ended k) (a rules.EndNotAllowed))
+pub keeps_end : (cowns : ℕ) (events : List Event) (rows : List Row) (stages : List Stage) (found latest : List (Option ℕ)) (ended row ticks : ℕ) (status : EndStatus) → Keeps cowns events rows stages found latest ended → IsAllowed cowns (entries events) (End row ticks status)
+    → Keeps cowns (events ++ (End row ticks status ∷ [])) (placed rows row (λ x. record x { ticks = ticks; status = status }) (slice_get rows row)) (staged stages row (λ s. record s { life = Ended }) (slice_get stages row)) found latest (ended + 1)
+keeps_end cowns events rows stages found latest ended row ticks status k a =
+    keeps_more cowns events (End row ticks status) rows (placed rows row (λ x. record x { ticks = ticks; status = status }) (slice_get rows row)) stages (staged stages row (λ s. record s { life = Ended }) (slice_get stages row)) found found latest latest ended (ended + 1) k a
+    (that_end (entries events) cowns rows stages found latest ended row ticks status (that cowns events rows stages found latest ended k) (a rules.EndNotAllowed))
 
-pub keeps_spawn : (count : ℕ) (events : List Event) (rows : List Row) (stages : List Stage) (latest : List (Option ℕ)) (ended row parent offset : ℕ) (cowns : ArrayVec ℕ) → Keeps count events rows stages latest ended → IsAllowed count (entries events) (Spawn row parent offset cowns)
-    → Keeps count (events ++ (Spawn row parent offset cowns ∷ [])) (rows ++ (new_row parent offset cowns ∷ [])) (staged stages parent (λ s. record s { last = offset }) (slice_get stages parent) ++ (new_stage latest cowns ∷ [])) (noted latest cowns.items row) ended
-keeps_spawn count events rows stages latest ended row parent offset cowns k a =
-    keeps_more count events (Spawn row parent offset cowns) rows (rows ++ (new_row parent offset cowns ∷ [])) stages (staged stages parent (λ s. record s { last = offset }) (slice_get stages parent) ++ (new_stage latest cowns ∷ [])) latest (noted latest cowns.items row) ended ended k a
-    (that_spawn (entries events) count rows stages latest ended row parent offset cowns (that count events rows stages latest ended k) (a rules.NumberNotNext) (a rules.ParentNotRunning) (a rules.Cowns))
+pub keeps_spawn : (count : ℕ) (events : List Event) (rows : List Row) (stages : List Stage) (found latest : List (Option ℕ)) (ended row parent offset : ℕ) (cowns : ArrayVec ℕ) → Keeps count events rows stages found latest ended → IsAllowed count (entries events) (Spawn row parent offset cowns)
+    → Keeps count (events ++ (Spawn row parent offset cowns ∷ [])) (rows ++ (new_row parent offset cowns ∷ [])) (staged stages parent (λ s. record s { last = offset }) (slice_get stages parent) ++ (new_stage found cowns ∷ [])) (found ++ map (λ c. get_or latest c None) cowns.items) (noted latest cowns.items row) ended
+keeps_spawn count events rows stages found latest ended row parent offset cowns k a =
+    keeps_more count events (Spawn row parent offset cowns) rows (rows ++ (new_row parent offset cowns ∷ [])) stages (staged stages parent (λ s. record s { last = offset }) (slice_get stages parent) ++ (new_stage found cowns ∷ [])) found (found ++ map (λ c. get_or latest c None) cowns.items) latest (noted latest cowns.items row) ended ended k a
+    (that_spawn (entries events) count rows stages found latest ended row parent offset cowns (that count events rows stages found latest ended k) (a rules.NumberNotNext) (a rules.ParentNotRunning) (a rules.Cowns))

@@ -1,7 +1,7 @@
 -- What a stage says of its row, and what a legal event finds there.
 use Rattle.std.proofs.Common.{◌≡◌, ℕ, ◌<◌, ◌≤◌, ◌↔◌, List, [], ◌∷◌, ◌++◌, length, get_or, refl, sym, ◌∙◌, ap, subst, arith}
 use Rattle.std.proofs.Math.ListN.{length-set}
-use Rattle.std.specs.Prelude.{slice_get, slice_set, Option, Some, All}
+use Rattle.std.specs.Prelude.{slice_get, slice_set, slice_range, Option, Some, All}
 use Rattle.std.specs.Option.{option_map_or}
 use Rattle.std.proofs.lemmas.Option.{slice_get_read, slice_get_past, slice_get_within}
 use Rattle.arrayvec.specs.ArrayVec.{ArrayVec}
@@ -49,15 +49,15 @@ pub last_past : (run : List Entry) (stages : List Stage) (r : ℕ) → AreStages
 last_past run stages r are past = sym (ap (λ (o : Option Entry). option_map_or (λ (x : Entry). x.last) o 0) (slice_get_past run r (omega (arith, are.all, past))))
 
 -- a pending row may start where the rows before it on its cowns are over
-pub pending_may_start : (run : Run) (r : ℕ) (stage : Stage) (before : List (Option ℕ)) → IsKept run → r < length run.stages.items → stage ≡ get_or run.stages.items r stage → stage.life ≡ Pending → before ≡ stage.before.items
+pub pending_may_start : (run : Run) (r : ℕ) (stage : Stage) (before : List (Option ℕ)) → IsKept run → r < length run.stages.items → stage ≡ get_or run.stages.items r stage → stage.life ≡ Pending → before ≡ slice_range run.found.items stage.from stage.to
     → All (IsOverAt (entries run.events.items)) before ↔ MayStart (entries run.events.items) r
 pending_may_start run r stage before k less read waits same =
     let rows = entries run.events.items in
     let h = read_at rows run.stages.items r stage k.stages_are less read in
     let life : life_of rows r ≡ Some legal.Pending = life_at rows r h.entry h.was ∙ ap (λ (l : legal.Life). Some l) (sym h.is.life ∙ ap meant waits) in
-    let are = k.stages_are.before r stage h.at in (
-      λ over. starts run.cowns rows r stage.before.items (well_log run.cowns run.events.items k.legal) life are (subst (λ (b : List (Option ℕ)). All (IsOverAt rows) b) same over),
-      λ may. subst (λ (b : List (Option ℕ)). All (IsOverAt rows) b) (sym same) (over_before rows r stage.before.items may are),
+    let are = k.found_are.before r stage h.at in (
+      λ over. starts run.cowns rows r (slice_range run.found.items stage.from stage.to) (well_log run.cowns run.events.items k.legal) life are (subst (λ (b : List (Option ℕ)). All (IsOverAt rows) b) same over),
+      λ may. subst (λ (b : List (Option ℕ)). All (IsOverAt rows) b) (sym same) (over_before rows r (slice_range run.found.items stage.from stage.to) may are),
     )
 
 meant_pending : (l : Life) → meant l ≡ legal.Pending → l ≡ Pending
@@ -110,37 +110,38 @@ end_finds run row ticks status k a =
       few = omega (arith, k.ended_is, over_set rows row e.0 v e.1, ap over_one e.2, over_few (slice_set rows row v), length-set rows row v, w.few);
     }
 
-keeps_as : (cowns cowns' : ℕ) (events events' : List Event) (rows rows' : List Row) (stages stages' : List Stage) (latest latest' : List (Option ℕ)) (ended ended' : ℕ) → Keeps cowns events rows stages latest ended
-    → cowns' ≡ cowns → events' ≡ events → rows' ≡ rows → stages' ≡ stages → latest' ≡ latest → ended' ≡ ended → Keeps cowns' events' rows' stages' latest' ended'
-keeps_as cowns cowns' events events' rows rows' stages stages' latest latest' ended ended' k a b c d e f =
-    subst (λ (x : ℕ). Keeps x events' rows' stages' latest' ended') (sym a)
-    (subst (λ (x : List Event). Keeps cowns x rows' stages' latest' ended') (sym b)
-    (subst (λ (x : List Row). Keeps cowns events x stages' latest' ended') (sym c)
-    (subst (λ (x : List Stage). Keeps cowns events rows x latest' ended') (sym d)
-    (subst (λ (x : List (Option ℕ)). Keeps cowns events rows stages x ended') (sym e)
-    (subst (λ (x : ℕ). Keeps cowns events rows stages latest x) (sym f) k)))))
+keeps_as : (cowns cowns' : ℕ) (events events' : List Event) (rows rows' : List Row) (stages stages' : List Stage) (found found' latest latest' : List (Option ℕ)) (ended ended' : ℕ) → Keeps cowns events rows stages found latest ended
+    → cowns' ≡ cowns → events' ≡ events → rows' ≡ rows → stages' ≡ stages → found' ≡ found → latest' ≡ latest → ended' ≡ ended → Keeps cowns' events' rows' stages' found' latest' ended'
+keeps_as cowns cowns' events events' rows rows' stages stages' found found' latest latest' ended ended' k a b c d g e f =
+    subst (λ (x : ℕ). Keeps x events' rows' stages' found' latest' ended') (sym a)
+    (subst (λ (x : List Event). Keeps cowns x rows' stages' found' latest' ended') (sym b)
+    (subst (λ (x : List Row). Keeps cowns events x stages' found' latest' ended') (sym c)
+    (subst (λ (x : List Stage). Keeps cowns events rows x found' latest' ended') (sym d)
+    (subst (λ (x : List (Option ℕ)). Keeps cowns events rows stages x latest' ended') (sym g)
+    (subst (λ (x : List (Option ℕ)). Keeps cowns events rows stages found x ended') (sym e)
+    (subst (λ (x : ℕ). Keeps cowns events rows stages found latest x) (sym f) k))))))
 
 -- The run is kept after an event.
 pub kept_spawn : (old new : Run) (events : List Event) (row parent offset : ℕ) (cowns : ArrayVec ℕ) → IsKept old → IsAllowed old.cowns (entries old.events.items) (Spawn row parent offset cowns) → IsSpawned old new row parent offset cowns
-    → events ≡ new.events.items ++ (Spawn row parent offset cowns ∷ []) → Keeps new.cowns events new.rows.items new.stages.items new.latest.items new.ended
+    → events ≡ new.events.items ++ (Spawn row parent offset cowns ∷ []) → Keeps new.cowns events new.rows.items new.stages.items new.found.items new.latest.items new.ended
 kept_spawn old new events row parent offset cowns k a h e =
-    keeps_as _ new.cowns _ events _ new.rows.items _ new.stages.items _ new.latest.items _ new.ended
-    (keeps_spawn old.cowns old.events.items old.rows.items old.stages.items old.latest.items old.ended row parent offset cowns k a)
-    h.cowns_stay (e ∙ ap (λ v. v.items ++ (Spawn row parent offset cowns ∷ [])) h.events_stay) h.rows h.stages h.latest h.ended
+    keeps_as _ new.cowns _ events _ new.rows.items _ new.stages.items _ new.found.items _ new.latest.items _ new.ended
+    (keeps_spawn old.cowns old.events.items old.rows.items old.stages.items old.found.items old.latest.items old.ended row parent offset cowns k a)
+    h.cowns_stay (e ∙ ap (λ v. v.items ++ (Spawn row parent offset cowns ∷ [])) h.events_stay) h.rows h.stages h.found h.latest h.ended
 
 pub kept_start : (old new : Run) (events : List Event) (row : ℕ) → IsKept old → IsAllowed old.cowns (entries old.events.items) (Start row) → IsStarted old new row
-    → events ≡ new.events.items ++ (Start row ∷ []) → Keeps new.cowns events new.rows.items new.stages.items new.latest.items new.ended
+    → events ≡ new.events.items ++ (Start row ∷ []) → Keeps new.cowns events new.rows.items new.stages.items new.found.items new.latest.items new.ended
 kept_start old new events row k a h e =
-    keeps_as _ new.cowns _ events _ new.rows.items _ new.stages.items _ new.latest.items _ new.ended
-    (keeps_start old.cowns old.events.items old.rows.items old.stages.items old.latest.items old.ended row k a)
-    h.cowns_stay (e ∙ ap (λ v. v.items ++ (Start row ∷ [])) h.events_stay) h.rows_stay h.stages h.latest_stay h.ended
+    keeps_as _ new.cowns _ events _ new.rows.items _ new.stages.items _ new.found.items _ new.latest.items _ new.ended
+    (keeps_start old.cowns old.events.items old.rows.items old.stages.items old.found.items old.latest.items old.ended row k a)
+    h.cowns_stay (e ∙ ap (λ v. v.items ++ (Start row ∷ [])) h.events_stay) h.rows_stay h.stages h.found_stays h.latest_stay h.ended
 
 pub kept_end : (old new : Run) (events : List Event) (row ticks : ℕ) (status : EndStatus) → IsKept old → IsAllowed old.cowns (entries old.events.items) (End row ticks status) → IsEnded old new row ticks status
-    → events ≡ new.events.items ++ (End row ticks status ∷ []) → Keeps new.cowns events new.rows.items new.stages.items new.latest.items new.ended
+    → events ≡ new.events.items ++ (End row ticks status ∷ []) → Keeps new.cowns events new.rows.items new.stages.items new.found.items new.latest.items new.ended
 kept_end old new events row ticks status k a h e =
-    keeps_as _ new.cowns _ events _ new.rows.items _ new.stages.items _ new.latest.items _ new.ended
-    (keeps_end old.cowns old.events.items old.rows.items old.stages.items old.latest.items old.ended row ticks status k a)
-    h.cowns_stay (e ∙ ap (λ v. v.items ++ (End row ticks status ∷ [])) h.events_stay) h.rows h.stages h.latest_stay h.ended
+    keeps_as _ new.cowns _ events _ new.rows.items _ new.stages.items _ new.found.items _ new.latest.items _ new.ended
+    (keeps_end old.cowns old.events.items old.rows.items old.stages.items old.found.items old.latest.items old.ended row ticks status k a)
+    h.cowns_stay (e ∙ ap (λ v. v.items ++ (End row ticks status ∷ [])) h.events_stay) h.rows h.stages h.found_stays h.latest_stay h.ended
 
 -- The run is over where all of its rows are.
 pub complete_is : (run : Run) → IsKept run → 0 < length run.rows.items → (run.ended ≡ length run.rows.items) ↔ IsComplete run.events.items

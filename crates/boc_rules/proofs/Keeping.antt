@@ -1,10 +1,10 @@
 -- What is kept of a run stays that of its log as a row is changed, or put behind the others.
-use Rattle.std.proofs.Common.{◌≡◌, ℕ, zero, suc, ◌+◌, ◌<◌, ◌≤◌, ◌≢◌, ◌⊎◌, List, [], ◌∷◌, ◌++◌, length, map, get_or, refl, sym, ◌∙◌, ap, subst, inl, inr, arith, length-append, get_or-set_same, get_or-set_other}
+use Rattle.std.proofs.Common.{◌≡◌, ℕ, zero, suc, ◌+◌, ◌-◌, ◌<◌, ◌≤◌, ◌≢◌, ◌⊎◌, List, [], ◌∷◌, ◌++◌, length, map, get_or, take, drop, refl, sym, ◌∙◌, ap, subst, inl, inr, arith, length-append, length-drop, get_or-set_same, get_or-set_other}
 use Rattle.std.proofs.Math.ListN.{length-set}
-use Rattle.std.specs.Prelude.{slice_get, slice_set, Option, Some, None, All}
+use Rattle.std.specs.Prelude.{slice_get, slice_set, slice_range, Option, Some, None, All}
 use Rattle.std.specs.Option.{option_map_or}
 use Rattle.std.specs.List.{Contains}
-use Rattle.std.proofs.lemmas.List.{get_or-map, length-map}
+use Rattle.std.proofs.lemmas.List.{get_or-map, length-map, take-append-le, drop-append-le, drop_at, take_all}
 use Rattle.std.proofs.lemmas.Option.{slice_get_within}
 use Rattle.std.proofs.lemmas.Bool.{cases_eq, cases_order}
 use Rattle.boc_types.specs.declared.rows.Row.{Row}
@@ -12,7 +12,7 @@ use Rattle.boc_types.specs.Legal.{Entry, entry_cowns}
 use Rattle.boc_types.specs.Records.{IsRowOf, AreRowsOf}
 use Rattle.boc_rules.specs.declared.stage.Stage.{Stage}
 use Rattle.boc_rules.specs.Turns.{IsLatest, AreBefore, noted}
-use Rattle.boc_rules.specs.Kept.{IsStageOf, AreStagesOf, AreLatest, over_one, over}
+use Rattle.boc_rules.specs.Kept.{IsStageOf, AreStagesOf, AreFound, AreLatest, over_one, over}
 use Rattle.boc_rules.proofs.Lists.{got_set, set_same, set_other, got_push, push_below, push_last, got_at}
 use Rattle.boc_rules.proofs.Next.{cowns_at}
 
@@ -106,18 +106,35 @@ stage_case run stages r v y are is k f z (inl p) (inr q) = absurd (q.0 p.0)
 stage_case run stages r v y are is k f z (inr p) (inl q) = absurd (p.0 q.0)
 stage_case run stages r v y are is k f z (inr p) (inr q) = are.each k f z p.1 q.1
 
-pub stages_set : (run : List Entry) (stages : List Stage) (r : ℕ) (e v : Entry) (x y : Stage) → AreStagesOf run stages → IsSet run r e v → slice_get stages r ≡ Some x → IsStageOf v y → y.before.items ≡ x.before.items
-    → AreStagesOf (slice_set run r v) (slice_set stages r y)
-stages_set run stages r e v x y are h at is stays = record {
+pub stages_set : (run : List Entry) (stages : List Stage) (r : ℕ) (e v : Entry) (x y : Stage) → AreStagesOf run stages → IsSet run r e v → slice_get stages r ≡ Some x → IsStageOf v y → AreStagesOf (slice_set run r v) (slice_set stages r y)
+stages_set run stages r e v x y are h at is = record {
   all = length-set stages r y ∙ are.all ∙ sym (length-set run r v);
   each = λ k f z g i. stage_case run stages r v y are is k f z (got_set run r k v f g) (got_set stages r k y z i);
+}
+
+-- a stage of the changed list has the part of one that was there
+pub record HasPart (stages : List Stage) (k : ℕ) (z : Stage) : Type 0 where
+  pub old : Stage
+  pub was : slice_get stages k ≡ Some old
+  pub from : old.from ≡ z.from
+  pub to : old.to ≡ z.to
+
+part_set : (stages : List Stage) (r : ℕ) (x y : Stage) → slice_get stages r ≡ Some x → x.from ≡ y.from → x.to ≡ y.to → (k : ℕ) (z : Stage) → slice_get (slice_set stages r y) k ≡ Some z → HasPart stages k z
+part_set stages r x y at from to k z i =
+    elim (got_set stages r k y z i) [
+      | inl p ↦ record { old = x; was = got_at stages k r x p.0 at; from = from ∙ ap (λ (a : Stage). a.from) p.1; to = to ∙ ap (λ (a : Stage). a.to) p.1 }
+      | inr p ↦ record { old = z; was = p.1; from = refl; to = refl }
+    ]
+
+pub found_set : (run : List Entry) (stages : List Stage) (found : List (Option ℕ)) (r : ℕ) (e v : Entry) (x y : Stage) → AreFound run stages found → IsSet run r e v → slice_get stages r ≡ Some x → x.from ≡ y.from → x.to ≡ y.to
+    → AreFound (slice_set run r v) (slice_set stages r y) found
+found_set run stages found r e v x y are h at from to = record {
+  ordered = λ k z i. let p = part_set stages r x y at from to k z i in omega (arith, p.from, p.to, are.ordered k p.old p.was);
+  within = λ k z i. let p = part_set stages r x y at from to k z i in omega (arith, p.to, are.within k p.old p.was);
   before = λ k z i.
-      before_same run (slice_set run r v) k z.before.items (same_set run r e v (suc k) h)
-      (elim (got_set stages r k y z i) [
-        | inl p ↦
-            subst (AreBefore run k) (sym stays ∙ ap (λ (a : Stage). a.before.items) p.1) (are.before k x (got_at stages k r x p.0 at))
-        | inr p ↦ are.before k z p.1
-      ]);
+      let p = part_set stages r x y at from to k z i in
+      before_same run (slice_set run r v) k (slice_range found z.from z.to) (same_set run r e v (suc k) h)
+      (subst (λ (n : ℕ). AreBefore run k (slice_range found n z.to)) p.from (subst (λ (n : ℕ). AreBefore run k (slice_range found p.old.from n)) p.to (are.before k p.old p.was)));
 }
 
 pub latest_set : (run : List Entry) (r : ℕ) (e v : Entry) (cowns : ℕ) (latest : List (Option ℕ)) → AreLatest run cowns latest → IsSet run r e v → AreLatest (slice_set run r v) cowns latest
@@ -173,22 +190,48 @@ before_new run v cowns latest are below =
           (latest_same run new c (length run) (get_or latest c None) (same_push run v (length run) (omega arith)) (are.each c (below k 0 inside))));
     }
 
-pub stages_push : (run : List Entry) (stages : List Stage) (v : Entry) (y : Stage) (cowns : ℕ) (latest : List (Option ℕ)) → AreStagesOf run stages → IsStageOf v y → AreLatest run cowns latest → All (λ c. c < cowns) v.cowns
-    → y.before.items ≡ map (λ c. get_or latest c None) v.cowns → AreStagesOf (run ++ (v ∷ [])) (stages ++ (y ∷ []))
-stages_push run stages v y cowns latest are is on below found = record {
+pub stages_push : (run : List Entry) (stages : List Stage) (v : Entry) (y : Stage) → AreStagesOf run stages → IsStageOf v y → AreStagesOf (run ++ (v ∷ [])) (stages ++ (y ∷ []))
+stages_push run stages v y are is = record {
   all = omega (arith, length-append stages (y ∷ []), length-append run (v ∷ []), are.all);
   each = λ k f z g i. stage_push_case run stages v y are is k f z (got_push run k v f g) (got_push stages k y z i);
-  before = λ k z i.
-      elim (got_push stages k y z i) [
+}
+
+-- a part that is there stays as it is where a list grows
+range_stays : {X : Type 0} (xs ys : List X) (i j : ℕ) → i ≤ j → j ≤ length xs → slice_range (xs ++ ys) i j ≡ slice_range xs i j
+range_stays xs ys i j h k =
+    ap (λ zs. take (j - i) zs) (drop-append-le i xs ys (omega arith))
+    ∙ take-append-le (j - i) (drop i xs) ys (omega (arith, length-drop i xs))
+
+-- the part behind a list is what it grew by
+range_behind : {X : Type 0} (xs ys : List X) (i j : ℕ) → i ≡ length xs → j ≡ length xs + length ys → slice_range (xs ++ ys) i j ≡ ys
+range_behind xs ys i j h k =
+    ap (λ zs. take (j - i) zs) (drop_at xs ys i (sym h)) ∙ take_all (j - i) ys (omega arith)
+
+pub found_push : (run : List Entry) (stages : List Stage) (found : List (Option ℕ)) (v : Entry) (y : Stage) (cowns : ℕ) (latest : List (Option ℕ)) → AreStagesOf run stages → AreFound run stages found → AreLatest run cowns latest → All (λ c. c < cowns) v.cowns
+    → y.from ≡ length found → y.to ≡ length found + length v.cowns → AreFound (run ++ (v ∷ [])) (stages ++ (y ∷ [])) (found ++ map (λ c. get_or latest c None) v.cowns)
+found_push run stages found v y cowns latest stages_are are on below from to =
+    let more = map (λ c. get_or latest c None) v.cowns in
+    let long = length-append found more in
+    let new : length more ≡ length v.cowns = length-map v.cowns (λ c. get_or latest c None) in record {
+      ordered = λ k z i. elim (got_push stages k y z i) [
+        | inl p ↦ are.ordered k z p
+        | inr p ↦ omega (arith, ap (λ (a : Stage). a.from) p.1, ap (λ (a : Stage). a.to) p.1, from, to)
+      ];
+      within = λ k z i. elim (got_push stages k y z i) [
+        | inl p ↦ omega (arith, are.within k z p, long)
+        | inr p ↦ omega (arith, ap (λ (a : Stage). a.to) p.1, to, long, new)
+      ];
+      before = λ k z i. elim (got_push stages k y z i) [
         | inl p ↦
             let inside = slice_get_within stages k z p in
-            before_same run (run ++ (v ∷ [])) k z.before.items (same_push run v (suc k) (omega (arith, are.all, inside))) (are.before k z p)
+            before_same run (run ++ (v ∷ [])) k (slice_range (found ++ more) z.from z.to) (same_push run v (suc k) (omega (arith, stages_are.all, inside)))
+            (subst (AreBefore run k) (sym (range_stays found more z.from z.to (are.ordered k z p) (are.within k z p))) (are.before k z p))
         | inr p ↦
-            subst (λ (a : Stage). AreBefore (run ++ (v ∷ [])) k a.before.items) p.1
-            (subst (λ (m : ℕ). AreBefore (run ++ (v ∷ [])) m y.before.items) (sym (p.0 ∙ are.all))
-            (subst (AreBefore (run ++ (v ∷ [])) (length run)) (sym found) (before_new run v cowns latest on below)))
+            let part : slice_range (found ++ more) z.from z.to ≡ more = range_behind found more z.from z.to (sym (ap (λ (a : Stage). a.from) p.1) ∙ from) (sym (ap (λ (a : Stage). a.to) p.1) ∙ to ∙ ap (λ (n : ℕ). length found + n) (sym new)) in
+            subst (AreBefore (run ++ (v ∷ [])) k) (sym part)
+            (subst (λ (m : ℕ). AreBefore (run ++ (v ∷ [])) m more) (sym (p.0 ∙ stages_are.all)) (before_new run v cowns latest on below))
       ];
-}
+    }
 
 length-noted : (latest : List (Option ℕ)) (cs : List ℕ) (row : ℕ) → length (noted latest cs row) ≡ length latest
 length-noted latest [] row = refl

@@ -1,5 +1,5 @@
 -- What is kept of a run under way, and how an event changes it.
-use Rattle.std.specs.Prelude.{◌≡◌, ℕ, ◌+◌, ◌<◌, ◌≤◌, List, [], ◌∷◌, ◌++◌, length, map, Option, Some, None, slice_get, slice_set, slice_index_or, vec_len, vec_capacity}
+use Rattle.std.specs.Prelude.{◌≡◌, ℕ, ◌+◌, ◌<◌, ◌≤◌, List, [], ◌∷◌, ◌++◌, length, map, Option, Some, None, slice_get, slice_set, slice_index_or, slice_range, vec_len, vec_capacity}
 use Rattle.boc_types.specs.declared.body.EndStatus.{EndStatus}
 use Rattle.boc_types.specs.declared.body.EndStatus.TheVariants as statuses
 use Rattle.boc_types.specs.declared.event.Event.{Event}
@@ -29,7 +29,12 @@ pub record IsStageOf (entry : Entry) (stage : Stage) : Type 0 where
 pub record AreStagesOf (run : List Entry) (stages : List Stage) : Type 0 where
   pub all : length stages ≡ length run
   pub each : (r : ℕ) (entry : Entry) (stage : Stage) → slice_get run r ≡ Some entry → slice_get stages r ≡ Some stage → IsStageOf entry stage
-  pub before : (r : ℕ) (stage : Stage) → slice_get stages r ≡ Some stage → AreBefore run r stage.before.items
+
+-- what was found for each row: the rows before it on its cowns
+pub record AreFound (run : List Entry) (stages : List Stage) (found : List (Option ℕ)) : Type 0 where
+  pub ordered : (r : ℕ) (stage : Stage) → slice_get stages r ≡ Some stage → stage.from ≤ stage.to
+  pub within : (r : ℕ) (stage : Stage) → slice_get stages r ≡ Some stage → stage.to ≤ length found
+  pub before : (r : ℕ) (stage : Stage) → slice_get stages r ≡ Some stage → AreBefore run r (slice_range found stage.from stage.to)
 
 -- the latest row of a run on each of so many cowns
 pub record AreLatest (run : List Entry) (cowns : ℕ) (latest : List (Option ℕ)) : Type 0 where
@@ -47,23 +52,25 @@ over [] = 0
 over (entry ∷ entries) = over_one entry.life + over entries
 
 -- what is kept is that of a legal log
-pub record Keeps (cowns : ℕ) (events : List Event) (rows : List Row) (stages : List Stage) (latest : List (Option ℕ)) (ended : ℕ) : Type 0 where
+pub record Keeps (cowns : ℕ) (events : List Event) (rows : List Row) (stages : List Stage) (found latest : List (Option ℕ)) (ended : ℕ) : Type 0 where
   pub few : cowns ≤ 256
   pub legal : IsLegal cowns events
   pub rows_are : AreRowsOf (entries events) rows
   pub stages_are : AreStagesOf (entries events) stages
+  pub found_are : AreFound (entries events) stages found
   pub latest_are : AreLatest (entries events) cowns latest
   pub ended_is : ended ≡ over (entries events)
 
 -- what is kept of a run is that of a legal log
 abbrev pub IsKept : Run → Type 0
-IsKept run = Keeps run.cowns run.events.items run.rows.items run.stages.items run.latest.items run.ended
+IsKept run = Keeps run.cowns run.events.items run.rows.items run.stages.items run.found.items run.latest.items run.ended
 
--- one more event and one more row have room
+-- one more event, one more row and its cowns have room
 pub record HasRoom (run : Run) : Type 0 where
   pub events : vec_len run.events < vec_capacity run.events
   pub rows : vec_len run.rows < vec_capacity run.rows
   pub stages : vec_len run.stages < vec_capacity run.stages
+  pub found : vec_len run.found + 8 ≤ vec_capacity run.found
 
 -- the same run, whose lists may have more room
 pub record IsSameRun (old new : Run) : Type 0 where
@@ -71,6 +78,7 @@ pub record IsSameRun (old new : Run) : Type 0 where
   pub events : new.events.items ≡ old.events.items
   pub rows : new.rows.items ≡ old.rows.items
   pub stages : new.stages.items ≡ old.stages.items
+  pub found : new.found.items ≡ old.found.items
   pub latest : new.latest.items ≡ old.latest.items
   pub ended : new.ended ≡ old.ended
 
@@ -91,7 +99,8 @@ pub record IsSpawned (old new : Run) (row parent offset : ℕ) (cowns : ArrayVec
   pub rows : new.rows.items ≡ old.rows.items ++ record { parent = parent; offset = offset; cowns = cowns; ticks = 0; status = statuses.Done } ∷ []
   pub stages : new.stages.items ≡
       staged old.stages.items parent (λ s. record s { last = offset }) (slice_get old.stages.items parent)
-      ++ record { life = Pending; last = 0; before = record { items = map (λ c. slice_index_or old.latest.items c None) cowns.items } } ∷ []
+      ++ record { life = Pending; last = 0; from = length old.found.items; to = length old.found.items + length cowns.items } ∷ []
+  pub found : new.found.items ≡ old.found.items ++ map (λ c. slice_index_or old.latest.items c None) cowns.items
   pub latest : new.latest.items ≡ noted old.latest.items cowns.items row
   pub ended : new.ended ≡ old.ended
 
@@ -101,6 +110,7 @@ pub record IsStarted (old new : Run) (row : ℕ) : Type 0 where
   pub events_stay : new.events ≡ old.events
   pub rows_stay : new.rows.items ≡ old.rows.items
   pub stages : new.stages.items ≡ staged old.stages.items row (λ s. record s { life = Running }) (slice_get old.stages.items row)
+  pub found_stays : new.found.items ≡ old.found.items
   pub latest_stay : new.latest.items ≡ old.latest.items
   pub ended : new.ended ≡ old.ended
 
@@ -110,5 +120,6 @@ pub record IsEnded (old new : Run) (row ticks : ℕ) (status : EndStatus) : Type
   pub events_stay : new.events ≡ old.events
   pub rows : new.rows.items ≡ placed old.rows.items row (λ x. record x { ticks = ticks; status = status }) (slice_get old.rows.items row)
   pub stages : new.stages.items ≡ staged old.stages.items row (λ s. record s { life = Ended }) (slice_get old.stages.items row)
+  pub found_stays : new.found.items ≡ old.found.items
   pub latest_stay : new.latest.items ≡ old.latest.items
   pub ended : new.ended ≡ old.ended + 1

@@ -157,7 +157,7 @@ impl Run {
             return false;
         };
         match stage.life {
-            Life::Pending => self.are_over(stage.before.as_slice()),
+            Life::Pending => self.are_over(&self.found[stage.from..stage.to]),
             Life::Running | Life::Ended => false,
         }
     }

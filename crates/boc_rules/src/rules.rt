@@ -78,7 +78,7 @@ impl Rules {
         if self.run.make_room().is_err() {
             return Err(RuleFault::Memory);
         }
-        self.run.accept(event.duplicate());
+        self.run.accept(event);
         Ok(())
     }
 

@@ -3,12 +3,15 @@
 ghost use Rattle.std.specs.Prelude.{◌≡◌, ◌+◌, ◌≤◌, ◌<◌, ◌++◌, ◌∷◌, [], All, IfOk, OnOk, length};
 
 use crate::stage::{Life, Stage};
-use crate::turn::{latest_on, note};
+use crate::turn::{find, note};
 use boc_types::body::EndStatus;
 use boc_types::event::Event;
 use boc_types::rows::Row;
 use boc_types::short::Cowns;
 use std::alloc::{AllocError, Global};
+
+/// The most cowns of a row.
+const MOST_COWNS: usize = 8;
 
 /// The events of a run so far, with its rows.
 #[derive(Drop, Debug)]
@@ -19,6 +22,8 @@ pub struct Run {
     pub rows: Vec<Row>,
     /// A stage for each row.
     pub stages: Vec<Stage>,
+    /// For each cown of each row, one row after another, the latest row before it with this cown, if there is one.
+    pub found: Vec<Option<u32>>,
     /// The latest row on each cown, if there is one.
     pub latest: Vec<Option<u32>>,
     /// How many rows have ended.
@@ -43,6 +48,7 @@ impl Run {
             events: Vec::new(alloc),
             rows: Vec::new(alloc),
             stages: Vec::new(alloc),
+            found: Vec::new(alloc),
             latest,
             ended: 0,
         })
@@ -55,19 +61,20 @@ impl Run {
     {
         self.events.reserve(1)?;
         self.rows.reserve(1)?;
-        self.stages.reserve(1)
+        self.stages.reserve(1)?;
+        self.found.reserve(MOST_COWNS)
     }
 
     /// Puts an event behind the others, for which there is room.
-    pub fn accept(&mut self, event: Event)
+    pub fn accept(&mut self, event: &Event)
         requires kept { IsKept self.old }
-        requires allowed { IsAllowed self.old.cowns (entries self.old.events.items) event }
+        requires allowed { IsAllowed self.old.cowns (entries self.old.events.items) event.now }
         requires room { HasRoom self.old }
         ensures kept { IsKept self.new }
         ensures cowns { self.new.cowns ≡ self.old.cowns }
-        ensures events { self.new.events.items ≡ self.old.events.items ++ event ∷ [] }
+        ensures events { self.new.events.items ≡ self.old.events.items ++ event.now ∷ [] }
     {
-        match &event {
+        match event {
             Event::Spawn {
                 row,
                 parent,
@@ -77,7 +84,7 @@ impl Run {
             Event::Start { row } => self.start(*row),
             Event::End { row, ticks, status } => self.end(*row, *ticks, *status),
         }
-        self.events.push_reserved(event);
+        self.events.push_reserved(event.duplicate());
     }
 
     // A new row, behind the others.
@@ -89,12 +96,14 @@ impl Run {
         if (parent as usize) < self.stages.len() {
             self.stages[parent as usize].last = offset;
         }
-        let before = latest_on(self.latest.as_slice(), cowns);
+        let from = self.found.len();
+        find(&mut self.found, self.latest.as_slice(), cowns.as_slice());
         note(&mut self.latest, cowns.as_slice(), row);
         self.stages.push_reserved(Stage {
             life: Life::Pending,
             last: 0,
-            before,
+            from,
+            to: self.found.len(),
         });
         self.rows.push_reserved(Row {
             parent,

@@ -1,7 +1,5 @@
 // How far a row of a run has come.
 
-use arrayvec::ArrayVec;
-
 /// What has become of a row.
 #[derive(Clone, Copy, PartialEq, Eq, Debug)]
 pub enum Life {
@@ -10,14 +8,13 @@ pub enum Life {
     Ended,
 }
 
-/// For each cown of a row, in their order, the latest row before it with this cown, if there is one.
-pub type Before = ArrayVec<Option<u32>, 8>;
-
 /// What is kept of a row until its run is over.
 #[derive(Drop, Debug)]
 pub struct Stage {
     pub life: Life,
     /// The offset of its last child; 0 where it has none.
     pub last: u32,
-    pub before: Before,
+    /// Where the rows before it on its cowns begin among those found, and where they end.
+    pub from: usize,
+    pub to: usize,
 }

@@ -1,21 +1,17 @@
 // Which row is the latest on each cown.
 
-ghost use Rattle.std.specs.Prelude.{◌≡◌, ◌<◌, ◌≤◌, All, None, length, map, slice_index_or};
+ghost use Rattle.std.specs.Prelude.{◌≡◌, ◌+◌, ◌<◌, ◌≤◌, ◌++◌, All, None, length, map, slice_index_or, vec_len, vec_capacity};
 ghost use Rattle.boc_rules.specs.Turns.{noted};
 
-use crate::stage::Before;
-use boc_types::short::Cowns;
-
-/// The latest row on each of the cowns, in their order.
-pub fn latest_on(latest: &[Option<u32>], cowns: &Cowns) -> Before
-    requires { All (λ c. c < length latest.now) cowns.now.items }
-    ensures { result.items ≡ map (λ c. slice_index_or latest.now c None) cowns.now.items }
+/// Puts the latest row on each of the cowns, in their order, behind those found.
+pub fn find(found: &mut Vec<Option<u32>>, latest: &[Option<u32>], cowns: &[u32])
+    requires cowns { All (λ c. c < length latest.now) cowns.now }
+    requires room { vec_len found.old + length cowns.now ≤ vec_capacity found.old }
+    ensures { found.new.items ≡ found.old.items ++ map (λ c. slice_index_or latest.now c None) cowns.now }
 {
-    let mut before = Before::new();
-    for cown in cowns.as_slice() {
-        before.push(latest[*cown as usize]);
+    for cown in cowns {
+        found.push_reserved(latest[*cown as usize]);
     }
-    before
 }
 
 /// Makes this row the latest on each of the cowns.

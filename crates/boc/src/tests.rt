@@ -310,8 +310,8 @@ fn faulty_records_are_refused(rt: HostRuntime) -> Result<(), Fail> {
             Ok(()) => assert!(rt; false, "{whole} is taken"),
             Err(fault) => {
                 assert_eq!(rt; fault.line(alloc)?.as_str(), line);
-                assert_eq!(rt; fault.status(), 3, "{line}");
-                assert_eq!(rt; sink.bytes.len(), 0, "{line}");
+                assert_eq!(rt; fault.status(), 3);
+                assert_eq!(rt; sink.bytes.len(), 0);
             }
         }
     }

@@ -154,19 +154,16 @@ fn each_beginning_is_truncated(rt: HostRuntime) -> Result<(), Fail> {
 
 #[test]
 fn one_byte_replaced_is_refused_or_kept(rt: HostRuntime) -> Result<(), Fail> {
-    let mut kept = 0;
     for place in 0..TRANSFER.len() {
-        for byte in 0..=127 {
+        for byte in 0..=u8::MAX {
             let mut text = Vec::from_slice(rt.alloc(), TRANSFER.as_bytes())?;
             text[place] = byte;
             let answer = reread(rt.alloc(), &text)?;
             if !answer.as_str().starts_with("line ") {
                 assert_eq!(rt; answer.as_str().as_bytes(), text.as_slice());
-                kept += 1;
             }
         }
     }
-    assert!(rt; kept >= TRANSFER.len());
     Ok(())
 }
 

@@ -43,33 +43,42 @@ tightness s = 0
 abbrev pub EndsSum : List Word → Type 0
 EndsSum rest = NoOperator term_sign rest × NoOperator sum_sign rest
 
+-- no operator follows that an expression would take in; one comparison is all that it may have
 abbrev pub EndsExpr : Expr → List Word → Type 0
 EndsExpr (plain s) rest = EndsSum rest × NoOperator comparison_sign rest
 EndsExpr (compared s op t) rest = EndsSum rest
 
+-- an expression
 abbrev pub expr_phrase : Phrase Expr
 expr_phrase = record { words = expr_words; nodes = expr_nodes; Ends = EndsExpr; IsSmall = λ _. Unit {0} }
 
+-- a sum
 abbrev pub sum_phrase : Phrase Sum
 sum_phrase = record { words = sum_words; nodes = sum_nodes; Ends = λ _. EndsSum; IsSmall = λ _. Unit {0} }
 
+-- a term
 abbrev pub term_phrase : Phrase Term
 term_phrase = record { words = term_words; nodes = term_nodes; Ends = λ _. NoOperator term_sign; IsSmall = λ _. Unit {0} }
 
+-- a factor, behind minuses or without one
 abbrev pub unary_phrase : Phrase Unary
 unary_phrase = record { words = unary_words; nodes = unary_nodes; Ends = λ _ _. Unit {0}; IsSmall = λ _. Unit {0} }
 
+-- a number, a name, or an expression in parentheses
 abbrev pub atom_phrase : Phrase Atom
 atom_phrase = record { words = atom_words; nodes = atom_nodes; Ends = λ _ _. Unit {0}; IsSmall = λ _. Unit {0} }
 
+-- the words of an operator and what it takes in, or none
 abbrev pub tail_words : {Op X : Type 0} → (Op → Sign) → (X → List Word → List Word) → Option (Op × X) → List Word → List Word
 tail_words op_sign words None rest = rest
 tail_words op_sign words (Some p) rest = sign (op_sign p.0) ∷ words p.1 rest
 
+-- their nodes: the operator is one
 abbrev pub tail_nodes : {Op X : Type 0} → (X → ℕ) → Option (Op × X) → ℕ
 tail_nodes nodes None = 0
 tail_nodes nodes (Some p) = 1 + nodes p.1
 
+-- where nothing was taken in no operator follows, and else what was taken in ends
 abbrev pub EndsTail : {Op X : Type 0} → (Op → Sign) → (X → List Word → Type 0) → Option (Op × X) → List Word → Type 0
 EndsTail op_sign Ends None rest = NoOperator op_sign rest
 EndsTail op_sign Ends (Some p) rest = Ends p.1 rest
@@ -78,12 +87,15 @@ EndsTail op_sign Ends (Some p) rest = Ends p.1 rest
 abbrev pub tail_phrase : {Op X : Type 0} → (Op → Sign) → Phrase X → Phrase (Option (Op × X))
 tail_phrase op_sign kind = record { words = tail_words op_sign kind.words; nodes = tail_nodes kind.nodes; Ends = EndsTail op_sign kind.Ends; IsSmall = λ _. Unit {0} }
 
+-- a comparison and its right side, or neither
 abbrev pub compared_phrase : Phrase (Option (Comparison × Sum))
 compared_phrase = tail_phrase comparison_sign sum_phrase
 
+-- a plus or a minus and what follows it, or neither
 abbrev pub more_terms_phrase : Phrase (Option (SumOperator × Sum))
 more_terms_phrase = tail_phrase sum_sign sum_phrase
 
+-- an operator of a term and what follows it, or neither
 abbrev pub more_factors_phrase : Phrase (Option (TermOperator × Term))
 more_factors_phrase = tail_phrase term_sign term_phrase
 
@@ -104,13 +116,16 @@ pair_phrase first second = record {
 abbrev pub list_phrase : {X : Type 0} → Phrase X → Sign → Phrase (List X)
 list_phrase kind close = record { words = λ xs rest. list_words kind.words xs (sign close ∷ rest); nodes = list_nodes kind.nodes; Ends = λ _ _. Unit {0}; IsSmall = λ xs. length xs ≤ 8 }
 
+-- a name
 abbrev pub name_phrase : Phrase (List ℕ)
 name_phrase = record { words = name_words; nodes = λ _. 0; Ends = λ _ _. Unit {0}; IsSmall = λ _. Unit {0} }
 
+-- no index follows a cown that is named without one
 abbrev pub EndsRef : Ref → List Word → Type 0
 EndsRef (alone x) rest = NoSign OpenIndex rest
 EndsRef (member x e) rest = Unit {0}
 
+-- a cown that a `when` names
 abbrev pub ref_phrase : Phrase Ref
 ref_phrase = record { words = ref_words; nodes = ref_nodes; Ends = EndsRef; IsSmall = λ _. Unit {0} }
 
@@ -143,18 +158,22 @@ braced_phrase = record { words = braced_words; nodes = block_nodes; Ends = λ _ 
 abbrev pub block_phrase : Phrase Block
 block_phrase = record { words = λ b rest. block_words b (sign CloseBlock ∷ rest); nodes = block_nodes; Ends = λ _ _. Unit {0}; IsSmall = IsSmallBlock }
 
+-- the words of `else` and its block, or none
 abbrev pub else_words : Option Block → List Word → List Word
 else_words None rest = rest
 else_words (Some b) rest = keyword Else ∷ braced_words b rest
 
+-- the nodes of the block, if there is one
 abbrev pub else_nodes : Option Block → ℕ
 else_nodes None = 0
 else_nodes (Some b) = block_nodes b
 
+-- where there is no `else`, none follows
 abbrev pub EndsElse : Option Block → List Word → Type 0
 EndsElse None rest = NoKeyword Else rest
 EndsElse (Some b) rest = Unit {0}
 
+-- the block is within the limits, if there is one
 abbrev pub IsSmallElse : Option Block → Type 0
 IsSmallElse None = Unit {0}
 IsSmallElse (Some b) = IsSmallBlock b
@@ -171,6 +190,7 @@ if_phrase = pair_phrase expr_phrase (pair_phrase braced_phrase else_phrase)
 abbrev pub repeat_phrase : Phrase (Expr × Block)
 repeat_phrase = pair_phrase expr_phrase braced_phrase
 
+-- no `else` follows an `if` without one
 abbrev pub EndsStmt : Stmt → List Word → Type 0
 EndsStmt (declare x e) rest = Unit {0}
 EndsStmt (assign x e) rest = Unit {0}
@@ -180,6 +200,7 @@ EndsStmt (if_else e b c) rest = Unit {0}
 EndsStmt (repeat e b) rest = Unit {0}
 EndsStmt (when f es rs) rest = Unit {0}
 
+-- a statement
 abbrev pub stmt_phrase : Phrase Stmt
 stmt_phrase = record { words = stmt_words; nodes = stmt_nodes; Ends = EndsStmt; IsSmall = IsSmallStmt }
 
@@ -187,6 +208,7 @@ stmt_phrase = record { words = stmt_words; nodes = stmt_nodes; Ends = EndsStmt; 
 abbrev pub body_phrase : Phrase Block
 body_phrase = record { words = braced_words; nodes = λ _. 0; Ends = λ _ _. Unit {0}; IsSmall = IsSmallBody }
 
+-- no size follows a single cown
 abbrev pub EndsSize : Option ℕ → List Word → Type 0
 EndsSize None rest = NoSign OpenIndex rest
 EndsSize (Some n) rest = Unit {0}
@@ -199,9 +221,11 @@ size_phrase = record { words = size_words; nodes = members; Ends = EndsSize; IsS
 abbrev pub initial_phrase : Phrase (Bool × ℕ)
 initial_phrase = record { words = λ v rest. sign Assign ∷ minus_words v.0 (number v.1 ∷ sign Semicolon ∷ rest); nodes = λ _. 0; Ends = λ _ _. Unit {0}; IsSmall = λ _. Unit {0} }
 
+-- a declaration of cowns
 abbrev pub cown_phrase : Phrase Cown
 cown_phrase = record { words = cown_words; nodes = λ c. members c.size; Ends = λ _ _. Unit {0}; IsSmall = λ c. HasMembers c.size }
 
+-- all declarations of cowns, so that none follows
 abbrev pub cowns_phrase : Phrase (List Cown)
 cowns_phrase = record { words = each_words cown_words; nodes = cowns_declared; Ends = λ _. NoKeyword CownWord; IsSmall = HaveMembers }
 
@@ -214,9 +238,11 @@ signature_phrase = record {
   IsSmall = λ s. (length s.1.0 ≤ 8) × (length s.1.1 ≤ 8);
 }
 
+-- a def
 abbrev pub def_phrase : Phrase Def
 def_phrase = record { words = def_words; nodes = λ _. 1; Ends = λ _ _. Unit {0}; IsSmall = IsSmallDef }
 
+-- all defs, so that none follows
 abbrev pub defs_phrase : Phrase (List Def)
 defs_phrase = record { words = each_words def_words; nodes = length; Ends = λ _. NoKeyword DefWord; IsSmall = AreSmallDefs }
 

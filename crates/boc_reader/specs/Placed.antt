@@ -14,6 +14,7 @@ word_of (tokens.Number n) = number n.value
 word_of (tokens.Keyword k) = keyword k
 word_of (tokens.Sign s) = sign s
 
+-- the words of tokens
 abbrev pub words_of : List Placed → List Word
 words_of ps = map (λ p. word_of p.token) ps
 

@@ -30,12 +30,15 @@ YieldsIn view (Ok y) scope found = found ≡ Some (view y, scope)
 YieldsIn view (Err Memory) scope found = Unit {0}
 YieldsIn view (Err (At kind place)) scope found = found ≡ None
 
+-- names that are lent
 abbrev pub names_of : List (Bor Named) → List Named
 names_of ns = map (λ n. n.now) ns
 
+-- the left side of an operator, if there is one
 abbrev pub left_of : Option (Expr × Operator) → Left
 left_of left = option_map (λ l. (term_of l.0, l.1)) left
 
+-- a statement without those behind it
 abbrev pub step_of : Stmt → Step
 step_of (stmts.Assign slot e) = Set slot (term_of e)
 step_of (stmts.Work e) = Spend (term_of e)
@@ -43,15 +46,19 @@ step_of (stmts.If e a b) = Choose (term_of e) a b
 step_of (stmts.Repeat e a) = Loop (term_of e) a
 step_of (stmts.When kind args refs) = Spawn kind (map term_of args.items) (map place_of refs.items)
 
+-- a declared cown without where its name lies
 abbrev pub global_of : Global' → Global
 global_of g = record { name = g.name.now; first = g.first; size = g.size }
 
+-- a declared def without where its name lies
 abbrev pub callee_of : Callee' → Callee
 callee_of d = record { name = d.name.now; args = d.args; cowns = d.cowns }
 
+-- all that is declared at the top
 abbrev pub declared_of : Top' → Top
 declared_of t = record { cowns = map global_of t.cowns.items; defs = map callee_of t.defs.items }
 
+-- what a body sees from outside: what is declared at the top, and its cown parameters
 abbrev pub outside_of : Outside' → Outside
 outside_of o = record { top = declared_of o.top.now; held = map name_of o.held.now }
 
@@ -66,12 +73,15 @@ EndWithin most (g ∷ gs) = (g.first + members g.size ≤ most) × EndWithin mos
 
 -- The same names in the order of the text, where a fault is found at the first of its places.
 
+-- the names of cowns
 abbrev pub cown_names : List Global → List Named
 cown_names gs = map (λ g. g.name) gs
 
+-- a declaration of cowns of which the first has this number
 abbrev pub global_at : ℕ → Cown → Global
 global_at n c = record { name = c.name; first = n; size = c.size }
 
+-- what a `when` has to know of a def
 abbrev pub callee_for : Def → Callee
 callee_for d = record { name = d.name; args = length d.params; cowns = length d.cowns }
 
@@ -88,6 +98,7 @@ defs_behind cowns before (d ∷ ds) =
     if among (top_names (record { cowns = cowns; defs = before })) d.name then defs_behind cowns before ds
     else defs_behind cowns (before ++ callee_for d ∷ []) ds
 
+-- the body of a def, where its names resolve
 abbrev pub def_names : Top → Def → Option PlainBody
 def_names top d = body_names top d.params d.cowns d.block
 
@@ -98,6 +109,7 @@ bodies_behind top before (d ∷ ds) =
     if among before d.name then None
     else option_and_then (λ b. option_map (λ bs. b ∷ bs) (bodies_behind top (before ++ d.name ∷ []) ds)) (def_names top d)
 
+-- what a tree declares at its top, where no cown has a name that is taken
 abbrev pub top_in_order : Tree → Option Top
 top_in_order t = option_map (λ gs. let top : Top = record { cowns = gs; defs = defs_behind gs [] t.defs } in top) (cowns_behind [] 0 t.cowns)
 

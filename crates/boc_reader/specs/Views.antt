@@ -16,6 +16,7 @@ use Rattle.boc_reader.specs.declared.shape.CownShape.{CownShape}
 use Rattle.boc_reader.specs.declared.shape.DefShape.{DefShape}
 use Rattle.boc_reader.specs.declared.shape.Tree.{Tree}
 
+-- a name without where it lies
 abbrev pub name_of : Spot → List ℕ
 name_of s = s.name.now
 
@@ -41,10 +42,12 @@ abbrev mutual
   atom_of (atoms.Name x) = the.variable x.name.now
   atom_of (atoms.Parens' p e) = the.parens (expr_of e)
 
+-- a cown that a `when` names
 abbrev pub ref_of : Ref → the.Ref
 ref_of (refs.Alone x) = the.alone x.name.now
 ref_of (refs.Member x e) = the.member x.name.now (expr_of e)
 
+-- a block of these statements
 abbrev pub block_from : List the.Stmt → the.Block
 block_from [] = the.done
 block_from (s ∷ ss) = the.next s (block_from ss)
@@ -59,15 +62,19 @@ stmt_layer (layer.IfElse e body other) = the.if_else (expr_of e) (block_from bod
 stmt_layer (layer.Repeat e body) = the.repeat (expr_of e) (block_from body.items)
 stmt_layer (layer.When f es rs) = the.when f.name.now (map expr_of es.items) (map ref_of rs.items)
 
+-- a statement with all that is inside of it
 abbrev pub stmt_of : Stmt → the.Stmt
 stmt_of = fold-Stmt the.Stmt stmt_layer
 
+-- a block of statements that are stored
 abbrev pub block_of : List Stmt → the.Block
 block_of ss = block_from (map stmt_of ss)
 
+-- a declaration of cowns
 abbrev pub cown_of : CownShape → the.Cown
 cown_of c = record { name = c.name.name.now; size = c.size; negative = c.negative; value = c.value.value }
 
+-- a def
 abbrev pub def_of : DefShape → the.Def
 def_of d = record {
   name = d.name.name.now;
@@ -76,5 +83,6 @@ def_of d = record {
   block = block_of d.block.items;
 }
 
+-- a whole text
 abbrev pub tree_of : Tree → the.Tree
 tree_of t = record { cowns = map cown_of t.cowns.items; defs = map def_of t.defs.items; main = block_of t.main.items }

@@ -2,3 +2,4 @@ pub mod Remembering
 pub mod Placing
 pub mod Chaining
 pub mod Checking
+pub mod Working

@@ -10,37 +10,54 @@ use Rattle.boc_types.proofs.Children.{IsRow, row_read}
 use Rattle.boc_types.specs.Plans.{start_of, end_of, Ordered}
 use Rattle.boc_types.specs.Chains.{IsSpawnTight, IsOrderTight}
 use Rattle.boc_order.specs.declared.latest.Latest.{Latest}
-use Rattle.boc_order.specs.Latest.{latest_among, noted, IsLatestOf}
-use Rattle.boc_order.specs.Placed.{placement, Placed, ArePlaced}
+use Rattle.boc_order.specs.Latest.{latest_among, noted, nothing, IsLatestOf}
+use Rattle.boc_order.specs.Placed.{placement, Placed, ArePlaced, Had, Remembers}
 use Rattle.boc_order.proofs.Remembering.{IsLatest-same, among_latest, noted_latest, length-noted, AtAny, NotedAt}
 
--- the rows below n that need cown c
-pub record Had (rows : List Row) (n c r : ℕ) : Type 0 where
-  pub below : r < n
-  pub needs : Contains (cowns_of rows r) c
-
--- the memory after n rows
-pub record Remembers (rows : List Row) (ends : List ℕ) (memory : List (Option Latest)) (n : ℕ) : Type 0 where
-  pub there : length memory ≡ 256
-  pub at : (c : ℕ) → c < 256 → IsLatestOf (Had rows n c) (slice_index ends) (slice_index_or memory c None)
-
 -- no cown is in use before the first row
-pub remembers_none : (rows : List Row) (ends : List ℕ) → Remembers rows ends (replicate 256 None) 0
+pub remembers_none : (rows : List Row) (ends : List ℕ) → Remembers rows ends (replicate 256 nothing) 0
 remembers_none rows ends = record {
-  there = length-replicate 256 (let o : Option Latest = None in o);
-  at = λ c k. (let o : Option Latest = None in rw (get_or-replicate 256 c o o k) (λ a m. omega (arith, m.below)));
+  there = length-replicate 256 nothing;
+  at = λ c k. rw (get_or-replicate 256 c nothing nothing k) (record { none = λ e a m. omega (arith, m.below); some = λ l. absurd (omega (arith, l)) });
+}
+
+-- the memory, once row n was noted at its cowns
+pub remembers_next : (rows : List Row) (ends : List ℕ) (memory : List Latest) (n end : ℕ) → All (λ c. c < 256) (cowns_of rows n) → 0 < end →
+    slice_index ends n ≡ end → Remembers rows ends memory n → Remembers rows ends (noted (record { end = end; row = n }) memory (cowns_of rows n)) (n + 1)
+remembers_next rows ends memory n end small above e p = record {
+  there = omega (arith, length-noted (record { end = end; row = n }) memory (cowns_of rows n), p.there);
+  at = λ c h.
+      IsLatest-same (NotedAt (Had rows n) (cowns_of rows n) n c) (Had rows (n + 1) c) (slice_index ends) (slice_index ends) _
+      (λ r m. elim m [
+        | inl m ↦ record { below = omega (arith, m.below); needs = m.needs }
+        | inr m ↦ record { below = omega (arith, m.1); needs = subst (λ (x : ℕ). Contains (cowns_of rows x) c) (sym m.1) m.0 }
+      ])
+      (λ r m. elim (cases_lt r n) [
+        | inl l ↦ inl (record { below = l; needs = m.needs })
+        | inr g ↦ (let same : r ≡ n = omega (arith, m.below) in inr (subst (λ (x : ℕ). Contains (cowns_of rows x) c) same m.needs, same))
+      ])
+      (λ r m. refl)
+      (noted_latest (Had rows n) (slice_index ends) (record { end = end; row = n }) memory (cowns_of rows n) small above e p.there p.at c h);
+}
+
+-- the same, where the ends of more rows are known
+pub remembers_same : (rows : List Row) (ends ends' : List ℕ) (memory : List Latest) (n : ℕ) →
+    ((r : ℕ) → r < n → slice_index ends' r ≡ slice_index ends r) → Remembers rows ends memory n → Remembers rows ends' memory n
+remembers_same rows ends ends' memory n same p = record {
+  there = p.there;
+  at = λ c h. IsLatest-same (Had rows n c) (Had rows n c) (slice_index ends) (slice_index ends') _ (λ r m. m) (λ r m. m) (λ r m. same r m.below) (p.at c h);
 }
 
 -- among the rows before n that are ordered before it, the latest
-pub ordered_latest : (rows : List Row) (ends : List ℕ) (memory : List (Option Latest)) (n : ℕ) →
+pub ordered_latest : (rows : List Row) (ends : List ℕ) (memory : List Latest) (n : ℕ) →
     All (λ c. c < 256) (cowns_of rows n) → Remembers rows ends memory n →
-    IsLatestOf (λ a. Ordered rows a n) (slice_index ends) (latest_among memory None (cowns_of rows n))
+    IsLatestOf (λ a. Ordered rows a n) (slice_index ends) (latest_among memory nothing (cowns_of rows n))
 ordered_latest rows ends memory n small p =
     IsLatest-same (λ r. ⊥ ⊎ AtAny (Had rows n) (cowns_of rows n) r) (λ a. Ordered rows a n) (slice_index ends) (slice_index ends) _
     (λ r m. elim m [ inl m ↦ absurd m | inr m ↦ record { before = m.2.below; shared = (m.0, m.2.needs, m.1) } ])
     (λ r m. inr (m.shared.0, m.shared.2, record { below = m.before; needs = m.shared.1 }))
     (λ r m. refl)
-    (among_latest (Had rows n) (λ r. ⊥) (slice_index ends) memory None (cowns_of rows n) small p.at (λ a m. m))
+    (among_latest (Had rows n) (λ r. ⊥) (slice_index ends) memory nothing (cowns_of rows n) small p.at (record { none = λ e a m. m; some = λ l. absurd (omega (arith, l)) }))
 
 -- what the placement of row n says, ends being those of the rows before it
 pub record Waits (rows : List Row) (ends : List ℕ) (n spawned at : ℕ) (waits_for : Option ℕ) : Type 0 where
@@ -49,26 +66,28 @@ pub record Waits (rows : List Row) (ends : List ℕ) (n spawned at : ℕ) (waits
   pub tight : MatchOption waits_for (at ≡ spawned)
       (λ a. (spawned < at) × Ordered rows a n × (slice_index ends a ≡ at) × ((o : ℕ) → Ordered rows o n → slice_index ends o ≡ at → a ≤ o))
 
-pub placement_waits : (rows : List Row) (ends : List ℕ) (n spawned : ℕ) (best : Option Latest) →
+pub placement_waits : (rows : List Row) (ends : List ℕ) (n spawned : ℕ) (best : Latest) →
     IsLatestOf (λ a. Ordered rows a n) (slice_index ends) best →
     Waits rows ends n spawned (placement spawned best).0 (placement spawned best).1
-placement_waits rows ends n spawned None p = record {
-  spawned_then = omega arith;
-  in_order = λ a m. absurd (p a m);
-  tight = refl;
-}
-placement_waits rows ends n spawned (Some last) p = go (nat_lt spawned last.end) refl
+placement_waits rows ends n spawned last p = go (nat_lt spawned last.end) refl
   where
+    early : last.end ≤ spawned → (a : ℕ) → Ordered rows a n → slice_index ends a ≤ spawned
+    early h a m = elim (cases_eq last.end 0) [
+      | inl e ↦ absurd (p.none e a m)
+      | inr ne ↦ omega (arith, (p.some (omega arith)).latest a m)
+    ]
+
     go : (b : Bool) → nat_lt spawned last.end ≡ b →
-        Waits rows ends n spawned (placement spawned (Some last)).0 (placement spawned (Some last)).1
-    go true e = rw e (let h : spawned < last.end = grind (arith) in record {
-      spawned_then = omega arith;
-      in_order = p.latest;
-      tight = (h, p.member, p.ends_then, p.least);
-    })
+        Waits rows ends n spawned (placement spawned last).0 (placement spawned last).1
+    go true e = rw e (let h : spawned < last.end = grind (arith) in
+        let l = p.some (omega arith) in record {
+          spawned_then = omega arith;
+          in_order = l.latest;
+          tight = (h, l.member, l.ends_then, l.least);
+        })
     go false e = rw e (let h : last.end ≤ spawned = grind (arith) in record {
       spawned_then = omega arith;
-      in_order = λ a m. omega (arith, p.latest a m);
+      in_order = early h;
       tight = refl;
     })
 
@@ -221,29 +240,14 @@ module _ (rows : List Row) (hr : IsRows rows) (starts ends : List ℕ) (after : 
     }
 
     -- the memory, once row n was noted at its cowns
-    pub remembers_more : (memory : List (Option Latest)) → All (λ c. c < 256) (cowns_of rows n) → Remembers rows ends memory n →
-        (c : ℕ) → c < 256 → IsLatestOf (Had rows (n + 1) c) (slice_index (ends ++ (at + ticks_of rows n) ∷ []))
-        (slice_index_or (noted (record { end = at + ticks_of rows n; row = n }) memory (cowns_of rows n)) c None)
-    remembers_more memory small p c h =
-        IsLatest-same (NotedAt (Had rows n) (cowns_of rows n) n c) (Had rows (n + 1) c) e' e' _
-        (λ r m. elim m [
-          | inl m ↦ record { below = omega (arith, m.below); needs = m.needs }
-          | inr m ↦ record { below = omega (arith, m.1); needs = subst (λ (x : ℕ). Contains (cowns_of rows x) c) (sym m.1) m.0 }
-        ])
-        (λ r m. elim (cases_lt r n) [
-          | inl l ↦ inl (record { below = l; needs = m.needs })
-          | inr g ↦ (let same : r ≡ n = omega (arith, m.below) in inr (subst (λ (x : ℕ). Contains (cowns_of rows x) c) same m.needs, same))
-        ])
-        (λ r m. refl)
-        (noted_latest (Had rows n) e' (record { end = at + ticks_of rows n; row = n }) memory (cowns_of rows n) small here_ends p.there
-        (λ d k. IsLatest-same (Had rows n d) (Had rows n d) (slice_index ends) e' _ (λ r m. m) (λ r m. m) (λ r m. agree_ends r m.below) (p.at d k))
-        c h)
-      where
-        e' : ℕ → ℕ
-        e' = slice_index (ends ++ (at + ticks_of rows n) ∷ [])
+    pub remembers_more : (memory : List Latest) → All (λ c. c < 256) (cowns_of rows n) → Remembers rows ends memory n →
+        Remembers rows (ends ++ (at + ticks_of rows n) ∷ []) (noted (record { end = at + ticks_of rows n; row = n }) memory (cowns_of rows n)) (n + 1)
+    remembers_more memory small p =
+        remembers_next rows (ends ++ (at + ticks_of rows n) ∷ []) memory n (at + ticks_of rows n) small (omega (arith, hr.ticks_low n there)) here_ends
+        (remembers_same rows ends (ends ++ (at + ticks_of rows n) ∷ []) memory n agree_ends p)
 
 -- all of it, for a row that was read and its place
-module _ (rows : List Row) (hr : IsRows rows) (starts ends : List ℕ) (after : List (Option ℕ)) (memory : List (Option Latest)) (n : ℕ)
+module _ (rows : List Row) (hr : IsRows rows) (starts ends : List ℕ) (after : List (Option ℕ)) (memory : List Latest) (n : ℕ)
     (done : ArePlaced rows starts ends after n) (remembers : Remembers rows ends memory n)
     (there : n < length rows) (x : Row) (is_row : x ≡ get_or rows n x) where
   is : IsRow rows n x
@@ -264,12 +268,12 @@ module _ (rows : List Row) (hr : IsRows rows) (starts ends : List ℕ) (after : 
       rw (is.parent, is.offset) at l
 
   module _ (spawned : ℕ) (main : n ≡ 0 → spawned ≡ 0) (child : 0 < n → spawned ≡ slice_index starts x.parent + x.offset)
-      (place : ℕ × Option ℕ) (placed : place ≡ placement spawned (latest_among memory None x.cowns.items)) where
+      (place : ℕ × Option ℕ) (placed : place ≡ placement spawned (latest_among memory nothing x.cowns.items)) where
     sp : Spawned rows hr starts ends after n there done spawned place.0 place.1
     sp = record { main = main; child = λ h. rw (is.parent, is.offset) (child h) }
 
     waits : Waits rows ends n spawned place.0 place.1
-    waits = rw placed (rw (← is.cowns) (placement_waits rows ends n spawned (latest_among memory None (cowns_of rows n))
+    waits = rw placed (rw (← is.cowns) (placement_waits rows ends n spawned (latest_among memory nothing (cowns_of rows n))
         (ordered_latest rows ends memory n (hr.cowns_below n there) remembers)))
 
     pub read_low : place.0 ≤ n * 1000000
@@ -279,10 +283,8 @@ module _ (rows : List Row) (hr : IsRows rows) (starts ends : List ℕ) (after : 
     read_placed = rw (← is.ticks) (more_placed rows hr starts ends after n there done spawned place.0 place.1 sp waits)
 
     pub read_remembers : Remembers rows (ends ++ (place.0 + x.ticks) ∷ []) (noted (record { end = place.0 + x.ticks; row = n }) memory x.cowns.items) (n + 1)
-    read_remembers = rw (← is.ticks, ← is.cowns) (record {
-      there = omega (arith, length-noted (record { end = place.0 + ticks_of rows n; row = n }) memory (cowns_of rows n), remembers.there);
-      at = remembers_more rows hr starts ends after n there done spawned place.0 place.1 sp waits memory (hr.cowns_below n there) remembers;
-    })
+    read_remembers = rw (← is.ticks, ← is.cowns)
+        (remembers_more rows hr starts ends after n there done spawned place.0 place.1 sp waits memory (hr.cowns_below n there) remembers)
 
 -- before the first row
 pub placed_none : (rows : List Row) (starts ends : List ℕ) (after : List (Option ℕ)) → starts ≡ [] → ends ≡ [] → after ≡ [] → ArePlaced rows starts ends after 0
@@ -293,6 +295,6 @@ placed_none rows starts ends after p q r = rw (p, q, r) (record {
   placed = λ b h. absurd (omega (arith, h));
 })
 
-pub place_is : (place : ℕ × Option ℕ) (spawned : ℕ) (best : Option Latest) (memory : List (Option Latest)) (xs ys : List ℕ) →
-    place ≡ placement spawned best → best ≡ latest_among memory None xs → xs ≡ ys → place ≡ placement spawned (latest_among memory None ys)
+pub place_is : (place : ℕ × Option ℕ) (spawned : ℕ) (best : Latest) (memory : List Latest) (xs ys : List ℕ) →
+    place ≡ placement spawned best → best ≡ latest_among memory nothing xs → xs ≡ ys → place ≡ placement spawned (latest_among memory nothing ys)
 place_is place spawned best memory xs ys p q r = cc

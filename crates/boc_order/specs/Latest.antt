@@ -1,26 +1,28 @@
 -- The latest end among some rows, and how it is remembered at each cown.
-use Rattle.std.specs.Prelude.{◌≡◌, ℕ, ◌≤◌, Bool, ◌||◌, ◌&&◌, ◌==◌, nat_lt, if◌then◌else◌, List, [], ◌∷◌, Option, Some, None, MatchOption, slice_index_or, slice_set}
+use Rattle.std.specs.Prelude.{◌≡◌, ℕ, ◌<◌, ◌≤◌, Bool, ◌||◌, ◌&&◌, ◌==◌, nat_lt, if◌then◌else◌, List, [], ◌∷◌, slice_index_or, slice_set}
 use Rattle.boc_order.specs.declared.latest.Latest.{Latest}
+
+-- what there is to tell of no rows
+abbrev pub nothing : Latest
+nothing = record { end = 0; row = 0 }
 
 -- whether x ends later than y, or together with it under a smaller number
 abbrev pub comes_after : Latest → Latest → Bool
 comes_after y x = nat_lt x.end y.end || (x.end == y.end && nat_lt y.row x.row)
 
 -- the one that ends later, or has the smaller number where both end together
-abbrev pub later_of : Option Latest → Option Latest → Option Latest
-later_of None b = b
-later_of (Some x) None = Some x
-later_of (Some x) (Some y) = if comes_after y x then Some y else Some x
+abbrev pub later_of : Latest → Latest → Latest
+later_of x y = if comes_after y x then y else x
 
 -- the latest of what is remembered at any of the cowns, and of `best`
-abbrev pub latest_among : List (Option Latest) → Option Latest → List ℕ → Option Latest
+abbrev pub latest_among : List Latest → Latest → List ℕ → Latest
 latest_among memory best [] = best
-latest_among memory best (c ∷ cowns) = latest_among memory (later_of best (slice_index_or memory c None)) cowns
+latest_among memory best (c ∷ cowns) = latest_among memory (later_of best (slice_index_or memory c nothing)) cowns
 
 -- what is remembered once a row was noted at each of the cowns
-abbrev pub noted : Latest → List (Option Latest) → List ℕ → List (Option Latest)
+abbrev pub noted : Latest → List Latest → List ℕ → List Latest
 noted row memory [] = memory
-noted row memory (c ∷ cowns) = noted row (slice_set memory c (later_of (slice_index_or memory c None) (Some row))) cowns
+noted row memory (c ∷ cowns) = noted row (slice_set memory c (later_of (slice_index_or memory c nothing) row)) cowns
 
 -- the latest end among the rows of a set, and the least row that has it
 pub record IsLatest (In : ℕ → Type 0) (ends : ℕ → ℕ) (l : Latest) : Type 0 where
@@ -29,6 +31,7 @@ pub record IsLatest (In : ℕ → Type 0) (ends : ℕ → ℕ) (l : Latest) : Ty
   pub latest : (a : ℕ) → In a → ends a ≤ l.end
   pub least : (a : ℕ) → In a → ends a ≡ l.end → l.row ≤ a
 
--- the same, and nothing where the set is empty
-abbrev pub IsLatestOf : (ℕ → Type 0) → (ℕ → ℕ) → Option Latest → Type 0
-IsLatestOf In ends o = MatchOption o ((a : ℕ) → In a → ⊥) (IsLatest In ends)
+-- the same, and the end 0 where the set is empty
+pub record IsLatestOf (In : ℕ → Type 0) (ends : ℕ → ℕ) (l : Latest) : Type 0 where
+  pub none : l.end ≡ 0 → (a : ℕ) → In a → ⊥
+  pub some : 0 < l.end → IsLatest In ends l

@@ -1,15 +1,16 @@
 -- What is known of the rows that have their place in the earliest plan.
 use Rattle.std.specs.Prelude.{◌≡◌, ℕ, ◌+◌, ◌*◌, ◌<◌, ◌≤◌, nat_lt, if◌then◌else◌, List, length, Option, Some, None, MatchOption, slice_index, slice_index_or}
 use Rattle.boc_types.specs.declared.rows.Row.{Row}
-use Rattle.boc_types.specs.Rows.{offset_of}
+use Rattle.std.specs.List.{Contains}
+use Rattle.boc_types.specs.Rows.{offset_of, cowns_of}
 use Rattle.boc_types.specs.Plans.{start_of, end_of, IsChild, Ordered}
 use Rattle.boc_types.specs.Chains.{IsSpawnTight, IsOrderTight}
 use Rattle.boc_order.specs.declared.latest.Latest.{Latest}
+use Rattle.boc_order.specs.Latest.{IsLatestOf, nothing}
 
 -- the start of a row that is spawned at a tick, and the row that it waits for, given the latest of those before it
-abbrev pub placement : ℕ → Option Latest → ℕ × Option ℕ
-placement spawned None = (spawned, None)
-placement spawned (Some last) = if nat_lt spawned last.end then (last.end, Some last.row) else (spawned, None)
+abbrev pub placement : ℕ → Latest → ℕ × Option ℕ
+placement spawned last = if nat_lt spawned last.end then (last.end, Some last.row) else (spawned, None)
 
 -- row b starts as early as it can, and `waits_for` is the row whose end it waits for, where its spawn isn't tight
 pub record Placed (rows : List Row) (starts ends : List ℕ) (waits_for : Option ℕ) (b : ℕ) : Type 0 where
@@ -27,3 +28,13 @@ pub record ArePlaced (rows : List Row) (starts ends : List ℕ) (after : List (O
   pub ends_len : length ends ≡ n
   pub after_len : length after ≡ n
   pub placed : (b : ℕ) → b < n → Placed rows starts ends (slice_index_or after b None) b
+
+-- the rows below n that need cown c
+pub record Had (rows : List Row) (n c r : ℕ) : Type 0 where
+  pub below : r < n
+  pub needs : Contains (cowns_of rows r) c
+
+-- the memory has the latest of the first n rows at each cown
+pub record Remembers (rows : List Row) (ends : List ℕ) (memory : List Latest) (n : ℕ) : Type 0 where
+  pub there : length memory ≡ 256
+  pub at : (c : ℕ) → c < 256 → IsLatestOf (Had rows n c) (slice_index ends) (slice_index_or memory c nothing)

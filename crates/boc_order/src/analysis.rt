@@ -1,9 +1,10 @@
 // The profile of some rows.
 
-ghost use Rattle.std.specs.Prelude.{◌≡◌, ℕ, ◌<◌, ◌≤◌, length, IfOk, slice_index};
-ghost use Rattle.boc_types.specs.Rows.{IsRows};
+ghost use Rattle.std.specs.Prelude.{◌≡◌, ℕ, ◌+◌, ◌<◌, ◌≤◌, List, length, IfOk, slice_index};
+ghost use Rattle.boc_types.specs.declared.rows.Row.{Row};
 ghost use Rattle.boc_types.specs.Plans.{work_of, HasEnds, IsEnd, IsEarliest, NoneEndsBefore};
 ghost use Rattle.boc_types.specs.Chains.{IsPicked, weight_of};
+ghost use Rattle.boc_types.specs.Greedy.{IsSpan};
 
 use crate::back::chain_back;
 use crate::plan::earliest_plan;
@@ -19,20 +20,29 @@ fn last_row(ends: &[u64]) -> usize
     ensures first { (k : ℕ) → k < result → slice_index ends.now k < slice_index ends.now result }
 {
     let mut last = 0;
+    let mut latest = ends[0];
     for (number, end) in ends.iter().enumerate() {
-        if ends[last] < *end {
+        if latest < *end {
             last = number;
+            latest = *end;
         }
     }
     last
 }
 
-// The ticks of all rows together.
-fn work(rows: &[Row]) -> u64
-    requires { IsRows rows.now }
-    ensures { result ≡ work_of rows.now }
+// The ticks of all rows together, of which each starts and ends at these ticks.
+fn work(starts: &[u64], ends: &[u64]) -> u64
+    requires whole { length starts.now ≡ length ends.now }
+    requires few { length ends.now ≤ 65535 }
+    requires ordered { (r : ℕ) → r < length ends.now → slice_index starts.now r ≤ slice_index ends.now r }
+    requires short { (r : ℕ) → r < length ends.now → slice_index ends.now r ≤ slice_index starts.now r + 1000000 }
+    ensures { (rows : List Row) → HasEnds rows starts.now ends.now → result ≡ work_of rows }
 {
-    rows.iter().map(|row| u64::from(row.ticks)).sum()
+    let mut total = 0;
+    for row in 0..ends.len() {
+        total += ends[row] - starts[row];
+    }
+    total
 }
 
 /// The work of the rows, their earliest plan, and the costliest chain of rows.
@@ -60,10 +70,22 @@ pub fn profile(alloc: Global, rows: &Rows) -> Result<Profile, AllocError>
     let chain = chain_back(alloc, list, &plan, last as u32)?;
     let span = plan.ends[last];
     Ok(Profile {
-        work: work(list),
+        work: work(&plan.starts, &plan.ends),
         span,
         starts: plan.starts,
         ends: plan.ends,
         chain,
     })
+}
+
+/// The span of the rows: the tick at which their earliest plan ends, as `profile` has it. No plan that keeps ends
+/// sooner.
+///
+/// It takes memory that grows with the number of rows, and time that grows with that of rows and their cowns.
+/// `AllocError` says that memory was refused.
+pub fn span(alloc: Global, rows: &Rows) -> Result<u64, AllocError>
+    ensures { IfOk result (λ s. IsSpan rows.now s) }
+{
+    let plan = earliest_plan(alloc, rows)?;
+    Ok(plan.ends[last_row(&plan.ends)])
 }

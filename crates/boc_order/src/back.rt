@@ -48,16 +48,17 @@ pub fn chain_back(
     ensures picked { IfOk result (λ c. IsPicked rows.now plan.now.starts.items c.steps.items) }
     ensures weight { IfOk result (λ c. weight_of c.steps.items ≡ end_of rows.now plan.now.starts.items last) }
 {
-    let mut steps = Vec::new(alloc);
-    steps.push(Step {
+    // Each step goes back to a smaller row.
+    let mut steps = Vec::with_capacity(alloc, last as usize + 1)?;
+    steps.push_reserved(Step {
         row: last,
         via: Via::Last,
         weight: rows[last as usize].ticks,
-    })?;
+    });
     let mut row = last;
     while row > 0 {
         let step = step_before(rows, &plan.after, row);
-        steps.push(step)?;
+        steps.push_reserved(step);
         row = step.row;
     }
     steps.reverse();

@@ -1,9 +1,10 @@
 // Of some rows: the latest end, and the row that has it.
 
-ghost use Rattle.std.specs.Prelude.{◌≡◌, ℕ, ◌<◌, None, length, All, Some};
-ghost use Rattle.boc_order.specs.Latest.{later_of, latest_among, noted};
+ghost use Rattle.std.specs.Prelude.{◌≡◌, ℕ, ◌<◌, length, All};
+ghost use Rattle.boc_order.specs.Latest.{later_of, latest_among, noted, nothing};
 
-/// The latest end among some rows, and the least-numbered row that has it.
+/// The latest end among some rows, and the least-numbered row that has it. Where there are no rows the end is 0,
+/// since each row ends after tick 0.
 #[derive(Clone, Copy)]
 pub struct Latest {
     /// The end, in ticks.
@@ -12,26 +13,29 @@ pub struct Latest {
     pub row: u32,
 }
 
+/// That of no rows.
+pub const NOTHING: Latest = Latest { end: 0, row: 0 };
+
 /// What is remembered at each cown, by the cown's number.
-pub type Memory = [Option<Latest>; 256];
+pub type Memory = [Latest; 256];
 
 /// The one that ends later; where both end together, the one with the smaller number.
-pub fn later(a: Option<Latest>, b: Option<Latest>) -> Option<Latest>
+pub fn later(a: Latest, b: Latest) -> Latest
     ensures { result ≡ later_of a b }
 {
-    match (a, b) {
-        (Some(x), Some(y)) if x.end < y.end || (x.end == y.end && y.row < x.row) => b,
-        (Some(_), _) => a,
-        (None, _) => b,
+    if a.end < b.end || (a.end == b.end && b.row < a.row) {
+        b
+    } else {
+        a
     }
 }
 
 /// The latest of what is remembered at any of these cowns.
-pub fn latest_at(cowns: &[u32], memory: &Memory) -> Option<Latest>
+pub fn latest_at(cowns: &[u32], memory: &Memory) -> Latest
     requires { All (λ c. c < 256) cowns.now }
-    ensures { result ≡ latest_among memory.now None cowns.now }
+    ensures { result ≡ latest_among memory.now nothing cowns.now }
 {
-    let mut best = None;
+    let mut best = NOTHING;
     for cown in cowns {
         best = later(best, memory[*cown as usize]);
     }
@@ -44,6 +48,6 @@ pub fn note(cowns: &[u32], memory: &mut Memory, row: Latest)
     ensures { memory.new ≡ noted row memory.old cowns.now }
 {
     for cown in cowns {
-        memory[*cown as usize] = later(memory[*cown as usize], Some(row));
+        memory[*cown as usize] = later(memory[*cown as usize], row);
     }
 }

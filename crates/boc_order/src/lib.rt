@@ -10,6 +10,6 @@ mod report;
 #[cfg(test)]
 mod tests;
 
-pub use analysis::profile;
+pub use analysis::{profile, span};
 pub use check::check_chain;
 pub use report::Profile;

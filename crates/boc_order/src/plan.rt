@@ -1,9 +1,11 @@
 // The earliest plan of some rows, with the link that each row waits for.
 
-ghost use Rattle.std.specs.Prelude.{◌≡◌, ℕ, ◌<◌, ◌≤◌, ◌+◌, ◌*◌, ◌^◌, length, IfOk, slice_index};
-ghost use Rattle.boc_order.specs.Placed.{placement, ArePlaced};
+ghost use Rattle.std.specs.Prelude.{◌≡◌, ℕ, ◌<◌, ◌≤◌, ◌+◌, ◌^◌, length, IfOk, slice_index};
+ghost use Rattle.boc_types.specs.Rows.{IsRows};
+ghost use Rattle.boc_types.specs.Rows.{IsRows};
+ghost use Rattle.boc_order.specs.Placed.{placement, ArePlaced, Remembers};
 
-use crate::latest::{Latest, latest_at, note};
+use crate::latest::{Latest, Memory, NOTHING, latest_at, note};
 use boc_types::rows::{Row, Rows};
 use std::alloc::{AllocError, Global};
 
@@ -20,12 +22,13 @@ pub struct Earliest {
 
 // The tick at which a row starts that is spawned at a tick, and the row whose end it waits for, if any. `busy` is
 // the latest of the rows that are ordered before it.
-fn place(spawned: u64, busy: Option<Latest>) -> (u64, Option<u32>)
+fn place(spawned: u64, busy: Latest) -> (u64, Option<u32>)
     ensures { result ≡ placement spawned busy }
 {
-    match busy {
-        Some(last) if spawned < last.end => (last.end, Some(last.row)),
-        _ => (spawned, None),
+    if spawned < busy.end {
+        (busy.end, Some(busy.row))
+    } else {
+        (spawned, None)
     }
 }
 
@@ -43,31 +46,94 @@ fn spawned_at(number: usize, row: &Row, starts: &[u64]) -> u64
     }
 }
 
-/// The earliest plan of the rows. `AllocError` says that memory was refused.
-pub fn earliest_plan(alloc: Global, rows: &Rows) -> Result<Earliest, AllocError>
-    ensures { IfOk result (λ e. ArePlaced rows.now e.starts.items e.ends.items e.after.items (length rows.now)) }
+// What is remembered at the cowns once the first rows are placed, which end at these ticks.
+fn remembered(rows: &[Row], ends: &[u64]) -> Memory
+    requires shape { IsRows rows.now }
+    requires late { (r : ℕ) → r < length ends.now → 0 < slice_index ends.now r }
+    requires few { length ends.now ≤ length rows.now }
+    ensures { Remembers rows.now ends.now result (length ends.now) }
 {
-    let rows = rows.as_slice();
-    let mut starts = Vec::new(alloc);
-    let mut ends = Vec::new(alloc);
-    let mut after = Vec::new(alloc);
-    let mut memory = [None; 256];
-    for (number, row) in rows.iter().enumerate() {
-        let spawned = spawned_at(number, row, &starts);
-        let (start, waits_for) = place(spawned, latest_at(row.cowns.as_slice(), &memory));
-        let end = start + u64::from(row.ticks);
-        starts.push(start)?;
-        ends.push(end)?;
-        after.push(waits_for)?;
+    let mut memory = [NOTHING; 256];
+    for (number, end) in ends.iter().enumerate() {
+        let row = &rows[number];
         let done = Latest {
-            end,
+            end: *end,
             row: number as u32,
         };
         note(row.cowns.as_slice(), &mut memory, done);
     }
-    Ok(Earliest {
-        starts,
-        ends,
-        after,
-    })
+    memory
+}
+
+impl Earliest {
+    ghost use Rattle.std.specs.Prelude.{◌≡◌, ◌≤◌, ◌<◌, ◌+◌, [], take, length, IfOk};
+    ghost use Rattle.boc_types.specs.Rows.{IsRows};
+    ghost use Rattle.boc_order.specs.Placed.{ArePlaced, Remembers};
+    ghost use Rattle.boc_order.specs.Room.{HasRoom};
+
+    /// No row is placed, and there is room for so many. `AllocError` says that memory was refused.
+    pub fn with_room(alloc: Global, count: usize) -> Result<Earliest, AllocError>
+        ensures none { IfOk result (λ e. (e.starts.items ≡ []) × (e.ends.items ≡ []) × (e.after.items ≡ [])) }
+        ensures room { IfOk result (λ e. HasRoom e count) }
+    {
+        Ok(Earliest {
+            starts: Vec::with_capacity(alloc, count)?,
+            ends: Vec::with_capacity(alloc, count)?,
+            after: Vec::with_capacity(alloc, count)?,
+        })
+    }
+
+    /// Places the rows from a given one on anew, where those before it stand as they must. It takes no memory.
+    pub fn place_from(&mut self, rows: &[Row], from: usize)
+        requires shape { IsRows rows.now }
+        requires room { HasRoom self.old (length rows.now) }
+        requires from { from ≤ length rows.now }
+        requires before { ArePlaced rows.now (take from self.old.starts.items) (take from self.old.ends.items) (take from self.old.after.items) from }
+        ensures placed { ArePlaced rows.now self.new.starts.items self.new.ends.items self.new.after.items (length rows.now) }
+        ensures room { HasRoom self.new (length rows.now) }
+    {
+        self.starts.truncate(from);
+        self.ends.truncate(from);
+        self.after.truncate(from);
+        let mut memory = remembered(rows, &self.ends);
+        for number in from..rows.len() {
+            self.place_next(rows, number, &mut memory);
+        }
+    }
+
+    // Places the next row behind those that are placed.
+    fn place_next(&mut self, rows: &[Row], number: usize, memory: &mut Memory)
+        requires shape { IsRows rows.now }
+        requires there { number < length rows.now }
+        requires room { HasRoom self.old (length rows.now) }
+        requires placed { ArePlaced rows.now self.old.starts.items self.old.ends.items self.old.after.items number }
+        requires remembers { Remembers rows.now self.old.ends.items memory.old number }
+        ensures placed { ArePlaced rows.now self.new.starts.items self.new.ends.items self.new.after.items (number + 1) }
+        ensures remembers { Remembers rows.now self.new.ends.items memory.new (number + 1) }
+        ensures room { HasRoom self.new (length rows.now) }
+    {
+        let row = &rows[number];
+        let spawned = spawned_at(number, row, &self.starts);
+        let (start, waits_for) = place(spawned, latest_at(row.cowns.as_slice(), memory));
+        let end = start + u64::from(row.ticks);
+        self.starts.push_reserved(start);
+        self.ends.push_reserved(end);
+        self.after.push_reserved(waits_for);
+        let done = Latest {
+            end,
+            row: number as u32,
+        };
+        note(row.cowns.as_slice(), memory, done);
+    }
+}
+
+/// The earliest plan of the rows. `AllocError` says that memory was refused.
+pub fn earliest_plan(alloc: Global, rows: &Rows) -> Result<Earliest, AllocError>
+    ensures shape { IsRows rows.now }
+    ensures placed { IfOk result (λ e. ArePlaced rows.now e.starts.items e.ends.items e.after.items (length rows.now)) }
+{
+    let rows = rows.as_slice();
+    let mut plan = Earliest::with_room(alloc, rows.len())?;
+    plan.place_from(rows, 0);
+    Ok(plan)
 }

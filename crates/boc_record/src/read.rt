@@ -8,7 +8,7 @@ ghost use Rattle.boc_record.specs.Reading.{Reads, CountsRead, CountsPart, ReadsI
 use crate::fault::{RecordFault, kind_of};
 use crate::line::{cowns_of_header, event_of_line};
 use boc_rules::Rules;
-use boc_text::{Lines, Next, Source};
+use boc_text::{Found, Lines, Source};
 use boc_types::event::Event;
 use boc_types::record::Record;
 use boc_types::verdict::RecordFaultKind;
@@ -32,7 +32,7 @@ pub fn read_record<S: Source>(alloc: Global, source: &mut S) -> Result<Record, R
         let line = line_after(&rules);
         match next_item(&mut lines, source) {
             Ok(Some(event)) => {
-                if let Err(fault) = rules.apply(&event) {
+                if let Err(fault) = rules.take(event) {
                     let kind = kind_of(fault);
                     return Err(RecordFault { line, kind });
                 }
@@ -64,17 +64,17 @@ fn read_header<S: Source>(
     ensures open { OnOk result (lines.new.is_over ≡ false) }
     ensures failures { CountsPart result (S.failures source.old) (S.failures source.new) }
 {
-    match lines.next_line(source) {
-        Next::Line(line) => match cowns_of_header(&line) {
+    match lines.advance(source) {
+        Found::Line => match cowns_of_header(lines.line()) {
             Some(cowns) => match Rules::new(alloc, cowns) {
                 Ok(rules) => Ok(rules),
                 Err(_) => Err(RecordFaultKind::Memory),
             },
             None => Err(RecordFaultKind::Header),
         },
-        Next::TooLong => Err(RecordFaultKind::Header),
-        Next::End | Next::Cut => Err(RecordFaultKind::Truncated),
-        Next::Device => Err(RecordFaultKind::Device),
+        Found::TooLong => Err(RecordFaultKind::Header),
+        Found::End | Found::Cut => Err(RecordFaultKind::Truncated),
+        Found::Device => Err(RecordFaultKind::Device),
     }
 }
 
@@ -86,16 +86,15 @@ fn next_item<S: Source>(lines: &mut Lines, source: &mut S) -> Result<Option<Even
     ensures open { OnOk result (lines.new.is_over ≡ false) }
     ensures failures { CountsPart result (S.failures source.old) (S.failures source.new) }
 {
-    let next = lines.next_line(source);
-    match &next {
-        Next::Line(line) if line.as_slice() == b".".as_slice() => Ok(None),
-        Next::Line(line) => match event_of_line(line) {
+    match lines.advance(source) {
+        Found::Line if lines.line() == b".".as_slice() => Ok(None),
+        Found::Line => match event_of_line(lines.line()) {
             Some(event) => Ok(Some(event)),
             None => Err(RecordFaultKind::Form),
         },
-        Next::TooLong => Err(RecordFaultKind::Form),
-        Next::End | Next::Cut => Err(RecordFaultKind::Truncated),
-        Next::Device => Err(RecordFaultKind::Device),
+        Found::TooLong => Err(RecordFaultKind::Form),
+        Found::End | Found::Cut => Err(RecordFaultKind::Truncated),
+        Found::Device => Err(RecordFaultKind::Device),
     }
 }
 
@@ -127,9 +126,9 @@ fn read_end<S: Source>(lines: &mut Lines, source: &mut S) -> Result<(), RecordFa
     ensures end { ReadsEnd result (to_come lines.old (S.remaining source.old)) (S.remaining source.new) }
     ensures failures { CountsPart result (S.failures source.old) (S.failures source.new) }
 {
-    match lines.next_line(source) {
-        Next::End => Ok(()),
-        Next::Device => Err(RecordFaultKind::Device),
-        Next::Line(_) | Next::Cut | Next::TooLong => Err(RecordFaultKind::After),
+    match lines.advance(source) {
+        Found::End => Ok(()),
+        Found::Device => Err(RecordFaultKind::Device),
+        Found::Line | Found::Cut | Found::TooLong => Err(RecordFaultKind::After),
     }
 }

@@ -72,7 +72,14 @@ impl Rules {
     pub fn apply(&mut self, event: &Event) -> Result<(), RuleFault>
         ensures { Applies self.old event.now result self.new }
     {
-        if let Err(rule) = self.run.judge(event) {
+        self.take(event.duplicate())
+    }
+
+    /// The same, for an event that is handed over.
+    pub fn take(&mut self, event: Event) -> Result<(), RuleFault>
+        ensures { Applies self.old event result self.new }
+    {
+        if let Err(rule) = self.run.judge(&event) {
             return Err(RuleFault::Broken(rule));
         }
         if self.run.make_room().is_err() {

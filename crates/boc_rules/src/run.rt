@@ -66,15 +66,15 @@ impl Run {
     }
 
     /// Puts an event behind the others, for which there is room.
-    pub fn accept(&mut self, event: &Event)
+    pub fn accept(&mut self, event: Event)
         requires kept { IsKept self.old }
-        requires allowed { IsAllowed self.old.cowns (entries self.old.events.items) event.now }
+        requires allowed { IsAllowed self.old.cowns (entries self.old.events.items) event }
         requires room { HasRoom self.old }
         ensures kept { IsKept self.new }
         ensures cowns { self.new.cowns ≡ self.old.cowns }
-        ensures events { self.new.events.items ≡ self.old.events.items ++ event.now ∷ [] }
+        ensures events { self.new.events.items ≡ self.old.events.items ++ event ∷ [] }
     {
-        match event {
+        match &event {
             Event::Spawn {
                 row,
                 parent,
@@ -84,7 +84,7 @@ impl Run {
             Event::Start { row } => self.start(*row),
             Event::End { row, ticks, status } => self.end(*row, *ticks, *status),
         }
-        self.events.push_reserved(event.duplicate());
+        self.events.push_reserved(event);
     }
 
     // A new row, behind the others.

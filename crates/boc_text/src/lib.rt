@@ -19,6 +19,6 @@ pub use bytes::Bytes;
 pub use counted::Counted;
 pub use decimal::{put_number, put_signed, read_number};
 pub use fail_at::FailAt;
-pub use lines::{Lines, MOST_LINE, Next};
+pub use lines::{Found, Lines, MOST_LINE, Next};
 pub use stream::{Failed, Sink, Source};
 pub use whole::{Stopped, TextFault, put_out, read_all};

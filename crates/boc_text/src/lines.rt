@@ -4,7 +4,7 @@ ghost use Rattle.std.specs.Prelude.{◌≡◌, ◌+◌, ◌-◌, ◌<◌, ◌≤
 ghost use Rattle.std.specs.Bool.{OnTrue, OnFalse};
 ghost use Rattle.std.specs.Io.KnownBytes.{Keeps, IsAtEnd};
 ghost use Rattle.boc_text.specs.Streams.{CountsFailure};
-ghost use Rattle.boc_text.specs.Lines.{to_come, BeginsWith, Answers, Exhausts, CountsStop, stops};
+ghost use Rattle.boc_text.specs.Lines.{to_come, BeginsWith, Finds, Answers, Exhausts, CountsStop, stops, found_of};
 
 use crate::stream::{Failed, Source};
 use arrayvec::ArrayVec;
@@ -22,6 +22,21 @@ const CAPACITY: usize = 8192;
 pub enum Next {
     /// A line, without its line feed.
     Line(ArrayVec<u8, MOST_LINE>),
+    /// No more bytes come.
+    End,
+    /// The bytes end within a line: some stand behind the last line feed.
+    Cut,
+    /// More than 80 bytes come before the next line feed.
+    TooLong,
+    /// The source failed.
+    Device,
+}
+
+/// What comes next of the lines of a source, where a line is not handed over: `Lines::line` has it.
+#[derive(Clone, Copy, PartialEq, Eq, Debug)]
+pub enum Found {
+    /// A line.
+    Line,
     /// No more bytes come.
     End,
     /// The bytes end within a line: some stand behind the last line feed.
@@ -68,11 +83,13 @@ fn move_to_front(buffer: &mut [u8], start: usize, end: usize)
 
 /// The lines of a source. Bytes are taken in ahead, and no memory is allocated.
 ///
-/// The source is handed in at each call, and is to be the same at all of them. Contracts see the bytes
-/// that are taken in and not given yet, and whether the lines are over.
+/// The source is handed in at each call, and is to be the same at all of them. Contracts see the line that
+/// was found last, the bytes that are taken in and not given yet, and whether the lines are over.
 #[derive(Drop)]
 pub struct Lines {
     buffer: [u8; CAPACITY],
+    line: usize,
+    line_end: usize,
     start: usize,
     end: usize,
     is_over: bool,
@@ -85,9 +102,9 @@ impl Model for Lines {
 
     ghost Value = { Ahead };
 
-    ghost view = { λ l. record { buffered = slice_range l.buffer l.start l.end; is_over = l.is_over } };
+    ghost view = { λ l. record { line = slice_range l.buffer l.line l.line_end; buffered = slice_range l.buffer l.start l.end; is_over = l.is_over } };
 
-    ghost invariant = { λ l. (l.start ≤ l.end) × (l.end ≤ CAPACITY) };
+    ghost invariant = { λ l. (l.line ≤ l.line_end) × (l.line_end ≤ CAPACITY) × (l.start ≤ l.end) × (l.end ≤ CAPACITY) };
 }
 
 impl Lines {
@@ -98,6 +115,8 @@ impl Lines {
     {
         Lines {
             buffer: [0; CAPACITY],
+            line: 0,
+            line_end: 0,
             start: 0,
             end: 0,
             is_over: false,
@@ -110,20 +129,16 @@ impl Lines {
         &self.buffer[self.start..self.end]
     }
 
-    // Gives the line of so many bytes, and drops its line feed.
-    fn take_line(&mut self, len: usize) -> ArrayVec<u8, MOST_LINE>
-        requires few { len ≤ MOST_LINE }
+    // Goes past the line of so many bytes and its line feed.
+    fn take_line(&mut self, len: usize)
         requires within { len < length self.old.buffered }
-        ensures line { result.items ≡ take len self.old.buffered }
+        ensures line { self.new.line ≡ take len self.old.buffered }
         ensures rest { self.new.buffered ≡ drop (len + 1) self.old.buffered }
         ensures is_over { self.new.is_over ≡ self.old.is_over }
     {
-        let mut line = ArrayVec::new();
-        let Ok(()) = line.try_extend_from_slice(&self.buffered()[..len]) else {
-            unreachable!()
-        };
+        self.line = self.start;
+        self.line_end = self.start + len;
         self.start += len + 1;
-        line
     }
 
     // Takes in more bytes, and says how many.
@@ -145,26 +160,54 @@ impl Lines {
         Ok(count)
     }
 
-    // The next line of lines that are not over.
-    fn advance<S: Source>(&mut self, source: &mut S) -> Next
+    // Finds what comes next of lines that are not over.
+    fn find<S: Source>(&mut self, source: &mut S) -> Found
         requires { S.failures source.old < u64.MAX }
-        ensures answer { Answers result (to_come self.old (S.remaining source.old)) (to_come self.new (S.remaining source.new)) }
+        ensures found { Finds result self.new.line (to_come self.old (S.remaining source.old)) (to_come self.new (S.remaining source.new)) }
         ensures exhausts { Exhausts result (S.remaining source.new) }
         ensures failures { CountsStop result (S.failures source.old) (S.failures source.new) }
         ensures is_over { self.new.is_over ≡ self.old.is_over }
     {
         loop {
             match front_of(self.buffered()) {
-                Front::Line(len) => return Next::Line(self.take_line(len)),
-                Front::TooLong => return Next::TooLong,
+                Front::Line(len) => {
+                    self.take_line(len);
+                    return Found::Line;
+                }
+                Front::TooLong => return Found::TooLong,
                 Front::Open => match self.refill(source) {
-                    Ok(0) if self.buffered().is_empty() => return Next::End,
-                    Ok(0) => return Next::Cut,
+                    Ok(0) if self.buffered().is_empty() => return Found::End,
+                    Ok(0) => return Found::Cut,
                     Ok(_) => {}
-                    Err(Failed) => return Next::Device,
+                    Err(Failed) => return Found::Device,
                 },
             }
         }
+    }
+
+    /// Finds the next line, which `line` then gives, without its line feed. Each answer but a line ends the
+    /// lines: from then on the answer is `End`, and nothing is read.
+    pub fn advance<S: Source>(&mut self, source: &mut S) -> Found
+        requires { S.failures source.old < u64.MAX }
+        ensures over { OnTrue self.old.is_over ((result ≡ Found.End) × (self.new ≡ self.old) × (source.new ≡ source.old)) }
+        ensures found { OnFalse self.old.is_over (Finds result self.new.line (to_come self.old (S.remaining source.old)) (to_come self.new (S.remaining source.new))) }
+        ensures exhausts { OnFalse self.old.is_over (Exhausts result (S.remaining source.new)) }
+        ensures stops { self.new.is_over ≡ stops result }
+        ensures failures { CountsStop result (S.failures source.old) (S.failures source.new) }
+    {
+        if self.is_over {
+            return Found::End;
+        }
+        let found = self.find(source);
+        self.is_over = found != Found::Line;
+        found
+    }
+
+    /// The line that was found last, without its line feed.
+    pub fn line(&self) -> &[u8]
+        ensures { result.now ≡ self.now.line }
+    {
+        &self.buffer[self.line..self.line_end]
     }
 
     /// The next line, without its line feed. Each answer but a line ends the lines: from then on the
@@ -173,15 +216,16 @@ impl Lines {
         requires { S.failures source.old < u64.MAX }
         ensures over { OnTrue self.old.is_over ((result ≡ Next.End) × (self.new ≡ self.old) × (source.new ≡ source.old)) }
         ensures answer { OnFalse self.old.is_over (Answers result (to_come self.old (S.remaining source.old)) (to_come self.new (S.remaining source.new))) }
-        ensures exhausts { OnFalse self.old.is_over (Exhausts result (S.remaining source.new)) }
-        ensures stops { self.new.is_over ≡ stops result }
-        ensures failures { CountsStop result (S.failures source.old) (S.failures source.new) }
+        ensures exhausts { OnFalse self.old.is_over (Exhausts (found_of result) (S.remaining source.new)) }
+        ensures stops { self.new.is_over ≡ stops (found_of result) }
+        ensures failures { CountsStop (found_of result) (S.failures source.old) (S.failures source.new) }
     {
-        if self.is_over {
-            return Next::End;
+        match self.advance(source) {
+            Found::Line => Next::Line(ArrayVec::try_from(self.line()).unwrap()),
+            Found::End => Next::End,
+            Found::Cut => Next::Cut,
+            Found::TooLong => Next::TooLong,
+            Found::Device => Next::Device,
         }
-        let next = self.advance(source);
-        self.is_over = !matches!(next, Next::Line(_));
-        next
     }
 }

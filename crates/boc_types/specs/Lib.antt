@@ -24,6 +24,7 @@ pub mod Texts
 pub mod Rows
 pub mod Plans
 pub mod Chains
+pub mod Greedy
 pub mod Legal
 pub mod Records
 pub mod Run

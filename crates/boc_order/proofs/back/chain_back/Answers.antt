@@ -8,8 +8,9 @@ use Rattle.boc_order.proofs.back.chain_back.Goals as goal
 pub loop-row-init : goal.loop-row-init
 loop-row-init c = record {
   there = c.requires.there;
-  leads = leads_read _ _ c.args.last c.index-rows-last.result _ _ c.push.new.self.items c.requires.there c.index-rows-last.is c.requires.latest
-      (ap (λ (x : Row). x.ticks) (sym c.index-rows-last.is)) c.new-steps.ensures.items c.in_ok-push.ensures.items;
+  leads = leads_read _ _ c.args.last c.index-rows-last.result _ _ c.push_reserved.new.self.items c.requires.there c.index-rows-last.is c.requires.latest
+      (ap (λ (x : Row). x.ticks) (sym c.index-rows-last.is)) c.in_ok-steps.ensures.items c.push_reserved.ensures.items;
+  room = omega (arith, c.push_reserved.ensures.len, c.push_reserved.ensures.capacity, c.in_ok-steps.ensures.len, c.in_ok-steps.ensures.capacity);
 }
 
 pub step_before-step-requires-clause-among : goal.step_before-step-requires-clause-among
@@ -28,7 +29,8 @@ loop-row-preserved c =
     step_is_before _ c.requires.shape _ _ _ c.requires.placed 0 c.loop-row.row c.loop-row-test.true c.loop-row.invariant.there _ q in
     record {
       there = omega (arith, before, c.loop-row.invariant.there);
-      leads = rw (c.in_ok-push-2.ensures.items, reverse_push)
+      room = omega (arith, before, c.loop-row.invariant.room, c.push_reserved-in-loop-row.ensures.len, c.push_reserved-in-loop-row.ensures.capacity);
+      leads = rw (c.push_reserved-in-loop-row.ensures.items, reverse_push)
           (leads_more _ c.requires.shape _ _ _ c.requires.placed _ c.loop-row.row c.loop-row-test.true c.loop-row.invariant.there _ _ q c.loop-row.invariant.leads);
     }
 

@@ -3,5 +3,5 @@ use Rattle.boc_record.proofs.read.read_header.Goals as goal
 
 pub returns-in-TooLong-clause-header : goal.returns-in-TooLong-clause-header
 returns-in-TooLong-clause-header g c =
-    let answer = on_false c.args.lines.now.is_over c.requires.open c.in-TooLong.ensures.answer in
+    let answer = on_false c.args.lines.now.is_over c.requires.open c.in-TooLong.ensures.found in
     long_header _ answer.0

@@ -46,19 +46,19 @@ returns-clause-kept c =
       | in-Spawn w ↦
           let s = w.in-Spawn in
           let pushed : events ≡ w.spawn.new.self.events.items ++ (Spawn s.row s.parent s.offset s.cowns ∷ []) =
-          c.push_reserved.ensures.items ∙ ap (λ (r : Run). r.events.items ++ (c.duplicate.result ∷ [])) w.self-is ∙ ap (λ (e : Event). w.spawn.new.self.events.items ++ (e ∷ [])) (c.duplicate.ensures ∙ s.is) in
+          c.push_reserved.ensures.items ∙ ap (λ (r : Run). r.events.items ++ (c.args.event ∷ [])) w.self-is ∙ ap (λ (e : Event). w.spawn.new.self.events.items ++ (e ∷ [])) s.is in
           subst K (sym w.self-is)
           (kept_spawn run w.spawn.new.self events s.row s.parent s.offset s.cowns c.requires.kept (subst (IsAllowed run.cowns (entries run.events.items)) s.is c.requires.allowed) w.spawn.ensures pushed)
       | in-Start w ↦
           let s = w.in-Start in
           let pushed : events ≡ w.start.new.self.events.items ++ (Start s.row ∷ []) =
-          c.push_reserved.ensures.items ∙ ap (λ (r : Run). r.events.items ++ (c.duplicate.result ∷ [])) w.self-is ∙ ap (λ (e : Event). w.start.new.self.events.items ++ (e ∷ [])) (c.duplicate.ensures ∙ s.is) in
+          c.push_reserved.ensures.items ∙ ap (λ (r : Run). r.events.items ++ (c.args.event ∷ [])) w.self-is ∙ ap (λ (e : Event). w.start.new.self.events.items ++ (e ∷ [])) s.is in
           subst K (sym w.self-is)
           (kept_start run w.start.new.self events s.row c.requires.kept (subst (IsAllowed run.cowns (entries run.events.items)) s.is c.requires.allowed) w.start.ensures pushed)
       | in-End w ↦
           let s = w.in-End in
           let pushed : events ≡ w.end.new.self.events.items ++ (End s.row s.ticks s.status ∷ []) =
-          c.push_reserved.ensures.items ∙ ap (λ (r : Run). r.events.items ++ (c.duplicate.result ∷ [])) w.self-is ∙ ap (λ (e : Event). w.end.new.self.events.items ++ (e ∷ [])) (c.duplicate.ensures ∙ s.is) in
+          c.push_reserved.ensures.items ∙ ap (λ (r : Run). r.events.items ++ (c.args.event ∷ [])) w.self-is ∙ ap (λ (e : Event). w.end.new.self.events.items ++ (e ∷ [])) s.is in
           subst K (sym w.self-is)
           (kept_end run w.end.new.self events s.row s.ticks s.status c.requires.kept (subst (IsAllowed run.cowns (entries run.events.items)) s.is c.requires.allowed) w.end.ensures pushed)
     ]

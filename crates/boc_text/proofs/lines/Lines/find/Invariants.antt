@@ -1,6 +1,6 @@
 use Rattle.std.proofs.Common.{◌-◌, length}
 use Rattle.boc_text.proofs.Ahead.{HasWaited}
-use Rattle.boc_text.proofs.lines.Lines.advance.Given as goal
+use Rattle.boc_text.proofs.lines.Lines.find.Given as goal
 
 abbrev pub invariant-loop-len : goal.invariant-loop-len
 invariant-loop-len g l = HasWaited l.initial.self l.self (g.S.Source.remaining l.initial.source) (g.S.Source.remaining l.source) (g.S.Source.failures l.initial.source) (g.S.Source.failures l.source)

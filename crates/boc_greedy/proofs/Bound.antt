@@ -1,0 +1,353 @@
+-- The greedy plan keeps, is for p workers, and ends within the bound.
+use Rattle.std.proofs.Common.{◌≡◌, ℕ, zero, suc, ◌+◌, ◌-◌, ◌*◌, ◌/◌, ◌<◌, ◌≤◌, ◌⊎◌, List, length, refl, sym, ap, subst, inl, inr, arith, ltb}
+use Rattle.std.proofs.Math.Nat.{mul-le-mul_left}
+use Rattle.std.specs.Prelude.{slice_index}
+use Rattle.std.proofs.lemmas.Bool.{cases_lt, cases_eq}
+use Rattle.std.proofs.lemmas.Bool.Decides.{nat_tests}
+use Rattle.boc_types.specs.declared.rows.Row.{Row}
+use Rattle.boc_types.specs.Rows.{IsRows, parent_of, offset_of, ticks_of}
+use Rattle.boc_types.specs.Plans.{start_of, end_of, work_of, IsEnd, Keeps, HasEnds}
+use Rattle.boc_types.specs.Greedy.{worker_of, RunsAt, IsForWorkers, IsReady, IsFree, IsGreedy, IsSpan}
+use Rattle.boc_greedy.proofs.Totals.{total, total-le, total-const, total-plus, total-times, at-le-total, one_if, inside_cases, inside_yes}
+use Rattle.boc_greedy.proofs.Busy.{runs, busy, busy-work, work-total, on, on_yes, busy_all, busy_few}
+
+-- twice p less one is p and p less one
+split_twice : (p n : ℕ) → 0 < p → (2 * p - 1) * n ≡ p * n + (p - 1) * n
+split_twice zero n h = absurd (omega (arith, h))
+split_twice (suc q) n h =
+    let a : 2 * suc q - 1 ≡ suc q + q = omega arith in
+    let b : suc q - 1 ≡ q = omega arith in
+    rw (a, b) (omega arith)
+
+-- some row ends last
+latest_below : (rows : List Row) (plan : List ℕ) (n : ℕ) → 0 < n →
+    (r : ℕ) × (r < n) × ((k : ℕ) → k < n → end_of rows plan k ≤ end_of rows plan r)
+latest_below rows plan zero h = absurd (omega (arith, h))
+latest_below rows plan (suc zero) h = (0, omega arith, λ k l. (let e : k ≡ 0 = omega arith in rw e (omega arith)))
+latest_below rows plan (suc (suc n)) h =
+    let (r, below, latest) = latest_below rows plan (suc n) (omega arith) in
+    elim (cases_lt (end_of rows plan r) (end_of rows plan (suc n))) [
+      | inl later ↦ (
+        suc n,
+        omega arith,
+        λ k l. elim (cases_eq k (suc n)) [
+          | inl e ↦ rw e (omega arith)
+          | inr ne ↦ omega (arith, latest k (omega arith))
+        ],
+      )
+      | inr not_later ↦ (
+        r,
+        omega arith,
+        λ k l. elim (cases_eq k (suc n)) [
+          | inl e ↦ rw e not_later
+          | inr ne ↦ latest k (omega arith)
+        ],
+      )
+    ]
+
+-- the work is at most a million ticks a row
+pub work_high : (rows : List Row) → IsRows rows → work_of rows ≤ 65535000000
+work_high rows hr =
+    let each : total (ticks_of rows) (length rows) ≤ total (λ _. 1000000) (length rows) = total-le (ticks_of rows) (λ _. 1000000) (length rows) hr.ticks_high in
+    let all : total (λ _. 1000000) (length rows) ≡ length rows * 1000000 = total-const 1000000 (length rows) in
+    omega (arith, work-total rows, hr.not_many)
+
+-- the span is at most what bounds the ends of the rows in a plan that keeps
+span_within : (rows : List Row) (span : ℕ) → IsSpan rows span → (other : List ℕ) → Keeps rows other →
+    (bound : ℕ) → ((r : ℕ) → r < length rows → end_of rows other r ≤ bound) → span ≤ bound
+span_within rows span s other keeps bound within =
+    let (r, there, last) = s.ends.reached in
+    omega (arith, last, s.earliest.least other keeps r there, within r there)
+
+-- of two spans of the same rows neither is greater
+span_le : (rows : List Row) (a b : ℕ) → IsSpan rows a → IsSpan rows b → a ≤ b
+span_le rows a b s t = span_within rows a s t.plan t.earliest.keeps b t.ends.none_later
+
+-- two spans of the same rows bound alike
+pub close_to_span : (rows : List Row) (p a b last : ℕ) → IsSpan rows a → IsSpan rows b → p * last ≤ work_of rows + (p - 1) * a →
+    p * last ≤ work_of rows + (p - 1) * b
+close_to_span rows p a b last s t close = omega (arith, mul-le-mul_left (p - 1) (span_le rows a b s t))
+
+-- the greatest of the ends is the end of the plan
+pub greatest_is_end : (rows : List Row) (plan ends : List ℕ) (last : ℕ) → HasEnds rows plan ends →
+    ((k : ℕ) → k < length ends → slice_index ends k ≤ last) → (k : ℕ) × (k < length ends) × (slice_index ends k ≡ last) → IsEnd rows plan last
+greatest_is_end rows plan ends last has none_later (k, there, is) = record {
+  none_later = λ r h. omega (arith, has.at r h, none_later r (omega (arith, has.whole)));
+  reached = (k, omega (arith, has.whole), omega (arith, has.at k (omega (arith, has.whole))));
+}
+
+-- an end that is close to the span is within the bound
+pub end_within : (p work span last : ℕ) → 0 < p → p * last ≤ work + (p - 1) * span → last ≤ work / p + span
+end_within zero work span last h le = absurd (omega (arith, h))
+end_within (suc q) work span last h le = elim (cases_lt (work / suc q + span) last) [
+  | inl above ↦ (
+      let more : suc q * (work / suc q + span + 1) ≤ suc q * last = mul-le-mul_left (suc q) (omega arith) in
+      let less : suc q - 1 ≡ q = omega arith in
+      let low : suc q * last ≤ work + q * span = rw less at le in
+      absurd (omega arith))
+  | inr ge ↦ ge
+]
+
+module _ (rows : List Row) (hr : IsRows rows) (p : ℕ) (some : 0 < p) (plan workers : List ℕ) (g : IsGreedy rows p plan workers) where
+  -- no row starts before its spawn, nor before the end of a row that is ordered before it
+  pub greedy_keeps : Keeps rows plan
+  greedy_keeps = record {
+    whole = g.whole;
+    spawned = λ a b child. ((g.at (start_of plan b)).ready b child.there refl).spawned a child;
+    in_order = λ a b there o. ((g.at (start_of plan b)).ready b there refl).in_order a o;
+  }
+
+  -- the worker of a row that starts is free then
+  free_worker : (r : ℕ) → r < length rows → IsFree rows p plan workers (start_of plan r) (worker_of workers r)
+  free_worker r there = (g.at (start_of plan r)).free r there refl
+
+  -- of two rows on one worker the later one starts after the other's end
+  apart_lt : (a b t : ℕ) → RunsAt rows plan a t → RunsAt rows plan b t → worker_of workers a ≡ worker_of workers b →
+      start_of plan a < start_of plan b → ⊥
+  apart_lt a b t ra rb w h =
+      let f = (free_worker b rb.there).idle a ra.there w h in
+      omega (arith, ra.not_over, rb.begun)
+
+  -- two rows that start together stand on different workers
+  apart_same : (a b : ℕ) → a < length rows → b < length rows → worker_of workers a ≡ worker_of workers b → start_of plan a ≡ start_of plan b → a ≡ b
+  apart_same a b ha hb w e = elim (cases_lt a b) [
+    | inl lt ↦ absurd (omega (arith, (g.at (start_of plan b)).rising a b lt hb e refl))
+    | inr ge ↦ elim (cases_lt b a) [
+      | inl lt ↦ absurd (omega (arith, (g.at (start_of plan a)).rising b a lt ha (sym e) refl))
+      | inr ge2 ↦ omega arith
+    ]
+  ]
+
+  -- each row stands on one of the workers, and no worker has two rows at one tick
+  pub greedy_for_workers : IsForWorkers rows p plan workers
+  greedy_for_workers = record {
+    whole = g.all_served;
+    below = λ r there. (free_worker r there).below;
+    apart = λ a b t ra rb w. elim (cases_lt (start_of plan a) (start_of plan b)) [
+      | inl lt ↦ absurd (apart_lt a b t ra rb w lt)
+      | inr ge ↦ elim (cases_lt (start_of plan b) (start_of plan a)) [
+        | inl lt ↦ absurd (apart_lt b a t rb ra (sym w) lt)
+        | inr ge2 ↦ apart_same a b ra.there rb.there w (omega arith)
+      ]
+    ];
+  }
+
+  -- a row that starts at a tick is under way then
+  runs_start : (r : ℕ) → r < length rows → RunsAt rows plan r (start_of plan r)
+  runs_start r there = record { there = there; begun = omega arith; not_over = omega (arith, hr.ticks_low r there) }
+
+  -- while a row that is ready stays, every worker has a row
+  busy_while_ready : (b t : ℕ) → IsReady rows plan t b → t < start_of plan b → p ≤ busy rows plan t
+  busy_while_ready b t ready later = busy_all rows plan workers t p each
+    where
+      none_free : (w : ℕ) → w < p → total (λ r. on rows plan workers t r w) (length rows) ≡ 0 → ⊥
+      none_free w h z =
+          let out : (r : ℕ) → r < length rows → worker_of workers r ≡ w → RunsAt rows plan r t → ⊥ = λ r there e k.
+          (let one : on rows plan workers t r w ≡ 1 = on_yes rows plan workers t r w k e in
+          let le : on rows plan workers t r w ≤ total (λ r. on rows plan workers t r w) (length rows) = at-le-total (λ r. on rows plan workers t r w) (length rows) r there in
+          omega arith) in
+          let free : IsFree rows p plan workers t w = record {
+            below = h;
+            idle = λ r there e s. elim (cases_lt t (end_of rows plan r)) [
+              | inl l ↦ absurd (out r there e (record { there = there; begun = omega arith; not_over = l }))
+              | inr ge ↦ ge
+            ];
+          } in
+          let (r, there, start, stands) = (g.at t).none_idle b w ready later free in
+          out r there stands (subst (λ (u : ℕ). RunsAt rows plan r u) start (runs_start r there))
+
+      each : (w : ℕ) → w < p → 0 < total (λ r. on rows plan workers t r w) (length rows)
+      each w h = elim (cases_eq (total (λ r. on rows plan workers t r w) (length rows)) 0) [
+        | inl z ↦ absurd (none_free w h z)
+        | inr ne ↦ omega arith
+      ]
+
+  -- with nothing under way every row would be over
+  all_over : (t : ℕ) → ((r : ℕ) → RunsAt rows plan r t → ⊥) → (n r : ℕ) → r < n → r < length rows → end_of rows plan r ≤ t
+  all_over t none zero r h there = absurd (omega (arith, h))
+  all_over t none (suc n) r h there =
+      let before : (a : ℕ) → a < r → end_of rows plan a ≤ t = λ a l. all_over t none n a (omega arith) (omega arith) in
+      let over : start_of plan r < t → end_of rows plan r ≤ t = λ s. elim (cases_lt t (end_of rows plan r)) [
+        | inl l ↦ absurd (none r (record { there = there; begun = omega arith; not_over = l }))
+        | inr ge ↦ ge
+      ] in
+      elim (cases_lt (start_of plan r) t) [
+        | inl s ↦ over s
+        | inr ge ↦ (
+            let ready : IsReady rows plan t r = record {
+              there = there;
+              waits = ge;
+              spawned = λ a child. (
+                  let l : a < r = omega (arith, hr.parent_before r child.not_main there, child.parent) in
+                  let e : end_of rows plan a ≤ t = before a l in
+                  let same : ticks_of rows (parent_of rows r) ≡ ticks_of rows a = ap (ticks_of rows) child.parent in
+                  omega (arith, hr.ticks_cover r child.not_main there));
+              in_order = λ a o. before a o.before;
+            } in
+            let first : (q : ℕ) → start_of plan r ≡ q → RunsAt rows plan r q = λ q e. subst (RunsAt rows plan r) e (runs_start r there) in
+            elim (cases_eq (start_of plan r) t) [
+              | inl e ↦ absurd (none r (first t e))
+              | inr ne ↦ (
+                  let full : p ≤ busy rows plan t = busy_while_ready r t ready (omega arith) in
+                  let empty : busy rows plan t ≤ total (λ _. 0) (length rows) = total-le (λ k. runs rows plan k t) (λ _. 0) (length rows)
+                  (λ k hk. elim (inside_cases (start_of plan k) (end_of rows plan k) t) [
+                    | inl y ↦ absurd (none k (record { there = hk; begun = y.1; not_over = y.2 }))
+                    | inr out ↦ omega (arith, out.0)
+                  ]) in
+                  let zeros : total (λ _. 0) (length rows) ≡ length rows * 0 = total-const 0 (length rows) in
+                  absurd (omega arith))
+            ])
+      ]
+
+  -- before the end some row is under way
+  busy_some : (t last : ℕ) → IsEnd rows plan last → t < last → 0 < busy rows plan t
+  busy_some t last end h = elim (cases_eq (busy rows plan t) 0) [
+    | inl z ↦ (
+        let none : (r : ℕ) → RunsAt rows plan r t → ⊥ = λ r k. (
+        let one : runs rows plan r t ≡ 1 = inside_yes (start_of plan r) (end_of rows plan r) t k.begun k.not_over in
+        let le : runs rows plan r t ≤ busy rows plan t = at-le-total (λ r. runs rows plan r t) (length rows) r k.there in
+        omega arith) in
+        let r : ℕ = end.reached.0 in
+        let over : end_of rows plan r ≤ t = all_over t none (suc r) r (omega arith) end.reached.1 in
+        absurd (omega (arith, end.reached.2)))
+    | inr ne ↦ omega arith
+  ]
+
+  -- the plan takes no more ticks than its work
+  end_le_work : (last : ℕ) → IsEnd rows plan last → last ≤ work_of rows
+  end_le_work last end =
+      let each : total (λ _. 1) last ≤ total (busy rows plan) last = total-le (λ _. 1) (busy rows plan) last (λ t h. (let some_row = busy_some t last end h in omega arith)) in
+      let all : total (λ _. 1) last ≡ last * 1 = total-const 1 last in
+      omega (arith, busy-work rows plan last end)
+
+  -- no row ends later than that
+  pub row_le_work : (r : ℕ) → r < length rows → end_of rows plan r ≤ work_of rows
+  row_le_work r there =
+      let (q, below, latest) = latest_below rows plan (length rows) hr.not_empty in
+      let end : IsEnd rows plan (end_of rows plan q) = record { none_later = latest; reached = (q, below, refl) } in
+      omega (arith, latest r there, end_le_work (end_of rows plan q) end)
+
+  -- nor does the earliest plan
+  pub span_le_work : (span : ℕ) → IsSpan rows span → span ≤ work_of rows
+  span_le_work span s = span_within rows span s plan greedy_keeps (work_of rows) row_le_work
+
+  -- 1 at a tick at which a worker has no row
+  abbrev idle : ℕ → ℕ
+  idle t = one_if (ltb (busy rows plan t) p)
+
+  -- where no worker is idle, p rows are under way
+  idle_cases : (t : ℕ) → ((idle t ≡ 0) × (p ≤ busy rows plan t)) ⊎ (idle t ≡ 1)
+  idle_cases t = elim (cases_lt (busy rows plan t) p) [
+    | inl l ↦ inr (grind (arith, nat_tests))
+    | inr ge ↦ inl (grind (arith, nat_tests), ge)
+  ]
+
+  -- the idle ticks rise by one a tick at most
+  idle_more : (s d e : ℕ) → e ≡ s + d → total idle e ≤ total idle s + d
+  idle_more s zero e h = (let same : total idle e ≡ total idle s = ap (total idle) (omega arith) in omega arith)
+  idle_more s (suc d) zero h = absurd (omega arith)
+  idle_more s (suc d) (suc e) h =
+      let ih : total idle e ≤ total idle s + d = idle_more s d e (omega arith) in
+      elim (idle_cases e) [ inl z ↦ omega (arith, z.0) | inr o ↦ omega arith ]
+
+  -- and never fall
+  idle_up : (s e : ℕ) → s ≤ e → total idle s ≤ total idle e
+  idle_up s zero h = (let z : s ≡ 0 = omega arith in let same : total idle s ≡ total idle 0 = ap (total idle) z in omega arith)
+  idle_up s (suc e) h = elim (cases_eq s (suc e)) [
+    | inl same ↦ (let q : total idle s ≡ total idle (suc e) = ap (total idle) same in omega arith)
+    | inr ne ↦ (let ih : total idle s ≤ total idle e = idle_up s e (omega arith) in omega arith)
+  ]
+
+  -- until a row starts, no more ticks are idle than any keeping plan takes to start it
+  module _ (other : List ℕ) (keeps : Keeps rows other) where
+    -- the same for a row whose earlier rows are known
+    idle-le_by : (b : ℕ) → b < length rows → ((a : ℕ) → a < b → a < length rows → total idle (start_of plan a) ≤ start_of other a) →
+        (u : ℕ) → u ≤ start_of plan b → total idle u ≤ start_of other b
+    idle-le_by b there ih zero h = omega arith
+    idle-le_by b there ih (suc u) h = elim (cases_lt (start_of other b) (total idle (suc u))) [
+      | inl above ↦ (
+          let up : (x : ℕ) → u < x → total idle (suc u) ≤ total idle x = λ x l. idle_up (suc u) x (omega arith) in
+          let ready : IsReady rows plan u b = record {
+            there = there;
+            waits = omega arith;
+            spawned = λ a child. elim (cases_lt u (start_of plan a + offset_of rows b)) [
+              | inl l ↦ (
+                  let before : a < b = omega (arith, hr.parent_before b child.not_main there, child.parent) in
+                  let q = up (start_of plan a + offset_of rows b) l in
+                  let m = idle_more (start_of plan a) (offset_of rows b) (start_of plan a + offset_of rows b) refl in
+                  let k = ih a before (omega arith) in
+                  let s = keeps.spawned a b child in
+                  absurd (omega arith))
+              | inr ge ↦ ge
+            ];
+            in_order = λ a o. elim (cases_lt u (end_of rows plan a)) [
+              | inl l ↦ (
+                  let before : a < b = o.before in
+                  let q = up (end_of rows plan a) l in
+                  let m = idle_more (start_of plan a) (ticks_of rows a) (end_of rows plan a) refl in
+                  let k = ih a before (omega arith) in
+                  let s = keeps.in_order a b there o in
+                  absurd (omega arith))
+              | inr ge ↦ ge
+            ];
+          } in
+          let full : p ≤ busy rows plan u = busy_while_ready b u ready (omega arith) in
+          let low : total idle u ≤ start_of other b = idle-le_by b there ih u (omega arith) in
+          elim (idle_cases u) [
+            | inl z ↦ omega (arith, z.0)
+            | inr one ↦ absurd (let zero_here : idle u ≡ 0 = grind (arith, nat_tests) in omega arith)
+          ])
+      | inr ge ↦ ge
+    ]
+
+    -- the same for each row
+    idle-le : (n b : ℕ) → b < n → b < length rows → total idle (start_of plan b) ≤ start_of other b
+    idle-le zero b h there = absurd (omega (arith, h))
+    idle-le (suc n) b h there = idle-le_by b there (λ a l k. idle-le n a (omega arith) k) (start_of plan b) (omega arith)
+
+    -- nor are more ticks idle to the end than the other plan takes
+    idle-le_end : (last other_last : ℕ) → IsEnd rows plan last → IsEnd rows other other_last → total idle last ≤ other_last
+    idle-le_end last other_last end other_end =
+        let r : ℕ = end.reached.0 in
+        let there : r < length rows = end.reached.1 in
+        let at : total idle (start_of plan r) ≤ start_of other r = idle-le (suc r) r (omega arith) there in
+        let more : total idle last ≤ total idle (start_of plan r) + ticks_of rows r = idle_more (start_of plan r) (ticks_of rows r) last (sym end.reached.2) in
+        omega (arith, other_end.none_later r there)
+
+  -- p workers for the length of the plan: its work, and the rest where one is idle
+  ticks_split : (last : ℕ) → IsEnd rows plan last → (p' : ℕ) → p ≡ suc p' → p * last ≤ work_of rows + p' * total idle last
+  ticks_split last end p' e =
+      let each : total (λ _. p) last ≤ total (λ t. busy rows plan t + p' * idle t) last = total-le (λ _. p) (λ t. busy rows plan t + p' * idle t) last
+      (λ t h. elim (idle_cases t) [
+        | inl z ↦ omega (arith, z.1)
+        | inr one ↦ (let some_row : 0 < busy rows plan t = busy_some t last end h in rw one (omega arith))
+      ]) in
+      let all : total (λ _. p) last ≡ last * p = total-const p last in
+      let plus : total (λ t. busy rows plan t + p' * idle t) last ≡ total (busy rows plan) last + total (λ t. p' * idle t) last =
+      total-plus (busy rows plan) (λ t. p' * idle t) last in
+      let times : total (λ t. p' * idle t) last ≡ p' * total idle last = total-times p' idle last in
+      omega (arith, busy-work rows plan last end)
+
+  -- the end of the greedy plan against any plan that keeps
+  greedy_end : (last : ℕ) → IsEnd rows plan last → (other : List ℕ) (other_last : ℕ) → Keeps rows other → IsEnd rows other other_last →
+      p * last ≤ work_of rows + (p - 1) * other_last
+  greedy_end last end other other_last keeps other_end =
+      let split : p * last ≤ work_of rows + (p - 1) * total idle last = ticks_split last end (p - 1) (omega arith) in
+      let few : total idle last ≤ other_last = idle-le_end other keeps last other_last end other_end in
+      let more : (p - 1) * total idle last ≤ (p - 1) * other_last = mul-le-mul_left (p - 1) few in
+      omega arith
+
+  -- and against any plan for p workers that keeps
+  pub greedy_twice : (last : ℕ) → IsEnd rows plan last → (other others : List ℕ) (other_last : ℕ) → Keeps rows other → IsForWorkers rows p other others →
+      IsEnd rows other other_last → p * last ≤ (2 * p - 1) * other_last
+  greedy_twice last end other others other_last keeps for other_end =
+      let first : p * last ≤ work_of rows + (p - 1) * other_last = greedy_end last end other other_last keeps other_end in
+      let few : total (busy rows other) other_last ≤ total (λ _. p) other_last =
+      total-le (busy rows other) (λ _. p) other_last (λ t h. busy_few rows other others t p for) in
+      let all : total (λ _. p) other_last ≡ other_last * p = total-const p other_last in
+      let sum : (2 * p - 1) * other_last ≡ p * other_last + (p - 1) * other_last = split_twice p other_last some in
+      omega (arith, busy-work rows other other_last other_end)
+
+  -- the end of the greedy plan against the span
+  pub greedy_close : (last : ℕ) → IsEnd rows plan last → (span : ℕ) → IsSpan rows span → p * last ≤ work_of rows + (p - 1) * span
+  greedy_close last end span s = greedy_end last end s.plan span s.earliest.keeps s.ends

@@ -1,0 +1,10 @@
+use Rattle.std.proofs.Common.{◌≡◌, ℕ, ◌<◌, length, get_or}
+use Rattle.boc_types.specs.Plans.{end_of}
+use Rattle.boc_greedy.proofs.entry.ends_of.Given as goal
+
+-- the rows so far have their ends
+abbrev pub invariant-loop-row : goal.invariant-loop-row
+invariant-loop-row l = record {
+  so_many : length l.ends.items ≡ length l.yielded;
+  at : (k : ℕ) → k < length l.yielded → get_or l.ends.items k 0 ≡ end_of l.rows l.starts k;
+}

@@ -1,0 +1,13 @@
+use Rattle.boc_greedy.specs.Simulating.{weight_of}
+use Rattle.boc_greedy.specs.Stepping.{IsSettled, IsCounted, IsLow}
+use Rattle.boc_greedy.proofs.simulate.simulate.Given as goal
+
+abbrev pub invariant-loop-worker : goal.invariant-loop-worker
+invariant-loop-worker l = record {
+  settled : IsSettled l.list l.p l.simulation;
+  counted : IsCounted l.list l.simulation;
+  low : IsLow l.list l.simulation;
+}
+
+abbrev pub decreases-loop-worker : goal.decreases-loop-worker
+decreases-loop-worker l = weight_of l.simulation.frontier.stages.items

@@ -1,0 +1,53 @@
+use Rattle.std.proofs.Common.{◌≡◌, ℕ, ◌+◌, ◌<◌, ◌≤◌, length, arith}
+use Rattle.std.specs.Prelude.{slice_index}
+use Rattle.boc_greedy.specs.Simulating.{later}
+use Rattle.boc_greedy.proofs.Reading.{read_at, counted_on}
+use Rattle.std.proofs.lemmas.Result.{on_ok_weaker}
+use Rattle.boc_greedy.proofs.Reading.{ok_both}
+use Rattle.boc_greedy.proofs.Standing.{change_soon}
+use Rattle.boc_greedy.proofs.Advancing.{forward, kept_next, fresh_next, next_moment, no_moment}
+use Rattle.boc_greedy.proofs.Counting.{counts_next}
+use Rattle.boc_greedy.proofs.simulation.Simulation.advance.Goals as goal
+
+pub change-requires-clause-stepping : goal.change-requires-clause-stepping
+change-requires-clause-stepping c =
+    let g = c.requires.settled.giving in
+    let k = g.kept in
+    let n = c.requires.next in
+    let u : ℕ = c.index.result.now in
+    let u_is : slice_index c.args.self.now.changes.items c.args.worker ≡ u = read_at c.args.self.now.changes.items c.args.worker u n.there c.index.ensures in
+    let soon = change_soon _ c.requires.shape _ _ _ _ _ _ _ _ _ k c.args.worker n.there n.busy in
+    let early : u + 1000000 < later = omega (arith, u_is, soon, c.requires.low.low, c.requires.shape.not_many) in
+    record {
+      frontier = g.frontier;
+      kept = kept_next _ c.requires.shape _ _ _ _ _ _ _ _ _ k g.given g.passed c.requires.settled.full c.args.worker u n.there u_is (λ v h. omega (arith, u_is, n.least v h)) early;
+      fresh = fresh_next _ c.requires.shape _ _ _ _ _ _ _ _ _ k g.given g.passed c.requires.settled.full c.args.worker u n.there u_is (λ v h. omega (arith, u_is, n.least v h)) early;
+      busy_before = g.busy_before;
+      tournament = g.tournament;
+    }
+
+pub returns-clause-counted : goal.returns-clause-counted
+returns-clause-counted c =
+    let g = c.requires.settled.giving in
+    let k = g.kept in
+    let n = c.requires.next in
+    let u : ℕ = c.index.result.now in
+    let u_is : slice_index c.args.self.now.changes.items c.args.worker ≡ u = read_at c.args.self.now.changes.items c.args.worker u n.there c.index.ensures in
+    let soon = change_soon _ c.requires.shape _ _ _ _ _ _ _ _ _ k c.args.worker n.there n.busy in
+    let early : u + 1000000 < later = omega (arith, u_is, soon, c.requires.low.low, c.requires.shape.not_many) in
+    let least = λ (v : ℕ) (h : v < length c.args.self.now.changes.items). (let z : u ≤ slice_index c.args.self.now.changes.items v = omega (arith, u_is, n.least v h) in z) in
+    let up = forward _ c.requires.shape _ _ _ _ _ _ _ _ _ k g.given g.passed c.requires.settled.full c.args.worker u n.there u_is least early in
+    let counts = counts_next _ _ _ u _ up
+    (next_moment _ c.requires.shape _ _ _ _ _ _ _ _ _ k g.given g.passed c.requires.settled.full c.args.worker u n.there u_is least early)
+    (no_moment _ c.requires.shape _ _ _ _ _ _ _ _ _ k g.given g.passed c.requires.settled.full c.args.worker u n.there u_is least early) c.requires.counted.moments in
+    let moments : c.args.self.now.moments + 1 ≤ u + 1 = omega (arith, up, c.requires.counted.low) in
+    on_ok_weaker c.change.result (λ goes. counted_on _ _ _ goes (record { moments = counts; low = moments })) c.change.ensures.goes
+
+pub returns-clause-low : goal.returns-clause-low
+returns-clause-low c =
+    let k = c.requires.settled.giving.kept in
+    let n = c.requires.next in
+    let u : ℕ = c.index.result.now in
+    let u_is : slice_index c.args.self.now.changes.items c.args.worker ≡ u = read_at c.args.self.now.changes.items c.args.worker u n.there c.index.ensures in
+    let soon = change_soon _ c.requires.shape _ _ _ _ _ _ _ _ _ k c.args.worker n.there n.busy in
+    ok_both c.change.result (λ goes fewer. record { low = omega (arith, goes.tick, fewer, u_is, soon, c.requires.low.low) }) c.change.ensures.goes c.change.ensures.fewer

@@ -1,0 +1,13 @@
+use Rattle.std.proofs.Common.{length}
+use Rattle.boc_greedy.specs.Simulating.{weight_of}
+use Rattle.boc_greedy.specs.Stepping.{IsStepping, Goes}
+use Rattle.boc_greedy.proofs.simulation.Simulation.change_all.Given as goal
+
+abbrev pub invariant-loop-worker : goal.invariant-loop-worker
+invariant-loop-worker l = record {
+  stepping : IsStepping l.rows (length l.fn.self.changes.items) l.self;
+  goes : Goes l.fn.self l.self;
+}
+
+abbrev pub decreases-loop-worker : goal.decreases-loop-worker
+decreases-loop-worker l = weight_of l.self.frontier.stages.items

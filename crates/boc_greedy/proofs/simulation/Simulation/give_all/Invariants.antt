@@ -1,0 +1,15 @@
+use Rattle.std.proofs.Common.{◌≤◌, length}
+use Rattle.boc_greedy.specs.Simulating.{weight_of}
+use Rattle.boc_greedy.specs.Stepping.{IsGiving, IsCounted, IsLow}
+use Rattle.boc_greedy.proofs.simulation.Simulation.give_all.Given as goal
+
+abbrev pub invariant-loop-worker : goal.invariant-loop-worker
+invariant-loop-worker l = record {
+  giving : IsGiving l.rows (length l.fn.self.changes.items) l.self;
+  counted : IsCounted l.rows l.self;
+  low : IsLow l.rows l.self;
+  fewer : weight_of l.self.frontier.stages.items ≤ weight_of l.fn.self.frontier.stages.items;
+}
+
+abbrev pub decreases-loop-worker : goal.decreases-loop-worker
+decreases-loop-worker l = weight_of l.self.frontier.stages.items

@@ -1,0 +1,30 @@
+use Rattle.std.proofs.Common.{◌≡◌, ◌<◌, length, arith}
+use Rattle.boc_greedy.specs.Simulating.{later}
+use Rattle.std.proofs.Common.{replicate, rules}
+use Rattle.boc_greedy.proofs.Beginning.{start_all, kept_first, given_first, passed_first}
+use Rattle.boc_greedy.proofs.Counting.{counts_first}
+use Rattle.boc_greedy.proofs.simulation.Simulation.new.Goals as goal
+
+pub returns-clause-giving : goal.returns-clause-giving
+returns-clause-giving c =
+    let starts : c.in_ok-starts.starts.items ≡ replicate (length c.args.rows.now) later = search rules in
+    let workers : c.in_ok-workers.workers.items ≡ replicate (length c.args.rows.now) 0 = search rules in
+    let changes : c.in_ok-changes.changes.items ≡ replicate c.args.p later = search rules in
+    let tasks : c.in_ok-tasks.tasks.items ≡ replicate c.args.p 0 = search rules in
+    let children : c.in_ok-children.children.items ≡ replicate c.args.p 0 = search rules in
+    let early : 1000000 < later = omega arith in
+    record {
+      frontier = c.in_ok-frontier.ensures.kept;
+      kept = kept_first _ c.requires.shape _ later c.requires.few early _ _ _ _ _ _ starts workers c.in_ok-frontier.ensures.stages changes tasks children;
+      given = given_first _ c.requires.shape _ later c.requires.few early _ _ _ _ _ _ starts workers c.in_ok-frontier.ensures.stages changes tasks children;
+      passed = passed_first _ c.requires.shape _ later c.requires.few early _ _ _ _ _ _ starts workers c.in_ok-frontier.ensures.stages changes tasks children;
+      busy_before = λ v h. absurd (omega (arith, h));
+      tournament = record {
+        won = c.new-2.ensures.won;
+        same = λ w l few. omega (arith, c.new-2.ensures.idle w few, start_all c.args.p later w _ changes l);
+        idle = λ w l few. c.new-2.ensures.idle w few;
+      };
+    }
+
+pub returns-clause-counted : goal.returns-clause-counted
+returns-clause-counted c = record { moments = counts_first _ _; low = omega arith }

@@ -1,0 +1,7 @@
+pub mod Stages
+pub mod Links
+pub mod Frontier
+pub mod Families
+pub mod Simulating
+pub mod Stepping
+pub mod Tournaments

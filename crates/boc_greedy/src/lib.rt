@@ -1,0 +1,20 @@
+//! What p workers would make of some rows: the greedy plan, and the tick by which it has ended.
+//!
+//! The simulation jumps from one tick at which something can change to the next. Its time grows with the number of
+//! rows and of their cowns, and for each row with the logarithm of the number of rows.
+#![tactic(auto)]
+
+mod children;
+mod entry;
+mod frontier;
+mod links;
+mod report;
+mod simulate;
+mod simulation;
+#[cfg(test)]
+mod tests;
+mod tournament;
+mod workers;
+
+pub use entry::{greedy, greedy_within};
+pub use report::Greedy;

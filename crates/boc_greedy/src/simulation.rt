@@ -1,0 +1,235 @@
+// A simulation of workers, from one tick at which something changes to the next.
+
+use crate::children::Family;
+use crate::frontier::Frontier;
+use crate::tournament::Tournament;
+use crate::workers::{LATER, change_of, least_idle};
+use boc_types::rows::Row;
+use std::alloc::{AllocError, Global};
+
+/// How far a simulation is.
+#[derive(Drop)]
+pub struct Simulation {
+    /// The tick at which each row starts, or a later one than any.
+    pub starts: Vec<u64>,
+    /// The worker that each row stands on.
+    pub workers: Vec<u32>,
+    /// How far the rows are.
+    pub frontier: Frontier,
+    /// The tick at which each worker's row next spawns a child or ends, or a later one than any for an idle worker.
+    pub changes: Vec<u64>,
+    /// The same ticks in a tournament, which tells the earliest.
+    pub tournament: Tournament,
+    /// The row of each worker that isn't idle.
+    pub tasks: Vec<u32>,
+    /// The child that each worker's row spawns next, or the number of rows.
+    pub children: Vec<u32>,
+    /// No worker before this one is idle.
+    pub idle_from: usize,
+    /// The tick at which the simulation stands.
+    pub tick: u64,
+    /// At how many ticks it has stood.
+    pub moments: u64,
+}
+
+impl Simulation {
+    ghost use Rattle.std.specs.Prelude.{◌≡◌, ◌≢◌, ℕ, ◌<◌, ◌≤◌, length, slice_index, IfOk, IfSome, IfNone, OnOk, true, false};
+    ghost use Rattle.boc_types.specs.Rows.{IsRows};
+    ghost use Rattle.boc_greedy.specs.Families.{IsFamily};
+    ghost use Rattle.boc_greedy.specs.Tournaments.{IsTournamentOf};
+    ghost use Rattle.boc_greedy.specs.Simulating.{later, IsLeastIdle, IsNextToChange, IsFull, HasPassed, weight_of};
+    ghost use Rattle.boc_greedy.specs.Stepping.{IsStepping, IsGiving, IsSettled, IsCounted, IsLow, Goes};
+
+    /// Tick 0, where only main is spawned, and nothing has started.
+    pub fn new(alloc: Global, rows: &[Row], p: u32) -> Result<Simulation, AllocError>
+        requires shape { IsRows rows.now }
+        requires few { p ≤ 64 }
+        ensures giving { IfOk result (λ s. IsGiving rows.now p s) }
+        ensures counted { IfOk result (λ s. IsCounted rows.now s) }
+        ensures low { IfOk result (λ s. IsLow rows.now s) }
+    {
+        let count = rows.len();
+        let starts = vec![in alloc; LATER; count]?;
+        let workers = vec![in alloc; 0; count]?;
+        let frontier = Frontier::new(alloc, rows)?;
+        let changes = vec![in alloc; LATER; p as usize]?;
+        let tasks = vec![in alloc; 0; p as usize]?;
+        let children = vec![in alloc; 0; p as usize]?;
+        Ok(Simulation {
+            starts,
+            workers,
+            frontier,
+            changes,
+            tournament: Tournament::new(),
+            tasks,
+            children,
+            idle_from: 0,
+            tick: 0,
+            moments: 1,
+        })
+    }
+
+    // Gives the least row that can start to the least worker that is idle; false where no row can start.
+    fn give(&mut self, rows: &[Row], family: &Family, worker: usize) -> bool
+        requires shape { IsRows rows.now }
+        requires family { IsFamily rows.now family.now.first.items family.now.next.items }
+        requires giving { IsGiving rows.now (length self.old.changes.items) self.old }
+        requires idle { IsLeastIdle self.old.changes.items worker }
+        requires counted { IsCounted rows.now self.old }
+        requires low { IsLow rows.now self.old }
+        ensures giving { IsGiving rows.now (length self.old.changes.items) self.new }
+        ensures counted { IsCounted rows.now self.new }
+        ensures low { IsLow rows.now self.new }
+        ensures fewer { result ≡ true → weight_of self.new.frontier.stages.items < weight_of self.old.frontier.stages.items }
+        ensures full { result ≡ false → IsFull rows.now (length self.old.changes.items) later self.new.frontier.stages.items self.new.changes.items }
+        ensures settled { result ≡ false → weight_of self.new.frontier.stages.items ≤ weight_of self.old.frontier.stages.items }
+    {
+        match self.frontier.start_least(rows) {
+            Some(row) => {
+                let child = family.first[row as usize];
+                let change = change_of(rows, self.tick, row, child);
+                self.starts[row as usize] = self.tick;
+                self.workers[row as usize] = worker as u32;
+                self.tasks[worker] = row;
+                self.children[worker] = child;
+                self.changes[worker] = change;
+                self.tournament.set(worker, change);
+                true
+            }
+            None => false,
+        }
+    }
+
+    /// Gives rows that can start to idle workers, until there are no more of the ones or the others.
+    pub fn give_all(&mut self, rows: &[Row], family: &Family)
+        requires shape { IsRows rows.now }
+        requires family { IsFamily rows.now family.now.first.items family.now.next.items }
+        requires giving { IsGiving rows.now (length self.old.changes.items) self.old }
+        requires counted { IsCounted rows.now self.old }
+        requires low { IsLow rows.now self.old }
+        ensures settled { IsSettled rows.now (length self.old.changes.items) self.new }
+        ensures counted { IsCounted rows.now self.new }
+        ensures low { IsLow rows.now self.new }
+        ensures fewer { weight_of self.new.frontier.stages.items ≤ weight_of self.old.frontier.stages.items }
+    {
+        while let Some(worker) = least_idle(&self.changes, &mut self.idle_from) {
+            if !self.give(rows, family, worker) {
+                return;
+            }
+        }
+    }
+
+    // The worker's row spawns its next child.
+    fn spawn(&mut self, rows: &[Row], family: &Family, worker: usize) -> Result<(), AllocError>
+        requires shape { IsRows rows.now }
+        requires family { IsFamily rows.now family.now.first.items family.now.next.items }
+        requires stepping { IsStepping rows.now (length self.old.changes.items) self.old }
+        requires there { worker < length self.old.changes.items }
+        requires due { slice_index self.old.changes.items worker ≡ self.old.tick }
+        requires child { slice_index self.old.children.items worker < length rows.now }
+        ensures stepping { OnOk result (IsStepping rows.now (length self.old.changes.items) self.new) }
+        ensures goes { OnOk result (Goes self.old self.new) }
+        ensures fewer { OnOk result (weight_of self.new.frontier.stages.items < weight_of self.old.frontier.stages.items) }
+    {
+        let row = self.tasks[worker];
+        let child = self.children[worker];
+        self.frontier.spawn(rows, child)?;
+        let next = family.next[child as usize];
+        let change = change_of(rows, self.starts[row as usize], row, next);
+        self.children[worker] = next;
+        self.changes[worker] = change;
+        self.tournament.set(worker, change);
+        Ok(())
+    }
+
+    // The worker's row ends.
+    fn end(&mut self, rows: &[Row], worker: usize) -> Result<(), AllocError>
+        requires shape { IsRows rows.now }
+        requires stepping { IsStepping rows.now (length self.old.changes.items) self.old }
+        requires there { worker < length self.old.changes.items }
+        requires due { slice_index self.old.changes.items worker ≡ self.old.tick }
+        requires none_left { length rows.now ≤ slice_index self.old.children.items worker }
+        ensures stepping { OnOk result (IsStepping rows.now (length self.old.changes.items) self.new) }
+        ensures goes { OnOk result (Goes self.old self.new) }
+        ensures fewer { OnOk result (weight_of self.new.frontier.stages.items < weight_of self.old.frontier.stages.items) }
+    {
+        let row = self.tasks[worker];
+        self.frontier.end(rows, row)?;
+        self.changes[worker] = LATER;
+        self.tournament.set(worker, LATER);
+        self.idle_from = self.idle_from.min(worker);
+        Ok(())
+    }
+
+    // What changes next for a worker.
+    fn change(&mut self, rows: &[Row], family: &Family, worker: usize) -> Result<(), AllocError>
+        requires shape { IsRows rows.now }
+        requires family { IsFamily rows.now family.now.first.items family.now.next.items }
+        requires stepping { IsStepping rows.now (length self.old.changes.items) self.old }
+        requires there { worker < length self.old.changes.items }
+        requires due { slice_index self.old.changes.items worker ≡ self.old.tick }
+        ensures stepping { OnOk result (IsStepping rows.now (length self.old.changes.items) self.new) }
+        ensures goes { OnOk result (Goes self.old self.new) }
+        ensures fewer { OnOk result (weight_of self.new.frontier.stages.items < weight_of self.old.frontier.stages.items) }
+    {
+        if (self.children[worker] as usize) < rows.len() {
+            self.spawn(rows, family, worker)
+        } else {
+            self.end(rows, worker)
+        }
+    }
+
+    /// A worker for which something changes before or when anything changes for the others, if one isn't idle.
+    pub fn next_to_change(&self) -> Option<usize>
+        requires few { length self.now.changes.items ≤ 64 }
+        requires tournament { IsTournamentOf self.now.changes.items self.now.tournament.winners }
+        ensures found { IfSome result (λ w. IsNextToChange self.now.changes.items w) }
+        ensures none { IfNone result ((w : ℕ) → w < length self.now.changes.items → later ≤ slice_index self.now.changes.items w) }
+    {
+        self.tournament.earliest()
+    }
+
+    /// All that changes at this tick.
+    pub fn change_all(&mut self, rows: &[Row], family: &Family) -> Result<(), AllocError>
+        requires shape { IsRows rows.now }
+        requires family { IsFamily rows.now family.now.first.items family.now.next.items }
+        requires stepping { IsStepping rows.now (length self.old.changes.items) self.old }
+        requires counted { IsCounted rows.now self.old }
+        requires low { IsLow rows.now self.old }
+        ensures giving { OnOk result (IsGiving rows.now (length self.old.changes.items) self.new) }
+        ensures counted { OnOk result (IsCounted rows.now self.new) }
+        ensures low { OnOk result (IsLow rows.now self.new) }
+        ensures fewer { OnOk result (weight_of self.new.frontier.stages.items ≤ weight_of self.old.frontier.stages.items) }
+    {
+        while let Some(worker) = self.next_to_change() {
+            if self.changes[worker] != self.tick {
+                return Ok(());
+            }
+            self.change(rows, family, worker)?;
+        }
+        Ok(())
+    }
+
+    /// Goes to the tick at which this worker, the next to change, changes.
+    pub fn advance(
+        &mut self,
+        rows: &[Row],
+        family: &Family,
+        worker: usize,
+    ) -> Result<(), AllocError>
+        requires shape { IsRows rows.now }
+        requires family { IsFamily rows.now family.now.first.items family.now.next.items }
+        requires settled { IsSettled rows.now (length self.old.changes.items) self.old }
+        requires counted { IsCounted rows.now self.old }
+        requires low { IsLow rows.now self.old }
+        requires next { IsNextToChange self.old.changes.items worker }
+        ensures stepping { OnOk result (IsStepping rows.now (length self.old.changes.items) self.new) }
+        ensures counted { OnOk result (IsCounted rows.now self.new) }
+        ensures low { OnOk result (IsLow rows.now self.new) }
+        ensures fewer { OnOk result (weight_of self.new.frontier.stages.items < weight_of self.old.frontier.stages.items) }
+    {
+        self.tick = self.changes[worker];
+        self.moments += 1;
+        self.change(rows, family, worker)
+    }
+}

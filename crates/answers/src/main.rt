@@ -2,17 +2,21 @@
 //!
 //! A text of the table stands behind a line with its kind, `program`, `record` or `report`, a space and its length
 //! in bytes, and before a line feed. A program's text is read, a record's is read and written again, and of a
-//! report's record the report is written.
+//! report's record the report is written: with the greedy plan for P workers, 1 to 64, where the kind is `report P`.
 #![tactic(auto)]
 
-ghost use Rattle.std.specs.Prelude.{◌<◌, length, IfSome};
+ghost use Rattle.std.specs.Prelude.{◌<◌, length, IfOk, IfSome};
+ghost use Rattle.boc_report.specs.Parts.{IsWhole};
 
+use boc_greedy::{Greedy, greedy};
 use boc_order::profile;
 use boc_reader::read_program;
 use boc_record::{RecordFault, read_record, write_record};
 use boc_report::profile_text;
 use boc_text::Bytes;
 use boc_types::record::Record;
+use boc_types::rows::Rows;
+use std::alloc::{AllocError, Global};
 use std::io::{self, Read, Write};
 
 /// What a text of the table is meant to be.
@@ -20,16 +24,21 @@ use std::io::{self, Read, Write};
 enum Kind {
     Program,
     Record,
-    Report,
+    Report { workers: Option<u32> },
 }
 
-/// The kind that a word names.
-fn kind_of(word: &str) -> Option<Kind> {
-    match word {
+/// The kind that some words name.
+fn kind_of(words: &str) -> Option<Kind> {
+    match words {
         "program" => Some(Kind::Program),
         "record" => Some(Kind::Record),
-        "report" => Some(Kind::Report),
-        _ => None,
+        "report" => Some(Kind::Report { workers: None }),
+        _ => {
+            let workers = words.strip_prefix("report ")?.parse().ok()?;
+            Some(Kind::Report {
+                workers: Some(workers),
+            })
+        }
     }
 }
 
@@ -39,8 +48,8 @@ fn first_text(table: &[u8]) -> Option<(Kind, &[u8], &[u8])>
 {
     let end = table.iter().position(|byte| *byte == b'\n')?;
     let (line, behind) = table.split_at(end);
-    let (word, len) = std::str::from_utf8(line).ok()?.split_once(' ')?;
-    let kind = kind_of(word)?;
+    let (words, len) = std::str::from_utf8(line).ok()?.rsplit_once(' ')?;
+    let kind = kind_of(words)?;
     let len: usize = len.parse().ok()?;
     let behind = &behind[1..];
     if behind.len() <= len {
@@ -80,14 +89,29 @@ fn tell_record(rt: HostRuntime, text: &[u8]) -> io::Result<()> {
     }
 }
 
+/// The greedy plan for so many workers, where there are 1 to 64.
+fn greedy_for(
+    alloc: Global,
+    rows: &Rows,
+    workers: Option<u32>,
+) -> Result<Option<Greedy>, AllocError>
+    ensures { IfOk result (λ plan. IfSome plan IsWhole) }
+{
+    match workers {
+        Some(p) if (1..=64).contains(&p) => Ok(Some(greedy(alloc, rows, p)?)),
+        _ => Ok(None),
+    }
+}
+
 /// Writes the report on a record, or the line on a text that is none.
-fn tell_report(rt: HostRuntime, text: &[u8]) -> io::Result<()> {
+fn tell_report(rt: HostRuntime, text: &[u8], workers: Option<u32>) -> io::Result<()> {
     let record = match record_of(rt, text)? {
         Ok(record) => record,
         Err(fault) => return println!(rt; "{fault}"),
     };
     let found = profile(rt.alloc(), record.rows())?;
-    let report = profile_text(rt.alloc(), &found)?;
+    let plan = greedy_for(rt.alloc(), record.rows(), workers)?;
+    let report = profile_text(rt.alloc(), &found, plan.as_ref())?;
     rt.stdout().write_all(&report)
 }
 
@@ -99,7 +123,7 @@ fn main(rt: HostRuntime) -> io::Result<()> {
         match kind {
             Kind::Program => tell_program(rt, text)?,
             Kind::Record => tell_record(rt, text)?,
-            Kind::Report => tell_report(rt, text)?,
+            Kind::Report { workers } => tell_report(rt, text, workers)?,
         }
         rest = behind;
     }

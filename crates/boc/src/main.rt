@@ -9,6 +9,7 @@ mod tests;
 mod values;
 mod values_text;
 mod words;
+mod workers;
 
 use crate::check::check_cmd;
 use crate::fault::Fault;
@@ -37,7 +38,12 @@ fn run(rt: HostRuntime) -> Result<(), Fault> {
     match read_words(rt.alloc(), &words)? {
         Command::Values => values_cmd(rt.alloc(), &mut Counted::new(rt.stdin()), &mut output),
         Command::Check => check_cmd(rt.alloc(), &mut Counted::new(rt.stdin()), &mut output),
-        Command::Profile => profile_cmd(rt.alloc(), &mut Counted::new(rt.stdin()), &mut output),
+        Command::Profile(workers) => profile_cmd(
+            rt.alloc(),
+            workers,
+            &mut Counted::new(rt.stdin()),
+            &mut output,
+        ),
         Command::Help(text) => {
             put_out(&mut output, text.as_bytes())?;
             Ok(())

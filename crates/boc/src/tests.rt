@@ -5,6 +5,7 @@ use crate::fault::Fault;
 use crate::profile::profile_cmd;
 use crate::values::values_cmd;
 use crate::words::{Command, read_words};
+use crate::workers::Workers;
 use boc_text::{Bytes, FailAt};
 use std::alloc::{AllocError, Global};
 use std::test::*;
@@ -272,12 +273,24 @@ const RECORD: &str = "boc 1 2
 .
 ";
 
+// A run without cowns.
+const NO_COWNS: &str = "boc 1 0
++ 0 0 0
+> 0
++ 1 0 2
++ 2 0 3
+< 0 3 0
+> 1
+< 1 4 0
+> 2
+< 2 4 0
+.
+";
+
 #[test]
 fn records_are_checked(rt: HostRuntime) -> Result<(), Fail> {
     let alloc = rt.alloc();
-    let no_cowns =
-        "boc 1 0\n+ 0 0 0\n> 0\n+ 1 0 2\n+ 2 0 3\n< 0 3 0\n> 1\n< 1 4 0\n> 2\n< 2 4 0\n.\n";
-    for (text, output) in [(RECORD, "ok 4\n"), (no_cowns, "ok 3\n")] {
+    for (text, output) in [(RECORD, "ok 4\n"), (NO_COWNS, "ok 3\n")] {
         let mut sink = bytes(alloc, "")?;
         let result = check_cmd(alloc, &mut bytes(alloc, text)?, &mut sink);
         assert!(rt; result.is_ok(), "{text}");
@@ -378,12 +391,32 @@ plan
 3 7 9
 ";
 
+// The report on NO_COWNS.
+const NO_COWNS_REPORT: &str = "rows 3
+work 11
+span 7
+chain
+0 spawn 3
+2 end 4
+plan
+0 0 3
+1 2 6
+2 3 7
+";
+
+// The greedy part of the report on RECORD for two workers.
+const GREEDY: &str = "greedy 2
+0 0 4 0
+1 2 4 1
+2 4 7 0
+3 7 9 0
+end 9 bound 14
+";
+
 #[test]
 fn records_are_profiled(rt: HostRuntime) -> Result<(), Fail> {
     let alloc = rt.alloc();
     let empty = "boc 1 0\n+ 0 0 0\n> 0\n< 0 1 0\n.\n";
-    let no_cowns =
-        "boc 1 0\n+ 0 0 0\n> 0\n+ 1 0 2\n+ 2 0 3\n< 0 3 0\n> 1\n< 1 4 0\n> 2\n< 2 4 0\n.\n";
     let countdown =
         "boc 1 1\n+ 0 0 0\n> 0\n+ 1 0 2 0\n< 0 2 0\n> 1\n+ 2 1 4 0\n< 1 4 0\n> 2\n+ 3 2 4 0\n< 2 4 0\n> 3\n< 3 3 0\n.\n";
     for (text, output) in [
@@ -392,20 +425,59 @@ fn records_are_profiled(rt: HostRuntime) -> Result<(), Fail> {
             empty,
             "rows 1\nwork 1\nspan 1\nchain\n0 end 1\nplan\n0 0 1\n",
         ),
-        (
-            no_cowns,
-            "rows 3\nwork 11\nspan 7\nchain\n0 spawn 3\n2 end 4\nplan\n0 0 3\n1 2 6\n2 3 7\n",
-        ),
+        (NO_COWNS, NO_COWNS_REPORT),
         (
             countdown,
             "rows 4\nwork 13\nspan 13\nchain\n0 spawn 2\n1 spawn 4\n2 spawn 4\n3 end 3\nplan\n0 0 2\n1 2 6\n2 6 10\n3 10 13\n",
         ),
     ] {
         let mut sink = bytes(alloc, "")?;
-        let result = profile_cmd(alloc, &mut bytes(alloc, text)?, &mut sink);
+        let result = profile_cmd(alloc, None, &mut bytes(alloc, text)?, &mut sink);
         assert!(rt; result.is_ok(), "{text}");
         assert_eq!(rt; String::from_utf8(sink.bytes)?.as_str(), output);
     }
+    Ok(())
+}
+
+#[test]
+fn records_are_profiled_for_workers(rt: HostRuntime) -> Result<(), Fail> {
+    let alloc = rt.alloc();
+    for (text, p, earliest, greedy) in [
+        (RECORD, 2, REPORT, GREEDY),
+        (
+            RECORD,
+            1,
+            REPORT,
+            "greedy 1\n0 0 4 0\n1 4 6 0\n2 6 9 0\n3 9 11 0\nend 11 bound 20\n",
+        ),
+        (
+            NO_COWNS,
+            1,
+            NO_COWNS_REPORT,
+            "greedy 1\n0 0 3 0\n1 3 7 0\n2 7 11 0\nend 11 bound 18\n",
+        ),
+    ] {
+        let mut sink = bytes(alloc, "")?;
+        let result = profile_cmd(alloc, Workers::new(p), &mut bytes(alloc, text)?, &mut sink);
+        assert!(rt; result.is_ok(), "{text}");
+        let report = format!(in alloc; "{earliest}{greedy}")?;
+        assert_eq!(rt; String::from_utf8(sink.bytes)?.as_str(), report.as_str());
+    }
+    Ok(())
+}
+
+#[test]
+fn one_write_of_a_profile_for_workers_fails(rt: HostRuntime) -> Result<(), Fail> {
+    let alloc = rt.alloc();
+    let mut sink = FailAt::new(bytes(alloc, "")?, 2, 7);
+    let result = profile_cmd(
+        alloc,
+        Workers::new(2),
+        &mut bytes(alloc, RECORD)?,
+        &mut sink,
+    );
+    assert!(rt; matches!(result, Err(Fault::Sink { gone: 7 })));
+    assert_eq!(rt; sink.inner.bytes.as_slice(), b"rows 4\n".as_slice());
     Ok(())
 }
 
@@ -415,13 +487,13 @@ fn one_read_or_write_of_a_profile_fails(rt: HostRuntime) -> Result<(), Fail> {
     for k in 1..=RECORD.len() as u64 + 1 {
         let mut source = FailAt::new(bytes(alloc, RECORD)?, k, 1);
         let mut sink = bytes(alloc, "")?;
-        let result = profile_cmd(alloc, &mut source, &mut sink);
+        let result = profile_cmd(alloc, None, &mut source, &mut sink);
         assert!(rt; matches!(result, Err(Fault::Source)), "{k}");
         assert_eq!(rt; sink.bytes.len(), 0);
     }
     for k in 1..=REPORT.len().div_ceil(7) as u64 {
         let mut sink = FailAt::new(bytes(alloc, "")?, k, 7);
-        let result = profile_cmd(alloc, &mut bytes(alloc, RECORD)?, &mut sink);
+        let result = profile_cmd(alloc, None, &mut bytes(alloc, RECORD)?, &mut sink);
         let gone = 7 * (k as usize - 1);
         assert!(rt;
             matches!(result, Err(Fault::Sink { gone: told }) if told == gone),
@@ -444,6 +516,24 @@ fn words(alloc: Global, given: &[&str]) -> Result<Vec<String>, AllocError> {
 }
 
 #[test]
+fn numbers_of_workers(rt: HostRuntime) -> Result<(), Fail> {
+    let alloc = rt.alloc();
+    for (given, p) in [
+        (["boc", "profile", "--p", "2"].as_slice(), 2),
+        (&["boc", "profile", "--p", "+4"], 4),
+        (&["boc", "profile", "--p", "007"], 7),
+        (&["boc", "profile", "--p=64"], 64),
+    ] {
+        let found = read_words(alloc, &words(alloc, given)?);
+        assert!(rt;
+            matches!(found, Ok(Command::Profile(Some(workers))) if workers.number() == p),
+            "{given:?}"
+        );
+    }
+    Ok(())
+}
+
+#[test]
 fn command_lines(rt: HostRuntime) -> Result<(), Fail> {
     let alloc = rt.alloc();
     let found = read_words(alloc, &words(alloc, &["boc", "values"])?);
@@ -451,7 +541,7 @@ fn command_lines(rt: HostRuntime) -> Result<(), Fail> {
     let found = read_words(alloc, &words(alloc, &["boc", "check"])?);
     assert!(rt; matches!(found, Ok(Command::Check)));
     let found = read_words(alloc, &words(alloc, &["boc", "profile"])?);
-    assert!(rt; matches!(found, Ok(Command::Profile)));
+    assert!(rt; matches!(found, Ok(Command::Profile(None))));
     for given in [
         ["boc", "--help"].as_slice(),
         &["boc", "help"],
@@ -466,7 +556,12 @@ fn command_lines(rt: HostRuntime) -> Result<(), Fail> {
         &["boc", "values", "more"],
         &["boc", "values", "--p", "2"],
         &["boc", "check", "record"],
-        &["boc", "profile", "--p", "2"],
+        &["boc", "profile", "2"],
+        &["boc", "profile", "--p"],
+        &["boc", "profile", "--p", "0"],
+        &["boc", "profile", "--p", "65"],
+        &["boc", "profile", "--p", "x"],
+        &["boc", "profile", "--p", "1", "--p", "2"],
     ] {
         match read_words(alloc, &words(alloc, given)?) {
             Err(fault) => {

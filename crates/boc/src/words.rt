@@ -1,10 +1,13 @@
 // The words of the command line.
 
-ghost use Rattle.boc.specs.Commands.{IsOfWords};
-ghost use Rattle.std.specs.Prelude.{IfErr};
+ghost use Rattle.boc.specs.Commands.{IsGiven, IsOfWords};
+ghost use Rattle.clap.specs.Words.{found_of};
+ghost use Rattle.std.specs.Prelude.{IfErr, IfSome};
 
 use crate::fault::Fault;
+use crate::workers::Workers;
 use clap::error::ErrorKind;
+use clap::{Arg, ArgMatches, value_parser};
 use std::alloc::{AllocError, Global};
 
 /// What the words ask for.
@@ -14,8 +17,8 @@ pub enum Command {
     Values,
     /// Whether the input is the text of a record, and of how many rows.
     Check,
-    /// The report on the rows of a record.
-    Profile,
+    /// The report on the rows of a record, with the greedy plan for so many workers where a number is given.
+    Profile(Option<Workers>),
     /// The parser's own text, for standard output.
     Help(String),
 }
@@ -54,9 +57,16 @@ fn parser<'a>(alloc: Global) -> Result<clap::Command<'a>, AllocError> {
     let check = clap::Command::new(alloc, "check").about(
         "Reads the record of a run, checks that it keeps the rules, and prints how many rows it has",
     );
-    let profile = clap::Command::new(alloc, "profile").about(
-        "Reads the record of a run, and prints its work, its span, its costliest chain and its earliest plan",
-    );
+    let workers = Arg::new(alloc, "p")
+        .long("p")
+        .value_name("P")
+        .value_parser(value_parser!(u32).range(1..=64))
+        .help("Prints the greedy plan for P workers too, 1 to 64, with its end and its bound");
+    let profile = clap::Command::new(alloc, "profile")
+        .about(
+            "Reads the record of a run, and prints its work, its span, its costliest chain and its earliest plan",
+        )
+        .arg(workers)?;
     clap::Command::new(alloc, "boc")
         .about("Runs and profiles programs under behaviour-oriented concurrency")
         .subcommand_required(true)
@@ -69,12 +79,20 @@ fn parser<'a>(alloc: Global) -> Result<clap::Command<'a>, AllocError> {
 /// The command that the parser finds in the words.
 fn parsed(alloc: Global, words: &[String]) -> Result<Command, clap::Error> {
     let mut parser = parser(alloc)?;
-    match parser.try_get_matches_from_mut(words)?.subcommand_name() {
-        Some("values") => Ok(Command::Values),
-        Some("check") => Ok(Command::Check),
-        Some("profile") => Ok(Command::Profile),
+    match parser.try_get_matches_from_mut(words)?.subcommand() {
+        Some(("values", _)) => Ok(Command::Values),
+        Some(("check", _)) => Ok(Command::Check),
+        Some(("profile", matches)) => Ok(Command::Profile(workers_asked(matches))),
         _ => Err(parser.error(ErrorKind::MissingSubcommand, "no command is named")?),
     }
+}
+
+/// How many workers the words of `profile` name. The parser takes no number but 1 to 64.
+fn workers_asked(matches: &ArgMatches) -> Option<Workers>
+    ensures { IfSome result (IsGiven (found_of matches.now)) }
+{
+    let number = matches.get_one::<u32>("p")?;
+    Workers::new(number)
 }
 
 /// What becomes of words that have no matches: a call for help is answered.

@@ -7,7 +7,8 @@ use Rattle.boc_types.specs.declared.rows.Row.{Row}
 use Rattle.boc_greedy.specs.declared.simulation.Simulation.{Simulation}
 use Rattle.boc_greedy.specs.Simulating.{later, AreBusyBefore}
 use Rattle.boc_greedy.proofs.Puts.{Puts}
-use Rattle.boc_greedy.specs.Tournaments.{change_at, HasWinners, IsTournamentOf}
+use Rattle.boc_greedy.specs.declared.tournament.Tournament.{Tournament}
+use Rattle.boc_greedy.specs.Tournaments.{change_at, IsTournament, IsTournamentOf}
 use Rattle.boc_greedy.specs.Stepping.{IsCounted, Goes}
 
 -- an element that was read within a list
@@ -38,14 +39,14 @@ pub busy_less : (changes changes' : List ℕ) (w change from to : ℕ) → Puts 
 busy_less changes changes' w change from to pc below within b v h = omega (arith, pc.others v (λ e. omega (arith, e, h, below)), b v (omega (arith, h, within)))
 
 -- a tournament in which one change was set
-pub tournament_set : (changes changes' winners winners' : List ℕ) (w change : ℕ) → Puts changes changes' w change → IsTournamentOf changes winners → HasWinners winners' →
-    w < length changes → change_at winners' w ≡ change → ((v : ℕ) → v < 64 → v ≢ w → change_at winners' v ≡ change_at winners v) → IsTournamentOf changes' winners'
-tournament_set changes changes' winners winners' w change pc t won there placed others = record {
+pub tournament_set : (changes changes' : List ℕ) (t t' : Tournament) (w change : ℕ) → Puts changes changes' w change → IsTournamentOf changes t → IsTournament t' →
+    t'.count ≡ t.count → change_at t' w ≡ change → ((v : ℕ) → v < t.count → v ≢ w → change_at t' v ≡ change_at t v) → IsTournamentOf changes' t'
+tournament_set changes changes' t t' w change pc of won count placed others = record {
+  count = omega (arith, count, of.count, pc.whole);
   won = won;
-  same = λ v h few. elim (cases_eq v w) [
+  same = λ v h. elim (cases_eq v w) [
     | inl e ↦ (let s : slice_index changes' v ≡ slice_index changes' w = ap (slice_index changes') e in
-        let z : change_at winners' v ≡ change_at winners' w = ap (change_at winners') e in omega (arith, s, z, pc.at, placed))
-    | inr ne ↦ omega (arith, others v few ne, pc.others v ne, t.same v (omega (arith, h, pc.whole)) few)
+        let z : change_at t' v ≡ change_at t' w = ap (change_at t') e in omega (arith, s, z, pc.at, placed))
+    | inr ne ↦ omega (arith, others v (omega (arith, h, pc.whole, of.count)) ne, pc.others v ne, of.same v (omega (arith, h, pc.whole)))
   ];
-  idle = λ v h few. omega (arith, others v few (λ e. omega (arith, e, h, there, pc.whole)), t.idle v (omega (arith, h, pc.whole)) few);
 }

@@ -1,86 +1,192 @@
 -- The winners of a tournament, after one change.
-use Rattle.std.proofs.lemmas.List.{length-replicate, get_or-replicate}
-use Rattle.std.proofs.Common.{◌≡◌, ◌≢◌, ℕ, zero, suc, replicate, ◌+◌, ◌*◌, ◌/◌, ◌<◌, ◌≤◌, List, length, min, sym, ap, subst, inl, inr, arith}
-use Rattle.std.specs.Prelude.{slice_index}
+use Rattle.std.proofs.Common.{◌≡◌, ◌≢◌, ℕ, zero, suc, replicate, ◌+◌, ◌*◌, ◌/◌, ◌-◌, ◌<◌, ◌≤◌, ◌⊎◌, Bool, true, false, List, length, set, get_or, refl, sym, ap, subst, ◌∙◌, inl, inr, arith, get_or-set_same, get_or-set_other, length-set}
+use Rattle.std.proofs.lemmas.List.{length-replicate, get_or-replicate, get_or_default, get_or_past}
+use Rattle.std.specs.Prelude.{nat_lt, if◌then◌else◌, slice_index}
 use Rattle.std.proofs.lemmas.Bool.{cases_lt, cases_eq}
-use Rattle.boc_greedy.specs.Tournaments.{change_at, IsWinner, HasWinners}
-use Rattle.boc_greedy.proofs.Puts.{Puts}
+use Rattle.boc_greedy.specs.declared.tournament.Change.{Change}
+use Rattle.boc_greedy.specs.declared.tournament.Tournament.{Tournament}
+use Rattle.boc_greedy.specs.Simulating.{later}
+use Rattle.boc_greedy.specs.Tournaments.{none, winner_at, earlier_of, change_at, IsWinner, IsTournament}
+
+-- ys is xs, with another change at a place
+pub record Replaces (xs ys : List Change) (k : ℕ) (x : Change) : Type 0 where
+  pub at : winner_at ys k ≡ x
+  pub others : (i : ℕ) → i ≢ k → winner_at ys i ≡ winner_at xs i
+  pub whole : length ys ≡ length xs
+
+pub replaces : (xs : List Change) (k : ℕ) (x : Change) → k < length xs → Replaces xs (set xs k x) k x
+replaces xs k x h = record {
+  at = get_or-set_same xs k x none h;
+  others = λ i ne. get_or-set_other xs k i x none ne;
+  whole = simp length-set;
+}
+
+pub tick_same : (x y : Change) → x ≡ y → x.tick ≡ y.tick
+tick_same x y e = ap (λ (c : Change). c.tick) e
+
+-- no change is later than the last tick
+pub low_after : (xs ys : List Change) (k : ℕ) (x : Change) → Replaces xs ys k x → ((i : ℕ) → (winner_at xs i).tick ≤ later) → x.tick ≤ later → (i : ℕ) → (winner_at ys i).tick ≤ later
+low_after xs ys k x p low own i = elim (cases_eq i k) [
+  | inl e ↦ (let s : winner_at ys i ≡ winner_at ys k = ap (winner_at ys) e in omega (arith, tick_same _ _ s, tick_same _ _ p.at, own))
+  | inr ne ↦ omega (arith, tick_same _ _ (p.others i ne), low i)
+]
 
 -- each winner stands but the one above this place
-pub record WonBut (winners : List ℕ) (place : ℕ) : Type 0 where
+pub record WonBut (winners : List Change) (count place : ℕ) : Type 0 where
   pub whole : length winners ≡ 128
+  pub few : count ≤ 64
   pub there : 0 < place
-  pub below : place < 128
-  pub won : (i : ℕ) → 0 < i → i < 64 → i ≢ place / 2 → IsWinner winners i
+  pub below : place < 2 * count
+  pub low : (i : ℕ) → (winner_at winners i).tick ≤ later
+  pub won : (i : ℕ) → 0 < i → i < count → i ≢ place / 2 → IsWinner winners i
 
-above : (i place : ℕ) → i ≢ place / 2 → (2 * i ≢ place) × (2 * i + 1 ≢ place)
+pub above : (i place : ℕ) → i ≢ place / 2 → (2 * i ≢ place) × (2 * i + 1 ≢ place)
 above i place ne = ((λ e. ne (omega (arith, e))), (λ e. ne (omega (arith, e))))
 
 -- where nothing changes at the place or below it, the winner stays
-same_winner : (xs ys : List ℕ) (k v i : ℕ) → Puts xs ys k v → i ≢ k → 2 * i ≢ k → 2 * i + 1 ≢ k → IsWinner xs i → IsWinner ys i
-same_winner xs ys k v i p a b c w = record {
-  left = omega (arith, p.others i a, p.others (2 * i) b, w.left);
-  right = omega (arith, p.others i a, p.others (2 * i + 1) c, w.right);
-  either = elim w.either [
-    | inl e ↦ inl (omega (arith, p.others i a, p.others (2 * i) b, e))
-    | inr e ↦ inr (omega (arith, p.others i a, p.others (2 * i + 1) c, e))
-  ];
-}
+pub same_winner : (xs ys : List Change) (k i : ℕ) (x : Change) → Replaces xs ys k x → i ≢ k → 2 * i ≢ k → 2 * i + 1 ≢ k → IsWinner xs i → IsWinner ys i
+same_winner xs ys k i x p a b c w =
+    let own = p.others i a in
+    let left = p.others (2 * i) b in
+    let right = p.others (2 * i + 1) c in
+    record {
+      left = omega (arith, tick_same _ _ own, tick_same _ _ left, w.left);
+      right = omega (arith, tick_same _ _ own, tick_same _ _ right, w.right);
+      either = elim w.either [
+        | inl e ↦ inl (own ∙ e ∙ sym left)
+        | inr e ↦ inr (own ∙ e ∙ sym right)
+      ];
+    }
+
+-- the earlier of two is one of them, and no later than the other
+pub earlier_left : (a b : Change) → (earlier_of a b).tick ≤ a.tick
+earlier_left a b = by_test (nat_lt b.tick a.tick) refl
+  where
+    by_test : (t : Bool) → nat_lt b.tick a.tick ≡ t → (earlier_of a b).tick ≤ a.tick
+    by_test true e = rw e (let h : b.tick < a.tick = grind (arith) in omega (arith, h))
+    by_test false e = rw e (omega arith)
+
+pub earlier_right : (a b : Change) → (earlier_of a b).tick ≤ b.tick
+earlier_right a b = by_test (nat_lt b.tick a.tick) refl
+  where
+    by_test : (t : Bool) → nat_lt b.tick a.tick ≡ t → (earlier_of a b).tick ≤ b.tick
+    by_test true e = rw e (omega arith)
+    by_test false e = rw e (let h : a.tick ≤ b.tick = grind (arith) in omega (arith, h))
+
+pub earlier_either : (a b : Change) → (earlier_of a b ≡ a) ⊎ (earlier_of a b ≡ b)
+earlier_either a b = by_test (nat_lt b.tick a.tick) refl
+  where
+    by_test : (t : Bool) → nat_lt b.tick a.tick ≡ t → (earlier_of a b ≡ a) ⊎ (earlier_of a b ≡ b)
+    by_test true e = rw e (inr refl)
+    by_test false e = rw e (inl refl)
 
 -- one place higher
-pub won_higher : (xs ys : List ℕ) (place k v : ℕ) → WonBut xs place → 1 < place → k ≡ place / 2 → Puts xs ys k v →
-    v ≡ min (slice_index xs (2 * k)) (slice_index xs (2 * k + 1)) → WonBut ys k
-won_higher xs ys place k v w more is p lesser = record {
+pub won_higher : (xs ys : List Change) (count place k : ℕ) (x : Change) → WonBut xs count place → 1 < place → k ≡ place / 2 → Replaces xs ys k x →
+    x ≡ earlier_of (winner_at xs (2 * k)) (winner_at xs (2 * k + 1)) → WonBut ys count k
+won_higher xs ys count place k x w more is p earlier = record {
   whole = omega (arith, p.whole, w.whole);
+  few = w.few;
   there = omega (arith, is, more);
   below = omega (arith, is, w.below);
+  low = low_after xs ys k x p w.low (omega (arith, tick_same _ _ earlier, earlier_left (winner_at xs (2 * k)) (winner_at xs (2 * k + 1)), w.low (2 * k)));
   won = λ i pos lt ne. elim (cases_eq i k) [
     | inl e ↦ subst (IsWinner ys) (sym e) own
-    | inr nk ↦ (let a = above i k ne in same_winner xs ys k v i p nk a.0 a.1 (w.won i pos lt (λ e. nk (omega (arith, e, is)))))
+    | inr nk ↦ (let a = above i k ne in same_winner xs ys k i x p nk a.0 a.1 (w.won i pos lt (λ e. nk (omega (arith, e, is)))))
   ];
 }
   where
     own : IsWinner ys k
     own =
-        let l = p.others (2 * k) (λ e. omega (arith, e, is, more)) in
-        let r = p.others (2 * k + 1) (λ e. omega (arith, e, is, more)) in
+        let l : winner_at ys (2 * k) ≡ winner_at xs (2 * k) = p.others (2 * k) (λ e. omega (arith, e, is, more)) in
+        let r : winner_at ys (2 * k + 1) ≡ winner_at xs (2 * k + 1) = p.others (2 * k + 1) (λ e. omega (arith, e, is, more)) in
+        let here : winner_at ys k ≡ earlier_of (winner_at xs (2 * k)) (winner_at xs (2 * k + 1)) = p.at ∙ earlier in
+        let a : Change = winner_at xs (2 * k) in
+        let b : Change = winner_at xs (2 * k + 1) in
         record {
-          left = omega (arith, l, p.at, lesser);
-          right = omega (arith, r, p.at, lesser);
-          either = elim (cases_lt (slice_index xs (2 * k)) (slice_index xs (2 * k + 1))) [
-            | inl lt ↦ inl (omega (arith, l, p.at, lesser, lt))
-            | inr ge ↦ inr (omega (arith, r, p.at, lesser, ge))
+          left = omega (arith, tick_same _ _ here, tick_same _ _ l, earlier_left (winner_at xs (2 * k)) (winner_at xs (2 * k + 1)));
+          right = omega (arith, tick_same _ _ here, tick_same _ _ r, earlier_right (winner_at xs (2 * k)) (winner_at xs (2 * k + 1)));
+          either = elim (earlier_either (winner_at xs (2 * k)) (winner_at xs (2 * k + 1))) [
+            | inl e ↦ inl (here ∙ e ∙ sym l)
+            | inr e ↦ inr (here ∙ e ∙ sym r)
           ];
         }
 
--- what stands at place 1 wins over all
-root_by : (xs : List ℕ) → HasWinners xs → (n j : ℕ) → j ≤ n → 0 < j → j < 128 → slice_index xs 1 ≤ slice_index xs j
-root_by xs h zero j le pos lt = absurd (omega (arith, le, pos))
-root_by xs h (suc n) j le pos lt = elim (cases_eq j 1) [
-  | inl e ↦ (let s : slice_index xs j ≡ slice_index xs 1 = ap (slice_index xs) e in omega (arith, s))
-  | inr ne ↦ (
-      let i : ℕ = j / 2 in
-      let w = h.won i (omega (arith, ne, pos)) (omega (arith, lt)) in
-      let up = root_by xs h n i (omega (arith, ne, pos, le)) (omega (arith, ne, pos)) (omega (arith, lt)) in
-      elim (cases_eq j (2 * i)) [
-        | inl e ↦ (let s : slice_index xs j ≡ slice_index xs (2 * i) = ap (slice_index xs) e in omega (arith, s, up, w.left))
-        | inr odd ↦ (let z : j ≡ 2 * i + 1 = omega (arith, odd) in let s : slice_index xs j ≡ slice_index xs (2 * i + 1) = ap (slice_index xs) z in omega (arith, s, up, w.right))
-      ])
+module _ (t : Tournament) (h : IsTournament t) where
+  -- what stands at place 1 wins over all
+  root_by : (n j : ℕ) → j ≤ n → 0 < j → j < 2 * t.count → (winner_at t.winners 1).tick ≤ (winner_at t.winners j).tick
+  root_by zero j le pos lt = absurd (omega (arith, le, pos))
+  root_by (suc n) j le pos lt = elim (cases_eq j 1) [
+    | inl e ↦ (let s : winner_at t.winners j ≡ winner_at t.winners 1 = ap (winner_at t.winners) e in omega (arith, tick_same _ _ s))
+    | inr ne ↦ (
+        let i : ℕ = j / 2 in
+        let w = h.won i (omega (arith, ne, pos)) (omega (arith, lt)) in
+        let up = root_by n i (omega (arith, ne, pos, le)) (omega (arith, ne, pos)) (omega (arith, lt)) in
+        elim (cases_eq j (2 * i)) [
+          | inl e ↦ (let s : winner_at t.winners j ≡ winner_at t.winners (2 * i) = ap (winner_at t.winners) e in omega (arith, tick_same _ _ s, up, w.left))
+          | inr odd ↦ (let z : j ≡ 2 * i + 1 = omega (arith, odd) in
+              let s : winner_at t.winners j ≡ winner_at t.winners (2 * i + 1) = ap (winner_at t.winners) z in omega (arith, tick_same _ _ s, up, w.right))
+        ])
+  ]
+
+  pub root_least : (j : ℕ) → 0 < j → j < 2 * t.count → (winner_at t.winners 1).tick ≤ (winner_at t.winners j).tick
+  root_least j pos lt = root_by j j (omega arith) pos lt
+
+  -- what stands at a place is the change of the worker that it names
+  pub record IsOwn (x : Change) : Type 0 where
+    pub there : x.worker < t.count
+    pub own : x ≡ winner_at t.winners (t.count + x.worker)
+
+  own_by : (n j : ℕ) → 2 * t.count ≤ j + n → 0 < j → j < 2 * t.count → (winner_at t.winners j).tick < later → IsOwn (winner_at t.winners j)
+  own_by zero j le pos lt busy = absurd (omega (arith, le, lt))
+  own_by (suc n) j le pos lt busy = elim (cases_lt j t.count) [
+    | inl inner ↦ (
+        let w = h.won j pos inner in
+        elim w.either [
+          | inl e ↦ subst IsOwn (sym e) (own_by n (2 * j) (omega (arith, le, pos)) (omega (arith, pos)) (omega (arith, inner)) (omega (arith, tick_same _ _ e, busy)))
+          | inr e ↦ subst IsOwn (sym e) (own_by n (2 * j + 1) (omega (arith, le, pos)) (omega arith) (omega (arith, inner)) (omega (arith, tick_same _ _ e, busy)))
+        ])
+    | inr leaf ↦ (
+        let w : ℕ = j - t.count in
+        let same : t.count + w ≡ j = omega (arith, leaf) in
+        let at : winner_at t.winners (t.count + w) ≡ winner_at t.winners j = ap (winner_at t.winners) same in
+        let below : w < t.count = omega (arith, leaf, lt) in
+        let name : (winner_at t.winners (t.count + w)).worker ≡ w = h.named w below (omega (arith, tick_same _ _ at, busy)) in
+        let worker : (winner_at t.winners j).worker ≡ w = ap (λ (c : Change). c.worker) (sym at) ∙ name in
+        record { there = omega (arith, worker, below); own = sym at ∙ ap (λ (v : ℕ). winner_at t.winners (t.count + v)) (sym worker) })
+  ]
+
+  pub root_own : (winner_at t.winners 1).tick < later → IsOwn (winner_at t.winners 1)
+  root_own busy = own_by (2 * t.count) 1 (omega arith) (omega arith) (omega (arith, h.some)) busy
+
+-- the first place, read with another default
+pub first_read : (xs : List Change) (d : Change) → length xs ≡ 128 → get_or xs 1 d ≡ winner_at xs 1
+first_read xs d e = get_or_default xs 1 d none (omega (arith, e))
+
+-- two places, read with another default
+pub earlier_read : (xs : List Change) (d : Change) (i j : ℕ) → i < length xs → j < length xs → earlier_of (get_or xs i d) (get_or xs j d) ≡ earlier_of (winner_at xs i) (winner_at xs j)
+earlier_read xs d i j a b =
+    let p : get_or xs i d ≡ winner_at xs i = get_or_default xs i d none a in
+    let q : get_or xs j d ≡ winner_at xs j = get_or_default xs j d none b in
+    ap (λ (x : Change). earlier_of x (get_or xs j d)) p ∙ ap (λ (y : Change). earlier_of (winner_at xs i) y) q
+
+-- where all are idle, each wins
+pub won_same : (n : ℕ) → n ≡ 128 → (i : ℕ) → i < 64 → IsWinner (replicate n none) i
+won_same n e i lt =
+    let a : winner_at (replicate n none) i ≡ none = get_or-replicate n i none none (omega (arith, lt, e)) in
+    let b : winner_at (replicate n none) (2 * i) ≡ none = get_or-replicate n (2 * i) none none (omega (arith, lt, e)) in
+    let c : winner_at (replicate n none) (2 * i + 1) ≡ none = get_or-replicate n (2 * i + 1) none none (omega (arith, lt, e)) in
+    record {
+      left = omega (arith, tick_same _ _ a, tick_same _ _ b);
+      right = omega (arith, tick_same _ _ a, tick_same _ _ c);
+      either = inl (a ∙ sym b);
+    }
+
+pub same_at : (n i : ℕ) → n ≡ 128 → i < 128 → (winner_at (replicate n none) i).tick ≡ later
+same_at n i e h = tick_same _ _ (get_or-replicate n i none none (omega (arith, h, e)))
+
+-- nor is a change then later than the last tick
+pub low_none : (n i : ℕ) → n ≡ 128 → (winner_at (replicate n none) i).tick ≤ later
+low_none n i e = elim (cases_lt i n) [
+  | inl lt ↦ omega (arith, same_at n i e (omega (arith, lt, e)))
+  | inr ge ↦ omega (arith, tick_same _ _ (get_or_past (replicate n none) i none (omega (arith, ge, length-replicate n none))))
 ]
-
-pub root_least : (xs : List ℕ) → HasWinners xs → (j : ℕ) → 0 < j → j < 128 → slice_index xs 1 ≤ slice_index xs j
-root_least xs h j pos lt = root_by xs h j j (omega arith) pos lt
-
--- where all changes are the same, each wins
-pub won_same : (n v : ℕ) → n ≡ 128 → HasWinners (replicate n v)
-won_same n v e = record {
-  whole = omega (arith, length-replicate n v, e);
-  won = λ i pos lt. (
-      let a : slice_index (replicate n v) i ≡ v = get_or-replicate n i v 0 (omega (arith, lt, e)) in
-      let b : slice_index (replicate n v) (2 * i) ≡ v = get_or-replicate n (2 * i) v 0 (omega (arith, lt, e)) in
-      let c : slice_index (replicate n v) (2 * i + 1) ≡ v = get_or-replicate n (2 * i + 1) v 0 (omega (arith, lt, e)) in
-      record { left = omega (arith, a, b); right = omega (arith, a, c); either = inl (omega (arith, a, b)) });
-}
-
-pub same_at : (n v w : ℕ) → n ≡ 128 → w < 64 → change_at (replicate n v) w ≡ v
-same_at n v w e h = get_or-replicate n (64 + w) v 0 (omega (arith, h, e))

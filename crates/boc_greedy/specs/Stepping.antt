@@ -17,7 +17,7 @@ pub record IsStepping (rows : List Row) (p : ℕ) (s : Simulation) : Type 0 wher
   pub kept : IsKept rows p s
   pub fresh : IsFresh rows s.starts.items s.tick
   pub busy_before : AreBusyBefore s.changes.items s.idle_from
-  pub tournament : IsTournamentOf s.changes.items s.tournament.winners
+  pub tournament : IsTournamentOf s.changes.items s.tournament
 
 -- the changes of this tick are made, and rows start, one after another
 pub record IsGiving (rows : List Row) (p : ℕ) (s : Simulation) : Type 0 where
@@ -26,7 +26,7 @@ pub record IsGiving (rows : List Row) (p : ℕ) (s : Simulation) : Type 0 where
   pub given : Given rows p later s.starts.items s.workers.items s.frontier.stages.items s.changes.items s.tick
   pub passed : HasPassed p s.changes.items s.tick
   pub busy_before : AreBusyBefore s.changes.items s.idle_from
-  pub tournament : IsTournamentOf s.changes.items s.tournament.winners
+  pub tournament : IsTournamentOf s.changes.items s.tournament
 
 -- no more row can start at this tick
 pub record IsSettled (rows : List Row) (p : ℕ) (s : Simulation) : Type 0 where

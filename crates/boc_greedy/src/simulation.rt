@@ -43,6 +43,7 @@ impl Simulation {
     /// Tick 0, where only main is spawned, and nothing has started.
     pub fn new(alloc: Global, rows: &[Row], p: u32) -> Result<Simulation, AllocError>
         requires shape { IsRows rows.now }
+        requires some { 0 < p }
         requires few { p ≤ 64 }
         ensures giving { IfOk result (λ s. IsGiving rows.now p s) }
         ensures counted { IfOk result (λ s. IsCounted rows.now s) }
@@ -60,7 +61,7 @@ impl Simulation {
             workers,
             frontier,
             changes,
-            tournament: Tournament::new(),
+            tournament: Tournament::new(p as usize),
             tasks,
             children,
             idle_from: 0,
@@ -182,7 +183,7 @@ impl Simulation {
     /// A worker for which something changes before or when anything changes for the others, if one isn't idle.
     pub fn next_to_change(&self) -> Option<usize>
         requires few { length self.now.changes.items ≤ 64 }
-        requires tournament { IsTournamentOf self.now.changes.items self.now.tournament.winners }
+        requires tournament { IsTournamentOf self.now.changes.items self.now.tournament }
         ensures found { IfSome result (λ w. IsNextToChange self.now.changes.items w) }
         ensures none { IfNone result ((w : ℕ) → w < length self.now.changes.items → later ≤ slice_index self.now.changes.items w) }
     {

@@ -3,3 +3,4 @@ pub mod Placing
 pub mod Chaining
 pub mod Checking
 pub mod Working
+pub mod Replacing

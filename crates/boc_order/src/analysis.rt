@@ -2,6 +2,7 @@
 
 ghost use Rattle.std.specs.Prelude.{◌≡◌, ℕ, ◌+◌, ◌<◌, ◌≤◌, List, length, IfOk, slice_index};
 ghost use Rattle.boc_types.specs.declared.rows.Row.{Row};
+ghost use Rattle.boc_types.specs.Rows.{IsRows};
 ghost use Rattle.boc_types.specs.Plans.{work_of, HasEnds, IsEnd, IsEarliest, NoneEndsBefore};
 ghost use Rattle.boc_types.specs.Chains.{IsPicked, weight_of};
 ghost use Rattle.boc_types.specs.Greedy.{IsSpan};
@@ -31,7 +32,7 @@ fn last_row(ends: &[u64]) -> usize
 }
 
 // The ticks of all rows together, of which each starts and ends at these ticks.
-fn work(starts: &[u64], ends: &[u64]) -> u64
+fn work_between(starts: &[u64], ends: &[u64]) -> u64
     requires whole { length starts.now ≡ length ends.now }
     requires few { length ends.now ≤ 65535 }
     requires ordered { (r : ℕ) → r < length ends.now → slice_index starts.now r ≤ slice_index ends.now r }
@@ -43,6 +44,14 @@ fn work(starts: &[u64], ends: &[u64]) -> u64
         total += ends[row] - starts[row];
     }
     total
+}
+
+/// The work of the rows: the ticks of all rows together. It takes no memory.
+pub fn work(rows: &[Row]) -> u64
+    requires { IsRows rows.now }
+    ensures { result ≡ work_of rows.now }
+{
+    rows.iter().map(|row| u64::from(row.ticks)).sum()
 }
 
 /// The work of the rows, their earliest plan, and the costliest chain of rows.
@@ -70,7 +79,7 @@ pub fn profile(alloc: Global, rows: &Rows) -> Result<Profile, AllocError>
     let chain = chain_back(alloc, list, &plan, last as u32)?;
     let span = plan.ends[last];
     Ok(Profile {
-        work: work(&plan.starts, &plan.ends),
+        work: work_between(&plan.starts, &plan.ends),
         span,
         starts: plan.starts,
         ends: plan.ends,

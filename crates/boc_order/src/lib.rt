@@ -10,6 +10,7 @@ mod report;
 #[cfg(test)]
 mod tests;
 
-pub use analysis::{profile, span};
+pub use analysis::{profile, span, work};
 pub use check::check_chain;
+pub use plan::{Earliest, earliest_plan};
 pub use report::Profile;

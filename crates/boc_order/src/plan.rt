@@ -4,6 +4,7 @@ ghost use Rattle.std.specs.Prelude.{◌≡◌, ℕ, ◌<◌, ◌≤◌, ◌+◌,
 ghost use Rattle.boc_types.specs.Rows.{IsRows};
 ghost use Rattle.boc_types.specs.Rows.{IsRows};
 ghost use Rattle.boc_order.specs.Placed.{placement, ArePlaced, Remembers};
+ghost use Rattle.boc_order.specs.Room.{HasRoom};
 
 use crate::latest::{Latest, Memory, NOTHING, latest_at, note};
 use boc_types::rows::{Row, Rows};
@@ -65,11 +66,23 @@ fn remembered(rows: &[Row], ends: &[u64]) -> Memory
     memory
 }
 
+// The last of the ticks at which rows end.
+fn last_end(ends: &[u64]) -> u64
+    requires { 0 < length ends.now }
+    ensures none_later { (k : ℕ) → k < length ends.now → slice_index ends.now k ≤ result }
+    ensures reached { (k : ℕ) × (k < length ends.now) × (slice_index ends.now k ≡ result) }
+{
+    ends.iter().copied().max().unwrap_or(0)
+}
+
 impl Earliest {
-    ghost use Rattle.std.specs.Prelude.{◌≡◌, ◌≤◌, ◌<◌, ◌+◌, [], take, length, IfOk};
+    ghost use Rattle.std.specs.Prelude.{◌≡◌, ◌≤◌, ◌<◌, ◌+◌, List, [], take, length, IfOk};
+    ghost use Rattle.boc_types.specs.declared.rows.Row.{Row};
     ghost use Rattle.boc_types.specs.Rows.{IsRows};
+    ghost use Rattle.boc_types.specs.Greedy.{IsSpan};
     ghost use Rattle.boc_order.specs.Placed.{ArePlaced, Remembers};
     ghost use Rattle.boc_order.specs.Room.{HasRoom};
+    ghost use Rattle.boc_order.specs.Standing.{IsPlanOf};
 
     /// No row is placed, and there is room for so many. `AllocError` says that memory was refused.
     pub fn with_room(alloc: Global, count: usize) -> Result<Earliest, AllocError>
@@ -99,6 +112,14 @@ impl Earliest {
         for number in from..rows.len() {
             self.place_next(rows, number, &mut memory);
         }
+    }
+
+    /// The end of the plan in ticks, which is the span of the rows that it places. It takes no memory.
+    pub fn span(&self) -> u64
+        requires { 0 < length self.now.ends.items }
+        ensures { (rows : List Row) → IsRows rows → IsPlanOf rows self.now → IsSpan rows result }
+    {
+        last_end(&self.ends)
     }
 
     // Places the next row behind those that are placed.
@@ -131,6 +152,7 @@ impl Earliest {
 pub fn earliest_plan(alloc: Global, rows: &Rows) -> Result<Earliest, AllocError>
     ensures shape { IsRows rows.now }
     ensures placed { IfOk result (λ e. ArePlaced rows.now e.starts.items e.ends.items e.after.items (length rows.now)) }
+    ensures room { IfOk result (λ e. HasRoom e (length rows.now)) }
 {
     let rows = rows.as_slice();
     let mut plan = Earliest::with_room(alloc, rows.len())?;

@@ -1,9 +1,9 @@
 -- Texts that grow by a line.
-use Rattle.std.proofs.Common.{zero, suc, get_or, length, take, append_assoc, ◌≡◌, ℕ, ◌+◌, ◌<◌, ◌∷◌, List, [], ◌++◌, refl, sym, ap, ◌∙◌, subst, arith}
+use Rattle.std.proofs.Common.{zero, suc, get_or, length, take, append_assoc, ◌≡◌, ℕ, ◌+◌, ◌<◌, ◌∷◌, List, [], ◌++◌, sym, ap, ◌∙◌, arith}
 use Rattle.std.proofs.lemmas.List.{append-nil}
 use Rattle.std.proofs.Math.Seq.{take-suc}
 use Rattle.boc_types.specs.declared.chain.Step.{Step}
-use Rattle.boc_types.specs.Texts.{step_line, step_lines, plan_line, plan_lines}
+use Rattle.boc_types.specs.Texts.{step_line, step_lines, plan_line, plan_lines, served_line, served_lines}
 
 add_one : (i : ℕ) → i + 1 ≡ suc i
 add_one i = omega arith
@@ -44,3 +44,32 @@ put_row_more before text after starts ends i h same e put =
     ∙ append_assoc before (plan_lines 0 (take i starts) (take i ends)) (plan_line i (get_or starts i 0) (get_or ends i 0))
     ∙ ap (λ xs. before ++ xs) (ap (λ n. plan_lines 0 (take i starts) (take i ends) ++ plan_line n (get_or starts i 0) (get_or ends i 0)) (zero_more i)
     ∙ sym (rows_more 0 i starts ends h same) ∙ ap (λ n. plan_lines 0 (take n starts) (take n ends)) (sym (add_one i)))
+
+-- the lines of the first rows of a greedy plan, and that of the next one
+served_more : (r i : ℕ) (starts ends workers : List ℕ) → i < length starts → length starts ≡ length ends → length starts ≡ length workers
+    → served_lines r (take (suc i) starts) (take (suc i) ends) (take (suc i) workers)
+    ≡ served_lines r (take i starts) (take i ends) (take i workers) ++ served_line (r + i) (get_or starts i 0) (get_or ends i 0) (get_or workers i 0)
+served_more r i [] ends workers h e w = absurd (omega (arith, h))
+served_more r i (start ∷ starts) [] workers h e w = absurd (omega (arith, e))
+served_more r i (start ∷ starts) (end ∷ ends) [] h e w = absurd (omega (arith, w))
+served_more r zero (start ∷ starts) (end ∷ ends) (worker ∷ workers) h e w =
+    append-nil (served_line r start end worker) ∙ ap (λ n. served_line n start end worker) (omega arith)
+served_more r (suc i) (start ∷ starts) (end ∷ ends) (worker ∷ workers) h e w =
+    ap (λ xs. served_line r start end worker ++ xs) (served_more (suc r) i starts ends workers (omega (arith, h)) (omega (arith, e)) (omega (arith, w))
+    ∙ ap (λ n. served_lines (suc r) (take i starts) (take i ends) (take i workers) ++ served_line n (get_or starts i 0) (get_or ends i 0) (get_or workers i 0)) (omega arith))
+    ∙ sym (append_assoc (served_line r start end worker) (served_lines (suc r) (take i starts) (take i ends) (take i workers))
+    (served_line (r + suc i) (get_or starts i 0) (get_or ends i 0) (get_or workers i 0)))
+
+-- the line of one row more of a greedy plan
+pub put_served_more : (before text after : List ℕ) (starts ends workers : List ℕ) (i : ℕ) → i < length starts
+    → length starts ≡ length ends → length starts ≡ length workers
+    → text ≡ before ++ served_lines 0 (take i starts) (take i ends) (take i workers)
+    → after ≡ text ++ served_line i (get_or starts i 0) (get_or ends i 0) (get_or workers i 0)
+    → after ≡ before ++ served_lines 0 (take (i + 1) starts) (take (i + 1) ends) (take (i + 1) workers)
+put_served_more before text after starts ends workers i h ends_too workers_too e put =
+    put ∙ ap (λ xs. xs ++ served_line i (get_or starts i 0) (get_or ends i 0) (get_or workers i 0)) e
+    ∙ append_assoc before (served_lines 0 (take i starts) (take i ends) (take i workers)) (served_line i (get_or starts i 0) (get_or ends i 0) (get_or workers i 0))
+    ∙ ap (λ xs. before ++ xs) (ap (λ n. served_lines 0 (take i starts) (take i ends) (take i workers)
+    ++ served_line n (get_or starts i 0) (get_or ends i 0) (get_or workers i 0)) (zero_more i)
+    ∙ sym (served_more 0 i starts ends workers h ends_too workers_too)
+    ∙ ap (λ n. served_lines 0 (take n starts) (take n ends) (take n workers)) (sym (add_one i)))

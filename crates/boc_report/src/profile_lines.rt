@@ -1,8 +1,12 @@
 // The report on the rows of a record.
 
-ghost use Rattle.std.specs.Prelude.{◌≡◌, ◌++◌, ℕ, List, length, OnOk, IfOk};
-ghost use Rattle.boc_types.specs.Texts.{number_line, report_head, report_text, step_line, step_lines, plan_line, plan_lines, via_word};
+ghost use Rattle.std.specs.Prelude.{◌≡◌, ◌++◌, length, option_map, OnOk, IfOk, IfSome};
+ghost use Rattle.boc_types.specs.Texts.{report_text, step_line, step_lines, plan_line, plan_lines, via_word};
+ghost use Rattle.boc_report.specs.Parts.{IsWhole, part_of};
 
+use crate::greedy_lines::{greedy_bytes, put_greedy};
+use crate::number_line::put_line;
+use boc_greedy::Greedy;
 use boc_order::Profile;
 use boc_text::put_number;
 use boc_types::chain::{Step, Via};
@@ -18,40 +22,50 @@ const MOST_STEP: usize = 30;
 const MOST_ROW: usize = 32;
 
 /// The text of the report on a profile: how many rows, their work and the span, the chain, and the plan with each
-/// row's start and end, a line each. Its memory is taken at once.
-pub fn profile_text(alloc: Global, profile: &Profile) -> Result<Vec<u8>, AllocError>
-    requires { length profile.now.starts.items ≡ length profile.now.ends.items }
+/// row's start and end, a line each. Where there is a greedy plan, its part follows. The memory is taken at once.
+pub fn profile_text(
+    alloc: Global,
+    profile: &Profile,
+    greedy: Option<&Greedy>,
+) -> Result<Vec<u8>, AllocError>
+    requires plan { length profile.now.starts.items ≡ length profile.now.ends.items }
+    requires greedy { IfSome greedy (λ g. IsWhole g.now) }
     ensures { IfOk result (λ text. text.items
-        ≡ report_text profile.now.work profile.now.span profile.now.chain.steps.items profile.now.starts.items profile.now.ends.items) }
+        ≡ report_text profile.now.work profile.now.span profile.now.chain.steps.items profile.now.starts.items profile.now.ends.items
+        ++ part_of (option_map (λ g. g.now) greedy.entry)) }
 {
-    let steps = profile.chain.steps.as_slice();
-    let rows = profile.starts.len();
-    let mut text = Vec::with_capacity(alloc, most_bytes(steps.len(), rows))?;
-    put_line(&mut text, b"rows ", rows as u64)?;
-    put_line(&mut text, b"work ", profile.work)?;
-    put_line(&mut text, b"span ", profile.span)?;
-    text.extend_from_slice(b"chain\n")?;
-    put_steps(&mut text, steps)?;
-    text.extend_from_slice(b"plan\n")?;
-    put_plan(&mut text, &profile.starts, &profile.ends)?;
+    let mut text = Vec::with_capacity(alloc, most_bytes(profile, greedy))?;
+    put_profile(&mut text, profile)?;
+    if let Some(greedy) = greedy {
+        put_greedy(&mut text, greedy)?;
+    }
     Ok(text)
 }
 
-// The room for a report of so many steps and rows.
-fn most_bytes(steps: usize, rows: usize) -> usize {
-    let chain = steps.saturating_mul(MOST_STEP);
-    let plan = rows.saturating_mul(MOST_ROW);
-    chain.saturating_add(plan).saturating_add(MOST_HEAD)
+// The room for a report.
+fn most_bytes(profile: &Profile, greedy: Option<&Greedy>) -> usize {
+    let chain = profile.chain.steps.len().saturating_mul(MOST_STEP);
+    let plan = profile.starts.len().saturating_mul(MOST_ROW);
+    let served = greedy.map_or(0, greedy_bytes);
+    chain
+        .saturating_add(plan)
+        .saturating_add(served)
+        .saturating_add(MOST_HEAD)
 }
 
-// A line of a word and a number.
-fn put_line(text: &mut Vec<u8>, word: &[u8], number: u64) -> Result<(), AllocError>
-    ensures { OnOk result (text.new.items ≡ text.old.items ++ number_line word.now number) }
+// The report without a greedy part.
+fn put_profile(text: &mut Vec<u8>, profile: &Profile) -> Result<(), AllocError>
+    requires { length profile.now.starts.items ≡ length profile.now.ends.items }
+    ensures { OnOk result (text.new.items ≡ text.old.items
+        ++ report_text profile.now.work profile.now.span profile.now.chain.steps.items profile.now.starts.items profile.now.ends.items) }
 {
-    text.extend_from_slice(word)?;
-    put_number(text, number)?;
-    text.push(b'\n')?;
-    Ok(())
+    put_line(text, b"rows ", profile.starts.len() as u64)?;
+    put_line(text, b"work ", profile.work)?;
+    put_line(text, b"span ", profile.span)?;
+    text.extend_from_slice(b"chain\n")?;
+    put_steps(text, &profile.chain.steps)?;
+    text.extend_from_slice(b"plan\n")?;
+    put_plan(text, &profile.starts, &profile.ends)
 }
 
 // The lines of a chain's steps.

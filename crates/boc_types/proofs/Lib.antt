@@ -6,4 +6,6 @@ pub mod Fitting
 pub mod SerialRows
 pub mod Queued
 pub mod Transfer
+pub mod EditedTransfer
 pub mod Children
+pub mod Editing

@@ -11,16 +11,15 @@ use Rattle.boc_types.specs.Names.{tree_names}
 use Rattle.boc_types.specs.Syntax as resolved
 use Rattle.boc_types.specs.Spells.{plain_program}
 use Rattle.boc_types.specs.Serial.{after_turns, rows}
-use Rattle.boc_types.specs.Texts.{values_text}
+use Rattle.boc_types.specs.Texts.{values_text, greedy_text}
 use Rattle.boc_types.specs.declared.body.EndStatus.TheVariants.{Done}
 use Rattle.boc_types.specs.declared.event.Event.{Event}
 use Rattle.boc_types.specs.declared.event.Event.TheVariants.{Spawn, Start, End}
-use Rattle.boc_types.specs.Legal.{Entry, Life, Ended, entries}
+use Rattle.boc_types.specs.Legal.{Entry, Ended, entries}
 use Rattle.boc_types.specs.Records.{record_text}
 use Rattle.boc_types.specs.Run.{Member, config_of}
 use Rattle.std.specs.Prelude.{map}
 use Rattle.std.specs.Fmt.{digits}
-use Rattle.arrayvec.specs.ArrayVec.{ArrayVec}
 
 abbrev text : List ℕ
 text = codes "cown a = 10; cown b = 0; # two accounts\ndef add(k; x) { x = x + k; }\ndef move(k; x, y) { x = x - k; y = y + k; }\nmain { when add(5; a); when move(3; a, b); when add(1; b); }\n"
@@ -161,3 +160,9 @@ values_of_log = refl
 
 pub lives_of_log : map (λ (m : Member). m.life) (config_of program log).members ≡ Ended ∷ Ended ∷ Ended ∷ Ended ∷ []
 lives_of_log = refl
+
+-- the greedy plan for two workers
+pub text_of_greedy : greedy_text 2 (0 ∷ 2 ∷ 4 ∷ 7 ∷ []) (4 ∷ 4 ∷ 7 ∷ 9 ∷ []) (0 ∷ 1 ∷ 0 ∷ 0 ∷ []) 9 14
+    ≡ codes "greedy 2\n0 0 4 0\n1 2 4 1\n2 4 7 0\n3 7 9 0\nend 9 bound 14\n"
+unfolding digits
+text_of_greedy = refl

@@ -1,13 +1,14 @@
 -- What the commands answer to the bytes that come in.
-use Rattle.std.specs.Prelude.{◌≡◌, ℕ, ℤ, List, length}
+use Rattle.std.specs.Prelude.{◌≡◌, ℕ, ℤ, List, [], ◌++◌, length, Option, Some, None}
 use Rattle.boc_types.specs.declared.program.Program.{Program}
 use Rattle.boc_types.specs.Spells.{Spells}
 use Rattle.boc_types.specs.declared.rows.Row.{Row}
 use Rattle.boc_types.specs.declared.chain.Step.{Step}
 use Rattle.boc_types.specs.Plans.{IsEarliest, IsEnd, HasEnds, work_of}
 use Rattle.boc_types.specs.Chains.{IsPicked}
+use Rattle.boc_types.specs.Greedy.{IsGreedy, IsBound}
 use Rattle.boc_types.specs.Turns.{EndsWith}
-use Rattle.boc_types.specs.Texts.{values_text, check_text, report_text}
+use Rattle.boc_types.specs.Texts.{values_text, check_text, report_text, greedy_text}
 use Rattle.boc_types.specs.Records.{Recorded, IsRecord, record_text}
 
 -- the output is the text of the values at the end of the own order of a program that the input spells
@@ -25,8 +26,26 @@ pub record IsCheckAnswer (input output : List ℕ) : Type 0 where
   pub spells : input ≡ record_text recorded.cowns recorded.events
   pub text : output ≡ check_text (length recorded.rows)
 
--- the text of the report on some rows: their work, the span, the chain that is picked, and the earliest plan
-pub record IsReport (rows : List Row) (output : List ℕ) : Type 0 where
+-- the text of the greedy part for p workers: the greedy plan of the rows, its end, and the bound
+pub record IsGreedyPart (rows : List Row) (p : ℕ) (part : List ℕ) : Type 0 where
+  pub starts : List ℕ
+  pub workers : List ℕ
+  pub greedy : IsGreedy rows p starts workers
+  pub ends : List ℕ
+  pub ends_are : HasEnds rows starts ends
+  pub last : ℕ
+  pub last_is : IsEnd rows starts last
+  pub bound : ℕ
+  pub bound_is : IsBound rows p bound
+  pub text : part ≡ greedy_text p starts ends workers last bound
+
+-- what follows the earliest plan: the greedy part for the number of workers that was asked for, and else nothing
+abbrev pub IsAskedPart : List Row → Option ℕ → List ℕ → Type 0
+IsAskedPart rows None part = part ≡ []
+IsAskedPart rows (Some p) part = IsGreedyPart rows p part
+
+-- the text of the report on some rows: their work, the span, the chain that is picked, the earliest plan, and the part that was asked for
+pub record IsReport (rows : List Row) (asked : Option ℕ) (output : List ℕ) : Type 0 where
   pub starts : List ℕ
   pub earliest : IsEarliest rows starts
   pub ends : List ℕ
@@ -35,11 +54,13 @@ pub record IsReport (rows : List Row) (output : List ℕ) : Type 0 where
   pub span_is : IsEnd rows starts span
   pub steps : List Step
   pub picked : IsPicked rows starts steps
-  pub text : output ≡ report_text (work_of rows) span steps starts ends
+  pub part : List ℕ
+  pub part_is : IsAskedPart rows asked part
+  pub text : output ≡ report_text (work_of rows) span steps starts ends ++ part
 
 -- the input is the text of a record, and the output is the report on its rows
-pub record IsProfileAnswer (input output : List ℕ) : Type 0 where
+pub record IsProfileAnswer (asked : Option ℕ) (input output : List ℕ) : Type 0 where
   pub recorded : Recorded
   pub kept : IsRecord recorded
   pub spells : input ≡ record_text recorded.cowns recorded.events
-  pub report : IsReport recorded.rows output
+  pub report : IsReport recorded.rows asked output

@@ -45,7 +45,7 @@ pub record IsGreedyAt (rows : List Row) (p : ℕ) (plan workers : List ℕ) (t :
   pub least_rows : (a b : ℕ) → IsReady rows plan t b → t < start_of plan b → a < length rows → start_of plan a ≡ t → a < b
   pub none_idle : (b w : ℕ) → IsReady rows plan t b → t < start_of plan b → IsFree rows p plan workers t w → IsTaken rows plan workers t w
   pub least_workers : (r w : ℕ) → r < length rows → start_of plan r ≡ t → IsFree rows p plan workers t w → w < worker_of workers r →
-    IsTaken rows plan workers t w
+      IsTaken rows plan workers t w
 
 -- the plan is greedy at every tick
 pub record IsGreedy (rows : List Row) (p : ℕ) (plan workers : List ℕ) : Type 0 where

@@ -25,6 +25,7 @@ pub mod Rows
 pub mod Plans
 pub mod Chains
 pub mod Greedy
+pub mod Edits
 pub mod Legal
 pub mod Records
 pub mod Run

@@ -72,3 +72,25 @@ report_head rows work span = number_line (codes "rows ") rows ++ number_line (co
 abbrev pub report_text : ℕ → ℕ → List Step → List ℕ → List ℕ → List ℕ
 report_text work span steps starts ends =
     report_head (length starts) work span ++ codes "chain\n" ++ step_lines steps ++ codes "plan\n" ++ plan_lines 0 starts ends
+
+-- the line of a row in a greedy plan: its number, its start, its end and its worker
+abbrev pub served_line : ℕ → ℕ → ℕ → ℕ → List ℕ
+served_line r start end worker =
+    decimal r ++ codes " " ++ decimal start ++ codes " " ++ decimal end ++ codes " " ++ decimal worker ++ codes "\n"
+
+-- the lines of the rows of a greedy plan from row r on
+abbrev pub served_lines : ℕ → List ℕ → List ℕ → List ℕ → List ℕ
+served_lines r [] ends workers = []
+served_lines r (start ∷ starts) [] workers = []
+served_lines r (start ∷ starts) (end ∷ ends) [] = []
+served_lines r (start ∷ starts) (end ∷ ends) (worker ∷ workers) =
+    served_line r start end worker ++ served_lines (suc r) starts ends workers
+
+-- the line of the end of a greedy plan, and of the tick by which it has ended
+abbrev pub bound_line : ℕ → ℕ → List ℕ
+bound_line last bound = codes "end " ++ decimal last ++ codes " bound " ++ decimal bound ++ codes "\n"
+
+-- the greedy part of a report: the number of workers, the rows, and the end with its bound
+abbrev pub greedy_text : ℕ → List ℕ → List ℕ → List ℕ → ℕ → ℕ → List ℕ
+greedy_text p starts ends workers last bound =
+    number_line (codes "greedy ") p ++ served_lines 0 starts ends workers ++ bound_line last bound

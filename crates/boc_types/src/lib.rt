@@ -10,6 +10,7 @@ mod calls;
 pub mod chain;
 mod check;
 pub mod cown;
+pub mod edit;
 mod equality;
 pub mod event;
 pub mod laws;

@@ -1,9 +1,10 @@
 // The rows of a record: for each behaviour who spawned it, what it needed, and how long it ran.
 
-ghost use Rattle.std.specs.Prelude.{◌≡◌};
+ghost use Rattle.std.specs.Prelude.{◌≡◌, IfOk};
 
 use crate::body::EndStatus;
 use crate::short::Cowns;
+use std::alloc::{AllocError, Global};
 use std::marker::Model;
 
 /// A behaviour of a finished run.
@@ -44,8 +45,24 @@ impl Model for Rows {
     ghost invariant = { λ r. IsRows r.list.items };
 }
 
+impl Row {
+    /// The same row once more. It takes no memory.
+    pub fn duplicate(&self) -> Row
+        ensures { result ≡ self.now }
+    {
+        Row {
+            parent: self.parent,
+            offset: self.offset,
+            cowns: Cowns::try_from(self.cowns.as_slice()).unwrap(),
+            ticks: self.ticks,
+            status: self.status,
+        }
+    }
+}
+
 impl Rows {
     ghost use Rattle.boc_types.specs.Rows.{IsRows};
+    ghost use Rattle.boc_types.specs.Edits.{Fits, edited};
 
     /// These rows, main first. It takes no memory.
     pub fn new(list: Vec<Row>) -> Rows
@@ -61,5 +78,25 @@ impl Rows {
         ensures shape { IsRows self.now }
     {
         self.list.as_slice()
+    }
+
+    /// The same rows once more. `AllocError` says that memory was refused.
+    pub fn copy(&self, alloc: Global) -> Result<Rows, AllocError>
+        ensures { IfOk result (λ rows. rows ≡ self.now) }
+    {
+        let mut list = Vec::with_capacity(alloc, self.list.len())?;
+        for row in &self.list {
+            list.push(row.duplicate())?;
+        }
+        Ok(Rows { list })
+    }
+
+    /// Has a row take so many ticks, from 1 to 1,000,000 and no fewer than the offset of its last child. It takes
+    /// no memory.
+    pub fn set_ticks(&mut self, row: u32, ticks: u32)
+        requires { Fits self.old row ticks }
+        ensures { self.new ≡ edited self.old row ticks }
+    {
+        self.list[row as usize].ticks = ticks;
     }
 }

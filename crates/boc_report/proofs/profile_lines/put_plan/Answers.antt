@@ -1,4 +1,3 @@
-use Rattle.std.proofs.Common.{◌≡◌, arith}
 use Rattle.boc_report.proofs.Lines.{put_row_more}
 use Rattle.boc_report.proofs.profile_lines.put_plan.Goals as goal
 

@@ -1,4 +1,4 @@
-use Rattle.std.proofs.Common.{◌≡◌, arith}
+use Rattle.std.proofs.Common.{arith}
 use Rattle.std.proofs.lemmas.Bool.Decides.{nat_tests}
 use Rattle.boc_report.proofs.Lines.{put_step_more}
 use Rattle.boc_report.proofs.profile_lines.put_steps.Goals as goal

@@ -30,5 +30,5 @@ gives rows p s w i next other = record {
 
 pub returns-then-index-self-clause-giving : goal.returns-then-index-self-clause-giving
 returns-then-index-self-clause-giving c =
-    gives _ _ c.loop-worker.self c.in-Some.worker c.loop-worker.invariant.stepping c.in-Some.ensures.found 
+    gives _ _ c.loop-worker.self c.in-Some.worker c.loop-worker.invariant.stepping c.in-Some.ensures.found
     (λ e. c.if-index-self.true (sym (read_at _ _ _ c.in-Some.ensures.found.there c.index.ensures) ∙ e))

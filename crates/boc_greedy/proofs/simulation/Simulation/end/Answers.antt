@@ -24,7 +24,7 @@ returns-clause-stepping c =
       kept = kept_after _ c.requires.shape _ _ _ _ _ _ _ _ _ k w r r_is c.requires.none_left c.requires.there c.requires.due _ _ sg pc;
       fresh = c.requires.stepping.fresh;
       busy_before = busy_less _ _ w later c.args.self.now.idle_from _ pc (omega arith) (omega arith) c.requires.stepping.busy_before;
-      tournament = tournament_set _ _ _ _ w later pc c.requires.stepping.tournament c.set.ensures.won c.requires.there c.set.ensures.placed c.set.ensures.others;
+      tournament = tournament_set _ _ _ _ w later pc c.requires.stepping.tournament c.set.ensures.won c.set.ensures.count c.set.ensures.placed c.set.ensures.others;
     }
 
 pub returns-clause-goes : goal.returns-clause-goes

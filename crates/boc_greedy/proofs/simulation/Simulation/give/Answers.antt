@@ -39,7 +39,7 @@ returns-in-Some-clause-giving c =
       busy_before = busy_still _ _ w _ _ pc
           (change_below _ c.requires.shape _ _ _ _ _ _ _ _ _ k x w _ _ _ _ _ _ _ _ ps pw sg pc pt pd can c.requires.idle.there idle next c.change_of-change.ensures.spawns c.change_of-change.ensures.ends)
           g.busy_before;
-      tournament = tournament_set _ _ _ _ w _ pc g.tournament c.set.ensures.won c.requires.idle.there c.set.ensures.placed c.set.ensures.others;
+      tournament = tournament_set _ _ _ _ w _ pc g.tournament c.set.ensures.won c.set.ensures.count c.set.ensures.placed c.set.ensures.others;
     }
 
 pub returns-in-Some-clause-counted : goal.returns-in-Some-clause-counted

@@ -1,6 +1,7 @@
 use Rattle.std.proofs.Common.{◌≡◌, ◌<◌, length, arith}
 use Rattle.boc_greedy.specs.Simulating.{later}
-use Rattle.std.proofs.Common.{replicate, rules}
+use Rattle.std.proofs.Common.{replicate, rules, ap}
+use Rattle.std.proofs.lemmas.List.{length-replicate}
 use Rattle.boc_greedy.proofs.Beginning.{start_all, kept_first, given_first, passed_first}
 use Rattle.boc_greedy.proofs.Counting.{counts_first}
 use Rattle.boc_greedy.proofs.simulation.Simulation.new.Goals as goal
@@ -20,9 +21,9 @@ returns-clause-giving c =
       passed = passed_first _ c.requires.shape _ later c.requires.few early _ _ _ _ _ _ starts workers c.in_ok-frontier.ensures.stages changes tasks children;
       busy_before = λ v h. absurd (omega (arith, h));
       tournament = record {
+        count = omega (arith, c.new-2.ensures.count, ap length changes, length-replicate c.args.p later);
         won = c.new-2.ensures.won;
-        same = λ w l few. omega (arith, c.new-2.ensures.idle w few, start_all c.args.p later w _ changes l);
-        idle = λ w l few. c.new-2.ensures.idle w few;
+        same = λ w l. omega (arith, c.new-2.ensures.idle w (omega (arith, l, ap length changes, length-replicate c.args.p later)), start_all c.args.p later w _ changes l);
       };
     }
 

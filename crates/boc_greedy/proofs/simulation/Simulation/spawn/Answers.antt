@@ -38,7 +38,7 @@ returns-clause-stepping c =
           (change_below _ c.requires.shape _ _ _ _ _ _ _ _ _ k w r kid _ _ _ _ _ r_is kid_is kid_there sg pc pd c.requires.there c.requires.due next
           (λ l. omega (arith, c.change_of-change.ensures.spawns l, start)) (λ ge. omega (arith, c.change_of-change.ensures.ends ge, start)))
           c.requires.stepping.busy_before;
-      tournament = tournament_set _ _ _ _ w _ pc c.requires.stepping.tournament c.set.ensures.won c.requires.there c.set.ensures.placed c.set.ensures.others;
+      tournament = tournament_set _ _ _ _ w _ pc c.requires.stepping.tournament c.set.ensures.won c.set.ensures.count c.set.ensures.placed c.set.ensures.others;
     }
 
 pub returns-clause-goes : goal.returns-clause-goes

@@ -1,19 +1,24 @@
-use Rattle.std.proofs.Common.{◌≡◌, ℕ, ◌+◌, ◌-◌, ap, arith}
-use Rattle.std.specs.Prelude.{slice_index}
-use Rattle.boc_greedy.proofs.Winning.{root_least}
+use Rattle.std.proofs.Common.{◌≡◌, ℕ, ◌+◌, ◌*◌, ◌<◌, ap, sym, subst, arith}
+use Rattle.boc_greedy.specs.declared.tournament.Change.{Change}
+use Rattle.boc_greedy.specs.Simulating.{later}
+use Rattle.boc_greedy.specs.Tournaments.{winner_at, change_at, IsEarliest}
+use Rattle.boc_greedy.proofs.Winning.{first_read, tick_same, root_least, root_own}
 use Rattle.boc_greedy.proofs.tournament.Tournament.earliest.Goals as goal
 
 pub returns-then-first-clause-none : goal.returns-then-first-clause-none
-returns-then-first-clause-none c = λ w h. omega (arith, c.if-first.true, root_least _ c.requires (64 + w) (omega arith) (omega (arith, h)))
+returns-then-first-clause-none c = λ w h.
+    (let t = c.args.self.now in
+    omega (arith, c.if-first.true, tick_same _ _ (first_read t.winners (record { tick = 0; worker = 0 }) c.requires.whole), root_least t c.requires (t.count + w) (omega (arith, c.requires.some)) (omega (arith, h))))
 
 pub returns-clause-found : goal.returns-clause-found
 returns-clause-found c =
-    let i = c.loop-place.invariant in
-    let place : ℕ = c.loop-place.place in
-    let here : 64 + (place - 64) ≡ place = omega (arith, c.loop-place-test.false) in
-    let at : slice_index c.args.self.now.winners (64 + (place - 64)) ≡ slice_index c.args.self.now.winners place = ap (slice_index c.args.self.now.winners) here in
-    record {
-      there = omega (arith, i.below, c.loop-place-test.false);
-      busy = omega (arith, at, i.same, c.if-first.false, c.type_inv.self);
-      least = λ v h. omega (arith, at, i.same, root_least _ c.requires (64 + v) (omega arith) (omega (arith, h)));
-    }
+    let t = c.args.self.now in
+    let read = first_read t.winners (record { tick = 0; worker = 0 }) c.requires.whole in
+    let busy : (winner_at t.winners 1).tick < later = omega (arith, c.if-first.false, tick_same _ _ read, c.requires.low 1) in
+    let own = root_own t c.requires busy in
+    let found : IsEarliest t (winner_at t.winners 1).worker = record {
+      there = own.there;
+      busy = omega (arith, tick_same _ _ own.own, busy);
+      least = λ v h. omega (arith, tick_same _ _ own.own, root_least t c.requires (t.count + v) (omega (arith, c.requires.some)) (omega (arith, h)));
+    } in
+    subst (λ (x : Change). IsEarliest t x.worker) (sym read) found

@@ -2,7 +2,7 @@ use Rattle.std.proofs.Common.{◌≡◌, ℕ, ◌*◌, ◌≤◌, List, take}
 use Rattle.std.specs.List.{sum_by}
 use Rattle.boc_types.specs.declared.rows.Row.{Row}
 use Rattle.boc_types.specs.Plans.{HasEnds}
-use Rattle.boc_order.proofs.analysis.work.Given as goal
+use Rattle.boc_order.proofs.analysis.work_between.Given as goal
 
 -- the ticks of the rows so far
 abbrev pub invariant-loop-row : goal.invariant-loop-row

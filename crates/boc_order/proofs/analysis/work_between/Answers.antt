@@ -1,6 +1,6 @@
 use Rattle.std.proofs.Common.{arith}
 use Rattle.boc_order.proofs.Working.{work_more}
-use Rattle.boc_order.proofs.analysis.work.Goals as goal
+use Rattle.boc_order.proofs.analysis.work_between.Goals as goal
 
 pub loop-row-preserved : goal.loop-row-preserved
 loop-row-preserved c =

@@ -1,0 +1,14 @@
+-- The greedy part of a report.
+use Rattle.std.specs.Prelude.{◌≡◌, ℕ, List, [], length, Option, Some, None}
+use Rattle.boc_greedy.specs.declared.report.Greedy.{Greedy}
+use Rattle.boc_types.specs.Texts.{greedy_text}
+
+-- a greedy plan has an end and a worker for each of its starts
+pub record IsWhole (greedy : Greedy) : Type 0 where
+  pub ends : length greedy.starts.items ≡ length greedy.ends.items
+  pub workers : length greedy.starts.items ≡ length greedy.workers.items
+
+-- the part that a greedy plan adds to a report; without a plan there is none
+abbrev pub part_of : Option Greedy → List ℕ
+part_of None = []
+part_of (Some g) = greedy_text g.p g.starts.items g.ends.items g.workers.items g.ends_at g.bound

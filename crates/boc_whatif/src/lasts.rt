@@ -1,0 +1,49 @@
+// The last child of each row, and the ticks that a row can take.
+
+ghost use Rattle.std.specs.Prelude.{◌≡◌, max, IfOk, MatchResult};
+ghost use Rattle.boc_types.specs.Rows.{IsRows};
+ghost use Rattle.boc_types.specs.Edits.{Fits, IsEditFault};
+ghost use Rattle.boc_whatif.specs.Lasts.{HasLasts};
+
+use boc_types::edit::EditFault;
+use boc_types::rows::Row;
+use std::alloc::{AllocError, Global};
+
+/// The most ticks that a row can take.
+const MOST_TICKS: u32 = 1_000_000;
+
+/// The offset of each row's last child, and 0 for a row without one. `AllocError` says that memory was refused.
+pub fn last_children(alloc: Global, rows: &[Row]) -> Result<Vec<u32>, AllocError>
+    requires { IsRows rows.now }
+    ensures { IfOk result (λ lasts. HasLasts rows.now lasts.items) }
+{
+    let mut lasts = vec![in alloc; 0; rows.len()]?;
+    for row in rows {
+        lasts[row.parent as usize] = row.offset;
+    }
+    Ok(lasts)
+}
+
+/// The least ticks that a row can take whose last child has this offset.
+pub fn least_ticks(last: u32) -> u32
+    ensures { result ≡ max 1 last }
+{
+    last.max(1)
+}
+
+/// Tests whether a row can take so many ticks.
+pub fn check(rows: &[Row], lasts: &[u32], row: u32, ticks: u32) -> Result<(), EditFault>
+    requires { HasLasts rows.now lasts.now }
+    ensures { MatchResult result (λ _. Fits rows.now row ticks) (IsEditFault rows.now row ticks) }
+{
+    let number = row as usize;
+    if number >= rows.len() {
+        Err(EditFault::NoRow)
+    } else if ticks < least_ticks(lasts[number]) {
+        Err(EditFault::BelowSpawn)
+    } else if ticks > MOST_TICKS {
+        Err(EditFault::TooManyTicks)
+    } else {
+        Ok(())
+    }
+}

@@ -1,0 +1,156 @@
+// Rows that are edited one after another.
+
+use crate::lasts::{check, last_children};
+use crate::sweep::sweep;
+use boc_greedy::Greedy;
+use boc_order::{Earliest, Profile, earliest_plan};
+use boc_types::edit::EditFault;
+use boc_types::rows::Rows;
+use std::alloc::{AllocError, Global};
+use std::marker::Model;
+use std::thread::Threads;
+
+/// The rows of a finished run, of which a caller asks what they would be worth with other ticks.
+///
+/// It has a copy of the rows, and their earliest plan. An edit has one row take other ticks, and places that row
+/// and those after it anew. All times are ticks.
+#[derive(Drop)]
+pub struct WhatIf {
+    rows: Rows,
+    lasts: Vec<u32>,
+    plan: Earliest,
+    touched: u64,
+}
+
+impl Model for WhatIf {
+    ghost use Rattle.boc_whatif.specs.Asked.{Asked, IsKept};
+
+    ghost Value = { Asked };
+
+    ghost view = { λ w. record { rows = w.rows; touched = w.touched } };
+
+    ghost invariant = { λ w. IsKept w.rows w.lasts.items w.plan };
+}
+
+impl WhatIf {
+    ghost use Rattle.std.specs.Prelude.{◌≡◌, ℕ, ◌+◌, ◌-◌, ◌*◌, ◌<◌, ◌≤◌, List, length, IfOk, IfErr, OnOk, OnErr};
+    ghost use Rattle.boc_types.specs.Plans.{HasEnds, IsEarliest, IsEnd, Keeps, NoneEndsBefore, work_of};
+    ghost use Rattle.boc_types.specs.Chains.{IsPicked, weight_of};
+    ghost use Rattle.boc_types.specs.Greedy.{CountsAll, IsBound, IsForWorkers, IsGreedy, IsMoment, IsSpan};
+    ghost use Rattle.boc_types.specs.Edits.{Fits, IsEditFault, IsSweep, edited};
+
+    /// The same rows, none of them edited. `AllocError` says that memory was refused.
+    ///
+    /// It takes all memory that the edits need.
+    pub fn new(alloc: Global, rows: &Rows) -> Result<WhatIf, AllocError>
+        ensures rows { IfOk result (λ w. w.rows ≡ rows.now) }
+        ensures touched { IfOk result (λ w. w.touched ≡ 0) }
+    {
+        let rows = rows.copy(alloc)?;
+        let lasts = last_children(alloc, rows.as_slice())?;
+        let plan = earliest_plan(alloc, &rows)?;
+        Ok(WhatIf {
+            rows,
+            lasts,
+            plan,
+            touched: 0,
+        })
+    }
+
+    /// Has a row take so many ticks. The fault says why it can't, and then nothing changes.
+    ///
+    /// It takes no memory. It computes the row and those after it again, and of those before it only reads the cowns.
+    pub fn edit(&mut self, row: u32, ticks: u32) -> Result<(), EditFault>
+        ensures fits { OnOk result (Fits self.old.rows row ticks) }
+        ensures rows { OnOk result (self.new.rows ≡ edited self.old.rows row ticks) }
+        ensures touched { OnOk result (self.new.touched + row ≡ length self.old.rows) }
+        ensures fault { IfErr result (IsEditFault self.old.rows row ticks) }
+        ensures refused { OnErr result (Fits self.old.rows row ticks → ⊥) }
+        ensures stays { OnErr result (self.new ≡ self.old) }
+    {
+        check(self.rows.as_slice(), &self.lasts, row, ticks)?;
+        self.rows.set_ticks(row, ticks);
+        let rows = self.rows.as_slice();
+        let number = row as usize;
+        self.plan.place_from(rows, number);
+        self.touched = (rows.len() - number) as u64;
+        Ok(())
+    }
+
+    /// How many rows the last edit that was taken computed again: those from its row on. Before the first it is 0.
+    pub fn touched(&self) -> u64
+        ensures { result ≡ self.now.touched }
+    {
+        self.touched
+    }
+
+    /// The rows as they are edited.
+    pub fn rows(&self) -> &Rows
+        ensures { result.now ≡ self.now.rows }
+    {
+        &self.rows
+    }
+
+    /// The ticks of all rows together. It takes no memory.
+    pub fn work(&self) -> u64
+        ensures { result ≡ work_of self.now.rows }
+    {
+        boc_order::work(self.rows.as_slice())
+    }
+
+    /// The tick at which the earliest plan of the rows ends. It takes no memory.
+    pub fn span(&self) -> u64
+        ensures { IsSpan self.now.rows result }
+    {
+        self.plan.span()
+    }
+
+    /// The profile of the rows, as `boc_order::profile` has it. `AllocError` says that memory was refused.
+    pub fn profile(&self, alloc: Global) -> Result<Profile, AllocError>
+        ensures work { IfOk result (λ p. p.work ≡ work_of self.now.rows) }
+        ensures earliest { IfOk result (λ p. IsEarliest self.now.rows p.starts.items) }
+        ensures ends { IfOk result (λ p. HasEnds self.now.rows p.starts.items p.ends.items) }
+        ensures span { IfOk result (λ p. IsEnd self.now.rows p.starts.items p.span) }
+        ensures picked { IfOk result (λ p. IsPicked self.now.rows p.starts.items p.chain.steps.items) }
+        ensures weight { IfOk result (λ p. weight_of p.chain.steps.items ≡ p.span) }
+        ensures no_sooner { IfOk result (λ p. NoneEndsBefore self.now.rows p.span) }
+    {
+        boc_order::profile(alloc, &self.rows)
+    }
+
+    /// The greedy plan of the rows for p workers, from 1 to 64, as `boc_greedy::greedy` has it. `AllocError` says that
+    /// memory was refused.
+    pub fn greedy(&self, alloc: Global, p: u32) -> Result<Greedy, AllocError>
+        requires some { 0 < p }
+        requires few { p ≤ 64 }
+        ensures asked { IfOk result (λ g. g.p ≡ p) }
+        ensures greedy { IfOk result (λ g. IsGreedy self.now.rows p g.starts.items g.workers.items) }
+        ensures ends { IfOk result (λ g. HasEnds self.now.rows g.starts.items g.ends.items) }
+        ensures ends_at { IfOk result (λ g. IsEnd self.now.rows g.starts.items g.ends_at) }
+        ensures bound { IfOk result (λ g. IsBound self.now.rows p g.bound) }
+        ensures moments { IfOk result (λ g. CountsAll g.moments (IsMoment self.now.rows g.starts.items)) }
+        ensures keeps { IfOk result (λ g. Keeps self.now.rows g.starts.items) }
+        ensures workers { IfOk result (λ g. IsForWorkers self.now.rows p g.starts.items g.workers.items) }
+        ensures close { IfOk result (λ g. (span : ℕ) → IsSpan self.now.rows span → p * g.ends_at ≤ work_of self.now.rows + (p - 1) * span) }
+        ensures within { IfOk result (λ g. g.ends_at ≤ g.bound) }
+
+        // It ends at most twice as late as any plan for p workers.
+        ensures twice { IfOk result (λ g. (other others : List ℕ) (other_last : ℕ) →
+            Keeps self.now.rows other → IsForWorkers self.now.rows p other others → IsEnd self.now.rows other other_last →
+            p * g.ends_at ≤ (2 * p - 1) * other_last) }
+    {
+        boc_greedy::greedy(alloc, &self.rows, p)
+    }
+
+    /// For each row the span that the rows would have if that row alone took the least ticks that it can: the offset
+    /// of its last child, and 1 at least. `AllocError` says that memory was refused.
+    ///
+    /// The rows are split into at most 64 pieces of neighbours, of at least 256 rows each but the last, which run in
+    /// several threads. A piece takes memory once, for a copy of the rows, a plan and its spans. For each of its rows
+    /// it computes that row and those after it again, as an edit does.
+    pub fn sweep(&self, rt: &(impl Threads + Sync), alloc: Global) -> Result<Vec<u64>, AllocError>
+        ensures { IfOk result (λ spans. IsSweep self.now.rows spans.items) }
+    {
+        sweep(rt, alloc, &self.rows, &self.lasts)
+    }
+}

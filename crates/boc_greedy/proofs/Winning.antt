@@ -80,36 +80,65 @@ earlier_either a b = by_test (nat_lt b.tick a.tick) refl
     by_test true e = rw e (inr refl)
     by_test false e = rw e (inl refl)
 
--- one place higher
-pub won_higher : (xs ys : List Change) (count place k : ℕ) (x : Change) → WonBut xs count place → 1 < place → k ≡ place / 2 → Replaces xs ys k x →
-    x ≡ earlier_of (winner_at xs (2 * k)) (winner_at xs (2 * k + 1)) → WonBut ys count k
-won_higher xs ys count place k x w more is p earlier = record {
+-- one place higher, where the place beside is the other one below it
+pub won_higher : (xs ys : List Change) (count place other k : ℕ) (x : Change) → WonBut xs count place → 1 < place → (other ≡ place + 1) ⊎ (other + 1 ≡ place) →
+    other / 2 ≡ place / 2 → k ≡ place / 2 → Replaces xs ys k x → x ≡ earlier_of (winner_at xs place) (winner_at xs other) → WonBut ys count k
+won_higher xs ys count place other k x w more near same is p earlier = record {
   whole = omega (arith, p.whole, w.whole);
   few = w.few;
   there = omega (arith, is, more);
   below = omega (arith, is, w.below);
-  low = low_after xs ys k x p w.low (omega (arith, tick_same _ _ earlier, earlier_left (winner_at xs (2 * k)) (winner_at xs (2 * k + 1)), w.low (2 * k)));
+  low = low_after xs ys k x p w.low (omega (arith, tick_same _ _ earlier, earlier_left (winner_at xs place) (winner_at xs other), w.low place));
   won = λ i pos lt ne. elim (cases_eq i k) [
     | inl e ↦ subst (IsWinner ys) (sym e) own
     | inr nk ↦ (let a = above i k ne in same_winner xs ys k i x p nk a.0 a.1 (w.won i pos lt (λ e. nk (omega (arith, e, is)))))
   ];
 }
   where
+    mine : winner_at ys place ≡ winner_at xs place
+    mine = p.others place (λ e. omega (arith, e, is, more))
+
+    its : winner_at ys other ≡ winner_at xs other
+    its = p.others other (λ e. omega (arith, e, is, same, more))
+
+    here : winner_at ys k ≡ earlier_of (winner_at xs place) (winner_at xs other)
+    here = p.at ∙ earlier
+
+    le_mine : (winner_at ys k).tick ≤ (winner_at ys place).tick
+    le_mine = omega (arith, tick_same _ _ here, tick_same _ _ mine, earlier_left (winner_at xs place) (winner_at xs other))
+
+    le_its : (winner_at ys k).tick ≤ (winner_at ys other).tick
+    le_its = omega (arith, tick_same _ _ here, tick_same _ _ its, earlier_right (winner_at xs place) (winner_at xs other))
+
+    either : (winner_at ys k ≡ winner_at ys place) ⊎ (winner_at ys k ≡ winner_at ys other)
+    either = elim (earlier_either (winner_at xs place) (winner_at xs other)) [
+      | inl e ↦ inl (here ∙ e ∙ sym mine)
+      | inr e ↦ inr (here ∙ e ∙ sym its)
+    ]
+
     own : IsWinner ys k
-    own =
-        let l : winner_at ys (2 * k) ≡ winner_at xs (2 * k) = p.others (2 * k) (λ e. omega (arith, e, is, more)) in
-        let r : winner_at ys (2 * k + 1) ≡ winner_at xs (2 * k + 1) = p.others (2 * k + 1) (λ e. omega (arith, e, is, more)) in
-        let here : winner_at ys k ≡ earlier_of (winner_at xs (2 * k)) (winner_at xs (2 * k + 1)) = p.at ∙ earlier in
-        let a : Change = winner_at xs (2 * k) in
-        let b : Change = winner_at xs (2 * k + 1) in
-        record {
-          left = omega (arith, tick_same _ _ here, tick_same _ _ l, earlier_left (winner_at xs (2 * k)) (winner_at xs (2 * k + 1)));
-          right = omega (arith, tick_same _ _ here, tick_same _ _ r, earlier_right (winner_at xs (2 * k)) (winner_at xs (2 * k + 1)));
-          either = elim (earlier_either (winner_at xs (2 * k)) (winner_at xs (2 * k + 1))) [
-            | inl e ↦ inl (here ∙ e ∙ sym l)
-            | inr e ↦ inr (here ∙ e ∙ sym r)
-          ];
-        }
+    own = elim near [
+      | inl right ↦ (
+          let l : 2 * k ≡ place = omega (arith, right, same, is) in
+          let r : 2 * k + 1 ≡ other = omega (arith, right, same, is) in
+          let al : winner_at ys (2 * k) ≡ winner_at ys place = ap (winner_at ys) l in
+          let ar : winner_at ys (2 * k + 1) ≡ winner_at ys other = ap (winner_at ys) r in
+          record {
+            left = omega (arith, le_mine, tick_same _ _ al);
+            right = omega (arith, le_its, tick_same _ _ ar);
+            either = elim either [ inl e ↦ inl (e ∙ sym al) | inr e ↦ inr (e ∙ sym ar) ];
+          })
+      | inr left ↦ (
+          let l : 2 * k ≡ other = omega (arith, left, same, is) in
+          let r : 2 * k + 1 ≡ place = omega (arith, left, same, is) in
+          let al : winner_at ys (2 * k) ≡ winner_at ys other = ap (winner_at ys) l in
+          let ar : winner_at ys (2 * k + 1) ≡ winner_at ys place = ap (winner_at ys) r in
+          record {
+            left = omega (arith, le_its, tick_same _ _ al);
+            right = omega (arith, le_mine, tick_same _ _ ar);
+            either = elim either [ inl e ↦ inr (e ∙ sym ar) | inr e ↦ inl (e ∙ sym al) ];
+          })
+    ]
 
 module _ (t : Tournament) (h : IsTournament t) where
   -- what stands at place 1 wins over all
@@ -162,12 +191,12 @@ module _ (t : Tournament) (h : IsTournament t) where
 pub first_read : (xs : List Change) (d : Change) → length xs ≡ 128 → get_or xs 1 d ≡ winner_at xs 1
 first_read xs d e = get_or_default xs 1 d none (omega (arith, e))
 
--- two places, read with another default
-pub earlier_read : (xs : List Change) (d : Change) (i j : ℕ) → i < length xs → j < length xs → earlier_of (get_or xs i d) (get_or xs j d) ≡ earlier_of (winner_at xs i) (winner_at xs j)
-earlier_read xs d i j a b =
-    let p : get_or xs i d ≡ winner_at xs i = get_or_default xs i d none a in
-    let q : get_or xs j d ≡ winner_at xs j = get_or_default xs j d none b in
-    ap (λ (x : Change). earlier_of x (get_or xs j d)) p ∙ ap (λ (y : Change). earlier_of (winner_at xs i) y) q
+-- a place, read with another default
+pub earlier_read : (xs : List Change) (d x : Change) (place other : ℕ) → other < length xs → x ≡ winner_at xs place →
+    earlier_of x (get_or xs other d) ≡ earlier_of (winner_at xs place) (winner_at xs other)
+earlier_read xs d x place other h e =
+    let q : get_or xs other d ≡ winner_at xs other = get_or_default xs other d none h in
+    ap (λ (z : Change). earlier_of z (get_or xs other d)) e ∙ ap (λ (y : Change). earlier_of (winner_at xs place) y) q
 
 -- where all are idle, each wins
 pub won_same : (n : ℕ) → n ≡ 128 → (i : ℕ) → i < 64 → IsWinner (replicate n none) i

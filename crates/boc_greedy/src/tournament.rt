@@ -1,6 +1,6 @@
 // The earliest of the workers' changes.
 
-ghost use Rattle.std.specs.Prelude.{◌≡◌};
+ghost use Rattle.std.specs.Prelude.{◌≡◌, ◌+◌, ◌/◌, ◌<◌, ◌⊎◌};
 ghost use Rattle.boc_greedy.specs.Tournaments.{earlier_of};
 
 use crate::workers::LATER;
@@ -30,6 +30,15 @@ fn earlier(a: Change, b: Change) -> Change
     ensures { result ≡ earlier_of a b }
 {
     if b.tick < a.tick { b } else { a }
+}
+
+// The place with which a place has the one above in common.
+fn beside(place: usize) -> usize
+    requires { 1 < place }
+    ensures either { (result ≡ place + 1) ⊎ (result + 1 ≡ place) }
+    ensures above { result / 2 ≡ place / 2 }
+{
+    if place % 2 == 0 { place + 1 } else { place - 1 }
 }
 
 impl Tournament {
@@ -64,14 +73,16 @@ impl Tournament {
         ensures placed { change_at self.new worker ≡ tick }
         ensures others { (w : ℕ) → w < self.old.count → w ≢ worker → change_at self.new w ≡ change_at self.old w }
     {
-        let mut place = self.count + worker;
-        self.winners[place] = Change {
+        let mut winner = Change {
             tick,
             worker: worker as u32,
         };
+        let mut place = self.count + worker;
+        self.winners[place] = winner;
         while place > 1 {
+            winner = earlier(winner, self.winners[beside(place)]);
             place /= 2;
-            self.winners[place] = earlier(self.winners[2 * place], self.winners[2 * place + 1]);
+            self.winners[place] = winner;
         }
     }
 

@@ -1,17 +1,17 @@
 -- What is known of a text from what was taken of its source.
-use Rattle.std.proofs.Common.{zero, suc, get_or, length, take, drop, append_assoc, ◌≡◌, ◌⊎◌, inl, inr, ℕ, ◌+◌, ◌<◌, ◌≤◌, ◌∷◌, List, [], ◌++◌, Option, Some, None, IfSome, refl, sym, ap, ◌∙◌, subst, arith, Bool, true, false}
+use Rattle.std.proofs.Common.{zero, suc, length, append_assoc, ◌≡◌, inl, inr, ℕ, ◌+◌, ◌<◌, ◌≤◌, ◌∷◌, List, [], ◌++◌, Option, Some, None, IfSome, refl, sym, ap, ◌∙◌, subst, arith, Bool, false}
 use Rattle.std.proofs.lemmas.List.{length-take, append-nil}
 use Rattle.std.specs.Bool.{OnFalse}
 use Rattle.std.specs.Io.KnownBytes.{Consumes, IsAtEnd, Keeps, prepend_known}
 use Rattle.boc_types.specs.declared.verdict.RecordFaultKind.TheVariants as kinds
-use Rattle.std.proofs.KnownBytes.{Consumes-trans, Consumes-nil}
+use Rattle.std.proofs.KnownBytes.{Consumes-trans}
 use Rattle.boc_types.specs.declared.verdict.RecordFaultKind.{RecordFaultKind}
 use Rattle.boc_types.specs.declared.event.Event.{Event}
 use Rattle.boc_types.specs.declared.event.BrokenRule.{BrokenRule}
 use Rattle.boc_types.specs.declared.event.BrokenRule.TheVariants as rules
 use Rattle.boc_types.specs.Legal.{entries, IsLegal, IsComplete, IsFirstBroken}
-use Rattle.boc_types.specs.Records.{BeginsLong, BeginsWith, IsOneLine, IsReading, BreaksRule, HasMore, Recorded, line, header, event_line, event_lines, begun, record_text, kind_of_rule, NextLineIs}
-use Rattle.std.specs.Prelude.{codes, Result, Ok, Err, ◌≢◌}
+use Rattle.boc_types.specs.Records.{BeginsLong, BeginsWith, IsOneLine, IsReading, BreaksRule, HasMore, Recorded, line, header, event_line, event_lines, begun, record_text, kind_of_rule}
+use Rattle.std.specs.Prelude.{codes, Result, Ok, Err}
 use Rattle.boc_rules.specs.Log.{Log}
 use Rattle.boc_rules.specs.Rules.{Applies}
 use Rattle.boc_rules.specs.declared.rules.RuleFault.{RuleFault}

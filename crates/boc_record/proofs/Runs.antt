@@ -1,6 +1,6 @@
 -- A text of fields has one reading.
-use Rattle.std.proofs.Common.{zero, suc, ◌⊎◌, ◌*◌, ◌-◌, ◌/◌, ◌%◌, ◌^◌, get_or, length, take, drop, append_assoc, ◌≡◌, ◌≢◌, ℕ, ◌+◌, ◌≤◌, ◌<◌, ◌∷◌, List, [], ◌++◌, true, false, cond, refl, sym, ap, ◌∙◌, subst, arith, inl, inr, All, lit<}
-use Rattle.std.specs.Prelude.{decimal, codes, fold, Bool, nat_eq, if◌then◌else◌}
+use Rattle.std.proofs.Common.{zero, suc, ◌*◌, ◌-◌, ◌%◌, ◌^◌, get_or, length, take, drop, append_assoc, ◌≡◌, ℕ, ◌+◌, ◌≤◌, ◌<◌, ◌∷◌, List, [], ◌++◌, true, false, refl, sym, ap, ◌∙◌, subst, arith, inl, inr, lit<}
+use Rattle.std.specs.Prelude.{decimal, fold, Bool, nat_eq, if◌then◌else◌}
 use Rattle.std.proofs.lemmas.Bool.Decides.{nat_tests}
 use Rattle.std.proofs.lemmas.Bool.{cases_order}
 use Rattle.std.proofs.lemmas.List.{take-append-drop, append-nil, length-append, length-take, length-drop, take_all, get_or-take, get_or_append_left, get_or-append_right}

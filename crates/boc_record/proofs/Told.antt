@@ -1,12 +1,11 @@
 -- Lines of events, and what they tell.
-use Rattle.std.proofs.Common.{zero, suc, ◌⊎◌, ◌^◌, get_or, length, take, drop, append_assoc, ◌≡◌, ℕ, ◌+◌, ◌≤◌, ◌<◌, ◌∷◌, List, [], ◌++◌, refl, sym, ap, ◌∙◌, subst, arith, All}
-use Rattle.std.proofs.lemmas.List.{append-nil}
+use Rattle.std.proofs.Common.{◌^◌, get_or, length, drop, ◌≡◌, ℕ, ◌≤◌, ◌<◌, ◌∷◌, List, [], ◌++◌, refl, sym, ap, ◌∙◌, subst, arith}
 use Rattle.std.proofs.lemmas.List.Elements.{All-cons}
 use Rattle.boc_types.specs.declared.body.EndStatus.{EndStatus}
 use Rattle.boc_types.specs.declared.body.EndStatus.TheVariants as statuses
 use Rattle.boc_types.specs.declared.event.Event.{Event}
 use Rattle.boc_types.specs.declared.event.Event.TheVariants.{Spawn, Start, End}
-use Rattle.boc_types.specs.Records.{field, fields, event_line, header, status_number, IsHeader, IsEventLine, IsSmallEvent}
+use Rattle.boc_types.specs.Records.{fields, event_line, status_number, IsHeader, IsEventLine, IsSmallEvent}
 use Rattle.boc_record.specs.Fields.{IsField, AreSmall, sign_of, numbers_of, Tells}
 use Rattle.std.specs.Prelude.{codes, MatchOption, Option, Some, None}
 use Rattle.boc_record.proofs.Runs.{small_rest, first_field, one_field}

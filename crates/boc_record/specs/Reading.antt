@@ -2,7 +2,6 @@
 use Rattle.std.specs.Prelude.{◌≡◌, ◌≢◌, ℕ, ◌+◌, ◌≤◌, ◌<◌, ◌⊎◌, List, [], length, codes, Option, Some, None, IfSome, Result, Ok, Err}
 use Rattle.std.specs.Io.KnownBytes.{Consumes, IsAtEnd}
 use Rattle.boc_types.specs.declared.event.Event.{Event}
-use Rattle.boc_types.specs.declared.event.BrokenRule.{BrokenRule}
 use Rattle.boc_types.specs.declared.verdict.RecordFaultKind.{RecordFaultKind}
 use Rattle.boc_types.specs.declared.verdict.RecordFaultKind.TheVariants as kinds
 use Rattle.boc_types.specs.Records.{Recorded, IsOneLine, BeginsWith, BeginsLong, IsCut, IsEventLine, IsSmallEvent, line, event_line, record_text, kind_of_rule, IsFirstFault, IsReading, IsHeader, header}

@@ -1,4 +1,4 @@
-use Rattle.std.proofs.Common.{◌≡◌, ℕ, ◌*◌, ◌≤◌, List, take}
+use Rattle.std.proofs.Common.{◌≡◌, ◌*◌, ◌≤◌, List, take}
 use Rattle.std.specs.List.{sum_by}
 use Rattle.boc_types.specs.declared.rows.Row.{Row}
 use Rattle.boc_types.specs.Plans.{HasEnds}

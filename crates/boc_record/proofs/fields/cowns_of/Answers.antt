@@ -1,4 +1,4 @@
-use Rattle.std.proofs.Common.{◌≡◌, ◌<◌, ◌≤◌, ◌^◌, ◌++◌, ◌∷◌, ◌∙◌, [], ap, length, arith, rules, subst, sym}
+use Rattle.std.proofs.Common.{◌≡◌, ◌<◌, ◌^◌, ◌++◌, ◌∷◌, ◌∙◌, [], ap, length, arith, rules}
 use Rattle.std.proofs.lemmas.List.{append-nil, length-append}
 use Rattle.boc_types.specs.Records.{fields}
 use Rattle.std.proofs.lemmas.Bool.Decides.{nat_tests}

@@ -1,4 +1,4 @@
-use Rattle.std.proofs.Common.{◌≡◌, ◌≤◌, ◌<◌, ◌^◌, subst, arith}
+use Rattle.std.proofs.Common.{◌≡◌, ◌<◌, ◌^◌, subst, arith}
 use Rattle.boc_record.specs.Fields.{IsFront}
 use Rattle.boc_record.proofs.Runs.{front_so_far, few_worth, no_digit}
 use Rattle.boc_record.proofs.fields.front_digits.Goals as goal

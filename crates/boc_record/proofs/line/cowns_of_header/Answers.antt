@@ -1,4 +1,4 @@
-use Rattle.std.proofs.Common.{◌≡◌, ◌<◌, length, arith}
+use Rattle.std.proofs.Common.{arith}
 use Rattle.std.proofs.lemmas.Bool.Decides.{nat_tests}
 use Rattle.boc_record.proofs.Told.{no_header}
 use Rattle.boc_record.proofs.line.cowns_of_header.Goals as goal

@@ -1,4 +1,4 @@
-use Rattle.std.proofs.Common.{◌≡◌, ◌∙◌, ◌<◌, ap, sym, length, arith}
+use Rattle.std.proofs.Common.{◌≡◌, ap, length, arith}
 use Rattle.std.proofs.lemmas.Bool.Decides.{nat_tests}
 use Rattle.boc_record.proofs.Told.{next_field, has_field, end_text}
 use Rattle.boc_record.proofs.line.end_of.Goals as goal

@@ -1,4 +1,4 @@
-use Rattle.std.proofs.Common.{◌≡◌, ap, ◌∙◌, ◌∷◌}
+use Rattle.std.proofs.Common.{ap, ◌∙◌, ◌∷◌}
 use Rattle.boc_record.proofs.Told.{judged}
 use Rattle.boc_record.proofs.line.event_of_line.Goals as goal
 

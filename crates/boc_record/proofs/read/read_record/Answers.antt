@@ -1,4 +1,4 @@
-use Rattle.std.proofs.Common.{rules, ◌≡◌, ◌++◌, ◌∷◌, [], ◌∙◌, sym, arith}
+use Rattle.std.proofs.Common.{◌≡◌, ◌++◌, ◌∷◌, [], ◌∙◌}
 use Rattle.boc_record.proofs.Known.{faulty_event, faulty_item, finished, taken_last, taken_event, accepted}
 use Rattle.boc_record.proofs.read.read_record.Goals as goal
 

@@ -1,6 +1,5 @@
-use Rattle.std.proofs.Common.{rules, ◌≡◌, ◌++◌, ◌∙◌, ap, sym, arith}
+use Rattle.std.proofs.Common.{arith}
 use Rattle.std.proofs.lemmas.Bool.Decides.{nat_tests}
-use Rattle.boc_types.specs.Records.{line, event_line}
 use Rattle.boc_record.proofs.Put.{put_field_more}
 use Rattle.boc_record.proofs.text.put_fields.Goals as goal
 

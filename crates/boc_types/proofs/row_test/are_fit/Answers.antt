@@ -1,4 +1,4 @@
-use Rattle.std.proofs.Common.{◌≡◌, ◌∙◌, ◌≤◌, ◌<◌, ℕ, length, refl, sym, arith}
+use Rattle.std.proofs.Common.{◌∙◌, refl, sym, arith}
 use Rattle.std.proofs.lemmas.List.{length-set}
 use Rattle.boc_types.specs.Rows.{IsFit}
 use Rattle.boc_types.proofs.Children.{row_read, parent_there, last_more, fit_more}

@@ -1,4 +1,4 @@
-use Rattle.std.proofs.Common.{◌≡◌, ◌<◌, ℕ, length, arith}
+use Rattle.std.proofs.Common.{◌<◌, length, arith}
 use Rattle.std.proofs.lemmas.Bool.Decides.{nat_tests}
 use Rattle.boc_types.proofs.Children.{rows_fit, rows_of_fit, zeros}
 use Rattle.boc_types.proofs.row_test.are_rows.Goals as goal

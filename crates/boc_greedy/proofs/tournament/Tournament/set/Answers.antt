@@ -23,6 +23,7 @@ loop-place-init c =
         low = low_after t.winners _ k x p r.low (omega (arith, c.ranges.tick.fits));
         won = λ i pos lt ne. (let a = above i k ne in same_winner t.winners _ k i x p (λ e. omega (arith, e, lt)) a.0 a.1 (r.won i pos lt));
       };
+      winner = sym p.at;
       placed = tick_same _ _ p.at;
       mine = ap (λ (y : Change). y.worker) p.at;
       others = λ w h ne. p.others (t.count + w) (λ e. ne (omega (arith, e)));
@@ -33,13 +34,15 @@ loop-place-preserved c =
     let i = c.loop-place.invariant in
     let t = c.loop-place.self in
     let k : ℕ = c.loop-place.place / 2 in
-    let p = replaces t.winners k c.earlier.result (omega (arith, i.won.below, i.won.whole, i.won.few)) in
-    let earlier = c.earlier.ensures ∙ earlier_read t.winners _ (2 * k) (2 * k + 1) (omega (arith, i.won.below, i.won.whole, i.won.few)) (omega (arith, i.won.below, i.won.whole, i.won.few)) in
+    let p = replaces t.winners k c.earlier-winner.result (omega (arith, i.won.below, i.won.whole, i.won.few)) in
+    let other : ℕ = c.beside.result in
+    let earlier = c.earlier-winner.ensures ∙ earlier_read t.winners _ _ c.loop-place.place other (omega (arith, c.beside.ensures.above, i.won.below, i.won.whole, i.won.few)) i.winner in
     let own : winner_at _ (t.count + c.args.worker) ≡ winner_at t.winners (t.count + c.args.worker) = p.others (t.count + c.args.worker) (λ e. omega (arith, e, i.won.below)) in
     record {
       count = i.count;
       there = i.there;
-      won = won_higher t.winners _ t.count c.loop-place.place k c.earlier.result i.won c.loop-place-test.true refl p earlier;
+      won = won_higher t.winners _ t.count c.loop-place.place other k c.earlier-winner.result i.won c.loop-place-test.true c.beside.ensures.either c.beside.ensures.above refl p earlier;
+      winner = sym p.at;
       placed = omega (arith, tick_same _ _ own, i.placed);
       mine = ap (λ (y : Change). y.worker) own ∙ i.mine;
       others = λ w h ne. p.others (t.count + w) (λ e. omega (arith, e, i.won.below)) ∙ i.others w h ne;

@@ -11,7 +11,6 @@ use Rattle.boc_greedy.specs.declared.frontier.Stage.TheVariants.{Unspawned, Wait
 use Rattle.boc_greedy.specs.Stages.{IsAt}
 use Rattle.boc_greedy.specs.Simulating.{IsOn, IsBusy, Kept}
 use Rattle.boc_greedy.proofs.Puts.{Puts, Restages, other_stage, stage_stays, not_same, under_way_unspawned, over_unspawned, over_waiting, over_under_way}
-use Rattle.boc_greedy.proofs.Standing.{there}
 
 module _ (rows : List Row) (hr : IsRows rows) (p end : ℕ) (starts workers : List ℕ) (stages : List Stage) (changes tasks children : List ℕ) (t : ℕ)
     (k : Kept rows p end starts workers stages changes tasks children t)

@@ -1,11 +1,7 @@
 -- The frontier as a row is spawned or ends, and at the beginning.
 use Rattle.std.proofs.Common.{◌≡◌, ◌≢◌, ℕ, zero, suc, ◌+◌, ◌-◌, ◌++◌, ◌<◌, ◌≤◌, ◌⊎◌, List, [], ◌∷◌, length, get_or, refl, sym, ◌∙◌, ap, subst, inl, inr, arith, replicate, get_or-set_same, get_or-set_other, length-set}
-use Rattle.std.specs.Prelude.{slice_index, slice_set, Some, None}
+use Rattle.std.specs.Prelude.{slice_index, slice_set, Some, None, ◌↔◌}
 use Rattle.std.specs.List.{Contains}
-use Rattle.std.specs.List.Sorted.{IsPermutation}
-use Rattle.std.specs.Ordering.{nat_cmp}
-use Rattle.std.specs.BinaryHeap.{IsHeap, heap_items}
-use Rattle.std.specs.declared.cmp.Reverse.{Reverse}
 use Rattle.std.proofs.lemmas.Bool.{cases_eq, cases_order}
 use Rattle.std.proofs.lemmas.List.{get_or_default, length-replicate, replicate-append-replicate}
 use Rattle.std.proofs.lemmas.Option.{slice_get_within}
@@ -15,19 +11,22 @@ use Rattle.boc_types.specs.Plans.{Ordered}
 use Rattle.boc_greedy.specs.declared.frontier.Stage.{Stage}
 use Rattle.boc_greedy.specs.declared.frontier.Stage.TheVariants.{Unspawned, Waiting, UnderWay, Over}
 use Rattle.boc_greedy.specs.declared.frontier.Frontier.{Frontier}
+use Rattle.boc_greedy.specs.declared.row_set.RowSet.{RowSet}
+use Rattle.boc_greedy.specs.RowSets.{IsRowSet, Has}
 use Rattle.boc_greedy.specs.Stages.{IsAt}
 use Rattle.boc_greedy.specs.Links.{IsNextOn, AreHeads, AreFollowing}
-use Rattle.boc_greedy.specs.Frontier.{IsHead, IsFirst, IsReady, AreQueued, IsFrontier, IsEnding, times, AreReached}
+use Rattle.boc_greedy.specs.Frontier.{IsHead, IsFirst, IsReady, AreQueued, IsFrontier, IsEnding, AreReached}
 use Rattle.boc_greedy.proofs.Linking.{rises_to, place_of, placed_at}
+use Rattle.boc_greedy.proofs.Bits.{zero_at}
 use Rattle.boc_greedy.proofs.Reaching.{reached_stays, reached_moves, reached_none}
-use Rattle.boc_greedy.proofs.Queueing.{queued_push, queued_same}
+use Rattle.boc_greedy.proofs.Queueing.{queued, queued_push, queued_same}
 use Rattle.boc_greedy.proofs.Staging.{moved, moved_same, one_stage, waiting_not_over, under_way_not_over, unspawned_not_over, waiting_not_under_way, over_not_under_way, in_rows, small_cown, clear_first, turns_stay, past_stays, head_stays, ready_stays, was_ready, over_stays}
 
 -- a row is spawned
 pub spawned : (rows : List Row) (f f' : Frontier) (row : ℕ) → IsFrontier rows f → IsAt f.stages.items row Unspawned →
     f'.stages.items ≡ slice_set f.stages.items row Waiting → f'.heads ≡ f.heads → f'.following.items ≡ f.following.items →
     AreReached rows (slice_set f.stages.items row Waiting) f.heads f'.reached.items →
-    AreQueued (IsReady rows (slice_set f.stages.items row Waiting) f.heads) (heap_items f'.ready) → IsFrontier rows f'
+    AreQueued (IsReady rows (slice_set f.stages.items row Waiting) f.heads) f'.ready → IsFrontier rows f'
 spawned rows f f' row is was es eh ef reached ready = record {
   whole = rw es (simp length-set is.whole);
   turns = rw es (turns_stay rows f.stages.items row Unspawned Waiting was unspawned_not_over (λ e. absurd (waiting_not_under_way e)) is.turns);
@@ -48,7 +47,7 @@ unspawned_out rows stages heads row was is = unspawned_not_waiting (one_stage st
 
 -- a row that is under way ends
 pub ended : (rows : List Row) (f f' : Frontier) (b : ℕ) → IsRows rows → IsFrontier rows f → IsAt f.stages.items b UnderWay →
-    f'.stages.items ≡ slice_set f.stages.items b Over → f'.heads ≡ f.heads → f'.following.items ≡ f.following.items → f'.reached.items ≡ f.reached.items → heap_items f'.ready ≡ heap_items f.ready → IsEnding rows f' b 0
+    f'.stages.items ≡ slice_set f.stages.items b Over → f'.heads ≡ f.heads → f'.following.items ≡ f.following.items → f'.reached.items ≡ f.reached.items → f'.ready ≡ f.ready → IsEnding rows f' b 0
 ended rows f f' b shape is was es eh ef ea er = record {
   whole = rw es (simp length-set is.whole);
   turns = rw es (turns_stay rows stages b UnderWay Over was under_way_not_over (λ e. absurd (over_not_under_way e)) is.turns);
@@ -61,7 +60,7 @@ ended rows f f' b shape is was es eh ef ea er = record {
   heads = λ c small none. rw (es, eh) (head_stays rows stages b UnderWay Over was under_way_not_over c (slice_index f.heads c)
       (λ _ has. (let p = place_of (cowns_of rows b) c has in none p.0 (omega arith) p.1 p.2)) (is.heads c small));
   reached = rw (es, eh, ea) (reached_stays rows stages (slice_set stages b Over) f.heads f.reached.items (over_stays rows stages b UnderWay Over was under_way_not_over) is.reached);
-  ready = rw (es, eh, er) (queued_same (IsReady rows stages f.heads) (IsReady rows (slice_set stages b Over) f.heads) (heap_items f.ready) is.ready
+  ready = rw (es, eh, er) (queued_same (IsReady rows stages f.heads) (IsReady rows (slice_set stages b Over) f.heads) f.ready is.ready
       (λ r m. ready_stays rows stages b UnderWay Over was under_way_not_over f.heads r
       (λ e. waiting_not_under_way (one_stage stages b Waiting UnderWay (subst (λ (x : ℕ). IsAt stages x Waiting) e m.waits) was)) m)
       (λ r m. was_ready rows stages b UnderWay Over was under_way_not_over f.heads r
@@ -160,18 +159,15 @@ module _ (rows : List Row) (f : Frontier) (b k c next : ℕ) (shape : IsRows row
       let h : slice_index f.heads c ≡ next = m.first c (nx.has there) in
       omega (arith, nx.low, was_head)
 
-  pub next_pushed : (x : Reverse ℕ) (ready' : List (Reverse ℕ)) → x.0 ≡ next → IsPermutation (x ∷ heap_items f.ready) ready' → IsHeap (λ x y. nat_cmp y.0 x.0) ready' →
+  pub next_pushed : (ready' : RowSet) → IsRowSet ready' → ((r : ℕ) → Has ready' r ↔ (Has f.ready r ⊎ (r ≡ next))) →
       IsReady rows f.stages.items (slice_set f.heads c next) next → AreQueued (IsReady rows f.stages.items (slice_set f.heads c next)) ready'
-  next_pushed x ready' e p heap now =
-      queued_push (IsReady rows f.stages.items f.heads) (IsReady rows f.stages.items (slice_set f.heads c next)) x (heap_items f.ready) ready' is.ready p heap
-      (λ m. was_out (subst (IsReady rows f.stages.items f.heads) e m))
-      (subst (IsReady rows f.stages.items (slice_set f.heads c next)) (sym e) now)
-      (λ r n. stays_ready r (λ g. n (g ∙ sym e)))
-      (λ r n. was_too r (λ g. n (g ∙ sym e)))
+  next_pushed ready' set more now =
+      queued_push (IsReady rows f.stages.items f.heads) (IsReady rows f.stages.items (slice_set f.heads c next)) next f.ready ready' is.ready set more now
+      stays_ready was_too
 
-  next_waits : (IsReady rows f.stages.items (slice_set f.heads c next) next → ⊥) → AreQueued (IsReady rows f.stages.items (slice_set f.heads c next)) (heap_items f.ready)
+  next_waits : (IsReady rows f.stages.items (slice_set f.heads c next) next → ⊥) → AreQueued (IsReady rows f.stages.items (slice_set f.heads c next)) f.ready
   next_waits out =
-      queued_same (IsReady rows f.stages.items f.heads) (IsReady rows f.stages.items (slice_set f.heads c next)) (heap_items f.ready) is.ready
+      queued_same (IsReady rows f.stages.items f.heads) (IsReady rows f.stages.items (slice_set f.heads c next)) f.ready is.ready
       (λ r m. stays_ready r (λ g. was_out (subst (IsReady rows f.stages.items f.heads) g m)) m)
       (λ r m. was_too r (λ g. out (subst (IsReady rows f.stages.items (slice_set f.heads c next)) g m)) m)
 
@@ -180,7 +176,7 @@ module _ (rows : List Row) (f : Frontier) (b k c next : ℕ) (shape : IsRows row
 
   pub advanced : (f' : Frontier) → f'.stages.items ≡ f.stages.items → f'.heads ≡ slice_set f.heads c next → f'.following.items ≡ f.following.items →
       AreReached rows f.stages.items (slice_set f.heads c next) f'.reached.items →
-      AreQueued (IsReady rows f.stages.items (slice_set f.heads c next)) (heap_items f'.ready) → IsEnding rows f' b (suc k)
+      AreQueued (IsReady rows f.stages.items (slice_set f.heads c next)) f'.ready → IsEnding rows f' b (suc k)
   advanced f' es eh ef reached ready = record {
     whole = rw es is.whole;
     turns = rw es is.turns;
@@ -205,22 +201,9 @@ module _ (rows : List Row) (f : Frontier) (b k c next : ℕ) (shape : IsRows row
   }
 
   pub passed_by : (f' : Frontier) → f'.stages.items ≡ f.stages.items → f'.heads ≡ slice_set f.heads c next → f'.following.items ≡ f.following.items →
-      AreReached rows f.stages.items (slice_set f.heads c next) f'.reached.items → heap_items f'.ready ≡ heap_items f.ready →
+      AreReached rows f.stages.items (slice_set f.heads c next) f'.reached.items → f'.ready ≡ f.ready →
       (IsReady rows f.stages.items (slice_set f.heads c next) next → ⊥) → IsEnding rows f' b (suc k)
   passed_by f' es eh ef reached er out = advanced f' es eh ef reached (rw er (next_waits out))
-
-zero_at : (n r : ℕ) → slice_index (replicate n 0) r ≡ 0
-zero_at zero r = refl
-zero_at (suc n) zero = refl
-zero_at (suc n) (suc r) = zero_at n r
-
-nothing_queued : (none : List (Reverse ℕ)) → none ≡ [] → IsHeap (λ x y. nat_cmp y.0 x.0) none → AreQueued (λ _. ⊥) none
-nothing_queued none e heap = record {
-  sound = λ r l. (let h : 0 < times r [] = subst (λ (xs : List (Reverse ℕ)). 0 < times r xs) e l in omega arith);
-  once = λ r. rw e (omega arith);
-  all = λ r l. absurd l;
-  in_order = heap;
-}
 
 -- at the beginning main waits, and no other row is spawned
 spawned_none : (m k : ℕ) (s : Stage) → IsAt (replicate m Unspawned) k s → Unspawned ≡ s
@@ -238,11 +221,11 @@ none_under_way m k e = elim (main_alone m k UnderWay e) [ inl p ↦ waiting_not_
 none_over : (m k : ℕ) → IsAt (Waiting ∷ replicate m Unspawned) k Over → ⊥
 none_over m k e = elim (main_alone m k Over e) [ inl p ↦ waiting_not_over p.1 | inr p ↦ unspawned_not_over p ]
 
-pub begun : (rows : List Row) (f : Frontier) (m : ℕ) (x : Reverse ℕ) (none : List (Reverse ℕ)) → IsRows rows →
+pub begun : (rows : List Row) (f : Frontier) (m : ℕ) (none : RowSet) → IsRows rows →
     f.stages.items ≡ Waiting ∷ replicate m Unspawned → m + 1 ≡ length rows →
-    AreHeads rows 0 f.heads → AreFollowing rows f.following.items → f.reached.items ≡ replicate (m + 1) 0 → x.0 ≡ 0 → none ≡ [] →
-    IsPermutation (x ∷ none) (heap_items f.ready) → IsHeap (λ x y. nat_cmp y.0 x.0) none → IsHeap (λ x y. nat_cmp y.0 x.0) (heap_items f.ready) → IsFrontier rows f
-begun rows f m x none shape es all are following zeros e is_none p before heap = record {
+    AreHeads rows 0 f.heads → AreFollowing rows f.following.items → f.reached.items ≡ replicate (m + 1) 0 →
+    IsRowSet none → ((r : ℕ) → Has none r → ⊥) → IsRowSet f.ready → ((r : ℕ) → Has f.ready r ↔ (Has none r ⊎ (r ≡ 0))) → IsFrontier rows f
+begun rows f m none shape es all are following zeros none_set empty set main = record {
   whole = rw es (omega (arith, length-replicate m Unspawned));
   turns = rw es (λ r u. absurd (none_under_way m r u));
   past = rw es (λ r o. absurd (none_over m r o));
@@ -258,14 +241,14 @@ begun rows f m x none shape es all are following zeros e is_none p before heap =
       }));
   reached = reached_none rows f.stages.items f.heads f.reached.items (rw zeros (omega (arith, length-replicate {A = ℕ} (m + 1) 0)))
       (λ r. rw zeros (zero_at (m + 1) r));
-  ready = rw es (queued_push (λ _. ⊥) (IsReady rows (Waiting ∷ replicate m Unspawned) f.heads) x none (heap_items f.ready)
-      (nothing_queued none is_none before) p heap (λ h. h)
-      (subst (IsReady rows (Waiting ∷ replicate m Unspawned) f.heads) (sym e) (record {
+  ready = rw es (queued_push (λ _. ⊥) (IsReady rows (Waiting ∷ replicate m Unspawned) f.heads) 0 none f.ready
+      (queued (λ _. ⊥) none none_set (λ r. (empty r, (λ h. absurd h)))) set main
+      (record {
         waits = refl;
         first = λ c has. (let h : Contains [] c = subst (λ (xs : List ℕ). Contains xs c) shape.main_cowns has in absurd (omega (arith, h.1)));
-      }))
+      })
       (λ r n h. absurd h)
-      (λ r n h. elim (main_alone m r Waiting h.waits) [ inl q ↦ n (q.0 ∙ sym e) | inr q ↦ unspawned_not_waiting q ]));
+      (λ r n h. elim (main_alone m r Waiting h.waits) [ inl q ↦ n q.0 | inr q ↦ unspawned_not_waiting q ]));
 }
 
 -- one more row that isn't spawned

@@ -1,4 +1,5 @@
 pub mod Linking
+pub mod Bits
 pub mod Queueing
 pub mod Staging
 pub mod Reaching

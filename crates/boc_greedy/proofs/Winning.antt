@@ -1,12 +1,12 @@
 -- The winners of a tournament, after one change.
 use Rattle.std.proofs.Common.{◌≡◌, ◌≢◌, ℕ, zero, suc, replicate, ◌+◌, ◌*◌, ◌/◌, ◌-◌, ◌<◌, ◌≤◌, ◌⊎◌, Bool, true, false, List, length, set, get_or, refl, sym, ap, subst, ◌∙◌, inl, inr, arith, get_or-set_same, get_or-set_other, length-set}
 use Rattle.std.proofs.lemmas.List.{length-replicate, get_or-replicate, get_or_default, get_or_past}
-use Rattle.std.specs.Prelude.{nat_lt, if◌then◌else◌, slice_index}
+use Rattle.std.specs.Prelude.{nat_lt}
 use Rattle.std.proofs.lemmas.Bool.{cases_lt, cases_eq}
 use Rattle.boc_greedy.specs.declared.tournament.Change.{Change}
 use Rattle.boc_greedy.specs.declared.tournament.Tournament.{Tournament}
 use Rattle.boc_greedy.specs.Simulating.{later}
-use Rattle.boc_greedy.specs.Tournaments.{none, winner_at, earlier_of, change_at, IsWinner, IsTournament}
+use Rattle.boc_greedy.specs.Tournaments.{none, winner_at, earlier_of, IsWinner, IsTournament}
 
 -- ys is xs, with another change at a place
 pub record Replaces (xs ys : List Change) (k : ℕ) (x : Change) : Type 0 where

@@ -1,15 +1,14 @@
 -- What is kept to find the rows that can start.
-use Rattle.std.specs.Prelude.{◌≡◌, ◌≢◌, ℕ, ◌<◌, ◌≤◌, ◌==◌, if◌then◌else◌, List, length, slice_index}
-use Rattle.std.specs.List.{Contains, sum_by}
-use Rattle.std.specs.Ordering.{nat_cmp}
-use Rattle.std.specs.BinaryHeap.{IsHeap, heap_items}
-use Rattle.std.specs.declared.cmp.Reverse.{Reverse}
+use Rattle.std.specs.Prelude.{◌≡◌, ◌≢◌, ℕ, ◌<◌, ◌≤◌, ◌↔◌, List, length, slice_index}
+use Rattle.std.specs.List.{Contains}
 use Rattle.boc_types.specs.declared.rows.Row.{Row}
 use Rattle.boc_types.specs.Rows.{cowns_of}
 use Rattle.boc_types.specs.Plans.{Ordered}
 use Rattle.boc_greedy.specs.declared.frontier.Stage.{Stage}
 use Rattle.boc_greedy.specs.declared.frontier.Stage.TheVariants.{Waiting, UnderWay, Over}
 use Rattle.boc_greedy.specs.declared.frontier.Frontier.{Frontier}
+use Rattle.boc_greedy.specs.declared.row_set.RowSet.{RowSet}
+use Rattle.boc_greedy.specs.RowSets.{IsRowSet, Has}
 use Rattle.boc_greedy.specs.Stages.{IsAt}
 use Rattle.boc_greedy.specs.Links.{AreFollowing}
 
@@ -29,16 +28,9 @@ pub record IsReady (rows : List Row) (stages : List Stage) (heads : List ℕ) (r
   pub waits : IsAt stages r Waiting
   pub first : IsFirst rows heads r
 
--- how many times a row stands in a heap
-abbrev pub times : ℕ → List (Reverse ℕ) → ℕ
-times r ready = sum_by (λ x. if x.0 == r then 1 else 0) ready
-
--- the rows of a set stand in the heap, once each, and no other row does; the least is at the top
-pub record AreQueued (Is : ℕ → Type 0) (ready : List (Reverse ℕ)) : Type 0 where
-  pub sound : (r : ℕ) → 0 < times r ready → Is r
-  pub once : (r : ℕ) → times r ready ≤ 1
-  pub all : (r : ℕ) → Is r → 0 < times r ready
-  pub in_order : IsHeap (λ x y. nat_cmp y.0 x.0) ready
+-- the set has these rows, and no other row
+unfoldable pub AreQueued : (ℕ → Type 0) → RowSet → Type 0
+AreQueued Is ready = IsRowSet ready × ((r : ℕ) → Has ready r ↔ Is r)
 
 -- each row that isn't over is the head of some of its first cowns, at least so many
 pub record AreReached (rows : List Row) (stages : List Stage) (heads reached : List ℕ) : Type 0 where
@@ -55,7 +47,7 @@ pub record IsFrontier (rows : List Row) (f : Frontier) : Type 0 where
   pub room : length f.heads ≡ 256
   pub heads : (c : ℕ) → c < 256 → IsHead rows f.stages.items c (slice_index f.heads c)
   pub reached : AreReached rows f.stages.items f.heads f.reached.items
-  pub ready : AreQueued (IsReady rows f.stages.items f.heads) (heap_items f.ready)
+  pub ready : AreQueued (IsReady rows f.stages.items f.heads) f.ready
 
 -- row b has ended, and is no longer the head of its first k cowns, but still of the others
 pub record IsEnding (rows : List Row) (f : Frontier) (b k : ℕ) : Type 0 where
@@ -70,4 +62,4 @@ pub record IsEnding (rows : List Row) (f : Frontier) (b k : ℕ) : Type 0 where
   pub heads : (c : ℕ) → c < 256 → ((i : ℕ) → k ≤ i → i < length (cowns_of rows b) → slice_index (cowns_of rows b) i ≢ c) →
       IsHead rows f.stages.items c (slice_index f.heads c)
   pub reached : AreReached rows f.stages.items f.heads f.reached.items
-  pub ready : AreQueued (IsReady rows f.stages.items f.heads) (heap_items f.ready)
+  pub ready : AreQueued (IsReady rows f.stages.items f.heads) f.ready

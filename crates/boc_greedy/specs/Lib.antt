@@ -1,5 +1,6 @@
 pub mod Stages
 pub mod Links
+pub mod RowSets
 pub mod Frontier
 pub mod Families
 pub mod Simulating

@@ -1,10 +1,9 @@
 // Which rows can start, as rows are spawned, start and end.
 
 use crate::links::{Heads, Links, Next, link};
+use crate::row_set::RowSet;
 use boc_types::rows::Row;
 use std::alloc::{AllocError, Global};
-use std::cmp::Reverse;
-use std::collections::BinaryHeap;
 
 /// How far a row is.
 #[derive(Clone, Copy, PartialEq, Eq)]
@@ -30,8 +29,8 @@ pub struct Frontier {
     following: Vec<Next>,
     /// Of how many of its first cowns each row was found to be the head. These are not looked at again.
     reached: Vec<u8>,
-    /// The rows that wait and are at the head of each of their cowns, the least on top.
-    ready: BinaryHeap<Reverse<u32>>,
+    /// The rows that wait and are at the head of each of their cowns.
+    ready: RowSet,
 }
 
 impl Frontier {
@@ -40,7 +39,6 @@ impl Frontier {
     ghost use Rattle.boc_greedy.specs.declared.frontier.Stage.TheVariants.{Unspawned, Waiting, UnderWay, Over};
     ghost use Rattle.boc_greedy.specs.Stages.{IsAt, CanStart};
     ghost use Rattle.boc_greedy.specs.Frontier.{IsFrontier, IsEnding, IsFirst, AreReached};
-    ghost use Rattle.std.specs.BinaryHeap.{heap_items};
 
     /// Main waits, and no other row is spawned.
     pub fn new(alloc: Global, rows: &[Row]) -> Result<Frontier, AllocError>
@@ -49,16 +47,16 @@ impl Frontier {
         ensures stages { IfOk result (λ f. f.stages.items ≡ Waiting ∷ replicate (pred (length rows.now)) Unspawned) }
     {
         let Links { heads, following } = link(alloc, rows)?;
-        let mut stages = Vec::new(alloc);
-        let mut reached = Vec::new(alloc);
+        let mut stages = Vec::with_capacity(alloc, rows.len())?;
+        let mut reached = Vec::with_capacity(alloc, rows.len())?;
         stages.push(Stage::Waiting)?;
         reached.push(0)?;
         for _ in 1..rows.len() {
             stages.push(Stage::Unspawned)?;
             reached.push(0)?;
         }
-        let mut ready = BinaryHeap::new(alloc);
-        ready.push(Reverse(0))?;
+        let mut ready = RowSet::new(alloc)?;
+        ready.insert(0);
         Ok(Frontier {
             stages,
             heads,
@@ -78,7 +76,7 @@ impl Frontier {
     {
         self.stages[row as usize] = Stage::Waiting;
         if self.reaches_all(rows, row) {
-            self.ready.push(Reverse(row))?;
+            self.ready.insert(row);
         }
         Ok(())
     }
@@ -94,13 +92,9 @@ impl Frontier {
         ensures none { IfNone result ((row : ℕ) → CanStart rows.now self.old.stages.items row → ⊥) }
         ensures unchanged { IfNone result (self.new.stages.items ≡ self.old.stages.items) }
     {
-        match self.ready.pop() {
-            Some(Reverse(row)) => {
-                self.stages[row as usize] = Stage::UnderWay;
-                Some(row)
-            }
-            None => None,
-        }
+        let row = self.ready.take_least()?;
+        self.stages[row as usize] = Stage::UnderWay;
+        Some(row)
     }
 
     /// A row that is under way ends.
@@ -113,17 +107,17 @@ impl Frontier {
     {
         self.stages[row as usize] = Stage::Over;
         for k in 0..rows[row as usize].cowns.len() {
-            self.advance(rows, row, k)?;
+            self.advance(rows, row, k);
         }
         Ok(())
     }
 
     // The next row on the k-th cown of a row that has ended becomes the cown's head, and may be ready by it.
-    fn advance(&mut self, rows: &[Row], row: u32, k: usize) -> Result<(), AllocError>
+    fn advance(&mut self, rows: &[Row], row: u32, k: usize)
         requires shape { IsRows rows.now }
         requires ending { IsEnding rows.now self.old row k }
         requires within { k < length (cowns_of rows.now row) }
-        ensures ending { OnOk result (IsEnding rows.now self.new row (suc k)) }
+        ensures ending { IsEnding rows.now self.new row (suc k) }
         ensures stages { self.new.stages.items ≡ self.old.stages.items }
     {
         let cowns = rows[row as usize].cowns.as_slice();
@@ -133,9 +127,8 @@ impl Frontier {
             && self.stages[next as usize] == Stage::Waiting
             && self.reaches_all(rows, next)
         {
-            self.ready.push(Reverse(next))?;
+            self.ready.insert(next);
         }
-        Ok(())
     }
 
     // Whether a row that waits is the head of each of its cowns. It looks at them from where it stopped before.
@@ -149,7 +142,7 @@ impl Frontier {
         ensures stages { self.new.stages.items ≡ self.old.stages.items }
         ensures heads { self.new.heads ≡ self.old.heads }
         ensures following { self.new.following.items ≡ self.old.following.items }
-        ensures ready { heap_items self.new.ready ≡ heap_items self.old.ready }
+        ensures ready { self.new.ready ≡ self.old.ready }
     {
         let cowns = rows[row as usize].cowns.as_slice();
         let mut reached = self.reached[row as usize];

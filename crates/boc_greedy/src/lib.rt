@@ -1,7 +1,7 @@
 //! What p workers would make of some rows: the greedy plan, and the tick by which it has ended.
 //!
 //! The simulation jumps from one tick at which something can change to the next. Its time grows with the number of
-//! rows and of their cowns, and for each row with the logarithm of the number of rows.
+//! rows and of their cowns.
 #![tactic(auto)]
 
 mod children;
@@ -9,6 +9,7 @@ mod entry;
 mod frontier;
 mod links;
 mod report;
+mod row_set;
 mod simulate;
 mod simulation;
 #[cfg(test)]

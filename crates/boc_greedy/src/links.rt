@@ -52,7 +52,7 @@ pub fn link(alloc: Global, rows: &[Row]) -> Result<Links, AllocError>
 {
     let none = rows.len() as u32;
     let mut heads = [none; 256];
-    let mut following = Vec::new(alloc);
+    let mut following = Vec::with_capacity(alloc, rows.len())?;
     let mut row = none;
     while row > 0 {
         row -= 1;

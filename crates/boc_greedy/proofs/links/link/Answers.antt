@@ -8,7 +8,7 @@ pub loop-row-init : goal.loop-row-init
 loop-row-init c = record {
   within = omega arith;
   heads = no_heads _ _ (length-replicate 256 (length c.args.rows.now)) (λ cown l. get_or-replicate 256 cown (length c.args.rows.now) 0 l);
-  linked = linked_none _ _ c.new-following.ensures.items;
+  linked = linked_none _ _ c.in_ok-following.ensures.items;
 }
 
 pub put_before-requires-clause-small : goal.put_before-requires-clause-small

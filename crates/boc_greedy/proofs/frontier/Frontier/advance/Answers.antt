@@ -8,10 +8,10 @@ use Rattle.boc_greedy.specs.Frontier.{IsEnding}
 use Rattle.boc_greedy.specs.Stages.{IsAt}
 use Rattle.std.proofs.Common.{suc, rules, ◌≡◌, ◌<◌, ℕ, List, true, false, length, get_or, refl, sym, subst, ap, ◌∙◌, arith}
 use Rattle.std.specs.Prelude.{slice_index}
-use Rattle.std.specs.BinaryHeap.{heap_items}
 use Rattle.boc_types.specs.Rows.{cowns_of}
 use Rattle.boc_greedy.proofs.Linking.{read_cowns, placed_at}
 use Rattle.boc_greedy.proofs.Staging.{in_rows}
+use Rattle.boc_greedy.proofs.Queueing.{queued_set}
 use Rattle.boc_greedy.proofs.HeadMoving.{advanced, still_reached, next_read, next_pushed, passed_by}
 use Rattle.boc_greedy.proofs.frontier.Frontier.advance.Goals as goal
 use Rattle.boc_greedy.proofs.frontier.Frontier.advance.Goals.{else-next-rows-via-then-next-rows+then-eq+else-reaches_all, else-next-rows-via-then-next-rows+else-eq, else-next-rows-via-else-next-rows}
@@ -41,8 +41,11 @@ reaches_all-requires-clause-reached c =
     let at = ap (λ (xs : List ℕ). slice_index xs k) read in
     still_reached rows f row k (slice_index cowns k) (slice_index links k) shape is within at nx
 
-pub returns-in_ok-push-clause-ending : goal.returns-in_ok-push-clause-ending
-returns-in_ok-push-clause-ending c =
+pub insert-requires-clause-set : goal.insert-requires-clause-set
+insert-requires-clause-set c = rw c.reaches_all.ensures.ready (queued_set _ _ c.requires.ending.ready)
+
+pub returns-then-reaches_all-clause-ending : goal.returns-then-reaches_all-clause-ending
+returns-then-reaches_all-clause-ending c =
     let rows = c.args.rows.now in
     let f = c.args.self.now in
     let row : ℕ = c.args.row in
@@ -58,8 +61,7 @@ returns-in_ok-push-clause-ending c =
     let at = ap (λ (xs : List ℕ). slice_index xs k) read in
     let same = c.reaches_all.ensures in
     advanced rows f row k (slice_index cowns k) (slice_index links k) shape is within at nx _ same.stages same.heads same.following same.reached
-    (next_pushed rows f row k (slice_index cowns k) (slice_index links k) shape is within at nx _ (heap_items c.push.new.self) refl
-    (rw same.ready at c.in_ok-push.ensures.permutation) (c.in_ok-push.ensures.heap_order (rw same.ready is.ready.in_order))
+    (next_pushed rows f row k (slice_index cowns k) (slice_index links k) shape is within at nx c.insert.new.self c.insert.ensures.set (rw same.ready at c.insert.ensures.rows)
     (record {
       waits = read_waits f.stages.items (slice_index links k) c.index-then-next-rows.result.now (omega (arith, is.whole)) c.index-then-next-rows.ensures (same_true the_type (search rules) _ _ (sym c.if-eq.ensures));
       first = c.if-reaches_all.ensures.first.0 refl;

@@ -1,4 +1,4 @@
-use Rattle.std.proofs.Common.{length, refl, ap, arith}
+use Rattle.std.proofs.Common.{◌≡◌, suc, ◌+◌, length, refl, ap, ◌∙◌, arith}
 use Rattle.std.proofs.lemmas.Option.{slice_get_within}
 use Rattle.boc_greedy.specs.declared.frontier.Stage.TheVariants.{UnderWay}
 use Rattle.boc_greedy.proofs.Linking.{read_cowns}
@@ -16,6 +16,14 @@ advance-requires-clause-within c =
     let there = slice_get_within c.args.self.now.stages.items c.args.row UnderWay c.requires.under_way in
     let read = read_cowns c.args.rows.now c.args.row c.index-rows-row.result _ (omega (arith, c.requires.frontier.whole)) refl in
     omega (arith, ap length read, c.len-k-end.ensures.value)
+
+pub loop-k-preserved : goal.loop-k-preserved
+loop-k-preserved c =
+    let next : c.loop-k.k + 1 ≡ suc c.loop-k.k = omega arith in
+    record {
+      ending = rw next c.advance.ensures.ending;
+      stages = c.advance.ensures.stages ∙ c.loop-k.invariant.stages;
+    }
 
 pub returns-clause-kept : goal.returns-clause-kept
 returns-clause-kept c =

@@ -1,6 +1,5 @@
-use Rattle.std.proofs.Common.{◌≡◌, ℕ, ◌+◌, ◌-◌, List, [], ◌∷◌, ◌++◌, ◌∙◌, ap, refl, arith, replicate}
+use Rattle.std.proofs.Common.{◌≡◌, ℕ, ◌+◌, ◌-◌, List, [], ◌∷◌, ◌++◌, ◌∙◌, ap, arith, replicate}
 use Rattle.std.proofs.lemmas.List.{replicate-append-replicate}
-use Rattle.std.specs.BinaryHeap.{heap_items}
 use Rattle.boc_greedy.proofs.HeadMoving.{begun, one_more}
 use Rattle.boc_greedy.proofs.frontier.Frontier.new.Goals as goal
 
@@ -12,6 +11,6 @@ loop-preserved c = record {
 
 pub returns-clause-kept : goal.returns-clause-kept
 returns-clause-kept c =
-    begun c.args.rows.now _ (c.loop.counter - 1) _ (heap_items c.new-ready.result) c.requires c.loop.invariant.stages (omega (arith, c.loop.auto.counter, c.requires.not_empty))
-    c.in_ok-heads.ensures.heads c.in_ok-heads.ensures.following (c.loop.invariant.reached ∙ ap (λ (n : ℕ). replicate n 0) (let e : c.loop.counter ≡ c.loop.counter - 1 + 1 = omega (arith, c.loop.auto.counter) in e)) refl c.new-ready.ensures.items
-    c.in_ok-push-5.ensures.permutation c.new-ready.ensures.heap_order (c.in_ok-push-5.ensures.heap_order c.new-ready.ensures.heap_order)
+    begun c.args.rows.now _ (c.loop.counter - 1) _ c.requires c.loop.invariant.stages (omega (arith, c.loop.auto.counter, c.requires.not_empty))
+    c.in_ok-heads.ensures.heads c.in_ok-heads.ensures.following (c.loop.invariant.reached ∙ ap (λ (n : ℕ). replicate n 0) (let e : c.loop.counter ≡ c.loop.counter - 1 + 1 = omega (arith, c.loop.auto.counter) in e))
+    c.in_ok-ready.ensures.set c.in_ok-ready.ensures.rows c.insert.ensures.set c.insert.ensures.rows

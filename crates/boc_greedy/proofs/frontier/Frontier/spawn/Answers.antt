@@ -1,11 +1,10 @@
 use Rattle.std.proofs.Common.{◌≡◌, true, false, refl, subst, arith}
 use Rattle.std.specs.Prelude.{slice_set}
-use Rattle.std.specs.BinaryHeap.{heap_items}
 use Rattle.std.proofs.lemmas.Option.{slice_get_within}
 use Rattle.boc_greedy.proofs.Reaching.{reached_stays}
 use Rattle.boc_greedy.specs.declared.frontier.Stage.TheVariants.{Unspawned, Waiting}
 use Rattle.boc_greedy.specs.Frontier.{IsReady}
-use Rattle.boc_greedy.proofs.Queueing.{queued_push, queued_same}
+use Rattle.boc_greedy.proofs.Queueing.{queued_set, queued_push, queued_same}
 use Rattle.boc_greedy.proofs.Staging.{moved_same, ready_stays, was_ready, unspawned_not_over, over_stays}
 use Rattle.boc_greedy.proofs.HeadMoving.{spawned, unspawned_out}
 use Rattle.boc_greedy.proofs.frontier.Frontier.spawn.Goals as goal
@@ -23,8 +22,14 @@ reaches_all-requires-clause-reached c =
     reached_stays c.args.rows.now f.stages.items (slice_set f.stages.items row Waiting) f.heads f.reached.items
     (over_stays c.args.rows.now f.stages.items row Unspawned Waiting c.requires.unspawned unspawned_not_over) c.requires.frontier.reached
 
-pub returns-in_ok-push-clause-kept : goal.returns-in_ok-push-clause-kept
-returns-in_ok-push-clause-kept c =
+pub insert-requires-clause-set : goal.insert-requires-clause-set
+insert-requires-clause-set c = rw c.reaches_all.ensures.ready (queued_set _ _ c.requires.frontier.ready)
+
+pub insert-requires-clause-small : goal.insert-requires-clause-small
+insert-requires-clause-small c = omega (arith, slice_get_within c.args.self.now.stages.items c.args.row Unspawned c.requires.unspawned, c.requires.frontier.whole, c.requires.shape.not_many)
+
+pub returns-then-reaches_all-clause-kept : goal.returns-then-reaches_all-clause-kept
+returns-then-reaches_all-clause-kept c =
     let rows = c.args.rows.now in
     let f = c.args.self.now in
     let stages = f.stages.items in
@@ -32,9 +37,8 @@ returns-in_ok-push-clause-kept c =
     let was = c.requires.unspawned in
     let same = c.reaches_all.ensures in
     spawned rows f _ row c.requires.frontier was same.stages same.heads same.following same.reached
-    (queued_push (IsReady rows stages f.heads) (IsReady rows (slice_set stages row Waiting) f.heads) _ (heap_items f.ready) (heap_items c.push.new.self) c.requires.frontier.ready
-    (rw same.ready at c.in_ok-push.ensures.permutation) (c.in_ok-push.ensures.heap_order (rw same.ready c.requires.frontier.ready.in_order))
-    (unspawned_out rows stages f.heads row was)
+    (queued_push (IsReady rows stages f.heads) (IsReady rows (slice_set stages row Waiting) f.heads) row f.ready c.insert.new.self c.requires.frontier.ready
+    c.insert.ensures.set (rw same.ready at c.insert.ensures.rows)
     (record { waits = moved_same stages row Waiting Unspawned was; first = c.if-reaches_all.ensures.first.0 refl })
     (ready_stays rows stages row Unspawned Waiting was unspawned_not_over f.heads)
     (was_ready rows stages row Unspawned Waiting was unspawned_not_over f.heads))
@@ -49,7 +53,7 @@ returns-else-reaches_all-clause-kept c =
     let same = c.reaches_all.ensures in
     spawned rows f _ row c.requires.frontier was same.stages same.heads same.following same.reached
     (rw same.ready
-    (queued_same (IsReady rows stages f.heads) (IsReady rows (slice_set stages row Waiting) f.heads) (heap_items f.ready) c.requires.frontier.ready
+    (queued_same (IsReady rows stages f.heads) (IsReady rows (slice_set stages row Waiting) f.heads) f.ready c.requires.frontier.ready
     (λ r m. ready_stays rows stages row Unspawned Waiting was unspawned_not_over f.heads r (λ e. unspawned_out rows stages f.heads row was (subst (IsReady rows stages f.heads) e m)) m)
     (λ r m. was_ready rows stages row Unspawned Waiting was unspawned_not_over f.heads r
     (λ e. (let t : false ≡ true = c.if-reaches_all.ensures.first.1 (subst (IsReady rows (slice_set stages row Waiting) f.heads) e m).first in cc)) m)))

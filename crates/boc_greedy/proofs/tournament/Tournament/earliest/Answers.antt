@@ -1,7 +1,7 @@
-use Rattle.std.proofs.Common.{◌≡◌, ℕ, ◌+◌, ◌*◌, ◌<◌, ap, sym, subst, arith}
+use Rattle.std.proofs.Common.{◌+◌, ◌<◌, sym, subst, arith}
 use Rattle.boc_greedy.specs.declared.tournament.Change.{Change}
 use Rattle.boc_greedy.specs.Simulating.{later}
-use Rattle.boc_greedy.specs.Tournaments.{winner_at, change_at, IsEarliest}
+use Rattle.boc_greedy.specs.Tournaments.{winner_at, IsEarliest}
 use Rattle.boc_greedy.proofs.Winning.{first_read, tick_same, root_least, root_own}
 use Rattle.boc_greedy.proofs.tournament.Tournament.earliest.Goals as goal
 

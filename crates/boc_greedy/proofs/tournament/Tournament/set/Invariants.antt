@@ -1,5 +1,4 @@
-use Rattle.std.proofs.Common.{◌≡◌, ◌≢◌, ℕ, ◌+◌, ◌<◌, ◌≤◌}
-use Rattle.boc_greedy.specs.Simulating.{later}
+use Rattle.std.proofs.Common.{◌≡◌, ◌≢◌, ℕ, ◌+◌, ◌<◌}
 use Rattle.boc_greedy.specs.Tournaments.{change_at, winner_at}
 use Rattle.boc_greedy.proofs.Winning.{WonBut}
 use Rattle.boc_greedy.proofs.tournament.Tournament.set.Given as goal

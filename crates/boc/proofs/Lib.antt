@@ -1,0 +1,3 @@
+pub mod Unfit
+pub mod Asked
+pub mod EditWord

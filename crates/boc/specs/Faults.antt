@@ -16,8 +16,10 @@ use Rattle.boc_reader.specs.declared.fault.ReadFaultKind.TheVariants as kinds
 -- the status of the program: refused words, input and runs, and want of memory or of a device
 abbrev pub status_of : Fault → ℕ
 status_of (faults.Words e) = 2
+status_of (faults.EditWord number) = 2
 status_of (faults.Program r) = 3
 status_of (faults.Record r) = 3
+status_of (faults.Edit number fault) = 3
 status_of faults.Behaviours = 4
 status_of faults.Memory = 5
 status_of faults.Source = 5
@@ -27,8 +29,10 @@ status_of (faults.Sink gone) = 5
 abbrev pub gone_of : Fault → Option ℕ
 gone_of (faults.Sink gone) = Some gone
 gone_of (faults.Words e) = None
+gone_of (faults.EditWord number) = None
 gone_of (faults.Program r) = None
 gone_of (faults.Record r) = None
+gone_of (faults.Edit number fault) = None
 gone_of faults.Behaviours = None
 gone_of faults.Memory = None
 gone_of faults.Source = None

@@ -4,6 +4,7 @@ use boc_eval::SerialFault;
 use boc_reader::{ReadFault, ReadFaultKind};
 use boc_record::RecordFault;
 use boc_text::{Stopped, TextFault};
+use boc_types::edit::EditFault;
 use boc_types::verdict::RecordFaultKind;
 use std::alloc::{AllocError, AllocFailed, Global};
 use thiserror::Error;
@@ -14,12 +15,19 @@ pub enum Fault {
     /// The words of the command line, with the parser's own text.
     #[error("{0}")]
     Words(clap::Error),
+
+    /// A word that should be an edit, `ROW=TICKS`, and is none; edits are counted from 1.
+    #[error("boc: edit {number}: not ROW=TICKS")]
+    EditWord { number: usize },
     /// The program text.
     #[error("boc: {0}")]
     Program(ReadFault),
     /// The text of a record.
     #[error("boc: {0}")]
     Record(RecordFault),
+    /// An edit that the rows can't take, counted from 1.
+    #[error("boc: edit {number}: {}", edit_fault_text(*.fault))]
+    Edit { number: usize, fault: EditFault },
     /// The serial run would need more behaviours than a run may have.
     #[error("boc: run: 2 Behaviours")]
     Behaviours,
@@ -44,8 +52,8 @@ impl Fault {
         ensures { result ≡ status_of self.now }
     {
         match self {
-            Fault::Words(_) => 2,
-            Fault::Program(_) | Fault::Record(_) => 3,
+            Fault::Words(_) | Fault::EditWord { .. } => 2,
+            Fault::Program(_) | Fault::Record(_) | Fault::Edit { .. } => 3,
             Fault::Behaviours => 4,
             Fault::Memory | Fault::Source | Fault::Sink { .. } => 5,
         }
@@ -64,6 +72,15 @@ impl Fault {
     /// The line for standard error, without its line feed. For refused words it is the parser's text.
     pub fn line(&self, alloc: Global) -> Result<String, AllocError> {
         self.to_string(alloc)
+    }
+}
+
+// The number and the name of what is wrong with an edit.
+fn edit_fault_text(fault: EditFault) -> &'static str {
+    match fault {
+        EditFault::NoRow => "1 NoRow",
+        EditFault::BelowSpawn => "2 BelowSpawn",
+        EditFault::TooManyTicks => "3 TooManyTicks",
     }
 }
 

@@ -2,26 +2,37 @@
 #![tactic(auto)]
 
 mod check;
+mod edit_word;
 mod fault;
 mod profile;
+mod report;
+mod sweep;
 #[cfg(test)]
 mod tests;
 mod values;
 mod values_text;
+mod whatif;
+#[cfg(test)]
+mod whatif_tests;
 mod words;
+#[cfg(test)]
+mod words_tests;
 mod workers;
 
 use crate::check::check_cmd;
 use crate::fault::Fault;
 use crate::profile::profile_cmd;
+use crate::sweep::sweep_cmd;
 use crate::values::values_cmd;
+use crate::whatif::whatif_cmd;
 use crate::words::{Command, not_text, read_words};
 use boc_text::{Counted, put_out};
 use std::process::ExitCode;
+use std::thread::Threads;
 use std::{env, io};
 
 fn main(rt: HostRuntime) -> ExitCode {
-    match run(rt) {
+    match run(rt, &rt) {
         Ok(()) => ExitCode::SUCCESS,
         Err(fault) => {
             let status = fault.status();
@@ -31,8 +42,8 @@ fn main(rt: HostRuntime) -> ExitCode {
     }
 }
 
-/// Does what the words ask for.
-fn run(rt: HostRuntime) -> Result<(), Fault> {
+/// Does what the words ask for. What runs in several threads is started by way of `threads`.
+fn run(rt: HostRuntime, threads: &(impl Threads + Sync)) -> Result<(), Fault> {
     let words = words_given(rt)?;
     let mut output = Counted::new(rt.stdout());
     match read_words(rt.alloc(), &words)? {
@@ -41,6 +52,19 @@ fn run(rt: HostRuntime) -> Result<(), Fault> {
         Command::Profile(workers) => profile_cmd(
             rt.alloc(),
             workers,
+            &mut Counted::new(rt.stdin()),
+            &mut output,
+        ),
+        Command::WhatIf { edits, workers } => whatif_cmd(
+            rt.alloc(),
+            &edits,
+            workers,
+            &mut Counted::new(rt.stdin()),
+            &mut output,
+        ),
+        Command::Sweep => sweep_cmd(
+            rt.alloc(),
+            threads,
             &mut Counted::new(rt.stdin()),
             &mut output,
         ),

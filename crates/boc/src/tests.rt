@@ -4,7 +4,6 @@ use crate::check::check_cmd;
 use crate::fault::Fault;
 use crate::profile::profile_cmd;
 use crate::values::values_cmd;
-use crate::words::{Command, read_words};
 use crate::workers::Workers;
 use boc_text::{Bytes, FailAt};
 use std::alloc::{AllocError, Global};
@@ -25,7 +24,7 @@ struct Answer {
     taken: usize,
 }
 
-fn bytes(alloc: Global, text: &str) -> Result<Bytes, AllocError>
+pub(crate) fn bytes(alloc: Global, text: &str) -> Result<Bytes, AllocError>
     ensures { IfOk result (λ b. b.failures ≡ 0) }
 {
     Ok(Bytes::new(Vec::from_slice(alloc, text.as_bytes())?))
@@ -257,7 +256,7 @@ fn one_write_fails(rt: HostRuntime) -> Result<(), Fail> {
 }
 
 // The run of TRANSFER by one worker.
-const RECORD: &str = "boc 1 2
+pub(crate) const RECORD: &str = "boc 1 2
 + 0 0 0
 > 0
 + 1 0 2 0
@@ -503,73 +502,6 @@ fn one_read_or_write_of_a_profile_fails(rt: HostRuntime) -> Result<(), Fail> {
             Some(sink.inner.bytes.as_slice()),
             REPORT.as_bytes().get(..gone)
         );
-    }
-    Ok(())
-}
-
-fn words(alloc: Global, given: &[&str]) -> Result<Vec<String>, AllocError> {
-    let mut words = Vec::new(alloc);
-    for word in given {
-        words.push(String::from_str(alloc, word)?)?;
-    }
-    Ok(words)
-}
-
-#[test]
-fn numbers_of_workers(rt: HostRuntime) -> Result<(), Fail> {
-    let alloc = rt.alloc();
-    for (given, p) in [
-        (["boc", "profile", "--p", "2"].as_slice(), 2),
-        (&["boc", "profile", "--p", "+4"], 4),
-        (&["boc", "profile", "--p", "007"], 7),
-        (&["boc", "profile", "--p=64"], 64),
-    ] {
-        let found = read_words(alloc, &words(alloc, given)?);
-        assert!(rt;
-            matches!(found, Ok(Command::Profile(Some(workers))) if workers.number() == p),
-            "{given:?}"
-        );
-    }
-    Ok(())
-}
-
-#[test]
-fn command_lines(rt: HostRuntime) -> Result<(), Fail> {
-    let alloc = rt.alloc();
-    let found = read_words(alloc, &words(alloc, &["boc", "values"])?);
-    assert!(rt; matches!(found, Ok(Command::Values)));
-    let found = read_words(alloc, &words(alloc, &["boc", "check"])?);
-    assert!(rt; matches!(found, Ok(Command::Check)));
-    let found = read_words(alloc, &words(alloc, &["boc", "profile"])?);
-    assert!(rt; matches!(found, Ok(Command::Profile(None))));
-    for given in [
-        ["boc", "--help"].as_slice(),
-        &["boc", "help"],
-        &["boc", "values", "-h"],
-    ] {
-        let found = read_words(alloc, &words(alloc, given)?);
-        assert!(rt; matches!(found, Ok(Command::Help(_))), "{given:?}");
-    }
-    for given in [
-        ["boc"].as_slice(),
-        &["boc", "nothing"],
-        &["boc", "values", "more"],
-        &["boc", "values", "--p", "2"],
-        &["boc", "check", "record"],
-        &["boc", "profile", "2"],
-        &["boc", "profile", "--p"],
-        &["boc", "profile", "--p", "0"],
-        &["boc", "profile", "--p", "65"],
-        &["boc", "profile", "--p", "x"],
-        &["boc", "profile", "--p", "1", "--p", "2"],
-    ] {
-        match read_words(alloc, &words(alloc, given)?) {
-            Err(fault) => {
-                assert!(rt; matches!(fault, Fault::Words(_)), "{given:?}");
-                assert_eq!(rt; fault.status(), 2, "{given:?}");
-            }
-            Ok(_) => assert!(rt; false, "{given:?} is taken"),
-        }
     }
     Ok(())
 }

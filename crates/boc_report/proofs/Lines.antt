@@ -3,7 +3,7 @@ use Rattle.std.proofs.Common.{zero, suc, get_or, length, take, append_assoc, ◌
 use Rattle.std.proofs.lemmas.List.{append-nil}
 use Rattle.std.proofs.Math.Seq.{take-suc}
 use Rattle.boc_types.specs.declared.chain.Step.{Step}
-use Rattle.boc_types.specs.Texts.{step_line, step_lines, plan_line, plan_lines, served_line, served_lines}
+use Rattle.boc_types.specs.Texts.{step_line, step_lines, plan_line, plan_lines, served_line, served_lines, sweep_line, sweep_lines}
 
 add_one : (i : ℕ) → i + 1 ≡ suc i
 add_one i = omega arith
@@ -73,3 +73,22 @@ put_served_more before text after starts ends workers i h ends_too workers_too e
     ++ served_line n (get_or starts i 0) (get_or ends i 0) (get_or workers i 0)) (zero_more i)
     ∙ sym (served_more 0 i starts ends workers h ends_too workers_too)
     ∙ ap (λ n. served_lines 0 (take n starts) (take n ends) (take n workers)) (sym (add_one i)))
+
+-- the lines of the first rows of a sweep, and that of the next one
+swept_more : (r i : ℕ) (spans : List ℕ) → i < length spans
+    → sweep_lines r (take (suc i) spans) ≡ sweep_lines r (take i spans) ++ sweep_line (r + i) (get_or spans i 0)
+swept_more r i [] h = absurd (omega (arith, h))
+swept_more r zero (span ∷ spans) h = append-nil (sweep_line r span) ∙ ap (λ n. sweep_line n span) (omega arith)
+swept_more r (suc i) (span ∷ spans) h =
+    ap (λ xs. sweep_line r span ++ xs) (swept_more (suc r) i spans (omega (arith, h))
+    ∙ ap (λ n. sweep_lines (suc r) (take i spans) ++ sweep_line n (get_or spans i 0)) (omega arith))
+    ∙ sym (append_assoc (sweep_line r span) (sweep_lines (suc r) (take i spans)) (sweep_line (r + suc i) (get_or spans i 0)))
+
+-- the line of one row more of a sweep
+pub put_swept_more : (before text after : List ℕ) (spans : List ℕ) (i : ℕ) → i < length spans
+    → text ≡ before ++ sweep_lines 0 (take i spans) → after ≡ text ++ sweep_line i (get_or spans i 0)
+    → after ≡ before ++ sweep_lines 0 (take (i + 1) spans)
+put_swept_more before text after spans i h e put =
+    put ∙ ap (λ xs. xs ++ sweep_line i (get_or spans i 0)) e ∙ append_assoc before (sweep_lines 0 (take i spans)) (sweep_line i (get_or spans i 0))
+    ∙ ap (λ xs. before ++ xs) (ap (λ n. sweep_lines 0 (take i spans) ++ sweep_line n (get_or spans i 0)) (zero_more i)
+    ∙ sym (swept_more 0 i spans h) ∙ ap (λ n. sweep_lines 0 (take n spans)) (sym (add_one i)))

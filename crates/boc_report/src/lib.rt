@@ -4,5 +4,7 @@
 mod greedy_lines;
 mod number_line;
 mod profile_lines;
+mod sweep_lines;
 
 pub use profile_lines::profile_text;
+pub use sweep_lines::sweep_text;

@@ -8,7 +8,9 @@ use Rattle.boc_types.specs.Plans.{IsEarliest, IsEnd, HasEnds, work_of}
 use Rattle.boc_types.specs.Chains.{IsPicked}
 use Rattle.boc_types.specs.Greedy.{IsGreedy, IsBound}
 use Rattle.boc_types.specs.Turns.{EndsWith}
-use Rattle.boc_types.specs.Texts.{values_text, check_text, report_text, greedy_text}
+use Rattle.boc_types.specs.declared.edit.Edit.{Edit}
+use Rattle.boc_types.specs.Edits.{AllFit, all_edited, IsSweep}
+use Rattle.boc_types.specs.Texts.{values_text, check_text, report_text, greedy_text, sweep_lines}
 use Rattle.boc_types.specs.Records.{Recorded, IsRecord, record_text}
 
 -- the output is the text of the values at the end of the own order of a program that the input spells
@@ -64,3 +66,20 @@ pub record IsProfileAnswer (asked : Option ℕ) (input output : List ℕ) : Type
   pub kept : IsRecord recorded
   pub spells : input ≡ record_text recorded.cowns recorded.events
   pub report : IsReport recorded.rows asked output
+
+-- the input is the text of a record whose rows the edits fit, one after the other, and the output is the report on the rows after them
+pub record IsWhatIfAnswer (edits : List Edit) (asked : Option ℕ) (input output : List ℕ) : Type 0 where
+  pub recorded : Recorded
+  pub kept : IsRecord recorded
+  pub spells : input ≡ record_text recorded.cowns recorded.events
+  pub fit : AllFit recorded.rows edits
+  pub report : IsReport (all_edited recorded.rows edits) asked output
+
+-- the input is the text of a record, and the output tells for each row the span of the rows in which that row takes the least ticks that it can
+pub record IsSweepAnswer (input output : List ℕ) : Type 0 where
+  pub recorded : Recorded
+  pub kept : IsRecord recorded
+  pub spells : input ≡ record_text recorded.cowns recorded.events
+  pub spans : List ℕ
+  pub sweep : IsSweep recorded.rows spans
+  pub text : output ≡ sweep_lines 0 spans

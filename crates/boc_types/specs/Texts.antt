@@ -94,3 +94,12 @@ bound_line last bound = codes "end " ++ decimal last ++ codes " bound " ++ decim
 abbrev pub greedy_text : ℕ → List ℕ → List ℕ → List ℕ → ℕ → ℕ → List ℕ
 greedy_text p starts ends workers last bound =
     number_line (codes "greedy ") p ++ served_lines 0 starts ends workers ++ bound_line last bound
+
+-- the line of a row in a sweep: its number, and the span that goes with it
+abbrev pub sweep_line : ℕ → ℕ → List ℕ
+sweep_line r span = decimal r ++ codes " " ++ decimal span ++ codes "\n"
+
+-- the lines of the rows of a sweep from row r on
+abbrev pub sweep_lines : ℕ → List ℕ → List ℕ
+sweep_lines r [] = []
+sweep_lines r (span ∷ spans) = sweep_line r span ++ sweep_lines (suc r) spans

@@ -1,4 +1,13 @@
-// What can be wrong with an edit of a row's ticks.
+// Edits of rows' ticks, and what can be wrong with one.
+
+/// A row that is to take other ticks.
+#[derive(Clone, Copy, PartialEq, Eq, Debug)]
+pub struct Edit {
+    /// The number of the row.
+    pub row: u32,
+    /// The ticks that it is to take.
+    pub ticks: u32,
+}
 
 /// Why a row cannot take some ticks; of several reasons the first that holds.
 #[derive(Clone, Copy, PartialEq, Eq, Debug)]

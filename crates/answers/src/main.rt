@@ -1,8 +1,9 @@
 //! Tells for each text of a table on standard input what becomes of it.
 //!
-//! A text of the table stands behind a line with its kind, `program`, `record` or `report`, a space and its length
-//! in bytes, and before a line feed. A program's text is read, a record's is read and written again, and of a
-//! report's record the report is written: with the greedy plan for P workers, 1 to 64, where the kind is `report P`.
+//! A text of the table stands behind a line with its kind, a space and its length in bytes, and before a line feed. A
+//! `program` is read, and a `record` is read and written again. Of the record of a `report` the report is written, with
+//! the greedy plan for P workers, 1 to 64, where the kind is `report P`; of that of an `edit ROW TICKS` the report after
+//! that edit, or why it is refused; and of that of a `sweep` the sweep.
 #![tactic(auto)]
 
 ghost use Rattle.std.specs.Prelude.{◌<◌, length, IfOk, IfSome};
@@ -12,12 +13,14 @@ use boc_greedy::{Greedy, greedy};
 use boc_order::profile;
 use boc_reader::read_program;
 use boc_record::{RecordFault, read_record, write_record};
-use boc_report::profile_text;
+use boc_report::{profile_text, sweep_text};
 use boc_text::Bytes;
 use boc_types::record::Record;
 use boc_types::rows::Rows;
+use boc_whatif::WhatIf;
 use std::alloc::{AllocError, Global};
 use std::io::{self, Read, Write};
+use std::thread::Threads;
 
 /// What a text of the table is meant to be.
 #[derive(Clone, Copy)]
@@ -25,6 +28,8 @@ enum Kind {
     Program,
     Record,
     Report { workers: Option<u32> },
+    Edit { row: u32, ticks: u32 },
+    Sweep,
 }
 
 /// The kind that some words name.
@@ -33,12 +38,27 @@ fn kind_of(words: &str) -> Option<Kind> {
         "program" => Some(Kind::Program),
         "record" => Some(Kind::Record),
         "report" => Some(Kind::Report { workers: None }),
-        _ => {
-            let workers = words.strip_prefix("report ")?.parse().ok()?;
+        "sweep" => Some(Kind::Sweep),
+        _ => kind_with_numbers(words),
+    }
+}
+
+/// The kind that a word names with one or two numbers behind it.
+fn kind_with_numbers(words: &str) -> Option<Kind> {
+    match words.split_once(' ')? {
+        ("report", workers) => {
+            let workers = workers.parse().ok()?;
             Some(Kind::Report {
                 workers: Some(workers),
             })
         }
+        ("edit", numbers) => {
+            let (row, ticks) = numbers.split_once(' ')?;
+            let row = row.parse().ok()?;
+            let ticks = ticks.parse().ok()?;
+            Some(Kind::Edit { row, ticks })
+        }
+        _ => None,
     }
 }
 
@@ -115,6 +135,35 @@ fn tell_report(rt: HostRuntime, text: &[u8], workers: Option<u32>) -> io::Result
     rt.stdout().write_all(&report)
 }
 
+/// Writes the report on a record after an edit, or why the edit is refused.
+fn tell_edit(rt: HostRuntime, text: &[u8], row: u32, ticks: u32) -> io::Result<()> {
+    let record = match record_of(rt, text)? {
+        Ok(record) => record,
+        Err(fault) => return println!(rt; "{fault}"),
+    };
+    let mut question = WhatIf::new(rt.alloc(), record.rows())?;
+    match question.edit(row, ticks) {
+        Ok(()) => {
+            let found = question.profile(rt.alloc())?;
+            let report = profile_text(rt.alloc(), &found, None)?;
+            rt.stdout().write_all(&report)
+        }
+        Err(fault) => println!(rt; "{fault:?}"),
+    }
+}
+
+/// Writes the sweep of a record.
+fn tell_sweep(rt: HostRuntime, threads: &(impl Threads + Sync), text: &[u8]) -> io::Result<()> {
+    let record = match record_of(rt, text)? {
+        Ok(record) => record,
+        Err(fault) => return println!(rt; "{fault}"),
+    };
+    let question = WhatIf::new(rt.alloc(), record.rows())?;
+    let spans = question.sweep(threads, rt.alloc())?;
+    let lines = sweep_text(rt.alloc(), &spans)?;
+    rt.stdout().write_all(&lines)
+}
+
 fn main(rt: HostRuntime) -> io::Result<()> {
     let mut table = Vec::new(rt.alloc());
     rt.stdin().read_to_end(&mut table)?;
@@ -124,6 +173,8 @@ fn main(rt: HostRuntime) -> io::Result<()> {
             Kind::Program => tell_program(rt, text)?,
             Kind::Record => tell_record(rt, text)?,
             Kind::Report { workers } => tell_report(rt, text, workers)?,
+            Kind::Edit { row, ticks } => tell_edit(rt, text, row, ticks)?,
+            Kind::Sweep => tell_sweep(rt, &rt, text)?,
         }
         rest = behind;
     }

@@ -1,7 +1,6 @@
 // The greedy plan as a whole.
 
 ghost use Rattle.std.specs.Prelude.{◌≡◌, ℕ, ◌+◌, ◌-◌, ◌*◌, ◌^◌, ◌<◌, ◌≤◌, List, length, slice_index, IfOk};
-ghost use Rattle.boc_types.specs.Rows.{IsRows};
 ghost use Rattle.boc_types.specs.Plans.{HasEnds, IsEnd, Keeps, end_of, work_of};
 ghost use Rattle.boc_types.specs.Greedy.{IsBound, IsForWorkers, IsGreedy, IsMoment, IsSpan, CountsAll};
 
@@ -21,23 +20,6 @@ fn ends_of(alloc: Global, rows: &[Row], starts: &[u64]) -> Result<Vec<u64>, Allo
         ends.push(start + u64::from(row.ticks))?;
     }
     Ok(ends)
-}
-
-// The last of the ticks at which rows end.
-fn last_end(ends: &[u64]) -> u64
-    requires { 0 < length ends.now }
-    ensures none_later { (k : ℕ) → k < length ends.now → slice_index ends.now k ≤ result }
-    ensures reached { (k : ℕ) × (k < length ends.now) × (slice_index ends.now k ≡ result) }
-{
-    ends.iter().copied().max().unwrap_or(0)
-}
-
-// The ticks of all rows together.
-fn work(rows: &[Row]) -> u64
-    requires { IsRows rows.now }
-    ensures { result ≡ work_of rows.now }
-{
-    rows.iter().map(|row| u64::from(row.ticks)).sum()
 }
 
 /// The greedy plan of the rows for p workers, as `greedy` has it, for a caller who knows their span.
@@ -66,8 +48,8 @@ pub fn greedy_within(alloc: Global, rows: &Rows, p: u32, span: u64) -> Result<Gr
     let list = rows.as_slice();
     let plan = simulate(alloc, rows, p)?;
     let ends = ends_of(alloc, list, &plan.starts)?;
-    let ends_at = last_end(&ends);
-    let bound = work(list) / u64::from(p) + span;
+    let ends_at = boc_order::last_end(&ends);
+    let bound = boc_order::work(list) / u64::from(p) + span;
     Ok(Greedy {
         p,
         starts: plan.starts,

@@ -12,5 +12,5 @@ mod tests;
 
 pub use analysis::{profile, span, work};
 pub use check::check_chain;
-pub use plan::{Earliest, earliest_plan};
+pub use plan::{Earliest, earliest_plan, last_end};
 pub use report::Profile;

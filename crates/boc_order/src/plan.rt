@@ -66,8 +66,8 @@ fn remembered(rows: &[Row], ends: &[u64]) -> Memory
     memory
 }
 
-// The last of the ticks at which rows end.
-fn last_end(ends: &[u64]) -> u64
+/// The last of the ticks at which rows end. It takes no memory.
+pub fn last_end(ends: &[u64]) -> u64
     requires { 0 < length ends.now }
     ensures none_later { (k : ℕ) → k < length ends.now → slice_index ends.now k ≤ result }
     ensures reached { (k : ℕ) × (k < length ends.now) × (slice_index ends.now k ≡ result) }

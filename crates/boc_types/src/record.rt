@@ -69,4 +69,11 @@ impl Record {
     {
         &self.rows
     }
+
+    /// Hands over the rows, main first, and drops the rest. It takes no memory.
+    pub fn into_rows(self) -> Rows
+        ensures value { result ≡ self.rows }
+    {
+        self.rows
+    }
 }

@@ -15,7 +15,6 @@ pub enum Fault {
     /// The words of the command line, with the parser's own text.
     #[error("{0}")]
     Words(clap::Error),
-
     /// A word that should be an edit, `ROW=TICKS`, and is none; edits are counted from 1.
     #[error("boc: edit {number}: not ROW=TICKS")]
     EditWord { number: usize },

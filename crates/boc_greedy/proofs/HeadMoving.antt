@@ -17,7 +17,7 @@ use Rattle.boc_greedy.specs.Stages.{IsAt}
 use Rattle.boc_greedy.specs.Links.{IsNextOn, AreHeads, AreFollowing}
 use Rattle.boc_greedy.specs.Frontier.{IsHead, IsFirst, IsReady, AreQueued, IsFrontier, IsEnding, AreReached}
 use Rattle.boc_greedy.proofs.Linking.{rises_to, place_of, placed_at}
-use Rattle.boc_greedy.proofs.Bits.{zero_at}
+use Rattle.boc_greedy.proofs.WordsAbove.{zero_at}
 use Rattle.boc_greedy.proofs.Reaching.{reached_stays, reached_moves, reached_none}
 use Rattle.boc_greedy.proofs.Queueing.{queued, queued_push, queued_same}
 use Rattle.boc_greedy.proofs.Staging.{moved, moved_same, one_stage, waiting_not_over, under_way_not_over, unspawned_not_over, waiting_not_under_way, over_not_under_way, in_rows, small_cown, clear_first, turns_stay, past_stays, head_stays, ready_stays, was_ready, over_stays}

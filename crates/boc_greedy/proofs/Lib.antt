@@ -1,5 +1,5 @@
 pub mod Linking
-pub mod Bits
+pub mod WordsAbove
 pub mod Queueing
 pub mod Staging
 pub mod Reaching

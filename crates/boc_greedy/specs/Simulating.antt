@@ -1,5 +1,6 @@
 -- What a simulation keeps, from one step to the next.
 use Rattle.std.specs.Prelude.{◌≡◌, ℕ, ◌+◌, ◌<◌, ◌≤◌, List, length, slice_index}
+use Rattle.std.specs.Int.{bit_at}
 use Rattle.std.specs.List.{sum_by}
 use Rattle.boc_types.specs.declared.rows.Row.{Row}
 use Rattle.boc_types.specs.Rows.{offset_of}
@@ -13,9 +14,10 @@ use Rattle.boc_greedy.specs.Stages.{IsAt, CanStart}
 abbrev pub later : ℕ
 later = 18446744073709551615
 
--- no worker before this one is idle
-abbrev pub AreBusyBefore : List ℕ → ℕ → Type 0
-AreBusyBefore changes from = (v : ℕ) → v < from → slice_index changes v < later
+-- the bits of these workers are set for those that are idle, and for them alone
+pub record AreIdle (changes : List ℕ) (bits : ℕ) : Type 0 where
+  pub set : (w : ℕ) → bit_at bits w ≡ 1 → (w < length changes) × (slice_index changes w ≡ later)
+  pub clear : (w : ℕ) → w < length changes → bit_at bits w ≡ 0 → slice_index changes w < later
 
 -- w is the least worker that is idle
 pub record IsLeastIdle (changes : List ℕ) (w : ℕ) : Type 0 where

@@ -5,7 +5,7 @@ use Rattle.boc_types.specs.Greedy.{CountsAll}
 use Rattle.boc_greedy.specs.declared.simulation.Simulation.{Simulation}
 use Rattle.boc_greedy.specs.Frontier.{IsFrontier}
 use Rattle.boc_greedy.specs.Tournaments.{IsTournamentOf}
-use Rattle.boc_greedy.specs.Simulating.{later, AreBusyBefore, Kept, Given, IsFresh, HasPassed, IsFull, IsPast, weight_of}
+use Rattle.boc_greedy.specs.Simulating.{later, AreIdle, Kept, Given, IsFresh, HasPassed, IsFull, IsPast, weight_of}
 
 -- the simulation keeps what it has to keep
 abbrev pub IsKept : List Row → ℕ → Simulation → Type 0
@@ -16,7 +16,7 @@ pub record IsStepping (rows : List Row) (p : ℕ) (s : Simulation) : Type 0 wher
   pub frontier : IsFrontier rows s.frontier
   pub kept : IsKept rows p s
   pub fresh : IsFresh rows s.starts.items s.tick
-  pub busy_before : AreBusyBefore s.changes.items s.idle_from
+  pub idle : AreIdle s.changes.items s.idle
   pub tournament : IsTournamentOf s.changes.items s.tournament
 
 -- the changes of this tick are made, and rows start, one after another
@@ -25,7 +25,7 @@ pub record IsGiving (rows : List Row) (p : ℕ) (s : Simulation) : Type 0 where
   pub kept : IsKept rows p s
   pub given : Given rows p later s.starts.items s.workers.items s.frontier.stages.items s.changes.items s.tick
   pub passed : HasPassed p s.changes.items s.tick
-  pub busy_before : AreBusyBefore s.changes.items s.idle_from
+  pub idle : AreIdle s.changes.items s.idle
   pub tournament : IsTournamentOf s.changes.items s.tournament
 
 -- no more row can start at this tick

@@ -41,8 +41,9 @@ pub record IsEarliest (t : Tournament) (w : ℕ) : Type 0 where
   pub busy : change_at t w < later
   pub least : (v : ℕ) → v < t.count → change_at t w ≤ change_at t v
 
--- the tournament is that of these changes
+-- the tournament is that of the first of these changes, and all other workers are idle
 pub record IsTournamentOf (changes : List ℕ) (t : Tournament) : Type 0 where
-  pub count : t.count ≡ length changes
+  pub count : t.count ≤ length changes
   pub won : IsTournament t
-  pub same : (w : ℕ) → w < length changes → change_at t w ≡ slice_index changes w
+  pub same : (w : ℕ) → w < t.count → change_at t w ≡ slice_index changes w
+  pub idle : (w : ℕ) → w < length changes → t.count ≤ w → slice_index changes w ≡ later

@@ -67,18 +67,17 @@ impl Frontier {
     }
 
     /// The row is spawned.
-    pub fn spawn(&mut self, rows: &[Row], row: u32) -> Result<(), AllocError>
+    pub fn spawn(&mut self, rows: &[Row], row: u32)
         requires shape { IsRows rows.now }
         requires frontier { IsFrontier rows.now self.old }
         requires unspawned { IsAt self.old.stages.items row Unspawned }
-        ensures kept { OnOk result (IsFrontier rows.now self.new) }
-        ensures stages { OnOk result (self.new.stages.items ≡ slice_set self.old.stages.items row Waiting) }
+        ensures kept { IsFrontier rows.now self.new }
+        ensures stages { self.new.stages.items ≡ slice_set self.old.stages.items row Waiting }
     {
         self.stages[row as usize] = Stage::Waiting;
         if self.reaches_all(rows, row) {
             self.ready.insert(row);
         }
-        Ok(())
     }
 
     /// Starts the least of the rows that can start, if there is one.
@@ -98,18 +97,17 @@ impl Frontier {
     }
 
     /// A row that is under way ends.
-    pub fn end(&mut self, rows: &[Row], row: u32) -> Result<(), AllocError>
+    pub fn end(&mut self, rows: &[Row], row: u32)
         requires shape { IsRows rows.now }
         requires frontier { IsFrontier rows.now self.old }
         requires under_way { IsAt self.old.stages.items row UnderWay }
-        ensures kept { OnOk result (IsFrontier rows.now self.new) }
-        ensures stages { OnOk result (self.new.stages.items ≡ slice_set self.old.stages.items row Over) }
+        ensures kept { IsFrontier rows.now self.new }
+        ensures stages { self.new.stages.items ≡ slice_set self.old.stages.items row Over }
     {
         self.stages[row as usize] = Stage::Over;
         for k in 0..rows[row as usize].cowns.len() {
             self.advance(rows, row, k);
         }
-        Ok(())
     }
 
     // The next row on the k-th cown of a row that has ended becomes the cown's head, and may be ready by it.

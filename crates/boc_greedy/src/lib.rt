@@ -4,6 +4,7 @@
 //! rows and of their cowns.
 #![tactic(auto)]
 
+mod bits;
 mod children;
 mod entry;
 mod frontier;

@@ -1,9 +1,9 @@
 // A set of rows, of which the least is found at once.
 
 ghost use Rattle.std.specs.Prelude.{◌≡◌, ◌≢◌, ℕ, ◌<◌, ◌≤◌, ◌⊎◌, ◌↔◌, IfOk, IfSome, IfNone};
-ghost use Rattle.std.specs.Int.{bit_at};
 ghost use Rattle.boc_greedy.specs.RowSets.{IsRowSet, Has};
 
+use crate::bits::{with_bit, without_bit};
 use std::alloc::{AllocError, Global};
 
 /// A set of rows below 65,536: a bit for each row, above each word of these bits a bit that says whether it has any,
@@ -16,24 +16,6 @@ pub struct RowSet {
     words: [u64; 16],
     /// A bit for each word of `words`, set where that word is not 0.
     top: u64,
-}
-
-// The word with this bit set.
-fn with_bit(word: u64, bit: u32) -> u64
-    requires { bit < 64 }
-    ensures set { bit_at result bit ≡ 1 }
-    ensures others { (i : ℕ) → i ≢ bit → bit_at result i ≡ bit_at word i }
-{
-    word | (1 << bit)
-}
-
-// The word with this bit cleared.
-fn without_bit(word: u64, bit: u32) -> u64
-    requires { bit < 64 }
-    ensures cleared { bit_at result bit ≡ 0 }
-    ensures others { (i : ℕ) → i ≢ bit → bit_at result i ≡ bit_at word i }
-{
-    word & !(1 << bit)
 }
 
 impl RowSet {

@@ -29,8 +29,8 @@ pub fn simulate(alloc: Global, rows: &Rows, p: u32) -> Result<Simulated, AllocEr
     let mut simulation = Simulation::new(alloc, list, p)?;
     simulation.give_all(list, &family);
     while let Some(worker) = simulation.next_to_change() {
-        simulation.advance(list, &family, worker)?;
-        simulation.change_all(list, &family)?;
+        simulation.advance(list, &family, worker);
+        simulation.change_all(list, &family);
         simulation.give_all(list, &family);
     }
     Ok(Simulated {

@@ -1,9 +1,10 @@
 // A simulation of workers, from one tick at which something changes to the next.
 
+use crate::bits::{with_bit, without_bit};
 use crate::children::Family;
 use crate::frontier::Frontier;
 use crate::tournament::Tournament;
-use crate::workers::{LATER, change_of, least_idle};
+use crate::workers::{LATER, all_idle, change_of, least_idle};
 use boc_types::rows::Row;
 use std::alloc::{AllocError, Global};
 
@@ -18,14 +19,14 @@ pub struct Simulation {
     pub frontier: Frontier,
     /// The tick at which each worker's row next spawns a child or ends, or a later one than any for an idle worker.
     pub changes: Vec<u64>,
-    /// The same ticks in a tournament, which tells the earliest.
+    /// The same ticks in a tournament, which tells the earliest, of as many workers as were ever busy, or a few more.
     pub tournament: Tournament,
     /// The row of each worker that isn't idle.
     pub tasks: Vec<u32>,
     /// The child that each worker's row spawns next, or the number of rows.
     pub children: Vec<u32>,
-    /// No worker before this one is idle.
-    pub idle_from: usize,
+    /// A bit for each worker, set for those that are idle.
+    pub idle: u64,
     /// The tick at which the simulation stands.
     pub tick: u64,
     /// At how many ticks it has stood.
@@ -61,10 +62,10 @@ impl Simulation {
             workers,
             frontier,
             changes,
-            tournament: Tournament::new(p as usize),
+            tournament: Tournament::new(1),
             tasks,
             children,
-            idle_from: 0,
+            idle: all_idle(p),
             tick: 0,
             moments: 1,
         })
@@ -94,6 +95,8 @@ impl Simulation {
                 self.tasks[worker] = row;
                 self.children[worker] = child;
                 self.changes[worker] = change;
+                self.idle = without_bit(self.idle, worker as u32);
+                self.tournament.reach(worker, self.changes.len());
                 self.tournament.set(worker, change);
                 true
             }
@@ -113,7 +116,7 @@ impl Simulation {
         ensures low { IsLow rows.now self.new }
         ensures fewer { weight_of self.new.frontier.stages.items ≤ weight_of self.old.frontier.stages.items }
     {
-        while let Some(worker) = least_idle(&self.changes, &mut self.idle_from) {
+        while let Some(worker) = least_idle(self.idle) {
             if !self.give(rows, family, worker) {
                 return;
             }
@@ -121,62 +124,60 @@ impl Simulation {
     }
 
     // The worker's row spawns its next child.
-    fn spawn(&mut self, rows: &[Row], family: &Family, worker: usize) -> Result<(), AllocError>
+    fn spawn(&mut self, rows: &[Row], family: &Family, worker: usize)
         requires shape { IsRows rows.now }
         requires family { IsFamily rows.now family.now.first.items family.now.next.items }
         requires stepping { IsStepping rows.now (length self.old.changes.items) self.old }
         requires there { worker < length self.old.changes.items }
         requires due { slice_index self.old.changes.items worker ≡ self.old.tick }
         requires child { slice_index self.old.children.items worker < length rows.now }
-        ensures stepping { OnOk result (IsStepping rows.now (length self.old.changes.items) self.new) }
-        ensures goes { OnOk result (Goes self.old self.new) }
-        ensures fewer { OnOk result (weight_of self.new.frontier.stages.items < weight_of self.old.frontier.stages.items) }
+        ensures stepping { IsStepping rows.now (length self.old.changes.items) self.new }
+        ensures goes { Goes self.old self.new }
+        ensures fewer { weight_of self.new.frontier.stages.items < weight_of self.old.frontier.stages.items }
     {
         let row = self.tasks[worker];
         let child = self.children[worker];
-        self.frontier.spawn(rows, child)?;
+        self.frontier.spawn(rows, child);
         let next = family.next[child as usize];
         let change = change_of(rows, self.starts[row as usize], row, next);
         self.children[worker] = next;
         self.changes[worker] = change;
         self.tournament.set(worker, change);
-        Ok(())
     }
 
     // The worker's row ends.
-    fn end(&mut self, rows: &[Row], worker: usize) -> Result<(), AllocError>
+    fn end(&mut self, rows: &[Row], worker: usize)
         requires shape { IsRows rows.now }
         requires stepping { IsStepping rows.now (length self.old.changes.items) self.old }
         requires there { worker < length self.old.changes.items }
         requires due { slice_index self.old.changes.items worker ≡ self.old.tick }
         requires none_left { length rows.now ≤ slice_index self.old.children.items worker }
-        ensures stepping { OnOk result (IsStepping rows.now (length self.old.changes.items) self.new) }
-        ensures goes { OnOk result (Goes self.old self.new) }
-        ensures fewer { OnOk result (weight_of self.new.frontier.stages.items < weight_of self.old.frontier.stages.items) }
+        ensures stepping { IsStepping rows.now (length self.old.changes.items) self.new }
+        ensures goes { Goes self.old self.new }
+        ensures fewer { weight_of self.new.frontier.stages.items < weight_of self.old.frontier.stages.items }
     {
         let row = self.tasks[worker];
-        self.frontier.end(rows, row)?;
+        self.frontier.end(rows, row);
         self.changes[worker] = LATER;
+        self.idle = with_bit(self.idle, worker as u32);
         self.tournament.set(worker, LATER);
-        self.idle_from = self.idle_from.min(worker);
-        Ok(())
     }
 
     // What changes next for a worker.
-    fn change(&mut self, rows: &[Row], family: &Family, worker: usize) -> Result<(), AllocError>
+    fn change(&mut self, rows: &[Row], family: &Family, worker: usize)
         requires shape { IsRows rows.now }
         requires family { IsFamily rows.now family.now.first.items family.now.next.items }
         requires stepping { IsStepping rows.now (length self.old.changes.items) self.old }
         requires there { worker < length self.old.changes.items }
         requires due { slice_index self.old.changes.items worker ≡ self.old.tick }
-        ensures stepping { OnOk result (IsStepping rows.now (length self.old.changes.items) self.new) }
-        ensures goes { OnOk result (Goes self.old self.new) }
-        ensures fewer { OnOk result (weight_of self.new.frontier.stages.items < weight_of self.old.frontier.stages.items) }
+        ensures stepping { IsStepping rows.now (length self.old.changes.items) self.new }
+        ensures goes { Goes self.old self.new }
+        ensures fewer { weight_of self.new.frontier.stages.items < weight_of self.old.frontier.stages.items }
     {
         if (self.children[worker] as usize) < rows.len() {
-            self.spawn(rows, family, worker)
+            self.spawn(rows, family, worker);
         } else {
-            self.end(rows, worker)
+            self.end(rows, worker);
         }
     }
 
@@ -191,46 +192,40 @@ impl Simulation {
     }
 
     /// All that changes at this tick.
-    pub fn change_all(&mut self, rows: &[Row], family: &Family) -> Result<(), AllocError>
+    pub fn change_all(&mut self, rows: &[Row], family: &Family)
         requires shape { IsRows rows.now }
         requires family { IsFamily rows.now family.now.first.items family.now.next.items }
         requires stepping { IsStepping rows.now (length self.old.changes.items) self.old }
         requires counted { IsCounted rows.now self.old }
         requires low { IsLow rows.now self.old }
-        ensures giving { OnOk result (IsGiving rows.now (length self.old.changes.items) self.new) }
-        ensures counted { OnOk result (IsCounted rows.now self.new) }
-        ensures low { OnOk result (IsLow rows.now self.new) }
-        ensures fewer { OnOk result (weight_of self.new.frontier.stages.items ≤ weight_of self.old.frontier.stages.items) }
+        ensures giving { IsGiving rows.now (length self.old.changes.items) self.new }
+        ensures counted { IsCounted rows.now self.new }
+        ensures low { IsLow rows.now self.new }
+        ensures fewer { weight_of self.new.frontier.stages.items ≤ weight_of self.old.frontier.stages.items }
     {
         while let Some(worker) = self.next_to_change() {
             if self.changes[worker] != self.tick {
-                return Ok(());
+                return;
             }
-            self.change(rows, family, worker)?;
+            self.change(rows, family, worker);
         }
-        Ok(())
     }
 
     /// Goes to the tick at which this worker, the next to change, changes.
-    pub fn advance(
-        &mut self,
-        rows: &[Row],
-        family: &Family,
-        worker: usize,
-    ) -> Result<(), AllocError>
+    pub fn advance(&mut self, rows: &[Row], family: &Family, worker: usize)
         requires shape { IsRows rows.now }
         requires family { IsFamily rows.now family.now.first.items family.now.next.items }
         requires settled { IsSettled rows.now (length self.old.changes.items) self.old }
         requires counted { IsCounted rows.now self.old }
         requires low { IsLow rows.now self.old }
         requires next { IsNextToChange self.old.changes.items worker }
-        ensures stepping { OnOk result (IsStepping rows.now (length self.old.changes.items) self.new) }
-        ensures counted { OnOk result (IsCounted rows.now self.new) }
-        ensures low { OnOk result (IsLow rows.now self.new) }
-        ensures fewer { OnOk result (weight_of self.new.frontier.stages.items < weight_of self.old.frontier.stages.items) }
+        ensures stepping { IsStepping rows.now (length self.old.changes.items) self.new }
+        ensures counted { IsCounted rows.now self.new }
+        ensures low { IsLow rows.now self.new }
+        ensures fewer { weight_of self.new.frontier.stages.items < weight_of self.old.frontier.stages.items }
     {
         self.tick = self.changes[worker];
         self.moments += 1;
-        self.change(rows, family, worker)
+        self.change(rows, family, worker);
     }
 }

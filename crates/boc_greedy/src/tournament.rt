@@ -12,7 +12,7 @@ const MOST_WORKERS: usize = 64;
 #[derive(Clone, Copy)]
 pub struct Change {
     pub tick: u64,
-    pub worker: u32,
+    pub worker: usize,
 }
 
 /// The workers' changes in a tournament, in which the earlier of two wins. The change of worker w, of so many, stands
@@ -64,7 +64,42 @@ impl Tournament {
         }
     }
 
-    /// The worker changes at this tick.
+    // So many workers, as many as before or more. The others than before are idle.
+    fn grow(&mut self, count: usize)
+        requires won { IsTournament self.old }
+        requires more { self.old.count ≤ count }
+        requires few { count ≤ 64 }
+        ensures won { IsTournament self.new }
+        ensures count { self.new.count ≡ count }
+        ensures same { (w : ℕ) → w < self.old.count → change_at self.new w ≡ change_at self.old w }
+        ensures idle { (w : ℕ) → self.old.count ≤ w → w < count → change_at self.new w ≡ later }
+    {
+        let mut grown = Tournament::new(count);
+        for worker in 0..self.count {
+            grown.set(worker, self.winners[self.count + worker].tick);
+        }
+        *self = grown;
+    }
+
+    /// Room for this worker, of so many. There is as much as before, or more.
+    pub fn reach(&mut self, worker: usize, most: usize)
+        requires won { IsTournament self.old }
+        requires within { self.old.count ≤ most }
+        requires there { worker < most }
+        requires few { most ≤ 64 }
+        ensures won { IsTournament self.new }
+        ensures there { worker < self.new.count }
+        ensures within { self.new.count ≤ most }
+        ensures more { self.old.count ≤ self.new.count }
+        ensures same { (w : ℕ) → w < self.old.count → change_at self.new w ≡ change_at self.old w }
+        ensures idle { (w : ℕ) → self.old.count ≤ w → w < self.new.count → change_at self.new w ≡ later }
+    {
+        if worker >= self.count {
+            self.grow((2 * worker).min(most));
+        }
+    }
+
+    /// The worker changes at this tick. Above the place where the winner stays, nothing is done.
     pub fn set(&mut self, worker: usize, tick: u64)
         requires won { IsTournament self.old }
         requires there { worker < self.old.count }
@@ -73,15 +108,16 @@ impl Tournament {
         ensures placed { change_at self.new worker ≡ tick }
         ensures others { (w : ℕ) → w < self.old.count → w ≢ worker → change_at self.new w ≡ change_at self.old w }
     {
-        let mut winner = Change {
-            tick,
-            worker: worker as u32,
-        };
+        let mut winner = Change { tick, worker };
         let mut place = self.count + worker;
         self.winners[place] = winner;
         while place > 1 {
             winner = earlier(winner, self.winners[beside(place)]);
             place /= 2;
+            let former = self.winners[place];
+            if former.tick == winner.tick && former.worker == winner.worker {
+                return;
+            }
             self.winners[place] = winner;
         }
     }
@@ -96,6 +132,6 @@ impl Tournament {
         if first.tick == LATER {
             return None;
         }
-        Some(first.worker as usize)
+        Some(first.worker)
     }
 }

@@ -1,28 +1,35 @@
 // The workers of a simulation, by the ticks at which something next changes for each of them.
 
-ghost use Rattle.std.specs.Prelude.{◌≡◌, ℕ, ◌+◌, ◌<◌, ◌≤◌, length, slice_index, IfSome, IfNone};
+ghost use Rattle.std.specs.Prelude.{◌≡◌, ℕ, ◌+◌, ◌<◌, ◌≤◌, length, IfSome, IfNone};
+ghost use Rattle.std.specs.Int.{bit_at};
 ghost use Rattle.boc_types.specs.Rows.{IsRows, offset_of, ticks_of};
-ghost use Rattle.boc_greedy.specs.Simulating.{later, AreBusyBefore, IsLeastIdle};
+ghost use Rattle.boc_greedy.specs.Simulating.{later};
 
 use boc_types::rows::Row;
 
 /// A tick after every tick of a plan. Rows that haven't started stand here, and the changes of idle workers.
 pub const LATER: u64 = u64::MAX;
 
-/// The least worker that is idle, if there is one, where none is before a known one. The known one becomes the one found.
-pub fn least_idle(changes: &[u64], from: &mut usize) -> Option<usize>
-    requires { AreBusyBefore changes.now from.old }
-    ensures found { IfSome result (λ w. IsLeastIdle changes.now w) }
-    ensures none { IfNone result ((w : ℕ) → w < length changes.now → slice_index changes.now w < later) }
-    ensures before { AreBusyBefore changes.now from.new }
+/// A bit for each of so many workers, all of them set.
+pub fn all_idle(count: u32) -> u64
+    requires some { 0 < count }
+    requires few { count ≤ 64 }
+    ensures set { (w : ℕ) → w < count → bit_at result w ≡ 1 }
+    ensures others { (w : ℕ) → count ≤ w → bit_at result w ≡ 0 }
 {
-    while *from < changes.len() {
-        if changes[*from] == LATER {
-            return Some(*from);
-        }
-        *from += 1;
+    u64::MAX >> (64 - count)
+}
+
+/// The least worker whose bit is set, if there is one.
+pub fn least_idle(idle: u64) -> Option<usize>
+    ensures found { IfSome result (λ w. bit_at idle w ≡ 1) }
+    ensures least { IfSome result (λ w. (v : ℕ) → v < w → bit_at idle v ≡ 0) }
+    ensures none { IfNone result ((w : ℕ) → bit_at idle w ≡ 0) }
+{
+    if idle == 0 {
+        return None;
     }
-    None
+    Some(idle.trailing_zeros() as usize)
 }
 
 /// The tick at which a row that started then spawns this child or, where the child isn't there, ends.

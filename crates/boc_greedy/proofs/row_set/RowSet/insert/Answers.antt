@@ -3,7 +3,7 @@ use Rattle.std.specs.Prelude.{slice_index, slice_set}
 use Rattle.std.specs.Int.{bit_at}
 use Rattle.std.proofs.lemmas.List.{get_or_default}
 use Rattle.boc_greedy.specs.RowSets.{IsSet}
-use Rattle.boc_greedy.proofs.Bits.{not_zero, elsewhere, set_bit, marked, same_bit}
+use Rattle.boc_greedy.proofs.WordsAbove.{not_zero, elsewhere, set_bit, marked, same_bit}
 use Rattle.boc_greedy.proofs.row_set.RowSet.insert.Goals as goal
 
 pub returns-clause-set : goal.returns-clause-set

@@ -2,7 +2,7 @@ use Rattle.std.proofs.Common.{◌≡◌, ℕ, ◌+◌, ◌*◌, ◌<◌, length,
 use Rattle.std.specs.Prelude.{slice_index}
 use Rattle.std.specs.Int.{trailing_zeros}
 use Rattle.std.proofs.lemmas.List.{get_or_default}
-use Rattle.boc_greedy.proofs.Bits.{least_group, least_word, lowest}
+use Rattle.boc_greedy.proofs.WordsAbove.{least_group, least_word, lowest}
 use Rattle.boc_greedy.proofs.row_set.RowSet.least.Goals as goal
 
 pub bounds-self-group : goal.bounds-self-group

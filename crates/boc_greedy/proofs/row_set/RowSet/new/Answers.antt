@@ -1,5 +1,5 @@
 use Rattle.std.proofs.Common.{refl}
-use Rattle.boc_greedy.proofs.Bits.{empty_set, no_bits}
+use Rattle.boc_greedy.proofs.WordsAbove.{empty_set, no_bits}
 use Rattle.boc_greedy.proofs.row_set.RowSet.new.Goals as goal
 
 pub returns-clause-set : goal.returns-clause-set

@@ -1,6 +1,6 @@
 use Rattle.std.proofs.Common.{◌≡◌, ℕ, ◌/◌, ◌<◌, List, length, get_or, sym, ◌∙◌, arith, length-set, get_or-set_same}
 use Rattle.std.specs.Prelude.{slice_set}
-use Rattle.boc_greedy.proofs.Bits.{words_stay, words_clear, top_stays, top_clears}
+use Rattle.boc_greedy.proofs.WordsAbove.{words_stay, words_clear, top_stays, top_clears}
 use Rattle.boc_greedy.proofs.row_set.RowSet.remove.Goals as goal
 
 -- a word that was put and then read

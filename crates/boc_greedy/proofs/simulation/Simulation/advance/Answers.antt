@@ -2,8 +2,6 @@ use Rattle.std.proofs.Common.{◌≡◌, ℕ, ◌+◌, ◌<◌, ◌≤◌, lengt
 use Rattle.std.specs.Prelude.{slice_index}
 use Rattle.boc_greedy.specs.Simulating.{later}
 use Rattle.boc_greedy.proofs.Reading.{read_at, counted_on}
-use Rattle.std.proofs.lemmas.Result.{on_ok_weaker}
-use Rattle.boc_greedy.proofs.Reading.{ok_both}
 use Rattle.boc_greedy.proofs.Standing.{change_soon}
 use Rattle.boc_greedy.proofs.Advancing.{forward, kept_next, fresh_next, next_moment, no_moment}
 use Rattle.boc_greedy.proofs.Counting.{counts_next}
@@ -22,7 +20,7 @@ change-requires-clause-stepping c =
       frontier = g.frontier;
       kept = kept_next _ c.requires.shape _ _ _ _ _ _ _ _ _ k g.given g.passed c.requires.settled.full c.args.worker u n.there u_is (λ v h. omega (arith, u_is, n.least v h)) early;
       fresh = fresh_next _ c.requires.shape _ _ _ _ _ _ _ _ _ k g.given g.passed c.requires.settled.full c.args.worker u n.there u_is (λ v h. omega (arith, u_is, n.least v h)) early;
-      busy_before = g.busy_before;
+      idle = g.idle;
       tournament = g.tournament;
     }
 
@@ -41,7 +39,7 @@ returns-clause-counted c =
     (next_moment _ c.requires.shape _ _ _ _ _ _ _ _ _ k g.given g.passed c.requires.settled.full c.args.worker u n.there u_is least early)
     (no_moment _ c.requires.shape _ _ _ _ _ _ _ _ _ k g.given g.passed c.requires.settled.full c.args.worker u n.there u_is least early) c.requires.counted.moments in
     let moments : c.args.self.now.moments + 1 ≤ u + 1 = omega (arith, up, c.requires.counted.low) in
-    on_ok_weaker c.change.result (λ goes. counted_on _ _ _ goes (record { moments = counts; low = moments })) c.change.ensures.goes
+    counted_on _ _ _ c.change.ensures.goes (record { moments = counts; low = moments })
 
 pub returns-clause-low : goal.returns-clause-low
 returns-clause-low c =
@@ -50,4 +48,4 @@ returns-clause-low c =
     let u : ℕ = c.index.result.now in
     let u_is : slice_index c.args.self.now.changes.items c.args.worker ≡ u = read_at c.args.self.now.changes.items c.args.worker u n.there c.index.ensures in
     let soon = change_soon _ c.requires.shape _ _ _ _ _ _ _ _ _ k c.args.worker n.there n.busy in
-    ok_both c.change.result (λ goes fewer. record { low = omega (arith, goes.tick, fewer, u_is, soon, c.requires.low.low) }) c.change.ensures.goes c.change.ensures.fewer
+    record { low = omega (arith, c.change.ensures.goes.tick, c.change.ensures.fewer, u_is, soon, c.requires.low.low) }

@@ -24,7 +24,7 @@ gives rows p s w i next other = record {
       (let ahead : s.tick ≤ slice_index s.changes.items w = (i.kept.busy w (omega (arith, next.there, i.kept.changes_whole)) next.busy).ahead in
       let least : slice_index s.changes.items w ≤ slice_index s.changes.items v = next.least v (omega (arith, h, i.kept.changes_whole)) in
       omega (arith, ahead, least, other));
-  busy_before = i.busy_before;
+  idle = i.idle;
   tournament = i.tournament;
 }
 

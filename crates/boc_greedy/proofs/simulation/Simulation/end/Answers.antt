@@ -4,7 +4,7 @@ use Rattle.boc_greedy.specs.declared.frontier.Stage.TheVariants.{UnderWay, Over}
 use Rattle.boc_greedy.specs.Stages.{IsAt}
 use Rattle.boc_greedy.specs.Simulating.{later}
 use Rattle.boc_greedy.proofs.Puts.{puts, restages, weight_set}
-use Rattle.boc_greedy.proofs.Reading.{tournament_set, busy_less, read_at}
+use Rattle.boc_greedy.proofs.Reading.{tournament_set, busy_there, idle_more, read_at}
 use Rattle.boc_greedy.proofs.Standing.{there}
 use Rattle.boc_greedy.proofs.Ending.{kept_after}
 use Rattle.boc_greedy.proofs.simulation.Simulation.end.Goals as goal
@@ -17,14 +17,14 @@ returns-clause-stepping c =
     let r_is : slice_index c.args.self.now.tasks.items w ≡ r = read_at c.args.self.now.tasks.items w r (omega (arith, c.requires.there, k.tasks_whole)) c.index-row.ensures in
     let y = k.busy w c.requires.there (omega (arith, c.requires.due, k.early)) in
     let h = there _ c.requires.shape _ _ _ _ _ _ _ _ _ k _ UnderWay y.under_way in
-    let sg = restages c.args.self.now.frontier.stages.items c.end.new.self.stages.items r Over (omega (arith, h, r_is, k.stages_whole)) c.in_ok-end.ensures.stages in
+    let sg = restages c.args.self.now.frontier.stages.items c.end.new.self.stages.items r Over (omega (arith, h, r_is, k.stages_whole)) c.end.ensures.stages in
     let pc = puts c.args.self.now.changes.items w later c.requires.there in
     record {
-      frontier = c.in_ok-end.ensures.kept;
+      frontier = c.end.ensures.kept;
       kept = kept_after _ c.requires.shape _ _ _ _ _ _ _ _ _ k w r r_is c.requires.none_left c.requires.there c.requires.due _ _ sg pc;
       fresh = c.requires.stepping.fresh;
-      busy_before = busy_less _ _ w later c.args.self.now.idle_from _ pc (omega arith) (omega arith) c.requires.stepping.busy_before;
-      tournament = tournament_set _ _ _ _ w later pc c.requires.stepping.tournament c.set.ensures.won c.set.ensures.count c.set.ensures.placed c.set.ensures.others;
+      idle = idle_more _ _ w _ _ pc c.requires.there c.with_bit-self.ensures.set c.with_bit-self.ensures.others c.requires.stepping.idle;
+      tournament = tournament_set _ _ _ _ w later pc (busy_there _ _ w c.requires.stepping.tournament c.requires.there (omega (arith, c.requires.due, k.early))) c.requires.stepping.tournament c.set.ensures.won c.set.ensures.count c.set.ensures.placed c.set.ensures.others;
     }
 
 pub returns-clause-goes : goal.returns-clause-goes
@@ -35,7 +35,7 @@ returns-clause-goes c =
     let r_is : slice_index c.args.self.now.tasks.items w ≡ r = read_at c.args.self.now.tasks.items w r (omega (arith, c.requires.there, k.tasks_whole)) c.index-row.ensures in
     let y = k.busy w c.requires.there (omega (arith, c.requires.due, k.early)) in
     let at : IsAt c.args.self.now.frontier.stages.items r UnderWay = rw r_is at y.under_way in
-    let weight = weight_set c.args.self.now.frontier.stages.items c.end.new.self.stages.items r UnderWay Over at c.in_ok-end.ensures.stages in
+    let weight = weight_set c.args.self.now.frontier.stages.items c.end.new.self.stages.items r UnderWay Over at c.end.ensures.stages in
     record { starts = refl; tick = refl; moments = refl; fewer = omega (arith, weight) }
 
 pub returns-clause-fewer : goal.returns-clause-fewer
@@ -46,5 +46,5 @@ returns-clause-fewer c =
     let r_is : slice_index c.args.self.now.tasks.items w ≡ r = read_at c.args.self.now.tasks.items w r (omega (arith, c.requires.there, k.tasks_whole)) c.index-row.ensures in
     let y = k.busy w c.requires.there (omega (arith, c.requires.due, k.early)) in
     let at : IsAt c.args.self.now.frontier.stages.items r UnderWay = rw r_is at y.under_way in
-    let weight = weight_set c.args.self.now.frontier.stages.items c.end.new.self.stages.items r UnderWay Over at c.in_ok-end.ensures.stages in
+    let weight = weight_set c.args.self.now.frontier.stages.items c.end.new.self.stages.items r UnderWay Over at c.end.ensures.stages in
     omega (arith, weight)

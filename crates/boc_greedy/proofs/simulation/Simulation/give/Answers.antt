@@ -5,7 +5,7 @@ use Rattle.boc_greedy.specs.Stages.{CanStart}
 use Rattle.boc_greedy.specs.Families.{IsNextChild}
 use Rattle.boc_greedy.specs.Simulating.{later}
 use Rattle.boc_greedy.proofs.Puts.{puts, restages, weight_set}
-use Rattle.boc_greedy.proofs.Reading.{tournament_set, busy_still, read_at}
+use Rattle.boc_greedy.proofs.Reading.{tournament_set, tournament_reaches, idle_less, read_at}
 use Rattle.boc_greedy.proofs.Standing.{there}
 use Rattle.boc_greedy.proofs.Giving.{change_below, kept_after, passed_after, given_after}
 use Rattle.boc_greedy.proofs.Counting.{counts_given}
@@ -36,10 +36,11 @@ returns-in-Some-clause-giving c =
           g.given g.passed c.in-Some.ensures.least c.requires.idle.least;
       passed = passed_after _ c.requires.shape _ _ _ _ _ _ _ _ _ k x w _ _ _ _ _ _ _ _ ps pw sg pc pt pd can c.requires.idle.there idle next c.change_of-change.ensures.spawns c.change_of-change.ensures.ends
           g.passed;
-      busy_before = busy_still _ _ w _ _ pc
+      idle = idle_less _ _ w _ _ _ pc
           (change_below _ c.requires.shape _ _ _ _ _ _ _ _ _ k x w _ _ _ _ _ _ _ _ ps pw sg pc pt pd can c.requires.idle.there idle next c.change_of-change.ensures.spawns c.change_of-change.ensures.ends)
-          g.busy_before;
-      tournament = tournament_set _ _ _ _ w _ pc g.tournament c.set.ensures.won c.set.ensures.count c.set.ensures.placed c.set.ensures.others;
+          c.without_bit-self.ensures.cleared c.without_bit-self.ensures.others g.idle;
+      tournament = tournament_set _ _ _ _ w _ pc c.reach.ensures.there
+          (tournament_reaches _ _ _ g.tournament c.reach.ensures.won (omega (arith, c.reach.ensures.within, c.len.ensures)) c.reach.ensures.more c.reach.ensures.same c.reach.ensures.idle) c.set.ensures.won c.set.ensures.count c.set.ensures.placed c.set.ensures.others;
     }
 
 pub returns-in-Some-clause-counted : goal.returns-in-Some-clause-counted

@@ -1,4 +1,5 @@
-use Rattle.std.proofs.Common.{◌≡◌, ◌<◌, length, arith}
+use Rattle.std.proofs.Common.{◌≡◌, ◌<◌, length, inl, inr, arith}
+use Rattle.std.proofs.lemmas.Bool.{cases_lt}
 use Rattle.boc_greedy.specs.Simulating.{later}
 use Rattle.std.proofs.Common.{replicate, rules, ap}
 use Rattle.std.proofs.lemmas.List.{length-replicate}
@@ -14,16 +15,24 @@ returns-clause-giving c =
     let tasks : c.in_ok-tasks.tasks.items ≡ replicate c.args.p 0 = search rules in
     let children : c.in_ok-children.children.items ≡ replicate c.args.p 0 = search rules in
     let early : 1000000 < later = omega arith in
+    let whole : length c.in_ok-changes.changes.items ≡ c.args.p = omega (arith, ap length changes, length-replicate c.args.p later) in
     record {
       frontier = c.in_ok-frontier.ensures.kept;
       kept = kept_first _ c.requires.shape _ later c.requires.few early _ _ _ _ _ _ starts workers c.in_ok-frontier.ensures.stages changes tasks children;
       given = given_first _ c.requires.shape _ later c.requires.few early _ _ _ _ _ _ starts workers c.in_ok-frontier.ensures.stages changes tasks children;
       passed = passed_first _ c.requires.shape _ later c.requires.few early _ _ _ _ _ _ starts workers c.in_ok-frontier.ensures.stages changes tasks children;
-      busy_before = λ v h. absurd (omega (arith, h));
+      idle = record {
+        set = λ w is. elim (cases_lt w c.args.p) [
+          | inl l ↦ (omega (arith, l, whole), start_all c.args.p later w _ changes (omega (arith, l, whole)))
+          | inr ge ↦ absurd (omega (arith, is, c.all_idle.ensures.others w ge))
+        ];
+        clear = λ w h is. absurd (omega (arith, is, c.all_idle.ensures.set w (omega (arith, h, whole))));
+      };
       tournament = record {
-        count = omega (arith, c.new-2.ensures.count, ap length changes, length-replicate c.args.p later);
+        count = omega (arith, c.new-2.ensures.count, whole, c.requires.some);
         won = c.new-2.ensures.won;
-        same = λ w l. omega (arith, c.new-2.ensures.idle w (omega (arith, l, ap length changes, length-replicate c.args.p later)), start_all c.args.p later w _ changes l);
+        same = λ w l. omega (arith, c.new-2.ensures.idle w (omega (arith, l, c.new-2.ensures.count)), start_all c.args.p later w _ changes (omega (arith, l, c.new-2.ensures.count, whole, c.requires.some)));
+        idle = λ w h ge. start_all c.args.p later w _ changes h;
       };
     }
 

@@ -5,7 +5,7 @@ use Rattle.boc_greedy.specs.declared.frontier.Stage.TheVariants.{Unspawned, Wait
 use Rattle.boc_greedy.specs.Stages.{IsAt}
 use Rattle.boc_greedy.specs.Families.{IsNextChild}
 use Rattle.boc_greedy.proofs.Puts.{puts, restages, weight_set}
-use Rattle.boc_greedy.proofs.Reading.{tournament_set, busy_still, read_at}
+use Rattle.boc_greedy.proofs.Reading.{tournament_set, busy_there, idle_still, read_at}
 use Rattle.boc_greedy.proofs.Standing.{there}
 use Rattle.boc_greedy.proofs.Spawning.{change_below, kept_after}
 use Rattle.boc_greedy.proofs.simulation.Simulation.spawn.Goals as goal
@@ -26,19 +26,19 @@ returns-clause-stepping c =
     let next_at : slice_index c.args.family.now.next.items kid ≡ c.index-next.result.now =
     read_at c.args.family.now.next.items kid c.index-next.result.now (omega (arith, kid_there, c.requires.family.next_whole)) c.index-next.ensures in
     let next : IsNextChild c.args.rows.now (parent_of c.args.rows.now kid) (kid + 1) c.index-next.result.now = rw next_at at (c.requires.family.next_child kid pos kid_there) in
-    let sg = restages c.args.self.now.frontier.stages.items c.spawn.new.self.stages.items kid Waiting (omega (arith, kid_there, k.stages_whole)) c.in_ok-spawn.ensures.stages in
+    let sg = restages c.args.self.now.frontier.stages.items c.spawn.new.self.stages.items kid Waiting (omega (arith, kid_there, k.stages_whole)) c.spawn.ensures.stages in
     let pc = puts c.args.self.now.changes.items w c.change_of-change.result c.requires.there in
     let pd = puts c.args.self.now.children.items w c.index-next.result.now (omega (arith, c.requires.there, k.children_whole)) in
     record {
-      frontier = c.in_ok-spawn.ensures.kept;
+      frontier = c.spawn.ensures.kept;
       kept = kept_after _ c.requires.shape _ _ _ _ _ _ _ _ _ k w r kid _ _ _ _ _ r_is kid_is kid_there sg pc pd c.requires.there c.requires.due next
           (λ l. omega (arith, c.change_of-change.ensures.spawns l, start)) (λ ge. omega (arith, c.change_of-change.ensures.ends ge, start));
       fresh = c.requires.stepping.fresh;
-      busy_before = busy_still _ _ w _ _ pc
+      idle = idle_still _ _ w _ _ pc (omega (arith, c.requires.due, k.early))
           (change_below _ c.requires.shape _ _ _ _ _ _ _ _ _ k w r kid _ _ _ _ _ r_is kid_is kid_there sg pc pd c.requires.there c.requires.due next
           (λ l. omega (arith, c.change_of-change.ensures.spawns l, start)) (λ ge. omega (arith, c.change_of-change.ensures.ends ge, start)))
-          c.requires.stepping.busy_before;
-      tournament = tournament_set _ _ _ _ w _ pc c.requires.stepping.tournament c.set.ensures.won c.set.ensures.count c.set.ensures.placed c.set.ensures.others;
+          c.requires.stepping.idle;
+      tournament = tournament_set _ _ _ _ w _ pc (busy_there _ _ w c.requires.stepping.tournament c.requires.there (omega (arith, c.requires.due, k.early))) c.requires.stepping.tournament c.set.ensures.won c.set.ensures.count c.set.ensures.placed c.set.ensures.others;
     }
 
 pub returns-clause-goes : goal.returns-clause-goes
@@ -49,7 +49,7 @@ returns-clause-goes c =
     let kid_is : slice_index c.args.self.now.children.items w ≡ kid = read_at c.args.self.now.children.items w kid (omega (arith, c.requires.there, k.children_whole)) c.index-child.ensures in
     let y = k.busy w c.requires.there (omega (arith, c.requires.due, k.early)) in
     let at : IsAt c.args.self.now.frontier.stages.items kid Unspawned = rw kid_is at (y.after _ (y.child_is c.requires.child) (omega arith)) in
-    let weight = weight_set c.args.self.now.frontier.stages.items c.spawn.new.self.stages.items kid Unspawned Waiting at c.in_ok-spawn.ensures.stages in
+    let weight = weight_set c.args.self.now.frontier.stages.items c.spawn.new.self.stages.items kid Unspawned Waiting at c.spawn.ensures.stages in
     record { starts = refl; tick = refl; moments = refl; fewer = omega (arith, weight) }
 
 pub returns-clause-fewer : goal.returns-clause-fewer
@@ -60,5 +60,5 @@ returns-clause-fewer c =
     let kid_is : slice_index c.args.self.now.children.items w ≡ kid = read_at c.args.self.now.children.items w kid (omega (arith, c.requires.there, k.children_whole)) c.index-child.ensures in
     let y = k.busy w c.requires.there (omega (arith, c.requires.due, k.early)) in
     let at : IsAt c.args.self.now.frontier.stages.items kid Unspawned = rw kid_is at (y.after _ (y.child_is c.requires.child) (omega arith)) in
-    let weight = weight_set c.args.self.now.frontier.stages.items c.spawn.new.self.stages.items kid Unspawned Waiting at c.in_ok-spawn.ensures.stages in
+    let weight = weight_set c.args.self.now.frontier.stages.items c.spawn.new.self.stages.items kid Unspawned Waiting at c.spawn.ensures.stages in
     omega (arith, weight)

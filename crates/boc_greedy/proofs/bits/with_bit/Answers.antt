@@ -1,6 +1,6 @@
 use Rattle.std.proofs.Common.{w64}
 use Rattle.std.proofs.lemmas.Nat.Bits.{bit_at_set_same, bit_at_set_other}
-use Rattle.boc_greedy.proofs.row_set.with_bit.Goals as goal
+use Rattle.boc_greedy.proofs.bits.with_bit.Goals as goal
 
 pub returns-clause-set : goal.returns-clause-set
 returns-clause-set c = bit_at_set_same w64 c.args.word c.args.bit c.requires

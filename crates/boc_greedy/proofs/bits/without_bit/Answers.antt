@@ -4,7 +4,7 @@ use Rattle.std.specs.Int.{bit_not}
 use Rattle.std.proofs.lemmas.Bool.{cases_lt}
 use Rattle.std.proofs.lemmas.Nat.{and_le_l}
 use Rattle.std.proofs.lemmas.Nat.Bits.{bit_at_clear_same, bit_at_clear_other, bit_at_above}
-use Rattle.boc_greedy.proofs.row_set.without_bit.Goals as goal
+use Rattle.boc_greedy.proofs.bits.without_bit.Goals as goal
 
 pub returns-clause-cleared : goal.returns-clause-cleared
 returns-clause-cleared c = bit_at_clear_same w64 c.args.word c.args.bit c.requires

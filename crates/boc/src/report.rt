@@ -4,10 +4,11 @@ ghost use Rattle.std.specs.Prelude.{◌≡◌, IfOk, IfSome};
 ghost use Rattle.boc_report.specs.Parts.{IsWhole, part_of};
 ghost use Rattle.boc_types.specs.Answers.{IsAskedPart, IsReport};
 ghost use Rattle.boc_types.specs.Greedy.{IsSpan};
+ghost use Rattle.boc.specs.Profiles.{IsProfileOf};
 
 use crate::workers::Workers;
 use boc_greedy::{Greedy, greedy_within};
-use boc_order::profile;
+use boc_order::{Profile, profile};
 use boc_report::profile_text;
 use boc_types::rows::Rows;
 use std::alloc::{AllocError, Global};
@@ -21,8 +22,21 @@ pub fn report_on(
     ensures { IfOk result (λ text. IsReport rows.now workers text.items) }
 {
     let found = profile(alloc, rows)?;
-    let greedy = greedy_for(alloc, workers, rows, found.span)?;
-    profile_text(alloc, &found, greedy.as_ref())
+    report_with(alloc, workers, rows, &found)
+}
+
+/// The same report, for a caller who has the profile of the rows already.
+pub fn report_with(
+    alloc: Global,
+    workers: Option<Workers>,
+    rows: &Rows,
+    profile: &Profile,
+) -> Result<Vec<u8>, AllocError>
+    requires { IsProfileOf rows.now profile.now }
+    ensures { IfOk result (λ text. IsReport rows.now workers text.items) }
+{
+    let greedy = greedy_for(alloc, workers, rows, profile.span)?;
+    profile_text(alloc, profile, greedy.as_ref())
 }
 
 /// The greedy plan for the workers that were asked for. Without such there is none.

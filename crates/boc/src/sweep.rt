@@ -31,7 +31,7 @@ pub fn sweep_cmd<S: Source, W: Sink>(
     ensures sink { CountsSink result (W.failures sink.old) (W.failures sink.new) }
 {
     let record = read_record(alloc, source)?;
-    let question = WhatIf::new(alloc, record.rows())?;
+    let question = WhatIf::of(alloc, record.into_rows())?;
     let spans = question.sweep(rt, alloc)?;
     let answer = sweep_text(alloc, &spans)?;
     put_out(sink, &answer)?;

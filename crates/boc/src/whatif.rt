@@ -6,7 +6,7 @@ ghost use Rattle.boc_types.specs.Edits.{AllFit, all_edited};
 ghost use Rattle.boc.specs.Commands.{AnswersInput, Leaves, CountsSource, CountsSink, IsOfEdits, RefusesEdits};
 
 use crate::fault::Fault;
-use crate::report::report_on;
+use crate::report::report_with;
 use crate::workers::Workers;
 use boc_record::read_record;
 use boc_text::{Sink, Source, put_out};
@@ -35,9 +35,10 @@ pub fn whatif_cmd<S: Source, W: Sink>(
     ensures sink { CountsSink result (W.failures sink.old) (W.failures sink.new) }
 {
     let record = read_record(alloc, source)?;
-    let mut question = WhatIf::new(alloc, record.rows())?;
+    let mut question = WhatIf::of(alloc, record.into_rows())?;
     edit_all(&mut question, edits)?;
-    let answer = report_on(alloc, workers, question.rows())?;
+    let profile = question.profile(alloc)?;
+    let answer = report_with(alloc, workers, question.rows(), &profile)?;
     put_out(sink, &answer)?;
     Ok(())
 }

@@ -19,7 +19,7 @@ pub struct Simulation {
     pub frontier: Frontier,
     /// The tick at which each worker's row next spawns a child or ends, or a later one than any for an idle worker.
     pub changes: Vec<u64>,
-    /// The same ticks in a tournament, which tells the earliest, of as many workers as were ever busy, or a few more.
+    /// The same ticks in a tournament, which tells the earliest. It has room for the workers that were ever busy.
     pub tournament: Tournament,
     /// The row of each worker that isn't idle.
     pub tasks: Vec<u32>,

@@ -6,10 +6,12 @@ ghost use Rattle.boc_types.specs.Rows.{IsRows};
 ghost use Rattle.boc_types.specs.Plans.{work_of, HasEnds, IsEnd, IsEarliest, NoneEndsBefore};
 ghost use Rattle.boc_types.specs.Chains.{IsPicked, weight_of};
 ghost use Rattle.boc_types.specs.Greedy.{IsSpan};
+ghost use Rattle.boc_order.specs.Standing.{IsPlanOf};
 
 use crate::back::chain_back;
-use crate::plan::earliest_plan;
+use crate::plan::{Earliest, earliest_plan};
 use crate::report::Profile;
+use boc_types::chain::Chain;
 use boc_types::rows::{Row, Rows};
 use std::alloc::{AllocError, Global};
 
@@ -54,6 +56,22 @@ pub fn work(rows: &[Row]) -> u64
     rows.iter().map(|row| u64::from(row.ticks)).sum()
 }
 
+// The chain that costs as many ticks as the plan of the rows takes, and these ticks.
+fn costliest(alloc: Global, rows: &Rows, plan: &Earliest) -> Result<(Chain, u64), AllocError>
+    requires { IsPlanOf rows.now plan.now }
+    ensures shape { IsRows rows.now }
+    ensures earliest { IfOk result (λ _. IsEarliest rows.now plan.now.starts.items) }
+    ensures picked { IfOk result (λ c. IsPicked rows.now plan.now.starts.items c.0.steps.items) }
+    ensures weight { IfOk result (λ c. weight_of c.0.steps.items ≡ c.1) }
+    ensures span { IfOk result (λ c. IsEnd rows.now plan.now.starts.items c.1) }
+    ensures no_sooner { IfOk result (λ c. NoneEndsBefore rows.now c.1) }
+{
+    let list = rows.as_slice();
+    let last = last_row(&plan.ends);
+    let chain = chain_back(alloc, list, plan, last as u32)?;
+    Ok((chain, plan.ends[last]))
+}
+
 /// The work of the rows, their earliest plan, and the costliest chain of rows.
 ///
 /// A plan gives each row the tick at which it starts. It keeps if no row starts before its parent's start and
@@ -74,10 +92,7 @@ pub fn profile(alloc: Global, rows: &Rows) -> Result<Profile, AllocError>
     ensures no_sooner { IfOk result (λ p. NoneEndsBefore rows.now p.span) }
 {
     let plan = earliest_plan(alloc, rows)?;
-    let list = rows.as_slice();
-    let last = last_row(&plan.ends);
-    let chain = chain_back(alloc, list, &plan, last as u32)?;
-    let span = plan.ends[last];
+    let (chain, span) = costliest(alloc, rows, &plan)?;
     Ok(Profile {
         work: work_between(&plan.starts, &plan.ends),
         span,
@@ -85,6 +100,36 @@ pub fn profile(alloc: Global, rows: &Rows) -> Result<Profile, AllocError>
         ends: plan.ends,
         chain,
     })
+}
+
+impl Earliest {
+    ghost use Rattle.std.specs.Prelude.{◌≡◌, IfOk};
+    ghost use Rattle.boc_types.specs.Plans.{work_of, HasEnds, IsEnd, IsEarliest, NoneEndsBefore};
+    ghost use Rattle.boc_types.specs.Chains.{IsPicked, weight_of};
+    ghost use Rattle.boc_order.specs.Standing.{IsPlanOf};
+
+    /// The profile of the rows that this plan places, as the function `profile` has it. No row is placed again.
+    ///
+    /// It takes memory and time that grow with the number of rows. `AllocError` says that memory was refused.
+    pub fn profile(&self, alloc: Global, rows: &Rows) -> Result<Profile, AllocError>
+        requires { IsPlanOf rows.now self.now }
+        ensures work { IfOk result (λ p. p.work ≡ work_of rows.now) }
+        ensures earliest { IfOk result (λ p. IsEarliest rows.now p.starts.items) }
+        ensures ends { IfOk result (λ p. HasEnds rows.now p.starts.items p.ends.items) }
+        ensures span { IfOk result (λ p. IsEnd rows.now p.starts.items p.span) }
+        ensures picked { IfOk result (λ p. IsPicked rows.now p.starts.items p.chain.steps.items) }
+        ensures weight { IfOk result (λ p. weight_of p.chain.steps.items ≡ p.span) }
+        ensures no_sooner { IfOk result (λ p. NoneEndsBefore rows.now p.span) }
+    {
+        let (chain, span) = costliest(alloc, rows, self)?;
+        Ok(Profile {
+            work: work_between(&self.starts, &self.ends),
+            span,
+            starts: Vec::from_slice(alloc, &self.starts)?,
+            ends: Vec::from_slice(alloc, &self.ends)?,
+            chain,
+        })
+    }
 }
 
 /// The span of the rows: the tick at which their earliest plan ends, as `profile` has it. No plan that keeps ends

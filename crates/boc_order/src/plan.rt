@@ -2,7 +2,6 @@
 
 ghost use Rattle.std.specs.Prelude.{◌≡◌, ℕ, ◌<◌, ◌≤◌, ◌+◌, ◌^◌, length, IfOk, slice_index};
 ghost use Rattle.boc_types.specs.Rows.{IsRows};
-ghost use Rattle.boc_types.specs.Rows.{IsRows};
 ghost use Rattle.boc_order.specs.Placed.{placement, ArePlaced, Remembers};
 ghost use Rattle.boc_order.specs.Room.{HasRoom};
 

@@ -1,6 +1,6 @@
 //! The profiles of worked rows, and chains of them that are true or false.
 
-use crate::{check_chain, profile};
+use crate::{check_chain, earliest_plan, profile};
 use boc_types::body::EndStatus;
 use boc_types::chain::{Chain, Step, Via};
 use boc_types::row_test::are_rows;
@@ -84,13 +84,15 @@ fn has_profile(
     wanted: &Wanted,
     chain: &[Step],
 ) -> Result<(), Fail> {
-    let found = profile(alloc, rows)?;
-    assert_eq!(rt; found.work, wanted.work);
-    assert_eq!(rt; found.span, wanted.span);
-    assert_eq!(rt; found.starts.as_slice(), wanted.starts.as_slice());
-    assert_eq!(rt; found.ends.as_slice(), wanted.ends.as_slice());
-    assert_eq!(rt; found.chain.steps.as_slice(), chain);
-    assert_eq!(rt; check_chain(rows, &found.chain), Ok(wanted.span));
+    let plan = earliest_plan(alloc, rows)?;
+    for found in &[profile(alloc, rows)?, plan.profile(alloc, rows)?] {
+        assert_eq!(rt; found.work, wanted.work);
+        assert_eq!(rt; found.span, wanted.span);
+        assert_eq!(rt; found.starts.as_slice(), wanted.starts.as_slice());
+        assert_eq!(rt; found.ends.as_slice(), wanted.ends.as_slice());
+        assert_eq!(rt; found.chain.steps.as_slice(), chain);
+        assert_eq!(rt; check_chain(rows, &found.chain), Ok(wanted.span));
+    }
     Ok(())
 }
 

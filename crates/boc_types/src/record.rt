@@ -73,6 +73,7 @@ impl Record {
     /// Hands over the rows, main first, and drops the rest. It takes no memory.
     pub fn into_rows(self) -> Rows
         ensures value { result ≡ self.rows }
+        ensures run { IsRecord self }
     {
         self.rows
     }

@@ -73,6 +73,25 @@ fn cheaper_row_shortens_the_run(rt: HostRuntime) -> Result<(), Fail> {
 }
 
 #[test]
+fn rows_are_taken_over(rt: HostRuntime) -> Result<(), Fail> {
+    let mut question = WhatIf::of(rt.alloc(), transfer(rt.alloc())?)?;
+    assert_eq!(rt; question.touched(), 0);
+    assert_eq!(rt; question.rows().as_slice().len(), 4);
+    let before = question.profile(rt.alloc())?;
+    assert_eq!(rt; (before.work, before.span), (11, 9));
+    assert_eq!(rt; before.starts.as_slice(), [0, 2, 4, 7].as_slice());
+    assert_eq!(rt; question.edit(2, 1), Ok(()));
+    let after = question.profile(rt.alloc())?;
+    assert_eq!(rt; (after.work, after.span), (9, 7));
+    assert_eq!(rt; after.starts.as_slice(), [0, 2, 4, 5].as_slice());
+    assert_eq!(rt; after.ends.as_slice(), [4, 4, 5, 7].as_slice());
+    let greedy = question.greedy(rt.alloc(), 2)?;
+    assert_eq!(rt; greedy.starts.as_slice(), [0, 2, 4, 5].as_slice());
+    assert_eq!(rt; (greedy.ends_at, greedy.bound), (7, 11));
+    Ok(())
+}
+
+#[test]
 fn refused_edits_change_nothing(rt: HostRuntime) -> Result<(), Fail> {
     let mut question = WhatIf::new(rt.alloc(), &transfer(rt.alloc())?)?;
     assert_eq!(rt; question.edit(1, 1), Ok(()));

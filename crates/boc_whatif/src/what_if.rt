@@ -2,7 +2,7 @@
 
 use crate::lasts::{check, last_children};
 use crate::sweep::sweep;
-use boc_greedy::Greedy;
+use boc_greedy::{Greedy, greedy_within};
 use boc_order::{Earliest, Profile, earliest_plan};
 use boc_types::edit::EditFault;
 use boc_types::rows::Rows;
@@ -12,8 +12,8 @@ use std::thread::Threads;
 
 /// The rows of a finished run, of which a caller asks what they would be worth with other ticks.
 ///
-/// It has a copy of the rows, and their earliest plan. An edit has one row take other ticks, and places that row
-/// and those after it anew. All times are ticks.
+/// It has rows of its own, and their earliest plan. An edit has one row take other ticks, and places that row and
+/// those after it anew. All times are ticks.
 #[derive(Drop)]
 pub struct WhatIf {
     rows: Rows,
@@ -41,12 +41,22 @@ impl WhatIf {
 
     /// The same rows, none of them edited. `AllocError` says that memory was refused.
     ///
-    /// It takes all memory that the edits need.
+    /// It takes all memory that the edits need, and a copy of the rows. `of` takes over the rows of a caller who needs
+    /// them no more.
     pub fn new(alloc: Global, rows: &Rows) -> Result<WhatIf, AllocError>
         ensures rows { IfOk result (λ w. w.rows ≡ rows.now) }
         ensures touched { IfOk result (λ w. w.touched ≡ 0) }
     {
-        let rows = rows.copy(alloc)?;
+        WhatIf::of(alloc, rows.copy(alloc)?)
+    }
+
+    /// These rows, none of them edited. `AllocError` says that memory was refused, and then the rows are gone.
+    ///
+    /// It takes all memory that the edits need, and time that grows with the number of rows and their cowns.
+    pub fn of(alloc: Global, rows: Rows) -> Result<WhatIf, AllocError>
+        ensures rows { IfOk result (λ w. w.rows ≡ rows) }
+        ensures touched { IfOk result (λ w. w.touched ≡ 0) }
+    {
         let lasts = last_children(alloc, rows.as_slice())?;
         let plan = earliest_plan(alloc, &rows)?;
         Ok(WhatIf {
@@ -106,6 +116,9 @@ impl WhatIf {
     }
 
     /// The profile of the rows, as `boc_order::profile` has it. `AllocError` says that memory was refused.
+    ///
+    /// It comes from the plan that the edits keep, so no row is placed again. It takes memory and time that grow with
+    /// the number of rows.
     pub fn profile(&self, alloc: Global) -> Result<Profile, AllocError>
         ensures work { IfOk result (λ p. p.work ≡ work_of self.now.rows) }
         ensures earliest { IfOk result (λ p. IsEarliest self.now.rows p.starts.items) }
@@ -115,7 +128,7 @@ impl WhatIf {
         ensures weight { IfOk result (λ p. weight_of p.chain.steps.items ≡ p.span) }
         ensures no_sooner { IfOk result (λ p. NoneEndsBefore self.now.rows p.span) }
     {
-        boc_order::profile(alloc, &self.rows)
+        self.plan.profile(alloc, &self.rows)
     }
 
     /// The greedy plan of the rows for p workers, from 1 to 64, as `boc_greedy::greedy` has it. `AllocError` says that
@@ -139,7 +152,7 @@ impl WhatIf {
             Keeps self.now.rows other → IsForWorkers self.now.rows p other others → IsEnd self.now.rows other other_last →
             p * g.ends_at ≤ (2 * p - 1) * other_last) }
     {
-        boc_greedy::greedy(alloc, &self.rows, p)
+        greedy_within(alloc, &self.rows, p, self.span())
     }
 
     /// For each row the span that the rows would have if that row alone took the least ticks that it can: the offset

@@ -1,5 +1,4 @@
 use Rattle.std.proofs.Common.{◌∙◌}
-use Rattle.std.specs.Io.KnownBytes.{Consumes, IsAtEnd}
 use Rattle.boc_types.specs.Records.{record_text}
 use Rattle.boc_types.specs.Answers.{IsWhatIfAnswer}
 use Rattle.boc.specs.Commands.{AnswersInput}
@@ -10,9 +9,9 @@ pub returns-in_err-put_out-clause-written : goal.returns-in_err-put_out-clause-w
 returns-in_err-put_out-clause-written g c =
     let r = c.in_ok-record.record in
     let answer : IsWhatIfAnswer c.args.edits.now c.args.workers (record_text r.cowns r.events) c.deref.result.now =
-    answered c.args.edits.now c.args.workers r c.in_ok-question.question.rows c.edit_all.new.question.rows c.rows-2.result.now c.in_ok-answer.answer.items
-    c.deref.result.now c.rows.ensures.run (c.in_ok-question.ensures.rows ∙ c.rows.ensures.value) c.in_ok-edit_all.ensures.fit c.in_ok-edit_all.ensures.rows
-    c.rows-2.ensures c.in_ok-answer.ensures c.deref.ensures.value in
+    answered c.args.edits.now c.args.workers r c.in_ok-question.question.rows c.edit_all.new.question.rows c.rows.result.now c.in_ok-answer.answer.items
+    c.deref.result.now c.into_rows.ensures.run (c.in_ok-question.ensures.rows ∙ c.into_rows.ensures.value) c.in_ok-edit_all.ensures.fit c.in_ok-edit_all.ensures.rows
+    c.rows.ensures c.in_ok-answer.ensures c.deref.ensures.value in
     let whole : AnswersInput (IsWhatIfAnswer c.args.edits.now c.args.workers) (g.S.Source.remaining c.args.source.now)
     (g.S.Source.remaining c.read_record.new.source) c.deref.result.now = record {
       input = record_text r.cowns r.events;

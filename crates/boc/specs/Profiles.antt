@@ -1,0 +1,14 @@
+-- The profile of some rows.
+use Rattle.std.specs.Prelude.{◌≡◌, List}
+use Rattle.boc_order.specs.declared.report.Profile.{Profile}
+use Rattle.boc_types.specs.declared.rows.Row.{Row}
+use Rattle.boc_types.specs.Plans.{IsEarliest, IsEnd, HasEnds, work_of}
+use Rattle.boc_types.specs.Chains.{IsPicked}
+
+-- the profile is that of the rows: it has their work, the starts and ends of their earliest plan, the end of that plan, and the chain that is picked in it
+pub record IsProfileOf (rows : List Row) (profile : Profile) : Type 0 where
+  pub work : profile.work ≡ work_of rows
+  pub earliest : IsEarliest rows profile.starts.items
+  pub ends : HasEnds rows profile.starts.items profile.ends.items
+  pub span : IsEnd rows profile.starts.items profile.span
+  pub picked : IsPicked rows profile.starts.items profile.chain.steps.items

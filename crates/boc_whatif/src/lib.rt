@@ -6,7 +6,7 @@
 //! An edit takes no memory, and time that grows with the number of rows: it computes its row and those after it
 //! again, and reads the cowns of those before it. A sweep does that for each row, so it takes time that grows with the
 //! square of the number of rows. It runs in several threads, each of which takes memory once for a piece of at least
-//! 256 rows.
+//! 64 rows.
 #![tactic(auto)]
 
 mod lasts;

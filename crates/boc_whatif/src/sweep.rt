@@ -19,7 +19,7 @@ use std::thread::Threads;
 const MOST_PIECES: usize = 64;
 
 /// The least rows of a piece that isn't the last.
-const LEAST_ROWS: usize = 256;
+const LEAST_ROWS: usize = 64;
 
 // The span of the rows if one of them took so many ticks. The rows stay, and those before this one keep their places.
 fn span_with(rows: &mut Rows, plan: &mut Earliest, row: u32, ticks: u32) -> u64

@@ -158,7 +158,7 @@ impl WhatIf {
     /// For each row the span that the rows would have if that row alone took the least ticks that it can: the offset
     /// of its last child, and 1 at least. `AllocError` says that memory was refused.
     ///
-    /// The rows are split into at most 64 pieces of neighbours, of at least 256 rows each but the last, which run in
+    /// The rows are split into at most 64 pieces of neighbours, of at least 64 rows each but the last, which run in
     /// several threads. A piece takes memory once, for a copy of the rows, a plan and its spans. For each of its rows
     /// it computes that row and those after it again, as an edit does.
     pub fn sweep(&self, rt: &(impl Threads + Sync), alloc: Global) -> Result<Vec<u64>, AllocError>

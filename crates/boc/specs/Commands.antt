@@ -1,8 +1,5 @@
 -- What a command does to its source and its sink.
-use Rattle.std.specs.Prelude.{◌≡◌, ℕ, ◌+◌, List, Option, Some, IfSome, Result, Ok, Err, codes}
-use Rattle.std.specs.Str.Parse.{IsNumeral, digits_value, without_leading_plus}
-use Rattle.clap.specs.Matches.{one_text}
-use Rattle.clap.specs.declared.parser.matches.Found.{Found}
+use Rattle.std.specs.Prelude.{◌≡◌, ℕ, ◌+◌, List, Option, IfSome, Result, Ok, Err}
 use Rattle.std.specs.Io.KnownBytes.{Consumes, IsAtEnd, Appends, Keeps}
 use Rattle.boc.specs.declared.fault.Fault.{Fault}
 use Rattle.boc.specs.declared.fault.Fault.TheVariants as faults
@@ -140,10 +137,3 @@ IsOfWords (faults.Edit number fault) = ⊥
 IsOfWords faults.Behaviours = ⊥
 IsOfWords faults.Source = ⊥
 IsOfWords (faults.Sink gone) = ⊥
-
--- what the parser found under `p` is this number in decimal digits, with a plus sign before them or with none
-pub record IsGiven (found : Found) (number : ℕ) : Type 0 where
-  pub text : List ℕ
-  pub stands : one_text found (codes "p") ≡ Some text
-  pub numeral : IsNumeral 10 (without_leading_plus text)
-  pub value : digits_value 10 (without_leading_plus text) ≡ number

@@ -1,8 +1,10 @@
 // The words of the command line.
 
-ghost use Rattle.boc.specs.Commands.{IsGiven, IsOfWords};
-ghost use Rattle.clap.specs.Words.{found_of};
-ghost use Rattle.std.specs.Prelude.{IfErr, IfSome};
+ghost use Rattle.boc.specs.Commands.{IsOfWords};
+ghost use Rattle.boc.specs.Words.{AreEdits, AreTaken, AreWorkers, IsAsked, IsGiven, IsHelp, IsMisnamed, IsNamed, IsOfEditWords, IsOfError, IsOfWorkers, IsRefused, command_line, edits_operand, values_at, workers_option};
+ghost use Rattle.clap.specs.Kinds.{HasKind};
+ghost use Rattle.clap.specs.Words.{app_of, fault_of, found_of, kind_of, rows_of, rule_of, subcommand_of, subcommand_rows_of};
+ghost use Rattle.std.specs.Prelude.{◌≡◌, ◌<◌, ◌≤◌, ℕ, IfErr, IfOk, MatchOption, false, map, string_bytes};
 
 use crate::edit_word::edit_of;
 use crate::fault::Fault;
@@ -37,7 +39,8 @@ pub enum Command {
 /// Words that the parser refuses are a fault with its text. Of edits that are no `ROW=TICKS` the fault names the
 /// first.
 pub fn read_words(alloc: Global, words: &[String]) -> Result<Command, Fault>
-    ensures { IfErr result IsOfWords }
+    ensures asked { IfOk result (IsAsked (map string_bytes words.now)) }
+    ensures refused { IfErr result (IsRefused (map string_bytes words.now)) }
 {
     match found(alloc, words) {
         Ok(matches) => command_of(alloc, &matches),
@@ -49,25 +52,24 @@ pub fn read_words(alloc: Global, words: &[String]) -> Result<Command, Fault>
 pub fn not_text(alloc: Global) -> Fault
     ensures { IsOfWords result }
 {
-    fault_of_words(alloc, ErrorKind::ValueValidation, "a word is no text")
-}
-
-/// The fault of words with a text of the program's own.
-fn fault_of_words(alloc: Global, kind: ErrorKind, text: &str) -> Fault
-    ensures { IsOfWords result }
-{
-    let error = match parser(alloc) {
-        Ok(mut parser) => parser.error(kind, text),
-        Err(_) => return Fault::Memory,
-    };
-    match error {
+    match error_of_words(alloc, ErrorKind::ValueValidation, "a word is no text") {
         Ok(error) => Fault::Words(error),
         Err(_) => Fault::Memory,
     }
 }
 
+/// An error of the words with a text of the program's own.
+fn error_of_words(alloc: Global, kind: ErrorKind, text: &str) -> Result<clap::Error, AllocError>
+    ensures { IfOk result (λ error. kind_of error ≡ kind) }
+{
+    let mut parser = parser(alloc)?;
+    parser.error(kind, text)
+}
+
 /// What the parser accepts.
-fn parser<'a>(alloc: Global) -> Result<clap::Command<'a>, AllocError> {
+fn parser<'a>(alloc: Global) -> Result<clap::Command<'a>, AllocError>
+    ensures { IfOk result (λ parser. app_of parser ≡ command_line) }
+{
     let values = clap::Command::new(alloc, "values").about(
         "Reads a program, runs it serially, and prints the values of its cowns",
     );
@@ -100,7 +102,10 @@ fn parser<'a>(alloc: Global) -> Result<clap::Command<'a>, AllocError> {
 }
 
 /// The number of workers for a greedy plan.
-fn workers_arg<'a>(alloc: Global) -> Arg<'a> {
+fn workers_arg<'a>(alloc: Global) -> Arg<'a>
+    ensures rule { rule_of result ≡ workers_option }
+    ensures local { result.global ≡ false }
+{
     Arg::new(alloc, "p")
         .long("p")
         .value_name("P")
@@ -109,7 +114,10 @@ fn workers_arg<'a>(alloc: Global) -> Arg<'a> {
 }
 
 /// The edits of `whatif`.
-fn edits_arg<'a>(alloc: Global) -> Arg<'a> {
+fn edits_arg<'a>(alloc: Global) -> Arg<'a>
+    ensures rule { rule_of result ≡ edits_operand }
+    ensures local { result.global ≡ false }
+{
     Arg::new(alloc, "edits")
         .value_name("ROW=TICKS")
         .num_args(0..)
@@ -117,37 +125,53 @@ fn edits_arg<'a>(alloc: Global) -> Arg<'a> {
 }
 
 /// What the parser finds in the words.
-fn found<'a>(alloc: Global, words: &'a [String]) -> Result<ArgMatches<'a>, clap::Error> {
+fn found<'a>(alloc: Global, words: &'a [String]) -> Result<ArgMatches<'a>, clap::Error>
+    ensures taken { IfOk result (λ matches. AreTaken (map string_bytes words.now)) }
+    ensures named { IfOk result (λ matches. subcommand_rows_of matches ≡ subcommand_of command_line (map string_bytes words.now)) }
+    ensures refused { IfErr result (HasKind (fault_of command_line (map string_bytes words.now))) }
+{
     let mut parser = parser(alloc)?;
     parser.try_get_matches_from_mut(words)
 }
 
-/// The command that the parser has found.
+/// The command that the parser has found. What the parser takes names one, with no number of workers but 1 to 64: the
+/// faults of words below are for other matches.
 fn command_of(alloc: Global, matches: &ArgMatches) -> Result<Command, Fault>
-    ensures { IfErr result IsOfWords }
+    ensures named { IfOk result (IsNamed (subcommand_rows_of matches.now)) }
+    ensures misnamed { IfErr result (IsMisnamed (subcommand_rows_of matches.now)) }
 {
     match matches.subcommand() {
         Some(("values", _)) => Ok(Command::Values),
         Some(("check", _)) => Ok(Command::Check),
-        Some(("profile", matches)) => Ok(Command::Profile(workers_asked(matches))),
+        Some(("profile", matches)) => Ok(Command::Profile(workers_asked(alloc, matches)?)),
         Some(("whatif", matches)) => {
             let edits = edits_asked(alloc, matches)?;
-            let workers = workers_asked(matches);
+            let workers = workers_asked(alloc, matches)?;
             Ok(Command::WhatIf { edits, workers })
         }
         Some(("sweep", _)) => Ok(Command::Sweep),
-        _ => Err(fault_of_words(alloc, ErrorKind::MissingSubcommand, "no command is named")),
+        _ => Err(Fault::Words(error_of_words(
+            alloc,
+            ErrorKind::MissingSubcommand,
+            "no command is named",
+        )?)),
     }
+}
+
+/// The texts that were found for an argument, none where it was not given.
+fn texts_at<'m, 'a>(matches: &'m ArgMatches<'a>, id: &str) -> &'m [&'a str]
+    ensures { map (λ text. text.now) result.now ≡ values_at (rows_of (found_of matches.now)) id.now }
+{
+    matches.get_strs(id).unwrap_or_default()
 }
 
 /// The edits that the words of `whatif` name. The first that is no `ROW=TICKS` is a fault.
 fn edits_asked(alloc: Global, matches: &ArgMatches) -> Result<Vec<Edit>, Fault>
-    ensures { IfErr result IsOfWords }
+    ensures asked { IfOk result (λ edits. AreEdits (rows_of (found_of matches.now)) edits.items) }
+    ensures refused { IfErr result (IsOfEditWords (rows_of (found_of matches.now))) }
 {
+    let words = texts_at(matches, "edits");
     let mut edits = Vec::new(alloc);
-    let Some(words) = matches.get_strs("edits") else {
-        return Ok(edits);
-    };
     for (index, word) in words.iter().enumerate() {
         let Some(edit) = edit_of(word) else {
             let number = index + 1;
@@ -158,17 +182,42 @@ fn edits_asked(alloc: Global, matches: &ArgMatches) -> Result<Vec<Edit>, Fault>
     Ok(edits)
 }
 
-/// How many workers the words name. The parser takes no number but 1 to 64.
-fn workers_asked(matches: &ArgMatches) -> Option<Workers>
-    ensures { IfSome result (IsGiven (found_of matches.now)) }
+/// The workers that the words ask for, none where they have no `--p`.
+fn workers_asked(alloc: Global, matches: &ArgMatches) -> Result<Option<Workers>, Fault>
+    ensures asked { IfOk result (AreWorkers (rows_of (found_of matches.now))) }
+    ensures refused { IfErr result (IsOfWorkers (rows_of (found_of matches.now))) }
 {
-    let number = matches.get_one::<u32>("p")?;
+    let texts = texts_at(matches, "p");
+    if texts.is_empty() {
+        return Ok(None);
+    }
+    match workers_of(texts) {
+        Some(workers) => Ok(Some(workers)),
+        None => Err(Fault::Words(error_of_words(
+            alloc,
+            ErrorKind::ValueValidation,
+            "`--p` is no number from 1 to 64",
+        )?)),
+    }
+}
+
+/// The workers that one text is the number of, in decimal digits.
+fn workers_of(texts: &[&str]) -> Option<Workers>
+    ensures { MatchOption result
+        ((number : ℕ) → 0 < number → number ≤ 64 → IsGiven (map (λ text. text.now) texts.now) number → ⊥)
+        (IsGiven (map (λ text. text.now) texts.now)) }
+{
+    let [text] = texts else {
+        return None;
+    };
+    let number = text.parse::<u32>().ok()?;
     Workers::new(number)
 }
 
 /// What becomes of words that have no matches: a call for help is answered.
 fn refused(alloc: Global, error: clap::Error) -> Result<Command, Fault>
-    ensures { IfErr result IsOfWords }
+    ensures help { IfOk result (λ command. IsHelp command × (kind_of error ≡ ErrorKind.DisplayHelp)) }
+    ensures refused { IfErr result (IsOfError error) }
 {
     match error.kind() {
         ErrorKind::OutOfMemory => Err(Fault::Memory),

@@ -125,15 +125,3 @@ RefusesEdits edits (Ok done) before = Unit {0}
 abbrev pub IsOfEdits : List Row → List Edit → Fault → Type 0
 IsOfEdits rows edits (faults.Edit number fault) = IsFirstUnfit rows edits number fault
 IsOfEdits rows edits _ = ⊥
-
--- a fault of the words, or want of memory
-abbrev pub IsOfWords : Fault → Type 0
-IsOfWords (faults.Words e) = Unit {0}
-IsOfWords (faults.EditWord number) = Unit {0}
-IsOfWords faults.Memory = Unit {0}
-IsOfWords (faults.Program r) = ⊥
-IsOfWords (faults.Record r) = ⊥
-IsOfWords (faults.Edit number fault) = ⊥
-IsOfWords faults.Behaviours = ⊥
-IsOfWords faults.Source = ⊥
-IsOfWords (faults.Sink gone) = ⊥

@@ -156,11 +156,17 @@ abbrev pub IsHelp : Command → Type 0
 IsHelp (commands.Help text) = Unit {0}
 IsHelp _ = ⊥
 
--- the fault has this error of the parser, which is no want of memory, or memory was refused
+-- the fault has this error of the parser, which is neither help nor want of memory, or memory was refused
 abbrev pub IsOfError : Error → Fault → Type 0
-IsOfError error (faults.Words e) = (e ≡ error) × (kind_of error ≢ kinds.OutOfMemory)
+IsOfError error (faults.Words e) = (e ≡ error) × (kind_of error ≢ kinds.OutOfMemory) × (kind_of error ≢ kinds.DisplayHelp)
 IsOfError error faults.Memory = Unit {0}
 IsOfError error _ = ⊥
+
+-- the fault says that a word is no text, or that memory was refused
+abbrev pub IsOfNoText : Fault → Type 0
+IsOfNoText (faults.Words e) = kind_of e ≡ kinds.ValueValidation
+IsOfNoText faults.Memory = Unit {0}
+IsOfNoText _ = ⊥
 
 -- ---- what the words ask for
 
@@ -173,9 +179,9 @@ abbrev pub IsAsked : List (List ℕ) → Command → Type 0
 IsAsked words (commands.Help text) = IsAmong kinds.DisplayHelp (fault_of command_line words)
 IsAsked words command = AreTaken words × IsNamed (subcommand_of command_line words) command
 
--- the words are refused with this fault: the parser's, or of edits the first that is misspelt
+-- the words are refused with this fault: the parser's, where it is not help that it answers, or of edits the first that is misspelt
 abbrev pub IsRefused : List (List ℕ) → Fault → Type 0
-IsRefused words (faults.Words e) = IsAmong (kind_of e) (fault_of command_line words)
+IsRefused words (faults.Words e) = IsAmong (kind_of e) (fault_of command_line words) × (kind_of e ≢ kinds.DisplayHelp)
 IsRefused words (faults.EditWord number) = AreTaken words
     × Names (subcommand_of command_line words) (codes "whatif") (λ rows. IsFirstMisspelt (values_at rows (codes "edits")) number)
 IsRefused words faults.Memory = Unit {0}

@@ -1,7 +1,6 @@
 // The words of the command line.
 
-ghost use Rattle.boc.specs.Commands.{IsOfWords};
-ghost use Rattle.boc.specs.Words.{AreEdits, AreTaken, AreWorkers, IsAsked, IsGiven, IsHelp, IsMisnamed, IsNamed, IsOfEditWords, IsOfError, IsOfWorkers, IsRefused, command_line, edits_operand, values_at, workers_option};
+ghost use Rattle.boc.specs.Words.{AreEdits, AreTaken, AreWorkers, IsAsked, IsGiven, IsHelp, IsMisnamed, IsNamed, IsOfEditWords, IsOfError, IsOfNoText, IsOfWorkers, IsRefused, command_line, edits_operand, values_at, workers_option};
 ghost use Rattle.clap.specs.Kinds.{HasKind};
 ghost use Rattle.clap.specs.Words.{app_of, fault_of, found_of, kind_of, rows_of, rule_of, subcommand_of, subcommand_rows_of};
 ghost use Rattle.std.specs.Prelude.{◌≡◌, ◌<◌, ◌≤◌, ℕ, IfErr, IfOk, MatchOption, false, map, string_bytes};
@@ -50,7 +49,7 @@ pub fn read_words(alloc: Global, words: &[String]) -> Result<Command, Fault>
 
 /// The fault of words that are no text.
 pub fn not_text(alloc: Global) -> Fault
-    ensures { IsOfWords result }
+    ensures { IsOfNoText result }
 {
     match error_of_words(alloc, ErrorKind::ValueValidation, "a word is no text") {
         Ok(error) => Fault::Words(error),

@@ -8,6 +8,7 @@ ghost use Rattle.boc_types.specs.declared.level.Comparison.{Comparison};
 ghost use Rattle.boc_types.specs.declared.level.SumOperator.{SumOperator};
 ghost use Rattle.boc_types.specs.declared.level.TermOperator.{TermOperator};
 ghost use Rattle.boc_types.specs.declared.token.Sign.TheVariants.{Minus};
+ghost use Rattle.boc_reader.specs.declared.fault.Fault.TheVariants.{At};
 ghost use Rattle.boc_reader.specs.Grammar.{NoSign, NoKeyword, NoOperator};
 ghost use Rattle.boc_reader.specs.Placed.{word_of, words_of, Refusal};
 
@@ -60,7 +61,9 @@ impl<'t, 'a> Cursor<'t, 'a> {
     }
 
     /// The next token is not what the grammar allows there.
-    pub fn unexpected(&self) -> Fault<ShapeFault> {
+    pub fn unexpected(&self) -> Fault<ShapeFault>
+        ensures { (at : ℕ) × (result ≡ At ShapeFault.Unexpected at) }
+    {
         Fault::At(ShapeFault::Unexpected, self.place())
     }
 

@@ -12,11 +12,12 @@ ghost use Rattle.boc_report.specs.Parts.{IsWhole};
 use boc_greedy::{Greedy, greedy};
 use boc_order::profile;
 use boc_reader::read_program;
-use boc_record::{RecordFault, read_record, write_record};
+use boc_record::{RecordFault, WriteFault, read_record, write_record};
 use boc_report::{profile_text, sweep_text};
 use boc_text::Bytes;
 use boc_types::record::Record;
 use boc_types::rows::Rows;
+use boc_types::workers::Workers;
 use boc_whatif::WhatIf;
 use std::alloc::{AllocError, Global};
 use std::io::{self, Read, Write};
@@ -27,7 +28,7 @@ use std::thread::Threads;
 enum Kind {
     Program,
     Record,
-    Report { workers: Option<u32> },
+    Report { workers: Option<Workers> },
     Edit { row: u32, ticks: u32 },
     Sweep,
 }
@@ -47,7 +48,7 @@ fn kind_of(words: &str) -> Option<Kind> {
 fn kind_with_numbers(words: &str) -> Option<Kind> {
     match words.split_once(' ')? {
         ("report", workers) => {
-            let workers = workers.parse().ok()?;
+            let workers = Workers::new(workers.parse().ok()?)?;
             Some(Kind::Report {
                 workers: Some(workers),
             })
@@ -93,38 +94,53 @@ fn record_of(rt: HostRuntime, text: &[u8]) -> io::Result<Result<Record, RecordFa
     Ok(read_record(rt.alloc(), &mut source))
 }
 
-/// Writes the line on a record's text: how many rows it has, and whether it is written again as it was.
+/// The text of a record, as it is written.
+fn text_of(rt: HostRuntime, record: &Record) -> Result<Vec<u8>, WriteFault> {
+    let mut sink = Bytes::new(Vec::new(rt.alloc()));
+    write_record(rt.alloc(), record, &mut sink)?;
+    Ok(sink.bytes)
+}
+
+/// Writes the line on a record's text: how many rows it has, and whether it is written again as it was. A text of the
+/// first version is written in the second, and that one as it was.
 fn tell_record(rt: HostRuntime, text: &[u8]) -> io::Result<()> {
     let record = match record_of(rt, text)? {
         Ok(record) => record,
         Err(fault) => return println!(rt; "{fault}"),
     };
-    let mut sink = Bytes::new(Vec::new(rt.alloc()));
-    match write_record(rt.alloc(), &record, &mut sink) {
-        Ok(()) if sink.bytes.as_slice() == text => {
-            println!(rt; "ok {}", record.rows().as_slice().len())
+    let rows = record.rows().as_slice().len();
+    let written = match text_of(rt, &record) {
+        Ok(written) => written,
+        Err(fault) => return println!(rt; "{fault}"),
+    };
+    if written.as_slice() == text {
+        return println!(rt; "ok {rows}");
+    }
+    match record_of(rt, &written)? {
+        Ok(again)
+            if text_of(rt, &again).is_ok_and(|twice| twice.as_slice() == written.as_slice()) => {
+            println!(rt; "ok {rows}, written in version 2")
         }
-        Ok(()) => println!(rt; "another text"),
-        Err(fault) => println!(rt; "{fault}"),
+        _ => println!(rt; "another text"),
     }
 }
 
-/// The greedy plan for so many workers, where there are 1 to 64.
+/// The greedy plan for so many workers, where a number is given.
 fn greedy_for(
     alloc: Global,
     rows: &Rows,
-    workers: Option<u32>,
+    workers: Option<Workers>,
 ) -> Result<Option<Greedy>, AllocError>
     ensures { IfOk result (λ plan. IfSome plan IsWhole) }
 {
     match workers {
-        Some(p) if (1..=64).contains(&p) => Ok(Some(greedy(alloc, rows, p)?)),
-        _ => Ok(None),
+        Some(workers) => Ok(Some(greedy(alloc, rows, workers)?)),
+        None => Ok(None),
     }
 }
 
 /// Writes the report on a record, or the line on a text that is none.
-fn tell_report(rt: HostRuntime, text: &[u8], workers: Option<u32>) -> io::Result<()> {
+fn tell_report(rt: HostRuntime, text: &[u8], workers: Option<Workers>) -> io::Result<()> {
     let record = match record_of(rt, text)? {
         Ok(record) => record,
         Err(fault) => return println!(rt; "{fault}"),

@@ -3,7 +3,7 @@ use Rattle.std.proofs.Common.{zero, suc, get_or, length, take, drop, ◌≡◌, 
 use Rattle.boc_types.specs.declared.rows.Row.{Row}
 use Rattle.boc_types.specs.declared.edit.Edit.{Edit}
 use Rattle.boc_types.specs.declared.edit.EditFault.{EditFault}
-use Rattle.boc_types.specs.Edits.{AllFit, Fits, IsEditFault, IsFirstUnfit, all_edited, edited}
+use Rattle.boc_types.specs.plans.Edits.{AllFit, Fits, IsEditFault, IsFirstUnfit, all_edited, edited}
 
 -- one edit more fits
 pub fit_more : (rows : List Row) (edits : List Edit) (i : ℕ) (d : Edit) → i < length edits → AllFit rows (take i edits)

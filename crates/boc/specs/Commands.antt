@@ -1,15 +1,31 @@
 -- What a command does to its source and its sink.
-use Rattle.std.specs.Prelude.{◌≡◌, ℕ, ◌+◌, List, Option, IfSome, Result, Ok, Err}
+use Rattle.std.specs.Prelude.{◌≡◌, ℕ, ◌+◌, Bool, true, false, List, Option, Some, None, IfSome, Result, Ok, Err, string_bytes}
 use Rattle.std.specs.Io.KnownBytes.{Consumes, IsAtEnd, Appends, Keeps}
 use Rattle.boc.specs.declared.fault.Fault.{Fault}
 use Rattle.boc.specs.declared.fault.Fault.TheVariants as faults
+use Rattle.boc.specs.declared.words.Command.{Command}
+use Rattle.boc.specs.declared.words.Command.TheVariants as commands
+use Rattle.boc.specs.Faults.{matter_of, IsWant, is_source, gone_of}
 use Rattle.boc_reader.specs.Meanings.{Means}
-use Rattle.boc_types.specs.Records.{Recorded, IsRecord, record_text, IsFirstFault}
+use Rattle.boc_reader.specs.declared.fault.ReadFaultKind.{ReadFaultKind}
+use Rattle.boc_reader.specs.declared.fault.ReadFaultKind.TheVariants as read_kinds
+use Rattle.boc_record.specs.declared.fault.RecordFault.{RecordFault}
+use Rattle.boc_types.specs.declared.limits.TheConstants.{MOST_TEXT}
+use Rattle.boc_types.specs.declared.program.Program.{Program}
 use Rattle.boc_types.specs.declared.rows.Row.{Row}
 use Rattle.boc_types.specs.declared.edit.Edit.{Edit}
 use Rattle.boc_types.specs.declared.edit.EditFault.{EditFault}
-use Rattle.boc_types.specs.Edits.{IsFirstUnfit}
+use Rattle.boc_types.specs.declared.verdict.RecordFaultKind.{RecordFaultKind}
+use Rattle.boc_types.specs.declared.verdict.RecordFaultKind.TheVariants as record_kinds
+use Rattle.boc_types.specs.text.Spells.{Spells}
+use Rattle.boc_types.specs.text.RecordTexts.{IsTextOf, IsFirstFault}
+use Rattle.boc_types.specs.runs.OwnOrder.{HasTooMany}
+use Rattle.boc_types.specs.runs.Records.{Recorded}
+use Rattle.boc_types.specs.plans.Edits.{IsFirstUnfit}
+use Rattle.boc_types.specs.answers.Answers.{IsValuesAnswer, IsCheckAnswer, IsProfileAnswer, IsWhatIfAnswer, IsSweepAnswer}
 use Rattle.boc_text.specs.Streams.{StopsAt, ReadsWhole}
+
+-- ---- what goes out
 
 -- the source gave an input to its end, and this text is the answer to it
 pub record AnswersInput (IsAnswer : List ℕ → List ℕ → Type 0) (before after : Option (List ℕ)) (text : List ℕ) : Type 0 where
@@ -18,110 +34,122 @@ pub record AnswersInput (IsAnswer : List ℕ → List ℕ → Type 0) (before af
   pub whole : IsAtEnd after
   pub answers : IsAnswer input text
 
--- The answer went out, and nothing else. Where the sink failed, a beginning of the answer did; after every other fault nothing.
+-- after a fault nothing went out; or, where the sink failed, a beginning of the answer
+abbrev pub LeavesAfter : (List ℕ → Type 0) → Option ℕ → Option (List ℕ) → Option (List ℕ) → Type 0
+LeavesAfter IsText None old new = Keeps old new
+LeavesAfter IsText (Some gone) old new = (text : List ℕ) × IsText text × StopsAt gone text old new
+
+-- the answer went out, and nothing else; or there was a fault
 abbrev pub Leaves : {A : Type 0} → (List ℕ → Type 0) → Result A Fault → Option (List ℕ) → Option (List ℕ) → Type 0
 Leaves IsText (Ok done) old new = (text : List ℕ) × IsText text × Appends old new text
-Leaves IsText (Err (faults.Sink gone)) old new = (text : List ℕ) × IsText text × StopsAt gone text old new
-Leaves IsText (Err (faults.Words e)) old new = Keeps old new
-Leaves IsText (Err (faults.EditWord number)) old new = Keeps old new
-Leaves IsText (Err (faults.Program r)) old new = Keeps old new
-Leaves IsText (Err (faults.Record r)) old new = Keeps old new
-Leaves IsText (Err (faults.Edit number fault)) old new = Keeps old new
-Leaves IsText (Err faults.Behaviours) old new = Keeps old new
-Leaves IsText (Err faults.Memory) old new = Keeps old new
-Leaves IsText (Err faults.Source) old new = Keeps old new
+Leaves IsText (Err fault) old new = LeavesAfter IsText (gone_of fault) old new
+
+-- ---- what is counted
+
+-- one more failure, or as many as before
+abbrev pub CountsOne : Bool → ℕ → ℕ → Type 0
+CountsOne true old new = new ≡ old + 1
+CountsOne false old new = new ≡ old
 
 -- the source failed where that is the answer, and there alone
 abbrev pub CountsSource : {A : Type 0} → Result A Fault → ℕ → ℕ → Type 0
-CountsSource (Err faults.Source) old new = new ≡ old + 1
-CountsSource (Err (faults.Sink gone)) old new = new ≡ old
-CountsSource (Err (faults.Words e)) old new = new ≡ old
-CountsSource (Err (faults.EditWord number)) old new = new ≡ old
-CountsSource (Err (faults.Program r)) old new = new ≡ old
-CountsSource (Err (faults.Record r)) old new = new ≡ old
-CountsSource (Err (faults.Edit number fault)) old new = new ≡ old
-CountsSource (Err faults.Behaviours) old new = new ≡ old
-CountsSource (Err faults.Memory) old new = new ≡ old
 CountsSource (Ok done) old new = new ≡ old
+CountsSource (Err fault) old new = CountsOne (is_source fault) old new
+
+-- one more failure where so much went out before it
+abbrev pub CountsGone : Option ℕ → ℕ → ℕ → Type 0
+CountsGone (Some gone) old new = new ≡ old + 1
+CountsGone None old new = new ≡ old
 
 -- the sink failed where that is the answer, and there alone
 abbrev pub CountsSink : {A : Type 0} → Result A Fault → ℕ → ℕ → Type 0
-CountsSink (Err (faults.Sink gone)) old new = new ≡ old + 1
-CountsSink (Err faults.Source) old new = new ≡ old
-CountsSink (Err (faults.Words e)) old new = new ≡ old
-CountsSink (Err (faults.EditWord number)) old new = new ≡ old
-CountsSink (Err (faults.Program r)) old new = new ≡ old
-CountsSink (Err (faults.Record r)) old new = new ≡ old
-CountsSink (Err (faults.Edit number fault)) old new = new ≡ old
-CountsSink (Err faults.Behaviours) old new = new ≡ old
-CountsSink (Err faults.Memory) old new = new ≡ old
 CountsSink (Ok done) old new = new ≡ old
+CountsSink (Err fault) old new = CountsGone (gone_of fault) old new
 
--- a fault of a program text says what is wrong with it, and no device failed
-abbrev pub IsOfInput : List ℕ → Fault → Type 0
-IsOfInput text (faults.Words e) = ⊥
-IsOfInput text (faults.EditWord number) = ⊥
-IsOfInput text (faults.Program r) = Means r.kind text
-IsOfInput text (faults.Record r) = ⊥
-IsOfInput text (faults.Edit number fault) = ⊥
-IsOfInput text faults.Behaviours = Unit {0}
-IsOfInput text faults.Memory = Unit {0}
-IsOfInput text faults.Source = ⊥
-IsOfInput text (faults.Sink gone) = ⊥
+-- ---- what is refused
 
--- an input was taken, up to a limit, of which this is known
-pub record TakesInput (Known : List ℕ → Type 0) (limit : ℕ) (before after : Option (List ℕ)) : Type 0 where
+-- nothing is refused: a fault is want of memory or of a device
+abbrev pub RefusesNothing : {A : Type 0} → Result A Fault → Type 0
+RefusesNothing (Ok done) = Unit {0}
+RefusesNothing (Err fault) = IsWant (matter_of fault)
+
+-- the kind of a refusal says what is wrong with a program text; want of memory is no refusal
+abbrev pub IsWrongWith : List ℕ → ReadFaultKind → Type 0
+IsWrongWith text read_kinds.Memory = ⊥
+IsWrongWith text kind = Means kind text
+
+-- the text spells a program whose own order has too many behaviours
+pub record RunsOver (text : List ℕ) : Type 0 where
+  pub program : Program
+  pub spells : Spells text program
+  pub many : HasTooMany program
+
+-- a fault of a program text: what is wrong with it, or that its program has too many behaviours; no device failed
+abbrev pub IsOfText : List ℕ → Fault → Type 0
+IsOfText text (faults.Program r) = IsWrongWith text r.kind
+IsOfText text faults.Behaviours = RunsOver text
+IsOfText text faults.Memory = Unit {0}
+IsOfText text _ = ⊥
+
+-- a program text was taken, up to one byte more than it may have, of which this is known
+pub record TakesText (Known : List ℕ → Type 0) (before after : Option (List ℕ)) : Type 0 where
   pub input : List ℕ
-  pub taken : ReadsWhole before after input limit
+  pub taken : ReadsWhole before after input (MOST_TEXT + 1)
   pub known : Known input
 
--- a program text is refused for what was taken of the source
-abbrev pub Refuses : {A : Type 0} → ℕ → Result A Fault → Option (List ℕ) → Option (List ℕ) → Type 0
-Refuses limit (Err (faults.Program r)) before after = TakesInput (Means r.kind) limit before after
-Refuses limit (Err (faults.Record r)) before after = ⊥
-Refuses limit (Err (faults.Edit number fault)) before after = ⊥
-Refuses limit (Err (faults.Words e)) before after = ⊥
-Refuses limit (Err (faults.EditWord number)) before after = ⊥
-Refuses limit (Err faults.Behaviours) before after = Unit {0}
-Refuses limit (Err faults.Memory) before after = Unit {0}
-Refuses limit (Err faults.Source) before after = Unit {0}
-Refuses limit (Err (faults.Sink gone)) before after = Unit {0}
-Refuses limit (Ok done) before after = Unit {0}
+-- a program is refused for what was taken of the source: a wrong text, or one whose program has too many behaviours
+abbrev pub RefusesProgram : {A : Type 0} → Result A Fault → Option (List ℕ) → Option (List ℕ) → Type 0
+RefusesProgram (Ok done) before after = Unit {0}
+RefusesProgram (Err (faults.Program r)) before after = TakesText (λ text. IsWrongWith text r.kind) before after
+RefusesProgram (Err faults.Behaviours) before after = TakesText RunsOver before after
+RefusesProgram (Err fault) before after = IsWant (matter_of fault)
 
--- the text of a record is refused for its first fault, where the source told it
+-- the kind of a refusal is the first fault of the text, where the source told it; want of memory or of a device is no refusal
+abbrev pub IsRecordRefusal : RecordFault → RecordFaultKind → Option (List ℕ) → Type 0
+IsRecordRefusal r record_kinds.Memory before = ⊥
+IsRecordRefusal r record_kinds.Device before = ⊥
+IsRecordRefusal r kind before = IfSome before (λ text. IsFirstFault text r.line kind)
+
+-- the text of a record is refused for its first fault
 abbrev pub RefusesRecord : {A : Type 0} → Result A Fault → Option (List ℕ) → Type 0
-RefusesRecord (Err (faults.Record r)) before = IfSome before (λ text. IsFirstFault text r.line r.kind)
-RefusesRecord (Err (faults.Words e)) before = ⊥
-RefusesRecord (Err (faults.EditWord number)) before = ⊥
-RefusesRecord (Err (faults.Program r)) before = ⊥
-RefusesRecord (Err (faults.Edit number fault)) before = ⊥
-RefusesRecord (Err faults.Behaviours) before = ⊥
-RefusesRecord (Err faults.Memory) before = Unit {0}
-RefusesRecord (Err faults.Source) before = Unit {0}
-RefusesRecord (Err (faults.Sink gone)) before = Unit {0}
 RefusesRecord (Ok done) before = Unit {0}
+RefusesRecord (Err (faults.Record r)) before = IsRecordRefusal r r.kind before
+RefusesRecord (Err fault) before = IsWant (matter_of fault)
 
 -- the source told the text of a record, if it told any, and of these edits this is the first that the record's rows cannot take
 pub record RefusesEdit (edits : List Edit) (number : ℕ) (fault : EditFault) (before : Option (List ℕ)) : Type 0 where
   pub recorded : Recorded
-  pub kept : IsRecord recorded
-  pub spells : IfSome before (λ text. text ≡ record_text recorded.cowns recorded.events)
+  pub spells : IfSome before (λ text. IsTextOf text recorded)
   pub unfit : IsFirstUnfit recorded.rows edits number fault
 
 -- edits are refused for the first that the rows cannot take, and the text of a record for its first fault
 abbrev pub RefusesEdits : {A : Type 0} → List Edit → Result A Fault → Option (List ℕ) → Type 0
-RefusesEdits edits (Err (faults.Record r)) before = IfSome before (λ text. IsFirstFault text r.line r.kind)
-RefusesEdits edits (Err (faults.Edit number fault)) before = RefusesEdit edits number fault before
-RefusesEdits edits (Err (faults.Words e)) before = ⊥
-RefusesEdits edits (Err (faults.EditWord number)) before = ⊥
-RefusesEdits edits (Err (faults.Program r)) before = ⊥
-RefusesEdits edits (Err faults.Behaviours) before = ⊥
-RefusesEdits edits (Err faults.Memory) before = Unit {0}
-RefusesEdits edits (Err faults.Source) before = Unit {0}
-RefusesEdits edits (Err (faults.Sink gone)) before = Unit {0}
 RefusesEdits edits (Ok done) before = Unit {0}
+RefusesEdits edits (Err (faults.Record r)) before = IsRecordRefusal r r.kind before
+RefusesEdits edits (Err (faults.Edit number fault)) before = RefusesEdit edits number fault before
+RefusesEdits edits (Err fault) before = IsWant (matter_of fault)
 
 -- the fault names the first of the edits that these rows cannot take
 abbrev pub IsOfEdits : List Row → List Edit → Fault → Type 0
 IsOfEdits rows edits (faults.Edit number fault) = IsFirstUnfit rows edits number fault
 IsOfEdits rows edits _ = ⊥
+
+-- ---- every command
+
+-- what goes out for a command: the answer to its input, or for a call for help the parser's text, for which nothing is taken
+abbrev pub AnswersCommand : Command → Option (List ℕ) → Option (List ℕ) → List ℕ → Type 0
+AnswersCommand commands.Values before after text = AnswersInput IsValuesAnswer before after text
+AnswersCommand commands.Check before after text = AnswersInput IsCheckAnswer before after text
+AnswersCommand (commands.Profile workers) before after text = AnswersInput (IsProfileAnswer workers) before after text
+AnswersCommand (commands.WhatIf edits workers) before after text = AnswersInput (IsWhatIfAnswer edits.items workers) before after text
+AnswersCommand commands.Sweep before after text = AnswersInput IsSweepAnswer before after text
+AnswersCommand (commands.Help help) before after text = (text ≡ string_bytes help) × Keeps before after
+
+-- what a command refuses; a call for help refuses nothing
+abbrev pub RefusesCommand : {A : Type 0} → Command → Result A Fault → Option (List ℕ) → Option (List ℕ) → Type 0
+RefusesCommand commands.Values result before after = RefusesProgram result before after
+RefusesCommand commands.Check result before after = RefusesRecord result before
+RefusesCommand (commands.Profile workers) result before after = RefusesRecord result before
+RefusesCommand (commands.WhatIf edits workers) result before after = RefusesEdits edits.items result before
+RefusesCommand commands.Sweep result before after = RefusesRecord result before
+RefusesCommand (commands.Help help) result before after = RefusesNothing result

@@ -1,5 +1,5 @@
 -- What faults say.
-use Rattle.std.specs.Prelude.{ℕ, Option, Some, None}
+use Rattle.std.specs.Prelude.{ℕ, Bool, true, false, Option, Some, None}
 use Rattle.boc.specs.declared.fault.Fault.{Fault}
 use Rattle.boc.specs.declared.fault.Fault.TheVariants as faults
 use Rattle.boc_text.specs.declared.whole.TextFault.{TextFault}
@@ -13,29 +13,50 @@ use Rattle.boc_reader.specs.declared.fault.ReadFault.{ReadFault}
 use Rattle.boc_reader.specs.declared.fault.ReadFaultKind.{ReadFaultKind}
 use Rattle.boc_reader.specs.declared.fault.ReadFaultKind.TheVariants as kinds
 
--- the status of the program: refused words, input and runs, and want of memory or of a device
+-- what was refused: the words, the input or the run; or what was wanting: memory, or a device that works
+pub data Matter : Type 0 where
+  words : Matter
+  input : Matter
+  run : Matter
+  means : Matter
+
+-- what a fault is about
+abbrev pub matter_of : Fault → Matter
+matter_of (faults.Words e) = words
+matter_of (faults.EditWord number) = words
+matter_of (faults.Program r) = input
+matter_of (faults.Record r) = input
+matter_of (faults.Edit number fault) = input
+matter_of faults.Behaviours = run
+matter_of faults.Memory = means
+matter_of faults.Source = means
+matter_of (faults.Sink gone) = means
+
+-- the status that goes with it
+abbrev pub status_of_matter : Matter → ℕ
+status_of_matter words = 2
+status_of_matter input = 3
+status_of_matter run = 4
+status_of_matter means = 5
+
+-- the status of the program
 abbrev pub status_of : Fault → ℕ
-status_of (faults.Words e) = 2
-status_of (faults.EditWord number) = 2
-status_of (faults.Program r) = 3
-status_of (faults.Record r) = 3
-status_of (faults.Edit number fault) = 3
-status_of faults.Behaviours = 4
-status_of faults.Memory = 5
-status_of faults.Source = 5
-status_of (faults.Sink gone) = 5
+status_of fault = status_of_matter (matter_of fault)
+
+-- the fault is want of memory or of a device
+abbrev pub IsWant : Matter → Type 0
+IsWant means = Unit {0}
+IsWant _ = ⊥
+
+-- the source failed
+abbrev pub is_source : Fault → Bool
+is_source faults.Source = true
+is_source _ = false
 
 -- how much went out before the sink failed
 abbrev pub gone_of : Fault → Option ℕ
 gone_of (faults.Sink gone) = Some gone
-gone_of (faults.Words e) = None
-gone_of (faults.EditWord number) = None
-gone_of (faults.Program r) = None
-gone_of (faults.Record r) = None
-gone_of (faults.Edit number fault) = None
-gone_of faults.Behaviours = None
-gone_of faults.Memory = None
-gone_of faults.Source = None
+gone_of _ = None
 
 -- the fault of an input that could not be taken in
 abbrev pub of_text : TextFault → Fault

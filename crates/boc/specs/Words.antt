@@ -10,6 +10,7 @@ use Rattle.clap.specs.declared.error.Error.{Error}
 use Rattle.clap.specs.declared.error.kind.ErrorKind.TheVariants as kinds
 use Rattle.clap.specs.declared.builder.value_parser.ValueParser.TheVariants as parsers
 use Rattle.boc_types.specs.declared.edit.Edit.{Edit}
+use Rattle.boc_types.specs.declared.limits.TheConstants.{MOST_WORKERS}
 use Rattle.boc.specs.declared.fault.Fault.{Fault}
 use Rattle.boc.specs.declared.fault.Fault.TheVariants as faults
 use Rattle.boc.specs.declared.words.Command.{Command}
@@ -23,7 +24,7 @@ abbrev pub workers_option : Rule
 workers_option = record (new_rule (codes "p")) {
   long = Some (codes "p");
   value_names = 1;
-  parser = Some (parsers.Signed (pos 1) (pos 64));
+  parser = Some (parsers.Signed (pos 1) (pos MOST_WORKERS));
 }
 
 -- the edits: any number of words
@@ -78,7 +79,7 @@ AreWorkers rows (Some number) = IsGiven (values_at rows (codes "p")) number
 -- a `--p` was given, and there is no one number from 1 to 64 with it
 abbrev pub HasNoWorkers : List Row → Type 0
 HasNoWorkers rows = (AreWorkers rows None → ⊥)
-    × ((number : ℕ) → 0 < number → number ≤ 64 → AreWorkers rows (Some number) → ⊥)
+    × ((number : ℕ) → 0 < number → number ≤ MOST_WORKERS → AreWorkers rows (Some number) → ⊥)
 
 -- the words given as edits are those of these edits, in their order
 abbrev pub AreEdits : List Row → List Edit → Type 0

@@ -1,9 +1,9 @@
 // The command `check`.
 
 ghost use Rattle.std.specs.Prelude.{◌≡◌, ◌<◌, length, IfOk};
-ghost use Rattle.boc_types.specs.Answers.{IsCheckAnswer};
-ghost use Rattle.boc_types.specs.Records.{IsRecord};
-ghost use Rattle.boc_types.specs.Texts.{check_text as check_text_spec};
+ghost use Rattle.boc_types.specs.answers.Answers.{IsCheckAnswer};
+ghost use Rattle.boc_types.specs.runs.Records.{IsRecord};
+ghost use Rattle.boc_types.specs.answers.Texts.{check_text as check_text_spec};
 ghost use Rattle.boc.specs.Commands.{AnswersInput, Leaves, CountsSource, CountsSink, RefusesRecord};
 
 use crate::fault::Fault;

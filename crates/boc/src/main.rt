@@ -2,6 +2,7 @@
 #![tactic(auto)]
 
 mod check;
+mod command;
 mod edit_word;
 mod fault;
 mod profile;
@@ -17,16 +18,11 @@ mod whatif_tests;
 mod words;
 #[cfg(test)]
 mod words_tests;
-mod workers;
 
-use crate::check::check_cmd;
+use crate::command::run_command;
 use crate::fault::Fault;
-use crate::profile::profile_cmd;
-use crate::sweep::sweep_cmd;
-use crate::values::values_cmd;
-use crate::whatif::whatif_cmd;
-use crate::words::{Command, not_text, read_words};
-use boc_text::{Counted, put_out};
+use crate::words::{not_text, read_words};
+use boc_text::Counted;
 use std::process::ExitCode;
 use std::thread::Threads;
 use std::{env, io};
@@ -45,34 +41,10 @@ fn main(rt: HostRuntime) -> ExitCode {
 /// Does what the words ask for. What runs in several threads is started by way of `threads`.
 fn run(rt: HostRuntime, threads: &(impl Threads + Sync)) -> Result<(), Fault> {
     let words = words_given(rt)?;
+    let command = read_words(rt.alloc(), &words)?;
+    let mut input = Counted::new(rt.stdin());
     let mut output = Counted::new(rt.stdout());
-    match read_words(rt.alloc(), &words)? {
-        Command::Values => values_cmd(rt.alloc(), &mut Counted::new(rt.stdin()), &mut output),
-        Command::Check => check_cmd(rt.alloc(), &mut Counted::new(rt.stdin()), &mut output),
-        Command::Profile(workers) => profile_cmd(
-            rt.alloc(),
-            workers,
-            &mut Counted::new(rt.stdin()),
-            &mut output,
-        ),
-        Command::WhatIf { edits, workers } => whatif_cmd(
-            rt.alloc(),
-            &edits,
-            workers,
-            &mut Counted::new(rt.stdin()),
-            &mut output,
-        ),
-        Command::Sweep => sweep_cmd(
-            rt.alloc(),
-            threads,
-            &mut Counted::new(rt.stdin()),
-            &mut output,
-        ),
-        Command::Help(text) => {
-            put_out(&mut output, text.as_bytes())?;
-            Ok(())
-        }
-    }
+    run_command(rt.alloc(), threads, &command, &mut input, &mut output)
 }
 
 /// The words of the command line, the program's own name first.

@@ -1,14 +1,14 @@
 // The command `profile`.
 
 ghost use Rattle.std.specs.Prelude.{◌<◌};
-ghost use Rattle.boc_types.specs.Answers.{IsProfileAnswer};
+ghost use Rattle.boc_types.specs.answers.Answers.{IsProfileAnswer};
 ghost use Rattle.boc.specs.Commands.{AnswersInput, Leaves, CountsSource, CountsSink, RefusesRecord};
 
 use crate::fault::Fault;
 use crate::report::report_on;
-use crate::workers::Workers;
 use boc_record::read_record;
 use boc_text::{Sink, Source, put_out};
+use boc_types::workers::Workers;
 use std::alloc::Global;
 
 /// Reads the text of a record, and writes the report on its rows: their work, the span, the chain of rows that holds

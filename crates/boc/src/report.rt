@@ -2,15 +2,15 @@
 
 ghost use Rattle.std.specs.Prelude.{◌≡◌, IfOk, IfSome};
 ghost use Rattle.boc_report.specs.Parts.{IsWhole, part_of};
-ghost use Rattle.boc_types.specs.Answers.{IsAskedPart, IsReport};
-ghost use Rattle.boc_types.specs.Greedy.{IsSpan};
-ghost use Rattle.boc.specs.Profiles.{IsProfileOf};
+ghost use Rattle.boc_types.specs.answers.Answers.{IsAskedPart, IsReport};
+ghost use Rattle.boc_types.specs.plans.Greedy.{IsSpan};
+ghost use Rattle.boc_order.specs.Profiles.{IsProfileOf};
 
-use crate::workers::Workers;
 use boc_greedy::{Greedy, greedy_within};
 use boc_order::{Profile, profile};
 use boc_report::profile_text;
 use boc_types::rows::Rows;
+use boc_types::workers::Workers;
 use std::alloc::{AllocError, Global};
 
 /// The report on some rows, with the greedy part where a number of workers is given.
@@ -52,7 +52,7 @@ fn greedy_for(
 {
     match workers {
         Some(workers) => {
-            let greedy = greedy_within(alloc, rows, workers.number(), span)?;
+            let greedy = greedy_within(alloc, rows, workers, span)?;
             Ok(Some(greedy))
         }
         None => Ok(None),

@@ -1,7 +1,7 @@
 // The command `sweep`.
 
 ghost use Rattle.std.specs.Prelude.{◌<◌};
-ghost use Rattle.boc_types.specs.Answers.{IsSweepAnswer};
+ghost use Rattle.boc_types.specs.answers.Answers.{IsSweepAnswer};
 ghost use Rattle.boc.specs.Commands.{AnswersInput, Leaves, CountsSource, CountsSink, RefusesRecord};
 
 use crate::fault::Fault;

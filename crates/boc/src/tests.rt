@@ -4,8 +4,8 @@ use crate::check::check_cmd;
 use crate::fault::Fault;
 use crate::profile::profile_cmd;
 use crate::values::values_cmd;
-use crate::workers::Workers;
 use boc_text::{Bytes, FailAt};
+use boc_types::workers::Workers;
 use std::alloc::{AllocError, Global};
 use std::test::*;
 

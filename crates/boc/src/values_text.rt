@@ -1,8 +1,8 @@
 // The text of the cowns' values.
 
 ghost use Rattle.std.specs.Prelude.{◌≡◌, ◌++◌, [], ◌+◌, ◌^◌, ◌<◌, length, OnOk, IfOk};
-ghost use Rattle.boc_types.specs.Programs.{cown_count, size_of};
-ghost use Rattle.boc_types.specs.Texts.{values_text as values_text_spec, value_line, member_lines, cown_lines};
+ghost use Rattle.boc_types.specs.program.Programs.{cown_count, size_of};
+ghost use Rattle.boc_types.specs.answers.Texts.{values_text as values_text_spec, value_line, member_lines, cown_lines};
 
 use boc_text::{put_number, put_signed};
 use boc_types::cown::Cown;

@@ -1,16 +1,16 @@
 // The command `whatif`.
 
 ghost use Rattle.std.specs.Prelude.{◌≡◌, ◌<◌, IfErr, OnOk};
-ghost use Rattle.boc_types.specs.Answers.{IsWhatIfAnswer};
-ghost use Rattle.boc_types.specs.Edits.{AllFit, all_edited};
+ghost use Rattle.boc_types.specs.answers.Answers.{IsWhatIfAnswer};
+ghost use Rattle.boc_types.specs.plans.Edits.{AllFit, all_edited};
 ghost use Rattle.boc.specs.Commands.{AnswersInput, Leaves, CountsSource, CountsSink, IsOfEdits, RefusesEdits};
 
 use crate::fault::Fault;
 use crate::report::report_with;
-use crate::workers::Workers;
 use boc_record::read_record;
 use boc_text::{Sink, Source, put_out};
 use boc_types::edit::Edit;
+use boc_types::workers::Workers;
 use boc_whatif::WhatIf;
 use std::alloc::Global;
 

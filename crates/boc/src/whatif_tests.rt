@@ -1,8 +1,8 @@
 use crate::sweep::sweep_cmd;
 use crate::tests::{RECORD, bytes};
 use crate::whatif::whatif_cmd;
-use crate::workers::Workers;
 use boc_types::edit::Edit;
+use boc_types::workers::Workers;
 use std::test::*;
 
 // The transfer takes one tick.

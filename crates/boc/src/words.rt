@@ -7,8 +7,9 @@ ghost use Rattle.std.specs.Prelude.{◌≡◌, ◌<◌, ◌≤◌, ℕ, IfErr, I
 
 use crate::edit_word::edit_of;
 use crate::fault::Fault;
-use crate::workers::Workers;
 use boc_types::edit::Edit;
+use boc_types::limits::MOST_WORKERS;
+use boc_types::workers::Workers;
 use clap::error::ErrorKind;
 use clap::{Arg, ArgMatches, value_parser};
 use std::alloc::{AllocError, Global};
@@ -108,7 +109,7 @@ fn workers_arg<'a>(alloc: Global) -> Arg<'a>
     Arg::new(alloc, "p")
         .long("p")
         .value_name("P")
-        .value_parser(value_parser!(u32).range(1..=64))
+        .value_parser(value_parser!(u32).range(1..=i64::from(MOST_WORKERS)))
         .help("Prints the greedy plan for P workers too, 1 to 64, with its end and its bound")
 }
 
@@ -203,7 +204,7 @@ fn workers_asked(alloc: Global, matches: &ArgMatches) -> Result<Option<Workers>,
 /// The workers that one text is the number of, in decimal digits.
 fn workers_of(texts: &[&str]) -> Option<Workers>
     ensures { MatchOption result
-        ((number : ℕ) → 0 < number → number ≤ 64 → IsGiven (map (λ text. text.now) texts.now) number → ⊥)
+        ((number : ℕ) → 0 < number → number ≤ MOST_WORKERS → IsGiven (map (λ text. text.now) texts.now) number → ⊥)
         (IsGiven (map (λ text. text.now) texts.now)) }
 {
     let [text] = texts else {

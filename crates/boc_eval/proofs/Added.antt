@@ -2,11 +2,11 @@
 use Rattle.std.proofs.Common.{◌≡◌, ℕ, zero, suc, ◌+◌, ◌-◌, ◌<◌, ◌≤◌, List, [], ◌∷◌, ◌++◌, map, length, take, drop, refl, sym, ap, ◌∙◌, arith, ℤ, length-append, length-drop}
 use Rattle.std.specs.Prelude.{slice_range, slice_index_or}
 use Rattle.std.proofs.lemmas.List.{take-append-le, drop-append-le, drop_at, take_all, map-append, get_or-map, length-map}
-use Rattle.boc_types.specs.Meaning.{Wish}
-use Rattle.boc_types.specs.Serial.{Behaviour, behaviour_of}
+use Rattle.boc_types.specs.program.Meaning.{Wish}
+use Rattle.boc_types.specs.runs.Serial.{Behaviour, main_behaviour, behaviour_of}
 use Rattle.boc_eval.specs.declared.rows.Row.{Row}
 use Rattle.boc_eval.specs.declared.rows.Rows.{Rows}
-use Rattle.boc_eval.specs.Behaviours.{behaviour_in, behaviours_of, behaviour_at, main, IsWithin, RowsFit, IsConsistent}
+use Rattle.boc_eval.specs.Behaviours.{behaviour_in, behaviours_of, behaviour_at, IsWithin, RowsFit, IsConsistent}
 
 -- a part that is there stays as it is where a list grows
 range_stays : {X : Type 0} (xs ys : List X) (i j : ℕ) → i ≤ j → j ≤ length xs → slice_range (xs ++ ys) i j ≡ slice_range xs i j
@@ -54,7 +54,7 @@ row_fits n m (s ∷ rs) (suc i) r fit h e = row_fits n m rs i r fit.1 (omega ari
 pub row_is : (rows : Rows) (i : ℕ) (r : Row) → i < length rows.rows.items → r ≡ slice_index_or rows.rows.items i r → behaviour_at rows i ≡ behaviour_in rows.args.items rows.cowns.items r
 row_is rows i r h e =
     let f = behaviour_in rows.args.items rows.cowns.items in
-    get_or-map f rows.rows.items i r main h ∙ ap f (sym e)
+    get_or-map f rows.rows.items i r main_behaviour h ∙ ap f (sym e)
 
 -- a row with these arguments and cowns stands behind the others
 pub record Adds (old new : Rows) (b : Behaviour) : Type 0 where

@@ -3,12 +3,13 @@ use Rattle.std.proofs.Common.{◌≡◌, ℕ, ◌+◌, ◌<◌, ◌≤◌, List,
 use Rattle.std.specs.Prelude.{slice_index_or}
 use Rattle.std.proofs.lemmas.List.{drop_more, drop_all, get_or_append_left, length-map}
 use Rattle.boc_types.specs.declared.program.Program.{Program}
-use Rattle.boc_types.specs.Programs.{initial_values}
-use Rattle.boc_types.specs.Serial.{Behaviour}
-use Rattle.boc_types.specs.Turns.{Stands, Turned, EndsWith}
-use Rattle.boc_types.proofs.Queued.{stands_first, stands_next, stands_end}
+use Rattle.boc_types.specs.program.Programs.{initial_values}
+use Rattle.boc_types.specs.runs.Serial.{Behaviour, main_behaviour}
+use Rattle.boc_types.specs.runs.OwnOrder.{EndsWith}
+use Rattle.boc_eval.specs.Queue.{Stands, Turned}
+use Rattle.boc_eval.proofs.Queued.{stands_first, stands_next, stands_end}
 use Rattle.boc_eval.specs.declared.rows.Rows.{Rows}
-use Rattle.boc_eval.specs.Behaviours.{behaviour_in, behaviours_of, behaviour_at, main, IsConsistent}
+use Rattle.boc_eval.specs.Behaviours.{behaviour_in, behaviours_of, behaviour_at, IsConsistent}
 
 pub rows_are : (rows : Rows) → length (behaviours_of rows) ≡ length rows.rows.items
 rows_are rows = length-map rows.rows.items (behaviour_in rows.args.items rows.cowns.items)
@@ -16,18 +17,18 @@ rows_are rows = length-map rows.rows.items (behaviour_in rows.args.items rows.co
 -- the behaviours that come behind leave those before them as they are
 pub stays_at : (old new : Rows) (more : List Behaviour) (turn : ℕ) → turn < length old.rows.items → behaviours_of new ≡ behaviours_of old ++ more → behaviour_at new turn ≡ behaviour_at old turn
 stays_at old new more turn h e =
-    ap (λ (bs : List Behaviour). slice_index_or bs turn main) e
-    ∙ get_or_append_left (behaviours_of old) more main turn (omega (arith, rows_are old))
+    ap (λ (bs : List Behaviour). slice_index_or bs turn main_behaviour) e
+    ∙ get_or_append_left (behaviours_of old) more main_behaviour turn (omega (arith, rows_are old))
 
 -- the behaviour whose turn it is comes before those whose turns are to come
 pub in_front : (p : Program) (rows : Rows) (turn : ℕ) (values : List ℤ) (n : ℕ) → turn < length rows.rows.items → Stands p (drop turn (behaviours_of rows)) values n → Stands p (behaviour_at rows turn ∷ drop (turn + 1) (behaviours_of rows)) values n
 in_front p rows turn values n h s =
-    subst (λ (q : List Behaviour). Stands p q values n) (drop_more (behaviours_of rows) turn main (omega (arith, rows_are rows))) s
+    subst (λ (q : List Behaviour). Stands p q values n) (drop_more (behaviours_of rows) turn main_behaviour (omega (arith, rows_are rows))) s
 
 -- where the run stands with main's row alone
-pub first_row : (p : Program) (none rows : Rows) (values : List ℤ) → none.rows.items ≡ [] → behaviours_of rows ≡ behaviours_of none ++ main ∷ [] → values ≡ initial_values p.cowns → Stands p (behaviours_of rows) values (length rows.rows.items)
+pub first_row : (p : Program) (none rows : Rows) (values : List ℤ) → none.rows.items ≡ [] → behaviours_of rows ≡ behaviours_of none ++ main_behaviour ∷ [] → values ≡ initial_values p.cowns → Stands p (behaviours_of rows) values (length rows.rows.items)
 first_row p none rows values empty added v =
-    let alone : behaviours_of rows ≡ main ∷ [] = added ∙ ap (λ rs. map (behaviour_in none.args.items none.cowns.items) rs ++ main ∷ []) empty in
+    let alone : behaviours_of rows ≡ main_behaviour ∷ [] = added ∙ ap (λ rs. map (behaviour_in none.args.items none.cowns.items) rs ++ main_behaviour ∷ []) empty in
     let one : 1 ≡ length rows.rows.items = omega (arith, ap length alone, rows_are rows) in
     subst (λ (n : ℕ). Stands p (behaviours_of rows) values n) one (stands_first p (behaviours_of rows) values alone v)
 

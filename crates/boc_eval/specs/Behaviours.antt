@@ -1,6 +1,6 @@
 -- The behaviours of a serial run, as its rows tell them.
 use Rattle.std.specs.Prelude.{ℕ, ◌*◌, ◌≤◌, List, [], ◌∷◌, map, length, ℤ, slice_range, slice_index_or}
-use Rattle.boc_types.specs.Serial.{Behaviour}
+use Rattle.boc_types.specs.runs.Serial.{Behaviour, main_behaviour}
 use Rattle.boc_eval.specs.declared.rows.Span.{Span}
 use Rattle.boc_eval.specs.declared.rows.Row.{Row}
 use Rattle.boc_eval.specs.declared.rows.Rows.{Rows}
@@ -17,13 +17,9 @@ behaviour_in args cowns r = record {
 abbrev pub behaviours_of : Rows → List Behaviour
 behaviours_of rows = map (behaviour_in rows.args.items rows.cowns.items) rows.rows.items
 
--- main, which takes nothing
-abbrev pub main : Behaviour
-main = record { kind = 0; args = []; cowns = [] }
-
 -- the behaviour of the row with this number
 abbrev pub behaviour_at : Rows → ℕ → Behaviour
-behaviour_at rows n = slice_index_or (behaviours_of rows) n main
+behaviour_at rows n = slice_index_or (behaviours_of rows) n main_behaviour
 
 -- the part is there, among so many
 abbrev pub IsWithin : Span → ℕ → Type 0

@@ -2,9 +2,9 @@
 use Rattle.std.specs.Prelude.{ℕ, IsTrue, List, map, length, ℤ}
 use Rattle.boc_types.specs.declared.body.Expr.{Expr}
 use Rattle.boc_types.specs.declared.body.CownRef.{CownRef}
-use Rattle.boc_types.specs.Meaning.{State}
-use Rattle.boc_types.specs.Resolved.{Scope, expr_fits, ref_fits, every}
-use Rattle.boc_types.specs.View.{term_of, place_of}
+use Rattle.boc_types.specs.program.Meaning.{State}
+use Rattle.boc_types.specs.program.Resolved.{Scope, expr_fits, ref_fits, every}
+use Rattle.boc_types.specs.memory.View.{term_of, place_of}
 
 -- every slot of an expression is there
 abbrev pub ExprFits : List ℤ → Expr → Type 0

@@ -1,7 +1,7 @@
 // The behaviours of a serial run, in the order in which they were spawned.
 
 ghost use Rattle.std.specs.Prelude.{◌≡◌, ◌<◌, ◌≤◌, [], ◌∷◌, ◌++◌, length, OnOk};
-ghost use Rattle.boc_types.specs.Serial.{Behaviour};
+ghost use Rattle.boc_types.specs.runs.Serial.{Behaviour};
 ghost use Rattle.boc_eval.specs.Behaviours.{IsConsistent, behaviour_at, behaviours_of};
 
 use boc_types::short::CownNo;

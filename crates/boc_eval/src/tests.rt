@@ -11,14 +11,19 @@ use std::alloc::{AllocError, Global};
 use std::process::Abort;
 use std::test::Fail;
 
-const GREATEST: i64 = 9_223_372_036_854_775_807;
+pub const GREATEST: i64 = 9_223_372_036_854_775_807;
 
-fn binary(alloc: Global, operator: Operator, left: Expr, right: Expr) -> Result<Expr, AllocError> {
+pub fn binary(
+    alloc: Global,
+    operator: Operator,
+    left: Expr,
+    right: Expr,
+) -> Result<Expr, AllocError> {
     Ok(Expr::Binary(operator, Box::new(alloc, left)?, Box::new(alloc, right)?))
 }
 
 /// A body of these statements.
-fn body(
+pub fn body(
     alloc: Global,
     params: usize,
     cown_params: usize,
@@ -29,17 +34,17 @@ fn body(
     Ok(checked.ok_or("the parts of a body fit")?)
 }
 
-/// A main body, with room for two locals.
+// A main body, with room for two locals.
 fn main_of(alloc: Global, stmts: Vec<Stmt>) -> Result<Body, Fail> {
     body(alloc, 0, 0, 2, stmts)
 }
 
-/// `when` a body of this kind with one argument.
+// `when` a body of this kind with one argument.
 fn when(alloc: Global, kind: usize, arg: Expr, cowns: Vec<CownRef>) -> Result<Stmt, AllocError> {
     Ok(Stmt::When(kind, vec![in alloc; arg]?, cowns))
 }
 
-/// A main body of these statements makes no wish, and ends so.
+// A main body of these statements makes no wish, and ends so.
 fn ends(
     rt: &impl Abort,
     alloc: Global,
@@ -139,7 +144,7 @@ fn ends_at_faults(rt: HostRuntime) -> Result<(), Fail> {
     ends(&rt, alloc, stmts, 2, EndStatus::SameCown)
 }
 
-/// `-9223372036854775807 - 1`
+// `-9223372036854775807 - 1`
 fn least(alloc: Global) -> Result<Expr, AllocError> {
     binary(
         alloc,
@@ -149,7 +154,7 @@ fn least(alloc: Global) -> Result<Expr, AllocError> {
     )
 }
 
-/// `when add(5; a); when move(3; a, b); when add(1; b);`
+// `when add(5; a); when move(3; a, b); when add(1; b);`
 fn transfers(alloc: Global) -> Result<Vec<Stmt>, AllocError> {
     let stmts = vec![in alloc;
         when(
@@ -180,6 +185,7 @@ fn stops_at_each_wish(rt: HostRuntime) -> Result<(), Fail> {
     let main = main_of(alloc, transfers(alloc)?)?;
     assert_eq!(rt; (main.params, main.cown_params), (0, 0));
     let mut frame = Frame::new(alloc, &main, Args::new(), Inputs::new())?;
+    assert!(rt; frame.last_wish().is_none());
     let wishes: [(u32, usize, &[i64], &[u32]); 3] = [
         (2, 1, &[5], &[0]),
         (3, 2, &[3], &[0, 1]),
@@ -215,7 +221,7 @@ fn cown(alloc: Global, name: &str, initial: i64) -> Result<Cown, AllocError> {
     })
 }
 
-/// The program of these parts ends with these values.
+// The program of these parts ends with these values.
 fn ends_with(
     rt: &impl Abort,
     alloc: Global,
@@ -230,13 +236,13 @@ fn ends_with(
     Ok(())
 }
 
-/// `def add(k; x) { x = x + k; }`
+// `def add(k; x) { x = x + k; }`
 fn add(alloc: Global) -> Result<Body, Fail> {
     let sum = binary(alloc, Operator::Add, Expr::Slot(1), Expr::Slot(0))?;
     body(alloc, 1, 1, 2, vec![in alloc; Stmt::Assign(1, sum)]?)
 }
 
-/// `def move(k; x, y) { x = x - k; y = y + k; }`
+// `def move(k; x, y) { x = x - k; y = y + k; }`
 fn move_between(alloc: Global) -> Result<Body, Fail> {
     let less = binary(alloc, Operator::Subtract, Expr::Slot(1), Expr::Slot(0))?;
     let more = binary(alloc, Operator::Add, Expr::Slot(2), Expr::Slot(0))?;
@@ -271,7 +277,7 @@ fn same_cown_twice(rt: HostRuntime) -> Result<(), Fail> {
     ends_with(&rt, alloc, cowns, bodies, &[10, 0])
 }
 
-/// `main { when f(; a); when f(; b); }` with this body of `f`, on two cowns.
+// `main { when f(; a); when f(; b); }` with this body of `f`, on two cowns.
 fn on_each(
     rt: &impl Abort,
     alloc: Global,
@@ -397,7 +403,7 @@ fn countdown(rt: HostRuntime) -> Result<(), Fail> {
     ends_with(&rt, alloc, cowns, bodies, &[3])
 }
 
-/// `{ when f(;); }`
+// `{ when f(;); }`
 fn calls_itself(alloc: Global) -> Result<Body, Fail> {
     body(
         alloc,

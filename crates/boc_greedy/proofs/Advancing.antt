@@ -1,11 +1,12 @@
 -- The simulation goes to the next tick at which something changes, or has come to its end.
 use Rattle.std.proofs.Common.{◌≡◌, ℕ, zero, suc, ◌+◌, ◌<◌, ◌≤◌, List, length, refl, subst, inl, inr, arith}
+use Rattle.boc_types.specs.declared.limits.TheConstants.{MOST_TICKS}
 use Rattle.std.specs.Prelude.{slice_index}
 use Rattle.std.proofs.lemmas.Bool.{cases_lt, cases_eq}
 use Rattle.boc_types.specs.declared.rows.Row.{Row}
-use Rattle.boc_types.specs.Rows.{IsRows, parent_of, offset_of}
-use Rattle.boc_types.specs.Plans.{start_of, end_of, IsChild}
-use Rattle.boc_types.specs.Greedy.{IsGreedyAt, IsGreedy, IsMoment}
+use Rattle.boc_types.specs.runs.Rows.{IsRows, parent_of, offset_of}
+use Rattle.boc_types.specs.plans.Plans.{start_of, end_of, IsChild}
+use Rattle.boc_types.specs.plans.Greedy.{IsGreedyAt, IsGreedy, IsMoment}
 use Rattle.boc_greedy.specs.declared.frontier.Stage.{Stage}
 use Rattle.boc_greedy.specs.declared.frontier.Stage.TheVariants.{Unspawned, UnderWay, Over}
 use Rattle.boc_greedy.specs.Stages.{IsAt}
@@ -17,7 +18,7 @@ module _ (rows : List Row) (hr : IsRows rows) (p end : ℕ) (starts workers : Li
     (k : Kept rows p end starts workers stages changes tasks children t) (g : Given rows p end starts workers stages changes t)
     (passed : HasPassed p changes t) (full : IsFull rows p end stages changes) where
   -- the next tick
-  module _ (w u : ℕ) (below : w < p) (u_is : slice_index changes w ≡ u) (least : (v : ℕ) → v < p → u ≤ slice_index changes v) (early : u + 1000000 < end) where
+  module _ (w u : ℕ) (below : w < p) (u_is : slice_index changes w ≡ u) (least : (v : ℕ) → v < p → u ≤ slice_index changes v) (early : u + MOST_TICKS < end) where
     pub forward : t < u
     forward = omega (arith, passed w below, u_is)
 

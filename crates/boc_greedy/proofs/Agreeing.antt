@@ -2,8 +2,8 @@
 use Rattle.std.proofs.Common.{◌≡◌, ℕ, ◌<◌, ◌≤◌, ◌⊎◌, List, sym, inl, inr, arith}
 use Rattle.std.proofs.lemmas.Bool.{cases_lt}
 use Rattle.boc_types.specs.declared.rows.Row.{Row}
-use Rattle.boc_types.specs.Plans.{start_of}
-use Rattle.boc_types.specs.Greedy.{worker_of, IsReady, IsFree, IsTaken, IsGreedyAt}
+use Rattle.boc_types.specs.plans.Plans.{start_of}
+use Rattle.boc_types.specs.plans.Greedy.{worker_of, IsReady, IsFree, IsTaken, IsGreedyAt}
 
 -- the plans have the same rows that start by tick t, on the same workers
 pub record Agree (t : ℕ) (plan plan' workers workers' : List ℕ) : Type 0 where

@@ -1,19 +1,20 @@
 -- A simulation begins.
 use Rattle.std.proofs.Common.{◌≡◌, ℕ, zero, suc, ◌+◌, ◌<◌, ◌≤◌, List, ◌∷◌, length, replicate, Some, get_or, refl, ap, subst, inl, inr, arith}
+use Rattle.boc_types.specs.declared.limits.TheConstants.{MOST_TICKS}
 use Rattle.std.specs.Prelude.{slice_index, slice_get, pred}
 use Rattle.std.proofs.lemmas.Bool.{cases_lt}
 use Rattle.std.proofs.lemmas.List.{length-replicate, get_or-replicate}
 use Rattle.std.proofs.lemmas.Option.{slice_get-get_or, slice_get_within}
 use Rattle.boc_types.specs.declared.rows.Row.{Row}
-use Rattle.boc_types.specs.Rows.{IsRows}
-use Rattle.boc_types.specs.Plans.{start_of}
+use Rattle.boc_types.specs.runs.Rows.{IsRows}
+use Rattle.boc_types.specs.plans.Plans.{start_of}
 use Rattle.boc_greedy.specs.declared.frontier.Stage.{Stage}
 use Rattle.boc_greedy.specs.declared.frontier.Stage.TheVariants.{Unspawned, Waiting, UnderWay, Over}
 use Rattle.boc_greedy.specs.Stages.{IsAt}
 use Rattle.boc_greedy.specs.Simulating.{Kept, Given, HasPassed}
 use Rattle.boc_greedy.proofs.Puts.{waiting_unspawned}
 
-module _ (rows : List Row) (hr : IsRows rows) (p end : ℕ) (few : p ≤ 64) (early : 1000000 < end) (starts workers : List ℕ) (stages : List Stage)
+module _ (rows : List Row) (hr : IsRows rows) (p end : ℕ) (few : p ≤ 64) (early : MOST_TICKS < end) (starts workers : List ℕ) (stages : List Stage)
     (changes tasks children : List ℕ)
     (starts_is : starts ≡ replicate (length rows) end) (workers_is : workers ≡ replicate (length rows) 0)
     (stages_is : stages ≡ Waiting ∷ replicate (pred (length rows)) Unspawned)

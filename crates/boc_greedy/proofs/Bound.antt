@@ -1,13 +1,14 @@
 -- The greedy plan keeps, is for p workers, and ends within the bound.
 use Rattle.std.proofs.Common.{◌≡◌, ℕ, zero, suc, ◌+◌, ◌-◌, ◌*◌, ◌/◌, ◌<◌, ◌≤◌, ◌⊎◌, List, length, refl, sym, ap, subst, inl, inr, arith, ltb}
+use Rattle.boc_types.specs.declared.limits.TheConstants.{MOST_TICKS}
 use Rattle.std.proofs.Math.Nat.{mul-le-mul_left}
 use Rattle.std.specs.Prelude.{slice_index}
 use Rattle.std.proofs.lemmas.Bool.{cases_lt, cases_eq}
 use Rattle.std.proofs.lemmas.Bool.Decides.{nat_tests}
 use Rattle.boc_types.specs.declared.rows.Row.{Row}
-use Rattle.boc_types.specs.Rows.{IsRows, parent_of, offset_of, ticks_of}
-use Rattle.boc_types.specs.Plans.{start_of, end_of, work_of, IsEnd, Keeps, HasEnds}
-use Rattle.boc_types.specs.Greedy.{worker_of, RunsAt, IsForWorkers, IsReady, IsFree, IsGreedy, IsSpan}
+use Rattle.boc_types.specs.runs.Rows.{IsRows, parent_of, offset_of, ticks_of}
+use Rattle.boc_types.specs.plans.Plans.{start_of, end_of, work_of, IsEnd, Keeps, HasEnds}
+use Rattle.boc_types.specs.plans.Greedy.{worker_of, RunsAt, IsForWorkers, IsReady, IsFree, IsGreedy, IsSpan}
 use Rattle.boc_greedy.proofs.Totals.{total, total-le, total-const, total-plus, total-times, at-le-total, one_if, inside_cases, inside_yes}
 use Rattle.boc_greedy.proofs.Busy.{runs, busy, busy-work, work-total, on, on_yes, busy_all, busy_few}
 
@@ -48,8 +49,8 @@ latest_below rows plan (suc (suc n)) h =
 -- the work is at most a million ticks a row
 pub work_high : (rows : List Row) → IsRows rows → work_of rows ≤ 65535000000
 work_high rows hr =
-    let each : total (ticks_of rows) (length rows) ≤ total (λ _. 1000000) (length rows) = total-le (ticks_of rows) (λ _. 1000000) (length rows) hr.ticks_high in
-    let all : total (λ _. 1000000) (length rows) ≡ length rows * 1000000 = total-const 1000000 (length rows) in
+    let each : total (ticks_of rows) (length rows) ≤ total (λ _. MOST_TICKS) (length rows) = total-le (ticks_of rows) (λ _. MOST_TICKS) (length rows) hr.ticks_high in
+    let all : total (λ _. MOST_TICKS) (length rows) ≡ length rows * MOST_TICKS = total-const MOST_TICKS (length rows) in
     omega (arith, work-total rows, hr.not_many)
 
 -- the span is at most what bounds the ends of the rows in a plan that keeps

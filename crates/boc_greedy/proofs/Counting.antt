@@ -6,9 +6,9 @@ use Rattle.std.proofs.lemmas.Bool.{cases_lt}
 use Rattle.std.proofs.lemmas.List.{get_or_append_left, get_or_push, length_push}
 use Rattle.std.proofs.lemmas.List.Elements.{Contains-push, Contains-append_left}
 use Rattle.boc_types.specs.declared.rows.Row.{Row}
-use Rattle.boc_types.specs.Rows.{IsRows}
-use Rattle.boc_types.specs.Plans.{start_of}
-use Rattle.boc_types.specs.Greedy.{IsMoment, CountsAll}
+use Rattle.boc_types.specs.runs.Rows.{IsRows}
+use Rattle.boc_types.specs.plans.Plans.{start_of}
+use Rattle.boc_types.specs.plans.Greedy.{IsMoment, CountsAll}
 use Rattle.boc_greedy.specs.Simulating.{IsPast}
 use Rattle.boc_greedy.proofs.Puts.{Puts}
 

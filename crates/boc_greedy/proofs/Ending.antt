@@ -3,9 +3,9 @@ use Rattle.std.proofs.Common.{◌≡◌, ◌≢◌, ℕ, ◌<◌, ◌≤◌, Lis
 use Rattle.std.specs.Prelude.{slice_index, slice_get}
 use Rattle.std.proofs.lemmas.Bool.{cases_eq}
 use Rattle.boc_types.specs.declared.rows.Row.{Row}
-use Rattle.boc_types.specs.Rows.{IsRows}
-use Rattle.boc_types.specs.Plans.{end_of, IsChild}
-use Rattle.boc_types.specs.Greedy.{worker_of}
+use Rattle.boc_types.specs.runs.Rows.{IsRows}
+use Rattle.boc_types.specs.plans.Plans.{end_of, IsChild}
+use Rattle.boc_types.specs.plans.Greedy.{worker_of}
 use Rattle.boc_greedy.specs.declared.frontier.Stage.{Stage}
 use Rattle.boc_greedy.specs.declared.frontier.Stage.TheVariants.{Unspawned, Waiting, UnderWay, Over}
 use Rattle.boc_greedy.specs.Stages.{IsAt}

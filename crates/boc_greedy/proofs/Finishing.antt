@@ -2,8 +2,8 @@
 use Rattle.std.proofs.Common.{◌≡◌, ℕ, ◌<◌, ◌≤◌, ◌^◌, List, length, subst, arith}
 use Rattle.std.specs.Prelude.{slice_index}
 use Rattle.boc_types.specs.declared.rows.Row.{Row}
-use Rattle.boc_types.specs.Rows.{IsRows}
-use Rattle.boc_types.specs.Greedy.{IsGreedy, IsMoment, CountsAll}
+use Rattle.boc_types.specs.runs.Rows.{IsRows}
+use Rattle.boc_types.specs.plans.Greedy.{IsGreedy, IsMoment, CountsAll}
 use Rattle.boc_greedy.specs.declared.simulation.Simulation.{Simulation}
 use Rattle.boc_greedy.specs.Simulating.{later, IsPast}
 use Rattle.boc_greedy.specs.Stepping.{IsSettled, IsCounted, IsLow}

@@ -3,8 +3,8 @@ use Rattle.std.proofs.Common.{◌≡◌, ◌≢◌, ℕ, ◌+◌, ◌<◌, ◌�
 use Rattle.std.specs.Prelude.{slice_index}
 use Rattle.std.proofs.lemmas.Bool.{cases_eq}
 use Rattle.boc_types.specs.declared.rows.Row.{Row}
-use Rattle.boc_types.specs.Rows.{IsRows, parent_of}
-use Rattle.boc_types.specs.Plans.{IsChild}
+use Rattle.boc_types.specs.runs.Rows.{IsRows, parent_of}
+use Rattle.boc_types.specs.plans.Plans.{IsChild}
 use Rattle.boc_greedy.specs.Families.{IsNextChild}
 use Rattle.boc_greedy.proofs.Puts.{Puts}
 

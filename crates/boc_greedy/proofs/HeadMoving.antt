@@ -6,8 +6,8 @@ use Rattle.std.proofs.lemmas.Bool.{cases_eq, cases_order}
 use Rattle.std.proofs.lemmas.List.{get_or_default, length-replicate, replicate-append-replicate}
 use Rattle.std.proofs.lemmas.Option.{slice_get_within}
 use Rattle.boc_types.specs.declared.rows.Row.{Row}
-use Rattle.boc_types.specs.Rows.{IsRows, cowns_of}
-use Rattle.boc_types.specs.Plans.{Ordered}
+use Rattle.boc_types.specs.runs.Rows.{IsRows, cowns_of}
+use Rattle.boc_types.specs.plans.Plans.{Ordered}
 use Rattle.boc_greedy.specs.declared.frontier.Stage.{Stage}
 use Rattle.boc_greedy.specs.declared.frontier.Stage.TheVariants.{Unspawned, Waiting, UnderWay, Over}
 use Rattle.boc_greedy.specs.declared.frontier.Frontier.{Frontier}
@@ -15,7 +15,7 @@ use Rattle.boc_greedy.specs.declared.row_set.RowSet.{RowSet}
 use Rattle.boc_greedy.specs.RowSets.{IsRowSet, Has}
 use Rattle.boc_greedy.specs.Stages.{IsAt}
 use Rattle.boc_greedy.specs.Links.{IsNextOn, AreHeads, AreFollowing}
-use Rattle.boc_greedy.specs.Frontier.{IsHead, IsFirst, IsReady, AreQueued, IsFrontier, IsEnding, AreReached}
+use Rattle.boc_greedy.specs.Frontier.{IsHead, IsFirst, AwaitsWorker, AreQueued, IsFrontier, IsEnding, AreReached}
 use Rattle.boc_greedy.proofs.Linking.{rises_to, place_of, placed_at}
 use Rattle.boc_greedy.proofs.WordsAbove.{zero_at}
 use Rattle.boc_greedy.proofs.Reaching.{reached_stays, reached_moves, reached_none}
@@ -26,7 +26,7 @@ use Rattle.boc_greedy.proofs.Staging.{moved, moved_same, one_stage, waiting_not_
 pub spawned : (rows : List Row) (f f' : Frontier) (row : ℕ) → IsFrontier rows f → IsAt f.stages.items row Unspawned →
     f'.stages.items ≡ slice_set f.stages.items row Waiting → f'.heads ≡ f.heads → f'.following.items ≡ f.following.items →
     AreReached rows (slice_set f.stages.items row Waiting) f.heads f'.reached.items →
-    AreQueued (IsReady rows (slice_set f.stages.items row Waiting) f.heads) f'.ready → IsFrontier rows f'
+    AreQueued (AwaitsWorker rows (slice_set f.stages.items row Waiting) f.heads) f'.ready → IsFrontier rows f'
 spawned rows f f' row is was es eh ef reached ready = record {
   whole = rw es (simp length-set is.whole);
   turns = rw es (turns_stay rows f.stages.items row Unspawned Waiting was unspawned_not_over (λ e. absurd (waiting_not_under_way e)) is.turns);
@@ -42,7 +42,7 @@ unspawned_not_waiting : Unspawned ≡ Waiting → ⊥
 unspawned_not_waiting e = cc
 
 -- a row that isn't spawned isn't ready
-pub unspawned_out : (rows : List Row) (stages : List Stage) (heads : List ℕ) (row : ℕ) → IsAt stages row Unspawned → IsReady rows stages heads row → ⊥
+pub unspawned_out : (rows : List Row) (stages : List Stage) (heads : List ℕ) (row : ℕ) → IsAt stages row Unspawned → AwaitsWorker rows stages heads row → ⊥
 unspawned_out rows stages heads row was is = unspawned_not_waiting (one_stage stages row Unspawned Waiting was is.waits)
 
 -- a row that is under way ends
@@ -60,7 +60,7 @@ ended rows f f' b shape is was es eh ef ea er = record {
   heads = λ c small none. rw (es, eh) (head_stays rows stages b UnderWay Over was under_way_not_over c (slice_index f.heads c)
       (λ _ has. (let p = place_of (cowns_of rows b) c has in none p.0 (omega arith) p.1 p.2)) (is.heads c small));
   reached = rw (es, eh, ea) (reached_stays rows stages (slice_set stages b Over) f.heads f.reached.items (over_stays rows stages b UnderWay Over was under_way_not_over) is.reached);
-  ready = rw (es, eh, er) (queued_same (IsReady rows stages f.heads) (IsReady rows (slice_set stages b Over) f.heads) f.ready is.ready
+  ready = rw (es, eh, er) (queued_same (AwaitsWorker rows stages f.heads) (AwaitsWorker rows (slice_set stages b Over) f.heads) f.ready is.ready
       (λ r m. ready_stays rows stages b UnderWay Over was under_way_not_over f.heads r
       (λ e. waiting_not_under_way (one_stage stages b Waiting UnderWay (subst (λ (x : ℕ). IsAt stages x Waiting) e m.waits) was)) m)
       (λ r m. was_ready rows stages b UnderWay Over was under_way_not_over f.heads r
@@ -128,7 +128,7 @@ module _ (rows : List Row) (f : Frontier) (b k c next : ℕ) (shape : IsRows row
     ];
   }
 
-  stays_ready : (r : ℕ) → r ≢ next → IsReady rows f.stages.items f.heads r → IsReady rows f.stages.items (slice_set f.heads c next) r
+  stays_ready : (r : ℕ) → r ≢ next → AwaitsWorker rows f.stages.items f.heads r → AwaitsWorker rows f.stages.items (slice_set f.heads c next) r
   stays_ready r n m = record {
     waits = m.waits;
     first = λ d has. elim (cases_eq d c) [
@@ -141,7 +141,7 @@ module _ (rows : List Row) (f : Frontier) (b k c next : ℕ) (shape : IsRows row
     ];
   }
 
-  was_too : (r : ℕ) → r ≢ next → IsReady rows f.stages.items (slice_set f.heads c next) r → IsReady rows f.stages.items f.heads r
+  was_too : (r : ℕ) → r ≢ next → AwaitsWorker rows f.stages.items (slice_set f.heads c next) r → AwaitsWorker rows f.stages.items f.heads r
   was_too r n m = record {
     waits = m.waits;
     first = λ d has. elim (cases_eq d c) [
@@ -153,30 +153,30 @@ module _ (rows : List Row) (f : Frontier) (b k c next : ℕ) (shape : IsRows row
     ];
   }
 
-  was_out : IsReady rows f.stages.items f.heads next → ⊥
+  was_out : AwaitsWorker rows f.stages.items f.heads next → ⊥
   was_out m =
       let there : next < length rows = omega (arith, slice_get_within f.stages.items next Waiting m.waits, is.whole) in
       let h : slice_index f.heads c ≡ next = m.first c (nx.has there) in
       omega (arith, nx.low, was_head)
 
   pub next_pushed : (ready' : RowSet) → IsRowSet ready' → ((r : ℕ) → Has ready' r ↔ (Has f.ready r ⊎ (r ≡ next))) →
-      IsReady rows f.stages.items (slice_set f.heads c next) next → AreQueued (IsReady rows f.stages.items (slice_set f.heads c next)) ready'
+      AwaitsWorker rows f.stages.items (slice_set f.heads c next) next → AreQueued (AwaitsWorker rows f.stages.items (slice_set f.heads c next)) ready'
   next_pushed ready' set more now =
-      queued_push (IsReady rows f.stages.items f.heads) (IsReady rows f.stages.items (slice_set f.heads c next)) next f.ready ready' is.ready set more now
+      queued_push (AwaitsWorker rows f.stages.items f.heads) (AwaitsWorker rows f.stages.items (slice_set f.heads c next)) next f.ready ready' is.ready set more now
       stays_ready was_too
 
-  next_waits : (IsReady rows f.stages.items (slice_set f.heads c next) next → ⊥) → AreQueued (IsReady rows f.stages.items (slice_set f.heads c next)) f.ready
+  next_waits : (AwaitsWorker rows f.stages.items (slice_set f.heads c next) next → ⊥) → AreQueued (AwaitsWorker rows f.stages.items (slice_set f.heads c next)) f.ready
   next_waits out =
-      queued_same (IsReady rows f.stages.items f.heads) (IsReady rows f.stages.items (slice_set f.heads c next)) f.ready is.ready
-      (λ r m. stays_ready r (λ g. was_out (subst (IsReady rows f.stages.items f.heads) g m)) m)
-      (λ r m. was_too r (λ g. out (subst (IsReady rows f.stages.items (slice_set f.heads c next)) g m)) m)
+      queued_same (AwaitsWorker rows f.stages.items f.heads) (AwaitsWorker rows f.stages.items (slice_set f.heads c next)) f.ready is.ready
+      (λ r m. stays_ready r (λ g. was_out (subst (AwaitsWorker rows f.stages.items f.heads) g m)) m)
+      (λ r m. was_too r (λ g. out (subst (AwaitsWorker rows f.stages.items (slice_set f.heads c next)) g m)) m)
 
   pub still_reached : AreReached rows f.stages.items (slice_set f.heads c next) f.reached.items
   still_reached = reached_moves rows f.stages.items f.heads f.reached.items c b next is.over was_head is.reached
 
   pub advanced : (f' : Frontier) → f'.stages.items ≡ f.stages.items → f'.heads ≡ slice_set f.heads c next → f'.following.items ≡ f.following.items →
       AreReached rows f.stages.items (slice_set f.heads c next) f'.reached.items →
-      AreQueued (IsReady rows f.stages.items (slice_set f.heads c next)) f'.ready → IsEnding rows f' b (suc k)
+      AreQueued (AwaitsWorker rows f.stages.items (slice_set f.heads c next)) f'.ready → IsEnding rows f' b (suc k)
   advanced f' es eh ef reached ready = record {
     whole = rw es is.whole;
     turns = rw es is.turns;
@@ -202,7 +202,7 @@ module _ (rows : List Row) (f : Frontier) (b k c next : ℕ) (shape : IsRows row
 
   pub passed_by : (f' : Frontier) → f'.stages.items ≡ f.stages.items → f'.heads ≡ slice_set f.heads c next → f'.following.items ≡ f.following.items →
       AreReached rows f.stages.items (slice_set f.heads c next) f'.reached.items → f'.ready ≡ f.ready →
-      (IsReady rows f.stages.items (slice_set f.heads c next) next → ⊥) → IsEnding rows f' b (suc k)
+      (AwaitsWorker rows f.stages.items (slice_set f.heads c next) next → ⊥) → IsEnding rows f' b (suc k)
   passed_by f' es eh ef reached er out = advanced f' es eh ef reached (rw er (next_waits out))
 
 -- at the beginning main waits, and no other row is spawned
@@ -241,7 +241,7 @@ begun rows f m none shape es all are following zeros none_set empty set main = r
       }));
   reached = reached_none rows f.stages.items f.heads f.reached.items (rw zeros (omega (arith, length-replicate {A = ℕ} (m + 1) 0)))
       (λ r. rw zeros (zero_at (m + 1) r));
-  ready = rw es (queued_push (λ _. ⊥) (IsReady rows (Waiting ∷ replicate m Unspawned) f.heads) 0 none f.ready
+  ready = rw es (queued_push (λ _. ⊥) (AwaitsWorker rows (Waiting ∷ replicate m Unspawned) f.heads) 0 none f.ready
       (queued (λ _. ⊥) none none_set (λ r. (empty r, (λ h. absurd h)))) set main
       (record {
         waits = refl;

@@ -20,3 +20,4 @@ pub mod Winning
 pub mod Totals
 pub mod Busy
 pub mod Bound
+pub mod FewMoments

@@ -1,5 +1,6 @@
 -- The next rows on the cowns of each row, found from the last row back to the first.
 use Rattle.std.proofs.Common.{◌≡◌, ◌≢◌, ℕ, zero, suc, ◌+◌, ◌-◌, ◌<◌, ◌≤◌, ◌⊎◌, List, [], ◌∷◌, ◌++◌, length, get_or, sym, ◌∙◌, ap, subst, inl, inr, arith, reverse, length-append, Some, get_or-set_same, get_or-set_other, length-set}
+use Rattle.boc_types.specs.declared.limits.TheConstants.{MOST_COWNS}
 use Rattle.std.specs.Prelude.{slice_index, slice_index_or, slice_set, slice_get, All}
 use Rattle.std.specs.List.{Contains}
 use Rattle.std.specs.List.Sorted.{IsStrictlyIncreasing}
@@ -9,7 +10,7 @@ use Rattle.std.proofs.lemmas.List.Elements.{Contains-get_or}
 use Rattle.boc_order.proofs.Remembering.{contains_head, contains_tail, contains_cases}
 use Rattle.std.proofs.lemmas.Option.{slice_get-get_or}
 use Rattle.boc_types.specs.declared.rows.Row.{Row}
-use Rattle.boc_types.specs.Rows.{IsRows, cowns_of}
+use Rattle.boc_types.specs.runs.Rows.{IsRows, cowns_of}
 use Rattle.boc_greedy.specs.Links.{IsNextOn, AreNext, AreFollowing, AreHeads}
 
 -- of numbers that rise, each is below the later ones
@@ -29,13 +30,13 @@ rises_to xs up j k less h =
 
 -- what is known when a row was put before the heads of its first k cowns
 pub record IsPut (cowns : List ℕ) (row : ℕ) (first heads next : List ℕ) (k : ℕ) : Type 0 where
-  pub there : length heads ≡ 256
+  pub there : length heads ≡ MOST_COWNS
   pub room : length next ≡ 8
   pub next_is : (j : ℕ) → j < k → slice_index next j ≡ slice_index first (slice_index cowns j)
   pub heads_are : (j : ℕ) → j < k → slice_index heads (slice_index cowns j) ≡ row
   pub others : (c : ℕ) → ((j : ℕ) → j < k → slice_index cowns j ≢ c) → slice_index heads c ≡ slice_index first c
 
-pub put_more : (cowns : List ℕ) (row : ℕ) (first heads next : List ℕ) (k : ℕ) → IsStrictlyIncreasing cowns → All (λ c. c < 256) cowns → length cowns ≤ 8 → k < length cowns →
+pub put_more : (cowns : List ℕ) (row : ℕ) (first heads next : List ℕ) (k : ℕ) → IsStrictlyIncreasing cowns → All (λ c. c < MOST_COWNS) cowns → length cowns ≤ 8 → k < length cowns →
     IsPut cowns row first heads next k →
     IsPut cowns row first (slice_set heads (slice_index cowns k) row) (slice_set next k (slice_index heads (slice_index cowns k))) (k + 1)
 put_more cowns row first heads next k up small few less p = record {
@@ -49,7 +50,7 @@ put_more cowns row first heads next k up small few less p = record {
   ];
   heads_are = λ j l.
       let c : ℕ = slice_index cowns k in
-      let fits : c < length heads = (let s : c < 256 = small k 0 less in omega (arith, p.there)) in
+      let fits : c < length heads = (let s : c < MOST_COWNS = small k 0 less in omega (arith, p.there)) in
       elim (cases_eq (slice_index cowns j) c) [
         | inl e ↦ rw e (get_or-set_same heads c row 0 fits)
         | inr n ↦ get_or-set_other heads c (slice_index cowns j) row 0 n ∙ p.heads_are j (elim (cases_eq j k) [ inl e ↦ absurd (n (ap (slice_index cowns) e)) | inr m ↦ omega arith ])
@@ -59,7 +60,7 @@ put_more cowns row first heads next k up small few less p = record {
 
 -- row b is put before the heads of its cowns, as they are for the rows after it
 pub put_next : (rows : List Row) (b : ℕ) (heads next : List ℕ) → AreHeads rows (suc b) heads → length next ≡ 8 →
-    All (λ c. c < 256) (cowns_of rows b) →
+    All (λ c. c < MOST_COWNS) (cowns_of rows b) →
     ((k : ℕ) → k < length (cowns_of rows b) → slice_index next k ≡ slice_index heads (slice_index (cowns_of rows b) k)) →
     AreNext rows b next
 put_next rows b heads next are room small is = record {
@@ -85,7 +86,7 @@ place_of xs c h = (h.0, h.1, get_or_default xs h.0 0 c h.1 ∙ h.2)
 pub placed_at : (xs : List ℕ) (k : ℕ) → k < length xs → Contains xs (slice_index xs k)
 placed_at xs k l = Contains-get_or xs k 0 l
 
-pub put_heads : (rows : List Row) (b : ℕ) (heads heads' : List ℕ) → b < length rows → AreHeads rows (suc b) heads → length heads' ≡ 256 →
+pub put_heads : (rows : List Row) (b : ℕ) (heads heads' : List ℕ) → b < length rows → AreHeads rows (suc b) heads → length heads' ≡ MOST_COWNS →
     ((c : ℕ) → Contains (cowns_of rows b) c → slice_index heads' c ≡ b) →
     ((c : ℕ) → (Contains (cowns_of rows b) c → ⊥) → slice_index heads' c ≡ slice_index heads c) →
     AreHeads rows b heads'
@@ -114,7 +115,7 @@ put_heads rows b heads heads' there are room is others = record {
     }
 
 -- past the last row there is none
-pub no_heads : (rows : List Row) (heads : List ℕ) → length heads ≡ 256 → ((c : ℕ) → c < 256 → slice_index heads c ≡ length rows) → AreHeads rows (length rows) heads
+pub no_heads : (rows : List Row) (heads : List ℕ) → length heads ≡ MOST_COWNS → ((c : ℕ) → c < MOST_COWNS → slice_index heads c ≡ length rows) → AreHeads rows (length rows) heads
 no_heads rows heads room is = record {
   room = room;
   each = λ c l. subst (IsNextOn rows c (length rows)) (sym (is c l)) (record {
@@ -165,13 +166,13 @@ read_cowns rows r d cowns l e = let s : slice_get rows r ≡ Some (get_or rows r
 pub read_rise : (rows : List Row) (r : ℕ) (d : Row) (cowns : List ℕ) → IsRows rows → r < length rows → cowns ≡ (get_or rows r d).cowns.items → IsStrictlyIncreasing cowns
 read_rise rows r d cowns h l e = subst IsStrictlyIncreasing (read_cowns rows r d cowns l e) (h.cowns_rise r l)
 
-pub read_below : (rows : List Row) (r : ℕ) (d : Row) (cowns : List ℕ) → IsRows rows → r < length rows → cowns ≡ (get_or rows r d).cowns.items → All (λ c. c < 256) cowns
-read_below rows r d cowns h l e = subst (All (λ c. c < 256)) (read_cowns rows r d cowns l e) (h.cowns_below r l)
+pub read_below : (rows : List Row) (r : ℕ) (d : Row) (cowns : List ℕ) → IsRows rows → r < length rows → cowns ≡ (get_or rows r d).cowns.items → All (λ c. c < MOST_COWNS) cowns
+read_below rows r d cowns h l e = subst (All (λ c. c < MOST_COWNS)) (read_cowns rows r d cowns l e) (h.cowns_below r l)
 
 -- a row is put before the heads of its cowns
 pub linked_put : (rows : List Row) (row row' : ℕ) (cowns heads heads' next : List ℕ) (following : List (List ℕ)) →
-    row' + 1 ≡ row → row ≤ length rows → cowns_of rows row' ≡ cowns → All (λ c. c < 256) cowns →
-    AreHeads rows row heads → AreLinked rows row following → length heads' ≡ 256 → length next ≡ 8 →
+    row' + 1 ≡ row → row ≤ length rows → cowns_of rows row' ≡ cowns → All (λ c. c < MOST_COWNS) cowns →
+    AreHeads rows row heads → AreLinked rows row following → length heads' ≡ MOST_COWNS → length next ≡ 8 →
     ((k : ℕ) → k < length cowns → slice_index next k ≡ slice_index heads (slice_index cowns k)) →
     ((c : ℕ) → Contains cowns c → slice_index heads' c ≡ row') →
     ((c : ℕ) → (Contains cowns c → ⊥) → slice_index heads' c ≡ slice_index heads c) →
@@ -183,6 +184,6 @@ linked_put rows row row' cowns heads heads' next following e high read small are
           (subst (λ (xs : List ℕ). (c : ℕ) → Contains xs c → slice_index heads' c ≡ row') (sym read) own)
           (subst (λ (xs : List ℕ). (c : ℕ) → (Contains xs c → ⊥) → slice_index heads' c ≡ slice_index heads c) (sym read) others),
       linked_more rows row row' following next e high linked
-          (put_next rows row' heads next after room (subst (All (λ c. c < 256)) (sym read) small)
+          (put_next rows row' heads next after room (subst (All (λ c. c < MOST_COWNS)) (sym read) small)
           (subst (λ (xs : List ℕ). (k : ℕ) → k < length xs → slice_index next k ≡ slice_index heads (slice_index xs k)) (sym read) is)),
     )

@@ -7,7 +7,7 @@ use Rattle.std.proofs.lemmas.List.Sums.{sum_by-set}
 use Rattle.boc_greedy.specs.declared.frontier.Stage.{Stage}
 use Rattle.boc_greedy.specs.declared.frontier.Stage.TheVariants.{Unspawned, Waiting, UnderWay, Over}
 use Rattle.boc_greedy.specs.Stages.{IsAt}
-use Rattle.boc_greedy.specs.Simulating.{steps_left, weight_of}
+use Rattle.boc_greedy.specs.Simulating.{steps_left, steps_of_all}
 
 -- ys is xs, with v at i
 pub record Puts (xs ys : List ℕ) (i v : ℕ) : Type 0 where
@@ -77,10 +77,10 @@ pub unspawned_or_not : (xs : List Stage) (r : ℕ) → r < length xs → IsAt xs
 unspawned_or_not xs r h = unspawned_or xs r (at_some xs r h).0 (at_some xs r h).1
 
 -- one step lowers the weight by one
-pub weight_set : (xs ys : List Stage) (i : ℕ) (s t : Stage) → IsAt xs i s → ys ≡ slice_set xs i t → weight_of ys + steps_left s ≡ weight_of xs + steps_left t
+pub weight_set : (xs ys : List Stage) (i : ℕ) (s t : Stage) → IsAt xs i s → ys ≡ slice_set xs i t → steps_of_all ys + steps_left s ≡ steps_of_all xs + steps_left t
 weight_set xs ys i s t at is =
     let e : get_or xs i s ≡ s = get_or_from_slice_get xs i s s at in
-    let w : weight_of (set xs i t) + steps_left (get_or xs i s) ≡ weight_of xs + steps_left t = sum_by-set steps_left xs i t s (slice_get_within xs i s at) in
+    let w : steps_of_all (set xs i t) + steps_left (get_or xs i s) ≡ steps_of_all xs + steps_left t = sum_by-set steps_left xs i t s (slice_get_within xs i s at) in
     rw is (rw e at w)
 
 -- another row, at another stage, was there before

@@ -1,17 +1,18 @@
 -- What stays as one row moves on to another stage.
 use Rattle.std.proofs.Common.{◌≡◌, ◌≢◌, ℕ, zero, suc, ◌<◌, ◌⊎◌, List, [], ◌∷◌, length, refl, sym, ◌∙◌, ap, subst, inl, inr, arith}
+use Rattle.boc_types.specs.declared.limits.TheConstants.{MOST_COWNS}
 use Rattle.std.specs.Prelude.{slice_index, slice_set, Option, Some, None}
 use Rattle.std.specs.Option.{option_map_or}
 use Rattle.std.specs.List.{Contains}
 use Rattle.std.proofs.lemmas.Bool.{cases_eq, cases_order}
 use Rattle.std.proofs.lemmas.Option.{slice_get_cases}
 use Rattle.boc_types.specs.declared.rows.Row.{Row}
-use Rattle.boc_types.specs.Rows.{IsRows, cowns_of}
-use Rattle.boc_types.specs.Plans.{Ordered}
+use Rattle.boc_types.specs.runs.Rows.{IsRows, cowns_of}
+use Rattle.boc_types.specs.plans.Plans.{Ordered}
 use Rattle.boc_greedy.specs.declared.frontier.Stage.{Stage}
 use Rattle.boc_greedy.specs.declared.frontier.Stage.TheVariants.{Unspawned, Waiting, UnderWay, Over}
 use Rattle.boc_greedy.specs.Stages.{IsAt, CanStart}
-use Rattle.boc_greedy.specs.Frontier.{IsHead, IsFirst, IsReady}
+use Rattle.boc_greedy.specs.Frontier.{IsHead, IsFirst, AwaitsWorker}
 
 -- the stage of a row in a list of which one row's stage was changed
 pub moved : (stages : List Stage) (r k : ℕ) (s t : Stage) → IsAt (slice_set stages r s) k t → ((k ≡ r) × (s ≡ t)) ⊎ ((k ≢ r) × IsAt stages k t)
@@ -65,12 +66,12 @@ in_rows rows r c h = elim (slice_get_cases rows r).1 [
 ]
 
 -- its cowns are below 256
-pub small_cown : (rows : List Row) (r c : ℕ) → IsRows rows → Contains (cowns_of rows r) c → c < 256
+pub small_cown : (rows : List Row) (r c : ℕ) → IsRows rows → Contains (cowns_of rows r) c → c < MOST_COWNS
 small_cown rows r c h has = let l = h.cowns_below r (in_rows rows r c has) has.0 c has.1 in omega (arith, l, has.2)
 
 -- where a row is the head of each of its cowns, the rows that are ordered before it are over
 pub first_clear : (rows : List Row) (stages : List Stage) (heads : List ℕ) (r : ℕ) → IsRows rows →
-    ((c : ℕ) → c < 256 → IsHead rows stages c (slice_index heads c)) → IsFirst rows heads r →
+    ((c : ℕ) → c < MOST_COWNS → IsHead rows stages c (slice_index heads c)) → IsFirst rows heads r →
     (a : ℕ) → Ordered rows a r → IsAt stages a Over
 first_clear rows stages heads r shape are first a o =
     let c = o.shared.0 in
@@ -79,7 +80,7 @@ first_clear rows stages heads r shape are first a o =
 
 -- and the other way round, if the row isn't over
 pub clear_first : (rows : List Row) (stages : List Stage) (heads : List ℕ) (r : ℕ) → IsRows rows →
-    ((c : ℕ) → c < 256 → IsHead rows stages c (slice_index heads c)) → (IsAt stages r Over → ⊥) →
+    ((c : ℕ) → c < MOST_COWNS → IsHead rows stages c (slice_index heads c)) → (IsAt stages r Over → ⊥) →
     ((a : ℕ) → Ordered rows a r → IsAt stages a Over) → IsFirst rows heads r
 clear_first rows stages heads r shape are lives clear c has =
     let there : r < length rows = in_rows rows r c has in
@@ -94,11 +95,11 @@ clear_first rows stages heads r shape are lives clear c has =
 
 -- the rows that are ready are those that can start
 pub ready_can : (rows : List Row) (stages : List Stage) (heads : List ℕ) (r : ℕ) → IsRows rows →
-    ((c : ℕ) → c < 256 → IsHead rows stages c (slice_index heads c)) → IsReady rows stages heads r → CanStart rows stages r
+    ((c : ℕ) → c < MOST_COWNS → IsHead rows stages c (slice_index heads c)) → AwaitsWorker rows stages heads r → CanStart rows stages r
 ready_can rows stages heads r shape are is = record { waits = is.waits; clear = first_clear rows stages heads r shape are is.first }
 
 pub can_ready : (rows : List Row) (stages : List Stage) (heads : List ℕ) (r : ℕ) → IsRows rows →
-    ((c : ℕ) → c < 256 → IsHead rows stages c (slice_index heads c)) → CanStart rows stages r → IsReady rows stages heads r
+    ((c : ℕ) → c < MOST_COWNS → IsHead rows stages c (slice_index heads c)) → CanStart rows stages r → AwaitsWorker rows stages heads r
 can_ready rows stages heads r shape are can = record {
   waits = can.waits;
   first = clear_first rows stages heads r shape are (λ e. waiting_not_over (one_stage stages r Waiting Over can.waits e)) can.clear;
@@ -139,10 +140,10 @@ module _ (rows : List Row) (stages : List Stage) (row : ℕ) (from to : Stage) (
     over_before = λ b l has. over_stays b (head.over_before b l has);
   }
 
-  pub ready_stays : (heads : List ℕ) (r : ℕ) → r ≢ row → IsReady rows stages heads r → IsReady rows (slice_set stages row to) heads r
+  pub ready_stays : (heads : List ℕ) (r : ℕ) → r ≢ row → AwaitsWorker rows stages heads r → AwaitsWorker rows (slice_set stages row to) heads r
   ready_stays heads r n is = record { waits = moved_other stages row r to Waiting n is.waits; first = is.first }
 
-  pub was_ready : (heads : List ℕ) (r : ℕ) → r ≢ row → IsReady rows (slice_set stages row to) heads r → IsReady rows stages heads r
+  pub was_ready : (heads : List ℕ) (r : ℕ) → r ≢ row → AwaitsWorker rows (slice_set stages row to) heads r → AwaitsWorker rows stages heads r
   was_ready heads r n is = record {
     waits = elim (moved stages row r to Waiting is.waits) [ inl p ↦ absurd (n p.0) | inr p ↦ p.1 ];
     first = is.first;

@@ -1,12 +1,13 @@
 -- What holds of a simulation that stands at a tick.
 use Rattle.std.proofs.Common.{◌≡◌, ℕ, ◌+◌, ◌<◌, ◌≤◌, ◌⊎◌, List, length, refl, ap, subst, inl, inr, arith}
+use Rattle.boc_types.specs.declared.limits.TheConstants.{MOST_TICKS}
 use Rattle.std.specs.Prelude.{slice_index}
 use Rattle.std.proofs.lemmas.Option.{slice_get_within}
 use Rattle.std.proofs.lemmas.Bool.{cases_lt, cases_eq}
 use Rattle.boc_types.specs.declared.rows.Row.{Row}
-use Rattle.boc_types.specs.Rows.{IsRows, parent_of, offset_of, ticks_of}
-use Rattle.boc_types.specs.Plans.{start_of, end_of, IsChild}
-use Rattle.boc_types.specs.Greedy.{worker_of, IsReady, IsFree, IsTaken, IsGreedyAt}
+use Rattle.boc_types.specs.runs.Rows.{IsRows, parent_of, offset_of, ticks_of}
+use Rattle.boc_types.specs.plans.Plans.{start_of, end_of, IsChild}
+use Rattle.boc_types.specs.plans.Greedy.{worker_of, IsReady, IsFree, IsTaken, IsGreedyAt}
 use Rattle.boc_greedy.specs.declared.frontier.Stage.{Stage}
 use Rattle.boc_greedy.specs.declared.frontier.Stage.TheVariants.{Unspawned, UnderWay, Over}
 use Rattle.boc_greedy.specs.Stages.{IsAt, CanStart}
@@ -51,7 +52,7 @@ module _ (rows : List Row) (hr : IsRows rows) (p end : ℕ) (starts workers : Li
   ]
 
   -- and within 1,000,000 ticks
-  pub change_soon : (w : ℕ) → w < p → slice_index changes w < end → slice_index changes w ≤ t + 1000000
+  pub change_soon : (w : ℕ) → w < p → slice_index changes w < end → slice_index changes w ≤ t + MOST_TICKS
   change_soon w h lt =
       let y = k.busy w h lt in
       omega (arith, change_low _ _ _ _ y, (k.under_way _ y.under_way).begun, hr.ticks_high _ (there _ UnderWay y.under_way))

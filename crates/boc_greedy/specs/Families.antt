@@ -1,8 +1,8 @@
 -- The children of rows, one after another.
 use Rattle.std.specs.Prelude.{◌≡◌, ℕ, ◌+◌, ◌<◌, ◌≤◌, List, length, slice_index}
 use Rattle.boc_types.specs.declared.rows.Row.{Row}
-use Rattle.boc_types.specs.Rows.{parent_of}
-use Rattle.boc_types.specs.Plans.{IsChild}
+use Rattle.boc_types.specs.runs.Rows.{parent_of}
+use Rattle.boc_types.specs.plans.Plans.{IsChild}
 
 -- b is the least child of row a from a number on, or the number of rows where there is none
 pub record IsNextChild (rows : List Row) (a from b : ℕ) : Type 0 where

@@ -1,9 +1,10 @@
 -- What is kept to find the rows that can start.
 use Rattle.std.specs.Prelude.{◌≡◌, ◌≢◌, ℕ, ◌<◌, ◌≤◌, ◌↔◌, List, length, slice_index}
+use Rattle.boc_types.specs.declared.limits.TheConstants.{MOST_COWNS}
 use Rattle.std.specs.List.{Contains}
 use Rattle.boc_types.specs.declared.rows.Row.{Row}
-use Rattle.boc_types.specs.Rows.{cowns_of}
-use Rattle.boc_types.specs.Plans.{Ordered}
+use Rattle.boc_types.specs.runs.Rows.{cowns_of}
+use Rattle.boc_types.specs.plans.Plans.{Ordered}
 use Rattle.boc_greedy.specs.declared.frontier.Stage.{Stage}
 use Rattle.boc_greedy.specs.declared.frontier.Stage.TheVariants.{Waiting, UnderWay, Over}
 use Rattle.boc_greedy.specs.declared.frontier.Frontier.{Frontier}
@@ -24,7 +25,7 @@ abbrev pub IsFirst : List Row → List ℕ → ℕ → Type 0
 IsFirst rows heads r = (c : ℕ) → Contains (cowns_of rows r) c → slice_index heads c ≡ r
 
 -- row r waits for nothing but a worker
-pub record IsReady (rows : List Row) (stages : List Stage) (heads : List ℕ) (r : ℕ) : Type 0 where
+pub record AwaitsWorker (rows : List Row) (stages : List Stage) (heads : List ℕ) (r : ℕ) : Type 0 where
   pub waits : IsAt stages r Waiting
   pub first : IsFirst rows heads r
 
@@ -44,10 +45,10 @@ pub record IsFrontier (rows : List Row) (f : Frontier) : Type 0 where
   pub turns : (r : ℕ) → IsAt f.stages.items r UnderWay → (a : ℕ) → Ordered rows a r → IsAt f.stages.items a Over
   pub past : (r : ℕ) → IsAt f.stages.items r Over → (a : ℕ) → Ordered rows a r → IsAt f.stages.items a Over
   pub following : AreFollowing rows f.following.items
-  pub room : length f.heads ≡ 256
-  pub heads : (c : ℕ) → c < 256 → IsHead rows f.stages.items c (slice_index f.heads c)
+  pub room : length f.heads ≡ MOST_COWNS
+  pub heads : (c : ℕ) → c < MOST_COWNS → IsHead rows f.stages.items c (slice_index f.heads c)
   pub reached : AreReached rows f.stages.items f.heads f.reached.items
-  pub ready : AreQueued (IsReady rows f.stages.items f.heads) f.ready
+  pub ready : AreQueued (AwaitsWorker rows f.stages.items f.heads) f.ready
 
 -- row b has ended, and is no longer the head of its first k cowns, but still of the others
 pub record IsEnding (rows : List Row) (f : Frontier) (b k : ℕ) : Type 0 where
@@ -57,9 +58,9 @@ pub record IsEnding (rows : List Row) (f : Frontier) (b k : ℕ) : Type 0 where
   pub over : IsAt f.stages.items b Over
   pub none_later : (a : ℕ) → Ordered rows b a → IsAt f.stages.items a Over → ⊥
   pub following : AreFollowing rows f.following.items
-  pub room : length f.heads ≡ 256
+  pub room : length f.heads ≡ MOST_COWNS
   pub left : (i : ℕ) → k ≤ i → i < length (cowns_of rows b) → slice_index f.heads (slice_index (cowns_of rows b) i) ≡ b
-  pub heads : (c : ℕ) → c < 256 → ((i : ℕ) → k ≤ i → i < length (cowns_of rows b) → slice_index (cowns_of rows b) i ≢ c) →
+  pub heads : (c : ℕ) → c < MOST_COWNS → ((i : ℕ) → k ≤ i → i < length (cowns_of rows b) → slice_index (cowns_of rows b) i ≢ c) →
       IsHead rows f.stages.items c (slice_index f.heads c)
   pub reached : AreReached rows f.stages.items f.heads f.reached.items
-  pub ready : AreQueued (IsReady rows f.stages.items f.heads) f.ready
+  pub ready : AreQueued (AwaitsWorker rows f.stages.items f.heads) f.ready

@@ -6,3 +6,4 @@ pub mod Families
 pub mod Simulating
 pub mod Stepping
 pub mod Tournaments
+pub mod Plans

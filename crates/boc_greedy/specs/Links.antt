@@ -1,8 +1,9 @@
 -- For each row, the next rows that need its cowns.
 use Rattle.std.specs.Prelude.{◌≡◌, ℕ, suc, ◌<◌, ◌≤◌, List, [], length, slice_index, slice_index_or}
+use Rattle.boc_types.specs.declared.limits.TheConstants.{MOST_COWNS}
 use Rattle.std.specs.List.{Contains}
 use Rattle.boc_types.specs.declared.rows.Row.{Row}
-use Rattle.boc_types.specs.Rows.{cowns_of}
+use Rattle.boc_types.specs.runs.Rows.{cowns_of}
 
 -- row a is the first on a cown among the rows from a number on; a is the number of rows where there is none
 pub record IsNextOn (rows : List Row) (cown from a : ℕ) : Type 0 where
@@ -24,5 +25,5 @@ pub record AreFollowing (rows : List Row) (following : List (List ℕ)) : Type 0
 
 -- for each cown, the first row from a number on that has it
 pub record AreHeads (rows : List Row) (from : ℕ) (heads : List ℕ) : Type 0 where
-  pub room : length heads ≡ 256
-  pub each : (c : ℕ) → c < 256 → IsNextOn rows c from (slice_index heads c)
+  pub room : length heads ≡ MOST_COWNS
+  pub each : (c : ℕ) → c < MOST_COWNS → IsNextOn rows c from (slice_index heads c)

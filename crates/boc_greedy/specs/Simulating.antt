@@ -1,11 +1,12 @@
 -- What a simulation keeps, from one step to the next.
 use Rattle.std.specs.Prelude.{◌≡◌, ℕ, ◌+◌, ◌<◌, ◌≤◌, List, length, slice_index}
+use Rattle.boc_types.specs.declared.limits.TheConstants.{MOST_TICKS}
 use Rattle.std.specs.Int.{bit_at}
 use Rattle.std.specs.List.{sum_by}
 use Rattle.boc_types.specs.declared.rows.Row.{Row}
-use Rattle.boc_types.specs.Rows.{offset_of}
-use Rattle.boc_types.specs.Plans.{start_of, end_of, IsChild}
-use Rattle.boc_types.specs.Greedy.{worker_of, IsReady, IsFree, IsGreedyAt, IsMoment}
+use Rattle.boc_types.specs.runs.Rows.{offset_of}
+use Rattle.boc_types.specs.plans.Plans.{start_of, end_of, IsChild}
+use Rattle.boc_types.specs.plans.Greedy.{worker_of, IsReady, IsFree, IsGreedyAt, IsMoment}
 use Rattle.boc_greedy.specs.declared.frontier.Stage.{Stage}
 use Rattle.boc_greedy.specs.declared.frontier.Stage.TheVariants.{Unspawned, Waiting, UnderWay, Over}
 use Rattle.boc_greedy.specs.Stages.{IsAt, CanStart}
@@ -59,7 +60,7 @@ pub record Kept (rows : List Row) (p end : ℕ) (starts workers : List ℕ) (sta
   pub tasks_whole : length tasks ≡ p
   pub children_whole : length children ≡ p
   pub few : p ≤ 64
-  pub early : t + 1000000 < end
+  pub early : t + MOST_TICKS < end
   pub unspawned : (r : ℕ) → IsAt stages r Unspawned → start_of starts r ≡ end
   pub not_main : IsAt stages 0 Unspawned → ⊥
   pub waiting : (r : ℕ) → IsAt stages r Waiting → start_of starts r ≡ end
@@ -104,5 +105,5 @@ steps_left UnderWay = 1
 steps_left Over = 0
 
 -- the steps that are left for all rows
-abbrev pub weight_of : List Stage → ℕ
-weight_of stages = sum_by steps_left stages
+abbrev pub steps_of_all : List Stage → ℕ
+steps_of_all stages = sum_by steps_left stages

@@ -1,20 +1,21 @@
 -- A simulation as a whole.
 use Rattle.std.specs.Prelude.{◌≡◌, ℕ, ◌+◌, ◌*◌, ◌≤◌, List, length}
+use Rattle.boc_types.specs.declared.limits.TheConstants.{MOST_TICKS}
 use Rattle.boc_types.specs.declared.rows.Row.{Row}
-use Rattle.boc_types.specs.Greedy.{CountsAll}
+use Rattle.boc_types.specs.plans.Greedy.{CountsAll}
 use Rattle.boc_greedy.specs.declared.simulation.Simulation.{Simulation}
 use Rattle.boc_greedy.specs.Frontier.{IsFrontier}
 use Rattle.boc_greedy.specs.Tournaments.{IsTournamentOf}
-use Rattle.boc_greedy.specs.Simulating.{later, AreIdle, Kept, Given, IsFresh, HasPassed, IsFull, IsPast, weight_of}
+use Rattle.boc_greedy.specs.Simulating.{later, AreIdle, Kept, Given, IsFresh, HasPassed, IsFull, IsPast, steps_of_all}
 
 -- the simulation keeps what it has to keep
-abbrev pub IsKept : List Row → ℕ → Simulation → Type 0
-IsKept rows p s = Kept rows p later s.starts.items s.workers.items s.frontier.stages.items s.changes.items s.tasks.items s.children.items s.tick
+abbrev pub IsSimulated : List Row → ℕ → Simulation → Type 0
+IsSimulated rows p s = Kept rows p later s.starts.items s.workers.items s.frontier.stages.items s.changes.items s.tasks.items s.children.items s.tick
 
 -- the changes of this tick are made, one after another, and no row has started at it yet
 pub record IsStepping (rows : List Row) (p : ℕ) (s : Simulation) : Type 0 where
   pub frontier : IsFrontier rows s.frontier
-  pub kept : IsKept rows p s
+  pub kept : IsSimulated rows p s
   pub fresh : IsFresh rows s.starts.items s.tick
   pub idle : AreIdle s.changes.items s.idle
   pub tournament : IsTournamentOf s.changes.items s.tournament
@@ -22,7 +23,7 @@ pub record IsStepping (rows : List Row) (p : ℕ) (s : Simulation) : Type 0 wher
 -- the changes of this tick are made, and rows start, one after another
 pub record IsGiving (rows : List Row) (p : ℕ) (s : Simulation) : Type 0 where
   pub frontier : IsFrontier rows s.frontier
-  pub kept : IsKept rows p s
+  pub kept : IsSimulated rows p s
   pub given : Given rows p later s.starts.items s.workers.items s.frontier.stages.items s.changes.items s.tick
   pub passed : HasPassed p s.changes.items s.tick
   pub idle : AreIdle s.changes.items s.idle
@@ -40,11 +41,11 @@ pub record IsCounted (rows : List Row) (s : Simulation) : Type 0 where
 
 -- each step so far took at most 1,000,000 ticks
 pub record IsLow (rows : List Row) (s : Simulation) : Type 0 where
-  pub low : s.tick + weight_of s.frontier.stages.items * 1000000 ≤ length rows * 3000000
+  pub low : s.tick + steps_of_all s.frontier.stages.items * MOST_TICKS ≤ length rows * 3000000
 
 -- the simulation stands where it stood, no row has started since, and at most as many steps are left
 pub record Goes (before after : Simulation) : Type 0 where
   pub starts : after.starts.items ≡ before.starts.items
   pub tick : after.tick ≡ before.tick
   pub moments : after.moments ≡ before.moments
-  pub fewer : weight_of after.frontier.stages.items ≤ weight_of before.frontier.stages.items
+  pub fewer : steps_of_all after.frontier.stages.items ≤ steps_of_all before.frontier.stages.items

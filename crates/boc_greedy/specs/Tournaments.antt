@@ -36,7 +36,7 @@ pub record IsTournament (t : Tournament) : Type 0 where
   pub named : (w : ℕ) → w < t.count → change_at t w < later → (winner_at t.winners (t.count + w)).worker ≡ w
 
 -- worker w isn't idle, and none changes earlier
-pub record IsEarliest (t : Tournament) (w : ℕ) : Type 0 where
+pub record ChangesFirst (t : Tournament) (w : ℕ) : Type 0 where
   pub there : w < t.count
   pub busy : change_at t w < later
   pub least : (v : ℕ) → v < t.count → change_at t w ≤ change_at t v

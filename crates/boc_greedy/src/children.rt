@@ -1,7 +1,7 @@
 // Who comes next among the children of one parent.
 
 ghost use Rattle.std.specs.Prelude.{IfOk};
-ghost use Rattle.boc_types.specs.Rows.{IsRows};
+ghost use Rattle.boc_types.specs.runs.Rows.{IsRows};
 ghost use Rattle.boc_greedy.specs.Families.{IsFamily};
 
 use boc_types::rows::Row;

@@ -35,7 +35,7 @@ pub struct Frontier {
 
 impl Frontier {
     ghost use Rattle.std.specs.Prelude.{◌≡◌, ℕ, suc, ◌≤◌, ◌<◌, ◌↔◌, ◌∷◌, length, pred, replicate, slice_set, OnOk, IfOk, IfSome, IfNone, IsTrue};
-    ghost use Rattle.boc_types.specs.Rows.{IsRows, cowns_of};
+    ghost use Rattle.boc_types.specs.runs.Rows.{IsRows, cowns_of};
     ghost use Rattle.boc_greedy.specs.declared.frontier.Stage.TheVariants.{Unspawned, Waiting, UnderWay, Over};
     ghost use Rattle.boc_greedy.specs.Stages.{IsAt, CanStart};
     ghost use Rattle.boc_greedy.specs.Frontier.{IsFrontier, IsEnding, IsFirst, AreReached};

@@ -3,14 +3,15 @@
 ghost use Rattle.std.specs.Prelude.{◌≡◌, ℕ, ◌<◌, ◌≤◌, length, All, IfOk, slice_index};
 ghost use Rattle.std.specs.List.{Contains};
 ghost use Rattle.std.specs.List.Sorted.{IsStrictlyIncreasing};
-ghost use Rattle.boc_types.specs.Rows.{IsRows};
+ghost use Rattle.boc_types.specs.runs.Rows.{IsRows};
 ghost use Rattle.boc_greedy.specs.Links.{AreFollowing, AreHeads};
 
+use boc_types::limits::MOST_COWNS;
 use boc_types::rows::Row;
 use std::alloc::{AllocError, Global};
 
 /// For each cown, by its number, a row.
-pub type Heads = [u32; 256];
+pub type Heads = [u32; MOST_COWNS];
 
 /// For each cown of a row, in their order, a row.
 pub type Next = [u32; 8];
@@ -28,9 +29,9 @@ pub struct Links {
 // Puts a row before the heads of its cowns, and answers what these heads were.
 fn put_before(heads: &mut Heads, cowns: &[u32], row: u32, none: u32) -> Next
     requires few { length cowns.now ≤ 8 }
-    requires small { All (λ c. c < 256) cowns.now }
+    requires small { All (λ c. c < MOST_COWNS) cowns.now }
     requires rise { IsStrictlyIncreasing cowns.now }
-    ensures all { length heads.new ≡ 256 }
+    ensures all { length heads.new ≡ MOST_COWNS }
     ensures room { length result ≡ 8 }
     ensures next { (k : ℕ) → k < length cowns.now → slice_index result k ≡ slice_index heads.old (slice_index cowns.now k) }
     ensures heads { (c : ℕ) → Contains cowns.now c → slice_index heads.new c ≡ row }
@@ -51,7 +52,7 @@ pub fn link(alloc: Global, rows: &[Row]) -> Result<Links, AllocError>
     ensures following { IfOk result (λ l. AreFollowing rows.now l.following.items) }
 {
     let none = rows.len() as u32;
-    let mut heads = [none; 256];
+    let mut heads = [none; MOST_COWNS];
     let mut following = Vec::with_capacity(alloc, rows.len())?;
     let mut row = none;
     while row > 0 {

@@ -1,7 +1,7 @@
 // The greedy plan, from one tick at which something can change to the next.
 
 ghost use Rattle.std.specs.Prelude.{◌≡◌, ℕ, ◌<◌, ◌≤◌, ◌^◌, length, slice_index, IfOk};
-ghost use Rattle.boc_types.specs.Greedy.{IsGreedy, IsMoment, CountsAll};
+ghost use Rattle.boc_types.specs.plans.Greedy.{IsGreedy, IsMoment, CountsAll};
 
 use crate::children::family_of;
 use crate::simulation::Simulation;

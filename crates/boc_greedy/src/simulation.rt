@@ -35,10 +35,10 @@ pub struct Simulation {
 
 impl Simulation {
     ghost use Rattle.std.specs.Prelude.{◌≡◌, ◌≢◌, ℕ, ◌<◌, ◌≤◌, length, slice_index, IfOk, IfSome, IfNone, OnOk, true, false};
-    ghost use Rattle.boc_types.specs.Rows.{IsRows};
+    ghost use Rattle.boc_types.specs.runs.Rows.{IsRows};
     ghost use Rattle.boc_greedy.specs.Families.{IsFamily};
     ghost use Rattle.boc_greedy.specs.Tournaments.{IsTournamentOf};
-    ghost use Rattle.boc_greedy.specs.Simulating.{later, IsLeastIdle, IsNextToChange, IsFull, HasPassed, weight_of};
+    ghost use Rattle.boc_greedy.specs.Simulating.{later, IsLeastIdle, IsNextToChange, IsFull, HasPassed, steps_of_all};
     ghost use Rattle.boc_greedy.specs.Stepping.{IsStepping, IsGiving, IsSettled, IsCounted, IsLow, Goes};
 
     /// Tick 0, where only main is spawned, and nothing has started.
@@ -82,9 +82,9 @@ impl Simulation {
         ensures giving { IsGiving rows.now (length self.old.changes.items) self.new }
         ensures counted { IsCounted rows.now self.new }
         ensures low { IsLow rows.now self.new }
-        ensures fewer { result ≡ true → weight_of self.new.frontier.stages.items < weight_of self.old.frontier.stages.items }
+        ensures fewer { result ≡ true → steps_of_all self.new.frontier.stages.items < steps_of_all self.old.frontier.stages.items }
         ensures full { result ≡ false → IsFull rows.now (length self.old.changes.items) later self.new.frontier.stages.items self.new.changes.items }
-        ensures settled { result ≡ false → weight_of self.new.frontier.stages.items ≤ weight_of self.old.frontier.stages.items }
+        ensures settled { result ≡ false → steps_of_all self.new.frontier.stages.items ≤ steps_of_all self.old.frontier.stages.items }
     {
         match self.frontier.start_least(rows) {
             Some(row) => {
@@ -114,7 +114,7 @@ impl Simulation {
         ensures settled { IsSettled rows.now (length self.old.changes.items) self.new }
         ensures counted { IsCounted rows.now self.new }
         ensures low { IsLow rows.now self.new }
-        ensures fewer { weight_of self.new.frontier.stages.items ≤ weight_of self.old.frontier.stages.items }
+        ensures fewer { steps_of_all self.new.frontier.stages.items ≤ steps_of_all self.old.frontier.stages.items }
     {
         while let Some(worker) = least_idle(self.idle) {
             if !self.give(rows, family, worker) {
@@ -133,7 +133,7 @@ impl Simulation {
         requires child { slice_index self.old.children.items worker < length rows.now }
         ensures stepping { IsStepping rows.now (length self.old.changes.items) self.new }
         ensures goes { Goes self.old self.new }
-        ensures fewer { weight_of self.new.frontier.stages.items < weight_of self.old.frontier.stages.items }
+        ensures fewer { steps_of_all self.new.frontier.stages.items < steps_of_all self.old.frontier.stages.items }
     {
         let row = self.tasks[worker];
         let child = self.children[worker];
@@ -154,7 +154,7 @@ impl Simulation {
         requires none_left { length rows.now ≤ slice_index self.old.children.items worker }
         ensures stepping { IsStepping rows.now (length self.old.changes.items) self.new }
         ensures goes { Goes self.old self.new }
-        ensures fewer { weight_of self.new.frontier.stages.items < weight_of self.old.frontier.stages.items }
+        ensures fewer { steps_of_all self.new.frontier.stages.items < steps_of_all self.old.frontier.stages.items }
     {
         let row = self.tasks[worker];
         self.frontier.end(rows, row);
@@ -172,7 +172,7 @@ impl Simulation {
         requires due { slice_index self.old.changes.items worker ≡ self.old.tick }
         ensures stepping { IsStepping rows.now (length self.old.changes.items) self.new }
         ensures goes { Goes self.old self.new }
-        ensures fewer { weight_of self.new.frontier.stages.items < weight_of self.old.frontier.stages.items }
+        ensures fewer { steps_of_all self.new.frontier.stages.items < steps_of_all self.old.frontier.stages.items }
     {
         if (self.children[worker] as usize) < rows.len() {
             self.spawn(rows, family, worker);
@@ -201,7 +201,7 @@ impl Simulation {
         ensures giving { IsGiving rows.now (length self.old.changes.items) self.new }
         ensures counted { IsCounted rows.now self.new }
         ensures low { IsLow rows.now self.new }
-        ensures fewer { weight_of self.new.frontier.stages.items ≤ weight_of self.old.frontier.stages.items }
+        ensures fewer { steps_of_all self.new.frontier.stages.items ≤ steps_of_all self.old.frontier.stages.items }
     {
         while let Some(worker) = self.next_to_change() {
             if self.changes[worker] != self.tick {
@@ -222,7 +222,7 @@ impl Simulation {
         ensures stepping { IsStepping rows.now (length self.old.changes.items) self.new }
         ensures counted { IsCounted rows.now self.new }
         ensures low { IsLow rows.now self.new }
-        ensures fewer { weight_of self.new.frontier.stages.items < weight_of self.old.frontier.stages.items }
+        ensures fewer { steps_of_all self.new.frontier.stages.items < steps_of_all self.old.frontier.stages.items }
     {
         self.tick = self.changes[worker];
         self.moments += 1;

@@ -5,23 +5,29 @@ use boc_types::body::EndStatus;
 use boc_types::row_test::are_rows;
 use boc_types::rows::{Row, Rows};
 use boc_types::short::Cowns;
+use boc_types::workers::Workers;
 use std::alloc::Global;
 use std::process::Abort;
 use std::test::Fail;
 
-fn row(parent: u32, offset: u32, numbers: &[u32], ticks: u32) -> Row {
-    let mut cowns = Cowns::new();
+fn cowns(numbers: &[u32]) -> Cowns {
+    let mut list = Cowns::new();
     for number in numbers {
-        if !cowns.is_full() {
-            cowns.push(*number);
+        if !list.is_full() {
+            list.push(*number);
         }
     }
+    list
+}
+
+fn row(parent: u32, offset: u32, numbers: &[u32], ticks: u32) -> Row {
     Row {
         parent,
         offset,
-        cowns,
+        cowns: cowns(numbers),
         ticks,
         status: EndStatus::Done,
+        written: cowns(numbers),
     }
 }
 
@@ -88,6 +94,22 @@ fn crossing(alloc: Global) -> Result<Rows, Fail> {
     rows_of(list)
 }
 
+// Three rows over two cowns: the first two end one after the other, and the last needs the cowns of both.
+fn waiting_for_both(alloc: Global) -> Result<Rows, Fail> {
+    let mut list = Vec::new(alloc);
+    list.push(row(0, 0, &[], 4))?;
+    list.push(row(0, 2, &[0], 3))?;
+    list.push(row(0, 3, &[1], 2))?;
+    list.push(row(0, 4, &[0, 1], 1))?;
+    rows_of(list)
+}
+
+// The greedy plan for p workers.
+fn plan_for(alloc: Global, rows: &Rows, p: u32) -> Result<Greedy, Fail> {
+    let workers = Workers::new(p).ok_or("no number of workers")?;
+    Ok(greedy(alloc, rows, workers)?)
+}
+
 // The plan has these starts, workers, end and bound.
 fn has_plan(
     rt: &impl Abort,
@@ -107,11 +129,11 @@ fn has_plan(
 fn transfer_by_one_and_two(rt: HostRuntime) -> Result<(), Fail> {
     let alloc = rt.alloc();
     let rows = transfer(alloc)?;
-    let one = greedy(alloc, &rows, 1)?;
+    let one = plan_for(alloc, &rows, 1)?;
     has_plan(&rt, &one, &[0, 4, 6, 9], &[0, 0, 0, 0], 11, 20);
     assert_eq!(rt; one.ends.as_slice(), [4, 6, 9, 11].as_slice());
     assert_eq!(rt; one.p, 1);
-    let two = greedy(alloc, &rows, 2)?;
+    let two = plan_for(alloc, &rows, 2)?;
     has_plan(&rt, &two, &[0, 2, 4, 7], &[0, 1, 0, 0], 9, 14);
     assert_eq!(rt; two.p, 2);
     // 0, the spawns at 2, 3 and 4, and the ends at 4, 7 and 9.
@@ -123,9 +145,9 @@ fn transfer_by_one_and_two(rt: HostRuntime) -> Result<(), Fail> {
 fn four_squares_by_two_and_four(rt: HostRuntime) -> Result<(), Fail> {
     let alloc = rt.alloc();
     let rows = four_squares(alloc)?;
-    let two = greedy(alloc, &rows, 2)?;
+    let two = plan_for(alloc, &rows, 2)?;
     has_plan(&rt, &two, &[0, 2, 5, 10, 13], &[0, 1, 0, 1, 0], 21, 31);
-    let four = greedy(alloc, &rows, 4)?;
+    let four = plan_for(alloc, &rows, 4)?;
     has_plan(&rt, &four, &[0, 2, 3, 4, 5], &[0, 1, 2, 3, 0], 13, 22);
     Ok(())
 }
@@ -133,7 +155,7 @@ fn four_squares_by_two_and_four(rt: HostRuntime) -> Result<(), Fail> {
 #[test]
 fn no_cowns_by_one(rt: HostRuntime) -> Result<(), Fail> {
     let alloc = rt.alloc();
-    let one = greedy(alloc, &no_cowns(alloc)?, 1)?;
+    let one = plan_for(alloc, &no_cowns(alloc)?, 1)?;
     has_plan(&rt, &one, &[0, 3, 7], &[0, 0, 0], 11, 18);
     Ok(())
 }
@@ -143,7 +165,7 @@ fn one_long_row_by_many(rt: HostRuntime) -> Result<(), Fail> {
     let alloc = rt.alloc();
     let mut list = Vec::new(alloc);
     list.push(row(0, 0, &[], 1_000_000))?;
-    let many = greedy(alloc, &rows_of(list)?, 64)?;
+    let many = plan_for(alloc, &rows_of(list)?, 64)?;
     has_plan(&rt, &many, &[0], &[0], 1_000_000, 1_015_625);
     assert_eq!(rt; many.moments, 2);
     Ok(())
@@ -157,7 +179,7 @@ fn as_many_long_rows_as_there_can_be(rt: HostRuntime) -> Result<(), Fail> {
     for number in 1..65_535 {
         list.push(row(0, number + 1, &[], 1_000_000))?;
     }
-    let many = greedy(alloc, &rows_of(list)?, 64)?;
+    let many = plan_for(alloc, &rows_of(list)?, 64)?;
     assert_eq!(rt; many.bound, 1_025_035_308);
     assert!(rt; many.moments <= 131_070);
     assert!(rt; many.ends_at <= many.bound);
@@ -250,7 +272,7 @@ fn tick_by_tick(
 // The plan of the events is that of the ticks, for 1 to 8 workers.
 fn agrees(rt: &impl Abort, alloc: Global, rows: &Rows) -> Result<(), Fail> {
     for p in 1..9 {
-        let found = greedy(alloc, rows, p)?;
+        let found = plan_for(alloc, rows, p)?;
         let plain = tick_by_tick(alloc, rows.as_slice(), p, 100)?;
         assert_eq!(rt; found.starts.len(), plain.len());
         for ((start, worker), at) in found.starts.iter().zip(&found.workers).zip(&plain) {
@@ -270,5 +292,6 @@ fn events_agree_with_ticks(rt: HostRuntime) -> Result<(), Fail> {
     agrees(&rt, alloc, &four_squares(alloc)?)?;
     agrees(&rt, alloc, &no_cowns(alloc)?)?;
     agrees(&rt, alloc, &countdown(alloc)?)?;
-    agrees(&rt, alloc, &crossing(alloc)?)
+    agrees(&rt, alloc, &crossing(alloc)?)?;
+    agrees(&rt, alloc, &waiting_for_both(alloc)?)
 }

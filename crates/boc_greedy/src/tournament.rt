@@ -44,7 +44,7 @@ fn beside(place: usize) -> usize
 impl Tournament {
     ghost use Rattle.std.specs.Prelude.{◌≡◌, ◌≢◌, ℕ, ◌<◌, ◌≤◌, IfSome, IfNone};
     ghost use Rattle.boc_greedy.specs.Simulating.{later};
-    ghost use Rattle.boc_greedy.specs.Tournaments.{IsTournament, IsEarliest, change_at};
+    ghost use Rattle.boc_greedy.specs.Tournaments.{IsTournament, ChangesFirst, change_at};
 
     /// So many workers, all idle.
     pub fn new(count: usize) -> Tournament
@@ -125,7 +125,7 @@ impl Tournament {
     /// A worker that changes when or before all others do, if one isn't idle.
     pub fn earliest(&self) -> Option<usize>
         requires { IsTournament self.now }
-        ensures found { IfSome result (λ w. IsEarliest self.now w) }
+        ensures found { IfSome result (λ w. ChangesFirst self.now w) }
         ensures none { IfNone result ((w : ℕ) → w < self.now.count → later ≤ change_at self.now w) }
     {
         let first = self.winners[1];

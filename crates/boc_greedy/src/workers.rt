@@ -2,9 +2,10 @@
 
 ghost use Rattle.std.specs.Prelude.{◌≡◌, ℕ, ◌+◌, ◌<◌, ◌≤◌, length, IfSome, IfNone};
 ghost use Rattle.std.specs.Int.{bit_at};
-ghost use Rattle.boc_types.specs.Rows.{IsRows, offset_of, ticks_of};
+ghost use Rattle.boc_types.specs.runs.Rows.{IsRows, offset_of, ticks_of};
 ghost use Rattle.boc_greedy.specs.Simulating.{later};
 
+use boc_types::limits::MOST_TICKS;
 use boc_types::rows::Row;
 
 /// A tick after every tick of a plan. Rows that haven't started stand here, and the changes of idle workers.
@@ -36,7 +37,7 @@ pub fn least_idle(idle: u64) -> Option<usize>
 pub fn change_of(rows: &[Row], start: u64, row: u32, child: u32) -> u64
     requires shape { IsRows rows.now }
     requires there { row < length rows.now }
-    requires early { start + 1000000 < later }
+    requires early { start + MOST_TICKS < later }
     ensures spawns { child < length rows.now → result ≡ start + offset_of rows.now child }
     ensures ends { length rows.now ≤ child → result ≡ start + ticks_of rows.now row }
 {

@@ -7,9 +7,9 @@ use Rattle.boc_types.specs.declared.rows.Row.{Row}
 use Rattle.boc_types.specs.declared.chain.Step.{Step}
 use Rattle.boc_types.specs.declared.chain.Via.{Via}
 use Rattle.boc_types.specs.declared.chain.Via.TheVariants.{Spawn, Order, Last}
-use Rattle.boc_types.specs.Rows.{IsRows, parent_of, offset_of, ticks_of}
-use Rattle.boc_types.specs.Plans.{start_of, end_of, Keeps, IsEnd, IsEarliest}
-use Rattle.boc_types.specs.Chains.{IsSpawnTight, IsOrderTight, weight_of, LinkVia, IsLink, PickedVia, IsChain, IsPicked}
+use Rattle.boc_types.specs.runs.Rows.{IsRows, parent_of, offset_of, ticks_of}
+use Rattle.boc_types.specs.plans.Plans.{start_of, end_of, Keeps, IsEnd, IsEarliest}
+use Rattle.boc_types.specs.plans.Chains.{IsSpawnTight, IsOrderTight, weight_of, LinkVia, IsLink, PickedVia, IsChain, IsPicked}
 use Rattle.boc_order.specs.Placed.{ArePlaced}
 use Rattle.boc_order.specs.Back.{IsStepBefore, LeadsTo, IsFirstLatest}
 use Rattle.boc_types.proofs.Children.{row_read}

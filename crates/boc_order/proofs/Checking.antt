@@ -1,5 +1,6 @@
 -- The steps of a chain, one by one.
 use Rattle.std.proofs.Common.{◌≡◌, ℕ, suc, ◌+◌, ◌*◌, ◌<◌, ◌≤◌, List, length, take, Option, Some, None, get_or, add-one, below_more, sym, ap, subst, arith}
+use Rattle.boc_types.specs.declared.limits.TheConstants.{MOST_TICKS}
 use Rattle.std.specs.Prelude.{slice_get}
 use Rattle.std.proofs.lemmas.List.Sums.{sum_by_more}
 use Rattle.std.proofs.lemmas.Option.{slice_get_within, slice_get-get_or}
@@ -7,8 +8,8 @@ use Rattle.boc_types.specs.declared.rows.Row.{Row}
 use Rattle.boc_types.specs.declared.chain.Step.{Step}
 use Rattle.boc_types.specs.declared.chain.Via.{Via}
 use Rattle.boc_types.specs.declared.chain.Via.TheVariants.{Spawn, Order, Last}
-use Rattle.boc_types.specs.Rows.{IsRows, parent_of, ticks_of}
-use Rattle.boc_types.specs.Chains.{weight_of, LinkVia, IsLink, StepHolds, IsChain}
+use Rattle.boc_types.specs.runs.Rows.{IsRows, parent_of, ticks_of}
+use Rattle.boc_types.specs.plans.Chains.{weight_of, LinkVia, IsLink, StepHolds, IsChain}
 
 module _ (rows : List Row) (steps : List Step) (k : ℕ) (d : Step) (there : k < length steps) (next : Option Step) (is_next : next ≡ slice_get steps (k + 1)) where
   here : slice_get steps k ≡ Some (get_or steps k d)
@@ -34,7 +35,7 @@ link_rises rows hr Spawn a weight next l = omega (arith, hr.parent_before next.r
 link_rises rows hr Order a weight next l = l.0.before
 link_rises rows hr Last a weight next l = absurd l
 
-pub link_small : (rows : List Row) (hr : IsRows rows) (via : Via) (a weight : ℕ) (next : Option Step) → a < length rows → LinkVia rows a weight via next → weight ≤ 1000000
+pub link_small : (rows : List Row) (hr : IsRows rows) (via : Via) (a weight : ℕ) (next : Option Step) → a < length rows → LinkVia rows a weight via next → weight ≤ MOST_TICKS
 link_small rows hr Spawn a weight None h l = absurd l
 link_small rows hr Order a weight None h l = absurd l
 link_small rows hr Last a weight None h l = omega (arith, l, hr.ticks_high a h)
@@ -55,7 +56,7 @@ pub record Checked (rows : List Row) (steps : List Step) (k weight : ℕ) : Type
   pub hold : (j : ℕ) → j < k → StepHolds rows steps j
   pub rise : (s : Step) → slice_get steps k ≡ Some s → k ≤ s.row
   pub sum : weight ≡ weight_of (take k steps)
-  pub small : weight ≤ k * 1000000
+  pub small : weight ≤ k * MOST_TICKS
   pub few : k ≤ length rows
 
 pub checked_more : (rows : List Row) (hr : IsRows rows) (steps : List Step) (k : ℕ) (d : Step) (weight : ℕ) → k < length steps → (next : Option Step) →

@@ -1,29 +1,30 @@
 -- One more row gets its place.
 use Rattle.std.proofs.Common.{◌≡◌, ℕ, ◌+◌, ◌*◌, ◌<◌, ◌≤◌, ◌⊎◌, Bool, true, false, List, [], ◌∷◌, ◌++◌, length, replicate, Option, Some, None, get_or, refl, sym, ap, subst, inl, inr, arith}
+use Rattle.boc_types.specs.declared.limits.TheConstants.{MOST_COWNS, MOST_TICKS}
 use Rattle.std.specs.Prelude.{slice_index, slice_index_or, nat_lt, MatchOption}
 use Rattle.std.specs.List.{Contains, All}
 use Rattle.std.proofs.lemmas.Bool.{cases_lt, cases_eq}
 use Rattle.std.proofs.lemmas.List.{get_or_append_left, get_or_push, length_push, length-replicate, get_or-replicate}
 use Rattle.boc_types.specs.declared.rows.Row.{Row}
-use Rattle.boc_types.specs.Rows.{IsRows, parent_of, offset_of, ticks_of, cowns_of}
+use Rattle.boc_types.specs.runs.Rows.{IsRows, parent_of, offset_of, ticks_of, cowns_of}
 use Rattle.boc_types.proofs.Children.{IsRow, row_read}
-use Rattle.boc_types.specs.Plans.{start_of, end_of, Ordered}
-use Rattle.boc_types.specs.Chains.{IsSpawnTight, IsOrderTight}
+use Rattle.boc_types.specs.plans.Plans.{start_of, end_of, Ordered}
+use Rattle.boc_types.specs.plans.Chains.{IsSpawnTight, IsOrderTight}
 use Rattle.boc_order.specs.declared.latest.Latest.{Latest}
-use Rattle.boc_order.specs.Latest.{latest_among, noted, nothing, IsLatestOf}
+use Rattle.boc_order.specs.Latest.{latest_among, with_noted, nothing, IsLatestOf}
 use Rattle.boc_order.specs.Placed.{placement, Placed, ArePlaced, Had, Remembers}
 use Rattle.boc_order.proofs.Remembering.{IsLatest-same, among_latest, noted_latest, length-noted, AtAny, NotedAt}
 
 -- no cown is in use before the first row
-pub remembers_none : (rows : List Row) (ends : List ℕ) → Remembers rows ends (replicate 256 nothing) 0
+pub remembers_none : (rows : List Row) (ends : List ℕ) → Remembers rows ends (replicate MOST_COWNS nothing) 0
 remembers_none rows ends = record {
-  there = length-replicate 256 nothing;
-  at = λ c k. rw (get_or-replicate 256 c nothing nothing k) (record { none = λ e a m. omega (arith, m.below); some = λ l. absurd (omega (arith, l)) });
+  there = length-replicate MOST_COWNS nothing;
+  at = λ c k. rw (get_or-replicate MOST_COWNS c nothing nothing k) (record { none = λ e a m. omega (arith, m.below); some = λ l. absurd (omega (arith, l)) });
 }
 
 -- the memory, once row n was noted at its cowns
-pub remembers_next : (rows : List Row) (ends : List ℕ) (memory : List Latest) (n end : ℕ) → All (λ c. c < 256) (cowns_of rows n) → 0 < end →
-    slice_index ends n ≡ end → Remembers rows ends memory n → Remembers rows ends (noted (record { end = end; row = n }) memory (cowns_of rows n)) (n + 1)
+pub remembers_next : (rows : List Row) (ends : List ℕ) (memory : List Latest) (n end : ℕ) → All (λ c. c < MOST_COWNS) (cowns_of rows n) → 0 < end →
+    slice_index ends n ≡ end → Remembers rows ends memory n → Remembers rows ends (with_noted (record { end = end; row = n }) memory (cowns_of rows n)) (n + 1)
 remembers_next rows ends memory n end small above e p = record {
   there = omega (arith, length-noted (record { end = end; row = n }) memory (cowns_of rows n), p.there);
   at = λ c h.
@@ -50,7 +51,7 @@ remembers_same rows ends ends' memory n same p = record {
 
 -- among the rows before n that are ordered before it, the latest
 pub ordered_latest : (rows : List Row) (ends : List ℕ) (memory : List Latest) (n : ℕ) →
-    All (λ c. c < 256) (cowns_of rows n) → Remembers rows ends memory n →
+    All (λ c. c < MOST_COWNS) (cowns_of rows n) → Remembers rows ends memory n →
     IsLatestOf (λ a. Ordered rows a n) (slice_index ends) (latest_among memory nothing (cowns_of rows n))
 ordered_latest rows ends memory n small p =
     IsLatest-same (λ r. ⊥ ⊎ AtAny (Had rows n) (cowns_of rows n) r) (λ a. Ordered rows a n) (slice_index ends) (slice_index ends) _
@@ -160,7 +161,7 @@ module _ (rows : List Row) (hr : IsRows rows) (starts ends : List ℕ) (after : 
     here_ends : slice_index (ends ++ (at + ticks_of rows n) ∷ []) n ≡ at + ticks_of rows n
     here_ends = get_or_push ends (at + ticks_of rows n) 0 n done.ends_len
 
-    pub spawned_low : spawned ≤ n * 1000000
+    pub spawned_low : spawned ≤ n * MOST_TICKS
     spawned_low = elim (cases_eq n 0) [
       | inl e ↦ omega (arith, sp.main e)
       | inr ne ↦ (
@@ -171,13 +172,13 @@ module _ (rows : List Row) (hr : IsRows rows) (starts ends : List ℕ) (after : 
     ]
 
     at_low_by : (o : Option ℕ) → MatchOption o (at ≡ spawned)
-        (λ a. (spawned < at) × Ordered rows a n × (slice_index ends a ≡ at) × ((o : ℕ) → Ordered rows o n → slice_index ends o ≡ at → a ≤ o)) → at ≤ n * 1000000
+        (λ a. (spawned < at) × Ordered rows a n × (slice_index ends a ≡ at) × ((o : ℕ) → Ordered rows o n → slice_index ends o ≡ at → a ≤ o)) → at ≤ n * MOST_TICKS
     at_low_by None t = omega (arith, t, spawned_low)
     at_low_by (Some a) t =
         let before : a < n = t.1.before in
         omega (arith, (done.placed a before).low, t.2)
 
-    pub at_low : at ≤ n * 1000000
+    pub at_low : at ≤ n * MOST_TICKS
     at_low = at_low_by waits_for w.tight
 
     end_same : (a : ℕ) → a < n → end_of rows (starts ++ at ∷ []) a ≡ slice_index ends a
@@ -240,8 +241,8 @@ module _ (rows : List Row) (hr : IsRows rows) (starts ends : List ℕ) (after : 
     }
 
     -- the memory, once row n was noted at its cowns
-    pub remembers_more : (memory : List Latest) → All (λ c. c < 256) (cowns_of rows n) → Remembers rows ends memory n →
-        Remembers rows (ends ++ (at + ticks_of rows n) ∷ []) (noted (record { end = at + ticks_of rows n; row = n }) memory (cowns_of rows n)) (n + 1)
+    pub remembers_more : (memory : List Latest) → All (λ c. c < MOST_COWNS) (cowns_of rows n) → Remembers rows ends memory n →
+        Remembers rows (ends ++ (at + ticks_of rows n) ∷ []) (with_noted (record { end = at + ticks_of rows n; row = n }) memory (cowns_of rows n)) (n + 1)
     remembers_more memory small p =
         remembers_next rows (ends ++ (at + ticks_of rows n) ∷ []) memory n (at + ticks_of rows n) small (omega (arith, hr.ticks_low n there)) here_ends
         (remembers_same rows ends (ends ++ (at + ticks_of rows n) ∷ []) memory n agree_ends p)
@@ -253,17 +254,17 @@ module _ (rows : List Row) (hr : IsRows rows) (starts ends : List ℕ) (after : 
   is : IsRow rows n x
   is = row_read rows n x there is_row
 
-  pub read_small : All (λ c. c < 256) x.cowns.items
+  pub read_small : All (λ c. c < MOST_COWNS) x.cowns.items
   read_small = rw is.cowns at (hr.cowns_below n there)
 
   pub read_parent : 0 < n → x.parent < n
   read_parent h = omega (arith, hr.parent_before n h there, is.parent)
 
-  pub read_spawned_low : 0 < n → slice_index starts x.parent + x.offset ≤ n * 1000000
+  pub read_spawned_low : 0 < n → slice_index starts x.parent + x.offset ≤ n * MOST_TICKS
   read_spawned_low h =
       let before : parent_of rows n < n = hr.parent_before n h there in
       let p = done.placed (parent_of rows n) before in
-      let l : slice_index starts (parent_of rows n) + offset_of rows n ≤ n * 1000000 =
+      let l : slice_index starts (parent_of rows n) + offset_of rows n ≤ n * MOST_TICKS =
       omega (arith, p.low, p.ends_then, hr.ticks_cover n h there) in
       rw (is.parent, is.offset) at l
 
@@ -276,13 +277,13 @@ module _ (rows : List Row) (hr : IsRows rows) (starts ends : List ℕ) (after : 
     waits = rw placed (rw (← is.cowns) (placement_waits rows ends n spawned (latest_among memory nothing (cowns_of rows n))
         (ordered_latest rows ends memory n (hr.cowns_below n there) remembers)))
 
-    pub read_low : place.0 ≤ n * 1000000
+    pub read_low : place.0 ≤ n * MOST_TICKS
     read_low = at_low rows hr starts ends after n there done spawned place.0 place.1 sp waits
 
     pub read_placed : ArePlaced rows (starts ++ place.0 ∷ []) (ends ++ (place.0 + x.ticks) ∷ []) (after ++ place.1 ∷ []) (n + 1)
     read_placed = rw (← is.ticks) (more_placed rows hr starts ends after n there done spawned place.0 place.1 sp waits)
 
-    pub read_remembers : Remembers rows (ends ++ (place.0 + x.ticks) ∷ []) (noted (record { end = place.0 + x.ticks; row = n }) memory x.cowns.items) (n + 1)
+    pub read_remembers : Remembers rows (ends ++ (place.0 + x.ticks) ∷ []) (with_noted (record { end = place.0 + x.ticks; row = n }) memory x.cowns.items) (n + 1)
     read_remembers = rw (← is.ticks, ← is.cowns)
         (remembers_more rows hr starts ends after n there done spawned place.0 place.1 sp waits memory (hr.cowns_below n there) remembers)
 

@@ -1,11 +1,12 @@
 -- What `later_of`, `latest_among` and `noted` keep of `IsLatestOf`.
 use Rattle.std.proofs.Common.{◌≡◌, ℕ, zero, suc, ◌<◌, ◌≤◌, ◌⊎◌, Bool, true, false, List, [], ◌∷◌, length, refl, sym, subst, inl, inr, arith, get_or-set_same, get_or-set_other, length-set}
+use Rattle.boc_types.specs.declared.limits.TheConstants.{MOST_COWNS}
 use Rattle.std.specs.Prelude.{if◌then◌else◌, slice_index_or, slice_set}
 use Rattle.std.specs.List.{Contains, All}
 use Rattle.std.proofs.lemmas.Bool.Decides.{nat_tests}
 use Rattle.std.proofs.lemmas.Bool.{cases_eq}
 use Rattle.boc_order.specs.declared.latest.Latest.{Latest}
-use Rattle.boc_order.specs.Latest.{comes_after, later_of, latest_among, noted, nothing, IsLatest, IsLatestOf}
+use Rattle.boc_order.specs.Latest.{comes_after, later_of, latest_among, with_noted, nothing, IsLatest, IsLatestOf}
 
 after_true : (x y : Latest) → comes_after y x ≡ true → (x.end < y.end) ⊎ ((x.end ≡ y.end) × (y.row < x.row))
 after_true x y h = grind (arith, nat_tests)
@@ -119,7 +120,7 @@ AtAny At cowns r = (c : ℕ) × Contains cowns c × At c r
 
 -- `latest_among` gives the latest of the rows at any of the cowns
 pub among_latest : (At : ℕ → ℕ → Type 0) (A : ℕ → Type 0) (ends : ℕ → ℕ) (memory : List Latest) (best : Latest) (cowns : List ℕ) →
-    All (λ c. c < 256) cowns → ((c : ℕ) → c < 256 → IsLatestOf (At c) ends (slice_index_or memory c nothing)) →
+    All (λ c. c < MOST_COWNS) cowns → ((c : ℕ) → c < MOST_COWNS → IsLatestOf (At c) ends (slice_index_or memory c nothing)) →
     IsLatestOf A ends best → IsLatestOf (λ r. A r ⊎ AtAny At cowns r) ends (latest_among memory best cowns)
 among_latest At A ends memory best [] small at p =
     IsLatest-same A (λ r. A r ⊎ AtAny At [] r) ends ends best (λ r m. inl m)
@@ -157,9 +158,9 @@ single ends row above e = record {
 }
 
 pub noted_latest : (At : ℕ → ℕ → Type 0) (ends : ℕ → ℕ) (row : Latest) (memory : List Latest) (cowns : List ℕ) →
-    All (λ c. c < 256) cowns → 0 < row.end → ends row.row ≡ row.end → length memory ≡ 256 →
-    ((c : ℕ) → c < 256 → IsLatestOf (At c) ends (slice_index_or memory c nothing)) →
-    (d : ℕ) → d < 256 → IsLatestOf (NotedAt At cowns row.row d) ends (slice_index_or (noted row memory cowns) d nothing)
+    All (λ c. c < MOST_COWNS) cowns → 0 < row.end → ends row.row ≡ row.end → length memory ≡ MOST_COWNS →
+    ((c : ℕ) → c < MOST_COWNS → IsLatestOf (At c) ends (slice_index_or memory c nothing)) →
+    (d : ℕ) → d < MOST_COWNS → IsLatestOf (NotedAt At cowns row.row d) ends (slice_index_or (with_noted row memory cowns) d nothing)
 noted_latest At ends row memory [] small above e l at d h =
     IsLatest-same (At d) (NotedAt At [] row.row d) ends ends _ (λ r m. inl m)
     (λ r m. elim m [ inl m ↦ m | inr m ↦ absurd (omega (arith, m.0.1)) ]) (λ r m. refl) (at d h)
@@ -182,7 +183,7 @@ noted_latest At ends row memory (c ∷ cs) small above e l at d h =
     memory' : List Latest
     memory' = slice_set memory c (later_of (slice_index_or memory c nothing) row)
 
-    is_small : c < 256
+    is_small : c < MOST_COWNS
     is_small = small 0 0 (omega arith)
 
     at_same : IsLatestOf (At' c) ends (slice_index_or memory' c nothing)
@@ -196,7 +197,7 @@ noted_latest At ends row memory (c ∷ cs) small above e l at d h =
         (λ r m. refl)
         (later_latest (At c) (λ r. r ≡ row.row) ends old row (at c is_small) (single ends row above e)))
 
-    at_other : (x : ℕ) → x < 256 → (x ≡ c → ⊥) → IsLatestOf (At' x) ends (slice_index_or memory' x nothing)
+    at_other : (x : ℕ) → x < MOST_COWNS → (x ≡ c → ⊥) → IsLatestOf (At' x) ends (slice_index_or memory' x nothing)
     at_other x k other =
         rw get_or-set_other
         (IsLatest-same (At x) (At' x) ends ends (slice_index_or memory x nothing)
@@ -205,13 +206,13 @@ noted_latest At ends row memory (c ∷ cs) small above e l at d h =
         (λ r m. refl)
         (at x k))
 
-    at' : (x : ℕ) → x < 256 → IsLatestOf (At' x) ends (slice_index_or memory' x nothing)
+    at' : (x : ℕ) → x < MOST_COWNS → IsLatestOf (At' x) ends (slice_index_or memory' x nothing)
     at' x k = elim (cases_eq x c) [
       | inl same ↦ subst (λ (y : ℕ). IsLatestOf (At' y) ends (slice_index_or memory' y nothing)) (sym same) at_same
       | inr other ↦ at_other x k other
     ]
 
-pub length-noted : (row : Latest) (memory : List Latest) (cowns : List ℕ) → length (noted row memory cowns) ≡ length memory
+pub length-noted : (row : Latest) (memory : List Latest) (cowns : List ℕ) → length (with_noted row memory cowns) ≡ length memory
 length-noted row memory [] = refl
 length-noted row memory (c ∷ cs) =
     let m : List Latest = slice_set memory c (later_of (slice_index_or memory c nothing) row) in

@@ -4,11 +4,11 @@ use Rattle.std.specs.Prelude.{slice_index, slice_index_or, MatchOption}
 use Rattle.std.specs.List.{Contains}
 use Rattle.std.proofs.lemmas.List.{get_or-take, length-take, take-take}
 use Rattle.boc_types.specs.declared.rows.Row.{Row}
-use Rattle.boc_types.specs.Rows.{IsRows, parent_of, offset_of, ticks_of, cowns_of}
-use Rattle.boc_types.specs.Plans.{IsChild, Ordered}
-use Rattle.boc_types.specs.Chains.{IsSpawnTight, IsOrderTight}
-use Rattle.boc_types.specs.Edits.{edited, Fits}
-use Rattle.boc_types.specs.Greedy.{IsSpan}
+use Rattle.boc_types.specs.runs.Rows.{IsRows, parent_of, offset_of, ticks_of, cowns_of}
+use Rattle.boc_types.specs.plans.Plans.{IsChild, Ordered}
+use Rattle.boc_types.specs.plans.Chains.{IsSpawnTight, IsOrderTight}
+use Rattle.boc_types.specs.plans.Edits.{edited, Fits}
+use Rattle.boc_types.specs.plans.Greedy.{IsSpan}
 use Rattle.boc_types.proofs.Editing.{length-edited, parent_of-edited, offset_of-edited, cowns_of-edited, ticks_of-edited_other, rows_edited}
 use Rattle.boc_order.specs.Placed.{Placed, ArePlaced}
 use Rattle.boc_order.proofs.Placing.{still_placed}

@@ -5,8 +5,8 @@ use Rattle.std.specs.List.{sum_by}
 use Rattle.std.proofs.lemmas.List.Sums.{sum_by_more}
 use Rattle.std.proofs.lemmas.Option.{slice_get-get_or}
 use Rattle.boc_types.specs.declared.rows.Row.{Row}
-use Rattle.boc_types.specs.Rows.{ticks_of}
-use Rattle.boc_types.specs.Plans.{HasEnds}
+use Rattle.boc_types.specs.runs.Rows.{ticks_of}
+use Rattle.boc_types.specs.plans.Plans.{HasEnds}
 
 -- one more row adds what lies between its start and its end
 pub work_more : (rows : List Row) (starts ends : List ℕ) (n total : ℕ) → HasEnds rows starts ends → n < length ends →

@@ -3,9 +3,9 @@ use Rattle.std.specs.Prelude.{◌≡◌, ℕ, suc, ◌+◌, ◌<◌, ◌≤◌, 
 use Rattle.boc_types.specs.declared.rows.Row.{Row}
 use Rattle.boc_types.specs.declared.chain.Step.{Step}
 use Rattle.boc_types.specs.declared.chain.Via.TheVariants.{Spawn, Order}
-use Rattle.boc_types.specs.Rows.{parent_of, offset_of, ticks_of}
-use Rattle.boc_types.specs.Plans.{start_of, end_of, IsEnd}
-use Rattle.boc_types.specs.Chains.{weight_of, IsLink, PickedVia}
+use Rattle.boc_types.specs.runs.Rows.{parent_of, offset_of, ticks_of}
+use Rattle.boc_types.specs.plans.Plans.{start_of, end_of, IsEnd}
+use Rattle.boc_types.specs.plans.Chains.{weight_of, IsLink, PickedVia}
 
 -- the step before row b: its parent's, or that of the row it waited for
 abbrev pub IsStepBefore : List Row → Option ℕ → ℕ → Step → Type 0

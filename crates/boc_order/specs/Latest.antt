@@ -20,9 +20,9 @@ latest_among memory best [] = best
 latest_among memory best (c ∷ cowns) = latest_among memory (later_of best (slice_index_or memory c nothing)) cowns
 
 -- what is remembered once a row was noted at each of the cowns
-abbrev pub noted : Latest → List Latest → List ℕ → List Latest
-noted row memory [] = memory
-noted row memory (c ∷ cowns) = noted row (slice_set memory c (later_of (slice_index_or memory c nothing) row)) cowns
+abbrev pub with_noted : Latest → List Latest → List ℕ → List Latest
+with_noted row memory [] = memory
+with_noted row memory (c ∷ cowns) = with_noted row (slice_set memory c (later_of (slice_index_or memory c nothing) row)) cowns
 
 -- the latest end among the rows of a set, and the least row that has it
 pub record IsLatest (In : ℕ → Type 0) (ends : ℕ → ℕ) (l : Latest) : Type 0 where

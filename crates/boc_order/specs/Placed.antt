@@ -1,10 +1,11 @@
 -- What is known of the rows that have their place in the earliest plan.
 use Rattle.std.specs.Prelude.{◌≡◌, ℕ, ◌+◌, ◌*◌, ◌<◌, ◌≤◌, nat_lt, if◌then◌else◌, List, length, Option, Some, None, MatchOption, slice_index, slice_index_or}
+use Rattle.boc_types.specs.declared.limits.TheConstants.{MOST_COWNS, MOST_TICKS}
 use Rattle.boc_types.specs.declared.rows.Row.{Row}
 use Rattle.std.specs.List.{Contains}
-use Rattle.boc_types.specs.Rows.{offset_of, cowns_of}
-use Rattle.boc_types.specs.Plans.{start_of, end_of, IsChild, Ordered}
-use Rattle.boc_types.specs.Chains.{IsSpawnTight, IsOrderTight}
+use Rattle.boc_types.specs.runs.Rows.{offset_of, cowns_of}
+use Rattle.boc_types.specs.plans.Plans.{start_of, end_of, IsChild, Ordered}
+use Rattle.boc_types.specs.plans.Chains.{IsSpawnTight, IsOrderTight}
 use Rattle.boc_order.specs.declared.latest.Latest.{Latest}
 use Rattle.boc_order.specs.Latest.{IsLatestOf, nothing}
 
@@ -16,7 +17,7 @@ placement spawned last = if nat_lt spawned last.end then (last.end, Some last.ro
 pub record Placed (rows : List Row) (starts ends : List ℕ) (waits_for : Option ℕ) (b : ℕ) : Type 0 where
   pub main : b ≡ 0 → start_of starts b ≡ 0
   pub ends_then : slice_index ends b ≡ end_of rows starts b
-  pub low : slice_index ends b ≤ (b + 1) * 1000000
+  pub low : slice_index ends b ≤ (b + 1) * MOST_TICKS
   pub spawned : (a : ℕ) → IsChild rows a b → start_of starts a + offset_of rows b ≤ start_of starts b
   pub in_order : (a : ℕ) → Ordered rows a b → end_of rows starts a ≤ start_of starts b
   pub tight : 0 < b → MatchOption waits_for (IsSpawnTight rows starts b)
@@ -36,5 +37,5 @@ pub record Had (rows : List Row) (n c r : ℕ) : Type 0 where
 
 -- the memory has the latest of the first n rows at each cown
 pub record Remembers (rows : List Row) (ends : List ℕ) (memory : List Latest) (n : ℕ) : Type 0 where
-  pub there : length memory ≡ 256
-  pub at : (c : ℕ) → c < 256 → IsLatestOf (Had rows n c) (slice_index ends) (slice_index_or memory c nothing)
+  pub there : length memory ≡ MOST_COWNS
+  pub at : (c : ℕ) → c < MOST_COWNS → IsLatestOf (Had rows n c) (slice_index ends) (slice_index_or memory c nothing)

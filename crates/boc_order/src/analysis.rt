@@ -2,16 +2,18 @@
 
 ghost use Rattle.std.specs.Prelude.{◌≡◌, ℕ, ◌+◌, ◌<◌, ◌≤◌, List, length, IfOk, slice_index};
 ghost use Rattle.boc_types.specs.declared.rows.Row.{Row};
-ghost use Rattle.boc_types.specs.Rows.{IsRows};
-ghost use Rattle.boc_types.specs.Plans.{work_of, HasEnds, IsEnd, IsEarliest, NoneEndsBefore};
-ghost use Rattle.boc_types.specs.Chains.{IsPicked, weight_of};
-ghost use Rattle.boc_types.specs.Greedy.{IsSpan};
+ghost use Rattle.boc_types.specs.runs.Rows.{IsRows};
+ghost use Rattle.boc_types.specs.plans.Plans.{work_of, HasEnds, IsEnd, IsEarliest, NoneEndsBefore};
+ghost use Rattle.boc_types.specs.plans.Chains.{IsPicked, weight_of};
+ghost use Rattle.boc_types.specs.plans.Greedy.{IsSpan};
+ghost use Rattle.boc_order.specs.Profiles.{IsProfileOf};
 ghost use Rattle.boc_order.specs.Standing.{IsPlanOf};
 
 use crate::back::chain_back;
 use crate::plan::{Earliest, earliest_plan};
 use crate::report::Profile;
 use boc_types::chain::Chain;
+use boc_types::limits::{MOST_ROWS, MOST_TICKS};
 use boc_types::rows::{Row, Rows};
 use std::alloc::{AllocError, Global};
 
@@ -36,9 +38,9 @@ fn last_row(ends: &[u64]) -> usize
 // The ticks of all rows together, of which each starts and ends at these ticks.
 fn work_between(starts: &[u64], ends: &[u64]) -> u64
     requires whole { length starts.now ≡ length ends.now }
-    requires few { length ends.now ≤ 65535 }
+    requires few { length ends.now ≤ MOST_ROWS }
     requires ordered { (r : ℕ) → r < length ends.now → slice_index starts.now r ≤ slice_index ends.now r }
-    requires short { (r : ℕ) → r < length ends.now → slice_index ends.now r ≤ slice_index starts.now r + 1000000 }
+    requires short { (r : ℕ) → r < length ends.now → slice_index ends.now r ≤ slice_index starts.now r + MOST_TICKS }
     ensures { (rows : List Row) → HasEnds rows starts.now ends.now → result ≡ work_of rows }
 {
     let mut total = 0;
@@ -83,13 +85,7 @@ fn costliest(alloc: Global, rows: &Rows, plan: &Earliest) -> Result<(Chain, u64)
 /// It takes memory that grows with the number of rows, and time that grows with that of rows and their cowns.
 /// `AllocError` says that memory was refused.
 pub fn profile(alloc: Global, rows: &Rows) -> Result<Profile, AllocError>
-    ensures work { IfOk result (λ p. p.work ≡ work_of rows.now) }
-    ensures earliest { IfOk result (λ p. IsEarliest rows.now p.starts.items) }
-    ensures ends { IfOk result (λ p. HasEnds rows.now p.starts.items p.ends.items) }
-    ensures span { IfOk result (λ p. IsEnd rows.now p.starts.items p.span) }
-    ensures picked { IfOk result (λ p. IsPicked rows.now p.starts.items p.chain.steps.items) }
-    ensures weight { IfOk result (λ p. weight_of p.chain.steps.items ≡ p.span) }
-    ensures no_sooner { IfOk result (λ p. NoneEndsBefore rows.now p.span) }
+    ensures { IfOk result (λ profile. IsProfileOf rows.now profile) }
 {
     let plan = earliest_plan(alloc, rows)?;
     let (chain, span) = costliest(alloc, rows, &plan)?;
@@ -104,8 +100,7 @@ pub fn profile(alloc: Global, rows: &Rows) -> Result<Profile, AllocError>
 
 impl Earliest {
     ghost use Rattle.std.specs.Prelude.{◌≡◌, IfOk};
-    ghost use Rattle.boc_types.specs.Plans.{work_of, HasEnds, IsEnd, IsEarliest, NoneEndsBefore};
-    ghost use Rattle.boc_types.specs.Chains.{IsPicked, weight_of};
+    ghost use Rattle.boc_order.specs.Profiles.{IsProfileOf};
     ghost use Rattle.boc_order.specs.Standing.{IsPlanOf};
 
     /// The profile of the rows that this plan places, as the function `profile` has it. No row is placed again.
@@ -113,13 +108,7 @@ impl Earliest {
     /// It takes memory and time that grow with the number of rows. `AllocError` says that memory was refused.
     pub fn profile(&self, alloc: Global, rows: &Rows) -> Result<Profile, AllocError>
         requires { IsPlanOf rows.now self.now }
-        ensures work { IfOk result (λ p. p.work ≡ work_of rows.now) }
-        ensures earliest { IfOk result (λ p. IsEarliest rows.now p.starts.items) }
-        ensures ends { IfOk result (λ p. HasEnds rows.now p.starts.items p.ends.items) }
-        ensures span { IfOk result (λ p. IsEnd rows.now p.starts.items p.span) }
-        ensures picked { IfOk result (λ p. IsPicked rows.now p.starts.items p.chain.steps.items) }
-        ensures weight { IfOk result (λ p. weight_of p.chain.steps.items ≡ p.span) }
-        ensures no_sooner { IfOk result (λ p. NoneEndsBefore rows.now p.span) }
+        ensures { IfOk result (λ profile. IsProfileOf rows.now profile) }
     {
         let (chain, span) = costliest(alloc, rows, self)?;
         Ok(Profile {

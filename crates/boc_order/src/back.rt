@@ -1,10 +1,10 @@
 // The chain of links that were waited for, from a last row back to main.
 
 ghost use Rattle.std.specs.Prelude.{◌≡◌, ℕ, ◌<◌, ◌≤◌, ◌+◌, None, length, IfOk, slice_index, slice_index_or, slice_get};
-ghost use Rattle.boc_types.specs.Rows.{IsRows};
+ghost use Rattle.boc_types.specs.runs.Rows.{IsRows};
 ghost use Rattle.boc_order.specs.Placed.{ArePlaced};
-ghost use Rattle.boc_types.specs.Plans.{end_of};
-ghost use Rattle.boc_types.specs.Chains.{IsPicked, weight_of};
+ghost use Rattle.boc_types.specs.plans.Plans.{end_of};
+ghost use Rattle.boc_types.specs.plans.Chains.{IsPicked, weight_of};
 ghost use Rattle.boc_order.specs.Back.{IsStepBefore, IsFirstLatest};
 
 use crate::plan::Earliest;

@@ -1,9 +1,9 @@
 // The test of a chain.
 
 ghost use Rattle.std.specs.Prelude.{◌≡◌, ℕ, ◌<◌, ◌↔◌, length, IfOk, IfErr, IsTrue, Contains, ◌+◌, slice_get};
-ghost use Rattle.boc_types.specs.Rows.{IsRows};
-ghost use Rattle.boc_types.specs.Plans.{IsChild, Ordered, NoneEndsBefore};
-ghost use Rattle.boc_types.specs.Chains.{IsLink, IsChain, IsFirstFalse, weight_of};
+ghost use Rattle.boc_types.specs.runs.Rows.{IsRows};
+ghost use Rattle.boc_types.specs.plans.Plans.{IsChild, Ordered, NoneEndsBefore};
+ghost use Rattle.boc_types.specs.plans.Chains.{IsLink, IsChain, IsFirstFalse, weight_of};
 
 use boc_types::chain::{Chain, Step, Via};
 use boc_types::rows::{Row, Rows};

@@ -1,7 +1,9 @@
 // Of some rows: the latest end, and the row that has it.
 
 ghost use Rattle.std.specs.Prelude.{◌≡◌, ℕ, ◌<◌, length, All};
-ghost use Rattle.boc_order.specs.Latest.{later_of, latest_among, noted, nothing};
+ghost use Rattle.boc_order.specs.Latest.{later_of, latest_among, with_noted, nothing};
+
+use boc_types::limits::MOST_COWNS;
 
 /// The latest end among some rows, and the least-numbered row that has it. Where there are no rows the end is 0,
 /// since each row ends after tick 0.
@@ -17,7 +19,7 @@ pub struct Latest {
 pub const NOTHING: Latest = Latest { end: 0, row: 0 };
 
 /// What is remembered at each cown, by the cown's number.
-pub type Memory = [Latest; 256];
+pub type Memory = [Latest; MOST_COWNS];
 
 /// The one that ends later; where both end together, the one with the smaller number.
 pub fn later(a: Latest, b: Latest) -> Latest
@@ -32,7 +34,7 @@ pub fn later(a: Latest, b: Latest) -> Latest
 
 /// The latest of what is remembered at any of these cowns.
 pub fn latest_at(cowns: &[u32], memory: &Memory) -> Latest
-    requires { All (λ c. c < 256) cowns.now }
+    requires { All (λ c. c < MOST_COWNS) cowns.now }
     ensures { result ≡ latest_among memory.now nothing cowns.now }
 {
     let mut best = NOTHING;
@@ -44,8 +46,8 @@ pub fn latest_at(cowns: &[u32], memory: &Memory) -> Latest
 
 /// Remembers a row at each of its cowns.
 pub fn note(cowns: &[u32], memory: &mut Memory, row: Latest)
-    requires { All (λ c. c < 256) cowns.now }
-    ensures { memory.new ≡ noted row memory.old cowns.now }
+    requires { All (λ c. c < MOST_COWNS) cowns.now }
+    ensures { memory.new ≡ with_noted row memory.old cowns.now }
 {
     for cown in cowns {
         memory[*cown as usize] = later(memory[*cown as usize], row);

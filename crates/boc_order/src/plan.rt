@@ -1,11 +1,12 @@
 // The earliest plan of some rows, with the link that each row waits for.
 
 ghost use Rattle.std.specs.Prelude.{◌≡◌, ℕ, ◌<◌, ◌≤◌, ◌+◌, ◌^◌, length, IfOk, slice_index};
-ghost use Rattle.boc_types.specs.Rows.{IsRows};
+ghost use Rattle.boc_types.specs.runs.Rows.{IsRows};
 ghost use Rattle.boc_order.specs.Placed.{placement, ArePlaced, Remembers};
 ghost use Rattle.boc_order.specs.Room.{HasRoom};
 
 use crate::latest::{Latest, Memory, NOTHING, latest_at, note};
+use boc_types::limits::MOST_COWNS;
 use boc_types::rows::{Row, Rows};
 use std::alloc::{AllocError, Global};
 
@@ -53,7 +54,7 @@ fn remembered(rows: &[Row], ends: &[u64]) -> Memory
     requires few { length ends.now ≤ length rows.now }
     ensures { Remembers rows.now ends.now result (length ends.now) }
 {
-    let mut memory = [NOTHING; 256];
+    let mut memory = [NOTHING; MOST_COWNS];
     for (number, end) in ends.iter().enumerate() {
         let row = &rows[number];
         let done = Latest {
@@ -77,8 +78,8 @@ pub fn last_end(ends: &[u64]) -> u64
 impl Earliest {
     ghost use Rattle.std.specs.Prelude.{◌≡◌, ◌≤◌, ◌<◌, ◌+◌, List, [], take, length, IfOk};
     ghost use Rattle.boc_types.specs.declared.rows.Row.{Row};
-    ghost use Rattle.boc_types.specs.Rows.{IsRows};
-    ghost use Rattle.boc_types.specs.Greedy.{IsSpan};
+    ghost use Rattle.boc_types.specs.runs.Rows.{IsRows};
+    ghost use Rattle.boc_types.specs.plans.Greedy.{IsSpan};
     ghost use Rattle.boc_order.specs.Placed.{ArePlaced, Remembers};
     ghost use Rattle.boc_order.specs.Room.{HasRoom};
     ghost use Rattle.boc_order.specs.Standing.{IsPlanOf};

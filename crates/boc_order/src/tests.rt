@@ -10,19 +10,24 @@ use std::alloc::Global;
 use std::process::Abort;
 use std::test::Fail;
 
-fn row(parent: u32, offset: u32, numbers: &[u32], ticks: u32) -> Row {
-    let mut cowns = Cowns::new();
+fn cowns(numbers: &[u32]) -> Cowns {
+    let mut list = Cowns::new();
     for number in numbers {
-        if !cowns.is_full() {
-            cowns.push(*number);
+        if !list.is_full() {
+            list.push(*number);
         }
     }
+    list
+}
+
+fn row(parent: u32, offset: u32, numbers: &[u32], ticks: u32) -> Row {
     Row {
         parent,
         offset,
-        cowns,
+        cowns: cowns(numbers),
         ticks,
         status: EndStatus::Done,
+        written: cowns(numbers),
     }
 }
 
@@ -65,6 +70,16 @@ fn two_cowns(alloc: Global) -> Result<Rows, Fail> {
     list.push(row(0, 1, &[0], 6))?;
     list.push(row(0, 2, &[1], 5))?;
     list.push(row(0, 3, &[0, 1], 3))?;
+    rows_of(list)
+}
+
+// Three rows over two cowns: the first two end one after the other, and the last needs the cowns of both.
+fn waiting_for_both(alloc: Global) -> Result<Rows, Fail> {
+    let mut list = Vec::new(alloc);
+    list.push(row(0, 0, &[], 4))?;
+    list.push(row(0, 2, &[0], 3))?;
+    list.push(row(0, 3, &[1], 2))?;
+    list.push(row(0, 4, &[0, 1], 1))?;
     rows_of(list)
 }
 
@@ -149,6 +164,22 @@ fn least_of_two_rows_is_waited_for(rt: HostRuntime) -> Result<(), Fail> {
     has_profile(&rt, alloc, &two_cowns(alloc)?, &wanted, &chain)
 }
 
+// For each of these chains of the rows this is answered.
+fn are_checked(
+    rt: &impl Abort,
+    alloc: Global,
+    rows: &Rows,
+    cases: &[(&[Step], Result<u64, usize>)],
+) -> Result<(), Fail> {
+    for (steps, wanted) in cases {
+        let chain = Chain {
+            steps: steps.to_vec(alloc)?,
+        };
+        assert_eq!(rt; check_chain(rows, &chain), *wanted, "{steps:?}");
+    }
+    Ok(())
+}
+
 #[test]
 fn chains_are_checked(rt: HostRuntime) -> Result<(), Fail> {
     let alloc = rt.alloc();
@@ -167,11 +198,28 @@ fn chains_are_checked(rt: HostRuntime) -> Result<(), Fail> {
         (&[deposit, both, last], Err(0)),
         (&[], Err(0)),
     ];
-    for (steps, wanted) in &cases {
-        let chain = Chain {
-            steps: steps.to_vec(alloc)?,
-        };
-        assert_eq!(rt; check_chain(&rows, &chain), *wanted, "{steps:?}");
-    }
-    Ok(())
+    are_checked(&rt, alloc, &rows, &cases)
+}
+
+#[test]
+fn true_chain_and_false_ones_over_two_cowns(rt: HostRuntime) -> Result<(), Fail> {
+    let alloc = rt.alloc();
+    let rows = waiting_for_both(alloc)?;
+    let wanted = Wanted {
+        work: 10,
+        span: 6,
+        starts: [0, 2, 3, 5],
+        ends: [4, 5, 5, 6],
+    };
+    let main = step(0, Via::Spawn, 2);
+    let first = step(1, Via::Order, 3);
+    let last = step(3, Via::Last, 1);
+    has_profile(&rt, alloc, &rows, &wanted, &[main, first, last])?;
+    let cases: [(&[Step], Result<u64, usize>); 4] = [
+        (&[main, first, last], Ok(6)),
+        (&[main, step(1, Via::Order, 2), last], Err(1)),
+        (&[main, first, step(2, Via::Last, 2)], Err(1)),
+        (&[], Err(0)),
+    ];
+    are_checked(&rt, alloc, &rows, &cases)
 }

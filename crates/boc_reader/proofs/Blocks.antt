@@ -1,7 +1,7 @@
 -- Lists of declarations and of statements, as what they form.
 use Rattle.std.proofs.Common.{◌≡◌, ℕ, ◌+◌, List, [], ◌∷◌, length, refl, ap, arith}
-use Rattle.boc_types.specs.Words.{Word}
-use Rattle.boc_types.specs.Shape.{each_words, list_nodes, Cown, members, cowns_declared, HaveMembers, Def, AreSmallDefs, Stmt, stmt_words, stmt_nodes, block_words, block_nodes, IsSmallBlock}
+use Rattle.boc_types.specs.text.Words.{Word}
+use Rattle.boc_types.specs.text.Shape.{each_words, list_nodes, Cown, members, cowns_declared, HaveMembers, Def, AreSmallDefs, Stmt, stmt_words, stmt_nodes, block_words, block_nodes, IsSmallBlock}
 use Rattle.boc_reader.specs.Grammar.{cown_phrase, def_phrase, stmt_phrase}
 use Rattle.boc_reader.specs.Views.{block_from}
 use Rattle.boc_reader.proofs.Each.{AllSmall}

@@ -3,8 +3,8 @@ use Rattle.std.proofs.Common.{◌≡◌, ◌≢◌, ℕ, Bool, true, false, List
 use Rattle.boc_types.specs.declared.token.Sign.{Sign}
 use Rattle.boc_types.specs.declared.token.Sign.TheVariants.{Assign, Open, Close, Comma, Semicolon}
 use Rattle.boc_types.specs.declared.token.Keyword.TheVariants.{Cown as CownWord, Def as DefWord, Main}
-use Rattle.boc_types.specs.Words.{Word, name, number, sign, keyword}
-use Rattle.boc_types.specs.Shape.{Cown, Def, Tree, Block, def_words, each_words, braced_words, list_words, name_words, size_words, minus_words, tree_words, HasShape}
+use Rattle.boc_types.specs.text.Words.{Word, name, number, sign, keyword}
+use Rattle.boc_types.specs.text.Shape.{Cown, Def, Tree, Block, def_words, each_words, braced_words, list_words, name_words, size_words, minus_words, tree_words, HasShape}
 use Rattle.boc_reader.specs.Phrases.{Ahead, Stands, NoneStands}
 use Rattle.boc_reader.specs.Grammar.{NoKeyword, EndsSize, name_phrase, list_phrase, size_phrase, initial_phrase, cown_phrase, cowns_phrase, signature_phrase, body_phrase, def_phrase, defs_phrase, main_phrase}
 use Rattle.boc_reader.proofs.Refused.{OneReading}

@@ -1,7 +1,7 @@
 -- Phrases of a kind, one after another.
 use Rattle.std.proofs.Common.{◌≡◌, ℕ, ◌+◌, ◌<◌, ◌≤◌, List, [], ◌∷◌, ◌++◌, length, sym, ap, ◌∙◌, refl, subst, arith}
-use Rattle.boc_types.specs.Words.{Word}
-use Rattle.boc_types.specs.Shape.{each_words, list_nodes}
+use Rattle.boc_types.specs.text.Words.{Word}
+use Rattle.boc_types.specs.text.Shape.{each_words, list_nodes}
 use Rattle.boc_reader.specs.Phrases.{Ahead, Phrase, Stands}
 
 abbrev pub AllSmall : {X : Type 0} → Phrase X → List X → Type 0

@@ -1,8 +1,8 @@
 -- Where phrases one after another can't go on, there are no more.
 use Rattle.std.proofs.Common.{◌≡◌, ◌≢◌, ◌≤◌, List, [], ◌∷◌, ◌++◌, refl, sym, ap, ◌∙◌, subst, arith}
 use Rattle.std.proofs.lemmas.List.{append-nil}
-use Rattle.boc_types.specs.Words.{Word}
-use Rattle.boc_types.specs.Shape.{each_words, list_nodes}
+use Rattle.boc_types.specs.text.Words.{Word}
+use Rattle.boc_types.specs.text.Shape.{each_words, list_nodes}
 use Rattle.boc_reader.specs.Phrases.{Ahead, Phrase, NoneStands}
 use Rattle.boc_reader.proofs.Refused.{OneReading}
 use Rattle.boc_reader.proofs.Each.{AllSmall, AllEnd, ReadEach, list_nodes-append}

@@ -2,8 +2,8 @@
 use Rattle.std.proofs.Common.{◌≡◌, ◌≢◌, List, ◌∷◌, refl}
 use Rattle.boc_types.specs.declared.token.Sign.{Sign}
 use Rattle.boc_types.specs.declared.token.Sign.TheVariants.{Semicolon, Close, Comma, OpenIndex, CloseIndex}
-use Rattle.boc_types.specs.Words.{Word, sign}
-use Rattle.boc_types.specs.Shape.{Expr, plain, compared, Sum, one_term, more_terms, Term, one_factor, more_factors, Unary, negated, unsigned, Atom, literal, variable, parens, expr_words, sum_words, term_words, unary_words, atom_words, Ref, alone, member, ref_words}
+use Rattle.boc_types.specs.text.Words.{Word, sign}
+use Rattle.boc_types.specs.text.Shape.{Expr, plain, compared, Sum, one_term, more_terms, Term, one_factor, more_factors, Unary, negated, unsigned, Atom, literal, variable, parens, expr_words, sum_words, term_words, unary_words, atom_words, Ref, alone, member, ref_words}
 use Rattle.boc_reader.specs.Grammar.{EndsRef, expr_phrase, ref_phrase, name_phrase}
 use Rattle.boc_reader.proofs.Refused.{OneReading}
 use Rattle.boc_reader.proofs.Operators.{sign_ends}

@@ -2,8 +2,8 @@
 use Rattle.std.proofs.Common.{◌≡◌, ◌≢◌, List, [], ◌∷◌, ◌++◌, length, refl, sym, ap, ◌∙◌, arith, length-append}
 use Rattle.boc_types.specs.declared.token.Sign.{Sign}
 use Rattle.boc_types.specs.declared.token.Sign.TheVariants.{Comma}
-use Rattle.boc_types.specs.Words.{Word, sign}
-use Rattle.boc_types.specs.Shape.{behind_commas, list_words, list_nodes}
+use Rattle.boc_types.specs.text.Words.{Word, sign}
+use Rattle.boc_types.specs.text.Shape.{behind_commas, list_words, list_nodes}
 use Rattle.boc_reader.specs.Phrases.{Ahead, Phrase, Stands, NoneStands}
 use Rattle.boc_reader.specs.Grammar.{NoSign, list_phrase}
 use Rattle.boc_reader.proofs.Refused.{OneReading}

@@ -7,8 +7,8 @@ use Rattle.boc_types.specs.declared.level.SumOperator.{SumOperator}
 use Rattle.boc_types.specs.declared.level.SumOperator.TheVariants as sums
 use Rattle.boc_types.specs.declared.level.TermOperator.{TermOperator}
 use Rattle.boc_types.specs.declared.level.TermOperator.TheVariants as terms
-use Rattle.boc_types.specs.Words.{Word, sign}
-use Rattle.boc_types.specs.Shape.{comparison_sign, sum_sign, term_sign, Expr, plain, compared}
+use Rattle.boc_types.specs.text.Words.{Word, sign}
+use Rattle.boc_types.specs.text.Shape.{comparison_sign, sum_sign, term_sign, Expr, plain, compared}
 use Rattle.boc_reader.specs.Grammar.{tightness, NoOperator, EndsSum, EndsExpr}
 
 tightness_comparison : (op : Comparison) → tightness (comparison_sign op) ≡ 1

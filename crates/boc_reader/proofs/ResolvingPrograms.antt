@@ -1,6 +1,6 @@
 -- What a tree within the limits resolves to fits in a program.
 use Rattle.std.proofs.Common.{◌≡◌, ℕ, suc, ◌+◌, ◌≤◌, Bool, true, false, List, [], ◌∷◌, ◌++◌, map, length, Option, Some, None, IsTrue, refl, sym, ap, ◌∙◌, subst, arith}
-use Rattle.std.specs.Prelude.{◌&&◌, nat_eq, slice_get, position}
+use Rattle.std.specs.Prelude.{◌&&◌, nat_eq, nat_lt, slice_get, position}
 use Rattle.std.specs.Str.{bytes_eq}
 use Rattle.std.specs.Option.{option_map, option_and_then}
 use Rattle.std.proofs.lemmas.List.{length-map}
@@ -8,16 +8,16 @@ use Rattle.std.proofs.lemmas.Option.{slice_get-map}
 use Rattle.std.proofs.lemmas.Bool.Decides.{nat_tests}
 use Rattle.boc_types.specs.declared.body.Body.{Body}
 use Rattle.boc_types.specs.declared.cown.Cown.{Cown as Cown'}
-use Rattle.boc_types.specs.Shape.{Block, Cown, Def, Tree, members, cowns_declared, IsSmallBlock, AreSmallDefs, IsWithinLimits}
-use Rattle.boc_types.specs.Resolved.{every}
-use Rattle.boc_types.specs.Signatures.{Signature, signature_of, whens_pass, counts_fit, call_fits, calls_fit}
-use Rattle.boc_types.specs.Programs.{size_of, cown_count, has_main}
-use Rattle.boc_types.specs.Program.{MakesProgram}
-use Rattle.boc_types.specs.Names.{Named, Callee, Top, Outside, kind_of, callee, takes, PlainBody, PlainCown, PlainProgram, body_names, callees, top_of, top_names, are_distinct, all_names, plain_cown, tree_names}
-use Rattle.boc_types.specs.Spells.{plain_body, plain_declared}
+use Rattle.boc_types.specs.text.Shape.{Block, Cown, Def, Tree, members, HasMembers, HaveMembers, cowns_declared, IsSmallBlock, AreSmallDefs, IsWithinLimits}
+use Rattle.boc_types.specs.program.Resolved.{every}
+use Rattle.boc_types.specs.program.Signatures.{Signature, signature_of, whens_pass, counts_fit, call_fits, calls_fit}
+use Rattle.boc_types.specs.program.Programs.{size_of, cown_count, have_members, has_main}
+use Rattle.boc_types.specs.program.Parts.{MakesProgram}
+use Rattle.boc_types.specs.text.Names.{Named, Callee, Top, Outside, kind_of, callee, takes, PlainBody, PlainCown, PlainProgram, body_names, callees, top_of, top_names, are_distinct, all_names, plain_cown, tree_names}
+use Rattle.boc_types.specs.text.Spells.{plain_body, plain_declared}
 use Rattle.boc_reader.specs.Resolving.{EndWithin, def_names, callee_for}
 use Rattle.boc_reader.proofs.ResolvingLists.{find-position}
-use Rattle.boc_reader.proofs.ResolvingKeeps.{then_made, map_made, test_made, both}
+use Rattle.boc_reader.proofs.ResolvingKeeps.{then_made, map_made, test_made, both, below}
 use Rattle.boc_reader.proofs.ResolvingExprs.{exprs_keep, refs_keep, Allows}
 use Rattle.boc_reader.proofs.ResolvingBodies.{CallsPass, block_keeps, body_made}
 use Rattle.boc_reader.proofs.ResolvingOrder.{globals_end}
@@ -60,6 +60,12 @@ knows_defs main top f kind d h e =
     subst (λ k. slice_get (main ∷ map signature_for top.defs) k ≡ Some (signature_for d)) m.gives
     (slice_get-map signature_for top.defs m.value ∙ ap (option_map signature_for) there)
 
+-- a def's kind isn't main's
+above_zero : (o : Option ℕ) (kind : ℕ) → option_map suc o ≡ Some kind → IsTrue (nat_lt 0 kind)
+above_zero o kind h =
+    let m = map_made suc o kind h in
+    subst (λ (k : ℕ). IsTrue (nat_lt 0 k)) m.gives (below 0 (suc m.value) (omega arith))
+
 call_passes : (sigs : List Signature) (most : ℕ) (outside : Outside) → Knows sigs outside.top → Allows most outside → CallsPass (call_fits sigs (length outside.held) most) outside
 call_passes sigs most outside knows allows scope f es rs s made =
     let t = takes_made (callee outside.top f) (length es) (length rs) made.takes_them in
@@ -68,7 +74,8 @@ call_passes sigs most outside knows allows scope f es rs s made =
     let places = refs_keep rs outside scope most made.places allows made.places_are in
     let counted : IsTrue (counts_fit (Some (signature_for t.def)) made.args made.places) =
     both _ _ (same_number (length made.args) t.def.args (args.many ∙ sym t.same_args)) (same_number (length made.places) t.def.cowns (places.places.many ∙ sym t.same_cowns)) in
-    both _ _ (subst (λ (o : Option Signature). IsTrue (counts_fit o made.args made.places)) (sym sig) counted) places.ends
+    let of_def : IsTrue (nat_lt 0 made.kind) = above_zero (position (λ c. bytes_eq c.name f) outside.top.defs) made.kind made.kind_is in
+    both _ _ of_def (both _ _ (subst (λ (o : Option Signature). IsTrue (counts_fit o made.args made.places)) (sym sig) counted) places.ends)
 
 abbrev pub plain_calls : List Signature → ℕ → PlainBody → Bool
 plain_calls sigs most b = whens_pass (call_fits sigs b.cown_params most) b.code
@@ -128,6 +135,22 @@ count_made : (cs : List Cown') → cown_count cs ≡ plain_count (map plain_decl
 count_made [] = refl
 count_made (c ∷ cs) = ap (λ n. n + cown_count cs) (size_of-members c.size) ∙ ap (λ n. members c.size + n) (count_made cs)
 
+-- whether each of several has a member
+abbrev plain_members : List PlainCown → Bool
+plain_members cs = every (map (λ c. nat_lt 0 (members c.size)) cs)
+
+members_made : (cs : List Cown') → have_members cs ≡ plain_members (map plain_declared cs)
+members_made [] = refl
+members_made (c ∷ cs) = ap (λ n. nat_lt 0 n && have_members cs) (size_of-members c.size) ∙ ap (λ b. nat_lt 0 (members c.size) && b) (members_made cs)
+
+has_member : (size : Option ℕ) → HasMembers size → IsTrue (nat_lt 0 (members size))
+has_member None h = refl
+has_member (Some n) h = below 0 n (omega (arith, h))
+
+members_declared : (cs : List Cown) → HaveMembers cs → IsTrue (plain_members (map plain_cown cs))
+members_declared [] h = refl
+members_declared (c ∷ cs) h = both _ _ (has_member c.size h.0) (members_declared cs h.1)
+
 count_declared : (cs : List Cown) → cowns_declared cs ≡ plain_count (map plain_cown cs)
 count_declared [] = refl
 count_declared (c ∷ cs) = ap (λ n. members c.size + n) (count_declared cs)
@@ -183,6 +206,7 @@ program_makes t cs bs limits h =
     let few_defs = limits.defs in
     let whole = bodies_fit t m.value g.value limits m.is g.is in
     record {
+      members = rw (members_made cs) (subst (λ (l : List PlainCown). IsTrue (plain_members l)) same_cowns (members_declared t.cowns limits.arrays));
       few_cowns = omega arith;
       few_defs = omega arith;
       main = rw (main_made bs) (subst (λ (l : List PlainBody). IsTrue (plain_main l)) same_bodies (main_takes_nothing t m.value g.value m.is));

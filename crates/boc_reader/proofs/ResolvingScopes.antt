@@ -3,13 +3,13 @@ use Rattle.std.proofs.Common.{◌≡◌, ℕ, suc, ◌+◌, ◌≤◌, ◌<◌, 
 use Rattle.std.proofs.lemmas.List.{take-take, length-take, drop_all}
 use Rattle.std.specs.Option.{option_map, option_and_then}
 use Rattle.boc_reader.specs.declared.shape.Stmt.{Stmt as Stmt'}
-use Rattle.boc_types.specs.Shape.{done, next}
+use Rattle.boc_types.specs.text.Shape.{done, next}
 use Rattle.boc_reader.specs.Views.{stmt_of, block_of}
 use Rattle.boc_types.specs.declared.body.Stmt.{Stmt}
 use Rattle.boc_types.specs.declared.body.Stmt.TheVariants as stmts
-use Rattle.boc_types.specs.Syntax.{Code, Done}
-use Rattle.boc_types.specs.View.{before, code_of}
-use Rattle.boc_types.specs.Names.{Named, Outside, then_code, stmt_names, block_names}
+use Rattle.boc_types.specs.program.Syntax.{Code, Done}
+use Rattle.boc_types.specs.memory.View.{before, code_of}
+use Rattle.boc_types.specs.text.Names.{Named, Outside, then_code, stmt_names, block_names}
 use Rattle.boc_reader.specs.Resolving.{step_of}
 
 abbrev pub code_onto : List Stmt → Code → Code

@@ -5,9 +5,9 @@ use Rattle.std.specs.Prelude.{max}
 use Rattle.boc_types.specs.declared.body.Expr.{Expr}
 use Rattle.boc_types.specs.declared.body.Stmt.{Stmt}
 use Rattle.boc_types.specs.declared.body.Stmt.TheVariants as stmts
-use Rattle.boc_types.specs.Syntax.{Code, Done}
-use Rattle.boc_types.specs.View.{before, code_of}
-use Rattle.boc_types.specs.Names.{deepest}
+use Rattle.boc_types.specs.program.Syntax.{Code, Done}
+use Rattle.boc_types.specs.memory.View.{before, code_of}
+use Rattle.boc_types.specs.text.Names.{deepest}
 use Rattle.boc_reader.proofs.ResolvingKeeps.{deepest-max}
 
 pub deepest_before : (n : ℕ) (s : Stmt) (rest : Code) → deepest n (before s rest) ≡ max (deepest n (before s Done)) (deepest n rest)

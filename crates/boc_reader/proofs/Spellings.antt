@@ -1,11 +1,11 @@
 -- A text spells one program at most, and none where a fault is told.
 use Rattle.std.proofs.Common.{◌≡◌, ◌≢◌, ℕ, List, Some, refl, sym, ap, ◌∙◌, subst, arith}
 use Rattle.boc_types.specs.declared.program.Program.{Program}
-use Rattle.boc_types.specs.Words.{Word}
-use Rattle.boc_types.specs.Tokens.{words_of_text}
-use Rattle.boc_types.specs.Shape.{Tree, HasShape}
-use Rattle.boc_types.specs.Names.{tree_names}
-use Rattle.boc_types.specs.Spells.{Spells, plain_program}
+use Rattle.boc_types.specs.text.Words.{Word}
+use Rattle.boc_types.specs.text.Tokens.{words_of_text}
+use Rattle.boc_types.specs.text.Shape.{Tree, HasShape}
+use Rattle.boc_types.specs.text.Names.{tree_names}
+use Rattle.boc_types.specs.text.Spells.{Spells, plain_program}
 use Rattle.boc_reader.specs.Meanings.{HasNoWords, HasNoShape, HasNoNames, Means}
 use Rattle.boc_reader.specs.declared.fault.ReadFaultKind.{ReadFaultKind}
 use Rattle.boc_reader.specs.declared.fault.ReadFaultKind.TheVariants as kinds

@@ -3,8 +3,8 @@ use Rattle.std.proofs.Common.{◌≡◌, ◌≢◌, ℕ, ◌+◌, ◌≤◌, Lis
 use Rattle.boc_types.specs.declared.token.Sign.{Sign}
 use Rattle.boc_types.specs.declared.token.Sign.TheVariants.{Semicolon, Close, OpenBlock, CloseBlock}
 use Rattle.boc_types.specs.declared.token.Keyword.TheVariants.{Let, Work, If, Else, Repeat, When}
-use Rattle.boc_types.specs.Words.{Word, name, sign, keyword}
-use Rattle.boc_types.specs.Shape.{Expr, Stmt, declare, assign, work, if_only, if_else, repeat, when, Block, done, next, stmt_words, block_words, braced_words, stmt_nodes, block_nodes, IsSmallBlock, each_words, list_words, list_nodes, ref_words}
+use Rattle.boc_types.specs.text.Words.{Word, name, sign, keyword}
+use Rattle.boc_types.specs.text.Shape.{Expr, Stmt, declare, assign, work, if_only, if_else, repeat, when, Block, done, next, stmt_words, block_words, braced_words, stmt_nodes, block_nodes, IsSmallBlock, each_words, list_words, list_nodes, ref_words}
 use Rattle.boc_reader.specs.Phrases.{Ahead, NoneStands}
 use Rattle.boc_reader.specs.Grammar.{NoSign, NoKeyword, EndsStmt, expr_phrase, closed_phrase, let_phrase, call_phrase, if_phrase, else_phrase, repeat_phrase, stmt_phrase, block_phrase, braced_phrase}
 use Rattle.boc_reader.proofs.Refused.{OneReading}

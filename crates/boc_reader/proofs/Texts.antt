@@ -13,8 +13,8 @@ use Rattle.std.proofs.lemmas.List.Folds.{length-prefix_len}
 use Rattle.std.proofs.Math.Seq.{take-append_seam, drop-append_seam}
 use Rattle.std.specs.List.{AllByRecursion, prefix_len, take_while}
 use Rattle.std.specs.Option.{option_map}
-use Rattle.boc_types.specs.Words.{Word, sign}
-use Rattle.boc_types.specs.Tokens.{is_word_byte, is_blank, without_comments, Piece, run, pair, single, join, in_front, begins_pair, cut, word_of_run, pair_sign, single_sign, put, words_of_pieces, words_of_text, IsApart, value_of}
+use Rattle.boc_types.specs.text.Words.{Word, sign}
+use Rattle.boc_types.specs.text.Tokens.{is_word_byte, is_blank, without_comments, Piece, run, pair, single, join, in_front, begins_pair, cut, word_of_run, pair_sign, single_sign, put, words_of_pieces, words_of_text, IsApart, value_of}
 
 -- a byte that begins no pair
 pub cut_front : (b : ℕ) (bs : List ℕ) → begins_pair b ≡ false → cut (b ∷ bs) ≡ in_front b (cut bs)

@@ -8,8 +8,8 @@ use Rattle.boc_types.specs.declared.token.Keyword.TheVariants.{Else, Cown as Cow
 use Rattle.boc_types.specs.declared.level.Comparison.{Comparison}
 use Rattle.boc_types.specs.declared.level.SumOperator.{SumOperator}
 use Rattle.boc_types.specs.declared.level.TermOperator.{TermOperator}
-use Rattle.boc_types.specs.Words.{Word, name, number, keyword, sign}
-use Rattle.boc_types.specs.Shape.{comparison_sign, sum_sign, term_sign, Expr, plain, compared, expr_words, expr_nodes, Sum, sum_words, sum_nodes, Term, term_words, term_nodes, Unary, unary_words, unary_nodes, Atom, atom_words, atom_nodes, Ref, alone, member, ref_words, ref_nodes, Stmt, declare, assign, work, if_only, if_else, repeat, when, stmt_words, stmt_nodes, IsSmallStmt, Block, block_words, block_nodes, IsSmallBlock, IsSmallBody, braced_words, list_words, list_nodes, each_words, name_words, written_words, Cown, cown_words, cowns_declared, members, HasMembers, HaveMembers, size_words, minus_words, Def, def_words, IsSmallDef, AreSmallDefs, Tree, HasShape}
+use Rattle.boc_types.specs.text.Words.{Word, name, number, keyword, sign}
+use Rattle.boc_types.specs.text.Shape.{comparison_sign, sum_sign, term_sign, Expr, plain, compared, expr_words, expr_nodes, Sum, sum_words, sum_nodes, Term, term_words, term_nodes, Unary, unary_words, unary_nodes, Atom, atom_words, atom_nodes, Ref, alone, member, ref_words, ref_nodes, Stmt, declare, assign, work, if_only, if_else, repeat, when, stmt_words, stmt_nodes, IsSmallStmt, Block, block_words, block_nodes, IsSmallBlock, IsSmallBody, braced_words, list_words, list_nodes, each_words, name_words, written_words, Cown, cown_words, cowns_declared, members, HasMembers, HaveMembers, size_words, minus_words, Def, def_words, IsSmallDef, AreSmallDefs, Tree, HasShape}
 use Rattle.boc_reader.specs.Phrases.{Phrase}
 
 -- the sign isn't next

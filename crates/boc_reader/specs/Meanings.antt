@@ -1,9 +1,9 @@
 -- What each fault says of a text.
 use Rattle.std.specs.Prelude.{◌≡◌, ℕ, ◌<◌, ◌≤◌, List, length, Some, None}
-use Rattle.boc_types.specs.Words.{Word}
-use Rattle.boc_types.specs.Tokens.{words_of_text}
-use Rattle.boc_types.specs.Shape.{Tree, HasShape}
-use Rattle.boc_types.specs.Names.{tree_names}
+use Rattle.boc_types.specs.text.Words.{Word}
+use Rattle.boc_types.specs.text.Tokens.{words_of_text}
+use Rattle.boc_types.specs.text.Shape.{Tree, HasShape}
+use Rattle.boc_types.specs.text.Names.{tree_names}
 use Rattle.boc_reader.specs.Grammar.{NoShape}
 use Rattle.boc_reader.specs.declared.fault.ReadFaultKind.{ReadFaultKind}
 use Rattle.boc_reader.specs.declared.fault.ReadFaultKind.TheVariants as kinds

@@ -1,6 +1,6 @@
 -- Tokens in their places, as the words that they are, and what a fault says.
 use Rattle.std.specs.Prelude.{List, map}
-use Rattle.boc_types.specs.Words.{Word, name, number, keyword, sign}
+use Rattle.boc_types.specs.text.Words.{Word, name, number, keyword, sign}
 use Rattle.boc_reader.specs.declared.token.Token.{Token}
 use Rattle.boc_reader.specs.declared.token.Token.TheVariants as tokens
 use Rattle.boc_reader.specs.declared.token.Placed.{Placed}

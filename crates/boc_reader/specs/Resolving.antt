@@ -6,9 +6,9 @@ use Rattle.boc_types.specs.declared.body.Operator.{Operator}
 use Rattle.boc_types.specs.declared.body.Expr.{Expr}
 use Rattle.boc_types.specs.declared.body.Stmt.{Stmt}
 use Rattle.boc_types.specs.declared.body.Stmt.TheVariants as stmts
-use Rattle.boc_types.specs.View.{term_of, place_of}
-use Rattle.boc_types.specs.Shape.{Cown, Def, Tree, members}
-use Rattle.boc_types.specs.Names.{Named, Left, Step, Set, Spend, Choose, Loop, Spawn, Global, Callee, Top, Outside, PlainBody, PlainProgram, among, top_names, are_free, body_names, plain_cown}
+use Rattle.boc_types.specs.memory.View.{term_of, place_of}
+use Rattle.boc_types.specs.text.Shape.{Cown, Def, Tree, members}
+use Rattle.boc_types.specs.text.Names.{Named, Left, Step, Set, Spend, Choose, Loop, Spawn, Global, Callee, Top, Outside, PlainBody, PlainProgram, among, top_names, are_free, body_names, plain_cown}
 use Rattle.boc_reader.specs.declared.fault.Fault.{Fault}
 use Rattle.boc_reader.specs.declared.fault.Fault.TheVariants.{Memory, At}
 use Rattle.boc_reader.specs.declared.fault.NameFault.{NameFault}

@@ -2,8 +2,8 @@
 
 ghost use Rattle.std.specs.Prelude.{◌≡◌, ◌≢◌, ◌+◌, ◌<◌, ◌∷◌, [], ℕ, List, drop, MatchResult, MatchOption, MatchBool};
 ghost use Rattle.std.specs.Bool.{OnTrue, OnFalse};
-ghost use Rattle.boc_types.specs.Words.{Word, name, number, keyword, sign};
-ghost use Rattle.boc_types.specs.Shape.{comparison_sign, sum_sign, term_sign};
+ghost use Rattle.boc_types.specs.text.Words.{Word, name, number, keyword, sign};
+ghost use Rattle.boc_types.specs.text.Shape.{comparison_sign, sum_sign, term_sign};
 ghost use Rattle.boc_types.specs.declared.level.Comparison.{Comparison};
 ghost use Rattle.boc_types.specs.declared.level.SumOperator.{SumOperator};
 ghost use Rattle.boc_types.specs.declared.level.TermOperator.{TermOperator};

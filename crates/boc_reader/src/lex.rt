@@ -6,8 +6,8 @@ ghost use Rattle.std.specs.Char.{is_ascii_digit};
 ghost use Rattle.std.specs.List.{take_while, list_all};
 ghost use Rattle.std.specs.Str.{IsAscii};
 ghost use Rattle.boc_reader.specs.Placed.{word_of, words_of, Refusal};
-ghost use Rattle.boc_types.specs.Words.{sign};
-ghost use Rattle.boc_types.specs.Tokens.{is_word_byte, is_blank, is_numeral, value_of, begins_with_digit, word_of_run, keyword_of, single_sign, pair_sign, put, words_of_text, IsApart};
+ghost use Rattle.boc_types.specs.text.Words.{sign};
+ghost use Rattle.boc_types.specs.text.Tokens.{is_word_byte, is_blank, is_numeral, value_of, begins_with_digit, word_of_run, keyword_of, single_sign, pair_sign, put, words_of_text, IsApart};
 
 use crate::fault::{Fault, TokenFault};
 use crate::natural::Natural;
@@ -156,7 +156,7 @@ fn begins_with_digit(run: &[u8]) -> bool
 const LONGEST_NAME: usize = 32;
 
 // What a run of word bytes is.
-#[tactic(auto, unfolding(boc_types::specs::Tokens::word_of_run))]
+#[tactic(auto, unfolding(boc_types::specs::text::Tokens::word_of_run))]
 fn word<'a>(run: &'a [u8]) -> Result<Token<'a>, TokenFault>
     requires { IsAscii run.now }
     ensures { MatchResult result (λ t. word_of_run run.now ≡ Some (word_of t)) (λ _. word_of_run run.now ≡ None) }

@@ -1,10 +1,10 @@
 // From the syntax tree of a text to its program, with every name resolved.
 
 ghost use Rattle.std.specs.Prelude.{◌≡◌, map};
-ghost use Rattle.boc_types.specs.Shape.{AreSmallDefs, IsWithinLimits};
-ghost use Rattle.boc_types.specs.Names.{PlainProgram, tree_names};
-ghost use Rattle.boc_types.specs.Spells.{plain_body, plain_declared, plain_program};
-ghost use Rattle.boc_types.specs.Program.{MakesProgram};
+ghost use Rattle.boc_types.specs.text.Shape.{AreSmallDefs, IsWithinLimits};
+ghost use Rattle.boc_types.specs.text.Names.{PlainProgram, tree_names};
+ghost use Rattle.boc_types.specs.text.Spells.{plain_body, plain_declared, plain_program};
+ghost use Rattle.boc_types.specs.program.Parts.{MakesProgram};
 ghost use Rattle.boc_reader.specs.Views.{def_of, tree_of};
 ghost use Rattle.boc_reader.specs.Resolves.{Resolves};
 ghost use Rattle.boc_reader.specs.Resolving.{Yields, EndWithin, names_of, declared_of, bodies_behind, program_in_order};

@@ -2,7 +2,7 @@
 
 ghost use Rattle.std.specs.Prelude.{◌≡◌, ◌≢◌, ◌<◌, ◌≤◌, length, map, OnOk, MatchResult};
 ghost use Rattle.std.specs.Option.{option_map};
-ghost use Rattle.boc_types.specs.Shape.{HasShape};
+ghost use Rattle.boc_types.specs.text.Shape.{HasShape};
 ghost use Rattle.boc_types.specs.declared.token.Sign.TheVariants.{Semicolon, Close, Comma};
 ghost use Rattle.boc_reader.specs.Phrases.{Answers};
 ghost use Rattle.boc_reader.specs.Grammar.{NoShape, tightness, expr_phrase, compared_phrase, sum_phrase, more_terms_phrase, term_phrase, more_factors_phrase, unary_phrase, atom_phrase, closed_phrase, ref_phrase, name_phrase, list_phrase, written_phrase, let_phrase, arguments_phrase, call_phrase, stmt_phrase, block_phrase, braced_phrase, else_phrase, pair_phrase, if_phrase, repeat_phrase, body_phrase, size_phrase, initial_phrase, cown_phrase, cowns_phrase, signature_phrase, def_phrase, defs_phrase, main_phrase};

@@ -1,7 +1,7 @@
 // Program texts.
 
 ghost use Rattle.std.specs.Prelude.{◌≡◌, ◌≢◌, ◌≤◌, ℕ, List, length, take, MatchResult};
-ghost use Rattle.boc_types.specs.Spells.{Spells, plain_program};
+ghost use Rattle.boc_types.specs.text.Spells.{Spells, plain_program};
 ghost use Rattle.boc_types.specs.declared.program.Program.{Program};
 ghost use Rattle.boc_reader.specs.Placed.{Refusal};
 ghost use Rattle.boc_reader.specs.Meanings.{HasNoWords, HasNoShape, HasNoNames, Means};

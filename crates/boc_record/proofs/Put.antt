@@ -3,7 +3,7 @@ use Rattle.std.proofs.Common.{suc, get_or, length, take, append_assoc, ◌≡◌
 use Rattle.std.proofs.lemmas.List.{append-nil}
 use Rattle.std.proofs.Math.Seq.{take-suc}
 use Rattle.boc_types.specs.declared.event.Event.{Event}
-use Rattle.boc_types.specs.Records.{field, fields, line, event_line, event_lines}
+use Rattle.boc_types.specs.text.RecordTexts.{Version, field, fields, line, event_line, event_lines}
 use Rattle.boc_record.proofs.Runs.{fields_more}
 
 add_one : (i : ℕ) → i + 1 ≡ suc i
@@ -17,14 +17,14 @@ put_field_more before text after ns i d h e put =
     ∙ ap (λ xs. before ++ xs) (sym (fields_more (take i ns) (get_or ns i d)) ∙ ap fields (sym (take-suc ns i d h) ∙ ap (λ n. take n ns) (sym (add_one i))))
 
 -- one event more
-pub lines_more : (events : List Event) (event : Event) → event_lines (events ++ event ∷ []) ≡ event_lines events ++ line (event_line event)
-lines_more [] event = append-nil (line (event_line event))
-lines_more (first ∷ events) event =
-    ap (λ xs. line (event_line first) ++ xs) (lines_more events event) ∙ sym (append_assoc (line (event_line first)) (event_lines events) (line (event_line event)))
+pub lines_more : (v : Version) (events : List Event) (event : Event) → event_lines v (events ++ event ∷ []) ≡ event_lines v events ++ line (event_line v event)
+lines_more v [] event = append-nil (line (event_line v event))
+lines_more v (first ∷ events) event =
+    ap (λ xs. line (event_line v first) ++ xs) (lines_more v events event) ∙ sym (append_assoc (line (event_line v first)) (event_lines v events) (line (event_line v event)))
 
 -- one line more
-pub put_line_more : (before text after : List ℕ) (events : List Event) (i : ℕ) (d : Event) → i < length events → text ≡ before ++ event_lines (take i events)
-    → after ≡ text ++ line (event_line (get_or events i d)) → after ≡ before ++ event_lines (take (i + 1) events)
-put_line_more before text after events i d h e put =
-    put ∙ ap (λ xs. xs ++ line (event_line (get_or events i d))) e ∙ append_assoc before (event_lines (take i events)) (line (event_line (get_or events i d)))
-    ∙ ap (λ xs. before ++ xs) (sym (lines_more (take i events) (get_or events i d)) ∙ ap event_lines (sym (take-suc events i d h) ∙ ap (λ n. take n events) (sym (add_one i))))
+pub put_line_more : (v : Version) (before text after : List ℕ) (events : List Event) (i : ℕ) (d : Event) → i < length events → text ≡ before ++ event_lines v (take i events)
+    → after ≡ text ++ line (event_line v (get_or events i d)) → after ≡ before ++ event_lines v (take (i + 1) events)
+put_line_more v before text after events i d h e put =
+    put ∙ ap (λ xs. xs ++ line (event_line v (get_or events i d))) e ∙ append_assoc before (event_lines v (take i events)) (line (event_line v (get_or events i d)))
+    ∙ ap (λ xs. before ++ xs) (sym (lines_more v (take i events) (get_or events i d)) ∙ ap (event_lines v) (sym (take-suc events i d h) ∙ ap (λ n. take n events) (sym (add_one i))))

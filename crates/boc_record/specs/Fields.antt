@@ -2,7 +2,9 @@
 use Rattle.std.specs.Prelude.{◌≡◌, ℕ, ◌<◌, ◌^◌, ◌++◌, List, [], ◌∷◌, All, length, take, slice_index_or, ◌≤◌}
 use Rattle.std.specs.Str.Parse.{AllDigits, digits_value}
 use Rattle.std.specs.Int.{IsInRange}
-use Rattle.boc_types.specs.Records.{field, fields, status_number, IsSmallEvent}
+use Rattle.boc_types.specs.declared.limits.TheConstants.{MOST_HELD}
+use Rattle.boc_types.specs.runs.Legal.{Entry, entry_cowns, HasBounds}
+use Rattle.boc_types.specs.text.RecordTexts.{Version, First, Second, field, fields, status_number, written_fields}
 use Rattle.boc_types.specs.declared.event.Event.{Event}
 use Rattle.boc_types.specs.declared.event.Event.TheVariants.{Spawn, Start, End}
 
@@ -33,16 +35,28 @@ AreSmall ns = All (λ n. n < 2 ^ 32) ns
 abbrev pub sign_of : Event → ℕ
 sign_of (Spawn row parent offset cowns) = 43
 sign_of (Start row) = 62
-sign_of (End row ticks status) = 60
+sign_of (End row ticks status written) = 60
 
 -- the numbers behind it
-abbrev pub numbers_of : Event → List ℕ
-numbers_of (Spawn row parent offset cowns) = row ∷ parent ∷ offset ∷ cowns.items
-numbers_of (Start row) = row ∷ []
-numbers_of (End row ticks status) = row ∷ ticks ∷ status_number status ∷ []
+abbrev pub numbers_of : Version → Event → List ℕ
+numbers_of version (Spawn row parent offset cowns) = row ∷ parent ∷ offset ∷ cowns.items
+numbers_of version (Start row) = row ∷ []
+numbers_of version (End row ticks status written) = row ∷ ticks ∷ status_number status ∷ written_fields version written.items
 
 -- fields behind a sign tell an event
-pub record Tells (sign : ℕ) (text : List ℕ) (event : Event) : Type 0 where
+pub record Tells (version : Version) (sign : ℕ) (text : List ℕ) (event : Event) : Type 0 where
   pub sign_is : sign_of event ≡ sign
-  pub small : IsSmallEvent event
-  pub is : text ≡ fields (numbers_of event)
+  pub small : HasBounds event
+  pub is : text ≡ fields (numbers_of version event)
+
+-- what a version leaves out: the first stands for all cowns of a row
+abbrev pub IsLeftOut : Version → List Entry → ℕ → List ℕ → Type 0
+IsLeftOut First rows row written = written ≡ entry_cowns rows row
+IsLeftOut Second rows row written = Unit {0}
+
+-- the last fields of a row's end tell what it wrote
+pub record TellsWritten (version : Version) (rows : List Entry) (row : ℕ) (text written : List ℕ) : Type 0 where
+  pub small : AreSmall written
+  pub few : length written ≤ MOST_HELD
+  pub is : text ≡ fields (written_fields version written)
+  pub left_out : IsLeftOut version rows row written

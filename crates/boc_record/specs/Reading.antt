@@ -1,31 +1,75 @@
 -- What was found of the text of a record.
-use Rattle.std.specs.Prelude.{◌≡◌, ◌≢◌, ℕ, ◌+◌, ◌≤◌, ◌<◌, ◌⊎◌, List, [], length, codes, Option, Some, None, IfSome, Result, Ok, Err}
+use Rattle.std.specs.Prelude.{◌≡◌, ◌==◌, ℕ, ◌+◌, ◌≤◌, ◌<◌, ◌⊎◌, List, [], ◌++◌, length, count_by, codes, Option, Some, None, IfSome, Result, Ok, Err}
 use Rattle.std.specs.Io.KnownBytes.{Consumes, IsAtEnd}
+use Rattle.boc_types.specs.declared.limits.TheConstants.{MOST_COWNS, MOST_LINE}
 use Rattle.boc_types.specs.declared.event.Event.{Event}
 use Rattle.boc_types.specs.declared.verdict.RecordFaultKind.{RecordFaultKind}
 use Rattle.boc_types.specs.declared.verdict.RecordFaultKind.TheVariants as kinds
-use Rattle.boc_types.specs.Records.{Recorded, IsOneLine, BeginsWith, BeginsLong, IsCut, IsEventLine, IsSmallEvent, line, event_line, record_text, kind_of_rule, IsFirstFault, IsReading, IsHeader, header}
-use Rattle.boc_types.specs.Legal.{IsComplete}
+use Rattle.boc_types.specs.runs.Legal.{Entry, HasBounds, IsComplete}
+use Rattle.boc_types.specs.runs.Records.{Recorded, IsRecord}
+use Rattle.boc_types.specs.text.RecordTexts.{Version, IsOneLine, IsCut, IsSpelt, IsTextOf, HasBegun, HasNoForm, FirstLineIs, begun, line, header, event_line, record_text, kind_of_rule, IsFirstFault}
+use Rattle.boc_text.specs.declared.lines.TheConstants.{CAPACITY}
 use Rattle.boc_rules.specs.Log.{Log}
 use Rattle.boc_rules.specs.declared.rules.RuleFault.{RuleFault}
 use Rattle.boc_rules.specs.declared.rules.RuleFault.TheVariants.{Broken, Memory}
 use Rattle.boc_record.specs.declared.fault.RecordFault.{RecordFault}
+use Rattle.boc_record.specs.declared.version.Version.{Version as Named}
+use Rattle.boc_record.specs.Versions.{spelling}
 
--- the fault of a line whose event is refused
-abbrev pub kind_of_fault : RuleFault → RecordFaultKind
-kind_of_fault (Broken rule) = kind_of_rule rule
-kind_of_fault Memory = kinds.Memory
+-- ---- what reading answers
 
--- what is said of a text at a line: its first fault; or that the reading stopped there, for want of memory or since the source failed
-abbrev pub Faulty : ℕ → RecordFaultKind → List ℕ → Type 0
-Faulty number kinds.Memory text = IsReading text number
-Faulty number kinds.Device text = IsReading text number
-Faulty number kind text = IsFirstFault text number kind
+-- the text of a record was taken, and nothing follows it
+pub record TakesRecord (r : Recorded) (before after : Option (List ℕ)) : Type 0 where
+  pub text : List ℕ
+  pub text_of : IsTextOf text r
+  pub taken : Consumes before after text
+  pub over : IsAtEnd after
 
--- The text of the record was taken from the source, and nothing follows. Or the text that the source told has this as its first fault.
+-- how many line feeds there are
+abbrev pub line_feeds : List ℕ → ℕ
+line_feeds bytes = count_by (λ b. b == 10) bytes
+
+-- lines that are as they must be, so far: none, the first line and those of events that keep the rules, or all lines of a record
+abbrev pub AreGoodLines : List ℕ → Type 0
+AreGoodLines done =
+    (done ≡ [])
+    ⊎ ((version : Version) × (cowns : ℕ) × (events : List Event) × HasBegun version cowns events × (done ≡ begun version cowns events))
+    ⊎ ((version : Version) × (cowns : ℕ) × (events : List Event) × HasBegun version cowns events × IsComplete events × (done ≡ record_text version cowns events))
+
+-- The source failed at a line: it gave good lines before, and a beginning of this one at most.
+pub record FailsAt (number : ℕ) (before after : Option (List ℕ)) : Type 0 where
+  pub given : List ℕ
+  pub taken : Consumes before after given
+  pub number_is : number ≡ line_feeds given + 1
+  pub done : List ℕ
+  pub good : AreGoodLines done
+  pub left : List ℕ
+  pub unended : IsOneLine left
+  pub split : given ≡ done ++ left
+
+-- Memory was refused at a line: up to and with this one, the source gave a first line and the lines of events that keep the rules. Behind it the source gave no more than is taken in ahead.
+pub record WantsMemoryAt (number : ℕ) (before after : Option (List ℕ)) : Type 0 where
+  pub given : List ℕ
+  pub taken : Consumes before after given
+  pub version : Version
+  pub cowns : ℕ
+  pub events : List Event
+  pub begins : HasBegun version cowns events
+  pub number_is : number ≡ length events + 1
+  pub ahead : List ℕ
+  pub few : length ahead ≤ CAPACITY
+  pub split : given ≡ begun version cowns events ++ ahead
+
+-- what a fault says of the bytes that were to come: the text has it at this line first, memory was refused there, or the source failed there
+abbrev pub IsFault : RecordFaultKind → ℕ → Option (List ℕ) → Option (List ℕ) → Type 0
+IsFault kinds.Device number before after = FailsAt number before after
+IsFault kinds.Memory number before after = WantsMemoryAt number before after
+IsFault kind number before after = IfSome before (λ text. IsFirstFault text number kind)
+
+-- the text of the record was taken, or its fault told
 abbrev pub Reads : Result Recorded RecordFault → Option (List ℕ) → Option (List ℕ) → Type 0
-Reads (Ok r) before after = Consumes before after (record_text r.cowns r.events) × IsAtEnd after
-Reads (Err fault) before after = IfSome before (Faulty fault.line fault.kind)
+Reads (Ok r) before after = TakesRecord r before after
+Reads (Err fault) before after = IsFault fault.kind fault.line before after
 
 -- the source failed where that is the answer, and there alone
 abbrev pub CountsKind : RecordFaultKind → ℕ → ℕ → Type 0
@@ -37,69 +81,103 @@ abbrev pub CountsRead : {A : Type 0} → Result A RecordFault → ℕ → ℕ �
 CountsRead (Ok r) old new = new ≡ old
 CountsRead (Err fault) old new = CountsKind fault.kind old new
 
+-- ---- its parts
+
 -- the same of a part that leaves the line to its caller
 abbrev pub CountsPart : {A : Type 0} → Result A RecordFaultKind → ℕ → ℕ → Type 0
 CountsPart (Ok r) old new = new ≡ old
 CountsPart (Err kind) old new = CountsKind kind old new
 
--- an event's line was taken
-pub record TakesEvent (event : Event) (before after : Option (List ℕ)) : Type 0 where
-  pub small : IsSmallEvent event
-  pub one : IsOneLine (event_line event)
-  pub short : length (event_line event) ≤ 80
-  pub taken : Consumes before after (line (event_line event))
+-- the fault of a line whose event is refused
+abbrev pub kind_of_fault : RuleFault → RecordFaultKind
+kind_of_fault (Broken rule) = kind_of_rule rule
+kind_of_fault Memory = kinds.Memory
+
+-- the source gave the beginning of a line at most
+pub record GivesPart (before after : Option (List ℕ)) : Type 0 where
+  pub left : List ℕ
+  pub unended : IsOneLine left
+  pub taken : Consumes before after left
+
+-- the source gave a first line, and behind it no more than is taken in ahead
+pub record GivesHeader (before after : Option (List ℕ)) : Type 0 where
+  pub version : Version
+  pub cowns : ℕ
+  pub few : cowns ≤ MOST_COWNS
+  pub ahead : List ℕ
+  pub short : length ahead ≤ CAPACITY
+  pub taken : Consumes before after (line (header version cowns) ++ ahead)
+
+-- what the source gave where it failed, and where memory was refused at the first line
+abbrev pub StopsFor : RecordFaultKind → Option (List ℕ) → Option (List ℕ) → Type 0
+StopsFor kinds.Device before after = GivesPart before after
+StopsFor kinds.Memory before after = GivesHeader before after
+StopsFor _ before after = Unit {0}
+
+-- the same of a part
+abbrev pub StopsWithin : {A : Type 0} → Result A RecordFaultKind → Option (List ℕ) → Option (List ℕ) → Type 0
+StopsWithin (Ok r) before after = Unit {0}
+StopsWithin (Err kind) before after = StopsFor kind before after
+
+-- an event's line was taken, behind these rows
+pub record TakesEvent (version : Version) (rows : List Entry) (event : Event) (before after : Option (List ℕ)) : Type 0 where
+  pub small : HasBounds event
+  pub one : IsOneLine (event_line version event)
+  pub short : length (event_line version event) ≤ MOST_LINE
+  pub taken : Consumes before after (line (event_line version event))
+  pub spelt : IsSpelt version rows event
 
 -- the line of an event was taken, or the last line
-abbrev pub TakesItem : Option Event → Option (List ℕ) → Option (List ℕ) → Type 0
-TakesItem (Some event) before after = TakesEvent event before after
-TakesItem None before after = Consumes before after (line (codes "."))
+abbrev pub TakesItem : Version → List Entry → Option Event → Option (List ℕ) → Option (List ℕ) → Type 0
+TakesItem version rows (Some event) before after = TakesEvent version rows event before after
+TakesItem version rows None before after = Consumes before after (line (codes "."))
 
 -- what is wrong with a line that is neither
-abbrev pub ItemIs : RecordFaultKind → List ℕ → Type 0
-ItemIs kinds.Form text = BeginsLong text ⊎ ((l : List ℕ) × BeginsWith text l × (IsEventLine l → ⊥) × (l ≢ codes "."))
-ItemIs kinds.Truncated text = IsCut text
-ItemIs kinds.Device text = Unit {0}
-ItemIs _ text = ⊥
+abbrev pub ItemIs : Version → RecordFaultKind → Option (List ℕ) → Type 0
+ItemIs version kinds.Form known = IfSome known (HasNoForm version)
+ItemIs version kinds.Truncated known = IfSome known IsCut
+ItemIs version kinds.Device known = Unit {0}
+ItemIs version _ known = ⊥
 
 -- the next line was read
-abbrev pub ReadsItem : Result (Option Event) RecordFaultKind → Option (List ℕ) → Option (List ℕ) → Type 0
-ReadsItem (Ok item) before after = TakesItem item before after
-ReadsItem (Err kind) before after = IfSome before (ItemIs kind)
+abbrev pub ReadsItem : Version → List Entry → Result (Option Event) RecordFaultKind → Option (List ℕ) → Option (List ℕ) → Type 0
+ReadsItem version rows (Ok item) before after = TakesItem version rows item before after
+ReadsItem version rows (Err kind) before after = ItemIs version kind before
 
 -- the first line was taken, and nothing has happened yet
-pub record TakesHeader (rules : Log) (before after : Option (List ℕ)) : Type 0 where
-  pub few : rules.cowns ≤ 256
+pub record TakesHeader (version : Version) (rules : Log) (before after : Option (List ℕ)) : Type 0 where
+  pub few : rules.cowns ≤ MOST_COWNS
   pub none : rules.events ≡ []
-  pub taken : Consumes before after (line (header rules.cowns))
+  pub taken : Consumes before after (line (header version rules.cowns))
 
--- what is wrong with a first line
-abbrev pub HeaderIs : RecordFaultKind → List ℕ → Type 0
-HeaderIs kinds.Header text = BeginsLong text ⊎ ((l : List ℕ) × BeginsWith text l × (IsHeader l → ⊥))
-HeaderIs kinds.Truncated text = IsCut text
-HeaderIs kinds.Memory text = Unit {0}
-HeaderIs kinds.Device text = Unit {0}
-HeaderIs _ text = ⊥
+-- what is wrong with the first line where it was not taken
+abbrev pub HeaderIs : RecordFaultKind → Option (List ℕ) → Type 0
+HeaderIs kinds.Header known = IfSome known (λ text. FirstLineIs text kinds.Header)
+HeaderIs kinds.Truncated known = IfSome known (λ text. FirstLineIs text kinds.Truncated)
+HeaderIs kinds.Memory known = Unit {0}
+HeaderIs kinds.Device known = Unit {0}
+HeaderIs _ known = ⊥
 
 -- the first line was read
-abbrev pub ReadsHeader : Result Log RecordFaultKind → Option (List ℕ) → Option (List ℕ) → Type 0
-ReadsHeader (Ok rules) before after = TakesHeader rules before after
-ReadsHeader (Err kind) before after = IfSome before (HeaderIs kind)
+abbrev pub ReadsHeader : Result (Named × Log) RecordFaultKind → Option (List ℕ) → Option (List ℕ) → Type 0
+ReadsHeader (Ok begun) before after = TakesHeader (spelling begun.0) begun.1 before after
+ReadsHeader (Err kind) before after = HeaderIs kind before
 
 -- what is found behind the last line, the number of which is the first
-abbrev pub EndIs : Log → ℕ → RecordFaultKind → Option (List ℕ) → Type 0
-EndIs rules number kinds.Unended rest = (IsComplete rules.events → ⊥) × (number ≡ length rules.events + 2)
-EndIs rules number kinds.After rest = IsComplete rules.events × (number ≡ length rules.events + 3) × IfSome rest (λ text. 0 < length text)
-EndIs rules number kinds.Device rest = IsComplete rules.events × (number ≡ length rules.events + 3)
-EndIs rules number _ rest = ⊥
+abbrev pub EndIs : Log → ℕ → RecordFaultKind → Option (List ℕ) → Option (List ℕ) → Type 0
+EndIs rules number kinds.Unended rest after = (IsComplete rules.events → ⊥) × (number ≡ length rules.events + 2)
+EndIs rules number kinds.After rest after = IsComplete rules.events × (number ≡ length rules.events + 3) × IfSome rest (λ text. 0 < length text)
+EndIs rules number kinds.Device rest after = IsComplete rules.events × (number ≡ length rules.events + 3) × GivesPart rest after
+EndIs rules number _ rest after = ⊥
 
 -- the run is complete and nothing follows the last line, or one of these is not so
 abbrev pub Finishes : Log → Result Recorded RecordFault → Option (List ℕ) → Option (List ℕ) → Type 0
-Finishes rules (Ok r) before after = (r.cowns ≡ rules.cowns) × (r.events ≡ rules.events) × Consumes before after [] × IsAtEnd after
-Finishes rules (Err fault) before after = EndIs rules fault.line fault.kind before
+Finishes rules (Ok r) before after = (r.cowns ≡ rules.cowns) × (r.events ≡ rules.events) × IsRecord r × Consumes before after [] × IsAtEnd after
+Finishes rules (Err fault) before after = EndIs rules fault.line fault.kind before after
 
 -- nothing follows
 abbrev pub ReadsEnd : {A : Type 0} → Result A RecordFaultKind → Option (List ℕ) → Option (List ℕ) → Type 0
 ReadsEnd (Ok done) before after = Consumes before after [] × IsAtEnd after
 ReadsEnd (Err kinds.After) before after = IfSome before (λ text. 0 < length text)
-ReadsEnd (Err kinds.Device) before after = Unit {0}
+ReadsEnd (Err kinds.Device) before after = GivesPart before after
 ReadsEnd (Err _) before after = ⊥

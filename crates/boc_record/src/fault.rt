@@ -1,5 +1,9 @@
 // Why a record was not read or written.
 
+ghost use Rattle.std.specs.Prelude.{◌≡◌};
+ghost use Rattle.boc_record.specs.Faults.{kind_line};
+ghost use Rattle.boc_record.specs.Reading.{kind_of_fault};
+
 use boc_rules::RuleFault;
 use boc_text::Stopped;
 use boc_types::event::BrokenRule;
@@ -16,7 +20,9 @@ pub struct RecordFault {
 }
 
 // The number and the name of a kind.
-fn kind_text(kind: RecordFaultKind) -> &'static str {
+fn kind_text(kind: RecordFaultKind) -> &'static str
+    ensures { result.now ≡ kind_line kind }
+{
     match kind {
         RecordFaultKind::Header => "1 Header",
         RecordFaultKind::Form => "2 Form",
@@ -35,6 +41,15 @@ fn kind_text(kind: RecordFaultKind) -> &'static str {
     }
 }
 
+impl RecordFault {
+    /// The number and the name of what is wrong, as they are displayed.
+    pub fn kind_text(&self) -> &'static str
+        ensures { result.now ≡ kind_line self.now.kind }
+    {
+        kind_text(self.kind)
+    }
+}
+
 /// Why a record was not written.
 #[derive(Clone, Copy, PartialEq, Eq, Debug, Error)]
 pub enum WriteFault {
@@ -47,7 +62,6 @@ pub enum WriteFault {
 }
 
 impl From<AllocError> for WriteFault {
-    ghost use Rattle.std.specs.Prelude.{◌≡◌};
     ghost use Rattle.boc_record.specs.declared.fault.WriteFault.TheVariants.{Memory};
 
     ghost from_gives = { λ _ f. f ≡ Memory };
@@ -58,7 +72,6 @@ impl From<AllocError> for WriteFault {
 }
 
 impl<T: Drop> From<AllocFailed<T>> for WriteFault {
-    ghost use Rattle.std.specs.Prelude.{◌≡◌};
     ghost use Rattle.boc_record.specs.declared.fault.WriteFault.TheVariants.{Memory};
 
     ghost from_gives = { λ _ f. f ≡ Memory };
@@ -69,7 +82,6 @@ impl<T: Drop> From<AllocFailed<T>> for WriteFault {
 }
 
 impl From<Stopped> for WriteFault {
-    ghost use Rattle.std.specs.Prelude.{◌≡◌};
     ghost use Rattle.boc_record.specs.declared.fault.WriteFault.TheVariants.{Device};
 
     ghost from_gives = { λ s f. f ≡ Device s.gone };
@@ -79,10 +91,7 @@ impl From<Stopped> for WriteFault {
     }
 }
 
-ghost use Rattle.std.specs.Prelude.{◌≡◌};
-ghost use Rattle.boc_record.specs.Reading.{kind_of_fault};
-
-/// What a line has wrong whose event is refused.
+// What a line has wrong whose event is refused.
 pub fn kind_of(fault: RuleFault) -> RecordFaultKind
     ensures { result ≡ kind_of_fault fault }
 {

@@ -1,7 +1,8 @@
 // The fields of a line: numbers, each behind a space.
 
 ghost use Rattle.std.specs.Prelude.{◌≡◌, ◌≤◌, ◌^◌, ◌<◌, ◌++◌, [], ℕ, List, All, length, MatchOption};
-ghost use Rattle.boc_types.specs.Records.{fields as fields_spec};
+ghost use Rattle.boc_types.specs.declared.limits.TheConstants.{MOST_HELD};
+ghost use Rattle.boc_types.specs.text.RecordTexts.{fields as fields_of};
 ghost use Rattle.boc_record.specs.Fields.{IsFront, IsField, AreSmall};
 
 use boc_types::short::Cowns;
@@ -25,7 +26,7 @@ fn front_digits(text: &[u8]) -> (usize, u64)
     (most, value)
 }
 
-/// The field at the front of a text, and what stands behind it.
+// The field at the front of a text, and what stands behind it.
 pub fn split_field(text: &[u8]) -> Option<(u32, &[u8])>
     ensures { MatchOption result ((n : ℕ) (rest : List ℕ) → IsField text.now n rest → ⊥) (λ x. IsField text.now x.0 x.1.now) }
 {
@@ -50,10 +51,10 @@ pub fn split_field(text: &[u8]) -> Option<(u32, &[u8])>
     Some((value as u32, rest))
 }
 
-/// The cowns of a text of at most eight fields.
+// The cowns of a text of at most eight fields.
 pub fn cowns_of(text: &[u8]) -> Option<Cowns>
-    ensures { MatchOption result ((ns : List ℕ) → AreSmall ns → length ns ≤ 8 → text.now ≡ fields_spec ns → ⊥)
-        (λ v. AreSmall v.items × (length v.items ≤ 8) × (text.now ≡ fields_spec v.items)) }
+    ensures { MatchOption result ((ns : List ℕ) → AreSmall ns → length ns ≤ MOST_HELD → text.now ≡ fields_of ns → ⊥)
+        (λ v. AreSmall v.items × (length v.items ≤ MOST_HELD) × (text.now ≡ fields_of v.items)) }
 {
     let mut cowns = Cowns::new();
     let mut rest = text;

@@ -1,18 +1,24 @@
 //! The text of records, both ways.
 //!
-//! A record's text has a first line `boc 1 COWNS`, a line for each event, and the last line `.`: `+ ROW PARENT
-//! OFFSET COWN ..` is a spawn, `> ROW` a start, and `< ROW TICKS STATUS` an end. Every line ends with a line
-//! feed, fields stand behind one space each, and numbers are plain decimals. A record has one text.
+//! A record's text has a first line `boc 2 COWNS`, a line for each event, and the last line `.`: `+ ROW PARENT
+//! OFFSET COWN ..` is a spawn, `> ROW` a start, and `< ROW TICKS STATUS COWN ..` an end, with the cowns that the
+//! row wrote. Every line ends with a line feed, fields stand behind one space each, and numbers are plain decimals.
+//! This is the second version of the text, in which records are written, and a record has one such text. In the
+//! first version, which is read as well, the first line is `boc 1 COWNS`, and ends have no cowns: each row is
+//! taken to have written all of its own.
 #![tactic(auto)]
 
 mod fault;
 mod fields;
+mod laws;
 mod line;
 mod read;
 #[cfg(test)]
 mod tests;
 mod text;
+mod version;
 
 pub use fault::{RecordFault, WriteFault};
+pub use laws::{record_has_one_text, text_is_of_one_record};
 pub use read::read_record;
 pub use text::write_record;

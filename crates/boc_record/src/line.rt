@@ -1,53 +1,59 @@
 // The lines of a record.
 
-ghost use Rattle.std.specs.Prelude.{◌≡◌, ◌≤◌, ◌++◌, ℕ, List, codes, MatchOption};
-ghost use Rattle.boc_types.specs.Records.{header, event_line, status_number, IsHeader, IsEventLine, IsSmallEvent};
-ghost use Rattle.boc_record.specs.Fields.{Tells};
+ghost use Rattle.std.specs.Prelude.{◌≡◌, ◌≤◌, ◌++◌, ℕ, List, codes, length, MatchOption};
+ghost use Rattle.boc_types.specs.declared.limits.TheConstants.{MOST_COWNS, MOST_HELD};
+ghost use Rattle.boc_types.specs.runs.Legal.{entries, entry_cowns, HasBounds};
+ghost use Rattle.boc_types.specs.text.RecordTexts.{Version as Spelling, fields as fields_of, header, event_line, status_number, written_fields, IsHeader, IsEventLine, IsSpelt};
+ghost use Rattle.boc_record.specs.Versions.{spelling};
+ghost use Rattle.boc_record.specs.Fields.{AreSmall, Tells, TellsWritten};
 
 use crate::fields::{cowns_of, split_field};
+use crate::version::Version;
+use boc_rules::Rules;
 use boc_types::body::EndStatus;
 use boc_types::event::Event;
+use boc_types::limits::MOST_COWNS;
+use boc_types::short::Cowns;
 
-/// The most cowns of a record.
-const MOST_COWNS: u32 = 256;
-
-/// The number of cowns in a first line.
-pub fn cowns_of_header(line: &[u8]) -> Option<u32>
-    ensures { MatchOption result (IsHeader line.now → ⊥) (λ n. (n ≤ 256) × (line.now ≡ header n)) }
+// The version and the number of cowns that a first line tells.
+pub fn version_and_cowns(line: &[u8]) -> Option<(Version, u32)>
+    ensures { MatchOption result (IsHeader line.now → ⊥) (λ h. (h.1 ≤ MOST_COWNS) × (line.now ≡ header (spelling h.0) h.1)) }
 {
-    let (cowns, rest) = split_field(after_version(line)?)?;
-    if !rest.is_empty() || cowns > MOST_COWNS {
+    let (number, after_number) = split_field(after_mark(line)?)?;
+    let (cowns, rest) = split_field(after_number)?;
+    if !rest.is_empty() || cowns as usize > MOST_COWNS {
         return None;
     }
-    Some(cowns)
+    Some((Version::of_number(number)?, cowns))
 }
 
-/// What stands behind the mark and the version of a first line.
-fn after_version(line: &[u8]) -> Option<&[u8]>
-    ensures { MatchOption result ((rest : List ℕ) → line.now ≡ codes "boc 1" ++ rest → ⊥) (λ rest. line.now ≡ codes "boc 1" ++ rest.now) }
+// What stands behind the mark at the front of a first line.
+fn after_mark(line: &[u8]) -> Option<&[u8]>
+    ensures { MatchOption result ((rest : List ℕ) → line.now ≡ codes "boc" ++ rest → ⊥) (λ rest. line.now ≡ codes "boc" ++ rest.now) }
 {
     match line {
-        [b'b', b'o', b'c', b' ', b'1', rest @ ..] => Some(rest),
+        [b'b', b'o', b'c', rest @ ..] => Some(rest),
         _ => None,
     }
 }
 
-/// The event of a line.
-pub fn event_of_line(line: &[u8]) -> Option<Event>
-    ensures { MatchOption result (IsEventLine line.now → ⊥) (λ event. IsSmallEvent event × (line.now ≡ event_line event)) }
+// The event of a line that follows these events in this version.
+pub fn event_of_line(line: &[u8], version: Version, rules: &Rules) -> Option<Event>
+    ensures { MatchOption result (IsEventLine (spelling version) line.now → ⊥)
+        (λ event. HasBounds event × (line.now ≡ event_line (spelling version) event) × IsSpelt (spelling version) (entries rules.now.events) event) }
 {
     let (sign, fields) = line.split_first()?;
     match sign {
         b'+' => spawn_of(fields),
         b'>' => start_of(fields),
-        b'<' => end_of(fields),
+        b'<' => end_of(fields, version, rules),
         _ => None,
     }
 }
 
-/// The spawn that these fields tell: a row, its parent, an offset and cowns.
+// The spawn that these fields tell, in any version: a row, its parent, an offset and cowns.
 fn spawn_of(fields: &[u8]) -> Option<Event>
-    ensures { MatchOption result ((event : Event) → Tells 43 fields.now event → ⊥) (λ event. Tells 43 fields.now event) }
+    ensures { MatchOption result ((v : Spelling) (event : Event) → Tells v 43 fields.now event → ⊥) (λ event. (v : Spelling) → Tells v 43 fields.now event) }
 {
     let (row, after_row) = split_field(fields)?;
     let (parent, after_parent) = split_field(after_row)?;
@@ -61,9 +67,9 @@ fn spawn_of(fields: &[u8]) -> Option<Event>
     })
 }
 
-/// The start that these fields tell: a row.
+// The start that these fields tell, in any version: a row.
 fn start_of(fields: &[u8]) -> Option<Event>
-    ensures { MatchOption result ((event : Event) → Tells 62 fields.now event → ⊥) (λ event. Tells 62 fields.now event) }
+    ensures { MatchOption result ((v : Spelling) (event : Event) → Tells v 62 fields.now event → ⊥) (λ event. (v : Spelling) → Tells v 62 fields.now event) }
 {
     let (row, after_row) = split_field(fields)?;
     if !after_row.is_empty() {
@@ -72,21 +78,59 @@ fn start_of(fields: &[u8]) -> Option<Event>
     Some(Event::Start { row })
 }
 
-/// The end that these fields tell: a row, its ticks and its status.
-fn end_of(fields: &[u8]) -> Option<Event>
-    ensures { MatchOption result ((event : Event) → Tells 60 fields.now event → ⊥) (λ event. Tells 60 fields.now event) }
+// The end that these fields tell: a row, its ticks, its status and what it wrote.
+fn end_of(fields: &[u8], version: Version, rules: &Rules) -> Option<Event>
+    ensures { MatchOption result ((event : Event) → Tells (spelling version) 60 fields.now event → ⊥)
+        (λ event. Tells (spelling version) 60 fields.now event × IsSpelt (spelling version) (entries rules.now.events) event) }
 {
     let (row, after_row) = split_field(fields)?;
     let (ticks, after_ticks) = split_field(after_row)?;
     let (number, after_number) = split_field(after_ticks)?;
-    if !after_number.is_empty() {
-        return None;
-    }
+    let written = written_of(after_number, row, version, rules)?;
     let status = status_of(number)?;
-    Some(Event::End { row, ticks, status })
+    Some(Event::End {
+        row,
+        ticks,
+        status,
+        written,
+    })
 }
 
-/// The status of a number.
+// What the last fields of a row's end say that it wrote. In the first version there are none, and they stand for all
+// of its cowns.
+fn written_of(fields: &[u8], row: u32, version: Version, rules: &Rules) -> Option<Cowns>
+    ensures { MatchOption result ((written : List ℕ) → AreSmall written → length written ≤ MOST_HELD → fields.now ≡ fields_of (written_fields (spelling version) written) → ⊥)
+        (λ written. TellsWritten (spelling version) (entries rules.now.events) row fields.now written.items) }
+{
+    match version {
+        Version::First if fields.is_empty() => Some(all_cowns_of(row, rules)),
+        Version::First => None,
+        Version::Second => cowns_of(fields),
+    }
+}
+
+// All cowns of a row; none where it isn't there.
+fn all_cowns_of(row: u32, rules: &Rules) -> Cowns
+    ensures all { result.items ≡ entry_cowns (entries rules.now.events) row }
+    ensures small { AreSmall result.items }
+    ensures few { length result.items ≤ MOST_HELD }
+{
+    match rules.cowns_of(row) {
+        Some(cowns) => cowns_from(cowns.as_slice()),
+        None => Cowns::new(),
+    }
+}
+
+// These few cowns.
+fn cowns_from(cowns: &[u32]) -> Cowns
+    requires { length cowns.now ≤ MOST_HELD }
+    ensures same { result.items ≡ cowns.now }
+    ensures small { AreSmall result.items }
+{
+    Cowns::try_from(cowns).unwrap()
+}
+
+// The status of a number.
 fn status_of(number: u32) -> Option<EndStatus>
     ensures { MatchOption result ((status : EndStatus) → number ≡ status_number status → ⊥) (λ status. number ≡ status_number status) }
 {

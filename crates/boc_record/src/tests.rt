@@ -7,7 +7,19 @@ use std::test::*;
 
 // The run of two deposits and a transfer between two accounts, by one worker.
 const TRANSFER: &str =
+    "boc 2 2\n+ 0 0 0\n> 0\n+ 1 0 2 0\n+ 2 0 3 0 1\n+ 3 0 4 1\n< 0 4 0\n> 1\n< 1 2 0 0\n> 2\n< 2 3 0 0 1\n> 3\n< 3 2 0 1\n.\n";
+
+// The same in the first version.
+const FIRST_TRANSFER: &str =
     "boc 1 2\n+ 0 0 0\n> 0\n+ 1 0 2 0\n+ 2 0 3 0 1\n+ 3 0 4 1\n< 0 4 0\n> 1\n< 1 2 0\n> 2\n< 2 3 0\n> 3\n< 3 2 0\n.\n";
+
+// Two rows that read a cown, and one that writes it.
+const READERS: &str =
+    "boc 2 1\n+ 0 0 0\n> 0\n+ 1 0 2 0\n+ 2 0 3 0\n+ 3 0 4 0\n< 0 4 0\n> 1\n< 1 7 0\n> 2\n< 2 7 0\n> 3\n< 3 2 0 0\n.\n";
+
+// A row over eight cowns, all of which it wrote.
+const EIGHT: &str =
+    "boc 2 256\n+ 0 0 0\n> 0\n+ 1 0 1 0 1 2 3 4 5 6 255\n< 0 1 0\n> 1\n< 1 1000000 6 0 1 2 3 4 5 6 255\n.\n";
 
 fn bytes(alloc: Global, text: &[u8]) -> Result<Bytes, AllocError>
     ensures { IfOk result (λ b. b.failures ≡ 0) }
@@ -30,11 +42,59 @@ fn reread(alloc: Global, text: &[u8]) -> Result<String, Fail> {
 
 #[test]
 fn record_is_read_and_written_again(rt: HostRuntime) -> Result<(), Fail> {
-    let record = read_record(rt.alloc(), &mut bytes(rt.alloc(), TRANSFER.as_bytes())?)?;
-    assert_eq!(rt; record.cowns(), 2);
-    assert_eq!(rt; record.events().len(), 12);
-    assert_eq!(rt; record.rows().as_slice().len(), 4);
-    assert_eq!(rt; reread(rt.alloc(), TRANSFER.as_bytes())?.as_str(), TRANSFER);
+    for text in [
+        TRANSFER,
+        READERS,
+        EIGHT,
+        "boc 2 0\n+ 0 0 0\n> 0\n< 0 1 0\n.\n",
+        "boc 2 256\n+ 0 0 0\n> 0\n< 0 2 4\n.\n",
+    ] {
+        assert_eq!(rt; reread(rt.alloc(), text.as_bytes())?.as_str(), text);
+    }
+    Ok(())
+}
+
+#[test]
+fn both_versions_give_one_record(rt: HostRuntime) -> Result<(), Fail> {
+    let written: [&[u32]; 4] = [&[], &[0], &[0, 1], &[1]];
+    for text in [TRANSFER, FIRST_TRANSFER] {
+        let record = read_record(rt.alloc(), &mut bytes(rt.alloc(), text.as_bytes())?)?;
+        assert_eq!(rt; record.cowns(), 2);
+        assert_eq!(rt; record.events().len(), 12);
+        let rows = record.rows().as_slice();
+        assert_eq!(rt; rows.len(), 4);
+        for (row, wrote) in rows.iter().zip(&written) {
+            assert_eq!(rt; row.written.as_slice(), *wrote);
+        }
+        assert_eq!(rt; reread(rt.alloc(), text.as_bytes())?.as_str(), TRANSFER);
+    }
+    Ok(())
+}
+
+// The text of a run whose main spawns so many rows, which all end.
+fn wide_text(alloc: Global, rows: u32) -> Result<String, Fail> {
+    let mut text = String::new(alloc);
+    text.push_str("boc 2 0\n+ 0 0 0\n> 0\n")?;
+    for row in 1..rows {
+        text.push_str(format!(in alloc; "+ {row} 0 {row}\n")?.as_str())?;
+    }
+    text.push_str(format!(in alloc; "< 0 {rows} 0\n")?.as_str())?;
+    for row in 1..rows {
+        text.push_str(format!(in alloc; "> {row}\n< {row} 1 0\n")?.as_str())?;
+    }
+    text.push_str(".\n")?;
+    Ok(text)
+}
+
+#[test]
+fn record_of_65535_rows(rt: HostRuntime) -> Result<(), Fail> {
+    let text = wide_text(rt.alloc(), 65_535)?;
+    assert!(rt; reread(rt.alloc(), text.as_bytes())?.as_str() == text.as_str());
+    let text = wide_text(rt.alloc(), 65_536)?;
+    assert_eq!(rt;
+        reread(rt.alloc(), text.as_bytes())?.as_str(),
+        "line 65538: 9 TooMany"
+    );
     Ok(())
 }
 
@@ -43,7 +103,12 @@ fn faulty_texts(rt: HostRuntime) -> Result<(), Fail> {
     for (text, fault) in [
         ("", "line 1: 11 Truncated"),
         ("boc 1 2", "line 1: 11 Truncated"),
-        ("boc 2 2\n", "line 1: 1 Header"),
+        ("boc 0 2\n", "line 1: 1 Header"),
+        ("boc 3 2\n", "line 1: 1 Header"),
+        ("boc 02 2\n", "line 1: 1 Header"),
+        ("boc 2\n", "line 1: 1 Header"),
+        ("boc 2 257\n", "line 1: 1 Header"),
+        ("boc 2 2\n", "line 2: 11 Truncated"),
         ("boc 1 257\n", "line 1: 1 Header"),
         ("boc 1 02\n", "line 1: 1 Header"),
         ("boc 1\n", "line 1: 1 Header"),
@@ -51,6 +116,37 @@ fn faulty_texts(rt: HostRuntime) -> Result<(), Fail> {
         ("boc 1 2\n", "line 2: 11 Truncated"),
         ("boc 1 2\n.\n", "line 2: 10 Unended"),
         ("boc 1 2\n+ 0 0 0\n> 0\n< 0 1 7\n", "line 4: 2 Form"),
+        ("boc 1 2\n+ 0 0 0\n> 0\n< 0 1 0 0\n", "line 4: 2 Form"),
+        ("boc 2 2\n+ 0 0 0\n> 0\n< 0 1 0 \n", "line 4: 2 Form"),
+        ("boc 2 2\n+ 0 0 0\n> 0\n< 0 1 7\n", "line 4: 2 Form"),
+        (
+            "boc 2 2\n+ 0 0 0\n> 0\n< 0 1 0 0 1 2 3 4 5 6 7 8\n",
+            "line 4: 2 Form",
+        ),
+        (
+            "boc 2 2\n+ 0 0 0\n> 0\n< 0 1 0 0 1 2 3 4 5 6 7\n",
+            "line 4: 8 EndNotAllowed",
+        ),
+        (
+            "boc 2 2\n+ 0 0 0\n> 0\n< 0 1 0 0\n",
+            "line 4: 8 EndNotAllowed",
+        ),
+        (
+            "boc 1 1\n+ 0 0 0\n> 0\n< 7 1 0\n",
+            "line 4: 8 EndNotAllowed",
+        ),
+        (
+            "boc 2 2\n+ 0 0 0\n> 0\n+ 1 0 2 0 1\n> 1\n< 1 1 0 1 0\n",
+            "line 6: 8 EndNotAllowed",
+        ),
+        (
+            "boc 2 2\n+ 0 0 0\n> 0\n+ 1 0 2 0 1\n> 1\n< 1 1 0 1 1\n",
+            "line 6: 8 EndNotAllowed",
+        ),
+        (
+            "boc 2 2\n+ 0 0 0\n> 0\n+ 1 0 2 1\n> 1\n< 1 1 0 0\n",
+            "line 6: 8 EndNotAllowed",
+        ),
         ("boc 1 2\n+ 00 0 0\n", "line 2: 2 Form"),
         ("boc 1 2\n+ 0 0\n", "line 2: 2 Form"),
         ("boc 1 2\n+ 0 0 0 1 2 3 4 5 6 7 8 9\n", "line 2: 2 Form"),
@@ -108,6 +204,16 @@ fn faulty_texts(rt: HostRuntime) -> Result<(), Fail> {
             "{text}"
         );
     }
+    Ok(())
+}
+
+#[test]
+fn cown_of_another_row_is_refused(rt: HostRuntime) -> Result<(), Fail> {
+    let text = TRANSFER.replace(rt.alloc(), "< 1 2 0 0", "< 1 2 0 1")?;
+    assert_eq!(rt;
+        reread(rt.alloc(), text.as_bytes())?.as_str(),
+        "line 9: 8 EndNotAllowed"
+    );
     Ok(())
 }
 
@@ -173,7 +279,7 @@ fn sink_that_fails(rt: HostRuntime) -> Result<(), Fail> {
     let mut sink = FailAt::new(bytes(rt.alloc(), b"")?, 2, 7);
     let result = write_record(rt.alloc(), &record, &mut sink);
     assert_eq!(rt; result, Err(WriteFault::Device { gone: 7 }));
-    assert_eq!(rt; sink.inner.bytes.as_slice(), b"boc 1 2".as_slice());
+    assert_eq!(rt; sink.inner.bytes.as_slice(), b"boc 2 2".as_slice());
     Ok(())
 }
 

@@ -3,7 +3,7 @@ use Rattle.std.proofs.Common.{zero, suc, get_or, length, take, append_assoc, ◌
 use Rattle.std.proofs.lemmas.List.{append-nil}
 use Rattle.std.proofs.Math.Seq.{take-suc}
 use Rattle.boc_types.specs.declared.chain.Step.{Step}
-use Rattle.boc_types.specs.Texts.{step_line, step_lines, plan_line, plan_lines, served_line, served_lines, sweep_line, sweep_lines}
+use Rattle.boc_types.specs.answers.Texts.{step_line, step_lines, plan_line, plan_lines, served_line, served_lines, sweep_line, sweep_lines}
 
 add_one : (i : ℕ) → i + 1 ≡ suc i
 add_one i = omega arith

@@ -1,7 +1,7 @@
 // The greedy part of a report.
 
 ghost use Rattle.std.specs.Prelude.{◌≡◌, ◌++◌, Some, length, OnOk};
-ghost use Rattle.boc_types.specs.Texts.{bound_line, served_line, served_lines};
+ghost use Rattle.boc_types.specs.answers.Texts.{bound_line, served_line, served_lines};
 ghost use Rattle.boc_report.specs.Parts.{IsWhole, part_of};
 
 use crate::number_line::put_line;

@@ -1,7 +1,7 @@
 // A line with a number.
 
 ghost use Rattle.std.specs.Prelude.{◌≡◌, ◌++◌, OnOk};
-ghost use Rattle.boc_types.specs.Texts.{number_line};
+ghost use Rattle.boc_types.specs.answers.Texts.{number_line};
 
 use boc_text::put_number;
 use std::alloc::AllocError;

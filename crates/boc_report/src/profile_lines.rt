@@ -1,7 +1,7 @@
 // The report on the rows of a record.
 
 ghost use Rattle.std.specs.Prelude.{◌≡◌, ◌++◌, length, option_map, OnOk, IfOk, IfSome};
-ghost use Rattle.boc_types.specs.Texts.{report_text, step_line, step_lines, plan_line, plan_lines, via_word};
+ghost use Rattle.boc_types.specs.answers.Texts.{report_text, step_line, step_lines, plan_line, plan_lines, via_word};
 ghost use Rattle.boc_report.specs.Parts.{IsWhole, part_of};
 
 use crate::greedy_lines::{greedy_bytes, put_greedy};

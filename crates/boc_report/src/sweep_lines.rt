@@ -1,7 +1,7 @@
 // The lines of a sweep.
 
 ghost use Rattle.std.specs.Prelude.{◌≡◌, ◌++◌, OnOk, IfOk};
-ghost use Rattle.boc_types.specs.Texts.{sweep_line, sweep_lines};
+ghost use Rattle.boc_types.specs.answers.Texts.{sweep_line, sweep_lines};
 
 use boc_text::put_number;
 use std::alloc::{AllocError, Global};

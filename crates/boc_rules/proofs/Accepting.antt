@@ -5,18 +5,18 @@ use Rattle.std.specs.Prelude.{slice_get, slice_set, Option, Some, None, All}
 use Rattle.std.proofs.lemmas.Option.{slice_get_within}
 use Rattle.arrayvec.specs.ArrayVec.{ArrayVec}
 use Rattle.boc_types.specs.declared.body.EndStatus.{EndStatus}
-use Rattle.boc_types.specs.declared.body.EndStatus.TheVariants as statuses
 use Rattle.boc_types.specs.declared.event.Event.{Event}
 use Rattle.boc_types.specs.declared.event.Event.TheVariants.{Spawn, Start, End}
 use Rattle.boc_types.specs.declared.event.BrokenRule.TheVariants as rules
 use Rattle.boc_types.specs.declared.rows.Row.{Row}
-use Rattle.boc_types.specs.Legal as legal
-use Rattle.boc_types.specs.Legal.{Entry, entries, pending, changed, after, MayStart, MayEnd, MayNeed, IsParent, IsOffset, IsAllowed}
-use Rattle.boc_types.specs.Records.{AreRowsOf}
+use Rattle.boc_types.specs.runs.Lives as lives
+use Rattle.boc_types.specs.runs.Lives.{changed, MayStart}
+use Rattle.boc_types.specs.runs.Legal.{Entry, entries, pending, after, life_of, entry_cowns, MayEnd, MayNeed, IsParent, IsAllowed}
+use Rattle.boc_types.specs.runs.Records.{AreRowsOf}
 use Rattle.boc_rules.specs.declared.stage.Life.TheVariants.{Pending, Running, Ended}
 use Rattle.boc_rules.specs.declared.stage.Stage.{Stage}
-use Rattle.boc_rules.specs.Turns.{noted}
-use Rattle.boc_rules.specs.Kept.{AreStagesOf, AreFound, AreLatest, over_one, over, Keeps, staged, placed}
+use Rattle.boc_rules.specs.Before.{noted}
+use Rattle.boc_rules.specs.SoFar.{AreStagesOf, AreFound, AreLatest, over_one, over, AreParts, new_row}
 use Rattle.boc_rules.proofs.Lists.{got_in}
 use Rattle.boc_rules.proofs.Next.{living, after_more, legal_more}
 use Rattle.boc_rules.proofs.Keeping.{IsSet, rows_set, rows_stay, stages_set, found_set, latest_set, over_set, rows_push, stages_push, found_push, latest_push, over_push}
@@ -29,11 +29,11 @@ pub record IsThatOf (run : List Entry) (cowns : ℕ) (rows : List Row) (stages :
   pub latest_are : AreLatest run cowns latest
   pub ended_is : ended ≡ over run
 
-that : (cowns : ℕ) (events : List Event) (rows : List Row) (stages : List Stage) (found latest : List (Option ℕ)) (ended : ℕ) → Keeps cowns events rows stages found latest ended → IsThatOf (entries events) cowns rows stages found latest ended
+that : (cowns : ℕ) (events : List Event) (rows : List Row) (stages : List Stage) (found latest : List (Option ℕ)) (ended : ℕ) → AreParts cowns events rows stages found latest ended → IsThatOf (entries events) cowns rows stages found latest ended
 that cowns events rows stages found latest ended k = record { rows_are = k.rows_are; stages_are = k.stages_are; found_are = k.found_are; latest_are = k.latest_are; ended_is = k.ended_is }
 
-keeps_more : (cowns : ℕ) (events : List Event) (event : Event) (rows rows' : List Row) (stages stages' : List Stage) (found found' latest latest' : List (Option ℕ)) (ended ended' : ℕ) → Keeps cowns events rows stages found latest ended → IsAllowed cowns (entries events) event
-    → IsThatOf (after (entries events) event) cowns rows' stages' found' latest' ended' → Keeps cowns (events ++ (event ∷ [])) rows' stages' found' latest' ended'
+keeps_more : (cowns : ℕ) (events : List Event) (event : Event) (rows rows' : List Row) (stages stages' : List Stage) (found found' latest latest' : List (Option ℕ)) (ended ended' : ℕ) → AreParts cowns events rows stages found latest ended → IsAllowed cowns (entries events) event
+    → IsThatOf (after (entries events) event) cowns rows' stages' found' latest' ended' → AreParts cowns (events ++ (event ∷ [])) rows' stages' found' latest' ended'
 keeps_more cowns events event rows rows' stages stages' found found' latest latest' ended ended' k a t =
     let e = sym (after_more [] events event) in
     let u : IsThatOf (entries (events ++ (event ∷ []))) cowns rows' stages' found' latest' ended' = subst (λ (run : List Entry). IsThatOf run cowns rows' stages' found' latest' ended') e t in record {
@@ -46,33 +46,33 @@ keeps_more cowns events event rows rows' stages stages' found found' latest late
       ended_is = u.ended_is;
     }
 
-that_start : (run : List Entry) (cowns : ℕ) (rows : List Row) (stages : List Stage) (found latest : List (Option ℕ)) (ended row : ℕ) → IsThatOf run cowns rows stages found latest ended → MayStart run row
-    → IsThatOf (changed run row (λ x. record x { life = legal.Running }) (slice_get run row)) cowns rows (staged stages row (λ s. record s { life = Running }) (slice_get stages row)) found latest ended
+that_start : (run : List Entry) (cowns : ℕ) (rows : List Row) (stages : List Stage) (found latest : List (Option ℕ)) (ended row : ℕ) → IsThatOf run cowns rows stages found latest ended → MayStart (life_of run) (entry_cowns run) row
+    → IsThatOf (changed run row (λ x. record x { life = lives.Running }) (slice_get run row)) cowns rows (changed stages row (λ s. record s { life = Running }) (slice_get stages row)) found latest ended
 that_start run cowns rows stages found latest ended row t may =
-    let e = living run row legal.Pending may.waits in
-    let v : Entry = record e.0 { life = legal.Running } in
+    let e = living run row lives.Pending may.waits in
+    let v : Entry = record e.0 { life = lives.Running } in
     let h : IsSet run row e.0 v = record { is = e.1; cowns = refl } in
     let inside : row < length stages = omega (arith, t.stages_are.all, slice_get_within run row e.0 e.1) in
     let x = got_in stages row inside in
     let y : Stage = record x.0 { life = Running } in
     let was = t.stages_are.each row e.0 x.0 e.1 x.1 in
     let counted = over_set run row e.0 v e.1 in
-    subst (λ (r : List Entry). IsThatOf r cowns rows (staged stages row (λ s. record s { life = Running }) (slice_get stages row)) found latest ended) (sym (ap (changed run row (λ z. record z { life = legal.Running })) e.1))
-    (subst (λ (s : List Stage). IsThatOf (slice_set run row v) cowns rows s found latest ended) (sym (ap (staged stages row (λ s. record s { life = Running })) x.1))
+    subst (λ (r : List Entry). IsThatOf r cowns rows (changed stages row (λ s. record s { life = Running }) (slice_get stages row)) found latest ended) (sym (ap (changed run row (λ z. record z { life = lives.Running })) e.1))
+    (subst (λ (s : List Stage). IsThatOf (slice_set run row v) cowns rows s found latest ended) (sym (ap (changed stages row (λ s. record s { life = Running })) x.1))
     (record {
-      rows_are = rows_stay run rows row e.0 v t.rows_are h (λ y is. record { parent = is.parent; offset = is.offset; cowns = is.cowns; ticks = is.ticks; status = is.status });
+      rows_are = rows_stay run rows row e.0 v t.rows_are h (λ y is. record { parent = is.parent; offset = is.offset; cowns = is.cowns; ticks = is.ticks; status = is.status; written = is.written });
       stages_are = stages_set run stages row e.0 v x.0 y t.stages_are h x.1 (record { life = refl; last = was.last });
       found_are = found_set run stages found row e.0 v x.0 y t.found_are h x.1 refl refl;
       latest_are = latest_set run row e.0 v cowns latest t.latest_are h;
       ended_is = omega (arith, counted, ap over_one e.2, t.ended_is);
     }))
 
-that_end : (run : List Entry) (cowns : ℕ) (rows : List Row) (stages : List Stage) (found latest : List (Option ℕ)) (ended row ticks : ℕ) (status : EndStatus) → IsThatOf run cowns rows stages found latest ended → MayEnd run row ticks
-    → IsThatOf (changed run row (λ x. record x { life = legal.Ended; ticks = ticks; status = status }) (slice_get run row)) cowns (placed rows row (λ x. record x { ticks = ticks; status = status }) (slice_get rows row))
-    (staged stages row (λ s. record s { life = Ended }) (slice_get stages row)) found latest (ended + 1)
-that_end run cowns rows stages found latest ended row ticks status t may =
-    let e = living run row legal.Running may.runs in
-    let v : Entry = record e.0 { life = legal.Ended; ticks = ticks; status = status } in
+that_end : (run : List Entry) (cowns : ℕ) (rows : List Row) (stages : List Stage) (found latest : List (Option ℕ)) (ended row ticks : ℕ) (status : EndStatus) (written : ArrayVec ℕ) → IsThatOf run cowns rows stages found latest ended → MayEnd run row ticks written.items
+    → IsThatOf (changed run row (λ x. record x { life = lives.Ended; ticks = ticks; status = status; written = written.items }) (slice_get run row)) cowns (changed rows row (λ x. record x { ticks = ticks; status = status; written = written }) (slice_get rows row))
+    (changed stages row (λ s. record s { life = Ended }) (slice_get stages row)) found latest (ended + 1)
+that_end run cowns rows stages found latest ended row ticks status written t may =
+    let e = living run row lives.Running may.runs in
+    let v : Entry = record e.0 { life = lives.Ended; ticks = ticks; status = status; written = written.items } in
     let h : IsSet run row e.0 v = record { is = e.1; cowns = refl } in
     let there = slice_get_within run row e.0 e.1 in
     let inside : row < length stages = omega (arith, t.stages_are.all, there) in
@@ -80,16 +80,16 @@ that_end run cowns rows stages found latest ended row ticks status t may =
     let x = got_in stages row inside in
     let z = got_in rows row listed in
     let y : Stage = record x.0 { life = Ended } in
-    let w : Row = record z.0 { ticks = ticks; status = status } in
+    let w : Row = record z.0 { ticks = ticks; status = status; written = written } in
     let was = t.stages_are.each row e.0 x.0 e.1 x.1 in
     let row_was = t.rows_are.each row e.0 z.0 e.1 z.1 in
     let counted = over_set run row e.0 v e.1 in
-    subst (λ (r : List Entry). IsThatOf r cowns (placed rows row (λ x. record x { ticks = ticks; status = status }) (slice_get rows row)) (staged stages row (λ s. record s { life = Ended }) (slice_get stages row)) found latest (ended + 1))
-    (sym (ap (changed run row (λ z. record z { life = legal.Ended; ticks = ticks; status = status })) e.1))
-    (subst (λ (s : List Stage). IsThatOf (slice_set run row v) cowns (placed rows row (λ x. record x { ticks = ticks; status = status }) (slice_get rows row)) s found latest (ended + 1)) (sym (ap (staged stages row (λ s. record s { life = Ended })) x.1))
-    (subst (λ (s : List Row). IsThatOf (slice_set run row v) cowns s (slice_set stages row y) found latest (ended + 1)) (sym (ap (placed rows row (λ x. record x { ticks = ticks; status = status })) z.1))
+    subst (λ (r : List Entry). IsThatOf r cowns (changed rows row (λ x. record x { ticks = ticks; status = status; written = written }) (slice_get rows row)) (changed stages row (λ s. record s { life = Ended }) (slice_get stages row)) found latest (ended + 1))
+    (sym (ap (changed run row (λ z. record z { life = lives.Ended; ticks = ticks; status = status; written = written.items })) e.1))
+    (subst (λ (s : List Stage). IsThatOf (slice_set run row v) cowns (changed rows row (λ x. record x { ticks = ticks; status = status; written = written }) (slice_get rows row)) s found latest (ended + 1)) (sym (ap (changed stages row (λ s. record s { life = Ended })) x.1))
+    (subst (λ (s : List Row). IsThatOf (slice_set run row v) cowns s (slice_set stages row y) found latest (ended + 1)) (sym (ap (changed rows row (λ x. record x { ticks = ticks; status = status; written = written })) z.1))
     (record {
-      rows_are = rows_set run rows row e.0 v z.0 w t.rows_are h z.1 (record { parent = row_was.parent; offset = row_was.offset; cowns = row_was.cowns; ticks = refl; status = refl });
+      rows_are = rows_set run rows row e.0 v z.0 w t.rows_are h z.1 (record { parent = row_was.parent; offset = row_was.offset; cowns = row_was.cowns; ticks = refl; status = refl; written = refl });
       stages_are = stages_set run stages row e.0 v x.0 y t.stages_are h x.1 (record { life = refl; last = was.last });
       found_are = found_set run stages found row e.0 v x.0 y t.found_are h x.1 refl refl;
       latest_are = latest_set run row e.0 v cowns latest t.latest_are h;
@@ -104,15 +104,12 @@ that_child run cowns rows stages found latest ended parent offset e x t is at =
     let h : IsSet run parent e v = record { is = is; cowns = refl } in
     let was = t.stages_are.each parent e x is at in
     let counted = over_set run parent e v is in record {
-      rows_are = rows_stay run rows parent e v t.rows_are h (λ y is. record { parent = is.parent; offset = is.offset; cowns = is.cowns; ticks = is.ticks; status = is.status });
+      rows_are = rows_stay run rows parent e v t.rows_are h (λ y is. record { parent = is.parent; offset = is.offset; cowns = is.cowns; ticks = is.ticks; status = is.status; written = is.written });
       stages_are = stages_set run stages parent e v x (record x { last = offset }) t.stages_are h at (record { life = was.life; last = refl });
       found_are = found_set run stages found parent e v x (record x { last = offset }) t.found_are h at refl refl;
       latest_are = latest_set run parent e v cowns latest t.latest_are h;
       ended_is = omega (arith, counted, t.ended_is);
     }
-
-abbrev new_row : ℕ → ℕ → ArrayVec ℕ → Row
-new_row parent offset cowns = record { parent = parent; offset = offset; cowns = cowns; ticks = 0; status = statuses.Done }
 
 abbrev new_stage : List (Option ℕ) → ArrayVec ℕ → Stage
 new_stage found cowns = record { life = Pending; last = 0; from = length found; to = length found + length cowns.items }
@@ -122,7 +119,7 @@ that_push : (run : List Entry) (count : ℕ) (rows : List Row) (stages : List St
     → IsThatOf (run ++ (pending parent offset cowns.items ∷ [])) count (rows ++ (new_row parent offset cowns ∷ [])) (stages ++ (new_stage found cowns ∷ [])) (found ++ map (λ c. get_or latest c None) cowns.items) (noted latest cowns.items row) ended
 that_push run count rows stages found latest ended row parent offset cowns t next below =
     let v = pending parent offset cowns.items in record {
-      rows_are = rows_push run rows v (new_row parent offset cowns) t.rows_are (record { parent = refl; offset = refl; cowns = refl; ticks = refl; status = refl });
+      rows_are = rows_push run rows v (new_row parent offset cowns) t.rows_are (record { parent = refl; offset = refl; cowns = refl; ticks = refl; status = refl; written = refl });
       stages_are = stages_push run stages v (new_stage found cowns) t.stages_are (record { life = refl; last = refl });
       found_are = found_push run stages found v (new_stage found cowns) count latest t.stages_are t.found_are t.latest_are below refl refl;
       latest_are = subst (λ (n : ℕ). AreLatest (run ++ (v ∷ [])) count (noted latest cowns.items n)) (sym next) (latest_push run v count latest t.latest_are);
@@ -136,40 +133,40 @@ no_stages (x ∷ stages) e = absurd (omega arith)
 that_spawn : (run : List Entry) (count : ℕ) (rows : List Row) (stages : List Stage) (found latest : List (Option ℕ)) (ended row parent offset : ℕ) (cowns : ArrayVec ℕ) → IsThatOf run count rows stages found latest ended → row ≡ length run
     → IsParent run parent → MayNeed count run cowns.items
     → IsThatOf (changed run parent (λ x. record x { last = offset }) (slice_get run parent) ++ (pending parent offset cowns.items ∷ [])) count (rows ++ (new_row parent offset cowns ∷ []))
-    (staged stages parent (λ s. record s { last = offset }) (slice_get stages parent) ++ (new_stage found cowns ∷ [])) (found ++ map (λ c. get_or latest c None) cowns.items) (noted latest cowns.items row) ended
+    (changed stages parent (λ s. record s { last = offset }) (slice_get stages parent) ++ (new_stage found cowns ∷ [])) (found ++ map (λ c. get_or latest c None) cowns.items) (noted latest cowns.items row) ended
 that_spawn [] count rows stages found latest ended row parent offset cowns t next p m =
     let none : stages ≡ [] = no_stages stages t.stages_are.all in
-    let same : staged stages parent (λ s. record s { last = offset }) (slice_get stages parent) ≡ stages = subst (λ (s : List Stage). staged s parent (λ s. record s { last = offset }) (slice_get s parent) ≡ s) (sym none) refl in
+    let same : changed stages parent (λ s. record s { last = offset }) (slice_get stages parent) ≡ stages = subst (λ (s : List Stage). changed s parent (λ s. record s { last = offset }) (slice_get s parent) ≡ s) (sym none) refl in
     subst (λ (s : List Stage). IsThatOf (pending parent offset cowns.items ∷ []) count (rows ++ (new_row parent offset cowns ∷ [])) (s ++ (new_stage found cowns ∷ [])) (found ++ map (λ c. get_or latest c None) cowns.items) (noted latest cowns.items row) ended) (sym same)
     (that_push [] count rows stages found latest ended row parent offset cowns t next (subst (λ (cs : List ℕ). All (λ c. c < count) cs) (sym m) (λ k d h. absurd (omega arith))))
 that_spawn (main ∷ others) count rows stages found latest ended row parent offset cowns t next p m =
     let run = main ∷ others in
-    let e = living run parent legal.Running p in
+    let e = living run parent lives.Running p in
     let inside : parent < length stages = omega (arith, t.stages_are.all, slice_get_within run parent e.0 e.1) in
     let x = got_in stages parent inside in
     let v : Entry = record e.0 { last = offset } in
     let y : Stage = record x.0 { last = offset } in
-    subst (λ (r : List Entry). IsThatOf (r ++ (pending parent offset cowns.items ∷ [])) count (rows ++ (new_row parent offset cowns ∷ [])) (staged stages parent (λ s. record s { last = offset }) (slice_get stages parent) ++ (new_stage found cowns ∷ [])) (found ++ map (λ c. get_or latest c None) cowns.items) (noted latest cowns.items row) ended)
+    subst (λ (r : List Entry). IsThatOf (r ++ (pending parent offset cowns.items ∷ [])) count (rows ++ (new_row parent offset cowns ∷ [])) (changed stages parent (λ s. record s { last = offset }) (slice_get stages parent) ++ (new_stage found cowns ∷ [])) (found ++ map (λ c. get_or latest c None) cowns.items) (noted latest cowns.items row) ended)
     (sym (ap (changed run parent (λ z. record z { last = offset })) e.1))
     (subst (λ (s : List Stage). IsThatOf (slice_set run parent v ++ (pending parent offset cowns.items ∷ [])) count (rows ++ (new_row parent offset cowns ∷ [])) (s ++ (new_stage found cowns ∷ [])) (found ++ map (λ c. get_or latest c None) cowns.items) (noted latest cowns.items row) ended)
-    (sym (ap (staged stages parent (λ s. record s { last = offset })) x.1))
+    (sym (ap (changed stages parent (λ s. record s { last = offset })) x.1))
     (that_push (slice_set run parent v) count rows (slice_set stages parent y) found latest ended row parent offset cowns
-    (that_child run count rows stages found latest ended parent offset e.0 x.0 t e.1 x.1) (next ∙ sym (length-set run parent v)) m.1))
+    (that_child run count rows stages found latest ended parent offset e.0 x.0 t e.1 x.1) (next ∙ sym (length-set run parent v)) m.below))
 
-pub keeps_start : (cowns : ℕ) (events : List Event) (rows : List Row) (stages : List Stage) (found latest : List (Option ℕ)) (ended row : ℕ) → Keeps cowns events rows stages found latest ended → IsAllowed cowns (entries events) (Start row)
-    → Keeps cowns (events ++ (Start row ∷ [])) rows (staged stages row (λ s. record s { life = Running }) (slice_get stages row)) found latest ended
+pub keeps_start : (cowns : ℕ) (events : List Event) (rows : List Row) (stages : List Stage) (found latest : List (Option ℕ)) (ended row : ℕ) → AreParts cowns events rows stages found latest ended → IsAllowed cowns (entries events) (Start row)
+    → AreParts cowns (events ++ (Start row ∷ [])) rows (changed stages row (λ s. record s { life = Running }) (slice_get stages row)) found latest ended
 keeps_start cowns events rows stages found latest ended row k a =
-    keeps_more cowns events (Start row) rows rows stages (staged stages row (λ s. record s { life = Running }) (slice_get stages row)) found found latest latest ended ended k a
-    (that_start (entries events) cowns rows stages found latest ended row (that cowns events rows stages found latest ended k) (a rules.StartNotAllowed))
+    keeps_more cowns events (Start row) rows rows stages (changed stages row (λ s. record s { life = Running }) (slice_get stages row)) found found latest latest ended ended k a
+    (that_start (entries events) cowns rows stages found latest ended row (that cowns events rows stages found latest ended k) (a.keeps rules.StartNotAllowed))
 
-pub keeps_end : (cowns : ℕ) (events : List Event) (rows : List Row) (stages : List Stage) (found latest : List (Option ℕ)) (ended row ticks : ℕ) (status : EndStatus) → Keeps cowns events rows stages found latest ended → IsAllowed cowns (entries events) (End row ticks status)
-    → Keeps cowns (events ++ (End row ticks status ∷ [])) (placed rows row (λ x. record x { ticks = ticks; status = status }) (slice_get rows row)) (staged stages row (λ s. record s { life = Ended }) (slice_get stages row)) found latest (ended + 1)
-keeps_end cowns events rows stages found latest ended row ticks status k a =
-    keeps_more cowns events (End row ticks status) rows (placed rows row (λ x. record x { ticks = ticks; status = status }) (slice_get rows row)) stages (staged stages row (λ s. record s { life = Ended }) (slice_get stages row)) found found latest latest ended (ended + 1) k a
-    (that_end (entries events) cowns rows stages found latest ended row ticks status (that cowns events rows stages found latest ended k) (a rules.EndNotAllowed))
+pub keeps_end : (cowns : ℕ) (events : List Event) (rows : List Row) (stages : List Stage) (found latest : List (Option ℕ)) (ended row ticks : ℕ) (status : EndStatus) (written : ArrayVec ℕ) → AreParts cowns events rows stages found latest ended → IsAllowed cowns (entries events) (End row ticks status written)
+    → AreParts cowns (events ++ (End row ticks status written ∷ [])) (changed rows row (λ x. record x { ticks = ticks; status = status; written = written }) (slice_get rows row)) (changed stages row (λ s. record s { life = Ended }) (slice_get stages row)) found latest (ended + 1)
+keeps_end cowns events rows stages found latest ended row ticks status written k a =
+    keeps_more cowns events (End row ticks status written) rows (changed rows row (λ x. record x { ticks = ticks; status = status; written = written }) (slice_get rows row)) stages (changed stages row (λ s. record s { life = Ended }) (slice_get stages row)) found found latest latest ended (ended + 1) k a
+    (that_end (entries events) cowns rows stages found latest ended row ticks status written (that cowns events rows stages found latest ended k) (a.keeps rules.EndNotAllowed))
 
-pub keeps_spawn : (count : ℕ) (events : List Event) (rows : List Row) (stages : List Stage) (found latest : List (Option ℕ)) (ended row parent offset : ℕ) (cowns : ArrayVec ℕ) → Keeps count events rows stages found latest ended → IsAllowed count (entries events) (Spawn row parent offset cowns)
-    → Keeps count (events ++ (Spawn row parent offset cowns ∷ [])) (rows ++ (new_row parent offset cowns ∷ [])) (staged stages parent (λ s. record s { last = offset }) (slice_get stages parent) ++ (new_stage found cowns ∷ [])) (found ++ map (λ c. get_or latest c None) cowns.items) (noted latest cowns.items row) ended
+pub keeps_spawn : (count : ℕ) (events : List Event) (rows : List Row) (stages : List Stage) (found latest : List (Option ℕ)) (ended row parent offset : ℕ) (cowns : ArrayVec ℕ) → AreParts count events rows stages found latest ended → IsAllowed count (entries events) (Spawn row parent offset cowns)
+    → AreParts count (events ++ (Spawn row parent offset cowns ∷ [])) (rows ++ (new_row parent offset cowns ∷ [])) (changed stages parent (λ s. record s { last = offset }) (slice_get stages parent) ++ (new_stage found cowns ∷ [])) (found ++ map (λ c. get_or latest c None) cowns.items) (noted latest cowns.items row) ended
 keeps_spawn count events rows stages found latest ended row parent offset cowns k a =
-    keeps_more count events (Spawn row parent offset cowns) rows (rows ++ (new_row parent offset cowns ∷ [])) stages (staged stages parent (λ s. record s { last = offset }) (slice_get stages parent) ++ (new_stage found cowns ∷ [])) found (found ++ map (λ c. get_or latest c None) cowns.items) latest (noted latest cowns.items row) ended ended k a
-    (that_spawn (entries events) count rows stages found latest ended row parent offset cowns (that count events rows stages found latest ended k) (a rules.NumberNotNext) (a rules.ParentNotRunning) (a rules.Cowns))
+    keeps_more count events (Spawn row parent offset cowns) rows (rows ++ (new_row parent offset cowns ∷ [])) stages (changed stages parent (λ s. record s { last = offset }) (slice_get stages parent) ++ (new_stage found cowns ∷ [])) found (found ++ map (λ c. get_or latest c None) cowns.items) latest (noted latest cowns.items row) ended ended k a
+    (that_spawn (entries events) count rows stages found latest ended row parent offset cowns (that count events rows stages found latest ended k) (a.keeps rules.NumberNotNext) (a.keeps rules.ParentNotRunning) (a.keeps rules.Cowns))

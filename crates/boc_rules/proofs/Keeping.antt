@@ -8,11 +8,11 @@ use Rattle.std.proofs.lemmas.List.{get_or-map, length-map, take-append-le, drop-
 use Rattle.std.proofs.lemmas.Option.{slice_get_within}
 use Rattle.std.proofs.lemmas.Bool.{cases_eq, cases_order}
 use Rattle.boc_types.specs.declared.rows.Row.{Row}
-use Rattle.boc_types.specs.Legal.{Entry, entry_cowns}
-use Rattle.boc_types.specs.Records.{IsRowOf, AreRowsOf}
+use Rattle.boc_types.specs.runs.Legal.{Entry, entry_cowns}
+use Rattle.boc_types.specs.runs.Records.{IsRowOf, AreRowsOf}
 use Rattle.boc_rules.specs.declared.stage.Stage.{Stage}
-use Rattle.boc_rules.specs.Turns.{IsLatest, AreBefore, noted}
-use Rattle.boc_rules.specs.Kept.{IsStageOf, AreStagesOf, AreFound, AreLatest, over_one, over}
+use Rattle.boc_rules.specs.Before.{IsLatest, AreBefore, noted}
+use Rattle.boc_rules.specs.SoFar.{IsStageOf, AreStagesOf, AreFound, AreLatest, over_one, over}
 use Rattle.boc_rules.proofs.Lists.{got_set, set_same, set_other, got_push, push_below, push_last, got_at}
 use Rattle.boc_rules.proofs.Next.{cowns_at}
 

@@ -5,4 +5,5 @@ pub mod Starts
 pub mod Keeping
 pub mod Accepting
 pub mod Finished
+pub mod Events
 pub mod Judging

@@ -6,8 +6,9 @@ use Rattle.std.specs.List.{Contains}
 use Rattle.std.proofs.lemmas.List.{get_or_default}
 use Rattle.std.proofs.lemmas.List.Elements.{Contains-get_or}
 use Rattle.std.proofs.lemmas.Bool.{cases_order}
-use Rattle.boc_types.specs.Legal.{Entry, Life, Pending, Running, Ended, life_of, entry_cowns, MayStart}
-use Rattle.boc_rules.specs.Turns.{IsLatest, AreBefore, IsOverAt}
+use Rattle.boc_types.specs.runs.Lives.{Life, Pending, Running, Ended, MayStart}
+use Rattle.boc_types.specs.runs.Legal.{Entry, life_of, entry_cowns}
+use Rattle.boc_rules.specs.Before.{IsLatest, AreBefore, IsOverAt}
 use Rattle.boc_rules.proofs.Lists.{one_got}
 use Rattle.boc_rules.proofs.Well.{IsWell}
 use Rattle.boc_rules.proofs.Next.{living, life_at, life_cases, not_pending_running, not_pending_ended, not_running_ended}
@@ -53,7 +54,7 @@ before_on rows r c before are over has =
       over k None (omega (arith, are.all, has.1)),
     )
 
-pub starts : (count : ℕ) (rows : List Entry) (r : ℕ) (before : List (Option ℕ)) → IsWell count rows → life_of rows r ≡ Some Pending → AreBefore rows r before → All (IsOverAt rows) before → MayStart rows r
+pub starts : (count : ℕ) (rows : List Entry) (r : ℕ) (before : List (Option ℕ)) → IsWell count rows → life_of rows r ≡ Some Pending → AreBefore rows r before → All (IsOverAt rows) before → MayStart (life_of rows) (entry_cowns rows) r
 starts count rows r before w waits are over = record {
   waits = waits;
   none_running = λ other runs o.
@@ -79,7 +80,7 @@ starts count rows r before w waits are over = record {
 }
 
 -- where a row may start, the latest row before it on one of its cowns is over
-latest_over : (rows : List Entry) (r c : ℕ) (latest : Option ℕ) → MayStart rows r → Contains (entry_cowns rows r) c → IsLatest rows c r latest → IsOverAt rows latest
+latest_over : (rows : List Entry) (r c : ℕ) (latest : Option ℕ) → MayStart (life_of rows) (entry_cowns rows) r → Contains (entry_cowns rows r) c → IsLatest rows c r latest → IsOverAt rows latest
 latest_over rows r c None may has is = tt
 latest_over rows r c (Some latest) may has is =
     let d = has_entry rows latest c is.1 in
@@ -92,7 +93,7 @@ latest_over rows r c (Some latest) may has is =
       ]
     ]
 
-pub over_before : (rows : List Entry) (r : ℕ) (before : List (Option ℕ)) → MayStart rows r → AreBefore rows r before → All (IsOverAt rows) before
+pub over_before : (rows : List Entry) (r : ℕ) (before : List (Option ℕ)) → MayStart (life_of rows) (entry_cowns rows) r → AreBefore rows r before → All (IsOverAt rows) before
 over_before rows r before may are = λ k d h.
     let less : k < length (entry_cowns rows r) = omega (arith, are.all, h) in
     let cown = get_or (entry_cowns rows r) k 0 in

@@ -1,12 +1,14 @@
 -- What holds of the rows of a legal log.
 use Rattle.std.proofs.Common.{◌≡◌, ℕ, ◌<◌, ◌≤◌, ◌≢◌, ◌⊎◌, List, [], ◌∷◌, ◌++◌, length, refl, sym, ◌∙◌, ap, subst, inl, inr, arith, length-append}
 use Rattle.std.proofs.Math.ListN.{length-set}
-use Rattle.std.specs.Prelude.{slice_get, slice_set, Some, All}
+use Rattle.std.specs.Prelude.{slice_get, slice_set, Some}
 use Rattle.std.specs.List.{Contains}
-use Rattle.std.specs.List.Sorted.{IsStrictlyIncreasing}
 use Rattle.std.proofs.lemmas.Option.{slice_get_within}
 use Rattle.std.proofs.lemmas.Bool.{cases_eq}
-use Rattle.boc_types.specs.Legal.{Entry, Pending, Ended, pending}
+use Rattle.boc_types.specs.declared.limits.TheConstants.{MOST_ROWS, MOST_TICKS}
+use Rattle.boc_types.specs.runs.Cowns.{AreCowns, AreAmong}
+use Rattle.boc_types.specs.runs.Lives.{Pending, Ended}
+use Rattle.boc_types.specs.runs.Legal.{Entry, pending}
 use Rattle.boc_rules.proofs.Lists.{got_set, set_same, set_other, got_push, push_below, one_got, got_at}
 
 -- main has parent 0, offset 0 and no cowns
@@ -23,24 +25,20 @@ pub record IsChild (rows : List Entry) (r : ℕ) (e : Entry) : Type 0 where
   pub is : slice_get rows e.parent ≡ Some spawner
   pub reached : e.offset ≤ spawner.last
 
--- the ticks of a row that is over
-pub record HasTicks (e : Entry) : Type 0 where
+-- the ticks of a row that is over, and what it wrote
+pub record HasEnded (e : Entry) : Type 0 where
   pub low : 0 < e.ticks
-  pub high : e.ticks ≤ 1000000
+  pub high : e.ticks ≤ MOST_TICKS
   pub cover : e.last ≤ e.ticks
-
--- cowns rise and are there
-pub record HasCowns (count : ℕ) (e : Entry) : Type 0 where
-  pub rise : IsStrictlyIncreasing e.cowns
-  pub below : All (λ c. c < count) e.cowns
+  pub own : AreAmong e.cowns e.written
 
 pub record IsWell (count : ℕ) (rows : List Entry) : Type 0 where
-  pub few : length rows ≤ 65535
+  pub few : length rows ≤ MOST_ROWS
   pub main : (e : Entry) → slice_get rows 0 ≡ Some e → IsMain e
-  pub cowned : (r : ℕ) (e : Entry) → slice_get rows r ≡ Some e → HasCowns count e
+  pub cowned : (r : ℕ) (e : Entry) → slice_get rows r ≡ Some e → AreCowns count e.cowns
   pub child : (r : ℕ) (e : Entry) → 0 < r → slice_get rows r ≡ Some e → IsChild rows r e
   pub siblings : (a b : ℕ) (d e : Entry) → 0 < a → a < b → slice_get rows a ≡ Some d → slice_get rows b ≡ Some e → d.parent ≡ e.parent → d.offset < e.offset
-  pub ended : (r : ℕ) (e : Entry) → slice_get rows r ≡ Some e → e.life ≡ Ended → HasTicks e
+  pub ended : (r : ℕ) (e : Entry) → slice_get rows r ≡ Some e → e.life ≡ Ended → HasEnded e
   pub in_turn : (a b : ℕ) (d e : Entry) (c : ℕ) → a < b → slice_get rows a ≡ Some d → slice_get rows b ≡ Some e → Contains d.cowns c → Contains e.cowns c → e.life ≢ Pending → d.life ≡ Ended
 
 -- a row later: who spawned it, and its cowns, stay
@@ -54,7 +52,7 @@ pub record IsLike (e v : Entry) : Type 0 where
 pub record IsNext (rows : List Entry) (r : ℕ) (e v : Entry) : Type 0 where
   pub is : slice_get rows r ≡ Some e
   pub like : IsLike e v
-  pub ticks : v.life ≡ Ended → HasTicks v
+  pub ticks : v.life ≡ Ended → HasEnded v
   pub after_others : (a : ℕ) (d : Entry) (c : ℕ) → a < r → slice_get rows a ≡ Some d → Contains d.cowns c → Contains e.cowns c → v.life ≢ Pending → d.life ≡ Ended
   pub before_others : (b : ℕ) (d : Entry) (c : ℕ) → r < b → slice_get rows b ≡ Some d → Contains e.cowns c → Contains d.cowns c → d.life ≢ Pending → v.life ≡ Ended
 
@@ -90,18 +88,14 @@ turn count rows r e v w n a b d f c less (inr p) (inr q) hd hf np = w.in_turn a 
 
 pub well_set : (count : ℕ) (rows : List Entry) (r : ℕ) (e v : Entry) → IsWell count rows → IsNext rows r e v → IsWell count (slice_set rows r v)
 well_set count rows r e v w n = record {
-  few = subst (λ (l : ℕ). l ≤ 65535) (sym (length-set rows r v)) w.few;
+  few = subst (λ (l : ℕ). l ≤ MOST_ROWS) (sym (length-set rows r v)) w.few;
   main = λ x g.
       let y = came_from rows r e v 0 x n.is n.like g in
       let m = w.main y.0 y.1 in
       record { parent = y.2.parent ∙ m.parent; offset = y.2.offset ∙ m.offset; cowns = y.2.cowns ∙ m.cowns };
   cowned = λ k x g.
       let y = came_from rows r e v k x n.is n.like g in
-      let h = w.cowned k y.0 y.1 in
-      record {
-        rise = subst (λ (cs : List ℕ). IsStrictlyIncreasing cs) (sym y.2.cowns) h.rise;
-        below = subst (λ (cs : List ℕ). All (λ c. c < count) cs) (sym y.2.cowns) h.below;
-      };
+      subst (λ (cs : List ℕ). AreCowns count cs) (sym y.2.cowns) (w.cowned k y.0 y.1);
   child = λ k x more g.
       let y = came_from rows r e v k x n.is n.like g in
       let h = w.child k y.0 more y.1 in
@@ -120,7 +114,7 @@ well_set count rows r e v w n = record {
       omega (arith, old, y.2.offset, z.2.offset);
   ended = λ k x g over.
       elim (got_set rows r k v x g) [
-        | inl p ↦ subst HasTicks p.1 (n.ticks (ap (λ (z : Entry). z.life) p.1 ∙ over))
+        | inl p ↦ subst HasEnded p.1 (n.ticks (ap (λ (z : Entry). z.life) p.1 ∙ over))
         | inr p ↦ w.ended k x p.1 over
       ];
   in_turn = λ a b d f c less g h hd hf not_pending.
@@ -129,9 +123,8 @@ well_set count rows r e v w n = record {
 
 -- a row that may be spawned
 pub record IsSpawnable (count : ℕ) (rows : List Entry) (parent offset : ℕ) (cowns : List ℕ) : Type 0 where
-  pub few : length rows < 65535
-  pub rise : IsStrictlyIncreasing cowns
-  pub below : All (λ c. c < count) cowns
+  pub few : length rows < MOST_ROWS
+  pub cowned : AreCowns count cowns
   pub main : length rows ≡ 0 → (parent ≡ 0) × (offset ≡ 0) × (cowns ≡ [])
   pub child : 0 < length rows → IsChild rows (length rows) (pending parent offset cowns)
   pub siblings : (a : ℕ) (d : Entry) → 0 < a → slice_get rows a ≡ Some d → d.parent ≡ parent → d.offset < offset
@@ -173,7 +166,7 @@ well_push count rows parent offset cowns w n =
       ];
       cowned = λ k x g. elim (got_push rows k v x g) [
         | inl p ↦ w.cowned k x p
-        | inr p ↦ subst (HasCowns count) p.1 (record { rise = n.rise; below = n.below })
+        | inr p ↦ subst (λ (z : Entry). AreCowns count z.cowns) p.1 n.cowned
       ];
       child = λ k x more g. elim (got_push rows k v x g) [
         | inl p ↦ child_more rows k x v (w.child k x more p)

@@ -1,5 +1,6 @@
 pub mod Log
-pub mod Turns
-pub mod Kept
+pub mod Before
+pub mod SoFar
 pub mod Judges
 pub mod Rules
+pub mod Faults

@@ -1,35 +1,27 @@
 // Which rules an event keeps.
 
-ghost use Rattle.std.specs.Prelude.{◌≡◌, ◌<◌, ◌↔◌, All, IsTrue, Some};
+ghost use Rattle.std.specs.Prelude.{◌≡◌, ◌<◌, ◌≤◌, ◌↔◌, All, IsTrue, MatchOption, Some, length};
 ghost use Rattle.std.specs.Option.{option_map};
-ghost use Rattle.std.specs.List.Sorted.{IsStrictlyIncreasing};
 
-use crate::run::Run;
+use crate::so_far::RunSoFar;
 use crate::stage::Life;
+use boc_types::cowns::{are_among, are_cowns};
 use boc_types::event::{BrokenRule, Event};
+use boc_types::limits::{MOST_ROWS, MOST_TICKS};
 use boc_types::short::Cowns;
 
-// These rise strictly, below this number.
-fn are_cowns(count: u32, cowns: &[u32]) -> bool
-    ensures { IsTrue result ↔ (IsStrictlyIncreasing cowns.now × All (λ c. c < count) cowns.now) }
-{
-    for (i, cown) in cowns.iter().enumerate() {
-        if *cown >= count || (i > 0 && cowns[i - 1] >= *cown) {
-            return false;
-        }
-    }
-    true
-}
-
-impl Run {
-    ghost use Rattle.boc_types.specs.Legal.{Running, entries, life_of, last_of, IsParent, IsOffset, MayNeed, MayStart, MayEnd, IsComplete};
-    ghost use Rattle.boc_rules.specs.Kept.{IsKept, meant};
-    ghost use Rattle.boc_rules.specs.Turns.{IsOverAt};
+impl RunSoFar {
+    ghost use Rattle.boc_types.specs.declared.body.EndStatus.{EndStatus};
+    ghost use Rattle.boc_types.specs.runs.Lives.{Running, MayStart};
+    ghost use Rattle.boc_types.specs.runs.Cowns.{AreAmong};
+    ghost use Rattle.boc_types.specs.runs.Legal.{entries, entry_cowns, life_of, last_of, IsParent, IsOffset, MayNeed, MayEnd, IsComplete};
+    ghost use Rattle.boc_rules.specs.SoFar.{IsRunSoFar, meant};
+    ghost use Rattle.boc_rules.specs.Before.{IsOverAt};
     ghost use Rattle.boc_rules.specs.Judges.{Judges};
 
     /// The event keeps every rule, or this is the first that it breaks.
     pub fn judge(&self, event: &Event) -> Result<(), BrokenRule>
-        requires { IsKept self.now }
+        requires { IsRunSoFar self.now }
         ensures { Judges self.now.cowns (entries self.now.events.items) event.now result }
     {
         match event {
@@ -39,20 +31,13 @@ impl Run {
                 offset,
                 cowns,
             } => self.judge_spawn(*row, *parent, *offset, cowns),
-            Event::Start { row } => {
-                if self.may_start(*row) {
-                    Ok(())
-                } else {
-                    Err(BrokenRule::StartNotAllowed)
-                }
-            }
-            Event::End { row, ticks, .. } => {
-                if self.may_end(*row, *ticks) {
-                    Ok(())
-                } else {
-                    Err(BrokenRule::EndNotAllowed)
-                }
-            }
+            Event::Start { row } => self.judge_start(*row),
+            Event::End {
+                row,
+                ticks,
+                written,
+                ..
+            } => self.judge_end(*row, *ticks, written),
         }
     }
 
@@ -64,13 +49,14 @@ impl Run {
         offset: u32,
         cowns: &Cowns,
     ) -> Result<(), BrokenRule>
-        requires { IsKept self.now }
+        requires { IsRunSoFar self.now }
         ensures { Judges self.now.cowns (entries self.now.events.items) (Event.Spawn row parent offset cowns.now) result }
     {
+        let needed = cowns.as_slice();
         if row as usize != self.rows.len() {
             return Err(BrokenRule::NumberNotNext);
         }
-        if row >= 65_535 {
+        if row as usize >= MOST_ROWS {
             return Err(BrokenRule::TooMany);
         }
         if !self.is_parent(parent) {
@@ -79,15 +65,38 @@ impl Run {
         if !self.is_offset(parent, offset) {
             return Err(BrokenRule::Offset);
         }
-        if !self.may_need(cowns.as_slice()) {
+        if !self.may_need(needed) {
             return Err(BrokenRule::Cowns);
+        }
+        Ok(())
+    }
+
+    // The rule of a start.
+    fn judge_start(&self, row: u32) -> Result<(), BrokenRule>
+        requires { IsRunSoFar self.now }
+        ensures { Judges self.now.cowns (entries self.now.events.items) (Event.Start row) result }
+    {
+        if !self.may_start(row) {
+            return Err(BrokenRule::StartNotAllowed);
+        }
+        Ok(())
+    }
+
+    // The rule of an end, whatever its status.
+    fn judge_end(&self, row: u32, ticks: u32, written: &Cowns) -> Result<(), BrokenRule>
+        requires { IsRunSoFar self.now }
+        ensures { (status : EndStatus) → Judges self.now.cowns (entries self.now.events.items) (Event.End row ticks status written.now) result }
+    {
+        let wrote = written.as_slice();
+        if !self.may_end(row, ticks, wrote) {
+            return Err(BrokenRule::EndNotAllowed);
         }
         Ok(())
     }
 
     // What has become of the row, if it is there.
     fn life(&self, row: u32) -> Option<Life>
-        requires { IsKept self.now }
+        requires { IsRunSoFar self.now }
         ensures { option_map meant result ≡ life_of (entries self.now.events.items) row }
     {
         Some(self.stages.get(row as usize)?.life)
@@ -95,7 +104,7 @@ impl Run {
 
     // The offset of the row's last child; 0 where it has none, or isn't there.
     fn last(&self, row: u32) -> u32
-        requires { IsKept self.now }
+        requires { IsRunSoFar self.now }
         ensures { result ≡ last_of (entries self.now.events.items) row }
     {
         match self.stages.get(row as usize) {
@@ -106,7 +115,7 @@ impl Run {
 
     // The row is there and runs.
     fn is_running(&self, row: u32) -> bool
-        requires { IsKept self.now }
+        requires { IsRunSoFar self.now }
         ensures { IsTrue result ↔ (life_of (entries self.now.events.items) row ≡ Some Running) }
     {
         matches!(self.life(row), Some(Life::Running))
@@ -114,7 +123,7 @@ impl Run {
 
     // The next row may have this parent.
     fn is_parent(&self, parent: u32) -> bool
-        requires { IsKept self.now }
+        requires { IsRunSoFar self.now }
         ensures { IsTrue result ↔ IsParent (entries self.now.events.items) parent }
     {
         if self.stages.is_empty() {
@@ -126,32 +135,32 @@ impl Run {
 
     // The next row may have this offset.
     fn is_offset(&self, parent: u32, offset: u32) -> bool
-        requires { IsKept self.now }
+        requires { IsRunSoFar self.now }
         ensures { IsTrue result ↔ IsOffset (entries self.now.events.items) parent offset }
     {
         if self.stages.is_empty() {
             offset == 0
         } else {
-            self.last(parent) < offset && offset <= 1_000_000
+            self.last(parent) < offset && offset <= MOST_TICKS
         }
     }
 
     // The next row may have these cowns.
     fn may_need(&self, cowns: &[u32]) -> bool
-        requires { IsKept self.now }
+        requires { IsRunSoFar self.now }
         ensures { IsTrue result ↔ MayNeed self.now.cowns (entries self.now.events.items) cowns.now }
     {
         if self.stages.is_empty() {
             cowns.is_empty()
         } else {
-            are_cowns(self.cowns, cowns)
+            are_cowns(cowns, self.cowns)
         }
     }
 
     // The row waits, and on each of its cowns the row before it is over.
     fn may_start(&self, row: u32) -> bool
-        requires { IsKept self.now }
-        ensures { IsTrue result ↔ MayStart (entries self.now.events.items) row }
+        requires { IsRunSoFar self.now }
+        ensures { IsTrue result ↔ MayStart (life_of (entries self.now.events.items)) (entry_cowns (entries self.now.events.items)) row }
     {
         let Some(stage) = self.stages.get(row as usize) else {
             return false;
@@ -164,7 +173,7 @@ impl Run {
 
     // All of these rows are over.
     fn are_over(&self, rows: &[Option<u32>]) -> bool
-        requires { IsKept self.now }
+        requires { IsRunSoFar self.now }
         ensures { IsTrue result ↔ All (IsOverAt (entries self.now.events.items)) rows.now }
     {
         for row in rows {
@@ -177,17 +186,41 @@ impl Run {
         true
     }
 
-    // The row runs, and these ticks reach its last child's spawn.
-    fn may_end(&self, row: u32, ticks: u32) -> bool
-        requires { IsKept self.now }
-        ensures { IsTrue result ↔ MayEnd (entries self.now.events.items) row ticks }
+    /// The cowns of the row, if it is there.
+    pub fn cowns_of(&self, row: u32) -> Option<&Cowns>
+        requires { IsRunSoFar self.now }
+        ensures { MatchOption result (length (entries self.now.events.items) ≤ row)
+            (λ cowns. (row < length (entries self.now.events.items)) × (cowns.now.items ≡ entry_cowns (entries self.now.events.items) row)) }
     {
-        self.is_running(row) && 0 < ticks && ticks <= 1_000_000 && self.last(row) <= ticks
+        Some(&self.rows.get(row as usize)?.cowns)
+    }
+
+    // These rise strictly, and are among the row's cowns; a row that isn't there has none.
+    fn are_own(&self, row: u32, written: &[u32]) -> bool
+        requires { IsRunSoFar self.now }
+        ensures { IsTrue result ↔ AreAmong (entry_cowns (entries self.now.events.items) row) written.now }
+    {
+        match self.cowns_of(row) {
+            Some(cowns) => are_among(written, cowns.as_slice()),
+            None => written.is_empty(),
+        }
+    }
+
+    // The row runs, these ticks reach its last child's spawn, and what was written is its own.
+    fn may_end(&self, row: u32, ticks: u32, written: &[u32]) -> bool
+        requires { IsRunSoFar self.now }
+        ensures { IsTrue result ↔ MayEnd (entries self.now.events.items) row ticks written.now }
+    {
+        self.is_running(row)
+            && 0 < ticks
+            && ticks <= MOST_TICKS
+            && self.last(row) <= ticks
+            && self.are_own(row, written)
     }
 
     /// There is a row, and all rows have ended.
     pub fn is_complete(&self) -> bool
-        requires { IsKept self.now }
+        requires { IsRunSoFar self.now }
         ensures { IsTrue result ↔ IsComplete self.now.events.items }
     {
         let rows = self.rows.len();

@@ -1,12 +1,12 @@
 //! The rules of runs, kept event by event.
 #![tactic(auto)]
 
+mod before;
 mod judge;
 mod rules;
-mod run;
+mod so_far;
 mod stage;
 #[cfg(test)]
 mod tests;
-mod turn;
 
 pub use rules::{RuleFault, Rules};

@@ -31,11 +31,13 @@ fn start(row: u32) -> Event {
     Event::Start { row }
 }
 
-fn end(row: u32, ticks: u32) -> Event {
+// An end that wrote these cowns.
+fn end(row: u32, ticks: u32, written: &[u32]) -> Event {
     Event::End {
         row,
         ticks,
         status: EndStatus::Done,
+        written: cowns(written),
     }
 }
 
@@ -47,13 +49,13 @@ fn transfer() -> [Event; 12] {
         spawn(1, 0, 2, &[0]),
         spawn(2, 0, 3, &[0, 1]),
         spawn(3, 0, 4, &[1]),
-        end(0, 4),
+        end(0, 4, &[]),
         start(1),
-        end(1, 2),
+        end(1, 2, &[0]),
         start(2),
-        end(2, 3),
+        end(2, 3, &[0, 1]),
         start(3),
-        end(3, 2),
+        end(3, 2, &[]),
     ]
 }
 
@@ -111,14 +113,20 @@ fn transfer_is_taken(rt: HostRuntime) -> Result<(), Fail> {
     };
     assert_eq!(rt; record.cowns(), 2);
     assert_eq!(rt; record.events().len(), 12);
-    let wanted = [(0, 0, 4), (0, 2, 2), (0, 3, 3), (0, 4, 2)];
+    let wanted = [
+        (0, 0, 4, cowns(&[])),
+        (0, 2, 2, cowns(&[0])),
+        (0, 3, 3, cowns(&[0, 1])),
+        (0, 4, 2, cowns(&[])),
+    ];
     let rows = record.rows().as_slice();
     assert_eq!(rt; rows.len(), wanted.len());
-    for (row, (parent, offset, ticks)) in rows.iter().zip(&wanted) {
+    for (row, (parent, offset, ticks, written)) in rows.iter().zip(&wanted) {
         assert_eq!(rt; row.parent, *parent);
         assert_eq!(rt; row.offset, *offset);
         assert_eq!(rt; row.ticks, *ticks);
         assert_eq!(rt; row.status, EndStatus::Done);
+        assert_eq!(rt; row.written.as_slice(), written.as_slice());
     }
     Ok(())
 }
@@ -170,21 +178,20 @@ fn starts_and_ends_are_judged(rt: HostRuntime) -> Result<(), Fail> {
         )?;
     }
     let ends = [
-        (0, 0, 1),
-        (2, 0, 0),
-        (5, 0, 3),
-        (5, 0, 1_000_001),
-        (5, 1, 1),
-        (12, 1, 2),
+        (0, end(0, 1, &[])),
+        (2, end(0, 0, &[])),
+        (5, end(0, 3, &[])),
+        (5, end(0, 1_000_001, &[])),
+        (5, end(0, 4, &[0])),
+        (5, end(1, 1, &[])),
+        (7, end(1, 2, &[1])),
+        (7, end(1, 2, &[0, 0])),
+        (9, end(2, 3, &[1, 0])),
+        (9, end(2, 3, &[0, 2])),
+        (12, end(1, 2, &[])),
     ];
-    for (count, row, ticks) in &ends {
-        refuses(
-            &rt,
-            alloc,
-            *count,
-            &end(*row, *ticks),
-            BrokenRule::EndNotAllowed,
-        )?;
+    for (count, event) in &ends {
+        refuses(&rt, alloc, *count, event, BrokenRule::EndNotAllowed)?;
     }
     Ok(())
 }
@@ -229,6 +236,35 @@ fn a_row_too_many(rt: HostRuntime) -> Result<(), Fail> {
 }
 
 #[test]
+fn rooms_are_counted(rt: HostRuntime) -> Result<(), Fail> {
+    let mut rules = Rules::new(rt.alloc(), 2)?;
+    assert_eq!(rt; rules.rooms(), 0);
+    rules.make_room()?;
+    rules.make_room()?;
+    assert_eq!(rt; rules.rooms(), 2);
+    let mut left = [1, 0, 0, 0].iter();
+    for event in &transfer() {
+        rules.apply(event)?;
+        if matches!(event, Event::Spawn { .. }) {
+            assert_eq!(rt; Some(rules.rooms()), left.next().copied());
+        }
+    }
+    assert!(rt; rules.is_complete());
+    Ok(())
+}
+
+#[test]
+fn cowns_of_rows_are_told(rt: HostRuntime) -> Result<(), Fail> {
+    let rules = begun(rt.alloc(), 5)?;
+    for (row, wanted) in [(0, cowns(&[])), (2, cowns(&[0, 1])), (3, cowns(&[1]))] {
+        let told = rules.cowns_of(row).map(|cowns| cowns.as_slice());
+        assert_eq!(rt; told, Some(wanted.as_slice()));
+    }
+    assert!(rt; rules.cowns_of(4).is_none());
+    Ok(())
+}
+
+#[test]
 fn faults_are_told(rt: HostRuntime) -> Result<(), Fail> {
     let alloc = rt.alloc();
     let texts = [
@@ -256,6 +292,7 @@ fn faults_are_told(rt: HostRuntime) -> Result<(), Fail> {
     for (fault, text) in &texts {
         let told = format!(in alloc; "{fault}")?;
         assert_eq!(rt; told.as_str(), *text);
+        assert_eq!(rt; fault.text(), *text);
     }
     Ok(())
 }

@@ -9,7 +9,7 @@ use Rattle.std.specs.Prelude.{slice_range, min, IfSome}
 use Rattle.std.specs.Io.KnownBytes.{prepend_known, Keeps, Consumes}
 use Rattle.memchr.specs.Find.{Nowhere, Passes, is_byte}
 use borrow.Rule.Slice.PartMut.{put_mid, post_of}
-use Rattle.boc_text.specs.Lines.{Lines, to_come, HasNoLineFeed, IsTooLong}
+use Rattle.boc_text.specs.Lines.{LinesState, to_come, HasNoLineFeed, IsTooLong}
 
 -- the bytes from a later start on are those from the start on, without the first of them
 pub range-later : (buffer : List ℕ) (start end n : ℕ) → n ≤ end - start → slice_range buffer (start + n) end ≡ drop n (slice_range buffer start end)
@@ -71,7 +71,7 @@ too_long bytes known rest many unbroken kept = record {
   begins (Some xs) (Some ys) p = ap (take 81) (sym p) ∙ take-append-le 81 bytes ys (omega arith)
 
 -- bytes were taken in, and none given
-pub record HasWaited (old new : Lines) (source rest : Option (List ℕ)) (before after : ℕ) : Type 0 where
+pub record HasWaited (old new : LinesState) (source rest : Option (List ℕ)) (before after : ℕ) : Type 0 where
   pub bytes : Keeps (to_come old source) (to_come new rest)
   pub is_over : new.is_over ≡ old.is_over
   pub failures : after ≡ before

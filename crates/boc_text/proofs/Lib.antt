@@ -1,2 +1,3 @@
 pub mod Numerals
 pub mod Ahead
+pub mod Progress

@@ -1,5 +1,5 @@
 -- What calls on sources and sinks do to their bytes and to their counts of failures.
-use Rattle.std.specs.Prelude.{◌≡◌, ◌≢◌, ◌-◌, ℕ, ◌+◌, ◌≤◌, ◌<◌, List, ◌++◌, length, take, Option, Result, Ok, Err, MatchResult}
+use Rattle.std.specs.Prelude.{◌≡◌, ◌≢◌, ◌-◌, ℕ, ◌+◌, ◌≤◌, ◌<◌, List, length, take, Option, Result, Ok, Err, MatchResult}
 use Rattle.std.specs.Io.KnownBytes.{Keeps, Appends, Consumes, IsAtEnd}
 use Rattle.boc_text.specs.declared.whole.TextFault.{TextFault}
 use Rattle.boc_text.specs.declared.whole.TextFault.TheVariants.{Memory, Device}
@@ -29,19 +29,6 @@ CountsDevice (Err Device) old new = new ≡ old + 1
 pub record StopsAt (gone : ℕ) (bytes : List ℕ) (old new : Option (List ℕ)) : Type 0 where
   pub short : gone < length bytes
   pub out : Appends old new (take gone bytes)
-
--- a part of the input was taken
-pub record HasRead (old new : Option (List ℕ)) (text : List ℕ) (limit before after : ℕ) : Type 0 where
-  pub taken : Consumes old new text
-  pub few : length text ≤ limit
-  pub failures : after ≡ before
-
--- the bytes in front of the rest went out
-pub record HasSent (old new : Option (List ℕ)) (bytes rest : List ℕ) (before after : ℕ) : Type 0 where
-  pub done : List ℕ
-  pub split : bytes ≡ done ++ rest
-  pub out : Appends old new done
-  pub failures : after ≡ before
 
 -- A call is counted: so many were left up to the one that is to fail, itself included. That one adds to the failures, and no other does.
 pub record CountsCall (left after old new : ℕ) : Type 0 where

@@ -1,6 +1,9 @@
 //! Memory as a source and as a sink.
 
-ghost use Rattle.std.specs.Prelude.{◌≡◌, ◌≤◌, length, drop, Some};
+ghost use Rattle.std.specs.Prelude.{◌≡◌, ◌+◌, ◌<◌, ◌≤◌, length, drop, min, Some, IsOk, IfOk, vec_len, vec_capacity};
+ghost use Rattle.std.specs.Io.{ReadsAtMost};
+ghost use Rattle.std.specs.Io.KnownBytes.{ReadConsumes};
+ghost use Rattle.boc_text.specs.Streams.{CountsFailure, WritesSome};
 
 use crate::stream::{Failed, Sink, Source};
 
@@ -33,7 +36,15 @@ impl Source for Bytes {
 
     ghost failures = { λ b. b.failures };
 
-    fn read(&mut self, buffer: &mut [u8]) -> Result<usize, Failed> {
+    /// Takes as many bytes as are left and as the buffer has room for. It never fails.
+    fn read(&mut self, buffer: &mut [u8]) -> Result<usize, Failed>
+        ensures bound { ReadsAtMost result buffer.new }
+        ensures bytes { ReadConsumes (Some (drop self.old.taken self.old.bytes.items)) (Some (drop self.new.taken self.new.bytes.items)) result buffer.new }
+        ensures failures { CountsFailure result self.old.failures self.new.failures }
+        ensures never_fails { IsOk result }
+        ensures most { IfOk result (λ n. n ≡ min (length (drop self.old.taken self.old.bytes.items)) (length buffer.old)) }
+        ensures kept { self.new.bytes ≡ self.old.bytes }
+    {
         let rest = &self.bytes[self.taken..];
         let count = rest.len().min(buffer.len());
         buffer[..count].copy_from_slice(&rest[..count]);
@@ -47,7 +58,16 @@ impl Sink for Bytes {
 
     ghost failures = { λ b. b.failures };
 
-    fn write(&mut self, bytes: &[u8]) -> Result<usize, Failed> {
+    /// Puts all of the bytes behind those that are there. It fails only where more memory is asked for, and
+    /// refused: where the bytes fit in the room that the vector has, it never fails.
+    fn write(&mut self, bytes: &[u8]) -> Result<usize, Failed>
+        requires { self.old.failures < u64.MAX }
+        ensures bytes { WritesSome (Some self.old.bytes.items) (Some self.new.bytes.items) result bytes.now }
+        ensures failures { CountsFailure result self.old.failures self.new.failures }
+        ensures fits { vec_len self.old.bytes + length bytes.now ≤ vec_capacity self.old.bytes → IsOk result }
+        ensures all { IfOk result (λ n. n ≡ length bytes.now) }
+        ensures taken { self.new.taken ≡ self.old.taken }
+    {
         match self.bytes.extend_from_slice(bytes) {
             Ok(()) => Ok(bytes.len()),
             Err(_) => {

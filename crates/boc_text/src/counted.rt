@@ -6,6 +6,11 @@ use crate::stream::{Failed, Sink, Source};
 use std::io::{Read, Write};
 
 /// A reader or a writer, with a count of its failures.
+///
+/// The library's contracts tell what a call did to the bytes, where those are known, and not whether it was to
+/// fail. So contracts tie the count to the answers of this type, and these to the bytes that moved. That a call which
+/// moves no bytes, or bytes that no contract knows, answers as the reader's or the writer's own did is shown by tests
+/// alone, in both directions.
 #[derive(Drop)]
 pub struct Counted<T> {
     pub inner: T,

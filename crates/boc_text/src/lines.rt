@@ -1,10 +1,10 @@
 //! Lines of a source, one at a time.
 
-ghost use Rattle.std.specs.Prelude.{◌≡◌, ◌+◌, ◌-◌, ◌<◌, ◌≤◌, [], false, length, take, drop, slice_range, IfOk};
+ghost use Rattle.std.specs.Prelude.{◌≡◌, ◌+◌, ◌-◌, ◌<◌, ◌≤◌, [], false, length, take, drop, slice_range, IfOk, OnErr};
 ghost use Rattle.std.specs.Bool.{OnTrue, OnFalse};
 ghost use Rattle.std.specs.Io.KnownBytes.{Keeps, IsAtEnd};
 ghost use Rattle.boc_text.specs.Streams.{CountsFailure};
-ghost use Rattle.boc_text.specs.Lines.{to_come, BeginsWith, Finds, Answers, Exhausts, CountsStop, stops, found_of};
+ghost use Rattle.boc_text.specs.Lines.{to_come, TellsFront, Finds, Exhausts, LeavesOpen, CountsFound, ends_lines, found_of, line_of};
 
 use crate::stream::{Failed, Source};
 use arrayvec::ArrayVec;
@@ -14,8 +14,8 @@ use std::marker::Model;
 /// The most bytes that a line may have, without its line feed.
 pub const MOST_LINE: usize = 80;
 
-/// How many bytes are taken in ahead.
-const CAPACITY: usize = 8192;
+/// The most bytes that are taken in ahead.
+pub const CAPACITY: usize = 8192;
 
 /// What comes next of the lines of a source.
 #[derive(Drop, Debug)]
@@ -58,7 +58,7 @@ enum Front {
 }
 
 fn front_of(bytes: &[u8]) -> Front
-    ensures { BeginsWith result bytes.now }
+    ensures { TellsFront result bytes.now }
 {
     let most = bytes.len().min(MOST_LINE + 1);
     match memchr(b'\n', &bytes[..most]) {
@@ -96,20 +96,22 @@ pub struct Lines {
 }
 
 impl Model for Lines {
-    ghost use Rattle.std.specs.Prelude.{◌≤◌, slice_range};
+    ghost use Rattle.std.specs.Prelude.{◌≡◌, ◌≤◌, slice_range};
+    ghost use Rattle.std.specs.Bool.{OnTrue};
     ghost use Rattle.boc_text.specs.declared.lines.TheConstants.{CAPACITY};
-    ghost use Rattle.boc_text.specs.Lines.{Lines as Ahead};
+    ghost use Rattle.boc_text.specs.Lines.{LinesState};
 
-    ghost Value = { Ahead };
+    ghost Value = { LinesState };
 
     ghost view = { λ l. record { line = slice_range l.buffer l.line l.line_end; buffered = slice_range l.buffer l.start l.end; is_over = l.is_over } };
 
-    ghost invariant = { λ l. (l.line ≤ l.line_end) × (l.line_end ≤ CAPACITY) × (l.start ≤ l.end) × (l.end ≤ CAPACITY) };
+    ghost invariant = { λ l. (l.line ≤ l.line_end) × (l.line_end ≤ CAPACITY) × (l.start ≤ l.end) × (l.end ≤ CAPACITY) × OnTrue l.is_over (l.line ≡ l.line_end) };
 }
 
 impl Lines {
     /// The lines of a source of which nothing is taken in yet.
     pub fn new() -> Lines
+        ensures line { result.line ≡ [] }
         ensures buffered { result.buffered ≡ [] }
         ensures is_over { result.is_over ≡ false }
     {
@@ -131,6 +133,7 @@ impl Lines {
 
     // Goes past the line of so many bytes and its line feed.
     fn take_line(&mut self, len: usize)
+        requires open { self.old.is_over ≡ false }
         requires within { len < length self.old.buffered }
         ensures line { self.new.line ≡ take len self.old.buffered }
         ensures rest { self.new.buffered ≡ drop (len + 1) self.old.buffered }
@@ -149,6 +152,7 @@ impl Lines {
         ensures count { IfOk result (λ n. length self.new.buffered ≡ length self.old.buffered + n) }
         ensures end { IfOk result (λ n. n ≡ 0 → IsAtEnd (S.remaining source.new)) }
         ensures is_over { self.new.is_over ≡ self.old.is_over }
+        ensures kept { OnErr result (self.new.buffered ≡ self.old.buffered) }
         ensures failures { CountsFailure result (S.failures source.old) (S.failures source.new) }
     {
         let len = self.end - self.start;
@@ -162,10 +166,12 @@ impl Lines {
 
     // Finds what comes next of lines that are not over.
     fn find<S: Source>(&mut self, source: &mut S) -> Found
-        requires { S.failures source.old < u64.MAX }
+        requires open { self.old.is_over ≡ false }
+        requires can_fail { S.failures source.old < u64.MAX }
         ensures found { Finds result self.new.line (to_come self.old (S.remaining source.old)) (to_come self.new (S.remaining source.new)) }
         ensures exhausts { Exhausts result (S.remaining source.new) }
-        ensures failures { CountsStop result (S.failures source.old) (S.failures source.new) }
+        ensures open { LeavesOpen result self.new.buffered }
+        ensures failures { CountsFound result (S.failures source.old) (S.failures source.new) }
         ensures is_over { self.new.is_over ≡ self.old.is_over }
     {
         loop {
@@ -186,24 +192,31 @@ impl Lines {
     }
 
     /// Finds the next line, which `line` then gives, without its line feed. Each answer but a line ends the
-    /// lines: from then on the answer is `End`, and nothing is read.
+    /// lines: from then on the answer is `End`, nothing is read, and `line` is empty.
     pub fn advance<S: Source>(&mut self, source: &mut S) -> Found
         requires { S.failures source.old < u64.MAX }
         ensures over { OnTrue self.old.is_over ((result ≡ Found.End) × (self.new ≡ self.old) × (source.new ≡ source.old)) }
         ensures found { OnFalse self.old.is_over (Finds result self.new.line (to_come self.old (S.remaining source.old)) (to_come self.new (S.remaining source.new))) }
         ensures exhausts { OnFalse self.old.is_over (Exhausts result (S.remaining source.new)) }
-        ensures stops { self.new.is_over ≡ stops result }
-        ensures failures { CountsStop result (S.failures source.old) (S.failures source.new) }
+        ensures open { OnFalse self.old.is_over (LeavesOpen result self.new.buffered) }
+        ensures ahead { length self.new.buffered ≤ CAPACITY }
+        ensures line { OnTrue (ends_lines result) (self.new.line ≡ []) }
+        ensures is_over { self.new.is_over ≡ ends_lines result }
+        ensures failures { CountsFound result (S.failures source.old) (S.failures source.new) }
     {
         if self.is_over {
             return Found::End;
         }
         let found = self.find(source);
-        self.is_over = found != Found::Line;
+        if found != Found::Line {
+            self.line_end = self.line;
+            self.is_over = true;
+        }
         found
     }
 
-    /// The line that was found last, without its line feed.
+    /// The line that was found last, without its line feed; empty where none was found yet, and where the lines
+    /// are over.
     pub fn line(&self) -> &[u8]
         ensures { result.now ≡ self.now.line }
     {
@@ -215,10 +228,11 @@ impl Lines {
     pub fn next_line<S: Source>(&mut self, source: &mut S) -> Next
         requires { S.failures source.old < u64.MAX }
         ensures over { OnTrue self.old.is_over ((result ≡ Next.End) × (self.new ≡ self.old) × (source.new ≡ source.old)) }
-        ensures answer { OnFalse self.old.is_over (Answers result (to_come self.old (S.remaining source.old)) (to_come self.new (S.remaining source.new))) }
+        ensures answer { OnFalse self.old.is_over (Finds (found_of result) (line_of result) (to_come self.old (S.remaining source.old)) (to_come self.new (S.remaining source.new))) }
         ensures exhausts { OnFalse self.old.is_over (Exhausts (found_of result) (S.remaining source.new)) }
-        ensures stops { self.new.is_over ≡ stops (found_of result) }
-        ensures failures { CountsStop (found_of result) (S.failures source.old) (S.failures source.new) }
+        ensures line { self.new.line ≡ line_of result }
+        ensures is_over { self.new.is_over ≡ ends_lines (found_of result) }
+        ensures failures { CountsFound (found_of result) (S.failures source.old) (S.failures source.new) }
     {
         match self.advance(source) {
             Found::Line => Next::Line(ArrayVec::try_from(self.line()).unwrap()),

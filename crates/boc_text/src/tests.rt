@@ -208,7 +208,7 @@ fn one_write_fails(rt: HostRuntime) -> Result<(), Fail> {
     Ok(())
 }
 
-/// Takes nothing, and has nothing, and its flush fails.
+/// Takes nothing, and has nothing.
 #[derive(Drop)]
 struct Idle;
 
@@ -221,6 +221,32 @@ impl Read for Idle {
 impl Write for Idle {
     fn write(&mut self, _buf: &[u8]) -> io::Result<usize> {
         Ok(0)
+    }
+
+    fn flush(&mut self) -> io::Result<()> {
+        Ok(())
+    }
+}
+
+/// Gives and takes one byte at each call.
+#[derive(Drop)]
+struct Brief;
+
+impl Read for Brief {
+    fn read(&mut self, buf: &mut [u8]) -> io::Result<usize> {
+        match buf.first_mut() {
+            Some(byte) => {
+                *byte = b'a';
+                Ok(1)
+            }
+            None => Ok(0),
+        }
+    }
+}
+
+impl Write for Brief {
+    fn write(&mut self, buf: &[u8]) -> io::Result<usize> {
+        Ok(buf.len().min(1))
     }
 
     fn flush(&mut self) -> io::Result<()> {
@@ -257,6 +283,11 @@ fn failures_are_counted(rt: HostRuntime) {
     assert_eq!(rt; idle.failures, 0);
     assert_eq!(rt; idle.write(b"a"), Err(Failed));
     assert_eq!(rt; idle.failures, 1);
+    let mut brief = Counted::new(Brief);
+    assert_eq!(rt; brief.read(&mut buffer), Ok(1));
+    assert_eq!(rt; buffer, *b"a\0\0\0");
+    assert_eq!(rt; brief.write(b"bc"), Ok(1));
+    assert_eq!(rt; brief.failures, 0);
     let mut broken = Counted::new(Broken);
     assert_eq!(rt; broken.read(&mut buffer), Err(Failed));
     assert_eq!(rt; broken.write(b""), Err(Failed));

@@ -5,7 +5,7 @@ use Rattle.std.proofs.lemmas.Bool.Decides.{eqb_tells}
 use Rattle.std.proofs.lemmas.List.{get_or-set_same, get_or-set_other}
 use Rattle.std.proofs.lemmas.Option.{slice_get_read}
 use Rattle.boc_types.specs.declared.rows.Row.{Row}
-use Rattle.boc_types.specs.Rows.{IsRows, IsFit, IsLast, parent_of, offset_of, ticks_of, cowns_of}
+use Rattle.boc_types.specs.runs.Rows.{IsRows, IsFit, IsLast, parent_of, offset_of, ticks_of, cowns_of, written_of}
 
 -- the fields of a row that was read at its number
 pub record IsRow (rows : List Row) (r : ℕ) (x : Row) : Type 0 where
@@ -13,16 +13,18 @@ pub record IsRow (rows : List Row) (r : ℕ) (x : Row) : Type 0 where
   pub offset : offset_of rows r ≡ x.offset
   pub cowns : cowns_of rows r ≡ x.cowns.items
   pub ticks : ticks_of rows r ≡ x.ticks
+  pub written : written_of rows r ≡ x.written.items
 
 pub row_read : (rows : List Row) (r : ℕ) (x : Row) → r < length rows → x ≡ get_or rows r x → IsRow rows r x
 row_read rows r x h e =
     let s : slice_get rows r ≡ Some x = slice_get_read rows (length rows) r x refl h e in
-    record { parent = rw s refl; offset = rw s refl; cowns = rw s refl; ticks = rw s refl }
+    record { parent = rw s refl; offset = rw s refl; cowns = rw s refl; ticks = rw s refl; written = rw s refl }
 
 -- each row of a record is fit
 pub rows_fit : (rows : List Row) → IsRows rows → (r : ℕ) → r < length rows → IsFit rows r
 rows_fit rows h r there = record {
-  cowns = (h.cowns_rise r there, h.cowns_below r there);
+  cowns = record { rise = h.cowns_rise r there; below = h.cowns_below r there };
+  written = h.written_own r there;
   ticks_low = h.ticks_low r there;
   ticks_high = h.ticks_high r there;
   main = λ e. subst (λ (x : ℕ). (parent_of rows x ≡ 0) × (offset_of rows x ≡ 0) × (cowns_of rows x ≡ [])) (sym e) (h.main_parent, h.main_offset, h.main_cowns);
@@ -121,8 +123,9 @@ rows_of_fit rows some few fits =
     record {
       not_empty = some;
       not_many = few;
-      cowns_rise = λ r h. (fits r h).cowns.0;
-      cowns_below = λ r h. (fits r h).cowns.1;
+      cowns_rise = λ r h. (fits r h).cowns.rise;
+      cowns_below = λ r h. (fits r h).cowns.below;
+      written_own = λ r h. (fits r h).written;
       main_parent = main.0;
       main_offset = main.1;
       main_cowns = main.2;

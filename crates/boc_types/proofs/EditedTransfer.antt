@@ -2,15 +2,15 @@
 use Rattle.std.proofs.Common.{◌≡◌, ℕ, zero, suc, ◌<◌, ◌≤◌, List, [], ◌∷◌, refl, inl, inr, arith}
 use Rattle.boc_types.specs.declared.body.EndStatus.TheVariants.{Done}
 use Rattle.boc_types.specs.declared.rows.Row.{Row}
-use Rattle.boc_types.specs.Rows.{IsLast, parent_of, offset_of}
-use Rattle.boc_types.specs.Plans.{work_of}
+use Rattle.boc_types.specs.runs.Rows.{IsLast, parent_of, offset_of}
+use Rattle.boc_types.specs.plans.Plans.{work_of}
 use Rattle.boc_types.specs.declared.edit.Edit.{Edit}
 use Rattle.boc_types.specs.declared.edit.EditFault.TheVariants.{BelowSpawn, NoRow}
-use Rattle.boc_types.specs.Edits.{edited, all_edited, Fits, AllFit, IsLeastTicks, IsBelowSpawn, IsFirstUnfit}
+use Rattle.boc_types.specs.plans.Edits.{edited, all_edited, Fits, AllFit, IsLeastTicks, IsBelowSpawn, IsFirstUnfit}
 use Rattle.boc_types.proofs.Editing.{last_edited}
 
 abbrev row : ℕ → List ℕ → ℕ → Row
-row offset cowns ticks = record { parent = 0; offset = offset; cowns = record { items = cowns }; ticks = ticks; status = Done }
+row offset cowns ticks = record { parent = 0; offset = offset; cowns = record { items = cowns }; ticks = ticks; status = Done; written = record { items = cowns } }
 
 abbrev transfer : List Row
 transfer = row 0 [] 4 ∷ row 2 (0 ∷ []) 2 ∷ row 3 (0 ∷ 1 ∷ []) 3 ∷ row 4 (1 ∷ []) 2 ∷ []

@@ -3,8 +3,8 @@ use Rattle.std.proofs.Common.{◌≡◌, ◌≢◌, ℕ, zero, suc, ◌<◌, ◌
 use Rattle.std.specs.Prelude.{slice_set, max}
 use Rattle.std.proofs.lemmas.Bool.{cases_eq}
 use Rattle.boc_types.specs.declared.rows.Row.{Row}
-use Rattle.boc_types.specs.Rows.{IsRows, IsLast, parent_of, offset_of, ticks_of, cowns_of}
-use Rattle.boc_types.specs.Edits.{edited, Fits}
+use Rattle.boc_types.specs.runs.Rows.{IsRows, IsLast, parent_of, offset_of, ticks_of, cowns_of, written_of}
+use Rattle.boc_types.specs.plans.Edits.{edited, Fits}
 
 -- all but the ticks stays
 pub length-edited : (rows : List Row) (row ticks : ℕ) → length (edited rows row ticks) ≡ length rows
@@ -32,6 +32,13 @@ cowns_of-edited (x ∷ rows) zero ticks zero = refl
 cowns_of-edited (x ∷ rows) zero ticks (suc r) = refl
 cowns_of-edited (x ∷ rows) (suc row) ticks zero = refl
 cowns_of-edited (x ∷ rows) (suc row) ticks (suc r) = cowns_of-edited rows row ticks r
+
+pub written_of-edited : (rows : List Row) (row ticks r : ℕ) → written_of (edited rows row ticks) r ≡ written_of rows r
+written_of-edited [] row ticks r = refl
+written_of-edited (x ∷ rows) zero ticks zero = refl
+written_of-edited (x ∷ rows) zero ticks (suc r) = refl
+written_of-edited (x ∷ rows) (suc row) ticks zero = refl
+written_of-edited (x ∷ rows) (suc row) ticks (suc r) = written_of-edited rows row ticks r
 
 pub ticks_of-edited_other : (rows : List Row) (row ticks r : ℕ) → r ≢ row → ticks_of (edited rows row ticks) r ≡ ticks_of rows r
 ticks_of-edited_other [] row ticks r ne = refl
@@ -101,6 +108,7 @@ module _ (rows : List Row) (hr : IsRows rows) (row ticks : ℕ) (f : Fits rows r
     not_many = omega (arith, length-edited rows row ticks, hr.not_many);
     cowns_rise = λ r h. rw (cowns_of-edited rows row ticks r) (hr.cowns_rise r (within r h));
     cowns_below = λ r h. rw (cowns_of-edited rows row ticks r) (hr.cowns_below r (within r h));
+    written_own = λ r h. rw (cowns_of-edited rows row ticks r, written_of-edited rows row ticks r) (hr.written_own r (within r h));
     main_parent = parent_of-edited rows row ticks 0 ∙ hr.main_parent;
     main_offset = offset_of-edited rows row ticks 0 ∙ hr.main_offset;
     main_cowns = cowns_of-edited rows row ticks 0 ∙ hr.main_cowns;

@@ -1,16 +1,16 @@
 -- The wishes of a body whose calls fit, fit.
 use Rattle.std.proofs.Common.{◌≡◌, ℕ, zero, suc, ◌+◌, ◌<◌, ◌≤◌, List, [], ◌∷◌, map, length, ap, ◌∙◌, refl, arith, IsTrue, ℤ, pos, negsuc, Bool, true, false, Ok, Err, Option, Some, None}
-use Rattle.std.specs.Prelude.{slice_get, slice_index, nat_lt, nat_eq, if◌then◌else◌}
+use Rattle.std.specs.Prelude.{slice_get, slice_index, nat_lt, nat_eq, ◌&&◌, if◌then◌else◌}
 use Rattle.std.proofs.lemmas.List.{length-map}
 use Rattle.std.proofs.lemmas.Bool.Decides.{nat_tests}
 use Rattle.boc_types.specs.declared.body.Body.{Body}
 use Rattle.boc_types.specs.declared.body.EndStatus.TheVariants.{Done, OutOfRange, SameCown}
-use Rattle.boc_types.specs.Syntax.{Term, Place, Held, Single, Member}
+use Rattle.boc_types.specs.program.Syntax.{Term, Place, Held, Single, Member}
 use Rattle.boc_types.specs.declared.short.Input.{Input}
-use Rattle.boc_types.specs.Value.{OrFault, value, values, then_value}
-use Rattle.boc_types.specs.Meaning.{State, start, ends, meaning, member, cown_of, cowns_of, distinct, has_same_twice, cowns_held}
-use Rattle.boc_types.specs.Resolved.{every}
-use Rattle.boc_types.specs.Signatures.{Signature, ref_below, counts_fit, call_fits, calls_fit, AllBelow, CountsAre, WishesFit}
+use Rattle.boc_types.specs.program.Value.{OrFault, value, values, then_value}
+use Rattle.boc_types.specs.program.Meaning.{State, start, ends, meaning, member, cown_of, cowns_of, distinct, has_same_twice, cowns_held}
+use Rattle.boc_types.specs.program.Resolved.{every}
+use Rattle.boc_types.specs.program.Signatures.{Signature, ref_below, counts_fit, call_fits, calls_fit, AllBelow, CountsAre, WishFits, WishesFit}
 use Rattle.boc_types.proofs.Law.{Keeps, law}
 use Rattle.boc_types.proofs.Truth.{and_true}
 
@@ -90,10 +90,16 @@ fitting_keeps sigs held n = record {
   write_keeps = λ slot v s i. i;
   write_back = λ slot v s r i h. h;
   wish_back = λ kind args refs s vs cs r t i is_vs is_cs h.
-      let both = and_true (counts_fit (slice_get sigs kind) args refs) (every (map (ref_below held n) refs)) t in
+      let named = and_true (nat_lt 0 kind) (counts_fit (slice_get sigs kind) args refs && every (map (ref_below held n) refs)) t in
+      let both = and_true (counts_fit (slice_get sigs kind) args refs) (every (map (ref_below held n) refs)) named.1 in
       let s1 : State = record s { ticks = s.ticks + 1 } in
       let below = cowns_below refs s1 n cs i.1 (rw i.0 both.1) (were_distinct (cowns_of refs s1) cs is_cs) in
-      ((counts_are (slice_get sigs kind) args refs (length vs) (length cs) both.0 (values-length args s.slots vs is_vs) below.0, below.1), h);
+      let fits : WishFits sigs n (record { offset = s.ticks + 1; kind = kind; args = vs; cowns = cs }) = record {
+        of_def = grind (arith, nat_tests, named.0);
+        counts = counts_are (slice_get sigs kind) args refs (length vs) (length cs) both.0 (values-length args s.slots vs is_vs) below.0;
+        below = below.1;
+      } in
+      (fits, h);
 }
 
 pub meaning_fits : (sigs : List Signature) (n : ℕ) (body : Body) (args : List ℤ) (inputs : List Input) → IsTrue (calls_fit sigs n body) → length inputs ≡ body.cown_params → AllBelow n (cowns_held inputs) → WishesFit sigs n (meaning body args inputs).wishes

@@ -1,12 +1,12 @@
 -- A statement and what follows it.
 use Rattle.std.proofs.Common.{◌≡◌, ◌+◌, ◌≤◌, List, ◌∷◌, [], arith, refl, sym, length, IsTrue, false, true, Bool, map}
 use Rattle.std.specs.Prelude.{◌&&◌, nat_lt, nat_le}
-use Rattle.boc_types.specs.Resolved.{Scope, fits, nodes, expr_fits, ref_fits, every}
+use Rattle.boc_types.specs.program.Resolved.{Scope, fits, nodes, expr_fits, ref_fits, every}
 use Rattle.boc_types.specs.declared.body.Stmt.{Stmt}
 use Rattle.boc_types.specs.declared.body.Stmt.TheVariants as stmt
-use Rattle.boc_types.specs.Syntax.{Code, Done, code_size}
-use Rattle.boc_types.specs.Signatures.{Test, whens_pass}
-use Rattle.boc_types.specs.View.{before, code_of, term_of, place_of}
+use Rattle.boc_types.specs.program.Syntax.{Code, Done, code_size}
+use Rattle.boc_types.specs.program.Signatures.{Test, whens_pass}
+use Rattle.boc_types.specs.memory.View.{before, code_of, term_of, place_of}
 
 pub then_not_done : (s : Stmt) (rest : Code) → before s rest ≡ Done → ⊥
 then_not_done (stmt.Assign slot e) rest h = cc

@@ -2,10 +2,15 @@ pub mod Followed
 pub mod Truth
 pub mod Law
 pub mod Rising
+pub mod RisingNumbers
+pub mod ChangedItems
+pub mod RunsAreLegal
 pub mod Fitting
-pub mod SerialRows
-pub mod Queued
+pub mod Behaviours
+pub mod OwnOrders
 pub mod Transfer
+pub mod SerialRuns
 pub mod EditedTransfer
 pub mod Children
 pub mod Editing
+pub mod TransferRun

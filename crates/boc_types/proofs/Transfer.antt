@@ -5,19 +5,21 @@ use Rattle.boc_types.specs.declared.body.Operator.TheVariants as operators
 use Rattle.boc_types.specs.declared.body.Body.{Body}
 use Rattle.boc_types.specs.declared.cown.Cown.{Cown}
 use Rattle.boc_types.specs.declared.program.Program.{Program}
-use Rattle.boc_types.specs.Shape.{Expr, plain, one_term, more_terms, Term, one_factor, unsigned, literal, variable, alone, assign, when, done, next, Tree, tree_words}
-use Rattle.boc_types.specs.Tokens.{words_of_text, cut, word_of_run}
-use Rattle.boc_types.specs.Names.{tree_names}
-use Rattle.boc_types.specs.Syntax as resolved
-use Rattle.boc_types.specs.Spells.{plain_program}
-use Rattle.boc_types.specs.Serial.{after_turns, rows}
-use Rattle.boc_types.specs.Texts.{values_text, greedy_text}
+use Rattle.boc_types.specs.text.Shape.{Expr, plain, one_term, more_terms, Term, one_factor, unsigned, literal, variable, alone, assign, when, done, next, Tree, tree_words}
+use Rattle.boc_types.specs.text.Tokens.{words_of_text, cut, word_of_run}
+use Rattle.boc_types.specs.text.Names.{tree_names}
+use Rattle.boc_types.specs.program.Syntax as resolved
+use Rattle.boc_types.specs.text.Spells.{plain_program}
+use Rattle.boc_types.specs.runs.Serial.{serial_along}
+use Rattle.boc_types.specs.runs.OwnOrder.{IsOwnOrder}
+use Rattle.boc_types.specs.answers.Texts.{values_text, greedy_text}
 use Rattle.boc_types.specs.declared.body.EndStatus.TheVariants.{Done}
 use Rattle.boc_types.specs.declared.event.Event.{Event}
 use Rattle.boc_types.specs.declared.event.Event.TheVariants.{Spawn, Start, End}
-use Rattle.boc_types.specs.Legal.{Entry, Ended, entries}
-use Rattle.boc_types.specs.Records.{record_text}
-use Rattle.boc_types.specs.Run.{Member, config_of}
+use Rattle.boc_types.specs.runs.Lives.{Ended}
+use Rattle.boc_types.specs.runs.Legal.{Entry, entries}
+use Rattle.boc_types.specs.text.RecordTexts.{First, Second, record_text}
+use Rattle.boc_types.specs.runs.Run.{Member, config_of}
 use Rattle.std.specs.Prelude.{map}
 use Rattle.std.specs.Fmt.{digits}
 
@@ -54,10 +56,10 @@ pub tokens : words_of_text text ≡ Some (tree_words tree)
 unfolding words_of_text cut word_of_run
 tokens = refl
 
-abbrev cowns : List Cown
+abbrev pub cowns : List Cown
 cowns = (record { name = codes "a"; size = None; initial = pos 10 }) ∷ (record { name = codes "b"; size = None; initial = pos 0 }) ∷ []
 
-abbrev main_body : Body
+abbrev pub main_body : Body
 main_body = record {
   params = 0;
   cown_params = 0;
@@ -73,7 +75,7 @@ main_body = record {
   resolved = refl;
 }
 
-abbrev add_body : Body
+abbrev pub add_body : Body
 add_body = record {
   params = 1;
   cown_params = 1;
@@ -87,7 +89,7 @@ add_body = record {
   resolved = refl;
 }
 
-abbrev move_body : Body
+abbrev pub move_body : Body
 move_body = record {
   params = 1;
   cown_params = 2;
@@ -102,12 +104,13 @@ move_body = record {
   resolved = refl;
 }
 
-abbrev program : Program
+abbrev pub program : Program
 program = record {
   cowns = cowns;
   bodies = main_body ∷ add_body ∷ move_body ∷ [];
   few_cowns = lit≤ tt;
   few_defs = lit≤ tt;
+  members = refl;
   main = refl;
   calls = refl;
 }
@@ -115,28 +118,30 @@ program = record {
 pub names : tree_names tree ≡ Some (plain_program program)
 names = refl
 
--- four turns, and nothing is left to do
-pub ends : (after_turns program 4).queue ≡ []
-ends = refl
+-- main's three wishes are the next rows, and nothing is left to do after them
+pub own : IsOwnOrder program (0 ∷ 0 ∷ 0 ∷ 0 ∷ []) []
+own = refl
 
-pub four_rows : rows (after_turns program 4) ≡ 4
-four_rows = refl
-
-pub values : (after_turns program 4).values ≡ pos 12 ∷ pos 4 ∷ []
+pub values : (serial_along program (0 ∷ 0 ∷ 0 ∷ 0 ∷ [])).values ≡ pos 12 ∷ pos 4 ∷ []
 values = refl
 
 pub lines : values_text cowns (pos 12 ∷ pos 4 ∷ []) ≡ (codes "a " ++ decimal 12 ++ codes "\n") ++ ((codes "b " ++ decimal 4 ++ codes "\n") ++ [])
 lines = refl
 
 -- a spawn of a row
-abbrev spawned : ℕ → ℕ → ℕ → List ℕ → Event
+abbrev pub spawned : ℕ → ℕ → ℕ → List ℕ → Event
 spawned row parent offset cowns = Spawn row parent offset (record { items = cowns })
 
--- the run by one worker
-abbrev log : List Event
-log = spawned 0 0 0 [] ∷ Start 0 ∷ spawned 1 0 2 (0 ∷ []) ∷ spawned 2 0 3 (0 ∷ 1 ∷ []) ∷ spawned 3 0 4 (1 ∷ []) ∷ End 0 4 Done
-    ∷ Start 1 ∷ End 1 2 Done ∷ Start 2 ∷ End 2 3 Done ∷ Start 3 ∷ End 3 2 Done ∷ []
+-- the end of a row, which wrote these cowns
+abbrev pub over : ℕ → ℕ → List ℕ → Event
+over row ticks written = End row ticks Done (record { items = written })
 
+-- the run by one worker
+abbrev pub log : List Event
+log = spawned 0 0 0 [] ∷ Start 0 ∷ spawned 1 0 2 (0 ∷ []) ∷ spawned 2 0 3 (0 ∷ 1 ∷ []) ∷ spawned 3 0 4 (1 ∷ []) ∷ over 0 4 []
+    ∷ Start 1 ∷ over 1 2 (0 ∷ []) ∷ Start 2 ∷ over 2 3 (0 ∷ 1 ∷ []) ∷ Start 3 ∷ over 3 2 (1 ∷ []) ∷ []
+
+-- a row that wrote all its cowns
 abbrev ended : ℕ → ℕ → List ℕ → ℕ → ℕ → Entry
 ended parent offset cowns last ticks = record {
   parent = parent;
@@ -146,14 +151,19 @@ ended parent offset cowns last ticks = record {
   last = last;
   ticks = ticks;
   status = Done;
+  written = cowns;
 }
 
 pub rows_of_log : entries log ≡ ended 0 0 [] 4 4 ∷ ended 0 2 (0 ∷ []) 0 2 ∷ ended 0 3 (0 ∷ 1 ∷ []) 0 3 ∷ ended 0 4 (1 ∷ []) 0 2 ∷ []
 rows_of_log = refl
 
-pub text_of_log : record_text 2 log ≡ codes "boc 1 2\n+ 0 0 0\n> 0\n+ 1 0 2 0\n+ 2 0 3 0 1\n+ 3 0 4 1\n< 0 4 0\n> 1\n< 1 2 0\n> 2\n< 2 3 0\n> 3\n< 3 2 0\n.\n"
+pub text_of_log : record_text Second 2 log ≡ codes "boc 2 2\n+ 0 0 0\n> 0\n+ 1 0 2 0\n+ 2 0 3 0 1\n+ 3 0 4 1\n< 0 4 0\n> 1\n< 1 2 0 0\n> 2\n< 2 3 0 0 1\n> 3\n< 3 2 0 1\n.\n"
 unfolding digits
 text_of_log = refl
+
+pub first_text_of_log : record_text First 2 log ≡ codes "boc 1 2\n+ 0 0 0\n> 0\n+ 1 0 2 0\n+ 2 0 3 0 1\n+ 3 0 4 1\n< 0 4 0\n> 1\n< 1 2 0\n> 2\n< 2 3 0\n> 3\n< 3 2 0\n.\n"
+unfolding digits
+first_text_of_log = refl
 
 pub values_of_log : (config_of program log).values ≡ pos 12 ∷ pos 4 ∷ []
 values_of_log = refl

@@ -1,7 +1,8 @@
 // Bodies, statements and expressions, with every name resolved.
 
 ghost use Rattle.std.specs.Prelude.{◌≡◌, ◌+◌, ◌≤◌, IsTrue};
-ghost use Rattle.boc_types.specs.Resolved.{nodes, fits};
+ghost use Rattle.boc_types.specs.program.Resolved.{nodes, fits};
+ghost use Rattle.boc_types.specs.declared.limits.TheConstants.{MOST_ARGUMENTS, MOST_HELD, MOST_NODES, MOST_SLOTS};
 
 use crate::short::CownNo;
 use std::marker::Model;
@@ -90,26 +91,26 @@ pub struct Block {
 }
 
 impl Model for Block {
-    ghost use Rattle.boc_types.specs.Syntax.{Code, code_size};
-    ghost use Rattle.boc_types.specs.Stored.{coded_Code};
+    ghost use Rattle.boc_types.specs.program.Syntax.{Code, code_size};
+    ghost use Rattle.boc_types.specs.memory.Stored.{coded_Code};
 
     ghost Value = { Code };
 
     ghost coded = { coded_Code };
 
-    ghost use Rattle.boc_types.specs.View.{code_of};
+    ghost use Rattle.boc_types.specs.memory.View.{code_of};
 
     ghost view = { λ a. code_of a.stmts.items };
 
     ghost size = { code_size };
 
-    ghost use Rattle.boc_types.specs.Falls.{size_falls};
+    ghost use Rattle.boc_types.specs.memory.Falls.{size_falls};
 
     ghost size_decreases = { λ a h. size_falls a.stmts.items };
 }
 
 impl Block {
-    ghost use Rattle.boc_types.specs.View.{code_of};
+    ghost use Rattle.boc_types.specs.memory.View.{code_of};
 
     /// A block of these statements.
     pub fn new(stmts: Vec<Stmt>) -> Block
@@ -137,10 +138,10 @@ pub struct Body {
     pub cown_params: usize,
     pub slots: usize,
     pub block: Block,
-    pub ghost few_params: { params ≤ 8 },
-    pub ghost few_cowns: { cown_params ≤ 8 },
-    pub ghost few_slots: { slots ≤ 1016 },
+    pub ghost few_params: { params ≤ MOST_ARGUMENTS },
+    pub ghost few_cowns: { cown_params ≤ MOST_HELD },
+    pub ghost few_slots: { slots ≤ MOST_SLOTS },
     pub ghost parameters_are_slots: { params + cown_params ≤ slots },
-    pub ghost few_nodes: { nodes block ≤ 1000 },
+    pub ghost few_nodes: { nodes block ≤ MOST_NODES },
     pub ghost resolved: { IsTrue (fits (record { slots = slots; cowns = cown_params }) block) },
 }

@@ -1,17 +1,17 @@
 // Whether the parts of a program fit together.
 
 ghost use Rattle.std.specs.Prelude.{◌≡◌, ◌+◌, ◌≤◌, IsTrue, map, length};
-ghost use Rattle.boc_types.specs.View.{term_of, place_of, code_of, before};
-ghost use Rattle.boc_types.specs.Syntax.{Done};
-ghost use Rattle.boc_types.specs.Resolved.{every};
-ghost use Rattle.boc_types.specs.Signatures.{signature_of, ref_below as ref_below_spec, call_fits as call_fits_spec, calls_fit as calls_fit_spec, whens_pass};
-ghost use Rattle.boc_types.specs.Programs.{cown_count, has_main as has_main_spec, program_fits as program_fits_spec};
-ghost use Rattle.boc_types.specs.Spent.{spent};
+ghost use Rattle.boc_types.specs.memory.View.{term_of, place_of, code_of, before};
+ghost use Rattle.boc_types.specs.program.Syntax.{Done};
+ghost use Rattle.boc_types.specs.program.Resolved.{every};
+ghost use Rattle.boc_types.specs.program.Signatures.{signature_of, ref_below as ref_below_spec, call_fits as call_fits_spec, calls_fit as calls_fit_spec, whens_pass};
+ghost use Rattle.boc_types.specs.program.Programs.{cown_count, has_main as has_main_spec, have_members as have_members_spec};
+ghost use Rattle.boc_types.specs.memory.Spent.{spent};
 
 use crate::body::{Block, Body, CownRef, Expr, Stmt};
 use crate::cown::Cown;
 
-/// The cown that a reference names is one of `cowns`, where `held` are held.
+// The cown that a reference names is one of `cowns`, where `held` are held.
 fn ref_below(reference: &CownRef, held: usize, cowns: usize) -> bool
     ensures { result ≡ ref_below_spec held cowns (place_of reference.now) }
 {
@@ -31,7 +31,7 @@ fn refs_below(references: &[CownRef], held: usize, cowns: usize) -> bool
     }
 }
 
-/// A `when` gives a body as many arguments and cowns as it takes, and names cowns that are there.
+// A `when` names a def, gives it as many arguments and cowns as it takes, and names cowns that are there.
 fn call_fits(
     bodies: &[Body],
     held: usize,
@@ -45,7 +45,8 @@ fn call_fits(
     match bodies.get(kind) {
         None => false,
         Some(body) => {
-            args.len() == body.params
+            kind > 0
+                && args.len() == body.params
                 && references.len() == body.cown_params
                 && refs_below(references, held, cowns)
         }
@@ -109,6 +110,16 @@ pub(crate) fn has_main(bodies: &[Body]) -> bool
     match bodies {
         [] => false,
         [main, ..] => main.params == 0 && main.cown_params == 0,
+    }
+}
+
+/// Every array has a member.
+pub(crate) fn have_members(cowns: &[Cown]) -> bool
+    ensures { result ≡ have_members_spec cowns.now }
+{
+    match cowns {
+        [] => true,
+        [first, rest @ ..] => first.members() > 0 && have_members(rest),
     }
 }
 

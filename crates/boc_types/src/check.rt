@@ -1,16 +1,17 @@
 // Whether the parts of a body fit together.
 
 ghost use Rattle.std.specs.Prelude.{◌≡◌, ◌&&◌, ◌+◌, ◌<◌, ◌≤◌, IsTrue, IfOk, MatchOption, map, length};
-ghost use Rattle.boc_types.specs.View.{term_of, place_of, code_of, before};
-ghost use Rattle.boc_types.specs.Syntax.{Done};
-ghost use Rattle.boc_types.specs.Resolved.{Scope, fits, every, expr_fits as expr_fits_spec, ref_fits as ref_fits_spec, nodes, expr_nodes, ref_nodes, total};
-ghost use Rattle.boc_types.specs.Spent.{spent};
-ghost use Rattle.boc_types.specs.Parts.{MakesBody, IsMadeOf};
+ghost use Rattle.boc_types.specs.memory.View.{term_of, place_of, code_of, before};
+ghost use Rattle.boc_types.specs.program.Syntax.{Done};
+ghost use Rattle.boc_types.specs.program.Resolved.{Scope, fits, every, expr_fits as expr_fits_spec, ref_fits as ref_fits_spec, nodes, expr_nodes, ref_nodes, total};
+ghost use Rattle.boc_types.specs.memory.Spent.{spent};
+ghost use Rattle.boc_types.specs.program.Parts.{MakesBody, IsMadeOf};
 
 use crate::body::{Block, Body, CownRef, Expr, Stmt};
+use crate::limits::{MOST_ARGUMENTS, MOST_COWNS, MOST_HELD, MOST_NODES, MOST_SLOTS};
 use std::alloc::{AllocError, Global};
 
-/// Every slot of an expression is there.
+// Every slot of an expression is there.
 fn expr_fits(expr: &Expr, slots: usize) -> bool
     ensures { result ≡ expr_fits_spec slots (term_of expr.now) }
 {
@@ -36,9 +37,9 @@ fn ref_fits(reference: &CownRef, slots: usize, cowns: usize) -> bool
 {
     match reference {
         CownRef::Held(parameter) => *parameter < cowns,
-        CownRef::Single(cown) => *cown < 256,
+        CownRef::Single(cown) => (*cown as usize) < MOST_COWNS,
         CownRef::Member { first, size, index } => {
-            u64::from(*first) + u64::from(*size) <= 256 && expr_fits(index, slots)
+            u64::from(*first) + u64::from(*size) <= MOST_COWNS as u64 && expr_fits(index, slots)
         }
     }
 }
@@ -84,15 +85,15 @@ fn stmt_fits(stmt: &Stmt, slots: usize, cowns: usize) -> bool
         }
         Stmt::Repeat(turns, block) => expr_fits(turns, slots) && block_fits(block, slots, cowns),
         Stmt::When(_, args, refs) => {
-            args.len() <= 8
-                && refs.len() <= 8
+            args.len() <= MOST_ARGUMENTS
+                && refs.len() <= MOST_HELD
                 && exprs_fit(args, slots)
                 && refs_fit(refs, slots, cowns)
         }
     }
 }
 
-/// What is left of a number of nodes after an expression.
+// What is left of a number of nodes after an expression.
 fn after_expr(expr: &Expr, left: usize) -> Option<usize>
     ensures { spent result (expr_nodes (term_of expr.now)) left }
 {
@@ -198,10 +199,14 @@ impl Body {
     ) -> Result<Option<Body>, AllocError>
         ensures { IfOk result (λ o. MatchOption o (MakesBody params cown_params slots block → ⊥) (IsMadeOf params cown_params slots block)) }
     {
-        if params > 8 || cown_params > 8 || slots > 1016 || params + cown_params > slots {
+        if params > MOST_ARGUMENTS
+            || cown_params > MOST_HELD
+            || slots > MOST_SLOTS
+            || params + cown_params > slots
+        {
             return Ok(None);
         }
-        if after_block(&block, 1000).is_none() || !block_fits(&block, slots, cown_params) {
+        if after_block(&block, MOST_NODES).is_none() || !block_fits(&block, slots, cown_params) {
             return Ok(None);
         }
         let body = Body::new(alloc, params, cown_params, slots, block)?;

@@ -1,7 +1,7 @@
 // Declarations of cowns.
 
 ghost use Rattle.std.specs.Prelude.{◌≡◌};
-ghost use Rattle.boc_types.specs.Sizes.{size_of};
+ghost use Rattle.boc_types.specs.program.Sizes.{size_of};
 
 use crate::text::Name;
 

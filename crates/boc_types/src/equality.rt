@@ -3,7 +3,7 @@
 ghost use Rattle.std.specs.Prelude.{◌≡◌, ◌↔◌, IsTrue};
 ghost use Rattle.boc_types.specs.contracts.body.Body as body;
 ghost use Rattle.boc_types.specs.contracts.program.Program as program;
-ghost use Rattle.boc_types.specs.Same.{same_by, same_equiv, same_partial};
+ghost use Rattle.boc_types.specs.memory.Same.{same_by, same_equiv, same_partial};
 
 use crate::body::Body;
 use crate::program::Program;

@@ -21,11 +21,13 @@ pub enum Event {
     Start {
         row: u32,
     },
-    /// The row ended after so many ticks, and gave its cowns back.
+    /// The row ended after so many ticks, and gave its cowns back. `written` are those that an assignment wrote,
+    /// whether or not the value changed; they are meant to rise strictly.
     End {
         row: u32,
         ticks: u32,
         status: EndStatus,
+        written: Cowns,
     },
 }
 
@@ -47,10 +49,16 @@ impl Event {
                 cowns: Cowns::try_from(cowns.as_slice()).unwrap(),
             },
             Event::Start { row } => Event::Start { row: *row },
-            Event::End { row, ticks, status } => Event::End {
+            Event::End {
+                row,
+                ticks,
+                status,
+                written,
+            } => Event::End {
                 row: *row,
                 ticks: *ticks,
                 status: *status,
+                written: Cowns::try_from(written.as_slice()).unwrap(),
             },
         }
     }
@@ -69,7 +77,8 @@ pub enum BrokenRule {
     Cowns,
     /// The row that starts is pending, and shares no cown with a running row or with an earlier pending one.
     StartNotAllowed,
-    /// The row that ends is running; its ticks are 1 to 1,000,000, and at least its last child's offset.
+    /// The row that ends is running; its ticks are 1 to 1,000,000, and at least its last child's offset; what it wrote
+    /// rises strictly and is among its cowns.
     EndNotAllowed,
     /// A run has at most 65,535 rows.
     TooMany,

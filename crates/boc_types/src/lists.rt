@@ -48,7 +48,7 @@ impl Model for BodyList {
     ghost Value = { List Body };
 
     ghost use Rattle.std.specs.Coded.{codes};
-    ghost use Rattle.boc_types.specs.Stored.{coded_Code};
+    ghost use Rattle.boc_types.specs.memory.Stored.{coded_Code};
 
     ghost coded = { Prim.hlevel (codes, coded_Code) };
 

@@ -1,35 +1,32 @@
 // Programs.
 
 ghost use Rattle.std.specs.Prelude.{◌≡◌, ◌<◌, ◌≤◌, IsTrue, length, Some, slice_get};
-ghost use Rattle.boc_types.specs.Programs.{cown_count, program_fits, has_main};
+ghost use Rattle.boc_types.specs.program.Programs.{cown_count, have_members, program_fits, has_main};
+ghost use Rattle.boc_types.specs.declared.limits.TheConstants.{MOST_BODIES, MOST_COWNS};
 
 use crate::body::Body;
-use crate::calls::{after_cowns, calls_fit, has_main};
+use crate::calls::{after_cowns, calls_fit, has_main, have_members};
+use crate::limits::{MOST_BODIES, MOST_COWNS};
 use crate::lists::{BodyList, CownList};
-
-/// The greatest number of cowns of a program.
-const MOST_COWNS: usize = 256;
-
-/// Main and at most 64 defs.
-const MOST_BODIES: usize = 65;
 
 /// A program: its cowns, its main body, and its defs in the order of the text.
 ///
-/// It has at most 256 cowns and 64 defs. Main takes nothing, and every `when` gives the body that it
-/// names as many arguments and cowns as it takes, and names cowns that are there.
+/// It has at most 256 cowns and 64 defs, and every array has a member. Main takes nothing, and every
+/// `when` names a def, gives it as many arguments and cowns as it takes, and names cowns that are there.
 #[derive(Drop, Debug)]
 pub struct Program {
     pub cowns: CownList,
     pub bodies: BodyList,
-    pub ghost few_cowns: { cown_count cowns ≤ 256 },
-    pub ghost few_defs: { length bodies ≤ 65 },
+    pub ghost members: { IsTrue (have_members cowns) },
+    pub ghost few_cowns: { cown_count cowns ≤ MOST_COWNS },
+    pub ghost few_defs: { length bodies ≤ MOST_BODIES },
     pub ghost main: { IsTrue (has_main bodies) },
     pub ghost calls: { IsTrue (program_fits cowns bodies) },
 }
 
 impl Program {
     ghost use Rattle.std.specs.Prelude.{MatchOption};
-    ghost use Rattle.boc_types.specs.Program.{MakesProgram};
+    ghost use Rattle.boc_types.specs.program.Parts.{MakesProgram};
 
     /// A program of these parts, which fit together, main's body first. It takes no memory.
     pub fn new(cowns: CownList, bodies: BodyList) -> Program
@@ -40,11 +37,14 @@ impl Program {
         Program { cowns, bodies }
     }
 
-    /// A program of these parts, main's body first, or `None` where they break a limit, main takes
-    /// anything, or a `when` does not fit the body that it names.
+    /// A program of these parts, main's body first, or `None` where they break a limit, an array has no
+    /// member, main takes anything, or a `when` names main or does not fit the def that it names.
     pub fn checked(cowns: CownList, bodies: BodyList) -> Option<Program>
         ensures { MatchOption result (MakesProgram cowns bodies → ⊥) (λ p. (p.cowns ≡ cowns) × (p.bodies ≡ bodies)) }
     {
+        if !have_members(cowns.as_slice()) {
+            return None;
+        }
         let left = after_cowns(cowns.as_slice(), MOST_COWNS)?;
         let all = bodies.as_slice();
         if all.len() > MOST_BODIES || !has_main(all) || !calls_fit(all, all, MOST_COWNS - left) {

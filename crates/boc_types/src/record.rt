@@ -18,11 +18,11 @@ pub struct Record {
 }
 
 impl Model for Record {
-    ghost use Rattle.boc_types.specs.Records.{Recorded};
+    ghost use Rattle.boc_types.specs.runs.Records.{Recorded};
 
     ghost Value = { Recorded };
 
-    ghost use Rattle.boc_types.specs.Records.{IsRecord};
+    ghost use Rattle.boc_types.specs.runs.Records.{IsRecord};
 
     ghost view = { λ r. let v : Recorded = record { cowns = r.cowns; events = r.events.items; rows = r.rows } in v };
 
@@ -30,7 +30,7 @@ impl Model for Record {
 }
 
 impl Record {
-    ghost use Rattle.boc_types.specs.Records.{IsRecord};
+    ghost use Rattle.boc_types.specs.runs.Records.{IsRecord};
 
     /// The record of a complete run that keeps the rules, with its rows. It takes no memory.
     pub fn new(cowns: u32, events: Vec<Event>, rows: Rows) -> Record

@@ -1,12 +1,11 @@
 // The test of the shape of rows.
 
 ghost use Rattle.std.specs.Prelude.{◌≡◌, ◌<◌, ◌≤◌, ◌↔◌, ℕ, length, slice_index, IsTrue};
-ghost use Rattle.boc_types.specs.Rows.{AreCowns, IsFit, IsFitChild, IsLast, IsRows};
+ghost use Rattle.boc_types.specs.runs.Rows.{IsFit, IsFitChild, IsLast, IsRows};
 
+use crate::cowns::{are_among, are_cowns};
+use crate::limits::{MOST_COWNS, MOST_ROWS, MOST_TICKS};
 use crate::rows::Row;
-
-/// The most rows of a run.
-const MOST_ROWS: usize = 65_535;
 
 /// Whether these have the shape of the rows of a finished run, main first. It takes no memory, and goes over the
 /// rows once.
@@ -43,7 +42,11 @@ fn is_fit(rows: &[Row], number: usize, last: &[u32]) -> bool
     ensures { IsTrue result ↔ IsFit rows.now number }
 {
     let row = &rows[number];
-    if !are_cowns(row.cowns.as_slice()) || row.ticks == 0 || row.ticks > 1_000_000 {
+    let cowns = row.cowns.as_slice();
+    if !are_cowns(cowns, MOST_COWNS as u32) || !are_among(row.written.as_slice(), cowns) {
+        return false;
+    }
+    if row.ticks == 0 || row.ticks > MOST_TICKS {
         return false;
     }
     if number == 0 {
@@ -66,16 +69,4 @@ fn is_fit_child(rows: &[Row], number: usize, last: &[u32]) -> bool
         return false;
     }
     last[parent] < row.offset && row.offset <= rows[parent].ticks
-}
-
-/// Whether these rise strictly, below 256.
-fn are_cowns(cowns: &[u32]) -> bool
-    ensures { IsTrue result ↔ AreCowns cowns.now }
-{
-    for (i, cown) in cowns.iter().enumerate() {
-        if *cown >= 256 || (i > 0 && cowns[i - 1] >= *cown) {
-            return false;
-        }
-    }
-    true
 }

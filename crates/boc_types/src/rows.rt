@@ -20,13 +20,16 @@ pub struct Row {
     pub ticks: u32,
     /// How it ended.
     pub status: EndStatus,
+    /// Those of its cowns that an assignment wrote, which rise strictly.
+    pub written: Cowns,
 }
 
 /// The behaviours of a finished run in the order of their spawns, main first.
 ///
 /// There are 1 to 65,535. Cowns rise strictly and are below 256. Main has parent 0, offset 0 and no cowns.
 /// Each other row's parent has a smaller number. The offsets of one parent's children rise strictly from at
-/// least 1. Ticks are 1 to 1,000,000, and at least the offset of the last child.
+/// least 1. Ticks are 1 to 1,000,000, and at least the offset of the last child. What a row wrote rises strictly and is
+/// among its cowns.
 #[derive(Drop, Debug)]
 pub struct Rows {
     list: Vec<Row>,
@@ -38,7 +41,7 @@ impl Model for Rows {
 
     ghost Value = { List Row };
 
-    ghost use Rattle.boc_types.specs.Rows.{IsRows};
+    ghost use Rattle.boc_types.specs.runs.Rows.{IsRows};
 
     ghost view = { λ r. r.list.items };
 
@@ -56,13 +59,14 @@ impl Row {
             cowns: Cowns::try_from(self.cowns.as_slice()).unwrap(),
             ticks: self.ticks,
             status: self.status,
+            written: Cowns::try_from(self.written.as_slice()).unwrap(),
         }
     }
 }
 
 impl Rows {
-    ghost use Rattle.boc_types.specs.Rows.{IsRows};
-    ghost use Rattle.boc_types.specs.Edits.{Fits, edited};
+    ghost use Rattle.boc_types.specs.runs.Rows.{IsRows};
+    ghost use Rattle.boc_types.specs.plans.Edits.{Fits, edited};
 
     /// These rows, main first. It takes no memory.
     pub fn new(list: Vec<Row>) -> Rows

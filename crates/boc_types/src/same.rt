@@ -1,8 +1,8 @@
 // Bodies are compared by what they say.
 
 ghost use Rattle.std.specs.Prelude.{◌≡◌, ◌↔◌, IsTrue, map};
-ghost use Rattle.boc_types.specs.View.{term_of, place_of, code_of, before};
-ghost use Rattle.boc_types.specs.Syntax.{Done};
+ghost use Rattle.boc_types.specs.memory.View.{term_of, place_of, code_of, before};
+ghost use Rattle.boc_types.specs.program.Syntax.{Done};
 
 use crate::body::{Block, Body, CownRef, Expr, Stmt};
 use crate::cown::Cown;

@@ -3,7 +3,7 @@
 /// What is wrong with the text of a record. The numbers 1 to 14 stand for these in this order.
 #[derive(Clone, Copy, PartialEq, Eq, Debug)]
 pub enum RecordFaultKind {
-    /// The first line isn't `boc 1 COWNS`, COWNS from 0 to 256, or is longer than 80 bytes.
+    /// The first line isn't `boc 1 COWNS` or `boc 2 COWNS`, COWNS from 0 to 256, or is longer than 80 bytes.
     Header,
     /// Another line has none of the forms of a record's lines, or is longer than 80 bytes.
     Form,
@@ -17,7 +17,8 @@ pub enum RecordFaultKind {
     Cowns,
     /// The row that starts isn't pending, or shares a cown with a running or an earlier pending one.
     StartNotAllowed,
-    /// The row that ends isn't running, or its ticks aren't 1 to 1,000,000 or are below its last child's offset.
+    /// The row that ends isn't running, or its ticks aren't 1 to 1,000,000 or are below its last child's offset, or what it
+    /// wrote doesn't rise or isn't among its cowns.
     EndNotAllowed,
     /// A row more than a run may have.
     TooMany,

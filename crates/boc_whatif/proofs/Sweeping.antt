@@ -9,9 +9,9 @@ use Rattle.std.proofs.lemmas.Bool.{cases_eq, cases_lt}
 use Rattle.std.proofs.lemmas.List.{length-set, length-append, get_or-set_same, get_or-set_other, get_or_append_left, get_or-append_right}
 use Rattle.std.proofs.lemmas.Option.{slice_get_read}
 use Rattle.boc_types.specs.declared.rows.Row.{Row}
-use Rattle.boc_types.specs.Rows.{IsLast}
-use Rattle.boc_types.specs.Edits.{edited, IsLeastTicks, IsSweep}
-use Rattle.boc_types.specs.Greedy.{IsSpan}
+use Rattle.boc_types.specs.runs.Rows.{IsLast}
+use Rattle.boc_types.specs.plans.Edits.{edited, IsLeastTicks, IsSweep}
+use Rattle.boc_types.specs.plans.Greedy.{IsSpan}
 use Rattle.boc_types.proofs.Editing.{one_last}
 use Rattle.boc_whatif.specs.Lasts.{HasLasts}
 use Rattle.boc_whatif.specs.Sweeps.{IsPiece, ArePast}

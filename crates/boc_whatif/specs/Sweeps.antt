@@ -1,8 +1,8 @@
 -- The pieces of a sweep.
 use Rattle.std.specs.Prelude.{◌≡◌, ℕ, ◌+◌, ◌<◌, ◌≤◌, List, length, slice_index}
 use Rattle.boc_types.specs.declared.rows.Row.{Row}
-use Rattle.boc_types.specs.Edits.{IsLeastTicks, edited}
-use Rattle.boc_types.specs.Greedy.{IsSpan}
+use Rattle.boc_types.specs.plans.Edits.{IsLeastTicks, edited}
+use Rattle.boc_types.specs.plans.Greedy.{IsSpan}
 
 -- a piece of the sweep: the spans for the rows from one row on and before another
 pub record IsPiece (rows : List Row) (from to : ℕ) (spans : List ℕ) : Type 0 where

@@ -1,16 +1,14 @@
 // The last child of each row, and the ticks that a row can take.
 
 ghost use Rattle.std.specs.Prelude.{◌≡◌, max, IfOk, MatchResult};
-ghost use Rattle.boc_types.specs.Rows.{IsRows};
-ghost use Rattle.boc_types.specs.Edits.{Fits, IsEditFault};
+ghost use Rattle.boc_types.specs.runs.Rows.{IsRows};
+ghost use Rattle.boc_types.specs.plans.Edits.{Fits, IsEditFault};
 ghost use Rattle.boc_whatif.specs.Lasts.{HasLasts};
 
 use boc_types::edit::EditFault;
+use boc_types::limits::MOST_TICKS;
 use boc_types::rows::Row;
 use std::alloc::{AllocError, Global};
-
-/// The most ticks that a row can take.
-const MOST_TICKS: u32 = 1_000_000;
 
 /// The offset of each row's last child, and 0 for a row without one. `AllocError` says that memory was refused.
 pub fn last_children(alloc: Global, rows: &[Row]) -> Result<Vec<u32>, AllocError>

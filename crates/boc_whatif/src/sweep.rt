@@ -1,8 +1,8 @@
 // The spans that a run would have with one row after another at its least ticks.
 
 ghost use Rattle.std.specs.Prelude.{◌≡◌, ℕ, ◌+◌, ◌*◌, ◌<◌, ◌≤◌, length, min, slice_get, IfOk, IfSome};
-ghost use Rattle.boc_types.specs.Edits.{Fits, IsSweep, edited};
-ghost use Rattle.boc_types.specs.Greedy.{IsSpan};
+ghost use Rattle.boc_types.specs.plans.Edits.{Fits, IsSweep, edited};
+ghost use Rattle.boc_types.specs.plans.Greedy.{IsSpan};
 ghost use Rattle.boc_order.specs.Room.{HasRoom};
 ghost use Rattle.boc_order.specs.Standing.{HasFirst};
 ghost use Rattle.boc_whatif.specs.Lasts.{HasLasts};
@@ -10,6 +10,7 @@ ghost use Rattle.boc_whatif.specs.Sweeps.{IsPiece};
 
 use crate::lasts::least_ticks;
 use boc_order::{Earliest, earliest_plan};
+use boc_types::limits::MOST_ROWS;
 use boc_types::rows::Rows;
 use rayon::prelude::*;
 use std::alloc::{AllocError, Global};
@@ -75,7 +76,7 @@ fn numbered_piece(
     piece: usize,
 ) -> Result<Vec<u64>, AllocError>
     requires lasts { HasLasts rows.now lasts.now }
-    requires few { width ≤ 65535 }
+    requires few { width ≤ MOST_ROWS }
     requires there { piece * width < length rows.now }
     ensures { IfOk result (λ spans. IsPiece rows.now (piece * width) (min (piece * width + width) (length rows.now)) spans.items) }
 {
@@ -94,7 +95,7 @@ fn sweep_pieces(
 ) -> Result<Vec<Vec<u64>>, AllocError>
     requires lasts { HasLasts rows.now lasts.now }
     requires some { 0 < width }
-    requires few { width ≤ 65535 }
+    requires few { width ≤ MOST_ROWS }
     ensures whole { IfOk result (λ pieces. length rows.now ≤ length pieces.items * width) }
     ensures each { IfOk result (λ pieces. (k : ℕ) → IfSome (slice_get pieces.items k)
         (λ piece. IsPiece rows.now (k * width) (min (k * width + width) (length rows.now)) piece.items)) }
@@ -106,7 +107,7 @@ fn sweep_pieces(
         .map(
             |piece: usize| -> Result<Vec<u64>, AllocError>
                 requires lasts { HasLasts rows.now lasts.now }
-                requires few { width ≤ 65535 }
+                requires few { width ≤ MOST_ROWS }
                 requires there { piece * width < length rows.now }
                 ensures { IfOk result (λ spans. IsPiece rows.entry.now (piece * width)
                     (min (piece * width + width) (length rows.entry.now)) spans.items) }

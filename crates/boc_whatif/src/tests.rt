@@ -6,22 +6,28 @@ use boc_types::edit::EditFault;
 use boc_types::row_test::are_rows;
 use boc_types::rows::{Row, Rows};
 use boc_types::short::Cowns;
+use boc_types::workers::Workers;
 use std::alloc::Global;
 use std::test::Fail;
 
-fn row(offset: u32, numbers: &[u32], ticks: u32) -> Row {
-    let mut cowns = Cowns::new();
+fn cowns(numbers: &[u32]) -> Cowns {
+    let mut list = Cowns::new();
     for number in numbers {
-        if !cowns.is_full() {
-            cowns.push(*number);
+        if !list.is_full() {
+            list.push(*number);
         }
     }
+    list
+}
+
+fn row(offset: u32, numbers: &[u32], ticks: u32) -> Row {
     Row {
         parent: 0,
         offset,
-        cowns,
+        cowns: cowns(numbers),
         ticks,
         status: EndStatus::Done,
+        written: cowns(numbers),
     }
 }
 
@@ -85,7 +91,8 @@ fn rows_are_taken_over(rt: HostRuntime) -> Result<(), Fail> {
     assert_eq!(rt; (after.work, after.span), (9, 7));
     assert_eq!(rt; after.starts.as_slice(), [0, 2, 4, 5].as_slice());
     assert_eq!(rt; after.ends.as_slice(), [4, 4, 5, 7].as_slice());
-    let greedy = question.greedy(rt.alloc(), 2)?;
+    let two = Workers::new(2).ok_or("no number of workers")?;
+    let greedy = question.greedy(rt.alloc(), two)?;
     assert_eq!(rt; greedy.starts.as_slice(), [0, 2, 4, 5].as_slice());
     assert_eq!(rt; (greedy.ends_at, greedy.bound), (7, 11));
     Ok(())

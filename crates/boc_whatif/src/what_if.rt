@@ -6,6 +6,7 @@ use boc_greedy::{Greedy, greedy_within};
 use boc_order::{Earliest, Profile, earliest_plan};
 use boc_types::edit::EditFault;
 use boc_types::rows::Rows;
+use boc_types::workers::Workers;
 use std::alloc::{AllocError, Global};
 use std::marker::Model;
 use std::thread::Threads;
@@ -23,21 +24,22 @@ pub struct WhatIf {
 }
 
 impl Model for WhatIf {
-    ghost use Rattle.boc_whatif.specs.Asked.{Asked, IsKept};
+    ghost use Rattle.boc_whatif.specs.Asked.{Asked, IsUpToDate};
 
     ghost Value = { Asked };
 
     ghost view = { λ w. record { rows = w.rows; touched = w.touched } };
 
-    ghost invariant = { λ w. IsKept w.rows w.lasts.items w.plan };
+    ghost invariant = { λ w. IsUpToDate w.rows w.lasts.items w.plan };
 }
 
 impl WhatIf {
-    ghost use Rattle.std.specs.Prelude.{◌≡◌, ℕ, ◌+◌, ◌-◌, ◌*◌, ◌<◌, ◌≤◌, List, length, IfOk, IfErr, OnOk, OnErr};
-    ghost use Rattle.boc_types.specs.Plans.{HasEnds, IsEarliest, IsEnd, Keeps, NoneEndsBefore, work_of};
-    ghost use Rattle.boc_types.specs.Chains.{IsPicked, weight_of};
-    ghost use Rattle.boc_types.specs.Greedy.{CountsAll, IsBound, IsForWorkers, IsGreedy, IsMoment, IsSpan};
-    ghost use Rattle.boc_types.specs.Edits.{Fits, IsEditFault, IsSweep, edited};
+    ghost use Rattle.std.specs.Prelude.{◌≡◌, ◌+◌, length, IfOk, IfErr, OnOk, OnErr};
+    ghost use Rattle.boc_types.specs.plans.Plans.{work_of};
+    ghost use Rattle.boc_types.specs.plans.Greedy.{IsSpan};
+    ghost use Rattle.boc_order.specs.Profiles.{IsProfileOf};
+    ghost use Rattle.boc_greedy.specs.Plans.{IsGreedyPlanOf};
+    ghost use Rattle.boc_types.specs.plans.Edits.{Fits, IsEditFault, IsSweep, edited};
 
     /// The same rows, none of them edited. `AllocError` says that memory was refused.
     ///
@@ -120,39 +122,17 @@ impl WhatIf {
     /// It comes from the plan that the edits keep, so no row is placed again. It takes memory and time that grow with
     /// the number of rows.
     pub fn profile(&self, alloc: Global) -> Result<Profile, AllocError>
-        ensures work { IfOk result (λ p. p.work ≡ work_of self.now.rows) }
-        ensures earliest { IfOk result (λ p. IsEarliest self.now.rows p.starts.items) }
-        ensures ends { IfOk result (λ p. HasEnds self.now.rows p.starts.items p.ends.items) }
-        ensures span { IfOk result (λ p. IsEnd self.now.rows p.starts.items p.span) }
-        ensures picked { IfOk result (λ p. IsPicked self.now.rows p.starts.items p.chain.steps.items) }
-        ensures weight { IfOk result (λ p. weight_of p.chain.steps.items ≡ p.span) }
-        ensures no_sooner { IfOk result (λ p. NoneEndsBefore self.now.rows p.span) }
+        ensures { IfOk result (λ profile. IsProfileOf self.now.rows profile) }
     {
         self.plan.profile(alloc, &self.rows)
     }
 
-    /// The greedy plan of the rows for p workers, from 1 to 64, as `boc_greedy::greedy` has it. `AllocError` says that
+    /// The greedy plan of the rows for so many workers, as `boc_greedy::greedy` has it. `AllocError` says that
     /// memory was refused.
-    pub fn greedy(&self, alloc: Global, p: u32) -> Result<Greedy, AllocError>
-        requires some { 0 < p }
-        requires few { p ≤ 64 }
-        ensures asked { IfOk result (λ g. g.p ≡ p) }
-        ensures greedy { IfOk result (λ g. IsGreedy self.now.rows p g.starts.items g.workers.items) }
-        ensures ends { IfOk result (λ g. HasEnds self.now.rows g.starts.items g.ends.items) }
-        ensures ends_at { IfOk result (λ g. IsEnd self.now.rows g.starts.items g.ends_at) }
-        ensures bound { IfOk result (λ g. IsBound self.now.rows p g.bound) }
-        ensures moments { IfOk result (λ g. CountsAll g.moments (IsMoment self.now.rows g.starts.items)) }
-        ensures keeps { IfOk result (λ g. Keeps self.now.rows g.starts.items) }
-        ensures workers { IfOk result (λ g. IsForWorkers self.now.rows p g.starts.items g.workers.items) }
-        ensures close { IfOk result (λ g. (span : ℕ) → IsSpan self.now.rows span → p * g.ends_at ≤ work_of self.now.rows + (p - 1) * span) }
-        ensures within { IfOk result (λ g. g.ends_at ≤ g.bound) }
-
-        // It ends at most twice as late as any plan for p workers.
-        ensures twice { IfOk result (λ g. (other others : List ℕ) (other_last : ℕ) →
-            Keeps self.now.rows other → IsForWorkers self.now.rows p other others → IsEnd self.now.rows other other_last →
-            p * g.ends_at ≤ (2 * p - 1) * other_last) }
+    pub fn greedy(&self, alloc: Global, workers: Workers) -> Result<Greedy, AllocError>
+        ensures { IfOk result (λ plan. IsGreedyPlanOf self.now.rows workers plan) }
     {
-        greedy_within(alloc, &self.rows, p, self.span())
+        greedy_within(alloc, &self.rows, workers, self.span())
     }
 
     /// For each row the span that the rows would have if that row alone took the least ticks that it can: the offset

@@ -1,9 +1,9 @@
 // Statements, with every name resolved.
 
 ghost use Rattle.std.specs.Prelude.{◌≡◌, OnOk, map, take, length};
-ghost use Rattle.boc_types.specs.View.{place_of};
-ghost use Rattle.boc_types.specs.Shape.{member};
-ghost use Rattle.boc_types.specs.Names.{slot_of as slot_of_spec, global, held_or_single, ref_names, all_names, call_names, stmt_names, block_names};
+ghost use Rattle.boc_types.specs.memory.View.{place_of};
+ghost use Rattle.boc_types.specs.text.Shape.{member};
+ghost use Rattle.boc_types.specs.text.Names.{slot_of as slot_of_spec, global, held_or_single, ref_names, all_names, call_names, stmt_names, block_names};
 ghost use Rattle.boc_reader.specs.Views.{expr_of, ref_of, stmt_of, block_of};
 ghost use Rattle.boc_reader.specs.Resolving.{Yields, YieldsIn, names_of, step_of, outside_of};
 

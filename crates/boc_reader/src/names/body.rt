@@ -1,12 +1,12 @@
 // Bodies, with every name resolved.
 
 ghost use Rattle.std.specs.Prelude.{◌≡◌, ◌≤◌, ◌++◌, [], IfOk, map, length};
-ghost use Rattle.boc_types.specs.Syntax.{Done};
-ghost use Rattle.boc_types.specs.Shape.{IsSmallBody};
-ghost use Rattle.boc_types.specs.View.{code_of, before};
-ghost use Rattle.boc_types.specs.Names.{PlainBody, deepest, body_names};
-ghost use Rattle.boc_types.specs.Spells.{plain_body};
-ghost use Rattle.boc_types.specs.Parts.{MakesBody};
+ghost use Rattle.boc_types.specs.program.Syntax.{Done};
+ghost use Rattle.boc_types.specs.text.Shape.{IsSmallBody};
+ghost use Rattle.boc_types.specs.memory.View.{code_of, before};
+ghost use Rattle.boc_types.specs.text.Names.{PlainBody, deepest, body_names};
+ghost use Rattle.boc_types.specs.text.Spells.{plain_body};
+ghost use Rattle.boc_types.specs.program.Parts.{MakesBody};
 ghost use Rattle.boc_reader.specs.Views.{name_of, block_of};
 ghost use Rattle.boc_reader.specs.Resolving.{Yields, EndWithin, names_of, declared_of, scope_with};
 

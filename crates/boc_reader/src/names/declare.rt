@@ -2,9 +2,9 @@
 
 ghost use Rattle.std.specs.Prelude.{◌≡◌, ◌≤◌, [], IfOk, map};
 ghost use Rattle.std.specs.Option.{option_map};
-ghost use Rattle.boc_types.specs.Shape.{members, cowns_declared};
-ghost use Rattle.boc_types.specs.Names.{plain_cown, among};
-ghost use Rattle.boc_types.specs.Spells.{plain_declared};
+ghost use Rattle.boc_types.specs.text.Shape.{members, cowns_declared};
+ghost use Rattle.boc_types.specs.text.Names.{plain_cown, among};
+ghost use Rattle.boc_types.specs.text.Spells.{plain_declared};
 ghost use Rattle.boc_reader.specs.Views.{cown_of, def_of, tree_of};
 ghost use Rattle.boc_reader.specs.Resolving.{Yields, EndWithin, global_of, callee_of, declared_of, names_of, cown_names, cowns_behind, defs_behind, top_in_order};
 

@@ -1,5 +1,5 @@
 ghost use Rattle.std.specs.Prelude.{◌≡◌, ◌≤◌, None, IfOk, map, length};
-ghost use Rattle.boc_types.specs.Shape.{HaveMembers, cowns_declared, IsSmallDef, AreSmallDefs, IsWithinLimits};
+ghost use Rattle.boc_types.specs.text.Shape.{HaveMembers, cowns_declared, IsSmallDef, AreSmallDefs, IsWithinLimits};
 ghost use Rattle.boc_reader.specs.Views.{cown_of, def_of, tree_of};
 
 use crate::fault::{Fault, NameFault};

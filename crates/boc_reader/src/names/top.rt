@@ -4,7 +4,7 @@ ghost use Rattle.std.specs.Prelude.{◌≡◌, find, position, map};
 ghost use Rattle.std.specs.List.{list_any};
 ghost use Rattle.std.specs.Option.{option_map, option_copied};
 ghost use Rattle.std.specs.Str.{bytes_eq};
-ghost use Rattle.boc_types.specs.Names.{slot_of, global, callee, kind_of, among, top_names, is_free};
+ghost use Rattle.boc_types.specs.text.Names.{slot_of, global, callee, kind_of, among, top_names, is_free};
 ghost use Rattle.boc_reader.specs.Views.{name_of};
 ghost use Rattle.boc_reader.specs.Resolving.{names_of, cown_names, global_of, callee_of, declared_of};
 

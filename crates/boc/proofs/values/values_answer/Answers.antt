@@ -1,6 +1,14 @@
-use Rattle.std.proofs.Common.{rules}
-use Rattle.boc_types.specs.Spells.{Spells}
-use Rattle.boc_types.specs.Answers.{IsValuesAnswer}
+use Rattle.std.proofs.Common.{◌≡◌, ℕ, List, Result, Ok, Err, MatchResult, rules, refl, sym, subst}
+use Rattle.std.specs.Result.{IsErrAnd}
+use Rattle.boc_types.specs.declared.program.Program.{Program}
+use Rattle.boc_types.specs.runs.OwnOrder.{HasTooMany}
+use Rattle.boc_types.specs.text.Spells.{Spells}
+use Rattle.boc_eval.specs.declared.serial.SerialFault.{SerialFault}
+use Rattle.boc_eval.specs.declared.serial.SerialFault.TheVariants as serial
+use Rattle.boc.specs.declared.fault.Fault.{Fault}
+use Rattle.boc.specs.Faults.{of_serial}
+use Rattle.boc.specs.Commands.{IsOfText}
+use Rattle.boc_types.specs.answers.Answers.{IsValuesAnswer}
 use Rattle.boc.proofs.values.values_answer.Goals as goal
 
 pub returns : goal.returns
@@ -13,3 +21,20 @@ returns c =
       ends = c.in_ok-values.ensures.values;
       text = search rules;
     } in (answer, spelled.short)
+
+-- a run that needs too many behaviours is refused as that, and want of memory refuses nothing
+refused : {A : Type 0} (text : List ℕ) (program : Program) (run : Result A SerialFault) (fault : SerialFault) → Spells text program → run ≡ Err fault
+    → (run ≡ Err serial.Behaviours → HasTooMany program) → IsOfText text (of_serial fault)
+refused text program run serial.Memory spells is many = tt
+refused text program run serial.Behaviours spells is many = record { program = program; spells = spells; many = many is }
+
+-- so where a result is a fault, what holds of that fault holds of it
+passed_on : {A : Type 0} (Is : A → Type 0) (IsWrong : Fault → Type 0) (result : Result A Fault) (fault : Fault)
+    → IsErrAnd result (λ f. f ≡ fault) → IsWrong fault → MatchResult result Is IsWrong
+passed_on Is IsWrong (Ok done) fault h wrong = absurd h
+passed_on Is IsWrong (Err f) fault h wrong = subst IsWrong (sym h) wrong
+
+pub returns-in_err-values : goal.returns-in_err-values
+returns-in_err-values c =
+    passed_on _ (IsOfText c.args.text.now) _ _ c.from_residual-in_err-values.ensures.1
+    (refused c.args.text.now c.in_ok-program.program (Err c.in_err-values.field-0.0) c.in_err-values.field-0.0 c.in_ok-program.ensures refl c.in_err-values.ensures.behaviours)

@@ -1,7 +1,7 @@
 use Rattle.std.proofs.Common.{◌≡◌, ℕ, ◌<◌, length, ap, arith}
 use Rattle.std.specs.Prelude.{slice_index, slice_set}
 use Rattle.boc_types.specs.declared.rows.Row.{Row}
-use Rattle.boc_types.specs.Rows.{parent_of}
+use Rattle.boc_types.specs.runs.Rows.{parent_of}
 use Rattle.boc_greedy.proofs.Puts.{Puts, puts}
 use Rattle.boc_greedy.proofs.Reading.{read_at}
 use Rattle.std.proofs.Common.{◌-◌, slice_index_or}

@@ -2,7 +2,7 @@ use Rattle.std.proofs.Common.{arith, ◌≡◌, ℕ, ◌+◌, ◌<◌, List, [],
 use Rattle.std.proofs.lemmas.List.{get_or_append_left, get_or_push, length_push}
 use Rattle.std.proofs.lemmas.Slice.Zip.{zip_turn}
 use Rattle.boc_types.specs.declared.rows.Row.{Row}
-use Rattle.boc_types.specs.Plans.{end_of}
+use Rattle.boc_types.specs.plans.Plans.{end_of}
 use Rattle.boc_types.proofs.Children.{row_read}
 use Rattle.boc_greedy.proofs.entry.ends_of.Goals as goal
 

@@ -1,5 +1,5 @@
 use Rattle.std.proofs.Common.{◌≡◌, ℕ, ◌<◌, length, get_or}
-use Rattle.boc_types.specs.Plans.{end_of}
+use Rattle.boc_types.specs.plans.Plans.{end_of}
 use Rattle.boc_greedy.proofs.entry.ends_of.Given as goal
 
 -- the rows so far have their ends

@@ -1,4 +1,5 @@
 use Rattle.std.proofs.Common.{◌≡◌, ℕ, ◌-◌, ◌<◌, length, arith, subst, sym}
+use Rattle.boc_types.specs.declared.limits.TheConstants.{MOST_COWNS}
 use Rattle.std.proofs.lemmas.List.{get_or-replicate, length-replicate}
 use Rattle.boc_greedy.specs.Links.{AreFollowing}
 use Rattle.boc_greedy.proofs.Linking.{AreLinked, no_heads, linked_none, linked_put, linked_all, read_cowns, read_rise, read_below}
@@ -7,7 +8,7 @@ use Rattle.boc_greedy.proofs.links.link.Goals as goal
 pub loop-row-init : goal.loop-row-init
 loop-row-init c = record {
   within = omega arith;
-  heads = no_heads _ _ (length-replicate 256 (length c.args.rows.now)) (λ cown l. get_or-replicate 256 cown (length c.args.rows.now) 0 l);
+  heads = no_heads _ _ (length-replicate MOST_COWNS (length c.args.rows.now)) (λ cown l. get_or-replicate MOST_COWNS cown (length c.args.rows.now) 0 l);
   linked = linked_none _ _ c.in_ok-following.ensures.items;
 }
 

@@ -1,4 +1,4 @@
-use Rattle.boc_greedy.specs.Simulating.{weight_of}
+use Rattle.boc_greedy.specs.Simulating.{steps_of_all}
 use Rattle.boc_greedy.specs.Stepping.{IsSettled, IsCounted, IsLow}
 use Rattle.boc_greedy.proofs.simulate.simulate.Given as goal
 
@@ -10,4 +10,4 @@ invariant-loop-worker l = record {
 }
 
 abbrev pub decreases-loop-worker : goal.decreases-loop-worker
-decreases-loop-worker l = weight_of l.simulation.frontier.stages.items
+decreases-loop-worker l = steps_of_all l.simulation.frontier.stages.items

@@ -1,8 +1,8 @@
 use Rattle.std.proofs.Common.{arith, ◌≡◌, ◌<◌, sym, ap}
 use Rattle.boc_types.specs.declared.rows.Row.{Row}
 use Rattle.boc_order.proofs.Chaining.{reverse_push, waits_below, leads_read, leads_more, leads_all, step_is_before}
-use Rattle.boc_types.specs.Plans.{end_of}
-use Rattle.boc_types.specs.Chains.{IsPicked, weight_of}
+use Rattle.boc_types.specs.plans.Plans.{end_of}
+use Rattle.boc_types.specs.plans.Chains.{IsPicked, weight_of}
 use Rattle.boc_order.proofs.back.chain_back.Goals as goal
 
 pub loop-row-init : goal.loop-row-init

@@ -1,8 +1,8 @@
 use Rattle.std.proofs.Common.{Option, sym, ap, ◌∙◌}
 use Rattle.std.specs.Option.{option_map}
 use Rattle.boc_types.specs.declared.token.Sign.{Sign}
-use Rattle.boc_types.specs.Words.{sign}
-use Rattle.boc_types.specs.Tokens.{words_of_text, put}
+use Rattle.boc_types.specs.text.Words.{sign}
+use Rattle.boc_types.specs.text.Tokens.{words_of_text, put}
 use Rattle.boc_reader.proofs.Texts.{single_at}
 use Rattle.boc_reader.proofs.lex.split_sign.Goals as goal
 

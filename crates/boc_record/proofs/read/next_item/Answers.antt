@@ -1,7 +1,12 @@
-use Rattle.boc_record.proofs.Known.{long_item, on_false}
+use Rattle.boc_record.proofs.Known.{long_item, gives_part, on_false}
 use Rattle.boc_record.proofs.read.next_item.Goals as goal
 
 pub returns-in-TooLong-clause-item : goal.returns-in-TooLong-clause-item
 returns-in-TooLong-clause-item g c =
     let answer = on_false c.args.lines.now.is_over c.requires.open c.in-TooLong.ensures.found in
-    long_item _ answer.0
+    long_item _ _ answer.0
+
+pub returns-in-Device-clause-within : goal.returns-in-Device-clause-within
+returns-in-Device-clause-within g c =
+    let is_open = c.requires.open in
+    gives_part _ _ _ (on_false c.args.lines.now.is_over is_open c.in-Device.ensures.found) (on_false c.args.lines.now.is_over is_open c.in-Device.ensures.open)

@@ -1,5 +1,5 @@
 use Rattle.std.proofs.Common.{◌≡◌, ◌++◌, take}
-use Rattle.boc_types.specs.Records.{fields}
+use Rattle.boc_types.specs.text.RecordTexts.{fields}
 use Rattle.boc_record.proofs.text.put_fields.Given as goal
 
 abbrev pub invariant-loop-number : goal.invariant-loop-number

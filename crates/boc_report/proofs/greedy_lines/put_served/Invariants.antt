@@ -1,5 +1,5 @@
 use Rattle.std.proofs.Common.{◌≡◌, ◌++◌, take}
-use Rattle.boc_types.specs.Texts.{served_lines}
+use Rattle.boc_types.specs.answers.Texts.{served_lines}
 use Rattle.boc_report.proofs.greedy_lines.put_served.Given as goal
 
 abbrev pub invariant-loop-row : goal.invariant-loop-row

@@ -1,5 +1,5 @@
 use Rattle.std.proofs.Common.{◌≡◌, ◌++◌, take}
-use Rattle.boc_types.specs.Texts.{plan_lines}
+use Rattle.boc_types.specs.answers.Texts.{plan_lines}
 use Rattle.boc_report.proofs.profile_lines.put_plan.Given as goal
 
 abbrev pub invariant-loop-row : goal.invariant-loop-row

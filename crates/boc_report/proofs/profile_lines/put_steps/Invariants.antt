@@ -1,5 +1,5 @@
 use Rattle.std.proofs.Common.{◌≡◌, ◌++◌, take}
-use Rattle.boc_types.specs.Texts.{step_lines}
+use Rattle.boc_types.specs.answers.Texts.{step_lines}
 use Rattle.boc_report.proofs.profile_lines.put_steps.Given as goal
 
 abbrev pub invariant-loop-step : goal.invariant-loop-step

@@ -1,5 +1,5 @@
 use Rattle.std.proofs.Common.{length}
-use Rattle.boc_text.specs.Streams.{HasSent}
+use Rattle.boc_text.proofs.Progress.{HasSent}
 use Rattle.boc_text.proofs.whole.put_out.Given as goal
 
 abbrev pub invariant-loop-rest : goal.invariant-loop-rest

@@ -1,5 +1,5 @@
 use Rattle.std.proofs.Common.{◌-◌, vec_len}
-use Rattle.boc_text.specs.Streams.{HasRead}
+use Rattle.boc_text.proofs.Progress.{HasRead}
 use Rattle.boc_text.proofs.whole.read_all.Given as goal
 
 abbrev pub invariant-loop-chunk : goal.invariant-loop-chunk

@@ -1,6 +1,6 @@
 use Rattle.std.specs.Prelude.{◌+◌, ◌*◌}
-use Rattle.boc_types.specs.Syntax.{Done, code_size}
-use Rattle.boc_types.specs.View.{code_of, before}
+use Rattle.boc_types.specs.program.Syntax.{Done, code_size}
+use Rattle.boc_types.specs.memory.View.{code_of, before}
 use Rattle.boc_types.proofs.calls.+calls.Given as goal
 
 abbrev pub decreases-block_calls_fit : goal.decreases-block_calls_fit

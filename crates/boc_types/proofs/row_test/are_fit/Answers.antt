@@ -1,6 +1,6 @@
 use Rattle.std.proofs.Common.{◌∙◌, refl, sym, arith}
 use Rattle.std.proofs.lemmas.List.{length-set}
-use Rattle.boc_types.specs.Rows.{IsFit}
+use Rattle.boc_types.specs.runs.Rows.{IsFit}
 use Rattle.boc_types.proofs.Children.{row_read, parent_there, last_more, fit_more}
 use Rattle.boc_types.proofs.row_test.are_fit.Goals as goal
 

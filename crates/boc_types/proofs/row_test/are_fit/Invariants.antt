@@ -1,5 +1,5 @@
 use Rattle.std.proofs.Common.{◌≡◌, ◌<◌, ℕ, length, slice_index}
-use Rattle.boc_types.specs.Rows.{IsFit, IsLast}
+use Rattle.boc_types.specs.runs.Rows.{IsFit, IsLast}
 use Rattle.boc_types.proofs.row_test.are_fit.Given as goal
 
 -- the rows so far are fit, and the table has their last children

@@ -1,7 +1,7 @@
 use Rattle.std.proofs.Common.{◌≡◌, ℕ, ◌+◌, ◌<◌, List, length, get_or, arith, length-set}
 use Rattle.std.specs.Prelude.{slice_index, slice_set}
 use Rattle.boc_types.specs.declared.rows.Row.{Row}
-use Rattle.boc_types.specs.Rows.{IsRows, IsLast}
+use Rattle.boc_types.specs.runs.Rows.{IsRows, IsLast}
 use Rattle.boc_types.proofs.Children.{row_read, rows_fit, parent_there, last_more}
 use Rattle.boc_whatif.proofs.lasts.last_children.Goals as goal
 

@@ -1,6 +1,6 @@
 use Rattle.std.proofs.Common.{◌≡◌, ℕ, ◌<◌, List, length, get_or, arith, ap, sym, ◌∙◌}
 use Rattle.boc_types.specs.declared.rows.Row.{Row}
-use Rattle.boc_types.specs.Rows.{ticks_of}
+use Rattle.boc_types.specs.runs.Rows.{ticks_of}
 use Rattle.boc_types.proofs.Children.{row_read}
 use Rattle.boc_types.proofs.Editing.{length-edited, edited_back, fits_back}
 use Rattle.boc_order.proofs.Replacing.{edited_first_of, edited_back_first}

@@ -1,5 +1,5 @@
 use Rattle.std.proofs.Common.{refl, rules, ◌≡◌, ◌+◌, length}
-use Rattle.boc_types.specs.Serial.{Behaviour}
+use Rattle.boc_types.specs.runs.Serial.{Behaviour}
 use Rattle.boc_eval.specs.declared.rows.Row.{Row}
 use Rattle.boc_eval.specs.declared.rows.Rows.{Rows}
 use Rattle.boc_eval.proofs.Added.{adds, Adds}

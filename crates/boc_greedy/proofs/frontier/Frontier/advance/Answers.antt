@@ -8,7 +8,7 @@ use Rattle.boc_greedy.specs.Frontier.{IsEnding}
 use Rattle.boc_greedy.specs.Stages.{IsAt}
 use Rattle.std.proofs.Common.{suc, rules, ◌≡◌, ◌<◌, ℕ, List, true, false, length, get_or, refl, sym, subst, ap, ◌∙◌, arith}
 use Rattle.std.specs.Prelude.{slice_index}
-use Rattle.boc_types.specs.Rows.{cowns_of}
+use Rattle.boc_types.specs.runs.Rows.{cowns_of}
 use Rattle.boc_greedy.proofs.Linking.{read_cowns, placed_at}
 use Rattle.boc_greedy.proofs.Staging.{in_rows}
 use Rattle.boc_greedy.proofs.Queueing.{queued_set}

@@ -3,7 +3,7 @@ use Rattle.std.specs.Prelude.{slice_set}
 use Rattle.std.proofs.lemmas.Option.{slice_get_within}
 use Rattle.boc_greedy.proofs.Reaching.{reached_stays}
 use Rattle.boc_greedy.specs.declared.frontier.Stage.TheVariants.{Unspawned, Waiting}
-use Rattle.boc_greedy.specs.Frontier.{IsReady}
+use Rattle.boc_greedy.specs.Frontier.{AwaitsWorker}
 use Rattle.boc_greedy.proofs.Queueing.{queued_set, queued_push, queued_same}
 use Rattle.boc_greedy.proofs.Staging.{moved_same, ready_stays, was_ready, unspawned_not_over, over_stays}
 use Rattle.boc_greedy.proofs.HeadMoving.{spawned, unspawned_out}
@@ -37,7 +37,7 @@ returns-then-reaches_all-clause-kept c =
     let was = c.requires.unspawned in
     let same = c.reaches_all.ensures in
     spawned rows f _ row c.requires.frontier was same.stages same.heads same.following same.reached
-    (queued_push (IsReady rows stages f.heads) (IsReady rows (slice_set stages row Waiting) f.heads) row f.ready c.insert.new.self c.requires.frontier.ready
+    (queued_push (AwaitsWorker rows stages f.heads) (AwaitsWorker rows (slice_set stages row Waiting) f.heads) row f.ready c.insert.new.self c.requires.frontier.ready
     c.insert.ensures.set (rw same.ready at c.insert.ensures.rows)
     (record { waits = moved_same stages row Waiting Unspawned was; first = c.if-reaches_all.ensures.first.0 refl })
     (ready_stays rows stages row Unspawned Waiting was unspawned_not_over f.heads)
@@ -53,7 +53,7 @@ returns-else-reaches_all-clause-kept c =
     let same = c.reaches_all.ensures in
     spawned rows f _ row c.requires.frontier was same.stages same.heads same.following same.reached
     (rw same.ready
-    (queued_same (IsReady rows stages f.heads) (IsReady rows (slice_set stages row Waiting) f.heads) f.ready c.requires.frontier.ready
-    (λ r m. ready_stays rows stages row Unspawned Waiting was unspawned_not_over f.heads r (λ e. unspawned_out rows stages f.heads row was (subst (IsReady rows stages f.heads) e m)) m)
+    (queued_same (AwaitsWorker rows stages f.heads) (AwaitsWorker rows (slice_set stages row Waiting) f.heads) f.ready c.requires.frontier.ready
+    (λ r m. ready_stays rows stages row Unspawned Waiting was unspawned_not_over f.heads r (λ e. unspawned_out rows stages f.heads row was (subst (AwaitsWorker rows stages f.heads) e m)) m)
     (λ r m. was_ready rows stages row Unspawned Waiting was unspawned_not_over f.heads r
-    (λ e. (let t : false ≡ true = c.if-reaches_all.ensures.first.1 (subst (IsReady rows (slice_set stages row Waiting) f.heads) e m).first in cc)) m)))
+    (λ e. (let t : false ≡ true = c.if-reaches_all.ensures.first.1 (subst (AwaitsWorker rows (slice_set stages row Waiting) f.heads) e m).first in cc)) m)))

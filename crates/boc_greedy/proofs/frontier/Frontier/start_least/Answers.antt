@@ -2,7 +2,7 @@ use Rattle.std.proofs.Common.{arith, length-set}
 use Rattle.std.specs.Prelude.{slice_set, slice_index}
 use Rattle.std.proofs.lemmas.Option.{slice_get_within}
 use Rattle.boc_greedy.specs.declared.frontier.Stage.TheVariants.{Waiting, UnderWay}
-use Rattle.boc_greedy.specs.Frontier.{IsReady}
+use Rattle.boc_greedy.specs.Frontier.{AwaitsWorker}
 use Rattle.boc_greedy.proofs.Reaching.{reached_stays}
 use Rattle.boc_greedy.proofs.Queueing.{queued_set, queued_each, queued_pop}
 use Rattle.boc_greedy.proofs.Staging.{ready_can, can_ready, turns_stay, past_stays, head_stays, ready_stays, was_ready, moved_same, one_stage, waiting_not_over, under_way_not_over, waiting_not_under_way, over_stays}
@@ -34,7 +34,7 @@ returns-clause-kept c =
       room = is.room;
       heads = λ cown l. head_stays rows stages row Waiting UnderWay top.waits waiting_not_over cown (slice_index f.heads cown) (λ e _. under_way_not_over e) (is.heads cown l);
       reached = reached_stays rows stages (slice_set stages row UnderWay) f.heads f.reached.items (over_stays rows stages row Waiting UnderWay top.waits waiting_not_over) is.reached;
-      ready = queued_pop (IsReady rows stages f.heads) (IsReady rows (slice_set stages row UnderWay) f.heads) row f.ready c.take_least.new.self is.ready
+      ready = queued_pop (AwaitsWorker rows stages f.heads) (AwaitsWorker rows (slice_set stages row UnderWay) f.heads) row f.ready c.take_least.new.self is.ready
           c.take_least.ensures.set c.in_ok-row.ensures.rows
           (λ m. waiting_not_under_way (one_stage (slice_set stages row UnderWay) row Waiting UnderWay m.waits (moved_same stages row UnderWay Waiting top.waits)))
           (ready_stays rows stages row Waiting UnderWay top.waits waiting_not_over f.heads)

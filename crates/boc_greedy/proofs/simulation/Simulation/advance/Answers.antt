@@ -1,4 +1,5 @@
 use Rattle.std.proofs.Common.{◌≡◌, ℕ, ◌+◌, ◌<◌, ◌≤◌, length, arith}
+use Rattle.boc_types.specs.declared.limits.TheConstants.{MOST_TICKS}
 use Rattle.std.specs.Prelude.{slice_index}
 use Rattle.boc_greedy.specs.Simulating.{later}
 use Rattle.boc_greedy.proofs.Reading.{read_at, counted_on}
@@ -15,7 +16,7 @@ change-requires-clause-stepping c =
     let u : ℕ = c.index.result.now in
     let u_is : slice_index c.args.self.now.changes.items c.args.worker ≡ u = read_at c.args.self.now.changes.items c.args.worker u n.there c.index.ensures in
     let soon = change_soon _ c.requires.shape _ _ _ _ _ _ _ _ _ k c.args.worker n.there n.busy in
-    let early : u + 1000000 < later = omega (arith, u_is, soon, c.requires.low.low, c.requires.shape.not_many) in
+    let early : u + MOST_TICKS < later = omega (arith, u_is, soon, c.requires.low.low, c.requires.shape.not_many) in
     record {
       frontier = g.frontier;
       kept = kept_next _ c.requires.shape _ _ _ _ _ _ _ _ _ k g.given g.passed c.requires.settled.full c.args.worker u n.there u_is (λ v h. omega (arith, u_is, n.least v h)) early;
@@ -32,7 +33,7 @@ returns-clause-counted c =
     let u : ℕ = c.index.result.now in
     let u_is : slice_index c.args.self.now.changes.items c.args.worker ≡ u = read_at c.args.self.now.changes.items c.args.worker u n.there c.index.ensures in
     let soon = change_soon _ c.requires.shape _ _ _ _ _ _ _ _ _ k c.args.worker n.there n.busy in
-    let early : u + 1000000 < later = omega (arith, u_is, soon, c.requires.low.low, c.requires.shape.not_many) in
+    let early : u + MOST_TICKS < later = omega (arith, u_is, soon, c.requires.low.low, c.requires.shape.not_many) in
     let least = λ (v : ℕ) (h : v < length c.args.self.now.changes.items). (let z : u ≤ slice_index c.args.self.now.changes.items v = omega (arith, u_is, n.least v h) in z) in
     let up = forward _ c.requires.shape _ _ _ _ _ _ _ _ _ k g.given g.passed c.requires.settled.full c.args.worker u n.there u_is least early in
     let counts = counts_next _ _ _ u _ up

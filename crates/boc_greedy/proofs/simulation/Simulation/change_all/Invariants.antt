@@ -1,5 +1,5 @@
 use Rattle.std.proofs.Common.{length}
-use Rattle.boc_greedy.specs.Simulating.{weight_of}
+use Rattle.boc_greedy.specs.Simulating.{steps_of_all}
 use Rattle.boc_greedy.specs.Stepping.{IsStepping, Goes}
 use Rattle.boc_greedy.proofs.simulation.Simulation.change_all.Given as goal
 
@@ -10,4 +10,4 @@ invariant-loop-worker l = record {
 }
 
 abbrev pub decreases-loop-worker : goal.decreases-loop-worker
-decreases-loop-worker l = weight_of l.self.frontier.stages.items
+decreases-loop-worker l = steps_of_all l.self.frontier.stages.items

@@ -1,5 +1,5 @@
 use Rattle.std.proofs.Common.{◌≤◌, length}
-use Rattle.boc_greedy.specs.Simulating.{weight_of}
+use Rattle.boc_greedy.specs.Simulating.{steps_of_all}
 use Rattle.boc_greedy.specs.Stepping.{IsGiving, IsCounted, IsLow}
 use Rattle.boc_greedy.proofs.simulation.Simulation.give_all.Given as goal
 
@@ -8,8 +8,8 @@ invariant-loop-worker l = record {
   giving : IsGiving l.rows (length l.fn.self.changes.items) l.self;
   counted : IsCounted l.rows l.self;
   low : IsLow l.rows l.self;
-  fewer : weight_of l.self.frontier.stages.items ≤ weight_of l.fn.self.frontier.stages.items;
+  fewer : steps_of_all l.self.frontier.stages.items ≤ steps_of_all l.fn.self.frontier.stages.items;
 }
 
 abbrev pub decreases-loop-worker : goal.decreases-loop-worker
-decreases-loop-worker l = weight_of l.self.frontier.stages.items
+decreases-loop-worker l = steps_of_all l.self.frontier.stages.items

@@ -1,4 +1,5 @@
 use Rattle.std.proofs.Common.{◌≡◌, ◌<◌, length, inl, inr, arith}
+use Rattle.boc_types.specs.declared.limits.TheConstants.{MOST_TICKS}
 use Rattle.std.proofs.lemmas.Bool.{cases_lt}
 use Rattle.boc_greedy.specs.Simulating.{later}
 use Rattle.std.proofs.Common.{replicate, rules, ap}
@@ -14,7 +15,7 @@ returns-clause-giving c =
     let changes : c.in_ok-changes.changes.items ≡ replicate c.args.p later = search rules in
     let tasks : c.in_ok-tasks.tasks.items ≡ replicate c.args.p 0 = search rules in
     let children : c.in_ok-children.children.items ≡ replicate c.args.p 0 = search rules in
-    let early : 1000000 < later = omega arith in
+    let early : MOST_TICKS < later = omega arith in
     let whole : length c.in_ok-changes.changes.items ≡ c.args.p = omega (arith, ap length changes, length-replicate c.args.p later) in
     record {
       frontier = c.in_ok-frontier.ensures.kept;

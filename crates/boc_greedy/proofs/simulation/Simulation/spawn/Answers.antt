@@ -1,6 +1,6 @@
 use Rattle.std.proofs.Common.{◌≡◌, ℕ, ◌+◌, ◌<◌, length, refl, arith}
 use Rattle.std.specs.Prelude.{slice_index}
-use Rattle.boc_types.specs.Rows.{parent_of}
+use Rattle.boc_types.specs.runs.Rows.{parent_of}
 use Rattle.boc_greedy.specs.declared.frontier.Stage.TheVariants.{Unspawned, Waiting, UnderWay}
 use Rattle.boc_greedy.specs.Stages.{IsAt}
 use Rattle.boc_greedy.specs.Families.{IsNextChild}

@@ -1,4 +1,5 @@
 use Rattle.std.proofs.Common.{arith, ◌≡◌, ℕ, ◌<◌, ◌≤◌, ◌+◌, ◌*◌}
+use Rattle.boc_types.specs.declared.limits.TheConstants.{MOST_TICKS}
 use Rattle.std.specs.Prelude.{slice_index}
 use Rattle.boc_order.proofs.Placing.{read_small, read_low, read_placed, read_remembers, place_is}
 use Rattle.boc_types.proofs.Children.{row_read}
@@ -17,7 +18,7 @@ overflow_add-end c =
     let n : ℕ = c.args.number in
     let child : 0 < n → c.spawned_at-spawned.result ≡ slice_index c.args.self.now.starts.items c.index-rows-number.result.parent + c.index-rows-number.result.offset =
     rw c.deref.ensures.value at c.spawned_at-spawned.ensures.child in
-    let p : c.place-start.result.0 ≤ n * 1000000 = read_low _ c.requires.shape _ _ _ _ _ c.requires.placed c.requires.remembers
+    let p : c.place-start.result.0 ≤ n * MOST_TICKS = read_low _ c.requires.shape _ _ _ _ _ c.requires.placed c.requires.remembers
     c.requires.there _ c.index-rows-number.is c.spawned_at-spawned.result c.spawned_at-spawned.ensures.main child c.place-start.result
     (place_is _ _ _ _ _ _ c.place-start.ensures c.latest_at.ensures c.as_slice.ensures.value) in
     let r = row_read _ _ _ c.requires.there c.index-rows-number.is in

@@ -1,5 +1,5 @@
 use Rattle.std.proofs.Common.{◌≡◌, drop, take, length}
-use Rattle.boc_types.specs.Names.{block_names}
+use Rattle.boc_types.specs.text.Names.{block_names}
 use Rattle.boc_reader.specs.Views.{block_of}
 use Rattle.boc_reader.specs.Resolving.{names_of, outside_of}
 use Rattle.boc_reader.proofs.ResolvingScopes.{with_code}

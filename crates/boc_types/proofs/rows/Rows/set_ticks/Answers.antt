@@ -1,5 +1,5 @@
 use Rattle.std.proofs.Common.{sym, subst}
-use Rattle.boc_types.specs.Rows.{IsRows}
+use Rattle.boc_types.specs.runs.Rows.{IsRows}
 use Rattle.boc_types.proofs.Editing.{edited_seen, rows_edited}
 use Rattle.boc_types.proofs.rows.Rows.set_ticks.Goals as goal
 

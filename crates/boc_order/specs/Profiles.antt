@@ -1,0 +1,16 @@
+-- The profile of some rows.
+use Rattle.std.specs.Prelude.{◌≡◌, List}
+use Rattle.boc_types.specs.declared.rows.Row.{Row}
+use Rattle.boc_types.specs.plans.Plans.{IsEarliest, IsEnd, HasEnds, NoneEndsBefore, work_of}
+use Rattle.boc_types.specs.plans.Chains.{IsPicked, weight_of}
+use Rattle.boc_order.specs.declared.report.Profile.{Profile}
+
+-- The profile is that of the rows: it has their work, the starts and ends of their earliest plan, the end of that plan, and the chain that is picked in it, whose weights add up to that end. No plan that keeps ends sooner.
+pub record IsProfileOf (rows : List Row) (profile : Profile) : Type 0 where
+  pub work : profile.work ≡ work_of rows
+  pub earliest : IsEarliest rows profile.starts.items
+  pub ends : HasEnds rows profile.starts.items profile.ends.items
+  pub span : IsEnd rows profile.starts.items profile.span
+  pub picked : IsPicked rows profile.starts.items profile.chain.steps.items
+  pub weight : weight_of profile.chain.steps.items ≡ profile.span
+  pub no_sooner : NoneEndsBefore rows profile.span

@@ -1,0 +1,132 @@
+-- What is kept of a run under way, and how an event changes it.
+use Rattle.std.specs.Prelude.{◌≡◌, ℕ, ◌+◌, ◌-◌, ◌*◌, ◌<◌, ◌≤◌, List, [], ◌∷◌, ◌++◌, length, map, Option, Some, None, slice_get, slice_index_or, slice_range, vec_len, vec_capacity}
+use Rattle.boc_types.specs.declared.body.EndStatus.{EndStatus}
+use Rattle.boc_types.specs.declared.body.EndStatus.TheVariants as statuses
+use Rattle.boc_types.specs.declared.event.Event.{Event}
+use Rattle.boc_types.specs.declared.rows.Row.{Row}
+use Rattle.boc_types.specs.declared.limits.TheConstants.{MOST_COWNS, MOST_HELD}
+use Rattle.boc_types.specs.runs.Lives as lives
+use Rattle.boc_types.specs.runs.Lives.{changed}
+use Rattle.boc_types.specs.runs.Legal.{Entry, entries, IsLegal}
+use Rattle.boc_types.specs.runs.Records.{AreRowsOf}
+use Rattle.arrayvec.specs.ArrayVec.{ArrayVec}
+use Rattle.boc_rules.specs.declared.stage.Life.{Life}
+use Rattle.boc_rules.specs.declared.stage.Life.TheVariants.{Pending, Running, Ended}
+use Rattle.boc_rules.specs.declared.stage.Stage.{Stage}
+use Rattle.boc_rules.specs.declared.so_far.RunSoFar.{RunSoFar}
+use Rattle.boc_rules.specs.declared.so_far.TheConstants.{MOST_EVENTS}
+use Rattle.boc_rules.specs.Before.{IsLatest, AreBefore, noted}
+
+-- what has become of a row
+abbrev pub meant : Life → lives.Life
+meant Pending = lives.Pending
+meant Running = lives.Running
+meant Ended = lives.Ended
+
+-- the stage of a row
+pub record IsStageOf (entry : Entry) (stage : Stage) : Type 0 where
+  pub life : meant stage.life ≡ entry.life
+  pub last : stage.last ≡ entry.last
+
+-- the stages of a run's rows, one for each
+pub record AreStagesOf (run : List Entry) (stages : List Stage) : Type 0 where
+  pub all : length stages ≡ length run
+  pub each : (r : ℕ) (entry : Entry) (stage : Stage) → slice_get run r ≡ Some entry → slice_get stages r ≡ Some stage → IsStageOf entry stage
+
+-- what was found for each row: the rows before it on its cowns
+pub record AreFound (run : List Entry) (stages : List Stage) (found : List (Option ℕ)) : Type 0 where
+  pub ordered : (r : ℕ) (stage : Stage) → slice_get stages r ≡ Some stage → stage.from ≤ stage.to
+  pub within : (r : ℕ) (stage : Stage) → slice_get stages r ≡ Some stage → stage.to ≤ length found
+  pub before : (r : ℕ) (stage : Stage) → slice_get stages r ≡ Some stage → AreBefore run r (slice_range found stage.from stage.to)
+
+-- the latest row of a run on each of so many cowns
+pub record AreLatest (run : List Entry) (cowns : ℕ) (latest : List (Option ℕ)) : Type 0 where
+  pub all : length latest ≡ cowns
+  pub each : (c : ℕ) → c < cowns → IsLatest run c (length run) (slice_index_or latest c None)
+
+-- 1 for a row that is over
+abbrev pub over_one : lives.Life → ℕ
+over_one lives.Ended = 1
+over_one _ = 0
+
+-- how many rows are over
+abbrev pub over : List Entry → ℕ
+over [] = 0
+over (entry ∷ entries) = over_one entry.life + over entries
+
+-- what is kept is that of a legal log
+pub record AreParts (cowns : ℕ) (events : List Event) (rows : List Row) (stages : List Stage) (found latest : List (Option ℕ)) (ended : ℕ) : Type 0 where
+  pub few : cowns ≤ MOST_COWNS
+  pub legal : IsLegal cowns events
+  pub rows_are : AreRowsOf (entries events) rows
+  pub stages_are : AreStagesOf (entries events) stages
+  pub found_are : AreFound (entries events) stages found
+  pub latest_are : AreLatest (entries events) cowns latest
+  pub ended_is : ended ≡ over (entries events)
+
+-- what is kept of a run is that of a legal log
+abbrev pub IsRunSoFar : RunSoFar → Type 0
+IsRunSoFar run = AreParts run.cowns run.events.items run.rows.items run.stages.items run.found.items run.latest.items run.ended
+
+-- there is room for so many more rows, and for the events of these rows and of those that are there
+pub record HasRooms (run : RunSoFar) : Type 0 where
+  pub rows : vec_len run.rows + run.rooms ≤ vec_capacity run.rows
+  pub stages : vec_len run.stages + run.rooms ≤ vec_capacity run.stages
+  pub found : vec_len run.found + MOST_HELD * run.rooms ≤ vec_capacity run.found
+  pub events : MOST_EVENTS * (vec_len run.rows + run.rooms) ≤ vec_capacity run.events
+
+-- the same run, whose lists may have more room
+pub record IsSameRun (old new : RunSoFar) : Type 0 where
+  pub cowns : new.cowns ≡ old.cowns
+  pub events : new.events.items ≡ old.events.items
+  pub rows : new.rows.items ≡ old.rows.items
+  pub stages : new.stages.items ≡ old.stages.items
+  pub found : new.found.items ≡ old.found.items
+  pub latest : new.latest.items ≡ old.latest.items
+  pub ended : new.ended ≡ old.ended
+
+-- a row that was just spawned
+abbrev pub new_row : ℕ → ℕ → ArrayVec ℕ → Row
+new_row parent offset cowns = record {
+  parent = parent;
+  offset = offset;
+  cowns = cowns;
+  ticks = 0;
+  status = statuses.Done;
+  written = record { items = [] };
+}
+
+-- a row was put behind the others
+pub record IsSpawned (old new : RunSoFar) (row parent offset : ℕ) (cowns : ArrayVec ℕ) : Type 0 where
+  pub cowns_stay : new.cowns ≡ old.cowns
+  pub events_stay : new.events ≡ old.events
+  pub rows : new.rows.items ≡ old.rows.items ++ new_row parent offset cowns ∷ []
+  pub stages : new.stages.items ≡
+      changed old.stages.items parent (λ s. record s { last = offset }) (slice_get old.stages.items parent)
+      ++ record { life = Pending; last = 0; from = length old.found.items; to = length old.found.items + length cowns.items } ∷ []
+  pub found : new.found.items ≡ old.found.items ++ map (λ c. slice_index_or old.latest.items c None) cowns.items
+  pub latest : new.latest.items ≡ noted old.latest.items cowns.items row
+  pub ended : new.ended ≡ old.ended
+  pub rooms : new.rooms ≡ old.rooms - 1
+
+-- a row runs
+pub record IsStarted (old new : RunSoFar) (row : ℕ) : Type 0 where
+  pub cowns_stay : new.cowns ≡ old.cowns
+  pub events_stay : new.events ≡ old.events
+  pub rows_stay : new.rows.items ≡ old.rows.items
+  pub stages : new.stages.items ≡ changed old.stages.items row (λ s. record s { life = Running }) (slice_get old.stages.items row)
+  pub found_stays : new.found.items ≡ old.found.items
+  pub latest_stay : new.latest.items ≡ old.latest.items
+  pub ended : new.ended ≡ old.ended
+  pub rooms_stay : new.rooms ≡ old.rooms
+
+-- a row is over
+pub record IsEnded (old new : RunSoFar) (row ticks : ℕ) (status : EndStatus) (written : ArrayVec ℕ) : Type 0 where
+  pub cowns_stay : new.cowns ≡ old.cowns
+  pub events_stay : new.events ≡ old.events
+  pub rows : new.rows.items ≡ changed old.rows.items row (λ x. record x { ticks = ticks; status = status; written = written }) (slice_get old.rows.items row)
+  pub stages : new.stages.items ≡ changed old.stages.items row (λ s. record s { life = Ended }) (slice_get old.stages.items row)
+  pub found_stays : new.found.items ≡ old.found.items
+  pub latest_stay : new.latest.items ≡ old.latest.items
+  pub ended : new.ended ≡ old.ended + 1
+  pub rooms_stay : new.rooms ≡ old.rooms

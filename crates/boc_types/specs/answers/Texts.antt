@@ -1,0 +1,105 @@
+-- The texts that the program writes.
+use Rattle.std.specs.Prelude.{ℕ, suc, List, [], ◌∷◌, ◌++◌, Option, Some, None, take, drop, length, ℤ, codes, decimal}
+use Rattle.boc_types.specs.declared.chain.Step.{Step}
+use Rattle.boc_types.specs.declared.chain.Via.{Via}
+use Rattle.boc_types.specs.declared.chain.Via.TheVariants.{Spawn, Order, Last}
+use Rattle.std.specs.Fmt.{signed_decimal}
+use Rattle.boc_types.specs.declared.cown.Cown.{Cown}
+use Rattle.boc_types.specs.program.Sizes.{size_of}
+
+-- the line of a single cown: its name and its value
+abbrev pub value_line : List ℕ → ℤ → List ℕ
+value_line name v = name ++ codes " " ++ signed_decimal v ++ codes "\n"
+
+-- the line of a member of an array
+abbrev pub member_line : List ℕ → ℕ → ℤ → List ℕ
+member_line name i v = value_line (name ++ codes "[" ++ decimal i ++ codes "]") v
+
+-- the lines of the members of an array from the i-th on
+abbrev pub member_lines : List ℕ → ℕ → List ℤ → List ℕ
+member_lines name i [] = []
+member_lines name i (v ∷ vs) = member_line name i v ++ member_lines name (suc i) vs
+
+-- the lines of a single cown, or of an array, with these values
+abbrev pub cown_lines : List ℕ → Option ℕ → List ℤ → List ℕ
+cown_lines name None [] = []
+cown_lines name None (v ∷ vs) = value_line name v
+cown_lines name (Some n) vs = member_lines name 0 vs
+
+-- the cowns' values, in the order of their numbers
+abbrev pub values_text : List Cown → List ℤ → List ℕ
+values_text [] vs = []
+values_text (c ∷ cs) vs = cown_lines c.name c.size (take (size_of c.size) vs) ++ values_text cs (drop (size_of c.size) vs)
+
+-- how many rows a record has
+abbrev pub check_text : ℕ → List ℕ
+check_text rows = codes "ok " ++ decimal rows ++ codes "\n"
+
+-- what stands between the row and the weight of a step: the link to the next one
+abbrev pub via_word : Via → List ℕ
+via_word Spawn = codes " spawn "
+via_word Order = codes " order "
+via_word Last = codes " end "
+
+-- the line of a step of a chain
+abbrev pub step_line : Step → List ℕ
+step_line s = decimal s.row ++ via_word s.via ++ decimal s.weight ++ codes "\n"
+
+-- the lines of a chain's steps
+abbrev pub step_lines : List Step → List ℕ
+step_lines [] = []
+step_lines (s ∷ steps) = step_line s ++ step_lines steps
+
+-- the line of a row in a plan: its number, its start and its end
+abbrev pub plan_line : ℕ → ℕ → ℕ → List ℕ
+plan_line r start end = decimal r ++ codes " " ++ decimal start ++ codes " " ++ decimal end ++ codes "\n"
+
+-- the lines of the rows of a plan from row r on
+abbrev pub plan_lines : ℕ → List ℕ → List ℕ → List ℕ
+plan_lines r [] ends = []
+plan_lines r (start ∷ starts) [] = []
+plan_lines r (start ∷ starts) (end ∷ ends) = plan_line r start end ++ plan_lines (suc r) starts ends
+
+-- a line of a word and a number
+abbrev pub number_line : List ℕ → ℕ → List ℕ
+number_line word n = word ++ decimal n ++ codes "\n"
+
+-- the numbers at the head of a report: how many rows, their work, and the span
+abbrev pub report_head : ℕ → ℕ → ℕ → List ℕ
+report_head rows work span = number_line (codes "rows ") rows ++ number_line (codes "work ") work ++ number_line (codes "span ") span
+
+-- a report: the numbers, the chain, and the plan
+abbrev pub report_text : ℕ → ℕ → List Step → List ℕ → List ℕ → List ℕ
+report_text work span steps starts ends =
+    report_head (length starts) work span ++ codes "chain\n" ++ step_lines steps ++ codes "plan\n" ++ plan_lines 0 starts ends
+
+-- the line of a row in a greedy plan: its number, its start, its end and its worker
+abbrev pub served_line : ℕ → ℕ → ℕ → ℕ → List ℕ
+served_line r start end worker =
+    decimal r ++ codes " " ++ decimal start ++ codes " " ++ decimal end ++ codes " " ++ decimal worker ++ codes "\n"
+
+-- the lines of the rows of a greedy plan from row r on
+abbrev pub served_lines : ℕ → List ℕ → List ℕ → List ℕ → List ℕ
+served_lines r [] ends workers = []
+served_lines r (start ∷ starts) [] workers = []
+served_lines r (start ∷ starts) (end ∷ ends) [] = []
+served_lines r (start ∷ starts) (end ∷ ends) (worker ∷ workers) =
+    served_line r start end worker ++ served_lines (suc r) starts ends workers
+
+-- the line of the end of a greedy plan, and of the tick by which it has ended
+abbrev pub bound_line : ℕ → ℕ → List ℕ
+bound_line last bound = codes "end " ++ decimal last ++ codes " bound " ++ decimal bound ++ codes "\n"
+
+-- the greedy part of a report: the number of workers, the rows, and the end with its bound
+abbrev pub greedy_text : ℕ → List ℕ → List ℕ → List ℕ → ℕ → ℕ → List ℕ
+greedy_text p starts ends workers last bound =
+    number_line (codes "greedy ") p ++ served_lines 0 starts ends workers ++ bound_line last bound
+
+-- the line of a row in a sweep: its number, and the span that goes with it
+abbrev pub sweep_line : ℕ → ℕ → List ℕ
+sweep_line r span = decimal r ++ codes " " ++ decimal span ++ codes "\n"
+
+-- the lines of the rows of a sweep from row r on
+abbrev pub sweep_lines : ℕ → List ℕ → List ℕ
+sweep_lines r [] = []
+sweep_lines r (span ∷ spans) = sweep_line r span ++ sweep_lines (suc r) spans

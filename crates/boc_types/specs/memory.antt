@@ -1,0 +1,5 @@
+pub mod View
+pub mod Stored
+pub mod Falls
+pub mod Same
+pub mod Spent

@@ -1,0 +1,4 @@
+pub mod Plans
+pub mod Chains
+pub mod Greedy
+pub mod Edits

@@ -1,0 +1,14 @@
+-- The cowns of a row, and those of them that it wrote.
+use Rattle.std.specs.Prelude.{◌<◌, ℕ, List, All}
+use Rattle.std.specs.List.{Contains}
+use Rattle.std.specs.List.Sorted.{IsStrictlyIncreasing}
+
+-- cowns rise strictly, and are below a number of cowns
+pub record AreCowns (count : ℕ) (cowns : List ℕ) : Type 0 where
+  pub rise : IsStrictlyIncreasing cowns
+  pub below : All (λ c. c < count) cowns
+
+-- some cowns rise strictly, and each is one of these
+pub record AreAmong (cowns some : List ℕ) : Type 0 where
+  pub rise : IsStrictlyIncreasing some
+  pub own : All (λ c. Contains cowns c) some

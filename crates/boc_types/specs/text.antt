@@ -1,0 +1,6 @@
+pub mod Words
+pub mod Tokens
+pub mod Shape
+pub mod Names
+pub mod Spells
+pub mod RecordTexts

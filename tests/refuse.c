@@ -1,0 +1,86 @@
+/*
+ * Preloaded to a program, this refuses one of its requests for memory: the one whose number stands in the environment
+ * as REFUSED_REQUEST, counted from 1. As it does so, it writes a byte to the file whose number is REFUSAL_NOTE, so that
+ * a test can tell whether the program made so many requests. The start of a thread is a request too, since a thread has
+ * memory of its own, which the C library takes from the system.
+ *
+ * The count begins with the constructors of libraries, where main is about to begin: what the loader and the C library
+ * ask for before is not the program's. All threads count together.
+ */
+#define _GNU_SOURCE
+#include <dlfcn.h>
+#include <errno.h>
+#include <pthread.h>
+#include <stddef.h>
+#include <stdlib.h>
+#include <unistd.h>
+
+void *__libc_malloc(size_t size);
+void *__libc_calloc(size_t count, size_t size);
+void *__libc_realloc(void *block, size_t size);
+void *__libc_memalign(size_t alignment, size_t size);
+
+typedef int start_thread(pthread_t *thread, const pthread_attr_t *attributes, void *(*body)(void *), void *argument);
+
+static start_thread *start;
+static long refused_request;
+static long requests;
+static int note;
+
+__attribute__((constructor)) static void begin_to_count(void)
+{
+    const char *request = getenv("REFUSED_REQUEST");
+    const char *file = getenv("REFUSAL_NOTE");
+    *(void **)&start = dlsym(RTLD_NEXT, "pthread_create");
+    if (request != NULL && file != NULL) {
+        note = atoi(file);
+        refused_request = atol(request);
+    }
+}
+
+static int is_refused(void)
+{
+    if (refused_request == 0 || __atomic_add_fetch(&requests, 1, __ATOMIC_SEQ_CST) != refused_request) {
+        return 0;
+    }
+    if (write(note, "x", 1) != 1) {
+        _exit(99);
+    }
+    errno = ENOMEM;
+    return 1;
+}
+
+void *malloc(size_t size)
+{
+    return is_refused() ? NULL : __libc_malloc(size);
+}
+
+void *calloc(size_t count, size_t size)
+{
+    return is_refused() ? NULL : __libc_calloc(count, size);
+}
+
+void *realloc(void *block, size_t size)
+{
+    return is_refused() ? NULL : __libc_realloc(block, size);
+}
+
+void *aligned_alloc(size_t alignment, size_t size)
+{
+    return is_refused() ? NULL : __libc_memalign(alignment, size);
+}
+
+int posix_memalign(void **block, size_t alignment, size_t size)
+{
+    void *made = is_refused() ? NULL : __libc_memalign(alignment, size);
+    if (made == NULL) {
+        return ENOMEM;
+    }
+    *block = made;
+    return 0;
+}
+
+int pthread_create(pthread_t *thread, const pthread_attr_t *attributes, void *(*body)(void *), void *argument)
+{
+    return is_refused() ? EAGAIN : start(thread, attributes, body, argument);
+}

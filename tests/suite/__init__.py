@@ -1,0 +1,1 @@
+"""Tests of the built program from outside: words and bytes in, bytes and a status out."""

@@ -1,0 +1,87 @@
+"""Each request for memory refused in turn: the answer is the want of memory, or the whole right one."""
+import os
+import shutil
+import subprocess
+import tempfile
+
+from . import model
+from .records import fan, fan_text
+from .running import MEMORY, Answer, done, fault_of, refused
+from .worked import GREEDY, PROFILE, SHORTER, SHORTER_GREEDY, VALUES
+
+REFUSE = os.path.join(os.path.dirname(os.path.dirname(os.path.abspath(__file__))), "refuse.c")
+
+# A run that makes more requests than this never ends, and one that takes longer hangs.
+MOST_REQUESTS = 100000
+SECONDS = 30
+
+# Rows enough that a sweep takes several threads, each of which needs memory of its own.
+MANY = fan(400, lambda number: (number % 3,), lambda number: 1 + number % 4)
+
+
+def runs(program):
+    """Words, what stands on standard input, and the answer with ample memory."""
+    text, record = program.example("transfer.boc"), program.example("transfer.record")
+    yield ["values"], text, done(VALUES["transfer.boc"].encode())
+    yield ["check"], record, done(b"ok 4\n")
+    yield ["profile"], record, done(PROFILE.encode())
+    yield ["profile", "--p", "2"], record, done((PROFILE + GREEDY).encode())
+    yield ["whatif"], record, done(PROFILE.encode())
+    yield ["whatif", "--p", "2", "2=1"], record, done((SHORTER + SHORTER_GREEDY).encode())
+    yield ["sweep"], record, done(b"0 9\n1 8\n2 7\n3 8\n")
+    yield ["sweep"], fan_text(3, MANY), done(model.sweep(MANY))
+    yield ["--help"], b"", program.run(["--help"])
+    yield ["whatif", "--help"], b"", program.run(["whatif", "--help"])
+    yield ["--p", "65"], b"", program.run(["--p", "65"])
+    yield ["values"], b"main { x = 1; }", refused(3, "boc: line 1: 5 UnknownName")
+    yield ["check"], record + b"x", refused(3, "boc: line 15: 12 After")
+    yield ["whatif", "2=1", "4=1"], record, refused(3, "boc: edit 2: 1 NoRow")
+    yield ["whatif", "2=01"], record, Answer(2, b"", b"boc: edit 1: not ROW=TICKS\n")
+
+
+def cases(program):
+    with tempfile.TemporaryDirectory() as folder:
+        library = os.path.join(folder, "refuse.so")
+        fault = build(library)
+        yield "the library that refuses requests", fault
+        if fault is None:
+            for words, source, expected in runs(program):
+                name = f"{' '.join(words)} of {len(source)} bytes"
+                yield name, fault_of_refusals(program, library, words, source, expected)
+
+
+def build(library):
+    """Compiles the library, and tells why that failed."""
+    compiler = shutil.which("cc") or shutil.which("gcc")
+    if compiler is None:
+        return "there is no C compiler"
+    command = [compiler, "-O1", "-shared", "-fPIC", "-o", library, REFUSE, "-ldl"]
+    made = subprocess.run(command, stderr=subprocess.PIPE)
+    return made.stderr.decode(errors="replace") if made.returncode else None
+
+
+def fault_of_refusals(program, library, words, source, expected):
+    """Goes on to the number of the first request that the program doesn't make."""
+    told = 0
+    for request in range(1, MOST_REQUESTS):
+        answer, was_made = run_with_refusal(program, library, words, source, request)
+        if not was_made:
+            fault = fault_of(expected, answer) or (None if told else "no request was told as refused")
+            return fault and f"with no request refused: {fault}"
+        if answer == MEMORY:
+            told += 1
+        elif fault_of(expected, answer) is not None:
+            return f"with request {request} refused: {fault_of(MEMORY, answer)}"
+    return f"it makes more than {MOST_REQUESTS} requests"
+
+
+def run_with_refusal(program, library, words, source, request):
+    """The answer where this request is refused, and whether it was made."""
+    reading, writing = os.pipe()
+    environment = dict(os.environ, LD_PRELOAD=library, REFUSED_REQUEST=str(request), REFUSAL_NOTE=str(writing))
+    try:
+        answer = program.run(words, source, timeout=SECONDS, env=environment, pass_fds=[writing])
+    finally:
+        os.close(writing)
+    with os.fdopen(reading, "rb") as note:
+        return answer, note.read() != b""

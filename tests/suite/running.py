@@ -1,0 +1,98 @@
+"""Runs of the program, and what is expected of them.
+
+A case is a name and a fault: None where it passed, else what was wrong.
+"""
+import os
+import subprocess
+from typing import NamedTuple
+
+# A run that takes longer hangs. A sweep over as many rows as there may be takes the longest.
+SECONDS = 600
+
+
+class Answer(NamedTuple):
+    status: int
+    output: bytes
+    errors: bytes
+
+
+def done(output):
+    """The answer of a run that did what it was asked for."""
+    return Answer(0, output, b"")
+
+
+def refused(status, line):
+    """The answer of a run that told a fault by this line."""
+    return Answer(status, b"", line.encode() + b"\n")
+
+
+MEMORY = refused(5, "boc: memory")
+DEVICE = refused(5, "boc: device")
+
+
+class Program:
+    def __init__(self, path, examples):
+        self.path = path
+        self.examples = examples
+
+    def example(self, name):
+        """The bytes of an example of the repository."""
+        with open(os.path.join(self.examples, name), "rb") as file:
+            return file.read()
+
+    def run(self, words, source=b"", **options):
+        """The answer to these words, with these bytes on standard input or with that of the options."""
+        if "stdin" not in options:
+            options["input"] = source
+        return self.answer([self.path, *words], **options)
+
+    def run_by_shell(self, line, words):
+        """The answer of a shell's line, in which "$0" "$@" is the program with these words."""
+        return self.answer(["sh", "-c", line, self.path, *words])
+
+    def answer(self, command, timeout=SECONDS, **options):
+        options.setdefault("stdout", subprocess.PIPE)
+        try:
+            run = subprocess.run(command, stderr=subprocess.PIPE, timeout=timeout, **options)
+        except subprocess.TimeoutExpired:
+            return None
+        return Answer(run.returncode, run.stdout or b"", run.stderr)
+
+
+def fault_of(expected, answer):
+    """What is wrong with an answer, or None."""
+    if answer is None:
+        return "it did not end in time"
+    for part in Answer._fields:
+        wanted, got = getattr(expected, part), getattr(answer, part)
+        if wanted != got:
+            return f"its {part}: {difference(wanted, got)}"
+    return None
+
+
+def difference(wanted, got):
+    if isinstance(wanted, int):
+        return f"{got} in place of {wanted}"
+    place = next((at for at, (a, b) in enumerate(zip(wanted, got)) if a != b), min(len(wanted), len(got)))
+    begin = max(0, place - 20)
+    return f"from byte {place} on, {got[begin:place + 40]!r} in place of {wanted[begin:place + 40]!r}"
+
+
+class Results:
+    """Counts the cases, and prints those that fail."""
+
+    def __init__(self):
+        self.passed = 0
+        self.failed = 0
+
+    def tell(self, name, fault):
+        if fault is None:
+            self.passed += 1
+        else:
+            self.failed += 1
+            print(f"failed: {name}: {fault}", flush=True)
+
+    def end(self):
+        """Prints the last line, and gives the status."""
+        print(f"{self.passed} passed, {self.failed} failed", flush=True)
+        return 1 if self.failed else 0

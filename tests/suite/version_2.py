@@ -1,0 +1,61 @@
+"""Records of version 2, whose ends name the cowns that the rows wrote."""
+from . import model
+from .records import TRANSFER, WRITTEN, lines_text
+from .refusals import RECORD_KINDS
+from .running import done, fault_of, refused
+from .worked import GREEDY, PROFILE, SHORTER
+
+
+def with_written(number, line):
+    """The record with another line in this place, counted from 1."""
+    return lines_text(WRITTEN[:number - 1] + [line] + WRITTEN[number:])
+
+
+# Two rows that only read their cown, and one that writes it: the text and the rows.
+READERS = lines_text(["boc 2 1", "+ 0 0 0", "> 0", "+ 1 0 2 0", "+ 2 0 3 0", "+ 3 0 4 0", "< 0 4 0", "> 1", "< 1 7 0", "> 2",
+                      "< 2 7 0", "> 3", "< 3 2 0 0", "."])
+READERS_ROWS = [model.Row(0, 0, (), 4), model.Row(0, 2, (0,), 7), model.Row(0, 3, (0,), 7), model.Row(0, 4, (0,), 2)]
+
+# Records, and the answers to the commands that read them.
+READ = [
+    (READERS, ["check"], "ok 4\n"),
+    (READERS, ["profile"], model.report(READERS_ROWS).decode()),
+    (READERS, ["profile", "--p", "2"], model.report(READERS_ROWS, 2).decode()),
+    (lines_text(WRITTEN), ["check"], "ok 4\n"),
+    (lines_text(WRITTEN), ["profile"], PROFILE),
+    (lines_text(WRITTEN), ["profile", "--p", "2"], PROFILE + GREEDY),
+    (lines_text(WRITTEN), ["whatif", "2=1"], SHORTER),
+    (lines_text(WRITTEN), ["sweep"], "0 9\n1 8\n2 7\n3 8\n"),
+    # A row need not have written its cowns.
+    (with_written(9, "< 1 2 0"), ["check"], "ok 4\n"),
+    (with_written(11, "< 2 3 0 1"), ["check"], "ok 4\n"),
+    # In version 1 no cowns are named, and rows are read as if they had written all of theirs.
+    (lines_text(TRANSFER), ["check"], "ok 4\n"),
+    (lines_text(["boc 2 0"] + ["+ 0 0 0", "> 0", "< 0 1 0", "."]), ["check"], "ok 1\n"),
+]
+
+# Texts that are no record's, the line of the fault and its kind.
+REFUSED = [
+    (with_written(1, "boc 2 257"), 1, 1),
+    (with_written(1, "boc 2"), 1, 1),
+    (with_written(1, "boc 02 2"), 1, 1),
+    (with_written(9, "< 1 2 0 "), 9, 2),
+    (with_written(9, "< 1 2 0 00"), 9, 2),
+    (with_written(11, "< 2 3 0 0 1 2 3 4 5 6 7 8"), 11, 2),
+    (with_written(9, "< 1 2 0 1"), 9, 8),
+    (with_written(9, "< 1 2 0 2"), 9, 8),
+    (with_written(9, "< 1 2 0 4294967295"), 9, 8),
+    (with_written(11, "< 2 3 0 1 0"), 11, 8),
+    (with_written(11, "< 2 3 0 0 0"), 11, 8),
+    (with_written(7, "< 0 4 0 0"), 7, 8),
+    # A version 1 record's ends name no cowns.
+    (with_written(1, "boc 1 2"), 9, 2),
+]
+
+
+def cases(program):
+    for source, words, text in READ:
+        yield f"{words} of {source[-40:]!r}", fault_of(done(text.encode()), program.run(words, source))
+    for source, line, kind in REFUSED:
+        expected = refused(3, f"boc: line {line}: {kind} {RECORD_KINDS[kind]}")
+        yield f"check of {source[-40:]!r}", fault_of(expected, program.run(["check"], source))

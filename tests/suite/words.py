@@ -1,0 +1,90 @@
+"""The words of the command line: calls for help, numbers of workers, edits, and words that are refused."""
+from .running import Answer, done, fault_of
+from .worked import GREEDY, PROFILE, SHORTER
+
+HELP = [["--help"], ["-h"], ["values", "--help"], ["check", "--help"], ["profile", "--help"], ["whatif", "--help"],
+        ["sweep", "--help"], ["help"], ["help", "whatif"]]
+
+TAKEN = [
+    (["profile", "--p=2"], PROFILE + GREEDY),
+    (["profile", "--p", "+2"], PROFILE + GREEDY),
+    (["profile", "--p", "002"], PROFILE + GREEDY),
+    (["whatif", "--", "2=1"], SHORTER),
+]
+
+REFUSED = [
+    [],
+    ["bogus"],
+    ["Values"],
+    ["--help=3"],
+    ["values", "more"],
+    ["check", "more"],
+    ["sweep", "2=1"],
+    ["profile", "2=1"],
+    ["values", "--p", "2"],
+    ["profile", "--p"],
+    ["profile", "--p", "0"],
+    ["profile", "--p", "65"],
+    ["profile", "--p", "two"],
+    ["profile", "--p", ""],
+    ["profile", "--p", "2", "--p", "2"],
+    ["profile", "--q", "2"],
+    ["whatif", "-1=2"],
+    ["whatif", "--p", "0", "2=1"],
+    [b"values\xff"],
+    ["whatif", b"2=1\xff"],
+    [b"\xff"],
+]
+
+# Edits that are no ROW=TICKS, and the number of the first.
+MISSPELT = [
+    (["2=01"], 1),
+    (["2"], 1),
+    (["2="], 1),
+    (["=2"], 1),
+    ([""], 1),
+    (["a=1"], 1),
+    (["2=1 "], 1),
+    ([" 2=1"], 1),
+    (["+2=1"], 1),
+    (["2==1"], 1),
+    (["2=1=1"], 1),
+    (["02=1"], 1),
+    (["2=4294967296"], 1),
+    (["4294967296=2"], 1),
+    (["2=1", "3=x"], 2),
+    (["9=1", "3=x", "y"], 2),
+    (["--p", "2", "2=1", "2=1", "x"], 3),
+    (["--", "-1=2"], 1),
+]
+
+
+def cases(program):
+    record = program.example("transfer.record")
+    for words in HELP:
+        yield f"help by {words}", fault_of_help(program.run(words, record))
+    for words, text in TAKEN:
+        yield f"taken {words}", fault_of(done(text.encode()), program.run(words, record))
+    for words in REFUSED:
+        yield f"refused {words}", fault_of_refusal(program.run(words, record))
+    for edits, number in MISSPELT:
+        expected = Answer(2, b"", b"boc: edit %d: not ROW=TICKS\n" % number)
+        for source in (record, b"no record"):
+            answer = program.run(["whatif", *edits], source)
+            yield f"misspelt {edits}", fault_of(expected, answer)
+
+
+def fault_of_help(answer):
+    """A call for help prints a text on standard output, and has the status 0."""
+    if answer is not None and answer.output.strip():
+        answer = answer._replace(output=b"")
+        return fault_of(done(b""), answer)
+    return "no text was printed"
+
+
+def fault_of_refusal(answer):
+    """Words that are refused have the status 2, and a text of the parser's own on standard error."""
+    if answer is not None and answer.errors.strip():
+        answer = answer._replace(errors=b"")
+        return fault_of(Answer(2, b"", b""), answer)
+    return "no text was printed"

@@ -1,0 +1,110 @@
+"""Worked examples: programs with their values, and the record of a run with its report, edits and sweep."""
+from . import model, records
+from .running import done, fault_of
+
+VALUES = {
+    "transfer.boc": "a 12\nb 4\n",
+    "countdown.boc": "a 3\n",
+    "four_squares.boc": "c[0] 1\nc[1] 4\nc[2] 9\nc[3] 16\n",
+    "overflow.boc": "a 9223372036854775807\n",
+    "same_cown_twice.boc": "a 10\nb 0\n",
+    "two_orders.boc": "a 2\nb 1\np 0\nq 0\n",
+}
+
+PROFILE = """rows 4
+work 11
+span 9
+chain
+0 spawn 2
+1 order 2
+2 order 3
+3 end 2
+plan
+0 0 4
+1 2 4
+2 4 7
+3 7 9
+"""
+
+GREEDY = """greedy 2
+0 0 4 0
+1 2 4 1
+2 4 7 0
+3 7 9 0
+end 9 bound 14
+"""
+
+# With one tick in row 2.
+SHORTER = """rows 4
+work 9
+span 7
+chain
+0 spawn 2
+1 order 2
+2 order 1
+3 end 2
+plan
+0 0 4
+1 2 4
+2 4 5
+3 5 7
+"""
+
+SHORTER_GREEDY = """greedy 2
+0 0 4 0
+1 2 4 1
+2 4 5 0
+3 5 7 0
+end 7 bound 11
+"""
+
+# With one tick in row 2 and 5 in row 3: both edits take effect.
+TWO_EDITS = """rows 4
+work 12
+span 10
+chain
+0 spawn 2
+1 order 2
+2 order 1
+3 end 5
+plan
+0 0 4
+1 2 4
+2 4 5
+3 5 10
+"""
+
+COMMANDS = [
+    (["check"], "ok 4\n"),
+    (["profile"], PROFILE),
+    (["profile", "--p", "2"], PROFILE + GREEDY),
+    (["whatif"], PROFILE),
+    (["whatif", "--p", "2"], PROFILE + GREEDY),
+    (["whatif", "2=1"], SHORTER),
+    (["whatif", "2=1", "2=1"], SHORTER),
+    (["whatif", "2=3", "2=1"], SHORTER),
+    (["whatif", "2=1", "2=3"], PROFILE),
+    (["whatif", "2=1", "3=5"], TWO_EDITS),
+    (["whatif", "3=5", "2=1"], TWO_EDITS),
+    (["whatif", "--p", "2", "2=1"], SHORTER + SHORTER_GREEDY),
+    (["whatif", "2=1", "--p", "2"], SHORTER + SHORTER_GREEDY),
+    (["sweep"], "0 9\n1 8\n2 7\n3 8\n"),
+]
+
+# The rows of the transfer.
+ROWS = [model.Row(0, 0, (), 4), model.Row(0, 2, (0,), 2), model.Row(0, 3, (0, 1), 3), model.Row(0, 4, (1,), 2)]
+
+
+def cases(program):
+    for name, values in VALUES.items():
+        answer = program.run(["values"], program.example(name))
+        yield f"values of {name}", fault_of(done(values.encode()), answer)
+    record = program.example("transfer.record")
+    yield "the record of the transfer", None if record == records.lines_text(records.WRITTEN) else "it is another"
+    first = program.example("transfer_1.record")
+    yield "its record in version 1", None if first == records.lines_text(records.TRANSFER) else "it is another"
+    for words, text in COMMANDS:
+        answer = program.run(words, record)
+        yield " ".join(words), fault_of(done(text.encode()), answer)
+    yield "the model's report", None if model.report(ROWS, 2) == (PROFILE + GREEDY).encode() else "it is another"
+    yield "the model's sweep", None if model.sweep(ROWS) == b"0 9\n1 8\n2 7\n3 8\n" else "it is another"

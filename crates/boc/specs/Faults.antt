@@ -1,7 +1,9 @@
 -- What faults say.
-use Rattle.std.specs.Prelude.{ℕ, Bool, true, false, Option, Some, None}
+use Rattle.std.specs.Prelude.{ℕ, Bool, true, false, List, Option, Some, None, codes}
 use Rattle.boc.specs.declared.fault.Fault.{Fault}
 use Rattle.boc.specs.declared.fault.Fault.TheVariants as faults
+use Rattle.boc_types.specs.declared.edit.EditFault.{EditFault}
+use Rattle.boc_types.specs.declared.edit.EditFault.TheVariants as edits
 use Rattle.boc_text.specs.declared.whole.TextFault.{TextFault}
 use Rattle.boc_text.specs.declared.whole.TextFault.TheVariants as texts
 use Rattle.boc_eval.specs.declared.serial.SerialFault.{SerialFault}
@@ -78,3 +80,9 @@ of_record r _ = faults.Record r
 abbrev pub of_serial : SerialFault → Fault
 of_serial serial.Memory = faults.Memory
 of_serial serial.Behaviours = faults.Behaviours
+
+-- the number and the name of what is wrong with an edit
+abbrev pub edit_line : EditFault → List ℕ
+edit_line edits.NoRow = codes "1 NoRow"
+edit_line edits.BelowSpawn = codes "2 BelowSpawn"
+edit_line edits.TooManyTicks = codes "3 TooManyTicks"

@@ -1,5 +1,8 @@
 // Why a command did not do what it was asked for.
 
+ghost use Rattle.std.specs.Prelude.{◌≡◌};
+ghost use Rattle.boc.specs.Faults.{edit_line};
+
 use boc_eval::SerialFault;
 use boc_reader::{ReadFault, ReadFaultKind};
 use boc_record::RecordFault;
@@ -75,7 +78,9 @@ impl Fault {
 }
 
 // The number and the name of what is wrong with an edit.
-fn edit_fault_text(fault: EditFault) -> &'static str {
+fn edit_fault_text(fault: EditFault) -> &'static str
+    ensures { result.now ≡ edit_line fault }
+{
     match fault {
         EditFault::NoRow => "1 NoRow",
         EditFault::BelowSpawn => "2 BelowSpawn",

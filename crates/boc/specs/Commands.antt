@@ -6,7 +6,7 @@ use Rattle.boc.specs.declared.fault.Fault.TheVariants as faults
 use Rattle.boc.specs.declared.words.Command.{Command}
 use Rattle.boc.specs.declared.words.Command.TheVariants as commands
 use Rattle.boc.specs.Faults.{matter_of, IsWant, is_source, gone_of}
-use Rattle.boc_reader.specs.Meanings.{Means}
+use Rattle.boc_reader.specs.FaultMeanings.{SaysOf}
 use Rattle.boc_reader.specs.declared.fault.ReadFaultKind.{ReadFaultKind}
 use Rattle.boc_reader.specs.declared.fault.ReadFaultKind.TheVariants as read_kinds
 use Rattle.boc_record.specs.declared.fault.RecordFault.{RecordFault}
@@ -76,7 +76,7 @@ RefusesNothing (Err fault) = IsWant (matter_of fault)
 -- the kind of a refusal says what is wrong with a program text; want of memory is no refusal
 abbrev pub IsWrongWith : List ℕ → ReadFaultKind → Type 0
 IsWrongWith text read_kinds.Memory = ⊥
-IsWrongWith text kind = Means kind text
+IsWrongWith text kind = SaysOf kind text
 
 -- the text spells a program whose own order has too many behaviours
 pub record RunsOver (text : List ℕ) : Type 0 where

@@ -1,7 +1,7 @@
 // The text of the cowns' values.
 
 ghost use Rattle.std.specs.Prelude.{◌≡◌, ◌++◌, [], ◌+◌, ◌^◌, ◌<◌, length, OnOk, IfOk};
-ghost use Rattle.boc_types.specs.program.Programs.{cown_count, size_of};
+ghost use Rattle.boc_types.specs.program.Programs.{cown_count, members};
 ghost use Rattle.boc_types.specs.answers.Texts.{values_text as values_text_spec, value_line, member_lines, cown_lines};
 
 use boc_text::{put_number, put_signed};
@@ -33,7 +33,7 @@ fn put_cowns(text: &mut Vec<u8>, cowns: &[Cown], values: &[i64]) -> Result<(), A
 }
 
 fn put_cown(text: &mut Vec<u8>, cown: &Cown, values: &[i64]) -> Result<(), AllocError>
-    requires { length values.now ≡ size_of cown.now.size }
+    requires { length values.now ≡ members cown.now.size }
     ensures { OnOk result (text.new.items ≡ text.old.items ++ cown_lines cown.now.name cown.now.size values.now) }
 {
     match cown.size {

@@ -12,7 +12,7 @@ use Rattle.boc_types.specs.runs.OwnOrder.{IsOwnOrder, EndsWith, HasTooMany}
 use Rattle.boc_types.proofs.Fitting.{meaning_fits}
 use Rattle.boc_types.proofs.Behaviours.{named, cowns_of_inputs, length-after_outputs, initial-length, main_fits}
 use Rattle.boc_types.proofs.OwnOrders.{next_row, next_wishes, next_own, along_more}
-use Rattle.boc_eval.specs.Queue.{BehaviourFits, QueueFits, Turned, wishes_by, turn_wishes, behaviours_after, Stands}
+use Rattle.boc_eval.specs.Queue.{BehaviourFits, QueueFits, Turned, wishes_by, turn_wishes, behaviours_after, HasReached}
 use Rattle.boc_eval.proofs.Asked.{next_is, behaviours_more, length-behaviours}
 
 pub QueueFits-append : (p : Program) (q r : List Behaviour) → QueueFits p q → QueueFits p r → QueueFits p (q ++ r)
@@ -58,7 +58,7 @@ is_due [] some = absurd (omega (arith, some))
 is_due (q ∷ due) some = record { first = q; others = due; is = refl }
 
 -- there are as many rows due as behaviours queued
-due_are : (p : Program) (queue : List Behaviour) (values : List ℤ) (so_far : ℕ) → (s : Stands p queue values so_far) → length s.due ≡ length queue
+due_are : (p : Program) (queue : List Behaviour) (values : List ℤ) (so_far : ℕ) → (s : HasReached p queue values so_far) → length s.due ≡ length queue
 due_are p queue values so_far s =
     omega (arith, ap length s.queued, length-drop (length s.done) (behaviours_after (serial_along p s.done).rows), length-behaviours (serial_along p s.done).rows, ap length s.own, length-append s.done s.due)
 
@@ -77,7 +77,7 @@ drop_one [] (suc n) b rest e = absurd cc
 drop_one (x ∷ xs) zero b rest e = cc
 drop_one (x ∷ xs) (suc n) b rest e = drop_one xs n b rest e
 
-onward : (p : Program) (b : Behaviour) (rest : List Behaviour) (values : List ℤ) (so_far : ℕ) (body : Body) → (s : Stands p (b ∷ rest) values so_far) → slice_get p.bodies b.kind ≡ Some body → Onward p b rest values body s.done
+onward : (p : Program) (b : Behaviour) (rest : List Behaviour) (values : List ℤ) (so_far : ℕ) (body : Body) → (s : HasReached p (b ∷ rest) values so_far) → slice_get p.bodies b.kind ≡ Some body → Onward p b rest values body s.done
 onward p b rest values so_far body s is =
     let long = due_are p (b ∷ rest) values so_far s in
     let d = is_due s.due (omega (arith, long)) in
@@ -104,8 +104,8 @@ onward p b rest values so_far body s is =
       values_are = ap (λ (t : Serial). t.values) after ∙ ap (λ (vs : List ℤ). after_outputs vs b.cowns row.means.outputs) s.values_are;
     }
 
-pub stands_next : (p : Program) (b : Behaviour) (rest : List Behaviour) (values : List ℤ) (so_far : ℕ) (queue : List Behaviour) (after : List ℤ) (now : ℕ) → Stands p (b ∷ rest) values so_far → Turned p b rest values queue after → now + length rest ≡ so_far + length queue → now ≤ 65535 → Stands p queue after now
-stands_next p b rest values so_far queue after now s t rows few =
+pub reached_next : (p : Program) (b : Behaviour) (rest : List Behaviour) (values : List ℤ) (so_far : ℕ) (queue : List Behaviour) (after : List ℤ) (now : ℕ) → HasReached p (b ∷ rest) values so_far → Turned p b rest values queue after → now + length rest ≡ so_far + length queue → now ≤ 65535 → HasReached p queue after now
+reached_next p b rest values so_far queue after now s t rows few =
     let o = onward p b rest values so_far t.body s t.is in
     record {
       done = s.done ++ o.parent ∷ [];
@@ -119,8 +119,8 @@ stands_next p b rest values so_far queue after now s t rows few =
       cowns = ap length t.wrote ∙ length-after_outputs values b.cowns (meaning t.body b.args (inputs_of b.cowns values)).outputs ∙ s.cowns;
     }
 
-pub stands_end : (p : Program) (queue : List Behaviour) (values : List ℤ) (so_far : ℕ) → Stands p queue values so_far → queue ≡ [] → EndsWith p values
-stands_end p queue values so_far s e =
+pub reached_end : (p : Program) (queue : List Behaviour) (values : List ℤ) (so_far : ℕ) → HasReached p queue values so_far → queue ≡ [] → EndsWith p values
+reached_end p queue values so_far s e =
     let none : s.due ≡ [] = empty s.due (due_are p queue values so_far s ∙ ap length e) in
     record { done = s.done; own = subst (IsOwnOrder p s.done) none s.own; few = omega (arith, s.rows_are, s.few, ap length e); values_are = s.values_are }
   where
@@ -128,8 +128,8 @@ stands_end p queue values so_far s e =
     empty [] none = refl
     empty (x ∷ xs) none = absurd (omega (arith, none))
 
-pub stands_over : (p : Program) (b : Behaviour) (rest : List Behaviour) (values : List ℤ) (so_far : ℕ) → Stands p (b ∷ rest) values so_far → 65535 < so_far + turn_wishes p b values → HasTooMany p
-stands_over p b rest values so_far s h =
+pub reached_over : (p : Program) (b : Behaviour) (rest : List Behaviour) (values : List ℤ) (so_far : ℕ) → HasReached p (b ∷ rest) values so_far → 65535 < so_far + turn_wishes p b values → HasTooMany p
+reached_over p b rest values so_far s h =
     let r = named p.bodies (calls_fit (map signature_of p.bodies) (cown_count p.cowns)) b.kind (length b.args) (length b.cowns) s.fits.0.0 p.calls in
     let o = onward p b rest values so_far r.body s r.is in
     let count : turn_wishes p b values ≡ length (meaning r.body b.args (inputs_of b.cowns values)).wishes = ap (λ o. wishes_by o b values) r.is in
@@ -140,8 +140,8 @@ stands_over p b rest values so_far s h =
       many = omega (arith, h, count, o.long, s.rows_are, length-append s.done (o.parent ∷ []));
     }
 
-pub stands_first : (p : Program) (queue : List Behaviour) (values : List ℤ) → queue ≡ main_behaviour ∷ [] → values ≡ initial_values p.cowns → Stands p queue values 1
-stands_first p queue values e v = record {
+pub reached_first : (p : Program) (queue : List Behaviour) (values : List ℤ) → queue ≡ main_behaviour ∷ [] → values ≡ initial_values p.cowns → HasReached p queue values 1
+reached_first p queue values e v = record {
   done = [];
   due = 0 ∷ [];
   own = refl;

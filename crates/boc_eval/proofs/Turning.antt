@@ -6,8 +6,8 @@ use Rattle.boc_types.specs.declared.program.Program.{Program}
 use Rattle.boc_types.specs.program.Programs.{initial_values}
 use Rattle.boc_types.specs.runs.Serial.{Behaviour, main_behaviour}
 use Rattle.boc_types.specs.runs.OwnOrder.{EndsWith}
-use Rattle.boc_eval.specs.Queue.{Stands, Turned}
-use Rattle.boc_eval.proofs.Queued.{stands_first, stands_next, stands_end}
+use Rattle.boc_eval.specs.Queue.{HasReached, Turned}
+use Rattle.boc_eval.proofs.Queued.{reached_first, reached_next, reached_end}
 use Rattle.boc_eval.specs.declared.rows.Rows.{Rows}
 use Rattle.boc_eval.specs.Behaviours.{behaviour_in, behaviours_of, behaviour_at, IsConsistent}
 
@@ -21,25 +21,25 @@ stays_at old new more turn h e =
     ∙ get_or_append_left (behaviours_of old) more main_behaviour turn (omega (arith, rows_are old))
 
 -- the behaviour whose turn it is comes before those whose turns are to come
-pub in_front : (p : Program) (rows : Rows) (turn : ℕ) (values : List ℤ) (n : ℕ) → turn < length rows.rows.items → Stands p (drop turn (behaviours_of rows)) values n → Stands p (behaviour_at rows turn ∷ drop (turn + 1) (behaviours_of rows)) values n
+pub in_front : (p : Program) (rows : Rows) (turn : ℕ) (values : List ℤ) (n : ℕ) → turn < length rows.rows.items → HasReached p (drop turn (behaviours_of rows)) values n → HasReached p (behaviour_at rows turn ∷ drop (turn + 1) (behaviours_of rows)) values n
 in_front p rows turn values n h s =
-    subst (λ (q : List Behaviour). Stands p q values n) (drop_more (behaviours_of rows) turn main_behaviour (omega (arith, rows_are rows))) s
+    subst (λ (q : List Behaviour). HasReached p q values n) (drop_more (behaviours_of rows) turn main_behaviour (omega (arith, rows_are rows))) s
 
 -- where the run stands with main's row alone
-pub first_row : (p : Program) (none rows : Rows) (values : List ℤ) → none.rows.items ≡ [] → behaviours_of rows ≡ behaviours_of none ++ main_behaviour ∷ [] → values ≡ initial_values p.cowns → Stands p (behaviours_of rows) values (length rows.rows.items)
+pub first_row : (p : Program) (none rows : Rows) (values : List ℤ) → none.rows.items ≡ [] → behaviours_of rows ≡ behaviours_of none ++ main_behaviour ∷ [] → values ≡ initial_values p.cowns → HasReached p (behaviours_of rows) values (length rows.rows.items)
 first_row p none rows values empty added v =
     let alone : behaviours_of rows ≡ main_behaviour ∷ [] = added ∙ ap (λ rs. map (behaviour_in none.args.items none.cowns.items) rs ++ main_behaviour ∷ []) empty in
     let one : 1 ≡ length rows.rows.items = omega (arith, ap length alone, rows_are rows) in
-    subst (λ (n : ℕ). Stands p (behaviours_of rows) values n) one (stands_first p (behaviours_of rows) values alone v)
+    subst (λ (n : ℕ). HasReached p (behaviours_of rows) values n) one (reached_first p (behaviours_of rows) values alone v)
 
 -- where the run stands after a turn
-pub next_row : (p : Program) (old new : Rows) (turn : ℕ) (values after : List ℤ) → turn < length old.rows.items → Stands p (drop turn (behaviours_of old)) values (length old.rows.items) → Turned p (behaviour_at old turn) (drop (turn + 1) (behaviours_of old)) values (drop (turn + 1) (behaviours_of new)) after → length old.rows.items ≤ length new.rows.items → IsConsistent new → Stands p (drop (turn + 1) (behaviours_of new)) after (length new.rows.items)
+pub next_row : (p : Program) (old new : Rows) (turn : ℕ) (values after : List ℤ) → turn < length old.rows.items → HasReached p (drop turn (behaviours_of old)) values (length old.rows.items) → Turned p (behaviour_at old turn) (drop (turn + 1) (behaviours_of old)) values (drop (turn + 1) (behaviours_of new)) after → length old.rows.items ≤ length new.rows.items → IsConsistent new → HasReached p (drop (turn + 1) (behaviours_of new)) after (length new.rows.items)
 next_row p old new turn values after h s t more sound =
-    stands_next p (behaviour_at old turn) (drop (turn + 1) (behaviours_of old)) values (length old.rows.items) (drop (turn + 1) (behaviours_of new)) after (length new.rows.items) (in_front p old turn values (length old.rows.items) h s) t
+    reached_next p (behaviour_at old turn) (drop (turn + 1) (behaviours_of old)) values (length old.rows.items) (drop (turn + 1) (behaviours_of new)) after (length new.rows.items) (in_front p old turn values (length old.rows.items) h s) t
     (omega (arith, rows_are old, rows_are new, length-drop (turn + 1) (behaviours_of old), length-drop (turn + 1) (behaviours_of new)))
     sound.few_rows
 
 -- the run is over after the turn of the last row
-pub last_row : (p : Program) (rows : Rows) (turn : ℕ) (values : List ℤ) → length rows.rows.items ≤ turn → Stands p (drop turn (behaviours_of rows)) values (length rows.rows.items) → EndsWith p values
+pub last_row : (p : Program) (rows : Rows) (turn : ℕ) (values : List ℤ) → length rows.rows.items ≤ turn → HasReached p (drop turn (behaviours_of rows)) values (length rows.rows.items) → EndsWith p values
 last_row p rows turn values h s =
-    stands_end p (drop turn (behaviours_of rows)) values (length rows.rows.items) s (drop_all turn (behaviours_of rows) (omega (arith, rows_are rows)))
+    reached_end p (drop turn (behaviours_of rows)) values (length rows.rows.items) s (drop_all turn (behaviours_of rows) (omega (arith, rows_are rows)))

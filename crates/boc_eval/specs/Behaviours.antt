@@ -1,7 +1,7 @@
 -- The behaviours of a serial run, as its rows tell them.
 use Rattle.std.specs.Prelude.{ℕ, ◌*◌, ◌≤◌, List, [], ◌∷◌, map, length, ℤ, slice_range, slice_index_or}
 use Rattle.boc_types.specs.runs.Serial.{Behaviour, main_behaviour}
-use Rattle.boc_eval.specs.declared.rows.Span.{Span}
+use Rattle.boc_eval.specs.declared.rows.Extent.{Extent}
 use Rattle.boc_eval.specs.declared.rows.Row.{Row}
 use Rattle.boc_eval.specs.declared.rows.Rows.{Rows}
 
@@ -22,7 +22,7 @@ abbrev pub behaviour_at : Rows → ℕ → Behaviour
 behaviour_at rows n = slice_index_or (behaviours_of rows) n main_behaviour
 
 -- the part is there, among so many
-abbrev pub IsWithin : Span → ℕ → Type 0
+abbrev pub IsWithin : Extent → ℕ → Type 0
 IsWithin s n = (s.from ≤ s.to) × (s.to ≤ n)
 
 -- the arguments and cowns of each row are there, among so many

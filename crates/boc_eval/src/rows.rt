@@ -9,7 +9,7 @@ use std::alloc::{AllocError, Global};
 
 /// A part of a list, from one place up to another.
 #[derive(Clone, Copy)]
-pub struct Span {
+pub struct Extent {
     pub from: u32,
     pub to: u32,
 }
@@ -18,8 +18,8 @@ pub struct Span {
 #[derive(Clone, Copy)]
 pub struct Row {
     pub kind: usize,
-    pub args: Span,
-    pub cowns: Span,
+    pub args: Extent,
+    pub cowns: Extent,
 }
 
 /// A row for each behaviour of a run, in the order in which they were spawned.
@@ -68,11 +68,11 @@ impl Rows {
         self.cowns.extend_from_slice(cowns)?;
         self.rows.push(Row {
             kind,
-            args: Span {
+            args: Extent {
                 from: args_from,
                 to: self.args.len() as u32,
             },
-            cowns: Span {
+            cowns: Extent {
                 from: cowns_from,
                 to: self.cowns.len() as u32,
             },
@@ -94,7 +94,7 @@ impl Rows {
         requires there { row < length self.now.rows.items }
         ensures { result.now ≡ (behaviour_at self.now row).args }
     {
-        let Span { from, to } = self.rows[row].args;
+        let Extent { from, to } = self.rows[row].args;
         &self.args[from as usize..to as usize]
     }
 
@@ -104,7 +104,7 @@ impl Rows {
         requires there { row < length self.now.rows.items }
         ensures { result.now ≡ (behaviour_at self.now row).cowns }
     {
-        let Span { from, to } = self.rows[row].cowns;
+        let Extent { from, to } = self.rows[row].cowns;
         &self.cowns[from as usize..to as usize]
     }
 }

@@ -4,7 +4,7 @@ use Rattle.std.specs.Prelude.{slice_get, slice_index, slice_index_or, MatchOptio
 use Rattle.std.proofs.lemmas.List.Sums.{sum_by-cons}
 use Rattle.std.proofs.lemmas.Bool.{cases_eq}
 use Rattle.boc_types.specs.declared.rows.Row.{Row}
-use Rattle.boc_types.specs.declared.chain.Step.{Step}
+use Rattle.boc_types.specs.declared.chain.ChainStep.{ChainStep}
 use Rattle.boc_types.specs.declared.chain.Via.{Via}
 use Rattle.boc_types.specs.declared.chain.Via.TheVariants.{Spawn, Order, Last}
 use Rattle.boc_types.specs.runs.Rows.{IsRows, parent_of, offset_of, ticks_of}
@@ -17,8 +17,8 @@ use Rattle.std.proofs.lemmas.List.{reverse-append, get_or_read}
 use Rattle.std.proofs.lemmas.Option.{get_or_from_slice_get}
 
 -- every link holds, whatever the first row is
-abbrev pub Links : List Row → List Step → Type 0
-Links rows steps = (k : ℕ) (s : Step) → slice_get steps k ≡ Some s → IsLink rows s (slice_get steps (suc k))
+abbrev pub Links : List Row → List ChainStep → Type 0
+Links rows steps = (k : ℕ) (s : ChainStep) → slice_get steps k ≡ Some s → IsLink rows s (slice_get steps (suc k))
 
 -- a chain of links takes its weight from any plan that keeps
 module _ (rows : List Row) (plan : List ℕ) (keeps : Keeps rows plan) (last : ℕ) (ends : IsEnd rows plan last) where
@@ -27,13 +27,13 @@ module _ (rows : List Row) (plan : List ℕ) (keeps : Keeps rows plan) (last : �
   at_last Order a weight h l = absurd l
   at_last Last a weight h l = omega (arith, ends.none_later a h, l)
 
-  at_link : (via : Via) (a weight : ℕ) (next : Step) → next.row < length rows → LinkVia rows a weight via (Some next) →
+  at_link : (via : Via) (a weight : ℕ) (next : ChainStep) → next.row < length rows → LinkVia rows a weight via (Some next) →
       start_of plan a + weight ≤ start_of plan next.row
   at_link Spawn a weight next h l = omega (arith, keeps.spawned a next.row l.0, l.1)
   at_link Order a weight next h l = omega (arith, keeps.in_order a next.row h l.0, l.1)
   at_link Last a weight next h l = absurd l
 
-  links_le : (s : Step) (rest : List Step) → Links rows (s ∷ rest) → start_of plan s.row + weight_of (s ∷ rest) ≤ last
+  links_le : (s : ChainStep) (rest : List ChainStep) → Links rows (s ∷ rest) → start_of plan s.row + weight_of (s ∷ rest) ≤ last
   links_le s [] links =
       let l = links 0 s refl in
       let h : start_of plan s.row + s.weight ≤ last = at_last s.via s.row s.weight l.0 l.1 in
@@ -43,10 +43,10 @@ module _ (rows : List Row) (plan : List ℕ) (keeps : Keeps rows plan) (last : �
       let m = links 1 next refl in
       let h : start_of plan s.row + s.weight ≤ start_of plan next.row = at_link s.via s.row s.weight next m.0 l.1 in
       let k : start_of plan next.row + weight_of (next ∷ rest) ≤ last = links_le next rest (λ k t e. links (suc k) t e) in
-      let sums : weight_of (s ∷ next ∷ rest) ≡ s.weight + weight_of (next ∷ rest) = sum_by-cons (λ (t : Step). t.weight) s (next ∷ rest) in
+      let sums : weight_of (s ∷ next ∷ rest) ≡ s.weight + weight_of (next ∷ rest) = sum_by-cons (λ (t : ChainStep). t.weight) s (next ∷ rest) in
       omega arith
 
-  pub weight_le_end : (steps : List Step) → IsChain rows steps → weight_of steps ≤ last
+  pub weight_le_end : (steps : List ChainStep) → IsChain rows steps → weight_of steps ≤ last
   weight_le_end [] c = omega (arith, c.not_empty)
   weight_le_end (s ∷ rest) c =
       let h : start_of plan s.row + weight_of (s ∷ rest) ≤ last = links_le s rest (λ k t e. (c.holds k t e).1) in
@@ -65,28 +65,28 @@ leads_last rows plan r h e least = record {
   weight = omega arith;
 }
   where
-    at : (k : ℕ) (s : Step) → slice_get (record { row = r; via = Last; weight = ticks_of rows r } ∷ []) k ≡ Some s →
+    at : (k : ℕ) (s : ChainStep) → slice_get (record { row = r; via = Last; weight = ticks_of rows r } ∷ []) k ≡ Some s →
         IsLink rows s (slice_get (record { row = r; via = Last; weight = ticks_of rows r } ∷ []) (suc k)) × PickedVia rows plan s.row s.via (slice_get (record { row = r; via = Last; weight = ticks_of rows r } ∷ []) (suc k))
     at zero s q =
         let same : record { row = r; via = Last; weight = ticks_of rows r } ≡ s = cc in
-        subst (λ (t : Step). IsLink rows t None × PickedVia rows plan t.row t.via None) same ((h, refl), (e, least))
+        subst (λ (t : ChainStep). IsLink rows t None × PickedVia rows plan t.row t.via None) same ((h, refl), (e, least))
     at (suc k) s q = absurd (let bad : ⊥ = cc in bad)
 
 -- one more step in front
 module _ (rows : List Row) (hr : IsRows rows) (starts ends : List ℕ) (after : List (Option ℕ))
     (placed : ArePlaced rows starts ends after (length rows)) (last b : ℕ) (above : 0 < b) (there : b < length rows) where
-  front : (s : Step) (top : Step) (rest : List Step) → top.row ≡ b →
-      ((k : ℕ) (t : Step) → slice_get (top ∷ rest) k ≡ Some t →
+  front : (s : ChainStep) (top : ChainStep) (rest : List ChainStep) → top.row ≡ b →
+      ((k : ℕ) (t : ChainStep) → slice_get (top ∷ rest) k ≡ Some t →
       IsLink rows t (slice_get (top ∷ rest) (suc k)) × PickedVia rows starts t.row t.via (slice_get (top ∷ rest) (suc k))) →
       IsLink rows s (Some top) → PickedVia rows starts s.row s.via (Some top) →
-      (k : ℕ) (t : Step) → slice_get (s ∷ top ∷ rest) k ≡ Some t →
+      (k : ℕ) (t : ChainStep) → slice_get (s ∷ top ∷ rest) k ≡ Some t →
       IsLink rows t (slice_get (s ∷ top ∷ rest) (suc k)) × PickedVia rows starts t.row t.via (slice_get (s ∷ top ∷ rest) (suc k))
   front s top rest at links link picked zero t q =
       let same : s ≡ t = cc in
-      subst (λ (u : Step). IsLink rows u (Some top) × PickedVia rows starts u.row u.via (Some top)) same (link, picked)
+      subst (λ (u : ChainStep). IsLink rows u (Some top) × PickedVia rows starts u.row u.via (Some top)) same (link, picked)
   front s top rest at links link picked (suc k) t q = links k t q
 
-  lead : (s : Step) (steps : List Step) → (l : LeadsTo rows starts last b steps) → IsLink rows s (Some l.top) →
+  lead : (s : ChainStep) (steps : List ChainStep) → (l : LeadsTo rows starts last b steps) → IsLink rows s (Some l.top) →
       PickedVia rows starts s.row s.via (Some l.top) → start_of starts s.row + s.weight ≡ start_of starts b → LeadsTo rows starts last s.row (s ∷ steps)
   lead s steps l link picked w = rw l.is (record {
     top = s;
@@ -96,14 +96,14 @@ module _ (rows : List Row) (hr : IsRows rows) (starts ends : List ℕ) (after : 
     links = front s l.top l.rest l.at (rw l.is at l.links) link picked;
     weight =
         let e : start_of starts b + weight_of (l.top ∷ l.rest) ≡ last = rw l.is at l.weight in
-        let sums : weight_of (s ∷ l.top ∷ l.rest) ≡ s.weight + weight_of (l.top ∷ l.rest) = sum_by-cons (λ (t : Step). t.weight) s (l.top ∷ l.rest) in
+        let sums : weight_of (s ∷ l.top ∷ l.rest) ≡ s.weight + weight_of (l.top ∷ l.rest) = sum_by-cons (λ (t : ChainStep). t.weight) s (l.top ∷ l.rest) in
         omega arith;
   })
 
   -- the step that row b waited for
   lead_by : (o : Option ℕ) → MatchOption o (IsSpawnTight rows starts b)
       (λ a. (IsSpawnTight rows starts b → ⊥) × IsOrderTight rows starts a b × ((other : ℕ) → IsOrderTight rows starts other b → a ≤ other)) →
-      (s : Step) (steps : List Step) → IsStepBefore rows o b s → LeadsTo rows starts last b steps → LeadsTo rows starts last s.row (s ∷ steps)
+      (s : ChainStep) (steps : List ChainStep) → IsStepBefore rows o b s → LeadsTo rows starts last b steps → LeadsTo rows starts last s.row (s ∷ steps)
   lead_by None tight s steps q l =
       let before : parent_of rows b < b = hr.parent_before b above there in
       let same : parent_of rows b ≡ tight.0 = tight.1.parent in
@@ -123,14 +123,14 @@ module _ (rows : List Row) (hr : IsRows rows) (starts ends : List ℕ) (after : 
       (rw (via, row, l.at) tight)
       (rw (row, weight) tight.1.1)
 
-  pub leads_more : (s : Step) (steps : List Step) → IsStepBefore rows (slice_index_or after b None) b s →
+  pub leads_more : (s : ChainStep) (steps : List ChainStep) → IsStepBefore rows (slice_index_or after b None) b s →
       LeadsTo rows starts last b steps → LeadsTo rows starts last s.row (s ∷ steps)
   leads_more s steps q l = lead_by (slice_index_or after b None) ((placed.placed b there).tight above) s steps q l
 
   -- it is an earlier row
   before_by : (o : Option ℕ) → MatchOption o (IsSpawnTight rows starts b)
       (λ a. (IsSpawnTight rows starts b → ⊥) × IsOrderTight rows starts a b × ((other : ℕ) → IsOrderTight rows starts other b → a ≤ other)) →
-      (s : Step) → IsStepBefore rows o b s → s.row < b
+      (s : ChainStep) → IsStepBefore rows o b s → s.row < b
   before_by None tight s q =
       let row : s.row ≡ parent_of rows b = cc in
       omega (arith, hr.parent_before b above there)
@@ -138,12 +138,12 @@ module _ (rows : List Row) (hr : IsRows rows) (starts ends : List ℕ) (after : 
       let row : s.row ≡ a = cc in
       omega (arith, tight.1.0.before)
 
-  pub step_is_before : (s : Step) → IsStepBefore rows (slice_index_or after b None) b s → s.row < b
+  pub step_is_before : (s : ChainStep) → IsStepBefore rows (slice_index_or after b None) b s → s.row < b
   step_is_before s q = before_by (slice_index_or after b None) ((placed.placed b there).tight above) s q
 
 -- all the way back
 pub leads_all : (rows : List Row) (hr : IsRows rows) (starts ends : List ℕ) (after : List (Option ℕ)) → ArePlaced rows starts ends after (length rows) →
-    (last : ℕ) (steps : List Step) → LeadsTo rows starts last 0 steps → IsPicked rows starts steps × (weight_of steps ≡ last)
+    (last : ℕ) (steps : List ChainStep) → LeadsTo rows starts last 0 steps → IsPicked rows starts steps × (weight_of steps ≡ last)
 leads_all rows hr starts ends after placed last steps l = (
   record {
     chain = record {
@@ -155,11 +155,11 @@ leads_all rows hr starts ends after placed last steps l = (
   omega (arith, l.weight, (placed.placed 0 hr.not_empty).main refl),
 )
   where
-    first : (k : ℕ) (s : Step) → slice_get steps k ≡ Some s → k ≡ 0 → s.row ≡ 0
+    first : (k : ℕ) (s : ChainStep) → slice_get steps k ≡ Some s → k ≡ 0 → s.row ≡ 0
     first k s q z =
         let p : slice_get (l.top ∷ l.rest) 0 ≡ Some s = rw (z, l.is) at q in
         let same : l.top ≡ s = cc in
-        let row : l.top.row ≡ s.row = ap (λ (t : Step). t.row) same in
+        let row : l.top.row ≡ s.row = ap (λ (t : ChainStep). t.row) same in
         omega (arith, l.at)
 
 -- what the placed rows make
@@ -194,7 +194,7 @@ placed_earliest rows hr starts ends after placed = record {
           (λ a before there'. below n other keeps a (omega arith) there') ((placed.placed r there).tight (omega arith))
     ]
 
-pub reverse_push : (xs : List Step) (x : Step) → reverse (xs ++ x ∷ []) ≡ x ∷ reverse xs
+pub reverse_push : (xs : List ChainStep) (x : ChainStep) → reverse (xs ++ x ∷ []) ≡ x ∷ reverse xs
 reverse_push xs x = reverse-append xs (x ∷ [])
 
 -- a row waits for an earlier one
@@ -206,7 +206,7 @@ waits_below rows starts ends after placed b above there a q =
     omega (arith, t.1.0.before, there)
 
 -- the first step that is made
-pub leads_read : (rows : List Row) (plan : List ℕ) (r : ℕ) (x : Row) (steps : List Step) (weight : ℕ) (all : List Step) → r < length rows → x ≡ get_or rows r x →
+pub leads_read : (rows : List Row) (plan : List ℕ) (r : ℕ) (x : Row) (steps : List ChainStep) (weight : ℕ) (all : List ChainStep) → r < length rows → x ≡ get_or rows r x →
     IsFirstLatest rows plan r → weight ≡ x.ticks → steps ≡ [] → all ≡ steps ++ record { row = r; via = Last; weight = weight } ∷ [] →
     LeadsTo rows plan (end_of rows plan r) r (reverse all)
 leads_read rows plan r x steps weight all h is_row f m none e =

@@ -1,24 +1,24 @@
 -- The links that were waited for, from a last row back to main.
 use Rattle.std.specs.Prelude.{◌≡◌, ℕ, suc, ◌+◌, ◌<◌, ◌≤◌, List, ◌∷◌, length, Option, Some, None, slice_get}
 use Rattle.boc_types.specs.declared.rows.Row.{Row}
-use Rattle.boc_types.specs.declared.chain.Step.{Step}
+use Rattle.boc_types.specs.declared.chain.ChainStep.{ChainStep}
 use Rattle.boc_types.specs.declared.chain.Via.TheVariants.{Spawn, Order}
 use Rattle.boc_types.specs.runs.Rows.{parent_of, offset_of, ticks_of}
 use Rattle.boc_types.specs.plans.Plans.{start_of, end_of, IsEnd}
 use Rattle.boc_types.specs.plans.Chains.{weight_of, IsLink, PickedVia}
 
 -- the step before row b: its parent's, or that of the row it waited for
-abbrev pub IsStepBefore : List Row → Option ℕ → ℕ → Step → Type 0
+abbrev pub IsStepBefore : List Row → Option ℕ → ℕ → ChainStep → Type 0
 IsStepBefore rows None b s = s ≡ record { row = parent_of rows b; via = Spawn; weight = offset_of rows b }
 IsStepBefore rows (Some a) b s = s ≡ record { row = a; via = Order; weight = ticks_of rows a }
 
 -- the steps lead on from row r to the end of the plan, by picked links
-pub record LeadsTo (rows : List Row) (plan : List ℕ) (last r : ℕ) (steps : List Step) : Type 0 where
-  pub top : Step
-  pub rest : List Step
+pub record LeadsTo (rows : List Row) (plan : List ℕ) (last r : ℕ) (steps : List ChainStep) : Type 0 where
+  pub top : ChainStep
+  pub rest : List ChainStep
   pub is : steps ≡ top ∷ rest
   pub at : top.row ≡ r
-  pub links : (k : ℕ) (s : Step) → slice_get steps k ≡ Some s →
+  pub links : (k : ℕ) (s : ChainStep) → slice_get steps k ≡ Some s →
       IsLink rows s (slice_get steps (suc k)) × PickedVia rows plan s.row s.via (slice_get steps (suc k))
   pub weight : start_of plan r + weight_of steps ≡ last
 

@@ -8,12 +8,12 @@ ghost use Rattle.boc_types.specs.plans.Chains.{IsPicked, weight_of};
 ghost use Rattle.boc_order.specs.Back.{IsStepBefore, IsFirstLatest};
 
 use crate::plan::Earliest;
-use boc_types::chain::{Chain, Step, Via};
+use boc_types::chain::{Chain, ChainStep, Via};
 use boc_types::rows::Row;
 use std::alloc::{AllocError, Global};
 
 // The step whose link a row waited for.
-fn step_before(rows: &[Row], after: &[Option<u32>], row: u32) -> Step
+fn step_before(rows: &[Row], after: &[Option<u32>], row: u32) -> ChainStep
     requires shape { IsRows rows.now }
     requires there { row < length rows.now }
     requires whole { length after.now ≡ length rows.now }
@@ -21,12 +21,12 @@ fn step_before(rows: &[Row], after: &[Option<u32>], row: u32) -> Step
     ensures { IsStepBefore rows.now (slice_index_or after.now row None) row result }
 {
     match after[row as usize] {
-        None => Step {
+        None => ChainStep {
             row: rows[row as usize].parent,
             via: Via::Spawn,
             weight: rows[row as usize].offset,
         },
-        Some(before) => Step {
+        Some(before) => ChainStep {
             row: before,
             via: Via::Order,
             weight: rows[before as usize].ticks,
@@ -50,7 +50,7 @@ pub fn chain_back(
 {
     // Each step goes back to a smaller row.
     let mut steps = Vec::with_capacity(alloc, last as usize + 1)?;
-    steps.push_reserved(Step {
+    steps.push_reserved(ChainStep {
         row: last,
         via: Via::Last,
         weight: rows[last as usize].ticks,

@@ -5,7 +5,7 @@ ghost use Rattle.boc_types.specs.runs.Rows.{IsRows};
 ghost use Rattle.boc_types.specs.plans.Plans.{IsChild, Ordered, NoneEndsBefore};
 ghost use Rattle.boc_types.specs.plans.Chains.{IsLink, IsChain, IsFirstFalse, weight_of};
 
-use boc_types::chain::{Chain, Step, Via};
+use boc_types::chain::{Chain, ChainStep, Via};
 use boc_types::rows::{Row, Rows};
 
 // Whether these have a cown in common.
@@ -41,7 +41,7 @@ fn is_child(rows: &[Row], a: u32, b: u32) -> bool
 }
 
 // Whether the link of the step holds, where `next` is the step after it.
-fn is_link(rows: &[Row], step: Step, next: Option<Step>) -> bool
+fn is_link(rows: &[Row], step: ChainStep, next: Option<ChainStep>) -> bool
     requires { IsRows rows.now }
     ensures { IsTrue result ↔ IsLink rows.now step next }
 {
@@ -60,7 +60,7 @@ fn is_link(rows: &[Row], step: Step, next: Option<Step>) -> bool
 }
 
 // Whether the step at this place holds, where `next` is the step after it.
-fn holds(rows: &[Row], place: usize, step: Step, next: Option<Step>) -> bool
+fn holds(rows: &[Row], place: usize, step: ChainStep, next: Option<ChainStep>) -> bool
     requires { IsRows rows.now }
     ensures { IsTrue result ↔ ((place ≡ 0 → step.row ≡ 0) × IsLink rows.now step next) }
 {
@@ -68,7 +68,7 @@ fn holds(rows: &[Row], place: usize, step: Step, next: Option<Step>) -> bool
 }
 
 // The step after the one at this place, if any.
-fn step_after(steps: &[Step], place: usize) -> Option<Step>
+fn step_after(steps: &[ChainStep], place: usize) -> Option<ChainStep>
     requires { place < length steps.now }
     ensures { result ≡ slice_get steps.now (place + 1) }
 {

@@ -23,7 +23,7 @@ pub struct Earliest {
 
 // The tick at which a row starts that is spawned at a tick, and the row whose end it waits for, if any. `busy` is
 // the latest of the rows that are ordered before it.
-fn place(spawned: u64, busy: Latest) -> (u64, Option<u32>)
+fn earliest_start(spawned: u64, busy: Latest) -> (u64, Option<u32>)
     ensures { result ≡ placement spawned busy }
 {
     if spawned < busy.end {
@@ -135,7 +135,7 @@ impl Earliest {
     {
         let row = &rows[number];
         let spawned = spawned_at(number, row, &self.starts);
-        let (start, waits_for) = place(spawned, latest_at(row.cowns.as_slice(), memory));
+        let (start, waits_for) = earliest_start(spawned, latest_at(row.cowns.as_slice(), memory));
         let end = start + u64::from(row.ticks);
         self.starts.push_reserved(start);
         self.ends.push_reserved(end);

@@ -2,7 +2,7 @@
 
 use crate::{check_chain, earliest_plan, profile};
 use boc_types::body::EndStatus;
-use boc_types::chain::{Chain, Step, Via};
+use boc_types::chain::{Chain, ChainStep, Via};
 use boc_types::row_test::are_rows;
 use boc_types::rows::{Row, Rows};
 use boc_types::short::Cowns;
@@ -31,8 +31,8 @@ fn row(parent: u32, offset: u32, numbers: &[u32], ticks: u32) -> Row {
     }
 }
 
-fn step(row: u32, via: Via, weight: u32) -> Step {
-    Step { row, via, weight }
+fn step(row: u32, via: Via, weight: u32) -> ChainStep {
+    ChainStep { row, via, weight }
 }
 
 fn rows_of(list: Vec<Row>) -> Result<Rows, Fail> {
@@ -97,7 +97,7 @@ fn has_profile(
     alloc: Global,
     rows: &Rows,
     wanted: &Wanted,
-    chain: &[Step],
+    chain: &[ChainStep],
 ) -> Result<(), Fail> {
     let plan = earliest_plan(alloc, rows)?;
     for found in &[profile(alloc, rows)?, plan.profile(alloc, rows)?] {
@@ -169,7 +169,7 @@ fn are_checked(
     rt: &impl Abort,
     alloc: Global,
     rows: &Rows,
-    cases: &[(&[Step], Result<u64, usize>)],
+    cases: &[(&[ChainStep], Result<u64, usize>)],
 ) -> Result<(), Fail> {
     for (steps, wanted) in cases {
         let chain = Chain {
@@ -189,7 +189,7 @@ fn chains_are_checked(rt: HostRuntime) -> Result<(), Fail> {
     let both = step(2, Via::Order, 3);
     let last = step(3, Via::Last, 2);
     let heavy = step(1, Via::Order, 3);
-    let cases: [(&[Step], Result<u64, usize>); 7] = [
+    let cases: [(&[ChainStep], Result<u64, usize>); 7] = [
         (&[main, deposit, both, last], Ok(9)),
         (&[step(0, Via::Spawn, 4), last], Ok(6)),
         (&[main, heavy, both, last], Err(1)),
@@ -215,7 +215,7 @@ fn true_chain_and_false_ones_over_two_cowns(rt: HostRuntime) -> Result<(), Fail>
     let first = step(1, Via::Order, 3);
     let last = step(3, Via::Last, 1);
     has_profile(&rt, alloc, &rows, &wanted, &[main, first, last])?;
-    let cases: [(&[Step], Result<u64, usize>); 4] = [
+    let cases: [(&[ChainStep], Result<u64, usize>); 4] = [
         (&[main, first, last], Ok(6)),
         (&[main, step(1, Via::Order, 2), last], Err(1)),
         (&[main, first, step(2, Via::Last, 2)], Err(1)),

@@ -1,7 +1,8 @@
 -- Lists of declarations and of statements, as what they form.
 use Rattle.std.proofs.Common.{◌≡◌, ℕ, ◌+◌, List, [], ◌∷◌, length, refl, ap, arith}
-use Rattle.boc_types.specs.text.Words.{Word}
-use Rattle.boc_types.specs.text.Shape.{each_words, list_nodes, Cown, members, cowns_declared, HaveMembers, Def, AreSmallDefs, Stmt, stmt_words, stmt_nodes, block_words, block_nodes, IsSmallBlock}
+use Rattle.boc_types.specs.text.Tokens.{Token}
+use Rattle.boc_types.specs.program.Sizes.{members}
+use Rattle.boc_types.specs.text.Shape.{each_tokens, list_nodes, Cown, cowns_declared, HaveMembers, Def, AreSmallDefs, Stmt, stmt_tokens, stmt_nodes, block_tokens, block_nodes, IsSmallBlock}
 use Rattle.boc_reader.specs.Grammar.{cown_phrase, def_phrase, stmt_phrase}
 use Rattle.boc_reader.specs.Views.{block_from}
 use Rattle.boc_reader.proofs.Each.{AllSmall}
@@ -22,9 +23,9 @@ pub small_defs : (ds : List Def) → AllSmall def_phrase ds → AreSmallDefs ds
 small_defs [] h = tt
 small_defs (d ∷ ds) h = (h.0, small_defs ds h.1)
 
-pub block_words-list : (ss : List Stmt) (rest : List Word) → each_words stmt_words ss rest ≡ block_words (block_from ss) rest
-block_words-list [] rest = refl
-block_words-list (s ∷ ss) rest = ap (stmt_words s) (block_words-list ss rest)
+pub block_tokens-list : (ss : List Stmt) (rest : List Token) → each_tokens stmt_tokens ss rest ≡ block_tokens (block_from ss) rest
+block_tokens-list [] rest = refl
+block_tokens-list (s ∷ ss) rest = ap (stmt_tokens s) (block_tokens-list ss rest)
 
 pub block_nodes-list : (ss : List Stmt) → block_nodes (block_from ss) ≡ list_nodes stmt_nodes ss
 block_nodes-list [] = refl

@@ -1,8 +1,8 @@
 -- What stands behind `when`.
 use Rattle.std.proofs.Common.{◌≡◌, ℕ, List, ◌∷◌, sym, ◌∙◌}
 use Rattle.boc_types.specs.declared.token.Sign.TheVariants.{Semicolon, Open, Close}
-use Rattle.boc_types.specs.text.Words.{name, sign}
-use Rattle.boc_types.specs.text.Shape.{Expr, Ref}
+use Rattle.boc_types.specs.text.Tokens.{name, sign}
+use Rattle.boc_types.specs.text.Shape.{Expr, NamedCown}
 use Rattle.boc_reader.specs.Phrases.{Ahead, Stands, NoneStands}
 use Rattle.boc_reader.specs.Grammar.{NoSign, expr_phrase, ref_phrase, list_phrase, arguments_phrase, call_phrase}
 use Rattle.boc_reader.proofs.Refused.{OneReading, one_pair}
@@ -19,7 +19,7 @@ pub one_arguments : OneReading arguments_phrase
 one_arguments = one_pair (list_phrase expr_phrase Semicolon) (list_phrase ref_phrase Close) (λ _ _ _ _. tt) one_exprs one_refs
 
 -- behind the parenthesis stands a semicolon
-pub no_call_end : (old mid end : Ahead) (f : List ℕ) (w : List Expr × List Ref) → old.words ≡ name f ∷ sign Open ∷ mid.words → Stands arguments_phrase mid w end.words → NoSign Semicolon end.words → NoneStands call_phrase old
+pub no_call_end : (old mid end : Ahead) (f : List ℕ) (w : List Expr × List NamedCown) → old.tokens ≡ name f ∷ sign Open ∷ mid.tokens → Stands arguments_phrase mid w end.tokens → NoSign Semicolon end.tokens → NoneStands call_phrase old
 no_call_end old mid end f w e item none x r st =
-    let h = st.words in
-    none r (one_arguments w x.1 end.words (sign Semicolon ∷ r) tt tt (sym item.words ∙ cc)).1
+    let h = st.tokens in
+    none r (one_arguments w x.1 end.tokens (sign Semicolon ∷ r) tt tt (sym item.tokens ∙ cc)).1

@@ -1,53 +1,53 @@
 -- Where phrases one after another can't go on, there are no more.
 use Rattle.std.proofs.Common.{◌≡◌, ◌≢◌, ◌≤◌, List, [], ◌∷◌, ◌++◌, refl, sym, ap, ◌∙◌, subst, arith}
 use Rattle.std.proofs.lemmas.List.{append-nil}
-use Rattle.boc_types.specs.text.Words.{Word}
-use Rattle.boc_types.specs.text.Shape.{each_words, list_nodes}
+use Rattle.boc_types.specs.text.Tokens.{Token}
+use Rattle.boc_types.specs.text.Shape.{each_tokens, list_nodes}
 use Rattle.boc_reader.specs.Phrases.{Ahead, Phrase, NoneStands}
 use Rattle.boc_reader.proofs.Refused.{OneReading}
 use Rattle.boc_reader.proofs.Each.{AllSmall, AllEnd, ReadEach, list_nodes-append}
 
 -- no phrase of the kind begins here, and one may stand before this
-pub record Stops {X : Type 0} (kind : Phrase X) (rest : List Word) : Type 0 where
+pub record Stops {X : Type 0} (kind : Phrase X) (rest : List Token) : Type 0 where
   pub ends : (x : X) → kind.Ends x rest
-  pub none : (x : X) (after : List Word) → rest ≢ kind.words x after
+  pub none : (x : X) (after : List Token) → rest ≢ kind.tokens x after
 
 all_small_behind : {X : Type 0} (kind : Phrase X) (xs ys : List X) → AllSmall kind (xs ++ ys) → AllSmall kind ys
 all_small_behind kind [] ys h = h
 all_small_behind kind (x ∷ xs) ys h = all_small_behind kind xs ys h.1
 
-module _ {X : Type 0} (kind : Phrase X) (one : OneReading kind) (next : (x y : X) (w : List Word) → kind.Ends x (kind.words y w)) where
-  each_ends : (x : X) (ys : List X) (r : List Word) → Stops kind r → kind.Ends x (each_words kind.words ys r)
+module _ {X : Type 0} (kind : Phrase X) (one : OneReading kind) (next : (x y : X) (w : List Token) → kind.Ends x (kind.tokens y w)) where
+  each_ends : (x : X) (ys : List X) (r : List Token) → Stops kind r → kind.Ends x (each_tokens kind.tokens ys r)
   each_ends x [] r stop = stop.ends x
   each_ends x (y ∷ ys) r stop = next x y _
 
-  left : (xs ys : List X) (w r : List Word) → AllEnd kind xs w → Stops kind r → each_words kind.words xs w ≡ each_words kind.words ys r → (zs : List X) × (ys ≡ xs ++ zs) × (w ≡ each_words kind.words zs r)
+  left : (xs ys : List X) (w r : List Token) → AllEnd kind xs w → Stops kind r → each_tokens kind.tokens xs w ≡ each_tokens kind.tokens ys r → (zs : List X) × (ys ≡ xs ++ zs) × (w ≡ each_tokens kind.tokens zs r)
   left [] ys w r all stop e = (ys, refl, e)
   left (x ∷ xs) [] w r all stop e = absurd (stop.none x _ (sym e))
   left (x ∷ xs) (y ∷ ys) w r all stop e =
-      let u = one x y (each_words kind.words xs w) (each_words kind.words ys r) all.0 (each_ends y ys r stop) e in
+      let u = one x y (each_tokens kind.tokens xs w) (each_tokens kind.tokens ys r) all.0 (each_ends y ys r stop) e in
       let l = left xs ys w r all.1 stop u.1 in
       (l.0, ap (λ z. z ∷ ys) (sym u.0) ∙ ap (λ zs. x ∷ zs) l.1, l.2)
 
-  none_left : (mid : Ahead) (zs : List X) (r : List Word) → Stops kind r → NoneStands kind mid → mid.words ≢ r → mid.words ≡ each_words kind.words zs r → list_nodes kind.nodes zs ≤ mid.room → AllSmall kind zs → ⊥
+  none_left : (mid : Ahead) (zs : List X) (r : List Token) → Stops kind r → NoneStands kind mid → mid.tokens ≢ r → mid.tokens ≡ each_tokens kind.tokens zs r → list_nodes kind.nodes zs ≤ mid.room → AllSmall kind zs → ⊥
   none_left mid [] r stop none ajar e n small = ajar e
   none_left mid (z ∷ zs) r stop none ajar e n small =
-      none z (each_words kind.words zs r) (record { words = e; ends = each_ends z zs r stop; fits = omega arith; small = small.0 })
+      none z (each_tokens kind.tokens zs r) (record { tokens = e; ends = each_ends z zs r stop; fits = omega arith; small = small.0 })
 
   -- some were read, and no further one can be
-  pub no_next : (old mid : Ahead) (xs ys : List X) (r : List Word) → ReadEach kind old mid xs → NoneStands kind mid → Stops kind r → mid.words ≢ r → old.words ≡ each_words kind.words ys r → list_nodes kind.nodes ys ≤ old.room → AllSmall kind ys → ⊥
+  pub no_next : (old mid : Ahead) (xs ys : List X) (r : List Token) → ReadEach kind old mid xs → NoneStands kind mid → Stops kind r → mid.tokens ≢ r → old.tokens ≡ each_tokens kind.tokens ys r → list_nodes kind.nodes ys ≤ old.room → AllSmall kind ys → ⊥
   no_next old mid xs ys r so_far none stop ajar e n small =
-      let l = left xs ys mid.words r so_far.ends stop (sym so_far.words ∙ e) in
+      let l = left xs ys mid.tokens r so_far.ends stop (sym so_far.tokens ∙ e) in
       none_left mid l.0 r stop none ajar l.2
       (omega (arith, so_far.room, ap (list_nodes kind.nodes) l.1, list_nodes-append kind.nodes xs l.0))
       (all_small_behind kind xs l.0 (subst (AllSmall kind) l.1 small))
 
-  no_left : (zs : List X) (w r : List Word) → Stops kind w → w ≡ each_words kind.words zs r → (zs ≡ []) × (w ≡ r)
+  no_left : (zs : List X) (w r : List Token) → Stops kind w → w ≡ each_tokens kind.tokens zs r → (zs ≡ []) × (w ≡ r)
   no_left [] w r stop e = (refl, e)
   no_left (z ∷ zs) w r stop e = absurd (stop.none z _ e)
 
-  -- words are those of one list only
-  pub one_each : (xs ys : List X) (w r : List Word) → AllEnd kind xs w → Stops kind w → Stops kind r → each_words kind.words xs w ≡ each_words kind.words ys r → (xs ≡ ys) × (w ≡ r)
+  -- tokens are those of one list only
+  pub one_each : (xs ys : List X) (w r : List Token) → AllEnd kind xs w → Stops kind w → Stops kind r → each_tokens kind.tokens xs w ≡ each_tokens kind.tokens ys r → (xs ≡ ys) × (w ≡ r)
   one_each xs ys w r all at_w at_r e =
       let l = left xs ys w r all at_r e in
       let n = no_left l.0 w r at_w l.2 in

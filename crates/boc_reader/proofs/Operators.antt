@@ -7,7 +7,7 @@ use Rattle.boc_types.specs.declared.level.SumOperator.{SumOperator}
 use Rattle.boc_types.specs.declared.level.SumOperator.TheVariants as sums
 use Rattle.boc_types.specs.declared.level.TermOperator.{TermOperator}
 use Rattle.boc_types.specs.declared.level.TermOperator.TheVariants as terms
-use Rattle.boc_types.specs.text.Words.{Word, sign}
+use Rattle.boc_types.specs.text.Tokens.{Token, sign}
 use Rattle.boc_types.specs.text.Shape.{comparison_sign, sum_sign, term_sign, Expr, plain, compared}
 use Rattle.boc_reader.specs.Grammar.{tightness, NoOperator, EndsSum, EndsExpr}
 
@@ -49,25 +49,25 @@ same_term terms.Divide terms.Divide e = refl
 same_term terms.Remainder terms.Remainder e = refl
 same_term a b e = absurd cc
 
-no_comparison_at : (z : Sign) (w : List Word) → tightness z ≢ 1 → NoOperator comparison_sign (sign z ∷ w)
+no_comparison_at : (z : Sign) (w : List Token) → tightness z ≢ 1 → NoOperator comparison_sign (sign z ∷ w)
 no_comparison_at z w h op after e = let same : z ≡ comparison_sign op = cc in h (ap tightness same ∙ tightness_comparison op)
 
-no_sum_at : (z : Sign) (w : List Word) → tightness z ≢ 2 → NoOperator sum_sign (sign z ∷ w)
+no_sum_at : (z : Sign) (w : List Token) → tightness z ≢ 2 → NoOperator sum_sign (sign z ∷ w)
 no_sum_at z w h op after e = let same : z ≡ sum_sign op = cc in h (ap tightness same ∙ tightness_sum op)
 
-no_term_at : (z : Sign) (w : List Word) → tightness z ≢ 3 → NoOperator term_sign (sign z ∷ w)
+no_term_at : (z : Sign) (w : List Token) → tightness z ≢ 3 → NoOperator term_sign (sign z ∷ w)
 no_term_at z w h op after e = let same : z ≡ term_sign op = cc in h (ap tightness same ∙ tightness_term op)
 
 -- a sign that is no operator ends an expression
-pub sign_ends : (z : Sign) → tightness z ≡ 0 → (x : Expr) (w : List Word) → EndsExpr x (sign z ∷ w)
+pub sign_ends : (z : Sign) → tightness z ≡ 0 → (x : Expr) (w : List Token) → EndsExpr x (sign z ∷ w)
 sign_ends z h (plain s) w = ((no_term_at z w (λ e. omega arith), no_sum_at z w (λ e. omega arith)), no_comparison_at z w (λ e. omega arith))
 sign_ends z h (compared s op t) w = (no_term_at z w (λ e. omega arith), no_sum_at z w (λ e. omega arith))
 
 -- a looser operator ends what a tighter one takes in
-pub comparison_ends : (op : Comparison) (w : List Word) → EndsSum (sign (comparison_sign op) ∷ w)
+pub comparison_ends : (op : Comparison) (w : List Token) → EndsSum (sign (comparison_sign op) ∷ w)
 comparison_ends op w =
     let t = tightness_comparison op in
     (no_term_at (comparison_sign op) w (λ e. omega arith), no_sum_at (comparison_sign op) w (λ e. omega arith))
 
-pub sum_ends : (op : SumOperator) (w : List Word) → NoOperator term_sign (sign (sum_sign op) ∷ w)
+pub sum_ends : (op : SumOperator) (w : List Token) → NoOperator term_sign (sign (sum_sign op) ∷ w)
 sum_ends op w = let t = tightness_sum op in no_term_at (sum_sign op) w (λ e. omega arith)

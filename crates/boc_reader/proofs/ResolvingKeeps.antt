@@ -3,7 +3,7 @@ use Rattle.std.proofs.Common.{◌≡◌, ℕ, ◌+◌, ◌<◌, ◌≤◌, Bool,
 use Rattle.std.specs.Prelude.{◌&&◌, nat_lt, nat_le, max, if◌then◌else◌}
 use Rattle.std.specs.Option.{option_map, option_and_then}
 use Rattle.std.proofs.lemmas.Bool.Decides.{nat_tests}
-use Rattle.boc_types.specs.program.Syntax.{Term, Place, Code, Done, Assign, Work, If, Repeat, When}
+use Rattle.boc_types.specs.program.Syntax.{SlotExpr, CownRef, Code, Done, Assign, Work, If, Repeat, When}
 use Rattle.boc_types.specs.program.Resolved.{every, expr_fits, ref_fits, fits, expr_nodes, ref_nodes, nodes, total}
 use Rattle.boc_types.specs.program.Signatures.{Test, whens_pass}
 use Rattle.boc_types.specs.text.Names.{Left, deepest}
@@ -45,7 +45,7 @@ pub at_most : (a b : ℕ) → a ≤ b → IsTrue (nat_le a b)
 at_most a b h = grind (arith, nat_tests)
 
 -- an expression names slots below k, and has at most j nodes
-pub record ExprKeeps (k j : ℕ) (e : Term) : Type 0 where
+pub record ExprKeeps (k j : ℕ) (e : SlotExpr) : Type 0 where
   pub within : (n : ℕ) → k ≤ n → IsTrue (expr_fits n e)
   pub few : expr_nodes e ≤ j
 
@@ -58,12 +58,12 @@ left_fits n None = true
 left_fits n (Some l) = expr_fits n l.0
 
 -- several expressions name slots below k, are as many as l, and have at most j nodes
-pub record ExprsKeep (k l j : ℕ) (es : List Term) : Type 0 where
+pub record ExprsKeep (k l j : ℕ) (es : List SlotExpr) : Type 0 where
   pub many : length es ≡ l
   pub within : (n : ℕ) → k ≤ n → IsTrue (every (map (expr_fits n) es))
   pub few : total (map expr_nodes es) ≤ j
 
-pub record PlacesKeep (held k l j : ℕ) (ps : List Place) : Type 0 where
+pub record CownRefsKeep (held k l j : ℕ) (ps : List CownRef) : Type 0 where
   pub many : length ps ≡ l
   pub within : (n : ℕ) → k ≤ n → IsTrue (every (map (ref_fits (record { slots = n; cowns = held })) ps))
   pub few : total (map ref_nodes ps) ≤ j
@@ -78,7 +78,7 @@ pub record CodeKeeps (test : Test) (held k m : ℕ) (c : Code) : Type 0 where
 pub keeps_done : (test : Test) (held k : ℕ) → CodeKeeps test held k 0 Done
 keeps_done test held k = record { few = omega arith; deep = omega arith; within = λ n a b. refl; passes = refl }
 
-pub keeps_let : (test : Test) (held k j m : ℕ) (e : Term) (rest : Code) → ExprKeeps k j e → CodeKeeps test held (k + 1) m rest → CodeKeeps test held k (1 + j + m) (Assign k e rest)
+pub keeps_let : (test : Test) (held k j m : ℕ) (e : SlotExpr) (rest : Code) → ExprKeeps k j e → CodeKeeps test held (k + 1) m rest → CodeKeeps test held k (1 + j + m) (Assign k e rest)
 keeps_let test held k j m e rest x r =
     let few_e = x.few in
     let few_r = r.few in
@@ -90,7 +90,7 @@ keeps_let test held k j m e rest x r =
       passes = r.passes;
     }
 
-pub keeps_assign : (test : Test) (held k j m slot : ℕ) (e : Term) (rest : Code) → slot < k → ExprKeeps k j e → CodeKeeps test held k m rest → CodeKeeps test held k (1 + j + m) (Assign slot e rest)
+pub keeps_assign : (test : Test) (held k j m slot : ℕ) (e : SlotExpr) (rest : Code) → slot < k → ExprKeeps k j e → CodeKeeps test held k m rest → CodeKeeps test held k (1 + j + m) (Assign slot e rest)
 keeps_assign test held k j m slot e rest h x r =
     let few_e = x.few in
     let few_r = r.few in
@@ -102,7 +102,7 @@ keeps_assign test held k j m slot e rest h x r =
       passes = r.passes;
     }
 
-pub keeps_work : (test : Test) (held k j m : ℕ) (e : Term) (rest : Code) → ExprKeeps k j e → CodeKeeps test held k m rest → CodeKeeps test held k (1 + j + m) (Work e rest)
+pub keeps_work : (test : Test) (held k j m : ℕ) (e : SlotExpr) (rest : Code) → ExprKeeps k j e → CodeKeeps test held k m rest → CodeKeeps test held k (1 + j + m) (Work e rest)
 keeps_work test held k j m e rest x r =
     let few_e = x.few in
     let few_r = r.few in
@@ -114,7 +114,7 @@ keeps_work test held k j m e rest x r =
       passes = r.passes;
     }
 
-pub keeps_if : (test : Test) (held k j i o m : ℕ) (e : Term) (a b rest : Code) → ExprKeeps k j e → CodeKeeps test held k i a → CodeKeeps test held k o b → CodeKeeps test held k m rest → CodeKeeps test held k (1 + (j + (i + o)) + m) (If e a b rest)
+pub keeps_if : (test : Test) (held k j i o m : ℕ) (e : SlotExpr) (a b rest : Code) → ExprKeeps k j e → CodeKeeps test held k i a → CodeKeeps test held k o b → CodeKeeps test held k m rest → CodeKeeps test held k (1 + (j + (i + o)) + m) (If e a b rest)
 keeps_if test held k j i o m e a b rest x p q r =
     let few_e = x.few in
     let few_a = p.few in
@@ -130,7 +130,7 @@ keeps_if test held k j i o m e a b rest x p q r =
       passes = both _ _ (both _ _ p.passes q.passes) r.passes;
     }
 
-pub keeps_repeat : (test : Test) (held k j i m : ℕ) (e : Term) (a rest : Code) → ExprKeeps k j e → CodeKeeps test held k i a → CodeKeeps test held k m rest → CodeKeeps test held k (1 + (j + i) + m) (Repeat e a rest)
+pub keeps_repeat : (test : Test) (held k j i m : ℕ) (e : SlotExpr) (a rest : Code) → ExprKeeps k j e → CodeKeeps test held k i a → CodeKeeps test held k m rest → CodeKeeps test held k (1 + (j + i) + m) (Repeat e a rest)
 keeps_repeat test held k j i m e a rest x p r =
     let few_e = x.few in
     let few_a = p.few in
@@ -144,7 +144,7 @@ keeps_repeat test held k j i m e a rest x p r =
       passes = both _ _ p.passes r.passes;
     }
 
-pub keeps_when : (test : Test) (held k l l' j i m kind : ℕ) (es : List Term) (ps : List Place) (rest : Code) → l ≤ 8 → l' ≤ 8 → ExprsKeep k l j es → PlacesKeep held k l' i ps → IsTrue (test kind es ps) → CodeKeeps test held k m rest → CodeKeeps test held k (1 + (j + i) + m) (When kind es ps rest)
+pub keeps_when : (test : Test) (held k l l' j i m kind : ℕ) (es : List SlotExpr) (ps : List CownRef) (rest : Code) → l ≤ 8 → l' ≤ 8 → ExprsKeep k l j es → CownRefsKeep held k l' i ps → IsTrue (test kind es ps) → CodeKeeps test held k m rest → CodeKeeps test held k (1 + (j + i) + m) (When kind es ps rest)
 keeps_when test held k l l' j i m kind es ps rest f g x p t r =
     let few_e = x.few in
     let few_p = p.few in
@@ -166,4 +166,4 @@ deepest-max n (Assign slot e rest) = omega (arith, deepest-max n rest)
 deepest-max n (Work e rest) = omega (arith, deepest-max n rest)
 deepest-max n (If e a b rest) = omega (arith, deepest-max n a, deepest-max n b, deepest-max n rest)
 deepest-max n (Repeat e a rest) = omega (arith, deepest-max n a, deepest-max n rest)
-deepest-max n (When kind args places rest) = omega (arith, deepest-max n rest)
+deepest-max n (When kind args refs rest) = omega (arith, deepest-max n rest)

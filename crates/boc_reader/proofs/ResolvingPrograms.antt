@@ -8,10 +8,10 @@ use Rattle.std.proofs.lemmas.Option.{slice_get-map}
 use Rattle.std.proofs.lemmas.Bool.Decides.{nat_tests}
 use Rattle.boc_types.specs.declared.body.Body.{Body}
 use Rattle.boc_types.specs.declared.cown.Cown.{Cown as Cown'}
-use Rattle.boc_types.specs.text.Shape.{Block, Cown, Def, Tree, members, HasMembers, HaveMembers, cowns_declared, IsSmallBlock, AreSmallDefs, IsWithinLimits}
+use Rattle.boc_types.specs.text.Shape.{Block, Cown, Def, Tree, HasMembers, HaveMembers, cowns_declared, IsSmallBlock, AreSmallDefs, IsWithinLimits}
 use Rattle.boc_types.specs.program.Resolved.{every}
 use Rattle.boc_types.specs.program.Signatures.{Signature, signature_of, whens_pass, counts_fit, call_fits, calls_fit}
-use Rattle.boc_types.specs.program.Programs.{size_of, cown_count, have_members, has_main}
+use Rattle.boc_types.specs.program.Programs.{members, cown_count, have_members, has_main}
 use Rattle.boc_types.specs.program.Parts.{MakesProgram}
 use Rattle.boc_types.specs.text.Names.{Named, Callee, Top, Outside, kind_of, callee, takes, PlainBody, PlainCown, PlainProgram, body_names, callees, top_of, top_names, are_distinct, all_names, plain_cown, tree_names}
 use Rattle.boc_types.specs.text.Spells.{plain_body, plain_declared}
@@ -71,11 +71,11 @@ call_passes sigs most outside knows allows scope f es rs s made =
     let t = takes_made (callee outside.top f) (length es) (length rs) made.takes_them in
     let sig = knows f made.kind t.def made.kind_is t.is in
     let args = exprs_keep es scope made.args made.args_are in
-    let places = refs_keep rs outside scope most made.places allows made.places_are in
-    let counted : IsTrue (counts_fit (Some (signature_for t.def)) made.args made.places) =
-    both _ _ (same_number (length made.args) t.def.args (args.many ∙ sym t.same_args)) (same_number (length made.places) t.def.cowns (places.places.many ∙ sym t.same_cowns)) in
+    let refs = refs_keep rs outside scope most made.refs allows made.refs_are in
+    let counted : IsTrue (counts_fit (Some (signature_for t.def)) made.args made.refs) =
+    both _ _ (same_number (length made.args) t.def.args (args.many ∙ sym t.same_args)) (same_number (length made.refs) t.def.cowns (refs.refs.many ∙ sym t.same_cowns)) in
     let of_def : IsTrue (nat_lt 0 made.kind) = above_zero (position (λ c. bytes_eq c.name f) outside.top.defs) made.kind made.kind_is in
-    both _ _ of_def (both _ _ (subst (λ (o : Option Signature). IsTrue (counts_fit o made.args made.places)) (sym sig) counted) places.ends)
+    both _ _ of_def (both _ _ (subst (λ (o : Option Signature). IsTrue (counts_fit o made.args made.refs)) (sym sig) counted) refs.ends)
 
 abbrev pub plain_calls : List Signature → ℕ → PlainBody → Bool
 plain_calls sigs most b = whens_pass (call_fits sigs b.cown_params most) b.code
@@ -127,13 +127,9 @@ abbrev pub plain_count : List PlainCown → ℕ
 plain_count [] = 0
 plain_count (c ∷ cs) = members c.size + plain_count cs
 
-size_of-members : (s : Option ℕ) → size_of s ≡ members s
-size_of-members None = refl
-size_of-members (Some n) = refl
-
 count_made : (cs : List Cown') → cown_count cs ≡ plain_count (map plain_declared cs)
 count_made [] = refl
-count_made (c ∷ cs) = ap (λ n. n + cown_count cs) (size_of-members c.size) ∙ ap (λ n. members c.size + n) (count_made cs)
+count_made (c ∷ cs) = ap (λ n. members c.size + n) (count_made cs)
 
 -- whether each of several has a member
 abbrev plain_members : List PlainCown → Bool
@@ -141,7 +137,7 @@ plain_members cs = every (map (λ c. nat_lt 0 (members c.size)) cs)
 
 members_made : (cs : List Cown') → have_members cs ≡ plain_members (map plain_declared cs)
 members_made [] = refl
-members_made (c ∷ cs) = ap (λ n. nat_lt 0 n && have_members cs) (size_of-members c.size) ∙ ap (λ b. nat_lt 0 (members c.size) && b) (members_made cs)
+members_made (c ∷ cs) = ap (λ b. nat_lt 0 (members c.size) && b) (members_made cs)
 
 has_member : (size : Option ℕ) → HasMembers size → IsTrue (nat_lt 0 (members size))
 has_member None h = refl

@@ -10,7 +10,7 @@ use Rattle.boc_types.specs.declared.body.Stmt.TheVariants as stmts
 use Rattle.boc_types.specs.program.Syntax.{Code, Done}
 use Rattle.boc_types.specs.memory.View.{before, code_of}
 use Rattle.boc_types.specs.text.Names.{Named, Outside, then_code, stmt_names, block_names}
-use Rattle.boc_reader.specs.Resolving.{step_of}
+use Rattle.boc_reader.specs.Resolving.{resolved_stmt_of}
 
 abbrev pub code_onto : List Stmt → Code → Code
 code_onto [] c = c
@@ -21,18 +21,18 @@ abbrev pub with_code : List Stmt → Option Code → Option Code
 with_code front None = None
 with_code front (Some c) = Some (code_onto front c)
 
-then_before : (s : Stmt) (c : Code) → then_code (step_of s) c ≡ before s c
+then_before : (s : Stmt) (c : Code) → then_code (resolved_stmt_of s) c ≡ before s c
 then_before (stmts.Assign slot e) c = refl
 then_before (stmts.Work e) c = refl
 then_before (stmts.If e a b) c = refl
 then_before (stmts.Repeat e a) c = refl
 then_before (stmts.When kind args refs) c = refl
 
-onto_more : (ss : List Stmt) (s : Stmt) (c : Code) → code_onto (ss ++ s ∷ []) c ≡ code_onto ss (then_code (step_of s) c)
+onto_more : (ss : List Stmt) (s : Stmt) (c : Code) → code_onto (ss ++ s ∷ []) c ≡ code_onto ss (then_code (resolved_stmt_of s) c)
 onto_more [] s c = sym (then_before s c)
 onto_more (x ∷ xs) s c = ap (before x) (onto_more xs s c)
 
-with_more : (front : List Stmt) (s : Stmt) (r : Option Code) → with_code front (option_map (then_code (step_of s)) r) ≡ with_code (front ++ s ∷ []) r
+with_more : (front : List Stmt) (s : Stmt) (r : Option Code) → with_code front (option_map (then_code (resolved_stmt_of s)) r) ≡ with_code (front ++ s ∷ []) r
 with_more front s None = refl
 with_more front s (Some c) = ap Some (sym (onto_more front s c))
 
@@ -43,7 +43,7 @@ onto_done (s ∷ ss) = ap (before s) (onto_done ss)
 block_at : (b : List Stmt') (i : ℕ) (s : Stmt') → i < length b → s ≡ get_or b i s → block_of (drop i b) ≡ next (stmt_of s) (block_of (drop (i + 1) b))
 block_at b i s h e = rw (add-one, drop-cons b i s h) (ap (λ x. next (stmt_of x) (block_of (drop (suc i) b))) (sym e))
 
-pub goes_on : (b : List Stmt') (i : ℕ) (s : Stmt') (front all : List Stmt) (x : Stmt) (outside : Outside) (scope scope' : List Named) (whole : Option Code) → i < length b → s ≡ get_or b i s → stmt_names (stmt_of s) outside scope ≡ Some (step_of x, scope') → all ≡ front ++ x ∷ [] → whole ≡ with_code front (block_names (block_of (drop i b)) outside scope) → whole ≡ with_code all (block_names (block_of (drop (i + 1) b)) outside scope')
+pub goes_on : (b : List Stmt') (i : ℕ) (s : Stmt') (front all : List Stmt) (x : Stmt) (outside : Outside) (scope scope' : List Named) (whole : Option Code) → i < length b → s ≡ get_or b i s → stmt_names (stmt_of s) outside scope ≡ Some (resolved_stmt_of x, scope') → all ≡ front ++ x ∷ [] → whole ≡ with_code front (block_names (block_of (drop i b)) outside scope) → whole ≡ with_code all (block_names (block_of (drop (i + 1) b)) outside scope')
 goes_on b i s front all x outside scope scope' whole h e found more so_far =
     so_far ∙ ap (λ c. with_code front (block_names c outside scope)) (block_at b i s h e)
     ∙ ap (λ o. with_code front (option_and_then (λ y. option_map (then_code y.0) (block_names (block_of (drop (i + 1) b)) outside y.1)) o)) found

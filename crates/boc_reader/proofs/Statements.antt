@@ -1,10 +1,10 @@
--- Statements and blocks: their words are those of one only, and where a part isn't there, the whole isn't.
+-- Statements and blocks: their tokens are those of one only, and where a part isn't there, the whole isn't.
 use Rattle.std.proofs.Common.{◌≡◌, ◌≢◌, ℕ, ◌+◌, ◌≤◌, List, [], ◌∷◌, Some, None, refl, sym, ap, ◌∙◌, arith}
 use Rattle.boc_types.specs.declared.token.Sign.{Sign}
 use Rattle.boc_types.specs.declared.token.Sign.TheVariants.{Semicolon, Close, OpenBlock, CloseBlock}
 use Rattle.boc_types.specs.declared.token.Keyword.TheVariants.{Let, Work, If, Else, Repeat, When}
-use Rattle.boc_types.specs.text.Words.{Word, name, sign, keyword}
-use Rattle.boc_types.specs.text.Shape.{Expr, Stmt, declare, assign, work, if_only, if_else, repeat, when, Block, done, next, stmt_words, block_words, braced_words, stmt_nodes, block_nodes, IsSmallBlock, each_words, list_words, list_nodes, ref_words}
+use Rattle.boc_types.specs.text.Tokens.{Token, name, sign, keyword}
+use Rattle.boc_types.specs.text.Shape.{Expr, Stmt, declare, assign, work, if_only, if_else, repeat, when, Block, done, next, stmt_tokens, block_tokens, braced_tokens, stmt_nodes, block_nodes, IsSmallBlock, each_tokens, list_tokens, list_nodes, ref_tokens}
 use Rattle.boc_reader.specs.Phrases.{Ahead, NoneStands}
 use Rattle.boc_reader.specs.Grammar.{NoSign, NoKeyword, EndsStmt, expr_phrase, closed_phrase, let_phrase, call_phrase, if_phrase, else_phrase, repeat_phrase, stmt_phrase, block_phrase, braced_phrase}
 use Rattle.boc_reader.proofs.Refused.{OneReading}
@@ -14,7 +14,7 @@ use Rattle.boc_reader.proofs.Calls.{one_exprs, one_refs}
 use Rattle.boc_reader.proofs.Each.{AllSmall, ReadEach}
 use Rattle.boc_reader.proofs.Ended.{Stops, no_next}
 
-no_else : (x : Stmt) (w : List Word) → NoKeyword Else (stmt_words x w)
+no_else : (x : Stmt) (w : List Token) → NoKeyword Else (stmt_tokens x w)
 no_else (declare x e) w r h = cc
 no_else (assign x e) w r h = cc
 no_else (work e) w r h = cc
@@ -24,7 +24,7 @@ no_else (repeat e b) w r h = cc
 no_else (when f es rs) w r h = cc
 
 -- a statement begins with no sign
-no_stmt : (x : Stmt) (z : Sign) (w r : List Word) → stmt_words x w ≢ sign z ∷ r
+no_stmt : (x : Stmt) (z : Sign) (w r : List Token) → stmt_tokens x w ≢ sign z ∷ r
 no_stmt (declare x e) z w r h = cc
 no_stmt (assign x e) z w r h = cc
 no_stmt (work e) z w r h = cc
@@ -33,23 +33,23 @@ no_stmt (if_else e b c) z w r h = cc
 no_stmt (repeat e b) z w r h = cc
 no_stmt (when f es rs) z w r h = cc
 
-next_stmt : (x y : Stmt) (w : List Word) → EndsStmt x (stmt_words y w)
+next_stmt : (x y : Stmt) (w : List Token) → EndsStmt x (stmt_tokens y w)
 next_stmt (if_only e b) y w = no_else y w
 next_stmt x y w = tt
 
-last_stmt : (x : Stmt) (r : List Word) → EndsStmt x (sign CloseBlock ∷ r)
+last_stmt : (x : Stmt) (r : List Token) → EndsStmt x (sign CloseBlock ∷ r)
 last_stmt (if_only e b) r = λ after h. cc
 last_stmt x r = tt
 
-block_ends : (x : Stmt) (b : Block) (r : List Word) → EndsStmt x (block_words b (sign CloseBlock ∷ r))
+block_ends : (x : Stmt) (b : Block) (r : List Token) → EndsStmt x (block_tokens b (sign CloseBlock ∷ r))
 block_ends x done r = last_stmt x r
 block_ends x (next y b) r = next_stmt x y _
 
-pub brace_ends : (x : Expr) (b : Block) (r : List Word) → expr_phrase.Ends x (braced_words b r)
+pub brace_ends : (x : Expr) (b : Block) (r : List Token) → expr_phrase.Ends x (braced_tokens b r)
 brace_ends x b r = sign_ends OpenBlock refl x _
 
 mutual
-  pub one_stmt : (x y : Stmt) (r s : List Word) → EndsStmt x r → EndsStmt y s → stmt_words x r ≡ stmt_words y s → (x ≡ y) × (r ≡ s)
+  pub one_stmt : (x y : Stmt) (r s : List Token) → EndsStmt x r → EndsStmt y s → stmt_tokens x r ≡ stmt_tokens y s → (x ≡ y) × (r ≡ s)
   one_stmt (declare x e) (declare y f) r s p q h =
       let u = one_expr e f (sign Semicolon ∷ r) (sign Semicolon ∷ s) (sign_ends Semicolon refl e r) (sign_ends Semicolon refl f s) cc in
       let v = u.0 in let t = u.1 in
@@ -63,47 +63,47 @@ mutual
       let v = u.0 in let t = u.1 in
       (cc, cc)
   one_stmt (if_only e b) (if_only f c) r s p q h =
-      let u = one_expr e f (braced_words b r) (braced_words c s) (brace_ends e b r) (brace_ends f c s) cc in
+      let u = one_expr e f (braced_tokens b r) (braced_tokens c s) (brace_ends e b r) (brace_ends f c s) cc in
       let v = u.0 in let t = u.1 in
       let k = one_block b c r s cc in
       let l = k.0 in
       (cc, k.1)
   one_stmt (if_only e b) (if_else f c d) r s p q h =
-      let u = one_expr e f (braced_words b r) (braced_words c (keyword Else ∷ braced_words d s)) (brace_ends e b r) (brace_ends f c _) cc in
+      let u = one_expr e f (braced_tokens b r) (braced_tokens c (keyword Else ∷ braced_tokens d s)) (brace_ends e b r) (brace_ends f c _) cc in
       let t = u.1 in
-      absurd (p _ (one_block b c r (keyword Else ∷ braced_words d s) cc).1)
+      absurd (p _ (one_block b c r (keyword Else ∷ braced_tokens d s) cc).1)
   one_stmt (if_else e b d) (if_only f c) r s p q h =
-      let u = one_expr e f (braced_words b (keyword Else ∷ braced_words d r)) (braced_words c s) (brace_ends e b _) (brace_ends f c s) cc in
+      let u = one_expr e f (braced_tokens b (keyword Else ∷ braced_tokens d r)) (braced_tokens c s) (brace_ends e b _) (brace_ends f c s) cc in
       let t = u.1 in
-      absurd (q _ (sym (one_block b c (keyword Else ∷ braced_words d r) s cc).1))
+      absurd (q _ (sym (one_block b c (keyword Else ∷ braced_tokens d r) s cc).1))
   one_stmt (if_else e b d) (if_else f c g) r s p q h =
-      let u = one_expr e f (braced_words b (keyword Else ∷ braced_words d r)) (braced_words c (keyword Else ∷ braced_words g s)) (brace_ends e b _) (brace_ends f c _) cc in
+      let u = one_expr e f (braced_tokens b (keyword Else ∷ braced_tokens d r)) (braced_tokens c (keyword Else ∷ braced_tokens g s)) (brace_ends e b _) (brace_ends f c _) cc in
       let v = u.0 in let t = u.1 in
-      let k = one_block b c (keyword Else ∷ braced_words d r) (keyword Else ∷ braced_words g s) cc in
+      let k = one_block b c (keyword Else ∷ braced_tokens d r) (keyword Else ∷ braced_tokens g s) cc in
       let l = k.0 in let m = k.1 in
       let n = one_block d g r s cc in
       let o = n.0 in
       (cc, n.1)
   one_stmt (repeat e b) (repeat f c) r s p q h =
-      let u = one_expr e f (braced_words b r) (braced_words c s) (brace_ends e b r) (brace_ends f c s) cc in
+      let u = one_expr e f (braced_tokens b r) (braced_tokens c s) (brace_ends e b r) (brace_ends f c s) cc in
       let v = u.0 in let t = u.1 in
       let k = one_block b c r s cc in
       let l = k.0 in
       (cc, k.1)
   one_stmt (when f es rs) (when g fs ss) r s p q h =
-      let u = one_exprs es fs (list_words ref_words rs (sign Close ∷ sign Semicolon ∷ r)) (list_words ref_words ss (sign Close ∷ sign Semicolon ∷ s)) tt tt cc in
+      let u = one_exprs es fs (list_tokens ref_tokens rs (sign Close ∷ sign Semicolon ∷ r)) (list_tokens ref_tokens ss (sign Close ∷ sign Semicolon ∷ s)) tt tt cc in
       let v = u.0 in let t = u.1 in
       let k = one_refs rs ss (sign Semicolon ∷ r) (sign Semicolon ∷ s) tt tt cc in
       let l = k.0 in let m = k.1 in
       (cc, cc)
   one_stmt x y r s p q h = absurd cc
 
-  pub one_block : (b c : Block) (r s : List Word) → block_words b (sign CloseBlock ∷ r) ≡ block_words c (sign CloseBlock ∷ s) → (b ≡ c) × (r ≡ s)
+  pub one_block : (b c : Block) (r s : List Token) → block_tokens b (sign CloseBlock ∷ r) ≡ block_tokens c (sign CloseBlock ∷ s) → (b ≡ c) × (r ≡ s)
   one_block done done r s h = (refl, cc)
   one_block done (next y c) r s h = absurd (no_stmt y CloseBlock _ r (sym h))
   one_block (next x b) done r s h = absurd (no_stmt x CloseBlock _ s h)
   one_block (next x b) (next y c) r s h =
-      let u = one_stmt x y (block_words b (sign CloseBlock ∷ r)) (block_words c (sign CloseBlock ∷ s)) (block_ends x b r) (block_ends y c s) h in
+      let u = one_stmt x y (block_tokens b (sign CloseBlock ∷ r)) (block_tokens c (sign CloseBlock ∷ s)) (block_ends x b r) (block_ends y c s) h in
       let v = u.0 in
       let k = one_block b c r s u.1 in
       let l = k.0 in
@@ -118,10 +118,10 @@ stmts_of : Block → List Stmt
 stmts_of done = []
 stmts_of (next s b) = s ∷ stmts_of b
 
-stmts_words : (b : Block) (r : List Word) → block_words b r ≡ each_words stmt_words (stmts_of b) r
+stmts_tokens : (b : Block) (r : List Token) → block_tokens b r ≡ each_tokens stmt_tokens (stmts_of b) r
 unfolding stmts_of
-stmts_words done r = refl
-stmts_words (next s b) r = ap (stmt_words s) (stmts_words b r)
+stmts_tokens done r = refl
+stmts_tokens (next s b) r = ap (stmt_tokens s) (stmts_tokens b r)
 
 stmts_nodes : (b : Block) → list_nodes stmt_nodes (stmts_of b) ≡ block_nodes b
 unfolding stmts_of
@@ -133,13 +133,13 @@ unfolding stmts_of
 stmts_small done h = tt
 stmts_small (next s b) h = (h.0, stmts_small b h.1)
 
-close_stops : (r : List Word) → Stops stmt_phrase (sign CloseBlock ∷ r)
+close_stops : (r : List Token) → Stops stmt_phrase (sign CloseBlock ∷ r)
 close_stops r = record { ends = λ x. last_stmt x r; none = λ x w h. no_stmt x CloseBlock w r (sym h) }
 
-pub no_next_stmt : (old mid : Ahead) (xs : List Stmt) → ReadEach stmt_phrase old mid xs → NoSign CloseBlock mid.words → NoneStands stmt_phrase mid → NoneStands block_phrase old
+pub no_next_stmt : (old mid : Ahead) (xs : List Stmt) → ReadEach stmt_phrase old mid xs → NoSign CloseBlock mid.tokens → NoneStands stmt_phrase mid → NoneStands block_phrase old
 no_next_stmt old mid xs so_far ajar none b r st =
     no_next stmt_phrase one_stmt next_stmt old mid xs (stmts_of b) (sign CloseBlock ∷ r) so_far none (close_stops r) (ajar r)
-    (st.words ∙ stmts_words b _) (omega (arith, stmts_nodes b, st.fits)) (stmts_small b st.small)
+    (st.tokens ∙ stmts_tokens b _) (omega (arith, stmts_nodes b, st.fits)) (stmts_small b st.small)
 
 -- what a statement begins with, and what follows
 
@@ -156,40 +156,40 @@ pub no_room_for_stmt : (old : Ahead) → old.room ≡ 0 → NoneStands stmt_phra
 no_room_for_stmt old h x r st = omega (arith, stmt_needs_room x, st.fits)
 
 module _ (old mid : Ahead) (n : 1 + mid.room ≡ old.room) where
-  pub no_assign : (x : List ℕ) (after : List Word) → old.words ≡ name x ∷ after → mid.words ≡ old.words → NoneStands let_phrase mid → NoneStands stmt_phrase old
-  no_assign y after e same none (assign x v) r st = none (x, v) r (record { words = same ∙ st.words; ends = tt; fits = omega (arith, st.fits); small = (tt, tt) })
-  no_assign y after e same none x r st = let w = st.words in absurd cc
+  pub no_assign : (x : List ℕ) (after : List Token) → old.tokens ≡ name x ∷ after → mid.tokens ≡ old.tokens → NoneStands let_phrase mid → NoneStands stmt_phrase old
+  no_assign y after e same none (assign x v) r st = none (x, v) r (record { tokens = same ∙ st.tokens; ends = tt; fits = omega (arith, st.fits); small = (tt, tt) })
+  no_assign y after e same none x r st = let w = st.tokens in absurd cc
 
-  pub no_let : old.words ≡ keyword Let ∷ mid.words → NoneStands let_phrase mid → NoneStands stmt_phrase old
-  no_let e none (declare x v) r st = let w = st.words in none (x, v) r (record { words = cc; ends = tt; fits = omega (arith, st.fits); small = (tt, tt) })
-  no_let e none x r st = let w = st.words in absurd cc
+  pub no_let : old.tokens ≡ keyword Let ∷ mid.tokens → NoneStands let_phrase mid → NoneStands stmt_phrase old
+  no_let e none (declare x v) r st = let w = st.tokens in none (x, v) r (record { tokens = cc; ends = tt; fits = omega (arith, st.fits); small = (tt, tt) })
+  no_let e none x r st = let w = st.tokens in absurd cc
 
-  pub no_work : old.words ≡ keyword Work ∷ mid.words → NoneStands (closed_phrase expr_phrase Semicolon) mid → NoneStands stmt_phrase old
-  no_work e none (work v) r st = let w = st.words in none v r (record { words = cc; ends = tt; fits = omega (arith, st.fits); small = tt })
-  no_work e none x r st = let w = st.words in absurd cc
+  pub no_work : old.tokens ≡ keyword Work ∷ mid.tokens → NoneStands (closed_phrase expr_phrase Semicolon) mid → NoneStands stmt_phrase old
+  no_work e none (work v) r st = let w = st.tokens in none v r (record { tokens = cc; ends = tt; fits = omega (arith, st.fits); small = tt })
+  no_work e none x r st = let w = st.tokens in absurd cc
 
-  pub no_if : old.words ≡ keyword If ∷ mid.words → NoneStands if_phrase mid → NoneStands stmt_phrase old
-  no_if e none (if_only v b) r st = let w = st.words in none (v, (b, None)) r (record { words = cc; ends = st.ends; fits = omega (arith, st.fits); small = (tt, (st.small, tt)) })
-  no_if e none (if_else v b c) r st = let w = st.words in none (v, (b, Some c)) r (record { words = cc; ends = tt; fits = omega (arith, st.fits); small = (tt, (st.small.0, st.small.1)) })
-  no_if e none x r st = let w = st.words in absurd cc
+  pub no_if : old.tokens ≡ keyword If ∷ mid.tokens → NoneStands if_phrase mid → NoneStands stmt_phrase old
+  no_if e none (if_only v b) r st = let w = st.tokens in none (v, (b, None)) r (record { tokens = cc; ends = st.ends; fits = omega (arith, st.fits); small = (tt, (st.small, tt)) })
+  no_if e none (if_else v b c) r st = let w = st.tokens in none (v, (b, Some c)) r (record { tokens = cc; ends = tt; fits = omega (arith, st.fits); small = (tt, (st.small.0, st.small.1)) })
+  no_if e none x r st = let w = st.tokens in absurd cc
 
-  pub no_repeat : old.words ≡ keyword Repeat ∷ mid.words → NoneStands repeat_phrase mid → NoneStands stmt_phrase old
-  no_repeat e none (repeat v b) r st = let w = st.words in none (v, b) r (record { words = cc; ends = tt; fits = omega (arith, st.fits); small = (tt, st.small) })
-  no_repeat e none x r st = let w = st.words in absurd cc
+  pub no_repeat : old.tokens ≡ keyword Repeat ∷ mid.tokens → NoneStands repeat_phrase mid → NoneStands stmt_phrase old
+  no_repeat e none (repeat v b) r st = let w = st.tokens in none (v, b) r (record { tokens = cc; ends = tt; fits = omega (arith, st.fits); small = (tt, st.small) })
+  no_repeat e none x r st = let w = st.tokens in absurd cc
 
-  pub no_when : old.words ≡ keyword When ∷ mid.words → NoneStands call_phrase mid → NoneStands stmt_phrase old
-  no_when e none (when f es rs) r st = let w = st.words in none (f, (es, rs)) r (record { words = cc; ends = tt; fits = omega (arith, st.fits); small = st.small })
-  no_when e none x r st = let w = st.words in absurd cc
+  pub no_when : old.tokens ≡ keyword When ∷ mid.tokens → NoneStands call_phrase mid → NoneStands stmt_phrase old
+  no_when e none (when f es rs) r st = let w = st.tokens in none (f, (es, rs)) r (record { tokens = cc; ends = tt; fits = omega (arith, st.fits); small = st.small })
+  no_when e none x r st = let w = st.tokens in absurd cc
 
-pub not_stmt : (old : Ahead) → ((n : List ℕ) (after : List Word) → old.words ≢ name n ∷ after) → NoKeyword Let old.words → NoKeyword Work old.words → NoKeyword If old.words → NoKeyword Repeat old.words → NoKeyword When old.words → NoneStands stmt_phrase old
-not_stmt old a b c d e f (declare x v) r st = b _ st.words
-not_stmt old a b c d e f (assign x v) r st = a x _ st.words
-not_stmt old a b c d e f (work v) r st = c _ st.words
-not_stmt old a b c d e f (if_only v k) r st = d _ st.words
-not_stmt old a b c d e f (if_else v k l) r st = d _ st.words
-not_stmt old a b c d e f (repeat v k) r st = e _ st.words
-not_stmt old a b c d e f (when g es rs) r st = f _ st.words
+pub not_stmt : (old : Ahead) → ((n : List ℕ) (after : List Token) → old.tokens ≢ name n ∷ after) → NoKeyword Let old.tokens → NoKeyword Work old.tokens → NoKeyword If old.tokens → NoKeyword Repeat old.tokens → NoKeyword When old.tokens → NoneStands stmt_phrase old
+not_stmt old a b c d e f (declare x v) r st = b _ st.tokens
+not_stmt old a b c d e f (assign x v) r st = a x _ st.tokens
+not_stmt old a b c d e f (work v) r st = c _ st.tokens
+not_stmt old a b c d e f (if_only v k) r st = d _ st.tokens
+not_stmt old a b c d e f (if_else v k l) r st = d _ st.tokens
+not_stmt old a b c d e f (repeat v k) r st = e _ st.tokens
+not_stmt old a b c d e f (when g es rs) r st = f _ st.tokens
 
-pub no_other : (old mid : Ahead) → old.words ≡ keyword Else ∷ mid.words → mid.room ≡ old.room → NoneStands braced_phrase mid → NoneStands else_phrase old
-no_other old mid e n none None r st = st.ends mid.words (sym st.words ∙ e)
-no_other old mid e n none (Some b) r st = let w = st.words in none b r (record { words = cc; ends = tt; fits = omega (arith, st.fits); small = st.small })
+pub no_other : (old mid : Ahead) → old.tokens ≡ keyword Else ∷ mid.tokens → mid.room ≡ old.room → NoneStands braced_phrase mid → NoneStands else_phrase old
+no_other old mid e n none None r st = st.ends mid.tokens (sym st.tokens ∙ e)
+no_other old mid e n none (Some b) r st = let w = st.tokens in none b r (record { tokens = cc; ends = tt; fits = omega (arith, st.fits); small = st.small })

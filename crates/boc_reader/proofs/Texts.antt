@@ -1,4 +1,4 @@
--- How the words of a text follow from its front.
+-- How the tokens of a text follow from its front.
 use Rattle.std.proofs.Common.{lit<, zero, suc, ◌⊎◌, ◌*◌, ◌-◌, ◌^◌, get_or, length, take, drop, append_assoc, ◌≡◌, ◌≢◌, ℕ, ◌+◌, ◌≤◌, ◌<◌, ◌∷◌, List, [], ◌++◌, true, false, cond, eqb, ltb, ◌&&◌, ◌||◌, Option, Some, None, refl, sym, ap, ◌∙◌, subst, arith, inl, inr}
 use Rattle.std.proofs.lemmas.Bool.Decides.{nat_tests}
 use Rattle.std.proofs.lemmas.Bool.{or_cases, and_right, eqb-true, ne_eqb, cases_Bool}
@@ -13,8 +13,7 @@ use Rattle.std.proofs.lemmas.List.Folds.{length-prefix_len}
 use Rattle.std.proofs.Math.Seq.{take-append_seam, drop-append_seam}
 use Rattle.std.specs.List.{AllByRecursion, prefix_len, take_while}
 use Rattle.std.specs.Option.{option_map}
-use Rattle.boc_types.specs.text.Words.{Word, sign}
-use Rattle.boc_types.specs.text.Tokens.{is_word_byte, is_blank, without_comments, Piece, run, pair, single, join, in_front, begins_pair, cut, word_of_run, pair_sign, single_sign, put, words_of_pieces, words_of_text, IsApart, value_of}
+use Rattle.boc_types.specs.text.Tokens.{Token, sign, is_name_byte, is_blank, without_comments, Piece, run, pair, single, join, in_front, begins_pair, cut, token_of_run, pair_sign, single_sign, put, tokens_of_pieces, tokens_of_text, IsApart, value_of}
 
 -- a byte that begins no pair
 pub cut_front : (b : ℕ) (bs : List ℕ) → begins_pair b ≡ false → cut (b ∷ bs) ≡ in_front b (cut bs)
@@ -41,21 +40,21 @@ blank_by P p q r s b h =
       | inr h1 ↦ subst P (sym (eqb-true b 10 h1)) s
     ]
 
-pub word_byte_is : (b : ℕ) → is_word_byte b ≡ true → (begins_pair b ≡ false) × (eqb b 35 ≡ false)
-word_byte_is b h = (grind (arith, nat_tests), grind (arith, nat_tests))
+pub name_byte_is : (b : ℕ) → is_name_byte b ≡ true → (begins_pair b ≡ false) × (eqb b 35 ≡ false)
+name_byte_is b h = (grind (arith, nat_tests), grind (arith, nat_tests))
 
-pub blank_is : (b : ℕ) → is_blank b ≡ true → (is_word_byte b ≡ false) × (begins_pair b ≡ false) × (eqb b 35 ≡ false)
-blank_is b h = blank_by (λ b. (is_word_byte b ≡ false) × (begins_pair b ≡ false) × (eqb b 35 ≡ false)) (refl, refl, refl) (refl, refl, refl) (refl, refl, refl) (refl, refl, refl) b h
+pub blank_is : (b : ℕ) → is_blank b ≡ true → (is_name_byte b ≡ false) × (begins_pair b ≡ false) × (eqb b 35 ≡ false)
+blank_is b h = blank_by (λ b. (is_name_byte b ≡ false) × (begins_pair b ≡ false) × (eqb b 35 ≡ false)) (refl, refl, refl) (refl, refl, refl) (refl, refl, refl) (refl, refl, refl) b h
 
-pub cut_blank : (b : ℕ) (bs : List ℕ) → is_blank b ≡ true → words_of_pieces (cut (b ∷ bs)) ≡ words_of_pieces (cut bs)
-cut_blank b bs h = let i = blank_is b h in let w = i.0 in ap words_of_pieces (cut_front b bs i.1) ∙ rw (w, h) refl
+pub cut_blank : (b : ℕ) (bs : List ℕ) → is_blank b ≡ true → tokens_of_pieces (cut (b ∷ bs)) ≡ tokens_of_pieces (cut bs)
+cut_blank b bs h = let i = blank_is b h in let w = i.0 in ap tokens_of_pieces (cut_front b bs i.1) ∙ rw (w, h) refl
 
-pub blank_skipped : (b : ℕ) (bs : List ℕ) → is_blank b ≡ true → words_of_text (b ∷ bs) ≡ words_of_text bs
-unfolding words_of_text
+pub blank_skipped : (b : ℕ) (bs : List ℕ) → is_blank b ≡ true → tokens_of_text (b ∷ bs) ≡ tokens_of_text bs
+unfolding tokens_of_text
 blank_skipped b bs h = let e = (blank_is b h).2 in rw e (cut_blank b (without_comments false bs) h)
 
-pub hash_skipped : (bs : List ℕ) → words_of_text (35 ∷ bs) ≡ words_of_pieces (cut (without_comments true bs))
-unfolding words_of_text
+pub hash_skipped : (bs : List ℕ) → tokens_of_text (35 ∷ bs) ≡ tokens_of_pieces (cut (without_comments true bs))
+unfolding tokens_of_text
 hash_skipped bs = cut_blank 32 (without_comments true bs) refl
 
 -- what has been cut behind a run
@@ -65,11 +64,11 @@ NoRun (run bs ∷ ps) = ⊥
 NoRun (pair b ∷ ps) = Unit {0}
 NoRun (single b ∷ ps) = Unit {0}
 
-abbrev pub NoWordByte : List ℕ → Type 0
-NoWordByte [] = Unit {0}
-NoWordByte (b ∷ bs) = is_word_byte b ≡ false
+abbrev pub NoNameByte : List ℕ → Type 0
+NoNameByte [] = Unit {0}
+NoNameByte (b ∷ bs) = is_name_byte b ≡ false
 
-cut_no_run : (bs : List ℕ) → NoWordByte bs → NoRun (cut bs)
+cut_no_run : (bs : List ℕ) → NoNameByte bs → NoRun (cut bs)
 unfolding cut
 cut_no_run [] h = tt
 cut_no_run (b ∷ []) h = rw h tt
@@ -81,66 +80,66 @@ join_no_run b (run bs ∷ ps) h = absurd h
 join_no_run b (pair c ∷ ps) h = refl
 join_no_run b (single c ∷ ps) h = refl
 
--- word bytes in front of others are one run
-cut_run : (b : ℕ) (w bs : List ℕ) → is_word_byte b ≡ true → AllByRecursion (λ c. is_word_byte c ≡ true) w → NoWordByte bs → cut (b ∷ (w ++ bs)) ≡ run (b ∷ w) ∷ cut bs
+-- name bytes in front of others are one run
+cut_run : (b : ℕ) (w bs : List ℕ) → is_name_byte b ≡ true → AllByRecursion (λ c. is_name_byte c ≡ true) w → NoNameByte bs → cut (b ∷ (w ++ bs)) ≡ run (b ∷ w) ∷ cut bs
 cut_run b [] bs h all none =
-    cut_front b bs (word_byte_is b h).0 ∙ rw h (join_no_run b (cut bs) (cut_no_run bs none))
+    cut_front b bs (name_byte_is b h).0 ∙ rw h (join_no_run b (cut bs) (cut_no_run bs none))
 cut_run b (c ∷ w) bs h all none =
-    cut_front b (c ∷ (w ++ bs)) (word_byte_is b h).0 ∙ rw h (ap (join b) (cut_run c w bs all.0 all.1 none))
+    cut_front b (c ∷ (w ++ bs)) (name_byte_is b h).0 ∙ rw h (ap (join b) (cut_run c w bs all.0 all.1 none))
 
-no_comment_in_run : (w bs : List ℕ) → AllByRecursion (λ c. is_word_byte c ≡ true) w → without_comments false (w ++ bs) ≡ w ++ without_comments false bs
+no_comment_in_run : (w bs : List ℕ) → AllByRecursion (λ c. is_name_byte c ≡ true) w → without_comments false (w ++ bs) ≡ w ++ without_comments false bs
 no_comment_in_run [] bs all = refl
 no_comment_in_run (c ∷ w) bs all =
-    let e = (word_byte_is c all.0).1 in rw e (ap (λ xs. c ∷ xs) (no_comment_in_run w bs all.1))
+    let e = (name_byte_is c all.0).1 in rw e (ap (λ xs. c ∷ xs) (no_comment_in_run w bs all.1))
 
-still_none : (bs : List ℕ) → NoWordByte bs → NoWordByte (without_comments false bs)
+still_none : (bs : List ℕ) → NoNameByte bs → NoNameByte (without_comments false bs)
 still_none [] h = tt
 still_none (b ∷ bs) h = elim (cases_Bool (eqb b 35)) [ inl e ↦ rw e refl | inr e ↦ rw e h ]
 
-pub run_read : (b : ℕ) (w bs : List ℕ) → is_word_byte b ≡ true → AllByRecursion (λ c. is_word_byte c ≡ true) w → NoWordByte bs → words_of_text (b ∷ (w ++ bs)) ≡ put (word_of_run (b ∷ w)) (words_of_text bs)
-unfolding words_of_text
+pub run_read : (b : ℕ) (w bs : List ℕ) → is_name_byte b ≡ true → AllByRecursion (λ c. is_name_byte c ≡ true) w → NoNameByte bs → tokens_of_text (b ∷ (w ++ bs)) ≡ put (token_of_run (b ∷ w)) (tokens_of_text bs)
+unfolding tokens_of_text
 run_read b w bs h all none =
-    ap (λ xs. words_of_pieces (cut xs)) (no_comment_in_run (b ∷ w) bs (h, all))
-    ∙ ap words_of_pieces (cut_run b w (without_comments false bs) h all (still_none bs none))
+    ap (λ xs. tokens_of_pieces (cut xs)) (no_comment_in_run (b ∷ w) bs (h, all))
+    ∙ ap tokens_of_pieces (cut_run b w (without_comments false bs) h all (still_none bs none))
 
-pub pair_read : (b : ℕ) (bs : List ℕ) → begins_pair b ≡ true → eqb b 35 ≡ false → words_of_text (b ∷ 61 ∷ bs) ≡ put (option_map sign (pair_sign b)) (words_of_text bs)
-unfolding words_of_text cut
+pub pair_read : (b : ℕ) (bs : List ℕ) → begins_pair b ≡ true → eqb b 35 ≡ false → tokens_of_text (b ∷ 61 ∷ bs) ≡ put (option_map sign (pair_sign b)) (tokens_of_text bs)
+unfolding tokens_of_text cut
 pair_read b bs h e = rw e (rw h refl)
 
--- a byte that isn't the first of a pair here, nor a word's
-alone : (b : ℕ) (bs : List ℕ) → is_word_byte b ≡ false → is_blank b ≡ false → cut (b ∷ bs) ≡ in_front b (cut bs) → words_of_pieces (cut (b ∷ bs)) ≡ put (option_map sign (single_sign b)) (words_of_pieces (cut bs))
-alone b bs w k e = ap words_of_pieces e ∙ rw (w, k) refl
+-- a byte that isn't the first of a pair here, nor a name byte
+alone : (b : ℕ) (bs : List ℕ) → is_name_byte b ≡ false → is_blank b ≡ false → cut (b ∷ bs) ≡ in_front b (cut bs) → tokens_of_pieces (cut (b ∷ bs)) ≡ put (option_map sign (single_sign b)) (tokens_of_pieces (cut bs))
+alone b bs w k e = ap tokens_of_pieces e ∙ rw (w, k) refl
 
-pub last_read : (b : ℕ) → is_word_byte b ≡ false → is_blank b ≡ false → eqb b 35 ≡ false → words_of_text (b ∷ []) ≡ put (option_map sign (single_sign b)) (words_of_text [])
-unfolding words_of_text cut
+pub last_read : (b : ℕ) → is_name_byte b ≡ false → is_blank b ≡ false → eqb b 35 ≡ false → tokens_of_text (b ∷ []) ≡ put (option_map sign (single_sign b)) (tokens_of_text [])
+unfolding tokens_of_text cut
 last_read b w k e = rw e (rw (w, k) refl)
 
-pub single_read : (b c : ℕ) (bs : List ℕ) → is_word_byte b ≡ false → is_blank b ≡ false → eqb b 35 ≡ false → (begins_pair b && eqb c 61) ≡ false → words_of_text (b ∷ c ∷ bs) ≡ put (option_map sign (single_sign b)) (words_of_text (c ∷ bs))
-unfolding words_of_text cut
+pub single_read : (b c : ℕ) (bs : List ℕ) → is_name_byte b ≡ false → is_blank b ≡ false → eqb b 35 ≡ false → (begins_pair b && eqb c 61) ≡ false → tokens_of_text (b ∷ c ∷ bs) ≡ put (option_map sign (single_sign b)) (tokens_of_text (c ∷ bs))
+unfolding tokens_of_text cut
 single_read b c bs w k e apart =
     elim (cases_Bool (eqb c 35)) [
       | inl e2 ↦ rw (e, e2) (alone b (32 ∷ without_comments true bs) w k (cut_apart b 32 (without_comments true bs) refl))
       | inr e2 ↦ rw (e, e2) (alone b (c ∷ without_comments false bs) w k (rw apart refl))
     ]
 
--- the words of what stands inside of a comment
-abbrev pub in_comment : List ℕ → Option (List Word)
-in_comment bs = words_of_pieces (cut (without_comments true bs))
+-- the tokens of what stands inside of a comment
+abbrev pub in_comment : List ℕ → Option (List Token)
+in_comment bs = tokens_of_pieces (cut (without_comments true bs))
 
 pub comment_goes_on : (b : ℕ) (bs : List ℕ) → eqb b 10 ≡ false → b < 128 → in_comment (b ∷ bs) ≡ in_comment bs
 comment_goes_on b bs e h = rw (e, lt-ltb b 128 h) (cut_blank 32 (without_comments true bs) refl)
 
--- a byte from 128 on is no word
-none_high : (b : ℕ) (bs : List ℕ) → 128 ≤ b → words_of_pieces (cut (b ∷ bs)) ≡ None
+-- a byte from 128 on is no token
+none_high : (b : ℕ) (bs : List ℕ) → 128 ≤ b → tokens_of_pieces (cut (b ∷ bs)) ≡ None
 none_high b bs h =
     let k : is_blank b ≡ false = grind (arith, nat_tests) in
-    let w : is_word_byte b ≡ false = grind (arith, nat_tests) in
+    let w : is_name_byte b ≡ false = grind (arith, nat_tests) in
     let q : begins_pair b ≡ false = grind (arith, nat_tests) in
     let s : single_sign b ≡ None = grind (arith, nat_tests) in
-    ap words_of_pieces (cut_front b bs q) ∙ rw (w, k, s) refl
+    ap tokens_of_pieces (cut_front b bs q) ∙ rw (w, k, s) refl
 
-pub comment_ends : (b : ℕ) (bs : List ℕ) → (b ≡ 10) ⊎ (128 ≤ b) → in_comment (b ∷ bs) ≡ words_of_text (b ∷ bs)
-unfolding words_of_text
+pub comment_ends : (b : ℕ) (bs : List ℕ) → (b ≡ 10) ⊎ (128 ≤ b) → in_comment (b ∷ bs) ≡ tokens_of_text (b ∷ bs)
+unfolding tokens_of_text
 comment_ends b bs (inl e) = rw e refl
 comment_ends b bs (inr h) =
     let e10 : eqb b 10 ≡ false = grind (arith, nat_tests) in
@@ -148,76 +147,76 @@ comment_ends b bs (inr h) =
     let lt : ltb b 128 ≡ false = grind (arith, nat_tests) in
     rw (e10, lt, e35) (none_high b (without_comments true bs) h ∙ sym (none_high b (without_comments false bs) h))
 
-pub nothing_left : in_comment [] ≡ words_of_text []
-unfolding words_of_text
+pub nothing_left : in_comment [] ≡ tokens_of_text []
+unfolding tokens_of_text
 nothing_left = refl
 
-split_run : (bs : List ℕ) → (w : List ℕ) × (rest : List ℕ) × (bs ≡ w ++ rest) × AllByRecursion (λ c. is_word_byte c ≡ true) w × NoWordByte rest × (length w ≡ prefix_len is_word_byte bs)
+split_run : (bs : List ℕ) → (w : List ℕ) × (rest : List ℕ) × (bs ≡ w ++ rest) × AllByRecursion (λ c. is_name_byte c ≡ true) w × NoNameByte rest × (length w ≡ prefix_len is_name_byte bs)
 split_run [] = ([], [], refl, tt, tt, refl)
 split_run (b ∷ bs) =
-    elim (cases_Bool (is_word_byte b)) [
+    elim (cases_Bool (is_name_byte b)) [
       | inl e ↦ let s = split_run bs in (b ∷ s.0, s.1, ap (λ xs. b ∷ xs) s.2, (e, s.3), s.4, rw e (omega (arith, s.5)))
       | inr e ↦ ([], b ∷ bs, refl, tt, e, rw e refl)
     ]
 
-run_of : (w bs : List ℕ) → AllByRecursion (λ c. is_word_byte c ≡ true) w → NoWordByte bs → 0 < length w → words_of_text (w ++ bs) ≡ put (word_of_run w) (words_of_text bs)
+run_of : (w bs : List ℕ) → AllByRecursion (λ c. is_name_byte c ≡ true) w → NoNameByte bs → 0 < length w → tokens_of_text (w ++ bs) ≡ put (token_of_run w) (tokens_of_text bs)
 run_of [] bs all none h = absurd (omega arith)
 run_of (b ∷ w) bs all none h = run_read b w bs all.0 all.1 none
 
--- the longest run of word bytes at the front is a word
-pub run_at : (bs : List ℕ) (n : ℕ) → n ≡ length (take_while is_word_byte bs) → 0 < n → words_of_text bs ≡ put (word_of_run (take n bs)) (words_of_text (drop n bs))
+-- the longest run of name bytes at the front is a token
+pub run_at : (bs : List ℕ) (n : ℕ) → n ≡ length (take_while is_name_byte bs) → 0 < n → tokens_of_text bs ≡ put (token_of_run (take n bs)) (tokens_of_text (drop n bs))
 run_at bs n e h =
     let s = split_run bs in
-    let k : n ≡ length s.0 = e ∙ length-prefix_len is_word_byte bs ∙ sym s.5 in
+    let k : n ≡ length s.0 = e ∙ length-prefix_len is_name_byte bs ∙ sym s.5 in
     let t : take n bs ≡ s.0 = ap (λ m. take m bs) k ∙ ap (take (length s.0)) s.2 ∙ take-append_seam s.0 s.1 in
     let d : drop n bs ≡ s.1 = ap (λ m. drop m bs) k ∙ ap (drop (length s.0)) s.2 ∙ drop-append_seam s.0 s.1 in
-    ap words_of_text s.2 ∙ run_of s.0 s.1 s.3 s.4 (omega arith) ∙ sym (ap (λ x. put (word_of_run x) (words_of_text (drop n bs))) t ∙ ap (λ x. put (word_of_run s.0) (words_of_text x)) d)
+    ap tokens_of_text s.2 ∙ run_of s.0 s.1 s.3 s.4 (omega arith) ∙ sym (ap (λ x. put (token_of_run x) (tokens_of_text (drop n bs))) t ∙ ap (λ x. put (token_of_run s.0) (tokens_of_text x)) d)
 
 one_ascii : (c : ℕ) → c < 128 → IsAscii (c ∷ [])
 one_ascii c h zero = h
 one_ascii c h (suc i) = lit< tt
 
--- word bytes are ASCII
-ascii_of : (w : List ℕ) → AllByRecursion (λ c. is_word_byte c ≡ true) w → IsAscii w
+-- name bytes are ASCII
+ascii_of : (w : List ℕ) → AllByRecursion (λ c. is_name_byte c ≡ true) w → IsAscii w
 ascii_of [] all = λ i. lit< tt
 ascii_of (c ∷ w) all = IsAscii-append (c ∷ []) w (one_ascii c (grind (arith, nat_tests))) (ascii_of w all.1)
 
-pub run_ascii : (bs : List ℕ) (n : ℕ) → n ≡ length (take_while is_word_byte bs) → IsAscii (take n bs)
+pub run_ascii : (bs : List ℕ) (n : ℕ) → n ≡ length (take_while is_name_byte bs) → IsAscii (take n bs)
 run_ascii bs n e =
     let s = split_run bs in
-    let k : n ≡ length s.0 = e ∙ length-prefix_len is_word_byte bs ∙ sym s.5 in
+    let k : n ≡ length s.0 = e ∙ length-prefix_len is_name_byte bs ∙ sym s.5 in
     let t : take n bs ≡ s.0 = ap (λ m. take m bs) k ∙ ap (take (length s.0)) s.2 ∙ take-append_seam s.0 s.1 in
     subst IsAscii (sym t) (ascii_of s.0 s.3)
 
--- where no run begins, the first byte is no word byte
-pub no_run_at : (b : ℕ) (bs : List ℕ) → length (take_while is_word_byte (b ∷ bs)) ≡ 0 → is_word_byte b ≡ false
+-- where no run begins, the first byte is no name byte
+pub no_run_at : (b : ℕ) (bs : List ℕ) → length (take_while is_name_byte (b ∷ bs)) ≡ 0 → is_name_byte b ≡ false
 no_run_at b bs h =
-    elim (cases_Bool (is_word_byte b)) [
-      | inl e ↦ let k : prefix_len is_word_byte (b ∷ bs) ≡ 1 + prefix_len is_word_byte bs = rw e refl in
-          absurd (omega (arith, h, k, length-prefix_len is_word_byte (b ∷ bs)))
+    elim (cases_Bool (is_name_byte b)) [
+      | inl e ↦ let k : prefix_len is_name_byte (b ∷ bs) ≡ 1 + prefix_len is_name_byte bs = rw e refl in
+          absurd (omega (arith, h, k, length-prefix_len is_name_byte (b ∷ bs)))
       | inr e ↦ e
     ]
 
--- the words so far, in front of others
-abbrev pub put_all : List Word → Option (List Word) → Option (List Word)
+-- the tokens so far, in front of others
+abbrev pub put_all : List Token → Option (List Token) → Option (List Token)
 put_all ws None = None
 put_all ws (Some vs) = Some (ws ++ vs)
 
-pub put_all_more : (ws : List Word) (w : Word) (r : Option (List Word)) → put_all ws (put (Some w) r) ≡ put_all (ws ++ w ∷ []) r
+pub put_all_more : (ws : List Token) (w : Token) (r : Option (List Token)) → put_all ws (put (Some w) r) ≡ put_all (ws ++ w ∷ []) r
 put_all_more ws w None = refl
 put_all_more ws w (Some vs) = ap Some (sym (append_assoc ws (w ∷ []) vs))
 
-pub put_nothing : (r : Option (List Word)) → put_all [] r ≡ r
+pub put_nothing : (r : Option (List Token)) → put_all [] r ≡ r
 put_nothing None = refl
 put_nothing (Some vs) = refl
 
-pub pair_at : (b : ℕ) (bs : List ℕ) (s : Sign) → pair_sign b ≡ Some s → words_of_text (b ∷ 61 ∷ bs) ≡ put (Some (sign s)) (words_of_text bs)
+pub pair_at : (b : ℕ) (bs : List ℕ) (s : Sign) → pair_sign b ≡ Some s → tokens_of_text (b ∷ 61 ∷ bs) ≡ put (Some (sign s)) (tokens_of_text bs)
 pair_at b bs s h =
     let p : begins_pair b ≡ true = grind (arith, nat_tests) in
     let e : eqb b 35 ≡ false = grind (arith, nat_tests) in
-    pair_read b bs p e ∙ ap (λ (o : Option Sign). put (option_map sign o) (words_of_text bs)) h
+    pair_read b bs p e ∙ ap (λ (o : Option Sign). put (option_map sign o) (tokens_of_text bs)) h
 
-pub single_at : (b : ℕ) (bs : List ℕ) → is_word_byte b ≡ false → is_blank b ≡ false → b ≢ 35 → IsApart b bs → words_of_text (b ∷ bs) ≡ put (option_map sign (single_sign b)) (words_of_text bs)
+pub single_at : (b : ℕ) (bs : List ℕ) → is_name_byte b ≡ false → is_blank b ≡ false → b ≢ 35 → IsApart b bs → tokens_of_text (b ∷ bs) ≡ put (option_map sign (single_sign b)) (tokens_of_text bs)
 single_at b [] w k e a = last_read b w k (ne_eqb b 35 e)
 single_at b (c ∷ bs) w k e a = single_read b c bs w k (ne_eqb b 35 e) a
 
@@ -233,6 +232,6 @@ stays_large ds i lt h =
     let grows = value_grows (drop (i + 1) ds) (value_of (take (i + 1) ds)) in
     le-ltb (value_of ds) (2 ^ 63) (omega arith)
 
-pub no_words : (ws : List Word) → put_all ws (words_of_text []) ≡ Some ws
-unfolding words_of_text cut
-no_words ws = ap Some (append-nil ws)
+pub no_tokens : (ws : List Token) → put_all ws (tokens_of_text []) ≡ Some ws
+unfolding tokens_of_text cut
+no_tokens ws = ap Some (append-nil ws)

@@ -5,4 +5,4 @@ pub mod Grammar
 pub mod Lines
 pub mod Resolving
 pub mod Resolves
-pub mod Meanings
+pub mod FaultMeanings

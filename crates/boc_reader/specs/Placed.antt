@@ -1,6 +1,6 @@
--- Tokens in their places, as the words that they are, and what a fault says.
-use Rattle.std.specs.Prelude.{List, map}
-use Rattle.boc_types.specs.text.Words.{Word, name, number, keyword, sign}
+-- Tokens without where they stand, where the first of them stands, and what a fault says.
+use Rattle.std.specs.Prelude.{ℕ, List, [], ◌∷◌, map}
+use Rattle.boc_types.specs.text.Tokens as the
 use Rattle.boc_reader.specs.declared.token.Token.{Token}
 use Rattle.boc_reader.specs.declared.token.Token.TheVariants as tokens
 use Rattle.boc_reader.specs.declared.token.Placed.{Placed}
@@ -8,15 +8,20 @@ use Rattle.boc_reader.specs.declared.fault.Fault.{Fault}
 use Rattle.boc_reader.specs.declared.fault.Fault.TheVariants as faults
 
 -- a token without where its name lies
-abbrev pub word_of : Token → Word
-word_of (tokens.Name x) = name x.now
-word_of (tokens.Number n) = number n.value
-word_of (tokens.Keyword k) = keyword k
-word_of (tokens.Sign s) = sign s
+abbrev pub token_of : Token → the.Token
+token_of (tokens.Name x) = the.name x.now
+token_of (tokens.Number n) = the.number n.value
+token_of (tokens.Keyword k) = the.keyword k
+token_of (tokens.Sign s) = the.sign s
 
--- the words of tokens
-abbrev pub words_of : List Placed → List Word
-words_of ps = map (λ p. word_of p.token) ps
+-- tokens without where they stand
+abbrev pub tokens_of : List Placed → List the.Token
+tokens_of ps = map (λ p. token_of p.token) ps
+
+-- the byte at which the first of these tokens begins, or the end of the text where there is none
+abbrev pub position_of : List Placed → ℕ → ℕ
+position_of [] end = end
+position_of (p ∷ ps) end = p.at
 
 -- a fault that says something of the text holds of it
 abbrev pub Refusal : {K : Type 0} → Fault K → Type 0 → Type 0

@@ -6,9 +6,10 @@ use Rattle.boc_types.specs.declared.body.Operator.{Operator}
 use Rattle.boc_types.specs.declared.body.Expr.{Expr}
 use Rattle.boc_types.specs.declared.body.Stmt.{Stmt}
 use Rattle.boc_types.specs.declared.body.Stmt.TheVariants as stmts
-use Rattle.boc_types.specs.memory.View.{term_of, place_of}
-use Rattle.boc_types.specs.text.Shape.{Cown, Def, Tree, members}
-use Rattle.boc_types.specs.text.Names.{Named, Left, Step, Set, Spend, Choose, Loop, Spawn, Global, Callee, Top, Outside, PlainBody, PlainProgram, among, top_names, are_free, body_names, plain_cown}
+use Rattle.boc_types.specs.memory.View.{slot_expr_of, cown_ref_of}
+use Rattle.boc_types.specs.program.Sizes.{members}
+use Rattle.boc_types.specs.text.Shape.{Cown, Def, Tree}
+use Rattle.boc_types.specs.text.Names.{Named, Left, ResolvedStmt, Set, Spend, Choose, Loop, Spawn, Global, Callee, Top, Outside, PlainBody, PlainProgram, among, top_names, are_free, body_names, plain_cown}
 use Rattle.boc_reader.specs.declared.fault.Fault.{Fault}
 use Rattle.boc_reader.specs.declared.fault.Fault.TheVariants.{Memory, At}
 use Rattle.boc_reader.specs.declared.fault.NameFault.{NameFault}
@@ -36,15 +37,15 @@ names_of ns = map (λ n. n.now) ns
 
 -- the left side of an operator, if there is one
 abbrev pub left_of : Option (Expr × Operator) → Left
-left_of left = option_map (λ l. (term_of l.0, l.1)) left
+left_of left = option_map (λ l. (slot_expr_of l.0, l.1)) left
 
 -- a statement without those behind it
-abbrev pub step_of : Stmt → Step
-step_of (stmts.Assign slot e) = Set slot (term_of e)
-step_of (stmts.Work e) = Spend (term_of e)
-step_of (stmts.If e a b) = Choose (term_of e) a b
-step_of (stmts.Repeat e a) = Loop (term_of e) a
-step_of (stmts.When kind args refs) = Spawn kind (map term_of args.items) (map place_of refs.items)
+abbrev pub resolved_stmt_of : Stmt → ResolvedStmt
+resolved_stmt_of (stmts.Assign slot e) = Set slot (slot_expr_of e)
+resolved_stmt_of (stmts.Work e) = Spend (slot_expr_of e)
+resolved_stmt_of (stmts.If e a b) = Choose (slot_expr_of e) a b
+resolved_stmt_of (stmts.Repeat e a) = Loop (slot_expr_of e) a
+resolved_stmt_of (stmts.When kind args refs) = Spawn kind (map slot_expr_of args.items) (map cown_ref_of refs.items)
 
 -- a declared cown without where its name lies
 abbrev pub global_of : Global' → Global

@@ -7,8 +7,8 @@ use Rattle.boc_reader.specs.declared.shape.Sum as sums
 use Rattle.boc_reader.specs.declared.shape.Term as terms
 use Rattle.boc_reader.specs.declared.shape.Unary as unaries
 use Rattle.boc_reader.specs.declared.shape.Atom as atoms
-use Rattle.boc_reader.specs.declared.shape.Ref.{Ref}
-use Rattle.boc_reader.specs.declared.shape.Ref.TheVariants as refs
+use Rattle.boc_reader.specs.declared.shape.NamedCown.{NamedCown}
+use Rattle.boc_reader.specs.declared.shape.NamedCown.TheVariants as refs
 use Rattle.boc_reader.specs.declared.shape.Stmt.{Stmt}
 use Rattle.boc_reader.specs.declared.shape.Stmt.TheOpen as layer
 use Rattle.boc_reader.specs.declared.shape.Stmt.TheFolds.{fold-Stmt}
@@ -43,9 +43,9 @@ abbrev mutual
   atom_of (atoms.Parens' p e) = the.parens (expr_of e)
 
 -- a cown that a `when` names
-abbrev pub ref_of : Ref → the.Ref
-ref_of (refs.Alone x) = the.alone x.name.now
-ref_of (refs.Member x e) = the.member x.name.now (expr_of e)
+abbrev pub named_cown_of : NamedCown → the.NamedCown
+named_cown_of (refs.Alone x) = the.alone x.name.now
+named_cown_of (refs.Member x e) = the.member x.name.now (expr_of e)
 
 -- a block of these statements
 abbrev pub block_from : List the.Stmt → the.Block
@@ -60,7 +60,7 @@ stmt_layer (layer.Work e) = the.work (expr_of e)
 stmt_layer (layer.If e body) = the.if_only (expr_of e) (block_from body.items)
 stmt_layer (layer.IfElse e body other) = the.if_else (expr_of e) (block_from body.items) (block_from other.items)
 stmt_layer (layer.Repeat e body) = the.repeat (expr_of e) (block_from body.items)
-stmt_layer (layer.When f es rs) = the.when f.name.now (map expr_of es.items) (map ref_of rs.items)
+stmt_layer (layer.When f es rs) = the.when f.name.now (map expr_of es.items) (map named_cown_of rs.items)
 
 -- a statement with all that is inside of it
 abbrev pub stmt_of : Stmt → the.Stmt

@@ -1,8 +1,9 @@
-// A place among the tokens.
+// A cursor among the tokens.
 
 ghost use Rattle.std.specs.Prelude.{◌≡◌, ◌≢◌, ◌+◌, ◌<◌, ◌∷◌, [], ℕ, List, drop, MatchResult, MatchOption, MatchBool};
 ghost use Rattle.std.specs.Bool.{OnTrue, OnFalse};
-ghost use Rattle.boc_types.specs.text.Words.{Word, name, number, keyword, sign};
+ghost use Rattle.boc_types.specs.text.Tokens as the;
+ghost use Rattle.boc_types.specs.text.Tokens.{name, number, keyword, sign};
 ghost use Rattle.boc_types.specs.text.Shape.{comparison_sign, sum_sign, term_sign};
 ghost use Rattle.boc_types.specs.declared.level.Comparison.{Comparison};
 ghost use Rattle.boc_types.specs.declared.level.SumOperator.{SumOperator};
@@ -10,7 +11,7 @@ ghost use Rattle.boc_types.specs.declared.level.TermOperator.{TermOperator};
 ghost use Rattle.boc_types.specs.declared.token.Sign.TheVariants.{Minus};
 ghost use Rattle.boc_reader.specs.declared.fault.Fault.TheVariants.{At};
 ghost use Rattle.boc_reader.specs.Grammar.{NoSign, NoKeyword, NoOperator};
-ghost use Rattle.boc_reader.specs.Placed.{word_of, words_of, Refusal};
+ghost use Rattle.boc_reader.specs.Placed.{token_of, tokens_of, position_of, Refusal};
 
 use crate::fault::{Fault, ShapeFault};
 use crate::natural::Natural;
@@ -31,18 +32,19 @@ pub struct Cursor<'t, 'a> {
 }
 
 impl<'t, 'a> Model for Cursor<'t, 'a> {
-    ghost use Rattle.boc_reader.specs.Placed.{words_of};
+    ghost use Rattle.boc_reader.specs.Placed.{tokens_of, position_of};
     ghost use Rattle.boc_reader.specs.Phrases.{Ahead};
 
     ghost Value = { Ahead };
 
-    ghost view = { λ c. record { words = words_of c.rest.now; room = c.room } };
+    ghost view = { λ c. record { tokens = tokens_of c.rest.now; position = position_of c.rest.now c.end; room = c.room } };
 }
 
 impl<'t, 'a> Cursor<'t, 'a> {
     /// In front of all tokens of a text that ends at this byte.
     pub fn new(tokens: &'t [Placed<'a>], end: usize, room: u32) -> Cursor<'t, 'a>
-        ensures words { result.words ≡ words_of tokens.now }
+        ensures tokens { result.tokens ≡ tokens_of tokens.now }
+        ensures position { result.position ≡ position_of tokens.now end }
         ensures room { result.room ≡ room }
     {
         Cursor {
@@ -52,8 +54,10 @@ impl<'t, 'a> Cursor<'t, 'a> {
         }
     }
 
-    /// The place of the next token, or the end of the text.
-    pub fn place(&self) -> usize {
+    /// The byte at which the next token begins, or the end of the text.
+    pub fn position(&self) -> usize
+        ensures { result ≡ self.now.position }
+    {
         match self.rest {
             [] => self.end,
             [first, ..] => first.at,
@@ -64,13 +68,13 @@ impl<'t, 'a> Cursor<'t, 'a> {
     pub fn unexpected(&self) -> Fault<ShapeFault>
         ensures { (at : ℕ) × (result ≡ At ShapeFault.Unexpected at) }
     {
-        Fault::At(ShapeFault::Unexpected, self.place())
+        Fault::At(ShapeFault::Unexpected, self.position())
     }
 
     /// The next token.
     pub fn peek(&self) -> Option<Token<'a>>
-        ensures { MatchOption result (self.now.words ≡ [])
-            (λ t. self.now.words ≡ word_of t ∷ drop 1 self.now.words) }
+        ensures { MatchOption result (self.now.tokens ≡ [])
+            (λ t. self.now.tokens ≡ token_of t ∷ drop 1 self.now.tokens) }
     {
         match self.rest {
             [] => None,
@@ -80,8 +84,8 @@ impl<'t, 'a> Cursor<'t, 'a> {
 
     /// Goes past the next token.
     pub fn skip(&mut self)
-        requires { self.old.words ≢ [] }
-        ensures words { self.new.words ≡ drop 1 self.old.words }
+        requires { self.old.tokens ≢ [] }
+        ensures tokens { self.new.tokens ≡ drop 1 self.old.tokens }
         ensures room { self.new.room ≡ self.old.room }
     {
         self.rest = &self.rest[1..];
@@ -89,7 +93,7 @@ impl<'t, 'a> Cursor<'t, 'a> {
 
     /// Sets the room, and gives back what there was.
     pub fn refill(&mut self, room: u32) -> u32
-        ensures words { self.new.words ≡ self.old.words }
+        ensures tokens { self.new.tokens ≡ self.old.tokens }
         ensures room { self.new.room ≡ room }
         ensures had { result ≡ self.old.room }
     {
@@ -98,7 +102,7 @@ impl<'t, 'a> Cursor<'t, 'a> {
 
     /// Takes so much room for what stands at this byte.
     pub fn take_room(&mut self, count: u64, at: usize) -> Result<(), Fault<ShapeFault>>
-        ensures words { self.new.words ≡ self.old.words }
+        ensures tokens { self.new.tokens ≡ self.old.tokens }
         ensures room { MatchResult result (λ _. count + self.new.room ≡ self.old.room)
             (λ f. Refusal f (self.old.room < count)) }
     {
@@ -111,18 +115,18 @@ impl<'t, 'a> Cursor<'t, 'a> {
 
     /// Takes the room of one node, which the next token begins.
     pub fn node(&mut self) -> Result<(), Fault<ShapeFault>>
-        ensures words { self.new.words ≡ self.old.words }
+        ensures tokens { self.new.tokens ≡ self.old.tokens }
         ensures room { MatchResult result (λ _. 1 + self.new.room ≡ self.old.room)
             (λ f. Refusal f (self.old.room ≡ 0)) }
     {
-        self.take_room(1, self.place())
+        self.take_room(1, self.position())
     }
 
     /// Goes past the next token, which begins a node.
     pub fn begin(&mut self) -> Result<(), Fault<ShapeFault>>
-        requires { self.old.words ≢ [] }
+        requires { self.old.tokens ≢ [] }
         ensures { MatchResult result
-            (λ _. (self.new.words ≡ drop 1 self.old.words) × (1 + self.new.room ≡ self.old.room))
+            (λ _. (self.new.tokens ≡ drop 1 self.old.tokens) × (1 + self.new.room ≡ self.old.room))
             (λ f. Refusal f (self.old.room ≡ 0)) }
     {
         self.node()?;
@@ -132,16 +136,16 @@ impl<'t, 'a> Cursor<'t, 'a> {
 
     /// Whether the next token is this keyword.
     pub fn is_next(&self, wanted: Keyword) -> bool
-        ensures next { OnTrue result (self.now.words ≡ keyword wanted ∷ drop 1 self.now.words) }
-        ensures other { OnFalse result (NoKeyword wanted self.now.words) }
+        ensures next { OnTrue result (self.now.tokens ≡ keyword wanted ∷ drop 1 self.now.tokens) }
+        ensures other { OnFalse result (NoKeyword wanted self.now.tokens) }
     {
         matches!(self.peek(), Some(Token::Keyword(found)) if found == wanted)
     }
 
     /// Goes past this sign, if it is next.
     pub fn accept(&mut self, wanted: Sign) -> bool
-        ensures taken { OnTrue result ((self.old.words ≡ sign wanted ∷ self.new.words) × (self.new.room ≡ self.old.room)) }
-        ensures stays { OnFalse result ((self.new ≡ self.old) × NoSign wanted self.old.words) }
+        ensures taken { OnTrue result ((self.old.tokens ≡ sign wanted ∷ self.new.tokens) × (self.new.room ≡ self.old.room)) }
+        ensures stays { OnFalse result ((self.new ≡ self.old) × NoSign wanted self.old.tokens) }
     {
         match self.peek() {
             Some(Token::Sign(found)) if found == wanted => {
@@ -154,8 +158,8 @@ impl<'t, 'a> Cursor<'t, 'a> {
 
     /// Goes past this sign.
     pub fn take(&mut self, wanted: Sign) -> Result<(), Fault<ShapeFault>>
-        ensures { MatchResult result (λ _. (self.old.words ≡ sign wanted ∷ self.new.words) × (self.new.room ≡ self.old.room))
-            (λ f. Refusal f (NoSign wanted self.old.words)) }
+        ensures { MatchResult result (λ _. (self.old.tokens ≡ sign wanted ∷ self.new.tokens) × (self.new.room ≡ self.old.room))
+            (λ f. Refusal f (NoSign wanted self.old.tokens)) }
     {
         match self.peek() {
             Some(Token::Sign(found)) if found == wanted => {
@@ -168,8 +172,8 @@ impl<'t, 'a> Cursor<'t, 'a> {
 
     /// Goes past this keyword.
     pub fn keyword(&mut self, wanted: Keyword) -> Result<(), Fault<ShapeFault>>
-        ensures { MatchResult result (λ _. (self.old.words ≡ keyword wanted ∷ self.new.words) × (self.new.room ≡ self.old.room))
-            (λ f. Refusal f (NoKeyword wanted self.old.words)) }
+        ensures { MatchResult result (λ _. (self.old.tokens ≡ keyword wanted ∷ self.new.tokens) × (self.new.room ≡ self.old.room))
+            (λ f. Refusal f (NoKeyword wanted self.old.tokens)) }
     {
         match self.peek() {
             Some(Token::Keyword(found)) if found == wanted => {
@@ -182,12 +186,12 @@ impl<'t, 'a> Cursor<'t, 'a> {
 
     /// Goes past a name.
     pub fn name(&mut self) -> Result<Spot<'a>, Fault<ShapeFault>>
-        ensures { MatchResult result (λ x. (self.old.words ≡ name x.name.now ∷ self.new.words) × (self.new.room ≡ self.old.room))
-            (λ f. Refusal f ((x : List ℕ) (after : List Word) → self.old.words ≢ name x ∷ after)) }
+        ensures { MatchResult result (λ x. (self.old.tokens ≡ name x.name.now ∷ self.new.tokens) × (self.new.room ≡ self.old.room))
+            (λ f. Refusal f ((x : List ℕ) (after : List the.Token) → self.old.tokens ≢ name x ∷ after)) }
     {
         match self.peek() {
             Some(Token::Name(name)) => {
-                let at = self.place();
+                let at = self.position();
                 self.skip();
                 Ok(Spot { name, at })
             }
@@ -197,8 +201,8 @@ impl<'t, 'a> Cursor<'t, 'a> {
 
     /// Goes past a number.
     pub fn number(&mut self) -> Result<Natural, Fault<ShapeFault>>
-        ensures { MatchResult result (λ n. (self.old.words ≡ number n.value ∷ self.new.words) × (self.new.room ≡ self.old.room))
-            (λ f. Refusal f ((n : ℕ) (after : List Word) → self.old.words ≢ number n ∷ after)) }
+        ensures { MatchResult result (λ n. (self.old.tokens ≡ number n.value ∷ self.new.tokens) × (self.new.room ≡ self.old.room))
+            (λ f. Refusal f ((n : ℕ) (after : List the.Token) → self.old.tokens ≢ number n ∷ after)) }
     {
         match self.peek() {
             Some(Token::Number(n)) => {
@@ -213,9 +217,9 @@ impl<'t, 'a> Cursor<'t, 'a> {
     pub fn comparison(&mut self) -> Result<Option<Comparison>, Fault<ShapeFault>>
         ensures { MatchResult result
             (λ found. MatchOption found
-            ((self.new ≡ self.old) × NoOperator comparison_sign self.old.words)
-            (λ op. (self.old.words ≡ sign (comparison_sign op) ∷ self.new.words) × (1 + self.new.room ≡ self.old.room)))
-            (λ f. Refusal f ((self.old.room ≡ 0) × (op : Comparison) × (self.old.words ≡ sign (comparison_sign op) ∷ drop 1 self.old.words))) }
+            ((self.new ≡ self.old) × NoOperator comparison_sign self.old.tokens)
+            (λ op. (self.old.tokens ≡ sign (comparison_sign op) ∷ self.new.tokens) × (1 + self.new.room ≡ self.old.room)))
+            (λ f. Refusal f ((self.old.room ≡ 0) × (op : Comparison) × (self.old.tokens ≡ sign (comparison_sign op) ∷ drop 1 self.old.tokens))) }
     {
         let op = match self.peek() {
             Some(Token::Sign(Sign::Equal)) => Comparison::Equal,
@@ -234,9 +238,9 @@ impl<'t, 'a> Cursor<'t, 'a> {
     pub fn sum_operator(&mut self) -> Result<Option<SumOperator>, Fault<ShapeFault>>
         ensures { MatchResult result
             (λ found. MatchOption found
-            ((self.new ≡ self.old) × NoOperator sum_sign self.old.words)
-            (λ op. (self.old.words ≡ sign (sum_sign op) ∷ self.new.words) × (1 + self.new.room ≡ self.old.room)))
-            (λ f. Refusal f ((self.old.room ≡ 0) × (op : SumOperator) × (self.old.words ≡ sign (sum_sign op) ∷ drop 1 self.old.words))) }
+            ((self.new ≡ self.old) × NoOperator sum_sign self.old.tokens)
+            (λ op. (self.old.tokens ≡ sign (sum_sign op) ∷ self.new.tokens) × (1 + self.new.room ≡ self.old.room)))
+            (λ f. Refusal f ((self.old.room ≡ 0) × (op : SumOperator) × (self.old.tokens ≡ sign (sum_sign op) ∷ drop 1 self.old.tokens))) }
     {
         let op = match self.peek() {
             Some(Token::Sign(Sign::Plus)) => SumOperator::Add,
@@ -251,9 +255,9 @@ impl<'t, 'a> Cursor<'t, 'a> {
     pub fn term_operator(&mut self) -> Result<Option<TermOperator>, Fault<ShapeFault>>
         ensures { MatchResult result
             (λ found. MatchOption found
-            ((self.new ≡ self.old) × NoOperator term_sign self.old.words)
-            (λ op. (self.old.words ≡ sign (term_sign op) ∷ self.new.words) × (1 + self.new.room ≡ self.old.room)))
-            (λ f. Refusal f ((self.old.room ≡ 0) × (op : TermOperator) × (self.old.words ≡ sign (term_sign op) ∷ drop 1 self.old.words))) }
+            ((self.new ≡ self.old) × NoOperator term_sign self.old.tokens)
+            (λ op. (self.old.tokens ≡ sign (term_sign op) ∷ self.new.tokens) × (1 + self.new.room ≡ self.old.room)))
+            (λ f. Refusal f ((self.old.room ≡ 0) × (op : TermOperator) × (self.old.tokens ≡ sign (term_sign op) ∷ drop 1 self.old.tokens))) }
     {
         let op = match self.peek() {
             Some(Token::Sign(Sign::Star)) => TermOperator::Multiply,
@@ -269,8 +273,8 @@ impl<'t, 'a> Cursor<'t, 'a> {
     pub fn minus(&mut self) -> Result<bool, Fault<ShapeFault>>
         ensures { MatchResult result
             (λ found. MatchBool found
-            ((self.old.words ≡ sign Minus ∷ self.new.words) × (1 + self.new.room ≡ self.old.room))
-            ((self.new ≡ self.old) × NoSign Minus self.old.words))
+            ((self.old.tokens ≡ sign Minus ∷ self.new.tokens) × (1 + self.new.room ≡ self.old.room))
+            ((self.new ≡ self.old) × NoSign Minus self.old.tokens))
             (λ f. Refusal f (self.old.room ≡ 0)) }
     {
         if !matches!(self.peek(), Some(Token::Sign(Sign::Minus))) {
@@ -282,7 +286,7 @@ impl<'t, 'a> Cursor<'t, 'a> {
 
     /// Tells that no token is left.
     pub fn end(&self) -> Result<(), Fault<ShapeFault>>
-        ensures { MatchResult result (λ _. self.now.words ≡ []) (λ f. Refusal f (self.now.words ≢ [])) }
+        ensures { MatchResult result (λ _. self.now.tokens ≡ []) (λ f. Refusal f (self.now.tokens ≢ [])) }
     {
         match self.peek() {
             None => Ok(()),

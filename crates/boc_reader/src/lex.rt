@@ -4,10 +4,9 @@ ghost use Rattle.std.specs.Prelude.{◌≡◌, ◌≢◌, ◌+◌, ◌<◌, ◌�
 ghost use Rattle.std.specs.Bool.{OnTrue};
 ghost use Rattle.std.specs.Char.{is_ascii_digit};
 ghost use Rattle.std.specs.List.{take_while, list_all};
-ghost use Rattle.std.specs.Str.{IsAscii};
-ghost use Rattle.boc_reader.specs.Placed.{word_of, words_of, Refusal};
-ghost use Rattle.boc_types.specs.text.Words.{sign};
-ghost use Rattle.boc_types.specs.text.Tokens.{is_word_byte, is_blank, is_numeral, value_of, begins_with_digit, word_of_run, keyword_of, single_sign, pair_sign, put, words_of_text, IsApart};
+ghost use Rattle.std.specs.Str.{byte, IsAscii};
+ghost use Rattle.boc_reader.specs.Placed.{token_of, tokens_of, Refusal};
+ghost use Rattle.boc_types.specs.text.Tokens.{sign, is_name_byte, is_blank, is_numeral, value_of, begins_with_digit, token_of_run, keyword_of, single_sign, pair_sign, put, tokens_of_text, IsApart};
 
 use crate::fault::{Fault, TokenFault};
 use crate::natural::Natural;
@@ -15,8 +14,8 @@ use crate::token::{Placed, Token};
 use boc_types::token::{Keyword, Sign};
 use std::alloc::Global;
 
-fn is_word_byte(b: u8) -> bool
-    ensures { result ≡ is_word_byte b }
+fn is_name_byte(b: u8) -> bool
+    ensures { result ≡ is_name_byte b }
 {
     b.is_ascii_alphanumeric() || b == b'_'
 }
@@ -27,11 +26,11 @@ fn is_blank(b: u8) -> bool
     b == b' ' || b == b'\t' || b == b'\r' || b == b'\n'
 }
 
-// How many word bytes stand at the front.
+// How many name bytes stand at the front.
 fn run_len(text: &[u8]) -> usize
-    ensures { result ≡ length (take_while is_word_byte text.now) }
+    ensures { result ≡ length (take_while is_name_byte text.now) }
 {
-    text.iter().take_while(|b| is_word_byte(**b)).count()
+    text.iter().take_while(|b| is_name_byte(**b)).count()
 }
 
 fn keyword_of(run: &[u8]) -> Option<Keyword>
@@ -98,14 +97,14 @@ fn single_sign(b: u8) -> Option<Sign>
 
 fn are_digits(run: &[u8]) -> bool
     ensures value { result ≡ list_all is_ascii_digit run.now }
-    ensures digits { OnTrue result (All (λ d. (48 ≤ d) × (d ≤ 57)) run.now) }
+    ensures digits { OnTrue result (All (λ d. (byte "0" ≤ d) × (d ≤ byte "9")) run.now) }
 {
     run.iter().all(|d| d.is_ascii_digit())
 }
 
 fn is_numeral(run: &[u8]) -> bool
     ensures value { result ≡ is_numeral run.now }
-    ensures digits { OnTrue result (All (λ d. (48 ≤ d) × (d ≤ 57)) run.now) }
+    ensures digits { OnTrue result (All (λ d. (byte "0" ≤ d) × (d ≤ byte "9")) run.now) }
 {
     match run.split_first() {
         None => false,
@@ -155,11 +154,11 @@ fn begins_with_digit(run: &[u8]) -> bool
 
 const LONGEST_NAME: usize = 32;
 
-// What a run of word bytes is.
-#[tactic(auto, unfolding(boc_types::specs::text::Tokens::word_of_run))]
-fn word<'a>(run: &'a [u8]) -> Result<Token<'a>, TokenFault>
+// What a run of name bytes is.
+#[tactic(auto, unfolding(boc_types::specs::text::Tokens::token_of_run))]
+fn token_of_run<'a>(run: &'a [u8]) -> Result<Token<'a>, TokenFault>
     requires { IsAscii run.now }
-    ensures { MatchResult result (λ t. word_of_run run.now ≡ Some (word_of t)) (λ _. word_of_run run.now ≡ None) }
+    ensures { MatchResult result (λ t. token_of_run run.now ≡ Some (token_of t)) (λ _. token_of_run run.now ≡ None) }
 {
     if begins_with_digit(run) {
         return Ok(Token::Number(number_of(run)?));
@@ -173,7 +172,7 @@ fn word<'a>(run: &'a [u8]) -> Result<Token<'a>, TokenFault>
 
 // What follows a comment: the line feed, the end, or a byte that no text may have.
 fn after_comment(text: &[u8]) -> &[u8]
-    ensures skipped { words_of_text (35 ∷ text.now) ≡ words_of_text result.now }
+    ensures skipped { tokens_of_text (byte "#" ∷ text.now) ≡ tokens_of_text result.now }
     ensures shorter { length result.now ≤ length text.now }
 {
     let mut rest = text;
@@ -186,10 +185,10 @@ fn after_comment(text: &[u8]) -> &[u8]
     rest
 }
 
-// The longest run of word bytes at the front, and what follows it.
+// The longest run of name bytes at the front, and what follows it.
 fn split_run(text: &[u8]) -> Option<(&[u8], &[u8])>
-    ensures words { MatchOption result ((b : ℕ) (bs : List ℕ) → text.now ≡ b ∷ bs → is_word_byte b ≡ false)
-        (λ x. words_of_text text.now ≡ put (word_of_run x.0.now) (words_of_text x.1.now)) }
+    ensures tokens { MatchOption result ((b : ℕ) (bs : List ℕ) → text.now ≡ b ∷ bs → is_name_byte b ≡ false)
+        (λ x. tokens_of_text text.now ≡ put (token_of_run x.0.now) (tokens_of_text x.1.now)) }
     ensures ascii { IfSome result (λ x. IsAscii x.0.now) }
     ensures shorter { IfSome result (λ x. length x.1.now < length text.now) }
 {
@@ -202,8 +201,8 @@ fn split_run(text: &[u8]) -> Option<(&[u8], &[u8])>
 
 // A sign of two bytes at the front, and what follows it.
 fn split_pair(first: u8, after: &[u8]) -> Option<(Sign, &[u8])>
-    ensures words { MatchOption result (IsApart first after.now)
-        (λ x. words_of_text (first ∷ after.now) ≡ put (Some (sign x.0)) (words_of_text x.1.now)) }
+    ensures tokens { MatchOption result (IsApart first after.now)
+        (λ x. tokens_of_text (first ∷ after.now) ≡ put (Some (sign x.0)) (tokens_of_text x.1.now)) }
     ensures shorter { IfSome result (λ x. length x.1.now < length after.now) }
 {
     match after.split_first() {
@@ -217,12 +216,12 @@ fn split_pair(first: u8, after: &[u8]) -> Option<(Sign, &[u8])>
 
 // The sign at the front, and what follows it.
 fn split_sign(first: u8, after: &[u8]) -> Result<(Sign, &[u8]), TokenFault>
-    requires no_word { is_word_byte first ≡ false }
+    requires no_name_byte { is_name_byte first ≡ false }
     requires no_blank { is_blank first ≡ false }
-    requires no_comment { first ≢ 35 }
-    ensures words { MatchResult result
-        (λ x. words_of_text (first ∷ after.now) ≡ put (Some (sign x.0)) (words_of_text x.1.now))
-        (λ _. words_of_text (first ∷ after.now) ≡ None) }
+    requires no_comment { first ≢ byte "#" }
+    ensures tokens { MatchResult result
+        (λ x. tokens_of_text (first ∷ after.now) ≡ put (Some (sign x.0)) (tokens_of_text x.1.now))
+        (λ _. tokens_of_text (first ∷ after.now) ≡ None) }
     ensures shorter { IfOk result (λ x. length x.1.now ≤ length after.now) }
 {
     if let Some(found) = split_pair(first, after) {
@@ -238,14 +237,14 @@ fn split_sign(first: u8, after: &[u8]) -> Result<(Sign, &[u8]), TokenFault>
 // The token at the front, and what follows it.
 fn split_token(text: &[u8]) -> Result<(Token<'_>, &[u8]), TokenFault>
     requires some { text.now ≢ [] }
-    requires no_blank { (b : ℕ) (bs : List ℕ) → text.now ≡ b ∷ bs → (is_blank b ≡ false) × (b ≢ 35) }
-    ensures words { MatchResult result
-        (λ x. words_of_text text.now ≡ put (Some (word_of x.0)) (words_of_text x.1.now))
-        (λ _. words_of_text text.now ≡ None) }
+    requires no_blank { (b : ℕ) (bs : List ℕ) → text.now ≡ b ∷ bs → (is_blank b ≡ false) × (b ≢ byte "#") }
+    ensures tokens { MatchResult result
+        (λ x. tokens_of_text text.now ≡ put (Some (token_of x.0)) (tokens_of_text x.1.now))
+        (λ _. tokens_of_text text.now ≡ None) }
     ensures shorter { IfOk result (λ x. length x.1.now < length text.now) }
 {
     if let Some((run, after)) = split_run(text) {
-        return Ok((word(run)?, after));
+        return Ok((token_of_run(run)?, after));
     }
     let Some((first, after)) = text.split_first() else {
         unreachable!()
@@ -256,8 +255,8 @@ fn split_token(text: &[u8]) -> Result<(Token<'_>, &[u8]), TokenFault>
 
 /// The tokens of a text, each with its place.
 pub fn tokens(alloc: Global, text: &[u8]) -> Result<Vec<Placed<'_>>, Fault<TokenFault>>
-    ensures { MatchResult result (λ v. words_of_text text.now ≡ Some (words_of v.items))
-        (λ f. Refusal f (words_of_text text.now ≡ None)) }
+    ensures { MatchResult result (λ v. tokens_of_text text.now ≡ Some (tokens_of v.items))
+        (λ f. Refusal f (tokens_of_text text.now ≡ None)) }
 {
     let mut all = Vec::new(alloc);
     let mut rest = text;

@@ -4,15 +4,17 @@ ghost use Rattle.std.specs.Prelude.{◌≡◌, ◌≢◌, ◌<◌, ◌≤◌, le
 ghost use Rattle.std.specs.Option.{option_map};
 ghost use Rattle.boc_types.specs.text.Shape.{HasShape};
 ghost use Rattle.boc_types.specs.declared.token.Sign.TheVariants.{Semicolon, Close, Comma};
-ghost use Rattle.boc_reader.specs.Phrases.{Answers};
+ghost use Rattle.boc_reader.specs.Phrases.{Parses};
 ghost use Rattle.boc_reader.specs.Grammar.{NoShape, tightness, expr_phrase, compared_phrase, sum_phrase, more_terms_phrase, term_phrase, more_factors_phrase, unary_phrase, atom_phrase, closed_phrase, ref_phrase, name_phrase, list_phrase, written_phrase, let_phrase, arguments_phrase, call_phrase, stmt_phrase, block_phrase, braced_phrase, else_phrase, pair_phrase, if_phrase, repeat_phrase, body_phrase, size_phrase, initial_phrase, cown_phrase, cowns_phrase, signature_phrase, def_phrase, defs_phrase, main_phrase};
-ghost use Rattle.boc_reader.specs.Placed.{words_of, Refusal};
-ghost use Rattle.boc_reader.specs.Views.{name_of, expr_of, sum_of, term_of, unary_of, atom_of, ref_of, stmt_of, block_of, cown_of, def_of, tree_of};
+ghost use Rattle.boc_reader.specs.Placed.{tokens_of, Refusal};
+ghost use Rattle.boc_reader.specs.Views.{name_of, expr_of, sum_of, term_of, unary_of, atom_of, named_cown_of, stmt_of, block_of, cown_of, def_of, tree_of};
 
 use crate::cursor::Cursor;
 use crate::fault::{Fault, ShapeFault};
 use crate::natural::Natural;
-use crate::shape::{Atom, CownShape, DefShape, Expr, Ref, Spot, Stmt, Sum, Term, Tree, Unary};
+use crate::shape::{
+    Atom, CownShape, DefShape, Expr, NamedCown, Spot, Stmt, Sum, Term, Tree, Unary,
+};
 use crate::token::{Placed, Token};
 use boc_types::level::{Comparison, SumOperator, TermOperator};
 use boc_types::token::{Keyword, Sign};
@@ -34,8 +36,8 @@ type Read<T> = Result<T, Fault<ShapeFault>>;
 
 /// The tree of a text that has these tokens and ends at this byte.
 pub fn parse_tree<'a>(alloc: Global, tokens: &[Placed<'a>], end: usize) -> Read<Tree<'a>>
-    ensures { MatchResult result (λ t. HasShape (words_of tokens.now) (tree_of t))
-        (λ f. Refusal f (NoShape (words_of tokens.now))) }
+    ensures { MatchResult result (λ t. HasShape (tokens_of tokens.now) (tree_of t))
+        (λ f. Refusal f (NoShape (tokens_of tokens.now))) }
 {
     let mut cursor = Cursor::new(tokens, end, COWNS);
     let cowns = cowns(alloc, &mut cursor)?;
@@ -47,7 +49,7 @@ pub fn parse_tree<'a>(alloc: Global, tokens: &[Placed<'a>], end: usize) -> Read<
 
 // Main's body, and the end of the text.
 fn main_block<'a>(alloc: Global, cursor: &mut Cursor<'_, 'a>) -> Read<Vec<Stmt<'a>>>
-    ensures { Answers main_phrase (λ v. block_of v.items) cursor.old result cursor.new }
+    ensures { Parses main_phrase (λ v. block_of v.items) cursor.old result cursor.new }
 {
     cursor.keyword(Keyword::Main)?;
     let main = body(alloc, cursor)?;
@@ -56,7 +58,7 @@ fn main_block<'a>(alloc: Global, cursor: &mut Cursor<'_, 'a>) -> Read<Vec<Stmt<'
 }
 
 fn cowns<'a>(alloc: Global, cursor: &mut Cursor<'_, 'a>) -> Read<Vec<CownShape<'a>>>
-    ensures { Answers cowns_phrase (λ v. map cown_of v.items) cursor.old result cursor.new }
+    ensures { Parses cowns_phrase (λ v. map cown_of v.items) cursor.old result cursor.new }
 {
     let mut all = Vec::new(alloc);
     'cowns: while cursor.is_next(Keyword::Cown) {
@@ -66,8 +68,8 @@ fn cowns<'a>(alloc: Global, cursor: &mut Cursor<'_, 'a>) -> Read<Vec<CownShape<'
 }
 
 fn cown<'a>(cursor: &mut Cursor<'_, 'a>) -> Read<CownShape<'a>>
-    ensures answers { Answers cown_phrase cown_of cursor.old result cursor.new }
-    ensures shorter { OnOk result (length cursor.new.words < length cursor.old.words) }
+    ensures answers { Parses cown_phrase cown_of cursor.old result cursor.new }
+    ensures shorter { OnOk result (length cursor.new.tokens < length cursor.old.tokens) }
 {
     cursor.keyword(Keyword::Cown)?;
     let name = cursor.name()?;
@@ -83,14 +85,14 @@ fn cown<'a>(cursor: &mut Cursor<'_, 'a>) -> Read<CownShape<'a>>
 
 // The size of an array, or none for a single cown, whose name stands at this byte.
 fn size(cursor: &mut Cursor<'_, '_>, name_at: usize) -> Read<Option<u64>>
-    ensures answers { Answers size_phrase (λ n. n) cursor.old result cursor.new }
-    ensures shorter { OnOk result (length cursor.new.words ≤ length cursor.old.words) }
+    ensures answers { Parses size_phrase (λ n. n) cursor.old result cursor.new }
+    ensures shorter { OnOk result (length cursor.new.tokens ≤ length cursor.old.tokens) }
 {
     if !cursor.accept(Sign::OpenIndex) {
         cursor.take_room(1, name_at)?;
         return Ok(None);
     }
-    let at = cursor.place();
+    let at = cursor.position();
     let size = cursor.number()?.value;
     if size == 0 {
         return Err(Fault::At(ShapeFault::Unexpected, at));
@@ -102,8 +104,8 @@ fn size(cursor: &mut Cursor<'_, '_>, name_at: usize) -> Read<Option<u64>>
 
 // The value that a cown begins with, and whether there is a minus before it.
 fn initial(cursor: &mut Cursor<'_, '_>) -> Read<(bool, Natural)>
-    ensures answers { Answers initial_phrase (λ v. (v.0, v.1.value)) cursor.old result cursor.new }
-    ensures shorter { OnOk result (length cursor.new.words < length cursor.old.words) }
+    ensures answers { Parses initial_phrase (λ v. (v.0, v.1.value)) cursor.old result cursor.new }
+    ensures shorter { OnOk result (length cursor.new.tokens < length cursor.old.tokens) }
 {
     cursor.take(Sign::Assign)?;
     let negative = cursor.accept(Sign::Minus);
@@ -113,7 +115,7 @@ fn initial(cursor: &mut Cursor<'_, '_>) -> Read<(bool, Natural)>
 }
 
 fn defs<'a>(alloc: Global, cursor: &mut Cursor<'_, 'a>) -> Read<Vec<DefShape<'a>>>
-    ensures { Answers defs_phrase (λ v. map def_of v.items) cursor.old result cursor.new }
+    ensures { Parses defs_phrase (λ v. map def_of v.items) cursor.old result cursor.new }
 {
     let mut all = Vec::new(alloc);
     'defs: while cursor.is_next(Keyword::Def) {
@@ -123,8 +125,8 @@ fn defs<'a>(alloc: Global, cursor: &mut Cursor<'_, 'a>) -> Read<Vec<DefShape<'a>
 }
 
 fn def<'a>(alloc: Global, cursor: &mut Cursor<'_, 'a>) -> Read<DefShape<'a>>
-    ensures answers { Answers def_phrase def_of cursor.old result cursor.new }
-    ensures shorter { OnOk result (length cursor.new.words < length cursor.old.words) }
+    ensures answers { Parses def_phrase def_of cursor.old result cursor.new }
+    ensures shorter { OnOk result (length cursor.new.tokens < length cursor.old.tokens) }
 {
     cursor.node()?;
     cursor.keyword(Keyword::Def)?;
@@ -142,8 +144,8 @@ type Signature<'a> = (Spot<'a>, (Vec<Spot<'a>>, Vec<Spot<'a>>));
 
 // The name of a def, and its parameters.
 fn signature<'a>(alloc: Global, cursor: &mut Cursor<'_, 'a>) -> Read<Signature<'a>>
-    ensures answers { Answers signature_phrase (λ s. (name_of s.0, (map name_of s.1.0.items, map name_of s.1.1.items))) cursor.old result cursor.new }
-    ensures shorter { OnOk result (length cursor.new.words < length cursor.old.words) }
+    ensures answers { Parses signature_phrase (λ s. (name_of s.0, (map name_of s.1.0.items, map name_of s.1.1.items))) cursor.old result cursor.new }
+    ensures shorter { OnOk result (length cursor.new.tokens < length cursor.old.tokens) }
 {
     let name = cursor.name()?;
     cursor.take(Sign::Open)?;
@@ -155,8 +157,8 @@ fn signature<'a>(alloc: Global, cursor: &mut Cursor<'_, 'a>) -> Read<Signature<'
 // Names, and the sign behind them.
 fn names<'a>(alloc: Global, cursor: &mut Cursor<'_, 'a>, close: Sign) -> Read<Vec<Spot<'a>>>
     requires { close ≢ Comma }
-    ensures answers { Answers (list_phrase name_phrase close) (λ v. map name_of v.items) cursor.old result cursor.new }
-    ensures shorter { OnOk result (length cursor.new.words < length cursor.old.words) }
+    ensures answers { Parses (list_phrase name_phrase close) (λ v. map name_of v.items) cursor.old result cursor.new }
+    ensures shorter { OnOk result (length cursor.new.tokens < length cursor.old.tokens) }
 {
     let mut all = Vec::new(alloc);
     if cursor.accept(close) {
@@ -177,15 +179,15 @@ fn names<'a>(alloc: Global, cursor: &mut Cursor<'_, 'a>, close: Sign) -> Read<Ve
 // The fault where eight parameters or references have been read, and a comma.
 fn ninth(cursor: &Cursor<'_, '_>) -> Fault<ShapeFault> {
     match cursor.peek() {
-        Some(Token::Name(_)) => Fault::At(ShapeFault::TooMany, cursor.place()),
+        Some(Token::Name(_)) => Fault::At(ShapeFault::TooMany, cursor.position()),
         _ => cursor.unexpected(),
     }
 }
 
 // A block in its braces, with the room of a whole body.
 fn body<'a>(alloc: Global, cursor: &mut Cursor<'_, 'a>) -> Read<Vec<Stmt<'a>>>
-    ensures answers { Answers body_phrase (λ v. block_of v.items) cursor.old result cursor.new }
-    ensures shorter { OnOk result (length cursor.new.words < length cursor.old.words) }
+    ensures answers { Parses body_phrase (λ v. block_of v.items) cursor.old result cursor.new }
+    ensures shorter { OnOk result (length cursor.new.tokens < length cursor.old.tokens) }
 {
     let outer = cursor.refill(NODES);
     let body = braced(alloc, cursor)?;
@@ -196,8 +198,8 @@ fn body<'a>(alloc: Global, cursor: &mut Cursor<'_, 'a>) -> Read<Vec<Stmt<'a>>>
 // A block in its braces.
 #[cycle(body)]
 fn braced<'a>(alloc: Global, cursor: &mut Cursor<'_, 'a>) -> Read<Vec<Stmt<'a>>>
-    ensures answers { Answers braced_phrase (λ v. block_of v.items) cursor.old result cursor.new }
-    ensures shorter { OnOk result (length cursor.new.words < length cursor.old.words) }
+    ensures answers { Parses braced_phrase (λ v. block_of v.items) cursor.old result cursor.new }
+    ensures shorter { OnOk result (length cursor.new.tokens < length cursor.old.tokens) }
 {
     cursor.take(Sign::OpenBlock)?;
     let body = block(alloc, cursor)?;
@@ -207,8 +209,8 @@ fn braced<'a>(alloc: Global, cursor: &mut Cursor<'_, 'a>) -> Read<Vec<Stmt<'a>>>
 // Statements, and the brace behind them.
 #[cycle(body)]
 fn block<'a>(alloc: Global, cursor: &mut Cursor<'_, 'a>) -> Read<Vec<Stmt<'a>>>
-    ensures answers { Answers block_phrase (λ v. block_of v.items) cursor.old result cursor.new }
-    ensures shorter { OnOk result (length cursor.new.words < length cursor.old.words) }
+    ensures answers { Parses block_phrase (λ v. block_of v.items) cursor.old result cursor.new }
+    ensures shorter { OnOk result (length cursor.new.tokens < length cursor.old.tokens) }
 {
     let mut all = Vec::new(alloc);
     'stmts: while !cursor.accept(Sign::CloseBlock) {
@@ -219,8 +221,8 @@ fn block<'a>(alloc: Global, cursor: &mut Cursor<'_, 'a>) -> Read<Vec<Stmt<'a>>>
 
 #[cycle(body)]
 fn stmt<'a>(alloc: Global, cursor: &mut Cursor<'_, 'a>) -> Read<Stmt<'a>>
-    ensures answers { Answers stmt_phrase stmt_of cursor.old result cursor.new }
-    ensures shorter { OnOk result (length cursor.new.words < length cursor.old.words) }
+    ensures answers { Parses stmt_phrase stmt_of cursor.old result cursor.new }
+    ensures shorter { OnOk result (length cursor.new.tokens < length cursor.old.tokens) }
 {
     match cursor.peek() {
         Some(Token::Name(_)) => {
@@ -265,8 +267,8 @@ type Choice<'a> = (Expr<'a>, (Vec<Stmt<'a>>, Option<Vec<Stmt<'a>>>));
 // What stands behind `if`.
 #[cycle(body)]
 fn choice<'a>(alloc: Global, cursor: &mut Cursor<'_, 'a>) -> Read<Choice<'a>>
-    ensures answers { Answers if_phrase (λ w. (expr_of w.0, (block_of w.1.0.items, option_map (λ b. block_of b.items) w.1.1))) cursor.old result cursor.new }
-    ensures shorter { OnOk result (length cursor.new.words < length cursor.old.words) }
+    ensures answers { Parses if_phrase (λ w. (expr_of w.0, (block_of w.1.0.items, option_map (λ b. block_of b.items) w.1.1))) cursor.old result cursor.new }
+    ensures shorter { OnOk result (length cursor.new.tokens < length cursor.old.tokens) }
 {
     let test = expr(alloc, cursor)?;
     let blocks = blocks(alloc, cursor)?;
@@ -279,8 +281,8 @@ fn blocks<'a>(
     alloc: Global,
     cursor: &mut Cursor<'_, 'a>,
 ) -> Read<(Vec<Stmt<'a>>, Option<Vec<Stmt<'a>>>)>
-    ensures answers { Answers (pair_phrase braced_phrase else_phrase) (λ w. (block_of w.0.items, option_map (λ b. block_of b.items) w.1)) cursor.old result cursor.new }
-    ensures shorter { OnOk result (length cursor.new.words < length cursor.old.words) }
+    ensures answers { Parses (pair_phrase braced_phrase else_phrase) (λ w. (block_of w.0.items, option_map (λ b. block_of b.items) w.1)) cursor.old result cursor.new }
+    ensures shorter { OnOk result (length cursor.new.tokens < length cursor.old.tokens) }
 {
     let body = braced(alloc, cursor)?;
     if !cursor.is_next(Keyword::Else) {
@@ -294,8 +296,8 @@ fn blocks<'a>(
 // What stands behind `repeat`.
 #[cycle(body)]
 fn repeated<'a>(alloc: Global, cursor: &mut Cursor<'_, 'a>) -> Read<(Expr<'a>, Vec<Stmt<'a>>)>
-    ensures answers { Answers repeat_phrase (λ w. (expr_of w.0, block_of w.1.items)) cursor.old result cursor.new }
-    ensures shorter { OnOk result (length cursor.new.words < length cursor.old.words) }
+    ensures answers { Parses repeat_phrase (λ w. (expr_of w.0, block_of w.1.items)) cursor.old result cursor.new }
+    ensures shorter { OnOk result (length cursor.new.tokens < length cursor.old.tokens) }
 {
     let turns = expr(alloc, cursor)?;
     let body = braced(alloc, cursor)?;
@@ -304,8 +306,8 @@ fn repeated<'a>(alloc: Global, cursor: &mut Cursor<'_, 'a>) -> Read<(Expr<'a>, V
 
 // A name, and what is written to it.
 fn assigned<'a>(alloc: Global, cursor: &mut Cursor<'_, 'a>) -> Read<(Spot<'a>, Expr<'a>)>
-    ensures answers { Answers let_phrase (λ w. (name_of w.0, expr_of w.1)) cursor.old result cursor.new }
-    ensures shorter { OnOk result (length cursor.new.words < length cursor.old.words) }
+    ensures answers { Parses let_phrase (λ w. (name_of w.0, expr_of w.1)) cursor.old result cursor.new }
+    ensures shorter { OnOk result (length cursor.new.tokens < length cursor.old.tokens) }
 {
     let name = cursor.name()?;
     let value = written(alloc, cursor)?;
@@ -313,20 +315,20 @@ fn assigned<'a>(alloc: Global, cursor: &mut Cursor<'_, 'a>) -> Read<(Spot<'a>, E
 }
 
 fn written<'a>(alloc: Global, cursor: &mut Cursor<'_, 'a>) -> Read<Expr<'a>>
-    ensures answers { Answers written_phrase expr_of cursor.old result cursor.new }
-    ensures shorter { OnOk result (length cursor.new.words < length cursor.old.words) }
+    ensures answers { Parses written_phrase expr_of cursor.old result cursor.new }
+    ensures shorter { OnOk result (length cursor.new.tokens < length cursor.old.tokens) }
 {
     cursor.take(Sign::Assign)?;
     let value = closed(alloc, cursor, Sign::Semicolon)?;
     Ok(value)
 }
 
-type Arguments<'a> = (Vec<Expr<'a>>, Vec<Ref<'a>>);
+type Arguments<'a> = (Vec<Expr<'a>>, Vec<NamedCown<'a>>);
 
 // What stands behind `when`.
 fn call<'a>(alloc: Global, cursor: &mut Cursor<'_, 'a>) -> Read<(Spot<'a>, Arguments<'a>)>
-    ensures answers { Answers call_phrase (λ w. (name_of w.0, (map expr_of w.1.0.items, map ref_of w.1.1.items))) cursor.old result cursor.new }
-    ensures shorter { OnOk result (length cursor.new.words < length cursor.old.words) }
+    ensures answers { Parses call_phrase (λ w. (name_of w.0, (map expr_of w.1.0.items, map named_cown_of w.1.1.items))) cursor.old result cursor.new }
+    ensures shorter { OnOk result (length cursor.new.tokens < length cursor.old.tokens) }
 {
     let def = cursor.name()?;
     cursor.take(Sign::Open)?;
@@ -336,8 +338,8 @@ fn call<'a>(alloc: Global, cursor: &mut Cursor<'_, 'a>) -> Read<(Spot<'a>, Argum
 }
 
 fn arguments<'a>(alloc: Global, cursor: &mut Cursor<'_, 'a>) -> Read<Arguments<'a>>
-    ensures answers { Answers arguments_phrase (λ w. (map expr_of w.0.items, map ref_of w.1.items)) cursor.old result cursor.new }
-    ensures shorter { OnOk result (length cursor.new.words < length cursor.old.words) }
+    ensures answers { Parses arguments_phrase (λ w. (map expr_of w.0.items, map named_cown_of w.1.items)) cursor.old result cursor.new }
+    ensures shorter { OnOk result (length cursor.new.tokens < length cursor.old.tokens) }
 {
     let args = exprs(alloc, cursor)?;
     let refs = refs(alloc, cursor)?;
@@ -346,8 +348,8 @@ fn arguments<'a>(alloc: Global, cursor: &mut Cursor<'_, 'a>) -> Read<Arguments<'
 
 // Arguments, and the semicolon behind them.
 fn exprs<'a>(alloc: Global, cursor: &mut Cursor<'_, 'a>) -> Read<Vec<Expr<'a>>>
-    ensures answers { Answers (list_phrase expr_phrase Semicolon) (λ v. map expr_of v.items) cursor.old result cursor.new }
-    ensures shorter { OnOk result (length cursor.new.words < length cursor.old.words) }
+    ensures answers { Parses (list_phrase expr_phrase Semicolon) (λ v. map expr_of v.items) cursor.old result cursor.new }
+    ensures shorter { OnOk result (length cursor.new.tokens < length cursor.old.tokens) }
 {
     let mut all = Vec::new(alloc);
     if cursor.accept(Sign::Semicolon) {
@@ -369,16 +371,16 @@ fn exprs<'a>(alloc: Global, cursor: &mut Cursor<'_, 'a>) -> Read<Vec<Expr<'a>>>
 fn ninth_argument(cursor: &Cursor<'_, '_>) -> Fault<ShapeFault> {
     match cursor.peek() {
         Some(Token::Number(_) | Token::Name(_) | Token::Sign(Sign::Open | Sign::Minus)) => {
-            Fault::At(ShapeFault::TooMany, cursor.place())
+            Fault::At(ShapeFault::TooMany, cursor.position())
         }
         _ => cursor.unexpected(),
     }
 }
 
 // References, and the parenthesis behind them.
-fn refs<'a>(alloc: Global, cursor: &mut Cursor<'_, 'a>) -> Read<Vec<Ref<'a>>>
-    ensures answers { Answers (list_phrase ref_phrase Close) (λ v. map ref_of v.items) cursor.old result cursor.new }
-    ensures shorter { OnOk result (length cursor.new.words < length cursor.old.words) }
+fn refs<'a>(alloc: Global, cursor: &mut Cursor<'_, 'a>) -> Read<Vec<NamedCown<'a>>>
+    ensures answers { Parses (list_phrase ref_phrase Close) (λ v. map named_cown_of v.items) cursor.old result cursor.new }
+    ensures shorter { OnOk result (length cursor.new.tokens < length cursor.old.tokens) }
 {
     let mut all = Vec::new(alloc);
     if cursor.accept(Sign::Close) {
@@ -396,25 +398,25 @@ fn refs<'a>(alloc: Global, cursor: &mut Cursor<'_, 'a>) -> Read<Vec<Ref<'a>>>
     }
 }
 
-fn reference<'a>(alloc: Global, cursor: &mut Cursor<'_, 'a>) -> Read<Ref<'a>>
-    ensures answers { Answers ref_phrase ref_of cursor.old result cursor.new }
-    ensures shorter { OnOk result (length cursor.new.words < length cursor.old.words) }
+fn reference<'a>(alloc: Global, cursor: &mut Cursor<'_, 'a>) -> Read<NamedCown<'a>>
+    ensures answers { Parses ref_phrase named_cown_of cursor.old result cursor.new }
+    ensures shorter { OnOk result (length cursor.new.tokens < length cursor.old.tokens) }
 {
     let name = cursor.name()?;
     cursor.take_room(1, name.at)?;
     if !cursor.accept(Sign::OpenIndex) {
-        return Ok(Ref::Alone(name));
+        return Ok(NamedCown::Alone(name));
     }
     let index = closed(alloc, cursor, Sign::CloseIndex)?;
-    Ok(Ref::Member(name, index))
+    Ok(NamedCown::Member(name, index))
 }
 
 // An expression, and the sign behind it.
 #[cycle(expr)]
 fn closed<'a>(alloc: Global, cursor: &mut Cursor<'_, 'a>, close: Sign) -> Read<Expr<'a>>
     requires { tightness close ≡ 0 }
-    ensures answers { Answers (closed_phrase expr_phrase close) expr_of cursor.old result cursor.new }
-    ensures shorter { OnOk result (length cursor.new.words < length cursor.old.words) }
+    ensures answers { Parses (closed_phrase expr_phrase close) expr_of cursor.old result cursor.new }
+    ensures shorter { OnOk result (length cursor.new.tokens < length cursor.old.tokens) }
 {
     let inner = expr(alloc, cursor)?;
     cursor.take(close)?;
@@ -423,8 +425,8 @@ fn closed<'a>(alloc: Global, cursor: &mut Cursor<'_, 'a>, close: Sign) -> Read<E
 
 #[cycle(expr)]
 fn expr<'a>(alloc: Global, cursor: &mut Cursor<'_, 'a>) -> Read<Expr<'a>>
-    ensures answers { Answers expr_phrase expr_of cursor.old result cursor.new }
-    ensures shorter { OnOk result (length cursor.new.words < length cursor.old.words) }
+    ensures answers { Parses expr_phrase expr_of cursor.old result cursor.new }
+    ensures shorter { OnOk result (length cursor.new.tokens < length cursor.old.tokens) }
 {
     let left = sum(alloc, cursor)?;
     match compared(alloc, cursor)? {
@@ -436,8 +438,8 @@ fn expr<'a>(alloc: Global, cursor: &mut Cursor<'_, 'a>) -> Read<Expr<'a>>
 // A comparison and what stands behind it, or nothing.
 #[cycle(expr)]
 fn compared<'a>(alloc: Global, cursor: &mut Cursor<'_, 'a>) -> Read<Option<(Comparison, Sum<'a>)>>
-    ensures answers { Answers compared_phrase (option_map (λ w. (w.0, sum_of w.1))) cursor.old result cursor.new }
-    ensures shorter { OnOk result (length cursor.new.words ≤ length cursor.old.words) }
+    ensures answers { Parses compared_phrase (option_map (λ w. (w.0, sum_of w.1))) cursor.old result cursor.new }
+    ensures shorter { OnOk result (length cursor.new.tokens ≤ length cursor.old.tokens) }
 {
     match cursor.comparison()? {
         None => Ok(None),
@@ -450,8 +452,8 @@ fn compared<'a>(alloc: Global, cursor: &mut Cursor<'_, 'a>) -> Read<Option<(Comp
 
 #[cycle(expr)]
 fn sum<'a>(alloc: Global, cursor: &mut Cursor<'_, 'a>) -> Read<Sum<'a>>
-    ensures answers { Answers sum_phrase sum_of cursor.old result cursor.new }
-    ensures shorter { OnOk result (length cursor.new.words < length cursor.old.words) }
+    ensures answers { Parses sum_phrase sum_of cursor.old result cursor.new }
+    ensures shorter { OnOk result (length cursor.new.tokens < length cursor.old.tokens) }
 {
     let first = term(alloc, cursor)?;
     match more_terms(alloc, cursor)? {
@@ -466,8 +468,8 @@ fn more_terms<'a>(
     alloc: Global,
     cursor: &mut Cursor<'_, 'a>,
 ) -> Read<Option<(SumOperator, Box<Sum<'a>>)>>
-    ensures answers { Answers more_terms_phrase (option_map (λ w. (w.0, sum_of w.1.value))) cursor.old result cursor.new }
-    ensures shorter { OnOk result (length cursor.new.words ≤ length cursor.old.words) }
+    ensures answers { Parses more_terms_phrase (option_map (λ w. (w.0, sum_of w.1.value))) cursor.old result cursor.new }
+    ensures shorter { OnOk result (length cursor.new.tokens ≤ length cursor.old.tokens) }
 {
     match cursor.sum_operator()? {
         None => Ok(None),
@@ -480,8 +482,8 @@ fn more_terms<'a>(
 
 #[cycle(expr)]
 fn term<'a>(alloc: Global, cursor: &mut Cursor<'_, 'a>) -> Read<Term<'a>>
-    ensures answers { Answers term_phrase term_of cursor.old result cursor.new }
-    ensures shorter { OnOk result (length cursor.new.words < length cursor.old.words) }
+    ensures answers { Parses term_phrase term_of cursor.old result cursor.new }
+    ensures shorter { OnOk result (length cursor.new.tokens < length cursor.old.tokens) }
 {
     let first = unary(alloc, cursor)?;
     match more_factors(alloc, cursor)? {
@@ -496,8 +498,8 @@ fn more_factors<'a>(
     alloc: Global,
     cursor: &mut Cursor<'_, 'a>,
 ) -> Read<Option<(TermOperator, Box<Term<'a>>)>>
-    ensures answers { Answers more_factors_phrase (option_map (λ w. (w.0, term_of w.1.value))) cursor.old result cursor.new }
-    ensures shorter { OnOk result (length cursor.new.words ≤ length cursor.old.words) }
+    ensures answers { Parses more_factors_phrase (option_map (λ w. (w.0, term_of w.1.value))) cursor.old result cursor.new }
+    ensures shorter { OnOk result (length cursor.new.tokens ≤ length cursor.old.tokens) }
 {
     match cursor.term_operator()? {
         None => Ok(None),
@@ -510,8 +512,8 @@ fn more_factors<'a>(
 
 #[cycle(expr)]
 fn unary<'a>(alloc: Global, cursor: &mut Cursor<'_, 'a>) -> Read<Unary<'a>>
-    ensures answers { Answers unary_phrase unary_of cursor.old result cursor.new }
-    ensures shorter { OnOk result (length cursor.new.words < length cursor.old.words) }
+    ensures answers { Parses unary_phrase unary_of cursor.old result cursor.new }
+    ensures shorter { OnOk result (length cursor.new.tokens < length cursor.old.tokens) }
 {
     if !cursor.minus()? {
         let atom = atom(alloc, cursor)?;
@@ -523,8 +525,8 @@ fn unary<'a>(alloc: Global, cursor: &mut Cursor<'_, 'a>) -> Read<Unary<'a>>
 
 #[cycle(expr)]
 fn atom<'a>(alloc: Global, cursor: &mut Cursor<'_, 'a>) -> Read<Atom<'a>>
-    ensures answers { Answers atom_phrase atom_of cursor.old result cursor.new }
-    ensures shorter { OnOk result (length cursor.new.words < length cursor.old.words) }
+    ensures answers { Parses atom_phrase atom_of cursor.old result cursor.new }
+    ensures shorter { OnOk result (length cursor.new.tokens < length cursor.old.tokens) }
 {
     match cursor.peek() {
         Some(Token::Number(n)) => {
@@ -532,7 +534,7 @@ fn atom<'a>(alloc: Global, cursor: &mut Cursor<'_, 'a>) -> Read<Atom<'a>>
             Ok(Atom::Number(n))
         }
         Some(Token::Name(name)) => {
-            let at = cursor.place();
+            let at = cursor.position();
             cursor.begin()?;
             Ok(Atom::Name(Spot { name, at }))
         }

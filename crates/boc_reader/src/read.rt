@@ -4,7 +4,7 @@ ghost use Rattle.std.specs.Prelude.{◌≡◌, ◌≢◌, ◌≤◌, ℕ, List, 
 ghost use Rattle.boc_types.specs.text.Spells.{Spells, plain_program};
 ghost use Rattle.boc_types.specs.declared.program.Program.{Program};
 ghost use Rattle.boc_reader.specs.Placed.{Refusal};
-ghost use Rattle.boc_reader.specs.Meanings.{HasNoWords, HasNoShape, HasNoNames, Means};
+ghost use Rattle.boc_reader.specs.FaultMeanings.{HasNoTokens, HasNoShape, HasNoNames, SaysOf};
 ghost use Rattle.boc_reader.specs.declared.fault.ReadFaultKind.{ReadFaultKind};
 ghost use Rattle.boc_reader.specs.Lines.{line_after};
 
@@ -27,7 +27,7 @@ const NO_MEMORY: ReadFault = ReadFault {
 /// through three passes, for its tokens, its shape and its names: the first pass that finds a fault
 /// tells the first one in the text.
 pub fn read_program(alloc: Global, text: &[u8]) -> Result<Program, ReadFault>
-    ensures { MatchResult result (Spells text.now) (λ f. Means f.kind text.now) }
+    ensures { MatchResult result (Spells text.now) (λ f. SaysOf f.kind text.now) }
 {
     if text.len() > LONGEST {
         return Err(ReadFault {
@@ -37,7 +37,7 @@ pub fn read_program(alloc: Global, text: &[u8]) -> Result<Program, ReadFault>
     }
     let tokens = match tokens(alloc, text) {
         Ok(tokens) => tokens,
-        Err(fault) => return Err(no_words(text, fault)),
+        Err(fault) => return Err(no_tokens(text, fault)),
     };
     let tree = match parse_tree(alloc, &tokens, text.len()) {
         Ok(tree) => tree,
@@ -50,10 +50,10 @@ pub fn read_program(alloc: Global, text: &[u8]) -> Result<Program, ReadFault>
 }
 
 // A fault of the first pass.
-fn no_words(text: &[u8], fault: Fault<TokenFault>) -> ReadFault
+fn no_tokens(text: &[u8], fault: Fault<TokenFault>) -> ReadFault
     requires short { length text.now ≤ 65536 }
-    requires none { Refusal fault (HasNoWords text.now) }
-    ensures { Means result.kind text.now }
+    requires none { Refusal fault (HasNoTokens text.now) }
+    ensures { SaysOf result.kind text.now }
 {
     let (kind, at) = match fault {
         Fault::Memory => return NO_MEMORY,
@@ -71,7 +71,7 @@ fn no_words(text: &[u8], fault: Fault<TokenFault>) -> ReadFault
 fn no_shape(text: &[u8], fault: Fault<ShapeFault>) -> ReadFault
     requires short { length text.now ≤ 65536 }
     requires none { Refusal fault (HasNoShape text.now) }
-    ensures { Means result.kind text.now }
+    ensures { SaysOf result.kind text.now }
 {
     let (kind, at) = match fault {
         Fault::Memory => return NO_MEMORY,
@@ -88,7 +88,7 @@ fn no_shape(text: &[u8], fault: Fault<ShapeFault>) -> ReadFault
 fn no_names(text: &[u8], fault: Fault<NameFault>) -> ReadFault
     requires short { length text.now ≤ 65536 }
     requires none { Refusal fault (HasNoNames text.now) }
-    ensures { Means result.kind text.now }
+    ensures { SaysOf result.kind text.now }
 {
     let (kind, at) = match fault {
         Fault::Memory => return NO_MEMORY,
@@ -127,6 +127,6 @@ fn line_after(front: &[u8]) -> u32
 /// A text of which a fault is told, but for want of memory, spells no program, and a text spells one
 /// program at most.
 pub fn refused_is_none()
-    ensures none { (kind : ReadFaultKind) (text : List ℕ) (p : Program) → kind ≢ ReadFaultKind.Memory → Means kind text → Spells text p → ⊥ }
+    ensures none { (kind : ReadFaultKind) (text : List ℕ) (p : Program) → kind ≢ ReadFaultKind.Memory → SaysOf kind text → Spells text p → ⊥ }
     ensures one { (text : List ℕ) (p q : Program) → Spells text p → Spells text q → plain_program p ≡ plain_program q }
 {}

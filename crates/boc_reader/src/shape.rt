@@ -52,7 +52,7 @@ pub enum Atom<'a> {
 
 /// Which cown a `when` names.
 #[derive(Drop)]
-pub enum Ref<'a> {
+pub enum NamedCown<'a> {
     Alone(Spot<'a>),
     Member(Spot<'a>, Expr<'a>),
 }
@@ -66,7 +66,7 @@ pub enum Stmt<'a> {
     If(Expr<'a>, Vec<Stmt<'a>>),
     IfElse(Expr<'a>, Vec<Stmt<'a>>, Vec<Stmt<'a>>),
     Repeat(Expr<'a>, Vec<Stmt<'a>>),
-    When(Spot<'a>, Vec<Expr<'a>>, Vec<Ref<'a>>),
+    When(Spot<'a>, Vec<Expr<'a>>, Vec<NamedCown<'a>>),
 }
 
 /// The declaration of a cown, or of an array of `size` cowns.

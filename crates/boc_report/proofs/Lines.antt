@@ -2,7 +2,7 @@
 use Rattle.std.proofs.Common.{zero, suc, get_or, length, take, append_assoc, ◌≡◌, ℕ, ◌+◌, ◌<◌, ◌∷◌, List, [], ◌++◌, sym, ap, ◌∙◌, arith}
 use Rattle.std.proofs.lemmas.List.{append-nil}
 use Rattle.std.proofs.Math.Seq.{take-suc}
-use Rattle.boc_types.specs.declared.chain.Step.{Step}
+use Rattle.boc_types.specs.declared.chain.ChainStep.{ChainStep}
 use Rattle.boc_types.specs.answers.Texts.{step_line, step_lines, plan_line, plan_lines, served_line, served_lines, sweep_line, sweep_lines}
 
 add_one : (i : ℕ) → i + 1 ≡ suc i
@@ -12,12 +12,12 @@ zero_more : (i : ℕ) → i ≡ 0 + i
 zero_more i = omega arith
 
 -- one step more
-steps_more : (steps : List Step) (step : Step) → step_lines (steps ++ step ∷ []) ≡ step_lines steps ++ step_line step
+steps_more : (steps : List ChainStep) (step : ChainStep) → step_lines (steps ++ step ∷ []) ≡ step_lines steps ++ step_line step
 steps_more [] step = append-nil (step_line step)
 steps_more (first ∷ steps) step = ap (λ xs. step_line first ++ xs) (steps_more steps step) ∙ sym (append_assoc (step_line first) (step_lines steps) (step_line step))
 
 -- the line of one step more
-pub put_step_more : (before text after : List ℕ) (steps : List Step) (i : ℕ) (d : Step) → i < length steps → text ≡ before ++ step_lines (take i steps)
+pub put_step_more : (before text after : List ℕ) (steps : List ChainStep) (i : ℕ) (d : ChainStep) → i < length steps → text ≡ before ++ step_lines (take i steps)
     → after ≡ text ++ step_line (get_or steps i d) → after ≡ before ++ step_lines (take (i + 1) steps)
 put_step_more before text after steps i d h e put =
     put ∙ ap (λ xs. xs ++ step_line (get_or steps i d)) e ∙ append_assoc before (step_lines (take i steps)) (step_line (get_or steps i d))

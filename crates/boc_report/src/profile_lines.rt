@@ -9,7 +9,7 @@ use crate::number_line::put_line;
 use boc_greedy::Greedy;
 use boc_order::Profile;
 use boc_text::put_number;
-use boc_types::chain::{Step, Via};
+use boc_types::chain::{ChainStep, Via};
 use std::alloc::{AllocError, Global};
 
 /// The most bytes of the lines before the chain, of `chain` and of `plan`.
@@ -69,7 +69,7 @@ fn put_profile(text: &mut Vec<u8>, profile: &Profile) -> Result<(), AllocError>
 }
 
 // The lines of a chain's steps.
-fn put_steps(text: &mut Vec<u8>, steps: &[Step]) -> Result<(), AllocError>
+fn put_steps(text: &mut Vec<u8>, steps: &[ChainStep]) -> Result<(), AllocError>
     ensures { OnOk result (text.new.items ≡ text.old.items ++ step_lines steps.now) }
 {
     for step in steps {
@@ -79,7 +79,7 @@ fn put_steps(text: &mut Vec<u8>, steps: &[Step]) -> Result<(), AllocError>
 }
 
 // The line of a step.
-fn put_step(text: &mut Vec<u8>, step: Step) -> Result<(), AllocError>
+fn put_step(text: &mut Vec<u8>, step: ChainStep) -> Result<(), AllocError>
     ensures { OnOk result (text.new.items ≡ text.old.items ++ step_line step) }
 {
     put_number(text, u64::from(step.row))?;

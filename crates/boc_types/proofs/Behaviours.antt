@@ -6,7 +6,7 @@ use Rattle.std.proofs.lemmas.Bool.Decides.{nat_tests}
 use Rattle.boc_types.specs.declared.cown.Cown.{Cown}
 use Rattle.boc_types.specs.declared.body.Body.{Body}
 use Rattle.boc_types.specs.program.Meaning.{cowns_held}
-use Rattle.boc_types.specs.program.Programs.{cown_count, initial_values, size_of, has_main}
+use Rattle.boc_types.specs.program.Programs.{cown_count, initial_values, members, has_main}
 use Rattle.boc_types.specs.program.Resolved.{every}
 use Rattle.boc_types.specs.program.Signatures.{signature_of, CountsAre}
 use Rattle.boc_types.specs.runs.Serial.{inputs_of, after_outputs}
@@ -44,7 +44,7 @@ length-after_outputs values (c ∷ cs) (v ∷ vs) = length-after_outputs (slice_
 pub initial-length : (cs : List Cown) → length (initial_values cs) ≡ cown_count cs
 initial-length [] = refl
 initial-length (c ∷ cs) =
-    omega (arith, length-append (replicate (size_of c.size) c.initial) (initial_values cs), length-replicate (size_of c.size) c.initial, initial-length cs)
+    omega (arith, length-append (replicate (members c.size) c.initial) (initial_values cs), length-replicate (members c.size) c.initial, initial-length cs)
 
 -- main takes nothing
 pub main_fits : (bodies : List Body) → IsTrue (has_main bodies) → CountsAre (slice_get (map signature_of bodies) 0) 0 0

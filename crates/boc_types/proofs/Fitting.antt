@@ -5,7 +5,7 @@ use Rattle.std.proofs.lemmas.List.{length-map}
 use Rattle.std.proofs.lemmas.Bool.Decides.{nat_tests}
 use Rattle.boc_types.specs.declared.body.Body.{Body}
 use Rattle.boc_types.specs.declared.body.EndStatus.TheVariants.{Done, OutOfRange, SameCown}
-use Rattle.boc_types.specs.program.Syntax.{Term, Place, Held, Single, Member}
+use Rattle.boc_types.specs.program.Syntax.{SlotExpr, CownRef, Held, Single, Member}
 use Rattle.boc_types.specs.declared.short.Input.{Input}
 use Rattle.boc_types.specs.program.Value.{OrFault, value, values, then_value}
 use Rattle.boc_types.specs.program.Meaning.{State, start, ends, meaning, member, cown_of, cowns_of, distinct, has_same_twice, cowns_held}
@@ -21,7 +21,7 @@ values_cons (Ok v) (Ok ws) n vs h e =
     let same : vs ≡ v ∷ ws = cc in
     ap length same ∙ ap suc (h ws refl)
 
-pub values-length : (es : List Term) (slots : List ℤ) (vs : List ℤ) → Ok vs ≡ values es slots → length vs ≡ length es
+pub values-length : (es : List SlotExpr) (slots : List ℤ) (vs : List ℤ) → Ok vs ≡ values es slots → length vs ≡ length es
 values-length [] slots vs e = let same : vs ≡ [] = cc in ap length same
 values-length (x ∷ es) slots vs e =
     values_cons (value x slots) (values es slots) (length es) vs (λ ws is. values-length es slots ws is) e
@@ -40,7 +40,7 @@ member_below (Err f) n first size c h e = absurd cc
 member_below (Ok (pos i)) n first size c h e = member_is (nat_lt i size) n first size i c refl h e
 member_below (Ok (negsuc i)) n first size c h e = absurd cc
 
-cown_below : (r : Place) (s : State) (n c : ℕ) → AllBelow n s.held → IsTrue (ref_below (length s.held) n r) → Ok c ≡ cown_of r s → c < n
+cown_below : (r : CownRef) (s : State) (n c : ℕ) → AllBelow n s.held → IsTrue (ref_below (length s.held) n r) → Ok c ≡ cown_of r s → c < n
 cown_below (Held i) s n c all t e =
     let same : c ≡ slice_index s.held i = cc in
     let lt : i < length s.held = grind (arith, nat_tests) in
@@ -59,7 +59,7 @@ cowns_cons (Ok c) (Ok ds) n k cs h g e =
     let both = g ds refl in
     rw same (ap suc both.0, (h c refl, both.1))
 
-cowns_below : (rs : List Place) (s : State) (n : ℕ) (cs : List ℕ) → AllBelow n s.held → IsTrue (every (map (ref_below (length s.held) n) rs)) → Ok cs ≡ cowns_of rs s → (length cs ≡ length rs) × AllBelow n cs
+cowns_below : (rs : List CownRef) (s : State) (n : ℕ) (cs : List ℕ) → AllBelow n s.held → IsTrue (every (map (ref_below (length s.held) n) rs)) → Ok cs ≡ cowns_of rs s → (length cs ≡ length rs) × AllBelow n cs
 cowns_below [] s n cs all t e = let same : cs ≡ [] = cc in rw same (refl, tt)
 cowns_below (r ∷ rs) s n cs all t e =
     let both = and_true (ref_below (length s.held) n r) (every (map (ref_below (length s.held) n) rs)) t in
@@ -73,7 +73,7 @@ were_distinct : (o : OrFault (List ℕ)) (cs : List ℕ) → Ok cs ≡ then_valu
 were_distinct (Err f) cs e = e
 were_distinct (Ok ds) cs e = ap Ok (distinct_if (has_same_twice ds) ds cs e)
 
-counts_are : (o : Option Signature) (args : List Term) (refs : List Place) (a c : ℕ) → IsTrue (counts_fit o args refs) → a ≡ length args → c ≡ length refs → CountsAre o a c
+counts_are : (o : Option Signature) (args : List SlotExpr) (refs : List CownRef) (a c : ℕ) → IsTrue (counts_fit o args refs) → a ≡ length args → c ≡ length refs → CountsAre o a c
 counts_are None args refs a c t h g = absurd cc
 counts_are (Some sig) args refs a c t h g =
     let both = and_true (nat_eq (length args) sig.args) (nat_eq (length refs) sig.cowns) t in

@@ -6,7 +6,7 @@ use Rattle.boc_types.specs.declared.body.Stmt.{Stmt}
 use Rattle.boc_types.specs.declared.body.Stmt.TheVariants as stmt
 use Rattle.boc_types.specs.program.Syntax.{Code, Done, code_size}
 use Rattle.boc_types.specs.program.Signatures.{Test, whens_pass}
-use Rattle.boc_types.specs.memory.View.{before, code_of, term_of, place_of}
+use Rattle.boc_types.specs.memory.View.{before, code_of, slot_expr_of, cown_ref_of}
 
 pub then_not_done : (s : Stmt) (rest : Code) → before s rest ≡ Done → ⊥
 then_not_done (stmt.Assign slot e) rest h = cc
@@ -49,13 +49,13 @@ and_swap true r = refl
 and_swap false r = refl
 
 pub fits_before : (scope : Scope) (s : Stmt) (rest : Code) → fits scope (before s rest) ≡ (fits scope (before s Done) && fits scope rest)
-fits_before scope (stmt.Assign slot e) rest = and_swap (nat_lt slot scope.slots && expr_fits scope.slots (term_of e)) (fits scope rest)
-fits_before scope (stmt.Work e) rest = and_swap (expr_fits scope.slots (term_of e)) (fits scope rest)
-fits_before scope (stmt.If e a b) rest = and_swap (expr_fits scope.slots (term_of e) && (fits scope a && fits scope b)) (fits scope rest)
-fits_before scope (stmt.Repeat e a) rest = and_swap (expr_fits scope.slots (term_of e) && fits scope a) (fits scope rest)
+fits_before scope (stmt.Assign slot e) rest = and_swap (nat_lt slot scope.slots && expr_fits scope.slots (slot_expr_of e)) (fits scope rest)
+fits_before scope (stmt.Work e) rest = and_swap (expr_fits scope.slots (slot_expr_of e)) (fits scope rest)
+fits_before scope (stmt.If e a b) rest = and_swap (expr_fits scope.slots (slot_expr_of e) && (fits scope a && fits scope b)) (fits scope rest)
+fits_before scope (stmt.Repeat e a) rest = and_swap (expr_fits scope.slots (slot_expr_of e) && fits scope a) (fits scope rest)
 fits_before scope (stmt.When kind args refs) rest =
-    and_swap ((nat_le (length (map term_of args.items)) 8 && nat_le (length (map place_of refs.items)) 8)
-    && (every (map (expr_fits scope.slots) (map term_of args.items)) && every (map (ref_fits scope) (map place_of refs.items)))) (fits scope rest)
+    and_swap ((nat_le (length (map slot_expr_of args.items)) 8 && nat_le (length (map cown_ref_of refs.items)) 8)
+    && (every (map (expr_fits scope.slots) (map slot_expr_of args.items)) && every (map (ref_fits scope) (map cown_ref_of refs.items)))) (fits scope rest)
 
 and_pair_swap : (a b r : Bool) → ((a && b) && r) ≡ (((a && b) && true) && r)
 and_pair_swap a b r = and_swap (a && b) r
@@ -65,4 +65,4 @@ whens_before test (stmt.Assign slot e) rest = refl
 whens_before test (stmt.Work e) rest = refl
 whens_before test (stmt.If e a b) rest = and_pair_swap (whens_pass test a) (whens_pass test b) (whens_pass test rest)
 whens_before test (stmt.Repeat e a) rest = and_swap (whens_pass test a) (whens_pass test rest)
-whens_before test (stmt.When kind args refs) rest = and_swap (test kind (map term_of args.items) (map place_of refs.items)) (whens_pass test rest)
+whens_before test (stmt.When kind args refs) rest = and_swap (test kind (map slot_expr_of args.items) (map cown_ref_of refs.items)) (whens_pass test rest)

@@ -5,8 +5,8 @@ use Rattle.boc_types.specs.declared.body.Operator.TheVariants as operators
 use Rattle.boc_types.specs.declared.body.Body.{Body}
 use Rattle.boc_types.specs.declared.cown.Cown.{Cown}
 use Rattle.boc_types.specs.declared.program.Program.{Program}
-use Rattle.boc_types.specs.text.Shape.{Expr, plain, one_term, more_terms, Term, one_factor, unsigned, literal, variable, alone, assign, when, done, next, Tree, tree_words}
-use Rattle.boc_types.specs.text.Tokens.{words_of_text, cut, word_of_run}
+use Rattle.boc_types.specs.text.Shape.{Expr, plain, one_term, more_terms, Term, one_factor, unsigned, literal, variable, alone, assign, when, done, next, Tree, tree_tokens}
+use Rattle.boc_types.specs.text.Tokens.{tokens_of_text, cut, token_of_run}
 use Rattle.boc_types.specs.text.Names.{tree_names}
 use Rattle.boc_types.specs.program.Syntax as resolved
 use Rattle.boc_types.specs.text.Spells.{plain_program}
@@ -52,8 +52,8 @@ tree = record {
       (next (when (codes "add") (of_number 1 ∷ []) (alone (codes "b") ∷ [])) done));
 }
 
-pub tokens : words_of_text text ≡ Some (tree_words tree)
-unfolding words_of_text cut word_of_run
+pub tokens : tokens_of_text text ≡ Some (tree_tokens tree)
+unfolding tokens_of_text cut token_of_run
 tokens = refl
 
 abbrev pub cowns : List Cown

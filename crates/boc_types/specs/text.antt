@@ -1,4 +1,3 @@
-pub mod Words
 pub mod Tokens
 pub mod Shape
 pub mod Names

@@ -1,7 +1,7 @@
 // Whether the parts of a program fit together.
 
 ghost use Rattle.std.specs.Prelude.{◌≡◌, ◌+◌, ◌≤◌, IsTrue, map, length};
-ghost use Rattle.boc_types.specs.memory.View.{term_of, place_of, code_of, before};
+ghost use Rattle.boc_types.specs.memory.View.{slot_expr_of, cown_ref_of, code_of, before};
 ghost use Rattle.boc_types.specs.program.Syntax.{Done};
 ghost use Rattle.boc_types.specs.program.Resolved.{every};
 ghost use Rattle.boc_types.specs.program.Signatures.{signature_of, ref_below as ref_below_spec, call_fits as call_fits_spec, calls_fit as calls_fit_spec, whens_pass};
@@ -13,7 +13,7 @@ use crate::cown::Cown;
 
 // The cown that a reference names is one of `cowns`, where `held` are held.
 fn ref_below(reference: &CownRef, held: usize, cowns: usize) -> bool
-    ensures { result ≡ ref_below_spec held cowns (place_of reference.now) }
+    ensures { result ≡ ref_below_spec held cowns (cown_ref_of reference.now) }
 {
     match reference {
         CownRef::Held(parameter) => *parameter < held,
@@ -23,7 +23,7 @@ fn ref_below(reference: &CownRef, held: usize, cowns: usize) -> bool
 }
 
 fn refs_below(references: &[CownRef], held: usize, cowns: usize) -> bool
-    ensures { result ≡ every (map (ref_below_spec held cowns) (map place_of references.now)) }
+    ensures { result ≡ every (map (ref_below_spec held cowns) (map cown_ref_of references.now)) }
 {
     match references {
         [] => true,
@@ -40,7 +40,7 @@ fn call_fits(
     args: &[Expr],
     references: &[CownRef],
 ) -> bool
-    ensures { result ≡ call_fits_spec (map signature_of bodies.now) held cowns kind (map term_of args.now) (map place_of references.now) }
+    ensures { result ≡ call_fits_spec (map signature_of bodies.now) held cowns kind (map slot_expr_of args.now) (map cown_ref_of references.now) }
 {
     match bodies.get(kind) {
         None => false,

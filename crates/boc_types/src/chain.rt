@@ -13,7 +13,7 @@ pub enum Via {
 
 /// A step of a chain.
 #[derive(Clone, Copy, PartialEq, Eq, Debug)]
-pub struct Step {
+pub struct ChainStep {
     /// The number of the row.
     pub row: u32,
     /// The link to the next step.
@@ -26,5 +26,5 @@ pub struct Step {
 /// functions that make or check them.
 #[derive(Drop, PartialEq, Eq, Debug)]
 pub struct Chain {
-    pub steps: Vec<Step>,
+    pub steps: Vec<ChainStep>,
 }

@@ -1,7 +1,7 @@
 // Whether the parts of a body fit together.
 
 ghost use Rattle.std.specs.Prelude.{◌≡◌, ◌&&◌, ◌+◌, ◌<◌, ◌≤◌, IsTrue, IfOk, MatchOption, map, length};
-ghost use Rattle.boc_types.specs.memory.View.{term_of, place_of, code_of, before};
+ghost use Rattle.boc_types.specs.memory.View.{slot_expr_of, cown_ref_of, code_of, before};
 ghost use Rattle.boc_types.specs.program.Syntax.{Done};
 ghost use Rattle.boc_types.specs.program.Resolved.{Scope, fits, every, expr_fits as expr_fits_spec, ref_fits as ref_fits_spec, nodes, expr_nodes, ref_nodes, total};
 ghost use Rattle.boc_types.specs.memory.Spent.{spent};
@@ -13,7 +13,7 @@ use std::alloc::{AllocError, Global};
 
 // Every slot of an expression is there.
 fn expr_fits(expr: &Expr, slots: usize) -> bool
-    ensures { result ≡ expr_fits_spec slots (term_of expr.now) }
+    ensures { result ≡ expr_fits_spec slots (slot_expr_of expr.now) }
 {
     match expr {
         Expr::Number(_) => true,
@@ -24,7 +24,7 @@ fn expr_fits(expr: &Expr, slots: usize) -> bool
 }
 
 fn exprs_fit(exprs: &[Expr], slots: usize) -> bool
-    ensures { result ≡ every (map (expr_fits_spec slots) (map term_of exprs.now)) }
+    ensures { result ≡ every (map (expr_fits_spec slots) (map slot_expr_of exprs.now)) }
 {
     match exprs {
         [] => true,
@@ -33,7 +33,7 @@ fn exprs_fit(exprs: &[Expr], slots: usize) -> bool
 }
 
 fn ref_fits(reference: &CownRef, slots: usize, cowns: usize) -> bool
-    ensures { result ≡ ref_fits_spec (record { slots = slots; cowns = cowns }) (place_of reference.now) }
+    ensures { result ≡ ref_fits_spec (record { slots = slots; cowns = cowns }) (cown_ref_of reference.now) }
 {
     match reference {
         CownRef::Held(parameter) => *parameter < cowns,
@@ -45,7 +45,7 @@ fn ref_fits(reference: &CownRef, slots: usize, cowns: usize) -> bool
 }
 
 fn refs_fit(references: &[CownRef], slots: usize, cowns: usize) -> bool
-    ensures { result ≡ every (map (ref_fits_spec (record { slots = slots; cowns = cowns })) (map place_of references.now)) }
+    ensures { result ≡ every (map (ref_fits_spec (record { slots = slots; cowns = cowns })) (map cown_ref_of references.now)) }
 {
     match references {
         [] => true,
@@ -95,7 +95,7 @@ fn stmt_fits(stmt: &Stmt, slots: usize, cowns: usize) -> bool
 
 // What is left of a number of nodes after an expression.
 fn after_expr(expr: &Expr, left: usize) -> Option<usize>
-    ensures { spent result (expr_nodes (term_of expr.now)) left }
+    ensures { spent result (expr_nodes (slot_expr_of expr.now)) left }
 {
     let left = match expr {
         Expr::Number(_) | Expr::Slot(_) => left,
@@ -106,7 +106,7 @@ fn after_expr(expr: &Expr, left: usize) -> Option<usize>
 }
 
 fn after_exprs(exprs: &[Expr], left: usize) -> Option<usize>
-    ensures { spent result (total (map expr_nodes (map term_of exprs.now))) left }
+    ensures { spent result (total (map expr_nodes (map slot_expr_of exprs.now))) left }
 {
     match exprs {
         [] => Some(left),
@@ -115,7 +115,7 @@ fn after_exprs(exprs: &[Expr], left: usize) -> Option<usize>
 }
 
 fn after_ref(reference: &CownRef, left: usize) -> Option<usize>
-    ensures { spent result (ref_nodes (place_of reference.now)) left }
+    ensures { spent result (ref_nodes (cown_ref_of reference.now)) left }
 {
     match reference {
         CownRef::Held(_) | CownRef::Single(_) => left.checked_sub(1),
@@ -124,7 +124,7 @@ fn after_ref(reference: &CownRef, left: usize) -> Option<usize>
 }
 
 fn after_refs(references: &[CownRef], left: usize) -> Option<usize>
-    ensures { spent result (total (map ref_nodes (map place_of references.now))) left }
+    ensures { spent result (total (map ref_nodes (map cown_ref_of references.now))) left }
 {
     match references {
         [] => Some(left),

@@ -1,7 +1,7 @@
 // Declarations of cowns.
 
 ghost use Rattle.std.specs.Prelude.{◌≡◌};
-ghost use Rattle.boc_types.specs.program.Sizes.{size_of};
+ghost use Rattle.boc_types.specs.program.Sizes.{members};
 
 use crate::text::Name;
 
@@ -16,7 +16,7 @@ pub struct Cown {
 impl Cown {
     /// How many cowns it declares.
     pub fn members(&self) -> usize
-        ensures { result ≡ size_of self.now.size }
+        ensures { result ≡ members self.now.size }
     {
         match self.size {
             None => 1,

@@ -1,7 +1,7 @@
 // Bodies are compared by what they say.
 
 ghost use Rattle.std.specs.Prelude.{◌≡◌, ◌↔◌, IsTrue, map};
-ghost use Rattle.boc_types.specs.memory.View.{term_of, place_of, code_of, before};
+ghost use Rattle.boc_types.specs.memory.View.{slot_expr_of, cown_ref_of, code_of, before};
 ghost use Rattle.boc_types.specs.program.Syntax.{Done};
 
 use crate::body::{Block, Body, CownRef, Expr, Stmt};
@@ -10,7 +10,7 @@ use crate::program::Program;
 
 /// The expressions are the same.
 pub(crate) fn same_expr(a: &Expr, b: &Expr) -> bool
-    ensures { IsTrue result ↔ (term_of a.now ≡ term_of b.now) }
+    ensures { IsTrue result ↔ (slot_expr_of a.now ≡ slot_expr_of b.now) }
 {
     match (a, b) {
         (Expr::Number(x), Expr::Number(y)) => x == y,
@@ -24,7 +24,7 @@ pub(crate) fn same_expr(a: &Expr, b: &Expr) -> bool
 }
 
 fn same_ref(a: &CownRef, b: &CownRef) -> bool
-    ensures { IsTrue result ↔ (place_of a.now ≡ place_of b.now) }
+    ensures { IsTrue result ↔ (cown_ref_of a.now ≡ cown_ref_of b.now) }
 {
     match (a, b) {
         (CownRef::Held(x), CownRef::Held(y)) => x == y,
@@ -42,7 +42,7 @@ fn same_ref(a: &CownRef, b: &CownRef) -> bool
 }
 
 fn same_exprs(a: &[Expr], b: &[Expr]) -> bool
-    ensures { IsTrue result ↔ (map term_of a.now ≡ map term_of b.now) }
+    ensures { IsTrue result ↔ (map slot_expr_of a.now ≡ map slot_expr_of b.now) }
 {
     match (a, b) {
         ([], []) => true,
@@ -52,7 +52,7 @@ fn same_exprs(a: &[Expr], b: &[Expr]) -> bool
 }
 
 fn same_refs(a: &[CownRef], b: &[CownRef]) -> bool
-    ensures { IsTrue result ↔ (map place_of a.now ≡ map place_of b.now) }
+    ensures { IsTrue result ↔ (map cown_ref_of a.now ≡ map cown_ref_of b.now) }
 {
     match (a, b) {
         ([], []) => true,

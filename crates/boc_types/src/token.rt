@@ -1,4 +1,4 @@
-// The words of program texts that have a meaning of their own.
+// The tokens of program texts that have a meaning of their own.
 
 /// A keyword.
 #[derive(Clone, Copy, PartialEq, Eq, Debug)]

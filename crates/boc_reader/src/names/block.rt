@@ -1,22 +1,22 @@
 // Statements, with every name resolved.
 
 ghost use Rattle.std.specs.Prelude.{◌≡◌, OnOk, map, take, length};
-ghost use Rattle.boc_types.specs.memory.View.{place_of};
+ghost use Rattle.boc_types.specs.memory.View.{cown_ref_of};
 ghost use Rattle.boc_types.specs.text.Shape.{member};
 ghost use Rattle.boc_types.specs.text.Names.{slot_of as slot_of_spec, global, held_or_single, ref_names, all_names, call_names, stmt_names, block_names};
-ghost use Rattle.boc_reader.specs.Views.{expr_of, ref_of, stmt_of, block_of};
-ghost use Rattle.boc_reader.specs.Resolving.{Yields, YieldsIn, names_of, step_of, outside_of};
+ghost use Rattle.boc_reader.specs.Views.{expr_of, named_cown_of, stmt_of, block_of};
+ghost use Rattle.boc_reader.specs.Resolving.{Yields, YieldsIn, names_of, resolved_stmt_of, outside_of};
 
 use crate::fault::{Fault, NameFault};
 use crate::names::expr::{resolve_expr, resolve_exprs, slot_of};
 use crate::names::top::{Outside, parameter_of};
-use crate::shape::{self, Ref, Spot};
+use crate::shape::{self, NamedCown, Spot};
 use boc_types::body::{Block, CownRef, Stmt};
 use std::alloc::Global;
 
 /// The cown that a name alone stands for: a cown parameter, or a single cown.
 fn resolve_alone(outside: &Outside<'_, '_>, spot: &Spot<'_>) -> Result<CownRef, Fault<NameFault>>
-    ensures { Yields place_of result (held_or_single (slot_of_spec (outside_of outside.now).held spot.now.name.now) (global (outside_of outside.now).top spot.now.name.now)) }
+    ensures { Yields cown_ref_of result (held_or_single (slot_of_spec (outside_of outside.now).held spot.now.name.now) (global (outside_of outside.now).top spot.now.name.now)) }
 {
     if let Some(parameter) = parameter_of(outside.held, spot.name) {
         return Ok(CownRef::Held(parameter));
@@ -36,7 +36,7 @@ fn resolve_member(
     spot: &Spot<'_>,
     index: &shape::Expr<'_>,
 ) -> Result<CownRef, Fault<NameFault>>
-    ensures { Yields place_of result (ref_names (outside_of outside.now) (names_of scope.now) (member spot.now.name.now (expr_of index.now))) }
+    ensures { Yields cown_ref_of result (ref_names (outside_of outside.now) (names_of scope.now) (member spot.now.name.now (expr_of index.now))) }
 {
     let Some(cown) = outside.top.cown(spot.name) else {
         let kind = if parameter_of(outside.held, spot.name).is_some() {
@@ -61,13 +61,13 @@ fn resolve_ref(
     alloc: Global,
     outside: &Outside<'_, '_>,
     scope: &[&str],
-    reference: &Ref<'_>,
+    reference: &NamedCown<'_>,
 ) -> Result<CownRef, Fault<NameFault>>
-    ensures { Yields place_of result (ref_names (outside_of outside.now) (names_of scope.now) (ref_of reference.now)) }
+    ensures { Yields cown_ref_of result (ref_names (outside_of outside.now) (names_of scope.now) (named_cown_of reference.now)) }
 {
     match reference {
-        Ref::Alone(spot) => resolve_alone(outside, spot),
-        Ref::Member(spot, index) => resolve_member(alloc, outside, scope, spot, index),
+        NamedCown::Alone(spot) => resolve_alone(outside, spot),
+        NamedCown::Member(spot, index) => resolve_member(alloc, outside, scope, spot, index),
     }
 }
 
@@ -76,9 +76,9 @@ fn resolve_refs(
     alloc: Global,
     outside: &Outside<'_, '_>,
     scope: &[&str],
-    references: &[Ref<'_>],
+    references: &[NamedCown<'_>],
 ) -> Result<Vec<CownRef>, Fault<NameFault>>
-    ensures { Yields (λ v. map place_of v.items) result (all_names (ref_names (outside_of outside.now) (names_of scope.now)) (map ref_of references.now)) }
+    ensures { Yields (λ v. map cown_ref_of v.items) result (all_names (ref_names (outside_of outside.now) (names_of scope.now)) (map named_cown_of references.now)) }
 {
     let mut all = Vec::new(alloc);
     for reference in references {
@@ -95,9 +95,9 @@ fn resolve_call(
     scope: &[&str],
     def: &Spot<'_>,
     args: &[shape::Expr<'_>],
-    references: &[Ref<'_>],
+    references: &[NamedCown<'_>],
 ) -> Result<Stmt, Fault<NameFault>>
-    ensures { Yields step_of result (call_names (outside_of outside.now) (names_of scope.now) def.now.name.now (map expr_of args.now) (map ref_of references.now)) }
+    ensures { Yields resolved_stmt_of result (call_names (outside_of outside.now) (names_of scope.now) def.now.name.now (map expr_of args.now) (map named_cown_of references.now)) }
 {
     let Some((kind, callee)) = outside.top.def(def.name) else {
         return Err(Fault::At(NameFault::UnknownName, def.at));
@@ -118,7 +118,7 @@ fn resolve_stmt<'a>(
     scope: &mut Vec<&'a str>,
     stmt: &shape::Stmt<'a>,
 ) -> Result<Stmt, Fault<NameFault>>
-    ensures names { YieldsIn step_of result (names_of scope.new.items) (stmt_names (stmt_of stmt.now) (outside_of outside.now) (names_of scope.old.items)) }
+    ensures names { YieldsIn resolved_stmt_of result (names_of scope.new.items) (stmt_names (stmt_of stmt.now) (outside_of outside.now) (names_of scope.old.items)) }
     ensures grows { OnOk result (take (length scope.old.items) scope.new.items ≡ scope.old.items) }
 {
     match stmt {

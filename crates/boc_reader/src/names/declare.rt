@@ -2,7 +2,8 @@
 
 ghost use Rattle.std.specs.Prelude.{◌≡◌, ◌≤◌, [], IfOk, map};
 ghost use Rattle.std.specs.Option.{option_map};
-ghost use Rattle.boc_types.specs.text.Shape.{members, cowns_declared};
+ghost use Rattle.boc_types.specs.program.Sizes.{members};
+ghost use Rattle.boc_types.specs.text.Shape.{cowns_declared};
 ghost use Rattle.boc_types.specs.text.Names.{plain_cown, among};
 ghost use Rattle.boc_types.specs.text.Spells.{plain_declared};
 ghost use Rattle.boc_reader.specs.Views.{cown_of, def_of, tree_of};
@@ -15,8 +16,8 @@ use boc_types::cown::Cown;
 use boc_types::text::Name;
 use std::alloc::{AllocError, Global};
 
-/// The number of members of an array, if a cown is one.
-fn size_of(cown: &CownShape<'_>) -> Option<u32>
+/// The size of an array, if a cown is one.
+fn array_size(cown: &CownShape<'_>) -> Option<u32>
     requires { members cown.now.size ≤ 256 }
     ensures { result ≡ cown.now.size }
 {
@@ -24,6 +25,13 @@ fn size_of(cown: &CownShape<'_>) -> Option<u32>
         None => None,
         Some(size) => Some(size as u32),
     }
+}
+
+/// How many cowns a declaration makes: one, or as many as the array has members.
+fn members(size: Option<u32>) -> u32
+    ensures { result ≡ members size }
+{
+    size.unwrap_or(1)
 }
 
 /// The cowns, each with the number of its first member. No name may stand twice.
@@ -40,13 +48,13 @@ fn declare_cowns<'a>(
         if is_cown_name(&declared, cown.name.name) {
             return Err(Fault::At(NameFault::NameTaken, cown.name.at));
         }
-        let size = size_of(cown);
+        let size = array_size(cown);
         declared.push(TopCown {
             name: cown.name.name,
             first,
             size,
         })?;
-        first += size.unwrap_or(1);
+        first += members(size);
     }
     Ok(declared)
 }
@@ -101,7 +109,7 @@ fn resolve_cown(alloc: Global, cown: &CownShape<'_>) -> Result<Cown, AllocError>
 {
     Ok(Cown {
         name: Name::new(String::from_str(alloc, cown.name.name)?),
-        size: size_of(cown),
+        size: array_size(cown),
         initial: cown.value.signed(cown.negative),
     })
 }

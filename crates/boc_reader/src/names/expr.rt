@@ -2,9 +2,9 @@
 
 ghost use Rattle.std.specs.Prelude.{◌≡◌, None, IfOk, map, position};
 ghost use Rattle.std.specs.Str.{bytes_eq};
-ghost use Rattle.boc_types.specs.memory.View.{term_of};
+ghost use Rattle.boc_types.specs.memory.View.{slot_expr_of};
 ghost use Rattle.boc_types.specs.text.Names.{slot_of as slot_of_spec, compares as compares_spec, adds as adds_spec, multiplies as multiplies_spec, joined, expr_names, sum_names, term_names, unary_names, atom_names, all_names};
-ghost use Rattle.boc_reader.specs.Views.{expr_of, sum_of, term_of as term_shape_of, unary_of, atom_of};
+ghost use Rattle.boc_reader.specs.Views.{expr_of, sum_of, term_of, unary_of, atom_of};
 ghost use Rattle.boc_reader.specs.Resolving.{Yields, names_of, left_of};
 
 use crate::fault::{Fault, NameFault};
@@ -13,7 +13,8 @@ use boc_types::body::{Expr, Operator};
 use boc_types::level::{Comparison, SumOperator, TermOperator};
 use std::alloc::{AllocError, Global};
 
-fn place_of(scope: &[&str], name: &str) -> Option<usize>
+// The place of a name among those in scope.
+fn index_in_scope(scope: &[&str], name: &str) -> Option<usize>
     ensures { result ≡ position (λ known. bytes_eq known.now name.now) scope.now }
 {
     scope.iter().position(|known| *known == name)
@@ -23,7 +24,7 @@ fn place_of(scope: &[&str], name: &str) -> Option<usize>
 pub fn slot_of(scope: &[&str], name: &str) -> Option<usize>
     ensures { result ≡ slot_of_spec (names_of scope.now) name.now }
 {
-    place_of(scope, name)
+    index_in_scope(scope, name)
 }
 
 fn compares(comparison: Comparison) -> Operator
@@ -60,7 +61,7 @@ fn multiplies(operator: TermOperator) -> Operator
 
 /// The operand behind what stands to the left of it.
 fn join(alloc: Global, left: Option<(Expr, Operator)>, right: Expr) -> Result<Expr, AllocError>
-    ensures { IfOk result (λ e. term_of e ≡ joined (left_of left) (term_of right)) }
+    ensures { IfOk result (λ e. slot_expr_of e ≡ joined (left_of left) (slot_expr_of right)) }
 {
     match left {
         None => Ok(right),
@@ -79,7 +80,7 @@ pub fn resolve_expr(
     scope: &[&str],
     expr: &shape::Expr<'_>,
 ) -> Result<Expr, Fault<NameFault>>
-    ensures { Yields term_of result (expr_names (expr_of expr.now) (names_of scope.now)) }
+    ensures { Yields slot_expr_of result (expr_names (expr_of expr.now) (names_of scope.now)) }
 {
     match expr {
         shape::Expr::Plain(sum) => resolve_sum(alloc, scope, sum, None),
@@ -98,7 +99,7 @@ fn resolve_sum(
     sum: &Sum<'_>,
     left: Option<(Expr, Operator)>,
 ) -> Result<Expr, Fault<NameFault>>
-    ensures { Yields term_of result (sum_names (sum_of sum.now) (names_of scope.now) (left_of left)) }
+    ensures { Yields slot_expr_of result (sum_names (sum_of sum.now) (names_of scope.now) (left_of left)) }
 {
     match sum {
         Sum::One(term) => {
@@ -120,7 +121,7 @@ fn resolve_term(
     term: &Term<'_>,
     left: Option<(Expr, Operator)>,
 ) -> Result<Expr, Fault<NameFault>>
-    ensures { Yields term_of result (term_names (term_shape_of term.now) (names_of scope.now) (left_of left)) }
+    ensures { Yields slot_expr_of result (term_names (term_of term.now) (names_of scope.now) (left_of left)) }
 {
     match term {
         Term::One(factor) => {
@@ -137,7 +138,7 @@ fn resolve_term(
 
 #[cycle(names)]
 fn resolve_unary(alloc: Global, scope: &[&str], unary: &Unary<'_>) -> Result<Expr, Fault<NameFault>>
-    ensures { Yields term_of result (unary_names (unary_of unary.now) (names_of scope.now)) }
+    ensures { Yields slot_expr_of result (unary_names (unary_of unary.now) (names_of scope.now)) }
 {
     match unary {
         Unary::Negated(inner) => {
@@ -150,7 +151,7 @@ fn resolve_unary(alloc: Global, scope: &[&str], unary: &Unary<'_>) -> Result<Exp
 
 #[cycle(names)]
 fn resolve_atom(alloc: Global, scope: &[&str], atom: &Atom<'_>) -> Result<Expr, Fault<NameFault>>
-    ensures { Yields term_of result (atom_names (atom_of atom.now) (names_of scope.now)) }
+    ensures { Yields slot_expr_of result (atom_names (atom_of atom.now) (names_of scope.now)) }
 {
     match atom {
         Atom::Number(number) => Ok(Expr::Number(number.signed(false))),
@@ -168,7 +169,7 @@ pub fn resolve_exprs(
     scope: &[&str],
     exprs: &[shape::Expr<'_>],
 ) -> Result<Vec<Expr>, Fault<NameFault>>
-    ensures { Yields (λ v. map term_of v.items) result (all_names (λ e. expr_names e (names_of scope.now)) (map expr_of exprs.now)) }
+    ensures { Yields (λ v. map slot_expr_of v.items) result (all_names (λ e. expr_names e (names_of scope.now)) (map expr_of exprs.now)) }
 {
     let mut all = Vec::new(alloc);
     for expr in exprs {

@@ -7,7 +7,9 @@ use crate::names::block::resolve_block;
 use crate::names::resolve_program;
 use crate::names::top::{Callee, Global as TopCown, Outside, Top};
 use crate::natural::Natural;
-use crate::shape::{Atom, CownShape, DefShape, Expr, Ref, Spot, Stmt, Sum, Term, Tree, Unary};
+use crate::shape::{
+    Atom, CownShape, DefShape, Expr, NamedCown, Spot, Stmt, Sum, Term, Tree, Unary,
+};
 use std::alloc::{AllocError, Global};
 use std::test::*;
 
@@ -100,13 +102,13 @@ fn told_of_call(
     }
     let mut refs = Vec::new(alloc);
     for _ in 0..references {
-        refs.push(Ref::Alone(spot("b", 12)))?;
+        refs.push(NamedCown::Alone(spot("b", 12)))?;
     }
     told(alloc, &then(Vec::new(alloc), Stmt::When(def, exprs, refs))?)
 }
 
 // The fault of `when f(1; REFERENCE);`
-fn told_of_reference(alloc: Global, refs: Vec<Ref<'static>>) -> Result<Told, AllocError> {
+fn told_of_reference(alloc: Global, refs: Vec<NamedCown<'static>>) -> Result<Told, AllocError> {
     let mut exprs = Vec::new(alloc);
     exprs.push(one())?;
     told(
@@ -210,7 +212,7 @@ fn references(rt: HostRuntime) -> Result<(), Fail> {
         ("f", Some((NameFault::UnknownName, 9))),
     ] {
         let mut refs = Vec::new(rt.alloc());
-        refs.push(Ref::Alone(spot(name, 9)))?;
+        refs.push(NamedCown::Alone(spot(name, 9)))?;
         assert_eq!(rt; told_of_reference(rt.alloc(), refs)?, fault, "at {name}");
     }
     Ok(())
@@ -227,7 +229,7 @@ fn references_with_an_index(rt: HostRuntime) -> Result<(), Fail> {
         ("f", NameFault::UnknownName, 9),
     ] {
         let mut refs = Vec::new(rt.alloc());
-        refs.push(Ref::Member(spot(array, 9), name("b", 11)))?;
+        refs.push(NamedCown::Member(spot(array, 9), name("b", 11)))?;
         assert_eq!(rt;
             told_of_reference(rt.alloc(), refs)?,
             Some((kind, at)),

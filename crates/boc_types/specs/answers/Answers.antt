@@ -3,7 +3,7 @@ use Rattle.std.specs.Prelude.{◌≡◌, ℕ, ℤ, List, [], ◌++◌, length, O
 use Rattle.boc_types.specs.declared.program.Program.{Program}
 use Rattle.boc_types.specs.text.Spells.{Spells}
 use Rattle.boc_types.specs.declared.rows.Row.{Row}
-use Rattle.boc_types.specs.declared.chain.Step.{Step}
+use Rattle.boc_types.specs.declared.chain.ChainStep.{ChainStep}
 use Rattle.boc_types.specs.plans.Plans.{IsEarliest, IsEnd, HasEnds, work_of}
 use Rattle.boc_types.specs.plans.Chains.{IsPicked}
 use Rattle.boc_types.specs.plans.Greedy.{IsGreedy, IsBound}
@@ -54,7 +54,7 @@ pub record IsReport (rows : List Row) (asked : Option ℕ) (output : List ℕ) :
   pub ends_are : HasEnds rows starts ends
   pub span : ℕ
   pub span_is : IsEnd rows starts span
-  pub steps : List Step
+  pub steps : List ChainStep
   pub picked : IsPicked rows starts steps
   pub part : List ℕ
   pub part_is : IsAskedPart rows asked part

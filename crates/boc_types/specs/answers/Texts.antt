@@ -1,11 +1,11 @@
 -- The texts that the program writes.
 use Rattle.std.specs.Prelude.{ℕ, suc, List, [], ◌∷◌, ◌++◌, Option, Some, None, take, drop, length, ℤ, codes, decimal}
-use Rattle.boc_types.specs.declared.chain.Step.{Step}
+use Rattle.boc_types.specs.declared.chain.ChainStep.{ChainStep}
 use Rattle.boc_types.specs.declared.chain.Via.{Via}
 use Rattle.boc_types.specs.declared.chain.Via.TheVariants.{Spawn, Order, Last}
 use Rattle.std.specs.Fmt.{signed_decimal}
 use Rattle.boc_types.specs.declared.cown.Cown.{Cown}
-use Rattle.boc_types.specs.program.Sizes.{size_of}
+use Rattle.boc_types.specs.program.Sizes.{members}
 
 -- the line of a single cown: its name and its value
 abbrev pub value_line : List ℕ → ℤ → List ℕ
@@ -29,7 +29,7 @@ cown_lines name (Some n) vs = member_lines name 0 vs
 -- the cowns' values, in the order of their numbers
 abbrev pub values_text : List Cown → List ℤ → List ℕ
 values_text [] vs = []
-values_text (c ∷ cs) vs = cown_lines c.name c.size (take (size_of c.size) vs) ++ values_text cs (drop (size_of c.size) vs)
+values_text (c ∷ cs) vs = cown_lines c.name c.size (take (members c.size) vs) ++ values_text cs (drop (members c.size) vs)
 
 -- how many rows a record has
 abbrev pub check_text : ℕ → List ℕ
@@ -42,11 +42,11 @@ via_word Order = codes " order "
 via_word Last = codes " end "
 
 -- the line of a step of a chain
-abbrev pub step_line : Step → List ℕ
+abbrev pub step_line : ChainStep → List ℕ
 step_line s = decimal s.row ++ via_word s.via ++ decimal s.weight ++ codes "\n"
 
 -- the lines of a chain's steps
-abbrev pub step_lines : List Step → List ℕ
+abbrev pub step_lines : List ChainStep → List ℕ
 step_lines [] = []
 step_lines (s ∷ steps) = step_line s ++ step_lines steps
 
@@ -69,7 +69,7 @@ abbrev pub report_head : ℕ → ℕ → ℕ → List ℕ
 report_head rows work span = number_line (codes "rows ") rows ++ number_line (codes "work ") work ++ number_line (codes "span ") span
 
 -- a report: the numbers, the chain, and the plan
-abbrev pub report_text : ℕ → ℕ → List Step → List ℕ → List ℕ → List ℕ
+abbrev pub report_text : ℕ → ℕ → List ChainStep → List ℕ → List ℕ → List ℕ
 report_text work span steps starts ends =
     report_head (length starts) work span ++ codes "chain\n" ++ step_lines steps ++ codes "plan\n" ++ plan_lines 0 starts ends
 

@@ -4,7 +4,7 @@ use mathlib.Core.Path.{sym, ap, ◌∙◌}
 use base.Stored.{Coded, Gv, gnil, gnum, gcons}
 use Rattle.boc_types.specs.declared.body.Operator.{Operator}
 use Rattle.boc_types.specs.declared.body.Operator.TheVariants as op
-use Rattle.boc_types.specs.program.Syntax.{Term, Number, Slot, Negate, Binary, Place, Held, Single, Member, Code, Done, Assign, Work, If, Repeat, When}
+use Rattle.boc_types.specs.program.Syntax.{SlotExpr, Number, Slot, Negate, Binary, CownRef, Held, Single, Member, Code, Done, Assign, Work, If, Repeat, When}
 
 -- a type whose values can be read back from where they are stored
 abbrev by_back : {A : Type 0} (code : A → Gv) (back : Gv → A) → ((x : A) → back (code x) ≡ x) → Coded A
@@ -58,97 +58,97 @@ operator_law op.AtMost = refl
 operator_law op.Greater = refl
 operator_law op.AtLeast = refl
 
-abbrev term : Term → Gv
-term (Number z) = gcons (gnum 0) (integer z)
-term (Slot i) = gcons (gnum 1) (gnum i)
-term (Negate e) = gcons (gnum 2) (term e)
-term (Binary o a b) = gcons (gnum 3) (gcons (operator o) (gcons (term a) (term b)))
+abbrev slot_expr : SlotExpr → Gv
+slot_expr (Number z) = gcons (gnum 0) (integer z)
+slot_expr (Slot i) = gcons (gnum 1) (gnum i)
+slot_expr (Negate e) = gcons (gnum 2) (slot_expr e)
+slot_expr (Binary o a b) = gcons (gnum 3) (gcons (operator o) (gcons (slot_expr a) (slot_expr b)))
 
-pub term_back : Gv → Term
-term_back (gcons (gnum zero) z) = Number (integer_back z)
-term_back (gcons (gnum (suc zero)) (gnum i)) = Slot i
-term_back (gcons (gnum (suc (suc zero))) e) = Negate (term_back e)
-term_back (gcons (gnum (suc (suc (suc zero)))) (gcons o (gcons a b))) = Binary (operator_back o) (term_back a) (term_back b)
-term_back _ = Slot 0
+pub slot_expr_back : Gv → SlotExpr
+slot_expr_back (gcons (gnum zero) z) = Number (integer_back z)
+slot_expr_back (gcons (gnum (suc zero)) (gnum i)) = Slot i
+slot_expr_back (gcons (gnum (suc (suc zero))) e) = Negate (slot_expr_back e)
+slot_expr_back (gcons (gnum (suc (suc (suc zero)))) (gcons o (gcons a b))) = Binary (operator_back o) (slot_expr_back a) (slot_expr_back b)
+slot_expr_back _ = Slot 0
 
-pub term_law : (e : Term) → term_back (term e) ≡ e
-unfolding term_back
-term_law (Number z) = ap Number (integer_law z)
-term_law (Slot i) = refl
-term_law (Negate e) = ap Negate (term_law e)
-term_law (Binary o a b) = λ i. Binary (operator_law o i) (term_law a i) (term_law b i)
+pub slot_expr_law : (e : SlotExpr) → slot_expr_back (slot_expr e) ≡ e
+unfolding slot_expr_back
+slot_expr_law (Number z) = ap Number (integer_law z)
+slot_expr_law (Slot i) = refl
+slot_expr_law (Negate e) = ap Negate (slot_expr_law e)
+slot_expr_law (Binary o a b) = λ i. Binary (operator_law o i) (slot_expr_law a i) (slot_expr_law b i)
 
-abbrev terms : List Term → Gv
-terms [] = gnil
-terms (e ∷ es) = gcons (term e) (terms es)
+abbrev slot_exprs : List SlotExpr → Gv
+slot_exprs [] = gnil
+slot_exprs (e ∷ es) = gcons (slot_expr e) (slot_exprs es)
 
-pub terms_back : Gv → List Term
-terms_back (gcons e es) = term_back e ∷ terms_back es
-terms_back _ = []
+pub slot_exprs_back : Gv → List SlotExpr
+slot_exprs_back (gcons e es) = slot_expr_back e ∷ slot_exprs_back es
+slot_exprs_back _ = []
 
-pub terms_law : (es : List Term) → terms_back (terms es) ≡ es
-unfolding terms_back
-terms_law [] = refl
-terms_law (e ∷ es) = λ i. term_law e i ∷ terms_law es i
+pub slot_exprs_law : (es : List SlotExpr) → slot_exprs_back (slot_exprs es) ≡ es
+unfolding slot_exprs_back
+slot_exprs_law [] = refl
+slot_exprs_law (e ∷ es) = λ i. slot_expr_law e i ∷ slot_exprs_law es i
 
-abbrev place : Place → Gv
-place (Held i) = gcons (gnum 0) (gnum i)
-place (Single cown) = gcons (gnum 1) (gnum cown)
-place (Member first size index) = gcons (gnum 2) (gcons (gnum first) (gcons (gnum size) (term index)))
+abbrev cown_ref : CownRef → Gv
+cown_ref (Held i) = gcons (gnum 0) (gnum i)
+cown_ref (Single cown) = gcons (gnum 1) (gnum cown)
+cown_ref (Member first size index) = gcons (gnum 2) (gcons (gnum first) (gcons (gnum size) (slot_expr index)))
 
-pub place_back : Gv → Place
-place_back (gcons (gnum zero) (gnum i)) = Held i
-place_back (gcons (gnum (suc zero)) (gnum cown)) = Single cown
-place_back (gcons (gnum (suc (suc zero))) (gcons (gnum first) (gcons (gnum size) index))) = Member first size (term_back index)
-place_back _ = Held 0
+pub cown_ref_back : Gv → CownRef
+cown_ref_back (gcons (gnum zero) (gnum i)) = Held i
+cown_ref_back (gcons (gnum (suc zero)) (gnum cown)) = Single cown
+cown_ref_back (gcons (gnum (suc (suc zero))) (gcons (gnum first) (gcons (gnum size) index))) = Member first size (slot_expr_back index)
+cown_ref_back _ = Held 0
 
-pub place_law : (p : Place) → place_back (place p) ≡ p
-unfolding place_back
-place_law (Held i) = refl
-place_law (Single cown) = refl
-place_law (Member first size index) = ap (Member first size) (term_law index)
+pub cown_ref_law : (p : CownRef) → cown_ref_back (cown_ref p) ≡ p
+unfolding cown_ref_back
+cown_ref_law (Held i) = refl
+cown_ref_law (Single cown) = refl
+cown_ref_law (Member first size index) = ap (Member first size) (slot_expr_law index)
 
-abbrev places : List Place → Gv
-places [] = gnil
-places (p ∷ ps) = gcons (place p) (places ps)
+abbrev cown_refs : List CownRef → Gv
+cown_refs [] = gnil
+cown_refs (p ∷ ps) = gcons (cown_ref p) (cown_refs ps)
 
-pub places_back : Gv → List Place
-places_back (gcons p ps) = place_back p ∷ places_back ps
-places_back _ = []
+pub cown_refs_back : Gv → List CownRef
+cown_refs_back (gcons p ps) = cown_ref_back p ∷ cown_refs_back ps
+cown_refs_back _ = []
 
-pub places_law : (ps : List Place) → places_back (places ps) ≡ ps
-unfolding places_back
-places_law [] = refl
-places_law (p ∷ ps) = λ i. place_law p i ∷ places_law ps i
+pub cown_refs_law : (ps : List CownRef) → cown_refs_back (cown_refs ps) ≡ ps
+unfolding cown_refs_back
+cown_refs_law [] = refl
+cown_refs_law (p ∷ ps) = λ i. cown_ref_law p i ∷ cown_refs_law ps i
 
 abbrev code : Code → Gv
 code Done = gnil
-code (Assign slot e rest) = gcons (gnum 0) (gcons (gnum slot) (gcons (term e) (code rest)))
-code (Work e rest) = gcons (gnum 1) (gcons (term e) (code rest))
-code (If e a b rest) = gcons (gnum 2) (gcons (term e) (gcons (code a) (gcons (code b) (code rest))))
-code (Repeat e a rest) = gcons (gnum 3) (gcons (term e) (gcons (code a) (code rest)))
-code (When kind args cowns rest) = gcons (gnum 4) (gcons (gnum kind) (gcons (terms args) (gcons (places cowns) (code rest))))
+code (Assign slot e rest) = gcons (gnum 0) (gcons (gnum slot) (gcons (slot_expr e) (code rest)))
+code (Work e rest) = gcons (gnum 1) (gcons (slot_expr e) (code rest))
+code (If e a b rest) = gcons (gnum 2) (gcons (slot_expr e) (gcons (code a) (gcons (code b) (code rest))))
+code (Repeat e a rest) = gcons (gnum 3) (gcons (slot_expr e) (gcons (code a) (code rest)))
+code (When kind args cowns rest) = gcons (gnum 4) (gcons (gnum kind) (gcons (slot_exprs args) (gcons (cown_refs cowns) (code rest))))
 
 pub code_back : Gv → Code
-code_back (gcons (gnum zero) (gcons (gnum slot) (gcons e rest))) = Assign slot (term_back e) (code_back rest)
-code_back (gcons (gnum (suc zero)) (gcons e rest)) = Work (term_back e) (code_back rest)
-code_back (gcons (gnum (suc (suc zero))) (gcons e (gcons a (gcons b rest)))) = If (term_back e) (code_back a) (code_back b) (code_back rest)
-code_back (gcons (gnum (suc (suc (suc zero)))) (gcons e (gcons a rest))) = Repeat (term_back e) (code_back a) (code_back rest)
-code_back (gcons (gnum (suc (suc (suc (suc zero))))) (gcons (gnum kind) (gcons args (gcons cowns rest)))) = When kind (terms_back args) (places_back cowns) (code_back rest)
+code_back (gcons (gnum zero) (gcons (gnum slot) (gcons e rest))) = Assign slot (slot_expr_back e) (code_back rest)
+code_back (gcons (gnum (suc zero)) (gcons e rest)) = Work (slot_expr_back e) (code_back rest)
+code_back (gcons (gnum (suc (suc zero))) (gcons e (gcons a (gcons b rest)))) = If (slot_expr_back e) (code_back a) (code_back b) (code_back rest)
+code_back (gcons (gnum (suc (suc (suc zero)))) (gcons e (gcons a rest))) = Repeat (slot_expr_back e) (code_back a) (code_back rest)
+code_back (gcons (gnum (suc (suc (suc (suc zero))))) (gcons (gnum kind) (gcons args (gcons cowns rest)))) = When kind (slot_exprs_back args) (cown_refs_back cowns) (code_back rest)
 code_back _ = Done
 
 pub code_law : (c : Code) → code_back (code c) ≡ c
 unfolding code_back
 code_law Done = refl
-code_law (Assign slot e rest) = λ i. Assign slot (term_law e i) (code_law rest i)
-code_law (Work e rest) = λ i. Work (term_law e i) (code_law rest i)
-code_law (If e a b rest) = λ i. If (term_law e i) (code_law a i) (code_law b i) (code_law rest i)
-code_law (Repeat e a rest) = λ i. Repeat (term_law e i) (code_law a i) (code_law rest i)
-code_law (When kind args cowns rest) = λ i. When kind (terms_law args i) (places_law cowns i) (code_law rest i)
+code_law (Assign slot e rest) = λ i. Assign slot (slot_expr_law e i) (code_law rest i)
+code_law (Work e rest) = λ i. Work (slot_expr_law e i) (code_law rest i)
+code_law (If e a b rest) = λ i. If (slot_expr_law e i) (code_law a i) (code_law b i) (code_law rest i)
+code_law (Repeat e a rest) = λ i. Repeat (slot_expr_law e i) (code_law a i) (code_law rest i)
+code_law (When kind args cowns rest) = λ i. When kind (slot_exprs_law args i) (cown_refs_law cowns i) (code_law rest i)
 
 -- expressions can be read back
-abbrev pub coded_Term : Coded Term
-coded_Term = by_back term term_back term_law
+abbrev pub coded_SlotExpr : Coded SlotExpr
+coded_SlotExpr = by_back slot_expr slot_expr_back slot_expr_law
 
 -- statements can be read back
 abbrev pub coded_Code : Coded Code

@@ -4,21 +4,21 @@ use Rattle.boc_types.specs.declared.cown.Cown.{Cown}
 use Rattle.boc_types.specs.declared.body.Body.{Body}
 use Rattle.boc_types.specs.program.Signatures.{signature_of, calls_fit}
 use Rattle.boc_types.specs.program.Resolved.{every}
-pub use Rattle.boc_types.specs.program.Sizes.{size_of}
+pub use Rattle.boc_types.specs.program.Sizes.{members}
 
 -- the cowns' values at the start, the members of an array one after the other
 abbrev pub initial_values : List Cown → List ℤ
 initial_values [] = []
-initial_values (c ∷ cs) = replicate (size_of c.size) c.initial ++ initial_values cs
+initial_values (c ∷ cs) = replicate (members c.size) c.initial ++ initial_values cs
 
 -- how many cowns the declarations make
 abbrev pub cown_count : List Cown → ℕ
 cown_count [] = 0
-cown_count (c ∷ cs) = size_of c.size + cown_count cs
+cown_count (c ∷ cs) = members c.size + cown_count cs
 
 -- every array has a member
 abbrev pub have_members : List Cown → Bool
-have_members cowns = every (map (λ c. nat_lt 0 (size_of c.size)) cowns)
+have_members cowns = every (map (λ c. nat_lt 0 (members c.size)) cowns)
 
 -- every call of every body fits
 abbrev pub program_fits : List Cown → List Body → Bool

@@ -1,13 +1,13 @@
 -- Every `when` names a def and gives it as many arguments and cowns as it takes, and names cowns that are there.
 use Rattle.std.specs.Prelude.{◌≡◌, ℕ, ◌+◌, ◌<◌, nat_eq, nat_lt, nat_le, Bool, true, false, ◌&&◌, List, [], ◌∷◌, Option, Some, None, map, length, slice_get}
-use Rattle.boc_types.specs.program.Syntax.{Term, Place, Held, Single, Member, Code, Done, Assign, Work, If, Repeat, When}
+use Rattle.boc_types.specs.program.Syntax.{SlotExpr, CownRef, Held, Single, Member, Code, Done, Assign, Work, If, Repeat, When}
 use Rattle.boc_types.specs.declared.body.Body.{Body}
 use Rattle.boc_types.specs.program.Resolved.{every}
 use Rattle.boc_types.specs.program.Meaning.{Wish}
 
 -- a test of a kind, its arguments and its cowns
 abbrev pub Test : Type 0
-Test = ℕ → List Term → List Place → Bool
+Test = ℕ → List SlotExpr → List CownRef → Bool
 
 -- every `when` passes
 abbrev pub whens_pass : Test → Code → Bool
@@ -16,7 +16,7 @@ whens_pass test (Assign slot e rest) = whens_pass test rest
 whens_pass test (Work e rest) = whens_pass test rest
 whens_pass test (If e block other rest) = (whens_pass test block && whens_pass test other) && whens_pass test rest
 whens_pass test (Repeat e block rest) = whens_pass test block && whens_pass test rest
-whens_pass test (When kind args places rest) = test kind args places && whens_pass test rest
+whens_pass test (When kind args refs rest) = test kind args refs && whens_pass test rest
 
 -- how many arguments and cowns a body takes
 pub record Signature : Type 0 where
@@ -28,13 +28,13 @@ abbrev pub signature_of : Body → Signature
 signature_of body = record { args = body.params; cowns = body.cown_params }
 
 -- the cown is one of `cowns`, where `held` are held
-abbrev pub ref_below : ℕ → ℕ → Place → Bool
+abbrev pub ref_below : ℕ → ℕ → CownRef → Bool
 ref_below held cowns (Held i) = nat_lt i held
 ref_below held cowns (Single cown) = nat_lt cown cowns
 ref_below held cowns (Member first size index) = nat_le (first + size) cowns
 
 -- so many arguments and cowns are what the signature takes
-abbrev pub counts_fit : Option Signature → List Term → List Place → Bool
+abbrev pub counts_fit : Option Signature → List SlotExpr → List CownRef → Bool
 counts_fit None args refs = false
 counts_fit (Some sig) args refs = nat_eq (length args) sig.args && nat_eq (length refs) sig.cowns
 

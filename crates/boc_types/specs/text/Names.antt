@@ -12,7 +12,8 @@ use Rattle.boc_types.specs.declared.level.SumOperator.TheVariants as sums
 use Rattle.boc_types.specs.declared.level.TermOperator.{TermOperator}
 use Rattle.boc_types.specs.declared.level.TermOperator.TheVariants as terms
 use Rattle.boc_types.specs.program.Syntax as resolved
-use Rattle.boc_types.specs.text.Shape.{Expr, plain, compared, Sum, one_term, more_terms, Term, one_factor, more_factors, Unary, negated, unsigned, Atom, literal, variable, parens, Ref, alone, member, Stmt, declare, assign, work, if_only, if_else, repeat, when, Block, done, next, Cown, Def, Tree, members}
+use Rattle.boc_types.specs.program.Sizes.{members}
+use Rattle.boc_types.specs.text.Shape.{Expr, plain, compared, Sum, one_term, more_terms, Term, one_factor, more_factors, Unary, negated, unsigned, Atom, literal, variable, parens, NamedCown, alone, member, Stmt, declare, assign, work, if_only, if_else, repeat, when, Block, done, next, Cown, Def, Tree}
 
 -- a name, by its bytes
 abbrev pub Named : Type 0
@@ -74,35 +75,35 @@ multiplies terms.Remainder = operators.Remainder
 
 -- what stands to the left of an operand: nothing, or an operand and an operator
 abbrev pub Left : Type 0
-Left = Option (resolved.Term × Operator)
+Left = Option (resolved.SlotExpr × Operator)
 
 -- an operand, behind what stands to its left
-abbrev pub joined : Left → resolved.Term → resolved.Term
+abbrev pub joined : Left → resolved.SlotExpr → resolved.SlotExpr
 joined None e = e
 joined (Some l) e = resolved.Binary l.1 l.0 e
 
 -- An expression whose names are slots, where each is in scope. Sums and terms associate to the left.
 abbrev mutual
-  pub expr_names : Expr → List Named → Option resolved.Term
+  pub expr_names : Expr → List Named → Option resolved.SlotExpr
   expr_names (plain s) scope = sum_names s scope None
   expr_names (compared s op t) scope =
       option_and_then (λ a. option_map (resolved.Binary (compares op) a) (sum_names t scope None)) (sum_names s scope None)
 
-  pub sum_names : Sum → List Named → Left → Option resolved.Term
+  pub sum_names : Sum → List Named → Left → Option resolved.SlotExpr
   sum_names (one_term t) scope left = option_map (joined left) (term_names t scope None)
   sum_names (more_terms t op s) scope left =
       option_and_then (λ e. sum_names s scope (Some (joined left e, adds op))) (term_names t scope None)
 
-  pub term_names : Term → List Named → Left → Option resolved.Term
+  pub term_names : Term → List Named → Left → Option resolved.SlotExpr
   term_names (one_factor u) scope left = option_map (joined left) (unary_names u scope)
   term_names (more_factors u op t) scope left =
       option_and_then (λ e. term_names t scope (Some (joined left e, multiplies op))) (unary_names u scope)
 
-  pub unary_names : Unary → List Named → Option resolved.Term
+  pub unary_names : Unary → List Named → Option resolved.SlotExpr
   unary_names (negated u) scope = option_map resolved.Negate (unary_names u scope)
   unary_names (unsigned a) scope = atom_names a scope
 
-  pub atom_names : Atom → List Named → Option resolved.Term
+  pub atom_names : Atom → List Named → Option resolved.SlotExpr
   atom_names (literal n) scope = Some (resolved.Number (pos n))
   atom_names (variable x) scope = option_map resolved.Slot (slot_of scope x)
   atom_names (parens e) scope = expr_names e scope
@@ -113,12 +114,12 @@ all_names names [] = Some []
 all_names names (x ∷ xs) = option_and_then (λ y. option_map (λ ys. y ∷ ys) (all_names names xs)) (names x)
 
 -- a single cown
-abbrev pub single : Option Global → Option resolved.Place
+abbrev pub single : Option Global → Option resolved.CownRef
 single None = None
 single (Some g) = if is_some g.size then None else Some (resolved.Single g.first)
 
 -- a member of an array
-abbrev pub member_of : Option Global → resolved.Term → Option resolved.Place
+abbrev pub member_of : Option Global → resolved.SlotExpr → Option resolved.CownRef
 member_of None e = None
 member_of (Some g) e = option_map (λ n. resolved.Member g.first n e) g.size
 
@@ -127,30 +128,30 @@ abbrev pub global : Top → Named → Option Global
 global top x = find (λ g. bytes_eq g.name x) top.cowns
 
 -- a cown parameter by its place, or a single cown
-abbrev pub held_or_single : Option ℕ → Option Global → Option resolved.Place
+abbrev pub held_or_single : Option ℕ → Option Global → Option resolved.CownRef
 held_or_single (Some i) g = Some (resolved.Held i)
 held_or_single None g = single g
 
 -- the cown that a reference stands for
-abbrev pub ref_names : Outside → List Named → Ref → Option resolved.Place
+abbrev pub ref_names : Outside → List Named → NamedCown → Option resolved.CownRef
 ref_names outside scope (alone x) = held_or_single (slot_of outside.held x) (global outside.top x)
 ref_names outside scope (member x e) = option_and_then (member_of (global outside.top x)) (expr_names e scope)
 
 -- a statement whose names are resolved, apart from those that follow it
-pub data Step : Type 0 where
-  Set : ℕ → resolved.Term → Step
-  Spend : resolved.Term → Step
-  Choose : resolved.Term → resolved.Code → resolved.Code → Step
-  Loop : resolved.Term → resolved.Code → Step
-  Spawn : ℕ → List resolved.Term → List resolved.Place → Step
+pub data ResolvedStmt : Type 0 where
+  Set : ℕ → resolved.SlotExpr → ResolvedStmt
+  Spend : resolved.SlotExpr → ResolvedStmt
+  Choose : resolved.SlotExpr → resolved.Code → resolved.Code → ResolvedStmt
+  Loop : resolved.SlotExpr → resolved.Code → ResolvedStmt
+  Spawn : ℕ → List resolved.SlotExpr → List resolved.CownRef → ResolvedStmt
 
 -- a statement, and then those that follow it
-abbrev pub then_code : Step → resolved.Code → resolved.Code
+abbrev pub then_code : ResolvedStmt → resolved.Code → resolved.Code
 then_code (Set slot e) rest = resolved.Assign slot e rest
 then_code (Spend e) rest = resolved.Work e rest
 then_code (Choose e a b) rest = resolved.If e a b rest
 then_code (Loop e a) rest = resolved.Repeat e a rest
-then_code (Spawn kind args places) rest = resolved.When kind args places rest
+then_code (Spawn kind args refs) rest = resolved.When kind args refs rest
 
 -- the kind of a def: main's is 0, and that of the defs their place in the text, from 1
 abbrev pub kind_of : Top → Named → Option ℕ
@@ -166,7 +167,7 @@ abbrev pub callee : Top → Named → Option Callee
 callee top f = find (λ d. bytes_eq d.name f) top.defs
 
 -- a `when`, where it gives the def as many arguments and cowns as it takes
-abbrev pub call_names : Outside → List Named → Named → List Expr → List Ref → Option Step
+abbrev pub call_names : Outside → List Named → Named → List Expr → List NamedCown → Option ResolvedStmt
 call_names outside scope f es rs =
     if takes (callee outside.top f) (length es) (length rs)
     then option_and_then (λ kind. option_and_then (λ args. option_map (Spawn kind args) (all_names (ref_names outside scope) rs)) (all_names (λ e. expr_names e scope) es)) (kind_of outside.top f)
@@ -178,7 +179,7 @@ is_free top scope x = not (among (top_names top) x || among scope x)
 
 -- A statement, with the names in scope behind it. A `let` takes the next slot, once its expression is resolved.
 abbrev mutual
-  pub stmt_names : Stmt → Outside → List Named → Option (Step × List Named)
+  pub stmt_names : Stmt → Outside → List Named → Option (ResolvedStmt × List Named)
   stmt_names (declare x e) outside scope =
       if is_free outside.top scope x then option_map (λ v. (Set (length scope) v, scope ++ x ∷ [])) (expr_names e scope) else None
   stmt_names (assign x e) outside scope =
@@ -205,7 +206,7 @@ deepest n (resolved.Assign slot e rest) = max (suc slot) (deepest n rest)
 deepest n (resolved.Work e rest) = deepest n rest
 deepest n (resolved.If e a b rest) = max (deepest n a) (max (deepest n b) (deepest n rest))
 deepest n (resolved.Repeat e a rest) = max (deepest n a) (deepest n rest)
-deepest n (resolved.When kind args places rest) = deepest n rest
+deepest n (resolved.When kind args refs rest) = deepest n rest
 
 -- a body, a cown and a program apart from the facts that their types keep
 pub record PlainBody : Type 0 where

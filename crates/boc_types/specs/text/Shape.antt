@@ -1,4 +1,4 @@
--- The syntax tree of a program text, and the words that it stands for.
+-- The syntax tree of a program text, and the tokens that it stands for.
 use Rattle.std.specs.Prelude.{◌≡◌, ℕ, ◌+◌, ◌≤◌, Bool, true, false, length, List, [], ◌∷◌, Option, Some, None}
 use Rattle.boc_types.specs.declared.limits.TheConstants.{MOST_ARGUMENTS, MOST_COWNS, MOST_DEFS, MOST_HELD, MOST_NODES}
 use Rattle.boc_types.specs.declared.token.Sign.{Sign}
@@ -10,7 +10,8 @@ use Rattle.boc_types.specs.declared.level.SumOperator.{SumOperator}
 use Rattle.boc_types.specs.declared.level.SumOperator.TheVariants as sums
 use Rattle.boc_types.specs.declared.level.TermOperator.{TermOperator}
 use Rattle.boc_types.specs.declared.level.TermOperator.TheVariants as terms
-use Rattle.boc_types.specs.text.Words.{Word, name, number, keyword, sign}
+use Rattle.boc_types.specs.program.Sizes.{members}
+use Rattle.boc_types.specs.text.Tokens.{Token, name, number, keyword, sign}
 
 -- Expressions: each level of the grammar is a type. Sums and terms are lists, first operand first.
 mutual
@@ -37,9 +38,9 @@ mutual
     parens : Expr → Atom
 
 -- which cown a `when` names: by a name alone, or a member of an array
-pub data Ref : Type 0 where
-  alone : List ℕ → Ref
-  member : List ℕ → Expr → Ref
+pub data NamedCown : Type 0 where
+  alone : List ℕ → NamedCown
+  member : List ℕ → Expr → NamedCown
 
 -- Statements, and statements one after another. An `if` has its `else` or hasn't.
 mutual
@@ -50,7 +51,7 @@ mutual
     if_only : Expr → Block → Stmt
     if_else : Expr → Block → Block → Stmt
     repeat : Expr → Block → Stmt
-    when : List ℕ → List Expr → List Ref → Stmt
+    when : List ℕ → List Expr → List NamedCown → Stmt
 
   pub data Block : Type 0 where
     done : Block
@@ -76,7 +77,7 @@ pub record Tree : Type 0 where
   pub defs : List Def
   pub main : Block
 
--- The words of a phrase are given with those that follow it.
+-- The tokens of a phrase are given with those that follow it.
 
 -- the sign of each comparison
 abbrev pub comparison_sign : Comparison → Sign
@@ -99,103 +100,103 @@ term_sign terms.Divide = signs.Slash
 term_sign terms.Remainder = signs.Percent
 
 abbrev mutual
-  pub expr_words : Expr → List Word → List Word
-  expr_words (plain s) rest = sum_words s rest
-  expr_words (compared s op t) rest = sum_words s (sign (comparison_sign op) ∷ sum_words t rest)
+  pub expr_tokens : Expr → List Token → List Token
+  expr_tokens (plain s) rest = sum_tokens s rest
+  expr_tokens (compared s op t) rest = sum_tokens s (sign (comparison_sign op) ∷ sum_tokens t rest)
 
-  pub sum_words : Sum → List Word → List Word
-  sum_words (one_term t) rest = term_words t rest
-  sum_words (more_terms t op s) rest = term_words t (sign (sum_sign op) ∷ sum_words s rest)
+  pub sum_tokens : Sum → List Token → List Token
+  sum_tokens (one_term t) rest = term_tokens t rest
+  sum_tokens (more_terms t op s) rest = term_tokens t (sign (sum_sign op) ∷ sum_tokens s rest)
 
-  pub term_words : Term → List Word → List Word
-  term_words (one_factor u) rest = unary_words u rest
-  term_words (more_factors u op t) rest = unary_words u (sign (term_sign op) ∷ term_words t rest)
+  pub term_tokens : Term → List Token → List Token
+  term_tokens (one_factor u) rest = unary_tokens u rest
+  term_tokens (more_factors u op t) rest = unary_tokens u (sign (term_sign op) ∷ term_tokens t rest)
 
-  pub unary_words : Unary → List Word → List Word
-  unary_words (negated u) rest = sign signs.Minus ∷ unary_words u rest
-  unary_words (unsigned a) rest = atom_words a rest
+  pub unary_tokens : Unary → List Token → List Token
+  unary_tokens (negated u) rest = sign signs.Minus ∷ unary_tokens u rest
+  unary_tokens (unsigned a) rest = atom_tokens a rest
 
-  pub atom_words : Atom → List Word → List Word
-  atom_words (literal n) rest = number n ∷ rest
-  atom_words (variable x) rest = name x ∷ rest
-  atom_words (parens e) rest = sign signs.Open ∷ expr_words e (sign signs.Close ∷ rest)
+  pub atom_tokens : Atom → List Token → List Token
+  atom_tokens (literal n) rest = number n ∷ rest
+  atom_tokens (variable x) rest = name x ∷ rest
+  atom_tokens (parens e) rest = sign signs.Open ∷ expr_tokens e (sign signs.Close ∷ rest)
 
 -- others of a kind, each behind a comma
-abbrev pub behind_commas : {X : Type 0} → (X → List Word → List Word) → List X → List Word → List Word
-behind_commas words [] rest = rest
-behind_commas words (x ∷ xs) rest = sign signs.Comma ∷ words x (behind_commas words xs rest)
+abbrev pub behind_commas : {X : Type 0} → (X → List Token → List Token) → List X → List Token → List Token
+behind_commas tokens [] rest = rest
+behind_commas tokens (x ∷ xs) rest = sign signs.Comma ∷ tokens x (behind_commas tokens xs rest)
 
 -- any number of a kind, with commas between them
-abbrev pub list_words : {X : Type 0} → (X → List Word → List Word) → List X → List Word → List Word
-list_words words [] rest = rest
-list_words words (x ∷ xs) rest = words x (behind_commas words xs rest)
+abbrev pub list_tokens : {X : Type 0} → (X → List Token → List Token) → List X → List Token → List Token
+list_tokens tokens [] rest = rest
+list_tokens tokens (x ∷ xs) rest = tokens x (behind_commas tokens xs rest)
 
 -- one after another
-abbrev pub each_words : {X : Type 0} → (X → List Word → List Word) → List X → List Word → List Word
-each_words words [] rest = rest
-each_words words (x ∷ xs) rest = words x (each_words words xs rest)
+abbrev pub each_tokens : {X : Type 0} → (X → List Token → List Token) → List X → List Token → List Token
+each_tokens tokens [] rest = rest
+each_tokens tokens (x ∷ xs) rest = tokens x (each_tokens tokens xs rest)
 
--- the words of a reference
-abbrev pub ref_words : Ref → List Word → List Word
-ref_words (alone x) rest = name x ∷ rest
-ref_words (member x e) rest = name x ∷ sign signs.OpenIndex ∷ expr_words e (sign signs.CloseIndex ∷ rest)
+-- the tokens of a reference
+abbrev pub ref_tokens : NamedCown → List Token → List Token
+ref_tokens (alone x) rest = name x ∷ rest
+ref_tokens (member x e) rest = name x ∷ sign signs.OpenIndex ∷ expr_tokens e (sign signs.CloseIndex ∷ rest)
 
 -- what stands behind a name that is written to
-abbrev pub written_words : Expr → List Word → List Word
-written_words e rest = sign signs.Assign ∷ expr_words e (sign signs.Semicolon ∷ rest)
+abbrev pub written_tokens : Expr → List Token → List Token
+written_tokens e rest = sign signs.Assign ∷ expr_tokens e (sign signs.Semicolon ∷ rest)
 
 -- what stands behind `when`
-abbrev pub call_words : List ℕ → List Expr → List Ref → List Word → List Word
-call_words f es rs rest =
-    name f ∷ sign signs.Open ∷ list_words expr_words es (sign signs.Semicolon ∷ list_words ref_words rs (sign signs.Close ∷ sign signs.Semicolon ∷ rest))
+abbrev pub call_tokens : List ℕ → List Expr → List NamedCown → List Token → List Token
+call_tokens f es rs rest =
+    name f ∷ sign signs.Open ∷ list_tokens expr_tokens es (sign signs.Semicolon ∷ list_tokens ref_tokens rs (sign signs.Close ∷ sign signs.Semicolon ∷ rest))
 
 abbrev mutual
-  pub stmt_words : Stmt → List Word → List Word
-  stmt_words (declare x e) rest = keyword keywords.Let ∷ name x ∷ written_words e rest
-  stmt_words (assign x e) rest = name x ∷ written_words e rest
-  stmt_words (work e) rest = keyword keywords.Work ∷ expr_words e (sign signs.Semicolon ∷ rest)
-  stmt_words (if_only e b) rest = keyword keywords.If ∷ expr_words e (sign signs.OpenBlock ∷ block_words b (sign signs.CloseBlock ∷ rest))
-  stmt_words (if_else e b c) rest =
-      keyword keywords.If ∷ expr_words e (sign signs.OpenBlock ∷ block_words b (sign signs.CloseBlock ∷ keyword keywords.Else ∷ sign signs.OpenBlock ∷ block_words c (sign signs.CloseBlock ∷ rest)))
-  stmt_words (repeat e b) rest = keyword keywords.Repeat ∷ expr_words e (sign signs.OpenBlock ∷ block_words b (sign signs.CloseBlock ∷ rest))
-  stmt_words (when f es rs) rest = keyword keywords.When ∷ call_words f es rs rest
+  pub stmt_tokens : Stmt → List Token → List Token
+  stmt_tokens (declare x e) rest = keyword keywords.Let ∷ name x ∷ written_tokens e rest
+  stmt_tokens (assign x e) rest = name x ∷ written_tokens e rest
+  stmt_tokens (work e) rest = keyword keywords.Work ∷ expr_tokens e (sign signs.Semicolon ∷ rest)
+  stmt_tokens (if_only e b) rest = keyword keywords.If ∷ expr_tokens e (sign signs.OpenBlock ∷ block_tokens b (sign signs.CloseBlock ∷ rest))
+  stmt_tokens (if_else e b c) rest =
+      keyword keywords.If ∷ expr_tokens e (sign signs.OpenBlock ∷ block_tokens b (sign signs.CloseBlock ∷ keyword keywords.Else ∷ sign signs.OpenBlock ∷ block_tokens c (sign signs.CloseBlock ∷ rest)))
+  stmt_tokens (repeat e b) rest = keyword keywords.Repeat ∷ expr_tokens e (sign signs.OpenBlock ∷ block_tokens b (sign signs.CloseBlock ∷ rest))
+  stmt_tokens (when f es rs) rest = keyword keywords.When ∷ call_tokens f es rs rest
 
   -- the statements, without the braces round them
-  pub block_words : Block → List Word → List Word
-  block_words done rest = rest
-  block_words (next s b) rest = stmt_words s (block_words b rest)
+  pub block_tokens : Block → List Token → List Token
+  block_tokens done rest = rest
+  block_tokens (next s b) rest = stmt_tokens s (block_tokens b rest)
 
 -- a block with the braces round it
-abbrev pub braced_words : Block → List Word → List Word
-braced_words b rest = sign signs.OpenBlock ∷ block_words b (sign signs.CloseBlock ∷ rest)
+abbrev pub braced_tokens : Block → List Token → List Token
+braced_tokens b rest = sign signs.OpenBlock ∷ block_tokens b (sign signs.CloseBlock ∷ rest)
 
--- the word of a name
-abbrev pub name_words : List ℕ → List Word → List Word
-name_words x rest = name x ∷ rest
+-- the token of a name
+abbrev pub name_tokens : List ℕ → List Token → List Token
+name_tokens x rest = name x ∷ rest
 
 -- the size of an array in its brackets, or nothing
-abbrev pub size_words : Option ℕ → List Word → List Word
-size_words None rest = rest
-size_words (Some n) rest = sign signs.OpenIndex ∷ number n ∷ sign signs.CloseIndex ∷ rest
+abbrev pub size_tokens : Option ℕ → List Token → List Token
+size_tokens None rest = rest
+size_tokens (Some n) rest = sign signs.OpenIndex ∷ number n ∷ sign signs.CloseIndex ∷ rest
 
 -- a minus, or nothing
-abbrev pub minus_words : Bool → List Word → List Word
-minus_words false rest = rest
-minus_words true rest = sign signs.Minus ∷ rest
+abbrev pub minus_tokens : Bool → List Token → List Token
+minus_tokens false rest = rest
+minus_tokens true rest = sign signs.Minus ∷ rest
 
 -- the declaration of a cown
-abbrev pub cown_words : Cown → List Word → List Word
-cown_words c rest =
-    keyword keywords.Cown ∷ name c.name ∷ size_words c.size (sign signs.Assign ∷ minus_words c.negative (number c.value ∷ sign signs.Semicolon ∷ rest))
+abbrev pub cown_tokens : Cown → List Token → List Token
+cown_tokens c rest =
+    keyword keywords.Cown ∷ name c.name ∷ size_tokens c.size (sign signs.Assign ∷ minus_tokens c.negative (number c.value ∷ sign signs.Semicolon ∷ rest))
 
 -- a def with its parameters and its block
-abbrev pub def_words : Def → List Word → List Word
-def_words d rest =
-    keyword keywords.Def ∷ name d.name ∷ sign signs.Open ∷ list_words name_words d.params (sign signs.Semicolon ∷ list_words name_words d.cowns (sign signs.Close ∷ braced_words d.block rest))
+abbrev pub def_tokens : Def → List Token → List Token
+def_tokens d rest =
+    keyword keywords.Def ∷ name d.name ∷ sign signs.Open ∷ list_tokens name_tokens d.params (sign signs.Semicolon ∷ list_tokens name_tokens d.cowns (sign signs.Close ∷ braced_tokens d.block rest))
 
 -- the whole of a text: nothing follows main's block
-abbrev pub tree_words : Tree → List Word
-tree_words t = each_words cown_words t.cowns (each_words def_words t.defs (keyword keywords.Main ∷ braced_words t.main []))
+abbrev pub tree_tokens : Tree → List Token
+tree_tokens t = each_tokens cown_tokens t.cowns (each_tokens def_tokens t.defs (keyword keywords.Main ∷ braced_tokens t.main []))
 
 -- Nodes: statements, numbers, names in expressions, unary minuses, binary operators, pairs of parentheses, and references.
 
@@ -227,7 +228,7 @@ list_nodes nodes [] = 0
 list_nodes nodes (x ∷ xs) = nodes x + list_nodes nodes xs
 
 -- a reference is a node, beside those of its index
-abbrev pub ref_nodes : Ref → ℕ
+abbrev pub ref_nodes : NamedCown → ℕ
 ref_nodes (alone x) = 1
 ref_nodes (member x e) = 1 + expr_nodes e
 
@@ -286,11 +287,6 @@ abbrev pub HaveMembers : List Cown → Type 0
 HaveMembers [] = Unit {0}
 HaveMembers (c ∷ cs) = HasMembers c.size × HaveMembers cs
 
--- how many cowns a declaration makes
-abbrev pub members : Option ℕ → ℕ
-members None = 1
-members (Some n) = n
-
 -- how many cowns the declarations make, each member of an array counted
 abbrev pub cowns_declared : List Cown → ℕ
 cowns_declared [] = 0
@@ -304,7 +300,7 @@ pub record IsWithinLimits (t : Tree) : Type 0 where
   pub small_defs : AreSmallDefs t.defs
   pub small_main : IsSmallBody t.main
 
--- the words are those of a tree within the limits
-pub record HasShape (words : List Word) (t : Tree) : Type 0 where
-  pub words_are : words ≡ tree_words t
+-- the tokens are those of a tree within the limits
+pub record HasShape (tokens : List Token) (t : Tree) : Type 0 where
+  pub tokens_are : tokens ≡ tree_tokens t
   pub limits : IsWithinLimits t

@@ -4,8 +4,7 @@ use Rattle.boc_types.specs.declared.limits.TheConstants.{MOST_TEXT}
 use Rattle.boc_types.specs.declared.body.Body.{Body}
 use Rattle.boc_types.specs.declared.cown.Cown.{Cown}
 use Rattle.boc_types.specs.declared.program.Program.{Program}
-use Rattle.boc_types.specs.text.Words.{Word}
-use Rattle.boc_types.specs.text.Tokens.{words_of_text}
+use Rattle.boc_types.specs.text.Tokens.{Token, tokens_of_text}
 use Rattle.boc_types.specs.text.Shape.{Tree, HasShape}
 use Rattle.boc_types.specs.text.Names.{PlainBody, PlainCown, PlainProgram, tree_names}
 
@@ -24,8 +23,8 @@ plain_program p = record { cowns = map plain_declared p.cowns; bodies = map plai
 -- a text is short enough, its tokens form a tree within the limits, and the names of the tree resolve to this program
 pub record Spells (text : List ℕ) (p : Program) : Type 0 where
   pub short : length text ≤ MOST_TEXT
-  pub words : List Word
-  pub has_words : words_of_text text ≡ Some words
+  pub tokens : List Token
+  pub has_tokens : tokens_of_text text ≡ Some tokens
   pub tree : Tree
-  pub has_shape : HasShape words tree
+  pub has_shape : HasShape tokens tree
   pub has_names : tree_names tree ≡ Some (plain_program p)

@@ -1,7 +1,7 @@
 use Rattle.std.proofs.Common.{◌≡◌, [], sym, ap, ◌∙◌, inl, inr, arith}
 use Rattle.std.proofs.lemmas.Bool.{ne_eqb}
 use Rattle.std.proofs.lemmas.List.{nil_from_length}
-use Rattle.boc_types.specs.text.Tokens.{words_of_text}
+use Rattle.boc_types.specs.text.Tokens.{tokens_of_text}
 use Rattle.boc_reader.proofs.Texts.{in_comment, comment_goes_on, comment_ends, nothing_left, hash_skipped}
 use Rattle.boc_reader.proofs.lex.after_comment.Goals as goal
 use Rattle.boc_reader.proofs.lex.after_comment.Goals.{then-first-eq10-via-then-first-eq10, then-first-eq10-via-else-first-eq10+then-first-ge128}
@@ -21,9 +21,9 @@ returns-then-first-eq10-clause-skipped c =
       | then-first-eq10-via-then-first-eq10 w ↦ inl w.if-first-eq10.true
       | then-first-eq10-via-else-first-eq10+then-first-ge128 w ↦ inr w.if-first-ge128.true
     ])
-    ∙ ap words_of_text (sym parts.0)
+    ∙ ap tokens_of_text (sym parts.0)
 
 pub returns-in_default-clause-skipped : goal.returns-in_default-clause-skipped
 returns-in_default-clause-skipped c =
     let none : c.loop-first.rest.now ≡ [] = nil_from_length c.loop-first.rest.now c.in_default.ensures.cases in
-    hash_skipped c.args.text.now ∙ c.loop-first.invariant.0 ∙ ap in_comment none ∙ nothing_left ∙ ap words_of_text (sym none)
+    hash_skipped c.args.text.now ∙ c.loop-first.invariant.0 ∙ ap in_comment none ∙ nothing_left ∙ ap tokens_of_text (sym none)

@@ -1,11 +1,11 @@
 use Rattle.std.proofs.Common.{◌≡◌, ◌≤◌, length}
-use Rattle.boc_reader.specs.Placed.{words_of}
-use Rattle.boc_types.specs.text.Tokens.{words_of_text}
+use Rattle.boc_reader.specs.Placed.{tokens_of}
+use Rattle.boc_types.specs.text.Tokens.{tokens_of_text}
 use Rattle.boc_reader.proofs.Texts.{put_all}
 use Rattle.boc_reader.proofs.lex.tokens.Given as goal
 
 abbrev pub invariant-loop-first : goal.invariant-loop-first
-invariant-loop-first l = (words_of_text l.text ≡ put_all (words_of l.all.items) (words_of_text l.rest)) × (length l.rest ≤ length l.text)
+invariant-loop-first l = (tokens_of_text l.text ≡ put_all (tokens_of l.all.items) (tokens_of_text l.rest)) × (length l.rest ≤ length l.text)
 
 abbrev pub decreases-loop-first : goal.decreases-loop-first
 decreases-loop-first l = length l.rest

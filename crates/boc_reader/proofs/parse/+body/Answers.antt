@@ -1,14 +1,14 @@
 use Rattle.std.proofs.Common.{map, drop, rules, sym, ap, ◌∙◌, subst, arith}
 use Rattle.std.proofs.lemmas.List.{map_push}
 use Rattle.std.specs.Option.{option_map}
-use Rattle.boc_types.specs.text.Shape.{block_words}
+use Rattle.boc_types.specs.text.Shape.{block_tokens}
 use Rattle.boc_reader.specs.Phrases.{Ahead}
 use Rattle.boc_reader.specs.Grammar.{expr_phrase, stmt_phrase, block_phrase, braced_phrase, else_phrase, pair_phrase, if_phrase, repeat_phrase}
 use Rattle.boc_reader.specs.Views.{expr_of, stmt_of, block_of}
 use Rattle.boc_reader.proofs.Refused.{passes, no_second}
 use Rattle.boc_reader.proofs.Expressions.{one_expr}
 use Rattle.boc_reader.proofs.Each.{ReadEach, read_each_more}
-use Rattle.boc_reader.proofs.Blocks.{block_words-list, block_nodes-list, small_block}
+use Rattle.boc_reader.proofs.Blocks.{block_tokens-list, block_nodes-list, small_block}
 use Rattle.boc_reader.proofs.Statements.{one_braced, brace_ends, no_next_stmt, no_assign, no_let, no_if, no_repeat, no_when, no_other}
 use Rattle.boc_reader.proofs.parse.+body.Goals as goal
 
@@ -24,7 +24,7 @@ block-returns-clause-answers t c =
     let taken = c.stmts-test.ensures.taken in
     let n = block_nodes-list (map stmt_of c.stmts.all.items) in (
       record {
-        words = c.stmts.invariant.words ∙ block_words-list (map stmt_of c.stmts.all.items) c.stmts.cursor.words ∙ ap (block_words (block_of c.stmts.all.items)) taken.0;
+        tokens = c.stmts.invariant.tokens ∙ block_tokens-list (map stmt_of c.stmts.all.items) c.stmts.cursor.tokens ∙ ap (block_tokens (block_of c.stmts.all.items)) taken.0;
         ends = tt;
         fits = omega (arith, c.stmts.invariant.room);
         small = small_block _ c.stmts.invariant.small;
@@ -36,7 +36,7 @@ pub block-returns-in_err-stmt-clause-answers : goal.block-returns-in_err-stmt-cl
 block-returns-in_err-stmt-clause-answers t c =
     let so_far = subst (λ (a : Ahead). ReadEach stmt_phrase c.args.cursor.now a (map stmt_of c.stmts.all.items)) (sym c.stmts-test.ensures.stays.0) c.stmts.invariant in
     passes block_phrase (λ v. block_of v.items) _ _ _ _ _ c.from_residual.ensures.1 c.in_err-stmt.ensures.answers
-    (no_next_stmt _ _ _ so_far (λ after e. c.stmts-test.ensures.stays.1 after (ap (λ (a : Ahead). a.words) (sym c.stmts-test.ensures.stays.0) ∙ e)))
+    (no_next_stmt _ _ _ so_far (λ after e. c.stmts-test.ensures.stays.1 after (ap (λ (a : Ahead). a.tokens) (sym c.stmts-test.ensures.stays.0) ∙ e)))
 
 pub blocks-returns-in_err-other-clause-answers : goal.blocks-returns-in_err-other-clause-answers
 blocks-returns-in_err-other-clause-answers t c =
@@ -56,7 +56,7 @@ repeated-returns-in_err-body-clause-answers t c =
 pub stmt-returns-in_err-name-in-Some-Name-clause-answers : goal.stmt-returns-in_err-name-in-Some-Name-clause-answers
 stmt-returns-in_err-name-in-Some-Name-clause-answers t c =
     passes stmt_phrase stmt_of _ _ _ _ _ c.from_residual-in_err-name-in-Some-Name.ensures.1 c.in_err-name-in-Some-Name.ensures.answers
-    (no_assign _ c.node.new.self (search rules) c.in-Some-Name.field-0-0.now (drop 1 c.args.cursor.now.words) (rw c.in-Some-Name.field-0-is at c.in-Some-Name.ensures) (search rules))
+    (no_assign _ c.node.new.self (search rules) c.in-Some-Name.field-0-0.now (drop 1 c.args.cursor.now.tokens) (rw c.in-Some-Name.field-0-is at c.in-Some-Name.ensures) (search rules))
 
 pub stmt-returns-in_err-name-in-Some-Keyword-Let-clause-answers : goal.stmt-returns-in_err-name-in-Some-Keyword-Let-clause-answers
 stmt-returns-in_err-name-in-Some-Keyword-Let-clause-answers t c =

@@ -8,4 +8,4 @@ abbrev pub invariant-cowns : goal.invariant-cowns
 invariant-cowns l = ReadEach cown_phrase l.fn.cursor l.cursor (map cown_of l.all.items)
 
 abbrev pub decreases-cowns : goal.decreases-cowns
-decreases-cowns l = length l.cursor.words
+decreases-cowns l = length l.cursor.tokens

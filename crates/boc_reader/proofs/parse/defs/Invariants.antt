@@ -8,4 +8,4 @@ abbrev pub invariant-defs : goal.invariant-defs
 invariant-defs l = ReadEach def_phrase l.fn.cursor l.cursor (map def_of l.all.items)
 
 abbrev pub decreases-defs : goal.decreases-defs
-decreases-defs l = length l.cursor.words
+decreases-defs l = length l.cursor.tokens

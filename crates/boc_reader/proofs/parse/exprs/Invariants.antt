@@ -8,4 +8,4 @@ abbrev pub invariant-exprs : goal.invariant-exprs
 invariant-exprs l = ReadBefore expr_phrase l.fn.cursor l.cursor (map expr_of l.all.items)
 
 abbrev pub decreases-exprs : goal.decreases-exprs
-decreases-exprs l = length l.cursor.words
+decreases-exprs l = length l.cursor.tokens

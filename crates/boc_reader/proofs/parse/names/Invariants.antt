@@ -8,4 +8,4 @@ abbrev pub invariant-names : goal.invariant-names
 invariant-names l = ReadBefore name_phrase l.fn.cursor l.cursor (map name_of l.all.items)
 
 abbrev pub decreases-names : goal.decreases-names
-decreases-names l = length l.cursor.words
+decreases-names l = length l.cursor.tokens

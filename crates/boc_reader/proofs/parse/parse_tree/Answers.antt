@@ -1,5 +1,5 @@
 use Rattle.boc_types.specs.text.Shape.{HasShape}
-use Rattle.boc_reader.specs.Placed.{words_of}
+use Rattle.boc_reader.specs.Placed.{tokens_of}
 use Rattle.boc_reader.specs.Views.{tree_of}
 use Rattle.boc_reader.proofs.Refused.{passes_on}
 use Rattle.boc_reader.proofs.Declarations.{no_cowns, no_defs, no_main}
@@ -7,15 +7,15 @@ use Rattle.boc_reader.proofs.parse.parse_tree.Goals as goal
 
 pub returns-in_err-cowns : goal.returns-in_err-cowns
 returns-in_err-cowns c =
-    passes_on (λ t. HasShape (words_of c.args.tokens.now) (tree_of t)) _ _ _ _ c.from_residual.ensures.1 c.in_err-cowns.ensures
-    (no_cowns _ c.new-cursor.result c.new-cursor.ensures.words c.new-cursor.ensures.room)
+    passes_on (λ t. HasShape (tokens_of c.args.tokens.now) (tree_of t)) _ _ _ _ c.from_residual.ensures.1 c.in_err-cowns.ensures
+    (no_cowns _ c.new-cursor.result c.new-cursor.ensures.tokens c.new-cursor.ensures.room)
 
 pub returns-in_err-defs : goal.returns-in_err-defs
 returns-in_err-defs c =
-    passes_on (λ t. HasShape (words_of c.args.tokens.now) (tree_of t)) _ _ _ _ c.from_residual-in_err-defs.ensures.1 c.in_err-defs.ensures
-    (no_defs _ c.new-cursor.result c.cowns.new.cursor c.refill.new.self _ c.new-cursor.ensures.words c.in_ok-cowns.ensures.0 c.refill.ensures.words c.refill.ensures.room)
+    passes_on (λ t. HasShape (tokens_of c.args.tokens.now) (tree_of t)) _ _ _ _ c.from_residual-in_err-defs.ensures.1 c.in_err-defs.ensures
+    (no_defs _ c.new-cursor.result c.cowns.new.cursor c.refill.new.self _ c.new-cursor.ensures.tokens c.in_ok-cowns.ensures.0 c.refill.ensures.tokens c.refill.ensures.room)
 
 pub returns-in_err-main : goal.returns-in_err-main
 returns-in_err-main c =
-    passes_on (λ t. HasShape (words_of c.args.tokens.now) (tree_of t)) _ _ _ _ c.from_residual-in_err-main.ensures.1 c.in_err-main.ensures
-    (no_main _ c.new-cursor.result c.cowns.new.cursor c.refill.new.self c.defs.new.cursor _ _ c.new-cursor.ensures.words c.in_ok-cowns.ensures.0 c.refill.ensures.words c.in_ok-defs.ensures.0)
+    passes_on (λ t. HasShape (tokens_of c.args.tokens.now) (tree_of t)) _ _ _ _ c.from_residual-in_err-main.ensures.1 c.in_err-main.ensures
+    (no_main _ c.new-cursor.result c.cowns.new.cursor c.refill.new.self c.defs.new.cursor _ _ c.new-cursor.ensures.tokens c.in_ok-cowns.ensures.0 c.refill.ensures.tokens c.in_ok-defs.ensures.0)

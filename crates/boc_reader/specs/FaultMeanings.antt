@@ -1,0 +1,42 @@
+-- What each fault says of a text.
+use Rattle.std.specs.Prelude.{◌≡◌, ℕ, ◌<◌, ◌≤◌, List, length, Some, None}
+use Rattle.boc_types.specs.text.Tokens.{Token, tokens_of_text}
+use Rattle.boc_types.specs.text.Shape.{Tree, HasShape}
+use Rattle.boc_types.specs.text.Names.{tree_names}
+use Rattle.boc_reader.specs.Grammar.{NoShape}
+use Rattle.boc_reader.specs.declared.fault.ReadFaultKind.{ReadFaultKind}
+use Rattle.boc_reader.specs.declared.fault.ReadFaultKind.TheVariants as kinds
+
+-- a text that is short enough and has no tokens
+pub record HasNoTokens (text : List ℕ) : Type 0 where
+  pub short : length text ≤ 65536
+  pub none : tokens_of_text text ≡ None
+
+-- a text whose tokens form no tree within the limits
+pub record HasNoShape (text : List ℕ) : Type 0 where
+  pub short : length text ≤ 65536
+  pub tokens : List Token
+  pub has_tokens : tokens_of_text text ≡ Some tokens
+  pub none : NoShape tokens
+
+-- a text of whose tree the names can't be resolved
+pub record HasNoNames (text : List ℕ) : Type 0 where
+  pub short : length text ≤ 65536
+  pub tokens : List Token
+  pub has_tokens : tokens_of_text text ≡ Some tokens
+  pub tree : Tree
+  pub has_shape : HasShape tokens tree
+  pub none : tree_names tree ≡ None
+
+-- what a kind of fault says of a text; of want of memory nothing follows
+abbrev pub SaysOf : ReadFaultKind → List ℕ → Type 0
+SaysOf kinds.NotAscii text = HasNoTokens text
+SaysOf kinds.BadToken text = HasNoTokens text
+SaysOf kinds.NumberTooLarge text = HasNoTokens text
+SaysOf kinds.Unexpected text = HasNoShape text
+SaysOf kinds.TooMany text = HasNoShape text
+SaysOf kinds.UnknownName text = HasNoNames text
+SaysOf kinds.NameTaken text = HasNoNames text
+SaysOf kinds.WrongCount text = HasNoNames text
+SaysOf kinds.TooLong text = 65536 < length text
+SaysOf kinds.Memory text = Unit {0}

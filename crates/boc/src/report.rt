@@ -55,6 +55,6 @@ fn greedy_for(
             let greedy = greedy_within(alloc, rows, workers, span)?;
             Ok(Some(greedy))
         }
-        None => match Workers::new(1) { Some(workers) => Ok(Some(greedy_within(alloc, rows, workers, span)?)), None => Ok(None) },
+        None => Ok(None),
     }
 }

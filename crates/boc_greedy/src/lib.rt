@@ -13,8 +13,6 @@ mod report;
 mod row_set;
 mod simulate;
 mod simulation;
-#[cfg(test)]
-mod tests;
 mod tournament;
 mod workers;
 

@@ -7,8 +7,6 @@ mod check;
 mod latest;
 mod plan;
 mod report;
-#[cfg(test)]
-mod tests;
 
 pub use analysis::{profile, span, work};
 pub use check::check_chain;

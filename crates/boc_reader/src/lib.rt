@@ -9,8 +9,6 @@ pub mod natural;
 pub mod parse;
 pub mod read;
 pub mod shape;
-#[cfg(test)]
-mod tests;
 pub mod token;
 
 pub use fault::{ReadFault, ReadFaultKind};

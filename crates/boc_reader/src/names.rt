@@ -13,8 +13,6 @@ mod block;
 mod body;
 mod declare;
 mod expr;
-#[cfg(test)]
-mod tests;
 mod top;
 
 use crate::fault::{Fault, NameFault};

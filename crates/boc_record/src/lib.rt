@@ -13,8 +13,6 @@ mod fields;
 mod laws;
 mod line;
 mod read;
-#[cfg(test)]
-mod tests;
 mod text;
 mod version;
 

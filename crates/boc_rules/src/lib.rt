@@ -6,7 +6,5 @@ mod judge;
 mod rules;
 mod so_far;
 mod stage;
-#[cfg(test)]
-mod tests;
 
 pub use rules::{RuleFault, Rules};

@@ -11,8 +11,6 @@ pub mod decimal;
 pub mod fail_at;
 pub mod lines;
 pub mod stream;
-#[cfg(test)]
-mod tests;
 pub mod whole;
 
 pub use bytes::Bytes;

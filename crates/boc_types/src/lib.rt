@@ -24,6 +24,8 @@ pub mod row_test;
 pub mod rows;
 mod same;
 pub mod short;
+pub mod stage;
+pub mod step;
 pub mod text;
 pub mod token;
 pub mod verdict;

@@ -11,8 +11,6 @@
 
 mod lasts;
 mod sweep;
-#[cfg(test)]
-mod tests;
 mod what_if;
 
 pub use what_if::WhatIf;

@@ -1,0 +1,14 @@
+pub mod Counted
+pub mod Rooms
+pub mod Got
+pub mod Marks
+pub mod Lines
+pub mod Links
+pub mod Places
+pub mod Spelled
+pub mod Placed
+pub mod Settles
+pub mod Fuel
+pub mod Steps
+pub mod Listed
+pub mod Calls

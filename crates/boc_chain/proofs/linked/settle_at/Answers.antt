@@ -1,0 +1,93 @@
+use Rattle.std.proofs.Common.{◌∙◌, ◌<◌, ap, sym, subst, refl, cond, true, false, arith}
+use Rattle.std.specs.Option.{option_map}
+use Rattle.boc_chain.specs.declared.linked.Node.{Node}
+use Rattle.boc_chain.specs.declared.request.Settled.TheVariants.{Linked, Blocked}
+use Rattle.boc_chain.specs.Chain.{before, answer_behind, times, cowns_of, exchanged_of}
+use Rattle.boc_chain.specs.Linked.{links, seen}
+use Rattle.boc_chain.proofs.Steps.{lone_before, lone_spelled, behind_answer, linked_spelled, blocked_spelled}
+use Rattle.boc_chain.proofs.Placed.{at_kept, placed_kept, slots_settled_behind, holds_it, before_it, lone_placed, linked_placed}
+use Rattle.boc_chain.proofs.linked.settle_at.Goals as goal
+
+pub link_at-link-requires : goal.link_at-link-requires
+link_at-link-requires c = (holds_it c.args.slots.now c.requires.0 c.args.node c.requires.1.0 c.requires.1.1).exchanged
+
+pub set_link-requires : goal.set_link-requires
+set_link-requires c = (holds_it c.args.slots.now c.requires.0 c.args.node c.requires.1.0 c.requires.1.1).exchanged
+
+pub link_at-ahead-requires : goal.link_at-ahead-requires
+link_at-ahead-requires c = (before_it c.args.slots.now c.requires.0 c.args.node c.in-Some.before c.requires.1.0 c.link_at-link.result c.requires.1.1 (c.link_at-link.ensures c.requires.0 c.requires.1.1.at) c.in-Some.is).exchanged
+
+pub set_link-requires-then-ahead : goal.set_link-requires-then-ahead
+set_link-requires-then-ahead c = (before_it c.args.slots.now c.requires.0 c.args.node c.in-Some.before c.requires.1.0 c.link_at-link.result c.requires.1.1 (c.link_at-link.ensures c.requires.0 c.requires.1.1.at) c.in-Some.is).exchanged
+
+pub set_link-requires-then-ahead-2 : goal.set_link-requires-then-ahead-2
+set_link-requires-then-ahead-2 c =
+    omega (arith, (holds_it c.args.slots.now c.requires.0 c.args.node c.requires.1.0 c.requires.1.1).exchanged, ap exchanged_of (c.set_link-then-ahead.ensures.places c.args.node.slot))
+
+pub returns-in-None-clause-answer : goal.returns-in-None-clause-answer
+returns-in-None-clause-answer c = λ d xs h.
+    ap answer_behind (sym (lone_before (links c.args.slots.now) d c.args.node.slot xs (seen c.link_at-link.result) h.inside (ap (option_map seen) (c.link_at-link.ensures d h.at)) (ap (option_map (λ (n : Node). n.slot)) c.in-None.is)))
+
+pub returns-in-None-clause-spelled : goal.returns-in-None-clause-spelled
+returns-in-None-clause-spelled c = λ d xs h.
+    lone_spelled (links c.args.slots.now) (links c.set_link.new.slots) d c.args.node.slot xs (seen c.link_at-link.result) h.inside
+    (ap (option_map seen) (c.link_at-link.ensures d h.at)) (ap (option_map (λ (n : Node). n.slot)) c.in-None.is)
+    (ap (option_map seen) (c.set_link.ensures.here d h.at)) (λ t n. ap (option_map seen) (c.set_link.ensures.other_slots t d n))
+
+pub returns-in-None-clause-placed : goal.returns-in-None-clause-placed
+returns-in-None-clause-placed c = λ d xs h.
+    lone_placed c.args.slots.now c.set_link.new.slots d c.args.node xs (before c.args.node.slot xs) c.link_at-link.result h (c.link_at-link.ensures d h.at)
+    (c.set_link.ensures.here d h.at) (λ t n. c.set_link.ensures.other_slots t d n) c.set_link.ensures.places
+
+pub returns-then-ahead-clause-answer : goal.returns-then-ahead-clause-answer
+returns-then-ahead-clause-answer c = λ d xs h.
+    let got = c.link_at-link.ensures d h.at in
+    let it = before_it c.args.slots.now d c.args.node c.in-Some.before xs c.link_at-link.result h got c.in-Some.is in
+    let q = behind_answer (links c.args.slots.now) d c.args.node.slot xs (seen c.link_at-link.result) (seen c.link_at-ahead.result) c.in-Some.before.slot true h.inside
+    (ap (option_map seen) got) (ap (option_map (λ (n : Node). n.slot)) c.in-Some.is) (ap (option_map seen) (c.link_at-ahead.ensures d it.at)) c.if-ahead.true in
+    ap (λ b. cond b Linked Blocked) (sym q.2) ∙ ap answer_behind (sym q.1)
+
+pub returns-then-ahead-clause-spelled : goal.returns-then-ahead-clause-spelled
+returns-then-ahead-clause-spelled c = λ d xs h.
+    let got = c.link_at-link.ensures d h.at in
+    let it = before_it c.args.slots.now d c.args.node c.in-Some.before xs c.link_at-link.result h got c.in-Some.is in
+    let at = at_kept c.args.slots.now c.set_link-then-ahead.new.slots c.args.node d (ap cowns_of (c.set_link-then-ahead.ensures.places c.args.node.slot)) h.at in
+    linked_spelled (links c.args.slots.now) (links c.set_link-then-ahead.new.slots) (links c.set_link-then-ahead-2.new.slots) d c.args.node.slot c.in-Some.before.slot xs (seen c.link_at-link.result) (seen c.link_at-ahead.result) h.inside
+    (ap (option_map seen) got) (ap (option_map (λ (n : Node). n.slot)) c.in-Some.is) (ap (option_map seen) (c.link_at-ahead.ensures d it.at)) c.if-ahead.true
+    (ap (option_map seen) (c.set_link-then-ahead.ensures.here d it.at)) (λ t n. ap (option_map seen) (c.set_link-then-ahead.ensures.other_slots t d n))
+    (ap (option_map seen) (c.set_link-then-ahead-2.ensures.here d at)) (λ t n. ap (option_map seen) (c.set_link-then-ahead-2.ensures.other_slots t d n))
+
+pub returns-then-ahead-clause-placed : goal.returns-then-ahead-clause-placed
+returns-then-ahead-clause-placed c = λ d xs h.
+    let got = c.link_at-link.ensures d h.at in
+    let it = before_it c.args.slots.now d c.args.node c.in-Some.before xs c.link_at-link.result h got c.in-Some.is in
+    let at = at_kept c.args.slots.now c.set_link-then-ahead.new.slots c.args.node d (ap cowns_of (c.set_link-then-ahead.ensures.places c.args.node.slot)) h.at in
+    linked_placed c.args.slots.now c.set_link-then-ahead.new.slots c.set_link-then-ahead-2.new.slots d c.args.node c.in-Some.before xs (before c.args.node.slot xs) c.link_at-link.result c.link_at-ahead.result h got
+    (c.link_at-ahead.ensures d it.at) it.there
+    (c.set_link-then-ahead.ensures.here d it.at) (λ t n. c.set_link-then-ahead.ensures.other_slots t d n) c.set_link-then-ahead.ensures.places
+    (c.set_link-then-ahead-2.ensures.here d at) (λ t n. c.set_link-then-ahead-2.ensures.other_slots t d n) c.set_link-then-ahead-2.ensures.places
+
+pub returns-then-ahead-clause-other_cowns : goal.returns-then-ahead-clause-other_cowns
+returns-then-ahead-clause-other_cowns c = λ d s e xs h n.
+    let it = before_it c.args.slots.now d c.args.node c.in-Some.before xs c.link_at-link.result h (c.link_at-link.ensures d h.at) c.in-Some.is in
+    let at = at_kept c.args.slots.now c.set_link-then-ahead.new.slots c.args.node d (ap cowns_of (c.set_link-then-ahead.ensures.places c.args.node.slot)) h.at in
+    c.set_link-then-ahead-2.ensures.other_cowns d s e at n ∙ c.set_link-then-ahead.ensures.other_cowns d s e it.at n
+
+pub returns-else-ahead-clause-answer : goal.returns-else-ahead-clause-answer
+returns-else-ahead-clause-answer c = λ d xs h.
+    let got = c.link_at-link.ensures d h.at in
+    let it = before_it c.args.slots.now d c.args.node c.in-Some.before xs c.link_at-link.result h got c.in-Some.is in
+    let q = behind_answer (links c.args.slots.now) d c.args.node.slot xs (seen c.link_at-link.result) (seen c.link_at-ahead.result) c.in-Some.before.slot false h.inside
+    (ap (option_map seen) got) (ap (option_map (λ (n : Node). n.slot)) c.in-Some.is) (ap (option_map seen) (c.link_at-ahead.ensures d it.at)) c.if-ahead.false in
+    ap (λ b. cond b Linked Blocked) (sym q.2) ∙ ap answer_behind (sym q.1)
+
+pub returns-else-ahead-clause-spelled : goal.returns-else-ahead-clause-spelled
+returns-else-ahead-clause-spelled c = λ d xs h.
+    let got = c.link_at-link.ensures d h.at in
+    let it = before_it c.args.slots.now d c.args.node c.in-Some.before xs c.link_at-link.result h got c.in-Some.is in
+    blocked_spelled (links c.args.slots.now) d c.args.node.slot c.in-Some.before.slot xs (seen c.link_at-link.result) (seen c.link_at-ahead.result) h.inside
+    (ap (option_map seen) got) (ap (option_map (λ (n : Node). n.slot)) c.in-Some.is) (ap (option_map seen) (c.link_at-ahead.ensures d it.at)) c.if-ahead.false
+
+pub returns-else-ahead-clause-placed : goal.returns-else-ahead-clause-placed
+returns-else-ahead-clause-placed c = λ d xs h.
+    placed_kept c.args.slots.now c.args.slots.now d xs _ h.placed (λ t m. subst (λ ys. 0 < times t ys) (slots_settled_behind (before c.args.node.slot xs) c.args.node.slot xs) m) (λ t. refl) (λ t. refl)

@@ -1,0 +1,15 @@
+use Rattle.std.proofs.Common.{◌∙◌, ap}
+use Rattle.boc_chain.specs.Chain.{cown, with_flagged}
+use Rattle.boc_chain.specs.Kept.{place_at}
+use Rattle.boc_chain.proofs.Lines.{one_line}
+use Rattle.boc_chain.proofs.list_chains.ListChainsChains.flag.Goals as goal
+
+pub returns-clause-lists : goal.returns-clause-lists
+returns-clause-lists c =
+    let s = c.args.self.now in
+    let k = cown (place_at s.places.items c.args.slot.index) c.args.i in
+    one_line s.lines.items c.cown_at-c.result k c.flag_in.new.requests c.index_mut.result.now (with_flagged c.args.slot.index)
+    (c.cown_at-c.ensures ∙ ap (λ ps. cown (place_at ps c.args.slot.index) c.args.i) c.deref.ensures.value)
+    (s.kept.in_range c.args.slot.index c.args.i c.requires.there)
+    c.index_mut.ensures.value
+    c.flag_in.ensures.after

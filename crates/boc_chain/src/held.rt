@@ -1,0 +1,122 @@
+//! What was admitted at the slots of the plain lists.
+
+ghost use Rattle.std.specs.Prelude.{◌≡◌, ℕ, ◌≢◌, ◌+◌, ◌<◌, ◌≤◌, ◌^◌, length, slice_set, slice_get, drop, Some, None, IfSome};
+ghost use Rattle.boc_chain.specs.Chain.{cowns_of, exchanged_of, cown, one_more, times};
+ghost use Rattle.boc_chain.specs.Kept.{place_at, place_of, awaits};
+ghost use Rattle.std.specs.List.{sum_by};
+ghost use Rattle.std.specs.Vec.{vec_len, vec_capacity};
+
+use boc_types::short::{CownNo, Cowns};
+
+/// What was admitted: the cowns, and how many of the requests were exchanged.
+#[derive(Drop)]
+pub struct Held {
+    pub cowns: Cowns,
+    pub exchanged: usize,
+}
+
+/// The cown of request i at a slot.
+pub fn cown_at(places: &[Option<Held>], slot: usize, i: usize) -> usize
+    requires { i < length (cowns_of (place_at places.now slot)) }
+    ensures { result ≡ cown (place_at places.now slot) i }
+{
+    match places.get(slot) {
+        Some(Some(held)) => held.cowns[i] as usize,
+        _ => unreachable!(),
+    }
+}
+
+/// One more request of the slot is exchanged.
+pub fn count_exchange(places: &mut Vec<Option<Held>>, slot: usize)
+    requires { exchanged_of (place_at places.old.items slot) < length (cowns_of (place_at places.old.items slot)) }
+    ensures here { place_at places.new.items slot ≡ one_more (place_at places.old.items slot) }
+    ensures others { (s : ℕ) → s ≢ slot → place_at places.new.items s ≡ place_at places.old.items s }
+    ensures awaited { let place = place_at places.old.items slot in
+        let c = cown place (exchanged_of place) in
+        sum_by (awaits c) places.new.items + 1 ≡ sum_by (awaits c) places.old.items }
+    ensures others_awaited { (c : ℕ) → sum_by (awaits c) places.new.items ≤ sum_by (awaits c) places.old.items }
+{
+    match &mut places[slot] {
+        Some(held) => {
+            let count = held.cowns.len();
+            prove!(held.exchanged < count);
+            held.exchanged += 1;
+        }
+        None => unreachable!(),
+    }
+}
+
+/// How often a cown stands in a list.
+fn count_of(cowns: &[CownNo], c: CownNo) -> usize
+    ensures { result ≡ times c cowns.now }
+{
+    let mut count = 0;
+    for cown in cowns {
+        if *cown == c {
+            count += 1;
+        }
+    }
+    count
+}
+
+/// How many requests of what is held are still to go into the list of a cown.
+fn awaited_by(held: &Option<Held>, c: CownNo) -> usize
+    ensures { result ≡ awaits c held.now }
+{
+    match held {
+        Some(held) => match held.cowns.get(held.exchanged..) {
+            Some(cowns) => count_of(cowns, c),
+            None => 0,
+        },
+        None => 0,
+    }
+}
+
+/// How many requests are still to go into the list of a cown.
+pub fn count_awaited(places: &[Option<Held>], c: CownNo) -> usize
+    requires { sum_by (awaits c) places.now < 2 ^ 64 }
+    ensures { result ≡ sum_by (awaits c) places.now }
+{
+    let mut count = 0;
+    for held in places {
+        count += awaited_by(held, c);
+    }
+    count
+}
+
+/// The first vacant slot.
+fn vacant(places: &[Option<Held>]) -> Option<usize>
+    ensures { IfSome result (λ slot. slice_get places.now slot ≡ Some None) }
+{
+    for (slot, held) in places.iter().enumerate() {
+        if held.is_none() {
+            return Some(slot);
+        }
+    }
+    None
+}
+
+/// Holds the cowns at a vacant slot, and answers it.
+pub fn hold(places: &mut Vec<Option<Held>>, cowns: Cowns) -> usize
+    requires { vec_len places.old < vec_capacity places.old }
+    ensures fresh { place_at places.old.items result ≡ None }
+    ensures here { place_at places.new.items result ≡ Some (record { cowns = cowns.items; exchanged = 0 }) }
+    ensures others { (s : ℕ) → s ≢ result → place_at places.new.items s ≡ place_at places.old.items s }
+    ensures awaited { (c : ℕ) → sum_by (awaits c) places.new.items ≡ sum_by (awaits c) places.old.items + times c cowns.items }
+{
+    let held = Some(Held {
+        cowns,
+        exchanged: 0,
+    });
+    match vacant(places) {
+        Some(slot) => {
+            places[slot] = held;
+            slot
+        }
+        None => {
+            let slot = places.len();
+            places.push_reserved(held);
+            slot
+        }
+    }
+}

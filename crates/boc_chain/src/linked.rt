@@ -1,0 +1,235 @@
+//! The requests of one behaviour, each linked to its neighbours.
+
+ghost use Rattle.std.specs.Prelude.{◌≡◌, ◌≢◌, ◌==◌, ◌↔◌, ℕ, ◌<◌, ◌≤◌, List, length, position, Some, false, drop, slice_set};
+ghost use Rattle.std.specs.Option.{option_map};
+ghost use Rattle.slab.specs.Slab.{slab_len};
+ghost use Rattle.boc_chain.specs.Linked.{stored_in, stored, links, place_in, place_at, IsAt, IsSpelled, IsPlaced, Holds, Leads, passed};
+ghost use Rattle.boc_chain.specs.Links.{next_of};
+ghost use Rattle.boc_chain.specs.Chain.{cown, cowns_of, exchanged_of, one_more, times, settle_answer, after_settle};
+ghost use Rattle.boc_chain.specs.declared.request.Request.{Request};
+ghost use Rattle.boc_chain.specs.declared.request.Settled.TheVariants.{Blocked as SettleBlocked};
+
+use crate::request::Settled;
+use arrayvec::ArrayVec;
+use boc_types::limits::MOST_HELD;
+use boc_types::short::{CownNo, Cowns};
+use slab::Slab;
+
+/// Names a request: the slot that it is at, and its place among those of the slot.
+#[derive(Clone, Copy, Debug, Default, PartialEq, Eq)]
+pub struct Node {
+    pub slot: usize,
+    pub place: usize,
+}
+
+/// How one request is kept: the one before it in its list, until that leaves, and the one after it, once that
+/// has settled.
+#[derive(Clone, Copy, Debug, Default, PartialEq, Eq)]
+pub struct Link {
+    pub settled: bool,
+    pub scheduled: bool,
+    pub before: Option<Node>,
+    pub next: Option<Node>,
+}
+
+/// What was admitted: the cowns, and the links of the requests exchanged so far.
+#[derive(Drop)]
+pub struct Linked {
+    pub cowns: Cowns,
+    pub links: ArrayVec<Link, MOST_HELD>,
+}
+
+/// Writes a link over the one at a place.
+fn put(links: &mut ArrayVec<Link, MOST_HELD>, place: usize, link: Link)
+    requires { place < length links.old.items }
+    ensures { links.new.items ≡ slice_set links.old.items place link }
+{
+    links[place] = link;
+}
+
+impl Linked {
+    /// Adds the link of the next request.
+    fn push(&mut self, link: Link)
+        requires { exchanged_of (place_in (Some self.old)) < length (cowns_of (place_in (Some self.old))) }
+        ensures here { let place = place_in (Some self.old) in
+            ((d : ℕ) → times d (cowns_of place) ≤ 1) → stored_in (Some self.new) (cown place (exchanged_of place)) ≡ Some link }
+        ensures others { let place = place_in (Some self.old) in
+            (d : ℕ) → d ≢ cown place (exchanged_of place) → stored_in (Some self.new) d ≡ stored_in (Some self.old) d }
+        ensures place { place_in (Some self.new) ≡ one_more (place_in (Some self.old)) }
+    {
+        let (count, all) = (self.links.len(), self.cowns.len());
+        prove!(count < all);
+        self.links.push(link);
+    }
+
+    /// The link of the request at a place.
+    fn link(&self, place: usize) -> Link
+        requires { place < exchanged_of (place_in (Some self.now)) }
+        ensures { (c : ℕ) → position (λ d. d == c) self.now.cowns.items ≡ Some place → stored_in (Some self.now) c
+            ≡ Some result }
+    {
+        self.links[place]
+    }
+
+    /// Puts a link in the place of the one at a place.
+    fn relink(&mut self, place: usize, link: Link)
+        requires { place < exchanged_of (place_in (Some self.old)) }
+        ensures here { (c : ℕ) → position (λ d. d == c) self.old.cowns.items ≡ Some place → stored_in (Some self.new) c
+            ≡ Some link }
+        ensures others { (c d : ℕ) → position (λ d. d == c) self.old.cowns.items ≡ Some place → d ≢ c
+            → stored_in (Some self.new) d ≡ stored_in (Some self.old) d }
+        ensures place { place_in (Some self.new) ≡ place_in (Some self.old) }
+    {
+        put(&mut self.links, place, link);
+    }
+}
+
+/// Settles a request.
+pub fn settle_at(slots: &mut Slab<Linked>, node: Node) -> Settled
+    requires { (c : ℕ) × ((xs : List Request) × Holds slots.old c node xs) }
+    ensures answer { (c : ℕ) (xs : List Request) → Holds slots.old c node xs → result ≡ settle_answer node.slot xs }
+    ensures spelled { (c : ℕ) (xs : List Request) → Holds slots.old c node xs
+        → IsSpelled (links slots.new) c (after_settle node.slot xs) }
+    ensures placed { (c : ℕ) (xs : List Request) → Holds slots.old c node xs → IsPlaced slots.new c (after_settle node.slot xs) }
+    ensures other_cowns { (c s d : ℕ) (xs : List Request) → Holds slots.old c node xs → d ≢ c → stored slots.new s d
+        ≡ stored slots.old s d }
+    ensures places { (s : ℕ) → place_at slots.new s ≡ place_at slots.old s }
+    ensures len { slab_len slots.new ≡ slab_len slots.old }
+{
+    let link = link_at(slots, node);
+    match link.before {
+        None => {
+            set_link(
+                slots,
+                node,
+                Link {
+                    settled: true,
+                    ..link
+                },
+            );
+            Settled::Lone
+        }
+        Some(before) => {
+            let ahead = link_at(slots, before);
+            if ahead.scheduled {
+                set_link(
+                    slots,
+                    before,
+                    Link {
+                        next: Some(node),
+                        ..ahead
+                    },
+                );
+                set_link(
+                    slots,
+                    node,
+                    Link {
+                        settled: true,
+                        ..link
+                    },
+                );
+                Settled::Linked
+            } else {
+                Settled::Blocked
+            }
+        }
+    }
+}
+
+/// Whether a request can be settled.
+pub fn can_settle_at(slots: &Slab<Linked>, node: Node) -> bool
+    requires { (c : ℕ) × ((xs : List Request) × Holds slots.now c node xs) }
+    ensures { (c : ℕ) (xs : List Request) → Holds slots.now c node xs
+        → (result ≡ false) ↔ (settle_answer node.slot xs ≡ SettleBlocked) }
+{
+    match link_at(slots, node).before {
+        None => true,
+        Some(before) => link_at(slots, before).scheduled,
+    }
+}
+
+/// The slot of a request.
+fn slot_of(node: Option<Node>) -> Option<usize>
+    ensures { result ≡ option_map (λ n. n.slot) node }
+{
+    node.map(|node| node.slot)
+}
+
+/// The slot of the request that follows one at the front, where it has settled.
+pub fn next_at(slots: &Slab<Linked>, node: Node) -> Option<usize>
+    requires { (c : ℕ) × ((xs : List Request) × Leads slots.now c node xs) }
+    ensures { (c : ℕ) (xs : List Request) → Leads slots.now c node xs → result ≡ next_of (drop 1 xs) }
+{
+    slot_of(link_at(slots, node).next)
+}
+
+/// Takes a request off the front where the next has settled, and answers the next.
+pub fn pass_at(slots: &mut Slab<Linked>, node: Node) -> Option<usize>
+    requires { (c : ℕ) × ((xs : List Request) × Leads slots.old c node xs) }
+    ensures answer { (c : ℕ) (xs : List Request) → Leads slots.old c node xs → result ≡ next_of (drop 1 xs) }
+    ensures spelled { (c : ℕ) (xs : List Request) → Leads slots.old c node xs → IsSpelled (links slots.new) c (passed xs) }
+    ensures placed { (c : ℕ) (xs : List Request) → Leads slots.old c node xs → IsPlaced slots.new c (passed xs) }
+    ensures other_cowns { (c s d : ℕ) (xs : List Request) → Leads slots.old c node xs → d ≢ c → stored slots.new s d
+        ≡ stored slots.old s d }
+    ensures places { (s : ℕ) → place_at slots.new s ≡ place_at slots.old s }
+    ensures len { slab_len slots.new ≡ slab_len slots.old }
+{
+    match link_at(slots, node).next {
+        Some(next) => {
+            let link = link_at(slots, next);
+            set_link(
+                slots,
+                next,
+                Link {
+                    before: None,
+                    ..link
+                },
+            );
+            Some(next.slot)
+        }
+        None => None,
+    }
+}
+
+/// Adds the link of the next request to be exchanged.
+pub fn push_link(slots: &mut Slab<Linked>, slot: usize, link: Link)
+    requires { exchanged_of (place_at slots.old slot) < length (cowns_of (place_at slots.old slot)) }
+    ensures here { let place = place_at slots.old slot in
+        ((d : ℕ) → times d (cowns_of place) ≤ 1) → stored slots.new slot (cown place (exchanged_of place)) ≡ Some link }
+    ensures other_slots { (s d : ℕ) → s ≢ slot → stored slots.new s d ≡ stored slots.old s d }
+    ensures other_cowns { let place = place_at slots.old slot in
+        (s d : ℕ) → d ≢ cown place (exchanged_of place) → stored slots.new s d ≡ stored slots.old s d }
+    ensures place { place_at slots.new slot ≡ one_more (place_at slots.old slot) }
+    ensures other_places { (s : ℕ) → s ≢ slot → place_at slots.new s ≡ place_at slots.old s }
+    ensures len { slab_len slots.new ≡ slab_len slots.old }
+{
+    slots[slot].push(link);
+}
+
+/// The cown of request i at a slot.
+pub fn cown_at(slots: &Slab<Linked>, slot: usize, i: usize) -> CownNo
+    requires { i < length (cowns_of (place_at slots.now slot)) }
+    ensures { result ≡ cown (place_at slots.now slot) i }
+{
+    slots[slot].cowns[i]
+}
+
+/// The link of a request.
+pub fn link_at(slots: &Slab<Linked>, node: Node) -> Link
+    requires { node.place < exchanged_of (place_at slots.now node.slot) }
+    ensures { (c : ℕ) → IsAt slots.now node c → stored slots.now node.slot c ≡ Some result }
+{
+    slots[node.slot].link(node.place)
+}
+
+/// Puts a link in the place of that of a request.
+pub fn set_link(slots: &mut Slab<Linked>, node: Node, link: Link)
+    requires { node.place < exchanged_of (place_at slots.old node.slot) }
+    ensures here { (c : ℕ) → IsAt slots.old node c → stored slots.new node.slot c ≡ Some link }
+    ensures other_slots { (s d : ℕ) → s ≢ node.slot → stored slots.new s d ≡ stored slots.old s d }
+    ensures other_cowns { (c s d : ℕ) → IsAt slots.old node c → d ≢ c → stored slots.new s d ≡ stored slots.old s d }
+    ensures places { (s : ℕ) → place_at slots.new s ≡ place_at slots.old s }
+    ensures len { slab_len slots.new ≡ slab_len slots.old }
+{
+    slots[node.slot].relink(node.place, link);
+}

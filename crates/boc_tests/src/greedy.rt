@@ -1,0 +1,297 @@
+//! The greedy plans of worked rows, and of small ones beside a simulation that goes tick by tick.
+
+use boc_greedy::{Greedy, greedy};
+use boc_types::body::EndStatus;
+use boc_types::row_test::are_rows;
+use boc_types::rows::{Row, Rows};
+use boc_types::short::Cowns;
+use boc_types::workers::Workers;
+use std::alloc::Global;
+use std::process::Abort;
+use std::test::Fail;
+
+fn cowns(numbers: &[u32]) -> Cowns {
+    let mut list = Cowns::new();
+    for number in numbers {
+        if !list.is_full() {
+            list.push(*number);
+        }
+    }
+    list
+}
+
+fn row(parent: u32, offset: u32, numbers: &[u32], ticks: u32) -> Row {
+    Row {
+        parent,
+        offset,
+        cowns: cowns(numbers),
+        ticks,
+        status: EndStatus::Done,
+        written: cowns(numbers),
+    }
+}
+
+fn rows_of(list: Vec<Row>) -> Result<Rows, Fail> {
+    if are_rows(&list) {
+        Ok(Rows::new(list))
+    } else {
+        Err(Fail::from("no rows of a run"))
+    }
+}
+
+// Two deposits and a transfer between two accounts, cowns 0 and 1.
+fn transfer(alloc: Global) -> Result<Rows, Fail> {
+    let mut list = Vec::new(alloc);
+    list.push(row(0, 0, &[], 4))?;
+    list.push(row(0, 2, &[0], 2))?;
+    list.push(row(0, 3, &[0, 1], 3))?;
+    list.push(row(0, 4, &[1], 2))?;
+    rows_of(list)
+}
+
+// Four behaviours with a cown each.
+fn four_squares(alloc: Global) -> Result<Rows, Fail> {
+    let mut list = Vec::new(alloc);
+    list.push(row(0, 0, &[], 5))?;
+    list.push(row(0, 2, &[0], 8))?;
+    list.push(row(0, 3, &[1], 8))?;
+    list.push(row(0, 4, &[2], 8))?;
+    list.push(row(0, 5, &[3], 8))?;
+    rows_of(list)
+}
+
+// Two behaviours without cowns.
+fn no_cowns(alloc: Global) -> Result<Rows, Fail> {
+    let mut list = Vec::new(alloc);
+    list.push(row(0, 0, &[], 3))?;
+    list.push(row(0, 2, &[], 4))?;
+    list.push(row(0, 3, &[], 4))?;
+    rows_of(list)
+}
+
+// A behaviour that spawns the next one on its cown, three times.
+fn countdown(alloc: Global) -> Result<Rows, Fail> {
+    let mut list = Vec::new(alloc);
+    list.push(row(0, 0, &[], 2))?;
+    list.push(row(0, 2, &[0], 4))?;
+    list.push(row(1, 4, &[0], 4))?;
+    list.push(row(2, 4, &[0], 3))?;
+    rows_of(list)
+}
+
+// Two chains of spawns that meet on shared cowns, with spawns and ends at the same ticks.
+fn crossing(alloc: Global) -> Result<Rows, Fail> {
+    let mut list = Vec::new(alloc);
+    list.push(row(0, 0, &[], 9))?;
+    list.push(row(0, 1, &[2, 3], 4))?;
+    list.push(row(0, 2, &[0], 6))?;
+    list.push(row(1, 2, &[0, 3], 5))?;
+    list.push(row(1, 4, &[1], 1))?;
+    list.push(row(2, 6, &[], 7))?;
+    list.push(row(0, 9, &[1, 2], 3))?;
+    list.push(row(3, 1, &[2], 2))?;
+    list.push(row(3, 5, &[0, 1, 2, 3], 1))?;
+    rows_of(list)
+}
+
+// Three rows over two cowns: the first two end one after the other, and the last needs the cowns of both.
+fn waiting_for_both(alloc: Global) -> Result<Rows, Fail> {
+    let mut list = Vec::new(alloc);
+    list.push(row(0, 0, &[], 4))?;
+    list.push(row(0, 2, &[0], 3))?;
+    list.push(row(0, 3, &[1], 2))?;
+    list.push(row(0, 4, &[0, 1], 1))?;
+    rows_of(list)
+}
+
+// The greedy plan for p workers.
+fn plan_for(alloc: Global, rows: &Rows, p: u32) -> Result<Greedy, Fail> {
+    let workers = Workers::new(p).ok_or("no number of workers")?;
+    Ok(greedy(alloc, rows, workers)?)
+}
+
+// The plan has these starts, workers, end and bound.
+fn has_plan(
+    rt: &impl Abort,
+    found: &Greedy,
+    starts: &[u64],
+    workers: &[u32],
+    ends_at: u64,
+    bound: u64,
+) {
+    assert_eq!(rt; found.starts.as_slice(), starts);
+    assert_eq!(rt; found.workers.as_slice(), workers);
+    assert_eq!(rt; found.ends_at, ends_at);
+    assert_eq!(rt; found.bound, bound);
+}
+
+#[test]
+fn transfer_by_one_and_two(rt: HostRuntime) -> Result<(), Fail> {
+    let alloc = rt.alloc();
+    let rows = transfer(alloc)?;
+    let one = plan_for(alloc, &rows, 1)?;
+    has_plan(&rt, &one, &[0, 4, 6, 9], &[0, 0, 0, 0], 11, 20);
+    assert_eq!(rt; one.ends.as_slice(), [4, 6, 9, 11].as_slice());
+    assert_eq!(rt; one.p, 1);
+    let two = plan_for(alloc, &rows, 2)?;
+    has_plan(&rt, &two, &[0, 2, 4, 7], &[0, 1, 0, 0], 9, 14);
+    assert_eq!(rt; two.p, 2);
+    // 0, the spawns at 2, 3 and 4, and the ends at 4, 7 and 9.
+    assert_eq!(rt; two.moments, 6);
+    Ok(())
+}
+
+#[test]
+fn four_squares_by_two_and_four(rt: HostRuntime) -> Result<(), Fail> {
+    let alloc = rt.alloc();
+    let rows = four_squares(alloc)?;
+    let two = plan_for(alloc, &rows, 2)?;
+    has_plan(&rt, &two, &[0, 2, 5, 10, 13], &[0, 1, 0, 1, 0], 21, 31);
+    let four = plan_for(alloc, &rows, 4)?;
+    has_plan(&rt, &four, &[0, 2, 3, 4, 5], &[0, 1, 2, 3, 0], 13, 22);
+    Ok(())
+}
+
+#[test]
+fn no_cowns_by_one(rt: HostRuntime) -> Result<(), Fail> {
+    let alloc = rt.alloc();
+    let one = plan_for(alloc, &no_cowns(alloc)?, 1)?;
+    has_plan(&rt, &one, &[0, 3, 7], &[0, 0, 0], 11, 18);
+    Ok(())
+}
+
+#[test]
+fn one_long_row_by_many(rt: HostRuntime) -> Result<(), Fail> {
+    let alloc = rt.alloc();
+    let mut list = Vec::new(alloc);
+    list.push(row(0, 0, &[], 1_000_000))?;
+    let many = plan_for(alloc, &rows_of(list)?, 64)?;
+    has_plan(&rt, &many, &[0], &[0], 1_000_000, 1_015_625);
+    assert_eq!(rt; many.moments, 2);
+    Ok(())
+}
+
+#[test]
+fn as_many_long_rows_as_there_can_be(rt: HostRuntime) -> Result<(), Fail> {
+    let alloc = rt.alloc();
+    let mut list = Vec::new(alloc);
+    list.push(row(0, 0, &[], 65_535))?;
+    for number in 1..65_535 {
+        list.push(row(0, number + 1, &[], 1_000_000))?;
+    }
+    let many = plan_for(alloc, &rows_of(list)?, 64)?;
+    assert_eq!(rt; many.bound, 1_025_035_308);
+    assert!(rt; many.moments <= 131_070);
+    assert!(rt; many.ends_at <= many.bound);
+    Ok(())
+}
+
+// What a simulation that goes tick by tick knows of a row.
+#[derive(Clone, Copy, Debug)]
+struct Served {
+    start: u64,
+    worker: u32,
+}
+
+// Whether a row is over by a tick.
+fn is_over(rows: &[Row], served: &[Option<Served>], number: usize, tick: u64) -> bool {
+    match (rows.get(number), served.get(number)) {
+        (Some(row), Some(Some(at))) => at.start.saturating_add(u64::from(row.ticks)) <= tick,
+        _ => false,
+    }
+}
+
+// Whether the spawn of a row has come by a tick.
+fn is_spawned(row: &Row, number: usize, served: &[Option<Served>], tick: u64) -> bool {
+    match served.get(row.parent as usize) {
+        Some(Some(at)) => at.start.saturating_add(u64::from(row.offset)) <= tick,
+        _ => number == 0,
+    }
+}
+
+// Whether a row waits at a tick for nothing but a worker.
+fn is_ready(rows: &[Row], served: &[Option<Served>], number: usize, tick: u64) -> bool {
+    let (Some(row), Some(None)) = (rows.get(number), served.get(number)) else {
+        return false;
+    };
+    if !is_spawned(row, number, served, tick) {
+        return false;
+    }
+    for (before, other) in rows.iter().enumerate() {
+        if before >= number {
+            break;
+        }
+        let share = other.cowns.iter().any(|cown| row.cowns.contains(cown));
+        if share && !is_over(rows, served, before, tick) {
+            return false;
+        }
+    }
+    true
+}
+
+// Whether a worker has no row that is under way at a tick.
+fn is_free(rows: &[Row], served: &[Option<Served>], worker: u32, tick: u64) -> bool {
+    for (number, at) in served.iter().enumerate() {
+        if let Some(at) = at {
+            if at.worker == worker && !is_over(rows, served, number, tick) {
+                return false;
+            }
+        }
+    }
+    true
+}
+
+// The greedy plan, tick by tick up to a last one.
+fn tick_by_tick(
+    alloc: Global,
+    rows: &[Row],
+    p: u32,
+    last: u64,
+) -> Result<Vec<Option<Served>>, Fail> {
+    let mut served = Vec::new(alloc);
+    for _row in rows {
+        served.push(None)?;
+    }
+    for tick in 0..last {
+        for number in 0..rows.len() {
+            if !is_ready(rows, &served, number, tick) {
+                continue;
+            }
+            let free = (0..p).find(|worker| is_free(rows, &served, *worker, tick));
+            if let (Some(worker), Some(place)) = (free, served.get_mut(number)) {
+                *place = Some(Served {
+                    start: tick,
+                    worker,
+                });
+            }
+        }
+    }
+    Ok(served)
+}
+
+// The plan of the events is that of the ticks, for 1 to 8 workers.
+fn agrees(rt: &impl Abort, alloc: Global, rows: &Rows) -> Result<(), Fail> {
+    for p in 1..9 {
+        let found = plan_for(alloc, rows, p)?;
+        let plain = tick_by_tick(alloc, rows.as_slice(), p, 100)?;
+        assert_eq!(rt; found.starts.len(), plain.len());
+        for ((start, worker), at) in found.starts.iter().zip(&found.workers).zip(&plain) {
+            match at {
+                Some(at) => assert_eq!(rt; (*start, *worker), (at.start, at.worker), "p {p}"),
+                None => assert!(rt; false, "a row has not started, p {p}"),
+            }
+        }
+    }
+    Ok(())
+}
+
+#[test]
+fn events_agree_with_ticks(rt: HostRuntime) -> Result<(), Fail> {
+    let alloc = rt.alloc();
+    agrees(&rt, alloc, &transfer(alloc)?)?;
+    agrees(&rt, alloc, &four_squares(alloc)?)?;
+    agrees(&rt, alloc, &no_cowns(alloc)?)?;
+    agrees(&rt, alloc, &countdown(alloc)?)?;
+    agrees(&rt, alloc, &crossing(alloc)?)?;
+    agrees(&rt, alloc, &waiting_for_both(alloc)?)
+}

@@ -1,0 +1,23 @@
+//! The tests of the libraries, over their public calls. They stand in one crate, so that each library is proved once.
+#![tactic(auto)]
+
+#[cfg(test)]
+mod eval;
+#[cfg(test)]
+mod greedy;
+#[cfg(test)]
+mod names;
+#[cfg(test)]
+mod order;
+#[cfg(test)]
+mod reader;
+#[cfg(test)]
+mod record;
+#[cfg(test)]
+mod rules;
+#[cfg(test)]
+mod text;
+#[cfg(test)]
+mod what_if;
+#[cfg(test)]
+mod written;

@@ -1,0 +1,298 @@
+//! The events of the transfer program, events that break a rule, and the end of a run.
+
+use boc_rules::{RuleFault, Rules};
+use boc_types::body::EndStatus;
+use boc_types::event::{BrokenRule, Event};
+use boc_types::short::Cowns;
+use std::alloc::Global;
+use std::process::Abort;
+use std::test::Fail;
+
+fn cowns(numbers: &[u32]) -> Cowns {
+    let mut list = Cowns::new();
+    for number in numbers {
+        if !list.is_full() {
+            list.push(*number);
+        }
+    }
+    list
+}
+
+fn spawn(row: u32, parent: u32, offset: u32, numbers: &[u32]) -> Event {
+    Event::Spawn {
+        row,
+        parent,
+        offset,
+        cowns: cowns(numbers),
+    }
+}
+
+fn start(row: u32) -> Event {
+    Event::Start { row }
+}
+
+// An end that wrote these cowns.
+fn end(row: u32, ticks: u32, written: &[u32]) -> Event {
+    Event::End {
+        row,
+        ticks,
+        status: EndStatus::Done,
+        written: cowns(written),
+    }
+}
+
+// Two deposits and a transfer between two accounts, cowns 0 and 1.
+fn transfer() -> [Event; 12] {
+    [
+        spawn(0, 0, 0, &[]),
+        start(0),
+        spawn(1, 0, 2, &[0]),
+        spawn(2, 0, 3, &[0, 1]),
+        spawn(3, 0, 4, &[1]),
+        end(0, 4, &[]),
+        start(1),
+        end(1, 2, &[0]),
+        start(2),
+        end(2, 3, &[0, 1]),
+        start(3),
+        end(3, 2, &[]),
+    ]
+}
+
+// The rules after so many events of the transfer.
+fn begun(alloc: Global, count: usize) -> Result<Rules, Fail> {
+    let mut rules = Rules::new(alloc, 2)?;
+    for event in transfer().iter().take(count) {
+        rules.apply(event)?;
+    }
+    Ok(rules)
+}
+
+// After so many events of the transfer, this one is refused for this rule, and the events stay.
+fn refuses(
+    rt: &impl Abort,
+    alloc: Global,
+    count: usize,
+    event: &Event,
+    rule: BrokenRule,
+) -> Result<(), Fail> {
+    let mut rules = begun(alloc, count)?;
+    match rules.apply(event) {
+        Err(RuleFault::Broken(found)) => assert_eq!(rt;
+            found,
+            rule,
+            "after {count} events: {event:?}"
+        ),
+        other => assert!(rt; false, "after {count} events: {event:?}: {other:?}"),
+    }
+    assert_eq!(rt; rules.events().len(), count);
+    for rest in transfer().iter().skip(count) {
+        rules.apply(rest)?;
+    }
+    assert!(rt; rules.is_complete());
+    Ok(())
+}
+
+#[test]
+fn transfer_is_taken(rt: HostRuntime) -> Result<(), Fail> {
+    let alloc = rt.alloc();
+    let mut rules = Rules::new(alloc, 2)?;
+    assert_eq!(rt; rules.cowns(), 2);
+    for event in &transfer() {
+        assert!(rt; !rules.is_complete());
+        rules = match rules.into_record() {
+            Ok(_) => return Err(Fail::from("a record before the end")),
+            Err(same) => same,
+        };
+        rules.apply(event)?;
+    }
+    assert!(rt; rules.is_complete());
+    assert_eq!(rt; rules.events().len(), 12);
+    let Ok(record) = rules.into_record() else {
+        return Err(Fail::from("no record at the end"));
+    };
+    assert_eq!(rt; record.cowns(), 2);
+    assert_eq!(rt; record.events().len(), 12);
+    let wanted = [
+        (0, 0, 4, cowns(&[])),
+        (0, 2, 2, cowns(&[0])),
+        (0, 3, 3, cowns(&[0, 1])),
+        (0, 4, 2, cowns(&[])),
+    ];
+    let rows = record.rows().as_slice();
+    assert_eq!(rt; rows.len(), wanted.len());
+    for (row, (parent, offset, ticks, written)) in rows.iter().zip(&wanted) {
+        assert_eq!(rt; row.parent, *parent);
+        assert_eq!(rt; row.offset, *offset);
+        assert_eq!(rt; row.ticks, *ticks);
+        assert_eq!(rt; row.status, EndStatus::Done);
+        assert_eq!(rt; row.written.as_slice(), written.as_slice());
+    }
+    Ok(())
+}
+
+#[test]
+fn spawns_are_judged(rt: HostRuntime) -> Result<(), Fail> {
+    let alloc = rt.alloc();
+    let broken = [
+        (0, spawn(1, 0, 0, &[]), BrokenRule::NumberNotNext),
+        (0, spawn(0, 1, 0, &[]), BrokenRule::ParentNotRunning),
+        (0, spawn(0, 0, 1, &[]), BrokenRule::Offset),
+        (0, spawn(0, 0, 0, &[0]), BrokenRule::Cowns),
+        (1, spawn(1, 0, 1, &[]), BrokenRule::ParentNotRunning),
+        (2, spawn(1, 0, 0, &[]), BrokenRule::Offset),
+        (2, spawn(1, 0, 1_000_001, &[]), BrokenRule::Offset),
+        (2, spawn(1, 0, 1, &[2]), BrokenRule::Cowns),
+        (2, spawn(1, 0, 1, &[1, 0]), BrokenRule::Cowns),
+        (2, spawn(1, 0, 1, &[0, 0]), BrokenRule::Cowns),
+        (3, spawn(2, 0, 2, &[]), BrokenRule::Offset),
+        (4, spawn(3, 1, 9, &[]), BrokenRule::ParentNotRunning),
+        (12, spawn(4, 0, 9, &[]), BrokenRule::ParentNotRunning),
+    ];
+    for (count, event, rule) in &broken {
+        refuses(&rt, alloc, *count, event, *rule)?;
+    }
+    Ok(())
+}
+
+#[test]
+fn starts_and_ends_are_judged(rt: HostRuntime) -> Result<(), Fail> {
+    let alloc = rt.alloc();
+    let starts = [
+        (0, 0),
+        (5, 2),
+        (5, 3),
+        (5, 0),
+        (5, 4),
+        (7, 2),
+        (9, 3),
+        (12, 1),
+    ];
+    for (count, row) in &starts {
+        refuses(
+            &rt,
+            alloc,
+            *count,
+            &start(*row),
+            BrokenRule::StartNotAllowed,
+        )?;
+    }
+    let ends = [
+        (0, end(0, 1, &[])),
+        (2, end(0, 0, &[])),
+        (5, end(0, 3, &[])),
+        (5, end(0, 1_000_001, &[])),
+        (5, end(0, 4, &[0])),
+        (5, end(1, 1, &[])),
+        (7, end(1, 2, &[1])),
+        (7, end(1, 2, &[0, 0])),
+        (9, end(2, 3, &[1, 0])),
+        (9, end(2, 3, &[0, 2])),
+        (12, end(1, 2, &[])),
+    ];
+    for (count, event) in &ends {
+        refuses(&rt, alloc, *count, event, BrokenRule::EndNotAllowed)?;
+    }
+    Ok(())
+}
+
+#[test]
+fn first_broken_rule_is_told(rt: HostRuntime) -> Result<(), Fail> {
+    let alloc = rt.alloc();
+    let broken = [
+        (2, spawn(5, 9, 0, &[7]), BrokenRule::NumberNotNext),
+        (2, spawn(1, 9, 0, &[7]), BrokenRule::ParentNotRunning),
+        (2, spawn(1, 0, 0, &[7]), BrokenRule::Offset),
+        (0, spawn(0, 1, 1, &[0]), BrokenRule::ParentNotRunning),
+        (0, spawn(0, 0, 1, &[0]), BrokenRule::Offset),
+    ];
+    for (count, event, rule) in &broken {
+        refuses(&rt, alloc, *count, event, *rule)?;
+    }
+    Ok(())
+}
+
+#[test]
+fn a_row_too_many(rt: HostRuntime) -> Result<(), Fail> {
+    let mut rules = Rules::new(rt.alloc(), 0)?;
+    rules.apply(&spawn(0, 0, 0, &[]))?;
+    rules.apply(&start(0))?;
+    for row in 1..65_535 {
+        rules.apply(&spawn(row, 0, row, &[]))?;
+    }
+    let broken = [
+        (spawn(65_535, 0, 65_535, &[]), BrokenRule::TooMany),
+        (spawn(65_535, 70_000, 0, &[1]), BrokenRule::TooMany),
+        (spawn(65_536, 0, 65_535, &[]), BrokenRule::NumberNotNext),
+    ];
+    for (event, rule) in &broken {
+        match rules.apply(event) {
+            Err(RuleFault::Broken(found)) => assert_eq!(rt; found, *rule),
+            other => assert!(rt; false, "{event:?}: {other:?}"),
+        }
+    }
+    assert_eq!(rt; rules.events().len(), 65_536);
+    Ok(())
+}
+
+#[test]
+fn rooms_are_counted(rt: HostRuntime) -> Result<(), Fail> {
+    let mut rules = Rules::new(rt.alloc(), 2)?;
+    assert_eq!(rt; rules.rooms(), 0);
+    rules.make_room()?;
+    rules.make_room()?;
+    assert_eq!(rt; rules.rooms(), 2);
+    let mut left = [1, 0, 0, 0].iter();
+    for event in &transfer() {
+        rules.apply(event)?;
+        if matches!(event, Event::Spawn { .. }) {
+            assert_eq!(rt; Some(rules.rooms()), left.next().copied());
+        }
+    }
+    assert!(rt; rules.is_complete());
+    Ok(())
+}
+
+#[test]
+fn cowns_of_rows_are_told(rt: HostRuntime) -> Result<(), Fail> {
+    let rules = begun(rt.alloc(), 5)?;
+    for (row, wanted) in [(0, cowns(&[])), (2, cowns(&[0, 1])), (3, cowns(&[1]))] {
+        let told = rules.cowns_of(row).map(|cowns| cowns.as_slice());
+        assert_eq!(rt; told, Some(wanted.as_slice()));
+    }
+    assert!(rt; rules.cowns_of(4).is_none());
+    Ok(())
+}
+
+#[test]
+fn faults_are_told(rt: HostRuntime) -> Result<(), Fail> {
+    let alloc = rt.alloc();
+    let texts = [
+        (
+            RuleFault::Broken(BrokenRule::NumberNotNext),
+            "1 NumberNotNext",
+        ),
+        (
+            RuleFault::Broken(BrokenRule::ParentNotRunning),
+            "2 ParentNotRunning",
+        ),
+        (RuleFault::Broken(BrokenRule::Offset), "3 Offset"),
+        (RuleFault::Broken(BrokenRule::Cowns), "4 Cowns"),
+        (
+            RuleFault::Broken(BrokenRule::StartNotAllowed),
+            "5 StartNotAllowed",
+        ),
+        (
+            RuleFault::Broken(BrokenRule::EndNotAllowed),
+            "6 EndNotAllowed",
+        ),
+        (RuleFault::Broken(BrokenRule::TooMany), "7 TooMany"),
+        (RuleFault::Memory, "8 Memory"),
+    ];
+    for (fault, text) in &texts {
+        let told = format!(in alloc; "{fault}")?;
+        assert_eq!(rt; told.as_str(), *text);
+        assert_eq!(rt; fault.text(), *text);
+    }
+    Ok(())
+}

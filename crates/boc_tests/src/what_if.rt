@@ -1,0 +1,139 @@
+//! Edits and sweeps of worked rows.
+
+use boc_whatif::WhatIf;
+use boc_types::body::EndStatus;
+use boc_types::edit::EditFault;
+use boc_types::row_test::are_rows;
+use boc_types::rows::{Row, Rows};
+use boc_types::short::Cowns;
+use boc_types::workers::Workers;
+use std::alloc::Global;
+use std::test::Fail;
+
+fn cowns(numbers: &[u32]) -> Cowns {
+    let mut list = Cowns::new();
+    for number in numbers {
+        if !list.is_full() {
+            list.push(*number);
+        }
+    }
+    list
+}
+
+fn row(offset: u32, numbers: &[u32], ticks: u32) -> Row {
+    Row {
+        parent: 0,
+        offset,
+        cowns: cowns(numbers),
+        ticks,
+        status: EndStatus::Done,
+        written: cowns(numbers),
+    }
+}
+
+fn rows_of(list: Vec<Row>) -> Result<Rows, Fail> {
+    if are_rows(&list) {
+        Ok(Rows::new(list))
+    } else {
+        Err(Fail::from("no rows of a run"))
+    }
+}
+
+// Two deposits and a transfer between two accounts, cowns 0 and 1.
+fn transfer(alloc: Global) -> Result<Rows, Fail> {
+    let mut list = Vec::new(alloc);
+    list.push(row(0, &[], 4))?;
+    list.push(row(2, &[0], 2))?;
+    list.push(row(3, &[0, 1], 3))?;
+    list.push(row(4, &[1], 2))?;
+    rows_of(list)
+}
+
+// Children without cowns, one a tick, the last of which takes the longest.
+fn many(alloc: Global) -> Result<Rows, Fail> {
+    let mut list = Vec::new(alloc);
+    list.push(row(0, &[], 2_500))?;
+    for number in 1..2_499 {
+        list.push(row(number + 1, &[], 1))?;
+    }
+    list.push(row(2_500, &[], 5))?;
+    rows_of(list)
+}
+
+#[test]
+fn cheaper_row_shortens_the_run(rt: HostRuntime) -> Result<(), Fail> {
+    let mut question = WhatIf::new(rt.alloc(), &transfer(rt.alloc())?)?;
+    assert_eq!(rt; question.touched(), 0);
+    assert_eq!(rt; question.work(), 11);
+    assert_eq!(rt; question.span(), 9);
+    assert_eq!(rt; question.edit(2, 1), Ok(()));
+    assert_eq!(rt; question.work(), 9);
+    assert_eq!(rt; question.span(), 7);
+    assert_eq!(rt; question.touched(), 2);
+    let profile = question.profile(rt.alloc())?;
+    assert_eq!(rt; profile.starts.as_slice(), [0, 2, 4, 5].as_slice());
+    assert_eq!(rt; question.edit(2, 1), Ok(()));
+    assert_eq!(rt; question.span(), 7);
+    assert_eq!(rt; question.rows().as_slice()[0].ticks, 4);
+    Ok(())
+}
+
+#[test]
+fn rows_are_taken_over(rt: HostRuntime) -> Result<(), Fail> {
+    let mut question = WhatIf::of(rt.alloc(), transfer(rt.alloc())?)?;
+    assert_eq!(rt; question.touched(), 0);
+    assert_eq!(rt; question.rows().as_slice().len(), 4);
+    let before = question.profile(rt.alloc())?;
+    assert_eq!(rt; (before.work, before.span), (11, 9));
+    assert_eq!(rt; before.starts.as_slice(), [0, 2, 4, 7].as_slice());
+    assert_eq!(rt; question.edit(2, 1), Ok(()));
+    let after = question.profile(rt.alloc())?;
+    assert_eq!(rt; (after.work, after.span), (9, 7));
+    assert_eq!(rt; after.starts.as_slice(), [0, 2, 4, 5].as_slice());
+    assert_eq!(rt; after.ends.as_slice(), [4, 4, 5, 7].as_slice());
+    let two = Workers::new(2).ok_or("no number of workers")?;
+    let greedy = question.greedy(rt.alloc(), two)?;
+    assert_eq!(rt; greedy.starts.as_slice(), [0, 2, 4, 5].as_slice());
+    assert_eq!(rt; (greedy.ends_at, greedy.bound), (7, 11));
+    Ok(())
+}
+
+#[test]
+fn refused_edits_change_nothing(rt: HostRuntime) -> Result<(), Fail> {
+    let mut question = WhatIf::new(rt.alloc(), &transfer(rt.alloc())?)?;
+    assert_eq!(rt; question.edit(1, 1), Ok(()));
+    let refused = [
+        (0, 3, EditFault::BelowSpawn),
+        (2, 0, EditFault::BelowSpawn),
+        (4, 1, EditFault::NoRow),
+        (2, 1_000_001, EditFault::TooManyTicks),
+    ];
+    for (row, ticks, fault) in &refused {
+        assert_eq!(rt; question.edit(*row, *ticks), Err(*fault));
+        assert_eq!(rt; question.touched(), 3);
+        assert_eq!(rt; question.work(), 10);
+        assert_eq!(rt; question.span(), 8);
+    }
+    Ok(())
+}
+
+#[test]
+fn sweep_of_a_transfer(rt: HostRuntime) -> Result<(), Fail> {
+    let question = WhatIf::new(rt.alloc(), &transfer(rt.alloc())?)?;
+    let spans = question.sweep(&rt, rt.alloc())?;
+    assert_eq!(rt; spans.as_slice(), [9, 8, 7, 8].as_slice());
+    Ok(())
+}
+
+#[test]
+fn sweep_in_pieces(rt: HostRuntime) -> Result<(), Fail> {
+    let question = WhatIf::new(rt.alloc(), &many(rt.alloc())?)?;
+    assert_eq!(rt; question.span(), 2_505);
+    let spans = question.sweep(&rt, rt.alloc())?;
+    assert_eq!(rt; spans.len(), 2_500);
+    for (row, span) in spans.iter().enumerate() {
+        let wanted = if row == 2_499 { 2_501 } else { 2_505 };
+        assert_eq!(rt; *span, wanted, "{row}");
+    }
+    Ok(())
+}

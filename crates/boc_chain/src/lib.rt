@@ -16,8 +16,6 @@ mod linked;
 mod list_chains;
 mod request;
 mod requests;
-#[cfg(test)]
-mod tests;
 
 pub use chains::Chains;
 pub use link_chains::LinkChains;

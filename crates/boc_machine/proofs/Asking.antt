@@ -33,7 +33,8 @@ taken_here (d ∷ cs) zero c e =
     ap (λ z. times c (z ∷ [])) is ∙ times-here c []
 taken_here (d ∷ cs) (suc i) c e = omega (arith, taken_here cs i c e)
 
-pub taken_there : (cs : List ℕ) (i c d : ℕ) → slice_get cs i ≡ Some c → d ≢ c → times d (take (suc i) cs) ≡ times d (take i cs)
+pub taken_there : (cs : List ℕ) (i c d : ℕ) → slice_get cs i ≡ Some c → d ≢ c
+    → times d (take (suc i) cs) ≡ times d (take i cs)
 taken_there [] i c d e n = absurd (let f : None ≡ Some c = e in cc)
 taken_there (x ∷ cs) zero c d e n =
     let is : x ≡ c = (let f : Some x ≡ Some c = e in cc) in
@@ -70,7 +71,8 @@ take_whole (c ∷ cs) (suc i) h = ap (λ zs. c ∷ zs) (take_whole cs i (omega a
 
 -- ---- Swap
 
-module _ (p : Program) (s : State) (k : Core p s nobody) (who : ℕ) (b : OpenBehaviour) (i c : ℕ) (due : IsDue s who b (Asking i false) i c) where
+module _ (p : Program) (s : State) (k : Core p s nobody) (who : ℕ) (b : OpenBehaviour) (i c : ℕ)
+    (due : IsDue s who b (Asking i false) i c) where
   abbrev pub after_swap : State
   after_swap = with_queue (with_stage s who b (Asking i true)) c (queue s c ++ (who ∷ []))
 
@@ -80,18 +82,23 @@ module _ (p : Program) (s : State) (k : Core p s nobody) (who : ℕ) (b : OpenBe
       let b' : OpenBehaviour = record b { stage = Asking i true } in
       let other : OthersStay (at s) (at t) who = put_others s who (Some b') in
       let is' : at t who ≡ Some b' = put_here s who b (Some b') due.is in
-      let small : c < length s.queues = k.in_range who c (subst (λ (z : Option OpenBehaviour). 0 < times c (cowns_of z)) (sym due.is) (among b.cowns i c due.cown)) in
-      let stand : standing (at s who) ≡ take i b.cowns = ap standing due.is ∙ ap (λ z. standing_at z b.cowns) due.stage_is in
+      let small : c < length s.queues = k.in_range who c
+      (subst (λ (z : Option OpenBehaviour). 0 < times c (cowns_of z)) (sym due.is) (among b.cowns i c due.cown)) in
+      let stand : standing (at s who) ≡ take i b.cowns = ap standing due.is
+      ∙ ap (λ z. standing_at z b.cowns) due.stage_is in
       let stand' : standing (at t who) ≡ take (suc i) b.cowns = ap standing is' in
       let set : settled (at s who) ≡ take i b.cowns = ap settled due.is ∙ ap (λ z. settled_at z b.cowns) due.stage_is in
-      let once : times c b.cowns ≤ 1 = subst (λ (z : Option OpenBehaviour). times c (cowns_of z) ≤ 1) due.is (k.laws.once who c) in
+      let once : times c b.cowns ≤ 1 = subst (λ (z : Option OpenBehaviour). times c (cowns_of z) ≤ 1) due.is
+      (k.laws.once who c) in
       let no_row : row_of (at s who) ≡ None = ap row_of due.is ∙ ap row_at due.stage_is in
       let no_row' : row_of (at t who) ≡ None = ap row_of is' in
       let cowns : cowns_of (at t who) ≡ cowns_of (at s who) = ap cowns_of is' ∙ sym (ap cowns_of due.is) in
       let asks_same : asks (Some b') ≡ asks (Some b) = sym (ap asks_at due.stage_is) in
       let ready_same : ready_row (Some b') ≡ ready_row (Some b) = sym (ap ready_row_at due.stage_is) in
-      let longer : queue t c ≡ queue s c ++ (who ∷ []) = get_or-set_same s.queues c (queue s c ++ (who ∷ [])) [] small in
-      let elsewhere : (d : ℕ) → d ≢ c → queue t d ≡ queue s d = λ d n. get_or-set_other s.queues c d (queue s c ++ (who ∷ [])) [] n in
+      let longer : queue t c ≡ queue s c ++ (who ∷ []) =
+      get_or-set_same s.queues c (queue s c ++ (who ∷ [])) [] small in
+      let elsewhere : (d : ℕ) → d ≢ c → queue t d ≡ queue s d =
+      λ d n. get_or-set_other s.queues c d (queue s c ++ (who ∷ [])) [] n in
       let long : length t.queues ≡ length s.queues = length-set s.queues c (queue s c ++ (who ∷ [])) in
       record {
         run = k.run;
@@ -109,7 +116,8 @@ module _ (p : Program) (s : State) (k : Core p s nobody) (who : ℕ) (b : OpenBe
           still_none = no_row';
           holds_not = ap holds is';
         });
-        waiting = waits_exchange (at s) (at t) (queue s) (queue t) who c nobody k.waiting other longer elsewhere (ap waits is');
+        waiting = waits_exchange (at s) (at t) (queue s) (queue t) who c nobody k.waiting other longer elsewhere
+            (ap waits is');
         fits = fits_on p (members p s) (at s) (at t) who k.fits other (record {
           row = no_row' ∙ sym no_row;
           life_same = ap life is' ∙ sym (ap life due.is ∙ ap life_at due.stage_is);
@@ -124,23 +132,38 @@ module _ (p : Program) (s : State) (k : Core p s nobody) (who : ℕ) (b : OpenBe
         ready_once = once_kept p s nobody k who b (Some b') due.is ready_same;
         ready_only = only_kept p s nobody k who b (Some b') due.is ready_same;
         some = k.some;
-        counted = omega (arith, k.counted, opened_kept p s nobody k who b (Some b') due.is, unrecorded_kept p s nobody k who b (Some b') due.is asks_same);
+        counted = omega (
+          arith,
+          k.counted,
+          opened_kept p s nobody k who b (Some b') due.is,
+          unrecorded_kept p s nobody k who b (Some b') due.is asks_same,
+        );
         few = omega (arith, k.few, opened_kept p s nobody k who b (Some b') due.is);
       }
 
 -- ---- settled, with more to ask for
 
 -- whoever stands in a list has that cown
-pub stood : (p : Program) (s : State) (but : ℕ → Type 0) (who : ℕ) → Core p s but → (d : ℕ) (ahead behind : List ℕ) (x : ℕ) → queue s d ≡ ahead ++ (x ∷ (who ∷ behind)) → 0 < times d (cowns_of (at s who))
+pub stood : (p : Program) (s : State) (but : ℕ → Type 0) (who : ℕ) → Core p s but
+    → (d : ℕ) (ahead behind : List ℕ) (x : ℕ) → queue s d ≡ ahead ++ (x ∷ (who ∷ behind))
+    → 0 < times d (cowns_of (at s who))
 stood p s but who k d ahead behind x e =
-    omega (arith, k.laws.stands who d, standing_le d (at s who), ap (times who) e, times-append who ahead (x ∷ (who ∷ behind)), times-here who behind)
+    omega (
+      arith,
+      k.laws.stands who d,
+      standing_le d (at s who),
+      ap (times who) e,
+      times-append who ahead (x ∷ (who ∷ behind)),
+      times-here who behind,
+    )
 
 -- a behaviour that asks, and stands for its first n requests, where those before them are flagged
 pub record AsksOn (s : State) (who : ℕ) (b : OpenBehaviour) (n : ℕ) : Type 0 where
   pub is : at s who ≡ Some b
   pub asks_is : asks_at b.stage ≡ true
   pub stands : standing_at b.stage b.cowns ≡ take n b.cowns
-  pub free : (d : ℕ) (ahead behind : List ℕ) (x : ℕ) → queue s d ≡ ahead ++ (x ∷ (who ∷ behind)) → 0 < times d (take n b.cowns) → 0 < times d (flagged (at s x))
+  pub free : (d : ℕ) (ahead behind : List ℕ) (x : ℕ) → queue s d ≡ ahead ++ (x ∷ (who ∷ behind))
+      → 0 < times d (take n b.cowns) → 0 < times d (flagged (at s x))
 
 -- what a stage says of one that asks
 asks_row : (st : Stage) → asks_at st ≡ true → row_at st ≡ None
@@ -163,7 +186,8 @@ asks_flagged : (st : Stage) (cs : List ℕ) → asks_at st ≡ true → flagged_
 asks_flagged (Asking i e) cs h = refl
 asks_flagged (Recorded r ph) cs h = absurd (let f : false ≡ true = h in cc)
 
-module _ (p : Program) (s : State) (k : Core p s nobody) (who : ℕ) (b : OpenBehaviour) (n : ℕ) (a : AsksOn s who b n) where
+module _ (p : Program) (s : State) (k : Core p s nobody) (who : ℕ) (b : OpenBehaviour) (n : ℕ)
+    (a : AsksOn s who b n) where
   -- no request of it is flagged yet
   unflagged : (d : ℕ) → times d (flagged (at s who)) ≡ 0
   unflagged d = ap (times d) (ap flagged a.is ∙ asks_flagged b.stage b.cowns a.asks_is)
@@ -174,7 +198,8 @@ module _ (p : Program) (s : State) (k : Core p s nobody) (who : ℕ) (b : OpenBe
       let b' : OpenBehaviour = record b { stage = Asking n false } in
       let other : OthersStay (at s) (at t) who = put_others s who (Some b') in
       let is' : at t who ≡ Some b' = put_here s who b (Some b') a.is in
-      let rows_same : row_of (at t who) ≡ row_of (at s who) = ap row_of is' ∙ sym (ap row_of a.is ∙ asks_row b.stage a.asks_is) in
+      let rows_same : row_of (at t who) ≡ row_of (at s who) = ap row_of is'
+      ∙ sym (ap row_of a.is ∙ asks_row b.stage a.asks_is) in
       let cowns : cowns_of (at t who) ≡ cowns_of (at s who) = ap cowns_of is' ∙ sym (ap cowns_of a.is) in
       let asks_same : asks (Some b') ≡ asks (Some b) = sym a.asks_is in
       let ready_same : ready_row (Some b') ≡ ready_row (Some b) = sym (asks_ready b.stage a.asks_is) in
@@ -183,7 +208,8 @@ module _ (p : Program) (s : State) (k : Core p s nobody) (who : ℕ) (b : OpenBe
         laws = relabel (at s) (at t) (queue s) who k.laws other
             (λ d. ap (times d) (ap standing is' ∙ sym (ap standing a.is ∙ a.stands)))
             cowns
-            (λ d ahead behind x e h. a.free d ahead behind x e (subst (λ (cs : List ℕ). 0 < times d cs) (ap settled is') h))
+            (λ d ahead behind x e h. a.free d ahead behind x e
+            (subst (λ (cs : List ℕ). 0 < times d cs) (ap settled is') h))
             (λ d h. absurd (let f = unflagged d in omega arith))
             (ordered_kept (at s) (at t) (queue s) who k.laws other rows_same)
             (λ d h. absurd (let f : false ≡ true = sym (ap holds is') ∙ h in cc));
@@ -202,7 +228,12 @@ module _ (p : Program) (s : State) (k : Core p s nobody) (who : ℕ) (b : OpenBe
         ready_once = once_kept p s nobody k who b (Some b') a.is ready_same;
         ready_only = only_kept p s nobody k who b (Some b') a.is ready_same;
         some = k.some;
-        counted = omega (arith, k.counted, opened_kept p s nobody k who b (Some b') a.is, unrecorded_kept p s nobody k who b (Some b') a.is asks_same);
+        counted = omega (
+          arith,
+          k.counted,
+          opened_kept p s nobody k who b (Some b') a.is,
+          unrecorded_kept p s nobody k who b (Some b') a.is asks_same,
+        );
         few = omega (arith, k.few, opened_kept p s nobody k who b (Some b') a.is);
       }
 
@@ -218,10 +249,26 @@ pub record IsEnqueuing (ph : Phase) : Type 0 where
   pub enqueued : (r : ℕ) → enqueues_at (Recorded r ph) ≡ true
 
 flags_enqueuing : (i : ℕ) → IsEnqueuing (Flagging i)
-flags_enqueuing i = record { stand = λ r cs. refl; life_is = λ r. refl; holds_not = λ r. refl; waits_not = λ r. refl; ready_not = λ r. refl; enqueued = λ r. refl }
+flags_enqueuing i = record {
+  stand = λ r cs. refl;
+  life_is = λ r. refl;
+  holds_not = λ r. refl;
+  waits_not =
+      λ r. refl;
+  ready_not = λ r. refl;
+  enqueued = λ r. refl;
+}
 
 owns_enqueuing : IsEnqueuing Owning
-owns_enqueuing = record { stand = λ r cs. refl; life_is = λ r. refl; holds_not = λ r. refl; waits_not = λ r. refl; ready_not = λ r. refl; enqueued = λ r. refl }
+owns_enqueuing = record {
+  stand = λ r cs. refl;
+  life_is = λ r. refl;
+  holds_not = λ r. refl;
+  waits_not =
+      λ r. refl;
+  ready_not = λ r. refl;
+  enqueued = λ r. refl;
+}
 
 either_enqueuing : (b : Bool) (i : ℕ) → IsEnqueuing (cond b (Flagging i) Owning)
 either_enqueuing true i = flags_enqueuing i
@@ -230,7 +277,8 @@ either_enqueuing false i = owns_enqueuing
 pub flagging_enqueuing : (cs : List ℕ) (i : ℕ) → IsEnqueuing (flagging cs i)
 flagging_enqueuing cs i = either_enqueuing _ i
 
-module _ (p : Program) (s : State) (k : Core p s nobody) (who : ℕ) (b : OpenBehaviour) (n : ℕ) (a : AsksOn s who b n) (all : length b.cowns ≤ n) where
+module _ (p : Program) (s : State) (k : Core p s nobody) (who : ℕ) (b : OpenBehaviour) (n : ℕ) (a : AsksOn s who b n)
+    (all : length b.cowns ≤ n) where
   abbrev pub row : ℕ
   row = recorded p s
 
@@ -255,21 +303,36 @@ module _ (p : Program) (s : State) (k : Core p s nobody) (who : ℕ) (b : OpenBe
   is' : at spawned who ≡ Some b'
   is' = put_here s who b (Some b') a.is
 
-  pub wished : (w : Wish) × (next_wish p (slice_get (members p s) b.parent) ≡ Some w) × (b.offset ≡ w.offset) × (b.cowns ≡ rising w.cowns)
+  pub wished : (w : Wish) × (next_wish p (slice_get (members p s) b.parent) ≡ Some w) × (b.offset ≡ w.offset)
+      × (b.cowns ≡ rising w.cowns)
   wished =
-      let w = k.fits.asking who asked in
-      (w.wish, ap (λ q. next_wish p (slice_get (members p s) q)) (sym (ap parent_of a.is)) ∙ w.next, sym (ap offset_of a.is) ∙ w.offset_is, sym (ap cowns_of a.is) ∙ w.cowns_are)
+      let w = k.fits.asking who asked in (
+        w.wish,
+        ap (λ q. next_wish p (slice_get (members p s) q)) (sym (ap parent_of a.is))
+            ∙ w.next,
+        sym (ap offset_of a.is) ∙ w.offset_is,
+        sym (ap cowns_of a.is) ∙ w.cowns_are,
+      )
 
   parent_runs : state_of (members p s) b.parent ≡ Some Running
-  parent_runs = ap (state_of (members p s)) (sym (ap parent_of a.is)) ∙ k.fits.parents who (asks_enqueues (at s who) asked)
+  parent_runs = ap (state_of (members p s)) (sym (ap parent_of a.is))
+      ∙ k.fits.parents who (asks_enqueues (at s who) asked)
 
   -- the rows now
   pub members_now : members p spawned ≡ with_child (members p s) b.parent wished.0
-  members_now = ap (λ (c : Config). c.members) (config_more p (opening p) s.log spawn) ∙ after_spawn p (members p s) b.parent wished.0 k.some wished.1
+  members_now = ap (λ (c : Config). c.members) (config_more p (opening p) s.log spawn)
+      ∙ after_spawn p (members p s) b.parent wished.0 k.some wished.1
 
   pub recorded_now : recorded p spawned ≡ recorded p s + 1
   recorded_now =
-      omega (arith, ap length members_now, length-append (changed (members p s) b.parent with_one_more (slice_get (members p s) b.parent)) (waiting (behaviour_of wished.0) ∷ []), length-changed (members p s) b.parent with_one_more (slice_get (members p s) b.parent))
+      omega (
+        arith,
+        ap length members_now,
+        length-append
+            (changed (members p s) b.parent with_one_more (slice_get (members p s) b.parent))
+            (waiting (behaviour_of wished.0) ∷ []),
+        length-changed (members p s) b.parent with_one_more (slice_get (members p s) b.parent),
+      )
 
   -- one that asks is one of those counted
   asking_some : unrecorded spawned + 1 ≡ unrecorded s
@@ -282,7 +345,8 @@ module _ (p : Program) (s : State) (k : Core p s nobody) (who : ℕ) (b : OpenBe
   may_record = (
     refl,
     omega (arith, k.counted, k.few, asking_some),
-    may_spawn p (members p s) b.parent b.offset b.cowns k.some (record { runs = parent_runs; wish = wished.0; next = wished.1; offset_is = wished.2; cowns_are = wished.3 }),
+    may_spawn p (members p s) b.parent b.offset b.cowns k.some
+        (record { runs = parent_runs; wish = wished.0; next = wished.1; offset_is = wished.2; cowns_are = wished.3 }),
   )
 
   pub keeps_recording : Core p spawned nobody
@@ -294,32 +358,40 @@ module _ (p : Program) (s : State) (k : Core p s nobody) (who : ℕ) (b : OpenBe
       let row_is : row_of (at t who) ≡ Some row = ap row_of is' in
       let cowns : cowns_of (at t who) ≡ cowns_of (at s who) = ap cowns_of is' ∙ sym (ap cowns_of a.is) in
       let parent : parent_of (at t who) ≡ parent_of (at s who) = ap parent_of is' ∙ sym (ap parent_of a.is) in
-      let ready_same : ready_row (Some b') ≡ ready_row (Some b) = e.ready_not row ∙ sym (asks_ready b.stage a.asks_is) in
-      let next_here : next_wish p (slice_get (members p s) (parent_of (at s who))) ≡ Some wished.0 = ap (λ q. next_wish p (slice_get (members p s) q)) (ap parent_of a.is) ∙ wished.1 in
-      let rows_now : members p t ≡ with_child (members p s) (parent_of (at s who)) wished.0 = members_now ∙ ap (λ q. with_child (members p s) q wished.0) (sym (ap parent_of a.is)) in
-      let free : (d : ℕ) (ahead behind : List ℕ) (x : ℕ) → queue s d ≡ ahead ++ (x ∷ (who ∷ behind)) → 0 < times d (flagged (at s x)) =
-      λ d ahead behind x f. a.free d ahead behind x f (subst (λ (cs : List ℕ). 0 < times d cs) (ap cowns_of a.is ∙ sym whole) (stood p s nobody who k d ahead behind x f)) in
+      let ready_same : ready_row (Some b') ≡ ready_row (Some b) = e.ready_not row
+      ∙ sym (asks_ready b.stage a.asks_is) in
+      let next_here : next_wish p (slice_get (members p s) (parent_of (at s who))) ≡ Some wished.0 =
+      ap (λ q. next_wish p (slice_get (members p s) q)) (ap parent_of a.is) ∙ wished.1 in
+      let rows_now : members p t ≡ with_child (members p s) (parent_of (at s who)) wished.0 = members_now
+      ∙ ap (λ q. with_child (members p s) q wished.0) (sym (ap parent_of a.is)) in
+      let free : (d : ℕ) (ahead behind : List ℕ) (x : ℕ) → queue s d ≡ ahead ++ (x ∷ (who ∷ behind))
+      → 0 < times d (flagged (at s x)) =
+      λ d ahead behind x f. a.free d ahead behind x f
+      (subst (λ (cs : List ℕ). 0 < times d cs) (ap cowns_of a.is ∙ sym whole)
+      (stood p s nobody who k d ahead behind x f)) in
       record {
         run = run_more p (opening p) s.log spawn k.run may_record;
         laws = relabel (at s) (at t) (queue s) who k.laws other
             (λ d. ap (times d) (ap standing is' ∙ e.stand row b.cowns ∙ sym (ap standing a.is ∙ a.stands ∙ whole)))
             cowns
             (λ d ahead behind x f h. free d ahead behind x f)
-            (λ d h. absurd (let f : times d (flagged (at s who)) ≡ 0 = ap (times d) (ap flagged a.is ∙ asks_flagged b.stage b.cowns a.asks_is) in omega arith))
+            (λ d h. absurd (let f : times d (flagged (at s who)) ≡ 0 =
+            ap (times d) (ap flagged a.is ∙ asks_flagged b.stage b.cowns a.asks_is) in omega arith))
             (ordered_recorded (at s) (at t) (queue s) who row k.laws other no_row row_is
             (λ v r f. let x = k.fits.has_row v r f in place_below (members p s) r x.member x.is)
             free)
             (λ d h. absurd (let f : false ≡ true = sym (ap holds is' ∙ e.holds_not row) ∙ h in cc));
         waiting = waits_on (at s) (at t) (queue s) who nobody k.waiting other (ap waits is' ∙ e.waits_not row);
-        fits = subst (λ (rows : List Member). Fits p rows (at t)) (sym rows_now) (fits_recorded p (members p s) (at s) (at t) who wished.0 k.fits other (record {
-          asked = asked;
-          row = row_is;
-          pending = ap life is' ∙ e.life_is row;
-          cowns = cowns;
-          parent = parent;
-          asks_not = ap asks is';
-          enqueues_still = ap enqueues is' ∙ e.enqueued row;
-        }) next_here);
+        fits = subst (λ (rows : List Member). Fits p rows (at t)) (sym rows_now)
+            (fits_recorded p (members p s) (at s) (at t) who wished.0 k.fits other (record {
+              asked = asked;
+              row = row_is;
+              pending = ap life is' ∙ e.life_is row;
+              cowns = cowns;
+              parent = parent;
+              asks_not = ap asks is';
+              enqueues_still = ap enqueues is' ∙ e.enqueued row;
+            }) next_here);
         queues_are = k.queues_are;
         in_range = range_kept p s nobody k who b (Some b') a.is (λ f g. g);
         ready_once = once_kept p s nobody k who b (Some b') a.is ready_same;

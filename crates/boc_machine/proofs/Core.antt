@@ -50,7 +50,8 @@ HasRequests s = (who : ℕ) (b : OpenBehaviour) → at s who ≡ Some b → HasN
 
 -- the steps are those made and owed
 abbrev pub HasSteps : State → Type 0
-HasSteps s = s.steps + 2 + sum_by owed s.behaviours ≡ sum_by (λ cowns. steps_of (length cowns)) (cowns_of_rows s.log) + sum_by made s.behaviours
+HasSteps s = s.steps + 2 + sum_by owed s.behaviours
+    ≡ sum_by (λ cowns. steps_of (length cowns)) (cowns_of_rows s.log) + sum_by made s.behaviours
 
 pub sound_of : (p : Program) (s : State) → Core p s nobody → HasRequests s → HasSteps s → IsSound p s
 sound_of p s k r n = record {
@@ -85,7 +86,8 @@ core_stepped p s but k = record {
 }
 
 -- the law of who waits may be known otherwise
-pub core_with : (p : Program) (s : State) (but : ℕ → Type 0) → Core p s but → WaitsBut (at s) (queue s) nobody → Core p s nobody
+pub core_with : (p : Program) (s : State) (but : ℕ → Type 0) → Core p s but → WaitsBut (at s) (queue s) nobody
+    → Core p s nobody
 core_with p s but k w = record {
   run = k.run;
   laws = k.laws;
@@ -110,21 +112,26 @@ one_if b = cond b 1 0
 pub there : (s : State) (who : ℕ) (b : OpenBehaviour) → at s who ≡ Some b → who < length s.behaviours
 there s who b is = read_there s.behaviours who b is
 
-pub put_here : (s : State) (who : ℕ) (b : OpenBehaviour) (b' : Option OpenBehaviour) → at s who ≡ Some b → at (with_behaviour s who b') who ≡ b'
+pub put_here : (s : State) (who : ℕ) (b : OpenBehaviour) (b' : Option OpenBehaviour) → at s who ≡ Some b
+    → at (with_behaviour s who b') who ≡ b'
 put_here s who b b' is = get_or-set_same s.behaviours who b' None (there s who b is)
 
-pub put_others : (s : State) (who : ℕ) (b' : Option OpenBehaviour) → OthersStay (at s) (at (with_behaviour s who b')) who
+pub put_others : (s : State) (who : ℕ) (b' : Option OpenBehaviour)
+    → OthersStay (at s) (at (with_behaviour s who b')) who
 put_others s who b' w n = get_or-set_other s.behaviours who w b' None n
 
 -- a sum over behaviours, with one put in place of another
-pub put_sum : (f : Option OpenBehaviour → ℕ) (s : State) (who : ℕ) (b : OpenBehaviour) (b' : Option OpenBehaviour) → at s who ≡ Some b
+pub put_sum : (f : Option OpenBehaviour → ℕ) (s : State) (who : ℕ) (b : OpenBehaviour) (b' : Option OpenBehaviour)
+    → at s who ≡ Some b
     → sum_by f (set s.behaviours who b') + f (Some b) ≡ sum_by f s.behaviours + f b'
 put_sum f s who b b' is =
-    ap (λ z. sum_by f (set s.behaviours who b') + f z) (sym is) ∙ sum_by-set f s.behaviours who b' None (there s who b is)
+    ap (λ z. sum_by f (set s.behaviours who b') + f z) (sym is)
+    ∙ sum_by-set f s.behaviours who b' None (there s who b is)
 
 -- ---- the parts of it that stay where a behaviour goes on
 
-module _ (p : Program) (s : State) (but : ℕ → Type 0) (k : Core p s but) (who : ℕ) (b : OpenBehaviour) (b' : Option OpenBehaviour) (is : at s who ≡ Some b) where
+module _ (p : Program) (s : State) (but : ℕ → Type 0) (k : Core p s but) (who : ℕ) (b : OpenBehaviour)
+    (b' : Option OpenBehaviour) (is : at s who ≡ Some b) where
   abbrev t : State
   t = with_behaviour s who b'
 
@@ -135,10 +142,12 @@ module _ (p : Program) (s : State) (but : ℕ → Type 0) (k : Core p s but) (wh
   here = put_here s who b b' is
 
   -- its cowns are those that it had, or none
-  pub range_kept : ((c : ℕ) → 0 < times c (cowns_of b') → 0 < times c b.cowns) → (w c : ℕ) → 0 < times c (cowns_of (at t w)) → c < length s.queues
+  pub range_kept : ((c : ℕ) → 0 < times c (cowns_of b') → 0 < times c b.cowns) → (w c : ℕ)
+      → 0 < times c (cowns_of (at t w)) → c < length s.queues
   range_kept less w c =
       at_each (λ v z. 0 < times c (cowns_of z) → c < length s.queues) (at s) (at t) who other
-      (λ h. k.in_range who c (subst (λ (z : Option OpenBehaviour). 0 < times c (cowns_of z)) (sym is) (less c (subst (λ (z : Option OpenBehaviour). 0 < times c (cowns_of z)) here h))))
+      (λ h. k.in_range who c (subst (λ (z : Option OpenBehaviour). 0 < times c (cowns_of z)) (sym is)
+      (less c (subst (λ (z : Option OpenBehaviour). 0 < times c (cowns_of z)) here h))))
       (λ v n. k.in_range v c) w
 
   -- it is ready under no other row
@@ -159,4 +168,5 @@ module _ (p : Program) (s : State) (but : ℕ → Type 0) (k : Core p s but) (wh
   asks_sum = put_sum (λ z. one_if (asks z)) s who b b' is
 
   pub unrecorded_kept : asks b' ≡ asks (Some b) → unrecorded t ≡ unrecorded s
-  unrecorded_kept same = let a = asks_sum in let e : one_if (asks b') ≡ one_if (asks (Some b)) = ap one_if same in omega arith
+  unrecorded_kept same = let a = asks_sum in let e : one_if (asks b') ≡ one_if (asks (Some b)) = ap one_if same in
+      omega arith

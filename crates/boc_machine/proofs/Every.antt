@@ -61,7 +61,8 @@ module _ (p : Program) where
   stands_nowhere zero c = ap (times zero) (no_list c)
   stands_nowhere (suc who) c = ap (times (suc who)) (no_list c)
 
-  first_nowhere : (who c : ℕ) → holds (at s who) ≡ true → 0 < times c (standing (at s who)) → slice_get (queue s c) 0 ≡ Some who
+  first_nowhere : (who c : ℕ) → holds (at s who) ≡ true → 0 < times c (standing (at s who))
+      → slice_get (queue s c) 0 ≡ Some who
   first_nowhere zero c h l = absurd (omega (arith, l))
   first_nowhere (suc who) c h l = absurd (omega (arith, l))
 
@@ -82,10 +83,16 @@ module _ (p : Program) where
   main_has_row : (who row : ℕ) → row_of (at s who) ≡ Some row → HasRow (members p s) (at s who) row
   main_has_row zero row e =
       let same : 0 ≡ row = (let f : Some 0 ≡ Some row = e in cc) in
-      record { member = waiting main_behaviour; is = ap (slice_get (members p s)) (sym same); life_is = refl; cowns_are = refl }
+      record {
+        member = waiting main_behaviour;
+        is = ap (slice_get (members p s)) (sym same);
+        life_is = refl;
+        cowns_are = refl;
+      }
   main_has_row (suc who) row e = absurd (let f : None ≡ Some row = e in cc)
 
-  main_is_open : (row : ℕ) (m : Member) → slice_get (members p s) row ≡ Some m → m.life ≢ Ended → (who : ℕ) × (row_of (at s who) ≡ Some row)
+  main_is_open : (row : ℕ) (m : Member) → slice_get (members p s) row ≡ Some m → m.life ≢ Ended → (who : ℕ)
+      × (row_of (at s who) ≡ Some row)
   main_is_open zero m e n = (0, refl)
   main_is_open (suc row) m e n = absurd (let f : None ≡ Some m = e in cc)
 
@@ -113,7 +120,8 @@ module _ (p : Program) where
   }
 
   main_requests : (who : ℕ) (b : OpenBehaviour) → at s who ≡ Some b → HasNextRequest b.stage b.cowns
-  main_requests zero b e = (let f : Some main_open ≡ Some b = e in let same : main_open ≡ b = cc in subst (λ (z : OpenBehaviour). HasNextRequest z.stage z.cowns) same tt)
+  main_requests zero b e = (let f : Some main_open ≡ Some b = e in let same : main_open ≡ b = cc in
+      subst (λ (z : OpenBehaviour). HasNextRequest z.stage z.cowns) same tt)
   main_requests (suc who) b e = absurd (let f : None ≡ Some b = e in cc)
 
   none_ranged : (who c : ℕ) → 0 < times c (cowns_of (at s who)) → c < length s.queues
@@ -121,12 +129,14 @@ module _ (p : Program) where
   none_ranged (suc who) c h = absurd (omega (arith, h))
 
   main_once : (who row : ℕ) → ready_row (at s who) ≡ Some row → times row s.ready ≡ 1
-  main_once zero row e = (let same : 0 ≡ row = (let f : Some 0 ≡ Some row = e in cc) in ap (λ z. times z (0 ∷ [])) (sym same))
+  main_once zero row e = (let same : 0 ≡ row = (let f : Some 0 ≡ Some row = e in cc) in
+      ap (λ z. times z (0 ∷ [])) (sym same))
   main_once (suc who) row e = absurd (let f : None ≡ Some row = e in cc)
 
   main_only : (row : ℕ) → 0 < times row s.ready → (who : ℕ) × (ready_row (at s who) ≡ Some row)
   main_only zero h = (0, refl)
-  main_only (suc row) h = absurd (let o : times (suc row) (0 ∷ []) ≡ 0 = times-other (suc row) 0 [] (λ e. omega (arith, e)) in omega (arith, h, o))
+  main_only (suc row) h = absurd (let o : times (suc row) (0 ∷ []) ≡ 0 =
+      times-other (suc row) 0 [] (λ e. omega (arith, e)) in omega (arith, h, o))
 
   pub opening_sound : IsSound p s
   opening_sound = record {
@@ -147,7 +157,8 @@ module _ (p : Program) where
 -- ---- all is over
 
 -- a sum over behaviours of which none is there
-none_sum : (f : Option OpenBehaviour → ℕ) (xs : List (Option OpenBehaviour)) → f None ≡ 0 → ((w : ℕ) → get_or xs w None ≡ None) → sum_by f xs ≡ 0
+none_sum : (f : Option OpenBehaviour → ℕ) (xs : List (Option OpenBehaviour)) → f None ≡ 0
+    → ((w : ℕ) → get_or xs w None ≡ None) → sum_by f xs ≡ 0
 none_sum f [] e none = refl
 none_sum f (x ∷ xs) e none = omega (arith, sum_by-cons f x xs, ap f (none 0), e, none_sum f xs e (λ w. none (suc w)))
 
@@ -167,7 +178,8 @@ module _ (p : Program) (s : State) (k : IsSound p s) (quiet : IsQuiet s) where
     run = k.run;
     over = record {
       some = k.some;
-      ended = λ r l. let x = item_at (members p s) r l in life_there (members p s) r x.0 x.1 ∙ ap (λ z. Some z) (ended_life r x.0 x.0.life x.1 refl);
+      ended = λ r l. let x = item_at (members p s) r l in life_there (members p s) r x.0 x.1
+          ∙ ap (λ z. Some z) (ended_life r x.0 x.0.life x.1 refl);
     };
   }
 

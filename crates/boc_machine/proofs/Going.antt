@@ -42,7 +42,8 @@ ready_has_row None q h = absurd (let f : None ≡ Some q = h in cc)
 ready_has_row (Some b) q h = ready_at_row b.stage q h
 
 -- the row of one that isn't ready isn't in the ready list
-none_ready : (p : Program) (s : State) (but : ℕ → Type 0) → Core p s but → (who r : ℕ) → row_of (at s who) ≡ Some r → ready_row (at s who) ≡ None → times r s.ready ≡ 0
+none_ready : (p : Program) (s : State) (but : ℕ → Type 0) → Core p s but → (who r : ℕ) → row_of (at s who) ≡ Some r
+    → ready_row (at s who) ≡ None → times r s.ready ≡ 0
 none_ready p s but k who r row none =
     no_less (times r s.ready) (λ h.
     let o = k.ready_only r h in
@@ -60,8 +61,11 @@ pub record Moves (r : ℕ) (phase next : Phase) (cs : List ℕ) : Type 0 where
   pub ready_same : ready_row_at (Recorded r next) ≡ ready_row_at (Recorded r phase)
   pub enqueues_less : enqueues_at (Recorded r next) ≡ true → enqueues_at (Recorded r phase) ≡ true
 
-module _ (p : Program) (s : State) (k : Core p s nobody) (who : ℕ) (b : OpenBehaviour) (r : ℕ) (phase next : Phase) (is : at s who ≡ Some b) (stage : b.stage ≡ Recorded r phase) (m : Moves r phase next b.cowns) where
-  pub keeps_move : (waits_at (Recorded r next) ≡ true → all_granted (at (with_stage s who b (Recorded r next))) (queue s) who ≡ false) → Core p (with_stage s who b (Recorded r next)) nobody
+module _ (p : Program) (s : State) (k : Core p s nobody) (who : ℕ) (b : OpenBehaviour) (r : ℕ) (phase next : Phase)
+    (is : at s who ≡ Some b) (stage : b.stage ≡ Recorded r phase) (m : Moves r phase next b.cowns) where
+  pub keeps_move : (waits_at (Recorded r next) ≡ true
+      → all_granted (at (with_stage s who b (Recorded r next))) (queue s) who ≡ false)
+      → Core p (with_stage s who b (Recorded r next)) nobody
   keeps_move ungranted =
       let t = with_stage s who b (Recorded r next) in
       let b' : OpenBehaviour = record b { stage = Recorded r next } in
@@ -74,13 +78,22 @@ module _ (p : Program) (s : State) (k : Core p s nobody) (who : ℕ) (b : OpenBe
       record {
         run = k.run;
         laws = relabel (at s) (at t) (queue s) who k.laws other
-            (λ d. ap (times d) (ap standing is' ∙ m.stand ∙ sym (ap standing is ∙ ap (λ z. standing_at z b.cowns) stage)))
+            (λ d. ap (times d) (ap standing is' ∙ m.stand
+            ∙ sym (ap standing is ∙ ap (λ z. standing_at z b.cowns) stage)))
             cowns
-            (λ d ahead behind x f h. k.laws.linked d ahead behind x who f (subst (λ (cs : List ℕ). 0 < times d cs) (ap settled is' ∙ sym (ap settled is ∙ ap (λ z. settled_at z b.cowns) stage)) h))
-            (λ d h. omega (arith, m.flags d, ap (times d) (ap flagged is ∙ ap (λ z. flagged_at z b.cowns) stage), ap (times d) (ap flagged is')))
+            (λ d ahead behind x f h. k.laws.linked d ahead behind x who f
+            (subst (λ (cs : List ℕ). 0 < times d cs)
+            (ap settled is' ∙ sym (ap settled is ∙ ap (λ z. settled_at z b.cowns) stage)) h))
+            (λ d h. omega (
+              arith,
+              m.flags d,
+              ap (times d) (ap flagged is ∙ ap (λ z. flagged_at z b.cowns) stage),
+              ap (times d) (ap flagged is'),
+            ))
             (ordered_kept (at s) (at t) (queue s) who k.laws other (ap row_of is' ∙ sym row))
             (λ d h. absurd (let f : false ≡ true = sym (ap holds is' ∙ m.holds_not) ∙ h in cc));
-        waiting = waits_kept (at s) (at t) (queue s) (queue s) who nobody nobody k.waiting other (λ v f. f) (λ v c n f. refl) (λ h. ungranted (sym (ap waits is') ∙ h));
+        waiting = waits_kept (at s) (at t) (queue s) (queue s) who nobody nobody k.waiting other (λ v f. f)
+            (λ v c n f. refl) (λ h. ungranted (sym (ap waits is') ∙ h));
         fits = fits_on p (members p s) (at s) (at t) who k.fits other (record {
           row = ap row_of is' ∙ sym row;
           life_same = ap life is' ∙ m.life_same ∙ sym (ap life is ∙ ap life_at stage);
@@ -95,34 +108,68 @@ module _ (p : Program) (s : State) (k : Core p s nobody) (who : ℕ) (b : OpenBe
         ready_once = once_kept p s nobody k who b (Some b') is ready_same;
         ready_only = only_kept p s nobody k who b (Some b') is ready_same;
         some = k.some;
-        counted = omega (arith, k.counted, opened_kept p s nobody k who b (Some b') is, unrecorded_kept p s nobody k who b (Some b') is asks_same);
+        counted = omega (
+          arith,
+          k.counted,
+          opened_kept p s nobody k who b (Some b') is,
+          unrecorded_kept p s nobody k who b (Some b') is asks_same,
+        );
         few = omega (arith, k.few, opened_kept p s nobody k who b (Some b') is);
       }
 
 -- Flag
 flag_moves_at : (r i : ℕ) (cs : List ℕ) (more : Bool) → Moves r (Flagging i) (cond more (Flagging (suc i)) Owning) cs
-flag_moves_at r i cs true = record { stand = refl; flags = λ c. taken_more cs i c; life_same = refl; holds_not = refl; ready_same = refl; enqueues_less = λ h. refl }
-flag_moves_at r i cs false = record { stand = refl; flags = λ c. times-take-le c i cs; life_same = refl; holds_not = refl; ready_same = refl; enqueues_less = λ h. refl }
+flag_moves_at r i cs true = record {
+  stand = refl;
+  flags = λ c. taken_more cs i c;
+  life_same = refl;
+  holds_not = refl;
+  ready_same = refl;
+  enqueues_less = λ h. refl;
+}
+flag_moves_at r i cs false = record {
+  stand = refl;
+  flags = λ c. times-take-le c i cs;
+  life_same = refl;
+  holds_not = refl;
+  ready_same = refl;
+  enqueues_less = λ h. refl;
+}
 
-pub keeps_flag : (p : Program) (s : State) (who : ℕ) (b : OpenBehaviour) (r i c : ℕ) → Core p s nobody → IsDue s who b (Recorded r (Flagging i)) i c → Core p (with_stage s who b (Recorded r (flagging b.cowns (suc i)))) nobody
+pub keeps_flag : (p : Program) (s : State) (who : ℕ) (b : OpenBehaviour) (r i c : ℕ) → Core p s nobody
+    → IsDue s who b (Recorded r (Flagging i)) i c
+    → Core p (with_stage s who b (Recorded r (flagging b.cowns (suc i)))) nobody
 keeps_flag p s who b r i c k due =
     keeps_move p s k who b r (Flagging i) (flagging b.cowns (suc i)) due.is due.stage_is (flag_moves_at r i b.cowns _)
     (λ h. absurd (let f : false ≡ true = sym ((flagging_enqueuing b.cowns (suc i)).waits_not r) ∙ h in cc))
 
 -- Own, where it waits
-pub keeps_wait : (p : Program) (s : State) (who : ℕ) (b : OpenBehaviour) (r : ℕ) → Core p s nobody → at s who ≡ Some b → b.stage ≡ Recorded r Owning
+pub keeps_wait : (p : Program) (s : State) (who : ℕ) (b : OpenBehaviour) (r : ℕ) → Core p s nobody → at s who ≡ Some b
+    → b.stage ≡ Recorded r Owning
     → all_granted (at s) (queue s) who ≡ false → Core p (with_stage s who b (Recorded r Waiting)) nobody
 keeps_wait p s who b r k is stage ungranted =
     let b' : OpenBehaviour = record b { stage = Recorded r Waiting } in
     let is' : at (with_stage s who b (Recorded r Waiting)) who ≡ Some b' = put_here s who b (Some b') is in
-    keeps_move p s k who b r Owning Waiting is stage (record { stand = refl; flags = λ c. omega arith; life_same = refl; holds_not = refl; ready_same = refl; enqueues_less = λ h. refl })
-    (λ h. regranted (at s) (at (with_stage s who b (Recorded r Waiting))) (queue s) who (ap settled is' ∙ sym (ap settled is ∙ ap (λ z. settled_at z b.cowns) stage)) (ap cowns_of is' ∙ sym (ap cowns_of is)) ∙ ungranted)
+    keeps_move p s k who b r Owning Waiting is stage
+    (record {
+      stand = refl;
+      flags = λ c. omega arith;
+      life_same = refl;
+      holds_not = refl;
+      ready_same = refl;
+      enqueues_less = λ h. refl;
+    })
+    (λ h. regranted (at s) (at (with_stage s who b (Recorded r Waiting))) (queue s) who
+    (ap settled is' ∙ sym (ap settled is ∙ ap (λ z. settled_at z b.cowns) stage))
+    (ap cowns_of is' ∙ sym (ap cowns_of is)) ∙ ungranted)
 
 -- ---- joining the ready list
 
 -- Own and Pass, for one whose requests are all granted
-module _ (p : Program) (s : State) (but : ℕ → Type 0) (k : Core p s but) (who : ℕ) (b : OpenBehaviour) (r : ℕ) (phase : Phase) (is : at s who ≡ Some b) (stage : b.stage ≡ Recorded r phase) where
-  pub keeps_ready : life_at (Recorded r phase) ≡ Pending → ((cs : List ℕ) → flagged_at (Recorded r phase) cs ≡ cs) → ready_row_at (Recorded r phase) ≡ None
+module _ (p : Program) (s : State) (but : ℕ → Type 0) (k : Core p s but) (who : ℕ) (b : OpenBehaviour) (r : ℕ)
+    (phase : Phase) (is : at s who ≡ Some b) (stage : b.stage ≡ Recorded r phase) where
+  pub keeps_ready : life_at (Recorded r phase) ≡ Pending → ((cs : List ℕ) → flagged_at (Recorded r phase) cs ≡ cs)
+      → ready_row_at (Recorded r phase) ≡ None
       → ((v : ℕ) → but v → v ≡ who) → all_granted (at s) (queue s) who ≡ true → Core p (made_ready s who b r) nobody
   keeps_ready pending all_flagged not_ready only granted =
       let t = made_ready s who b r in
@@ -133,7 +180,8 @@ module _ (p : Program) (s : State) (but : ℕ → Type 0) (k : Core p s but) (wh
       let was_pending : life (at s who) ≡ Pending = ap life is ∙ ap life_at stage ∙ pending in
       let cowns : cowns_of (at t who) ≡ cowns_of (at s who) = ap cowns_of is' ∙ sym (ap cowns_of is) in
       let asks_same : asks (Some b') ≡ asks (Some b) = sym (ap asks_at stage) in
-      let stood_all : standing (at s who) ≡ b.cowns = stands_for_all (at s who) r row (λ e. let f : Pending ≡ Ended = sym was_pending ∙ e in cc) ∙ ap cowns_of is in
+      let stood_all : standing (at s who) ≡ b.cowns =
+      stands_for_all (at s who) r row (λ e. let f : Pending ≡ Ended = sym was_pending ∙ e in cc) ∙ ap cowns_of is in
       let was_not : ready_row (at s who) ≡ None = ap ready_row is ∙ ap ready_row_at stage ∙ not_ready in
       let absent : times r s.ready ≡ 0 = none_ready p s but k who r row was_not in
       record {
@@ -141,13 +189,19 @@ module _ (p : Program) (s : State) (but : ℕ → Type 0) (k : Core p s but) (wh
         laws = relabel (at s) (at t) (queue s) who k.laws other
             (λ d. ap (times d) (ap standing is' ∙ sym stood_all))
             cowns
-            (λ d ahead behind x f h. k.laws.linked d ahead behind x who f (subst (λ (cs : List ℕ). 0 < times d cs) (ap settled is' ∙ sym (ap settled is ∙ ap (λ z. settled_at z b.cowns) stage)) h))
-            (λ d h. subst (λ (cs : List ℕ). 0 < times d cs) (ap flagged is ∙ ap (λ z. flagged_at z b.cowns) stage ∙ all_flagged b.cowns ∙ sym (ap flagged is')) h)
+            (λ d ahead behind x f h. k.laws.linked d ahead behind x who f
+            (subst (λ (cs : List ℕ). 0 < times d cs)
+            (ap settled is' ∙ sym (ap settled is ∙ ap (λ z. settled_at z b.cowns) stage)) h))
+            (λ d h. subst (λ (cs : List ℕ). 0 < times d cs)
+            (ap flagged is ∙ ap (λ z. flagged_at z b.cowns) stage ∙ all_flagged b.cowns ∙ sym (ap flagged is')) h)
             (ordered_kept (at s) (at t) (queue s) who k.laws other (ap row_of is' ∙ sym row))
-            (λ d h f. granted_first (at s) (queue s) who granted d (subst (λ (cs : List ℕ). 0 < times d cs) (stood_all ∙ sym (ap cowns_of is)) f));
+            (λ d h f. granted_first (at s) (queue s) who granted d
+            (subst (λ (cs : List ℕ). 0 < times d cs) (stood_all ∙ sym (ap cowns_of is)) f));
         waiting = λ v h n. elim (same_or_not v who) [
           | inl e ↦ absurd (let f : false ≡ true = sym (ap waits is') ∙ sym (ap (λ z. waits (at t z)) e) ∙ h in cc)
-          | inr ne ↦ waits_kept (at s) (at t) (queue s) (queue s) who but but k.waiting other (λ u f. f) (λ u c m f. refl) (λ g. absurd (let f : false ≡ true = sym (ap waits is') ∙ g in cc)) v h (λ f. ne (only v f))
+          | inr ne ↦ waits_kept (at s) (at t) (queue s) (queue s) who but but k.waiting other (λ u f. f)
+              (λ u c m f. refl) (λ g. absurd (let f : false ≡ true = sym (ap waits is') ∙ g in cc)) v h
+              (λ f. ne (only v f))
         ];
         fits = fits_on p (members p s) (at s) (at t) who k.fits other (record {
           row = ap row_of is' ∙ sym row;
@@ -160,28 +214,43 @@ module _ (p : Program) (s : State) (but : ℕ → Type 0) (k : Core p s but) (wh
         });
         queues_are = k.queues_are;
         in_range = range_kept p s but k who b (Some b') is (λ e f. f);
-        ready_once = λ v. at_each (λ u z. (row : ℕ) → ready_row z ≡ Some row → times row (s.ready ++ (r ∷ [])) ≡ 1) (at s) (at t) who other
+        ready_once = λ v. at_each (λ u z. (row : ℕ) → ready_row z ≡ Some row → times row (s.ready ++ (r ∷ [])) ≡ 1)
+            (at s) (at t) who other
             (λ q h.
             let same : r ≡ q = (let f : Some r ≡ Some q = sym (ap ready_row is') ∙ h in cc) in
-            omega (arith, ap (λ z. times z (s.ready ++ (r ∷ []))) (sym same), times-append r s.ready (r ∷ []), times-here r [], absent))
+            omega (
+              arith,
+              ap (λ z. times z (s.ready ++ (r ∷ []))) (sym same),
+              times-append r s.ready (r ∷ []),
+              times-here r [],
+              absent,
+            ))
             (λ u n q h.
-            let differ : r ≢ q = λ e. n (k.fits.one_row u who q (ready_has_row (at s u) q h) (row ∙ ap (λ z. Some z) e)) in
+            let differ : r ≢ q = λ e. n (k.fits.one_row u who q (ready_has_row (at s u) q h)
+            (row ∙ ap (λ z. Some z) e)) in
             omega (arith, times-append q s.ready (r ∷ []), times-other q r [] differ, k.ready_once u q h)) v;
         ready_only = λ q h. elim (same_or_not r q) [
           | inl e ↦ (who, ap ready_row is' ∙ ap (λ z. Some z) e)
           | inr n ↦
               let o = k.ready_only q (omega (arith, h, times-append q s.ready (r ∷ []), times-other q r [] n)) in
-              let differ : o.0 ≢ who = λ e. let f : None ≡ Some q = sym was_not ∙ ap (λ z. ready_row (at s z)) (sym e) ∙ o.1 in cc in
+              let differ : o.0 ≢ who = λ e. let f : None ≡ Some q = sym was_not ∙ ap (λ z. ready_row (at s z)) (sym e)
+              ∙ o.1 in cc in
               (o.0, ap ready_row (other o.0 differ) ∙ o.1)
         ];
         some = k.some;
-        counted = omega (arith, k.counted, opened_kept p s but k who b (Some b') is, unrecorded_kept p s but k who b (Some b') is asks_same);
+        counted = omega (
+          arith,
+          k.counted,
+          opened_kept p s but k who b (Some b') is,
+          unrecorded_kept p s but k who b (Some b') is asks_same,
+        );
         few = omega (arith, k.few, opened_kept p s but k who b (Some b') is);
       }
 
 -- ---- Start
 
-module _ (p : Program) (s : State) (k : Core p s nobody) (who : ℕ) (b : OpenBehaviour) (r : ℕ) (rest : List ℕ) (is : at s who ≡ Some b) (stage : b.stage ≡ Recorded r Ready) (head : s.ready ≡ r ∷ rest) where
+module _ (p : Program) (s : State) (k : Core p s nobody) (who : ℕ) (b : OpenBehaviour) (r : ℕ) (rest : List ℕ)
+    (is : at s who ≡ Some b) (stage : b.stage ≡ Recorded r Ready) (head : s.ready ≡ r ∷ rest) where
   abbrev pub after_start : State
   after_start = with_ready (noted (with_stage s who b (Recorded r phases.Running)) (events.Start r)) rest
 
@@ -192,7 +261,8 @@ module _ (p : Program) (s : State) (k : Core p s nobody) (who : ℕ) (b : OpenBe
   was_pending = ap life is ∙ ap life_at stage
 
   pub start_may : MayHappen p (config_of p s.log) (events.Start r)
-  start_may = may_start p (members p s) (at s) (queue s) k.laws k.fits who r row_is (ap holds is ∙ ap holds_at stage) was_pending
+  start_may = may_start p (members p s) (at s) (queue s) k.laws k.fits who r row_is
+      (ap holds is ∙ ap holds_at stage) was_pending
 
   pub keeps_start : Core p after_start nobody
   keeps_start =
@@ -204,8 +274,10 @@ module _ (p : Program) (s : State) (k : Core p s nobody) (who : ℕ) (b : OpenBe
       let cowns : cowns_of (at t who) ≡ cowns_of (at s who) = ap cowns_of is' ∙ sym (ap cowns_of is) in
       let asks_same : asks (Some b') ≡ asks (Some b) = sym (ap asks_at stage) in
       let g : Member → Member = started_on (values p s) in
-      let rows_now : members p t ≡ changed (members p s) r g (slice_get (members p s) r) = ap (λ (c : Config). c.members) (config_more p (opening p) s.log (events.Start r)) in
-      let stand : standing (at t who) ≡ standing (at s who) = ap standing is' ∙ sym (ap standing is ∙ ap (λ z. standing_at z b.cowns) stage) in
+      let rows_now : members p t ≡ changed (members p s) r g (slice_get (members p s) r) =
+      ap (λ (c : Config). c.members) (config_more p (opening p) s.log (events.Start r)) in
+      let stand : standing (at t who) ≡ standing (at s who) = ap standing is'
+      ∙ sym (ap standing is ∙ ap (λ z. standing_at z b.cowns) stage) in
       let once : times r s.ready ≡ 1 = k.ready_once who r (ap ready_row is ∙ ap ready_row_at stage) in
       let none_left : times r rest ≡ 0 = omega (arith, once, ap (times r) head, times-here r rest) in
       record {
@@ -213,44 +285,61 @@ module _ (p : Program) (s : State) (k : Core p s nobody) (who : ℕ) (b : OpenBe
         laws = relabel (at s) (at t) (queue s) who k.laws other
             (λ d. ap (times d) stand)
             cowns
-            (λ d ahead behind x f h. k.laws.linked d ahead behind x who f (subst (λ (cs : List ℕ). 0 < times d cs) (ap settled is' ∙ sym (ap settled is ∙ ap (λ z. settled_at z b.cowns) stage)) h))
-            (λ d h. subst (λ (cs : List ℕ). 0 < times d cs) (ap flagged is ∙ ap (λ z. flagged_at z b.cowns) stage ∙ sym (ap flagged is')) h)
+            (λ d ahead behind x f h. k.laws.linked d ahead behind x who f
+            (subst (λ (cs : List ℕ). 0 < times d cs)
+            (ap settled is' ∙ sym (ap settled is ∙ ap (λ z. settled_at z b.cowns) stage)) h))
+            (λ d h. subst (λ (cs : List ℕ). 0 < times d cs)
+            (ap flagged is ∙ ap (λ z. flagged_at z b.cowns) stage ∙ sym (ap flagged is')) h)
             (ordered_kept (at s) (at t) (queue s) who k.laws other (ap row_of is' ∙ sym row_is))
             (λ d h. k.laws.first who d held);
         waiting = waits_on (at s) (at t) (queue s) who nobody k.waiting other (ap waits is');
-        fits = subst (λ (rows : List Member). Fits p rows (at t)) (sym rows_now) (fits_row p (members p s) (at s) (at t) who r g k.fits other row_is (record {
-          row = ap row_of is' ∙ sym row_is;
-          cowns = cowns;
-          parent = ap parent_of is' ∙ sym (ap parent_of is);
-          offset = ap offset_of is' ∙ sym (ap offset_of is);
-          asks_same = ap asks is' ∙ asks_same ∙ sym (ap asks is);
-          enqueues_same = ap enqueues is' ∙ sym (ap enqueues is ∙ ap enqueues_at stage);
-          life_is = λ x. sym (ap life is');
-          behaviour_kept = λ x. refl;
-        })
+        fits = subst (λ (rows : List Member). Fits p rows (at t)) (sym rows_now)
+            (fits_row p (members p s) (at s) (at t) who r g k.fits other row_is (record {
+              row = ap row_of is' ∙ sym row_is;
+              cowns = cowns;
+              parent = ap parent_of is' ∙ sym (ap parent_of is);
+              offset = ap offset_of is' ∙ sym (ap offset_of is);
+              asks_same = ap asks is' ∙ asks_same ∙ sym (ap asks is);
+              enqueues_same = ap enqueues is' ∙ sym (ap enqueues is ∙ ap enqueues_at stage);
+              life_is = λ x. sym (ap life is');
+              behaviour_kept = λ x. refl;
+            })
             -- its row is pending, and parents run
-            (λ v h q. let f : Some Running ≡ Some Pending = sym (k.fits.parents v h) ∙ ap (state_of (members p s)) q ∙ start_may.waits in cc));
+            (λ v h q. let f : Some Running ≡ Some Pending = sym (k.fits.parents v h) ∙ ap (state_of (members p s)) q
+            ∙ start_may.waits in cc));
         queues_are = k.queues_are;
         in_range = range_kept p s nobody k who b (Some b') is (λ e f. f);
         ready_once = λ v. at_each (λ u z. (q : ℕ) → ready_row z ≡ Some q → times q rest ≡ 1) (at s) (at t) who other
             (λ q h. absurd (let f : None ≡ Some q = sym (ap ready_row is') ∙ h in cc))
             (λ u n q h.
-            let differ : r ≢ q = λ e. n (k.fits.one_row u who q (ready_has_row (at s u) q h) (row_is ∙ ap (λ z. Some z) e)) in
+            let differ : r ≢ q = λ e. n (k.fits.one_row u who q (ready_has_row (at s u) q h)
+            (row_is ∙ ap (λ z. Some z) e)) in
             omega (arith, sym (times-other q r rest differ), ap (times q) head, k.ready_once u q h)) v;
         ready_only = λ q h.
-            let differ : r ≢ q = λ e. let f : times q rest ≡ 0 = ap (λ z. times z rest) (sym e) ∙ none_left in omega arith in
+            let differ : r ≢ q = λ e. let f : times q rest ≡ 0 = ap (λ z. times z rest) (sym e)
+            ∙ none_left in omega arith in
             let o = k.ready_only q (omega (arith, h, times-other q r rest differ, ap (times q) head)) in
-            let apart : o.0 ≢ who = λ e. let f : Some r ≡ Some q = sym (ap ready_row is ∙ ap ready_row_at stage) ∙ ap (λ z. ready_row (at s z)) (sym e) ∙ o.1 in differ (let g : r ≡ q = cc in g) in
+            let apart : o.0 ≢ who = λ e. let f : Some r ≡ Some q = sym (ap ready_row is ∙ ap ready_row_at stage)
+            ∙ ap (λ z. ready_row (at s z)) (sym e) ∙ o.1 in differ (let g : r ≡ q = cc in g) in
             (o.0, ap ready_row (other o.0 apart) ∙ o.1);
         some = omega (arith, k.some, ap length rows_now, length-changed (members p s) r g (slice_get (members p s) r));
-        counted = omega (arith, k.counted, ap length rows_now, length-changed (members p s) r g (slice_get (members p s) r), opened_kept p s nobody k who b (Some b') is, unrecorded_kept p s nobody k who b (Some b') is asks_same);
+        counted = omega (
+          arith,
+          k.counted,
+          ap length rows_now,
+          length-changed (members p s) r g (slice_get (members p s) r),
+          opened_kept p s nobody k who b (Some b') is,
+          unrecorded_kept p s nobody k who b (Some b') is asks_same,
+        );
         few = omega (arith, k.few, opened_kept p s nobody k who b (Some b') is);
       }
 
 -- ---- Finish
 
-module _ (p : Program) (s : State) (k : Core p s nobody) (who : ℕ) (b : OpenBehaviour) (r ticks : ℕ) (status : EndStatus) (written : List ℕ)
-    (is : at s who ≡ Some b) (stage : b.stage ≡ Recorded r phases.Running) (none_open : HasNoEnqueue s r) (may : CanEnd p (members p s) r ticks status written) where
+module _ (p : Program) (s : State) (k : Core p s nobody) (who : ℕ) (b : OpenBehaviour) (r ticks : ℕ)
+    (status : EndStatus) (written : List ℕ)
+    (is : at s who ≡ Some b) (stage : b.stage ≡ Recorded r phases.Running) (none_open : HasNoEnqueue s r)
+    (may : CanEnd p (members p s) r ticks status written) where
   abbrev pub the_end : Event
   the_end = events.End r ticks status (record { items = written })
 
@@ -270,34 +359,47 @@ module _ (p : Program) (s : State) (k : Core p s nobody) (who : ℕ) (b : OpenBe
       let asks_same : asks (Some b') ≡ asks (Some b) = sym (ap asks_at stage) in
       let ready_same : ready_row (Some b') ≡ ready_row (Some b) = sym (ap ready_row_at stage) in
       let g : Member → Member = λ m. record m { life = Ended } in
-      let rows_now : members p t ≡ changed (members p s) r g (slice_get (members p s) r) = ap (λ (c : Config). c.members) (config_more p (opening p) s.log the_end) in
-      let stand : standing (at t who) ≡ standing (at s who) = ap standing is' ∙ sym (ap standing is ∙ ap (λ z. standing_at z b.cowns) stage) in
+      let rows_now : members p t ≡ changed (members p s) r g (slice_get (members p s) r) =
+      ap (λ (c : Config). c.members) (config_more p (opening p) s.log the_end) in
+      let stand : standing (at t who) ≡ standing (at s who) = ap standing is'
+      ∙ sym (ap standing is ∙ ap (λ z. standing_at z b.cowns) stage) in
       record {
         run = run_more p (opening p) s.log the_end k.run may;
         laws = relabel (at s) (at t) (queue s) who k.laws other
             (λ d. ap (times d) stand)
             cowns
-            (λ d ahead behind x f h. k.laws.linked d ahead behind x who f (subst (λ (cs : List ℕ). 0 < times d cs) (ap settled is' ∙ sym (ap settled is ∙ ap (λ z. settled_at z b.cowns) stage)) h))
-            (λ d h. subst (λ (cs : List ℕ). 0 < times d cs) (ap flagged is ∙ ap (λ z. flagged_at z b.cowns) stage ∙ sym (ap flagged is')) h)
+            (λ d ahead behind x f h. k.laws.linked d ahead behind x who f
+            (subst (λ (cs : List ℕ). 0 < times d cs)
+            (ap settled is' ∙ sym (ap settled is ∙ ap (λ z. settled_at z b.cowns) stage)) h))
+            (λ d h. subst (λ (cs : List ℕ). 0 < times d cs)
+            (ap flagged is ∙ ap (λ z. flagged_at z b.cowns) stage ∙ sym (ap flagged is')) h)
             (ordered_kept (at s) (at t) (queue s) who k.laws other (ap row_of is' ∙ sym row))
             (λ d h. k.laws.first who d held);
         waiting = waits_on (at s) (at t) (queue s) who nobody k.waiting other (ap waits is');
-        fits = subst (λ (rows : List Member). Fits p rows (at t)) (sym rows_now) (fits_row p (members p s) (at s) (at t) who r g k.fits other row (record {
-          row = ap row_of is' ∙ sym row;
-          cowns = cowns;
-          parent = ap parent_of is' ∙ sym (ap parent_of is);
-          offset = ap offset_of is' ∙ sym (ap offset_of is);
-          asks_same = ap asks is' ∙ asks_same ∙ sym (ap asks is);
-          enqueues_same = ap enqueues is' ∙ sym (ap enqueues is ∙ ap enqueues_at stage);
-          life_is = λ x. sym (ap life is');
-          behaviour_kept = λ x. refl;
-        }) none_open);
+        fits = subst (λ (rows : List Member). Fits p rows (at t)) (sym rows_now)
+            (fits_row p (members p s) (at s) (at t) who r g k.fits other row (record {
+              row = ap row_of is' ∙ sym row;
+              cowns = cowns;
+              parent = ap parent_of is' ∙ sym (ap parent_of is);
+              offset = ap offset_of is' ∙ sym (ap offset_of is);
+              asks_same = ap asks is' ∙ asks_same ∙ sym (ap asks is);
+              enqueues_same = ap enqueues is' ∙ sym (ap enqueues is ∙ ap enqueues_at stage);
+              life_is = λ x. sym (ap life is');
+              behaviour_kept = λ x. refl;
+            }) none_open);
         queues_are = k.queues_are;
         in_range = range_kept p s nobody k who b (Some b') is (λ e f. f);
         ready_once = once_kept p s nobody k who b (Some b') is ready_same;
         ready_only = only_kept p s nobody k who b (Some b') is ready_same;
         some = omega (arith, k.some, ap length rows_now, length-changed (members p s) r g (slice_get (members p s) r));
-        counted = omega (arith, k.counted, ap length rows_now, length-changed (members p s) r g (slice_get (members p s) r), opened_kept p s nobody k who b (Some b') is, unrecorded_kept p s nobody k who b (Some b') is asks_same);
+        counted = omega (
+          arith,
+          k.counted,
+          ap length rows_now,
+          length-changed (members p s) r g (slice_get (members p s) r),
+          opened_kept p s nobody k who b (Some b') is,
+          unrecorded_kept p s nobody k who b (Some b') is asks_same,
+        );
         few = omega (arith, k.few, opened_kept p s nobody k who b (Some b') is);
       }
 
@@ -310,7 +412,8 @@ dropped_here (d ∷ cs) zero c e =
     omega (arith, ap (λ z. times c (z ∷ cs)) is, times-here c cs)
 dropped_here (d ∷ cs) (suc i) c e = dropped_here cs i c e
 
-dropped_there : (cs : List ℕ) (i c d : ℕ) → slice_get cs i ≡ Some c → d ≢ c → times d (drop (suc i) cs) ≡ times d (drop i cs)
+dropped_there : (cs : List ℕ) (i c d : ℕ) → slice_get cs i ≡ Some c → d ≢ c
+    → times d (drop (suc i) cs) ≡ times d (drop i cs)
 dropped_there [] i c d e n = absurd (let f : None ≡ Some c = e in cc)
 dropped_there (x ∷ cs) zero c d e n =
     let is : x ≡ c = (let f : Some x ≡ Some c = e in cc) in
@@ -324,7 +427,8 @@ dropped_whole (c ∷ cs) zero h = absurd (omega arith)
 dropped_whole (c ∷ cs) (suc i) h = dropped_whole cs i (omega arith)
 
 -- the request comes off the front, and whoever is first then may be due to be woken
-module _ (p : Program) (s : State) (k : Core p s nobody) (who : ℕ) (b : OpenBehaviour) (r i c : ℕ) (rest : List ℕ) (due : IsDue s who b (Recorded r (Leaving i)) i c) (front : queue s c ≡ who ∷ rest) where
+module _ (p : Program) (s : State) (k : Core p s nobody) (who : ℕ) (b : OpenBehaviour) (r i c : ℕ) (rest : List ℕ)
+    (due : IsDue s who b (Recorded r (Leaving i)) i c) (front : queue s c ≡ who ∷ rest) where
   abbrev pub after_release : State
   after_release = with_stage (with_queue s c rest) who b (Recorded r (Leaving (suc i)))
 
@@ -335,8 +439,10 @@ module _ (p : Program) (s : State) (k : Core p s nobody) (who : ℕ) (b : OpenBe
       let other : OthersStay (at s) (at t) who = put_others s who (Some b') in
       let is' : at t who ≡ Some b' = put_here s who b (Some b') due.is in
       let row : row_of (at s who) ≡ Some r = ap row_of due.is ∙ ap row_at due.stage_is in
-      let small : c < length s.queues = k.in_range who c (subst (λ (z : Option OpenBehaviour). 0 < times c (cowns_of z)) (sym due.is) (among b.cowns i c due.cown)) in
-      let stand : standing (at s who) ≡ drop i b.cowns = ap standing due.is ∙ ap (λ z. standing_at z b.cowns) due.stage_is in
+      let small : c < length s.queues = k.in_range who c
+      (subst (λ (z : Option OpenBehaviour). 0 < times c (cowns_of z)) (sym due.is) (among b.cowns i c due.cown)) in
+      let stand : standing (at s who) ≡ drop i b.cowns = ap standing due.is
+      ∙ ap (λ z. standing_at z b.cowns) due.stage_is in
       let stand' : standing (at t who) ≡ drop (suc i) b.cowns = ap standing is' in
       let cowns : cowns_of (at t who) ≡ cowns_of (at s who) = ap cowns_of is' ∙ sym (ap cowns_of due.is) in
       let asks_same : asks (Some b') ≡ asks (Some b) = sym (ap asks_at due.stage_is) in
@@ -359,7 +465,8 @@ module _ (p : Program) (s : State) (k : Core p s nobody) (who : ℕ) (b : OpenBe
           row_same = ap row_of is' ∙ sym row;
           held = ap holds due.is ∙ ap holds_at due.stage_is;
         });
-        waiting = λ v h n. waits_release (at s) (at t) (queue s) (queue t) who c k.waiting other shorter elsewhere (ap waits is') v h (λ f. n (ap (is_first v) (sym set_here) ∙ f));
+        waiting = λ v h n. waits_release (at s) (at t) (queue s) (queue t) who c k.waiting other shorter elsewhere
+            (ap waits is') v h (λ f. n (ap (is_first v) (sym set_here) ∙ f));
         fits = fits_on p (members p s) (at s) (at t) who k.fits other (record {
           row = ap row_of is' ∙ sym row;
           life_same = ap life is' ∙ sym (ap life due.is ∙ ap life_at due.stage_is);
@@ -374,30 +481,58 @@ module _ (p : Program) (s : State) (k : Core p s nobody) (who : ℕ) (b : OpenBe
         ready_once = once_kept p s nobody k who b (Some b') due.is ready_same;
         ready_only = only_kept p s nobody k who b (Some b') due.is ready_same;
         some = k.some;
-        counted = omega (arith, k.counted, opened_kept p s nobody k who b (Some b') due.is, unrecorded_kept p s nobody k who b (Some b') due.is asks_same);
+        counted = omega (
+          arith,
+          k.counted,
+          opened_kept p s nobody k who b (Some b') due.is,
+          unrecorded_kept p s nobody k who b (Some b') due.is asks_same,
+        );
         few = omega (arith, k.few, opened_kept p s nobody k who b (Some b') due.is);
       }
 
 -- who has released all goes
-module _ (p : Program) (s : State) (but : ℕ → Type 0) (k : Core p s but) (who : ℕ) (b : OpenBehaviour) (r i : ℕ) (is : at s who ≡ Some b) (stage : b.stage ≡ Recorded r (Leaving i)) (all : length b.cowns ≤ i) where
+module _ (p : Program) (s : State) (but : ℕ → Type 0) (k : Core p s but) (who : ℕ) (b : OpenBehaviour) (r i : ℕ)
+    (is : at s who ≡ Some b) (stage : b.stage ≡ Recorded r (Leaving i)) (all : length b.cowns ≤ i) where
   pub keeps_gone : Core p (with_behaviour s who None) but
   keeps_gone =
       let t = with_behaviour s who None in
       let other : OthersStay (at s) (at t) who = put_others s who None in
       let none : at t who ≡ None = put_here s who b None is in
-      let nothing : standing (at s who) ≡ [] = ap standing is ∙ ap (λ z. standing_at z b.cowns) stage ∙ dropped_whole b.cowns i all in
+      let nothing : standing (at s who) ≡ [] = ap standing is ∙ ap (λ z. standing_at z b.cowns) stage
+      ∙ dropped_whole b.cowns i all in
       let asks_same : asks None ≡ asks (Some b) = sym (ap asks_at stage) in
       let ready_same : ready_row None ≡ ready_row (Some b) = sym (ap ready_row_at stage) in
       record {
         run = k.run;
-        laws = nowhere (at s) (at t) (queue s) who k.laws other (λ c. ap (times c) nothing) (λ c. ap (λ z. times c (standing z)) none) (λ c. omega (arith, ap (λ z. times c (cowns_of z)) none));
+        laws = nowhere (at s) (at t) (queue s) who k.laws other (λ c. ap (times c) nothing)
+            (λ c. ap (λ z. times c (standing z)) none) (λ c. omega (arith, ap (λ z. times c (cowns_of z)) none));
         waiting = waits_on (at s) (at t) (queue s) who but k.waiting other (ap waits none);
-        fits = fits_gone p (members p s) (at s) (at t) who r k.fits other (ap row_of is ∙ ap row_at stage) (ap life is ∙ ap life_at stage) none;
+        fits = fits_gone p (members p s) (at s) (at t) who r k.fits other (ap row_of is ∙ ap row_at stage)
+            (ap life is ∙ ap life_at stage) none;
         queues_are = k.queues_are;
         in_range = range_kept p s but k who b None is (λ c h. absurd (omega (arith, h)));
         ready_once = once_kept p s but k who b None is ready_same;
         ready_only = only_kept p s but k who b None is ready_same;
         some = k.some;
-        counted = omega (arith, k.counted, opened_kept p s but k who b None is, unrecorded_kept p s but k who b None is asks_same);
+        counted = omega (
+          arith,
+          k.counted,
+          opened_kept p s but k who b None is,
+          unrecorded_kept p s but k who b None is asks_same,
+        );
         few = omega (arith, k.few, opened_kept p s but k who b None is);
       }
+
+-- ---- who leaves is first
+
+first_item : (xs : List ℕ) (x : ℕ) → slice_get xs 0 ≡ Some x → (rest : List ℕ) × (xs ≡ x ∷ rest)
+first_item [] x e = absurd (let f : None ≡ Some x = e in cc)
+first_item (y ∷ xs) x e = (xs, let f : Some y ≡ Some x = e in let same : y ≡ x = cc in ap (λ z. z ∷ xs) same)
+
+-- the next request that a behaviour leaves is first in its cown's list
+pub front_of_leaving : (p : Program) (s : State) (who : ℕ) (b : OpenBehaviour) (row i c : ℕ) → Core p s nobody
+    → IsDue s who b (Recorded row (Leaving i)) i c → (rest : List ℕ) × (queue s c ≡ who ∷ rest)
+front_of_leaving p s who b row i c k due =
+    let stands : standing (at s who) ≡ drop i b.cowns = ap standing due.is ∙ ap (λ z. standing_at z b.cowns) due.stage_is in
+    let there : 0 < times c (standing (at s who)) = omega (arith, ap (times c) stands, dropped_here b.cowns i c due.cown) in
+    first_item (queue s c) who (k.laws.first who c (ap holds due.is ∙ ap holds_at due.stage_is) there)

@@ -36,7 +36,8 @@ whole : (p : Program) (s : State) → Nearly p s nobody → IsSound p (stepped s
 whole p s n = sound_of p (stepped s) (core_stepped p s nobody n.core) n.requests n.steps
 
 -- a stage that has its next request
-stage_next : (b : OpenBehaviour) (st : Stage) → HasNextRequest st b.cowns → (c : OpenBehaviour) → Some (record b { stage = st }) ≡ Some c → HasNextRequest c.stage c.cowns
+stage_next : (b : OpenBehaviour) (st : Stage) → HasNextRequest st b.cowns → (c : OpenBehaviour)
+    → Some (record b { stage = st }) ≡ Some c → HasNextRequest c.stage c.cowns
 stage_next b st h c e =
     let same : ◌≡◌ {A = OpenBehaviour} (record b { stage = st }) c = cc in
     subst (λ (z : OpenBehaviour). HasNextRequest z.stage z.cowns) same h
@@ -47,7 +48,8 @@ none_next c e = absurd cc
 -- ---- the next request, or the spawn
 
 -- of the one step more some may be counted already
-module _ (p : Program) (s : State) (k : Core p s nobody) (who : ℕ) (r : OthersHaveRequests s who) (paid more : ℕ) (one : paid + more ≡ 1)
+module _ (p : Program) (s : State) (k : Core p s nobody) (who : ℕ) (r : OthersHaveRequests s who) (paid more : ℕ)
+    (one : paid + more ≡ 1)
     (count : s.steps + paid + 2 + sum_by owed s.behaviours ≡ steps_of_log s.log + sum_by made s.behaviours)
     (b : OpenBehaviour) (n : ℕ) (a : AsksOn s who b n)
     (few : n ≤ length b.cowns) (already : made (Some b) + more ≡ 1 + 2 * n) (nothing : owed (Some b) ≡ 0) where
@@ -57,7 +59,15 @@ module _ (p : Program) (s : State) (k : Core p s nobody) (who : ℕ) (r : Others
       record {
         core = keeps_asking p s k who b n a;
         requests = requests_put s who r b (Some b') a.is (stage_next b (Asking n false) l);
-        steps = omega (arith, put_sum owed s who b (Some b') a.is, put_sum made s who b (Some b') a.is, count, one, already, nothing);
+        steps = omega (
+          arith,
+          put_sum owed s who b (Some b') a.is,
+          put_sum made s who b (Some b') a.is,
+          count,
+          one,
+          already,
+          nothing,
+        );
       }
 
   goes_recorded : length b.cowns ≤ n → Nearly p (with_spawn p s who b) nobody
@@ -85,7 +95,8 @@ module _ (p : Program) (s : State) (k : Core p s nobody) (who : ℕ) (r : Others
 
   pub goes_asking : Nearly p (asking_on p s who b n) nobody
   goes_asking =
-      by_test (λ t. Nearly p t nobody) (nat_lt n (length b.cowns)) (with_stage s who b (Asking n false)) (with_spawn p s who b)
+      by_test (λ t. Nearly p t nobody) (nat_lt n (length b.cowns)) (with_stage s who b (Asking n false))
+      (with_spawn p s who b)
       (λ h. goes_on (ltb-true n (length b.cowns) h)) (λ h. goes_recorded (ltb-false n (length b.cowns) h))
 
 -- ---- Open
@@ -97,9 +108,21 @@ keeps_opens p s row t k m =
     let u = with_new s (child row w) in
     let b = child row w in
     let counts : u.steps + 1 + 2 + sum_by owed u.behaviours ≡ steps_of_log u.log + sum_by made u.behaviours =
-    omega (arith, k.steps_are, sum_by-append owed s.behaviours (Some b ∷ []), sum_by-append made s.behaviours (Some b ∷ [])) in
-    let g = goes_asking p u (keeps_new p s c row w m.may) (opened s) (λ v n x e. k.requests v x (sym (read_front s.behaviours (Some b) v n) ∙ e)) 1 0 (omega arith) counts b 0
-    (record { is = new_here p s c row w m.may; asks_is = refl; stands = refl; free = λ d ahead behind x e h. absurd (omega (arith, h)) }) (omega arith) (omega arith) refl in
+    omega (
+      arith,
+      k.steps_are,
+      sum_by-append owed s.behaviours (Some b ∷ []),
+      sum_by-append made s.behaviours (Some b ∷ []),
+    ) in
+    let g = goes_asking p u (keeps_new p s c row w m.may) (opened s)
+    (λ v n x e. k.requests v x (sym (read_front s.behaviours (Some b) v n) ∙ e)) 1 0 (omega arith) counts b 0
+    (record {
+      is = new_here p s c row w m.may;
+      asks_is = refl;
+      stands = refl;
+      free =
+          λ d ahead behind x e h. absurd (omega (arith, h));
+    }) (omega arith) (omega arith) refl in
     subst (IsSound p) (sym m.gives) (whole p (asking_on p u (opened s) b 0) g)
 
 -- ---- Swap
@@ -111,9 +134,11 @@ keeps_swaps p s who i t k m =
     let u = with_queue (with_stage s who b (Asking i true)) m.c (queue s m.c ++ (who ∷ [])) in
     subst (IsSound p) (sym m.gives) (whole p u (record {
       core = keeps_swap p s (core_of p s k) who b i m.c m.due;
-      requests = requests_put s who (λ v n. k.requests v) b (Some b') m.due.is (stage_next b (Asking i true) (slice_get_within b.cowns i m.c m.due.cown));
+      requests = requests_put s who (λ v n. k.requests v) b (Some b') m.due.is
+          (stage_next b (Asking i true) (slice_get_within b.cowns i m.c m.due.cown));
       steps = steps_put s k.steps_are who b (Some b') m.due.is 1 0 (steps_of_log s.log) (omega arith)
-          (let x : made (Some b) ≡ 1 + 2 * i = ap made_at m.due.stage_is in let y : owed (Some b) ≡ 0 = ap (λ z. owed_at z b.cowns) m.due.stage_is in omega (arith, x, y));
+          (let x : made (Some b) ≡ 1 + 2 * i = ap made_at m.due.stage_is in
+          let y : owed (Some b) ≡ 0 = ap (λ z. owed_at z b.cowns) m.due.stage_is in omega (arith, x, y));
     }))
 
 -- ---- Settle
@@ -122,17 +147,22 @@ pub keeps_settles : (p : Program) (s : State) (who i : ℕ) (t : State) → IsSo
 keeps_settles p s who i t k m =
     let b = m.this in
     let c = m.c in
-    let g = goes_asking p s (core_of p s k) who (λ v n. k.requests v) 0 1 (omega arith) (omega (arith, k.steps_are)) b (suc i) (record {
+    let g = goes_asking p s (core_of p s k) who (λ v n. k.requests v) 0 1 (omega arith) (omega (arith, k.steps_are)) b
+    (suc i) (record {
       is = m.due.is;
       asks_is = ap asks_at m.due.stage_is;
       stands = ap (λ z. standing_at z b.cowns) m.due.stage_is;
       free = λ d ahead behind x e h. elim (same_or_not d c) [
-        | inl q ↦ subst (λ (z : ℕ). 0 < times z (flagged (at s x))) (sym q) (m.free ahead behind x (ap (queue s) (sym q) ∙ e))
+        | inl q ↦ subst (λ (z : ℕ). 0 < times z (flagged (at s x))) (sym q)
+            (m.free ahead behind x (ap (queue s) (sym q) ∙ e))
         | inr n ↦ k.lawful.linked d ahead behind x who e
-            (subst (λ (cs : List ℕ). 0 < times d cs) (sym (ap settled m.due.is ∙ ap (λ z. settled_at z b.cowns) m.due.stage_is)) (subst (λ (z : ℕ). 0 < z) (taken_there b.cowns i c d m.due.cown n) h))
+            (subst (λ (cs : List ℕ). 0 < times d cs)
+            (sym (ap settled m.due.is ∙ ap (λ z. settled_at z b.cowns) m.due.stage_is))
+            (subst (λ (z : ℕ). 0 < z) (taken_there b.cowns i c d m.due.cown n) h))
       ];
     }) (omega (arith, slice_get_within b.cowns i c m.due.cown))
-    (let x : made (Some b) ≡ 2 + 2 * i = ap made_at m.due.stage_is in omega (arith, x)) (ap (λ z. owed_at z b.cowns) m.due.stage_is) in
+    (let x : made (Some b) ≡ 2 + 2 * i = ap made_at m.due.stage_is in omega (arith, x))
+    (ap (λ z. owed_at z b.cowns) m.due.stage_is) in
     subst (IsSound p) (sym m.gives) (whole p (asking_on p s who b (suc i)) g)
 
 -- ---- Flag
@@ -148,8 +178,10 @@ keeps_flags p s who i t k m =
     let z : made (Some b) ≡ 0 = ap made_at m.due.stage_is in
     subst (IsSound p) (sym m.gives) (whole p (with_stage s who b st) (record {
       core = keeps_flag p s who b m.row i m.c (core_of p s k) m.due;
-      requests = requests_put s who (λ v n. k.requests v) b (Some b') m.due.is (stage_next b st (next_flagging m.row b.cowns (suc i)));
-      steps = steps_put s k.steps_are who b (Some b') m.due.is 1 0 (steps_of_log s.log) (omega arith) (omega (arith, x, y, z, dropped_one b.cowns i low));
+      requests = requests_put s who (λ v n. k.requests v) b (Some b') m.due.is
+          (stage_next b st (next_flagging m.row b.cowns (suc i)));
+      steps = steps_put s k.steps_are who b (Some b') m.due.is 1 0 (steps_of_log s.log) (omega arith)
+          (omega (arith, x, y, z, dropped_one b.cowns i low));
     }))
 
 -- ---- Own
@@ -163,15 +195,22 @@ keeps_owns p s who t k m =
     let z : made (Some b) ≡ 0 = ap made_at m.stage_is in
     let ready : all_granted (at s) (queue s) who ≡ true → Nearly p (made_ready s who b r) nobody = λ h. record {
       core = keeps_ready p s nobody c who b r Owning m.is m.stage_is refl (λ cs. refl) refl (λ v f. absurd f) h;
-      requests = requests_put s who (λ v n. k.requests v) b (Some (record b { stage = Recorded r Ready })) m.is (stage_next b (Recorded r Ready) tt);
-      steps = steps_put s k.steps_are who b (Some (record b { stage = Recorded r Ready })) m.is 1 0 (steps_of_log s.log) (omega arith) (omega (arith, y, z));
+      requests = requests_put s who (λ v n. k.requests v) b (Some (record b { stage = Recorded r Ready })) m.is
+          (stage_next b (Recorded r Ready) tt);
+      steps = steps_put s k.steps_are who b (Some (record b { stage = Recorded r Ready })) m.is 1 0
+          (steps_of_log s.log) (omega arith) (omega (arith, y, z));
     } in
-    let waits : all_granted (at s) (queue s) who ≡ false → Nearly p (with_stage s who b (Recorded r Waiting)) nobody = λ h. record {
+    let waits : all_granted (at s) (queue s) who ≡ false
+    → Nearly p (with_stage s who b (Recorded r Waiting)) nobody = λ h. record {
       core = keeps_wait p s who b r c m.is m.stage_is h;
-      requests = requests_put s who (λ v n. k.requests v) b (Some (record b { stage = Recorded r Waiting })) m.is (stage_next b (Recorded r Waiting) tt);
-      steps = steps_put s k.steps_are who b (Some (record b { stage = Recorded r Waiting })) m.is 1 0 (steps_of_log s.log) (omega arith) (omega (arith, y, z));
+      requests = requests_put s who (λ v n. k.requests v) b (Some (record b { stage = Recorded r Waiting })) m.is
+          (stage_next b (Recorded r Waiting) tt);
+      steps = steps_put s k.steps_are who b (Some (record b { stage = Recorded r Waiting })) m.is 1 0
+          (steps_of_log s.log) (omega arith) (omega (arith, y, z));
     } in
-    subst (IsSound p) (sym m.gives) (whole p (owned s who b r) (by_test (λ u. Nearly p u nobody) (all_granted (at s) (queue s) who) (made_ready s who b r) (with_stage s who b (Recorded r Waiting)) ready waits))
+    subst (IsSound p) (sym m.gives) (whole p (owned s who b r)
+    (by_test (λ u. Nearly p u nobody) (all_granted (at s) (queue s) who) (made_ready s who b r)
+    (with_stage s who b (Recorded r Waiting)) ready waits))
 
 -- ---- Start
 
@@ -186,14 +225,17 @@ keeps_starts p s who row t k m =
     subst (IsSound p) (sym m.gives) (whole p u (record {
       core = keeps_start p s (core_of p s k) who b row m.rest m.is m.stage_is m.head;
       requests = requests_put s who (λ v n. k.requests v) b (Some b') m.is (stage_next b st tt);
-      steps = steps_put s k.steps_are who b (Some b') m.is 1 0 (steps_of_log u.log) (omega (arith, steps_started s.log row)) (omega (arith, y, z));
+      steps = steps_put s k.steps_are who b (Some b') m.is 1 0 (steps_of_log u.log)
+          (omega (arith, steps_started s.log row)) (omega (arith, y, z));
     }))
 
 -- ---- the next release, or gone
 
 -- to put nothing where something was put before is to put nothing at once
-gone_at_once : (s : State) (who : ℕ) (b : OpenBehaviour) (st : Stage) → with_behaviour (with_stage s who b st) who None ≡ with_behaviour s who None
-gone_at_once s who b st = ap (λ bs. let t : State = record s { behaviours = bs } in t) (set-set s.behaviours who (Some (record b { stage = st })) None)
+gone_at_once : (s : State) (who : ℕ) (b : OpenBehaviour) (st : Stage)
+    → with_behaviour (with_stage s who b st) who None ≡ with_behaviour s who None
+gone_at_once s who b st = ap (λ bs. let t : State = record s { behaviours = bs } in t)
+    (set-set s.behaviours who (Some (record b { stage = st })) None)
 
 -- the behaviour leaves from this request on, in a state of which all is known but that
 module _ (p : Program) (s : State) (but : ℕ → Type 0) (who : ℕ) (b : OpenBehaviour) (r n : ℕ) (is : at s who ≡ Some b)
@@ -206,7 +248,8 @@ module _ (p : Program) (s : State) (but : ℕ → Type 0) (who : ℕ) (b : OpenB
       record {
         core = core;
         requests = requests_put s who rest b (Some b') is (stage_next b (Recorded r (Leaving n)) l);
-        steps = steps_put s count who b (Some b') is 1 0 (steps_of_log s.log) (omega arith) (omega (arith, before, nothing));
+        steps = steps_put s count who b (Some b') is 1 0 (steps_of_log s.log) (omega arith)
+            (omega (arith, before, nothing));
       }
 
   leaves_none : length b.cowns ≤ n → Nearly p (with_behaviour s who None) but
@@ -214,19 +257,23 @@ module _ (p : Program) (s : State) (but : ℕ → Type 0) (who : ℕ) (b : OpenB
       let b' : OpenBehaviour = record b { stage = Recorded r (Leaving n) } in
       record {
         core = subst (λ (t : State). Core p t but) (gone_at_once s who b (Recorded r (Leaving n)))
-            (keeps_gone p (with_stage s who b (Recorded r (Leaving n))) but core who b' r n (put_here s who b (Some b') is) refl l);
+            (keeps_gone p (with_stage s who b (Recorded r (Leaving n))) but core who b' r n
+            (put_here s who b (Some b') is) refl l);
         requests = requests_put s who rest b None is none_next;
-        steps = steps_put s count who b None is 1 0 (steps_of_log s.log) (omega arith) (omega (arith, before, nothing, dropped_all b.cowns n l));
+        steps = steps_put s count who b None is 1 0 (steps_of_log s.log) (omega arith)
+            (omega (arith, before, nothing, dropped_all b.cowns n l));
       }
 
   pub goes_leaving : Nearly p (leaving_on s who b r n) but
   goes_leaving =
-      by_test (λ t. Nearly p t but) (nat_lt n (length b.cowns)) (with_stage s who b (Recorded r (Leaving n))) (with_behaviour s who None)
+      by_test (λ t. Nearly p t but) (nat_lt n (length b.cowns)) (with_stage s who b (Recorded r (Leaving n)))
+      (with_behaviour s who None)
       (λ h. leaves_on (ltb-true n (length b.cowns) h)) (λ h. leaves_none (ltb-false n (length b.cowns) h))
 
 -- ---- Finish
 
-pub keeps_finishes : (p : Program) (s : State) (who row : ℕ) (t : State) → IsSound p s → Finishes p s who row t → IsSound p t
+pub keeps_finishes : (p : Program) (s : State) (who row : ℕ) (t : State) → IsSound p s → Finishes p s who row t
+    → IsSound p t
 keeps_finishes p s who row t k m =
     let b = m.this in
     let e : Event = events.End row m.ticks m.status (record { items = m.written }) in
@@ -234,7 +281,11 @@ keeps_finishes p s who row t k m =
     let z : made (Some b) ≡ 0 = ap made_at m.stage_is in
     let g = goes_leaving p (noted s e) nobody who b row 0 m.is
     (keeps_end p s (core_of p s k) who b row m.ticks m.status m.written m.is m.stage_is m.none_open m.may)
-    (λ v n. k.requests v) (omega (arith, k.steps_are, steps_ended s.log row m.ticks m.status (record { items = m.written }))) (omega (arith, y)) z in
+    (λ v n. k.requests v) (omega (
+      arith,
+      k.steps_are,
+      steps_ended s.log row m.ticks m.status (record { items = m.written }),
+    )) (omega (arith, y)) z in
     subst (IsSound p) (sym m.gives) (whole p (leaving_on (noted s e) who b row 0) g)
 
 -- ---- Unhook
@@ -242,12 +293,14 @@ keeps_finishes p s who row t k m =
 -- of nobody behind, nobody is first
 none_first : (p : Program) (s : State) → Nearly p s (λ v. is_first v [] ≡ true) → Nearly p s nobody
 none_first p s n = record {
-  core = core_with p s (λ v. is_first v [] ≡ true) n.core (λ v h f. n.core.waiting v h (λ g. let e : false ≡ true = g in cc));
+  core = core_with p s (λ v. is_first v [] ≡ true) n.core
+      (λ v h f. n.core.waiting v h (λ g. let e : false ≡ true = g in cc));
   requests = n.requests;
   steps = n.steps;
 }
 
-pub keeps_unhooks : (p : Program) (s : State) (who row i : ℕ) (t : State) → IsSound p s → Unhooks s who row i t → IsSound p t
+pub keeps_unhooks : (p : Program) (s : State) (who row i : ℕ) (t : State) → IsSound p s → Unhooks s who row i t
+    → IsSound p t
 keeps_unhooks p s who row i t k m =
     let b = m.this in
     let low = slice_get_within b.cowns i m.c m.due.cown in
@@ -256,12 +309,14 @@ keeps_unhooks p s who row i t k m =
     let g = goes_leaving p (with_queue s m.c []) (λ v. is_first v [] ≡ true) who b row (suc i) m.due.is
     (keeps_release p s (core_of p s k) who b row i m.c [] m.due m.alone)
     (λ v n. k.requests v) k.steps_are (omega (arith, y, dropped_one b.cowns i low)) z in
-    subst (IsSound p) (sym m.gives) (whole p (leaving_on (with_queue s m.c []) who b row (suc i)) (none_first p (leaving_on (with_queue s m.c []) who b row (suc i)) g))
+    subst (IsSound p) (sym m.gives) (whole p (leaving_on (with_queue s m.c []) who b row (suc i))
+    (none_first p (leaving_on (with_queue s m.c []) who b row (suc i)) g))
 
 -- ---- Pass
 
 -- whoever may be due to be woken is this one
-module _ (p : Program) (s : State) (but : ℕ → Type 0) (n : Nearly p s but) (next : ℕ) (only : (v : ℕ) → but v → v ≡ next) where
+module _ (p : Program) (s : State) (but : ℕ → Type 0) (n : Nearly p s but) (next : ℕ)
+    (only : (v : ℕ) → but v → v ≡ next) where
   -- it isn't due
   stays : (waits (at s next) ≡ true → all_granted (at s) (queue s) next ≡ false) → Nearly p s nobody
   stays mine = record {
@@ -273,10 +328,13 @@ module _ (p : Program) (s : State) (but : ℕ → Type 0) (n : Nearly p s but) (
     steps = n.steps;
   }
 
-  not_waiting : (b : OpenBehaviour) (st : Stage) → at s next ≡ Some b → b.stage ≡ st → waits_at st ≡ false → Nearly p s nobody
-  not_waiting b st is e isnt = stays (λ h. absurd (let f : false ≡ true = sym (ap waits is ∙ ap waits_at e ∙ isnt) ∙ h in cc))
+  not_waiting : (b : OpenBehaviour) (st : Stage) → at s next ≡ Some b → b.stage ≡ st → waits_at st ≡ false
+      → Nearly p s nobody
+  not_waiting b st is e isnt = stays (λ h. absurd
+      (let f : false ≡ true = sym (ap waits is ∙ ap waits_at e ∙ isnt) ∙ h in cc))
 
-  wakes : (b : OpenBehaviour) (r : ℕ) → at s next ≡ Some b → b.stage ≡ Recorded r Waiting → all_granted (at s) (queue s) next ≡ true → Nearly p (made_ready s next b r) nobody
+  wakes : (b : OpenBehaviour) (r : ℕ) → at s next ≡ Some b → b.stage ≡ Recorded r Waiting
+      → all_granted (at s) (queue s) next ≡ true → Nearly p (made_ready s next b r) nobody
   wakes b r is e h =
       let b' : OpenBehaviour = record b { stage = Recorded r Ready } in
       let y : owed (Some b) ≡ 2 + length b.cowns = ap (λ z. owed_at z b.cowns) e in
@@ -287,12 +345,14 @@ module _ (p : Program) (s : State) (but : ℕ → Type 0) (n : Nearly p s but) (
         steps = omega (arith, n.steps, put_sum owed s next b (Some b') is, put_sum made s next b (Some b') is, y, z);
       }
 
-  woken_stage : (b : OpenBehaviour) (st : Stage) → at s next ≡ Some b → b.stage ≡ st → Nearly p (woken_at s next b st) nobody
+  woken_stage : (b : OpenBehaviour) (st : Stage) → at s next ≡ Some b → b.stage ≡ st
+      → Nearly p (woken_at s next b st) nobody
   woken_stage b (Asking i x) is e = not_waiting b (Asking i x) is e refl
   woken_stage b (Recorded r (Flagging i)) is e = not_waiting b (Recorded r (Flagging i)) is e refl
   woken_stage b (Recorded r Owning) is e = not_waiting b (Recorded r Owning) is e refl
   woken_stage b (Recorded r Waiting) is e =
-      by_test (λ t. Nearly p t nobody) (all_granted (at s) (queue s) next) (made_ready s next b r) s (wakes b r is e) (λ h. stays (λ w. h))
+      by_test (λ t. Nearly p t nobody) (all_granted (at s) (queue s) next) (made_ready s next b r) s (wakes b r is e)
+      (λ h. stays (λ w. h))
   woken_stage b (Recorded r Ready) is e = not_waiting b (Recorded r Ready) is e refl
   woken_stage b (Recorded r phases.Running) is e = not_waiting b (Recorded r phases.Running) is e refl
   woken_stage b (Recorded r (Leaving i)) is e = not_waiting b (Recorded r (Leaving i)) is e refl
@@ -304,7 +364,8 @@ module _ (p : Program) (s : State) (but : ℕ → Type 0) (n : Nearly p s but) (
   pub goes_woken : Nearly p (woken s next) nobody
   goes_woken = woken_at_all (at s next) refl
 
-pub keeps_passes : (p : Program) (s : State) (who row i : ℕ) (t : State) → IsSound p s → Passes s who row i t → IsSound p t
+pub keeps_passes : (p : Program) (s : State) (who row i : ℕ) (t : State) → IsSound p s → Passes s who row i t
+    → IsSound p t
 keeps_passes p s who row i t k m =
     let b = m.this in
     let behind = m.next ∷ m.rest in
@@ -315,7 +376,8 @@ keeps_passes p s who row i t k m =
     let g = goes_leaving p (with_queue s m.c behind) (λ v. is_first v behind ≡ true) who b row (suc i) m.due.is
     (keeps_release p s (core_of p s k) who b row i m.c behind m.due m.front)
     (λ v n. k.requests v) k.steps_are (omega (arith, y, dropped_one b.cowns i low)) z in
-    subst (IsSound p) (sym m.gives) (whole p (woken u m.next) (goes_woken p u (λ v. is_first v behind ≡ true) g m.next (λ v h. is_first_of behind m.next v refl h)))
+    subst (IsSound p) (sym m.gives) (whole p (woken u m.next)
+    (goes_woken p u (λ v. is_first v behind ≡ true) g m.next (λ v h. is_first_of behind m.next v refl h)))
 
 -- ---- all nine
 

@@ -14,8 +14,10 @@ use Rattle.boc_machine.proofs.Lists.{same_or_not, not_eq, not_true, and_true, ti
 pub record Laws (at : ℕ → Option OpenBehaviour) (queue : ℕ → List ℕ) : Type 0 where
   pub stands : (who c : ℕ) → times who (queue c) ≡ times c (standing (at who))
   pub once : (who c : ℕ) → times c (cowns_of (at who)) ≤ 1
-  pub linked : (c : ℕ) (ahead behind : List ℕ) (x y : ℕ) → queue c ≡ ahead ++ (x ∷ (y ∷ behind)) → 0 < times c (settled (at y)) → 0 < times c (flagged (at x))
-  pub ordered : (c : ℕ) (ahead mid behind : List ℕ) (x y : ℕ) → queue c ≡ ahead ++ (x ∷ (mid ++ (y ∷ behind))) → InOrder (row_of (at x)) (row_of (at y))
+  pub linked : (c : ℕ) (ahead behind : List ℕ) (x y : ℕ) → queue c ≡ ahead ++ (x ∷ (y ∷ behind))
+      → 0 < times c (settled (at y)) → 0 < times c (flagged (at x))
+  pub ordered : (c : ℕ) (ahead mid behind : List ℕ) (x y : ℕ) → queue c ≡ ahead ++ (x ∷ (mid ++ (y ∷ behind)))
+      → InOrder (row_of (at x)) (row_of (at y))
   pub first : (who c : ℕ) → holds (at who) ≡ true → 0 < times c (standing (at who)) → slice_get (queue c) 0 ≡ Some who
 
 -- the law of who waits, but for some
@@ -27,20 +29,37 @@ abbrev pub nobody : ℕ → Type 0
 nobody who = ⊥
 
 pub laws_of : (at : ℕ → Option OpenBehaviour) (queue : ℕ → List ℕ) → Lawful at queue → Laws at queue
-laws_of at queue l = record { stands = l.stands; once = l.once; linked = l.linked; ordered = l.ordered; first = l.first }
+laws_of at queue l = record {
+  stands = l.stands;
+  once = l.once;
+  linked = l.linked;
+  ordered = l.ordered;
+  first =
+      l.first;
+}
 
 pub waits_of : (at : ℕ → Option OpenBehaviour) (queue : ℕ → List ℕ) → Lawful at queue → WaitsBut at queue nobody
 waits_of at queue l who h none = l.waiting who h
 
-pub lawful_of : (at : ℕ → Option OpenBehaviour) (queue : ℕ → List ℕ) → Laws at queue → WaitsBut at queue nobody → Lawful at queue
-lawful_of at queue l w = record { stands = l.stands; once = l.once; linked = l.linked; ordered = l.ordered; first = l.first; waiting = λ who h. w who h (λ n. n) }
+pub lawful_of : (at : ℕ → Option OpenBehaviour) (queue : ℕ → List ℕ) → Laws at queue → WaitsBut at queue nobody
+    → Lawful at queue
+lawful_of at queue l w = record {
+  stands = l.stands;
+  once = l.once;
+  linked = l.linked;
+  ordered = l.ordered;
+  first =
+      l.first;
+  waiting = λ who h. w who h (λ n. n);
+}
 
 -- the behaviours but one are as they were
 abbrev pub OthersStay : (ℕ → Option OpenBehaviour) → (ℕ → Option OpenBehaviour) → ℕ → Type 0
 OthersStay at at' who = (w : ℕ) → w ≢ who → at' w ≡ at w
 
 -- the number, the cown
-pub kept : {X : Type 0} (f : Option OpenBehaviour → X) (at at' : ℕ → Option OpenBehaviour) (who : ℕ) → OthersStay at at' who → f (at' who) ≡ f (at who) → (w : ℕ) → f (at' w) ≡ f (at w)
+pub kept : {X : Type 0} (f : Option OpenBehaviour → X) (at at' : ℕ → Option OpenBehaviour) (who : ℕ)
+    → OthersStay at at' who → f (at' who) ≡ f (at who) → (w : ℕ) → f (at' w) ≡ f (at w)
 kept f at at' who other same w =
     elim (same_or_not w who) [
       | inl e ↦ ap (λ v. f (at' v)) e ∙ same ∙ ap (λ v. f (at v)) (sym e)
@@ -48,7 +67,8 @@ kept f at at' who other same w =
     ]
 
 -- a fact of the behaviour of a number, for the one that changed and for the others
-pub at_each : (P : ℕ → Option OpenBehaviour → Type 0) (at at' : ℕ → Option OpenBehaviour) (who : ℕ) → OthersStay at at' who → P who (at' who) → ((w : ℕ) → w ≢ who → P w (at w)) → (w : ℕ) → P w (at' w)
+pub at_each : (P : ℕ → Option OpenBehaviour → Type 0) (at at' : ℕ → Option OpenBehaviour) (who : ℕ)
+    → OthersStay at at' who → P who (at' who) → ((w : ℕ) → w ≢ who → P w (at w)) → (w : ℕ) → P w (at' w)
 at_each P at at' who other here there w =
     elim (same_or_not w who) [
       | inl e ↦ subst (λ (v : ℕ). P v (at' v)) (sym e) here
@@ -80,7 +100,8 @@ standing_le c None = omega arith
 standing_le c (Some b) = standing_at_le c b.stage b.cowns
 
 -- no behaviour stands twice in a list
-pub not_twice : (at : ℕ → Option OpenBehaviour) (queue : ℕ → List ℕ) → Laws at queue → (c : ℕ) (ahead mid behind : List ℕ) (x y : ℕ) → queue c ≡ ahead ++ (x ∷ (mid ++ (y ∷ behind))) → x ≢ y
+pub not_twice : (at : ℕ → Option OpenBehaviour) (queue : ℕ → List ℕ) → Laws at queue
+    → (c : ℕ) (ahead mid behind : List ℕ) (x y : ℕ) → queue c ≡ ahead ++ (x ∷ (mid ++ (y ∷ behind))) → x ≢ y
 not_twice at queue l c ahead mid behind x y e s =
     let all : times x (queue c) ≡ times x (ahead ++ (x ∷ (mid ++ (y ∷ behind)))) = ap (times x) e in
     let a = times-append x ahead (x ∷ (mid ++ (y ∷ behind))) in
@@ -101,7 +122,8 @@ flagged_recorded c None h = absurd (omega arith)
 flagged_recorded c (Some b) h = flagged_at_recorded c b.stage b.cowns h
 
 in_order_at : (p p' q q' : Option ℕ) → p' ≡ p → q' ≡ q → InOrder p q → InOrder p' q'
-in_order_at p p' q q' e f h = subst (λ (z : Option ℕ). InOrder z q') (sym e) (subst (λ (z : Option ℕ). InOrder p z) (sym f) h)
+in_order_at p p' q q' e f h = subst (λ (z : Option ℕ). InOrder z q') (sym e)
+    (subst (λ (z : Option ℕ). InOrder p z) (sym f) h)
 
 after_unrecorded : (p q : Option ℕ) → InOrder None q → InOrder p q
 after_unrecorded None None h = tt
@@ -118,43 +140,66 @@ ahead_of_recorded None s h = absurd h
 ahead_of_recorded (Some r) s h = (r, refl)
 
 -- the part of `ordered` where no row changes
-pub ordered_kept : (at at' : ℕ → Option OpenBehaviour) (queue : ℕ → List ℕ) (who : ℕ) → Laws at queue → OthersStay at at' who → row_of (at' who) ≡ row_of (at who)
-    → (c : ℕ) (ahead mid behind : List ℕ) (x y : ℕ) → queue c ≡ ahead ++ (x ∷ (mid ++ (y ∷ behind))) → InOrder (row_of (at' x)) (row_of (at' y))
+pub ordered_kept : (at at' : ℕ → Option OpenBehaviour) (queue : ℕ → List ℕ) (who : ℕ) → Laws at queue
+    → OthersStay at at' who → row_of (at' who) ≡ row_of (at who)
+    → (c : ℕ) (ahead mid behind : List ℕ) (x y : ℕ) → queue c ≡ ahead ++ (x ∷ (mid ++ (y ∷ behind)))
+    → InOrder (row_of (at' x)) (row_of (at' y))
 ordered_kept at at' queue who l other same c ahead mid behind x y e =
     let k = kept row_of at at' who other same in
-    in_order_at (row_of (at x)) (row_of (at' x)) (row_of (at y)) (row_of (at' y)) (k x) (k y) (l.ordered c ahead mid behind x y e)
+    in_order_at (row_of (at x)) (row_of (at' x)) (row_of (at y)) (row_of (at' y)) (k x) (k y)
+    (l.ordered c ahead mid behind x y e)
+
+-- all ahead of a behaviour are recorded, if whoever stands right before it is flagged
+recorded_ahead : (at : ℕ → Option OpenBehaviour) (queue : ℕ → List ℕ) (who : ℕ) → Laws at queue
+    → ((c : ℕ) (ahead behind : List ℕ) (x : ℕ) → queue c ≡ ahead ++ (x ∷ (who ∷ behind)) → 0 < times c (flagged (at x)))
+    → (c : ℕ) (ahead mid behind : List ℕ) (x y : ℕ) → queue c ≡ ahead ++ (x ∷ (mid ++ (y ∷ behind))) → y ≡ who
+    → (r : ℕ) × (row_of (at x) ≡ Some r)
+recorded_ahead at queue who l linked c ahead mid behind x y e y_is =
+    elim (last_of mid) [
+      | inl none ↦
+          let here : queue c ≡ ahead ++ (x ∷ (who ∷ behind)) = e ∙ ap (λ zs. ahead ++ (x ∷ (zs ++ (y ∷ behind)))) none
+          ∙ ap (λ z. ahead ++ (x ∷ (z ∷ behind))) y_is in
+          flagged_recorded c (at x) (linked c ahead behind x here)
+      | inr p ↦
+          let split : mid ++ (y ∷ behind) ≡ p.0 ++ (p.1 ∷ (y ∷ behind)) = ap (λ zs. zs ++ (y ∷ behind)) p.2
+          ∙ append_assoc p.0 (p.1 ∷ []) (y ∷ behind) in
+          let whole : queue c ≡ ahead ++ (x ∷ (p.0 ++ (p.1 ∷ (y ∷ behind)))) = e ∙ ap (λ zs. ahead ++ (x ∷ zs)) split in
+          let near : queue c ≡ (ahead ++ (x ∷ p.0)) ++ (p.1 ∷ (who ∷ behind)) = whole
+          ∙ sym (append_assoc ahead (x ∷ p.0) (p.1 ∷ (y ∷ behind)))
+          ∙ ap (λ z. (ahead ++ (x ∷ p.0)) ++ (p.1 ∷ (z ∷ behind))) y_is in
+          let f = flagged_recorded c (at p.1) (linked c (ahead ++ (x ∷ p.0)) behind p.1 near) in
+          ahead_of_recorded (row_of (at x)) f.0
+          (subst (λ (q : Option ℕ). InOrder (row_of (at x)) q) f.1 (l.ordered c ahead p.0 (y ∷ behind) x p.1 whole))
+    ]
 
 -- the part of `ordered` where the last request is settled, and the spawn is recorded under a new row
-pub ordered_recorded : (at at' : ℕ → Option OpenBehaviour) (queue : ℕ → List ℕ) (who n : ℕ) → Laws at queue → OthersStay at at' who
+pub ordered_recorded : (at at' : ℕ → Option OpenBehaviour) (queue : ℕ → List ℕ) (who n : ℕ) → Laws at queue
+    → OthersStay at at' who
     → row_of (at who) ≡ None → row_of (at' who) ≡ Some n
     → ((w r : ℕ) → row_of (at w) ≡ Some r → r < n)
     → ((c : ℕ) (ahead behind : List ℕ) (x : ℕ) → queue c ≡ ahead ++ (x ∷ (who ∷ behind)) → 0 < times c (flagged (at x)))
-    → (c : ℕ) (ahead mid behind : List ℕ) (x y : ℕ) → queue c ≡ ahead ++ (x ∷ (mid ++ (y ∷ behind))) → InOrder (row_of (at' x)) (row_of (at' y))
+    → (c : ℕ) (ahead mid behind : List ℕ) (x y : ℕ) → queue c ≡ ahead ++ (x ∷ (mid ++ (y ∷ behind)))
+    → InOrder (row_of (at' x)) (row_of (at' y))
 ordered_recorded at at' queue who n l other was is below linked c ahead mid behind x y e =
     let differ = not_twice at queue l c ahead mid behind x y e in
     elim (same_or_not y who) [
       | inl y_is ↦
           let x_other : x ≢ who = λ h. differ (h ∙ sym y_is) in
-          -- all ahead of a flagged one are recorded
-          let recorded : (r : ℕ) × (row_of (at x) ≡ Some r) = elim (last_of mid) [
-            | inl none ↦
-                let here : queue c ≡ ahead ++ (x ∷ (who ∷ behind)) = e ∙ ap (λ zs. ahead ++ (x ∷ (zs ++ (y ∷ behind)))) none ∙ ap (λ z. ahead ++ (x ∷ (z ∷ behind))) y_is in
-                flagged_recorded c (at x) (linked c ahead behind x here)
-            | inr p ↦
-                let split : mid ++ (y ∷ behind) ≡ p.0 ++ (p.1 ∷ (y ∷ behind)) = ap (λ zs. zs ++ (y ∷ behind)) p.2 ∙ append_assoc p.0 (p.1 ∷ []) (y ∷ behind) in
-                let whole : queue c ≡ ahead ++ (x ∷ (p.0 ++ (p.1 ∷ (y ∷ behind)))) = e ∙ ap (λ zs. ahead ++ (x ∷ zs)) split in
-                let near : queue c ≡ (ahead ++ (x ∷ p.0)) ++ (p.1 ∷ (who ∷ behind)) = whole ∙ sym (append_assoc ahead (x ∷ p.0) (p.1 ∷ (y ∷ behind))) ∙ ap (λ z. (ahead ++ (x ∷ p.0)) ++ (p.1 ∷ (z ∷ behind))) y_is in
-                let f = flagged_recorded c (at p.1) (linked c (ahead ++ (x ∷ p.0)) behind p.1 near) in
-                ahead_of_recorded (row_of (at x)) f.0 (subst (λ (q : Option ℕ). InOrder (row_of (at x)) q) f.1 (l.ordered c ahead p.0 (y ∷ behind) x p.1 whole))
-          ] in
-          in_order_at (Some recorded.0) (row_of (at' x)) (Some n) (row_of (at' y)) (ap row_of (other x x_other) ∙ recorded.1) (ap (λ z. row_of (at' z)) y_is ∙ is) (below x recorded.0 recorded.1)
+          let recorded = recorded_ahead at queue who l linked c ahead mid behind x y e y_is in
+          in_order_at (Some recorded.0) (row_of (at' x)) (Some n) (row_of (at' y))
+          (ap row_of (other x x_other) ∙ recorded.1) (ap (λ z. row_of (at' z)) y_is ∙ is)
+          (below x recorded.0 recorded.1)
       | inr y_other ↦
           let q : row_of (at' y) ≡ row_of (at y) = ap row_of (other y y_other) in
           elim (same_or_not x who) [
             | inl x_is ↦
-                let old : InOrder None (row_of (at y)) = subst (λ (p : Option ℕ). InOrder p (row_of (at y))) (ap (λ z. row_of (at z)) x_is ∙ was) (l.ordered c ahead mid behind x y e) in
-                in_order_at (row_of (at' x)) (row_of (at' x)) (row_of (at y)) (row_of (at' y)) refl q (after_unrecorded (row_of (at' x)) (row_of (at y)) old)
-            | inr x_other ↦ in_order_at (row_of (at x)) (row_of (at' x)) (row_of (at y)) (row_of (at' y)) (ap row_of (other x x_other)) q (l.ordered c ahead mid behind x y e)
+                let old : InOrder None (row_of (at y)) =
+                subst (λ (p : Option ℕ). InOrder p (row_of (at y))) (ap (λ z. row_of (at z)) x_is ∙ was)
+                (l.ordered c ahead mid behind x y e) in
+                in_order_at (row_of (at' x)) (row_of (at' x)) (row_of (at y)) (row_of (at' y)) refl q
+                (after_unrecorded (row_of (at' x)) (row_of (at y)) old)
+            | inr x_other ↦ in_order_at (row_of (at x)) (row_of (at' x)) (row_of (at y)) (row_of (at' y))
+                (ap row_of (other x x_other)) q (l.ordered c ahead mid behind x y e)
           ]
     ]
 
@@ -162,9 +207,11 @@ ordered_recorded at at' queue who n l other was is below linked c ahead mid behi
 pub relabel : (at at' : ℕ → Option OpenBehaviour) (queue : ℕ → List ℕ) (who : ℕ) → Laws at queue → OthersStay at at' who
     → ((c : ℕ) → times c (standing (at' who)) ≡ times c (standing (at who)))
     → cowns_of (at' who) ≡ cowns_of (at who)
-    → ((c : ℕ) (ahead behind : List ℕ) (x : ℕ) → queue c ≡ ahead ++ (x ∷ (who ∷ behind)) → 0 < times c (settled (at' who)) → 0 < times c (flagged (at x)))
+    → ((c : ℕ) (ahead behind : List ℕ) (x : ℕ) → queue c ≡ ahead ++ (x ∷ (who ∷ behind))
+    → 0 < times c (settled (at' who)) → 0 < times c (flagged (at x)))
     → ((c : ℕ) → 0 < times c (flagged (at who)) → 0 < times c (flagged (at' who)))
-    → ((c : ℕ) (ahead mid behind : List ℕ) (x y : ℕ) → queue c ≡ ahead ++ (x ∷ (mid ++ (y ∷ behind))) → InOrder (row_of (at' x)) (row_of (at' y)))
+    → ((c : ℕ) (ahead mid behind : List ℕ) (x y : ℕ) → queue c ≡ ahead ++ (x ∷ (mid ++ (y ∷ behind)))
+    → InOrder (row_of (at' x)) (row_of (at' y)))
     → ((c : ℕ) → holds (at' who) ≡ true → 0 < times c (standing (at who)) → slice_get (queue c) 0 ≡ Some who)
     → Laws at' queue
 relabel at at' queue who l other stand cowns settle flag order front = record {
@@ -172,15 +219,20 @@ relabel at at' queue who l other stand cowns settle flag order front = record {
   once = λ w c. subst (λ (cs : List ℕ). times c cs ≤ 1) (sym (kept cowns_of at at' who other cowns w)) (l.once w c);
   linked = λ c ahead behind x y e s.
       let up : 0 < times c (flagged (at x)) → 0 < times c (flagged (at' x)) =
-      at_each (λ w b. 0 < times c (flagged (at w)) → 0 < times c (flagged b)) at at' who other (flag c) (λ w n h. h) x in
-      up (at_each (λ w b. queue c ≡ ahead ++ (x ∷ (w ∷ behind)) → 0 < times c (settled b) → 0 < times c (flagged (at x))) at at' who other (settle c ahead behind x) (λ w n f h. l.linked c ahead behind x w f h) y e s);
+      at_each (λ w b. 0 < times c (flagged (at w)) → 0 < times c (flagged b)) at at' who other (flag c)
+      (λ w n h. h) x in
+      up (at_each (λ w b. queue c ≡ ahead ++ (x ∷ (w ∷ behind)) → 0 < times c (settled b)
+      → 0 < times c (flagged (at x))) at at' who other (settle c ahead behind x)
+      (λ w n f h. l.linked c ahead behind x w f h) y e s);
   ordered = order;
-  first = λ w c. at_each (λ v b. holds b ≡ true → 0 < times c (standing b) → slice_get (queue c) 0 ≡ Some v) at at' who other
+  first = λ w c. at_each (λ v b. holds b ≡ true → 0 < times c (standing b)
+      → slice_get (queue c) 0 ≡ Some v) at at' who other
       (λ h s. front c h (subst (λ (k : ℕ). 0 < k) (stand c) s)) (λ v n h s. l.first v c h s) w;
 }
 
 -- who stands in the list of c at most once
-stands_once : (at : ℕ → Option OpenBehaviour) (queue : ℕ → List ℕ) → Laws at queue → (who c : ℕ) → times who (queue c) ≤ 1
+stands_once : (at : ℕ → Option OpenBehaviour) (queue : ℕ → List ℕ) → Laws at queue → (who c : ℕ)
+    → times who (queue c) ≤ 1
 stands_once at queue l who c = omega (arith, l.stands who c, standing_le c (at who), l.once who c)
 
 head_stays : (q : List ℕ) (w v : ℕ) → slice_get q 0 ≡ Some v → slice_get (q ++ (w ∷ [])) 0 ≡ Some v
@@ -188,7 +240,8 @@ head_stays [] w v e = absurd (let f : None ≡ Some v = e in cc)
 head_stays (x ∷ q) w v e = e
 
 -- which list: that of c, or another
-by_cown : (P : ℕ → List ℕ → Type 0) (queue queue' : ℕ → List ℕ) (c0 : ℕ) → ((c : ℕ) → c ≢ c0 → queue' c ≡ queue c) → P c0 (queue' c0) → ((c : ℕ) → c ≢ c0 → P c (queue c)) → (c : ℕ) → P c (queue' c)
+by_cown : (P : ℕ → List ℕ → Type 0) (queue queue' : ℕ → List ℕ) (c0 : ℕ) → ((c : ℕ) → c ≢ c0 → queue' c ≡ queue c)
+    → P c0 (queue' c0) → ((c : ℕ) → c ≢ c0 → P c (queue c)) → (c : ℕ) → P c (queue' c)
 by_cown P queue queue' c0 elsewhere here there c =
     elim (same_or_not c c0) [
       | inl e ↦ subst (λ (d : ℕ). P d (queue' d)) (sym e) here
@@ -210,43 +263,58 @@ pub record Exchanges (at at' : ℕ → Option OpenBehaviour) (queue queue' : ℕ
   pub holds_not : holds (at' who) ≡ false
 
 -- a request goes last in its cown's list
-pub exchange : (at at' : ℕ → Option OpenBehaviour) (queue queue' : ℕ → List ℕ) (who c0 : ℕ) → Laws at queue → Exchanges at at' queue queue' who c0 → Laws at' queue'
+pub exchange : (at at' : ℕ → Option OpenBehaviour) (queue queue' : ℕ → List ℕ) (who c0 : ℕ) → Laws at queue
+    → Exchanges at at' queue queue' who c0 → Laws at' queue'
 exchange at at' queue queue' who c0 l h =
     let set : (w : ℕ) → settled (at' w) ≡ settled (at w) = kept settled at at' who h.other h.settled_same in
     let flag : (w : ℕ) → flagged (at' w) ≡ flagged (at w) = kept flagged at at' who h.other h.flagged_same in
-    let rows : (w : ℕ) → row_of (at' w) ≡ row_of (at w) = kept row_of at at' who h.other (h.still_none ∙ sym h.no_row) in
+    let rows : (w : ℕ) → row_of (at' w) ≡ row_of (at w) =
+    kept row_of at at' who h.other (h.still_none ∙ sym h.no_row) in
     record {
       stands = λ w c.
           by_cown (λ d q. times w q ≡ times d (standing (at' w))) queue queue' c0 h.elsewhere
           (at_each (λ v b. times v (queue' c0) ≡ times c0 (standing b)) at at' who h.other
-          (ap (times who) h.longer ∙ times-append who (queue c0) (who ∷ []) ∙ omega (arith, times-here who [], l.stands who c0, h.here))
-          (λ v n. ap (times v) h.longer ∙ times-append v (queue c0) (who ∷ []) ∙ omega (arith, times-other v who [] (λ e. n (sym e)), l.stands v c0)) w)
-          (λ d n. at_each (λ v b. times v (queue d) ≡ times d (standing b)) at at' who h.other (l.stands who d ∙ sym (h.there d n)) (λ v m. l.stands v d) w)
+          (ap (times who) h.longer ∙ times-append who (queue c0) (who ∷ [])
+          ∙ omega (arith, times-here who [], l.stands who c0, h.here))
+          (λ v n. ap (times v) h.longer ∙ times-append v (queue c0) (who ∷ [])
+          ∙ omega (arith, times-other v who [] (λ e. n (sym e)), l.stands v c0)) w)
+          (λ d n. at_each (λ v b. times v (queue d) ≡ times d (standing b)) at at' who h.other
+          (l.stands who d ∙ sym (h.there d n)) (λ v m. l.stands v d) w)
           c;
-      once = λ w c. subst (λ (cs : List ℕ). times c cs ≤ 1) (sym (kept cowns_of at at' who h.other h.cowns w)) (l.once w c);
+      once = λ w c. subst (λ (cs : List ℕ). times c cs ≤ 1) (sym (kept cowns_of at at' who h.other h.cowns w))
+          (l.once w c);
       linked = λ c ahead behind x y e s.
           let s' : 0 < times c (settled (at y)) = subst (λ (cs : List ℕ). 0 < times c cs) (set y) s in
           subst (λ (cs : List ℕ). 0 < times c cs) (sym (flag x))
-          (by_cown (λ d q. q ≡ ahead ++ (x ∷ (y ∷ behind)) → 0 < times d (settled (at y)) → 0 < times d (flagged (at x))) queue queue' c0 h.elsewhere
-          (λ f t. elim (place_in_longer (queue c0) (ahead ++ (x ∷ [])) behind who y (sym h.longer ∙ f ∙ sym (append_assoc ahead (x ∷ []) (y ∷ behind)))) [
-            | inl p ↦ absurd (let k : times c0 (settled (at y)) ≡ 0 = ap (λ v. times c0 (settled (at v))) p.1 ∙ h.not_settled in omega arith)
+          (by_cown (λ d q. q ≡ ahead ++ (x ∷ (y ∷ behind)) → 0 < times d (settled (at y))
+          → 0 < times d (flagged (at x))) queue queue' c0 h.elsewhere
+          (λ f t. elim (place_in_longer (queue c0) (ahead ++ (x ∷ [])) behind who y
+          (sym h.longer ∙ f ∙ sym (append_assoc ahead (x ∷ []) (y ∷ behind)))) [
+            | inl p ↦ absurd (let k : times c0 (settled (at y)) ≡ 0 = ap (λ v. times c0 (settled (at v))) p.1
+                ∙ h.not_settled in omega arith)
             | inr p ↦ l.linked c0 ahead p.0 x y (p.2 ∙ append_assoc ahead (x ∷ []) (y ∷ p.0)) t
           ])
           (λ d n f t. l.linked d ahead behind x y f t)
           c e s');
       ordered = λ c ahead mid behind x y e.
           in_order_at (row_of (at x)) (row_of (at' x)) (row_of (at y)) (row_of (at' y)) (rows x) (rows y)
-          (by_cown (λ d q. q ≡ ahead ++ (x ∷ (mid ++ (y ∷ behind))) → InOrder (row_of (at x)) (row_of (at y))) queue queue' c0 h.elsewhere
-          (λ f. elim (place_in_longer (queue c0) (ahead ++ (x ∷ mid)) behind who y (sym h.longer ∙ f ∙ sym (append_assoc ahead (x ∷ mid) (y ∷ behind)))) [
-            | inl p ↦ in_order_at (row_of (at x)) (row_of (at x)) None (row_of (at y)) refl (ap (λ v. row_of (at v)) p.1 ∙ h.no_row) (before_unrecorded (row_of (at x)))
+          (by_cown (λ d q. q ≡ ahead ++ (x ∷ (mid ++ (y ∷ behind)))
+          → InOrder (row_of (at x)) (row_of (at y))) queue queue' c0 h.elsewhere
+          (λ f. elim (place_in_longer (queue c0) (ahead ++ (x ∷ mid)) behind who y
+          (sym h.longer ∙ f ∙ sym (append_assoc ahead (x ∷ mid) (y ∷ behind)))) [
+            | inl p ↦ in_order_at (row_of (at x)) (row_of (at x)) None (row_of (at y)) refl
+                (ap (λ v. row_of (at v)) p.1 ∙ h.no_row) (before_unrecorded (row_of (at x)))
             | inr p ↦ l.ordered c0 ahead mid p.0 x y (p.2 ∙ append_assoc ahead (x ∷ mid) (y ∷ p.0))
           ])
           (λ d n f. l.ordered d ahead mid behind x y f)
           c e);
-      first = λ w c. at_each (λ v b. holds b ≡ true → 0 < times c (standing b) → slice_get (queue' c) 0 ≡ Some v) at at' who h.other
+      first = λ w c. at_each (λ v b. holds b ≡ true → 0 < times c (standing b)
+          → slice_get (queue' c) 0 ≡ Some v) at at' who h.other
           (λ t s. absurd (let f : false ≡ true = sym h.holds_not ∙ t in cc))
-          (λ v n t s. by_cown (λ d q. 0 < times d (standing (at v)) → slice_get q 0 ≡ Some v) queue queue' c0 h.elsewhere
-          (λ z. subst (λ (q : List ℕ). slice_get q 0 ≡ Some v) (sym h.longer) (head_stays (queue c0) who v (l.first v c0 t z)))
+          (λ v n t s. by_cown (λ d q. 0 < times d (standing (at v))
+          → slice_get q 0 ≡ Some v) queue queue' c0 h.elsewhere
+          (λ z. subst (λ (q : List ℕ). slice_get q 0 ≡ Some v) (sym h.longer)
+          (head_stays (queue c0) who v (l.first v c0 t z)))
           (λ d m z. l.first v d t z) c s) w;
     }
 
@@ -263,7 +331,8 @@ pub record Releases (at at' : ℕ → Option OpenBehaviour) (queue queue' : ℕ 
   pub held : holds (at who) ≡ true
 
 -- a request comes off the front of its cown's list
-pub release : (at at' : ℕ → Option OpenBehaviour) (queue queue' : ℕ → List ℕ) (who c0 : ℕ) → Laws at queue → Releases at at' queue queue' who c0 → Laws at' queue'
+pub release : (at at' : ℕ → Option OpenBehaviour) (queue queue' : ℕ → List ℕ) (who c0 : ℕ) → Laws at queue
+    → Releases at at' queue queue' who c0 → Laws at' queue'
 release at at' queue queue' who c0 l h =
     let set : (w : ℕ) → settled (at' w) ≡ settled (at w) = kept settled at at' who h.other h.settled_same in
     let flag : (w : ℕ) → flagged (at' w) ≡ flagged (at w) = kept flagged at at' who h.other h.flagged_same in
@@ -273,52 +342,79 @@ release at at' queue queue' who c0 l h =
           by_cown (λ d q. times w q ≡ times d (standing (at' w))) queue queue' c0 h.elsewhere
           (at_each (λ v b. times v (queue' c0) ≡ times c0 (standing b)) at at' who h.other
           (omega (arith, ap (times who) h.shorter, times-here who (queue' c0), l.stands who c0, h.here))
-          (λ v n. omega (arith, ap (times v) h.shorter, times-other v who (queue' c0) (λ e. n (sym e)), l.stands v c0)) w)
-          (λ d n. at_each (λ v b. times v (queue d) ≡ times d (standing b)) at at' who h.other (l.stands who d ∙ sym (h.there d n)) (λ v m. l.stands v d) w)
+          (λ v n. omega (
+            arith,
+            ap (times v) h.shorter,
+            times-other v who (queue' c0) (λ e. n (sym e)),
+            l.stands v c0,
+          )) w)
+          (λ d n. at_each (λ v b. times v (queue d) ≡ times d (standing b)) at at' who h.other
+          (l.stands who d ∙ sym (h.there d n)) (λ v m. l.stands v d) w)
           c;
-      once = λ w c. subst (λ (cs : List ℕ). times c cs ≤ 1) (sym (kept cowns_of at at' who h.other h.cowns w)) (l.once w c);
+      once = λ w c. subst (λ (cs : List ℕ). times c cs ≤ 1) (sym (kept cowns_of at at' who h.other h.cowns w))
+          (l.once w c);
       linked = λ c ahead behind x y e s.
           let s' : 0 < times c (settled (at y)) = subst (λ (cs : List ℕ). 0 < times c cs) (set y) s in
           subst (λ (cs : List ℕ). 0 < times c cs) (sym (flag x))
-          (by_cown (λ d q. q ≡ ahead ++ (x ∷ (y ∷ behind)) → 0 < times d (settled (at y)) → 0 < times d (flagged (at x))) queue queue' c0 h.elsewhere
+          (by_cown (λ d q. q ≡ ahead ++ (x ∷ (y ∷ behind)) → 0 < times d (settled (at y))
+          → 0 < times d (flagged (at x))) queue queue' c0 h.elsewhere
           (λ f t. l.linked c0 (who ∷ ahead) behind x y (h.shorter ∙ ap (λ zs. who ∷ zs) f) t)
           (λ d n f t. l.linked d ahead behind x y f t)
           c e s');
       ordered = λ c ahead mid behind x y e.
           in_order_at (row_of (at x)) (row_of (at' x)) (row_of (at y)) (row_of (at' y)) (rows x) (rows y)
-          (by_cown (λ d q. q ≡ ahead ++ (x ∷ (mid ++ (y ∷ behind))) → InOrder (row_of (at x)) (row_of (at y))) queue queue' c0 h.elsewhere
+          (by_cown (λ d q. q ≡ ahead ++ (x ∷ (mid ++ (y ∷ behind)))
+          → InOrder (row_of (at x)) (row_of (at y))) queue queue' c0 h.elsewhere
           (λ f. l.ordered c0 (who ∷ ahead) mid behind x y (h.shorter ∙ ap (λ zs. who ∷ zs) f))
           (λ d n f. l.ordered d ahead mid behind x y f)
           c e);
-      first = λ w c. at_each (λ v b. holds b ≡ true → 0 < times c (standing b) → slice_get (queue' c) 0 ≡ Some v) at at' who h.other
-          (λ t s. by_cown (λ d q. 0 < times d (standing (at' who)) → slice_get q 0 ≡ Some who) queue queue' c0 h.elsewhere
+      first = λ w c. at_each (λ v b. holds b ≡ true → 0 < times c (standing b)
+          → slice_get (queue' c) 0 ≡ Some v) at at' who h.other
+          (λ t s. by_cown (λ d q. 0 < times d (standing (at' who))
+          → slice_get q 0 ≡ Some who) queue queue' c0 h.elsewhere
           (λ z. absurd (omega (arith, h.here, standing_le c0 (at who), l.once who c0)))
           (λ d m z. l.first who d h.held (subst (λ (k : ℕ). 0 < k) (h.there d m) z)) c s)
-          (λ v n t s. by_cown (λ d q. 0 < times d (standing (at v)) → slice_get q 0 ≡ Some v) queue queue' c0 h.elsewhere
-          (λ z. absurd (n (let f : Some who ≡ Some v = ap (λ zs. slice_get zs 0) (sym h.shorter) ∙ l.first v c0 t z in cc)))
+          (λ v n t s. by_cown (λ d q. 0 < times d (standing (at v))
+          → slice_get q 0 ≡ Some v) queue queue' c0 h.elsewhere
+          (λ z. absurd (n (let f : Some who ≡ Some v = ap (λ zs. slice_get zs 0) (sym h.shorter)
+          ∙ l.first v c0 t z in cc)))
           (λ d m z. l.first v d t z) c s) w;
     }
 
 -- a behaviour that stands nowhere comes or goes
 pub nowhere : (at at' : ℕ → Option OpenBehaviour) (queue : ℕ → List ℕ) (who : ℕ) → Laws at queue → OthersStay at at' who
-    → ((c : ℕ) → times c (standing (at who)) ≡ 0) → ((c : ℕ) → times c (standing (at' who)) ≡ 0) → ((c : ℕ) → times c (cowns_of (at' who)) ≤ 1)
+    → ((c : ℕ) → times c (standing (at who)) ≡ 0) → ((c : ℕ) → times c (standing (at' who)) ≡ 0)
+    → ((c : ℕ) → times c (cowns_of (at' who)) ≤ 1)
     → Laws at' queue
 nowhere at at' queue who l other was is few =
     let absent : (c : ℕ) → times who (queue c) ≡ 0 = λ c. l.stands who c ∙ was c in
     let not_who : (c : ℕ) (ahead behind : List ℕ) (x : ℕ) → queue c ≡ ahead ++ (x ∷ behind) → x ≢ who =
-    λ c ahead behind x e s. omega (arith, absent c, ap (times who) e, times-append who ahead (x ∷ behind), ap (λ z. times who (z ∷ behind)) s, times-here who behind) in
+    λ c ahead behind x e s. omega (
+      arith,
+      absent c,
+      ap (times who) e,
+      times-append who ahead (x ∷ behind),
+      ap (λ z. times who (z ∷ behind)) s,
+      times-here who behind,
+    ) in
     record {
-      stands = λ w c. at_each (λ v b. times v (queue c) ≡ times c (standing b)) at at' who other (absent c ∙ sym (is c)) (λ v n. l.stands v c) w;
+      stands = λ w c. at_each (λ v b. times v (queue c) ≡ times c (standing b)) at at' who other
+          (absent c ∙ sym (is c)) (λ v n. l.stands v c) w;
       once = λ w c. at_each (λ v b. times c (cowns_of b) ≤ 1) at at' who other (few c) (λ v n. l.once v c) w;
       linked = λ c ahead behind x y e s.
-          let ye = other y (not_who c (ahead ++ (x ∷ [])) behind y (e ∙ sym (append_assoc ahead (x ∷ []) (y ∷ behind)))) in
+          let ye = other y (not_who c (ahead ++ (x ∷ [])) behind y
+          (e ∙ sym (append_assoc ahead (x ∷ []) (y ∷ behind)))) in
           let xe = other x (not_who c ahead (y ∷ behind) x e) in
-          subst (λ (b : Option OpenBehaviour). 0 < times c (flagged b)) (sym xe) (l.linked c ahead behind x y e (subst (λ (b : Option OpenBehaviour). 0 < times c (settled b)) ye s));
+          subst (λ (b : Option OpenBehaviour). 0 < times c (flagged b)) (sym xe)
+          (l.linked c ahead behind x y e (subst (λ (b : Option OpenBehaviour). 0 < times c (settled b)) ye s));
       ordered = λ c ahead mid behind x y e.
-          let ye = other y (not_who c (ahead ++ (x ∷ mid)) behind y (e ∙ sym (append_assoc ahead (x ∷ mid) (y ∷ behind)))) in
+          let ye = other y (not_who c (ahead ++ (x ∷ mid)) behind y
+          (e ∙ sym (append_assoc ahead (x ∷ mid) (y ∷ behind)))) in
           let xe = other x (not_who c ahead (mid ++ (y ∷ behind)) x e) in
-          in_order_at (row_of (at x)) (row_of (at' x)) (row_of (at y)) (row_of (at' y)) (ap row_of xe) (ap row_of ye) (l.ordered c ahead mid behind x y e);
-      first = λ w c. at_each (λ v b. holds b ≡ true → 0 < times c (standing b) → slice_get (queue c) 0 ≡ Some v) at at' who other
+          in_order_at (row_of (at x)) (row_of (at' x)) (row_of (at y)) (row_of (at' y)) (ap row_of xe) (ap row_of ye)
+          (l.ordered c ahead mid behind x y e);
+      first = λ w c. at_each (λ v b. holds b ≡ true → 0 < times c (standing b)
+          → slice_get (queue c) 0 ≡ Some v) at at' who other
           (λ t s. absurd (omega (arith, is c)))
           (λ v n t s. l.first v c t s) w;
     }
@@ -335,17 +431,23 @@ all_same f g [] e = refl
 all_same f g (c ∷ cs) e = ap (λ b. b && list_all f cs) (e c) ∙ ap (λ b. g c && b) (all_same f g cs e)
 
 -- granted is who is settled and first
-granted_same : (at at' : ℕ → Option OpenBehaviour) (queue queue' : ℕ → List ℕ) (who c : ℕ) → at' who ≡ at who → is_first who (queue' c) ≡ is_first who (queue c) → is_granted at' queue' who c ≡ is_granted at queue who c
+granted_same : (at at' : ℕ → Option OpenBehaviour) (queue queue' : ℕ → List ℕ) (who c : ℕ) → at' who ≡ at who
+    → is_first who (queue' c) ≡ is_first who (queue c) → is_granted at' queue' who c ≡ is_granted at queue who c
 granted_same at at' queue queue' who c same first =
-    ap (λ b. nat_lt 0 (times c (settled b)) && is_first who (queue' c)) same ∙ ap (λ b. nat_lt 0 (times c (settled (at who))) && b) first
+    ap (λ b. nat_lt 0 (times c (settled b)) && is_first who (queue' c)) same
+    ∙ ap (λ b. nat_lt 0 (times c (settled (at who))) && b) first
 
-all_granted_same : (at at' : ℕ → Option OpenBehaviour) (queue queue' : ℕ → List ℕ) (who : ℕ) → at' who ≡ at who → ((c : ℕ) → is_first who (queue' c) ≡ is_first who (queue c)) → all_granted at' queue' who ≡ all_granted at queue who
+all_granted_same : (at at' : ℕ → Option OpenBehaviour) (queue queue' : ℕ → List ℕ) (who : ℕ) → at' who ≡ at who
+    → ((c : ℕ) → is_first who (queue' c) ≡ is_first who (queue c))
+    → all_granted at' queue' who ≡ all_granted at queue who
 all_granted_same at at' queue queue' who same first =
     ap (λ b. list_all (λ c. is_granted at' queue' who c) (cowns_of b)) same
-    ∙ all_same (λ c. is_granted at' queue' who c) (λ c. is_granted at queue who c) (cowns_of (at who)) (λ c. granted_same at at' queue queue' who c same (first c))
+    ∙ all_same (λ c. is_granted at' queue' who c) (λ c. is_granted at queue who c) (cowns_of (at who))
+    (λ c. granted_same at at' queue queue' who c same (first c))
 
 -- whoever waits still does where it is as it was, and first where it was
-pub waits_kept : (at at' : ℕ → Option OpenBehaviour) (queue queue' : ℕ → List ℕ) (who : ℕ) (but but' : ℕ → Type 0) → WaitsBut at queue but → OthersStay at at' who
+pub waits_kept : (at at' : ℕ → Option OpenBehaviour) (queue queue' : ℕ → List ℕ) (who : ℕ) (but but' : ℕ → Type 0)
+    → WaitsBut at queue but → OthersStay at at' who
     → ((v : ℕ) → but v → but' v)
     → ((v c : ℕ) → v ≢ who → (but' v → ⊥) → is_first v (queue' c) ≡ is_first v (queue c))
     → (waits (at' who) ≡ true → all_granted at' queue' who ≡ false)
@@ -353,32 +455,41 @@ pub waits_kept : (at at' : ℕ → Option OpenBehaviour) (queue queue' : ℕ →
 waits_kept at at' queue queue' who but but' w other more first mine v h n =
     elim (same_or_not v who) [
       | inl e ↦ ap (all_granted at' queue') e ∙ mine (sym (ap (λ x. waits (at' x)) e) ∙ h)
-      | inr ne ↦ all_granted_same at at' queue queue' v (other v ne) (λ c. first v c ne n) ∙ w v (sym (ap waits (other v ne)) ∙ h) (λ b. n (more v b))
+      | inr ne ↦ all_granted_same at at' queue queue' v (other v ne) (λ c. first v c ne n)
+          ∙ w v (sym (ap waits (other v ne)) ∙ h) (λ b. n (more v b))
     ]
 
 -- the same where no list changes
-pub waits_on : (at at' : ℕ → Option OpenBehaviour) (queue : ℕ → List ℕ) (who : ℕ) (but : ℕ → Type 0) → WaitsBut at queue but → OthersStay at at' who → waits (at' who) ≡ false → WaitsBut at' queue but
+pub waits_on : (at at' : ℕ → Option OpenBehaviour) (queue : ℕ → List ℕ) (who : ℕ) (but : ℕ → Type 0)
+    → WaitsBut at queue but → OthersStay at at' who → waits (at' who) ≡ false → WaitsBut at' queue but
 waits_on at at' queue who but w other mine =
-    waits_kept at at' queue queue who but but w other (λ v b. b) (λ v c n m. refl) (λ h. absurd (let f : false ≡ true = sym mine ∙ h in cc))
+    waits_kept at at' queue queue who but but w other (λ v b. b) (λ v c n m. refl)
+    (λ h. absurd (let f : false ≡ true = sym mine ∙ h in cc))
 
 -- where a request goes last in a list
-pub waits_exchange : (at at' : ℕ → Option OpenBehaviour) (queue queue' : ℕ → List ℕ) (who c0 : ℕ) (but : ℕ → Type 0) → WaitsBut at queue but → OthersStay at at' who
-    → queue' c0 ≡ queue c0 ++ (who ∷ []) → ((c : ℕ) → c ≢ c0 → queue' c ≡ queue c) → waits (at' who) ≡ false → WaitsBut at' queue' but
+pub waits_exchange : (at at' : ℕ → Option OpenBehaviour) (queue queue' : ℕ → List ℕ) (who c0 : ℕ) (but : ℕ → Type 0)
+    → WaitsBut at queue but → OthersStay at at' who
+    → queue' c0 ≡ queue c0 ++ (who ∷ []) → ((c : ℕ) → c ≢ c0 → queue' c ≡ queue c) → waits (at' who) ≡ false
+    → WaitsBut at' queue' but
 waits_exchange at at' queue queue' who c0 but w other longer elsewhere mine =
     waits_kept at at' queue queue' who but but w other (λ v b. b)
     (λ v c n m. elim (same_or_not c c0) [
-      | inl e ↦ ap (λ d. is_first v (queue' d)) e ∙ ap (is_first v) longer ∙ first_longer (queue c0) who v (λ f. n (sym f)) ∙ ap (λ d. is_first v (queue d)) (sym e)
+      | inl e ↦ ap (λ d. is_first v (queue' d)) e ∙ ap (is_first v) longer
+          ∙ first_longer (queue c0) who v (λ f. n (sym f)) ∙ ap (λ d. is_first v (queue d)) (sym e)
       | inr ne ↦ ap (is_first v) (elsewhere c ne)
     ])
     (λ h. absurd (let f : false ≡ true = sym mine ∙ h in cc))
 
 -- where a request comes off the front, for all but whoever comes first then
-pub waits_release : (at at' : ℕ → Option OpenBehaviour) (queue queue' : ℕ → List ℕ) (who c0 : ℕ) → WaitsBut at queue nobody → OthersStay at at' who
-    → queue c0 ≡ who ∷ queue' c0 → ((c : ℕ) → c ≢ c0 → queue' c ≡ queue c) → waits (at' who) ≡ false → WaitsBut at' queue' (λ v. is_first v (queue' c0) ≡ true)
+pub waits_release : (at at' : ℕ → Option OpenBehaviour) (queue queue' : ℕ → List ℕ) (who c0 : ℕ)
+    → WaitsBut at queue nobody → OthersStay at at' who
+    → queue c0 ≡ who ∷ queue' c0 → ((c : ℕ) → c ≢ c0 → queue' c ≡ queue c) → waits (at' who) ≡ false
+    → WaitsBut at' queue' (λ v. is_first v (queue' c0) ≡ true)
 waits_release at at' queue queue' who c0 w other shorter elsewhere mine =
     waits_kept at at' queue queue' who nobody (λ v. is_first v (queue' c0) ≡ true) w other (λ v b. absurd b)
     (λ v c n m. elim (same_or_not c c0) [
-      | inl e ↦ ap (λ d. is_first v (queue' d)) e ∙ not_true (is_first v (queue' c0)) m ∙ sym (ap (λ d. is_first v (queue d)) e ∙ ap (is_first v) shorter ∙ not_eq who v (λ f. n (sym f)))
+      | inl e ↦ ap (λ d. is_first v (queue' d)) e ∙ not_true (is_first v (queue' c0)) m
+          ∙ sym (ap (λ d. is_first v (queue d)) e ∙ ap (is_first v) shorter ∙ not_eq who v (λ f. n (sym f)))
       | inr ne ↦ ap (is_first v) (elsewhere c ne)
     ])
     (λ h. absurd (let f : false ≡ true = sym mine ∙ h in cc))
@@ -401,12 +512,17 @@ all_each f (d ∷ cs) c h l =
     ]
 
 -- where all its requests are granted, it is first in all its lists
-pub granted_first : (at : ℕ → Option OpenBehaviour) (queue : ℕ → List ℕ) (who : ℕ) → all_granted at queue who ≡ true → (c : ℕ) → 0 < times c (cowns_of (at who)) → slice_get (queue c) 0 ≡ Some who
+pub granted_first : (at : ℕ → Option OpenBehaviour) (queue : ℕ → List ℕ) (who : ℕ) → all_granted at queue who ≡ true
+    → (c : ℕ) → 0 < times c (cowns_of (at who)) → slice_get (queue c) 0 ≡ Some who
 granted_first at queue who h c l =
-    first_is (queue c) who (and_true (nat_lt 0 (times c (settled (at who)))) (is_first who (queue c)) (all_each (λ d. is_granted at queue who d) (cowns_of (at who)) c h l)).1
+    first_is (queue c) who (and_true (nat_lt 0 (times c (settled (at who)))) (is_first who (queue c))
+    (all_each (λ d. is_granted at queue who d) (cowns_of (at who)) c h l)).1
 
 -- which of its requests are granted depends on which are settled, and on the lists
-pub regranted : (at at' : ℕ → Option OpenBehaviour) (queue : ℕ → List ℕ) (who : ℕ) → settled (at' who) ≡ settled (at who) → cowns_of (at' who) ≡ cowns_of (at who) → all_granted at' queue who ≡ all_granted at queue who
+pub regranted : (at at' : ℕ → Option OpenBehaviour) (queue : ℕ → List ℕ) (who : ℕ)
+    → settled (at' who) ≡ settled (at who) → cowns_of (at' who) ≡ cowns_of (at who)
+    → all_granted at' queue who ≡ all_granted at queue who
 regranted at at' queue who set cowns =
     ap (λ cs. list_all (λ c. is_granted at' queue who c) cs) cowns
-    ∙ all_same (λ c. is_granted at' queue who c) (λ c. is_granted at queue who c) (cowns_of (at who)) (λ c. ap (λ cs. nat_lt 0 (times c cs) && is_first who (queue c)) set)
+    ∙ all_same (λ c. is_granted at' queue who c) (λ c. is_granted at queue who c) (cowns_of (at who))
+    (λ c. ap (λ cs. nat_lt 0 (times c cs) && is_first who (queue c)) set)

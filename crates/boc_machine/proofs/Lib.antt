@@ -19,6 +19,7 @@ pub mod SerialSpawn
 pub mod Serially
 pub mod OneTurn
 pub mod Bounds
+pub mod Records
 mod TwoOrders
 mod TwoOrdersTurns
 mod TwoOrdersRefused

@@ -61,14 +61,16 @@ end_injective (a ∷ xs) (b ∷ ys) x y e =
 
 -- a place in a list with one more at the end is the end, or a place in the list
 pub place_in_longer : (xs ahead behind : List ℕ) (w x : ℕ) → xs ++ (w ∷ []) ≡ ahead ++ (x ∷ behind)
-    → ((behind ≡ []) × (x ≡ w) × (xs ≡ ahead)) ⊎ ((rest : List ℕ) × (behind ≡ rest ++ (w ∷ [])) × (xs ≡ ahead ++ (x ∷ rest)))
+    → ((behind ≡ []) × (x ≡ w) × (xs ≡ ahead)) ⊎
+    ((rest : List ℕ) × (behind ≡ rest ++ (w ∷ [])) × (xs ≡ ahead ++ (x ∷ rest)))
 place_in_longer xs ahead behind w x e =
     elim (last_of behind) [
       | inl n ↦
           let h = end_injective xs ahead w x (e ∙ ap (λ zs. ahead ++ (x ∷ zs)) n) in
           inl (n, sym h.1, h.0)
       | inr p ↦
-          let h = end_injective xs (ahead ++ (x ∷ p.0)) w p.1 (e ∙ ap (λ zs. ahead ++ (x ∷ zs)) p.2 ∙ sym (append_assoc ahead (x ∷ p.0) (p.1 ∷ []))) in
+          let h = end_injective xs (ahead ++ (x ∷ p.0)) w p.1
+          (e ∙ ap (λ zs. ahead ++ (x ∷ zs)) p.2 ∙ sym (append_assoc ahead (x ∷ p.0) (p.1 ∷ []))) in
           inr (p.0, p.2 ∙ ap (λ z. p.0 ++ (z ∷ [])) (sym h.1), h.0)
     ]
 
@@ -88,7 +90,8 @@ pub read_pushed : {A : Type 0} (xs : List (Option A)) (x : Option A) → get_or 
 read_pushed [] x = refl
 read_pushed (y ∷ xs) x = read_pushed xs x
 
-pub read_front : {A : Type 0} (xs : List (Option A)) (x : Option A) (i : ℕ) → i ≢ length xs → get_or (xs ++ (x ∷ [])) i None ≡ get_or xs i None
+pub read_front : {A : Type 0} (xs : List (Option A)) (x : Option A) (i : ℕ) → i ≢ length xs
+    → get_or (xs ++ (x ∷ [])) i None ≡ get_or xs i None
 read_front [] x zero n = absurd (n refl)
 read_front [] x (suc i) n = refl
 read_front (y ∷ xs) x zero n = refl

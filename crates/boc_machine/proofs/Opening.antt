@@ -44,12 +44,16 @@ module _ (p : Program) (s : State) (k : Core p s nobody) (row : ℕ) (w : Wish) 
       let t = newly_opened in
       let who = opened s in
       let cowns = (wish_cowns p s.log row w k.run k.some (omega (arith, may.room)) may.runs may.next).cowns in
-      let ready_same : (v : ℕ) → ready_row (at t v) ≡ ready_row (at s v) = kept ready_row (at s) (at t) who other (ap ready_row new_here ∙ sym (ap ready_row none)) in
+      let ready_same : (v : ℕ) → ready_row (at t v) ≡ ready_row (at s v) =
+      kept ready_row (at s) (at t) who other (ap ready_row new_here ∙ sym (ap ready_row none)) in
       let more : opened t ≡ opened s + 1 = length-append s.behaviours (Some (child row w) ∷ []) in
-      let asking : unrecorded t ≡ unrecorded s + 1 = sum_by-append (λ z. one_if (asks z)) s.behaviours (Some (child row w) ∷ []) in
+      let asking : unrecorded t ≡ unrecorded s + 1 =
+      sum_by-append (λ z. one_if (asks z)) s.behaviours (Some (child row w) ∷ []) in
       record {
         run = k.run;
-        laws = nowhere (at s) (at t) (queue s) who k.laws other (λ c. ap (λ z. times c (standing z)) none) (λ c. ap (λ z. times c (standing z)) new_here) (λ c. omega (arith, once_in c (rising w.cowns) cowns.rise, ap (λ z. times c (cowns_of z)) new_here));
+        laws = nowhere (at s) (at t) (queue s) who k.laws other (λ c. ap (λ z. times c (standing z)) none)
+            (λ c. ap (λ z. times c (standing z)) new_here)
+            (λ c. omega (arith, once_in c (rising w.cowns) cowns.rise, ap (λ z. times c (cowns_of z)) new_here));
         waiting = waits_on (at s) (at t) (queue s) who nobody k.waiting other (ap waits new_here);
         fits = fits_opened p (members p s) (at s) (at t) who k.fits other none (ap row_of new_here)
             (record {
@@ -62,7 +66,12 @@ module _ (p : Program) (s : State) (k : Core p s nobody) (row : ℕ) (w : Wish) 
             (λ v h e. may.none_open v h (e ∙ ap parent_of new_here));
         queues_are = k.queues_are;
         in_range = λ v c. at_each (λ u z. 0 < times c (cowns_of z) → c < length s.queues) (at s) (at t) who other
-            (λ h. omega (arith, k.queues_are, below_all (cown_count p.cowns) c (rising w.cowns) cowns.below (subst (λ (z : Option OpenBehaviour). 0 < times c (cowns_of z)) new_here h))) (λ u n. k.in_range u c) v;
+            (λ h. omega (
+              arith,
+              k.queues_are,
+              below_all (cown_count p.cowns) c (rising w.cowns) cowns.below
+                  (subst (λ (z : Option OpenBehaviour). 0 < times c (cowns_of z)) new_here h),
+            )) (λ u n. k.in_range u c) v;
         ready_once = λ v q h. k.ready_once v q (sym (ready_same v) ∙ h);
         ready_only = λ q h. let o = k.ready_only q h in (o.0, ready_same o.0 ∙ o.1);
         some = k.some;

@@ -20,33 +20,42 @@ contains_times c (d ∷ cs) h =
     ]
 
 -- one value written to a cown that isn't this one
-pub outputs_elsewhere : (values : List ℤ) (cs : List ℕ) (vs : List ℤ) (d : ℕ) → times d cs ≡ 0 → slice_get (after_outputs values cs vs) d ≡ slice_get values d
+pub outputs_elsewhere : (values : List ℤ) (cs : List ℕ) (vs : List ℤ) (d : ℕ) → times d cs ≡ 0
+    → slice_get (after_outputs values cs vs) d ≡ slice_get values d
 outputs_elsewhere values [] vs d h = refl
 outputs_elsewhere values (c ∷ cs) [] d h = refl
 outputs_elsewhere values (c ∷ cs) (v ∷ vs) d h =
     let apart : d ≢ c = λ e. omega (arith, h, ap (λ z. times z (c ∷ cs)) e, times-here c cs) in
-    outputs_elsewhere (slice_set values c v) cs vs d (omega (arith, h, times-other d c cs (λ e. apart (sym e)))) ∙ set_other values c d v apart
+    outputs_elsewhere (slice_set values c v) cs vs d (omega (arith, h, times-other d c cs (λ e. apart (sym e))))
+    ∙ set_other values c d v apart
 
-set_alike : (values others : List ℤ) (c d : ℕ) (v : ℤ) → length values ≡ length others → slice_get values d ≡ slice_get others d → slice_get (slice_set values c v) d ≡ slice_get (slice_set others c v) d
+set_alike : (values others : List ℤ) (c d : ℕ) (v : ℤ) → length values ≡ length others
+    → slice_get values d ≡ slice_get others d → slice_get (slice_set values c v) d ≡ slice_get (slice_set others c v) d
 set_alike values others c d v l e =
     elim (same_or_not d c) [
       | inl q ↦ elim (cases_lt c (length values)) [
-        | inl low ↦ ap (slice_get (slice_set values c v)) q ∙ set_same values c v low ∙ sym (ap (slice_get (slice_set others c v)) q ∙ set_same others c v (omega (arith, low, l)))
-        | inr high ↦ none_past (slice_set values c v) d (omega (arith, high, q, length-set values c v)) ∙ sym (none_past (slice_set others c v) d (omega (arith, high, q, l, length-set others c v)))
+        | inl low ↦ ap (slice_get (slice_set values c v)) q ∙ set_same values c v low
+            ∙ sym (ap (slice_get (slice_set others c v)) q ∙ set_same others c v (omega (arith, low, l)))
+        | inr high ↦ none_past (slice_set values c v) d (omega (arith, high, q, length-set values c v))
+            ∙ sym (none_past (slice_set others c v) d (omega (arith, high, q, l, length-set others c v)))
       ]
       | inr n ↦ set_other values c d v n ∙ e ∙ sym (set_other others c d v n)
     ]
 
 -- the same outputs, where a cown's value was the same
-pub outputs_alike : (values others : List ℤ) (cs : List ℕ) (vs : List ℤ) (d : ℕ) → length values ≡ length others → slice_get values d ≡ slice_get others d → slice_get (after_outputs values cs vs) d ≡ slice_get (after_outputs others cs vs) d
+pub outputs_alike : (values others : List ℤ) (cs : List ℕ) (vs : List ℤ) (d : ℕ) → length values ≡ length others
+    → slice_get values d ≡ slice_get others d
+    → slice_get (after_outputs values cs vs) d ≡ slice_get (after_outputs others cs vs) d
 outputs_alike values others [] vs d l e = e
 outputs_alike values others (c ∷ cs) [] d l e = e
 outputs_alike values others (c ∷ cs) (v ∷ vs) d l e =
-    outputs_alike (slice_set values c v) (slice_set others c v) cs vs d (omega (arith, l, length-set values c v, length-set others c v)) (set_alike values others c d v l e)
+    outputs_alike (slice_set values c v) (slice_set others c v) cs vs d
+    (omega (arith, l, length-set values c v, length-set others c v)) (set_alike values others c d v l e)
 
 -- ---- reading
 
-read_alike : (values others : List ℤ) (d : ℕ) (z : ℤ) → slice_get values d ≡ slice_get others d → slice_index_or values d z ≡ slice_index_or others d z
+read_alike : (values others : List ℤ) (d : ℕ) (z : ℤ) → slice_get values d ≡ slice_get others d
+    → slice_index_or values d z ≡ slice_index_or others d z
 read_alike [] [] d z e = refl
 read_alike [] (y ∷ others) zero z e = absurd (let f : None ≡ Some y = e in cc)
 read_alike [] (y ∷ others) (suc d) z e = read_alike [] others d z e
@@ -64,16 +73,19 @@ more c d cs h =
     ]
 
 -- the same inputs, where the values of the cowns are the same
-pub inputs_alike : (cs : List ℕ) (values others : List ℤ) → ((d : ℕ) → 0 < times d cs → slice_get values d ≡ slice_get others d) → inputs_of cs values ≡ inputs_of cs others
+pub inputs_alike : (cs : List ℕ) (values others : List ℤ)
+    → ((d : ℕ) → 0 < times d cs → slice_get values d ≡ slice_get others d) → inputs_of cs values ≡ inputs_of cs others
 inputs_alike [] values others e = refl
 inputs_alike (c ∷ cs) values others e =
-    let first : slice_index_or values c (pos 0) ≡ slice_index_or others c (pos 0) = read_alike values others c (pos 0) (e c (omega (arith, times-here c cs))) in
+    let first : slice_index_or values c (pos 0) ≡ slice_index_or others c (pos 0) =
+    read_alike values others c (pos 0) (e c (omega (arith, times-here c cs))) in
     let one : ℤ → Input = λ v. record { cown = c; value = v } in
     ap (λ v. one v ∷ inputs_of cs values) first
     ∙ ap (λ zs. one (slice_index_or others c (pos 0)) ∷ zs) (inputs_alike cs values others (λ d h. e d (more c d cs h)))
 
 -- lists with the same items are the same
-pub same_items : {A : Type 0} (xs ys : List A) → length xs ≡ length ys → ((i : ℕ) → slice_get xs i ≡ slice_get ys i) → xs ≡ ys
+pub same_items : {A : Type 0} (xs ys : List A) → length xs ≡ length ys → ((i : ℕ) → slice_get xs i ≡ slice_get ys i)
+    → xs ≡ ys
 same_items [] [] l e = refl
 same_items [] (y ∷ ys) l e = absurd (omega (arith, l))
 same_items (x ∷ xs) [] l e = absurd (omega (arith, l))

@@ -10,14 +10,17 @@ use Rattle.boc_types.specs.runs.Run.{Member, Config, waiting, next_wish, spawned
 
 -- ---- one item changed
 
-changed_later : {A : Type 0} (x : A) (xs : List A) (i : ℕ) (f : A → A) (o : Option A) → changed (x ∷ xs) (suc i) f o ≡ x ∷ changed xs i f o
+changed_later : {A : Type 0} (x : A) (xs : List A) (i : ℕ) (f : A → A) (o : Option A)
+    → changed (x ∷ xs) (suc i) f o ≡ x ∷ changed xs i f o
 changed_later x xs i f None = refl
 changed_later x xs i f (Some y) = refl
 
-pub changed_same : {A : Type 0} (xs : List A) (i : ℕ) (f : A → A) → slice_get (changed xs i f (slice_get xs i)) i ≡ option_map f (slice_get xs i)
+pub changed_same : {A : Type 0} (xs : List A) (i : ℕ) (f : A → A)
+    → slice_get (changed xs i f (slice_get xs i)) i ≡ option_map f (slice_get xs i)
 changed_same [] i f = refl
 changed_same (x ∷ xs) zero f = refl
-changed_same (x ∷ xs) (suc i) f = ap (λ ys. slice_get ys (suc i)) (changed_later x xs i f (slice_get xs i)) ∙ changed_same xs i f
+changed_same (x ∷ xs) (suc i) f = ap (λ ys. slice_get ys (suc i)) (changed_later x xs i f (slice_get xs i))
+    ∙ changed_same xs i f
 
 set_elsewhere : {A : Type 0} (xs : List A) (i j : ℕ) (y : A) → j ≢ i → slice_get (slice_set xs i y) j ≡ slice_get xs j
 set_elsewhere [] i j y n = refl
@@ -26,7 +29,8 @@ set_elsewhere (x ∷ xs) zero (suc j) y n = refl
 set_elsewhere (x ∷ xs) (suc i) zero y n = refl
 set_elsewhere (x ∷ xs) (suc i) (suc j) y n = set_elsewhere xs i j y (λ e. n (ap suc e))
 
-pub changed_other : {A : Type 0} (xs : List A) (i j : ℕ) (f : A → A) (o : Option A) → j ≢ i → slice_get (changed xs i f o) j ≡ slice_get xs j
+pub changed_other : {A : Type 0} (xs : List A) (i j : ℕ) (f : A → A) (o : Option A) → j ≢ i
+    → slice_get (changed xs i f o) j ≡ slice_get xs j
 changed_other xs i j f None n = refl
 changed_other xs i j f (Some y) n = set_elsewhere xs i j (f y) n
 
@@ -43,7 +47,8 @@ some_or_none (x ∷ xs) (suc i) =
 -- ---- the life of a row
 
 -- a row of which something has become is there
-pub with_life : (rows : List Member) (r : ℕ) (l : Life) → state_of rows r ≡ Some l → (m : Member) × (slice_get rows r ≡ Some m) × (m.life ≡ l)
+pub with_life : (rows : List Member) (r : ℕ) (l : Life) → state_of rows r ≡ Some l → (m : Member)
+    × (slice_get rows r ≡ Some m) × (m.life ≡ l)
 with_life [] r l e = absurd (let f : None ≡ Some l = e in cc)
 with_life (m ∷ rows) zero l e = (m, refl, let f : Some m.life ≡ Some l = e in cc)
 with_life (m ∷ rows) (suc r) l e = with_life rows r l e
@@ -57,21 +62,26 @@ life_there rows r m e = ap (option_map (λ (x : Member). x.life)) e
 abbrev pub with_one_more : Member → Member
 with_one_more m = record m { spawned = m.spawned + 1 }
 
-pub after_spawn : (p : Program) (rows : List Member) (parent : ℕ) (w : Wish) → 0 < length rows → next_wish p (slice_get rows parent) ≡ Some w
-    → members_after_spawn p rows parent ≡ changed rows parent with_one_more (slice_get rows parent) ++ waiting (behaviour_of w) ∷ []
+pub after_spawn : (p : Program) (rows : List Member) (parent : ℕ) (w : Wish) → 0 < length rows
+    → next_wish p (slice_get rows parent) ≡ Some w
+    → members_after_spawn p rows parent ≡ changed rows parent with_one_more (slice_get rows parent) ++ waiting
+    (behaviour_of w) ∷ []
 after_spawn p [] parent w h e = absurd (omega arith)
 after_spawn p (main ∷ others) parent w h e = ap (λ o. spawned_by (main ∷ others) parent o) e
 
-pub may_spawn : (p : Program) (rows : List Member) (parent offset : ℕ) (cowns : List ℕ) → 0 < length rows → SpawnsWish p rows parent offset cowns → MaySpawn p rows parent offset cowns
+pub may_spawn : (p : Program) (rows : List Member) (parent offset : ℕ) (cowns : List ℕ) → 0 < length rows
+    → SpawnsWish p rows parent offset cowns → MaySpawn p rows parent offset cowns
 may_spawn p [] parent offset cowns h s = absurd (omega arith)
 may_spawn p (main ∷ others) parent offset cowns h s = s
 
 -- ---- one event more
 
-pub config_more : (p : Program) (c : Config) (log : List Event) (e : Event) → config_after_all p c (log ++ (e ∷ [])) ≡ config_after p (config_after_all p c log) e
+pub config_more : (p : Program) (c : Config) (log : List Event) (e : Event)
+    → config_after_all p c (log ++ (e ∷ [])) ≡ config_after p (config_after_all p c log) e
 config_more p c [] e = refl
 config_more p c (d ∷ log) e = config_more p (config_after p c d) log e
 
-pub run_more : (p : Program) (c : Config) (log : List Event) (e : Event) → IsRunFrom p c log → MayHappen p (config_after_all p c log) e → IsRunFrom p c (log ++ (e ∷ []))
+pub run_more : (p : Program) (c : Config) (log : List Event) (e : Event) → IsRunFrom p c log
+    → MayHappen p (config_after_all p c log) e → IsRunFrom p c (log ++ (e ∷ []))
 run_more p c [] e r a = (a, tt)
 run_more p c (d ∷ log) e r a = (r.0, run_more p (config_after p c d) log e r.1 a)

@@ -19,16 +19,20 @@ use Rattle.boc_machine.proofs.Outputs.{outputs_elsewhere, outputs_alike, take_al
 use Rattle.boc_machine.proofs.Twins.{before_row, before_length, Twin, EndedBefore, OpenAfter, Follows, ended_not_pending, running_not_pending, read_changed}
 
 -- what a behaviour means, that has its inputs
-meant_if : (o : Option Body) (args : List ℤ) (inputs : List Input) (means : Meaning) → option_map (λ body. meaning body args inputs) o ≡ Some means → meaning_if o args inputs ≡ means
+meant_if : (o : Option Body) (args : List ℤ) (inputs : List Input) (means : Meaning)
+    → option_map (λ body. meaning body args inputs) o ≡ Some means → meaning_if o args inputs ≡ means
 meant_if None args inputs means e = absurd (let g : None ≡ Some means = e in cc)
 meant_if (Some body) args inputs means e = (let g : Some (meaning body args inputs) ≡ Some means = e in cc)
 
 -- the serial row of one that has started means what it does
-pub means_same : (p : Program) (ps : List ℕ) (r : ℕ) (m : Member) (means : Meaning) (t : Twin p ps r m) → m.life ≢ Pending → meaning_of p m ≡ Some means → t.row.means ≡ means
+pub means_same : (p : Program) (ps : List ℕ) (r : ℕ) (m : Member) (means : Meaning) (t : Twin p ps r m)
+    → m.life ≢ Pending → meaning_of p m ≡ Some means → t.row.means ≡ means
 means_same p ps r m means t n e =
-    t.means_are ∙ ap (meaning_if (slice_get p.bodies m.behaviour.kind) m.behaviour.args) (sym (t.begun n)) ∙ meant_if (slice_get p.bodies m.behaviour.kind) m.behaviour.args m.inputs means e
+    t.means_are ∙ ap (meaning_if (slice_get p.bodies m.behaviour.kind) m.behaviour.args) (sym (t.begun n))
+    ∙ meant_if (slice_get p.bodies m.behaviour.kind) m.behaviour.args m.inputs means e
 
-module _ (p : Program) (c : Config) (ps : List ℕ) (f : Follows p c ps) (r ticks : ℕ) (status : EndStatus) (written : List ℕ) (can : CanEnd p c.members r ticks status written) where
+module _ (p : Program) (c : Config) (ps : List ℕ) (f : Follows p c ps) (r ticks : ℕ) (status : EndStatus)
+    (written : List ℕ) (can : CanEnd p c.members r ticks status written) where
   abbrev ms : List Member
   ms = c.members
 
@@ -60,13 +64,15 @@ module _ (p : Program) (c : Config) (ps : List ℕ) (f : Follows p c ps) (r tick
   written_now = ap (values_after_end p c.values) can.is ∙ ap (values_written c.values cs) can.meant
 
   -- a later row over a cown of this one has not started
-  none_later : (d : ℕ) → 0 < times d cs → (k : ℕ) (n : Member) → slice_get ms k ≡ Some n → 0 < times d n.behaviour.cowns → r < k → n.life ≡ Ended → ⊥
+  none_later : (d : ℕ) → 0 < times d cs → (k : ℕ) (n : Member) → slice_get ms k ≡ Some n
+      → 0 < times d n.behaviour.cowns → r < k → n.life ≡ Ended → ⊥
   none_later d h k n e has lt over =
       let o = f.ordered r k can.member n can.is e lt d h has (ended_not_pending n.life over) in
       let q : Running ≡ Ended = sym can.runs ∙ o in cc
 
   -- rows that don't have a cown leave its value
-  skips : (d from to : ℕ) → from ≤ to → ((k : ℕ) (m : Member) → slice_get ms k ≡ Some m → from ≤ k → k < to → times d m.behaviour.cowns ≡ 0)
+  skips : (d from to : ℕ) → from ≤ to → ((k : ℕ) (m : Member) → slice_get ms k ≡ Some m → from ≤ k → k < to
+      → times d m.behaviour.cowns ≡ 0)
       → slice_get (before_row p ps from) d ≡ slice_get (before_row p ps to) d
   skips d from zero le none = (let e : from ≡ 0 = omega (arith, le) in ap (λ n. slice_get (before_row p ps n) d) e)
   skips d from (suc to) le none =
@@ -76,21 +82,35 @@ module _ (p : Program) (c : Config) (ps : List ℕ) (f : Follows p c ps) (r tick
           | inl low ↦
               let x = item_at ms to (omega (arith, low, f.same)) in
               let t = f.twins to x.0 x.1 in
-              sym (ap (λ vs. slice_get vs d) t.writes ∙ outputs_elsewhere (before_row p ps to) x.0.behaviour.cowns t.row.means.outputs d (none to x.0 x.1 ge (omega arith)))
-          | inr high ↦ ap (λ qs. slice_get (serial_along p qs).values d) (take_all_of to ps high ∙ sym (take_all_of (suc to) ps (omega (arith, high))))
+              sym (ap (λ vs. slice_get vs d) t.writes
+              ∙ outputs_elsewhere (before_row p ps to) x.0.behaviour.cowns t.row.means.outputs d
+              (none to x.0 x.1 ge (omega arith)))
+          | inr high ↦ ap (λ qs. slice_get (serial_along p qs).values d)
+              (take_all_of to ps high ∙ sym (take_all_of (suc to) ps (omega (arith, high))))
         ]
       ]
 
-  end_values : (d n : ℕ) → EndedBefore new d n → OpenAfter new d n → slice_get values' d ≡ slice_get (before_row p ps n) d
+  end_values : (d n : ℕ) → EndedBefore new d n → OpenAfter new d n
+      → slice_get values' d ≡ slice_get (before_row p ps n) d
   end_values d n over not_over =
       ap (λ vs. slice_get vs d) written_now ∙ elim (same_or_not (times d cs) 0) [
         | inl none ↦ outputs_elsewhere c.values cs can.means.outputs d none ∙ f.values_are d n
             (λ k m e h lt. elim (same_or_not k r) [
-              | inl q ↦ absurd (omega (arith, h, none, ap (λ (z : Member). times d z.behaviour.cowns) (is_member m (ap (slice_get ms) (sym q) ∙ e))))
+              | inl q ↦ absurd (omega (
+                arith,
+                h,
+                none,
+                ap (λ (z : Member). times d z.behaviour.cowns) (is_member m (ap (slice_get ms) (sym q) ∙ e)),
+              ))
               | inr ne ↦ over k m (changed_other ms r k g (slice_get ms r) ne ∙ e) h lt
             ])
             (λ k m e h le. elim (same_or_not k r) [
-              | inl q ↦ absurd (omega (arith, h, none, ap (λ (z : Member). times d z.behaviour.cowns) (is_member m (ap (slice_get ms) (sym q) ∙ e))))
+              | inl q ↦ absurd (omega (
+                arith,
+                h,
+                none,
+                ap (λ (z : Member). times d z.behaviour.cowns) (is_member m (ap (slice_get ms) (sym q) ∙ e)),
+              ))
               | inr ne ↦ not_over k m (changed_other ms r k g (slice_get ms r) ne ∙ e) h le
             ])
         | inr some ↦
@@ -101,16 +121,21 @@ module _ (p : Program) (c : Config) (ps : List ℕ) (f : Follows p c ps) (r tick
               | inr le ↦ absurd (not_over r (g can.member) here h le refl)
             ] in
             let was : slice_get c.values d ≡ slice_get (before_row p ps r) d = f.values_are d r
-            (λ k m e has l. over k m (changed_other ms r k g (slice_get ms r) (λ q. omega (arith, q, l)) ∙ e) has (omega (arith, l, lt)))
+            (λ k m e has l. over k m (changed_other ms r k g (slice_get ms r) (λ q. omega (arith, q, l)) ∙ e) has
+            (omega (arith, l, lt)))
             (λ k m e has le z. elim (same_or_not k r) [
-              | inl q ↦ let w : Running ≡ Ended = sym can.runs ∙ ap (λ (x : Member). x.life) (is_member m (ap (slice_get ms) (sym q) ∙ e)) ∙ z in cc
+              | inl q ↦ let w : Running ≡ Ended = sym can.runs
+                  ∙ ap (λ (x : Member). x.life) (is_member m (ap (slice_get ms) (sym q) ∙ e)) ∙ z in cc
               | inr ne ↦ none_later d h k m e has (omega (arith, le, ne)) z
             ]) in
-            let now : slice_get (after_outputs c.values cs can.means.outputs) d ≡ slice_get (before_row p ps (suc r)) d =
+            let now : slice_get (after_outputs c.values cs can.means.outputs) d
+            ≡ slice_get (before_row p ps (suc r)) d =
             outputs_alike c.values (before_row p ps r) cs can.means.outputs d (f.many ∙ sym (before_length p ps r)) was
-            ∙ ap (λ (ms : Meaning). slice_get (after_outputs (before_row p ps r) cs ms.outputs) d) (sym meant) ∙ ap (λ vs. slice_get vs d) (sym mine.writes) in
+            ∙ ap (λ (ms : Meaning). slice_get (after_outputs (before_row p ps r) cs ms.outputs) d) (sym meant)
+            ∙ ap (λ vs. slice_get vs d) (sym mine.writes) in
             now ∙ skips d (suc r) n (omega (arith, lt)) (λ k m e le l. no_less (times d m.behaviour.cowns) (λ has.
-            none_later d h k m e has (omega (arith, le)) (over k m (changed_other ms r k g (slice_get ms r) (λ q. omega (arith, q, le)) ∙ e) has l)))
+            none_later d h k m e has (omega (arith, le))
+            (over k m (changed_other ms r k g (slice_get ms r) (λ q. omega (arith, q, le)) ∙ e) has l)))
       ]
 
   ended_twin : (m : Member) → slice_get ms r ≡ Some m → Twin p ps r (g m)
@@ -131,7 +156,8 @@ module _ (p : Program) (c : Config) (ps : List ℕ) (f : Follows p c ps) (r tick
   follows_end = record {
     same = f.same ∙ sym (length-changed ms r g (slice_get ms r));
     twins = λ k m' e. elim (read_changed ms r g k m' e) [
-      | inl q ↦ subst (λ (z : Member). Twin p ps k z) q.1.2 (subst (λ (z : ℕ). Twin p ps z (g q.1.0)) (sym q.0) (ended_twin q.1.0 q.1.1))
+      | inl q ↦ subst (λ (z : Member). Twin p ps k z) q.1.2
+          (subst (λ (z : ℕ). Twin p ps z (g q.1.0)) (sym q.0) (ended_twin q.1.0 q.1.1))
       | inr q ↦ f.twins k m' q.1
     ];
     childless = f.childless;
@@ -139,7 +165,8 @@ module _ (p : Program) (c : Config) (ps : List ℕ) (f : Follows p c ps) (r tick
       | inl w ↦ ap (λ (z : Member). z.life) (sym w.1.2)
       | inr w ↦ elim (read_changed ms r g b n at_b) [
         | inl q ↦ f.ordered a r m can.member w.1 can.is (omega (arith, lt, q.0)) d ha
-            (subst (λ (z : Member). 0 < times d z.behaviour.cowns) (sym (is_member q.1.0 q.1.1)) (subst (λ (z : Member). 0 < times d z.behaviour.cowns) (sym q.1.2) hb)) under_way
+            (subst (λ (z : Member). 0 < times d z.behaviour.cowns) (sym (is_member q.1.0 q.1.1))
+            (subst (λ (z : Member). 0 < times d z.behaviour.cowns) (sym q.1.2) hb)) under_way
         | inr q ↦ f.ordered a b m n w.1 q.1 lt d ha hb np
       ]
     ];

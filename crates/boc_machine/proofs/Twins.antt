@@ -1,5 +1,5 @@
--- A run beside the serial run along the rows of its log: each row that has started has the inputs that it has there, and the
--- value of a cown is the one there after the rows that wrote it so far.
+-- A run beside the serial run along the rows of its log: each row that has started has the inputs that it has there, and
+-- the value of a cown is the one there after the rows that wrote it so far.
 use Rattle.std.proofs.Common.{◌≡◌, ◌≢◌, ℕ, suc, ◌<◌, ◌≤◌, ◌⊎◌, inl, inr, List, [], ◌∷◌, ◌++◌, length, take, refl, sym, ◌∙◌, ap, subst, arith, ℤ, length-append}
 use Rattle.std.specs.Prelude.{slice_get, Option, Some, None, option_map}
 use Rattle.std.specs.Option.{option_map_or}
@@ -55,10 +55,12 @@ pub record Twin (p : Program) (ps : List ℕ) (r : ℕ) (m : Member) : Type 0 wh
 
 -- of the rows over a cown those before this one have ended, and the others not
 abbrev pub EndedBefore : List Member → ℕ → ℕ → Type 0
-EndedBefore ms d n = (r : ℕ) (m : Member) → slice_get ms r ≡ Some m → 0 < times d m.behaviour.cowns → r < n → m.life ≡ Ended
+EndedBefore ms d n = (r : ℕ) (m : Member) → slice_get ms r ≡ Some m → 0 < times d m.behaviour.cowns → r < n
+    → m.life ≡ Ended
 
 abbrev pub OpenAfter : List Member → ℕ → ℕ → Type 0
-OpenAfter ms d n = (r : ℕ) (m : Member) → slice_get ms r ≡ Some m → 0 < times d m.behaviour.cowns → n ≤ r → m.life ≢ Ended
+OpenAfter ms d n = (r : ℕ) (m : Member) → slice_get ms r ≡ Some m → 0 < times d m.behaviour.cowns → n ≤ r
+    → m.life ≢ Ended
 
 pub record Follows (p : Program) (c : Config) (ps : List ℕ) : Type 0 where
   pub same : length ps ≡ length c.members
@@ -67,7 +69,8 @@ pub record Follows (p : Program) (c : Config) (ps : List ℕ) : Type 0 where
   -- of two rows over a cown the later one starts only after the end of the earlier one
   pub ordered : (a b : ℕ) (m n : Member) → slice_get c.members a ≡ Some m → slice_get c.members b ≡ Some n → a < b
       → (d : ℕ) → 0 < times d m.behaviour.cowns → 0 < times d n.behaviour.cowns → n.life ≢ Pending → m.life ≡ Ended
-  pub values_are : (d n : ℕ) → ((r : ℕ) (m : Member) → slice_get c.members r ≡ Some m → 0 < times d m.behaviour.cowns → r < n → m.life ≡ Ended)
+  pub values_are : (d n : ℕ) → ((r : ℕ) (m : Member) → slice_get c.members r ≡ Some m → 0 < times d m.behaviour.cowns
+      → r < n → m.life ≡ Ended)
       → ((r : ℕ) (m : Member) → slice_get c.members r ≡ Some m → 0 < times d m.behaviour.cowns → n ≤ r → m.life ≢ Ended)
       → slice_get c.values d ≡ slice_get (before_row p ps n) d
   pub many : length c.values ≡ length (initial_values p.cowns)
@@ -87,21 +90,28 @@ running_not_pending l e f = let g : Running ≡ Pending = sym e ∙ f in cc
 
 -- ---- reading lists
 
-pub mapped : {A B : Type 0} (f : A → B) (o : Option A) (y : B) → option_map f o ≡ Some y → (x : A) × (o ≡ Some x) × (f x ≡ y)
+pub mapped : {A B : Type 0} (f : A → B) (o : Option A) (y : B) → option_map f o ≡ Some y → (x : A) × (o ≡ Some x)
+    × (f x ≡ y)
 mapped f None y e = absurd (let g : None ≡ Some y = e in cc)
 mapped f (Some x) y e = (x, refl, let g : Some (f x) ≡ Some y = e in cc)
 
 -- a behaviour in a list with one changed is the changed one, or was there
-pub read_changed : (ms : List Member) (r : ℕ) (g : Member → Member) (k : ℕ) (m' : Member) → slice_get (changed ms r g (slice_get ms r)) k ≡ Some m'
+pub read_changed : (ms : List Member) (r : ℕ) (g : Member → Member) (k : ℕ) (m' : Member)
+    → slice_get (changed ms r g (slice_get ms r)) k ≡ Some m'
     → ((k ≡ r) × ((m : Member) × (slice_get ms r ≡ Some m) × (g m ≡ m'))) ⊎ ((k ≢ r) × (slice_get ms k ≡ Some m'))
 read_changed ms r g k m' e =
     elim (same_or_not k r) [
-      | inl q ↦ inl (q, mapped g (slice_get ms r) m' (sym (changed_same ms r g) ∙ sym (ap (slice_get (changed ms r g (slice_get ms r))) q) ∙ e))
+      | inl q ↦ inl (
+        q,
+        mapped g (slice_get ms r) m'
+            (sym (changed_same ms r g) ∙ sym (ap (slice_get (changed ms r g (slice_get ms r))) q) ∙ e),
+      )
       | inr n ↦ inr (n, sym (changed_other ms r k g (slice_get ms r) n) ∙ e)
     ]
 
 -- in a list with one more
-pub read_more : {A : Type 0} (xs : List A) (x : A) (k : ℕ) (y : A) → slice_get (xs ++ (x ∷ [])) k ≡ Some y → ((k < length xs) × (slice_get xs k ≡ Some y)) ⊎ ((k ≡ length xs) × (x ≡ y))
+pub read_more : {A : Type 0} (xs : List A) (x : A) (k : ℕ) (y : A) → slice_get (xs ++ (x ∷ [])) k ≡ Some y
+    → ((k < length xs) × (slice_get xs k ≡ Some y)) ⊎ ((k ≡ length xs) × (x ≡ y))
 read_more xs x k y e =
     elim (cases_lt k (length xs)) [
       | inl l ↦ inl (l, sym (front_item xs x k l) ∙ e)
@@ -111,5 +121,7 @@ read_more xs x k y e =
     ]
 
 -- the cowns of a row contain those of its behaviour
-pub has_cown : (ms : List Member) (r : ℕ) (m : Member) (d : ℕ) → slice_get ms r ≡ Some m → 0 < times d m.behaviour.cowns → Contains (member_cowns ms r) d
-has_cown ms r m d e h = subst (λ (cs : List ℕ). Contains cs d) (sym (ap (λ o. option_map_or (λ (x : Member). x.behaviour.cowns) o []) e)) (contains_times d m.behaviour.cowns h)
+pub has_cown : (ms : List Member) (r : ℕ) (m : Member) (d : ℕ) → slice_get ms r ≡ Some m
+    → 0 < times d m.behaviour.cowns → Contains (member_cowns ms r) d
+has_cown ms r m d e h = subst (λ (cs : List ℕ). Contains cs d)
+    (sym (ap (λ o. option_map_or (λ (x : Member). x.behaviour.cowns) o []) e)) (contains_times d m.behaviour.cowns h)

@@ -29,18 +29,28 @@ RisesOn low (x ∷ xs) = (low ≤ x) × RisesOn (suc x) xs
 
 rises_on : (low : ℕ) (xs : List ℕ) → (0 < length xs → low ≤ get_or xs 0 0) → IsStrictlyIncreasing xs → RisesOn low xs
 rises_on low [] h rise = tt
-rises_on low (x ∷ xs) h rise =
-    (h (omega arith), rises_on (suc x) xs (λ l. let r = rise 0 (omega arith) in omega (arith, r)) (λ k l. let e : suc k + 1 ≡ suc (k + 1) = omega arith in subst (λ (n : ℕ). get_or xs k 0 < get_or (x ∷ xs) n 0) e (rise (suc k) (omega (arith, l)))))
+rises_on low (x ∷ xs) h rise = (
+  h (omega arith),
+  rises_on (suc x) xs (λ l. let r = rise 0 (omega arith) in omega (arith, r))
+      (λ k l. let e : suc k + 1 ≡ suc (k + 1) = omega arith in
+      subst (λ (n : ℕ). get_or xs k 0 < get_or (x ∷ xs) n 0) e (rise (suc k) (omega (arith, l)))),
+)
 
 never_below : (low c : ℕ) (xs : List ℕ) → RisesOn low xs → c < low → times c xs ≡ 0
 never_below low c [] h l = refl
-never_below low c (x ∷ xs) h l = times-other c x xs (λ e. omega (arith, h.0)) ∙ never_below (suc x) c xs h.1 (omega (arith, h.0))
+never_below low c (x ∷ xs) h l = times-other c x xs (λ e. omega (arith, h.0))
+    ∙ never_below (suc x) c xs h.1 (omega (arith, h.0))
 
 once_on : (low c : ℕ) (xs : List ℕ) → RisesOn low xs → times c xs ≤ 1
 once_on low c [] h = omega arith
 once_on low c (x ∷ xs) h =
     elim (same_or_not x c) [
-      | inl e ↦ omega (arith, ap (λ z. times c (z ∷ xs)) e, times-here c xs, never_below (suc x) c xs h.1 (omega (arith, e)))
+      | inl e ↦ omega (
+        arith,
+        ap (λ z. times c (z ∷ xs)) e,
+        times-here c xs,
+        never_below (suc x) c xs h.1 (omega (arith, e)),
+      )
       | inr n ↦ omega (arith, times-other c x xs n, once_on (suc x) c xs h.1)
     ]
 
@@ -57,11 +67,13 @@ below_all n c (x ∷ xs) all h =
 
 -- ---- legal logs
 
-last_allowed : (count : ℕ) (rows : List Entry) (log : List Event) (e : Event) → IsLegalFrom count rows (log ++ (e ∷ [])) → IsAllowed count (after_all rows log) e
+pub last_allowed : (count : ℕ) (rows : List Entry) (log : List Event) (e : Event)
+    → IsLegalFrom count rows (log ++ (e ∷ [])) → IsAllowed count (after_all rows log) e
 last_allowed count rows [] e h = h.0
 last_allowed count rows (d ∷ log) e h = last_allowed count (after rows d) log e h.1
 
-are_cowns : (count : ℕ) (rows : List Entry) (cowns : List ℕ) → 0 < length rows → MayNeed count rows cowns → AreCowns count cowns
+are_cowns : (count : ℕ) (rows : List Entry) (cowns : List ℕ) → 0 < length rows → MayNeed count rows cowns
+    → AreCowns count cowns
 are_cowns count [] cowns h need = absurd (omega arith)
 are_cowns count (main ∷ others) cowns h need = need
 
@@ -70,15 +82,23 @@ pub record WishCowns (p : Program) (w : Wish) : Type 0 where
   pub cowns : AreCowns (cown_count p.cowns) (rising w.cowns)
   pub few : length (rising w.cowns) ≤ MOST_HELD
 
-pub wish_cowns : (p : Program) (log : List Event) (row : ℕ) (w : Wish) → IsRun p log → 0 < length (config_of p log).members → length (config_of p log).members < MOST_ROWS
-    → state_of (config_of p log).members row ≡ Some Running → next_wish p (slice_get (config_of p log).members row) ≡ Some w → WishCowns p w
+pub wish_cowns : (p : Program) (log : List Event) (row : ℕ) (w : Wish) → IsRun p log
+    → 0 < length (config_of p log).members → length (config_of p log).members < MOST_ROWS
+    → state_of (config_of p log).members row ≡ Some Running
+    → next_wish p (slice_get (config_of p log).members row) ≡ Some w → WishCowns p w
 wish_cowns p log row w run some few runs next =
     let ms = (config_of p log).members in
     let e : Event = Spawn (length ms) row w.offset (record { items = rising w.cowns }) in
-    let more = run_more p (opening p) log e run (refl, few, may_spawn p ms row w.offset (rising w.cowns) some (record { runs = runs; wish = w; next = next; offset_is = refl; cowns_are = refl })) in
+    let more = run_more p (opening p) log e run (
+      refl,
+      few,
+      may_spawn p ms row w.offset (rising w.cowns) some
+          (record { runs = runs; wish = w; next = next; offset_is = refl; cowns_are = refl }),
+    ) in
     let allowed = last_allowed (cown_count p.cowns) [] log e (run_is_legal p (log ++ (e ∷ [])) more) in
     let same : length ms ≡ length (entries log) = allowed.keeps rules.NumberNotNext in
     record {
-      cowns = are_cowns (cown_count p.cowns) (entries log) (rising w.cowns) (omega (arith, same, some)) (allowed.keeps rules.Cowns);
+      cowns = are_cowns (cown_count p.cowns) (entries log) (rising w.cowns) (omega (arith, same, some))
+          (allowed.keeps rules.Cowns);
       few = allowed.bounds.4;
     }

@@ -2,15 +2,18 @@
 
 ghost use Rattle.boc_types.specs.declared.program.Program.{Program};
 ghost use Rattle.boc_types.specs.declared.step.Step.{Step};
-ghost use Rattle.std.specs.Prelude.{◌≡◌, ℕ, ◌+◌, ◌*◌, ◌≤◌, List, Option, Some, slice_get};
+ghost use Rattle.std.specs.Prelude.{◌≡◌, ℕ, ◌+◌, ◌*◌, ◌≤◌, List, map, Option, Some, slice_get};
 ghost use Rattle.boc_types.specs.declared.event.Event.{Event};
 ghost use Rattle.boc_types.specs.declared.limits.TheConstants.{MOST_ROWS};
 ghost use Rattle.boc_types.specs.program.Meaning.{Wish};
 ghost use Rattle.boc_types.specs.runs.Lives.{Running};
+ghost use Rattle.boc_types.specs.declared.rows.Row.{Row};
+ghost use Rattle.boc_types.specs.runs.Legal.{entries, IsComplete};
+ghost use Rattle.boc_types.specs.runs.Records.{AreRowsOf};
 ghost use Rattle.boc_types.specs.runs.Run.{config_of, state_of, next_wish, IsRun, IsWholeRun};
 ghost use Rattle.boc_types.specs.machine.Steps.{State, Makes, IsQuiet, HasNoEnqueue, members, recorded, unrecorded, opening_state};
 ghost use Rattle.boc_types.specs.machine.Schedules.{Reaches};
-ghost use Rattle.boc_types.specs.machine.AlongRows.{cowns_of_rows, steps_of_rows, serial_of_log, EndsSerially};
+ghost use Rattle.boc_types.specs.machine.AlongRows.{cowns_of_rows, parents_of_rows, steps_of_rows, serial_of_log, EndsSerially};
 ghost use Rattle.boc_types.specs.machine.Sound.{IsSound};
 ghost use Rattle.boc_types.specs.machine.Turns.{Driven, TakesTurn, Turn, Turns};
 
@@ -78,4 +81,17 @@ pub fn full_has_no_turn()
 /// There are never more steps than 36 for each row that there may be.
 pub fn steps_are_few()
     ensures { (p : Program) (s : State) → IsSound p s → s.steps ≤ 36 * MOST_ROWS }
+{}
+
+/// A whole run is over by the rules of records too.
+pub fn whole_is_complete()
+    ensures { (p : Program) (log : List Event) → IsWholeRun p log → IsComplete log }
+{}
+
+/// The rows of a record have the cowns and the parents of the rows of its log.
+pub fn records_have_rows()
+    ensures cowns { (log : List Event) (rows : List Row) → AreRowsOf (entries log) rows
+        → map (λ r. r.cowns.items) rows ≡ cowns_of_rows log }
+    ensures parents { (log : List Event) (rows : List Row) → AreRowsOf (entries log) rows
+        → map (λ r. r.parent) rows ≡ parents_of_rows log }
 {}

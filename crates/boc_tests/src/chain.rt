@@ -2,7 +2,7 @@
 
 ghost use Rattle.std.specs.Prelude.{◌≡◌, replicate, [], ◌∷◌};
 
-use crate::{Chains, LinkChains, ListChains, Settled};
+use boc_chain::{Chains, LinkChains, ListChains, Settled};
 use boc_types::short::Cowns;
 use std::alloc::AllocError;
 use std::test::Fail;

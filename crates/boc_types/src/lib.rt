@@ -28,5 +28,6 @@ pub mod stage;
 pub mod step;
 pub mod text;
 pub mod token;
+pub mod values;
 pub mod verdict;
 pub mod workers;

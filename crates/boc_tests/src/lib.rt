@@ -4,6 +4,8 @@
 #[cfg(test)]
 mod chain;
 #[cfg(test)]
+mod dispatch;
+#[cfg(test)]
 mod eval;
 #[cfg(test)]
 mod greedy;

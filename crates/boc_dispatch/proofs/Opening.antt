@@ -1,0 +1,192 @@
+-- A child is opened, as the code does it: with all memory that it needs, or not at all.
+use Rattle.std.proofs.Common.{◌≡◌, ◌≢◌, ℕ, zero, suc, ◌+◌, ◌-◌, ◌^◌, ◌<◌, ◌≤◌, ◌⊎◌, inl, inr, Bool, true, false, cond, List, [], ◌∷◌, length, set, refl, sym, ◌∙◌, ap, subst, arith}
+use Rattle.std.specs.Prelude.{slice_get, slice_index_or, Option, Some, None, Result, Ok, Err, OnOk, is_err}
+use Rattle.std.specs.Option.{option_map, option_map_or}
+use Rattle.std.proofs.lemmas.Bool.{cases_lt}
+use Rattle.boc_types.specs.declared.limits.TheConstants.{MOST_ROWS}
+use Rattle.boc_types.specs.declared.stage.Phase.TheVariants as phases
+use Rattle.boc_types.specs.declared.stage.Stage.TheVariants.{Recorded}
+use Rattle.boc_types.specs.machine.Steps.{State, unrecorded, opened, Opens}
+use Rattle.boc_types.specs.machine.Sound.{IsSound}
+use Rattle.boc_rules.specs.Log.{Log}
+use Rattle.boc_machine.proofs.Lists.{same_or_not}
+use Rattle.boc_chain.specs.declared.request.Request.{Request}
+use Rattle.boc_chain.specs.Chain.{Place, slots}
+use Rattle.boc_chain.specs.Chain.{times as times_in}
+use Rattle.boc_chain.proofs.Spelled.{times_other}
+use Rattle.boc_dispatch.specs.declared.live.Live.{Live}
+use Rattle.boc_dispatch.specs.Inside.{live_at, place_of, Parts, IsKept, HasRooms, state, underway, IsAtStage, HasInHand, IsNew, AreCounted, IsRequestOf, IsChildOf, IsParentOf}
+use Rattle.boc_dispatch.specs.Moves.{with_table, MayPut, Puts, Records}
+use Rattle.boc_dispatch.specs.Places.{with_child}
+use Rattle.boc_dispatch.proofs.Fits.{steps_fit}
+use Rattle.boc_dispatch.proofs.ChildOpened.{ready_parts, E, end, apart, p2_is, e_own, e_slot, opened_rooms, may_put, asking_kept, recorded_kept, end_rooms, opens_asking, opens_recorded}
+use Rattle.boc_dispatch.proofs.Standing.{AreLive, lists_live}
+use Rattle.boc_dispatch.proofs.Tables.{SamePlaces, behaviours_length, behaviours_placed, queues_placed, rows_placed, taken_placed}
+
+-- as many behaviours are without a home as were opened but not recorded
+pub homes_left : (d : Parts) → IsKept d → length d.homes + unrecorded (state d) ≡ d.opened
+homes_left d k = let a = k.homes_are in let b = k.sound.counted in let c = behaviours_length d.live d.opened in omega (arith, a, b, c)
+
+-- no request is of a slot at which nobody is
+none_there : (live : List (Option Live)) (q : List Request) (own : ℕ) → AreLive live q → live_at live own ≡ None → times_in own (slots q) ≡ 0
+none_there live [] own all vacant = refl
+none_there live (r ∷ q) own all vacant =
+    let h = all zero r refl in
+    let other : r.slot ≢ own = (λ e. let f : Some h.0 ≡ None = sym h.1 ∙ ap (live_at live) e ∙ vacant in absurd cc) in
+    let rest = none_there live q own (λ j. all (suc j)) vacant in
+    omega (arith, times_other own r.slot (slots q) other, rest)
+
+pub vacant_empty : (d : Parts) → IsKept d → (own : ℕ) → live_at d.live own ≡ None → (c : ℕ) → times_in own (slots (slice_index_or d.lists c [])) ≡ 0
+vacant_empty d k own vacant c = none_there d.live (slice_index_or d.lists c []) own (lists_live d k c) vacant
+
+-- nobody is where nothing was admitted
+pub vacant_of : (d : Parts) → IsKept d → (own : ℕ) → d.place own ≡ None → live_at d.live own ≡ None
+vacant_of d k own none =
+    elim (live_at d.live own) as (λ o. d.place own ≡ option_map place_of o → o ≡ None) [
+      | None ↦ λ e. refl
+      | Some l ↦ λ e. absurd (let f : None ≡ Some (place_of l) = sym none ∙ e in cc)
+    ] (k.chained.places own)
+
+-- ---- with more places, and room in the log for one row more
+
+abbrev pub roomier : Log → Log
+roomier log = record log { rooms = log.rooms + 1 }
+
+-- the parts before the child is put in
+pub prepared : (d e : Parts) (lists : List (List Request)) (place : ℕ → Option Place) (homes : List ℕ) (rules : Log) (live2 : List (Option Live))
+    → lists ≡ d.lists → homes ≡ d.homes → rules ≡ roomier d.rules → e ≡ with_table live2 (record d { lists = lists; place = place; homes = homes; rules = rules })
+    → e ≡ record d { place = place; live = live2; rules = roomier d.rules }
+prepared d e lists place homes rules live2 a b c f = f ∙ (λ i. record d { lists = a i; place = place; homes = b i; rules = c i; live = live2 })
+
+module _ (d : Parts) (k : IsKept d) (live2 : List (Option Live)) (same : SamePlaces d.live live2) where
+  abbrev pub longer : Parts
+  longer = record d { live = live2; rules = roomier d.rules }
+
+  longer_state : state longer ≡ state d
+  longer_state = λ i. record {
+    log = d.rules.events;
+    behaviours = behaviours_placed d.live live2 d.opened same i;
+    queues = queues_placed d.live live2 d.lists same i;
+    ready = rows_placed d.live live2 d.ready same i;
+    steps = d.steps;
+  }
+
+  pub longer_stays : underway longer ≡ underway d
+  longer_stays = λ i. record { program = d.program; state = longer_state i }
+
+  pub longer_rooms : (homes ready : ℕ) → HasRooms d homes ready → (homes' ready' : ℕ) → homes ≤ homes' → length live2 ≤ ready' → HasRooms longer homes' ready'
+  longer_rooms homes ready h homes' ready' a b =
+      let u : unrecorded (state longer) ≡ unrecorded (state d) = ap unrecorded longer_state in
+      record { rooms = omega (arith, u, h.rooms); homes = omega (arith, u, a, h.homes); ready = b }
+
+  there : (r : ℕ) (x : Live) → live_at live2 r ≡ Some x → live_at d.live r ≡ Some x
+  there r x is = sym (same r) ∙ is
+
+  pub longer_kept : IsKept longer
+  longer_kept = record {
+    sound = subst (IsSound d.program) (sym longer_state) k.sound;
+    cowns_are = k.cowns_are;
+    values_are = k.values_are;
+    homes_are = k.homes_are;
+    numbered = record { once = λ i j l m a b e. k.numbered.once i j l m (there i l a) (there j m b) e; given = λ i l a. k.numbered.given i l (there i l a) };
+    at_home = λ r row x a b. k.at_home r row x (there r x a) b;
+    in_hand = record {
+      children = λ home r x a has.
+          let h = k.in_hand.children home r x (there home x a) has in
+          record { child = h.child; is = same r ∙ h.is; enqueued = h.enqueued; parent_is = h.parent_is };
+      parents = λ r x a enqueued.
+          let h = k.in_hand.parents r x (there r x a) enqueued in
+          record { home = h.home; parent = h.parent; is = same h.home ∙ h.is; row_is = h.row_is; knows = h.knows };
+    };
+    chained = record {
+      requests = λ c j r a. let h = k.chained.requests c j r a in record { this = h.this; is = same r.slot ∙ h.is; settled_is = h.settled_is; flagged_is = h.flagged_is };
+      places = λ r. k.chained.places r ∙ sym (ap (option_map place_of) (same r));
+    };
+    of_run = record {
+      recorded = λ r row x a b. k.of_run.recorded r row x (there r x a) b;
+      asking = λ r x a b. k.of_run.asking r x (there r x a) b;
+    };
+    counted = subst (λ (z : State). AreCounted z live2) (sym longer_state) (λ r x a h. k.counted r x (there r x a) h);
+    ready_there = λ j r a. let q = k.ready_there j r a in (q.0, q.1, same r ∙ q.2, q.3);
+    left = ap (λ n. n + d.gone) (taken_placed d.live live2 same) ∙ k.left;
+  }
+
+-- ---- the child is put in
+
+module _ (d : Parts) (k : IsKept d) (row slot : ℕ) (p : Live) (it : IsAtStage d slot p (Recorded row phases.Running)) (free : p.child ≡ None) (child : Live) (new : IsNew d row child) (few : d.opened < MOST_ROWS)
+    (live2 : List (Option Live)) (same : SamePlaces d.live live2) (own : ℕ) (vacant : live_at d.live own ≡ None) (room : own < length live2)
+    (place : ℕ → Option Place) (place_own : place own ≡ Some (record { cowns = child.cowns.items; exchanged = 0 })) (place_other : (r : ℕ) → r ≢ own → place r ≡ d.place r)
+    (homes ready : ℕ) (rooms : unrecorded (state d) ≤ d.rules.rooms) (homes_fit : length d.homes + (unrecorded (state d) + 1) ≤ homes) (ready_fit : length live2 ≤ ready)
+    (before : Parts) (before_is : before ≡ record d { place = place; live = live2; rules = roomier d.rules }) where
+  abbrev opened_parts : Parts
+  opened_parts = E d k row slot p it free child new few live2 same own vacant room place place_own place_other
+
+  opened_fit : HasRooms opened_parts homes ready
+  opened_fit = opened_rooms d k row slot p it free child new few live2 same own vacant room place place_own place_other homes ready rooms homes_fit ready_fit
+
+  pub may_be_put : MayPut before homes slot own child
+  may_be_put = subst (λ (z : Parts). MayPut z homes slot own child) (sym before_is) (record {
+    this = p;
+    is = p2_is d k row slot p it free child new few live2 same own vacant room place place_own place_other;
+    apart = apart d k row slot p it free child new few live2 same own vacant room place place_own place_other;
+    there = room;
+    opened_fits = omega (arith, few);
+    steps_fit = steps_fit d.program (state d) k.sound;
+    may = λ empty. may_put d k row slot p it free child new few live2 same own vacant room place place_own place_other empty homes ready opened_fit;
+  })
+
+  module _ (e : Parts) (puts : (this : Live) → live_at before.live slot ≡ Some this → Puts before slot own child this e) where
+    done : Puts (record d { place = place; live = live2; rules = roomier d.rules }) slot own child p e
+    done = subst (λ (z : Parts). Puts z slot own child p e) before_is
+        (puts p (ap (λ z. live_at z.live slot) before_is ∙ p2_is d k row slot p it free child new few live2 same own vacant room place place_own place_other))
+
+    either : (P : Parts → Type 0) → (0 < length child.cowns.items → P opened_parts)
+        → ((empty : length child.cowns.items ≡ 0) → P (end d k row slot p it free child new few live2 same own vacant room place place_own place_other empty)) → P e
+    either P more over =
+        elim (cases_lt 0 (length child.cowns.items)) [
+          | inl h ↦ subst P (sym (done.asks h)) (more h)
+          | inr h ↦
+              let empty : length child.cowns.items ≡ 0 = omega (arith, h) in
+              subst P (sym (done.records empty (with_child (Some own) p) child
+              (e_slot d k row slot p it free child new few live2 same own vacant room place place_own place_other)
+              (e_own d k row slot p it free child new few live2 same own vacant room place place_own place_other))) (over empty)
+        ]
+
+    pub put_kept : IsKept e
+    put_kept = either IsKept
+        (λ more. asking_kept d k row slot p it free child new few live2 same own vacant room place place_own place_other more)
+        (λ empty. recorded_kept d k row slot p it free child new few live2 same own vacant room place place_own place_other empty)
+
+    pub put_rooms : HasRooms e homes ready
+    put_rooms = either (λ z. HasRooms z homes ready) (λ more. opened_fit)
+        (λ empty. end_rooms d k row slot p it free child new few live2 same own vacant room place place_own place_other empty homes ready opened_fit)
+
+    pub put_opens : Opens d.program (state d) row (state e) × (e.program ≡ d.program)
+    put_opens = either (λ z. Opens d.program (state d) row (state z) × (z.program ≡ d.program))
+        (λ more. (opens_asking d k row slot p it free child new few live2 same own vacant room place place_own place_other more, refl))
+        (λ empty. (opens_recorded d k row slot p it free child new few live2 same own vacant room place place_own place_other empty, refl))
+
+-- ---- as the code tells it
+
+-- who has nothing in hand has no child
+pub free_of : (d : Parts) (slot : ℕ) (p : Live) → live_at d.live slot ≡ Some p → HasInHand d slot None → p.child ≡ None
+free_of d slot p is h =
+    let this : p ≡ h.this = (let f : Some p ≡ Some h.this = sym is ∙ h.is in cc) in
+    ap (λ z. z.child) this ∙ h.child_is
+
+-- what holds after success holds where there was no error
+pub on_success : {A B : Type 0} (r : Result A B) (P : Type 0) → OnOk r P → is_err r ≡ false → P
+on_success (Ok x) P h e = h
+on_success (Err x) P h e = absurd (let f : true ≡ false = e in cc)
+
+-- the parts once what was admitted is dismissed again
+pub dismissed : (d : Parts) (k : IsKept d) (live2 : List (Option Live)) (same : SamePlaces d.live live2) (place : ℕ → Option Place) (before : Parts)
+    → before ≡ record d { place = place; live = live2; rules = roomier d.rules } → (lists' : List (List Request)) (place' : ℕ → Option Place)
+    → lists' ≡ before.lists → (own : ℕ) → d.place own ≡ None → place' own ≡ None → ((r : ℕ) → r ≢ own → place' r ≡ before.place r) → ((r : ℕ) → r ≢ own → place r ≡ d.place r)
+    → record before { lists = lists'; place = place' } ≡ longer d k live2 same
+dismissed d k live2 same place before e lists' place' lists_are own fresh gone others old =
+    let places : (r : ℕ) → place' r ≡ d.place r = (λ r. elim (same_or_not r own) [
+      | inl f ↦ ap place' f ∙ gone ∙ sym fresh ∙ ap d.place (sym f)
+      | inr n ↦ others r n ∙ ap (λ z. z.place r) e ∙ old r n
+    ]) in
+    λ i. record (e i) { lists = (lists_are ∙ ap (λ z. z.lists) e) i; place = λ r. places r i }

@@ -1,0 +1,318 @@
+-- The first of the ready list starts: the state that follows, and what is kept.
+use Rattle.std.proofs.Common.{◌≡◌, ◌≢◌, ℕ, zero, suc, ◌+◌, ◌<◌, ◌≤◌, ◌⊎◌, inl, inr, Bool, true, false, ◌||◌, List, [], ◌∷◌, ◌++◌, length, map, set, refl, sym, ◌∙◌, ap, subst, arith, length-set}
+use Rattle.std.specs.Prelude.{slice_get, slice_set, slice_index_or, nat_lt, ℤ, Option, Some, None}
+use Rattle.std.specs.Option.{option_map, option_map_or}
+use Rattle.std.specs.List.{count_by}
+use Rattle.arrayvec.specs.ArrayVec.{ArrayVec}
+use Rattle.boc_types.specs.declared.event.Event.{Event}
+use Rattle.boc_types.specs.declared.event.Event.TheVariants.{Start}
+use Rattle.boc_types.specs.declared.short.Input.{Input}
+use Rattle.boc_types.specs.declared.stage.Phase.TheVariants as phases
+use Rattle.boc_types.specs.declared.stage.Stage.{Stage}
+use Rattle.boc_types.specs.declared.stage.Stage.TheVariants.{Asking, Recorded}
+use Rattle.boc_types.specs.runs.Lives.{Life, Pending, Running, Ended, changed}
+use Rattle.boc_types.specs.runs.Legal.{IsAllowed, entries}
+use Rattle.boc_types.specs.runs.Serial.{Behaviour, inputs_of}
+use Rattle.boc_types.specs.runs.Run.{Member, Config, config_of, opening, next_wish, started_on, state_of}
+use Rattle.boc_types.specs.machine.Stages.{settled_at, flagged_at, row_at, ready_row_at, life_at, asks_at, enqueues_at, waits_at, settled, enqueues, parent_of}
+use Rattle.boc_types.specs.machine.Queues.{times}
+use Rattle.boc_types.specs.machine.Steps.{State, at, queue, members, unrecorded, stepped, noted, with_stage, Starts}
+use Rattle.boc_types.specs.machine.Sound.{IsSound}
+use Rattle.boc_types.specs.program.Programs.{cown_count}
+use Rattle.boc_types.proofs.ChangedItems.{changed_there, set_same, set_other, place_below, length-changed}
+use Rattle.boc_machine.proofs.Lists.{same_or_not, times-here, times-other}
+use Rattle.boc_machine.proofs.Rows.{config_more}
+use Rattle.boc_machine.proofs.Keeps.{keeps_starts}
+use Rattle.boc_chain.specs.declared.request.Request.{Request}
+use Rattle.boc_chain.specs.Chain.{Place}
+use Rattle.boc_rules.specs.Log.{Log, grown}
+use Rattle.boc_dispatch.specs.declared.live.Live.{Live}
+use Rattle.boc_dispatch.specs.Places.{begun}
+use Rattle.boc_dispatch.specs.Inside.{Parts, state, live_at, open_of, behaviour_of, place_of, exchanged_at, number_at, queues_of, rows_at, row_or_0, IsKept, HasRooms, IsOfRow, AreInHand, AreChained, AreCounted, AreOfRun, IsMember, IsWished, awaits}
+use Rattle.boc_dispatch.proofs.Tables.{live_there, live_here, live_other, live_new, at_slot, behaviours_length, numbered_changed, behaviours_changed, number_changed, taken_changed}
+use Rattle.boc_dispatch.proofs.Standing.{open_is, ready_distinct}
+use Rattle.boc_dispatch.proofs.Going.{awaits_same, granted_same}
+use Rattle.boc_dispatch.proofs.Onward.{Follows, follows_set}
+use Rattle.boc_dispatch.proofs.Fits.{allowed_last}
+use Rattle.boc_dispatch.proofs.Homes.{IsRowAt, row_at_slot}
+
+-- the same behaviour under the same row, with the same requests and the same child
+record Like (x y : Live) : Type 0 where
+  number : y.number ≡ x.number
+  parent : y.parent ≡ x.parent
+  child : y.child ≡ x.child
+  row : row_at y.stage ≡ row_at x.stage
+  enqueues : enqueues_at y.stage ≡ enqueues_at x.stage
+  settles : settled_at y.stage y.cowns.items ≡ settled_at x.stage x.cowns.items
+  flags : flagged_at y.stage y.cowns.items ≡ flagged_at x.stage x.cowns.items
+  place : place_of y ≡ place_of x
+
+like_self : (x : Live) → Like x x
+like_self x = record { number = refl; parent = refl; child = refl; row = refl; enqueues = refl; settles = refl; flags = refl; place = refl }
+
+in_hand_like : (live live' : List (Option Live)) → Follows Like live live' → AreInHand live → AreInHand live'
+in_hand_like live live' fs k = record {
+  children = λ home slot l a e.
+      let x = fs.before home l a in
+      let q = k.children home slot x.0 x.1 (sym x.2.child ∙ e) in
+      let y = fs.after slot q.child q.is in
+      record {
+        child = y.0;
+        is = y.1;
+        enqueued = y.2.enqueues ∙ q.enqueued;
+        parent_is = x.2.row ∙ q.parent_is ∙ ap (λ z. Some z) (sym y.2.parent);
+      };
+  parents = λ slot l a e.
+      let x = fs.before slot l a in
+      let q = k.parents slot x.0 x.1 (sym x.2.enqueues ∙ e) in
+      let y = fs.after q.home q.parent q.is in
+      record {
+        home = q.home;
+        parent = y.0;
+        is = y.1;
+        row_is = y.2.row ∙ q.row_is ∙ ap (λ z. Some z) (sym x.2.parent);
+        knows = y.2.child ∙ q.knows;
+      };
+}
+
+-- who asks has an open enqueue
+enqueues_if_asks : (stage : Stage) → asks_at stage ≡ true → enqueues_at stage ≡ true
+enqueues_if_asks (Asking request exchanged) asks = refl
+enqueues_if_asks (Recorded row phase) asks = absurd (let h : false ≡ true = asks in cc)
+
+-- who is read from a list stands in it
+read_stands : (xs : List ℕ) (i s : ℕ) → slice_get xs i ≡ Some s → 0 < times s xs
+read_stands [] i s e = absurd (let h : None ≡ Some s = e in cc)
+read_stands (x ∷ xs) zero s e =
+    let same : s ≡ x = (let h : Some x ≡ Some s = e in cc) in
+    let one = times-here x xs in
+    subst (λ (n : ℕ). 0 < times n (x ∷ xs)) (sym same) (omega arith)
+read_stands (x ∷ xs) (suc i) s e =
+    let rest = read_stands xs i s e in
+    elim (same_or_not x s) [
+      | inl h ↦ subst (λ (n : ℕ). 0 < times n (x ∷ xs)) h (let one = times-here x xs in omega arith)
+      | inr n ↦ (let same = times-other s x xs n in omega arith)
+    ]
+
+-- what a dispatcher has in hand once the first of its ready list started
+abbrev pub started_parts : Parts → ℕ → Option Live → List ℕ → Log → Parts
+started_parts d slot place rest rules = record d { live = set d.live slot place; ready = rest; rules = rules; steps = d.steps + 1 }
+
+module _ (d : Parts) (k : IsKept d) (slot : ℕ) (rest : List ℕ) (head : d.ready ≡ slot ∷ rest) (l : Live) (row : ℕ) (is : live_at d.live slot ≡ Some l) (stage_is : l.stage ≡ Recorded row phases.Ready)
+    (inputs : ArrayVec Input) where
+  abbrev m : Live
+  m = begun row inputs l
+
+  abbrev table : List (Option Live)
+  table = set d.live slot (Some m)
+
+  abbrev e : Parts
+  e = started_parts d slot (Some m) rest (grown d.rules (Start row))
+
+  row_is : row_at l.stage ≡ Some row
+  row_is = ap row_at stage_is
+
+  follows : Follows Like d.live table
+  follows = follows_set Like like_self d.live slot l m is (record {
+    number = refl;
+    parent = refl;
+    child = refl;
+    row = sym row_is;
+    enqueues = sym (ap enqueues_at stage_is);
+    settles = sym (ap (λ st. settled_at st l.cowns.items) stage_is);
+    flags = sym (ap (λ st. flagged_at st l.cowns.items) stage_is);
+    place = (λ i. record { cowns = l.cowns.items; exchanged = sym (ap (λ st. exchanged_at st l.cowns.items) stage_is) i });
+  })
+
+  row_same : (s : ℕ) → option_map_or (λ (x : Live). row_or_0 x.stage) (live_at table s) 0 ≡ option_map_or (λ (x : Live). row_or_0 x.stage) (live_at d.live s) 0
+  row_same s =
+      elim (same_or_not s slot) [
+        | inl h ↦
+            ap (λ o. option_map_or (λ (x : Live). row_or_0 x.stage) o 0) (ap (live_at table) h ∙ live_here d.live slot (Some m) (live_there d.live slot l is))
+            ∙ ap row_or_0 (sym stage_is)
+            ∙ sym (ap (λ o. option_map_or (λ (x : Live). row_or_0 x.stage) o 0) (ap (live_at d.live) h ∙ is))
+        | inr n ↦ ap (λ o. option_map_or (λ (x : Live). row_or_0 x.stage) o 0) (live_other d.live slot (Some m) s n)
+      ]
+
+  queues_same_now : queues_of table d.lists ≡ queues_of d.live d.lists
+  queues_same_now = λ i. map (λ requests. map (λ r. number_changed d.live d.opened slot l m k.numbered is refl r.slot i) requests) d.lists
+
+  abbrev t : State
+  t = stepped (record (noted (with_stage (state d) l.number (open_of l) (Recorded row phases.Running)) (Start row)) { ready = rows_at d.live rest })
+
+  state_then : state e ≡ t
+  state_then = λ i. record {
+    log = d.rules.events ++ Start row ∷ [];
+    behaviours = behaviours_changed d.live d.opened slot l m k.numbered is refl i;
+    queues = queues_same_now i;
+    ready = map (λ s. row_same s i) rest;
+    steps = d.steps + 1;
+  }
+
+  pub starts : Starts (state d) l.number row (state e)
+  starts = record {
+    this = open_of l;
+    rest = rows_at d.live rest;
+    is = open_is d k slot l is;
+    stage_is = stage_is;
+    head = ap (rows_at d.live) head
+        ∙ ap (λ n. n ∷ rows_at d.live rest) (ap (λ o. option_map_or (λ (x : Live). row_or_0 x.stage) o 0) is ∙ ap row_or_0 stage_is);
+    gives = state_then;
+  }
+
+  sound_then : IsSound d.program (state e)
+  sound_then = keeps_starts d.program (state d) l.number row (state e) k.sound starts
+
+  pub start_allowed : IsAllowed d.rules.cowns (entries d.rules.events) (Start row)
+  start_allowed =
+      subst (λ (n : ℕ). IsAllowed n (entries d.rules.events) (Start row)) (sym k.cowns_are)
+      (allowed_last d.program d.rules.events (Start row) sound_then.run)
+
+  -- ---- the rows of the run
+
+  abbrev ms : List Member
+  ms = members d.program (state d)
+
+  abbrev start_it : Member → Member
+  start_it = started_on (config_of d.program d.rules.events).values
+
+  members_then : members d.program (state e) ≡ changed ms row start_it (slice_get ms row)
+  members_then = ap (λ (c : Config). c.members) (config_more d.program (opening d.program) d.rules.events (Start row))
+
+  values_then : (config_of d.program (d.rules.events ++ Start row ∷ [])).values ≡ (config_of d.program d.rules.events).values
+  values_then = ap (λ (c : Config). c.values) (config_more d.program (opening d.program) d.rules.events (Start row))
+
+  own_row : IsRowAt d l row
+  own_row = row_at_slot d k slot row l is row_is
+
+  member_here : slice_get (members d.program (state e)) row ≡ Some (start_it own_row.member)
+  member_here =
+      ap (λ xs. slice_get xs row) (members_then ∙ changed_there ms row start_it own_row.member own_row.is)
+      ∙ set_same ms row (start_it own_row.member) (place_below ms row own_row.member own_row.is)
+
+  member_other : (r : ℕ) → r ≢ row → slice_get (members d.program (state e)) r ≡ slice_get ms r
+  member_other r n =
+      ap (λ xs. slice_get xs r) (members_then ∙ changed_there ms row start_it own_row.member own_row.is)
+      ∙ set_other ms row r (start_it own_row.member) n
+
+  new_at : (s : ℕ) (x : Live) → live_at table s ≡ Some x → ((s ≡ slot) × (x ≡ m)) ⊎ ((s ≢ slot) × (live_at d.live s ≡ Some x))
+  new_at s x a =
+      elim (live_new d.live slot (Some m) s x a) [
+        | inl u ↦ (let f : Some m ≡ Some x = u.1 in let h : x ≡ m = cc in inl (u.0, h))
+        | inr u ↦ inr u
+      ]
+
+  recorded_then : (inputs.items ≡ inputs_of l.params.items d.values) → (s r : ℕ) (x : Live) → live_at table s ≡ Some x → row_at x.stage ≡ Some r → IsMember (members d.program (state e)) x r
+  recorded_then inputs_are s r x a b =
+      elim (new_at s x a) [
+        | inl u ↦
+            (let same : row ≡ r = (let f : Some row ≡ Some r = ap (λ z. row_at z.stage) (sym u.1) ∙ b in cc) in
+            subst (λ (z : Live). IsMember (members d.program (state e)) z r) (sym u.1)
+            (subst (λ (n : ℕ). IsMember (members d.program (state e)) m n) same
+            (record {
+              member = start_it own_row.member;
+              is = member_here;
+              behaviour_is = own_row.behaviour_is;
+              inputs_are = ap (λ (z : Behaviour). inputs_of z.cowns (config_of d.program d.rules.events).values) own_row.behaviour_is
+                  ∙ ap (inputs_of l.params.items) (sym k.values_are) ∙ sym inputs_are;
+              spawned_is = own_row.spawned_is;
+            })))
+        | inr u ↦
+            (let q = k.of_run.recorded s r x u.1 b in
+            let other : r ≢ row = (λ h. u.0 (let f : Some s ≡ Some slot = sym (k.at_home s r x u.1 b) ∙ ap (slice_get d.homes) h ∙ k.at_home slot row l is row_is in cc)) in
+            record {
+              member = q.member;
+              is = member_other r other ∙ q.is;
+              behaviour_is = q.behaviour_is;
+              inputs_are = q.inputs_are;
+              spawned_is = q.spawned_is;
+            })
+      ]
+
+  asking_then : (s : ℕ) (x : Live) → live_at table s ≡ Some x → asks_at x.stage ≡ true → IsWished d.program (members d.program (state e)) x
+  asking_then s x a b =
+      elim (new_at s x a) [
+        | inl u ↦ absurd (let f : false ≡ true = ap (λ z. asks_at z.stage) (sym u.1) ∙ b in cc)
+        | inr u ↦
+            (let q = k.of_run.asking s x u.1 b in
+            let open_now = at_slot d.live d.opened s x k.numbered u.1 in
+            let runs : state_of ms x.parent ≡ Some Running =
+            subst (λ (n : ℕ). state_of ms n ≡ Some Running) (ap parent_of open_now) (k.sound.fits.parents x.number (ap enqueues open_now ∙ enqueues_if_asks x.stage b)) in
+            let other : x.parent ≢ row = (λ h. absurd (let f : Some Pending ≡ Some Running =
+            ap Some (sym (own_row.life_is ∙ ap life_at stage_is)) ∙ sym (ap (λ o. option_map (λ (z : Member). z.life) o) own_row.is) ∙ ap (state_of ms) (sym h) ∙ runs in cc)) in
+            record {
+              wish = q.wish;
+              next = ap (next_wish d.program) (member_other x.parent other) ∙ q.next;
+              kind_is = q.kind_is;
+              args_are = q.args_are;
+              cowns_are = q.cowns_are;
+              new = q.new;
+            })
+      ]
+
+  counted_then : AreCounted (state e) table
+  counted_then s x a b =
+      elim (new_at s x a) [
+        | inl u ↦ absurd (let f : false ≡ true = ap (λ z. enqueues_at z.stage || waits_at z.stage) (sym u.1) ∙ b in cc)
+        | inr u ↦
+            (let numbered = numbered_changed d.live d.opened slot l m k.numbered is refl in
+            let same : at (state e) x.number ≡ at (state d) x.number =
+            at_slot table d.opened s x numbered a ∙ sym (at_slot d.live d.opened s x k.numbered u.1) in
+            k.counted s x u.1 b
+            ∙ sym (awaits_same (state d) (state e) x (λ c. granted_same (state d) (state e) x.number c (ap settled same) (ap (λ qs. slice_index_or qs c []) queues_same_now))))
+      ]
+
+  ready_then : (j s : ℕ) → slice_get rest j ≡ Some s → (x : Live) × (r : ℕ) × (live_at table s ≡ Some x) × (x.stage ≡ Recorded r phases.Ready)
+  ready_then j s a =
+      let q = k.ready_there (suc j) s (ap (λ xs. slice_get xs (suc j)) head ∙ a) in
+      let once = subst (λ (xs : List ℕ). times slot xs ≤ 1) head (ready_distinct d k slot) in
+      let first = times-here slot rest in
+      let other : s ≢ slot = (λ h. absurd (let stands = subst (λ (n : ℕ). 0 < times n rest) h (read_stands rest j s a) in omega arith)) in
+      (q.0, q.1, live_other d.live slot (Some m) s other ∙ q.2, q.3)
+
+  pub start_keeps : inputs.items ≡ inputs_of l.params.items d.values → IsKept e
+  start_keeps inputs_are = record {
+    sound = sound_then;
+    cowns_are = k.cowns_are;
+    values_are = k.values_are ∙ sym values_then;
+    homes_are = k.homes_are ∙ sym (ap length members_then ∙ length-changed ms row start_it (slice_get ms row));
+    numbered = numbered_changed d.live d.opened slot l m k.numbered is refl;
+    at_home = λ s r x a b. (let y = follows.before s x a in k.at_home s r y.0 y.1 (sym y.2.row ∙ b));
+    in_hand = in_hand_like d.live table follows k.in_hand;
+    chained = record {
+      requests = λ c j r a.
+          (let q = k.chained.requests c j r a in
+          let y = follows.after r.slot q.this q.is in
+          record {
+            this = y.0;
+            is = y.1;
+            settled_is = q.settled_is ∙ ap (λ cs. nat_lt 0 (times c cs)) (sym y.2.settles);
+            flagged_is = q.flagged_is ∙ ap (λ cs. nat_lt 0 (times c cs)) (sym y.2.flags);
+          });
+      places = λ s. k.chained.places s ∙ sym (places_then s);
+    };
+    of_run = record { recorded = recorded_then inputs_are; asking = asking_then };
+    counted = counted_then;
+    ready_there = ready_then;
+    left = ap (λ n. n + d.gone) (taken_changed d.live d.opened slot l m k.numbered is refl) ∙ k.left;
+  }
+    where
+      places_then : (s : ℕ) → option_map place_of (live_at table s) ≡ option_map place_of (live_at d.live s)
+      places_then s =
+          elim (same_or_not s slot) [
+            | inl h ↦
+                ap (option_map place_of) (ap (live_at table) h ∙ live_here d.live slot (Some m) (live_there d.live slot l is))
+                ∙ (λ i. Some (record { cowns = l.cowns.items; exchanged = sym (ap (λ st. exchanged_at st l.cowns.items) stage_is) i }))
+                ∙ sym (ap (option_map place_of) (ap (live_at d.live) h ∙ is))
+            | inr n ↦ ap (option_map place_of) (live_other d.live slot (Some m) s n)
+          ]
+
+  pub start_rooms : (homes ready : ℕ) → HasRooms d homes ready → HasRooms e homes ready
+  start_rooms homes ready rooms =
+      let was = k.sound.counted in
+      let now = sound_then.counted in
+      let rows = ap length members_then ∙ length-changed ms row start_it (slice_get ms row) in
+      let before = behaviours_length d.live d.opened in
+      let after = behaviours_length table d.opened in
+      let long = length-set d.live slot (Some m) in
+      record { rooms = omega (arith, rooms.rooms); homes = omega (arith, rooms.homes); ready = omega (arith, rooms.ready) }

@@ -1,0 +1,56 @@
+use Rattle.std.proofs.Common.{◌≡◌, subst, ℕ, sym}
+use Rattle.std.specs.Prelude.{Result, Ok, Err}
+use Rattle.boc_dispatch.specs.Underway.{Underway}
+use Rattle.boc_dispatch.specs.Calls.{OpensWish, IsHandedOut, MayAsk}
+use Rattle.boc_dispatch.specs.Inside.{parts_of, underway}
+use Rattle.boc_dispatch.specs.Moves.{OpensChild}
+use Rattle.boc_dispatch.specs.declared.answers.Child.{Child}
+use Rattle.boc_dispatch.specs.declared.answers.OpenFault.{OpenFault}
+use Rattle.boc_dispatch.specs.declared.answers.OpenFault.TheVariants as open_faults
+use Rattle.std.specs.declared.alloc.AllocError.{AllocError}
+use Rattle.boc_dispatch.proofs.Answered.{handed_as, full, opens, no_memory, new_is}
+use Rattle.boc_dispatch.proofs.dispatcher.Core.open.Goals.{in-Ok, in-Err}
+use Rattle.boc_dispatch.proofs.dispatcher.Core.open.Goals as goal
+
+pub returns-then-self-ge-MOST_ROWS : goal.returns-then-self-ge-MOST_ROWS
+returns-then-self-ge-MOST_ROWS g c =
+    let d = parts_of g.C.Chains.lists g.C.Chains.place c.self.inside.machine in
+    let f = c.args.frame.now in
+    let row = c.args.row in
+    let may : MayAsk (underway d) f row = record {
+      handed = handed_as (underway d) row c.body.result.now f.body c.args-2.result.now f.args c.inputs.result.now f.inputs c.body.ensures c.args-2.ensures c.inputs.ensures c.in-Some.ensures.0;
+      next = c.in-Some-next_wish.ensures.0;
+    } in
+    subst (λ (u : Underway). OpensWish u f row (Err open_faults.Behaviours) u) c.self.view_is
+    (full d c.self.invariant.kept f row may c.if-self-ge-MOST_ROWS.true)
+
+pub open-requires-clause-new : goal.open-requires-clause-new
+open-requires-clause-new g c =
+    let d = parts_of g.C.Chains.lists g.C.Chains.place c.self.inside.machine in
+    let f = c.args.frame.now in
+    let row = c.args.row in
+    let may : MayAsk (underway d) f row = record {
+      handed = handed_as (underway d) row c.body.result.now f.body c.args-2.result.now f.args c.inputs.result.now f.inputs c.body.ensures c.args-2.ensures c.inputs.ensures c.in-Some.ensures.0;
+      next = c.in-Some-next_wish.ensures.0;
+    } in
+    let made = c.wished_behaviour-child.ensures in
+    new_is d f row c.in-Some-next_wish.wish.now c.wished_behaviour-child.result may c.in-Some-next_wish.ensures.2 made.behaviour made.state made.number made.awaited made.fresh
+
+pub returns : goal.returns
+returns g c =
+    let d = parts_of g.C.Chains.lists g.C.Chains.place c.self.inside.machine in
+    let e = parts_of g.C.Chains.lists g.C.Chains.place c.open.new.self in
+    let f = c.args.frame.now in
+    let row = c.args.row in
+    let may : MayAsk (underway d) f row = record {
+      handed = handed_as (underway d) row c.body.result.now f.body c.args-2.result.now f.args c.inputs.result.now f.inputs c.body.ensures c.args-2.ensures c.inputs.ensures c.in-Some.ensures.0;
+      next = c.in-Some-next_wish.ensures.0;
+    } in
+    let opened = c.open.ensures.opens in
+    subst (λ (u : Underway). OpensWish u f row c.match-open.result (underway e)) c.self.view_is
+    (elim c.match-open.branch [
+      | in-Ok w ↦ subst (λ (r : Result Child OpenFault). OpensWish (underway d) f row r (underway e)) (sym w.result-is)
+          (opens d c.self.invariant.kept e f row w.in-Ok.child may (subst (λ (r : Result Child AllocError). OpensChild d row r e) w.in-Ok.is opened))
+      | in-Err w ↦ subst (λ (r : Result Child OpenFault). OpensWish (underway d) f row r (underway e)) (sym w.result-is)
+          (no_memory d c.self.invariant.kept e f row may c.if-self-ge-MOST_ROWS.false (subst (λ (r : Result Child AllocError). OpensChild d row r e) w.in-Err.is opened))
+    ])

@@ -1,0 +1,105 @@
+use Rattle.std.proofs.Common.{suc, refl, sym, ap, subst, arith}
+use Rattle.std.specs.Prelude.{vec_capacity}
+use Rattle.std.specs.VecDeque.{deque_capacity}
+use Rattle.boc_types.specs.declared.step.Step.TheVariants as steps
+use Rattle.boc_dispatch.specs.Inside.{Parts, parts_of, underway, IsKept, HasRooms}
+use Rattle.boc_dispatch.proofs.Fronts.{Front, low, low_place, may_leave}
+use Rattle.boc_dispatch.proofs.Departing.{LetGo, releases_of, unhooked_released, unhooked_makes, passed_may, passed_released, passed_makes, passed_program, blocked_parts, blocked_is}
+use Rattle.boc_dispatch.proofs.machine.Machine.leave.Goals as goal
+
+pub leave-requires-clause-there : goal.leave-requires-clause-there
+leave-requires-clause-there g c =
+    let d = parts_of g.C.Chains.lists g.C.Chains.place c.args.self.now in
+    let f : Front d c.args.slot c.args.row c.args.request c.requires.due.0 = record { kept = c.requires.sound.kept; is = c.requires.due.1.is; stage_is = c.requires.due.1.stage_is } in
+    low_place d c.args.slot c.args.row c.args.request c.requires.due.0 f
+
+pub leave-requires-clause-granted : goal.leave-requires-clause-granted
+leave-requires-clause-granted g c =
+    let d = parts_of g.C.Chains.lists g.C.Chains.place c.args.self.now in
+    let f : Front d c.args.slot c.args.row c.args.request c.requires.due.0 = record { kept = c.requires.sound.kept; is = c.requires.due.1.is; stage_is = c.requires.due.1.stage_is } in
+    may_leave d c.args.slot c.args.row c.args.request c.requires.due.0 f
+
+pub returns-in-Blocked-clause-sound : goal.returns-in-Blocked-clause-sound
+returns-in-Blocked-clause-sound g c =
+    let d = parts_of g.C.Chains.lists g.C.Chains.place c.args.self.now in
+    let f : Front d c.args.slot c.args.row c.args.request c.requires.due.0 = record { kept = c.requires.sound.kept; is = c.requires.due.1.is; stage_is = c.requires.due.1.stage_is } in
+    let e : Parts = record d { lists = g.C.Chains.lists c.leave.new.self; place = g.C.Chains.place c.leave.new.self } in
+    let let_go : LetGo d c.args.slot c.args.request e = record { lists_are = c.leave.ensures.lists; places = c.leave.ensures.places; parts_are = refl } in
+    let same = blocked_parts d c.args.slot c.args.row c.args.request c.requires.due.0 f e let_go c.in-Blocked.ensures.answer in
+    record {
+      kept = subst IsKept (sym same) c.requires.sound.kept;
+      rooms = subst (λ (z : Parts). HasRooms z (vec_capacity c.args.self.now.homes) (deque_capacity c.args.self.now.ready)) (sym same) c.requires.sound.rooms;
+    }
+
+pub returns-in-Blocked-clause-releases : goal.returns-in-Blocked-clause-releases
+returns-in-Blocked-clause-releases g c l at_stage =
+    let d = parts_of g.C.Chains.lists g.C.Chains.place c.args.self.now in
+    let f : Front d c.args.slot c.args.row c.args.request l = record { kept = c.requires.sound.kept; is = at_stage.is; stage_is = at_stage.stage_is } in
+    let e : Parts = record d { lists = g.C.Chains.lists c.leave.new.self; place = g.C.Chains.place c.leave.new.self } in
+    let let_go : LetGo d c.args.slot c.args.request e = record { lists_are = c.leave.ensures.lists; places = c.leave.ensures.places; parts_are = refl } in
+    (ap underway (blocked_parts d c.args.slot c.args.row c.args.request l f e let_go c.in-Blocked.ensures.answer), blocked_is d c.args.slot c.args.row c.args.request l f e let_go c.in-Blocked.ensures.answer)
+
+pub leave_on-requires : goal.leave_on-requires
+leave_on-requires g c =
+    let d = parts_of g.C.Chains.lists g.C.Chains.place c.args.self.now in
+    let f : Front d c.args.slot c.args.row c.args.request c.requires.due.0 = record { kept = c.requires.sound.kept; is = c.requires.due.1.is; stage_is = c.requires.due.1.stage_is } in
+    let e : Parts = record d { lists = g.C.Chains.lists c.leave.new.self; place = g.C.Chains.place c.leave.new.self } in
+    let let_go : LetGo d c.args.slot c.args.request e = record { lists_are = c.leave.ensures.lists; places = c.leave.ensures.places; parts_are = refl } in
+    record {
+      before = d;
+      this = c.requires.due.0;
+      low = low d c.args.slot c.args.row c.args.request c.requires.due.0 f;
+      released = unhooked_released d c.args.slot c.args.row c.args.request c.requires.due.0 f e let_go c.in-Unhooked.ensures.answer;
+      rooms = c.requires.sound.rooms;
+    }
+
+pub returns-in-Unhooked-clause-releases : goal.returns-in-Unhooked-clause-releases
+returns-in-Unhooked-clause-releases g c l at_stage =
+    let d = parts_of g.C.Chains.lists g.C.Chains.place c.args.self.now in
+    let f : Front d c.args.slot c.args.row c.args.request l = record { kept = c.requires.sound.kept; is = at_stage.is; stage_is = at_stage.stage_is } in
+    let e : Parts = record d { lists = g.C.Chains.lists c.leave.new.self; place = g.C.Chains.place c.leave.new.self } in
+    let let_go : LetGo d c.args.slot c.args.request e = record { lists_are = c.leave.ensures.lists; places = c.leave.ensures.places; parts_are = refl } in
+    releases_of d e (parts_of g.C.Chains.lists g.C.Chains.place c.leave_on.new.self) c.args.row l (suc c.args.request) (steps.Unhook c.args.request) c.leave_on.result refl
+    (unhooked_makes d c.args.slot c.args.row c.args.request l f e let_go c.in-Unhooked.ensures.answer)
+    (c.leave_on.ensures.left l at_stage.is)
+
+pub grant-requires : goal.grant-requires
+grant-requires g c =
+    let d = parts_of g.C.Chains.lists g.C.Chains.place c.args.self.now in
+    let f : Front d c.args.slot c.args.row c.args.request c.requires.due.0 = record { kept = c.requires.sound.kept; is = c.requires.due.1.is; stage_is = c.requires.due.1.stage_is } in
+    let e : Parts = record d { lists = g.C.Chains.lists c.leave.new.self; place = g.C.Chains.place c.leave.new.self } in
+    let let_go : LetGo d c.args.slot c.args.request e = record { lists_are = c.leave.ensures.lists; places = c.leave.ensures.places; parts_are = refl } in
+    passed_may d c.args.slot c.args.row c.args.request c.requires.due.0 f e let_go c.in-Passed.next c.in-Passed.ensures.answer (deque_capacity c.args.self.now.ready) c.requires.sound.rooms.ready
+
+pub leave_on-requires-in-Passed : goal.leave_on-requires-in-Passed
+leave_on-requires-in-Passed g c =
+    let d = parts_of g.C.Chains.lists g.C.Chains.place c.args.self.now in
+    let f : Front d c.args.slot c.args.row c.args.request c.requires.due.0 = record { kept = c.requires.sound.kept; is = c.requires.due.1.is; stage_is = c.requires.due.1.stage_is } in
+    let e : Parts = record d { lists = g.C.Chains.lists c.leave.new.self; place = g.C.Chains.place c.leave.new.self } in
+    let let_go : LetGo d c.args.slot c.args.request e = record { lists_are = c.leave.ensures.lists; places = c.leave.ensures.places; parts_are = refl } in
+    let rooms = c.requires.sound.rooms in
+    record {
+      before = d;
+      this = c.requires.due.0;
+      low = low d c.args.slot c.args.row c.args.request c.requires.due.0 f;
+      released = passed_released d c.args.slot c.args.row c.args.request c.requires.due.0 f e let_go c.in-Passed.next c.in-Passed.ensures.answer (parts_of g.C.Chains.lists g.C.Chains.place c.grant.new.self) c.grant.ensures.granted;
+      rooms = record {
+        rooms = rooms.rooms;
+        homes = omega (arith, rooms.homes, ap vec_capacity c.grant.ensures.rooms.0);
+        ready = omega (arith, rooms.ready, c.grant.ensures.rooms.1);
+      };
+    }
+
+pub returns-in-Passed-clause-releases : goal.returns-in-Passed-clause-releases
+returns-in-Passed-clause-releases g c l at_stage =
+    let d = parts_of g.C.Chains.lists g.C.Chains.place c.args.self.now in
+    let f : Front d c.args.slot c.args.row c.args.request l = record { kept = c.requires.sound.kept; is = at_stage.is; stage_is = at_stage.stage_is } in
+    let e : Parts = record d { lists = g.C.Chains.lists c.leave.new.self; place = g.C.Chains.place c.leave.new.self } in
+    let let_go : LetGo d c.args.slot c.args.request e = record { lists_are = c.leave.ensures.lists; places = c.leave.ensures.places; parts_are = refl } in
+    let after = parts_of g.C.Chains.lists g.C.Chains.place c.grant.new.self in
+    let answer = c.in-Passed.ensures.answer in
+    let granted = c.grant.ensures.granted in
+    releases_of d after (parts_of g.C.Chains.lists g.C.Chains.place c.leave_on-in-Passed.new.self) c.args.row l (suc c.args.request) (steps.Pass c.args.request) c.leave_on-in-Passed.result
+    (passed_program d c.args.slot c.args.row c.args.request l f e let_go c.in-Passed.next answer after granted)
+    (passed_makes d c.args.slot c.args.row c.args.request l f e let_go c.in-Passed.next answer after granted)
+    (c.leave_on-in-Passed.ensures.left l (passed_released d c.args.slot c.args.row c.args.request l f e let_go c.in-Passed.next answer after granted).here)

@@ -1,0 +1,176 @@
+use Rattle.std.proofs.Common.{◌≡◌, ◌≢◌, ◌∷◌, ◌++◌, [], ◌∙◌, ◌+◌, ◌<◌, ◌≤◌, ℕ, set, List, ap, refl, subst, sym, arith, length, replicate}
+use Rattle.std.specs.Prelude.{Option, Some, None, vec_capacity}
+use Rattle.std.specs.VecDeque.{deque_capacity, deque_len}
+use Rattle.boc_types.specs.program.Programs.{cown_count, initial_values}
+use Rattle.boc_types.proofs.Behaviours.{initial-length}
+use Rattle.boc_types.specs.declared.event.Event.{Event}
+use Rattle.boc_types.specs.declared.event.Event.TheVariants.{Spawn}
+use Rattle.boc_rules.specs.Log.{Log, grown}
+use Rattle.boc_dispatch.specs.declared.live.Live.{Live}
+use Rattle.boc_dispatch.specs.Inside.{Parts, parts_of, state, live_at, IsKept, HasRooms}
+use Rattle.boc_dispatch.proofs.Opened.{IsMain, opened_parts, opened_state, opened_keeps, opened_rooms, nothing_at}
+use Rattle.boc_dispatch.proofs.machine.Machine.over.Goals as goal
+
+pub overflow_cast-len : goal.overflow_cast-len
+overflow_cast-len g c =
+    let cowns = c.args.program.now.cowns in
+    let few = c.args.program.now.few_cowns in
+    let values = ap length (c.in_ok-values.ensures ∙ ap initial_values c.as_slice.ensures) in
+    omega (arith, initial-length cowns, c.len.ensures, c.in_ok-values.values.ok.0)
+
+pub new-requires : goal.new-requires
+new-requires g c =
+    let cowns = c.args.program.now.cowns in
+    let few = c.args.program.now.few_cowns in
+    let values = ap length (c.in_ok-values.ensures ∙ ap initial_values c.as_slice.ensures) in
+    omega (arith, initial-length cowns, c.len.ensures, c.in_ok-values.values.ok.0)
+
+pub returns-clause-sound : goal.returns-clause-sound
+returns-clause-sound g c =
+    let cowns = c.args.program.now.cowns in
+    let p = c.args.program.now in
+    let place = g.C.Chains.place c.admit.new.self in
+    let slot : ℕ = c.in_ok-slot.slot.index in
+    let table : List (Option Live) = c.reach.new.live.items in
+    let l : Live = c.main_behaviour.result in
+    let fresh = c.main_behaviour.ensures.fresh in
+    let main : IsMain l = record { behaviour = c.main_behaviour.ensures.behaviour; state = c.main_behaviour.ensures.state; number = fresh.0; inputs = fresh.1; spawned = fresh.3; child = fresh.4 } in
+    let nothing : c.new-live.result.items ≡ [] = c.new-live.ensures.items in
+    let same : (s : ℕ) → live_at table s ≡ live_at c.new-live.result.items s = c.in_ok-reach.ensures.same in
+    let free : (s : ℕ) → live_at table s ≡ None = λ s. same s ∙ ap (λ (xs : List (Option Live)). live_at xs s) nothing ∙ nothing_at s in
+    let below : slot < length table = c.in_ok-reach.ensures.long in
+    let no_cowns : c.new-2.result.items ≡ [] = c.new-2.ensures in
+    let admitted : place slot ≡ Some (record { cowns = c.new-2.result.items; exchanged = 0 }) = c.in_ok-slot.ensures.here in
+    let here : place slot ≡ Some (record { cowns = []; exchanged = 0 }) = admitted ∙ (λ i. Some (record { cowns = no_cowns i; exchanged = 0 })) in
+    let others_stay : (s : ℕ) → s ≢ slot → place s ≡ g.C.Chains.place c.args.chains s = c.in_ok-slot.ensures.other_places in
+    let others : (s : ℕ) → s ≢ slot → place s ≡ None = λ s n. others_stay s n ∙ c.requires.none s in
+    let lists_stay : g.C.Chains.lists c.admit.new.self ≡ g.C.Chains.lists c.args.chains = c.in_ok-slot.ensures.lists in
+    let lists_are : g.C.Chains.lists c.admit.new.self ≡ replicate (cown_count cowns) [] = lists_stay ∙ c.requires.empty in
+    let values_are : c.in_ok-values.values.items ≡ initial_values cowns = c.in_ok-values.ensures ∙ ap initial_values c.as_slice.ensures in
+    let many = ap length values_are in
+    let count : c.len.result ≡ cown_count cowns = omega (arith, initial-length cowns, c.len.ensures, c.in_ok-values.values.ok.0) in
+    let homes_were : c.in_ok-homes.homes.items ≡ [] = c.in_ok-homes.ensures.items in
+    let homes_pushed : c.push_reserved.new.self.items ≡ c.in_ok-homes.homes.items ++ slot ∷ [] = c.push_reserved.ensures.items in
+    let homes_are : c.push_reserved.new.self.items ≡ slot ∷ [] = homes_pushed ∙ ap (λ (xs : List ℕ). xs ++ slot ∷ []) homes_were in
+    let ready_were : c.in_ok-ready.ready.items ≡ [] = c.in_ok-ready.ensures.items in
+    let ready_stay : c.reserve.new.self.items ≡ c.in_ok-ready.ready.items = c.in_ok-reserve.ensures.items in
+    let ready_pushed : c.push_back_reserved.new.self.items ≡ c.reserve.new.self.items ++ slot ∷ [] = c.push_back_reserved.ensures.items in
+    let ready_are : c.push_back_reserved.new.self.items ≡ slot ∷ [] = ready_pushed ∙ ap (λ (xs : List ℕ). xs ++ slot ∷ []) (ready_stay ∙ ready_were) in
+    let event : Event = Spawn 0 0 0 c.new-3.result in
+    let begun : c.in_ok-rules.rules ≡ record { cowns = c.len.result; events = []; rooms = 0 } = c.in_ok-rules.ensures in
+    let roomy : c.make_room.new.self ≡ record c.in_ok-rules.rules { rooms = c.in_ok-rules.rules.rooms + 1 } = c.in_ok-make_room.ensures in
+    let put : c.put.new.self ≡ grown c.make_room.new.self event = c.put.ensures in
+    let event_cowns : c.new-3.result.items ≡ [] = c.new-3.ensures in
+    let more : Log → Log = λ r. record r { rooms = r.rooms + 1 } in
+    let rules_are : c.put.new.self ≡ record { cowns = cown_count cowns; events = Spawn 0 0 0 (record { items = [] }) ∷ []; rooms = 0 } =
+    put ∙ ap (λ (r : Log). grown r event) (roomy ∙ ap more begun)
+    ∙ (λ i. record { cowns = count i; events = Spawn 0 0 0 (record { items = event_cowns i }) ∷ []; rooms = 0 }) in
+    let real : Parts = record {
+      program = p;
+      lists = g.C.Chains.lists c.admit.new.self;
+      place = place;
+      live = set table slot (Some l);
+      homes = c.push_reserved.new.self.items;
+      ready = c.push_back_reserved.new.self.items;
+      rules = c.put.new.self;
+      values = c.in_ok-values.values.items;
+      opened = 1;
+      gone = 0;
+      steps = 0;
+    } in
+    let d : Parts = opened_parts p place table slot l main free below here others in
+    let is : real ≡ d = λ i. record {
+      program = p;
+      lists = lists_are i;
+      place = place;
+      live = set table slot (Some l);
+      homes = homes_are i;
+      ready = ready_are i;
+      rules = rules_are i;
+      values = values_are i;
+      opened = 1;
+      gone = 0;
+      steps = 0;
+    } in
+    let homes = vec_capacity c.push_reserved.new.self in
+    let ready = deque_capacity c.push_back_reserved.new.self in
+    let homes_stay : homes ≡ vec_capacity c.in_ok-homes.homes = c.push_reserved.ensures.capacity in
+    let homes_room : 1 ≤ vec_capacity c.in_ok-homes.homes = c.in_ok-homes.ensures.capacity in
+    let ready_kept : ready ≡ deque_capacity c.reserve.new.self = c.push_back_reserved.ensures.capacity in
+    let ready_room : deque_len c.reserve.new.self + c.len-2.result ≤ deque_capacity c.reserve.new.self = c.in_ok-reserve.ensures.ok in
+    let long : c.len-2.result ≡ c.reach.new.live.len = c.len-2.ensures in
+    let one : 1 ≤ homes = omega arith in
+    let wide : length table ≤ ready = omega (arith, c.reach.new.live.ok.0) in
+    record {
+      kept = subst IsKept (sym is) (opened_keeps p place table slot l main free below here others);
+      rooms = subst (λ (x : Parts). HasRooms x homes ready) (sym is) (opened_rooms p place table slot l main free below here others homes ready one wide);
+    }
+
+pub returns-clause-opening : goal.returns-clause-opening
+returns-clause-opening g c =
+    let cowns = c.args.program.now.cowns in
+    let p = c.args.program.now in
+    let place = g.C.Chains.place c.admit.new.self in
+    let slot : ℕ = c.in_ok-slot.slot.index in
+    let table : List (Option Live) = c.reach.new.live.items in
+    let l : Live = c.main_behaviour.result in
+    let fresh = c.main_behaviour.ensures.fresh in
+    let main : IsMain l = record { behaviour = c.main_behaviour.ensures.behaviour; state = c.main_behaviour.ensures.state; number = fresh.0; inputs = fresh.1; spawned = fresh.3; child = fresh.4 } in
+    let nothing : c.new-live.result.items ≡ [] = c.new-live.ensures.items in
+    let same : (s : ℕ) → live_at table s ≡ live_at c.new-live.result.items s = c.in_ok-reach.ensures.same in
+    let free : (s : ℕ) → live_at table s ≡ None = λ s. same s ∙ ap (λ (xs : List (Option Live)). live_at xs s) nothing ∙ nothing_at s in
+    let below : slot < length table = c.in_ok-reach.ensures.long in
+    let no_cowns : c.new-2.result.items ≡ [] = c.new-2.ensures in
+    let admitted : place slot ≡ Some (record { cowns = c.new-2.result.items; exchanged = 0 }) = c.in_ok-slot.ensures.here in
+    let here : place slot ≡ Some (record { cowns = []; exchanged = 0 }) = admitted ∙ (λ i. Some (record { cowns = no_cowns i; exchanged = 0 })) in
+    let others_stay : (s : ℕ) → s ≢ slot → place s ≡ g.C.Chains.place c.args.chains s = c.in_ok-slot.ensures.other_places in
+    let others : (s : ℕ) → s ≢ slot → place s ≡ None = λ s n. others_stay s n ∙ c.requires.none s in
+    let lists_stay : g.C.Chains.lists c.admit.new.self ≡ g.C.Chains.lists c.args.chains = c.in_ok-slot.ensures.lists in
+    let lists_are : g.C.Chains.lists c.admit.new.self ≡ replicate (cown_count cowns) [] = lists_stay ∙ c.requires.empty in
+    let values_are : c.in_ok-values.values.items ≡ initial_values cowns = c.in_ok-values.ensures ∙ ap initial_values c.as_slice.ensures in
+    let many = ap length values_are in
+    let count : c.len.result ≡ cown_count cowns = omega (arith, initial-length cowns, c.len.ensures, c.in_ok-values.values.ok.0) in
+    let homes_were : c.in_ok-homes.homes.items ≡ [] = c.in_ok-homes.ensures.items in
+    let homes_pushed : c.push_reserved.new.self.items ≡ c.in_ok-homes.homes.items ++ slot ∷ [] = c.push_reserved.ensures.items in
+    let homes_are : c.push_reserved.new.self.items ≡ slot ∷ [] = homes_pushed ∙ ap (λ (xs : List ℕ). xs ++ slot ∷ []) homes_were in
+    let ready_were : c.in_ok-ready.ready.items ≡ [] = c.in_ok-ready.ensures.items in
+    let ready_stay : c.reserve.new.self.items ≡ c.in_ok-ready.ready.items = c.in_ok-reserve.ensures.items in
+    let ready_pushed : c.push_back_reserved.new.self.items ≡ c.reserve.new.self.items ++ slot ∷ [] = c.push_back_reserved.ensures.items in
+    let ready_are : c.push_back_reserved.new.self.items ≡ slot ∷ [] = ready_pushed ∙ ap (λ (xs : List ℕ). xs ++ slot ∷ []) (ready_stay ∙ ready_were) in
+    let event : Event = Spawn 0 0 0 c.new-3.result in
+    let begun : c.in_ok-rules.rules ≡ record { cowns = c.len.result; events = []; rooms = 0 } = c.in_ok-rules.ensures in
+    let roomy : c.make_room.new.self ≡ record c.in_ok-rules.rules { rooms = c.in_ok-rules.rules.rooms + 1 } = c.in_ok-make_room.ensures in
+    let put : c.put.new.self ≡ grown c.make_room.new.self event = c.put.ensures in
+    let event_cowns : c.new-3.result.items ≡ [] = c.new-3.ensures in
+    let more : Log → Log = λ r. record r { rooms = r.rooms + 1 } in
+    let rules_are : c.put.new.self ≡ record { cowns = cown_count cowns; events = Spawn 0 0 0 (record { items = [] }) ∷ []; rooms = 0 } =
+    put ∙ ap (λ (r : Log). grown r event) (roomy ∙ ap more begun)
+    ∙ (λ i. record { cowns = count i; events = Spawn 0 0 0 (record { items = event_cowns i }) ∷ []; rooms = 0 }) in
+    let real : Parts = record {
+      program = p;
+      lists = g.C.Chains.lists c.admit.new.self;
+      place = place;
+      live = set table slot (Some l);
+      homes = c.push_reserved.new.self.items;
+      ready = c.push_back_reserved.new.self.items;
+      rules = c.put.new.self;
+      values = c.in_ok-values.values.items;
+      opened = 1;
+      gone = 0;
+      steps = 0;
+    } in
+    let d : Parts = opened_parts p place table slot l main free below here others in
+    let is : real ≡ d = λ i. record {
+      program = p;
+      lists = lists_are i;
+      place = place;
+      live = set table slot (Some l);
+      homes = homes_are i;
+      ready = ready_are i;
+      rules = rules_are i;
+      values = values_are i;
+      opened = 1;
+      gone = 0;
+      steps = 0;
+    } in
+    ap state is ∙ opened_state p place table slot l main free below here others

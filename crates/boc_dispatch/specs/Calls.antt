@@ -1,0 +1,135 @@
+-- What the calls of the dispatcher answer and do.
+use Rattle.std.specs.Prelude.{◌≡◌, ◌≢◌, ℕ, ◌+◌, ◌<◌, List, [], ℤ, Option, Some, None, Result, Ok, Err, slice_get}
+use Rattle.boc_types.specs.declared.limits.TheConstants.{MOST_ROWS}
+use Rattle.boc_types.specs.declared.body.Body.{Body}
+use Rattle.boc_types.specs.declared.short.Input.{Input}
+use Rattle.boc_types.specs.declared.stage.Phase.TheVariants.{Leaving as LeavingPhase}
+use Rattle.boc_types.specs.declared.stage.Stage.TheVariants.{Recorded}
+use Rattle.boc_types.specs.declared.step.Step.{Step}
+use Rattle.boc_types.specs.declared.step.Step.TheVariants.{Own}
+use Rattle.boc_types.specs.runs.Lives.{Running}
+use Rattle.boc_types.specs.runs.Run.{Member}
+use Rattle.boc_types.specs.runs.Records.{Recorded as RecordOf, IsRecordOf}
+use Rattle.boc_types.specs.machine.Steps.{State, at, members, opened, recorded, unrecorded, IsQuiet, HasNoEnqueue, Opens, Advances, Starts, Owns, Finishes, Leaves, IsBlockedAsking, IsBlockedLeaving}
+use Rattle.boc_types.specs.machine.Turns.{IsEnqueueOf}
+use Rattle.boc_eval.specs.Frames.{UnderWay as Framed, Ran}
+use Rattle.boc_dispatch.specs.declared.answers.Advanced.{Advanced}
+use Rattle.boc_dispatch.specs.declared.answers.Advanced.TheVariants as advanced
+use Rattle.boc_dispatch.specs.declared.answers.Child.{Child}
+use Rattle.boc_dispatch.specs.declared.answers.FinishFault.{FinishFault}
+use Rattle.boc_dispatch.specs.declared.answers.FinishFault.TheVariants as finish_faults
+use Rattle.boc_dispatch.specs.declared.answers.Leaving.{Leaving}
+use Rattle.boc_dispatch.specs.declared.answers.Left.{Left}
+use Rattle.boc_dispatch.specs.declared.answers.Left.TheVariants as left
+use Rattle.boc_dispatch.specs.declared.answers.OpenFault.{OpenFault}
+use Rattle.boc_dispatch.specs.declared.answers.OpenFault.TheVariants as open_faults
+use Rattle.boc_dispatch.specs.declared.answers.Started.{Started}
+use Rattle.boc_dispatch.specs.declared.answers.Started.TheVariants as started
+use Rattle.boc_dispatch.specs.Underway.{Underway}
+
+-- another state of the same program
+abbrev pub in_state : Underway → State → Underway
+in_state u t = record u { state = t }
+
+-- a running row that was handed out with this body, these arguments and inputs
+pub record IsHandedOut (u : Underway) (row : ℕ) (body : Body) (args : List ℤ) (inputs : List Input) : Type 0 where
+  pub member : Member
+  pub is : slice_get (members u.program u.state) row ≡ Some member
+  pub runs : member.life ≡ Running
+  pub body_is : slice_get u.program.bodies member.behaviour.kind ≡ Some body
+  pub args_are : args ≡ member.behaviour.args
+  pub inputs_are : inputs ≡ member.inputs
+
+-- ---- start
+
+-- the first of the ready list started, and this is what its body is to be run on; or nothing is ready
+abbrev pub Begins : Underway → Started → Underway → Type 0
+Begins u (started.Job job) v =
+    (who : ℕ) × (t : State) × Starts u.state who job.row t × (v ≡ in_state u t) × IsHandedOut v job.row job.body.now job.args.items job.inputs.items
+Begins u started.NoneReady v = (v ≡ u) × (u.state.ready ≡ []) × (IsQuiet u.state → ⊥)
+Begins u started.Quiet v = (v ≡ u) × IsQuiet u.state
+
+-- ---- open
+
+-- the last of so many wishes of a row is the next to be spawned, and none of them is being enqueued
+pub record IsNextWish (u : Underway) (row wishes : ℕ) : Type 0 where
+  pub none_open : HasNoEnqueue u.state row
+  pub member : Member
+  pub is : slice_get (members u.program u.state) row ≡ Some member
+  pub next : wishes ≡ member.spawned + 1
+
+-- the frame is that of a running row, and its last wish is the next to be spawned
+pub record MayAsk (u : Underway) (f : Framed) (row : ℕ) : Type 0 where
+  pub handed : IsHandedOut u row f.body f.args f.inputs
+  pub next : IsNextWish u row f.made
+
+-- the next wish of the row is opened, under this token; or nothing changed, for the first of these reasons
+abbrev pub OpensWish : Underway → Framed → ℕ → Result Child OpenFault → Underway → Type 0
+OpensWish u f row (Ok child) v =
+    IsHandedOut u row f.body f.args f.inputs × (child.number ≡ opened u.state) × (child.row ≡ row) × (t : State) × Opens u.program u.state row t × (v ≡ in_state u t)
+OpensWish u f row (Err open_faults.Stranger) v = (v ≡ u) × (IsHandedOut u row f.body f.args f.inputs → ⊥)
+OpensWish u f row (Err open_faults.OutOfTurn) v = (v ≡ u) × IsHandedOut u row f.body f.args f.inputs × (IsNextWish u row f.made → ⊥)
+OpensWish u f row (Err open_faults.Behaviours) v = (v ≡ u) × MayAsk u f row × (recorded u.program u.state + unrecorded u.state ≡ MOST_ROWS)
+OpensWish u f row (Err open_faults.Memory) v = (v ≡ u) × MayAsk u f row × (recorded u.program u.state + unrecorded u.state < MOST_ROWS)
+
+-- ---- advance
+
+-- the next step of the open enqueue with this token is made; or nothing changed
+abbrev pub AdvancesChild : Underway → Child → Advanced → Underway → Type 0
+AdvancesChild u child (advanced.Moved step) v =
+    IsEnqueueOf u.state child.number child.row × (step ≢ Own) × (t : State) × Advances u.program u.state child.number step t × (v ≡ in_state u t)
+AdvancesChild u child advanced.Enqueued v = IsEnqueueOf u.state child.number child.row × (t : State) × Owns u.state child.number t × (v ≡ in_state u t)
+AdvancesChild u child advanced.Blocked v = (v ≡ u) × IsEnqueueOf u.state child.number child.row × IsBlockedAsking u.state child.number
+AdvancesChild u child advanced.Unknown v = (v ≡ u) × (IsEnqueueOf u.state child.number child.row → ⊥)
+
+-- ---- finish
+
+-- all of so many wishes of a row were spawned, and none of them is being enqueued
+pub record HasSpawnedAll (u : Underway) (row wishes : ℕ) : Type 0 where
+  pub none_open : HasNoEnqueue u.state row
+  pub member : Member
+  pub is : slice_get (members u.program u.state) row ≡ Some member
+  pub all : wishes ≡ member.spawned
+
+-- the row has ended, and has cowns to release exactly where a token says so
+pub record EndsRow (u : Underway) (row : ℕ) (leaving : Option Leaving) (v : Underway) : Type 0 where
+  pub who : ℕ
+  pub state : State
+  pub finishes : Finishes u.program u.state who row state
+  pub same : v ≡ in_state u state
+  pub gone : leaving ≡ None → at state who ≡ None
+  pub left : (token : Leaving) → leaving ≡ Some token → (token.row ≡ row) × (at state who ≢ None)
+
+-- the row ends with this outcome; or nothing changed, the outcome comes back, and this is the first reason
+abbrev pub FinishesRow : Underway → ℕ → Ran → Result (Option Leaving) (Ran × FinishFault) → Underway → Type 0
+FinishesRow u row o (Ok leaving) v = IsHandedOut u row o.body o.args o.inputs × EndsRow u row leaving v
+FinishesRow u row o (Err (same, finish_faults.Stranger)) v = (v ≡ u) × (same ≡ o) × (IsHandedOut u row o.body o.args o.inputs → ⊥)
+FinishesRow u row o (Err (same, finish_faults.Busy)) v =
+    (v ≡ u) × (same ≡ o) × IsHandedOut u row o.body o.args o.inputs × (HasSpawnedAll u row o.wishes → ⊥)
+
+-- ---- leave
+
+-- the row's behaviour has ended, and releases its cowns
+pub record IsLeaving (s : State) (row : ℕ) : Type 0 where
+  pub who : ℕ
+  pub request : ℕ
+  pub parent : ℕ
+  pub offset : ℕ
+  pub cowns : List ℕ
+  pub is : at s who ≡ Some (record { parent = parent; offset = offset; cowns = cowns; stage = Recorded row (LeavingPhase request) })
+
+-- the next cown of the row's behaviour is released; or nothing changed
+abbrev pub LeavesCown : Underway → Leaving → Left → Underway → Type 0
+LeavesCown u leaving (left.Moved step) v =
+    (who : ℕ) × (t : State) × Leaves u.state who leaving.row step t × (at t who ≢ None) × (v ≡ in_state u t)
+LeavesCown u leaving (left.Gone step) v =
+    (who : ℕ) × (t : State) × Leaves u.state who leaving.row step t × (at t who ≡ None) × (v ≡ in_state u t)
+LeavesCown u leaving left.Blocked v = (v ≡ u) × ((who : ℕ) × IsBlockedLeaving u.state who leaving.row)
+LeavesCown u leaving left.Unknown v = (v ≡ u) × (IsLeaving u.state leaving.row → ⊥)
+
+-- ---- into_record
+
+-- the record of the whole run where it is quiet, else the dispatcher as it was
+abbrev pub EndsAsRecord : Underway → Result RecordOf Underway → Type 0
+EndsAsRecord u (Ok r) = IsQuiet u.state × (r.events ≡ u.state.log) × IsRecordOf u.program r
+EndsAsRecord u (Err same) = (same ≡ u) × (IsQuiet u.state → ⊥)

@@ -1,0 +1,53 @@
+-- What a step does to the behaviour at a slot.
+use Rattle.std.specs.Prelude.{◌≡◌, ℕ, suc, ◌+◌, ◌-◌, ◌<◌, Bool, true, false, if◌then◌else◌, nat_eq, length, Option, Some, None}
+use Rattle.boc_types.specs.declared.event.Event.{Event}
+use Rattle.boc_types.specs.declared.event.Event.TheVariants.{Spawn}
+use Rattle.boc_types.specs.declared.short.Input.{Input}
+use Rattle.boc_types.specs.declared.stage.Phase.{Phase}
+use Rattle.boc_types.specs.declared.stage.Phase.TheVariants as phases
+use Rattle.boc_types.specs.declared.stage.Stage.TheVariants.{Asking, Recorded}
+use Rattle.boc_types.specs.machine.Stages.{row_at}
+use Rattle.boc_types.specs.machine.Steps.{flagging}
+use Rattle.arrayvec.specs.ArrayVec.{ArrayVec}
+use Rattle.boc_dispatch.specs.declared.live.Live.{Live}
+
+-- there is a behaviour, and it is so
+abbrev pub Has : Option Live → (Live → Type 0) → Type 0
+Has None IsSo = ⊥
+Has (Some l) IsSo = IsSo l
+
+-- the behaviour in this phase of a row
+abbrev pub in_phase : ℕ → Phase → Live → Live
+in_phase row phase l = record l { stage = Recorded row phase }
+
+-- it runs on these inputs
+abbrev pub begun : ℕ → ArrayVec Input → Live → Live
+begun row inputs l = record l { inputs = inputs; stage = Recorded row phases.Running }
+
+-- it has this child in hand, or none
+abbrev pub with_child : Option ℕ → Live → Live
+with_child child l = record l { child = child }
+
+-- one more of its wishes is spawned
+abbrev pub with_spawn : Live → Live
+with_spawn l = record l { spawned = l.spawned + 1 }
+
+-- a request is exchanged
+abbrev pub exchanged : ℕ → Live → Live
+exchanged request l = record l { stage = Asking request true }
+
+-- a request is settled, and so many more are granted
+abbrev pub settled : ℕ → ℕ → Live → Live
+settled request granted l = record l { stage = Asking (suc request) false; awaited = l.awaited - granted }
+
+-- its spawn is recorded under this row
+abbrev pub with_row : ℕ → Live → Live
+with_row row l = in_phase row (flagging l.cowns.items 0) l
+
+-- the event of that
+abbrev pub spawn_of : ℕ → Live → Event
+spawn_of row l = Spawn row l.parent l.offset l.cowns
+
+-- it awaits one thing less, and is ready where it awaits nothing more
+abbrev pub granted : ℕ → Live → Live
+granted row l = if nat_eq l.awaited 1 then record l { awaited = 0; stage = Recorded row phases.Ready } else record l { awaited = l.awaited - 1 }

@@ -1,0 +1,87 @@
+//! What the dispatcher hands out and answers.
+
+use boc_types::body::Body;
+use boc_types::short::{Args, Inputs};
+use boc_types::step::Step;
+
+/// A behaviour that was started, for its body to be run.
+#[derive(Drop)]
+pub struct Job<'a> {
+    /// The number of its row.
+    pub row: u32,
+    pub body: &'a Body,
+    pub args: Args,
+    pub inputs: Inputs,
+}
+
+/// What `start` answers.
+#[derive(Drop)]
+pub enum Started<'a> {
+    /// The first of the ready list was started.
+    Job(Job<'a>),
+    /// Nothing is ready, and some behaviour isn't gone yet.
+    NoneReady,
+    /// Every behaviour has ended and released its cowns.
+    Quiet,
+}
+
+/// An enqueue that is open. It is spent with the answer `Enqueued`.
+#[derive(Clone, Copy, PartialEq, Eq, Debug)]
+pub struct Child {
+    pub(crate) number: u32,
+    pub(crate) row: u32,
+}
+
+/// A behaviour that releases its cowns. It is spent with the answer `Gone`.
+#[derive(Clone, Copy, PartialEq, Eq, Debug)]
+pub struct Leaving {
+    pub(crate) row: u32,
+}
+
+/// Why `open` refuses. Nothing has changed.
+#[derive(Clone, Copy, PartialEq, Eq, Debug)]
+pub enum OpenFault {
+    /// No behaviour of that number runs, or it was handed out with another body, arguments or inputs.
+    Stranger,
+    /// An enqueue of that row is open, or the frame's last wish isn't the next one to spawn, or it has none.
+    OutOfTurn,
+    /// The run has as many behaviours as it may have.
+    Behaviours,
+    /// Memory was refused.
+    Memory,
+}
+
+/// What `advance` answers.
+#[derive(Clone, Copy, PartialEq, Eq, Debug)]
+pub enum Advanced {
+    /// This step was made.
+    Moved(Step),
+    /// A settle is due, and the request before isn't flagged.
+    Blocked,
+    /// Own was made: the behaviour is enqueued.
+    Enqueued,
+    /// No open enqueue has this token.
+    Unknown,
+}
+
+/// Why `finish` refuses. Nothing has changed.
+#[derive(Clone, Copy, PartialEq, Eq, Debug)]
+pub enum FinishFault {
+    /// No behaviour of that number runs, or it was handed out with another body, arguments or inputs.
+    Stranger,
+    /// An enqueue is open, or a wish wasn't spawned.
+    Busy,
+}
+
+/// What `leave` answers.
+#[derive(Clone, Copy, PartialEq, Eq, Debug)]
+pub enum Left {
+    /// This step was made.
+    Moved(Step),
+    /// A successor has exchanged, and isn't settled.
+    Blocked,
+    /// This step was made, and with it the last request was released.
+    Gone(Step),
+    /// No leaving behaviour has this token.
+    Unknown,
+}

@@ -1,0 +1,239 @@
+//! The dispatcher: each call makes one step of the machine.
+
+ghost use Rattle.boc_types.specs.program.Programs.{cown_count as cowns_of};
+ghost use Rattle.std.specs.Prelude.{◌≡◌, ◌↔◌, ◌+◌, ◌^◌, ◌<◌, ℕ, [], None, IfOk, IsTrue, replicate, slice_get};
+
+use crate::answers::{Advanced, Child, FinishFault, Leaving, Left, OpenFault, Started};
+use crate::live::wished_behaviour;
+use crate::machine::{Enqueue, Machine};
+use boc_chain::{Chains, LinkChains};
+use boc_eval::{Frame, Outcome};
+use boc_types::event::Event;
+use boc_types::limits::MOST_ROWS;
+use boc_types::program::Program;
+use boc_types::record::Record;
+use boc_types::stage::{Phase, Stage};
+use std::alloc::{AllocError, Global};
+use std::marker::Model;
+
+/// The dispatcher over linked chains.
+pub type Dispatcher<'a> = Core<'a, LinkChains>;
+
+/// The behaviours of a program under way, over chains of either kind.
+#[derive(Drop)]
+pub struct Core<'a, C: Chains + Drop> {
+    machine: Machine<'a, C>,
+}
+
+// How many cowns a program has.
+fn cown_count(program: &Program) -> usize
+    ensures value { result ≡ cowns_of program.now.cowns }
+{
+    let cowns = program.cowns.as_slice();
+    let mut count = 0;
+    for cown in cowns {
+        count += cown.members();
+    }
+    count
+}
+
+impl<'a> Core<'a, LinkChains> {
+    ghost use Rattle.boc_types.specs.machine.Steps.{opening_state};
+
+    /// The opening state of a program: main is opened, its spawn is recorded, and it is ready.
+    pub fn new(alloc: Global, program: &'a Program) -> Result<Dispatcher<'a>, AllocError>
+        ensures { IfOk result (λ core. core ≡ record { program = program.now; state = opening_state program.now }) }
+    {
+        let chains = LinkChains::new(alloc, cown_count(program))?;
+        Core::over(alloc, program, chains)
+    }
+}
+
+impl<'a, C: Chains + Drop> Model for Core<'a, C> {
+    ghost use Rattle.boc_dispatch.specs.Underway.{Underway};
+    ghost use Rattle.boc_dispatch.specs.Codes.{coded_underway};
+    ghost use Rattle.std.specs.Coded.{codes};
+
+    ghost Value = { Underway };
+
+    ghost coded = { Prim.hlevel (codes, coded_underway) };
+
+    ghost use Rattle.boc_dispatch.specs.Inside.{underway, parts_of, IsSoundMachine};
+
+    ghost view = { λ a. underway (parts_of C.lists C.place a.machine) };
+
+    ghost invariant = { λ a. IsSoundMachine C.lists C.place a.machine };
+}
+
+impl<'a, C: Chains + Drop> Core<'a, C> {
+    ghost use Rattle.boc_types.specs.program.Programs.{cown_count};
+    ghost use Rattle.boc_types.specs.machine.Steps.{IsQuiet, opening_state, values};
+    ghost use Rattle.boc_types.specs.machine.Sound.{IsSound};
+    ghost use Rattle.boc_dispatch.specs.Calls.{Begins, OpensWish, AdvancesChild, FinishesRow, LeavesCown, EndsAsRecord};
+
+    /// The opening state over chains with no request: main is opened, its spawn is recorded, and it is ready.
+    pub fn over(alloc: Global, program: &'a Program, chains: C) -> Result<Core<'a, C>, AllocError>
+        requires empty { C.lists chains ≡ replicate (cown_count program.now.cowns) [] }
+        requires none { (slot : ℕ) → C.place chains slot ≡ None }
+        ensures { IfOk result (λ core. core ≡ record { program = program.now; state = opening_state program.now }) }
+    {
+        Ok(Core {
+            machine: Machine::over(alloc, program, chains)?,
+        })
+    }
+
+    /// Starts the first behaviour of the ready list on the values that its cowns have now, and records its start.
+    pub fn start(&mut self) -> Started<'a>
+        ensures { Begins self.old result self.new }
+    {
+        match self.machine.start() {
+            Some(job) => Started::Job(job),
+            None => {
+                if self.is_quiet() {
+                    Started::Quiet
+                } else {
+                    Started::NoneReady
+                }
+            }
+        }
+    }
+
+    /// Opens the next wish of a running behaviour. All memory that the wished behaviour will ever need is taken here.
+    pub fn open(&mut self, frame: &Frame<'a>, row: u32) -> Result<Child, OpenFault>
+        ensures { OpensWish self.old frame.now row result self.new }
+    {
+        let Some(slot) = self
+            .machine
+            .running(row, frame.body(), frame.args(), frame.inputs())
+        else {
+            return Err(OpenFault::Stranger);
+        };
+        let Some(wish) = self.machine.next_wish(slot, row, frame) else {
+            return Err(OpenFault::OutOfTurn);
+        };
+        if self.machine.opened as usize >= MOST_ROWS {
+            return Err(OpenFault::Behaviours);
+        }
+        let child = wished_behaviour(self.machine.opened, row, wish);
+        match self.machine.open(slot, row, child) {
+            Ok(child) => Ok(child),
+            Err(_) => Err(OpenFault::Memory),
+        }
+    }
+
+    /// Makes the next step of an open enqueue: Swap, Settle, Flag or Own.
+    pub fn advance(&mut self, child: &Child) -> Advanced
+        ensures { AdvancesChild self.old child.now result self.new }
+    {
+        let Some(
+            Enqueue {
+                parent,
+                slot,
+                stage,
+            },
+        ) = self.machine.enqueue_of(child)
+        else {
+            return Advanced::Unknown;
+        };
+        match stage {
+            Stage::Asking { request, exchanged } => {
+                if exchanged {
+                    self.machine.settle(parent, slot, request)
+                } else {
+                    self.machine.swap(slot, request)
+                }
+            }
+            Stage::Recorded { row, phase } => match phase {
+                Phase::Flagging(request) => self.machine.flag(slot, row, request),
+                _ => self.machine.own(parent, slot, row),
+            },
+        }
+    }
+
+    /// Ends a running behaviour: writes its outputs to its cowns, and records its end. Where it has cowns they are to be
+    /// released then.
+    pub fn finish(
+        &mut self,
+        row: u32,
+        outcome: Outcome<'a>,
+    ) -> Result<Option<Leaving>, (Outcome<'a>, FinishFault)>
+        ensures { FinishesRow self.old row outcome.entry result self.new }
+    {
+        let running = self
+            .machine
+            .running(row, outcome.body(), outcome.args(), outcome.inputs());
+        let Some(slot) = running else {
+            return Err((outcome, FinishFault::Stranger));
+        };
+        if !self.machine.has_spawned(slot, row, outcome.wishes()) {
+            return Err((outcome, FinishFault::Busy));
+        }
+        if self.machine.finish(slot, row, &outcome) {
+            Ok(Some(Leaving { row }))
+        } else {
+            Ok(None)
+        }
+    }
+
+    /// Releases the next cown of a behaviour that has ended.
+    pub fn leave(&mut self, leaving: &Leaving) -> Left
+        ensures { LeavesCown self.old leaving.now result self.new }
+    {
+        match self.machine.leaving(leaving.row) {
+            Some((slot, request)) => self.machine.leave(slot, leaving.row, request),
+            None => Left::Unknown,
+        }
+    }
+
+    /// What has happened so far.
+    pub fn log(&self) -> &[Event]
+        ensures { result.now ≡ self.now.state.log }
+    {
+        self.machine.rules.events()
+    }
+
+    /// The program.
+    pub fn program(&self) -> &'a Program
+        ensures value { result.now ≡ self.now.program }
+        ensures sound { IsSound self.now.program self.now.state }
+    {
+        self.machine.program
+    }
+
+    /// The value of a cown, which changes only as behaviours end.
+    pub fn value(&self, cown: u32) -> Option<i64>
+        ensures { result ≡ slice_get (values self.now.program self.now.state) cown }
+    {
+        self.machine.values.get(cown as usize).copied()
+    }
+
+    /// Every behaviour has ended and released its cowns.
+    pub fn is_quiet(&self) -> bool
+        ensures { IsTrue result ↔ IsQuiet self.now.state }
+    {
+        self.machine.gone == self.machine.opened
+    }
+
+    /// How many steps were made.
+    pub fn steps(&self) -> u64
+        ensures value { result ≡ self.now.state.steps }
+        ensures few { result + 1 < 2 ^ 64 }
+    {
+        self.machine.steps
+    }
+
+    /// The record of the run where it is quiet; otherwise the dispatcher comes back unchanged. It takes no memory.
+    pub fn into_record(self) -> Result<Record, Core<'a, C>>
+        ensures { EndsAsRecord self.entry result }
+    {
+        if !self.is_quiet() {
+            return Err(self);
+        }
+        let Core { machine } = self;
+        let Machine { rules, .. } = machine;
+        match rules.into_record() {
+            Ok(record) => Ok(record),
+            Err(_) => unreachable!(),
+        }
+    }
+}

@@ -1,0 +1,12 @@
+//! The machine of the runtime: behaviours go step by step from their Open to their last release, and what happens becomes a log.
+#![tactic(auto)]
+
+mod answers;
+mod dispatcher;
+mod live;
+mod machine;
+mod moves;
+
+pub use answers::{Advanced, Child, FinishFault, Job, Leaving, Left, OpenFault, Started};
+pub use boc_types::step::Step;
+pub use dispatcher::{Core, Dispatcher};

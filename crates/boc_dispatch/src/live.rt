@@ -1,0 +1,213 @@
+//! Behaviours that are not gone yet.
+
+ghost use Rattle.std.specs.Prelude.{◌≡◌, ◌+◌, ◌==◌, ◌≤◌, ◌<◌, ◌↔◌, ℕ, suc, None, Some, Option, IsTrue, length, slice_get, false, []};
+ghost use Rattle.boc_types.specs.declared.limits.TheConstants.{MOST_HELD};
+ghost use Rattle.boc_types.specs.declared.stage.Phase.TheVariants as phases;
+ghost use Rattle.boc_types.specs.declared.stage.Stage.TheVariants.{Asking, Recorded};
+ghost use Rattle.boc_types.specs.machine.Stages.{row_at};
+ghost use Rattle.boc_types.specs.machine.Steps.{flagging};
+ghost use Rattle.boc_types.specs.program.Rising.{rising};
+ghost use Rattle.boc_types.specs.runs.Serial.{Behaviour};
+ghost use Rattle.boc_dispatch.specs.Inside.{behaviour_of, open_of};
+ghost use Rattle.boc_dispatch.specs.Places.{in_phase};
+
+use boc_eval::SpawnWish;
+use boc_types::body::Body;
+use boc_types::cowns::rising_cowns;
+use boc_types::program::Program;
+use boc_types::short::{Args, Cowns, Input, Inputs};
+use boc_types::stage::{Phase, Stage};
+
+/// A behaviour from its Open until its last request is released.
+#[derive(Drop, Debug)]
+pub struct Live {
+    /// The number of its Open, which is never given again; main's is 0.
+    pub number: u32,
+    /// The row that spawns it.
+    pub parent: u32,
+    /// The ticks that its parent had counted as it wished for it.
+    pub offset: u32,
+    /// The place of its body among the program's bodies.
+    pub kind: usize,
+    /// The values of its value parameters.
+    pub args: Args,
+    /// Its cowns in the order of its cown parameters.
+    pub params: Cowns,
+    /// Its cowns in rising order, which is that of its requests.
+    pub cowns: Cowns,
+    /// From its start on its cowns with the values that they had then.
+    pub inputs: Inputs,
+    /// How far it is.
+    pub stage: Stage,
+    /// How many of its requests aren't granted, and one more before Own.
+    pub awaited: usize,
+    /// How many of its wishes were spawned.
+    pub spawned: u32,
+    /// The slot of the wish that is being enqueued.
+    pub child: Option<usize>,
+}
+
+/// Main as it is opened: its spawn is recorded, and it is ready.
+pub fn main_behaviour() -> Live
+    ensures behaviour { behaviour_of result ≡ record { kind = 0; args = []; cowns = [] } }
+    ensures state { open_of result ≡ record { parent = 0; offset = 0; cowns = []; stage = Recorded 0 phases.Ready } }
+    ensures fresh { (result.number ≡ 0) × (result.inputs.items ≡ []) × (result.awaited ≡ 0) × (result.spawned ≡ 0) × (result.child ≡ None) }
+{
+    Live {
+        number: 0,
+        parent: 0,
+        offset: 0,
+        kind: 0,
+        args: Args::new(),
+        params: Cowns::new(),
+        cowns: Cowns::new(),
+        inputs: Inputs::new(),
+        stage: Stage::Recorded {
+            row: 0,
+            phase: Phase::Ready,
+        },
+        awaited: 0,
+        spawned: 0,
+        child: None,
+    }
+}
+
+/// The behaviour of a row's wish as it is opened, under a number of its own.
+pub fn wished_behaviour(number: u32, row: u32, wish: &SpawnWish) -> Live
+    ensures behaviour { behaviour_of result ≡ record { kind = wish.now.kind; args = wish.now.args.items; cowns = wish.now.cowns.items } }
+    ensures state { open_of result ≡ record { parent = row; offset = wish.now.offset; cowns = rising wish.now.cowns.items; stage = Asking 0 false } }
+    ensures number { result.number ≡ number }
+    ensures awaited { result.awaited ≡ length result.cowns.items + 1 }
+    ensures fresh { (result.inputs.items ≡ []) × (result.spawned ≡ 0) × (result.child ≡ None) }
+{
+    let cowns = rising_cowns(&wish.cowns);
+    let awaited = cowns.len() + 1;
+    Live {
+        number,
+        parent: row,
+        offset: wish.offset,
+        kind: wish.kind,
+        args: Args::try_from(wish.args.as_slice()).unwrap(),
+        params: Cowns::try_from(wish.cowns.as_slice()).unwrap(),
+        cowns,
+        inputs: Inputs::new(),
+        stage: Stage::Asking {
+            request: 0,
+            exchanged: false,
+        },
+        awaited,
+        spawned: 0,
+        child: None,
+    }
+}
+
+impl Live {
+    /// It runs as this row on this body, these arguments and inputs.
+    pub fn runs_on(
+        &self,
+        program: &Program,
+        row: u32,
+        body: &Body,
+        args: &[i64],
+        inputs: &[Input],
+    ) -> bool
+        requires { self.now.kind < length program.now.bodies }
+        ensures { IsTrue result ↔ ((self.now.stage ≡ Recorded row phases.Running) × (slice_get program.now.bodies self.now.kind ≡ Some body.now)
+            × (args.now ≡ self.now.args.items) × (inputs.now ≡ self.now.inputs.items)) }
+    {
+        self.is_running(row)
+            && self.has_body(program, body)
+            && self.has_args(args)
+            && self.has_inputs(inputs)
+    }
+
+    // It runs as this row.
+    fn is_running(&self, row: u32) -> bool
+        ensures { IsTrue result ↔ (self.now.stage ≡ Recorded row phases.Running) }
+    {
+        let runs = Stage::Recorded {
+            row,
+            phase: Phase::Running,
+        };
+        self.stage == runs
+    }
+
+    // This is its body.
+    fn has_body(&self, program: &Program, body: &Body) -> bool
+        requires { self.now.kind < length program.now.bodies }
+        ensures { IsTrue result ↔ (slice_get program.now.bodies self.now.kind ≡ Some body.now) }
+    {
+        *program.body(self.kind) == *body
+    }
+
+    // These are its arguments.
+    fn has_args(&self, args: &[i64]) -> bool
+        ensures { IsTrue result ↔ (args.now ≡ self.now.args.items) }
+    {
+        args == self.args.as_slice()
+    }
+
+    // These are its inputs.
+    fn has_inputs(&self, inputs: &[Input]) -> bool
+        ensures { IsTrue result ↔ (inputs.now ≡ self.now.inputs.items) }
+    {
+        inputs == self.inputs.as_slice()
+    }
+
+    /// Of so many wishes the last is the next to be spawned, and nothing is being enqueued.
+    pub fn opens_next(&self, wishes: u32) -> bool
+        ensures { IsTrue result ↔ ((self.now.child ≡ None) × (wishes ≡ self.now.spawned + 1)) }
+    {
+        self.child.is_none() && wishes > 0 && wishes - 1 == self.spawned
+    }
+
+    /// So many wishes were all spawned, and nothing is being enqueued.
+    pub fn has_spawned(&self, wishes: u32) -> bool
+        ensures { IsTrue result ↔ ((self.now.child ≡ None) × (wishes ≡ self.now.spawned)) }
+    {
+        self.child.is_none() && wishes == self.spawned
+    }
+}
+
+impl Live {
+    /// The row under which its spawn is recorded, if it is.
+    pub fn row(&self) -> Option<u32>
+        ensures { result ≡ row_at self.now.stage }
+    {
+        match self.stage {
+            Stage::Asking { .. } => None,
+            Stage::Recorded { row, .. } => Some(row),
+        }
+    }
+
+    /// Which request it releases next, where it has ended as this row.
+    pub fn leaving(&self, row: u32) -> Option<usize>
+        ensures { (request : ℕ) → (result ≡ Some request) ↔ (self.now.stage ≡ Recorded row (phases.Leaving request)) }
+    {
+        match self.stage {
+            Stage::Recorded {
+                row: own,
+                phase: Phase::Leaving(request),
+            } if own == row => Some(request),
+            _ => None,
+        }
+    }
+
+    /// It goes on with the flag of this request; behind the last its enqueue is over but for Own.
+    pub fn flagging(&self, request: usize) -> Phase
+        ensures { result ≡ flagging self.now.cowns.items request }
+    {
+        if request < self.cowns.len() {
+            Phase::Flagging(request)
+        } else {
+            Phase::Owning
+        }
+    }
+
+    /// It is in this phase of its row from now on.
+    pub fn go_on(&mut self, row: u32, phase: Phase)
+        ensures { self.new ≡ in_phase row phase self.old }
+    {
+        self.stage = Stage::Recorded { row, phase };
+    }
+}

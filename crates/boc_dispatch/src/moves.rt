@@ -1,0 +1,221 @@
+//! What a step does to the behaviour at a slot, which is there.
+
+ghost use Rattle.std.specs.Prelude.{◌≡◌, ◌==◌, ◌+◌, ◌^◌, ◌<◌, ◌≤◌, nat_lt, suc, None, Some, Option, ℕ, length, slice_get};
+ghost use Rattle.std.specs.Option.{option_map};
+ghost use Rattle.boc_types.specs.declared.stage.Phase.TheVariants as phases;
+ghost use Rattle.boc_types.specs.declared.stage.Stage.TheVariants.{Recorded};
+ghost use Rattle.boc_types.specs.machine.Stages.{row_at};
+ghost use Rattle.boc_types.specs.machine.Steps.{flagging};
+ghost use Rattle.boc_types.specs.program.Signatures.{AllBelow};
+ghost use Rattle.boc_types.specs.runs.Serial.{after_outputs, inputs_of as inputs};
+ghost use Rattle.boc_dispatch.specs.Places.{Has, in_phase, begun, with_child, with_spawn, exchanged, settled, with_row, spawn_of, granted as with_grant};
+
+use crate::answers::Job;
+use crate::live::Live;
+use boc_types::event::Event;
+use boc_types::program::Program;
+use boc_types::short::{Args, Cowns, Inputs};
+use boc_types::stage::{Phase, Stage};
+use boc_types::values::{inputs_of, write_outputs};
+
+/// It starts on the current values. Answers what its body is to be run on.
+pub fn begin<'a>(place: &mut Option<Live>, program: &'a Program, values: &[i64]) -> Job<'a>
+    requires recorded { (l : Live) → place.old ≡ Some l → (row : ℕ) × (row_at l.stage ≡ Some row) }
+    requires there { Has place.old (λ l. l.kind < length program.now.bodies) }
+    requires below { Has place.old (λ l. AllBelow (length values.now) l.params.items) }
+    ensures started { place.new ≡ option_map (begun result.row result.inputs) place.old }
+    ensures row { Has place.old (λ l. row_at l.stage ≡ Some result.row) }
+    ensures body { Has place.old (λ l. slice_get program.now.bodies l.kind ≡ Some result.body.now) }
+    ensures args { Has place.old (λ l. result.args.items ≡ l.args.items) }
+    ensures inputs { Has place.old (λ l. result.inputs.items ≡ inputs l.params.items values.now) }
+{
+    match place {
+        Some(live) => {
+            let row = match live.stage {
+                Stage::Recorded { row, .. } => row,
+                Stage::Asking { .. } => unreachable!(),
+            };
+            live.inputs = inputs_of(&live.params, values);
+            live.go_on(row, Phase::Running);
+            Job {
+                row,
+                body: program.body(live.kind),
+                args: Args::try_from(live.args.as_slice()).unwrap(),
+                inputs: Inputs::try_from(live.inputs.as_slice()).unwrap(),
+            }
+        }
+        None => unreachable!(),
+    }
+}
+
+/// A wish of it is being enqueued at this slot.
+pub fn begin_child(place: &mut Option<Live>, child: usize)
+    requires { Has place.old (λ l. Unit {0}) }
+    ensures { place.new ≡ option_map (with_child (Some child)) place.old }
+{
+    match place {
+        Some(live) => live.child = Some(child),
+        None => unreachable!(),
+    }
+}
+
+/// None of its wishes is being enqueued any more.
+pub fn end_child(place: &mut Option<Live>)
+    requires { Has place.old (λ l. Unit {0}) }
+    ensures { place.new ≡ option_map (with_child None) place.old }
+{
+    match place {
+        Some(live) => live.child = None,
+        None => unreachable!(),
+    }
+}
+
+/// One more of its wishes is spawned.
+pub fn count_spawn(place: &mut Option<Live>)
+    requires { Has place.old (λ l. l.spawned + 1 < 2 ^ 32) }
+    ensures { place.new ≡ option_map with_spawn place.old }
+{
+    match place {
+        Some(live) => live.spawned += 1,
+        None => unreachable!(),
+    }
+}
+
+/// This request is exchanged.
+pub fn ask(place: &mut Option<Live>, request: usize)
+    requires { Has place.old (λ l. Unit {0}) }
+    ensures { place.new ≡ option_map (exchanged request) place.old }
+{
+    match place {
+        Some(live) => {
+            live.stage = Stage::Asking {
+                request,
+                exchanged: true,
+            }
+        }
+        None => unreachable!(),
+    }
+}
+
+/// This request is settled, and so many more are granted. Answers whether it was the last.
+pub fn settle_next(place: &mut Option<Live>, request: usize, granted: usize) -> bool
+    requires { Has place.old (λ l. (request < length l.cowns.items) × (granted ≤ l.awaited)) }
+    ensures settles { place.new ≡ option_map (settled request granted) place.old }
+    ensures last { Has place.old (λ l. result ≡ (suc request == length l.cowns.items)) }
+{
+    match place {
+        Some(live) => {
+            let count = live.cowns.len();
+            live.awaited -= granted;
+            live.stage = Stage::Asking {
+                request: request + 1,
+                exchanged: false,
+            };
+            request + 1 == count
+        }
+        None => unreachable!(),
+    }
+}
+
+/// Its spawn is recorded under this row. Answers the event.
+pub fn record(place: &mut Option<Live>, row: u32) -> Event
+    requires { Has place.old (λ l. Unit {0}) }
+    ensures recorded { place.new ≡ option_map (with_row row) place.old }
+    ensures event { Has place.old (λ l. result ≡ spawn_of row l) }
+{
+    match place {
+        Some(live) => {
+            live.go_on(row, live.flagging(0));
+            Event::Spawn {
+                row,
+                parent: live.parent,
+                offset: live.offset,
+                cowns: Cowns::try_from(live.cowns.as_slice()).unwrap(),
+            }
+        }
+        None => unreachable!(),
+    }
+}
+
+/// This request is flagged.
+pub fn flag_next(place: &mut Option<Live>, row: u32, request: usize)
+    requires { Has place.old (λ l. request < length l.cowns.items) }
+    ensures { place.new ≡ option_map (λ l. in_phase row (flagging l.cowns.items (suc request)) l) place.old }
+{
+    match place {
+        Some(live) => {
+            let count = live.cowns.len();
+            prove!(request < count);
+            live.go_on(row, live.flagging(request + 1));
+        }
+        None => unreachable!(),
+    }
+}
+
+/// Its enqueue is over.
+pub fn wait(place: &mut Option<Live>, row: u32)
+    requires { Has place.old (λ l. Unit {0}) }
+    ensures { place.new ≡ option_map (in_phase row phases.Waiting) place.old }
+{
+    match place {
+        Some(live) => live.go_on(row, Phase::Waiting),
+        None => unreachable!(),
+    }
+}
+
+/// It awaits one thing less; where it awaits nothing more it waits no longer. Answers whether it is ready.
+pub fn grant_one(place: &mut Option<Live>) -> bool
+    requires awaits { Has place.old (λ l. 0 < l.awaited) }
+    ensures grants { (l : Live) (row : ℕ) → place.old ≡ Some l → row_at l.stage ≡ Some row → place.new ≡ Some (with_grant row l) }
+    ensures early { (l : Live) → place.old ≡ Some l → 1 < l.awaited → place.new ≡ Some (with_grant 0 l) }
+    ensures ready { Has place.old (λ l. result ≡ (l.awaited == 1)) }
+{
+    match place {
+        Some(live) => {
+            live.awaited -= 1;
+            if live.awaited > 0 {
+                return false;
+            }
+            if let Stage::Recorded { row, .. } = live.stage {
+                live.go_on(row, Phase::Ready);
+            }
+            true
+        }
+        None => unreachable!(),
+    }
+}
+
+/// It has ended, and its outputs are written to its cowns. Answers whether it has any.
+pub fn end(place: &mut Option<Live>, row: u32, values: &mut [i64], outputs: &[i64]) -> bool
+    requires below { Has place.old (λ l. AllBelow (length values.old) l.params.items) }
+    requires both { Has place.old (λ l. length l.params.items ≡ length outputs.now) }
+    ensures ended { place.new ≡ option_map (in_phase row (phases.Leaving 0)) place.old }
+    ensures values { Has place.old (λ l. values.new ≡ after_outputs values.old l.params.items outputs.now) }
+    ensures cowns { Has place.old (λ l. result ≡ nat_lt 0 (length l.cowns.items)) }
+{
+    match place {
+        Some(live) => {
+            write_outputs(values, &live.params, outputs);
+            live.go_on(row, Phase::Leaving(0));
+            !live.cowns.is_empty()
+        }
+        None => unreachable!(),
+    }
+}
+
+/// This request is released. Answers whether it was the last.
+pub fn leave_next(place: &mut Option<Live>, row: u32, request: usize) -> bool
+    requires { Has place.old (λ l. request < length l.cowns.items) }
+    ensures released { place.new ≡ option_map (in_phase row (phases.Leaving (suc request))) place.old }
+    ensures last { Has place.old (λ l. result ≡ (suc request == length l.cowns.items)) }
+{
+    match place {
+        Some(live) => {
+            let count = live.cowns.len();
+            prove!(request < count);
+            live.go_on(row, Phase::Leaving(request + 1));
+            request + 1 == count
+        }
+        None => unreachable!(),
+    }
+}

@@ -1,0 +1,211 @@
+//! The dispatcher: a whole run by its calls, and calls of strangers, which change nothing.
+
+use boc_dispatch::{Advanced, Dispatcher, FinishFault, Job, Leaving, Left, OpenFault, Started, Step};
+use boc_eval::{Frame, Outcome, Stop};
+use boc_reader::read_program;
+use boc_types::event::Event;
+use boc_types::program::Program;
+use boc_types::short::{Args, Input, Inputs};
+use std::alloc::Global;
+use std::test::*;
+
+const TRANSFER: &[u8] = b"cown a = 10; cown b = 0;
+def add(k; x) { x = x + k; }
+def move(k; x, y) { x = x - k; y = y + k; }
+main { when add(5; a); when move(3; a, b); when add(1; b); }";
+
+fn transfer(alloc: Global) -> Result<Program, Fail> {
+    match read_program(alloc, TRANSFER) {
+        Ok(program) => Ok(program),
+        Err(_) => Err("the text spells a program".into()),
+    }
+}
+
+// The frame of a behaviour that was started, where its body takes what it was started with.
+fn frame_of<'a>(alloc: Global, job: &Job<'a>) -> Result<Frame<'a>, Fail> {
+    let args = Args::try_from(job.args.as_slice()).unwrap();
+    let inputs = Inputs::try_from(job.inputs.as_slice()).unwrap();
+    if args.len() != job.body.params || inputs.len() != job.body.cown_params {
+        return Err("a body is started with what it takes".into());
+    }
+    Ok(Frame::new(alloc, job.body, args, inputs)?)
+}
+
+// Enqueues the frame's last wish.
+fn enqueue<'a>(core: &mut Dispatcher<'a>, frame: &Frame<'a>, row: u32) -> Result<(), Fail> {
+    let Ok(child) = core.open(frame, row) else {
+        return Err("the wish is opened".into());
+    };
+    for _ in 0..100 {
+        match core.advance(&child) {
+            Advanced::Moved(_) => {}
+            Advanced::Enqueued => return Ok(()),
+            Advanced::Blocked | Advanced::Unknown => return Err("nobody is in the way".into()),
+        }
+    }
+    Err("an enqueue ends".into())
+}
+
+// Releases all cowns of a behaviour.
+fn release(core: &mut Dispatcher, leaving: &Leaving) -> Result<(), Fail> {
+    for _ in 0..100 {
+        match core.leave(leaving) {
+            Left::Moved(_) => {}
+            Left::Gone(_) => return Ok(()),
+            Left::Blocked | Left::Unknown => return Err("nobody is in the way".into()),
+        }
+    }
+    Err("a release ends".into())
+}
+
+// Runs the body of a behaviour that was started, from its first wish to its last release.
+fn serve<'a>(alloc: Global, core: &mut Dispatcher<'a>, job: Job<'a>) -> Result<(), Fail> {
+    let mut frame = frame_of(alloc, &job)?;
+    for _ in 0..100 {
+        match frame.run() {
+            Stop::Wants(_) => enqueue(core, &frame, job.row)?,
+            Stop::Ended => break,
+        }
+    }
+    if !frame.is_ended() {
+        return Err("the body ends".into());
+    }
+    match core.finish(job.row, frame.into_outcome()) {
+        Ok(Some(leaving)) => release(core, &leaving),
+        Ok(None) => Ok(()),
+        Err(_) => Err("the behaviour ends".into()),
+    }
+}
+
+// The line of an event in the text of records, without what was written.
+fn line(alloc: Global, event: &Event) -> Result<String, Fail> {
+    Ok(match event {
+        Event::Spawn {
+            row,
+            parent,
+            offset,
+            ..
+        } => format!(in alloc; "+ {row} {parent} {offset}")?,
+        Event::Start { row } => format!(in alloc; "> {row}")?,
+        Event::End { row, ticks, .. } => format!(in alloc; "< {row} {ticks}")?,
+    })
+}
+
+#[test]
+fn transfer_by_one_worker(rt: HostRuntime) -> Result<(), Fail> {
+    let alloc = rt.alloc();
+    let program = transfer(alloc)?;
+    let mut core = Dispatcher::new(alloc, &program)?;
+    assert!(rt; !core.is_quiet());
+    for _ in 0..4 {
+        let Started::Job(job) = core.start() else {
+            return Err("a behaviour is ready".into());
+        };
+        serve(alloc, &mut core, job)?;
+    }
+    assert!(rt; matches!(core.start(), Started::Quiet));
+    assert!(rt; core.is_quiet());
+    assert_eq!(rt; core.steps(), 30);
+    assert_eq!(rt; (core.value(0), core.value(1), core.value(2)), (Some(12), Some(4), None));
+    let lines = [
+        "+ 0 0 0", "> 0", "+ 1 0 2", "+ 2 0 3", "+ 3 0 4", "< 0 4", "> 1", "< 1 2", "> 2", "< 2 3",
+        "> 3", "< 3 2",
+    ];
+    assert_eq!(rt; core.log().len(), lines.len());
+    for (event, wanted) in core.log().iter().zip(lines) {
+        assert_eq!(rt; line(alloc, event)?.as_str(), wanted);
+    }
+    let Ok(record) = core.into_record() else {
+        return Err("a quiet dispatcher has a record".into());
+    };
+    assert_eq!(rt; (record.cowns(), record.rows().as_slice().len()), (2, 4));
+    Ok(())
+}
+
+// The outcome of the program's body of a kind, of whose wishes none is spawned.
+fn outcome<'a>(
+    alloc: Global,
+    program: &'a Program,
+    kind: usize,
+    args: &[i64],
+    inputs: &[Input],
+) -> Result<Outcome<'a>, Fail> {
+    let Some(body) = program.bodies.as_slice().get(kind) else {
+        return Err("the body is there".into());
+    };
+    let mut given = Args::new();
+    for value in args {
+        if !given.is_full() {
+            given.push(*value);
+        }
+    }
+    let mut held = Inputs::new();
+    for input in inputs {
+        if !held.is_full() {
+            held.push(*input);
+        }
+    }
+    if given.len() != body.params || held.len() != body.cown_params {
+        return Err("the body takes these".into());
+    }
+    let mut frame = Frame::new(alloc, body, given, held)?;
+    for _ in 0..100 {
+        if matches!(frame.run(), Stop::Ended) {
+            break;
+        }
+    }
+    if !frame.is_ended() {
+        return Err("the body ends".into());
+    }
+    Ok(frame.into_outcome())
+}
+
+// The fault with which an outcome comes back.
+fn refused<'a>(
+    core: &mut Dispatcher<'a>,
+    row: u32,
+    outcome: Outcome<'a>,
+) -> Option<(FinishFault, u32)> {
+    match core.finish(row, outcome) {
+        Ok(_) => None,
+        Err((outcome, fault)) => Some((fault, outcome.ticks())),
+    }
+}
+
+#[test]
+fn strangers(rt: HostRuntime) -> Result<(), Fail> {
+    let alloc = rt.alloc();
+    let program = transfer(alloc)?;
+    let mut core = Dispatcher::new(alloc, &program)?;
+    let Started::Job(job) = core.start() else {
+        return Err("main is ready".into());
+    };
+    let ended = outcome(alloc, &program, 0, &[], &[])?;
+    assert_eq!(rt; refused(&mut core, 1, ended), Some((FinishFault::Stranger, 4)));
+    let held = [Input { cown: 0, value: 10 }];
+    let other = outcome(alloc, &program, 1, &[5], &held)?;
+    assert_eq!(rt; refused(&mut core, 0, other), Some((FinishFault::Stranger, 2)));
+    let ended = outcome(alloc, &program, 0, &[], &[])?;
+    assert_eq!(rt; refused(&mut core, 0, ended), Some((FinishFault::Busy, 4)));
+    let mut frame = frame_of(alloc, &job)?;
+    assert!(rt; matches!(core.open(&frame, 0), Err(OpenFault::OutOfTurn)));
+    let mut ahead = frame_of(alloc, &job)?;
+    let _ = ahead.run();
+    let _ = ahead.run();
+    assert!(rt; matches!(core.open(&ahead, 0), Err(OpenFault::OutOfTurn)));
+    let _ = frame.run();
+    assert!(rt; matches!(core.open(&frame, 1), Err(OpenFault::Stranger)));
+    assert_eq!(rt; (core.steps(), core.log().len()), (1, 2));
+    let Ok(child) = core.open(&frame, 0) else {
+        return Err("the first wish is opened".into());
+    };
+    assert!(rt; matches!(core.open(&frame, 0), Err(OpenFault::OutOfTurn)));
+    for step in [Step::Swap(0), Step::Settle(0), Step::Flag(0)] {
+        assert_eq!(rt; core.advance(&child), Advanced::Moved(step));
+    }
+    assert_eq!(rt; core.advance(&child), Advanced::Enqueued);
+    assert_eq!(rt; core.advance(&child), Advanced::Unknown);
+    assert_eq!(rt; (core.steps(), core.log().len()), (6, 3));
+    assert_eq!(rt; (core.value(0), core.value(1)), (Some(10), Some(0)));
+    Ok(())
+}

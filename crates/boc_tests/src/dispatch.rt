@@ -1,6 +1,8 @@
 //! The dispatcher: a whole run by its calls, and calls of strangers, which change nothing.
 
-use boc_dispatch::{Advanced, Dispatcher, FinishFault, Job, Leaving, Left, OpenFault, Started, Step};
+use boc_dispatch::{
+    Advanced, Dispatcher, FinishFault, Job, Leaving, Left, OpenFault, Started, Step,
+};
 use boc_eval::{Frame, Outcome, Stop};
 use boc_reader::read_program;
 use boc_types::event::Event;
@@ -106,7 +108,10 @@ fn transfer_by_one_worker(rt: HostRuntime) -> Result<(), Fail> {
     assert!(rt; matches!(core.start(), Started::Quiet));
     assert!(rt; core.is_quiet());
     assert_eq!(rt; core.steps(), 30);
-    assert_eq!(rt; (core.value(0), core.value(1), core.value(2)), (Some(12), Some(4), None));
+    assert_eq!(rt;
+        (core.value(0), core.value(1), core.value(2)),
+        (Some(12), Some(4), None)
+    );
     let lines = [
         "+ 0 0 0", "> 0", "+ 1 0 2", "+ 2 0 3", "+ 3 0 4", "< 0 4", "> 1", "< 1 2", "> 2", "< 2 3",
         "> 3", "< 3 2",
@@ -181,10 +186,16 @@ fn strangers(rt: HostRuntime) -> Result<(), Fail> {
         return Err("main is ready".into());
     };
     let ended = outcome(alloc, &program, 0, &[], &[])?;
-    assert_eq!(rt; refused(&mut core, 1, ended), Some((FinishFault::Stranger, 4)));
+    assert_eq!(rt;
+        refused(&mut core, 1, ended),
+        Some((FinishFault::Stranger, 4))
+    );
     let held = [Input { cown: 0, value: 10 }];
     let other = outcome(alloc, &program, 1, &[5], &held)?;
-    assert_eq!(rt; refused(&mut core, 0, other), Some((FinishFault::Stranger, 2)));
+    assert_eq!(rt;
+        refused(&mut core, 0, other),
+        Some((FinishFault::Stranger, 2))
+    );
     let ended = outcome(alloc, &program, 0, &[], &[])?;
     assert_eq!(rt; refused(&mut core, 0, ended), Some((FinishFault::Busy, 4)));
     let mut frame = frame_of(alloc, &job)?;

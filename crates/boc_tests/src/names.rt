@@ -21,7 +21,9 @@ fn told(alloc: Global, text: &str) -> Result<Told, AllocError> {
 // The fault of a block in a def with the value parameter `p` and the cown parameter `h`, beside a cown, an array and a
 // def `f` with an argument and a cown. The block begins at line 6.
 fn told_of_block(alloc: Global, block: &str) -> Result<Told, AllocError> {
-    let text = format!(in alloc; "cown c = 1;\ncown a[3] = 1;\ndef f(x; y) {{}}\ndef g(p;\nh) {{\n{block}\n}}\nmain {{}}")?;
+    let text = format!(in alloc;
+        "cown c = 1;\ncown a[3] = 1;\ndef f(x; y) {{}}\ndef g(p;\nh) {{\n{block}\n}}\nmain {{}}"
+    )?;
     told(alloc, &text)
 }
 
@@ -82,7 +84,11 @@ fn calls(rt: HostRuntime) -> Result<(), Fail> {
     ] {
         let block = format!(in rt.alloc(); "when\n{def}\n(\n{args}\n;\n{references}\n);")?;
         let fault = told_of_block(rt.alloc(), &block)?;
-        assert_eq!(rt; fault, Some((kind, line)), "at {def} with {args} and {references}");
+        assert_eq!(rt;
+            fault,
+            Some((kind, line)),
+            "at {def} with {args} and {references}"
+        );
     }
     Ok(())
 }

@@ -1,8 +1,8 @@
+use ReadFaultKind::{BadToken, NotAscii, NumberTooLarge, TooLong, TooMany, Unexpected};
 use boc_reader::fault::{Fault, ReadFault, ReadFaultKind, ShapeFault, TokenFault};
 use boc_reader::lex::tokens;
 use boc_reader::parse::parse_tree;
 use boc_reader::read::read_program;
-use ReadFaultKind::{BadToken, NotAscii, NumberTooLarge, TooLong, TooMany, Unexpected};
 use std::alloc::{AllocError, Global};
 use std::test::*;
 

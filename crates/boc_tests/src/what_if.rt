@@ -1,12 +1,12 @@
 //! Edits and sweeps of worked rows.
 
-use boc_whatif::WhatIf;
 use boc_types::body::EndStatus;
 use boc_types::edit::EditFault;
 use boc_types::row_test::are_rows;
 use boc_types::rows::{Row, Rows};
 use boc_types::short::Cowns;
 use boc_types::workers::Workers;
+use boc_whatif::WhatIf;
 use std::alloc::Global;
 use std::test::Fail;
 

@@ -189,6 +189,12 @@ module _ (d : Parts) (k : IsKept d) where
   pub fits_row : (slot row : ℕ) (x : IsOfRow d slot row) → MemberFits d.program (row_at_slot slot row x.this x.is x.row_is).member
   fits_row slot row x = let r = row_at_slot slot row x.this x.is x.row_is in all_fit d.program d.rules.events k.sound.run row r.member r.is
 
+  pub counts_of : (slot row : ℕ) (x : IsOfRow d slot row) → CountsAre (slice_get (map signature_of d.program.bodies) x.this.kind) (length x.this.args.items) (length x.this.params.items)
+  counts_of slot row x =
+      let r = row_at_slot slot row x.this x.is x.row_is in
+      let P : Behaviour → Type 0 = λ b. CountsAre (slice_get (map signature_of d.program.bodies) b.kind) (length b.args) (length b.cowns) in
+      subst P r.behaviour_is (fits_row slot row x).counts
+
   pub kind_there : (slot row : ℕ) (x : IsOfRow d slot row) → x.this.kind < length d.program.bodies
   kind_there slot row x =
       let r = row_at_slot slot row x.this x.is x.row_is in

@@ -28,3 +28,4 @@ pub mod Starting
 pub mod Opened
 pub mod Opening
 pub mod ChildOpened
+pub mod Worked

@@ -5,3 +5,4 @@ pub mod Moves
 pub mod Places
 pub mod Codes
 pub mod Grants
+pub mod Working

@@ -1,5 +1,7 @@
 //! What the dispatcher hands out and answers.
 
+ghost use Rattle.std.specs.Prelude.{◌≡◌, length};
+
 use boc_types::body::Body;
 use boc_types::short::{Args, Inputs};
 use boc_types::step::Step;
@@ -12,6 +14,8 @@ pub struct Job<'a> {
     pub body: &'a Body,
     pub args: Args,
     pub inputs: Inputs,
+    pub ghost own_args: { length args.items ≡ body.now.params },
+    pub ghost own_inputs: { length inputs.items ≡ body.now.cown_params },
 }
 
 /// What `start` answers.

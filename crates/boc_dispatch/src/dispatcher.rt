@@ -84,7 +84,8 @@ impl<'a, C: Chains + Drop> Core<'a, C> {
 
     /// Starts the first behaviour of the ready list on the values that its cowns have now, and records its start.
     pub fn start(&mut self) -> Started<'a>
-        ensures { Begins self.old result self.new }
+        ensures begins { Begins self.old result self.new }
+        ensures sound { IsSound self.new.program self.new.state }
     {
         match self.machine.start() {
             Some(job) => Started::Job(job),

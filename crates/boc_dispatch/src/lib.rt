@@ -6,7 +6,9 @@ mod dispatcher;
 mod live;
 mod machine;
 mod moves;
+mod worker;
 
 pub use answers::{Advanced, Child, FinishFault, Job, Leaving, Left, OpenFault, Started};
 pub use boc_types::step::Step;
 pub use dispatcher::{Core, Dispatcher};
+pub use worker::{Refusal, Turn, Worker};

@@ -1,12 +1,12 @@
 //! What a step does to the behaviour at a slot, which is there.
 
-ghost use Rattle.std.specs.Prelude.{◌≡◌, ◌==◌, ◌+◌, ◌^◌, ◌<◌, ◌≤◌, nat_lt, suc, None, Some, Option, ℕ, length, slice_get};
+ghost use Rattle.std.specs.Prelude.{◌≡◌, ◌==◌, ◌+◌, ◌^◌, ◌<◌, ◌≤◌, nat_lt, suc, None, Some, Option, ℕ, length, map, slice_get};
 ghost use Rattle.std.specs.Option.{option_map};
 ghost use Rattle.boc_types.specs.declared.stage.Phase.TheVariants as phases;
 ghost use Rattle.boc_types.specs.declared.stage.Stage.TheVariants.{Recorded};
 ghost use Rattle.boc_types.specs.machine.Stages.{row_at};
 ghost use Rattle.boc_types.specs.machine.Steps.{flagging};
-ghost use Rattle.boc_types.specs.program.Signatures.{AllBelow};
+ghost use Rattle.boc_types.specs.program.Signatures.{AllBelow, CountsAre, signature_of};
 ghost use Rattle.boc_types.specs.runs.Serial.{after_outputs, inputs_of as inputs};
 ghost use Rattle.boc_dispatch.specs.Places.{Has, in_phase, begun, with_child, with_spawn, exchanged, settled, with_row, spawn_of, granted as with_grant};
 
@@ -21,7 +21,7 @@ use boc_types::values::{inputs_of, write_outputs};
 /// It starts on the current values. Answers what its body is to be run on.
 pub fn begin<'a>(place: &mut Option<Live>, program: &'a Program, values: &[i64]) -> Job<'a>
     requires recorded { (l : Live) → place.old ≡ Some l → (row : ℕ) × (row_at l.stage ≡ Some row) }
-    requires there { Has place.old (λ l. l.kind < length program.now.bodies) }
+    requires counts { Has place.old (λ l. CountsAre (slice_get (map signature_of program.now.bodies) l.kind) (length l.args.items) (length l.params.items)) }
     requires below { Has place.old (λ l. AllBelow (length values.now) l.params.items) }
     ensures started { place.new ≡ option_map (begun result.row result.inputs) place.old }
     ensures row { Has place.old (λ l. row_at l.stage ≡ Some result.row) }

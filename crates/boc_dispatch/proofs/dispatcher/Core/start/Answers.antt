@@ -6,8 +6,8 @@ use Rattle.boc_dispatch.specs.Inside.{parts_of, underway}
 use Rattle.boc_dispatch.proofs.Answered.{none_ready}
 use Rattle.boc_dispatch.proofs.dispatcher.Core.start.Goals as goal
 
-pub returns-else-is_quiet : goal.returns-else-is_quiet
-returns-else-is_quiet g c =
+pub returns-else-is_quiet-clause-begins : goal.returns-else-is_quiet-clause-begins
+returns-else-is_quiet-clause-begins g c =
     let d = parts_of g.C.Chains.lists g.C.Chains.place c.self.inside.machine in
     let e = parts_of g.C.Chains.lists g.C.Chains.place c.start.new.self in
     let s = c.in-None.ensures.starts in

@@ -1,11 +1,11 @@
-use Rattle.std.proofs.Common.{◌≡◌, ◌∷◌, ◌∙◌, ℕ, ◌<◌, List, ap, refl, subst, sym, arith, length}
+use Rattle.std.proofs.Common.{◌≡◌, ◌∷◌, ◌∙◌, ℕ, ◌<◌, List, ap, refl, subst, sym, arith, length, map}
 use Rattle.std.specs.Prelude.{Option, Some, None, vec_capacity, slice_get}
 use Rattle.std.specs.VecDeque.{deque_capacity}
 use Rattle.boc_types.specs.declared.stage.Phase.TheVariants as phases
 use Rattle.boc_types.specs.declared.stage.Stage.TheVariants.{Recorded}
 use Rattle.boc_types.specs.declared.event.Event.TheVariants.{Start}
 use Rattle.boc_types.specs.machine.Stages.{row_at}
-use Rattle.boc_types.specs.program.Signatures.{AllBelow}
+use Rattle.boc_types.specs.program.Signatures.{AllBelow, CountsAre, signature_of}
 use Rattle.boc_dispatch.specs.declared.live.Live.{Live}
 use Rattle.boc_dispatch.specs.Places.{Has, begun}
 use Rattle.boc_dispatch.specs.Inside.{parts_of, state, underway, live_at, IsOfRow, IsKept, HasRooms}
@@ -14,7 +14,7 @@ use Rattle.boc_types.specs.runs.Serial.{inputs_of}
 use Rattle.boc_types.specs.machine.Steps.{Starts}
 use Rattle.boc_rules.specs.Log.{Log, grown}
 use Rattle.boc_dispatch.proofs.Tables.{read_place, read_changed, live_here, live_there}
-use Rattle.boc_dispatch.proofs.Homes.{kind_there, params_below, hands_out}
+use Rattle.boc_dispatch.proofs.Homes.{counts_of, params_below, hands_out}
 use Rattle.boc_dispatch.proofs.Fits.{steps_fit}
 use Rattle.boc_dispatch.proofs.Starting.{started_parts, starts, start_allowed, start_keeps, start_rooms}
 use Rattle.boc_dispatch.proofs.machine.Machine.start.Goals as goal
@@ -34,14 +34,15 @@ begin-job-requires-clause-recorded g c = λ l is.
     let same : l ≡ first.0 = (let e : Some l ≡ Some first.0 = sym is ∙ read in cc) in
     (first.1, ap (λ (x : Live). row_at x.stage) same ∙ ap row_at first.3))
 
-pub begin-job-requires-clause-there : goal.begin-job-requires-clause-there
-begin-job-requires-clause-there g c =
+pub begin-job-requires-clause-counts : goal.begin-job-requires-clause-counts
+begin-job-requires-clause-counts g c =
     let d = parts_of g.C.Chains.lists g.C.Chains.place c.args.self.now in
     let k = c.requires.kept in
     let first = k.ready_there 0 c.in_ok-slot.slot (ap (λ (xs : List ℕ). slice_get xs 0) c.in_ok-slot.ensures.items) in
     let read = read_place d.live c.in_ok-slot.slot first.0 c.index_mut.result.now first.2 c.index_mut.ensures.value in
     let x : IsOfRow d c.in_ok-slot.slot first.1 = record { this = first.0; is = first.2; row_is = ap row_at first.3 } in
-    subst (λ (o : Option Live). Has o (λ l. l.kind < length d.program.bodies)) (sym read) (kind_there d k c.in_ok-slot.slot first.1 x)
+    subst (λ (o : Option Live). Has o (λ l. CountsAre (slice_get (map signature_of d.program.bodies) l.kind) (length l.args.items) (length l.params.items))) (sym read)
+    (counts_of d k c.in_ok-slot.slot first.1 x)
 
 pub begin-job-requires-clause-below : goal.begin-job-requires-clause-below
 begin-job-requires-clause-below g c =

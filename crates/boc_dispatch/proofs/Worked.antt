@@ -1,0 +1,216 @@
+-- A worker's turn, by what the call answered that was due.
+use Rattle.std.proofs.Common.{◌≡◌, ◌≢◌, ℕ, ◌<◌, List, [], ◌∷◌, ◌++◌, arith, refl, sym, ◌∙◌, ap, subst}
+use Rattle.std.specs.Prelude.{Option, Some, None, Result, Ok, Err}
+use Rattle.std.specs.declared.alloc.AllocError.{AllocError}
+use Rattle.boc_types.specs.machine.Queues.{times}
+use Rattle.boc_types.specs.machine.Sound.{IsSound}
+use Rattle.boc_machine.proofs.Lists.{times-here}
+use Rattle.boc_types.specs.declared.program.Program.{Program}
+use Rattle.boc_types.specs.declared.step.Step.{Step}
+use Rattle.boc_types.specs.declared.step.Step.TheVariants as steps
+use Rattle.boc_types.specs.machine.Stages.{OpenBehaviour, ready_row}
+use Rattle.boc_types.specs.machine.Steps.{State, at, Makes, Advances, Leaves, IsQuiet}
+use Rattle.boc_types.specs.machine.Turns.{TakesTurn, Driven, Turn, Turns, NoneReady, Begins as BeginsTurn, Advanced as AdvancedTurn, WaitsToSettle, Opened, Finished, Left as LeftTurn, WaitsToLeave, unless_gone}
+use Rattle.boc_eval.specs.Frames.{UnderWay as Framed, Ran}
+use Rattle.boc_dispatch.specs.declared.answers.Advanced.TheVariants as advanced
+use Rattle.boc_dispatch.specs.declared.answers.Child.{Child}
+use Rattle.boc_dispatch.specs.declared.answers.Job.{Job}
+use Rattle.boc_dispatch.specs.declared.answers.Leaving.{Leaving}
+use Rattle.boc_dispatch.specs.declared.answers.Left.TheVariants as left
+use Rattle.boc_dispatch.specs.declared.answers.Started.TheVariants as started
+use Rattle.boc_dispatch.specs.declared.worker.Hand.{Hand}
+use Rattle.boc_dispatch.specs.declared.worker.Hand.TheVariants as hands
+use Rattle.boc_dispatch.specs.declared.worker.Turn.TheVariants as turns
+use Rattle.boc_dispatch.specs.declared.answers.OpenFault.TheVariants as open_faults
+use Rattle.boc_dispatch.specs.declared.worker.Refusal.TheVariants as refusals
+use Rattle.boc_dispatch.specs.Underway.{Underway}
+use Rattle.boc_dispatch.specs.Calls.{in_state, Begins, OpensWish, AdvancesChild, FinishesRow, LeavesCown}
+use Rattle.boc_dispatch.specs.Working.{row_in, MakesTurn, Works, HasThought, IsToThink, HasNoRoom}
+
+-- a step to another state of the same program
+made : (u v : Underway) (h k : Hand) (step : Step) (t : State) → v ≡ in_state u t → TakesTurn u.program u.state (row_in h) t (row_in k) → Makes u.program u.state step t → MakesTurn u h step v k
+made u v h k step t is takes makes =
+    subst (λ (x : Underway). MakesTurn u h step x k) (sym is) (record { takes = takes; makes = makes; same = refl })
+
+pub begins : (u v : Underway) (job : Job) → Begins u (started.Job job) v → Works u hands.Nothing (turns.Moved steps.Start) v (hands.Started job)
+begins u v job b = made u v hands.Nothing (hands.Started job) steps.Start b.1 b.3 (BeginsTurn b.0 job.row b.1 b.2) (b.0, job.row, b.2)
+
+pub opens : (u v : Underway) (row : ℕ) (f : Framed) (child : Child) → OpensWish u f row (Ok child) v → Works u (hands.Wishing row f) (turns.Moved steps.Open) v (hands.Enqueuing f child)
+opens u v row f child o =
+    made u v (hands.Wishing row f) (hands.Enqueuing f child) steps.Open o.3 o.5
+    (subst (λ (r : ℕ). TakesTurn u.program u.state (Some row) o.3 (Some r)) (sym o.2) (Opened row o.3 o.4)) (row, o.4)
+
+-- what advances makes that step
+advance_makes : (p : Program) (s : State) (who : ℕ) (step : Step) (t : State) → Advances p s who step t → Makes p s step t
+advance_makes p s who (steps.Swap request) t a = (who, a)
+advance_makes p s who (steps.Settle request) t a = (who, a)
+advance_makes p s who (steps.Flag request) t a = (who, a)
+advance_makes p s who steps.Own t a = (who, a)
+advance_makes p s who steps.Open t a = absurd a
+advance_makes p s who steps.Start t a = absurd a
+advance_makes p s who steps.Finish t a = absurd a
+advance_makes p s who (steps.Unhook request) t a = absurd a
+advance_makes p s who (steps.Pass request) t a = absurd a
+
+leave_makes : (p : Program) (s : State) (who row : ℕ) (step : Step) (t : State) → Leaves s who row step t → Makes p s step t
+leave_makes p s who row (steps.Unhook request) t a = (who, row, a)
+leave_makes p s who row (steps.Pass request) t a = (who, row, a)
+leave_makes p s who row (steps.Swap request) t a = absurd a
+leave_makes p s who row (steps.Settle request) t a = absurd a
+leave_makes p s who row (steps.Flag request) t a = absurd a
+leave_makes p s who row steps.Own t a = absurd a
+leave_makes p s who row steps.Open t a = absurd a
+leave_makes p s who row steps.Start t a = absurd a
+leave_makes p s who row steps.Finish t a = absurd a
+
+pub advances : (u v : Underway) (f : Framed) (child : Child) (step : Step) → AdvancesChild u child (advanced.Moved step) v
+    → Works u (hands.Enqueuing f child) (turns.Moved step) v (hands.Enqueuing f child)
+advances u v f child step a =
+    made u v (hands.Enqueuing f child) (hands.Enqueuing f child) step a.2 a.4 (AdvancedTurn child.row child.number step a.2 a.0 a.3) (advance_makes u.program u.state child.number step a.2 a.3)
+
+pub waits_to_settle : (u v : Underway) (f : Framed) (child : Child) → AdvancesChild u child advanced.Blocked v → Works u (hands.Enqueuing f child) turns.Blocked v (hands.Enqueuing f child)
+waits_to_settle u v f child a = (a.0, refl, WaitsToSettle child.row child.number a.1 a.2)
+
+pub owns : (u v : Underway) (f : Framed) (child : Child) → AdvancesChild u child advanced.Enqueued v → Works u (hands.Enqueuing f child) (turns.Moved steps.Own) v (hands.Going child.row f)
+owns u v f child a =
+    made u v (hands.Enqueuing f child) (hands.Going child.row f) steps.Own a.1 a.3 (AdvancedTurn child.row child.number steps.Own a.1 a.0 a.2) (child.number, a.2)
+
+-- the row of who isn't gone is served on
+still_served : (row : ℕ) (o : Option OpenBehaviour) → o ≢ None → unless_gone row o ≡ Some row
+still_served row None there = absurd (there refl)
+still_served row (Some b) there = refl
+
+pub finishes : (u v : Underway) (row : ℕ) (o : Ran) (leaving : Leaving) → FinishesRow u row o (Ok (Some leaving)) v → Works u (hands.Done row o) (turns.Moved steps.Finish) v (hands.Leaving leaving)
+finishes u v row o leaving f =
+    let e = f.1 in
+    let stays = e.left leaving refl in
+    made u v (hands.Done row o) (hands.Leaving leaving) steps.Finish e.state e.same
+    (subst (λ (r : Option ℕ). TakesTurn u.program u.state (Some row) e.state r) (still_served row (at e.state e.who) stays.1 ∙ ap (λ z. Some z) (sym stays.0)) (Finished row e.who e.state e.finishes))
+    (e.who, row, e.finishes)
+
+pub is_gone : (u v : Underway) (row : ℕ) (o : Ran) → FinishesRow u row o (Ok None) v → Works u (hands.Done row o) (turns.Moved steps.Finish) v hands.Nothing
+is_gone u v row o f =
+    let e = f.1 in
+    made u v (hands.Done row o) hands.Nothing steps.Finish e.state e.same
+    (subst (λ (r : Option ℕ). TakesTurn u.program u.state (Some row) e.state r) (ap (unless_gone row) (e.gone refl)) (Finished row e.who e.state e.finishes))
+    (e.who, row, e.finishes)
+
+pub leaves_on : (u v : Underway) (l : Leaving) (step : Step) → LeavesCown u l (left.Moved step) v → Works u (hands.Leaving l) (turns.Moved step) v (hands.Leaving l)
+leaves_on u v l step a =
+    made u v (hands.Leaving l) (hands.Leaving l) step a.1 a.4
+    (subst (λ (r : Option ℕ). TakesTurn u.program u.state (Some l.row) a.1 r) (still_served l.row (at a.1 a.0) a.3) (LeftTurn l.row a.0 step a.1 a.2))
+    (leave_makes u.program u.state a.0 l.row step a.1 a.2)
+
+pub leaves_last : (u v : Underway) (l : Leaving) (step : Step) → LeavesCown u l (left.Gone step) v → Works u (hands.Leaving l) (turns.Moved step) v hands.Nothing
+leaves_last u v l step a =
+    made u v (hands.Leaving l) hands.Nothing step a.1 a.4
+    (subst (λ (r : Option ℕ). TakesTurn u.program u.state (Some l.row) a.1 r) (ap (unless_gone l.row) a.3) (LeftTurn l.row a.0 step a.1 a.2))
+    (leave_makes u.program u.state a.0 l.row step a.1 a.2)
+
+pub waits_to_leave : (u v : Underway) (l : Leaving) → LeavesCown u l left.Blocked v → Works u (hands.Leaving l) turns.Blocked v (hands.Leaving l)
+waits_to_leave u v l a = (a.0, refl, WaitsToLeave l.row a.1.0 a.1.1)
+
+-- nothing is ready where all is quiet
+none_ready : (p : Program) (s : State) → IsSound p s → IsQuiet s → (ready : List ℕ) → s.ready ≡ ready → ready ≡ []
+none_ready p s sound quiet [] is = refl
+none_ready p s sound quiet (row ∷ rows) is =
+    let one = times-here row rows in
+    let stands : 0 < times row s.ready = subst (λ (xs : List ℕ). 0 < times row xs) (sym is) (omega arith) in
+    let who = sound.ready_only row stands in
+    absurd (let e : None ≡ Some row = sym (ap ready_row (quiet who.0)) ∙ who.1 in cc)
+
+pub is_quiet : (u v : Underway) → Begins u started.Quiet v → IsSound v.program v.state → Works u hands.Nothing turns.Quiet v hands.Nothing
+is_quiet u v b sound =
+    (b.0, refl, refl, none_ready u.program u.state (subst (λ (x : Underway). IsSound x.program x.state) b.0 sound) b.1 u.state.ready refl, b.1)
+
+-- a step of the worker that is chosen is one turn
+pub thinks_row : (h k : Hand) (r : Result (Unit {0}) AllocError) → HasThought h r k → row_in k ≡ row_in h
+thinks_row (hands.Started job) (hands.Wishing row f) (Ok x) t = ap (λ z. Some z) t.0
+thinks_row (hands.Started job) (hands.Done row o) (Ok x) t = ap (λ z. Some z) t.0
+thinks_row (hands.Started job) hands.Nothing (Ok x) t = absurd t
+thinks_row (hands.Started job) (hands.Started other) (Ok x) t = absurd t
+thinks_row (hands.Started job) (hands.Going row f) (Ok x) t = absurd t
+thinks_row (hands.Started job) (hands.Enqueuing f child) (Ok x) t = absurd t
+thinks_row (hands.Started job) (hands.Leaving l) (Ok x) t = absurd t
+thinks_row (hands.Going own f) (hands.Wishing row g) (Ok x) t = ap (λ z. Some z) t.0
+thinks_row (hands.Going own f) (hands.Done row o) (Ok x) t = ap (λ z. Some z) t.0
+thinks_row (hands.Going own f) hands.Nothing (Ok x) t = absurd t
+thinks_row (hands.Going own f) (hands.Started other) (Ok x) t = absurd t
+thinks_row (hands.Going own f) (hands.Going row g) (Ok x) t = absurd t
+thinks_row (hands.Going own f) (hands.Enqueuing g child) (Ok x) t = absurd t
+thinks_row (hands.Going own f) (hands.Leaving l) (Ok x) t = absurd t
+thinks_row hands.Nothing k (Ok x) t = ap row_in t
+thinks_row (hands.Wishing row f) k (Ok x) t = ap row_in t
+thinks_row (hands.Enqueuing f child) k (Ok x) t = ap row_in t
+thinks_row (hands.Done row o) k (Ok x) t = ap row_in t
+thinks_row (hands.Leaving l) k (Ok x) t = ap row_in t
+thinks_row hands.Nothing k (Err x) t = ap row_in t
+thinks_row (hands.Started job) k (Err x) t = ap row_in t
+thinks_row (hands.Going row f) k (Err x) t = ap row_in t
+thinks_row (hands.Wishing row f) k (Err x) t = ap row_in t
+thinks_row (hands.Enqueuing f child) k (Err x) t = ap row_in t
+thinks_row (hands.Done row o) k (Err x) t = ap row_in t
+thinks_row (hands.Leaving l) k (Err x) t = ap row_in t
+
+-- who has thought isn't to think
+pub has_thought : (h k : Hand) (x : Unit {0}) → HasThought h (Ok x) k → IsToThink k → ⊥
+has_thought (hands.Started job) (hands.Wishing row f) x t due = due
+has_thought (hands.Started job) (hands.Done row o) x t due = due
+has_thought (hands.Started job) hands.Nothing x t due = due
+has_thought (hands.Started job) (hands.Started other) x t due = t
+has_thought (hands.Started job) (hands.Going row f) x t due = t
+has_thought (hands.Started job) (hands.Enqueuing f child) x t due = due
+has_thought (hands.Started job) (hands.Leaving l) x t due = due
+has_thought (hands.Going own f) (hands.Wishing row g) x t due = due
+has_thought (hands.Going own f) (hands.Done row o) x t due = due
+has_thought (hands.Going own f) hands.Nothing x t due = due
+has_thought (hands.Going own f) (hands.Started other) x t due = t
+has_thought (hands.Going own f) (hands.Going row g) x t due = t
+has_thought (hands.Going own f) (hands.Enqueuing g child) x t due = due
+has_thought (hands.Going own f) (hands.Leaving l) x t due = due
+has_thought hands.Nothing k x t due = subst IsToThink t due
+has_thought (hands.Wishing row f) k x t due = subst IsToThink t due
+has_thought (hands.Enqueuing f child) k x t due = subst IsToThink t due
+has_thought (hands.Done row o) k x t due = subst IsToThink t due
+has_thought (hands.Leaving l) k x t due = subst IsToThink t due
+
+-- ---- what a turn is to a worker that has thought
+
+pub turn_moved : (u v : Underway) (h was k : Hand) (step : Step) → row_in h ≡ row_in was → Works u h (turns.Moved step) v k → TakesTurn u.program u.state (row_in was) v.state (row_in k) × (v.program ≡ u.program)
+turn_moved u v h was k step same w = (subst (λ (r : Option ℕ). TakesTurn u.program u.state r v.state (row_in k)) same w.takes, w.same)
+
+pub turn_blocked : (u v : Underway) (h was k : Hand) → row_in h ≡ row_in was → Works u h turns.Blocked v k → TakesTurn u.program u.state (row_in was) v.state (row_in k) × (v.program ≡ u.program)
+turn_blocked u v h was k same w = (
+  subst (λ (x : Underway). TakesTurn u.program u.state (row_in was) x.state (row_in k)) (sym w.0)
+      (subst (λ (r : Option ℕ). TakesTurn u.program u.state (row_in was) u.state r) (ap row_in (sym w.1))
+      (subst (λ (r : Option ℕ). TakesTurn u.program u.state r u.state (row_in h)) same w.2)),
+  ap (λ (x : Underway). x.program) w.0,
+)
+
+-- none is ready for a worker that serves nobody
+pub turn_none : (u v : Underway) (h was k : Hand) → row_in h ≡ row_in was → v ≡ u → k ≡ h → h ≡ hands.Nothing → u.state.ready ≡ [] → TakesTurn u.program u.state (row_in was) v.state (row_in k) × (v.program ≡ u.program)
+turn_none u v h was k same is hand nothing none =
+    let before : None ≡ row_in was = ap row_in (sym nothing) ∙ same in
+    let after : None ≡ row_in k = ap row_in (sym nothing) ∙ ap row_in (sym hand) in (
+      subst (λ (x : Underway). TakesTurn u.program u.state (row_in was) x.state (row_in k)) (sym is)
+          (subst (λ (r : Option ℕ). TakesTurn u.program u.state (row_in was) u.state r) after
+          (subst (λ (r : Option ℕ). TakesTurn u.program u.state r u.state None) before (NoneReady none))),
+      ap (λ (x : Underway). x.program) is,
+    )
+
+-- a wish without room
+pub turn_full : (u v : Underway) (h was k : Hand) → row_in h ≡ row_in was → Works u h (turns.Refused (refusals.Open open_faults.Behaviours)) v k → (v ≡ u) × HasNoRoom u (row_in was)
+turn_full u v (hands.Wishing row f) was k same w =
+    (w.0, record { served = row; serves = sym same; frame = f; may = w.2.1; full = w.2.2 })
+turn_full u v hands.Nothing was k same w = absurd w.2
+turn_full u v (hands.Started job) was k same w = absurd w.2
+turn_full u v (hands.Going row f) was k same w = absurd w.2
+turn_full u v (hands.Enqueuing f child) was k same w = absurd w.2
+turn_full u v (hands.Done row o) was k same w = absurd w.2
+turn_full u v (hands.Leaving l) was k same w = absurd w.2
+
+-- ---- turns, one more at the end
+
+pub turns_more : (p : Program) (d : Driven) (xs : List ℕ) (x : ℕ) (e f : Driven) → Turns p d xs e → Turn p e x f → Turns p d (xs ++ x ∷ []) f
+turns_more p d [] x e f is turn = (f, subst (λ (m : Driven). Turn p m x f) is turn, refl)
+turns_more p d (y ∷ xs) x e f t turn = (t.0, t.1, turns_more p t.0 xs x e f t.2 turn)

@@ -1,0 +1,99 @@
+-- What a worker has in hand, and what its turns and its thinking do.
+use Rattle.std.specs.Prelude.{◌≡◌, ℕ, ◌+◌, [], Option, Some, None, Result, Ok, Err, false}
+use Rattle.std.specs.declared.alloc.AllocError.{AllocError}
+use Rattle.boc_types.specs.declared.step.Step.{Step}
+use Rattle.boc_types.specs.program.Meaning.{Wish}
+use Rattle.boc_types.specs.declared.limits.TheConstants.{MOST_ROWS}
+use Rattle.boc_types.specs.machine.Steps.{IsQuiet, Makes, recorded, unrecorded}
+use Rattle.boc_types.specs.machine.Turns.{TakesTurn}
+use Rattle.boc_eval.specs.Frames.{UnderWay as Framed, Ran, Means}
+use Rattle.boc_eval.specs.Stops.{WishComes, BodyEnds}
+use Rattle.boc_dispatch.specs.declared.answers.Advanced.TheVariants as advanced
+use Rattle.boc_dispatch.specs.declared.answers.Job.{Job}
+use Rattle.boc_dispatch.specs.declared.answers.Left.TheVariants as left
+use Rattle.boc_dispatch.specs.declared.worker.Hand.{Hand}
+use Rattle.boc_dispatch.specs.declared.worker.Hand.TheVariants as hands
+use Rattle.boc_dispatch.specs.declared.worker.Refusal.{Refusal}
+use Rattle.boc_dispatch.specs.declared.worker.Refusal.TheVariants as refusals
+use Rattle.boc_dispatch.specs.declared.worker.Turn.{Turn}
+use Rattle.boc_dispatch.specs.declared.worker.Turn.TheVariants as turns
+use Rattle.boc_dispatch.specs.Underway.{Underway}
+use Rattle.boc_dispatch.specs.Calls.{MayAsk, OpensWish, FinishesRow, AdvancesChild, LeavesCown}
+
+-- the row that is served with this in hand, if any
+abbrev pub row_in : Hand → Option ℕ
+row_in hands.Nothing = None
+row_in (hands.Started job) = Some job.row
+row_in (hands.Going row f) = Some row
+row_in (hands.Wishing row f) = Some row
+row_in (hands.Enqueuing f child) = Some child.row
+row_in (hands.Done row o) = Some row
+row_in (hands.Leaving l) = Some l.row
+
+-- ---- turns
+
+-- a step was made in the worker's turn
+pub record MakesTurn (u : Underway) (before : Hand) (step : Step) (v : Underway) (after : Hand) : Type 0 where
+  pub takes : TakesTurn u.program u.state (row_in before) v.state (row_in after)
+  pub makes : Makes u.program u.state step v.state
+  pub same : v.program ≡ u.program
+
+-- the worker is to think first
+abbrev pub IsToThink : Hand → Type 0
+IsToThink (hands.Started job) = Unit {0}
+IsToThink (hands.Going row f) = Unit {0}
+IsToThink _ = ⊥
+
+-- the call that is due is refused so
+abbrev pub IsRefused : Underway → Hand → Refusal → Type 0
+IsRefused u (hands.Wishing row f) (refusals.Open fault) = OpensWish u f row (Err fault) u
+IsRefused u (hands.Done row o) (refusals.Finish fault) = FinishesRow u row o (Err (o, fault)) u
+IsRefused u (hands.Enqueuing f child) refusals.Unknown = AdvancesChild u child advanced.Unknown u
+IsRefused u (hands.Leaving l) refusals.Unknown = LeavesCown u l left.Unknown u
+IsRefused u _ _ = ⊥
+
+-- the one call that is due was made; or nothing changed, for this reason
+abbrev pub Works : Underway → Hand → Turn → Underway → Hand → Type 0
+Works u h (turns.Moved step) v k = MakesTurn u h step v k
+Works u h turns.Blocked v k = (v ≡ u) × (k ≡ h) × TakesTurn u.program u.state (row_in h) u.state (row_in h)
+Works u h turns.NoneReady v k = (v ≡ u) × (k ≡ h) × (h ≡ hands.Nothing) × (u.state.ready ≡ []) × (IsQuiet u.state → ⊥)
+Works u h turns.Quiet v k = (v ≡ u) × (k ≡ h) × (h ≡ hands.Nothing) × (u.state.ready ≡ []) × IsQuiet u.state
+Works u h turns.Thinks v k = (v ≡ u) × (k ≡ h) × IsToThink h
+Works u h (turns.Refused refusal) v k = (v ≡ u) × (k ≡ h) × IsRefused u h refusal
+
+-- ---- thinking
+
+-- what a body gave that has ended from here on
+pub record EndsAs (f : Framed) (o : Ran) : Type 0 where
+  pub ended : Framed
+  pub ends : BodyEnds f ended
+  pub body : o.body ≡ f.body
+  pub args : o.args ≡ f.args
+  pub inputs : o.inputs ≡ f.inputs
+  pub wishes : o.wishes ≡ f.made
+  pub means : Means o
+
+-- a frame has gone on to its next wish, or its end
+abbrev pub HasGoneOn : ℕ → Framed → Hand → Type 0
+HasGoneOn row f (hands.Wishing own g) = (own ≡ row) × ((w : Wish) × WishComes w f g)
+HasGoneOn row f (hands.Done own o) = (own ≡ row) × EndsAs f o
+HasGoneOn row f _ = ⊥
+
+-- the frame of a job at its start
+abbrev pub frame_of : Job → Framed
+frame_of job = record { body = job.body.now; args = job.args.items; inputs = job.inputs.items; made = 0; ended = false }
+
+-- a worker has thought, or memory was refused for a frame, and it has what it had
+abbrev pub HasThought : Hand → Result (Unit {0}) AllocError → Hand → Type 0
+HasThought (hands.Started job) (Ok _) k = HasGoneOn job.row (frame_of job) k
+HasThought h (Err refused) k = k ≡ h
+HasThought (hands.Going row f) (Ok _) k = HasGoneOn row f k
+HasThought h (Ok _) k = k ≡ h
+
+-- a row's next wish is due, and there is no room for it
+pub record HasNoRoom (u : Underway) (row : Option ℕ) : Type 0 where
+  pub served : ℕ
+  pub serves : row ≡ Some served
+  pub frame : Framed
+  pub may : MayAsk u frame served
+  pub full : recorded u.program u.state + unrecorded u.state ≡ MOST_ROWS

@@ -1,0 +1,250 @@
+//! A worker that serves one behaviour after another.
+
+ghost use Rattle.std.specs.Prelude.{◌≡◌, false, IfOk, None, length};
+
+use crate::answers::{Advanced, Child, FinishFault, Job, Leaving, Left, OpenFault, Started};
+use crate::dispatcher::Core;
+use boc_chain::Chains;
+use boc_eval::{Frame, Outcome, Stop};
+use boc_types::short::{Args, Inputs};
+use boc_types::step::Step;
+use std::alloc::{AllocError, Global};
+
+/// What a worker has in hand, of the row that it serves.
+#[derive(Drop)]
+enum Hand<'a> {
+    /// Nothing: it serves no row, and the next step is a start.
+    Nothing,
+    /// A behaviour that was started, whose frame is to be made.
+    Started(Job<'a>),
+    /// A row's frame that is to go on.
+    Going(u32, Frame<'a>),
+    /// A row's frame whose last wish is to be opened.
+    Wishing(u32, Frame<'a>),
+    /// A frame whose last wish is being enqueued.
+    Enqueuing(Frame<'a>, Child),
+    /// What a row's body gave that has ended.
+    Done(u32, Outcome<'a>),
+    /// A behaviour that releases its cowns.
+    Leaving(Leaving),
+}
+
+/// A worker: its number, and what it has in hand.
+#[derive(Drop)]
+pub struct Worker<'a> {
+    number: u32,
+    hand: Hand<'a>,
+}
+
+/// Why a call that was due is refused.
+#[derive(Clone, Copy, PartialEq, Eq, Debug)]
+pub enum Refusal {
+    Open(OpenFault),
+    Finish(FinishFault),
+    /// The dispatcher doesn't know the token.
+    Unknown,
+}
+
+/// What a turn answers.
+#[derive(Clone, Copy, PartialEq, Eq, Debug)]
+pub enum Turn {
+    /// This step was made.
+    Moved(Step),
+    /// The step that is due is blocked.
+    Blocked,
+    /// Nothing is ready.
+    NoneReady,
+    /// Every behaviour has ended and released its cowns.
+    Quiet,
+    /// The worker is to think first. Nothing was done.
+    Thinks,
+    /// The call that was due is refused. The worker keeps what it had.
+    Refused(Refusal),
+}
+
+ghost use Rattle.boc_dispatch.specs.declared.worker.Hand.TheVariants as hands;
+ghost use Rattle.boc_dispatch.specs.Working.{row_in, frame_of as frame_at_start, HasGoneOn, HasThought, Works};
+
+// The frame of a behaviour that was started.
+fn frame_of<'a>(alloc: Global, job: &Job<'a>) -> Result<Frame<'a>, AllocError>
+    ensures { IfOk result (λ frame. frame ≡ frame_at_start job.now) }
+{
+    Frame::new(
+        alloc,
+        job.body,
+        Args::try_from(job.args.as_slice()).unwrap(),
+        Inputs::try_from(job.inputs.as_slice()).unwrap(),
+    )
+}
+
+// A row's frame goes on to its next wish, or its end.
+fn gone_on(row: u32, frame: Frame<'_>) -> Hand<'_>
+    ensures { HasGoneOn row frame.entry result }
+{
+    let mut frame = frame;
+    match frame.run() {
+        Stop::Wants(_) => Hand::Wishing(row, frame),
+        Stop::Ended => Hand::Done(row, frame.into_outcome()),
+    }
+}
+
+impl<'a> Worker<'a> {
+    /// A worker that serves nobody yet.
+    pub fn new(number: u32) -> Worker<'a>
+        ensures { result ≡ record { number = number; hand = hands.Nothing } }
+    {
+        Worker {
+            number,
+            hand: Hand::Nothing,
+        }
+    }
+
+    /// Its number.
+    pub fn number(&self) -> u32
+        ensures { result ≡ self.now.number }
+    {
+        self.number
+    }
+
+    /// The row that it serves, if any.
+    pub fn row(&self) -> Option<u32>
+        ensures { result ≡ row_in self.now.hand }
+    {
+        match &self.hand {
+            Hand::Nothing => None,
+            Hand::Started(job) => Some(job.row),
+            Hand::Going(row, _) | Hand::Wishing(row, _) | Hand::Done(row, _) => Some(*row),
+            Hand::Enqueuing(_, child) => Some(child.row),
+            Hand::Leaving(leaving) => Some(leaving.row),
+        }
+    }
+
+    /// Makes the frame of a behaviour that was just started, or goes on with a frame whose wish was enqueued, up to the next
+    /// wish or the end. At other times it does nothing. After want of memory the worker is as before.
+    pub fn think(&mut self, alloc: Global) -> Result<(), AllocError>
+        ensures thinks { HasThought self.old.hand result self.new.hand }
+        ensures number { self.new.number ≡ self.old.number }
+    {
+        let hand = std::mem::replace(&mut self.hand, Hand::Nothing);
+        let (thought, result) = thought(alloc, hand);
+        self.hand = thought;
+        result
+    }
+
+    /// Makes the one call of the dispatcher that is due.
+    pub fn turn<C: Chains + Drop>(&mut self, core: &mut Core<'a, C>) -> Turn
+        ensures works { Works core.old self.old.hand result core.new self.new.hand }
+        ensures number { self.new.number ≡ self.old.number }
+    {
+        let hand = std::mem::replace(&mut self.hand, Hand::Nothing);
+        let (next, turn) = worked(hand, core);
+        self.hand = next;
+        turn
+    }
+}
+
+// What a worker has in hand once it has thought.
+fn thought<'a>(alloc: Global, hand: Hand<'a>) -> (Hand<'a>, Result<(), AllocError>)
+    ensures { HasThought hand.entry result.1 result.0 }
+{
+    match hand {
+        Hand::Started(job) => match frame_of(alloc, &job) {
+            Ok(frame) => (gone_on(job.row, frame), Ok(())),
+            Err(refused) => (Hand::Started(job), Err(refused)),
+        },
+        Hand::Going(row, frame) => (gone_on(row, frame), Ok(())),
+        other => (other, Ok(())),
+    }
+}
+
+// What a worker has in hand after its turn.
+fn worked<'a, C: Chains + Drop>(hand: Hand<'a>, core: &mut Core<'a, C>) -> (Hand<'a>, Turn)
+    ensures { Works core.old hand.entry result.1 core.new result.0 }
+{
+    match hand {
+        Hand::Nothing => begin(core),
+        Hand::Started(job) => (Hand::Started(job), Turn::Thinks),
+        Hand::Going(row, frame) => (Hand::Going(row, frame), Turn::Thinks),
+        Hand::Wishing(row, frame) => open(row, frame, core),
+        Hand::Enqueuing(frame, child) => advance(frame, child, core),
+        Hand::Done(row, outcome) => finish(row, outcome, core),
+        Hand::Leaving(leaving) => leave(leaving, core),
+    }
+}
+
+// The turn of a worker that serves nobody.
+fn begin<'a, C: Chains + Drop>(core: &mut Core<'a, C>) -> (Hand<'a>, Turn)
+    ensures { Works core.old hands.Nothing result.1 core.new result.0 }
+{
+    match core.start() {
+        Started::Job(job) => (Hand::Started(job), Turn::Moved(Step::Start)),
+        Started::NoneReady => (Hand::Nothing, Turn::NoneReady),
+        Started::Quiet => (Hand::Nothing, Turn::Quiet),
+    }
+}
+
+// The turn of a worker whose row wishes for a behaviour.
+fn open<'a, C: Chains + Drop>(
+    row: u32,
+    frame: Frame<'a>,
+    core: &mut Core<'a, C>,
+) -> (Hand<'a>, Turn)
+    ensures { Works core.old (hands.Wishing row frame.entry) result.1 core.new result.0 }
+{
+    match core.open(&frame, row) {
+        Ok(child) => (Hand::Enqueuing(frame, child), Turn::Moved(Step::Open)),
+        Err(fault) => (
+            Hand::Wishing(row, frame),
+            Turn::Refused(Refusal::Open(fault)),
+        ),
+    }
+}
+
+// The turn of a worker whose row's wish is being enqueued.
+fn advance<'a, C: Chains + Drop>(
+    frame: Frame<'a>,
+    child: Child,
+    core: &mut Core<'a, C>,
+) -> (Hand<'a>, Turn)
+    ensures { Works core.old (hands.Enqueuing frame.entry child) result.1 core.new result.0 }
+{
+    match core.advance(&child) {
+        Advanced::Moved(step) => (Hand::Enqueuing(frame, child), Turn::Moved(step)),
+        Advanced::Blocked => (Hand::Enqueuing(frame, child), Turn::Blocked),
+        Advanced::Enqueued => (Hand::Going(child.row, frame), Turn::Moved(Step::Own)),
+        Advanced::Unknown => (
+            Hand::Enqueuing(frame, child),
+            Turn::Refused(Refusal::Unknown),
+        ),
+    }
+}
+
+// The turn of a worker whose row's body has ended.
+fn finish<'a, C: Chains + Drop>(
+    row: u32,
+    outcome: Outcome<'a>,
+    core: &mut Core<'a, C>,
+) -> (Hand<'a>, Turn)
+    ensures { Works core.old (hands.Done row outcome.entry) result.1 core.new result.0 }
+{
+    match core.finish(row, outcome) {
+        Ok(Some(leaving)) => (Hand::Leaving(leaving), Turn::Moved(Step::Finish)),
+        Ok(None) => (Hand::Nothing, Turn::Moved(Step::Finish)),
+        Err((outcome, fault)) => (
+            Hand::Done(row, outcome),
+            Turn::Refused(Refusal::Finish(fault)),
+        ),
+    }
+}
+
+// The turn of a worker whose row releases its cowns.
+fn leave<'a, C: Chains + Drop>(leaving: Leaving, core: &mut Core<'a, C>) -> (Hand<'a>, Turn)
+    ensures { Works core.old (hands.Leaving leaving) result.1 core.new result.0 }
+{
+    match core.leave(&leaving) {
+        Left::Moved(step) => (Hand::Leaving(leaving), Turn::Moved(step)),
+        Left::Blocked => (Hand::Leaving(leaving), Turn::Blocked),
+        Left::Gone(step) => (Hand::Nothing, Turn::Moved(step)),
+        Left::Unknown => (Hand::Leaving(leaving), Turn::Refused(Refusal::Unknown)),
+    }
+}

@@ -33,6 +33,7 @@ abbrev pub cowns_of : Option Place → List ℕ
 cowns_of None = []
 cowns_of (Some p) = p.cowns
 
+-- how many of its requests were exchanged
 abbrev pub exchanged_of : Option Place → ℕ
 exchanged_of None = 0
 exchanged_of (Some p) = p.exchanged
@@ -66,6 +67,7 @@ abbrev pub one_more : Option Place → Option Place
 one_more None = None
 one_more (Some p) = Some (record p { exchanged = p.exchanged + 1 })
 
+-- the slot of a request
 abbrev pub slot_of : Request → Slot
 slot_of r = record { index = r.slot }
 
@@ -73,6 +75,7 @@ slot_of r = record { index = r.slot }
 abbrev pub last_slot : List Request → Option Slot
 last_slot requests = option_map slot_of (slice_get requests (length requests - 1))
 
+-- the request right before a place
 abbrev pub at_before : List Request → Option ℕ → Option Request
 at_before requests None = None
 at_before requests (Some k) = if nat_lt 0 k then slice_get requests (k - 1) else None
@@ -85,12 +88,15 @@ before slot requests = at_before requests (position (λ r. r.slot == slot) reque
 abbrev pub settle_one : ℕ → Request → Request
 settle_one slot r = record r { settled = r.settled || (r.slot == slot) }
 
+-- the same of each request of a list
 abbrev pub with_settled : ℕ → List Request → List Request
 with_settled slot requests = map (settle_one slot) requests
 
+-- the request flagged, where it is that of the slot
 abbrev pub flag_one : ℕ → Request → Request
 flag_one slot r = record r { flagged = r.flagged || (r.slot == slot) }
 
+-- the same of each request of a list
 abbrev pub with_flagged : ℕ → List Request → List Request
 with_flagged slot requests = map (flag_one slot) requests
 
@@ -99,6 +105,7 @@ abbrev pub answer_behind : Option Request → Settled
 answer_behind None = Lone
 answer_behind (Some r) = if r.flagged then Linked else SettleBlocked
 
+-- the list after a settle behind such a request, or behind none
 abbrev pub settled_behind : Option Request → ℕ → List Request → List Request
 settled_behind None slot requests = with_settled slot requests
 settled_behind (Some r) slot requests = if r.flagged then with_settled slot requests else requests
@@ -107,6 +114,7 @@ settled_behind (Some r) slot requests = if r.flagged then with_settled slot requ
 abbrev pub settle_answer : ℕ → List Request → Settled
 settle_answer slot requests = answer_behind (before slot requests)
 
+-- the list after a settle of the slot
 abbrev pub after_settle : ℕ → List Request → List Request
 after_settle slot requests = settled_behind (before slot requests) slot requests
 
@@ -116,6 +124,7 @@ leave_answer [] = Unhooked
 leave_answer (r ∷ []) = Unhooked
 leave_answer (r ∷ (next ∷ rest)) = if next.settled then Passed (record { index = next.slot }) else LeaveBlocked
 
+-- the list after its front has left
 abbrev pub after_leave : List Request → List Request
 after_leave [] = []
 after_leave (r ∷ []) = []

@@ -8,10 +8,12 @@ use Rattle.boc_chain.specs.declared.request.Request.{Request}
 use Rattle.boc_chain.specs.declared.held.Held.{Held}
 use Rattle.boc_chain.specs.Chain.{Place, times, cowns_of, cown}
 
+-- what was admitted, if anything was
 abbrev pub place_of : Option Held → Option Place
 place_of None = None
 place_of (Some h) = Some (record { cowns = h.cowns.items; exchanged = h.exchanged })
 
+-- the same at a place of the table, if there is one
 abbrev pub place_in : Option (Option Held) → Option Place
 place_in None = None
 place_in (Some h) = place_of h

@@ -6,9 +6,11 @@ use Rattle.boc_chain.specs.declared.link_chains.LinkChains.{LinkChains}
 use Rattle.boc_chain.specs.Chain.{Place}
 use Rattle.boc_chain.specs.Linked.{lists_of, place_at}
 
+-- the lists that the links spell
 abbrev pub lists : LinkChains → List (List Request)
 lists s = lists_of s.last.items s.slots
 
+-- what was admitted at a slot
 abbrev pub place : LinkChains → ℕ → Option Place
 place s slot = place_at s.slots slot
 
@@ -16,6 +18,7 @@ place s slot = place_at s.slots slot
 abbrev pub held : LinkChains → ℕ
 held s = slab_len s.slots
 
+-- the greatest number of slots held at once so far
 abbrev pub peak : LinkChains → ℕ
 peak s = s.peak
 

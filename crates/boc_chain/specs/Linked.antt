@@ -10,6 +10,7 @@ use Rattle.boc_chain.specs.declared.request.Request.{Request}
 use Rattle.boc_chain.specs.declared.request.Slot.{Slot}
 use Rattle.boc_chain.specs.Links.{Tie, Spells, end_of, walk}
 
+-- the slot of a number
 abbrev pub slot_at : ℕ → Slot
 slot_at i = record { index = i }
 
@@ -18,6 +19,7 @@ abbrev pub stored_in : Option Linked → ℕ → Option Link
 stored_in None c = None
 stored_in (Some h) c = option_and_then (λ i. slice_get h.links.items i) (position (λ d. d == c) h.cowns.items)
 
+-- the link as it is kept
 abbrev pub stored : Slab Linked → ℕ → ℕ → Option Link
 stored held s c = stored_in (get held s) c
 
@@ -30,9 +32,11 @@ seen l = record {
   next = option_map (λ n. n.slot) l.next;
 }
 
+-- the link seen by slots alone
 abbrev pub links : Slab Linked → ℕ → ℕ → Option Tie
 links held s c = option_map seen (stored held s c)
 
+-- what was admitted at a slot that is held
 abbrev pub place_in : Option Linked → Option Place
 place_in None = None
 place_in (Some h) = Some (record { cowns = h.cowns.items; exchanged = length h.links.items })
@@ -82,12 +86,13 @@ pub record NamesWell (held : Slab Linked) (c : ℕ) (l : Link) : Type 0 where
 abbrev pub IsPlaced : Slab Linked → ℕ → List Request → Type 0
 IsPlaced held c xs = (s : ℕ) (l : Link) → 0 < times s (slots xs) → stored held s c ≡ Some l → NamesWell held c l
 
--- the request of a node is in this list of c, or first and granted
+-- the request of a node is in this list of c
 pub record Holds (held : Slab Linked) (c : ℕ) (n : Node) (xs : List Request) : Type 0 where
   pub inside : IsIn (links held) c n.slot xs
   pub at : IsAt held n c
   pub placed : IsPlaced held c xs
 
+-- the request of a node is first in this list of c, and granted
 pub record Leads (held : Slab Linked) (c : ℕ) (n : Node) (xs : List Request) : Type 0 where
   pub front : IsFront (links held) c n.slot xs
   pub at : IsAt held n c
@@ -97,6 +102,7 @@ pub record Leads (held : Slab Linked) (c : ℕ) (n : Node) (xs : List Request) :
 abbrev pub last_at : List (Option Node) → ℕ → Option Node
 last_at last c = slice_index_or last c None
 
+-- the slot of the last request of a cown
 abbrev pub last_of : List (Option Node) → ℕ → Option ℕ
 last_of last c = option_map (λ n. n.slot) (last_at last c)
 
@@ -109,6 +115,7 @@ abbrev pub from : (ℕ → List Request) → ℕ → ℕ → List (List Request)
 from f b zero = []
 from f b (suc n) = f b ∷ from f (suc b) n
 
+-- the list of each cown
 unfoldable pub lists_of : List (Option Node) → Slab Linked → List (List Request)
 lists_of last slots = from (line last slots) 0 (length last)
 

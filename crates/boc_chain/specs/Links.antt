@@ -26,10 +26,12 @@ abbrev pub end_of : Option ℕ → List Request → Option ℕ
 end_of before [] = before
 end_of before (r ∷ rest) = end_of (Some r.slot) rest
 
+-- the request that a link stands for
 abbrev pub request : ℕ → Option Tie → Request
 request slot None = record { slot = slot; settled = false; flagged = false }
 request slot (Some l) = record { slot = slot; settled = l.settled; flagged = l.scheduled }
 
+-- the slot before, if it is known
 abbrev pub before_of : Option Tie → Option ℕ
 before_of None = None
 before_of (Some l) = l.before

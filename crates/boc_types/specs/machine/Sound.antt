@@ -51,6 +51,7 @@ made_at (Asking request false) = 1 + 2 * request
 made_at (Asking request true) = 2 + 2 * request
 made_at (Recorded row phase) = 0
 
+-- the same of an open behaviour, and 0 of none
 abbrev pub made : Option OpenBehaviour → ℕ
 made None = 0
 made (Some b) = made_at b.stage
@@ -66,6 +67,7 @@ owed_at (Recorded row phases.Ready) cowns = 2 + length cowns
 owed_at (Recorded row phases.Running) cowns = 1 + length cowns
 owed_at (Recorded row (phases.Leaving request)) cowns = length (drop request cowns)
 
+-- the same of an open behaviour, and 0 of none
 abbrev pub owed : Option OpenBehaviour → ℕ
 owed None = 0
 owed (Some b) = owed_at b.stage b.cowns

@@ -83,50 +83,62 @@ abbrev pub parent_of : Option OpenBehaviour → ℕ
 parent_of None = 0
 parent_of (Some b) = b.parent
 
+-- at how many ticks of that row
 abbrev pub offset_of : Option OpenBehaviour → ℕ
 offset_of None = 0
 offset_of (Some b) = b.offset
 
+-- its cowns, in rising order
 abbrev pub cowns_of : Option OpenBehaviour → List ℕ
 cowns_of None = []
 cowns_of (Some b) = b.cowns
 
+-- the cowns in whose lists it stands
 abbrev pub standing : Option OpenBehaviour → List ℕ
 standing None = []
 standing (Some b) = standing_at b.stage b.cowns
 
+-- the cowns at which its request is settled
 abbrev pub settled : Option OpenBehaviour → List ℕ
 settled None = []
 settled (Some b) = settled_at b.stage b.cowns
 
+-- the cowns at which its request is flagged
 abbrev pub flagged : Option OpenBehaviour → List ℕ
 flagged None = []
 flagged (Some b) = flagged_at b.stage b.cowns
 
+-- its row, if its spawn is recorded
 abbrev pub row_of : Option OpenBehaviour → Option ℕ
 row_of None = None
 row_of (Some b) = row_at b.stage
 
+-- its row, if it is ready
 abbrev pub ready_row : Option OpenBehaviour → Option ℕ
 ready_row None = None
 ready_row (Some b) = ready_row_at b.stage
 
+-- what has become of its row
 abbrev pub life : Option OpenBehaviour → Life
 life None = Ended
 life (Some b) = life_at b.stage
 
+-- does it ask?
 abbrev pub asks : Option OpenBehaviour → Bool
 asks None = false
 asks (Some b) = asks_at b.stage
 
+-- is its enqueue open?
 abbrev pub enqueues : Option OpenBehaviour → Bool
 enqueues None = false
 enqueues (Some b) = enqueues_at b.stage
 
+-- does it wait?
 abbrev pub waits : Option OpenBehaviour → Bool
 waits None = false
 waits (Some b) = waits_at b.stage
 
+-- is it ready, running or leaving?
 abbrev pub holds : Option OpenBehaviour → Bool
 holds None = false
 holds (Some b) = holds_at b.stage

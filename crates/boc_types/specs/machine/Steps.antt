@@ -261,10 +261,12 @@ woken_at s who b (Recorded row phases.Waiting) = if all_granted (at s) (queue s)
 woken_at s who b (Recorded row _) = s
 woken_at s who b (Asking request exchanged) = s
 
+-- the same of an open behaviour at its stage, and nothing of none
 abbrev pub woken_if : State → ℕ → Option OpenBehaviour → State
 woken_if s who None = s
 woken_if s who (Some b) = woken_at s who b b.stage
 
+-- the same of the behaviour of a number
 abbrev pub woken : State → ℕ → State
 woken s who = woken_if s who (at s who)
 

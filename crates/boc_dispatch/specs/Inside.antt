@@ -218,6 +218,7 @@ pub record HasRooms (d : Parts) (homes_room ready_room : ℕ) : Type 0 where
 
 -- ---- the same of the machine itself, whose chains have these lists and places
 
+-- the parts of a machine
 abbrev pub parts_of : {C : Type 0} → (C → List (List Request)) → (C → ℕ → Option Place) → Machine C → Parts
 parts_of lists place m = record {
   program = m.program.now;

@@ -79,6 +79,7 @@ holds_at (Recorded row _) = false
 
 -- ---- the same of an open behaviour, and of none
 
+-- the row that spawns it
 abbrev pub parent_of : Option OpenBehaviour → ℕ
 parent_of None = 0
 parent_of (Some b) = b.parent

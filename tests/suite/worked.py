@@ -3,6 +3,7 @@ from . import model, records
 from .running import done, fault_of
 
 VALUES = {
+    "accounts.boc": "account[0] 20\naccount[1] 250\nrefused 2\n",
     "transfer.boc": "a 12\nb 4\n",
     "countdown.boc": "a 3\n",
     "four_squares.boc": "c[0] 1\nc[1] 4\nc[2] 9\nc[3] 16\n",

@@ -13,7 +13,8 @@ use std::test::Fail;
 
 pub const GREATEST: i64 = 9_223_372_036_854_775_807;
 
-pub fn binary(
+// Two numbers and an operator.
+pub(crate) fn binary(
     alloc: Global,
     operator: Operator,
     left: Expr,
@@ -22,8 +23,8 @@ pub fn binary(
     Ok(Expr::Binary(operator, Box::new(alloc, left)?, Box::new(alloc, right)?))
 }
 
-/// A body of these statements.
-pub fn body(
+// A body of these statements.
+pub(crate) fn body(
     alloc: Global,
     params: usize,
     cown_params: usize,

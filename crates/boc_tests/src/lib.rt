@@ -24,4 +24,6 @@ mod text;
 #[cfg(test)]
 mod what_if;
 #[cfg(test)]
+mod worked_rows;
+#[cfg(test)]
 mod written;

@@ -1,86 +1,15 @@
 //! The profiles of worked rows, and chains of them that are true or false.
 
+use crate::worked_rows::{countdown, transfer, two_cowns, waiting_for_both};
 use boc_order::{check_chain, earliest_plan, profile};
-use boc_types::body::EndStatus;
 use boc_types::chain::{Chain, ChainStep, Via};
-use boc_types::row_test::are_rows;
-use boc_types::rows::{Row, Rows};
-use boc_types::short::Cowns;
+use boc_types::rows::Rows;
 use std::alloc::Global;
 use std::process::Abort;
 use std::test::Fail;
 
-fn cowns(numbers: &[u32]) -> Cowns {
-    let mut list = Cowns::new();
-    for number in numbers {
-        if !list.is_full() {
-            list.push(*number);
-        }
-    }
-    list
-}
-
-fn row(parent: u32, offset: u32, numbers: &[u32], ticks: u32) -> Row {
-    Row {
-        parent,
-        offset,
-        cowns: cowns(numbers),
-        ticks,
-        status: EndStatus::Done,
-        written: cowns(numbers),
-    }
-}
-
 fn step(row: u32, via: Via, weight: u32) -> ChainStep {
     ChainStep { row, via, weight }
-}
-
-fn rows_of(list: Vec<Row>) -> Result<Rows, Fail> {
-    if are_rows(&list) {
-        Ok(Rows::new(list))
-    } else {
-        Err(Fail::from("no rows of a run"))
-    }
-}
-
-// Two deposits and a transfer between two accounts, cowns 0 and 1.
-fn transfer(alloc: Global) -> Result<Rows, Fail> {
-    let mut list = Vec::new(alloc);
-    list.push(row(0, 0, &[], 4))?;
-    list.push(row(0, 2, &[0], 2))?;
-    list.push(row(0, 3, &[0, 1], 3))?;
-    list.push(row(0, 4, &[1], 2))?;
-    rows_of(list)
-}
-
-// A behaviour that spawns the next one on its cown, three times.
-fn countdown(alloc: Global) -> Result<Rows, Fail> {
-    let mut list = Vec::new(alloc);
-    list.push(row(0, 0, &[], 2))?;
-    list.push(row(0, 2, &[0], 4))?;
-    list.push(row(1, 4, &[0], 4))?;
-    list.push(row(2, 4, &[0], 3))?;
-    rows_of(list)
-}
-
-// Two rows on a cown each that end together, and a last one that needs both cowns.
-fn two_cowns(alloc: Global) -> Result<Rows, Fail> {
-    let mut list = Vec::new(alloc);
-    list.push(row(0, 0, &[], 4))?;
-    list.push(row(0, 1, &[0], 6))?;
-    list.push(row(0, 2, &[1], 5))?;
-    list.push(row(0, 3, &[0, 1], 3))?;
-    rows_of(list)
-}
-
-// Three rows over two cowns: the first two end one after the other, and the last needs the cowns of both.
-fn waiting_for_both(alloc: Global) -> Result<Rows, Fail> {
-    let mut list = Vec::new(alloc);
-    list.push(row(0, 0, &[], 4))?;
-    list.push(row(0, 2, &[0], 3))?;
-    list.push(row(0, 3, &[1], 2))?;
-    list.push(row(0, 4, &[0, 1], 1))?;
-    rows_of(list)
 }
 
 // What the profile of some rows must be.

@@ -1,22 +1,12 @@
 //! The events of the transfer program, events that break a rule, and the end of a run.
 
+use crate::worked_rows::cowns;
 use boc_rules::{RuleFault, Rules};
 use boc_types::body::EndStatus;
 use boc_types::event::{BrokenRule, Event};
-use boc_types::short::Cowns;
 use std::alloc::Global;
 use std::process::Abort;
 use std::test::Fail;
-
-fn cowns(numbers: &[u32]) -> Cowns {
-    let mut list = Cowns::new();
-    for number in numbers {
-        if !list.is_full() {
-            list.push(*number);
-        }
-    }
-    list
-}
 
 fn spawn(row: u32, parent: u32, offset: u32, numbers: &[u32]) -> Event {
     Event::Spawn {

@@ -1,62 +1,21 @@
 //! Edits and sweeps of worked rows.
 
-use boc_types::body::EndStatus;
+use crate::worked_rows::{row, rows_of, transfer};
 use boc_types::edit::EditFault;
-use boc_types::row_test::are_rows;
-use boc_types::rows::{Row, Rows};
-use boc_types::short::Cowns;
+use boc_types::rows::Rows;
 use boc_types::workers::Workers;
 use boc_whatif::WhatIf;
 use std::alloc::Global;
 use std::test::Fail;
 
-fn cowns(numbers: &[u32]) -> Cowns {
-    let mut list = Cowns::new();
-    for number in numbers {
-        if !list.is_full() {
-            list.push(*number);
-        }
-    }
-    list
-}
-
-fn row(offset: u32, numbers: &[u32], ticks: u32) -> Row {
-    Row {
-        parent: 0,
-        offset,
-        cowns: cowns(numbers),
-        ticks,
-        status: EndStatus::Done,
-        written: cowns(numbers),
-    }
-}
-
-fn rows_of(list: Vec<Row>) -> Result<Rows, Fail> {
-    if are_rows(&list) {
-        Ok(Rows::new(list))
-    } else {
-        Err(Fail::from("no rows of a run"))
-    }
-}
-
-// Two deposits and a transfer between two accounts, cowns 0 and 1.
-fn transfer(alloc: Global) -> Result<Rows, Fail> {
-    let mut list = Vec::new(alloc);
-    list.push(row(0, &[], 4))?;
-    list.push(row(2, &[0], 2))?;
-    list.push(row(3, &[0, 1], 3))?;
-    list.push(row(4, &[1], 2))?;
-    rows_of(list)
-}
-
 // Children without cowns, one a tick, the last of which takes the longest.
 fn many(alloc: Global) -> Result<Rows, Fail> {
     let mut list = Vec::new(alloc);
-    list.push(row(0, &[], 2_500))?;
+    list.push(row(0, 0, &[], 2_500))?;
     for number in 1..2_499 {
-        list.push(row(number + 1, &[], 1))?;
+        list.push(row(0, number + 1, &[], 1))?;
     }
-    list.push(row(2_500, &[], 5))?;
+    list.push(row(0, 2_500, &[], 5))?;
     rows_of(list)
 }
 

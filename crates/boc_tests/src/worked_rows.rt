@@ -1,0 +1,115 @@
+// Rows that several tests ask about.
+
+use boc_types::body::EndStatus;
+use boc_types::row_test::are_rows;
+use boc_types::rows::{Row, Rows};
+use boc_types::short::Cowns;
+use std::alloc::Global;
+use std::test::Fail;
+
+// The first eight of these numbers.
+pub(crate) fn cowns(numbers: &[u32]) -> Cowns {
+    let mut list = Cowns::new();
+    for number in numbers {
+        if !list.is_full() {
+            list.push(*number);
+        }
+    }
+    list
+}
+
+// A row that wrote all its cowns.
+pub(crate) fn row(parent: u32, offset: u32, numbers: &[u32], ticks: u32) -> Row {
+    Row {
+        parent,
+        offset,
+        cowns: cowns(numbers),
+        ticks,
+        status: EndStatus::Done,
+        written: cowns(numbers),
+    }
+}
+
+// These rows, if they have the shape of a run's.
+pub(crate) fn rows_of(list: Vec<Row>) -> Result<Rows, Fail> {
+    if are_rows(&list) {
+        Ok(Rows::new(list))
+    } else {
+        Err(Fail::from("no rows of a run"))
+    }
+}
+
+// Two deposits and a transfer between two accounts, cowns 0 and 1.
+pub(crate) fn transfer(alloc: Global) -> Result<Rows, Fail> {
+    let mut list = Vec::new(alloc);
+    list.push(row(0, 0, &[], 4))?;
+    list.push(row(0, 2, &[0], 2))?;
+    list.push(row(0, 3, &[0, 1], 3))?;
+    list.push(row(0, 4, &[1], 2))?;
+    rows_of(list)
+}
+
+// Four behaviours with a cown each.
+pub(crate) fn four_squares(alloc: Global) -> Result<Rows, Fail> {
+    let mut list = Vec::new(alloc);
+    list.push(row(0, 0, &[], 5))?;
+    list.push(row(0, 2, &[0], 8))?;
+    list.push(row(0, 3, &[1], 8))?;
+    list.push(row(0, 4, &[2], 8))?;
+    list.push(row(0, 5, &[3], 8))?;
+    rows_of(list)
+}
+
+// Two behaviours without cowns.
+pub(crate) fn no_cowns(alloc: Global) -> Result<Rows, Fail> {
+    let mut list = Vec::new(alloc);
+    list.push(row(0, 0, &[], 3))?;
+    list.push(row(0, 2, &[], 4))?;
+    list.push(row(0, 3, &[], 4))?;
+    rows_of(list)
+}
+
+// A behaviour that spawns the next one on its cown, three times.
+pub(crate) fn countdown(alloc: Global) -> Result<Rows, Fail> {
+    let mut list = Vec::new(alloc);
+    list.push(row(0, 0, &[], 2))?;
+    list.push(row(0, 2, &[0], 4))?;
+    list.push(row(1, 4, &[0], 4))?;
+    list.push(row(2, 4, &[0], 3))?;
+    rows_of(list)
+}
+
+// Two chains of spawns that meet on shared cowns, with spawns and ends at the same ticks.
+pub(crate) fn crossing(alloc: Global) -> Result<Rows, Fail> {
+    let mut list = Vec::new(alloc);
+    list.push(row(0, 0, &[], 9))?;
+    list.push(row(0, 1, &[2, 3], 4))?;
+    list.push(row(0, 2, &[0], 6))?;
+    list.push(row(1, 2, &[0, 3], 5))?;
+    list.push(row(1, 4, &[1], 1))?;
+    list.push(row(2, 6, &[], 7))?;
+    list.push(row(0, 9, &[1, 2], 3))?;
+    list.push(row(3, 1, &[2], 2))?;
+    list.push(row(3, 5, &[0, 1, 2, 3], 1))?;
+    rows_of(list)
+}
+
+// Three rows over two cowns: the first two end one after the other, and the last needs the cowns of both.
+pub(crate) fn waiting_for_both(alloc: Global) -> Result<Rows, Fail> {
+    let mut list = Vec::new(alloc);
+    list.push(row(0, 0, &[], 4))?;
+    list.push(row(0, 2, &[0], 3))?;
+    list.push(row(0, 3, &[1], 2))?;
+    list.push(row(0, 4, &[0, 1], 1))?;
+    rows_of(list)
+}
+
+// Two rows on a cown each that end together, and a last one that needs both cowns.
+pub(crate) fn two_cowns(alloc: Global) -> Result<Rows, Fail> {
+    let mut list = Vec::new(alloc);
+    list.push(row(0, 0, &[], 4))?;
+    list.push(row(0, 1, &[0], 6))?;
+    list.push(row(0, 2, &[1], 5))?;
+    list.push(row(0, 3, &[0, 1], 3))?;
+    rows_of(list)
+}

@@ -29,3 +29,9 @@ pub mod Opened
 pub mod Opening
 pub mod ChildOpened
 pub mod Worked
+pub mod Elsewhere
+pub mod Hands
+pub mod OwnTurns
+pub mod Crews
+pub mod Turned
+pub mod Driven

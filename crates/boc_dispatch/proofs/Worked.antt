@@ -1,5 +1,5 @@
 -- A worker's turn, by what the call answered that was due.
-use Rattle.std.proofs.Common.{◌≡◌, ◌≢◌, ℕ, ◌<◌, List, [], ◌∷◌, ◌++◌, arith, refl, sym, ◌∙◌, ap, subst}
+use Rattle.std.proofs.Common.{◌≡◌, ◌≢◌, ℕ, ◌<◌, List, [], ◌∷◌, arith, refl, sym, ◌∙◌, ap, subst}
 use Rattle.std.specs.Prelude.{Option, Some, None, Result, Ok, Err}
 use Rattle.std.specs.declared.alloc.AllocError.{AllocError}
 use Rattle.boc_types.specs.machine.Queues.{times}
@@ -10,7 +10,7 @@ use Rattle.boc_types.specs.declared.step.Step.{Step}
 use Rattle.boc_types.specs.declared.step.Step.TheVariants as steps
 use Rattle.boc_types.specs.machine.Stages.{OpenBehaviour, ready_row}
 use Rattle.boc_types.specs.machine.Steps.{State, at, Makes, Advances, Leaves, IsQuiet}
-use Rattle.boc_types.specs.machine.Turns.{TakesTurn, Driven, Turn, Turns, NoneReady, Begins as BeginsTurn, Advanced as AdvancedTurn, WaitsToSettle, Opened, Finished, Left as LeftTurn, WaitsToLeave, unless_gone}
+use Rattle.boc_types.specs.machine.Turns.{TakesTurn, Begins as BeginsTurn, Advanced as AdvancedTurn, WaitsToSettle, Opened, Finished, Left as LeftTurn, WaitsToLeave, unless_gone}
 use Rattle.boc_eval.specs.Frames.{UnderWay as Framed, Ran}
 use Rattle.boc_dispatch.specs.declared.answers.Advanced.TheVariants as advanced
 use Rattle.boc_dispatch.specs.declared.answers.Child.{Child}
@@ -21,11 +21,9 @@ use Rattle.boc_dispatch.specs.declared.answers.Started.TheVariants as started
 use Rattle.boc_dispatch.specs.declared.worker.Hand.{Hand}
 use Rattle.boc_dispatch.specs.declared.worker.Hand.TheVariants as hands
 use Rattle.boc_dispatch.specs.declared.worker.Turn.TheVariants as turns
-use Rattle.boc_dispatch.specs.declared.answers.OpenFault.TheVariants as open_faults
-use Rattle.boc_dispatch.specs.declared.worker.Refusal.TheVariants as refusals
 use Rattle.boc_dispatch.specs.Underway.{Underway}
 use Rattle.boc_dispatch.specs.Calls.{in_state, Begins, OpensWish, AdvancesChild, FinishesRow, LeavesCown}
-use Rattle.boc_dispatch.specs.Working.{row_in, MakesTurn, Works, HasThought, IsToThink, HasNoRoom}
+use Rattle.boc_dispatch.specs.Working.{row_in, MakesTurn, Works, HasThought, IsToThink}
 
 -- a step to another state of the same program
 made : (u v : Underway) (h k : Hand) (step : Step) (t : State) → v ≡ in_state u t → TakesTurn u.program u.state (row_in h) t (row_in k) → Makes u.program u.state step t → MakesTurn u h step v k
@@ -144,13 +142,13 @@ thinks_row (hands.Wishing row f) k (Ok x) t = ap row_in t
 thinks_row (hands.Enqueuing f child) k (Ok x) t = ap row_in t
 thinks_row (hands.Done row o) k (Ok x) t = ap row_in t
 thinks_row (hands.Leaving l) k (Ok x) t = ap row_in t
-thinks_row hands.Nothing k (Err x) t = ap row_in t
+thinks_row hands.Nothing k (Err x) t = absurd t
 thinks_row (hands.Started job) k (Err x) t = ap row_in t
-thinks_row (hands.Going row f) k (Err x) t = ap row_in t
-thinks_row (hands.Wishing row f) k (Err x) t = ap row_in t
-thinks_row (hands.Enqueuing f child) k (Err x) t = ap row_in t
-thinks_row (hands.Done row o) k (Err x) t = ap row_in t
-thinks_row (hands.Leaving l) k (Err x) t = ap row_in t
+thinks_row (hands.Going row f) k (Err x) t = absurd t
+thinks_row (hands.Wishing row f) k (Err x) t = absurd t
+thinks_row (hands.Enqueuing f child) k (Err x) t = absurd t
+thinks_row (hands.Done row o) k (Err x) t = absurd t
+thinks_row (hands.Leaving l) k (Err x) t = absurd t
 
 -- who has thought isn't to think
 pub has_thought : (h k : Hand) (x : Unit {0}) → HasThought h (Ok x) k → IsToThink k → ⊥
@@ -173,44 +171,3 @@ has_thought (hands.Wishing row f) k x t due = subst IsToThink t due
 has_thought (hands.Enqueuing f child) k x t due = subst IsToThink t due
 has_thought (hands.Done row o) k x t due = subst IsToThink t due
 has_thought (hands.Leaving l) k x t due = subst IsToThink t due
-
--- ---- what a turn is to a worker that has thought
-
-pub turn_moved : (u v : Underway) (h was k : Hand) (step : Step) → row_in h ≡ row_in was → Works u h (turns.Moved step) v k → TakesTurn u.program u.state (row_in was) v.state (row_in k) × (v.program ≡ u.program)
-turn_moved u v h was k step same w = (subst (λ (r : Option ℕ). TakesTurn u.program u.state r v.state (row_in k)) same w.takes, w.same)
-
-pub turn_blocked : (u v : Underway) (h was k : Hand) → row_in h ≡ row_in was → Works u h turns.Blocked v k → TakesTurn u.program u.state (row_in was) v.state (row_in k) × (v.program ≡ u.program)
-turn_blocked u v h was k same w = (
-  subst (λ (x : Underway). TakesTurn u.program u.state (row_in was) x.state (row_in k)) (sym w.0)
-      (subst (λ (r : Option ℕ). TakesTurn u.program u.state (row_in was) u.state r) (ap row_in (sym w.1))
-      (subst (λ (r : Option ℕ). TakesTurn u.program u.state r u.state (row_in h)) same w.2)),
-  ap (λ (x : Underway). x.program) w.0,
-)
-
--- none is ready for a worker that serves nobody
-pub turn_none : (u v : Underway) (h was k : Hand) → row_in h ≡ row_in was → v ≡ u → k ≡ h → h ≡ hands.Nothing → u.state.ready ≡ [] → TakesTurn u.program u.state (row_in was) v.state (row_in k) × (v.program ≡ u.program)
-turn_none u v h was k same is hand nothing none =
-    let before : None ≡ row_in was = ap row_in (sym nothing) ∙ same in
-    let after : None ≡ row_in k = ap row_in (sym nothing) ∙ ap row_in (sym hand) in (
-      subst (λ (x : Underway). TakesTurn u.program u.state (row_in was) x.state (row_in k)) (sym is)
-          (subst (λ (r : Option ℕ). TakesTurn u.program u.state (row_in was) u.state r) after
-          (subst (λ (r : Option ℕ). TakesTurn u.program u.state r u.state None) before (NoneReady none))),
-      ap (λ (x : Underway). x.program) is,
-    )
-
--- a wish without room
-pub turn_full : (u v : Underway) (h was k : Hand) → row_in h ≡ row_in was → Works u h (turns.Refused (refusals.Open open_faults.Behaviours)) v k → (v ≡ u) × HasNoRoom u (row_in was)
-turn_full u v (hands.Wishing row f) was k same w =
-    (w.0, record { served = row; serves = sym same; frame = f; may = w.2.1; full = w.2.2 })
-turn_full u v hands.Nothing was k same w = absurd w.2
-turn_full u v (hands.Started job) was k same w = absurd w.2
-turn_full u v (hands.Going row f) was k same w = absurd w.2
-turn_full u v (hands.Enqueuing f child) was k same w = absurd w.2
-turn_full u v (hands.Done row o) was k same w = absurd w.2
-turn_full u v (hands.Leaving l) was k same w = absurd w.2
-
--- ---- turns, one more at the end
-
-pub turns_more : (p : Program) (d : Driven) (xs : List ℕ) (x : ℕ) (e f : Driven) → Turns p d xs e → Turn p e x f → Turns p d (xs ++ x ∷ []) f
-turns_more p d [] x e f is turn = (f, subst (λ (m : Driven). Turn p m x f) is turn, refl)
-turns_more p d (y ∷ xs) x e f t turn = (t.0, t.1, turns_more p t.0 xs x e f t.2 turn)

@@ -6,3 +6,4 @@ pub mod Places
 pub mod Codes
 pub mod Grants
 pub mod Working
+pub mod Driving

@@ -1,10 +1,12 @@
 -- What a worker has in hand, and what its turns and its thinking do.
-use Rattle.std.specs.Prelude.{◌≡◌, ℕ, ◌+◌, [], Option, Some, None, Result, Ok, Err, false}
+use Rattle.std.specs.Prelude.{◌≡◌, ℕ, ◌+◌, [], Option, Some, None, Result, Ok, Err, false, slice_get}
 use Rattle.std.specs.declared.alloc.AllocError.{AllocError}
 use Rattle.boc_types.specs.declared.step.Step.{Step}
 use Rattle.boc_types.specs.program.Meaning.{Wish}
 use Rattle.boc_types.specs.declared.limits.TheConstants.{MOST_ROWS}
-use Rattle.boc_types.specs.machine.Steps.{IsQuiet, Makes, recorded, unrecorded}
+use Rattle.boc_types.specs.runs.Lives.{Running}
+use Rattle.boc_types.specs.runs.Run.{next_wish, state_of}
+use Rattle.boc_types.specs.machine.Steps.{IsQuiet, Makes, HasNoEnqueue, members, recorded, unrecorded}
 use Rattle.boc_types.specs.machine.Turns.{TakesTurn}
 use Rattle.boc_eval.specs.Frames.{UnderWay as Framed, Ran, Means}
 use Rattle.boc_eval.specs.Stops.{WishComes, BodyEnds}
@@ -18,7 +20,7 @@ use Rattle.boc_dispatch.specs.declared.worker.Refusal.TheVariants as refusals
 use Rattle.boc_dispatch.specs.declared.worker.Turn.{Turn}
 use Rattle.boc_dispatch.specs.declared.worker.Turn.TheVariants as turns
 use Rattle.boc_dispatch.specs.Underway.{Underway}
-use Rattle.boc_dispatch.specs.Calls.{MayAsk, OpensWish, FinishesRow, AdvancesChild, LeavesCown}
+use Rattle.boc_dispatch.specs.Calls.{OpensWish, FinishesRow, AdvancesChild, LeavesCown}
 
 -- the row that is served with this in hand, if any
 abbrev pub row_in : Hand → Option ℕ
@@ -83,17 +85,20 @@ HasGoneOn row f _ = ⊥
 abbrev pub frame_of : Job → Framed
 frame_of job = record { body = job.body.now; args = job.args.items; inputs = job.inputs.items; made = 0; ended = false }
 
--- a worker has thought, or memory was refused for a frame, and it has what it had
+-- a worker has thought; or memory was refused for the frame of a behaviour that was just started, and it has what it had
 abbrev pub HasThought : Hand → Result (Unit {0}) AllocError → Hand → Type 0
 HasThought (hands.Started job) (Ok _) k = HasGoneOn job.row (frame_of job) k
-HasThought h (Err refused) k = k ≡ h
+HasThought (hands.Started job) (Err refused) k = k ≡ hands.Started job
 HasThought (hands.Going row f) (Ok _) k = HasGoneOn row f k
 HasThought h (Ok _) k = k ≡ h
+HasThought h (Err refused) k = ⊥
 
 -- a row's next wish is due, and there is no room for it
 pub record HasNoRoom (u : Underway) (row : Option ℕ) : Type 0 where
   pub served : ℕ
   pub serves : row ≡ Some served
-  pub frame : Framed
-  pub may : MayAsk u frame served
+  pub runs : state_of (members u.program u.state) served ≡ Some Running
+  pub none_open : HasNoEnqueue u.state served
+  pub wish : Wish
+  pub next : next_wish u.program (slice_get (members u.program u.state) served) ≡ Some wish
   pub full : recorded u.program u.state + unrecorded u.state ≡ MOST_ROWS

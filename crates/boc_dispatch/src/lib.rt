@@ -3,6 +3,7 @@
 
 mod answers;
 mod dispatcher;
+mod interleaving;
 mod live;
 mod machine;
 mod moves;
@@ -11,4 +12,5 @@ mod worker;
 pub use answers::{Advanced, Child, FinishFault, Job, Leaving, Left, OpenFault, Started};
 pub use boc_types::step::Step;
 pub use dispatcher::{Core, Dispatcher};
+pub use interleaving::{DriveFault, drive, drive_over};
 pub use worker::{Refusal, Turn, Worker};

@@ -63,6 +63,7 @@ pub enum Turn {
 }
 
 ghost use Rattle.boc_dispatch.specs.declared.worker.Hand.TheVariants as hands;
+ghost use Rattle.boc_dispatch.specs.Driving.{KeepsFitting};
 ghost use Rattle.boc_dispatch.specs.Working.{row_in, frame_of as frame_at_start, HasGoneOn, HasThought, Works};
 
 // The frame of a behaviour that was started.
@@ -120,7 +121,8 @@ impl<'a> Worker<'a> {
     }
 
     /// Makes the frame of a behaviour that was just started, or goes on with a frame whose wish was enqueued, up to the next
-    /// wish or the end. At other times it does nothing. After want of memory the worker is as before.
+    /// wish or the end. At other times it does nothing. Only a new frame takes memory, and where that is refused the worker is
+    /// as before.
     pub fn think(&mut self, alloc: Global) -> Result<(), AllocError>
         ensures thinks { HasThought self.old.hand result self.new.hand }
         ensures number { self.new.number ≡ self.old.number }
@@ -131,9 +133,11 @@ impl<'a> Worker<'a> {
         result
     }
 
-    /// Makes the one call of the dispatcher that is due.
+    /// Makes the one call of the dispatcher that is due. Where what the worker had in hand fitted the dispatcher, what it has
+    /// then does.
     pub fn turn<C: Chains + Drop>(&mut self, core: &mut Core<'a, C>) -> Turn
         ensures works { Works core.old self.old.hand result core.new self.new.hand }
+        ensures fits { KeepsFitting core.old self.old.hand core.new self.new.hand }
         ensures number { self.new.number ≡ self.old.number }
     {
         let hand = std::mem::replace(&mut self.hand, Hand::Nothing);
@@ -159,7 +163,8 @@ fn thought<'a>(alloc: Global, hand: Hand<'a>) -> (Hand<'a>, Result<(), AllocErro
 
 // What a worker has in hand after its turn.
 fn worked<'a, C: Chains + Drop>(hand: Hand<'a>, core: &mut Core<'a, C>) -> (Hand<'a>, Turn)
-    ensures { Works core.old hand.entry result.1 core.new result.0 }
+    ensures works { Works core.old hand.entry result.1 core.new result.0 }
+    ensures fits { KeepsFitting core.old hand.entry core.new result.0 }
 {
     match hand {
         Hand::Nothing => begin(core),
@@ -174,7 +179,8 @@ fn worked<'a, C: Chains + Drop>(hand: Hand<'a>, core: &mut Core<'a, C>) -> (Hand
 
 // The turn of a worker that serves nobody.
 fn begin<'a, C: Chains + Drop>(core: &mut Core<'a, C>) -> (Hand<'a>, Turn)
-    ensures { Works core.old hands.Nothing result.1 core.new result.0 }
+    ensures works { Works core.old hands.Nothing result.1 core.new result.0 }
+    ensures fits { KeepsFitting core.old hands.Nothing core.new result.0 }
 {
     match core.start() {
         Started::Job(job) => (Hand::Started(job), Turn::Moved(Step::Start)),
@@ -189,7 +195,8 @@ fn open<'a, C: Chains + Drop>(
     frame: Frame<'a>,
     core: &mut Core<'a, C>,
 ) -> (Hand<'a>, Turn)
-    ensures { Works core.old (hands.Wishing row frame.entry) result.1 core.new result.0 }
+    ensures works { Works core.old (hands.Wishing row frame.entry) result.1 core.new result.0 }
+    ensures fits { KeepsFitting core.old (hands.Wishing row frame.entry) core.new result.0 }
 {
     match core.open(&frame, row) {
         Ok(child) => (Hand::Enqueuing(frame, child), Turn::Moved(Step::Open)),
@@ -206,7 +213,8 @@ fn advance<'a, C: Chains + Drop>(
     child: Child,
     core: &mut Core<'a, C>,
 ) -> (Hand<'a>, Turn)
-    ensures { Works core.old (hands.Enqueuing frame.entry child) result.1 core.new result.0 }
+    ensures works { Works core.old (hands.Enqueuing frame.entry child) result.1 core.new result.0 }
+    ensures fits { KeepsFitting core.old (hands.Enqueuing frame.entry child) core.new result.0 }
 {
     match core.advance(&child) {
         Advanced::Moved(step) => (Hand::Enqueuing(frame, child), Turn::Moved(step)),
@@ -225,7 +233,8 @@ fn finish<'a, C: Chains + Drop>(
     outcome: Outcome<'a>,
     core: &mut Core<'a, C>,
 ) -> (Hand<'a>, Turn)
-    ensures { Works core.old (hands.Done row outcome.entry) result.1 core.new result.0 }
+    ensures works { Works core.old (hands.Done row outcome.entry) result.1 core.new result.0 }
+    ensures fits { KeepsFitting core.old (hands.Done row outcome.entry) core.new result.0 }
 {
     match core.finish(row, outcome) {
         Ok(Some(leaving)) => (Hand::Leaving(leaving), Turn::Moved(Step::Finish)),
@@ -239,7 +248,8 @@ fn finish<'a, C: Chains + Drop>(
 
 // The turn of a worker whose row releases its cowns.
 fn leave<'a, C: Chains + Drop>(leaving: Leaving, core: &mut Core<'a, C>) -> (Hand<'a>, Turn)
-    ensures { Works core.old (hands.Leaving leaving) result.1 core.new result.0 }
+    ensures works { Works core.old (hands.Leaving leaving) result.1 core.new result.0 }
+    ensures fits { KeepsFitting core.old (hands.Leaving leaving) core.new result.0 }
 {
     match core.leave(&leaving) {
         Left::Moved(step) => (Hand::Leaving(leaving), Turn::Moved(step)),

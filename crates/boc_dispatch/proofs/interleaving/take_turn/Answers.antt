@@ -1,0 +1,25 @@
+use Rattle.std.specs.Prelude.{Ok}
+use Rattle.boc_dispatch.proofs.Hands.{thought_fits}
+use Rattle.boc_dispatch.proofs.Turned.{went_on, stopped}
+use Rattle.boc_dispatch.proofs.interleaving.take_turn.Goals as goal
+
+pub returns-in-Moved-clause-turn : goal.returns-in-Moved-clause-turn
+returns-in-Moved-clause-turn g c =
+    (went_on c.args.core.now c.turn.new.core c.think.new.self.hand c.args.worker.now.hand c.turn.new.self.hand c.in_ok-think.field-0 c.turn.result
+    c.requires.fits c.in_ok-think.ensures.thinks c.turn.ensures.works c.in-Moved.is).takes
+
+pub returns-in-Moved-clause-program : goal.returns-in-Moved-clause-program
+returns-in-Moved-clause-program g c =
+    (went_on c.args.core.now c.turn.new.core c.think.new.self.hand c.args.worker.now.hand c.turn.new.self.hand c.in_ok-think.field-0 c.turn.result
+    c.requires.fits c.in_ok-think.ensures.thinks c.turn.ensures.works c.in-Moved.is).same
+
+pub returns-in-Moved-clause-fits : goal.returns-in-Moved-clause-fits
+returns-in-Moved-clause-fits g c =
+    c.turn.ensures.fits c.requires.sound
+    (thought_fits c.args.core.now c.args.worker.now.hand c.think.new.self.hand (Ok c.in_ok-think.field-0) c.requires.fits c.in_ok-think.ensures.thinks)
+
+pub fault_of-requires : goal.fault_of-requires
+fault_of-requires g c =
+    let s = stopped c.args.core.now c.turn.new.core c.think.new.self.hand c.args.worker.now.hand c.turn.new.self.hand c.in_ok-think.field-0 c.in-Refused.refusal
+    c.requires.fits c.in_ok-think.ensures.thinks c.in-Refused.ensures.works in
+    (s.fault, s.ends)

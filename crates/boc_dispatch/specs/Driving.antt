@@ -58,7 +58,7 @@ HandFits u (hands.Leaving l) = IsLeaving u.state l.row
 abbrev pub KeepsFitting : Underway → Hand → Underway → Hand → Type 0
 KeepsFitting u h v k = IsSound u.program u.state → HandFits u h → HandFits v k
 
--- a drive ends so where an Open is refused so; no other call of a drive is refused
+-- the fault by which a drive ends where its call is refused so; only an Open is ever refused, for want of room or memory
 abbrev pub EndsFor : Refusal → DriveFault → Type 0
 EndsFor (refusals.Open open_faults.Behaviours) fault = fault ≡ drive_faults.Behaviours
 EndsFor (refusals.Open open_faults.Memory) fault = fault ≡ drive_faults.Memory

@@ -6,6 +6,8 @@ mod chain;
 #[cfg(test)]
 mod dispatch;
 #[cfg(test)]
+mod drives;
+#[cfg(test)]
 mod eval;
 #[cfg(test)]
 mod greedy;

@@ -1,3 +1,4 @@
+pub mod InPlace
 pub mod Tables
 pub mod Fits
 pub mod Standing

@@ -11,6 +11,7 @@ use Rattle.boc_types.specs.machine.Turns.{TakesTurn}
 use Rattle.boc_eval.specs.Frames.{UnderWay as Framed, Ran, Means}
 use Rattle.boc_eval.specs.Stops.{WishComes, BodyEnds}
 use Rattle.boc_dispatch.specs.declared.answers.Advanced.TheVariants as advanced
+use Rattle.boc_dispatch.specs.declared.answers.Child.{Child}
 use Rattle.boc_dispatch.specs.declared.answers.Job.{Job}
 use Rattle.boc_dispatch.specs.declared.answers.Left.TheVariants as left
 use Rattle.boc_dispatch.specs.declared.worker.Hand.{Hand}
@@ -62,6 +63,17 @@ Works u h turns.NoneReady v k = (v ≡ u) × (k ≡ h) × (h ≡ hands.Nothing) 
 Works u h turns.Quiet v k = (v ≡ u) × (k ≡ h) × (h ≡ hands.Nothing) × (u.state.ready ≡ []) × IsQuiet u.state
 Works u h turns.Thinks v k = (v ≡ u) × (k ≡ h) × IsToThink h
 Works u h (turns.Refused refusal) v k = (v ≡ u) × (k ≡ h) × IsRefused u h refusal
+
+-- a row's wish is being enqueued under this token
+abbrev pub Enqueues : Hand → Child → Type 0
+Enqueues h child = (f : Framed) × (h ≡ hands.Enqueuing f child)
+
+-- what is in hand goes into the call that is due, or is made by it
+abbrev pub IsMoved : Hand → Type 0
+IsMoved hands.Nothing = Unit {0}
+IsMoved (hands.Wishing row f) = Unit {0}
+IsMoved (hands.Done row o) = Unit {0}
+IsMoved _ = ⊥
 
 -- ---- thinking
 

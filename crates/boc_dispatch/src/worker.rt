@@ -64,7 +64,9 @@ pub enum Turn {
 
 ghost use Rattle.boc_dispatch.specs.declared.worker.Hand.TheVariants as hands;
 ghost use Rattle.boc_dispatch.specs.Driving.{KeepsFitting};
-ghost use Rattle.boc_dispatch.specs.Working.{row_in, frame_of as frame_at_start, HasGoneOn, HasThought, Works};
+ghost use Rattle.boc_dispatch.specs.Working.{row_in, frame_of as frame_at_start, Enqueues, HasGoneOn, HasThought, IsMoved, Works};
+ghost use Rattle.boc_dispatch.specs.declared.answers.Child.{Child};
+ghost use Rattle.boc_eval.specs.Frames.{UnderWay as Framed};
 
 // The frame of a behaviour that was started.
 fn frame_of<'a>(alloc: Global, job: &Job<'a>) -> Result<Frame<'a>, AllocError>
@@ -127,10 +129,15 @@ impl<'a> Worker<'a> {
         ensures thinks { HasThought self.old.hand result self.new.hand }
         ensures number { self.new.number ≡ self.old.number }
     {
-        let hand = std::mem::replace(&mut self.hand, Hand::Nothing);
-        let (thought, result) = thought(alloc, hand);
-        self.hand = thought;
-        result
+        match &self.hand {
+            Hand::Started(_) | Hand::Going(..) => {
+                let hand = std::mem::replace(&mut self.hand, Hand::Nothing);
+                let (thought, result) = thought(alloc, hand);
+                self.hand = thought;
+                result
+            }
+            _ => Ok(()),
+        }
     }
 
     /// Makes the one call of the dispatcher that is due. Where what the worker had in hand fitted the dispatcher, what it has
@@ -140,10 +147,24 @@ impl<'a> Worker<'a> {
         ensures fits { KeepsFitting core.old self.old.hand core.new self.new.hand }
         ensures number { self.new.number ≡ self.old.number }
     {
-        let hand = std::mem::replace(&mut self.hand, Hand::Nothing);
-        let (next, turn) = worked(hand, core);
-        self.hand = next;
-        turn
+        // A frame is large, so most steps leave it where it stands.
+        match &self.hand {
+            Hand::Started(_) | Hand::Going(..) => Turn::Thinks,
+            Hand::Enqueuing(_, child) => {
+                let child = *child;
+                advance(&mut self.hand, child, core)
+            }
+            Hand::Leaving(leaving) => {
+                let leaving = *leaving;
+                leave(&mut self.hand, leaving, core)
+            }
+            Hand::Nothing | Hand::Wishing(..) | Hand::Done(..) => {
+                let hand = std::mem::replace(&mut self.hand, Hand::Nothing);
+                let (next, turn) = worked(hand, core);
+                self.hand = next;
+                turn
+            }
+        }
     }
 }
 
@@ -161,19 +182,17 @@ fn thought<'a>(alloc: Global, hand: Hand<'a>) -> (Hand<'a>, Result<(), AllocErro
     }
 }
 
-// What a worker has in hand after its turn.
+// What a worker has in hand after a turn that moves it.
 fn worked<'a, C: Chains + Drop>(hand: Hand<'a>, core: &mut Core<'a, C>) -> (Hand<'a>, Turn)
+    requires { IsMoved hand }
     ensures works { Works core.old hand.entry result.1 core.new result.0 }
     ensures fits { KeepsFitting core.old hand.entry core.new result.0 }
 {
     match hand {
-        Hand::Nothing => begin(core),
-        Hand::Started(job) => (Hand::Started(job), Turn::Thinks),
-        Hand::Going(row, frame) => (Hand::Going(row, frame), Turn::Thinks),
         Hand::Wishing(row, frame) => open(row, frame, core),
-        Hand::Enqueuing(frame, child) => advance(frame, child, core),
         Hand::Done(row, outcome) => finish(row, outcome, core),
-        Hand::Leaving(leaving) => leave(leaving, core),
+        Hand::Nothing => begin(core),
+        _ => unreachable!(),
     }
 }
 
@@ -208,22 +227,30 @@ fn open<'a, C: Chains + Drop>(
 }
 
 // The turn of a worker whose row's wish is being enqueued.
-fn advance<'a, C: Chains + Drop>(
-    frame: Frame<'a>,
-    child: Child,
-    core: &mut Core<'a, C>,
-) -> (Hand<'a>, Turn)
-    ensures works { Works core.old (hands.Enqueuing frame.entry child) result.1 core.new result.0 }
-    ensures fits { KeepsFitting core.old (hands.Enqueuing frame.entry child) core.new result.0 }
+fn advance<'a, C: Chains + Drop>(hand: &mut Hand<'a>, child: Child, core: &mut Core<'a, C>) -> Turn
+    requires { Enqueues hand.old child }
+    ensures works { Works core.old hand.old result core.new hand.new }
+    ensures fits { KeepsFitting core.old hand.old core.new hand.new }
 {
     match core.advance(&child) {
-        Advanced::Moved(step) => (Hand::Enqueuing(frame, child), Turn::Moved(step)),
-        Advanced::Blocked => (Hand::Enqueuing(frame, child), Turn::Blocked),
-        Advanced::Enqueued => (Hand::Going(child.row, frame), Turn::Moved(Step::Own)),
-        Advanced::Unknown => (
-            Hand::Enqueuing(frame, child),
-            Turn::Refused(Refusal::Unknown),
-        ),
+        Advanced::Moved(step) => Turn::Moved(step),
+        Advanced::Blocked => Turn::Blocked,
+        Advanced::Enqueued => {
+            let enqueued = std::mem::replace(hand, Hand::Nothing);
+            *hand = going_on(enqueued);
+            Turn::Moved(Step::Own)
+        }
+        Advanced::Unknown => Turn::Refused(Refusal::Unknown),
+    }
+}
+
+// A row's frame goes on once its wish is enqueued.
+fn going_on(hand: Hand<'_>) -> Hand<'_>
+    ensures { (f : Framed) (child : Child) → hand.entry ≡ hands.Enqueuing f child → result ≡ hands.Going child.row f }
+{
+    match hand {
+        Hand::Enqueuing(frame, child) => Hand::Going(child.row, frame),
+        other => other,
     }
 }
 
@@ -247,14 +274,22 @@ fn finish<'a, C: Chains + Drop>(
 }
 
 // The turn of a worker whose row releases its cowns.
-fn leave<'a, C: Chains + Drop>(leaving: Leaving, core: &mut Core<'a, C>) -> (Hand<'a>, Turn)
-    ensures works { Works core.old (hands.Leaving leaving) result.1 core.new result.0 }
-    ensures fits { KeepsFitting core.old (hands.Leaving leaving) core.new result.0 }
+fn leave<'a, C: Chains + Drop>(
+    hand: &mut Hand<'a>,
+    leaving: Leaving,
+    core: &mut Core<'a, C>,
+) -> Turn
+    requires { hand.old ≡ hands.Leaving leaving }
+    ensures works { Works core.old hand.old result core.new hand.new }
+    ensures fits { KeepsFitting core.old hand.old core.new hand.new }
 {
     match core.leave(&leaving) {
-        Left::Moved(step) => (Hand::Leaving(leaving), Turn::Moved(step)),
-        Left::Blocked => (Hand::Leaving(leaving), Turn::Blocked),
-        Left::Gone(step) => (Hand::Nothing, Turn::Moved(step)),
-        Left::Unknown => (Hand::Leaving(leaving), Turn::Refused(Refusal::Unknown)),
+        Left::Moved(step) => Turn::Moved(step),
+        Left::Blocked => Turn::Blocked,
+        Left::Gone(step) => {
+            *hand = Hand::Nothing;
+            Turn::Moved(step)
+        }
+        Left::Unknown => Turn::Refused(Refusal::Unknown),
     }
 }

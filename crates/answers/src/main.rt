@@ -3,18 +3,23 @@
 //! A text of the table stands behind a line with its kind, a space and its length in bytes, and before a line feed. A
 //! `program` is read, and a `record` is read and written again. Of the record of a `report` the report is written, with
 //! the greedy plan for P workers, 1 to 64, where the kind is `report P`; of that of an `edit ROW TICKS` the report after
-//! that edit, or why it is refused; and of that of a `sweep` the sweep.
+//! that edit, or why it is refused; and of that of a `sweep` the sweep. The first line of a `drive WORKERS` is a list of choices of so
+//! many workers, a letter for each, `a` for worker 0, and the rest is the program that they drive: where the run stands then is
+//! written as its log, its steps, and the values of its cowns.
 #![tactic(auto)]
 
 ghost use Rattle.std.specs.Prelude.{◌<◌, length, IfOk, IfSome};
 ghost use Rattle.boc_report.specs.Parts.{IsWhole};
 
+use boc_dispatch::{Dispatcher, DriveFault, drive};
 use boc_greedy::{Greedy, greedy};
 use boc_order::profile;
 use boc_reader::read_program;
 use boc_record::{RecordFault, WriteFault, read_record, write_record};
 use boc_report::{profile_text, sweep_text};
 use boc_text::Bytes;
+use boc_types::event::Event;
+use boc_types::limits::MOST_COWNS;
 use boc_types::record::Record;
 use boc_types::rows::Rows;
 use boc_types::workers::Workers;
@@ -31,6 +36,7 @@ enum Kind {
     Report { workers: Option<Workers> },
     Edit { row: u32, ticks: u32 },
     Sweep,
+    Drive { workers: u32 },
 }
 
 /// The kind that some words name.
@@ -59,20 +65,31 @@ fn kind_with_numbers(words: &str) -> Option<Kind> {
             let ticks = ticks.parse().ok()?;
             Some(Kind::Edit { row, ticks })
         }
+        ("drive", workers) => {
+            let workers = workers.parse().ok()?;
+            Some(Kind::Drive { workers })
+        }
         _ => None,
     }
+}
+
+/// The first line of some bytes, and what stands behind it.
+fn first_line(bytes: &[u8]) -> Option<(&[u8], &[u8])>
+    ensures { IfSome result (λ parts. length parts.1.now < length bytes.now) }
+{
+    let end = bytes.iter().position(|byte| *byte == b'\n')?;
+    let (line, behind) = bytes.split_at(end);
+    Some((line, &behind[1..]))
 }
 
 /// The first text of a table with its kind, and what stands behind it.
 fn first_text(table: &[u8]) -> Option<(Kind, &[u8], &[u8])>
     ensures { IfSome result (λ parts. length parts.2.now < length table.now) }
 {
-    let end = table.iter().position(|byte| *byte == b'\n')?;
-    let (line, behind) = table.split_at(end);
+    let (line, behind) = first_line(table)?;
     let (words, len) = std::str::from_utf8(line).ok()?.rsplit_once(' ')?;
     let kind = kind_of(words)?;
     let len: usize = len.parse().ok()?;
-    let behind = &behind[1..];
     if behind.len() <= len {
         return None;
     }
@@ -180,6 +197,87 @@ fn tell_sweep(rt: HostRuntime, threads: &(impl Threads + Sync), text: &[u8]) -> 
     rt.stdout().write_all(&lines)
 }
 
+/// The workers that letters name.
+fn choices_of(alloc: Global, letters: &[u8]) -> Result<Vec<u16>, AllocError> {
+    let mut choices = Vec::with_capacity(alloc, letters.len())?;
+    for letter in letters {
+        choices.push(u16::from(letter.wrapping_sub(b'a')))?;
+    }
+    Ok(choices)
+}
+
+/// Writes numbers behind a line's beginning, each after a space, and ends the line.
+fn tell_numbers(rt: HostRuntime, numbers: &[u32]) -> io::Result<()> {
+    for number in numbers {
+        print!(rt; " {number}")?;
+    }
+    println!(rt; "")
+}
+
+/// Writes the line of an event.
+fn tell_event(rt: HostRuntime, event: &Event) -> io::Result<()> {
+    match event {
+        Event::Spawn {
+            row,
+            parent,
+            offset,
+            cowns,
+        } => {
+            print!(rt; "+ {row} {parent} {offset}")?;
+            tell_numbers(rt, cowns.as_slice())
+        }
+        Event::Start { row } => println!(rt; "> {row}"),
+        Event::End {
+            row,
+            ticks,
+            status,
+            written,
+        } => {
+            let status = *status as u8;
+            print!(rt; "< {row} {ticks} {status}")?;
+            tell_numbers(rt, written.as_slice())
+        }
+    }
+}
+
+/// Writes where a run stands: its log, its steps, and the values of its cowns.
+fn tell_run(rt: HostRuntime, run: &Dispatcher<'_>) -> io::Result<()> {
+    for event in run.log() {
+        tell_event(rt, event)?;
+    }
+    let steps = run.steps();
+    if run.is_quiet() {
+        println!(rt; "steps {steps}, quiet")?;
+    } else {
+        println!(rt; "steps {steps}, not quiet")?;
+    }
+    print!(rt; "values")?;
+    for cown in 0..MOST_COWNS as u32 {
+        if let Some(value) = run.value(cown) {
+            print!(rt; " {value}")?;
+        }
+    }
+    println!(rt; "")
+}
+
+/// Writes where a program's run stands after these choices, or why there is no such run.
+fn tell_drive(rt: HostRuntime, text: &[u8], workers: u32) -> io::Result<()> {
+    let Some((letters, text)) = first_line(text) else {
+        return println!(rt; "no choices");
+    };
+    let program = match read_program(rt.alloc(), text) {
+        Ok(program) => program,
+        Err(fault) => return println!(rt; "{fault}"),
+    };
+    let choices = choices_of(rt.alloc(), letters)?;
+    match drive(rt.alloc(), &program, workers, &choices) {
+        Ok(run) => tell_run(rt, &run),
+        Err(DriveFault::NoSuchWorker { place }) => println!(rt; "NoSuchWorker at {place}"),
+        Err(DriveFault::Behaviours) => println!(rt; "Behaviours"),
+        Err(DriveFault::Memory) => println!(rt; "Memory"),
+    }
+}
+
 fn main(rt: HostRuntime) -> io::Result<()> {
     let mut table = Vec::new(rt.alloc());
     rt.stdin().read_to_end(&mut table)?;
@@ -191,6 +289,7 @@ fn main(rt: HostRuntime) -> io::Result<()> {
             Kind::Report { workers } => tell_report(rt, text, workers)?,
             Kind::Edit { row, ticks } => tell_edit(rt, text, row, ticks)?,
             Kind::Sweep => tell_sweep(rt, &rt, text)?,
+            Kind::Drive { workers } => tell_drive(rt, text, workers)?,
         }
         rest = behind;
     }

@@ -13,3 +13,6 @@ pub use fault::RunFault;
 pub use gate::{Gate, Go, OpenGate};
 pub use made::Made;
 pub use shared::Shared;
+
+#[cfg(test)]
+mod tests;

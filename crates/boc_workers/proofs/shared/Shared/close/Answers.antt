@@ -1,0 +1,17 @@
+use Rattle.std.proofs.Common.{rules}
+use Rattle.std.specs.Prelude.{Ok}
+use Rattle.boc_types.specs.runs.Records.{IsRecordOf}
+use Rattle.boc_dispatch.specs.Calls.{EndsAsRecord}
+use Rattle.boc_workers.proofs.Ended.{ends_as_serial, steps_of_record}
+use Rattle.boc_workers.proofs.shared.Shared.close.Goals as goal
+
+pub returns-in-Ok-clause-ends : goal.returns-in-Ok-clause-ends
+returns-in-Ok-clause-ends g c =
+    let own : IsRecordOf c.args.program.now c.in-Ok.record = search rules in
+    ends_as_serial c.args.program.now c.in-Ok.record own
+
+pub returns-in-Ok-clause-steps : goal.returns-in-Ok-clause-steps
+returns-in-Ok-clause-steps g c =
+    let ends : EndsAsRecord c.args.self.dispatcher (Ok c.in-Ok.record) = c.in-Ok.ensures in
+    let steps = steps_of_record c.args.self.dispatcher c.in-Ok.record c.program.ensures.sound ends in
+    search rules

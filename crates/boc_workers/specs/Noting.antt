@@ -1,0 +1,48 @@
+-- What a turn counts, and which faults are noted.
+use Rattle.std.specs.Prelude.{◌≡◌, ℕ, ◌+◌, Option, Some, None}
+use Rattle.boc_types.specs.declared.limits.TheConstants.{MOST_ROWS}
+use Rattle.boc_types.specs.declared.program.Program.{Program}
+use Rattle.boc_types.specs.machine.Steps.{State, recorded, unrecorded}
+use Rattle.boc_types.specs.machine.Sound.{IsSound}
+use Rattle.boc_dispatch.specs.declared.answers.OpenFault.TheVariants as open_faults
+use Rattle.boc_dispatch.specs.declared.worker.Refusal.{Refusal}
+use Rattle.boc_dispatch.specs.declared.worker.Refusal.TheVariants as refusals
+use Rattle.boc_dispatch.specs.declared.worker.Turn.{Turn}
+use Rattle.boc_dispatch.specs.declared.worker.Turn.TheVariants as turns
+use Rattle.boc_dispatch.specs.Underway.{Underway}
+use Rattle.boc_workers.specs.declared.fault.RunFault.{RunFault}
+use Rattle.boc_workers.specs.declared.fault.RunFault.TheVariants as faults
+
+-- how many steps a turn makes: one where it moved, else none
+abbrev pub steps_made : Turn → ℕ
+steps_made (turns.Moved step) = 1
+steps_made _ = 0
+
+-- the fault of a refusal: the limit on behaviours, want of memory, or a stranger
+abbrev pub fault_of : Refusal → RunFault
+fault_of (refusals.Open open_faults.Behaviours) = faults.Behaviours
+fault_of (refusals.Open open_faults.Memory) = faults.Memory
+fault_of _ = faults.Stranger
+
+-- the fault that is noted after a turn where none was: that of a refusal
+abbrev pub noted_after : Turn → Option RunFault
+noted_after (turns.Refused refusal) = Some (fault_of refusal)
+noted_after _ = None
+
+-- the faults that a worker or its crew may note: memory, a thread that could not be started, and, of a gate that is not
+-- always on, that it stopped a worker
+abbrev pub MayNote : Type 0 → RunFault → Type 0
+MayNote always_on faults.Memory = Unit {0}
+MayNote always_on faults.NoThread = Unit {0}
+MayNote always_on faults.Held = always_on → ⊥
+MayNote always_on _ = ⊥
+
+-- rows and unrecorded enqueues are together as many as rows may be
+abbrev pub IsAtLimit : Underway → Type 0
+IsAtLimit u = recorded u.program u.state + unrecorded u.state ≡ MOST_ROWS
+
+-- a sound state of the program in which rows and unrecorded enqueues are together as many as rows may be
+pub record CanHaveReachedLimit (p : Program) : Type 0 where
+  pub state : State
+  pub sound : IsSound p state
+  pub full : recorded p state + unrecorded state ≡ MOST_ROWS

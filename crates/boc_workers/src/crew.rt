@@ -1,0 +1,237 @@
+// The threads of a run.
+
+ghost use Rattle.std.specs.Prelude.{◌≡◌, ◌≢◌, ◌≤◌, IfOk, IfErr, sum, vec_len};
+ghost use Rattle.boc_types.specs.declared.limits.TheConstants.{MOST_RUNNERS};
+ghost use Rattle.boc_types.specs.runs.Records.{IsRecordOf};
+ghost use Rattle.boc_types.specs.machine.AlongRows.{EndsSerially, cowns_of_rows, steps_of_rows};
+ghost use Rattle.boc_workers.specs.Noting.{CanHaveReachedLimit, MayNote};
+ghost use Rattle.boc_workers.specs.declared.fault.RunFault.TheVariants as faults;
+
+use crate::fault::RunFault;
+use crate::gate::{Gate, Go};
+use crate::made::Made;
+use crate::shared::Shared;
+use boc_dispatch::{Dispatcher, Step, Turn, Worker};
+use boc_types::program::Program;
+use boc_types::record::Record;
+use std::alloc::Global;
+use std::marker::Brand;
+use std::sync::ledger::{Blank, Ledger, Share};
+use std::sync::{Condvar, Mutex, Wait};
+use std::thread;
+use std::thread::{Builder, Scope, Threads};
+
+/// The record of a run, and how many steps each worker made.
+#[derive(Drop)]
+pub struct RunAnswer {
+    pub record: Record,
+    pub made: Vec<u64>,
+}
+
+// The bytes of a worker's stack.
+const STACK: usize = 2 << 20;
+
+/// Runs a program by so many workers, each in a thread of its own. There is no record after a fault. Of several faults the
+/// one that was noted first is answered; but that the program is a stranger comes before it, and that the run is
+/// unfinished after it.
+pub fn run<R: Threads + Wait + Sync, G: Gate>(
+    rt: &R,
+    alloc: Global,
+    program: &Program,
+    workers: u32,
+    gate: &G,
+) -> Result<RunAnswer, RunFault>
+    requires { (1 ≤ workers) × (workers ≤ MOST_RUNNERS) }
+    ensures record { IfOk result (λ a. IsRecordOf program.now a.record) }
+    ensures ends { IfOk result (λ a. EndsSerially program.now a.record.events) }
+    ensures workers { IfOk result (λ a. vec_len a.made ≡ workers) }
+    ensures steps { IfOk result (λ a. sum a.made.items ≡ steps_of_rows (cowns_of_rows a.record.events)) }
+    ensures held { IfErr result (λ e. G.always_on → e ≢ faults.Held) }
+    ensures behaviours { IfErr result (λ e. e ≡ faults.Behaviours → CanHaveReachedLimit program.now) }
+{
+    let blank = Blank::new(u64::from(workers));
+    run_by::<Brand, G, R>(rt, alloc, blank, program, workers, gate, STACK)
+}
+
+// As `run`, for the ledger of this blank, and with stacks of so many bytes.
+pub(crate) fn run_by<L: Ledger + Send + Sync, G: Gate, R: Threads + Wait + Sync>(
+    rt: &R,
+    alloc: Global,
+    blank: Blank,
+    program: &Program,
+    workers: u32,
+    gate: &G,
+    stack: usize,
+) -> Result<RunAnswer, RunFault>
+    requires workers { (1 ≤ workers) × (workers ≤ MOST_RUNNERS) }
+    requires name { blank.name ≡ L.name }
+    requires parts { (blank.parts ≡ L.parts) × (blank.parts ≡ workers) }
+    ensures record { IfOk result (λ a. IsRecordOf program.now a.record) }
+    ensures ends { IfOk result (λ a. EndsSerially program.now a.record.events) }
+    ensures workers { IfOk result (λ a. vec_len a.made ≡ workers) }
+    ensures steps { IfOk result (λ a. sum a.made.items ≡ steps_of_rows (cowns_of_rows a.record.events)) }
+    ensures held { IfErr result (λ e. G.always_on → e ≢ faults.Held) }
+    ensures behaviours { IfErr result (λ e. e ≡ faults.Behaviours → CanHaveReachedLimit program.now) }
+{
+    let (book, rest) = blank.open::<L>();
+    let Ok(dispatcher) = Dispatcher::new(alloc, program) else {
+        return Err(RunFault::Memory);
+    };
+    let hall = Hall {
+        rt,
+        alloc,
+        lock: Mutex::new(Shared::new(dispatcher, book)),
+        changed: Condvar::new(),
+        gate,
+        stack,
+    };
+    let crew = staffed(&hall, rest, workers);
+    let Hall {
+        rt: _,
+        alloc: _,
+        lock,
+        changed: _,
+        gate: _,
+        stack: _,
+    } = hall;
+    lock.into_inner().close(program, crew)
+}
+
+// What the threads of a run share.
+struct Hall<'a, 'g, 'r, L: Ledger, G: Gate, R> {
+    rt: &'r R,
+    alloc: Global,
+    lock: Mutex<Shared<'a, 'g, L, G>>,
+    // Told of each change under the lock.
+    changed: Condvar,
+    gate: &'g G,
+    // The bytes of each thread's stack.
+    stack: usize,
+}
+
+// What the workers made, with the whole ledger, once all of them have ended.
+fn staffed<L: Ledger + Send + Sync, G: Gate, R: Threads + Wait + Sync>(
+    hall: &Hall<'_, '_, '_, L, G, R>,
+    rest: Share<L>,
+    workers: u32,
+) -> Result<(Vec<u64>, Share<L>), RunFault>
+    requires { (rest.parts ≡ workers) × (rest.amount ≡ 0) }
+    ensures ok { IfOk result (λ r. (r.1.parts ≡ workers) × (r.1.amount ≡ sum r.0.items) × (vec_len r.0 ≡ workers)) }
+    ensures err { IfErr result (λ e. (e ≢ faults.Held) × (e ≢ faults.Behaviours)) }
+{
+    thread::scope(
+        thread::scope_env(),
+        hall.rt,
+        move |scope| -> Result<(Vec<u64>, Share<L>), RunFault>
+            requires { (rest.parts ≡ workers) × (rest.amount ≡ 0) }
+            ensures ok { IfOk result (λ r. (r.1.parts ≡ workers) × (r.1.amount ≡ sum r.0.items) × (vec_len r.0 ≡ workers)) }
+            ensures err { IfErr result (λ e. (e ≢ faults.Held) × (e ≢ faults.Behaviours)) }
+        { employ(scope, hall, rest, workers) },
+    )
+}
+
+// Starts the workers, waits for their end, and gives what each of them made, with the whole ledger. Where a thread can't be
+// started, those that were are ended.
+fn employ<'s, E, L: Ledger + Send + Sync, G: Gate, R: Threads + Wait + Sync>(
+    scope: &'s Scope<'s, E>,
+    hall: &'s Hall<'_, '_, '_, L, G, R>,
+    rest: Share<L>,
+    workers: u32,
+) -> Result<(Vec<u64>, Share<L>), RunFault>
+    requires { (rest.parts ≡ workers) × (rest.amount ≡ 0) }
+    ensures ok { IfOk result (λ r. (r.1.parts ≡ workers) × (r.1.amount ≡ sum r.0.items) × (vec_len r.0 ≡ workers)) }
+    ensures err { IfErr result (λ e. (e ≢ faults.Held) × (e ≢ faults.Behaviours)) }
+{
+    let mut rest = rest;
+    let Ok(mut threads) = Vec::with_capacity(hall.alloc, workers as usize) else {
+        return Err(RunFault::Memory);
+    };
+    let Ok(mut made) = Vec::with_capacity(hall.alloc, workers as usize) else {
+        return Err(RunFault::Memory);
+    };
+    for number in 0..workers {
+        let mine = Made::new(rest.split_off(1, 0));
+        let builder = Builder::new().stack_size(hall.stack);
+        let Ok(thread) = builder.spawn_scoped(scope, move || hall.work(number, mine)) else {
+            hall.stop(RunFault::NoThread);
+            break;
+        };
+        let Ok(()) = threads.push(thread) else {
+            unreachable!()
+        };
+    }
+    for thread in threads {
+        let (count, share) = thread.join(hall.rt).into_parts();
+        rest.merge(share);
+        let Ok(()) = made.push(count) else {
+            unreachable!()
+        };
+    }
+    if made.len() < workers as usize {
+        return Err(RunFault::NoThread);
+    }
+    Ok((made, rest))
+}
+
+impl<'a, 'g, 'r, L: Ledger, G: Gate, R: Wait> Hall<'a, 'g, 'r, L, G, R> {
+    // The work of one worker, until the run is quiet or a fault is noted.
+    fn work(&self, number: u32, made: Made<L>) -> Made<L> {
+        let mut made = made;
+        let mut worker = Worker::new(number);
+        for _ in self.rt.forever() {
+            if worker.think(self.alloc).is_err() {
+                self.stop(RunFault::Memory);
+                break;
+            }
+            let served = worker.row();
+            match self.turn(&mut worker, &mut made) {
+                None | Some(Turn::Quiet) => break,
+                Some(Turn::Moved(step)) => {
+                    let row = served.or(worker.row()).unwrap_or(0);
+                    if self.passed(number, row, step) == Go::Stop {
+                        self.stop(RunFault::Held);
+                        break;
+                    }
+                }
+                Some(_) => {}
+            }
+        }
+        made
+    }
+
+    // The next turn of a worker that isn't to wait for others.
+    fn turn(&self, worker: &mut Worker<'a>, made: &mut Made<L>) -> Option<Turn> {
+        let mut shared = self.lock.lock(self.rt);
+        for _ in self.rt.forever() {
+            match shared.turn(worker, made) {
+                Some(Turn::Blocked | Turn::NoneReady) => {
+                    shared = self.changed.wait(self.rt, shared);
+                }
+                turn => {
+                    drop(shared);
+                    self.changed.notify_all();
+                    return turn;
+                }
+            }
+        }
+        None
+    }
+
+    // What the gate says to a worker that made this step.
+    fn passed(&self, worker: u32, row: u32, step: Step) -> Go
+        ensures { G.always_on → result ≡ Go.On }
+    {
+        match self.gate.between_steps(worker, row, step) {
+            Go::On if step == Step::Start => self.gate.at_body(worker, row),
+            go => go,
+        }
+    }
+
+    // Notes a fault, and wakes those that wait.
+    fn stop(&self, fault: RunFault)
+        requires { MayNote G.always_on fault }
+    {
+        self.lock.lock(self.rt).note(fault);
+        self.changed.notify_all();
+    }
+}

@@ -1,0 +1,135 @@
+// What lies under the lock.
+
+ghost use Rattle.std.specs.Prelude.{◌≡◌, ◌≢◌, ◌+◌, IfSome, IfNone, None, Some, IfOk, IfErr, IsOk, IsErrOf, sum, vec_len};
+ghost use Rattle.boc_types.specs.runs.Records.{IsRecordOf};
+ghost use Rattle.boc_types.specs.machine.AlongRows.{EndsSerially, cowns_of_rows, steps_of_rows};
+ghost use Rattle.boc_dispatch.specs.Working.{Works};
+ghost use Rattle.boc_workers.specs.Noting.{CanHaveReachedLimit, IsAtLimit, MayNote, fault_of, noted_after, steps_made};
+ghost use Rattle.boc_workers.specs.declared.fault.RunFault.TheVariants as faults;
+
+use crate::crew::RunAnswer;
+use crate::fault::RunFault;
+use crate::gate::Gate;
+use crate::made::Made;
+use boc_dispatch::{Dispatcher, OpenFault, Refusal, Turn, Worker};
+use boc_types::program::Program;
+use std::marker::PhantomData;
+use std::sync::ledger::{Book, Ledger, Share};
+
+/// A dispatcher, the book of its steps, and the first fault that was noted.
+#[derive(Drop)]
+pub struct Shared<'a, 'g, L: Ledger, G: Gate> {
+    dispatcher: Dispatcher<'a>,
+    book: Book<L>,
+    fault: Option<RunFault>,
+    gate: PhantomData<&'g G>,
+    pub ghost counted: { book.total ≡ dispatcher.state.steps },
+    pub ghost at_limit: { fault ≡ Some faults.Behaviours → IsAtLimit dispatcher },
+    pub ghost not_held: { G.always_on → fault ≢ Some faults.Held },
+}
+
+impl<'a, 'g, L: Ledger, G: Gate> Shared<'a, 'g, L, G> {
+    /// A dispatcher with the book of its steps, and no fault noted.
+    pub fn new(dispatcher: Dispatcher<'a>, book: Book<L>) -> Shared<'a, 'g, L, G>
+        requires { book.total ≡ dispatcher.state.steps }
+        ensures dispatcher { result.dispatcher ≡ dispatcher.entry }
+        ensures fault { result.fault ≡ None }
+    {
+        Shared {
+            dispatcher,
+            book,
+            fault: None,
+            gate: PhantomData,
+        }
+    }
+
+    /// One turn of a worker, unless a fault is noted. Where the call is refused, the fault is noted.
+    pub fn turn(&mut self, worker: &mut Worker<'a>, made: &mut Made<L>) -> Option<Turn>
+        ensures works { IfSome result (λ t. Works self.old.dispatcher worker.old.hand t self.new.dispatcher worker.new.hand) }
+        ensures number { worker.new.number ≡ worker.old.number }
+        ensures counted { IfSome result (λ t. made.new.count ≡ made.old.count + steps_made t) }
+        ensures noted { IfSome result (λ t. (self.old.fault ≡ None) × (self.new.fault ≡ noted_after t)) }
+        ensures none { IfNone result ((self.old.fault ≢ None) × (self.new.dispatcher ≡ self.old.dispatcher) × (self.new.fault ≡ self.old.fault) × (worker.new ≡ worker.old) × (made.new.count ≡ made.old.count)) }
+    {
+        if self.fault.is_some() {
+            return None;
+        }
+        let Shared {
+            dispatcher,
+            book,
+            fault,
+            gate: _,
+        } = self;
+        let _steps = dispatcher.steps();
+        let turn = worker.turn(dispatcher);
+        match turn {
+            Turn::Moved(_) => made.enter(book),
+            Turn::Refused(refusal) => *fault = Some(fault_of_refusal(refusal)),
+            _ => {}
+        }
+        Some(turn)
+    }
+
+    /// Notes a fault, unless one is noted already.
+    pub fn note(&mut self, fault: RunFault)
+        requires { MayNote G.always_on fault }
+        ensures first { self.old.fault ≢ None → self.new.fault ≡ self.old.fault }
+        ensures noted { self.old.fault ≡ None → self.new.fault ≡ Some fault }
+        ensures dispatcher { self.new.dispatcher ≡ self.old.dispatcher }
+        ensures book { self.new.book.total ≡ self.old.book.total }
+    {
+        if self.fault.is_none() {
+            self.fault = Some(fault);
+        }
+    }
+
+    // The answer of a run whose workers have ended, and made so many steps each.
+    pub(crate) fn close(
+        self,
+        program: &Program,
+        crew: Result<(Vec<u64>, Share<L>), RunFault>,
+    ) -> Result<RunAnswer, RunFault>
+        requires ok { IfOk crew (λ r. (r.1.parts ≡ L.parts) × (r.1.amount ≡ sum r.0.items)) }
+        requires err { IfErr crew (λ e. (e ≢ faults.Held) × (e ≢ faults.Behaviours)) }
+        ensures stranger { self.entry.dispatcher.program ≢ program.now → IsErrOf result faults.Stranger }
+        ensures noted { self.entry.dispatcher.program ≡ program.now → IfSome self.entry.fault (λ f. IsErrOf result f) }
+        ensures record { IfOk result (λ a. IsRecordOf program.now a.record) }
+        ensures ends { IfOk result (λ a. EndsSerially program.now a.record.events) }
+        ensures was_ok { IsOk result → IsOk crew }
+        ensures made { IfOk result (λ a. IfOk crew (λ r. a.made ≡ r.0)) }
+        ensures steps { IfOk result (λ a. sum a.made.items ≡ steps_of_rows (cowns_of_rows a.record.events)) }
+        ensures held { IfErr result (λ e. G.always_on → e ≢ faults.Held) }
+        ensures behaviours { IfErr result (λ e. e ≡ faults.Behaviours → CanHaveReachedLimit program.now) }
+    {
+        let Shared {
+            dispatcher,
+            mut book,
+            fault,
+            gate: _,
+        } = self;
+        let is_own = *dispatcher.program() == *program;
+        if !is_own {
+            return Err(RunFault::Stranger);
+        }
+        if let Some(fault) = fault {
+            return Err(fault);
+        }
+        let (made, mut all) = crew?;
+        book.audit(&mut all);
+        match dispatcher.into_record() {
+            Ok(record) => Ok(RunAnswer { record, made }),
+            Err(_) => Err(RunFault::Unfinished),
+        }
+    }
+}
+
+// The fault that is noted for a refusal.
+fn fault_of_refusal(refusal: Refusal) -> RunFault
+    ensures { result ≡ fault_of refusal }
+{
+    match refusal {
+        Refusal::Open(OpenFault::Behaviours) => RunFault::Behaviours,
+        Refusal::Open(OpenFault::Memory) => RunFault::Memory,
+        Refusal::Open(_) | Refusal::Finish(_) | Refusal::Unknown => RunFault::Stranger,
+    }
+}

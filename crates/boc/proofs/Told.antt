@@ -1,16 +1,12 @@
 -- What the parser is told, step by step.
 use Rattle.std.proofs.Common.{◌≡◌, ◌∙◌, ◌||◌, ap, ap₂, false}
+use Rattle.boc.specs.Words.{Told}
 use Rattle.clap.specs.Simple.{app_of_fields}
 use Rattle.clap.specs.Words.{AddsArg, AddsSubcommand, App, Rule, app_of, rule_of, with_rule, with_subcommand}
 use Rattle.clap.specs.declared.builder.arg.Arg.{Arg}
 use Rattle.clap.specs.declared.builder.command.Command.{Command}
 use Rattle.clap.specs.declared.builder.command.Command.TheOpen.{Command-F}
 use Rattle.clap.specs.declared.builder.command.Command.TheViews.{out-Command}
-
--- the command is this, and has no global argument
-pub record Told (command : Command) (app : App) : Type 0 where
-  pub app_is : app_of command ≡ app
-  pub local : (out-Command command).has_globals ≡ false
 
 -- one more argument
 pub told_arg : (old new : Command) (arg : Arg) (app : App) (rule : Rule) → AddsArg old arg new → arg.global ≡ false → rule_of arg ≡ rule → Told old app

@@ -1,11 +1,13 @@
 -- What the words of a command line ask for.
-use Rattle.std.specs.Prelude.{◌≡◌, ◌<◌, ◌≤◌, ◌+◌, ◌^◌, ◌++◌, ◌⊎◌, ◌≢◌, ℕ, List, [], ◌∷◌, Option, Some, None, true, map, fold, unwrap_or, pos, length, codes}
+use Rattle.std.specs.Prelude.{◌≡◌, ◌<◌, ◌≤◌, ◌+◌, ◌^◌, ◌++◌, ◌⊎◌, ◌≢◌, ℕ, List, [], ◌∷◌, Option, Some, None, true, false, map, fold, unwrap_or, pos, length, codes}
 use Rattle.std.specs.List.{All}
 use Rattle.std.specs.Str.Parse.{IsNumeral, digits_value, without_leading_plus}
 use Rattle.clap.specs.Lexer.{usize_max}
 use Rattle.clap.specs.Kinds.{IsAmong}
 use Rattle.clap.specs.Simple.{on_top}
-use Rattle.clap.specs.Words.{App, Row, Rule, all_of, fault_of, kind_of, new_app, new_rule, subcommand_of, with_rule, with_subcommand}
+use Rattle.clap.specs.Words.{App, Row, Rule, app_of, all_of, fault_of, kind_of, new_app, new_rule, subcommand_of, with_rule, with_subcommand}
+use Rattle.clap.specs.declared.builder.command.Command.{Command as Parser}
+use Rattle.clap.specs.declared.builder.command.Command.TheViews.{out-Command}
 use Rattle.clap.specs.declared.error.Error.{Error}
 use Rattle.clap.specs.declared.error.kind.ErrorKind.TheVariants as kinds
 use Rattle.clap.specs.declared.builder.value_parser.ValueParser.TheVariants as parsers
@@ -57,6 +59,11 @@ commands_of_boc = new_app (codes "values") ∷ new_app (codes "check") ∷ profi
 -- `boc` with its commands
 abbrev pub command_line : App
 command_line = fold (λ app command. with_subcommand app command.top) without_commands commands_of_boc
+
+-- what a parser was told so far is this, and no argument of it is one of all commands
+pub record Told (command : Parser) (app : App) : Type 0 where
+  pub app_is : app_of command ≡ app
+  pub local : (out-Command command).has_globals ≡ false
 
 -- ---- what was found for a command
 

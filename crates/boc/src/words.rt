@@ -1,9 +1,9 @@
 // The words of the command line.
 
-ghost use Rattle.boc.specs.Words.{AreEdits, AreTaken, AreWorkers, IsAsked, IsGiven, IsHelp, IsMisnamed, IsNamed, IsOfEditWords, IsOfError, IsOfNoText, IsOfWorkers, IsRefused, command_line, edits_operand, values_at, workers_option};
+ghost use Rattle.boc.specs.Words.{AreEdits, AreTaken, AreWorkers, IsAsked, IsGiven, IsHelp, IsMisnamed, IsNamed, IsOfEditWords, IsOfError, IsOfNoText, IsOfWorkers, IsRefused, Told, command_line, edits_operand, profile_command as profile_as_told, values_at, whatif_command as whatif_as_told, without_commands, workers_option};
 ghost use Rattle.clap.specs.Kinds.{HasKind};
-ghost use Rattle.clap.specs.Words.{app_of, fault_of, found_of, kind_of, rows_of, rule_of, subcommand_of, subcommand_rows_of};
-ghost use Rattle.std.specs.Prelude.{◌≡◌, ◌<◌, ◌≤◌, ℕ, IfErr, IfOk, MatchOption, false, map, string_bytes};
+ghost use Rattle.clap.specs.Words.{app_of, fault_of, found_of, kind_of, new_app, rows_of, rule_of, subcommand_of, subcommand_rows_of};
+ghost use Rattle.std.specs.Prelude.{◌≡◌, ◌<◌, ◌≤◌, ℕ, IfErr, IfOk, MatchOption, codes, false, map, string_bytes};
 
 use crate::edit_word::edit_of;
 use crate::fault::Fault;
@@ -66,39 +66,73 @@ fn error_of_words(alloc: Global, kind: ErrorKind, text: &str) -> Result<clap::Er
     parser.error(kind, text)
 }
 
-/// What the parser accepts.
+// What the parser accepts.
 fn parser<'a>(alloc: Global) -> Result<clap::Command<'a>, AllocError>
     ensures { IfOk result (λ parser. app_of parser ≡ command_line) }
 {
-    let values = clap::Command::new(alloc, "values").about(
-        "Reads a program, runs it serially, and prints the values of its cowns",
-    );
-    let check = clap::Command::new(alloc, "check").about(
-        "Reads the record of a run, checks that it keeps the rules, and prints how many rows it has",
-    );
-    let profile = clap::Command::new(alloc, "profile")
-        .about(
-            "Reads the record of a run, and prints its work, its span, its costliest chain and its earliest plan",
-        )
-        .arg(workers_arg(alloc))?;
-    let whatif = clap::Command::new(alloc, "whatif")
-        .about(
-            "Reads the record of a run, and prints the profile that it would have with other ticks",
-        )
-        .arg(workers_arg(alloc))?
-        .arg(edits_arg(alloc))?;
-    let sweep = clap::Command::new(alloc, "sweep").about(
-        "Reads the record of a run, and prints for each row the span with that row alone at its least ticks",
-    );
+    let profile = profile_command(alloc)?;
+    let whatif = whatif_command(alloc)?;
+    boc_command(alloc)
+        .subcommand(values_command(alloc))?
+        .subcommand(check_command(alloc))?
+        .subcommand(profile)?
+        .subcommand(whatif)?
+        .subcommand(sweep_command(alloc))
+}
+
+// The program, which wants one of its commands.
+fn boc_command<'a>(alloc: Global) -> clap::Command<'a>
+    ensures { Told result without_commands }
+{
     clap::Command::new(alloc, "boc")
         .about("Runs and profiles programs under behaviour-oriented concurrency")
         .subcommand_required(true)
         .arg_required_else_help(true)
-        .subcommand(values)?
-        .subcommand(check)?
-        .subcommand(profile)?
-        .subcommand(whatif)?
-        .subcommand(sweep)
+}
+
+fn values_command<'a>(alloc: Global) -> clap::Command<'a>
+    ensures { Told result (new_app (codes "values")) }
+{
+    clap::Command::new(alloc, "values").about(
+        "Reads a program, runs it serially, and prints the values of its cowns",
+    )
+}
+
+fn check_command<'a>(alloc: Global) -> clap::Command<'a>
+    ensures { Told result (new_app (codes "check")) }
+{
+    clap::Command::new(alloc, "check").about(
+        "Reads the record of a run, checks that it keeps the rules, and prints how many rows it has",
+    )
+}
+
+fn profile_command<'a>(alloc: Global) -> Result<clap::Command<'a>, AllocError>
+    ensures { IfOk result (λ command. Told command profile_as_told) }
+{
+    clap::Command::new(alloc, "profile")
+        .about(
+            "Reads the record of a run, and prints its work, its span, its costliest chain and its earliest plan",
+        )
+        .arg(workers_arg(alloc))
+}
+
+fn whatif_command<'a>(alloc: Global) -> Result<clap::Command<'a>, AllocError>
+    ensures { IfOk result (λ command. Told command whatif_as_told) }
+{
+    clap::Command::new(alloc, "whatif")
+        .about(
+            "Reads the record of a run, and prints the profile that it would have with other ticks",
+        )
+        .arg(workers_arg(alloc))?
+        .arg(edits_arg(alloc))
+}
+
+fn sweep_command<'a>(alloc: Global) -> clap::Command<'a>
+    ensures { Told result (new_app (codes "sweep")) }
+{
+    clap::Command::new(alloc, "sweep").about(
+        "Reads the record of a run, and prints for each row the span with that row alone at its least ticks",
+    )
 }
 
 /// The number of workers for a greedy plan.

@@ -22,8 +22,8 @@ name_of s = s.name.now
 
 abbrev mutual
   pub expr_of : exprs.Expr → the.Expr
-  expr_of (exprs.Plain s) = the.plain (sum_of s)
-  expr_of (exprs.Compared s op t) = the.compared (sum_of s) op (sum_of t)
+  expr_of (exprs.Plain' p s) = the.plain (sum_of s)
+  expr_of (exprs.Compared' p s op q t) = the.compared (sum_of s) op (sum_of t)
 
   pub sum_of : sums.Sum → the.Sum
   sum_of (sums.One t) = the.one_term (term_of t)

@@ -437,8 +437,11 @@ fn expr<'a>(alloc: Global, cursor: &mut Cursor<'_, 'a>) -> Read<Expr<'a>>
 
 // A comparison and what stands behind it, or nothing.
 #[cycle(expr)]
-fn compared<'a>(alloc: Global, cursor: &mut Cursor<'_, 'a>) -> Read<Option<(Comparison, Sum<'a>)>>
-    ensures answers { Parses compared_phrase (option_map (λ w. (w.0, sum_of w.1))) cursor.old result cursor.new }
+fn compared<'a>(
+    alloc: Global,
+    cursor: &mut Cursor<'_, 'a>,
+) -> Read<Option<(Comparison, Box<Sum<'a>>)>>
+    ensures answers { Parses compared_phrase (option_map (λ w. (w.0, sum_of w.1.value))) cursor.old result cursor.new }
     ensures shorter { OnOk result (length cursor.new.tokens ≤ length cursor.old.tokens) }
 {
     match cursor.comparison()? {
@@ -451,15 +454,16 @@ fn compared<'a>(alloc: Global, cursor: &mut Cursor<'_, 'a>) -> Read<Option<(Comp
 }
 
 #[cycle(expr)]
-fn sum<'a>(alloc: Global, cursor: &mut Cursor<'_, 'a>) -> Read<Sum<'a>>
-    ensures answers { Parses sum_phrase sum_of cursor.old result cursor.new }
+fn sum<'a>(alloc: Global, cursor: &mut Cursor<'_, 'a>) -> Read<Box<Sum<'a>>>
+    ensures answers { Parses sum_phrase (λ b. sum_of b.value) cursor.old result cursor.new }
     ensures shorter { OnOk result (length cursor.new.tokens < length cursor.old.tokens) }
 {
     let first = term(alloc, cursor)?;
-    match more_terms(alloc, cursor)? {
-        None => Ok(Sum::One(first)),
-        Some((op, others)) => Ok(Sum::More(first, op, others)),
-    }
+    let sum = match more_terms(alloc, cursor)? {
+        None => Sum::One(first),
+        Some((op, others)) => Sum::More(first, op, others),
+    };
+    Ok(Box::new(alloc, sum)?)
 }
 
 // An operator and the terms behind it, or nothing.
@@ -475,7 +479,7 @@ fn more_terms<'a>(
         None => Ok(None),
         Some(op) => {
             let others = sum(alloc, cursor)?;
-            Ok(Some((op, Box::new(alloc, others)?)))
+            Ok(Some((op, others)))
         }
     }
 }

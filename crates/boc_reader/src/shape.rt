@@ -14,8 +14,8 @@ pub struct Spot<'a> {
 #[cycle(shape)]
 #[derive(Drop)]
 pub enum Expr<'a> {
-    Plain(Sum<'a>),
-    Compared(Sum<'a>, Comparison, Sum<'a>),
+    Plain(Box<Sum<'a>>),
+    Compared(Box<Sum<'a>>, Comparison, Box<Sum<'a>>),
 }
 
 /// Terms with operators between them, the first term first.

@@ -1,11 +1,10 @@
 -- What is resolved so far, in front of what follows.
-use Rattle.std.proofs.Common.{◌≡◌, ℕ, suc, ◌+◌, ◌<◌, List, [], ◌∷◌, ◌++◌, length, map, drop, get_or, Bool, false, Option, Some, None, refl, sym, ap, ◌∙◌, arith, add-one, drop-cons}
+use Rattle.std.proofs.Common.{◌≡◌, ℕ, suc, ◌+◌, ◌<◌, List, [], ◌∷◌, ◌++◌, length, map, drop, get_or, Bool, false, Option, Some, None, refl, sym, ap, ◌∙◌, add-one, drop-cons}
 use Rattle.std.specs.Prelude.{if◌then◌else◌}
 use Rattle.std.specs.Option.{option_map, option_and_then}
 use Rattle.std.proofs.Math.Seq.{append_snoc}
 use Rattle.std.proofs.lemmas.List.{map_push}
 use Rattle.boc_reader.specs.declared.shape.DefShape.{DefShape}
-use Rattle.boc_types.specs.text.Shape.{Def}
 use Rattle.boc_types.specs.text.Names.{Named, Top, PlainBody, among, all_names}
 use Rattle.boc_reader.specs.Views.{def_of}
 use Rattle.boc_reader.specs.Resolving.{def_names, bodies_behind}
@@ -44,3 +43,19 @@ bodies_more made top before after ds i d front all z whole h e fresh found named
     ∙ ap join found
     ∙ ap (λ names. option_map (λ bs. made z ∷ bs) (rest names)) (sym named))
     more
+
+-- where one of several doesn't resolve, they don't
+pub names_none : {X W Y Z : Type 0} (names : X → Option Y) (view : W → X) (made : Z → Y) (ws : List W) (i : ℕ) (w : W) (front : List Z) (whole : Option (List Y)) → i < length ws → w ≡ get_or ws i w → whole ≡ with_front (map made front) (all_names names (map view (drop i ws))) → names (view w) ≡ None → whole ≡ None
+names_none names view made ws i w front whole h e so_far none =
+    let rest = all_names names (map view (drop (i + 1) ws)) in
+    so_far ∙ ap (λ us. with_front (map made front) (all_names names (map view us))) (next_at ws i w h e)
+    ∙ ap (λ o. with_front (map made front) (option_and_then (λ y. option_map (λ ys. y ∷ ys) rest) o)) none
+
+-- where the body of one def doesn't resolve, those of the defs don't
+pub bodies_none : {Z : Type 0} (made : Z → PlainBody) (top : Top) (before : List Named) (ds : List DefShape) (i : ℕ) (d : DefShape) (front : List Z) (whole : Option (List PlainBody)) → i < length ds → d ≡ get_or ds i d → among before (def_of d).name ≡ false → whole ≡ with_front (map made front) (bodies_behind top before (map def_of (drop i ds))) → def_names top (def_of d) ≡ None → whole ≡ None
+bodies_none made top before ds i d front whole h e fresh so_far none =
+    let rest = bodies_behind top (before ++ (def_of d).name ∷ []) (map def_of (drop (i + 1) ds)) in
+    let join : Option PlainBody → Option (List PlainBody) = λ o. option_and_then (λ b. option_map (λ bs. b ∷ bs) rest) o in
+    so_far ∙ ap (λ us. with_front (map made front) (bodies_behind top before (map def_of us))) (next_at ds i d h e)
+    ∙ ap (λ (b : Bool). with_front (map made front) (if b then None else join (def_names top (def_of d)))) fresh
+    ∙ ap (λ o. with_front (map made front) (join o)) none

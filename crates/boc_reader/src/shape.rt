@@ -22,8 +22,8 @@ pub enum Expr<'a> {
 #[cycle(shape)]
 #[derive(Drop)]
 pub enum Sum<'a> {
-    One(Term<'a>),
-    More(Term<'a>, SumOperator, Box<Sum<'a>>),
+    One(Box<Term<'a>>),
+    More(Box<Term<'a>>, SumOperator, Box<Sum<'a>>),
 }
 
 /// Factors with operators between them, the first factor first.

@@ -49,11 +49,11 @@ sum-returns-in_err-more_terms-clause-answers t c =
 
 pub term-returns-in_err-first-clause-answers : goal.term-returns-in_err-first-clause-answers
 term-returns-in_err-first-clause-answers t c =
-    passes term_phrase term_of _ _ _ _ _ c.from_residual.ensures.1 c.in_err-first.ensures.answers (no_first_factor _)
+    passes term_phrase (λ b. term_of b.value) _ _ _ _ _ c.from_residual.ensures.1 c.in_err-first.ensures.answers (no_first_factor _)
 
 pub term-returns-in_err-more_factors-clause-answers : goal.term-returns-in_err-more_factors-clause-answers
 term-returns-in_err-more_factors-clause-answers t c =
-    passes term_phrase term_of _ _ _ _ _ c.from_residual-in_err-more_factors.ensures.1 c.in_err-more_factors.ensures.answers (no_more_factors _ _ _ c.in_ok-first.ensures.answers.0 c.in_ok-first.ensures.answers.1)
+    passes term_phrase (λ b. term_of b.value) _ _ _ _ _ c.from_residual-in_err-more_factors.ensures.1 c.in_err-more_factors.ensures.answers (no_more_factors _ _ _ c.in_ok-first.ensures.answers.0 c.in_ok-first.ensures.answers.1)
 
 pub unary-returns-in_err-minus-clause-answers : goal.unary-returns-in_err-minus-clause-answers
 unary-returns-in_err-minus-clause-answers t c =

@@ -13,6 +13,7 @@ pub mod Declarations
 pub mod Spellings
 pub mod Blocks
 pub mod ResolvingLists
+pub mod ResolvingFront
 pub mod ResolvingScopes
 pub mod ResolvingTop
 pub mod ResolvingKeeps

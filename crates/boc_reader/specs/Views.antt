@@ -22,12 +22,12 @@ name_of s = s.name.now
 
 abbrev mutual
   pub expr_of : exprs.Expr → the.Expr
-  expr_of (exprs.Plain s) = the.plain (sum_of s)
-  expr_of (exprs.Compared s op t) = the.compared (sum_of s) op (sum_of t)
+  expr_of (exprs.Plain' p s) = the.plain (sum_of s)
+  expr_of (exprs.Compared' p s op q t) = the.compared (sum_of s) op (sum_of t)
 
   pub sum_of : sums.Sum → the.Sum
-  sum_of (sums.One t) = the.one_term (term_of t)
-  sum_of (sums.More' t op p s) = the.more_terms (term_of t) op (sum_of s)
+  sum_of (sums.One' p t) = the.one_term (term_of t)
+  sum_of (sums.More' p t op q s) = the.more_terms (term_of t) op (sum_of s)
 
   pub term_of : terms.Term → the.Term
   term_of (terms.One u) = the.one_factor (unary_of u)

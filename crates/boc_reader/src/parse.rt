@@ -1,11 +1,13 @@
 // From tokens to the syntax tree, by recursive descent.
 
-ghost use Rattle.std.specs.Prelude.{◌≡◌, ◌≢◌, ◌<◌, ◌≤◌, length, map, OnOk, MatchResult};
+ghost use Rattle.std.specs.Prelude.{◌≡◌, ◌≢◌, ◌<◌, ◌≤◌, ◌∷◌, drop, length, map, OnOk, MatchResult};
 ghost use Rattle.std.specs.Option.{option_map};
+ghost use Rattle.boc_types.specs.text.Tokens.{keyword};
 ghost use Rattle.boc_types.specs.text.Shape.{HasShape};
+ghost use Rattle.boc_types.specs.declared.token.Keyword.TheVariants.{If, Repeat};
 ghost use Rattle.boc_types.specs.declared.token.Sign.TheVariants.{Semicolon, Close, Comma};
 ghost use Rattle.boc_reader.specs.Phrases.{Parses};
-ghost use Rattle.boc_reader.specs.Grammar.{NoShape, tightness, expr_phrase, compared_phrase, sum_phrase, more_terms_phrase, term_phrase, more_factors_phrase, unary_phrase, atom_phrase, closed_phrase, ref_phrase, name_phrase, list_phrase, written_phrase, let_phrase, arguments_phrase, call_phrase, stmt_phrase, block_phrase, braced_phrase, else_phrase, pair_phrase, if_phrase, repeat_phrase, body_phrase, size_phrase, initial_phrase, cown_phrase, cowns_phrase, signature_phrase, def_phrase, defs_phrase, main_phrase};
+ghost use Rattle.boc_reader.specs.Grammar.{NoKeyword, NoShape, tightness, expr_phrase, compared_phrase, sum_phrase, more_terms_phrase, term_phrase, more_factors_phrase, unary_phrase, atom_phrase, closed_phrase, ref_phrase, name_phrase, list_phrase, written_phrase, let_phrase, arguments_phrase, call_phrase, stmt_phrase, block_phrase, braced_phrase, else_phrase, pair_phrase, body_phrase, size_phrase, initial_phrase, cown_phrase, cowns_phrase, signature_phrase, def_phrase, defs_phrase, main_phrase};
 ghost use Rattle.boc_reader.specs.Placed.{tokens_of, Refusal};
 ghost use Rattle.boc_reader.specs.Views.{name_of, expr_of, sum_of, term_of, unary_of, atom_of, named_cown_of, stmt_of, block_of, cown_of, def_of, tree_of};
 
@@ -224,6 +226,22 @@ fn stmt<'a>(alloc: Global, cursor: &mut Cursor<'_, 'a>) -> Read<Stmt<'a>>
     ensures answers { Parses stmt_phrase stmt_of cursor.old result cursor.new }
     ensures shorter { OnOk result (length cursor.new.tokens < length cursor.old.tokens) }
 {
+    if cursor.is_next(Keyword::If) {
+        return choice(alloc, cursor);
+    }
+    if cursor.is_next(Keyword::Repeat) {
+        return repeated(alloc, cursor);
+    }
+    simple(alloc, cursor)
+}
+
+// A statement with no block.
+fn simple<'a>(alloc: Global, cursor: &mut Cursor<'_, 'a>) -> Read<Stmt<'a>>
+    requires no_if { NoKeyword If cursor.old.tokens }
+    requires no_repeat { NoKeyword Repeat cursor.old.tokens }
+    ensures answers { Parses stmt_phrase stmt_of cursor.old result cursor.new }
+    ensures shorter { OnOk result (length cursor.new.tokens < length cursor.old.tokens) }
+{
     match cursor.peek() {
         Some(Token::Name(_)) => {
             cursor.node()?;
@@ -240,19 +258,6 @@ fn stmt<'a>(alloc: Global, cursor: &mut Cursor<'_, 'a>) -> Read<Stmt<'a>>
             let ticks = closed(alloc, cursor, Sign::Semicolon)?;
             Ok(Stmt::Work(ticks))
         }
-        Some(Token::Keyword(Keyword::If)) => {
-            cursor.begin()?;
-            let (test, (body, other)) = choice(alloc, cursor)?;
-            match other {
-                None => Ok(Stmt::If(test, body)),
-                Some(other) => Ok(Stmt::IfElse(test, body, other)),
-            }
-        }
-        Some(Token::Keyword(Keyword::Repeat)) => {
-            cursor.begin()?;
-            let (turns, body) = repeated(alloc, cursor)?;
-            Ok(Stmt::Repeat(turns, body))
-        }
         Some(Token::Keyword(Keyword::When)) => {
             cursor.begin()?;
             let (def, (args, refs)) = call(alloc, cursor)?;
@@ -262,17 +267,20 @@ fn stmt<'a>(alloc: Global, cursor: &mut Cursor<'_, 'a>) -> Read<Stmt<'a>>
     }
 }
 
-type Choice<'a> = (Expr<'a>, (Vec<Stmt<'a>>, Option<Vec<Stmt<'a>>>));
-
-// What stands behind `if`.
+// An `if`, which is next.
 #[cycle(body)]
-fn choice<'a>(alloc: Global, cursor: &mut Cursor<'_, 'a>) -> Read<Choice<'a>>
-    ensures answers { Parses if_phrase (λ w. (expr_of w.0, (block_of w.1.0.items, option_map (λ b. block_of b.items) w.1.1))) cursor.old result cursor.new }
+fn choice<'a>(alloc: Global, cursor: &mut Cursor<'_, 'a>) -> Read<Stmt<'a>>
+    requires { cursor.old.tokens ≡ keyword If ∷ drop 1 cursor.old.tokens }
+    ensures answers { Parses stmt_phrase stmt_of cursor.old result cursor.new }
     ensures shorter { OnOk result (length cursor.new.tokens < length cursor.old.tokens) }
 {
+    cursor.begin()?;
     let test = expr(alloc, cursor)?;
-    let blocks = blocks(alloc, cursor)?;
-    Ok((test, blocks))
+    let (body, other) = blocks(alloc, cursor)?;
+    match other {
+        None => Ok(Stmt::If(test, body)),
+        Some(other) => Ok(Stmt::IfElse(test, body, other)),
+    }
 }
 
 // A block, and that of an `else`, if one is there.
@@ -293,15 +301,17 @@ fn blocks<'a>(
     Ok((body, Some(other)))
 }
 
-// What stands behind `repeat`.
+// A `repeat`, which is next.
 #[cycle(body)]
-fn repeated<'a>(alloc: Global, cursor: &mut Cursor<'_, 'a>) -> Read<(Expr<'a>, Vec<Stmt<'a>>)>
-    ensures answers { Parses repeat_phrase (λ w. (expr_of w.0, block_of w.1.items)) cursor.old result cursor.new }
+fn repeated<'a>(alloc: Global, cursor: &mut Cursor<'_, 'a>) -> Read<Stmt<'a>>
+    requires { cursor.old.tokens ≡ keyword Repeat ∷ drop 1 cursor.old.tokens }
+    ensures answers { Parses stmt_phrase stmt_of cursor.old result cursor.new }
     ensures shorter { OnOk result (length cursor.new.tokens < length cursor.old.tokens) }
 {
+    cursor.begin()?;
     let turns = expr(alloc, cursor)?;
     let body = braced(alloc, cursor)?;
-    Ok((turns, body))
+    Ok(Stmt::Repeat(turns, body))
 }
 
 // A name, and what is written to it.
@@ -437,8 +447,11 @@ fn expr<'a>(alloc: Global, cursor: &mut Cursor<'_, 'a>) -> Read<Expr<'a>>
 
 // A comparison and what stands behind it, or nothing.
 #[cycle(expr)]
-fn compared<'a>(alloc: Global, cursor: &mut Cursor<'_, 'a>) -> Read<Option<(Comparison, Sum<'a>)>>
-    ensures answers { Parses compared_phrase (option_map (λ w. (w.0, sum_of w.1))) cursor.old result cursor.new }
+fn compared<'a>(
+    alloc: Global,
+    cursor: &mut Cursor<'_, 'a>,
+) -> Read<Option<(Comparison, Box<Sum<'a>>)>>
+    ensures answers { Parses compared_phrase (option_map (λ w. (w.0, sum_of w.1.value))) cursor.old result cursor.new }
     ensures shorter { OnOk result (length cursor.new.tokens ≤ length cursor.old.tokens) }
 {
     match cursor.comparison()? {
@@ -451,15 +464,16 @@ fn compared<'a>(alloc: Global, cursor: &mut Cursor<'_, 'a>) -> Read<Option<(Comp
 }
 
 #[cycle(expr)]
-fn sum<'a>(alloc: Global, cursor: &mut Cursor<'_, 'a>) -> Read<Sum<'a>>
-    ensures answers { Parses sum_phrase sum_of cursor.old result cursor.new }
+fn sum<'a>(alloc: Global, cursor: &mut Cursor<'_, 'a>) -> Read<Box<Sum<'a>>>
+    ensures answers { Parses sum_phrase (λ b. sum_of b.value) cursor.old result cursor.new }
     ensures shorter { OnOk result (length cursor.new.tokens < length cursor.old.tokens) }
 {
     let first = term(alloc, cursor)?;
-    match more_terms(alloc, cursor)? {
-        None => Ok(Sum::One(first)),
-        Some((op, others)) => Ok(Sum::More(first, op, others)),
-    }
+    let sum = match more_terms(alloc, cursor)? {
+        None => Sum::One(first),
+        Some((op, others)) => Sum::More(first, op, others),
+    };
+    Ok(Box::new(alloc, sum)?)
 }
 
 // An operator and the terms behind it, or nothing.
@@ -475,21 +489,22 @@ fn more_terms<'a>(
         None => Ok(None),
         Some(op) => {
             let others = sum(alloc, cursor)?;
-            Ok(Some((op, Box::new(alloc, others)?)))
+            Ok(Some((op, others)))
         }
     }
 }
 
 #[cycle(expr)]
-fn term<'a>(alloc: Global, cursor: &mut Cursor<'_, 'a>) -> Read<Term<'a>>
-    ensures answers { Parses term_phrase term_of cursor.old result cursor.new }
+fn term<'a>(alloc: Global, cursor: &mut Cursor<'_, 'a>) -> Read<Box<Term<'a>>>
+    ensures answers { Parses term_phrase (λ b. term_of b.value) cursor.old result cursor.new }
     ensures shorter { OnOk result (length cursor.new.tokens < length cursor.old.tokens) }
 {
     let first = unary(alloc, cursor)?;
-    match more_factors(alloc, cursor)? {
-        None => Ok(Term::One(first)),
-        Some((op, others)) => Ok(Term::More(first, op, others)),
-    }
+    let term = match more_factors(alloc, cursor)? {
+        None => Term::One(first),
+        Some((op, others)) => Term::More(first, op, others),
+    };
+    Ok(Box::new(alloc, term)?)
 }
 
 // An operator and the factors behind it, or nothing.
@@ -505,7 +520,7 @@ fn more_factors<'a>(
         None => Ok(None),
         Some(op) => {
             let others = term(alloc, cursor)?;
-            Ok(Some((op, Box::new(alloc, others)?)))
+            Ok(Some((op, others)))
         }
     }
 }

@@ -14,16 +14,16 @@ pub struct Spot<'a> {
 #[cycle(shape)]
 #[derive(Drop)]
 pub enum Expr<'a> {
-    Plain(Sum<'a>),
-    Compared(Sum<'a>, Comparison, Sum<'a>),
+    Plain(Box<Sum<'a>>),
+    Compared(Box<Sum<'a>>, Comparison, Box<Sum<'a>>),
 }
 
 /// Terms with operators between them, the first term first.
 #[cycle(shape)]
 #[derive(Drop)]
 pub enum Sum<'a> {
-    One(Term<'a>),
-    More(Term<'a>, SumOperator, Box<Sum<'a>>),
+    One(Box<Term<'a>>),
+    More(Box<Term<'a>>, SumOperator, Box<Sum<'a>>),
 }
 
 /// Factors with operators between them, the first factor first.

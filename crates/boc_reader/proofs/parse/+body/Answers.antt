@@ -1,15 +1,15 @@
-use Rattle.std.proofs.Common.{map, drop, rules, sym, ap, ◌∙◌, subst, arith}
+use Rattle.std.proofs.Common.{map, rules, sym, ap, ◌∙◌, subst, arith}
 use Rattle.std.proofs.lemmas.List.{map_push}
 use Rattle.std.specs.Option.{option_map}
 use Rattle.boc_types.specs.text.Shape.{block_tokens}
 use Rattle.boc_reader.specs.Phrases.{Ahead}
-use Rattle.boc_reader.specs.Grammar.{expr_phrase, stmt_phrase, block_phrase, braced_phrase, else_phrase, pair_phrase, if_phrase, repeat_phrase}
-use Rattle.boc_reader.specs.Views.{expr_of, stmt_of, block_of}
-use Rattle.boc_reader.proofs.Refused.{passes, no_second}
+use Rattle.boc_reader.specs.Grammar.{expr_phrase, stmt_phrase, block_phrase, braced_phrase, else_phrase, pair_phrase}
+use Rattle.boc_reader.specs.Views.{stmt_of, block_of}
+use Rattle.boc_reader.proofs.Refused.{passes, no_first, no_second}
 use Rattle.boc_reader.proofs.Expressions.{one_expr}
 use Rattle.boc_reader.proofs.Each.{ReadEach, read_each_more}
 use Rattle.boc_reader.proofs.Blocks.{block_tokens-list, block_nodes-list, small_block}
-use Rattle.boc_reader.proofs.Statements.{one_braced, brace_ends, no_next_stmt, no_assign, no_let, no_if, no_repeat, no_when, no_other}
+use Rattle.boc_reader.proofs.Statements.{one_braced, brace_ends, no_next_stmt, no_room_for_stmt, no_if, no_repeat, no_other}
 use Rattle.boc_reader.proofs.parse.+body.Goals as goal
 
 pub block-stmts-preserved : goal.block-stmts-preserved
@@ -43,37 +43,32 @@ blocks-returns-in_err-other-clause-answers t c =
     passes (pair_phrase braced_phrase else_phrase) (λ w. (block_of w.0.items, option_map (λ b. block_of b.items) w.1)) _ _ _ _ _ c.from_residual-in_err-other.ensures.1 c.in_err-other.ensures.answers
     (λ none. no_second braced_phrase else_phrase (λ _ _ _ _. tt) one_braced _ c.braced.new.cursor _ c.in_ok-body.ensures.answers.0 c.in_ok-body.ensures.answers.1 (no_other _ c.skip.new.self (search rules) (search rules) none))
 
-pub choice-returns-in_err-blocks-clause-answers : goal.choice-returns-in_err-blocks-clause-answers
-choice-returns-in_err-blocks-clause-answers t c =
-    passes if_phrase (λ w. (expr_of w.0, (block_of w.1.0.items, option_map (λ b. block_of b.items) w.1.1))) _ _ _ _ _ c.from_residual-in_err-blocks.ensures.1 c.in_err-blocks.ensures.answers
-    (no_second expr_phrase (pair_phrase braced_phrase else_phrase) (λ x p r _. brace_ends x p.0 _) one_expr _ _ _ c.in_ok-test.ensures.answers.0 c.in_ok-test.ensures.answers.1)
+pub choice-returns-in_err-begin-clause-answers : goal.choice-returns-in_err-begin-clause-answers
+choice-returns-in_err-begin-clause-answers t c =
+    passes stmt_phrase stmt_of _ _ _ _ _ c.from_residual.ensures.1 c.in_err-begin.ensures (no_room_for_stmt _)
+
+pub choice-returns-in_err-test-clause-answers : goal.choice-returns-in_err-test-clause-answers
+choice-returns-in_err-test-clause-answers t c =
+    passes stmt_phrase stmt_of _ _ _ _ _ c.from_residual-in_err-test.ensures.1 c.in_err-test.ensures.answers
+    (λ none. no_if _ c.begin.new.self (search rules) (search rules) (no_first expr_phrase (pair_phrase braced_phrase else_phrase) (λ x p r _. brace_ends x p.0 _) _ none))
+
+pub choice-returns-in_err-body-clause-answers : goal.choice-returns-in_err-body-clause-answers
+choice-returns-in_err-body-clause-answers t c =
+    passes stmt_phrase stmt_of _ _ _ _ _ c.from_residual-in_err-body.ensures.1 c.in_err-body.ensures.answers
+    (λ none. no_if _ c.begin.new.self (search rules) (search rules)
+    (no_second expr_phrase (pair_phrase braced_phrase else_phrase) (λ x p r _. brace_ends x p.0 _) one_expr _ _ _ c.in_ok-test.ensures.answers.0 c.in_ok-test.ensures.answers.1 none))
+
+pub repeated-returns-in_err-begin-clause-answers : goal.repeated-returns-in_err-begin-clause-answers
+repeated-returns-in_err-begin-clause-answers t c =
+    passes stmt_phrase stmt_of _ _ _ _ _ c.from_residual.ensures.1 c.in_err-begin.ensures (no_room_for_stmt _)
+
+pub repeated-returns-in_err-turns-clause-answers : goal.repeated-returns-in_err-turns-clause-answers
+repeated-returns-in_err-turns-clause-answers t c =
+    passes stmt_phrase stmt_of _ _ _ _ _ c.from_residual-in_err-turns.ensures.1 c.in_err-turns.ensures.answers
+    (λ none. no_repeat _ c.begin.new.self (search rules) (search rules) (no_first expr_phrase braced_phrase (λ x b r _. brace_ends x b r) _ none))
 
 pub repeated-returns-in_err-body-clause-answers : goal.repeated-returns-in_err-body-clause-answers
 repeated-returns-in_err-body-clause-answers t c =
-    passes repeat_phrase (λ w. (expr_of w.0, block_of w.1.items)) _ _ _ _ _ c.from_residual-in_err-body.ensures.1 c.in_err-body.ensures.answers
-    (no_second expr_phrase braced_phrase (λ x b r _. brace_ends x b r) one_expr _ _ _ c.in_ok-turns.ensures.answers.0 c.in_ok-turns.ensures.answers.1)
-
-pub stmt-returns-in_err-name-in-Some-Name-clause-answers : goal.stmt-returns-in_err-name-in-Some-Name-clause-answers
-stmt-returns-in_err-name-in-Some-Name-clause-answers t c =
-    passes stmt_phrase stmt_of _ _ _ _ _ c.from_residual-in_err-name-in-Some-Name.ensures.1 c.in_err-name-in-Some-Name.ensures.answers
-    (no_assign _ c.node.new.self (search rules) c.in-Some-Name.field-0-0.now (drop 1 c.args.cursor.now.tokens) (rw c.in-Some-Name.field-0-is at c.in-Some-Name.ensures) (search rules))
-
-pub stmt-returns-in_err-name-in-Some-Keyword-Let-clause-answers : goal.stmt-returns-in_err-name-in-Some-Keyword-Let-clause-answers
-stmt-returns-in_err-name-in-Some-Keyword-Let-clause-answers t c =
-    passes stmt_phrase stmt_of _ _ _ _ _ c.from_residual-in_err-name-in-Some-Keyword-Let.ensures.1 c.in_err-name-in-Some-Keyword-Let.ensures.answers
-    (no_let _ c.begin.new.self (search rules) (search rules))
-
-pub stmt-returns-in_err-test-in-Some-Keyword-If-clause-answers : goal.stmt-returns-in_err-test-in-Some-Keyword-If-clause-answers
-stmt-returns-in_err-test-in-Some-Keyword-If-clause-answers t c =
-    passes stmt_phrase stmt_of _ _ _ _ _ c.from_residual-in_err-test-in-Some-Keyword-If.ensures.1 c.in_err-test-in-Some-Keyword-If.ensures.answers
-    (no_if _ c.begin-in-Some-Keyword-If.new.self (search rules) (search rules))
-
-pub stmt-returns-in_err-turns-in-Some-Keyword-Repeat-clause-answers : goal.stmt-returns-in_err-turns-in-Some-Keyword-Repeat-clause-answers
-stmt-returns-in_err-turns-in-Some-Keyword-Repeat-clause-answers t c =
-    passes stmt_phrase stmt_of _ _ _ _ _ c.from_residual-in_err-turns-in-Some-Keyword-Repeat.ensures.1 c.in_err-turns-in-Some-Keyword-Repeat.ensures.answers
-    (no_repeat _ c.begin-in-Some-Keyword-Repeat.new.self (search rules) (search rules))
-
-pub stmt-returns-in_err-def-in-Some-Keyword-When-clause-answers : goal.stmt-returns-in_err-def-in-Some-Keyword-When-clause-answers
-stmt-returns-in_err-def-in-Some-Keyword-When-clause-answers t c =
-    passes stmt_phrase stmt_of _ _ _ _ _ c.from_residual-in_err-def-in-Some-Keyword-When.ensures.1 c.in_err-def-in-Some-Keyword-When.ensures.answers
-    (no_when _ c.begin-in-Some-Keyword-When.new.self (search rules) (search rules))
+    passes stmt_phrase stmt_of _ _ _ _ _ c.from_residual-in_err-body.ensures.1 c.in_err-body.ensures.answers
+    (λ none. no_repeat _ c.begin.new.self (search rules) (search rules)
+    (no_second expr_phrase braced_phrase (λ x b r _. brace_ends x b r) one_expr _ _ _ c.in_ok-turns.ensures.answers.0 c.in_ok-turns.ensures.answers.1 none))

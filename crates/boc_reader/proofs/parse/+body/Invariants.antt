@@ -5,10 +5,10 @@ use Rattle.boc_reader.proofs.Each.{ReadEach}
 use Rattle.boc_reader.proofs.parse.+body.Given as goal
 
 abbrev pub decreases-stmt : goal.decreases-stmt
-decreases-stmt l = 4 * length l.cursor.now.tokens
+decreases-stmt l = 4 * length l.cursor.now.tokens + 1
 
 abbrev pub decreases-block : goal.decreases-block
-decreases-block l = 4 * length l.cursor.now.tokens + 1
+decreases-block l = 4 * length l.cursor.now.tokens + 2
 
 abbrev pub decreases-braced : goal.decreases-braced
 decreases-braced l = 4 * length l.cursor.now.tokens + 1
@@ -17,10 +17,10 @@ abbrev pub decreases-blocks : goal.decreases-blocks
 decreases-blocks l = 4 * length l.cursor.now.tokens + 2
 
 abbrev pub decreases-choice : goal.decreases-choice
-decreases-choice l = 4 * length l.cursor.now.tokens + 1
+decreases-choice l = 4 * length l.cursor.now.tokens
 
 abbrev pub decreases-repeated : goal.decreases-repeated
-decreases-repeated l = 4 * length l.cursor.now.tokens + 1
+decreases-repeated l = 4 * length l.cursor.now.tokens
 
 abbrev pub invariant-block-stmts : goal.invariant-block-stmts
 invariant-block-stmts l = ReadEach stmt_phrase l.fn.cursor l.cursor (map stmt_of l.all.items)

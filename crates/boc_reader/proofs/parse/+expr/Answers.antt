@@ -41,19 +41,19 @@ expr-returns-in_err-compared-clause-answers t c =
 
 pub sum-returns-in_err-first-clause-answers : goal.sum-returns-in_err-first-clause-answers
 sum-returns-in_err-first-clause-answers t c =
-    passes sum_phrase sum_of _ _ _ _ _ c.from_residual.ensures.1 c.in_err-first.ensures.answers (no_first_term _)
+    passes sum_phrase (λ b. sum_of b.value) _ _ _ _ _ c.from_residual.ensures.1 c.in_err-first.ensures.answers (no_first_term _)
 
 pub sum-returns-in_err-more_terms-clause-answers : goal.sum-returns-in_err-more_terms-clause-answers
 sum-returns-in_err-more_terms-clause-answers t c =
-    passes sum_phrase sum_of _ _ _ _ _ c.from_residual-in_err-more_terms.ensures.1 c.in_err-more_terms.ensures.answers (no_more_terms _ _ _ c.in_ok-first.ensures.answers.0 c.in_ok-first.ensures.answers.1)
+    passes sum_phrase (λ b. sum_of b.value) _ _ _ _ _ c.from_residual-in_err-more_terms.ensures.1 c.in_err-more_terms.ensures.answers (no_more_terms _ _ _ c.in_ok-first.ensures.answers.0 c.in_ok-first.ensures.answers.1)
 
 pub term-returns-in_err-first-clause-answers : goal.term-returns-in_err-first-clause-answers
 term-returns-in_err-first-clause-answers t c =
-    passes term_phrase term_of _ _ _ _ _ c.from_residual.ensures.1 c.in_err-first.ensures.answers (no_first_factor _)
+    passes term_phrase (λ b. term_of b.value) _ _ _ _ _ c.from_residual.ensures.1 c.in_err-first.ensures.answers (no_first_factor _)
 
 pub term-returns-in_err-more_factors-clause-answers : goal.term-returns-in_err-more_factors-clause-answers
 term-returns-in_err-more_factors-clause-answers t c =
-    passes term_phrase term_of _ _ _ _ _ c.from_residual-in_err-more_factors.ensures.1 c.in_err-more_factors.ensures.answers (no_more_factors _ _ _ c.in_ok-first.ensures.answers.0 c.in_ok-first.ensures.answers.1)
+    passes term_phrase (λ b. term_of b.value) _ _ _ _ _ c.from_residual-in_err-more_factors.ensures.1 c.in_err-more_factors.ensures.answers (no_more_factors _ _ _ c.in_ok-first.ensures.answers.0 c.in_ok-first.ensures.answers.1)
 
 pub unary-returns-in_err-minus-clause-answers : goal.unary-returns-in_err-minus-clause-answers
 unary-returns-in_err-minus-clause-answers t c =

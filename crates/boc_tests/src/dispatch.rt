@@ -177,45 +177,79 @@ fn refused<'a>(
     }
 }
 
+// A dispatcher that has handed main out, and main.
+fn with_main<'a>(alloc: Global, program: &'a Program) -> Result<(Dispatcher<'a>, Job<'a>), Fail> {
+    let mut core = Dispatcher::new(alloc, program)?;
+    match core.start() {
+        Started::Job(job) => Ok((core, job)),
+        Started::NoneReady | Started::Quiet => Err("main is ready".into()),
+    }
+}
+
+// A frame of a behaviour that has come to so many wishes.
+fn frame_after<'a>(alloc: Global, job: &Job<'a>, wishes: u32) -> Result<Frame<'a>, Fail> {
+    let mut frame = frame_of(alloc, job)?;
+    for _ in 0..wishes {
+        let _ = frame.run();
+    }
+    Ok(frame)
+}
+
 #[test]
-fn strangers(rt: HostRuntime) -> Result<(), Fail> {
+fn outcomes_of_strangers_end_nothing(rt: HostRuntime) -> Result<(), Fail> {
     let alloc = rt.alloc();
     let program = transfer(alloc)?;
-    let mut core = Dispatcher::new(alloc, &program)?;
-    let Started::Job(job) = core.start() else {
-        return Err("main is ready".into());
-    };
-    let ended = outcome(alloc, &program, 0, &[], &[])?;
-    assert_eq!(rt;
-        refused(&mut core, 1, ended),
-        Some((FinishFault::Stranger, 4))
-    );
+    let (mut core, _) = with_main(alloc, &program)?;
     let held = [Input { cown: 0, value: 10 }];
-    let other = outcome(alloc, &program, 1, &[5], &held)?;
-    assert_eq!(rt;
-        refused(&mut core, 0, other),
-        Some((FinishFault::Stranger, 2))
-    );
-    let ended = outcome(alloc, &program, 0, &[], &[])?;
-    assert_eq!(rt; refused(&mut core, 0, ended), Some((FinishFault::Busy, 4)));
-    let mut frame = frame_of(alloc, &job)?;
-    assert!(rt; matches!(core.open(&frame, 0), Err(OpenFault::OutOfTurn)));
-    let mut ahead = frame_of(alloc, &job)?;
-    let _ = ahead.run();
-    let _ = ahead.run();
-    assert!(rt; matches!(core.open(&ahead, 0), Err(OpenFault::OutOfTurn)));
-    let _ = frame.run();
-    assert!(rt; matches!(core.open(&frame, 1), Err(OpenFault::Stranger)));
+    let cases: [(u32, usize, &[i64], &[Input], FinishFault, u32); 3] = [
+        (1, 0, &[], &[], FinishFault::Stranger, 4),
+        (0, 1, &[5], &held, FinishFault::Stranger, 2),
+        (0, 0, &[], &[], FinishFault::Busy, 4),
+    ];
+    for (row, kind, args, inputs, fault, ticks) in cases {
+        let outcome = outcome(alloc, &program, kind, args, inputs)?;
+        assert_eq!(rt; refused(&mut core, row, outcome), Some((fault, ticks)));
+    }
     assert_eq!(rt; (core.steps(), core.log().len()), (1, 2));
+    Ok(())
+}
+
+#[test]
+fn frames_of_strangers_open_nothing(rt: HostRuntime) -> Result<(), Fail> {
+    let alloc = rt.alloc();
+    let program = transfer(alloc)?;
+    let (mut core, job) = with_main(alloc, &program)?;
+    for (wishes, row, fault) in [
+        (0, 0, OpenFault::OutOfTurn),
+        (2, 0, OpenFault::OutOfTurn),
+        (1, 1, OpenFault::Stranger),
+    ] {
+        let frame = frame_after(alloc, &job, wishes)?;
+        assert_eq!(rt; core.open(&frame, row), Err(fault));
+    }
+    assert_eq!(rt; (core.steps(), core.log().len()), (1, 2));
+    Ok(())
+}
+
+#[test]
+fn spent_token_is_unknown(rt: HostRuntime) -> Result<(), Fail> {
+    let alloc = rt.alloc();
+    let program = transfer(alloc)?;
+    let (mut core, job) = with_main(alloc, &program)?;
+    let frame = frame_after(alloc, &job, 1)?;
     let Ok(child) = core.open(&frame, 0) else {
         return Err("the first wish is opened".into());
     };
-    assert!(rt; matches!(core.open(&frame, 0), Err(OpenFault::OutOfTurn)));
-    for step in [Step::Swap(0), Step::Settle(0), Step::Flag(0)] {
-        assert_eq!(rt; core.advance(&child), Advanced::Moved(step));
+    assert_eq!(rt; core.open(&frame, 0), Err(OpenFault::OutOfTurn));
+    for wanted in [
+        Advanced::Moved(Step::Swap(0)),
+        Advanced::Moved(Step::Settle(0)),
+        Advanced::Moved(Step::Flag(0)),
+        Advanced::Enqueued,
+        Advanced::Unknown,
+    ] {
+        assert_eq!(rt; core.advance(&child), wanted);
     }
-    assert_eq!(rt; core.advance(&child), Advanced::Enqueued);
-    assert_eq!(rt; core.advance(&child), Advanced::Unknown);
     assert_eq!(rt; (core.steps(), core.log().len()), (6, 3));
     assert_eq!(rt; (core.value(0), core.value(1)), (Some(10), Some(0)));
     Ok(())

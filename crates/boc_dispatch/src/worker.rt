@@ -130,12 +130,7 @@ impl<'a> Worker<'a> {
         ensures number { self.new.number ≡ self.old.number }
     {
         match &self.hand {
-            Hand::Started(_) | Hand::Going(..) => {
-                let hand = std::mem::replace(&mut self.hand, Hand::Nothing);
-                let (thought, result) = thought(alloc, hand);
-                self.hand = thought;
-                result
-            }
+            Hand::Started(_) | Hand::Going(..) => think_on(alloc, &mut self.hand),
             _ => Ok(()),
         }
     }
@@ -147,7 +142,7 @@ impl<'a> Worker<'a> {
         ensures fits { KeepsFitting core.old self.old.hand core.new self.new.hand }
         ensures number { self.new.number ≡ self.old.number }
     {
-        // A frame is large, so most steps leave it where it stands.
+        // A frame is large, so most steps leave it where it stands, and have no room for another.
         match &self.hand {
             Hand::Started(_) | Hand::Going(..) => Turn::Thinks,
             Hand::Enqueuing(_, child) => {
@@ -158,14 +153,19 @@ impl<'a> Worker<'a> {
                 let leaving = *leaving;
                 leave(&mut self.hand, leaving, core)
             }
-            Hand::Nothing | Hand::Wishing(..) | Hand::Done(..) => {
-                let hand = std::mem::replace(&mut self.hand, Hand::Nothing);
-                let (next, turn) = worked(hand, core);
-                self.hand = next;
-                turn
-            }
+            Hand::Nothing | Hand::Wishing(..) | Hand::Done(..) => work(&mut self.hand, core),
         }
     }
+}
+
+// A worker thinks.
+fn think_on<'a>(alloc: Global, hand: &mut Hand<'a>) -> Result<(), AllocError>
+    ensures { HasThought hand.old result hand.new }
+{
+    let before = std::mem::replace(hand, Hand::Nothing);
+    let (after, result) = thought(alloc, before);
+    *hand = after;
+    result
 }
 
 // What a worker has in hand once it has thought.
@@ -180,6 +180,18 @@ fn thought<'a>(alloc: Global, hand: Hand<'a>) -> (Hand<'a>, Result<(), AllocErro
         Hand::Going(row, frame) => (gone_on(row, frame), Ok(())),
         other => (other, Ok(())),
     }
+}
+
+// The turn of a worker that moves what it has in hand.
+fn work<'a, C: Chains + Drop>(hand: &mut Hand<'a>, core: &mut Core<'a, C>) -> Turn
+    requires { IsMoved hand.old }
+    ensures works { Works core.old hand.old result core.new hand.new }
+    ensures fits { KeepsFitting core.old hand.old core.new hand.new }
+{
+    let before = std::mem::replace(hand, Hand::Nothing);
+    let (after, turn) = worked(before, core);
+    *hand = after;
+    turn
 }
 
 // What a worker has in hand after a turn that moves it.
@@ -236,8 +248,7 @@ fn advance<'a, C: Chains + Drop>(hand: &mut Hand<'a>, child: Child, core: &mut C
         Advanced::Moved(step) => Turn::Moved(step),
         Advanced::Blocked => Turn::Blocked,
         Advanced::Enqueued => {
-            let enqueued = std::mem::replace(hand, Hand::Nothing);
-            *hand = going_on(enqueued);
+            go_on(hand);
             Turn::Moved(Step::Own)
         }
         Advanced::Unknown => Turn::Refused(Refusal::Unknown),
@@ -245,13 +256,13 @@ fn advance<'a, C: Chains + Drop>(hand: &mut Hand<'a>, child: Child, core: &mut C
 }
 
 // A row's frame goes on once its wish is enqueued.
-fn going_on(hand: Hand<'_>) -> Hand<'_>
-    ensures { (f : Framed) (child : Child) → hand.entry ≡ hands.Enqueuing f child → result ≡ hands.Going child.row f }
+fn go_on(hand: &mut Hand<'_>)
+    ensures { (f : Framed) (child : Child) → hand.old ≡ hands.Enqueuing f child → hand.new ≡ hands.Going child.row f }
 {
-    match hand {
+    *hand = match std::mem::replace(hand, Hand::Nothing) {
         Hand::Enqueuing(frame, child) => Hand::Going(child.row, frame),
         other => other,
-    }
+    };
 }
 
 // The turn of a worker whose row's body has ended.

@@ -25,7 +25,7 @@ returns-in-Blocked-clause-works g c =
 pub returns-in-Enqueued-clause-works : goal.returns-in-Enqueued-clause-works
 returns-in-Enqueued-clause-works g c =
     let f = c.requires.0 in
-    let goes = c.going_on.ensures f c.args.child (c.replace-enqueued.ensures.value ∙ c.requires.1) in
+    let goes = c.go_on.ensures f c.args.child c.requires.1 in
     subst (λ (k : Hand). Works c.args.core.now c.args.hand.now (turns.Moved Own) c.advance.new.self k) (sym goes)
     (works_from c.args.core.now c.advance.new.self (turns.Moved Own) c.args.hand.now (hands.Enqueuing f c.args.child) (hands.Going c.args.child.row f) c.requires.1
     (owns c.args.core.now c.advance.new.self f c.args.child c.in-Enqueued.ensures))
@@ -45,7 +45,7 @@ returns-in-Unknown-clause-fits g c sound fits = stays_fits c.args.core.now c.adv
 pub returns-in-Enqueued-clause-fits : goal.returns-in-Enqueued-clause-fits
 returns-in-Enqueued-clause-fits g c =
     let f = c.requires.0 in
-    let goes = c.going_on.ensures f c.args.child (c.replace-enqueued.ensures.value ∙ c.requires.1) in
+    let goes = c.go_on.ensures f c.args.child c.requires.1 in
     subst (λ (k : Hand). KeepsFitting c.args.core.now c.args.hand.now c.advance.new.self k) (sym goes)
     (fits_from c.args.core.now c.advance.new.self c.args.hand.now (hands.Enqueuing f c.args.child) (hands.Going c.args.child.row f) c.requires.1
     (λ sound fits. owns_fits c.args.core.now c.advance.new.self f c.args.child sound fits c.in-Enqueued.ensures))

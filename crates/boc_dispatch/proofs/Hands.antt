@@ -15,6 +15,7 @@ use Rattle.boc_types.specs.machine.Sound.{IsSound}
 use Rattle.boc_eval.specs.Frames.{UnderWay as Framed, Ran, wishes_of}
 use Rattle.boc_eval.specs.Stops.{WishComes}
 use Rattle.boc_dispatch.specs.declared.worker.Hand.{Hand}
+use Rattle.boc_dispatch.specs.declared.worker.Due.TheVariants as dues
 use Rattle.boc_dispatch.specs.declared.worker.Hand.TheVariants as hands
 use Rattle.boc_dispatch.specs.Underway.{Underway}
 use Rattle.boc_dispatch.specs.Calls.{in_state, IsHandedOut, HasSpawnedAll, IsLeaving}
@@ -93,9 +94,9 @@ module _ (u : Underway) (t : State) (row : ℕ) (same : SameFor u.program row u.
 pub hand_on : (u : Underway) (t : State) (h : Hand) → ((row : ℕ) → row_in h ≡ Some row → SameFor u.program row u.state t) → HandFits u h → HandFits (in_state u t) h
 hand_on u t hands.Nothing same fits = fits
 hand_on u t (hands.Started job) same fits = frame_on u t job.row (same job.row refl) (frame_of job) fits
-hand_on u t (hands.Going row f) same fits = frame_on u t row (same row refl) f fits
-hand_on u t (hands.Wishing row f) same fits = wishing_on u t row (same row refl) f fits
-hand_on u t (hands.Enqueuing f child) same fits = enqueuing_on u t child.row (same child.row refl) f child.number fits
+hand_on u t (hands.Framed row f dues.Going) same fits = frame_on u t row (same row refl) f fits
+hand_on u t (hands.Framed row f dues.Wishing) same fits = wishing_on u t row (same row refl) f fits
+hand_on u t (hands.Framed row f (dues.Enqueuing child)) same fits = enqueuing_on u t child.row (same child.row refl) f child.number fits
 hand_on u t (hands.Done row o) same fits = outcome_on u t row (same row refl) o fits
 hand_on u t (hands.Leaving l) same fits = releases_on u t l.row (same l.row refl) fits
 
@@ -159,27 +160,27 @@ body_ended u row f o h e = record {
 }
 
 gone_on_fits : (u : Underway) (row : ℕ) (f : Framed) (k : Hand) → IsFrameOf u row f → HasGoneOn row f k → HandFits u k
-gone_on_fits u row f (hands.Wishing own g) h t = subst (λ r. IsWishing u r g) (sym t.0) (wish_came u row f g t.1.0 h t.1.1)
+gone_on_fits u row f (hands.Framed own g dues.Wishing) h t = subst (λ r. IsWishing u r g) (sym t.0) (wish_came u row f g t.1.0 h t.1.1)
 gone_on_fits u row f (hands.Done own o) h t = subst (λ r. IsOutcomeOf u r o) (sym t.0) (body_ended u row f o h t.1)
 gone_on_fits u row f hands.Nothing h t = absurd t
 gone_on_fits u row f (hands.Started job) h t = absurd t
-gone_on_fits u row f (hands.Going own g) h t = absurd t
-gone_on_fits u row f (hands.Enqueuing g child) h t = absurd t
+gone_on_fits u row f (hands.Framed own g dues.Going) h t = absurd t
+gone_on_fits u row f (hands.Framed served g (dues.Enqueuing child)) h t = absurd t
 gone_on_fits u row f (hands.Leaving l) h t = absurd t
 
 pub thought_fits : (u : Underway) (h k : Hand) (r : Result (Unit {0}) AllocError) → HandFits u h → HasThought h r k → HandFits u k
 thought_fits u (hands.Started job) k (Ok x) fits t = gone_on_fits u job.row (frame_of job) k fits t
-thought_fits u (hands.Going row f) k (Ok x) fits t = gone_on_fits u row f k fits t
+thought_fits u (hands.Framed row f dues.Going) k (Ok x) fits t = gone_on_fits u row f k fits t
 thought_fits u hands.Nothing k (Ok x) fits t = subst (HandFits u) (sym t) fits
-thought_fits u (hands.Wishing row f) k (Ok x) fits t = subst (HandFits u) (sym t) fits
-thought_fits u (hands.Enqueuing f child) k (Ok x) fits t = subst (HandFits u) (sym t) fits
+thought_fits u (hands.Framed row f dues.Wishing) k (Ok x) fits t = subst (HandFits u) (sym t) fits
+thought_fits u (hands.Framed row f (dues.Enqueuing child)) k (Ok x) fits t = subst (HandFits u) (sym t) fits
 thought_fits u (hands.Done row o) k (Ok x) fits t = subst (HandFits u) (sym t) fits
 thought_fits u (hands.Leaving l) k (Ok x) fits t = subst (HandFits u) (sym t) fits
 thought_fits u (hands.Started job) k (Err x) fits t = subst (HandFits u) (sym t) fits
-thought_fits u (hands.Going row f) k (Err x) fits t = absurd t
+thought_fits u (hands.Framed row f dues.Going) k (Err x) fits t = absurd t
 thought_fits u hands.Nothing k (Err x) fits t = absurd t
-thought_fits u (hands.Wishing row f) k (Err x) fits t = absurd t
-thought_fits u (hands.Enqueuing f child) k (Err x) fits t = absurd t
+thought_fits u (hands.Framed row f dues.Wishing) k (Err x) fits t = absurd t
+thought_fits u (hands.Framed row f (dues.Enqueuing child)) k (Err x) fits t = absurd t
 thought_fits u (hands.Done row o) k (Err x) fits t = absurd t
 thought_fits u (hands.Leaving l) k (Err x) fits t = absurd t
 
@@ -205,9 +206,9 @@ leaving_lives u own row sound e l =
 pub served_lives : (u : Underway) (h : Hand) (row : ℕ) → IsSound u.program u.state → HandFits u h → row_in h ≡ Some row → IsUnderWay u row
 served_lives u hands.Nothing row sound fits e = absurd (let f : None ≡ Some row = e in cc)
 served_lives u (hands.Started job) row sound fits e = handed_lives u job.row row job.body.now job.args.items job.inputs.items e fits.handed
-served_lives u (hands.Going own f) row sound fits e = handed_lives u own row f.body f.args f.inputs e fits.handed
-served_lives u (hands.Wishing own f) row sound fits e = handed_lives u own row f.body f.args f.inputs e fits.may.handed
-served_lives u (hands.Enqueuing f child) row sound fits e = handed_lives u child.row row f.body f.args f.inputs e fits.handed
+served_lives u (hands.Framed own f dues.Going) row sound fits e = handed_lives u own row f.body f.args f.inputs e fits.handed
+served_lives u (hands.Framed own f dues.Wishing) row sound fits e = handed_lives u own row f.body f.args f.inputs e fits.may.handed
+served_lives u (hands.Framed served f (dues.Enqueuing child)) row sound fits e = handed_lives u child.row row f.body f.args f.inputs e fits.handed
 served_lives u (hands.Done own o) row sound fits e = handed_lives u own row o.body o.args o.inputs e fits.handed
 served_lives u (hands.Leaving l) row sound fits e = leaving_lives u l.row row sound e fits
 

@@ -36,6 +36,7 @@ use Rattle.boc_dispatch.specs.declared.answers.Leaving.{Leaving as Token}
 use Rattle.boc_dispatch.specs.declared.answers.Left.TheVariants as left
 use Rattle.boc_dispatch.specs.declared.answers.Started.TheVariants as started
 use Rattle.boc_dispatch.specs.declared.worker.Hand.{Hand}
+use Rattle.boc_dispatch.specs.declared.worker.Due.TheVariants as dues
 use Rattle.boc_dispatch.specs.declared.worker.Hand.TheVariants as hands
 use Rattle.boc_dispatch.specs.Underway.{Underway}
 use Rattle.boc_dispatch.specs.Calls.{in_state, Begins, OpensWish, AdvancesChild, FinishesRow, LeavesCown, IsHandedOut, IsLeaving}
@@ -293,19 +294,19 @@ module _ (u : Underway) (f : Framed) (who row : ℕ) where
         };
       }
 
-pub opens_fits : (u v : Underway) (row : ℕ) (f : Framed) (token : Child) → HandFits u (hands.Wishing row f) → OpensWish u f row (Ok token) v → HandFits v (hands.Enqueuing f token)
+pub opens_fits : (u v : Underway) (row : ℕ) (f : Framed) (token : Child) → HandFits u (hands.Framed row f dues.Wishing) → OpensWish u f row (Ok token) v → HandFits v (hands.Framed row f (dues.Enqueuing token))
 opens_fits u v row f token h o =
-    subst (λ (x : Underway). HandFits x (hands.Enqueuing f token)) (sym o.5)
+    subst (λ (x : Underway). HandFits x (hands.Framed row f (dues.Enqueuing token))) (sym o.5)
     (subst (λ r. IsEnqueuing (in_state u o.3) f token.number r) (sym o.2) (opened_fits u f token.number row o.3 h o.1 o.4))
 
-pub advances_fits : (u v : Underway) (f : Framed) (token : Child) (step : Step) → IsSound u.program u.state → HandFits u (hands.Enqueuing f token) → AdvancesChild u token (advanced.Moved step) v
-    → HandFits v (hands.Enqueuing f token)
-advances_fits u v f token step sound h a =
-    subst (λ (x : Underway). HandFits x (hands.Enqueuing f token)) (sym a.4) (advanced_fits u f token.number token.row step a.2 sound a.1 h a.3)
+pub advances_fits : (u v : Underway) (row : ℕ) (f : Framed) (token : Child) (step : Step) → IsSound u.program u.state → HandFits u (hands.Framed row f (dues.Enqueuing token)) → AdvancesChild u token (advanced.Moved step) v
+    → HandFits v (hands.Framed row f (dues.Enqueuing token))
+advances_fits u v row f token step sound h a =
+    subst (λ (x : Underway). HandFits x (hands.Framed row f (dues.Enqueuing token))) (sym a.4) (advanced_fits u f token.number token.row step a.2 sound a.1 h a.3)
 
-pub owns_fits : (u v : Underway) (f : Framed) (token : Child) → IsSound u.program u.state → HandFits u (hands.Enqueuing f token) → AdvancesChild u token advanced.Enqueued v → HandFits v (hands.Going token.row f)
-owns_fits u v f token sound h a =
-    subst (λ (x : Underway). HandFits x (hands.Going token.row f)) (sym a.3) (owned_fits u f token.number token.row a.1 sound h a.2)
+pub owns_fits : (u v : Underway) (row : ℕ) (f : Framed) (token : Child) → IsSound u.program u.state → HandFits u (hands.Framed row f (dues.Enqueuing token)) → AdvancesChild u token advanced.Enqueued v → HandFits v (hands.Framed token.row f dues.Going)
+owns_fits u v row f token sound h a =
+    subst (λ (x : Underway). HandFits x (hands.Framed token.row f dues.Going)) (sym a.3) (owned_fits u f token.number token.row a.1 sound h a.2)
 
 -- ---- a row releases its cowns
 

@@ -14,6 +14,7 @@ use Rattle.boc_dispatch.specs.declared.answers.OpenFault.TheVariants as open_fau
 use Rattle.boc_dispatch.specs.declared.interleaving.DriveFault.{DriveFault}
 use Rattle.boc_dispatch.specs.declared.interleaving.DriveFault.TheVariants as drive_faults
 use Rattle.boc_dispatch.specs.declared.worker.Hand.{Hand}
+use Rattle.boc_dispatch.specs.declared.worker.Due.TheVariants as dues
 use Rattle.boc_dispatch.specs.declared.worker.Hand.TheVariants as hands
 use Rattle.boc_dispatch.specs.declared.worker.Refusal.{Refusal}
 use Rattle.boc_dispatch.specs.declared.worker.Refusal.TheVariants as refusals
@@ -103,21 +104,21 @@ never_finishes u v row o same finish_faults.Stranger h f = f.2 h.handed
 never_finishes u v row o same finish_faults.Busy h f = f.3 h.spawned
 
 refused : (u : Underway) (h was : Hand) (refusal : Refusal) → row_in h ≡ row_in was → HandFits u h → IsRefused u h refusal → IsStopped u was refusal
-refused u (hands.Wishing row f) was (refusals.Open fault) same fits r = open_stops u u row f was fault same fits r
-refused u (hands.Wishing row f) was (refusals.Finish fault) same fits r = absurd r
-refused u (hands.Wishing row f) was refusals.Unknown same fits r = absurd r
+refused u (hands.Framed row f dues.Wishing) was (refusals.Open fault) same fits r = open_stops u u row f was fault same fits r
+refused u (hands.Framed row f dues.Wishing) was (refusals.Finish fault) same fits r = absurd r
+refused u (hands.Framed row f dues.Wishing) was refusals.Unknown same fits r = absurd r
 refused u (hands.Done row o) was (refusals.Open fault) same fits r = absurd r
 refused u (hands.Done row o) was (refusals.Finish fault) same fits r = absurd (never_finishes u u row o o fault fits r)
 refused u (hands.Done row o) was refusals.Unknown same fits r = absurd r
-refused u (hands.Enqueuing f child) was (refusals.Open fault) same fits r = absurd r
-refused u (hands.Enqueuing f child) was (refusals.Finish fault) same fits r = absurd r
-refused u (hands.Enqueuing f child) was refusals.Unknown same fits r = absurd (r.1 fits.enqueue)
+refused u (hands.Framed row f (dues.Enqueuing child)) was (refusals.Open fault) same fits r = absurd r
+refused u (hands.Framed row f (dues.Enqueuing child)) was (refusals.Finish fault) same fits r = absurd r
+refused u (hands.Framed row f (dues.Enqueuing child)) was refusals.Unknown same fits r = absurd (r.1 fits.enqueue)
 refused u (hands.Leaving l) was (refusals.Open fault) same fits r = absurd r
 refused u (hands.Leaving l) was (refusals.Finish fault) same fits r = absurd r
 refused u (hands.Leaving l) was refusals.Unknown same fits r = absurd (r.1 fits)
 refused u hands.Nothing was refusal same fits r = absurd r
 refused u (hands.Started job) was refusal same fits r = absurd r
-refused u (hands.Going row f) was refusal same fits r = absurd r
+refused u (hands.Framed row f dues.Going) was refusal same fits r = absurd r
 
 says : (u v : Underway) (h was k : Hand) (x : Unit {0}) (answer : Answer) → HandFits u was → HasThought was (Ok x) h → Works u h answer v k → Says u was answer v k
 says u v h was k x (turns.Moved step) fits t w = moved u v h was k step (thinks_row was h (Ok x) t) w

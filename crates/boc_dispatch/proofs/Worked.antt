@@ -19,6 +19,7 @@ use Rattle.boc_dispatch.specs.declared.answers.Leaving.{Leaving}
 use Rattle.boc_dispatch.specs.declared.answers.Left.TheVariants as left
 use Rattle.boc_dispatch.specs.declared.answers.Started.TheVariants as started
 use Rattle.boc_dispatch.specs.declared.worker.Hand.{Hand}
+use Rattle.boc_dispatch.specs.declared.worker.Due.TheVariants as dues
 use Rattle.boc_dispatch.specs.declared.worker.Hand.TheVariants as hands
 use Rattle.boc_dispatch.specs.declared.worker.Turn.TheVariants as turns
 use Rattle.boc_dispatch.specs.Underway.{Underway}
@@ -33,9 +34,9 @@ made u v h k step t is takes makes =
 pub begins : (u v : Underway) (job : Job) → Begins u (started.Job job) v → Works u hands.Nothing (turns.Moved steps.Start) v (hands.Started job)
 begins u v job b = made u v hands.Nothing (hands.Started job) steps.Start b.1 b.3 (BeginsTurn b.0 job.row b.1 b.2) (b.0, job.row, b.2)
 
-pub opens : (u v : Underway) (row : ℕ) (f : Framed) (child : Child) → OpensWish u f row (Ok child) v → Works u (hands.Wishing row f) (turns.Moved steps.Open) v (hands.Enqueuing f child)
+pub opens : (u v : Underway) (row : ℕ) (f : Framed) (child : Child) → OpensWish u f row (Ok child) v → Works u (hands.Framed row f dues.Wishing) (turns.Moved steps.Open) v (hands.Framed row f (dues.Enqueuing child))
 opens u v row f child o =
-    made u v (hands.Wishing row f) (hands.Enqueuing f child) steps.Open o.3 o.5
+    made u v (hands.Framed row f dues.Wishing) (hands.Framed row f (dues.Enqueuing child)) steps.Open o.3 o.5
     (subst (λ (r : ℕ). TakesTurn u.program u.state (Some row) o.3 (Some r)) (sym o.2) (Opened row o.3 o.4)) (row, o.4)
 
 -- what advances makes that step
@@ -61,17 +62,17 @@ leave_makes p s who row steps.Open t a = absurd a
 leave_makes p s who row steps.Start t a = absurd a
 leave_makes p s who row steps.Finish t a = absurd a
 
-pub advances : (u v : Underway) (f : Framed) (child : Child) (step : Step) → AdvancesChild u child (advanced.Moved step) v
-    → Works u (hands.Enqueuing f child) (turns.Moved step) v (hands.Enqueuing f child)
-advances u v f child step a =
-    made u v (hands.Enqueuing f child) (hands.Enqueuing f child) step a.2 a.4 (AdvancedTurn child.row child.number step a.2 a.0 a.3) (advance_makes u.program u.state child.number step a.2 a.3)
+pub advances : (u v : Underway) (row : ℕ) (f : Framed) (child : Child) (step : Step) → AdvancesChild u child (advanced.Moved step) v
+    → Works u (hands.Framed row f (dues.Enqueuing child)) (turns.Moved step) v (hands.Framed row f (dues.Enqueuing child))
+advances u v row f child step a =
+    made u v (hands.Framed row f (dues.Enqueuing child)) (hands.Framed row f (dues.Enqueuing child)) step a.2 a.4 (AdvancedTurn child.row child.number step a.2 a.0 a.3) (advance_makes u.program u.state child.number step a.2 a.3)
 
-pub waits_to_settle : (u v : Underway) (f : Framed) (child : Child) → AdvancesChild u child advanced.Blocked v → Works u (hands.Enqueuing f child) turns.Blocked v (hands.Enqueuing f child)
-waits_to_settle u v f child a = (a.0, refl, WaitsToSettle child.row child.number a.1 a.2)
+pub waits_to_settle : (u v : Underway) (row : ℕ) (f : Framed) (child : Child) → AdvancesChild u child advanced.Blocked v → Works u (hands.Framed row f (dues.Enqueuing child)) turns.Blocked v (hands.Framed row f (dues.Enqueuing child))
+waits_to_settle u v row f child a = (a.0, refl, WaitsToSettle child.row child.number a.1 a.2)
 
-pub owns : (u v : Underway) (f : Framed) (child : Child) → AdvancesChild u child advanced.Enqueued v → Works u (hands.Enqueuing f child) (turns.Moved steps.Own) v (hands.Going child.row f)
-owns u v f child a =
-    made u v (hands.Enqueuing f child) (hands.Going child.row f) steps.Own a.1 a.3 (AdvancedTurn child.row child.number steps.Own a.1 a.0 a.2) (child.number, a.2)
+pub owns : (u v : Underway) (row : ℕ) (f : Framed) (child : Child) → AdvancesChild u child advanced.Enqueued v → Works u (hands.Framed row f (dues.Enqueuing child)) (turns.Moved steps.Own) v (hands.Framed child.row f dues.Going)
+owns u v row f child a =
+    made u v (hands.Framed row f (dues.Enqueuing child)) (hands.Framed child.row f dues.Going) steps.Own a.1 a.3 (AdvancedTurn child.row child.number steps.Own a.1 a.0 a.2) (child.number, a.2)
 
 -- the row of who isn't gone is served on
 still_served : (row : ℕ) (o : Option OpenBehaviour) → o ≢ None → unless_gone row o ≡ Some row
@@ -123,51 +124,51 @@ is_quiet u v b sound =
 
 -- a step of the worker that is chosen is one turn
 pub thinks_row : (h k : Hand) (r : Result (Unit {0}) AllocError) → HasThought h r k → row_in k ≡ row_in h
-thinks_row (hands.Started job) (hands.Wishing row f) (Ok x) t = ap (λ z. Some z) t.0
+thinks_row (hands.Started job) (hands.Framed row f dues.Wishing) (Ok x) t = ap (λ z. Some z) t.0
 thinks_row (hands.Started job) (hands.Done row o) (Ok x) t = ap (λ z. Some z) t.0
 thinks_row (hands.Started job) hands.Nothing (Ok x) t = absurd t
 thinks_row (hands.Started job) (hands.Started other) (Ok x) t = absurd t
-thinks_row (hands.Started job) (hands.Going row f) (Ok x) t = absurd t
-thinks_row (hands.Started job) (hands.Enqueuing f child) (Ok x) t = absurd t
+thinks_row (hands.Started job) (hands.Framed row f dues.Going) (Ok x) t = absurd t
+thinks_row (hands.Started job) (hands.Framed row f (dues.Enqueuing child)) (Ok x) t = absurd t
 thinks_row (hands.Started job) (hands.Leaving l) (Ok x) t = absurd t
-thinks_row (hands.Going own f) (hands.Wishing row g) (Ok x) t = ap (λ z. Some z) t.0
-thinks_row (hands.Going own f) (hands.Done row o) (Ok x) t = ap (λ z. Some z) t.0
-thinks_row (hands.Going own f) hands.Nothing (Ok x) t = absurd t
-thinks_row (hands.Going own f) (hands.Started other) (Ok x) t = absurd t
-thinks_row (hands.Going own f) (hands.Going row g) (Ok x) t = absurd t
-thinks_row (hands.Going own f) (hands.Enqueuing g child) (Ok x) t = absurd t
-thinks_row (hands.Going own f) (hands.Leaving l) (Ok x) t = absurd t
+thinks_row (hands.Framed own f dues.Going) (hands.Framed row g dues.Wishing) (Ok x) t = ap (λ z. Some z) t.0
+thinks_row (hands.Framed own f dues.Going) (hands.Done row o) (Ok x) t = ap (λ z. Some z) t.0
+thinks_row (hands.Framed own f dues.Going) hands.Nothing (Ok x) t = absurd t
+thinks_row (hands.Framed own f dues.Going) (hands.Started other) (Ok x) t = absurd t
+thinks_row (hands.Framed own f dues.Going) (hands.Framed row g dues.Going) (Ok x) t = absurd t
+thinks_row (hands.Framed own f dues.Going) (hands.Framed row g (dues.Enqueuing child)) (Ok x) t = absurd t
+thinks_row (hands.Framed own f dues.Going) (hands.Leaving l) (Ok x) t = absurd t
 thinks_row hands.Nothing k (Ok x) t = ap row_in t
-thinks_row (hands.Wishing row f) k (Ok x) t = ap row_in t
-thinks_row (hands.Enqueuing f child) k (Ok x) t = ap row_in t
+thinks_row (hands.Framed row f dues.Wishing) k (Ok x) t = ap row_in t
+thinks_row (hands.Framed row f (dues.Enqueuing child)) k (Ok x) t = ap row_in t
 thinks_row (hands.Done row o) k (Ok x) t = ap row_in t
 thinks_row (hands.Leaving l) k (Ok x) t = ap row_in t
 thinks_row hands.Nothing k (Err x) t = absurd t
 thinks_row (hands.Started job) k (Err x) t = ap row_in t
-thinks_row (hands.Going row f) k (Err x) t = absurd t
-thinks_row (hands.Wishing row f) k (Err x) t = absurd t
-thinks_row (hands.Enqueuing f child) k (Err x) t = absurd t
+thinks_row (hands.Framed row f dues.Going) k (Err x) t = absurd t
+thinks_row (hands.Framed row f dues.Wishing) k (Err x) t = absurd t
+thinks_row (hands.Framed row f (dues.Enqueuing child)) k (Err x) t = absurd t
 thinks_row (hands.Done row o) k (Err x) t = absurd t
 thinks_row (hands.Leaving l) k (Err x) t = absurd t
 
 -- who has thought isn't to think
 pub has_thought : (h k : Hand) (x : Unit {0}) → HasThought h (Ok x) k → IsToThink k → ⊥
-has_thought (hands.Started job) (hands.Wishing row f) x t due = due
+has_thought (hands.Started job) (hands.Framed row f dues.Wishing) x t due = due
 has_thought (hands.Started job) (hands.Done row o) x t due = due
 has_thought (hands.Started job) hands.Nothing x t due = due
 has_thought (hands.Started job) (hands.Started other) x t due = t
-has_thought (hands.Started job) (hands.Going row f) x t due = t
-has_thought (hands.Started job) (hands.Enqueuing f child) x t due = due
+has_thought (hands.Started job) (hands.Framed row f dues.Going) x t due = t
+has_thought (hands.Started job) (hands.Framed row f (dues.Enqueuing child)) x t due = due
 has_thought (hands.Started job) (hands.Leaving l) x t due = due
-has_thought (hands.Going own f) (hands.Wishing row g) x t due = due
-has_thought (hands.Going own f) (hands.Done row o) x t due = due
-has_thought (hands.Going own f) hands.Nothing x t due = due
-has_thought (hands.Going own f) (hands.Started other) x t due = t
-has_thought (hands.Going own f) (hands.Going row g) x t due = t
-has_thought (hands.Going own f) (hands.Enqueuing g child) x t due = due
-has_thought (hands.Going own f) (hands.Leaving l) x t due = due
+has_thought (hands.Framed own f dues.Going) (hands.Framed row g dues.Wishing) x t due = due
+has_thought (hands.Framed own f dues.Going) (hands.Done row o) x t due = due
+has_thought (hands.Framed own f dues.Going) hands.Nothing x t due = due
+has_thought (hands.Framed own f dues.Going) (hands.Started other) x t due = t
+has_thought (hands.Framed own f dues.Going) (hands.Framed row g dues.Going) x t due = t
+has_thought (hands.Framed own f dues.Going) (hands.Framed row g (dues.Enqueuing child)) x t due = due
+has_thought (hands.Framed own f dues.Going) (hands.Leaving l) x t due = due
 has_thought hands.Nothing k x t due = subst IsToThink t due
-has_thought (hands.Wishing row f) k x t due = subst IsToThink t due
-has_thought (hands.Enqueuing f child) k x t due = subst IsToThink t due
+has_thought (hands.Framed row f dues.Wishing) k x t due = subst IsToThink t due
+has_thought (hands.Framed row f (dues.Enqueuing child)) k x t due = subst IsToThink t due
 has_thought (hands.Done row o) k x t due = subst IsToThink t due
 has_thought (hands.Leaving l) k x t due = subst IsToThink t due

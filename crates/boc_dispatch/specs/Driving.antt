@@ -12,6 +12,7 @@ use Rattle.boc_dispatch.specs.declared.answers.OpenFault.TheVariants as open_fau
 use Rattle.boc_dispatch.specs.declared.interleaving.DriveFault.{DriveFault}
 use Rattle.boc_dispatch.specs.declared.interleaving.DriveFault.TheVariants as drive_faults
 use Rattle.boc_dispatch.specs.declared.worker.Hand.{Hand}
+use Rattle.boc_dispatch.specs.declared.worker.Due.TheVariants as dues
 use Rattle.boc_dispatch.specs.declared.worker.Hand.TheVariants as hands
 use Rattle.boc_dispatch.specs.declared.worker.Refusal.{Refusal}
 use Rattle.boc_dispatch.specs.declared.worker.Refusal.TheVariants as refusals
@@ -48,9 +49,9 @@ pub record IsOutcomeOf (u : Underway) (row : ℕ) (o : Ran) : Type 0 where
 abbrev pub HandFits : Underway → Hand → Type 0
 HandFits u hands.Nothing = Unit {0}
 HandFits u (hands.Started job) = IsFrameOf u job.row (frame_of job)
-HandFits u (hands.Going row f) = IsFrameOf u row f
-HandFits u (hands.Wishing row f) = IsWishing u row f
-HandFits u (hands.Enqueuing f child) = IsEnqueuing u f child.number child.row
+HandFits u (hands.Framed row f dues.Going) = IsFrameOf u row f
+HandFits u (hands.Framed row f dues.Wishing) = IsWishing u row f
+HandFits u (hands.Framed row f (dues.Enqueuing child)) = IsEnqueuing u f child.number child.row
 HandFits u (hands.Done row o) = IsOutcomeOf u row o
 HandFits u (hands.Leaving l) = IsLeaving u.state l.row
 

@@ -1,5 +1,5 @@
 -- What a worker has in hand, and what its turns and its thinking do.
-use Rattle.std.specs.Prelude.{◌≡◌, ℕ, ◌+◌, [], Option, Some, None, Result, Ok, Err, false, slice_get}
+use Rattle.std.specs.Prelude.{◌≡◌, ℕ, ◌+◌, [], Option, Some, None, Result, Ok, Err, false, true, slice_get}
 use Rattle.std.specs.declared.alloc.AllocError.{AllocError}
 use Rattle.boc_types.specs.declared.step.Step.{Step}
 use Rattle.boc_types.specs.program.Meaning.{Wish}
@@ -15,6 +15,7 @@ use Rattle.boc_dispatch.specs.declared.answers.Child.{Child}
 use Rattle.boc_dispatch.specs.declared.answers.Job.{Job}
 use Rattle.boc_dispatch.specs.declared.answers.Left.TheVariants as left
 use Rattle.boc_dispatch.specs.declared.worker.Hand.{Hand}
+use Rattle.boc_dispatch.specs.declared.worker.Due.TheVariants as dues
 use Rattle.boc_dispatch.specs.declared.worker.Hand.TheVariants as hands
 use Rattle.boc_dispatch.specs.declared.worker.Refusal.{Refusal}
 use Rattle.boc_dispatch.specs.declared.worker.Refusal.TheVariants as refusals
@@ -27,9 +28,9 @@ use Rattle.boc_dispatch.specs.Calls.{OpensWish, FinishesRow, AdvancesChild, Leav
 abbrev pub row_in : Hand → Option ℕ
 row_in hands.Nothing = None
 row_in (hands.Started job) = Some job.row
-row_in (hands.Going row f) = Some row
-row_in (hands.Wishing row f) = Some row
-row_in (hands.Enqueuing f child) = Some child.row
+row_in (hands.Framed row f dues.Going) = Some row
+row_in (hands.Framed row f dues.Wishing) = Some row
+row_in (hands.Framed row f (dues.Enqueuing child)) = Some child.row
 row_in (hands.Done row o) = Some row
 row_in (hands.Leaving l) = Some l.row
 
@@ -44,14 +45,14 @@ pub record MakesTurn (u : Underway) (before : Hand) (step : Step) (v : Underway)
 -- the worker is to think first
 abbrev pub IsToThink : Hand → Type 0
 IsToThink (hands.Started job) = Unit {0}
-IsToThink (hands.Going row f) = Unit {0}
+IsToThink (hands.Framed row f dues.Going) = Unit {0}
 IsToThink _ = ⊥
 
 -- the call that is due is refused so
 abbrev pub IsRefused : Underway → Hand → Refusal → Type 0
-IsRefused u (hands.Wishing row f) (refusals.Open fault) = OpensWish u f row (Err fault) u
+IsRefused u (hands.Framed row f dues.Wishing) (refusals.Open fault) = OpensWish u f row (Err fault) u
 IsRefused u (hands.Done row o) (refusals.Finish fault) = FinishesRow u row o (Err (o, fault)) u
-IsRefused u (hands.Enqueuing f child) refusals.Unknown = AdvancesChild u child advanced.Unknown u
+IsRefused u (hands.Framed row f (dues.Enqueuing child)) refusals.Unknown = AdvancesChild u child advanced.Unknown u
 IsRefused u (hands.Leaving l) refusals.Unknown = LeavesCown u l left.Unknown u
 IsRefused u _ _ = ⊥
 
@@ -66,16 +67,37 @@ Works u h (turns.Refused refusal) v k = (v ≡ u) × (k ≡ h) × IsRefused u h 
 
 -- a row's wish is being enqueued under this token
 abbrev pub Enqueues : Hand → Child → Type 0
-Enqueues h child = (f : Framed) × (h ≡ hands.Enqueuing f child)
+Enqueues h child = (row : ℕ) × (f : Framed) × (h ≡ hands.Framed row f (dues.Enqueuing child))
+
+-- a row wishes for a behaviour
+abbrev pub Wishes : Hand → Type 0
+Wishes h = (row : ℕ) × (f : Framed) × (h ≡ hands.Framed row f dues.Wishing)
 
 -- what is in hand goes into the call that is due, or is made by it
 abbrev pub IsMoved : Hand → Type 0
 IsMoved hands.Nothing = Unit {0}
-IsMoved (hands.Wishing row f) = Unit {0}
 IsMoved (hands.Done row o) = Unit {0}
 IsMoved _ = ⊥
 
 -- ---- thinking
+
+-- a behaviour was started, and its frame is to be made
+abbrev pub IsStarted : Hand → Type 0
+IsStarted h = (job : Job) × (h ≡ hands.Started job)
+
+-- a row's frame is to go on
+abbrev pub Goes : Hand → Type 0
+Goes h = (row : ℕ) × (f : Framed) × (h ≡ hands.Framed row f dues.Going)
+
+-- a row's frame has ended
+abbrev pub IsEnded : Hand → Type 0
+IsEnded (hands.Framed row f due) = f.ended ≡ true
+IsEnded _ = ⊥
+
+-- a row's frame that has ended gave what its body means
+abbrev pub HasGiven : Hand → Hand → Type 0
+HasGiven (hands.Framed row f due) (hands.Done own o) = (own ≡ row) × (o.body ≡ f.body) × (o.args ≡ f.args) × (o.inputs ≡ f.inputs) × (o.wishes ≡ f.made) × Means o
+HasGiven _ _ = ⊥
 
 -- what a body gave that has ended from here on
 pub record EndsAs (f : Framed) (o : Ran) : Type 0 where
@@ -89,7 +111,7 @@ pub record EndsAs (f : Framed) (o : Ran) : Type 0 where
 
 -- a frame has gone on to its next wish, or its end
 abbrev pub HasGoneOn : ℕ → Framed → Hand → Type 0
-HasGoneOn row f (hands.Wishing own g) = (own ≡ row) × ((w : Wish) × WishComes w f g)
+HasGoneOn row f (hands.Framed own g dues.Wishing) = (own ≡ row) × ((w : Wish) × WishComes w f g)
 HasGoneOn row f (hands.Done own o) = (own ≡ row) × EndsAs f o
 HasGoneOn row f _ = ⊥
 
@@ -101,7 +123,7 @@ frame_of job = record { body = job.body.now; args = job.args.items; inputs = job
 abbrev pub HasThought : Hand → Result (Unit {0}) AllocError → Hand → Type 0
 HasThought (hands.Started job) (Ok _) k = HasGoneOn job.row (frame_of job) k
 HasThought (hands.Started job) (Err refused) k = k ≡ hands.Started job
-HasThought (hands.Going row f) (Ok _) k = HasGoneOn row f k
+HasThought (hands.Framed row f dues.Going) (Ok _) k = HasGoneOn row f k
 HasThought h (Ok _) k = k ≡ h
 HasThought h (Err refused) k = ⊥
 

@@ -1,6 +1,6 @@
 //! A worker that serves one behaviour after another.
 
-ghost use Rattle.std.specs.Prelude.{◌≡◌, false, IfOk, None, length};
+ghost use Rattle.std.specs.Prelude.{◌≡◌, ℕ, false, IfOk, None, length};
 
 use crate::answers::{Advanced, Child, FinishFault, Job, Leaving, Left, OpenFault, Started};
 use crate::dispatcher::Core;
@@ -10,6 +10,17 @@ use boc_types::short::{Args, Inputs};
 use boc_types::step::Step;
 use std::alloc::{AllocError, Global};
 
+/// What is due of a row's frame.
+#[derive(Clone, Copy)]
+enum Due {
+    /// It is to go on.
+    Going,
+    /// Its last wish is to be opened.
+    Wishing,
+    /// Its last wish is being enqueued.
+    Enqueuing(Child),
+}
+
 /// What a worker has in hand, of the row that it serves.
 #[derive(Drop)]
 enum Hand<'a> {
@@ -17,12 +28,8 @@ enum Hand<'a> {
     Nothing,
     /// A behaviour that was started, whose frame is to be made.
     Started(Job<'a>),
-    /// A row's frame that is to go on.
-    Going(u32, Frame<'a>),
-    /// A row's frame whose last wish is to be opened.
-    Wishing(u32, Frame<'a>),
-    /// A frame whose last wish is being enqueued.
-    Enqueuing(Frame<'a>, Child),
+    /// A row's frame, and what is due of it.
+    Framed(u32, Frame<'a>, Due),
     /// What a row's body gave that has ended.
     Done(u32, Outcome<'a>),
     /// A behaviour that releases its cowns.
@@ -62,9 +69,11 @@ pub enum Turn {
     Refused(Refusal),
 }
 
+ghost use Rattle.boc_dispatch.specs.declared.worker.Due.{Due};
+ghost use Rattle.boc_dispatch.specs.declared.worker.Due.TheVariants as dues;
 ghost use Rattle.boc_dispatch.specs.declared.worker.Hand.TheVariants as hands;
 ghost use Rattle.boc_dispatch.specs.Driving.{KeepsFitting};
-ghost use Rattle.boc_dispatch.specs.Working.{row_in, frame_of as frame_at_start, Enqueues, HasGoneOn, HasThought, IsMoved, Works};
+ghost use Rattle.boc_dispatch.specs.Working.{row_in, frame_of as frame_at_start, Enqueues, Goes, HasGiven, HasGoneOn, HasThought, IsEnded, IsMoved, IsStarted, Wishes, Works};
 ghost use Rattle.boc_dispatch.specs.declared.answers.Child.{Child};
 ghost use Rattle.boc_eval.specs.Frames.{UnderWay as Framed};
 
@@ -86,7 +95,7 @@ fn gone_on(row: u32, frame: Frame<'_>) -> Hand<'_>
 {
     let mut frame = frame;
     match frame.run() {
-        Stop::Wants(_) => Hand::Wishing(row, frame),
+        Stop::Wants(_) => Hand::Framed(row, frame, Due::Wishing),
         Stop::Ended => Hand::Done(row, frame.into_outcome()),
     }
 }
@@ -116,8 +125,8 @@ impl<'a> Worker<'a> {
         match &self.hand {
             Hand::Nothing => None,
             Hand::Started(job) => Some(job.row),
-            Hand::Going(row, _) | Hand::Wishing(row, _) | Hand::Done(row, _) => Some(*row),
-            Hand::Enqueuing(_, child) => Some(child.row),
+            Hand::Framed(_, _, Due::Enqueuing(child)) => Some(child.row),
+            Hand::Framed(row, _, _) | Hand::Done(row, _) => Some(*row),
             Hand::Leaving(leaving) => Some(leaving.row),
         }
     }
@@ -130,12 +139,14 @@ impl<'a> Worker<'a> {
         ensures number { self.new.number ≡ self.old.number }
     {
         match &self.hand {
-            Hand::Started(_) | Hand::Going(..) => {
-                let hand = std::mem::replace(&mut self.hand, Hand::Nothing);
-                let (thought, result) = thought(alloc, hand);
-                self.hand = thought;
-                result
-            }
+            Hand::Started(_) => take_up(alloc, &mut self.hand),
+            Hand::Framed(_, _, due) => match *due {
+                Due::Going => {
+                    go_on(&mut self.hand);
+                    Ok(())
+                }
+                _ => Ok(()),
+            },
             _ => Ok(()),
         }
     }
@@ -147,39 +158,84 @@ impl<'a> Worker<'a> {
         ensures fits { KeepsFitting core.old self.old.hand core.new self.new.hand }
         ensures number { self.new.number ≡ self.old.number }
     {
-        // A frame is large, so most steps leave it where it stands.
+        // A frame is large, so most steps leave it where it stands, and have no room for another.
         match &self.hand {
-            Hand::Started(_) | Hand::Going(..) => Turn::Thinks,
-            Hand::Enqueuing(_, child) => {
-                let child = *child;
-                advance(&mut self.hand, child, core)
-            }
+            Hand::Started(_) => Turn::Thinks,
+            Hand::Framed(_, _, due) => match *due {
+                Due::Going => Turn::Thinks,
+                Due::Wishing => open(&mut self.hand, core),
+                Due::Enqueuing(child) => advance(&mut self.hand, child, core),
+            },
             Hand::Leaving(leaving) => {
                 let leaving = *leaving;
                 leave(&mut self.hand, leaving, core)
             }
-            Hand::Nothing | Hand::Wishing(..) | Hand::Done(..) => {
-                let hand = std::mem::replace(&mut self.hand, Hand::Nothing);
-                let (next, turn) = worked(hand, core);
-                self.hand = next;
-                turn
-            }
+            Hand::Nothing | Hand::Done(..) => work(&mut self.hand, core),
         }
     }
 }
 
-// What a worker has in hand once it has thought.
-fn thought<'a>(alloc: Global, hand: Hand<'a>) -> (Hand<'a>, Result<(), AllocError>)
-    ensures { HasThought hand.entry result.1 result.0 }
+// The frame of a behaviour that was started is made, and goes on.
+fn take_up<'a>(alloc: Global, hand: &mut Hand<'a>) -> Result<(), AllocError>
+    requires { IsStarted hand.old }
+    ensures { HasThought hand.old result hand.new }
 {
     match hand {
-        Hand::Started(job) => match frame_of(alloc, &job) {
-            Ok(frame) => (gone_on(job.row, frame), Ok(())),
-            Err(refused) => (Hand::Started(job), Err(refused)),
-        },
-        Hand::Going(row, frame) => (gone_on(row, frame), Ok(())),
-        other => (other, Ok(())),
+        Hand::Started(job) => {
+            let row = job.row;
+            let frame = frame_of(alloc, job)?;
+            *hand = gone_on(row, frame);
+            Ok(())
+        }
+        _ => unreachable!(),
     }
+}
+
+// A frame goes on to its next wish, or its end. It stays where it stands until it has ended.
+fn go_on(hand: &mut Hand<'_>)
+    requires { Goes hand.old }
+    ensures { (row : ℕ) (f : Framed) → hand.old ≡ hands.Framed row f dues.Going → HasGoneOn row f hand.new }
+{
+    let stop = match hand {
+        Hand::Framed(_, frame, _) => frame.run(),
+        _ => unreachable!(),
+    };
+    match stop {
+        Stop::Wants(_) => set_due(hand, Due::Wishing),
+        Stop::Ended => end(hand),
+    }
+}
+
+// This is due of a row's frame.
+fn set_due(hand: &mut Hand<'_>, due: Due)
+    ensures { (row : ℕ) (f : Framed) (before : Due) → hand.old ≡ hands.Framed row f before → hand.new ≡ hands.Framed row f due }
+{
+    if let Hand::Framed(_, _, own) = hand {
+        *own = due;
+    }
+}
+
+// A frame that has ended gives way to what its body gave.
+fn end(hand: &mut Hand<'_>)
+    requires { IsEnded hand.old }
+    ensures { HasGiven hand.old hand.new }
+{
+    *hand = match std::mem::replace(hand, Hand::Nothing) {
+        Hand::Framed(row, frame, _) => Hand::Done(row, frame.into_outcome()),
+        _ => unreachable!(),
+    };
+}
+
+// The turn of a worker that moves what it has in hand.
+fn work<'a, C: Chains + Drop>(hand: &mut Hand<'a>, core: &mut Core<'a, C>) -> Turn
+    requires { IsMoved hand.old }
+    ensures works { Works core.old hand.old result core.new hand.new }
+    ensures fits { KeepsFitting core.old hand.old core.new hand.new }
+{
+    let before = std::mem::replace(hand, Hand::Nothing);
+    let (after, turn) = worked(before, core);
+    *hand = after;
+    turn
 }
 
 // What a worker has in hand after a turn that moves it.
@@ -189,7 +245,6 @@ fn worked<'a, C: Chains + Drop>(hand: Hand<'a>, core: &mut Core<'a, C>) -> (Hand
     ensures fits { KeepsFitting core.old hand.entry core.new result.0 }
 {
     match hand {
-        Hand::Wishing(row, frame) => open(row, frame, core),
         Hand::Done(row, outcome) => finish(row, outcome, core),
         Hand::Nothing => begin(core),
         _ => unreachable!(),
@@ -209,20 +264,21 @@ fn begin<'a, C: Chains + Drop>(core: &mut Core<'a, C>) -> (Hand<'a>, Turn)
 }
 
 // The turn of a worker whose row wishes for a behaviour.
-fn open<'a, C: Chains + Drop>(
-    row: u32,
-    frame: Frame<'a>,
-    core: &mut Core<'a, C>,
-) -> (Hand<'a>, Turn)
-    ensures works { Works core.old (hands.Wishing row frame.entry) result.1 core.new result.0 }
-    ensures fits { KeepsFitting core.old (hands.Wishing row frame.entry) core.new result.0 }
+fn open<'a, C: Chains + Drop>(hand: &mut Hand<'a>, core: &mut Core<'a, C>) -> Turn
+    requires { Wishes hand.old }
+    ensures works { Works core.old hand.old result core.new hand.new }
+    ensures fits { KeepsFitting core.old hand.old core.new hand.new }
 {
-    match core.open(&frame, row) {
-        Ok(child) => (Hand::Enqueuing(frame, child), Turn::Moved(Step::Open)),
-        Err(fault) => (
-            Hand::Wishing(row, frame),
-            Turn::Refused(Refusal::Open(fault)),
-        ),
+    let opened = match &*hand {
+        Hand::Framed(row, frame, _) => core.open(frame, *row),
+        _ => unreachable!(),
+    };
+    match opened {
+        Ok(child) => {
+            set_due(hand, Due::Enqueuing(child));
+            Turn::Moved(Step::Open)
+        }
+        Err(fault) => Turn::Refused(Refusal::Open(fault)),
     }
 }
 
@@ -236,22 +292,21 @@ fn advance<'a, C: Chains + Drop>(hand: &mut Hand<'a>, child: Child, core: &mut C
         Advanced::Moved(step) => Turn::Moved(step),
         Advanced::Blocked => Turn::Blocked,
         Advanced::Enqueued => {
-            let enqueued = std::mem::replace(hand, Hand::Nothing);
-            *hand = going_on(enqueued);
+            resume(hand, child);
             Turn::Moved(Step::Own)
         }
         Advanced::Unknown => Turn::Refused(Refusal::Unknown),
     }
 }
 
-// A row's frame goes on once its wish is enqueued.
-fn going_on(hand: Hand<'_>) -> Hand<'_>
-    ensures { (f : Framed) (child : Child) → hand.entry ≡ hands.Enqueuing f child → result ≡ hands.Going child.row f }
+// A row's frame is to go on once its wish is enqueued.
+fn resume(hand: &mut Hand<'_>, child: Child)
+    ensures { (row : ℕ) (f : Framed) → hand.old ≡ hands.Framed row f (dues.Enqueuing child) → hand.new ≡ hands.Framed child.row f dues.Going }
 {
-    match hand {
-        Hand::Enqueuing(frame, child) => Hand::Going(child.row, frame),
-        other => other,
+    if let Hand::Framed(row, _, _) = hand {
+        *row = child.row;
     }
+    set_due(hand, Due::Going);
 }
 
 // The turn of a worker whose row's body has ended.

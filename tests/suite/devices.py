@@ -14,17 +14,18 @@ from .records import TRANSFER, fan, fan_text, lines_text
 from .running import DEVICE, Answer, done, fault_of, refused
 from .worked import GREEDY, PROFILE
 
-COMMANDS = [["values"], ["check"], ["profile"], ["profile", "--p", "2"], ["whatif"], ["whatif", "--p", "2", "2=1"],
-            ["sweep"]]
+# The commands that read a program, and those that read a record.
+OF_PROGRAMS = [["values"], ["run"], ["time"], ["time", "--workers", "4", "--p", "2"]]
+OF_RECORDS = [["check"], ["profile"], ["profile", "--p", "2"], ["whatif"], ["whatif", "--p", "2", "2=1"], ["sweep"]]
 
 
 def source_of(program, words):
     """What a command reads."""
-    return program.example("transfer.boc" if words == ["values"] else "transfer.record")
+    return program.example("transfer.boc" if words in OF_PROGRAMS else "transfer.record")
 
 
 def cases(program):
-    for words in COMMANDS:
+    for words in OF_PROGRAMS + OF_RECORDS:
         name, source = " ".join(words), source_of(program, words)
         whole = program.run(words, source)
         with open("/dev/full", "wb") as full:
@@ -52,7 +53,7 @@ def early_ends(program):
     """Pipes that are closed in mid record: the line that is missing or cut is told."""
     for bytes_left, line in ((1, 14), (2, 14), (3, 13), (20, 11), (len(lines_text(TRANSFER)) - 3, 1)):
         source = lines_text(TRANSFER)[:-bytes_left]
-        for words in COMMANDS[1:]:
+        for words in OF_RECORDS:
             answer = run_in_pieces(program, words, source, 16)
             expected = refused(3, f"boc: line {line}: 11 Truncated")
             yield f"{' '.join(words)}: a source without its last {bytes_left} bytes", fault_of(expected, answer)

@@ -11,6 +11,9 @@ from .worked import GREEDY, PROFILE, SHORTER, SHORTER_GREEDY, VALUES
 
 REFUSE = os.path.join(os.path.dirname(os.path.dirname(os.path.abspath(__file__))), "refuse.c")
 
+# What may be told where the request was a thread's own.
+NO_THREAD = refused(4, "boc: run: 4 NoThread")
+
 # A run that makes more requests than this never ends, and one that takes longer hangs.
 MOST_REQUESTS = 100000
 SECONDS = 30
@@ -27,6 +30,9 @@ def runs(program):
     yield ["profile"], record, done(PROFILE.encode())
     yield ["profile", "--p", "2"], record, done((PROFILE + GREEDY).encode())
     yield ["whatif"], record, done(PROFILE.encode())
+    yield ["run"], text, done(record)
+    yield ["time", "--workers", "3", "--p", "2"], text, done((PROFILE + GREEDY).encode())
+    yield ["run", "--workers", "2"], b"main { x = 1; }", refused(3, "boc: line 1: 5 UnknownName")
     yield ["whatif", "--p", "2", "2=1"], record, done((SHORTER + SHORTER_GREEDY).encode())
     yield ["sweep"], record, done(b"0 9\n1 8\n2 7\n3 8\n")
     yield ["sweep"], fan_text(3, MANY), done(model.sweep(MANY))
@@ -68,7 +74,7 @@ def fault_of_refusals(program, library, words, source, expected):
         if not was_made:
             fault = fault_of(expected, answer) or (None if told else "no request was told as refused")
             return fault and f"with no request refused: {fault}"
-        if answer == MEMORY:
+        if answer == MEMORY or answer == NO_THREAD and words[0] in ("run", "time"):
             told += 1
         elif fault_of(expected, answer) is not None:
             return f"with request {request} refused: {fault_of(MEMORY, answer)}"

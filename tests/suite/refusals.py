@@ -112,6 +112,8 @@ PROGRAMS = [
     (b"cown c[256] = 0;\ncown d = 0; main { }", 2, 8),
     (b"def f(a, b, c, d, e, g, h, i,\nj;) { } main { }", 2, 8),
     (b"main {\n" + b"work 1;\n" * 501 + b"}", 502, 8),
+    (b"main { work " + b"(" * 999 + b"1" + b")" * 999 + b"; }", 1, 8),
+    (b"main { work " + b"(" * 30000 + b"1" + b")" * 30000 + b"; }", 1, 8),
     (b"".join(b"def f%d(;) { }\n" % number for number in range(65)) + b"main { }", 65, 8),
     (b" " * 65537, 1, 9),
     (b"\n" * 65537, 65537, 9),
@@ -133,6 +135,8 @@ EDITS = [
 
 DOWN = b"cown a = 0; def down(n; x) { x = x + 1; if n > 1 { when down(n - 1; x); } } main { when down(%d; a); }"
 
+READ_PROGRAMS = [["values"], ["run"], ["time", "--workers", "4", "--p", "2"]]
+
 READ_RECORDS = [["check"], ["profile"], ["profile", "--p", "2"], ["whatif", "2=1"], ["sweep"]]
 
 
@@ -143,11 +147,22 @@ def cases(program):
             yield f"{words} of {source[-40:]!r}", fault_of(expected, program.run(words, source))
     for source, line, kind in PROGRAMS:
         expected = refused(3, f"boc: line {line}: {kind} {READER_KINDS[kind]}")
-        yield f"values of {source[-40:]!r}", fault_of(expected, program.run(["values"], source))
+        for words in READ_PROGRAMS:
+            yield f"{words} of {source[-40:]!r}", fault_of(expected, program.run(words, source))
+    yield from beginnings(program)
     for edits, line in EDITS:
         answer = program.run(["whatif", *edits], WHOLE)
         yield f"whatif {edits}", fault_of(refused(3, line), answer)
     yield from too_many(program)
+
+
+def beginnings(program):
+    """Each beginning of a program text lacks something, on its last line."""
+    whole = program.example("transfer.boc").rstrip()
+    for end in range(len(whole)):
+        line = whole[:end].count(b"\n") + 1
+        answer = program.run(["values"], whole[:end])
+        yield f"the first {end} bytes of a program", fault_of(refused(3, f"boc: line {line}: 3 Unexpected"), answer)
 
 
 def too_many(program):
@@ -159,7 +174,12 @@ def too_many(program):
     yield "65,536 rows", fault_of(refused(3, "boc: line 65538: 9 TooMany"), answer)
     answer = program.run(["values"], DOWN % 65534)
     yield "65,535 behaviours", fault_of(done(b"a 65534\n"), answer)
-    answer = program.run(["values"], DOWN % 65535)
-    yield "65,536 behaviours", fault_of(refused(4, "boc: run: 2 Behaviours"), answer)
-    endless = program.run(["values"], b"def f(;) { when f(;); } main { when f(;); }")
-    yield "endless behaviours", fault_of(refused(4, "boc: run: 2 Behaviours"), endless)
+    for words in READ_PROGRAMS:
+        answer = program.run(words, DOWN % 65535)
+        yield f"{words} of 65,536 behaviours", fault_of(refused(4, "boc: run: 2 Behaviours"), answer)
+    record = program.run(["run", "--workers", "2"], DOWN % 65534)
+    answer = program.run(["check"], record.output)
+    yield "a run of 65,535 behaviours", fault_of(done(b"ok 65535\n"), answer)
+    for words in [["values"], ["run"], ["run", "--workers", "4"], ["time", "--workers", "16"]]:
+        endless = program.run(words, b"def f(;) { when f(;); } main { when f(;); }")
+        yield f"{words} of endless behaviours", fault_of(refused(4, "boc: run: 2 Behaviours"), endless)

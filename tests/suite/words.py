@@ -1,15 +1,25 @@
 """The words of the command line: calls for help, numbers of workers, edits, and words that are refused."""
 from .running import Answer, done, fault_of
-from .worked import GREEDY, PROFILE, SHORTER
+from .worked import GREEDY, PROFILE, SHORTER, SHORTER_GREEDY
 
-HELP = [["--help"], ["-h"], ["values", "--help"], ["check", "--help"], ["profile", "--help"], ["whatif", "--help"],
-        ["sweep", "--help"], ["help"], ["help", "whatif"]]
+HELP = [["--help"], ["-h"], ["values", "--help"], ["check", "--help"], ["run", "--help"], ["profile", "--help"],
+        ["time", "--help"], ["whatif", "--help"], ["sweep", "--help"], ["help"], ["help", "whatif"]]
 
 TAKEN = [
     (["profile", "--p=2"], PROFILE + GREEDY),
     (["profile", "--p", "+2"], PROFILE + GREEDY),
     (["profile", "--p", "002"], PROFILE + GREEDY),
     (["whatif", "--", "2=1"], SHORTER),
+    (["whatif", "2=3", "--p", "2", "--", "2=1"], SHORTER + SHORTER_GREEDY),
+]
+
+# Words that ask for a run.
+RUNS = [
+    (["time"], PROFILE),
+    (["time", "--workers", "1"], PROFILE),
+    (["time", "--workers=16"], PROFILE),
+    (["time", "--workers", "+4", "--p", "2"], PROFILE + GREEDY),
+    (["time", "--p", "2", "--workers", "004"], PROFILE + GREEDY),
 ]
 
 REFUSED = [
@@ -29,8 +39,22 @@ REFUSED = [
     ["profile", "--p", ""],
     ["profile", "--p", "2", "--p", "2"],
     ["profile", "--q", "2"],
+    ["profile", "--workers", "2"],
+    ["values", "--workers", "2"],
+    ["run", "more"],
+    ["run", "--p", "2"],
+    ["run", "--workers"],
+    ["run", "--workers", "0"],
+    ["run", "--workers", "17"],
+    ["run", "--workers", "two"],
+    ["run", "--workers", "2", "--workers", "2"],
+    ["time", "--workers", "17"],
+    ["time", "--p", "65"],
     ["whatif", "-1=2"],
     ["whatif", "--p", "0", "2=1"],
+    ["whatif", "--p", "65", "2=01"],
+    ["check", "record"],
+    ["profile", "2"],
     [b"values\xff"],
     ["whatif", b"2=1\xff"],
     [b"\xff"],
@@ -38,6 +62,10 @@ REFUSED = [
 
 # Edits that are no ROW=TICKS, and the number of the first.
 MISSPELT = [
+    (["2=01", "0=0"], 1),
+    (["1=1", "x"], 2),
+    (["x", "y"], 1),
+    (["--", "-1=2"], 1),
     (["2=01"], 1),
     (["2"], 1),
     (["2="], 1),
@@ -65,6 +93,9 @@ def cases(program):
         yield f"help by {words}", fault_of_help(program.run(words, record))
     for words, text in TAKEN:
         yield f"taken {words}", fault_of(done(text.encode()), program.run(words, record))
+    for words, text in RUNS:
+        answer = program.run(words, program.example("transfer.boc"))
+        yield f"taken {words}", fault_of(done(text.encode()), answer)
     for words in REFUSED:
         yield f"refused {words}", fault_of_refusal(program.run(words, record))
     for edits, number in MISSPELT:

@@ -12,6 +12,22 @@ VALUES = {
     "two_orders.boc": "a 2\nb 1\np 0\nq 0\n",
 }
 
+# Programs and the values that they leave.
+PROGRAMS = [
+    (b"main { }", ""),
+    (b"main { work 1; }", ""),
+    (b"main { work " + b"(" * 998 + b"1" + b")" * 998 + b"; }", ""),
+    (b"cown low = -9223372036854775807; main { }", "low -9223372036854775807\n"),
+    (b"cown a = 9223372036854775807; def up(; x) { x = x + 1; x = 0; } main { when up(; a); }", "a 9223372036854775807\n"),
+    (b"cown c[4] = 0; def w(n; x) { work n; x = x + n; }\n"
+     b"main { when w(6; c[0]); when w(6; c[1]); when w(6; c[2]); when w(6; c[3]); }", "c[0] 6\nc[1] 6\nc[2] 6\nc[3] 6\n"),
+]
+
+# A run without cowns, and the report on it.
+NO_COWNS = b"boc 1 0\n+ 0 0 0\n> 0\n+ 1 0 2\n+ 2 0 3\n< 0 3 0\n> 1\n< 1 4 0\n> 2\n< 2 4 0\n.\n"
+NO_COWNS_PROFILE = "rows 3\nwork 11\nspan 7\nchain\n0 spawn 3\n2 end 4\nplan\n0 0 3\n1 2 6\n2 3 7\n"
+NO_COWNS_GREEDY = "greedy 1\n0 0 3 0\n1 3 7 0\n2 7 11 0\nend 11 bound 18\n"
+
 PROFILE = """rows 4
 work 11
 span 9
@@ -92,6 +108,9 @@ COMMANDS = [
     (["sweep"], "0 9\n1 8\n2 7\n3 8\n"),
 ]
 
+# Numbers of threads; none is one.
+THREADS = [[], ["--workers", "1"], ["--workers", "2"], ["--workers", "16"]]
+
 # The rows of the transfer.
 ROWS = [model.Row(0, 0, (), 4), model.Row(0, 2, (0,), 2), model.Row(0, 3, (0, 1), 3), model.Row(0, 4, (1,), 2)]
 
@@ -100,12 +119,29 @@ def cases(program):
     for name, values in VALUES.items():
         answer = program.run(["values"], program.example(name))
         yield f"values of {name}", fault_of(done(values.encode()), answer)
+    for source, values in PROGRAMS:
+        yield f"values of {source[-40:]!r}", fault_of(done(values.encode()), program.run(["values"], source))
+    answer = program.run(["profile", "--p", "1"], NO_COWNS)
+    yield "a run without cowns", fault_of(done((NO_COWNS_PROFILE + NO_COWNS_GREEDY).encode()), answer)
     record = program.example("transfer.record")
     yield "the record of the transfer", None if record == records.lines_text(records.WRITTEN) else "it is another"
     first = program.example("transfer_1.record")
     yield "its record in version 1", None if first == records.lines_text(records.TRANSFER) else "it is another"
+    text = program.example("transfer.boc")
+    yield "run", fault_of(done(record), program.run(["run"], text))
+    for threads in THREADS:
+        answer = program.run(["time", "--p", "2", *threads], text)
+        yield f"time {threads}", fault_of(done((PROFILE + GREEDY).encode()), answer)
+        yield f"run {threads}", fault_of_record(program, program.run(["run", *threads], text))
     for words, text in COMMANDS:
         answer = program.run(words, record)
         yield " ".join(words), fault_of(done(text.encode()), answer)
     yield "the model's report", None if model.report(ROWS, 2) == (PROFILE + GREEDY).encode() else "it is another"
     yield "the model's sweep", None if model.sweep(ROWS) == b"0 9\n1 8\n2 7\n3 8\n" else "it is another"
+
+
+def fault_of_record(program, answer):
+    """The record of a run of the transfer has the transfer's rows, whatever the threads did."""
+    if answer is None or answer.status != 0 or answer.errors:
+        return f"it answered {answer}"
+    return fault_of(done((PROFILE + GREEDY).encode()), program.run(["profile", "--p", "2"], answer.output))

@@ -3,30 +3,30 @@
 //! A text of the table stands behind a line with its kind, a space and its length in bytes, and before a line feed. A
 //! `program` is read, and a `record` is read and written again. Of the record of a `report` the report is written, with
 //! the greedy plan for P workers, 1 to 64, where the kind is `report P`; of that of an `edit ROW TICKS` the report after
-//! that edit, or why it is refused; and of that of a `sweep` the sweep. The first line of a `drive WORKERS` is a list of choices of so
-//! many workers, a letter for each, `a` for worker 0, and the rest is the program that they drive: where the run stands then is
-//! written as its log, its steps, and the values of its cowns.
+//! that edit, or why it is refused; and of that of a `sweep` the sweep. The first line of a `drive WORKERS` is a list of
+//! choices of so many workers, a letter for each, `a` for worker 0, and the rest is the program that they drive: where the
+//! run stands then is written as its log, its steps, and the values of its cowns. Of a `quiet WORKERS`, which is made so too,
+//! it is written who can step then, and the steps and values of the run once it went on until it is quiet.
 #![tactic(auto)]
 
 ghost use Rattle.std.specs.Prelude.{◌<◌, length, IfOk, IfSome};
 ghost use Rattle.boc_report.specs.Parts.{IsWhole};
 
-use boc_dispatch::{Dispatcher, DriveFault, drive};
+use boc_dispatch::{Dispatcher, DriveFault, drive, drive_quiet};
 use boc_greedy::{Greedy, greedy};
 use boc_order::profile;
 use boc_reader::read_program;
-use boc_record::{RecordFault, WriteFault, read_record, write_record};
+use boc_record::{RecordFault, WriteFault, put_events, read_record, write_record};
 use boc_report::{profile_text, sweep_text};
 use boc_text::Bytes;
-use boc_types::event::Event;
 use boc_types::limits::MOST_COWNS;
+use boc_types::program::Program;
 use boc_types::record::Record;
 use boc_types::rows::Rows;
 use boc_types::workers::Workers;
 use boc_whatif::WhatIf;
 use std::alloc::{AllocError, Global};
 use std::io::{self, Read, Write};
-use std::thread::Threads;
 
 /// What a text of the table is meant to be.
 #[derive(Clone, Copy)]
@@ -37,9 +37,10 @@ enum Kind {
     Edit { row: u32, ticks: u32 },
     Sweep,
     Drive { workers: u32 },
+    Quiet { workers: u32 },
 }
 
-/// The kind that some words name.
+// The kind that some words name.
 fn kind_of(words: &str) -> Option<Kind> {
     match words {
         "program" => Some(Kind::Program),
@@ -50,7 +51,7 @@ fn kind_of(words: &str) -> Option<Kind> {
     }
 }
 
-/// The kind that a word names with one or two numbers behind it.
+// The kind that a word names with one or two numbers behind it.
 fn kind_with_numbers(words: &str) -> Option<Kind> {
     match words.split_once(' ')? {
         ("report", workers) => {
@@ -69,11 +70,15 @@ fn kind_with_numbers(words: &str) -> Option<Kind> {
             let workers = workers.parse().ok()?;
             Some(Kind::Drive { workers })
         }
+        ("quiet", workers) => {
+            let workers = workers.parse().ok()?;
+            Some(Kind::Quiet { workers })
+        }
         _ => None,
     }
 }
 
-/// The first line of some bytes, and what stands behind it.
+// The first line of some bytes, and what stands behind it.
 fn first_line(bytes: &[u8]) -> Option<(&[u8], &[u8])>
     ensures { IfSome result (λ parts. length parts.1.now < length bytes.now) }
 {
@@ -82,7 +87,7 @@ fn first_line(bytes: &[u8]) -> Option<(&[u8], &[u8])>
     Some((line, &behind[1..]))
 }
 
-/// The first text of a table with its kind, and what stands behind it.
+// The first text of a table with its kind, and what stands behind it.
 fn first_text(table: &[u8]) -> Option<(Kind, &[u8], &[u8])>
     ensures { IfSome result (λ parts. length parts.2.now < length table.now) }
 {
@@ -97,7 +102,7 @@ fn first_text(table: &[u8]) -> Option<(Kind, &[u8], &[u8])>
     Some((kind, text, &rest[1..]))
 }
 
-/// Writes the line on a program's text.
+// Writes the line on a program's text.
 fn tell_program(rt: HostRuntime, text: &[u8]) -> io::Result<()> {
     match read_program(rt.alloc(), text) {
         Ok(_) => println!(rt; "ok"),
@@ -105,21 +110,21 @@ fn tell_program(rt: HostRuntime, text: &[u8]) -> io::Result<()> {
     }
 }
 
-/// The record of a text.
+// The record of a text.
 fn record_of(rt: HostRuntime, text: &[u8]) -> io::Result<Result<Record, RecordFault>> {
     let mut source = Bytes::new(Vec::from_slice(rt.alloc(), text)?);
     Ok(read_record(rt.alloc(), &mut source))
 }
 
-/// The text of a record, as it is written.
+// The text of a record, as it is written.
 fn text_of(rt: HostRuntime, record: &Record) -> Result<Vec<u8>, WriteFault> {
     let mut sink = Bytes::new(Vec::new(rt.alloc()));
     write_record(rt.alloc(), record, &mut sink)?;
     Ok(sink.bytes)
 }
 
-/// Writes the line on a record's text: how many rows it has, and whether it is written again as it was. A text of the
-/// first version is written in the second, and that one as it was.
+// Writes the line on a record's text: how many rows it has, and whether it is written again as it was. A text of the
+// first version is written in the second, and that one as it was.
 fn tell_record(rt: HostRuntime, text: &[u8]) -> io::Result<()> {
     let record = match record_of(rt, text)? {
         Ok(record) => record,
@@ -142,7 +147,7 @@ fn tell_record(rt: HostRuntime, text: &[u8]) -> io::Result<()> {
     }
 }
 
-/// The greedy plan for so many workers, where a number is given.
+// The greedy plan for so many workers, where a number is given.
 fn greedy_for(
     alloc: Global,
     rows: &Rows,
@@ -156,7 +161,7 @@ fn greedy_for(
     }
 }
 
-/// Writes the report on a record, or the line on a text that is none.
+// Writes the report on a record, or the line on a text that is none.
 fn tell_report(rt: HostRuntime, text: &[u8], workers: Option<Workers>) -> io::Result<()> {
     let record = match record_of(rt, text)? {
         Ok(record) => record,
@@ -168,7 +173,7 @@ fn tell_report(rt: HostRuntime, text: &[u8], workers: Option<Workers>) -> io::Re
     rt.stdout().write_all(&report)
 }
 
-/// Writes the report on a record after an edit, or why the edit is refused.
+// Writes the report on a record after an edit, or why the edit is refused.
 fn tell_edit(rt: HostRuntime, text: &[u8], row: u32, ticks: u32) -> io::Result<()> {
     let record = match record_of(rt, text)? {
         Ok(record) => record,
@@ -185,19 +190,19 @@ fn tell_edit(rt: HostRuntime, text: &[u8], row: u32, ticks: u32) -> io::Result<(
     }
 }
 
-/// Writes the sweep of a record.
-fn tell_sweep(rt: HostRuntime, threads: &(impl Threads + Sync), text: &[u8]) -> io::Result<()> {
+// Writes the sweep of a record.
+fn tell_sweep(rt: HostRuntime, text: &[u8]) -> io::Result<()> {
     let record = match record_of(rt, text)? {
         Ok(record) => record,
         Err(fault) => return println!(rt; "{fault}"),
     };
     let question = WhatIf::new(rt.alloc(), record.rows())?;
-    let spans = question.sweep(threads, rt.alloc())?;
+    let spans = question.sweep(rt.alloc())?;
     let lines = sweep_text(rt.alloc(), &spans)?;
     rt.stdout().write_all(&lines)
 }
 
-/// The workers that letters name.
+// The workers that letters name.
 fn choices_of(alloc: Global, letters: &[u8]) -> Result<Vec<u16>, AllocError> {
     let mut choices = Vec::with_capacity(alloc, letters.len())?;
     for letter in letters {
@@ -206,45 +211,16 @@ fn choices_of(alloc: Global, letters: &[u8]) -> Result<Vec<u16>, AllocError> {
     Ok(choices)
 }
 
-/// Writes numbers behind a line's beginning, each after a space, and ends the line.
-fn tell_numbers(rt: HostRuntime, numbers: &[u32]) -> io::Result<()> {
-    for number in numbers {
-        print!(rt; " {number}")?;
-    }
-    println!(rt; "")
-}
-
-/// Writes the line of an event.
-fn tell_event(rt: HostRuntime, event: &Event) -> io::Result<()> {
-    match event {
-        Event::Spawn {
-            row,
-            parent,
-            offset,
-            cowns,
-        } => {
-            print!(rt; "+ {row} {parent} {offset}")?;
-            tell_numbers(rt, cowns.as_slice())
-        }
-        Event::Start { row } => println!(rt; "> {row}"),
-        Event::End {
-            row,
-            ticks,
-            status,
-            written,
-        } => {
-            let status = *status as u8;
-            print!(rt; "< {row} {ticks} {status}")?;
-            tell_numbers(rt, written.as_slice())
-        }
-    }
-}
-
-/// Writes where a run stands: its log, its steps, and the values of its cowns.
+// Writes where a run stands: its log, its steps, and the values of its cowns.
 fn tell_run(rt: HostRuntime, run: &Dispatcher<'_>) -> io::Result<()> {
-    for event in run.log() {
-        tell_event(rt, event)?;
-    }
+    let mut lines = Vec::new(rt.alloc());
+    put_events(&mut lines, run.log())?;
+    rt.stdout().write_all(&lines)?;
+    tell_end(rt, run)
+}
+
+// Writes the steps of a run, and the values of its cowns.
+fn tell_end(rt: HostRuntime, run: &Dispatcher<'_>) -> io::Result<()> {
     let steps = run.steps();
     if run.is_quiet() {
         println!(rt; "steps {steps}, quiet")?;
@@ -260,8 +236,44 @@ fn tell_run(rt: HostRuntime, run: &Dispatcher<'_>) -> io::Result<()> {
     println!(rt; "")
 }
 
-/// Writes where a program's run stands after these choices, or why there is no such run.
-fn tell_drive(rt: HostRuntime, text: &[u8], workers: u32) -> io::Result<()> {
+// Writes why a drive ended before its last choice.
+fn tell_drive_fault(rt: HostRuntime, fault: DriveFault) -> io::Result<()> {
+    match fault {
+        DriveFault::NoSuchWorker { place } => println!(rt; "NoSuchWorker at {place}"),
+        DriveFault::Behaviours => println!(rt; "Behaviours"),
+        DriveFault::Memory => println!(rt; "Memory"),
+    }
+}
+
+// Writes where a program's run stands after these choices, or why there is no such run.
+fn tell_drive(rt: HostRuntime, program: &Program, workers: u32, choices: &[u16]) -> io::Result<()> {
+    match drive(rt.alloc(), program, workers, choices) {
+        Ok(run) => tell_run(rt, &run),
+        Err(fault) => tell_drive_fault(rt, fault),
+    }
+}
+
+// Writes who can step after these choices.
+fn tell_mover(rt: HostRuntime, program: &Program, workers: u32, choices: &[u16]) -> io::Result<()> {
+    match drive(rt.alloc(), program, workers, choices) {
+        Ok(run) => match run.movable() {
+            Some(mover) => println!(rt; "{mover:?}"),
+            None => println!(rt; "nobody"),
+        },
+        Err(fault) => tell_drive_fault(rt, fault),
+    }
+}
+
+// Writes where the run stands once it went on from these choices until it is quiet.
+fn tell_quiet(rt: HostRuntime, program: &Program, workers: u32, choices: &[u16]) -> io::Result<()> {
+    match drive_quiet(rt.alloc(), program, workers, choices) {
+        Ok(run) => tell_end(rt, &run),
+        Err(fault) => tell_drive_fault(rt, fault),
+    }
+}
+
+// Writes what becomes of a program with the choices in front of it, as one kind of drive asks.
+fn tell_driven(rt: HostRuntime, text: &[u8], workers: u32, until_quiet: bool) -> io::Result<()> {
     let Some((letters, text)) = first_line(text) else {
         return println!(rt; "no choices");
     };
@@ -270,11 +282,11 @@ fn tell_drive(rt: HostRuntime, text: &[u8], workers: u32) -> io::Result<()> {
         Err(fault) => return println!(rt; "{fault}"),
     };
     let choices = choices_of(rt.alloc(), letters)?;
-    match drive(rt.alloc(), &program, workers, &choices) {
-        Ok(run) => tell_run(rt, &run),
-        Err(DriveFault::NoSuchWorker { place }) => println!(rt; "NoSuchWorker at {place}"),
-        Err(DriveFault::Behaviours) => println!(rt; "Behaviours"),
-        Err(DriveFault::Memory) => println!(rt; "Memory"),
+    if until_quiet {
+        tell_mover(rt, &program, workers, &choices)?;
+        tell_quiet(rt, &program, workers, &choices)
+    } else {
+        tell_drive(rt, &program, workers, &choices)
     }
 }
 
@@ -288,8 +300,9 @@ fn main(rt: HostRuntime) -> io::Result<()> {
             Kind::Record => tell_record(rt, text)?,
             Kind::Report { workers } => tell_report(rt, text, workers)?,
             Kind::Edit { row, ticks } => tell_edit(rt, text, row, ticks)?,
-            Kind::Sweep => tell_sweep(rt, &rt, text)?,
-            Kind::Drive { workers } => tell_drive(rt, text, workers)?,
+            Kind::Sweep => tell_sweep(rt, text)?,
+            Kind::Drive { workers } => tell_driven(rt, text, workers, false)?,
+            Kind::Quiet { workers } => tell_driven(rt, text, workers, true)?,
         }
         rest = behind;
     }

@@ -1,29 +1,11 @@
 //! The program `boc`: commands over programs of behaviours, from standard input to standard output.
 #![tactic(auto)]
 
-mod check;
-mod command;
-mod edit_word;
-mod fault;
-mod profile;
-mod report;
-mod sweep;
-#[cfg(test)]
-mod tests;
-mod values;
-mod values_text;
-mod whatif;
-#[cfg(test)]
-mod whatif_tests;
-mod words;
-#[cfg(test)]
-mod words_tests;
-
-use crate::command::run_command;
-use crate::fault::Fault;
-use crate::words::{not_text, read_words};
+use boc_commands::{Fault, not_text, read_words, run_command};
 use boc_text::Counted;
+use boc_workers::OpenGate;
 use std::process::ExitCode;
+use std::sync::Wait;
 use std::thread::Threads;
 use std::{env, io};
 
@@ -38,16 +20,23 @@ fn main(rt: HostRuntime) -> ExitCode {
     }
 }
 
-/// Does what the words ask for. What runs in several threads is started by way of `threads`.
-fn run(rt: HostRuntime, threads: &(impl Threads + Sync)) -> Result<(), Fault> {
+// Does what the words ask for. What runs in several threads is started by way of `threads`.
+fn run(rt: HostRuntime, threads: &(impl Threads + Wait + Sync)) -> Result<(), Fault> {
     let words = words_given(rt)?;
     let command = read_words(rt.alloc(), &words)?;
     let mut input = Counted::new(rt.stdin());
     let mut output = Counted::new(rt.stdout());
-    run_command(rt.alloc(), threads, &command, &mut input, &mut output)
+    run_command(
+        threads,
+        rt.alloc(),
+        &OpenGate,
+        &command,
+        &mut input,
+        &mut output,
+    )
 }
 
-/// The words of the command line, the program's own name first.
+// The words of the command line, the program's own name first.
 fn words_given(rt: HostRuntime) -> Result<Vec<String>, Fault> {
     let args = match env::args(&rt) {
         Ok(args) => args,
@@ -61,7 +50,7 @@ fn words_given(rt: HostRuntime) -> Result<Vec<String>, Fault> {
     Ok(words)
 }
 
-/// Writes the fault's line to standard error. There is nobody to tell that this failed.
+// Writes the fault's line to standard error. There is nobody to tell that this failed.
 fn tell(rt: HostRuntime, fault: &Fault) {
     let _ = match fault {
         // The parser's text ends its own lines.

@@ -1,5 +1,5 @@
 -- What linked chains keep at each call, and the lists after it.
-use Rattle.std.proofs.Common.{◌≡◌, ◌≢◌, ℕ, zero, suc, ◌+◌, ◌-◌, ◌<◌, ◌≤◌, Bool, true, false, cond, List, [], ◌∷◌, ◌++◌, length, drop, set, get_or, refl, sym, ◌∙◌, ap, subst, inl, inr, arith, length-set, get_or-set_same, get_or-set_other}
+use Rattle.std.proofs.Common.{◌≡◌, ◌≢◌, ℕ, zero, suc, ◌+◌, ◌-◌, ◌^◌, ◌<◌, ◌≤◌, Bool, true, false, cond, List, [], ◌∷◌, ◌++◌, length, drop, set, get_or, refl, sym, ◌∙◌, ap, subst, inl, inr, arith, length-set, get_or-set_same, get_or-set_other}
 use Rattle.std.specs.Prelude.{Option, Some, None, slice_get, slice_index_or, position, ◌==◌, replicate, is_some, IsSome, count_by}
 use Rattle.std.specs.Option.{option_map, option_and_then}
 use Rattle.slab.specs.Slab.{Slab, get, slab_len, Updates}
@@ -270,7 +270,7 @@ module _ (last : List (Option Node)) (held held' : Slab Linked) (peak c k : ℕ)
 
 pub grown : (last : List (Option Node)) (held held' : Slab Linked) (peak n : ℕ) → IsLinked last held peak → held' ≡ record held { capacity = n } → IsLinked last held' peak × (lists_of last held' ≡ lists_of last held)
 grown last held held' peak n h e = subst (λ (z : Slab Linked). IsLinked last z peak × (lists_of last z ≡ lists_of last held)) (sym e)
-    (none_changed last held (record held { capacity = n }) peak peak h (λ s c b m. refl) (λ n c b m at. at) h.distinct h.in_range h.held)
+    (none_changed last held (record held { capacity = n }) peak peak h (λ s c b m. refl) (λ n c b m at. at) h.distinct h.in_range h.short h.held)
 
 nothing : (o : Option ℕ) → option_and_then {U = Link} (λ i. slice_get [] i) o ≡ None
 nothing None = refl
@@ -281,8 +281,9 @@ no_links v c e = ap (λ (ls : List Link). option_and_then (λ i. slice_get ls i)
 
 pub admit_call : (last : List (Option Node)) (held mid held' : Slab Linked) (peak n key peak' : ℕ) (v : Linked) → IsLinked last held peak → mid ≡ record held { capacity = n }
     → get mid key ≡ None → Updates mid held' key (Some v) → v.links.items ≡ [] → ((c : ℕ) → times c v.cowns.items ≤ 1) → ((c : ℕ) → 0 < times c v.cowns.items → c < length (lists_of last held))
+    → ((i : ℕ) → i < length v.cowns.items → (key < 2 ^ 32) × (i < 2 ^ 32))
     → slab_len held' ≤ peak' → IsLinked last held' peak' × (lists_of last held' ≡ lists_of last held)
-admit_call last held mid held' peak n key peak' v h e vacant updates none distinct range few =
+admit_call last held mid held' peak n key peak' v h e vacant updates none distinct range short few =
     let g = grown last held mid peak n h e in
     let at = λ (s : ℕ) (f : s ≡ key). ap (get held') f ∙ updates.changed in
     let r = none_changed last mid held' peak peak' g.0
@@ -307,6 +308,12 @@ admit_call last held mid held' peak n key peak' v h e vacant updates none distin
       | inr f ↦ subst (λ o. cown (place_in o) i < length last) (sym (updates.others s f))
           (g.0.in_range s i (subst (λ o. i < length (cowns_of (place_in o))) (updates.others s f) b))
     ])
+    (λ s i b. elim (same_or_not s key) [
+      | inl f ↦
+          let own = short i (subst (λ o. i < length (cowns_of (place_in o))) (at s f) b) in
+          (subst (λ (z : ℕ). z < 2 ^ 32) (sym f) own.0, own.1)
+      | inr f ↦ g.0.short s i (subst (λ o. i < length (cowns_of (place_in o))) (updates.others s f) b)
+    ])
     few in
     (r.0, r.1 ∙ g.1)
 
@@ -327,6 +334,10 @@ dismiss_call last held held' peak slot h updates empty len =
       | inl f ↦ (let z : i < length {A = ℕ} [] = subst (λ o. i < length (cowns_of (place_in o))) (at s f) b in absurd (omega arith))
       | inr f ↦ subst (λ o. cown (place_in o) i < length last) (sym (updates.others s f))
           (h.in_range s i (subst (λ o. i < length (cowns_of (place_in o))) (updates.others s f) b))
+    ])
+    (λ s i b. elim (same_or_not s slot) [
+      | inl f ↦ (let z : i < length {A = ℕ} [] = subst (λ o. i < length (cowns_of (place_in o))) (at s f) b in absurd (omega arith))
+      | inr f ↦ h.short s i (subst (λ o. i < length (cowns_of (place_in o))) (updates.others s f) b)
     ])
     (let p = h.held in omega arith)
 
@@ -359,6 +370,7 @@ new_chains last held n e none =
         ended = λ c k b q. absurd (let f : None ≡ Some k = sym (ap (λ (ls : List (Option Node)). last_at ls c) e ∙ none_last n c) ∙ q in cc);
         distinct = λ s c. subst (λ o. times c (cowns_of (place_in o)) ≤ 1) (sym (at s)) (omega arith);
         in_range = λ s i b. (let z : i < length {A = ℕ} [] = subst (λ o. i < length (cowns_of (place_in o))) (at s) b in absurd (omega arith));
+        short = λ s i b. (let z : i < length {A = ℕ} [] = subst (λ o. i < length (cowns_of (place_in o))) (at s) b in absurd (omega arith));
         held = subst (λ (ys : List (Option Linked)). count_by is_some ys ≤ 0) (sym none) (omega arith);
       },
       from_same (λ c. []) (line last held) 0 (length last) (λ d m b. read held d (last_of last d) [] (is d)) ∙ ap (from (λ c. []) 0) (ap length e ∙ length_none n) ∙ from_none 0 n,

@@ -1,5 +1,5 @@
 -- All lists after the one of a cown was changed.
-use Rattle.std.proofs.Common.{◌≡◌, ◌≢◌, ℕ, zero, suc, ◌+◌, ◌<◌, ◌≤◌, List, ◌∷◌, length, set, refl, sym, ◌∙◌, ap, subst, inl, inr, arith}
+use Rattle.std.proofs.Common.{◌≡◌, ◌≢◌, ℕ, zero, suc, ◌+◌, ◌^◌, ◌<◌, ◌≤◌, List, ◌∷◌, length, set, refl, sym, ◌∙◌, ap, subst, inl, inr, arith}
 use Rattle.std.specs.Prelude.{Option, Some, None, slice_index_or}
 use Rattle.std.specs.Option.{option_map}
 use Rattle.slab.specs.Slab.{Slab, slab_len}
@@ -80,6 +80,7 @@ one_changed last last' held held' peak c k f h e below long others same places l
             let old = h.in_range s i (subst (λ (cs : List ℕ). i < length cs) (places s) b) in
             let m : cown (place_at held' s) i ≡ cown (place_at held s) i = ap (λ cs. slice_index_or cs i 0) (places s) in
             omega arith;
+        short = λ s i b. h.short s i (subst (λ (cs : List ℕ). i < length cs) (places s) b);
         held = (let p = h.held in omega arith);
       },
       ap (from (line last' held') 0) long
@@ -96,10 +97,11 @@ pub none_changed : (last : List (Option Node)) (held held' : Slab Linked) (peak 
     → ((n : Node) (c : ℕ) → c < length last → 0 < times n.slot (slots (line last held c)) → IsAt held n c → IsAt held' n c)
     → ((s x : ℕ) → times x (cowns_of (place_at held' s)) ≤ 1)
     → ((s i : ℕ) → i < length (cowns_of (place_at held' s)) → cown (place_at held' s) i < length last)
+    → ((s i : ℕ) → i < length (cowns_of (place_at held' s)) → (s < 2 ^ 32) × (i < 2 ^ 32))
     → slab_len held' ≤ peak'
     → IsLinked last held' peak' × (lists_of last held' ≡ lists_of last held)
 unfolding lists_of
-none_changed last held held' peak peak' h same ats distinct range few =
+none_changed last held held' peak peak' h same ats distinct range short few =
     let is = λ (d : ℕ) (b : d < length last). kept_list (links held) (links held') d (last_of last d) (last_of last d) (line last held d) (h.spelled d b) (λ s m. ap (option_map seen) (same s d b m)) refl in
     let whole = λ (d : ℕ) (b : d < length last). read held' d (last_of last d) (line last held d) (is d b) in (
       record {
@@ -122,6 +124,7 @@ none_changed last held held' peak peak' h same ats distinct range few =
         ]) (h.ended d n b q);
         distinct = distinct;
         in_range = range;
+        short = short;
         held = few;
       },
       from_same (line last held) (line last held') 0 (length last) (λ d m b. read held' d (last_of last d) (line last held d) (is d (omega arith))),

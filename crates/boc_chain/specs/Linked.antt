@@ -1,5 +1,5 @@
 -- The links and places in the slots.
-use Rattle.std.specs.Prelude.{◌≡◌, ℕ, zero, suc, ◌<◌, ◌≤◌, ◌==◌, if◌then◌else◌, List, [], ◌∷◌, length, slice_get, slice_index_or, Option, Some, None, position}
+use Rattle.std.specs.Prelude.{◌≡◌, ℕ, zero, suc, ◌^◌, ◌<◌, ◌≤◌, ◌==◌, if◌then◌else◌, List, [], ◌∷◌, length, slice_get, slice_index_or, Option, Some, None, position}
 use Rattle.std.specs.Option.{option_and_then, option_map}
 use Rattle.slab.specs.Slab.{Slab, get, slab_len}
 use Rattle.boc_chain.specs.declared.linked.Node.{Node}
@@ -127,4 +127,6 @@ pub record IsLinked (last : List (Option Node)) (slots : Slab Linked) (peak : �
   pub ended : (c : ℕ) (n : Node) → c < length last → last_at last c ≡ Some n → IsAt slots n c
   pub distinct : (s c : ℕ) → times c (cowns_of (place_at slots s)) ≤ 1
   pub in_range : (s i : ℕ) → i < length (cowns_of (place_at slots s)) → cown (place_at slots s) i < length last
+  -- slots and places have 32 bits
+  pub short : (s i : ℕ) → i < length (cowns_of (place_at slots s)) → (s < 2 ^ 32) × (i < 2 ^ 32)
   pub held : slab_len slots ≤ peak

@@ -46,7 +46,7 @@ pub fn count_exchange(places: &mut Vec<Option<Held>>, slot: usize)
     }
 }
 
-/// How often a cown stands in a list.
+// How often a cown stands in a list.
 fn count_of(cowns: &[CownNo], c: CownNo) -> usize
     ensures { result ≡ times c cowns.now }
 {
@@ -59,7 +59,7 @@ fn count_of(cowns: &[CownNo], c: CownNo) -> usize
     count
 }
 
-/// How many requests of what is held are still to go into the list of a cown.
+// How many requests of what is held are still to go into the list of a cown.
 fn awaited_by(held: &Option<Held>, c: CownNo) -> usize
     ensures { result ≡ awaits c held.now }
 {
@@ -84,7 +84,7 @@ pub fn count_awaited(places: &[Option<Held>], c: CownNo) -> usize
     count
 }
 
-/// The first vacant slot.
+// The first vacant slot.
 fn vacant(places: &[Option<Held>]) -> Option<usize>
     ensures { IfSome result (λ slot. slice_get places.now slot ≡ Some None) }
 {

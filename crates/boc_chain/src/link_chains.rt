@@ -14,6 +14,7 @@ use crate::linked::{
 };
 use crate::request::{Released, Settled, Slot};
 use arrayvec::ArrayVec;
+use boc_types::limits::MOST_HELD;
 use boc_types::short::{CownNo, Cowns};
 use slab::Slab;
 use std::alloc::{AllocError, Global};
@@ -27,28 +28,30 @@ pub struct LinkChains {
     ghost linked: { IsLinked last.items slots peak } by { Prim.hlevel (props, Spells-prop) },
 }
 
-/// Whether it is at this slot.
+// Whether it is at this slot.
 fn is_slot(last: Option<Node>, slot: usize) -> bool
     ensures { IsTrue result ↔ (option_map (λ n. n.slot) last ≡ Some slot) }
 {
     match last {
-        Some(last) => last.slot == slot,
+        Some(last) => last.slot as usize == slot,
         None => false,
     }
 }
 
-/// No last request, for each of so many cowns.
+// No last request, for each of so many cowns.
 fn no_last(alloc: Global, cowns: usize) -> Result<Vec<Option<Node>>, AllocError>
     ensures { IfOk result (λ last. last.items ≡ replicate cowns None) }
 {
     Ok(vec![in alloc; None; cowns]?)
 }
 
-/// The slot of a request, if there is one.
+// The slot of a request, if there is one.
 fn slot_in(node: Option<Node>) -> Option<Slot>
     ensures { result ≡ option_map slot_at (option_map (λ n. n.slot) node) }
 {
-    node.map(|node| Slot { index: node.slot })
+    node.map(|node| Slot {
+        index: node.slot as usize,
+    })
 }
 
 impl LinkChains {
@@ -115,6 +118,12 @@ impl Chains for LinkChains {
         ensures one_more { OnOk result (HoldsOneMore self.old self.new) }
         ensures as_many { OnErr result (HoldsAsMany self.old self.new) }
     {
+        let count = cowns.len();
+        prove!(count <= MOST_HELD);
+        // Nodes name slots in 32 bits. Before these run out, memory has.
+        if self.slots.vacant_key() > u32::MAX as usize {
+            return Err(AllocError);
+        }
         self.slots.reserve(1)?;
         let index = self.slots.insert_reserved(Linked {
             cowns,
@@ -147,8 +156,8 @@ impl Chains for LinkChains {
             },
         );
         self.last[c as usize] = Some(Node {
-            slot: slot.index,
-            place: i,
+            slot: slot.index as u32,
+            place: i as u32,
         });
         slot_in(before)
     }
@@ -165,8 +174,8 @@ impl Chains for LinkChains {
         settle_at(
             &mut self.slots,
             Node {
-                slot: slot.index,
-                place: i,
+                slot: slot.index as u32,
+                place: i as u32,
             },
         )
     }
@@ -180,8 +189,8 @@ impl Chains for LinkChains {
         ensures as_many { HoldsAsMany self.old self.new }
     {
         let node = Node {
-            slot: slot.index,
-            place: i,
+            slot: slot.index as u32,
+            place: i as u32,
         };
         let link = link_at(&self.slots, node);
         set_link(
@@ -206,8 +215,8 @@ impl Chains for LinkChains {
         match pass_at(
             &mut self.slots,
             Node {
-                slot: slot.index,
-                place: i,
+                slot: slot.index as u32,
+                place: i as u32,
             },
         ) {
             Some(index) => Released::Passed(Slot { index }),
@@ -226,8 +235,8 @@ impl Chains for LinkChains {
         can_settle_at(
             &self.slots,
             Node {
-                slot: slot.index,
-                place: i,
+                slot: slot.index as u32,
+                place: i as u32,
             },
         )
     }
@@ -237,8 +246,8 @@ impl Chains for LinkChains {
         next_at(
             &self.slots,
             Node {
-                slot: slot.index,
-                place: i,
+                slot: slot.index as u32,
+                place: i as u32,
             },
         )
         .is_some()

@@ -15,11 +15,12 @@ use boc_types::limits::MOST_HELD;
 use boc_types::short::{CownNo, Cowns};
 use slab::Slab;
 
-/// Names a request: the slot that it is at, and its place among those of the slot.
+/// Names a request: the slot that it is at, and its place among those of the slot. It is kept small, since there are two for
+/// each request.
 #[derive(Clone, Copy, Debug, Default, PartialEq, Eq)]
 pub struct Node {
-    pub slot: usize,
-    pub place: usize,
+    pub slot: u32,
+    pub place: u32,
 }
 
 /// How one request is kept: the one before it in its list, until that leaves, and the one after it, once that
@@ -39,7 +40,7 @@ pub struct Linked {
     pub links: ArrayVec<Link, MOST_HELD>,
 }
 
-/// Writes a link over the one at a place.
+// Writes a link over the one at a place.
 fn put(links: &mut ArrayVec<Link, MOST_HELD>, place: usize, link: Link)
     requires { place < length links.old.items }
     ensures { links.new.items ≡ slice_set links.old.items place link }
@@ -48,7 +49,7 @@ fn put(links: &mut ArrayVec<Link, MOST_HELD>, place: usize, link: Link)
 }
 
 impl Linked {
-    /// Adds the link of the next request.
+    // Adds the link of the next request.
     fn push(&mut self, link: Link)
         requires { exchanged_of (place_in (Some self.old)) < length (cowns_of (place_in (Some self.old))) }
         ensures here { let place = place_in (Some self.old) in
@@ -62,7 +63,7 @@ impl Linked {
         self.links.push(link);
     }
 
-    /// The link of the request at a place.
+    // The link of the request at a place.
     fn link(&self, place: usize) -> Link
         requires { place < exchanged_of (place_in (Some self.now)) }
         ensures { (c : ℕ) → position (λ d. d == c) self.now.cowns.items ≡ Some place → stored_in (Some self.now) c
@@ -71,7 +72,7 @@ impl Linked {
         self.links[place]
     }
 
-    /// Puts a link in the place of the one at a place.
+    // Puts a link in the place of the one at a place.
     fn relink(&mut self, place: usize, link: Link)
         requires { place < exchanged_of (place_in (Some self.old)) }
         ensures here { (c : ℕ) → position (λ d. d == c) self.old.cowns.items ≡ Some place → stored_in (Some self.new) c
@@ -148,11 +149,11 @@ pub fn can_settle_at(slots: &Slab<Linked>, node: Node) -> bool
     }
 }
 
-/// The slot of a request.
+// The slot of a request.
 fn slot_of(node: Option<Node>) -> Option<usize>
     ensures { result ≡ option_map (λ n. n.slot) node }
 {
-    node.map(|node| node.slot)
+    node.map(|node| node.slot as usize)
 }
 
 /// The slot of the request that follows one at the front, where it has settled.
@@ -185,7 +186,7 @@ pub fn pass_at(slots: &mut Slab<Linked>, node: Node) -> Option<usize>
                     ..link
                 },
             );
-            Some(next.slot)
+            Some(next.slot as usize)
         }
         None => None,
     }
@@ -219,7 +220,7 @@ pub fn link_at(slots: &Slab<Linked>, node: Node) -> Link
     requires { node.place < exchanged_of (place_at slots.now node.slot) }
     ensures { (c : ℕ) → IsAt slots.now node c → stored slots.now node.slot c ≡ Some result }
 {
-    slots[node.slot].link(node.place)
+    slots[node.slot as usize].link(node.place as usize)
 }
 
 /// Puts a link in the place of that of a request.
@@ -231,5 +232,5 @@ pub fn set_link(slots: &mut Slab<Linked>, node: Node, link: Link)
     ensures places { (s : ℕ) → place_at slots.new s ≡ place_at slots.old s }
     ensures len { slab_len slots.new ≡ slab_len slots.old }
 {
-    slots[node.slot].relink(node.place, link);
+    slots[node.slot as usize].relink(node.place as usize, link);
 }

@@ -21,7 +21,7 @@ pub struct ListChains {
     ghost kept: { IsKept lines.items places.items },
 }
 
-/// Makes room in the lists for one more request of each of these cowns.
+// Makes room in the lists for one more request of each of these cowns.
 fn make_room(
     lines: &mut Vec<Vec<Request>>,
     places: &[Option<Held>],

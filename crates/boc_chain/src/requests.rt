@@ -17,7 +17,7 @@ pub fn end_of(requests: &[Request]) -> Option<Slot>
     })
 }
 
-/// The request, settled where it is the slot's.
+// The request, settled where it is the slot's.
 fn settled_if(request: Request, slot: usize) -> Request
     ensures { result ≡ settle_one slot request }
 {
@@ -27,7 +27,7 @@ fn settled_if(request: Request, slot: usize) -> Request
     }
 }
 
-/// The request, flagged where it is the slot's.
+// The request, flagged where it is the slot's.
 fn flagged_if(request: Request, slot: usize) -> Request
     ensures { result ≡ flag_one slot request }
 {
@@ -37,7 +37,7 @@ fn flagged_if(request: Request, slot: usize) -> Request
     }
 }
 
-/// Marks the slot's request settled.
+// Marks the slot's request settled.
 fn mark_settled(requests: &mut [Request], slot: usize)
     ensures { requests.new ≡ with_settled slot requests.old }
 {
@@ -46,7 +46,7 @@ fn mark_settled(requests: &mut [Request], slot: usize)
     }
 }
 
-/// Marks the slot's request flagged.
+// Marks the slot's request flagged.
 fn mark_flagged(requests: &mut [Request], slot: usize)
     ensures { requests.new ≡ with_flagged slot requests.old }
 {
@@ -64,14 +64,14 @@ pub fn flag_in(requests: &mut Vec<Request>, slot: usize)
     mark_flagged(requests, slot);
 }
 
-/// The place of the slot's request.
+// The place of the slot's request.
 fn place_of(requests: &[Request], slot: usize) -> Option<usize>
     ensures { result ≡ position (λ r. r.slot == slot) requests.now }
 {
     requests.iter().position(|request| request.slot == slot)
 }
 
-/// The request right before the slot's.
+// The request right before the slot's.
 fn one_before(requests: &[Request], slot: usize) -> Option<Request>
     ensures { result ≡ before slot requests.now }
 {

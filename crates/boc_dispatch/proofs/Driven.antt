@@ -1,6 +1,6 @@
 -- A drive from its opening to its end.
 use Rattle.std.proofs.Common.{◌≡◌, ℕ, zero, suc, ◌<◌, ◌≤◌, List, [], ◌∷◌, ◌++◌, length, map, take, replicate, refl, sym, ◌∙◌, ap, subst, arith}
-use Rattle.std.specs.Prelude.{slice_get, slice_set, Option, Some, None, Err}
+use Rattle.std.specs.Prelude.{slice_get, slice_set, Some, None, Err}
 use Rattle.std.specs.Option.{option_map}
 use Rattle.std.proofs.Math.Seq.{take-length}
 use Rattle.std.proofs.lemmas.List.{length-map, length-replicate, length-set, map-set}
@@ -20,27 +20,16 @@ use Rattle.boc_dispatch.specs.declared.worker.Worker.{Worker}
 use Rattle.boc_dispatch.specs.Underway.{Underway}
 use Rattle.boc_dispatch.specs.Calls.{in_state}
 use Rattle.boc_dispatch.specs.Working.{row_in, HasNoRoom}
-use Rattle.boc_dispatch.specs.Driving.{HandFits, IsCrew, of_program, IsDriven, HasNoWorker, RunsOutOfRows, Drives}
+use Rattle.boc_dispatch.specs.Driving.{HandFits, IsCrew, IsAt, rows_of, of_program, IsDriven, HasNoWorker, RunsOutOfRows, Drives}
 use Rattle.boc_dispatch.proofs.Crews.{crew_on}
 use Rattle.boc_dispatch.proofs.Turned.{turns_more}
 
--- the row that each worker serves, if any
-abbrev pub rows_of : List Worker → List (Option ℕ)
-rows_of crew = map (λ (w : Worker). row_in w.hand) crew
-
--- the choices before a place have had their turns
-pub record IsAt (p : Program) (workers : ℕ) (choices : List ℕ) (place : ℕ) (u : Underway) (crew : List Worker) : Type 0 where
-  pub program : u.program ≡ p
-  pub count : length crew ≡ workers
-  pub fits : IsCrew u crew
-  pub turns : Turns p (opening_driven p workers) (take place choices) (record { state = u.state; serves = rows_of crew })
-
 -- ---- lists
 
-got_map : {A B : Type 0} (f : A → B) (xs : List A) (i : ℕ) (x : A) → slice_get xs i ≡ Some x → slice_get (map f xs) i ≡ Some (f x)
+pub got_map : {A B : Type 0} (f : A → B) (xs : List A) (i : ℕ) (x : A) → slice_get xs i ≡ Some x → slice_get (map f xs) i ≡ Some (f x)
 got_map f xs i x e = slice_get-map f xs i ∙ ap (option_map f) e
 
-take_one_more : (xs : List ℕ) (i x : ℕ) → slice_get xs i ≡ Some x → take (suc i) xs ≡ take i xs ++ x ∷ []
+pub take_one_more : (xs : List ℕ) (i x : ℕ) → slice_get xs i ≡ Some x → take (suc i) xs ≡ take i xs ++ x ∷ []
 take_one_more [] i x e = absurd (let g : None ≡ Some x = e in cc)
 take_one_more (y ∷ xs) zero x e = (let g : Some y ≡ Some x = e in let same : y ≡ x = cc in ap (λ z. z ∷ []) same)
 take_one_more (y ∷ xs) (suc i) x e = ap (λ ys. y ∷ ys) (take_one_more xs i x e)

@@ -24,6 +24,7 @@ pub mod Settled
 pub mod Recording
 pub mod Settling
 pub mod Quiet
+pub mod Movable
 pub mod Answered
 pub mod Starting
 pub mod Opened
@@ -36,3 +37,4 @@ pub mod OwnTurns
 pub mod Crews
 pub mod Turned
 pub mod Driven
+pub mod Quieting

@@ -12,6 +12,7 @@ use Rattle.boc_types.specs.runs.Run.{Member}
 use Rattle.boc_types.specs.runs.Records.{Recorded as RecordOf, IsRecordOf}
 use Rattle.boc_types.specs.machine.Steps.{State, at, members, opened, recorded, unrecorded, IsQuiet, HasNoEnqueue, Opens, Advances, Starts, Owns, Finishes, Leaves, IsBlockedAsking, IsBlockedLeaving}
 use Rattle.boc_types.specs.machine.Turns.{IsEnqueueOf}
+use Rattle.boc_types.specs.machine.Movers.{CanAdvance, CanGoOn, CanLeave, CanStart}
 use Rattle.boc_eval.specs.Frames.{UnderWay as Framed, Ran}
 use Rattle.boc_dispatch.specs.declared.answers.Advanced.{Advanced}
 use Rattle.boc_dispatch.specs.declared.answers.Advanced.TheVariants as advanced
@@ -21,6 +22,8 @@ use Rattle.boc_dispatch.specs.declared.answers.FinishFault.TheVariants as finish
 use Rattle.boc_dispatch.specs.declared.answers.Leaving.{Leaving}
 use Rattle.boc_dispatch.specs.declared.answers.Left.{Left}
 use Rattle.boc_dispatch.specs.declared.answers.Left.TheVariants as left
+use Rattle.boc_dispatch.specs.declared.answers.Mover.{Mover}
+use Rattle.boc_dispatch.specs.declared.answers.Mover.TheVariants as movers
 use Rattle.boc_dispatch.specs.declared.answers.OpenFault.{OpenFault}
 use Rattle.boc_dispatch.specs.declared.answers.OpenFault.TheVariants as open_faults
 use Rattle.boc_dispatch.specs.declared.answers.Started.{Started}
@@ -126,6 +129,20 @@ LeavesCown u leaving (left.Gone step) v =
     (who : ℕ) × (t : State) × Leaves u.state who leaving.row step t × (at t who ≡ None) × (v ≡ in_state u t)
 LeavesCown u leaving left.Blocked v = (v ≡ u) × ((who : ℕ) × IsBlockedLeaving u.state who leaving.row)
 LeavesCown u leaving left.Unknown v = (v ≡ u) × (IsLeaving u.state leaving.row → ⊥)
+
+-- ---- movable
+
+-- the one that is named can step
+abbrev pub CanMove : Underway → Mover → Type 0
+CanMove u (movers.Ready row) = CanStart u.state row
+CanMove u (movers.Running row) = CanGoOn u.program u.state row
+CanMove u (movers.Enqueuing child) = CanAdvance u.program u.state child.number child.row
+CanMove u (movers.Leaving leaving) = CanLeave u.state leaving.row
+
+-- somebody is named who can step; or nobody, exactly where it is quiet
+abbrev pub NamesMover : Underway → Option Mover → Type 0
+NamesMover u None = IsQuiet u.state
+NamesMover u (Some mover) = CanMove u mover × (IsQuiet u.state → ⊥)
 
 -- ---- into_record
 

@@ -1,13 +1,17 @@
 -- What the workers of a drive have in hand, and how a drive ends.
-use Rattle.std.specs.Prelude.{◌≡◌, ℕ, ◌+◌, ◌<◌, ◌≤◌, if◌then◌else◌, List, take, Option, Some, Result, Ok, Err, slice_get}
+use Rattle.std.specs.Prelude.{◌≡◌, ℕ, ◌+◌, ◌<◌, ◌≤◌, if◌then◌else◌, List, [], ◌∷◌, ◌++◌, length, map, take, Option, Some, None, Result, Ok, Err, slice_get}
+use Rattle.std.specs.declared.vec.Vec.{Vec}
+use Rattle.std.specs.declared.alloc.Global.{Global}
 use Rattle.boc_types.specs.declared.program.Program.{Program}
 use Rattle.boc_types.specs.program.Meaning.{Wish}
 use Rattle.boc_types.specs.runs.Run.{next_wish}
 use Rattle.boc_types.specs.machine.Stages.{asks}
-use Rattle.boc_types.specs.machine.Steps.{State, at, members}
+use Rattle.boc_types.specs.machine.Steps.{State, at, members, IsQuiet}
 use Rattle.boc_types.specs.machine.Sound.{IsSound}
 use Rattle.boc_types.specs.machine.Turns.{IsEnqueueOf, Driven, Turn, Turns, opening_driven}
 use Rattle.boc_eval.specs.Frames.{UnderWay as Framed, Ran}
+use Rattle.boc_dispatch.specs.declared.answers.Mover.{Mover}
+use Rattle.boc_dispatch.specs.declared.answers.Mover.TheVariants as movers
 use Rattle.boc_dispatch.specs.declared.answers.OpenFault.TheVariants as open_faults
 use Rattle.boc_dispatch.specs.declared.interleaving.DriveFault.{DriveFault}
 use Rattle.boc_dispatch.specs.declared.interleaving.DriveFault.TheVariants as drive_faults
@@ -111,3 +115,36 @@ Drives p workers choices (Ok u) = IsDriven p workers choices u
 Drives p workers choices (Err (drive_faults.NoSuchWorker place)) = HasNoWorker p workers choices place
 Drives p workers choices (Err drive_faults.Behaviours) = RunsOutOfRows p workers choices
 Drives p workers choices (Err drive_faults.Memory) = Unit {0}
+
+-- ---- a drive goes on until it is quiet
+
+-- the row that each worker serves, if any
+abbrev pub rows_of : List Worker → List (Option ℕ)
+rows_of crew = map (λ (w : Worker). row_in w.hand) crew
+
+-- the choices before a place have had their turns
+pub record IsAt (p : Program) (workers : ℕ) (choices : List ℕ) (place : ℕ) (u : Underway) (crew : List Worker) : Type 0 where
+  pub program : u.program ≡ p
+  pub count : length crew ≡ workers
+  pub fits : IsCrew u crew
+  pub turns : Turns p (opening_driven p workers) (take place choices) (record { state = u.state; serves = rows_of crew })
+
+-- all choices have had their turns, and the workers fit; or the drive ended so
+abbrev pub HasPlayed : Program → ℕ → List ℕ → Result (Vec Worker Global × Underway) DriveFault → Type 0
+HasPlayed p workers choices (Ok (crew, u)) = IsAt p workers choices (length choices) u crew.items
+HasPlayed p workers choices (Err fault) = Drives p workers choices (Err fault)
+
+-- the row that is served by who is to have a turn for a mover: nobody's, where a row is to start
+abbrev pub row_for : Mover → Option ℕ
+row_for (movers.Ready row) = None
+row_for (movers.Running row) = Some row
+row_for (movers.Enqueuing child) = Some child.row
+row_for (movers.Leaving leaving) = Some leaving.row
+
+-- The turns of the choices and of some further ones, folded, and it is quiet there; or the fault of a drive by these. With no
+-- workers the first further choice, of worker 0, is no worker.
+abbrev pub DrivesQuiet : Program → ℕ → List ℕ → Result Underway DriveFault → Type 0
+DrivesQuiet p workers choices (Ok u) = ((more : List ℕ) × IsDriven p workers (choices ++ more) u) × IsQuiet u.state
+DrivesQuiet p workers choices (Err (drive_faults.NoSuchWorker place)) = HasNoWorker p workers (choices ++ 0 ∷ []) place
+DrivesQuiet p workers choices (Err drive_faults.Behaviours) = (more : List ℕ) × RunsOutOfRows p workers (choices ++ more)
+DrivesQuiet p workers choices (Err drive_faults.Memory) = Unit {0}

@@ -1,20 +1,21 @@
 -- What the functions of the machine do to what it has in hand.
-use Rattle.std.specs.Prelude.{◌≡◌, ◌≢◌, ℕ, ◌+◌, ◌^◌, ◌<◌, Bool, true, false, List, [], ◌∷◌, ◌++◌, length, slice_set, ℤ, Option, Some, None, Result, Ok, Err}
-use Rattle.boc_types.specs.declared.stage.Phase.TheVariants.{Leaving as LeavingPhase}
+use Rattle.std.specs.Prelude.{◌≡◌, ◌≢◌, ℕ, ◌+◌, ◌^◌, ◌<◌, Bool, true, false, List, [], ◌∷◌, ◌++◌, length, slice_set, Option, Some, None, Result, Ok, Err}
+use Rattle.boc_types.specs.declared.stage.Phase.TheVariants.{Leaving as LeavingPhase, Running as RunningPhase}
 use Rattle.boc_types.specs.declared.stage.Stage.TheVariants.{Recorded}
 use Rattle.boc_types.specs.declared.step.Step.TheVariants.{Settle}
-use Rattle.boc_types.specs.machine.Stages.{enqueues_at, row_at}
-use Rattle.boc_types.specs.machine.Steps.{State, at, Opens, Starts, Settles, Finishes, Leaves, IsBlockedAsking, IsBlockedLeaving}
-use Rattle.boc_types.specs.machine.Turns.{IsEnqueueOf}
+use Rattle.boc_types.specs.machine.Stages.{enqueues_at}
+use Rattle.boc_types.specs.machine.Steps.{at, HasNoEnqueue, Opens, Starts, Settles, Finishes, Leaves, IsBlockedAsking, IsBlockedLeaving}
+use Rattle.boc_types.specs.machine.Movers.{NobodyWorks, CanAdvance, CanLeave}
 use Rattle.boc_dispatch.specs.declared.answers.Advanced.{Advanced}
 use Rattle.boc_dispatch.specs.declared.answers.Advanced.TheVariants as advanced
 use Rattle.boc_dispatch.specs.declared.answers.Child.{Child}
 use Rattle.boc_dispatch.specs.declared.answers.Job.{Job}
 use Rattle.boc_dispatch.specs.declared.answers.Left.{Left}
 use Rattle.boc_dispatch.specs.declared.answers.Left.TheVariants as left
+use Rattle.boc_dispatch.specs.declared.answers.Mover.{Mover}
 use Rattle.boc_dispatch.specs.declared.live.Live.{Live}
 use Rattle.boc_dispatch.specs.declared.machine.Enqueue.{Enqueue}
-use Rattle.boc_dispatch.specs.Calls.{IsHandedOut}
+use Rattle.boc_dispatch.specs.Calls.{IsHandedOut, CanMove}
 use Rattle.boc_types.specs.runs.Legal.{IsAllowed, entries}
 use Rattle.boc_rules.specs.Log.{grown}
 use Rattle.boc_dispatch.specs.Places.{with_child, with_spawn, with_row, spawn_of}
@@ -128,3 +129,26 @@ ReleasesNext d who row left.Unknown e = ⊥
 -- the slot of a leaving behaviour, and the request that it releases next
 abbrev pub IsFoundLeaving : Parts → ℕ → ℕ → ℕ → Type 0
 IsFoundLeaving d row slot request = (l : Live) × IsAtStage d slot l (Recorded row (LeavingPhase request))
+
+-- ---- who can step
+
+-- a behaviour can't step: neither its enqueue, nor its body, nor its release
+pub record StandsStill (d : Parts) (l : Live) : Type 0 where
+  pub enqueue : enqueues_at l.stage ≡ true → CanAdvance d.program (state d) l.number l.parent → ⊥
+  pub body : (row : ℕ) → l.stage ≡ Recorded row RunningPhase → HasNoEnqueue (state d) row → ⊥
+  pub release : (row request : ℕ) → l.stage ≡ Recorded row (LeavingPhase request) → CanLeave (state d) row → ⊥
+
+-- what is named of a behaviour can step, or it can't
+abbrev pub MovesOrNot : Parts → Live → Option Mover → Type 0
+MovesOrNot d l None = StandsStill d l
+MovesOrNot d l (Some mover) = CanMove (underway d) mover
+
+-- the same of whatever is at a slot
+abbrev pub MovesAtOrNot : Parts → ℕ → Option Mover → Type 0
+MovesAtOrNot d slot None = (l : Live) → live_at d.live slot ≡ Some l → StandsStill d l
+MovesAtOrNot d slot (Some mover) = CanMove (underway d) mover
+
+-- of those that work one who can step is named; or nobody works
+abbrev pub NamesWorker : Parts → Option Mover → Type 0
+NamesWorker d None = NobodyWorks (state d)
+NamesWorker d (Some mover) = CanMove (underway d) mover

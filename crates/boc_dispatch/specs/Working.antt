@@ -73,11 +73,9 @@ Enqueues h child = (row : ℕ) × (f : Framed) × (h ≡ hands.Framed row f (due
 abbrev pub Wishes : Hand → Type 0
 Wishes h = (row : ℕ) × (f : Framed) × (h ≡ hands.Framed row f dues.Wishing)
 
--- what is in hand goes into the call that is due, or is made by it
-abbrev pub IsMoved : Hand → Type 0
-IsMoved hands.Nothing = Unit {0}
-IsMoved (hands.Done row o) = Unit {0}
-IsMoved _ = ⊥
+-- a row's body has ended, and its end is due
+abbrev pub IsDone : Hand → Type 0
+IsDone h = (row : ℕ) × (o : Ran) × (h ≡ hands.Done row o)
 
 -- ---- thinking
 

@@ -89,3 +89,16 @@ pub enum Left {
     /// No leaving behaviour has this token.
     Unknown,
 }
+
+/// Somebody who can step.
+#[derive(Clone, Copy, PartialEq, Eq, Debug)]
+pub enum Mover {
+    /// The row that is first in the ready list, where no behaviour is being enqueued, running or leaving.
+    Ready(u32),
+    /// A running row that has no open enqueue. Its body can go on.
+    Running(u32),
+    /// An open enqueue whose next step isn't blocked.
+    Enqueuing(Child),
+    /// A leaving row whose next release isn't blocked.
+    Leaving(Leaving),
+}

@@ -3,7 +3,7 @@
 ghost use Rattle.boc_types.specs.program.Programs.{cown_count as cowns_of};
 ghost use Rattle.std.specs.Prelude.{◌≡◌, ◌↔◌, ◌+◌, ◌^◌, ◌<◌, ℕ, [], None, IfOk, IsTrue, replicate, slice_get};
 
-use crate::answers::{Advanced, Child, FinishFault, Leaving, Left, OpenFault, Started};
+use crate::answers::{Advanced, Child, FinishFault, Leaving, Left, Mover, OpenFault, Started};
 use crate::live::wished_behaviour;
 use crate::machine::{Enqueue, Machine};
 use boc_chain::{Chains, LinkChains};
@@ -69,7 +69,7 @@ impl<'a, C: Chains + Drop> Core<'a, C> {
     ghost use Rattle.boc_types.specs.program.Programs.{cown_count};
     ghost use Rattle.boc_types.specs.machine.Steps.{IsQuiet, opening_state, values};
     ghost use Rattle.boc_types.specs.machine.Sound.{IsSound};
-    ghost use Rattle.boc_dispatch.specs.Calls.{Begins, OpensWish, AdvancesChild, FinishesRow, LeavesCown, EndsAsRecord};
+    ghost use Rattle.boc_dispatch.specs.Calls.{Begins, OpensWish, AdvancesChild, FinishesRow, LeavesCown, NamesMover, EndsAsRecord};
 
     /// The opening state over chains with no request: main is opened, its spawn is recorded, and it is ready.
     pub fn over(alloc: Global, program: &'a Program, chains: C) -> Result<Core<'a, C>, AllocError>
@@ -213,6 +213,13 @@ impl<'a, C: Chains + Drop> Core<'a, C> {
         ensures { IsTrue result ↔ IsQuiet self.now.state }
     {
         self.machine.gone == self.machine.opened
+    }
+
+    /// Somebody who can step, or nobody, exactly where it is quiet. It takes no memory.
+    pub fn movable(&self) -> Option<Mover>
+        ensures { NamesMover self.now result }
+    {
+        self.machine.movable()
     }
 
     /// How many steps were made.

@@ -1,9 +1,10 @@
 //! A program driven by a list of choices: any interleaving of its steps, made on one thread.
 
-ghost use Rattle.std.specs.Prelude.{◌≡◌, ◌≢◌, ℕ, [], None, Err, IfOk, OnOk, map, replicate};
-ghost use Rattle.boc_dispatch.specs.Driving.{Drives, EndsFor, HandFits};
+ghost use Rattle.std.specs.Prelude.{◌≡◌, ◌≢◌, ◌↔◌, ℕ, [], None, Some, Err, IfOk, OnOk, IsTrue, MatchOption, map, replicate, slice_get};
+ghost use Rattle.boc_dispatch.specs.declared.worker.Worker.{Worker};
+ghost use Rattle.boc_dispatch.specs.Driving.{Drives, DrivesQuiet, EndsFor, HandFits, HasPlayed, row_for};
 
-use crate::answers::OpenFault;
+use crate::answers::{Mover, OpenFault};
 use crate::dispatcher::{Core, Dispatcher, cown_count};
 use crate::worker::{Refusal, Turn, Worker};
 use boc_chain::{Chains, LinkChains};
@@ -64,6 +65,65 @@ pub fn drive_over<'a, C: Chains + Drop>(
     requires none { (slot : ℕ) → C.place chains slot ≡ None }
     ensures { Drives program.now workers choices.now result }
 {
+    match play(alloc, program, chains, workers, choices) {
+        Ok((_, core)) => Ok(core),
+        Err(fault) => Err(fault),
+    }
+}
+
+/// Drives a program by the choices as `drive` does, and then on until it is quiet. Each further choice is the worker that
+/// serves whom `movable` names; a row that is to start is served by the first worker.
+pub fn drive_quiet<'a>(
+    alloc: Global,
+    program: &'a Program,
+    workers: u32,
+    choices: &[u16],
+) -> Result<Dispatcher<'a>, DriveFault>
+    ensures { DrivesQuiet program.now workers choices.now result }
+{
+    let chains = LinkChains::new(alloc, cown_count(program))?;
+    drive_quiet_over(alloc, program, chains, workers, choices)
+}
+
+/// The same over chains of either kind.
+pub fn drive_quiet_over<'a, C: Chains + Drop>(
+    alloc: Global,
+    program: &'a Program,
+    chains: C,
+    workers: u32,
+    choices: &[u16],
+) -> Result<Core<'a, C>, DriveFault>
+    requires empty { C.lists chains ≡ replicate (cowns_of program.now.cowns) [] }
+    requires none { (slot : ℕ) → C.place chains slot ≡ None }
+    ensures { DrivesQuiet program.now workers choices.now result }
+{
+    let (mut crew, mut core) = match play(alloc, program, chains, workers, choices) {
+        Ok(at) => at,
+        Err(fault) => return Err(fault),
+    };
+    while let Some(mover) = core.movable() {
+        let Some(server) = server_of(&crew, mover) else {
+            return Err(DriveFault::NoSuchWorker {
+                place: choices.len(),
+            });
+        };
+        take_turn(alloc, &mut crew[server], &mut core)?;
+    }
+    Ok(core)
+}
+
+// The workers and the dispatcher after the turns of all choices.
+fn play<'a, C: Chains + Drop>(
+    alloc: Global,
+    program: &'a Program,
+    chains: C,
+    workers: u32,
+    choices: &[u16],
+) -> Result<(Vec<Worker<'a>>, Core<'a, C>), DriveFault>
+    requires empty { C.lists chains ≡ replicate (cowns_of program.now.cowns) [] }
+    requires none { (slot : ℕ) → C.place chains slot ≡ None }
+    ensures { HasPlayed program.now workers choices.now result }
+{
     let mut crew = idle_crew(alloc, workers)?;
     let mut core = Core::over(alloc, program, chains)?;
     for (place, choice) in choices.iter().enumerate() {
@@ -73,7 +133,34 @@ pub fn drive_over<'a, C: Chains + Drop>(
         }
         take_turn(alloc, &mut crew[chosen], &mut core)?;
     }
-    Ok(core)
+    Ok((crew, core))
+}
+
+// The first worker that serves who can step; or that serves nobody, where a row is to start.
+fn server_of(crew: &[Worker<'_>], mover: Mover) -> Option<usize>
+    ensures { MatchOption result
+        ((k : ℕ) (w : Worker) → slice_get crew.now k ≡ Some w → row_in w.hand ≢ row_for mover)
+        (λ k. (w : Worker) × (slice_get crew.now k ≡ Some w) × (row_in w.hand ≡ row_for mover)) }
+{
+    for (number, worker) in crew.iter().enumerate() {
+        if serves(worker, mover) {
+            return Some(number);
+        }
+    }
+    None
+}
+
+// Whether a worker is to have the turn of who can step.
+fn serves(worker: &Worker<'_>, mover: Mover) -> bool
+    ensures { IsTrue result ↔ (row_in worker.now.hand ≡ row_for mover) }
+{
+    let row = match mover {
+        Mover::Ready(_) => None,
+        Mover::Running(row) => Some(row),
+        Mover::Enqueuing(child) => Some(child.row),
+        Mover::Leaving(leaving) => Some(leaving.row),
+    };
+    worker.row() == row
 }
 
 // So many workers that serve nobody yet.

@@ -6,11 +6,12 @@ mod dispatcher;
 mod interleaving;
 mod live;
 mod machine;
+mod movers;
 mod moves;
 mod worker;
 
-pub use answers::{Advanced, Child, FinishFault, Job, Leaving, Left, OpenFault, Started};
+pub use answers::{Advanced, Child, FinishFault, Job, Leaving, Left, Mover, OpenFault, Started};
 pub use boc_types::step::Step;
 pub use dispatcher::{Core, Dispatcher};
-pub use interleaving::{DriveFault, drive, drive_over};
+pub use interleaving::{DriveFault, drive, drive_over, drive_quiet, drive_quiet_over};
 pub use worker::{Refusal, Turn, Worker};

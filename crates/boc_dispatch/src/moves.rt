@@ -48,6 +48,20 @@ pub fn begin<'a>(place: &mut Option<Live>, program: &'a Program, values: &[i64])
     }
 }
 
+/// The row under which its spawn is recorded.
+pub fn recorded_row(place: &Option<Live>) -> u32
+    requires { Has place.now (λ l. (row : ℕ) × (row_at l.stage ≡ Some row)) }
+    ensures { Has place.now (λ l. row_at l.stage ≡ Some result) }
+{
+    match place {
+        Some(live) => match live.stage {
+            Stage::Recorded { row, .. } => row,
+            Stage::Asking { .. } => unreachable!(),
+        },
+        None => unreachable!(),
+    }
+}
+
 /// A wish of it is being enqueued at this slot.
 pub fn begin_child(place: &mut Option<Live>, child: usize)
     requires { Has place.old (λ l. Unit {0}) }

@@ -73,7 +73,7 @@ ghost use Rattle.boc_dispatch.specs.declared.worker.Due.{Due};
 ghost use Rattle.boc_dispatch.specs.declared.worker.Due.TheVariants as dues;
 ghost use Rattle.boc_dispatch.specs.declared.worker.Hand.TheVariants as hands;
 ghost use Rattle.boc_dispatch.specs.Driving.{KeepsFitting};
-ghost use Rattle.boc_dispatch.specs.Working.{row_in, frame_of as frame_at_start, Enqueues, Goes, HasGiven, HasGoneOn, HasThought, IsEnded, IsMoved, IsStarted, Wishes, Works};
+ghost use Rattle.boc_dispatch.specs.Working.{row_in, frame_of as frame_at_start, Enqueues, Goes, HasGiven, HasGoneOn, HasThought, IsDone, IsEnded, IsStarted, Wishes, Works};
 ghost use Rattle.boc_dispatch.specs.declared.answers.Child.{Child};
 ghost use Rattle.boc_eval.specs.Frames.{UnderWay as Framed};
 
@@ -87,17 +87,6 @@ fn frame_of<'a>(alloc: Global, job: &Job<'a>) -> Result<Frame<'a>, AllocError>
         Args::try_from(job.args.as_slice()).unwrap(),
         Inputs::try_from(job.inputs.as_slice()).unwrap(),
     )
-}
-
-// A row's frame goes on to its next wish, or its end.
-fn gone_on(row: u32, frame: Frame<'_>) -> Hand<'_>
-    ensures { HasGoneOn row frame.entry result }
-{
-    let mut frame = frame;
-    match frame.run() {
-        Stop::Wants(_) => Hand::Framed(row, frame, Due::Wishing),
-        Stop::Ended => Hand::Done(row, frame.into_outcome()),
-    }
 }
 
 impl<'a> Worker<'a> {
@@ -170,7 +159,8 @@ impl<'a> Worker<'a> {
                 let leaving = *leaving;
                 leave(&mut self.hand, leaving, core)
             }
-            Hand::Nothing | Hand::Done(..) => work(&mut self.hand, core),
+            Hand::Done(..) => finish(&mut self.hand, core),
+            Hand::Nothing => begin(&mut self.hand, core),
         }
     }
 }
@@ -183,8 +173,11 @@ fn take_up<'a>(alloc: Global, hand: &mut Hand<'a>) -> Result<(), AllocError>
     match hand {
         Hand::Started(job) => {
             let row = job.row;
-            let frame = frame_of(alloc, job)?;
-            *hand = gone_on(row, frame);
+            let mut frame = frame_of(alloc, job)?;
+            match frame.run() {
+                Stop::Wants(_) => *hand = Hand::Framed(row, frame, Due::Wishing),
+                Stop::Ended => *hand = Hand::Done(row, frame.into_outcome()),
+            }
             Ok(())
         }
         _ => unreachable!(),
@@ -226,40 +219,19 @@ fn end(hand: &mut Hand<'_>)
     };
 }
 
-// The turn of a worker that moves what it has in hand.
-fn work<'a, C: Chains + Drop>(hand: &mut Hand<'a>, core: &mut Core<'a, C>) -> Turn
-    requires { IsMoved hand.old }
+// The turn of a worker that serves nobody.
+fn begin<'a, C: Chains + Drop>(hand: &mut Hand<'a>, core: &mut Core<'a, C>) -> Turn
+    requires { hand.old ≡ hands.Nothing }
     ensures works { Works core.old hand.old result core.new hand.new }
     ensures fits { KeepsFitting core.old hand.old core.new hand.new }
 {
-    let before = std::mem::replace(hand, Hand::Nothing);
-    let (after, turn) = worked(before, core);
-    *hand = after;
-    turn
-}
-
-// What a worker has in hand after a turn that moves it.
-fn worked<'a, C: Chains + Drop>(hand: Hand<'a>, core: &mut Core<'a, C>) -> (Hand<'a>, Turn)
-    requires { IsMoved hand }
-    ensures works { Works core.old hand.entry result.1 core.new result.0 }
-    ensures fits { KeepsFitting core.old hand.entry core.new result.0 }
-{
-    match hand {
-        Hand::Done(row, outcome) => finish(row, outcome, core),
-        Hand::Nothing => begin(core),
-        _ => unreachable!(),
-    }
-}
-
-// The turn of a worker that serves nobody.
-fn begin<'a, C: Chains + Drop>(core: &mut Core<'a, C>) -> (Hand<'a>, Turn)
-    ensures works { Works core.old hands.Nothing result.1 core.new result.0 }
-    ensures fits { KeepsFitting core.old hands.Nothing core.new result.0 }
-{
     match core.start() {
-        Started::Job(job) => (Hand::Started(job), Turn::Moved(Step::Start)),
-        Started::NoneReady => (Hand::Nothing, Turn::NoneReady),
-        Started::Quiet => (Hand::Nothing, Turn::Quiet),
+        Started::Job(job) => {
+            *hand = Hand::Started(job);
+            Turn::Moved(Step::Start)
+        }
+        Started::NoneReady => Turn::NoneReady,
+        Started::Quiet => Turn::Quiet,
     }
 }
 
@@ -310,21 +282,24 @@ fn resume(hand: &mut Hand<'_>, child: Child)
 }
 
 // The turn of a worker whose row's body has ended.
-fn finish<'a, C: Chains + Drop>(
-    row: u32,
-    outcome: Outcome<'a>,
-    core: &mut Core<'a, C>,
-) -> (Hand<'a>, Turn)
-    ensures works { Works core.old (hands.Done row outcome.entry) result.1 core.new result.0 }
-    ensures fits { KeepsFitting core.old (hands.Done row outcome.entry) core.new result.0 }
+fn finish<'a, C: Chains + Drop>(hand: &mut Hand<'a>, core: &mut Core<'a, C>) -> Turn
+    requires { IsDone hand.old }
+    ensures works { Works core.old hand.old result core.new hand.new }
+    ensures fits { KeepsFitting core.old hand.old core.new hand.new }
 {
-    match core.finish(row, outcome) {
-        Ok(Some(leaving)) => (Hand::Leaving(leaving), Turn::Moved(Step::Finish)),
-        Ok(None) => (Hand::Nothing, Turn::Moved(Step::Finish)),
-        Err((outcome, fault)) => (
-            Hand::Done(row, outcome),
-            Turn::Refused(Refusal::Finish(fault)),
-        ),
+    match std::mem::replace(hand, Hand::Nothing) {
+        Hand::Done(row, outcome) => match core.finish(row, outcome) {
+            Ok(Some(leaving)) => {
+                *hand = Hand::Leaving(leaving);
+                Turn::Moved(Step::Finish)
+            }
+            Ok(None) => Turn::Moved(Step::Finish),
+            Err((outcome, fault)) => {
+                *hand = Hand::Done(row, outcome);
+                Turn::Refused(Refusal::Finish(fault))
+            }
+        },
+        _ => unreachable!(),
     }
 }
 

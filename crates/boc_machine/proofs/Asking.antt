@@ -26,7 +26,7 @@ use Rattle.boc_machine.proofs.Core.{Core, put_here, put_others, range_kept, once
 
 -- ---- the first cowns of a list
 
-taken_here : (cs : List ℕ) (i c : ℕ) → slice_get cs i ≡ Some c → times c (take (suc i) cs) ≡ times c (take i cs) + 1
+pub taken_here : (cs : List ℕ) (i c : ℕ) → slice_get cs i ≡ Some c → times c (take (suc i) cs) ≡ times c (take i cs) + 1
 taken_here [] i c e = absurd (let f : None ≡ Some c = e in cc)
 taken_here (d ∷ cs) zero c e =
     let is : d ≡ c = (let f : Some d ≡ Some c = e in cc) in

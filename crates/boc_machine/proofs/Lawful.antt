@@ -80,7 +80,7 @@ times-take-le c zero cs = omega arith
 times-take-le c (suc i) [] = omega arith
 times-take-le c (suc i) (d ∷ cs) = omega (arith, times-take-le c i cs)
 
-times-drop-le : (c i : ℕ) (cs : List ℕ) → times c (drop i cs) ≤ times c cs
+pub times-drop-le : (c i : ℕ) (cs : List ℕ) → times c (drop i cs) ≤ times c cs
 times-drop-le c zero cs = omega arith
 times-drop-le c (suc i) [] = omega arith
 times-drop-le c (suc i) (d ∷ cs) = omega (arith, times-drop-le c i cs)

@@ -18,6 +18,8 @@ pub mod SerialEnd
 pub mod SerialSpawn
 pub mod Serially
 pub mod OneTurn
+pub mod Moving
+pub mod Serving
 pub mod Bounds
 pub mod Records
 mod TwoOrders

@@ -18,6 +18,7 @@ use Rattle.boc_types.specs.machine.Queues.{times}
 use Rattle.boc_types.specs.machine.Steps.{HasNoEnqueue, State, at, queue, members, recorded, unrecorded, opened, stepped, noted, with_stage, with_queue, with_new, with_ready, asking_on, leaving_on, owned, flagging, woken, child, IsDue, IsBlockedAsking, IsBlockedLeaving, Opens, Settles, Starts, Finishes, Advances, Leaves, Makes}
 use Rattle.boc_types.specs.machine.Turns.{IsEnqueueOf, unless_gone, TakesTurn, Begins, NoneReady, Advanced, WaitsToSettle, Opened, Finished, Left, WaitsToLeave, Driven, Turn, Turns}
 use Rattle.boc_types.specs.machine.Schedules.{Reaches, Here, Then}
+use Rattle.boc_types.specs.machine.Movers.{CanLeave}
 use Rattle.boc_types.specs.machine.Sound.{IsSound}
 use Rattle.boc_types.proofs.ChangedItems.{none_past}
 use Rattle.boc_machine.proofs.Rows.{life_there}
@@ -145,7 +146,7 @@ blocked_settle p s who i t m k =
     ∙ k.unflagged in
     omega (arith, free, none)
 
-blocked_asking : (p : Program) (s : State) (who : ℕ) (step : Step) (t : State) → Advances p s who step t
+pub blocked_asking : (p : Program) (s : State) (who : ℕ) (step : Step) (t : State) → Advances p s who step t
     → IsBlockedAsking s who → ⊥
 blocked_asking p s who (steps.Swap i) t m k =
     not_exchanged i k.request (stage_of_due s who m.this k.this (Asking i false)
@@ -227,13 +228,13 @@ finishes_one p s who row t u m n =
 -- ---- what is due to a row
 
 -- a row that is leaving
-record IsLeaving (s : State) (who row : ℕ) : Type 0 where
-  this : OpenBehaviour
-  request : ℕ
-  is : at s who ≡ Some this
-  stage_is : this.stage ≡ Recorded row (Leaving request)
+pub record IsLeaving (s : State) (who row : ℕ) : Type 0 where
+  pub this : OpenBehaviour
+  pub request : ℕ
+  pub is : at s who ≡ Some this
+  pub stage_is : this.stage ≡ Recorded row (Leaving request)
 
-leaves_leaving : (s : State) (who row : ℕ) (step : Step) (t : State) → Leaves s who row step t → IsLeaving s who row
+pub leaves_leaving : (s : State) (who row : ℕ) (step : Step) (t : State) → Leaves s who row step t → IsLeaving s who row
 leaves_leaving s who row (steps.Unhook i) t m =
     record { this = m.this; request = i; is = m.due.is; stage_is = m.due.stage_is }
 leaves_leaving s who row (steps.Pass i) t m =
@@ -246,10 +247,10 @@ leaves_leaving s who row steps.Own t m = absurd m
 leaves_leaving s who row steps.Start t m = absurd m
 leaves_leaving s who row steps.Finish t m = absurd m
 
-blocked_is_leaving : (s : State) (who row : ℕ) → IsBlockedLeaving s who row → IsLeaving s who row
+pub blocked_is_leaving : (s : State) (who row : ℕ) → IsBlockedLeaving s who row → IsLeaving s who row
 blocked_is_leaving s who row m = record { this = m.this; request = m.request; is = m.due.is; stage_is = m.due.stage_is }
 
-running_or_ended : (o : Option Life) → o ≡ Some Running → o ≡ Some Ended → ⊥
+pub running_or_ended : (o : Option Life) → o ≡ Some Running → o ≡ Some Ended → ⊥
 running_or_ended o e f = let g : Some Running ≡ Some Ended = sym e ∙ f in cc
 
 -- where a row can end, no wish is left
@@ -270,15 +271,15 @@ module _ (p : Program) (s : State) (k : IsSound p s) where
   abbrev lived : ℕ → Option Life
   lived row = state_of (members p s) row
 
-  leaving_row : (who row : ℕ) → IsLeaving s who row → row_of (at s who) ≡ Some row
+  pub leaving_row : (who row : ℕ) → IsLeaving s who row → row_of (at s who) ≡ Some row
   leaving_row who row l = ap row_of l.is ∙ ap row_at l.stage_is
 
-  leaving_ended : (who row : ℕ) → IsLeaving s who row → lived row ≡ Some Ended
+  pub leaving_ended : (who row : ℕ) → IsLeaving s who row → lived row ≡ Some Ended
   leaving_ended who row l =
       let h = k.fits.has_row who row (leaving_row who row l) in
       life_there (members p s) row h.member h.is ∙ ap (λ z. Some z) (h.life_is ∙ ap life l.is ∙ ap life_at l.stage_is)
 
-  enqueue_running : (who row : ℕ) → IsEnqueueOf s who row → lived row ≡ Some Running
+  pub enqueue_running : (who row : ℕ) → IsEnqueueOf s who row → lived row ≡ Some Running
   enqueue_running who row q = ap lived (sym q.parent) ∙ k.fits.parents who q.is_open
 
   finish_running : (who row : ℕ) (t : State) → Finishes p s who row t → lived row ≡ Some Running
@@ -316,6 +317,19 @@ module _ (p : Program) (s : State) (k : IsSound p s) where
             ∙ ap (λ z. start_of w b z m.rest) this ∙ ap (start_of w b n.this) rest ∙ sym n.gives,
         row,
       )
+
+  -- a row whose release is blocked can't leave
+  pub blocked_stays : (who row : ℕ) → IsBlockedLeaving s who row → CanLeave s row → ⊥
+  blocked_stays who row blocked can =
+      let same : can.who ≡ who = k.fits.one_row can.who who row
+      (leaving_row can.who row (leaves_leaving s can.who row can.step can.after can.leaves))
+      (leaving_row who row (blocked_is_leaving s who row blocked)) in
+      blocked_leaving s who row can.step can.after
+      (subst (λ (z : ℕ). Leaves s z row can.step can.after) same can.leaves) blocked
+
+  -- who can leave has ended, and has a request left
+  pub who_leaves : (row : ℕ) → (can : CanLeave s row) → IsLeaving s can.who row
+  who_leaves row can = leaves_leaving s can.who row can.step can.after can.leaves
 
   -- a worker's turn
   pub takes_one : (o : Option ℕ) (t u : State) (x y : Option ℕ) → TakesTurn p s o t x → TakesTurn p s o u y → (t ≡ u)
@@ -421,7 +435,7 @@ no_turn p s t row wish served k runs none next full (WaitsToLeave r who m) =
 
 -- ---- a turn is a step, or nothing
 
-advance_makes : (p : Program) (s : State) (who : ℕ) (step : Step) (t : State) → Advances p s who step t
+pub advance_makes : (p : Program) (s : State) (who : ℕ) (step : Step) (t : State) → Advances p s who step t
     → Makes p s step t
 advance_makes p s who (steps.Swap i) t m = (who, m)
 advance_makes p s who (steps.Settle i) t m = (who, m)
@@ -433,7 +447,7 @@ advance_makes p s who steps.Finish t m = absurd m
 advance_makes p s who (steps.Unhook i) t m = absurd m
 advance_makes p s who (steps.Pass i) t m = absurd m
 
-leave_makes : (p : Program) (s : State) (who row : ℕ) (step : Step) (t : State) → Leaves s who row step t
+pub leave_makes : (p : Program) (s : State) (who row : ℕ) (step : Step) (t : State) → Leaves s who row step t
     → Makes p s step t
 leave_makes p s who row (steps.Unhook i) t m = (who, row, m)
 leave_makes p s who row (steps.Pass i) t m = (who, row, m)

@@ -1,6 +1,6 @@
 -- The cowns of a wish that a running behaviour has next: they are there, and none of them stands twice.
-use Rattle.std.proofs.Common.{◌≡◌, ℕ, suc, ◌+◌, ◌<◌, ◌≤◌, inl, inr, List, [], ◌∷◌, ◌++◌, length, get_or, refl, ◌∙◌, ap, subst, arith}
-use Rattle.std.specs.Prelude.{slice_get, Some}
+use Rattle.std.proofs.Common.{◌≡◌, ℕ, zero, suc, ◌+◌, ◌<◌, ◌≤◌, inl, inr, List, [], ◌∷◌, ◌++◌, length, get_or, take, refl, ◌∙◌, ap, subst, arith}
+use Rattle.std.specs.Prelude.{slice_get, Some, None}
 use Rattle.std.specs.List.{All}
 use Rattle.std.specs.List.Sorted.{IsStrictlyIncreasing}
 use Rattle.boc_types.specs.declared.limits.TheConstants.{MOST_ROWS, MOST_HELD}
@@ -56,6 +56,26 @@ once_on low c (x ∷ xs) h =
 
 pub once_in : (c : ℕ) (xs : List ℕ) → IsStrictlyIncreasing xs → times c xs ≤ 1
 once_in c xs rise = once_on 0 c xs (rises_on 0 xs (λ l. omega arith) rise)
+
+at_least : (low : ℕ) (xs : List ℕ) (i d : ℕ) → RisesOn low xs → slice_get xs i ≡ Some d → low ≤ d
+at_least low [] i d h e = absurd (let f : None ≡ Some d = e in cc)
+at_least low (x ∷ xs) zero d h e = let f : Some x ≡ Some d = e in let g : x ≡ d = cc in omega (arith, h.0)
+at_least low (x ∷ xs) (suc i) d h e = omega (arith, h.0, at_least (suc x) xs i d h.1 e)
+
+lower_on : (low : ℕ) (xs : List ℕ) (i c d : ℕ) → RisesOn low xs → slice_get xs i ≡ Some d → 0 < times c (take i xs)
+    → c < d
+lower_on low [] i c d h e l = absurd (let f : None ≡ Some d = e in cc)
+lower_on low (x ∷ xs) zero c d h e l = absurd (omega arith)
+lower_on low (x ∷ xs) (suc i) c d h e l =
+    elim (same_or_not x c) [
+      | inl same ↦ omega (arith, at_least (suc x) xs i d h.1 e)
+      | inr n ↦ lower_on (suc x) xs i c d h.1 e (omega (arith, times-other c x (take i xs) n))
+    ]
+
+-- those before one are below it
+pub lower_before : (xs : List ℕ) (i c d : ℕ) → IsStrictlyIncreasing xs → slice_get xs i ≡ Some d
+    → 0 < times c (take i xs) → c < d
+lower_before xs i c d rise = lower_on 0 xs i c d (rises_on 0 xs (λ l. omega arith) rise)
 
 pub below_all : (n c : ℕ) (xs : List ℕ) → All (λ x. x < n) xs → 0 < times c xs → c < n
 below_all n c [] all h = absurd (omega arith)

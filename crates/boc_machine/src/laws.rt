@@ -16,6 +16,7 @@ ghost use Rattle.boc_types.specs.machine.Schedules.{Reaches};
 ghost use Rattle.boc_types.specs.machine.AlongRows.{cowns_of_rows, parents_of_rows, steps_of_rows, serial_of_log, EndsSerially};
 ghost use Rattle.boc_types.specs.machine.Sound.{IsSound};
 ghost use Rattle.boc_types.specs.machine.Turns.{Driven, TakesTurn, Turn, Turns};
+ghost use Rattle.boc_types.specs.machine.Movers.{SomebodyCanStep};
 
 /// Each step leads from a sound state to a sound one.
 pub fn steps_keep()
@@ -76,6 +77,11 @@ pub fn full_has_no_turn()
         → state_of (members p s) row ≡ Some Running → HasNoEnqueue s row
         → next_wish p (slice_get (members p s) row) ≡ Some wish → MOST_ROWS ≤ recorded p s + unrecorded s
         → TakesTurn p s (Some row) t served → ⊥ }
+{}
+
+/// Where nobody can step, all is over: no sound state is stuck.
+pub fn none_is_stuck()
+    ensures { (p : Program) (s : State) → IsSound p s → (SomebodyCanStep p s → ⊥) → IsQuiet s }
 {}
 
 /// There are never more steps than 36 for each row that there may be.

@@ -26,7 +26,7 @@ use boc_types::lists::{BodyList, CownList};
 use boc_types::program::Program;
 use std::alloc::Global;
 
-/// The bodies of the defs, whose names may not be among those that stand before them.
+// The bodies of the defs, whose names may not be among those that stand before them.
 fn resolve_defs<'a>(
     alloc: Global,
     top: &Top<'a>,
@@ -49,7 +49,7 @@ fn resolve_defs<'a>(
     Ok(bodies)
 }
 
-/// A program of parts that fit.
+// A program of parts that fit.
 fn fitting(cowns: Vec<Cown>, bodies: Vec<Body>) -> Program
     requires { MakesProgram cowns.items bodies.items }
     ensures { let p : PlainProgram = record { cowns = map plain_declared cowns.items; bodies = map plain_body bodies.items } in plain_program result ≡ p }
@@ -57,7 +57,7 @@ fn fitting(cowns: Vec<Cown>, bodies: Vec<Body>) -> Program
     Program::new(CownList::new(cowns), BodyList::new(bodies))
 }
 
-/// The cowns and the bodies of a tree, main's body first.
+// The cowns and the bodies of a tree, main's body first.
 fn resolve_parts(alloc: Global, tree: &Tree<'_>) -> Result<(Vec<Cown>, Vec<Body>), Fault<NameFault>>
     requires { IsWithinLimits (tree_of tree.now) }
     ensures { Yields (λ parts. let p : PlainProgram = record { cowns = map plain_declared parts.0.items; bodies = map plain_body parts.1.items } in p) result (program_in_order (tree_of tree.now)) }

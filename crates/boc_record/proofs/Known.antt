@@ -1,5 +1,5 @@
 -- What is known of a text from what was taken of its source.
-use Rattle.std.proofs.Common.{length, append_assoc, ◌≡◌, inl, inr, ℕ, ◌+◌, ◌<◌, ◌≤◌, ◌∷◌, List, [], ◌++◌, Option, Some, None, IfSome, refl, sym, ap, ◌∙◌, subst, arith, Bool, false}
+use Rattle.std.proofs.Common.{length, append_assoc, ◌≡◌, inl, inr, ℕ, ◌+◌, ◌*◌, ◌<◌, ◌≤◌, ◌∷◌, List, [], ◌++◌, Option, Some, None, IfSome, refl, sym, ap, ◌∙◌, subst, arith, Bool, false}
 use Rattle.std.proofs.lemmas.List.{length-take, append-nil}
 use Rattle.std.specs.Bool.{OnFalse}
 use Rattle.std.specs.Prelude.{codes, Result, Ok, Err}
@@ -10,18 +10,21 @@ use Rattle.boc_types.specs.declared.verdict.RecordFaultKind.TheVariants as kinds
 use Rattle.boc_types.specs.declared.event.Event.{Event}
 use Rattle.boc_types.specs.declared.event.BrokenRule.{BrokenRule}
 use Rattle.boc_types.specs.declared.event.BrokenRule.TheVariants as rules
-use Rattle.boc_types.specs.declared.limits.TheConstants.{MOST_COWNS}
-use Rattle.boc_types.specs.runs.Legal.{entries, IsAllowed, IsComplete, IsFirstBroken}
-use Rattle.boc_types.specs.runs.Records.{Recorded}
+use Rattle.boc_types.specs.declared.limits.TheConstants.{MOST_COWNS, MOST_ROWS}
+use Rattle.boc_types.specs.runs.Legal.{Entry, entries, IsAllowed, IsComplete, IsFirstBroken}
+use Rattle.boc_types.specs.declared.rows.Row.{Row}
+use Rattle.boc_types.specs.runs.Records.{Recorded, IsRecord, AreRowsOf}
 use Rattle.boc_types.specs.text.RecordTexts.{HasNoForm, FirstLineIs, NextLineIs, IsWrongAfter, IsCut, Version, BeginsLong, BeginsWith, IsOneLine, BreaksRule, HasMore, HasBegun, AreSpelt, IsFirstFault, line, header, event_line, event_lines, begun, record_text, kind_of_rule}
-use Rattle.boc_rules.specs.Log.{Log, grown}
-use Rattle.boc_rules.specs.Rules.{Applies}
-use Rattle.boc_rules.specs.declared.rules.RuleFault.{RuleFault}
-use Rattle.boc_rules.specs.declared.rules.RuleFault.TheVariants.{Broken, Memory}
+use Rattle.boc_rules.specs.Course.{Course, IsOver, GivesRows}
+use Rattle.boc_rules.proofs.Events.{counted}
+use Rattle.boc_rules.proofs.Next.{well_log}
+use Rattle.boc_rules.specs.declared.fault.RuleFault.{RuleFault}
+use Rattle.boc_rules.specs.declared.fault.RuleFault.TheVariants.{Broken, Memory}
 use Rattle.boc_text.specs.declared.lines.TheConstants.{CAPACITY}
 use Rattle.boc_text.specs.Lines as lines
 use Rattle.boc_record.specs.declared.fault.RecordFault.{RecordFault}
-use Rattle.boc_record.specs.Reading.{ItemIs, HeaderIs, GivesHeader, TakesHeader, TakesEvent, TakesItem, GivesPart, StopsFor, FailsAt, AreGoodLines, WantsMemoryAt, IsFault, EndIs, Finishes, Reads, kind_of_fault, line_feeds}
+use Rattle.boc_record.specs.Sinks.{Hands}
+use Rattle.boc_record.specs.Reading.{ItemIs, HeaderIs, TakesRecord, TakesRun, TakesHeader, TakesEvent, TakesItem, GivesPart, StopsFor, FailsAt, AreGoodLines, WantsMemoryAt, IsFault, EndIs, kind_of_fault, line_feeds}
 use Rattle.boc_record.proofs.Put.{lines_more}
 use Rattle.boc_record.proofs.Lines.{one_stop, feeds_both, no_feeds, begun_feeds, text_feeds, begun_more}
 
@@ -64,11 +67,6 @@ with_ahead : (whole rest : Option (List ℕ)) (done held : List ℕ) → Consume
 with_ahead None rest done held c = tt
 with_ahead (Some text) None done held c = absurd c
 with_ahead (Some text) (Some left) done held c = c ∙ sym (append_assoc done held left)
-
--- a first line was taken
-pub header_taken : (v : Version) (cowns : ℕ) (known rest : Option (List ℕ)) (held : List ℕ) → cowns ≤ MOST_COWNS → length held ≤ CAPACITY → Consumes known (prepend_known held rest) (line (header v cowns)) → GivesHeader known rest
-header_taken v cowns known rest held few short c =
-    record { version = v; cowns = cowns; few = few; ahead = held; short = short; taken = with_ahead known rest (line (header v cowns)) held c }
 
 -- ---- from the rest of a text to the whole
 
@@ -116,20 +114,6 @@ taken_none : (known : Option (List ℕ)) → Consumes known known []
 taken_none None = tt
 taken_none (Some text) = refl
 
-header_wants : (known after : Option (List ℕ)) → GivesHeader known after → WantsMemoryAt 1 known after
-header_wants known after h = record {
-  given = line (header h.version h.cowns) ++ h.ahead;
-  taken = h.taken;
-  version = h.version;
-  cowns = h.cowns;
-  events = [];
-  begins = record { few = h.few; legal = tt; spelt = tt };
-  number_is = refl;
-  ahead = h.ahead;
-  few = h.short;
-  split = ap (λ xs. xs ++ h.ahead) (sym (append-nil (line (header h.version h.cowns))));
-}
-
 nothing_said : (known : Option (List ℕ)) → IfSome known (λ text. Unit {0})
 nothing_said None = tt
 nothing_said (Some text) = tt
@@ -141,26 +125,17 @@ told P Q (Some text) f h = f text h
 header_fault : (kind : RecordFaultKind) (known : Option (List ℕ)) → HeaderIs kind known → IfSome known (FaultIn kind 1)
 header_fault kinds.Header known h = told (λ text. FirstLineIs text kinds.Header) (FaultIn kinds.Header 1) known (λ text p. inl (refl, p)) h
 header_fault kinds.Truncated known h = told (λ text. FirstLineIs text kinds.Truncated) (FaultIn kinds.Truncated 1) known (λ text p. inl (refl, p)) h
-header_fault kinds.Memory known h = nothing_said known
 header_fault kinds.Device known h = nothing_said known
 header_fault _ known h = absurd h
 
-header_stop : (kind : RecordFaultKind) (known after : Option (List ℕ)) → StopsFor kind known after → StopIn kind 1 known after
-header_stop kinds.Device known after s = fails known known after [] 1 (taken_none known) refl (inl refl) s
-header_stop kinds.Memory known after s = header_wants known after s
-header_stop _ known after s = tt
+header_stop : (kind : RecordFaultKind) (known after : Option (List ℕ)) → HeaderIs kind known → StopsFor kind known after → StopIn kind 1 known after
+header_stop kinds.Device known after h s = fails known known after [] 1 (taken_none known) refl (inl refl) s
+header_stop kinds.Memory known after h s = absurd h
+header_stop _ known after h s = tt
 
 -- a fault of the first line
 pub faulty_header : (kind : RecordFaultKind) (known after : Option (List ℕ)) → HeaderIs kind known → StopsFor kind known after → IsFault kind 1 known after
-faulty_header kind known after h s = fault kind 1 known after (header_fault kind known h) (header_stop kind known after s)
-
--- after the first line nothing has happened
-pub nothing_yet : (v : Version) (log : Log) (before after : Option (List ℕ)) → TakesHeader v log before after → Consumes before after (begun v log.cowns log.events)
-nothing_yet v log before after h =
-    subst (Consumes before after) (sym (ap (λ xs. line (header v log.cowns) ++ event_lines v xs) h.none ∙ append-nil (line (header v log.cowns)))) h.taken
-
-pub nothing_begun : (v : Version) (log : Log) (before after : Option (List ℕ)) → TakesHeader v log before after → HasBegun v log.cowns log.events
-nothing_begun v log before after h = subst (HasBegun v log.cowns) (sym h.none) (record { few = h.few; legal = tt; spelt = tt })
+faulty_header kind known after h s = fault kind 1 known after (header_fault kind known h) (header_stop kind known after h s)
 
 -- ---- the lines of events
 
@@ -252,35 +227,24 @@ one_more : (events : List Event) (event : Event) → length (events ++ event ∷
 one_more [] event = refl
 one_more (first ∷ events) event = omega (arith, one_more events event)
 
--- a line whose event was refused
-pub faulty_event : (refused : RuleFault) (v : Version) (whole now after : Option (List ℕ)) (held : List ℕ) (log new : Log) (event : Event) → HasBegun v log.cowns log.events → length held ≤ CAPACITY
-    → Consumes whole now (begun v log.cowns log.events) → TakesEvent v (entries log.events) event now (prepend_known held after) → Applies log event (Err refused) new
-    → IsFault (kind_of_fault refused) (length log.events + 2) whole after
-faulty_event (Broken rule) v whole now after held log new event b few c t a =
-    fault (kind_of_rule rule) (length log.events + 2) whole after (rule_faults rule v whole now (prepend_known held after) log.cowns log.events event b c t a.0) (no_failure rule (length log.events + 2) whole after)
-faulty_event Memory v whole now after held log new event b few c t a =
-    wants v whole after held log.cowns (log.events ++ event ∷ []) (length log.events + 2) (begun_more v log.cowns log.events event b a.0 t.spelt) (omega (arith, one_more log.events event)) few
-    (taken_more v whole now (prepend_known held after) log.cowns log.events event c t.taken)
+refused_event : (refused : RuleFault) (v : Version) (whole now after : Option (List ℕ)) (held : List ℕ) (cowns : ℕ) (events : List Event) (taken : List Event → Type 0) (event : Event) → HasBegun v cowns events → length held ≤ CAPACITY
+    → Consumes whole now (begun v cowns events) → TakesEvent v (entries events) event now (prepend_known held after) → Hands cowns events event (Err refused) taken
+    → IsFault (kind_of_fault refused) (length events + 2) whole after
+refused_event (Broken rule) v whole now after held cowns events taken event b few c t a =
+    fault (kind_of_rule rule) (length events + 2) whole after (rule_faults rule v whole now (prepend_known held after) cowns events event b c t a) (no_failure rule (length events + 2) whole after)
+refused_event Memory v whole now after held cowns events taken event b few c t a =
+    wants v whole after held cowns (events ++ event ∷ []) (length events + 2) (begun_more v cowns events event b a t.spelt) (omega (arith, one_more events event)) few
+    (taken_more v whole now (prepend_known held after) cowns events event c t.taken)
 
 -- an event's line was taken
-pub taken_event : (v : Version) (events : List Event) (item : Option Event) (event : Event) (before after : Option (List ℕ)) → item ≡ Some event → TakesItem v (entries events) item before after → TakesEvent v (entries events) event before after
-taken_event v events item event before after e t = subst (λ x. TakesItem v (entries events) x before after) e t
-
--- an event that was taken and accepted
-pub accepted : (v : Version) (whole now next : Option (List ℕ)) (log new : Log) (event : Event) → Consumes whole now (begun v log.cowns log.events) → TakesEvent v (entries log.events) event now next
-    → new ≡ grown log event → Consumes whole next (begun v new.cowns new.events)
-accepted v whole now next log new event c t e =
-    subst (λ (l : Log). Consumes whole next (begun v l.cowns l.events)) (sym e) (taken_more v whole now next log.cowns log.events event c t.taken)
-
-pub accepted_begun : (v : Version) (log new : Log) (event : Event) (now next : Option (List ℕ)) → HasBegun v log.cowns log.events → IsAllowed log.cowns (entries log.events) event → TakesEvent v (entries log.events) event now next
-    → new ≡ grown log event → HasBegun v new.cowns new.events
-accepted_begun v log new event now next b a t e = subst (λ (l : Log). HasBegun v l.cowns l.events) (sym e) (begun_more v log.cowns log.events event b a t.spelt)
-
--- ---- the last line
+pub taken_event : (v : Version) (rows : List Entry) (item : Option Event) (event : Event) (before after : Option (List ℕ)) → item ≡ Some event → TakesItem v rows item before after → TakesEvent v rows event before after
+taken_event v rows item event before after e t = subst (λ x. TakesItem v rows x before after) e t
 
 -- the last line was taken
-pub taken_last : (v : Version) (events : List Event) (item : Option Event) (before after : Option (List ℕ)) → item ≡ None → TakesItem v (entries events) item before after → Consumes before after (line (codes "."))
-taken_last v events item before after e t = subst (λ x. TakesItem v (entries events) x before after) e t
+pub taken_last : (v : Version) (rows : List Entry) (item : Option Event) (before after : Option (List ℕ)) → item ≡ None → TakesItem v rows item before after → Consumes before after (line (codes "."))
+taken_last v rows item before after e t = subst (λ x. TakesItem v rows x before after) e t
+
+-- ---- the last line
 
 -- the whole text of a record was taken
 whole_text : (v : Version) (whole now rest left : Option (List ℕ)) (cowns : ℕ) (events : List Event) → Consumes whole now (begun v cowns events) → Consumes now rest (line (codes "."))
@@ -304,54 +268,143 @@ after_fault number v cowns events text now (first ∷ rest) b complete n p q h =
   number_is = n;
 }
 
-end_fault : (kind : RecordFaultKind) (number : ℕ) (v : Version) (log : Log) (after : Option (List ℕ)) (text now rest : List ℕ) → HasBegun v log.cowns log.events
-    → text ≡ begun v log.cowns log.events ++ now → now ≡ line (codes ".") ++ rest → EndIs log number kind (Some rest) after → FaultIn kind number text
-end_fault kinds.Unended number v log after text now rest b p q h = inr (record {
+end_fault : (kind : RecordFaultKind) (number : ℕ) (v : Version) (cowns : ℕ) (events : List Event) (after : Option (List ℕ)) (text now rest : List ℕ) → HasBegun v cowns events
+    → text ≡ begun v cowns events ++ now → now ≡ line (codes ".") ++ rest → EndIs (entries events) (length events + 2) number kind (Some rest) after → FaultIn kind number text
+end_fault kinds.Unended number v cowns events after text now rest b p q h = inr (record {
   version = v;
-  cowns = log.cowns;
-  events = log.events;
+  cowns = cowns;
+  events = events;
   begins = b;
   rest = now;
   split = p;
   number_is = h.1;
   wrong = (record { rest = rest; is = q; one = one_stop; short = omega arith }, h.0);
 })
-end_fault kinds.After number v log after text now rest b p q h =
-    after_fault number v log.cowns log.events text now rest b h.0 h.1 p q h.2
-end_fault kinds.Device number v log after text now rest b p q h = tt
-end_fault _ number v log after text now rest b p q h = absurd h
+end_fault kinds.After number v cowns events after text now rest b p q h =
+    after_fault number v cowns events text now rest b h.0 (omega (arith, h.1)) p q h.2
+end_fault kinds.Device number v cowns events after text now rest b p q h = tt
+end_fault _ number v cowns events after text now rest b p q h = absurd h
 
-end_faults : (kind : RecordFaultKind) (number : ℕ) (v : Version) (log : Log) (whole now rest after : Option (List ℕ)) → HasBegun v log.cowns log.events
-    → Consumes whole now (begun v log.cowns log.events) → Consumes now rest (line (codes ".")) → EndIs log number kind rest after → IfSome whole (FaultIn kind number)
-end_faults kind number v log None now rest after b p q h = tt
-end_faults kind number v log (Some text) None rest after b p q h = absurd p
-end_faults kind number v log (Some text) (Some mid) None after b p q h = absurd q
-end_faults kind number v log (Some text) (Some mid) (Some rest) after b p q h = end_fault kind number v log after text mid rest b p q h
+end_faults : (kind : RecordFaultKind) (number : ℕ) (v : Version) (cowns : ℕ) (events : List Event) (whole now rest after : Option (List ℕ)) → HasBegun v cowns events
+    → Consumes whole now (begun v cowns events) → Consumes now rest (line (codes ".")) → EndIs (entries events) (length events + 2) number kind rest after → IfSome whole (FaultIn kind number)
+end_faults kind number v cowns events None now rest after b p q h = tt
+end_faults kind number v cowns events (Some text) None rest after b p q h = absurd p
+end_faults kind number v cowns events (Some text) (Some mid) None after b p q h = absurd q
+end_faults kind number v cowns events (Some text) (Some mid) (Some rest) after b p q h = end_fault kind number v cowns events after text mid rest b p q h
 
-end_stop : (kind : RecordFaultKind) (number : ℕ) (v : Version) (log : Log) (whole now rest after : Option (List ℕ)) → HasBegun v log.cowns log.events
-    → Consumes whole now (begun v log.cowns log.events) → Consumes now rest (line (codes ".")) → EndIs log number kind rest after → StopIn kind number whole after
-end_stop kinds.Device number v log whole now rest after b p q h =
-    fails whole rest after (record_text v log.cowns log.events) number (Consumes-trans whole now rest (begun v log.cowns log.events) (line (codes ".")) p q)
-    (omega (arith, h.1, text_feeds v log.cowns log.events b)) (inr (inr (v, log.cowns, log.events, b, h.0, refl))) h.2
-end_stop kinds.Memory number v log whole now rest after b p q h = absurd h
-end_stop _ number v log whole now rest after b p q h = tt
+end_stop : (kind : RecordFaultKind) (number : ℕ) (v : Version) (cowns : ℕ) (events : List Event) (whole now rest after : Option (List ℕ)) → HasBegun v cowns events
+    → Consumes whole now (begun v cowns events) → Consumes now rest (line (codes ".")) → EndIs (entries events) (length events + 2) number kind rest after → StopIn kind number whole after
+end_stop kinds.Device number v cowns events whole now rest after b p q h =
+    fails whole rest after (record_text v cowns events) number (Consumes-trans whole now rest (begun v cowns events) (line (codes ".")) p q)
+    (omega (arith, h.1, text_feeds v cowns events b)) (inr (inr (v, cowns, events, b, h.0, refl))) h.2
+end_stop kinds.Memory number v cowns events whole now rest after b p q h = absurd h
+end_stop _ number v cowns events whole now rest after b p q h = tt
 
--- what the reading of the rest says of the whole
-pub finished : (result : Result Recorded RecordFault) (v : Version) (log : Log) (whole now rest left : Option (List ℕ)) → HasBegun v log.cowns log.events
-    → Consumes whole now (begun v log.cowns log.events) → Consumes now rest (line (codes ".")) → Finishes log result rest left → Reads result whole left
-finished (Ok r) v log whole now rest left b p q h = record {
-  text = record_text v log.cowns log.events;
-  text_of = record {
-    record_is = h.2;
-    version = v;
-    spelt = subst (AreSpelt v []) (sym h.1) b.spelt;
-    is = ap (λ (n : ℕ). record_text v n log.events) (sym h.0) ∙ ap (record_text v r.cowns) (sym h.1);
-  };
-  taken = whole_text v whole now rest left log.cowns log.events p q h.3;
-  over = h.4;
+-- ---- a sink that takes the events
+
+-- a sink has taken the events of the lines before this one
+pub record IsReading (v : Version) (cowns : ℕ) (taken : List Event → Type 0) (number : ℕ) (whole now : Option (List ℕ)) : Type 0 where
+  pub events : List Event
+  pub has : taken events
+  pub begins : HasBegun v cowns events
+  pub given : Consumes whole now (begun v cowns events)
+  pub number_is : number ≡ length events + 2
+
+-- after the first line no event was taken
+pub nothing_yet : (v : Version) (cowns : ℕ) (taken : List Event → Type 0) (whole now : Option (List ℕ)) → TakesHeader v cowns whole now → taken [] → IsReading v cowns taken 2 whole now
+nothing_yet v cowns taken whole now h has = record {
+  events = [];
+  has = has;
+  begins = record { few = h.few; legal = tt; spelt = tt };
+  given = subst (Consumes whole now) (sym (append-nil (line (header v cowns)))) h.taken;
+  number_is = refl;
 }
-finished (Err f) v log whole now rest left b p q h =
-    fault f.kind f.line whole left (end_faults f.kind f.line v log whole now rest left b p q h) (end_stop f.kind f.line v log whole now rest left b p q h)
+
+-- memory was refused behind the first line
+pub header_wants : (v : Version) (cowns : ℕ) (whole after : Option (List ℕ)) (held : List ℕ) → TakesHeader v cowns whole (prepend_known held after) → length held ≤ CAPACITY → IsFault kinds.Memory 1 whole after
+header_wants v cowns whole after held h few =
+    wants v whole after held cowns [] 1 (record { few = h.few; legal = tt; spelt = tt }) refl few (subst (Consumes whole (prepend_known held after)) (sym (append-nil (line (header v cowns)))) h.taken)
+
+-- a log that keeps the rules has few events
+pub few_lines : (v : Version) (cowns : ℕ) (taken : List Event → Type 0) (number : ℕ) (whole now : Option (List ℕ)) → IsReading v cowns taken number whole now → number ≤ 3 * MOST_ROWS + 2
+few_lines v cowns taken number whole now r =
+    omega (arith, r.number_is, counted cowns r.events r.begins.legal, (well_log cowns r.events r.begins.legal).few)
+
+-- a line that is neither an event's nor the last
+pub item_refused : (kind : RecordFaultKind) (v : Version) (cowns : ℕ) (taken : List Event → Type 0) (number : ℕ) (whole now after : Option (List ℕ)) → IsReading v cowns taken number whole now
+    → ItemIs v kind now → StopsFor kind now after → IsFault kind number whole after
+item_refused kind v cowns taken number whole now after r h s =
+    subst (λ (n : ℕ). IsFault kind n whole after) (sym r.number_is) (faulty_item kind whole now after v cowns r.events r.begins r.given h s)
+
+-- a line whose event was refused
+pub event_refused : (refused : RuleFault) (v : Version) (cowns : ℕ) (taken later : List Event → Type 0) (number : ℕ) (whole now after : Option (List ℕ)) (held : List ℕ) (rows : List Entry) (event : Event) → IsReading v cowns taken number whole now
+    → length held ≤ CAPACITY → ((log : List Event) → taken log → rows ≡ entries log) → TakesEvent v rows event now (prepend_known held after) → ((log : List Event) → taken log → Hands cowns log event (Err refused) later)
+    → IsFault (kind_of_fault refused) number whole after
+event_refused refused v cowns taken later number whole now after held rows event r few of t a =
+    subst (λ (n : ℕ). IsFault (kind_of_fault refused) n whole after) (sym r.number_is)
+    (refused_event refused v whole now after held cowns r.events later event r.begins few r.given
+    (subst (λ (rs : List Entry). TakesEvent v rs event now (prepend_known held after)) (of r.events r.has) t) (a r.events r.has))
+
+-- an event was taken
+pub event_taken : (v : Version) (cowns : ℕ) (taken later : List Event → Type 0) (number : ℕ) (whole now next : Option (List ℕ)) (rows : List Entry) (event : Event) → IsReading v cowns taken number whole now
+    → ((log : List Event) → taken log → rows ≡ entries log) → TakesEvent v rows event now next → ((log : List Event) → taken log → Hands cowns log event (Ok tt) later)
+    → IsReading v cowns later (number + 1) whole next
+event_taken v cowns taken later number whole now next rows event r of t a =
+    let here = subst (λ (rs : List Entry). TakesEvent v rs event now next) (of r.events r.has) t in
+    let accepted = a r.events r.has in record {
+      events = r.events ++ event ∷ [];
+      has = accepted.1;
+      begins = begun_more v cowns r.events event r.begins accepted.0 here.spelt;
+      given = taken_more v whole now next cowns r.events event r.given here.taken;
+      number_is = omega (arith, r.number_is, one_more r.events event);
+    }
+
+-- the last line was taken, and the run is not over, or something follows
+pub last_refused : (f : RecordFault) (v : Version) (cowns : ℕ) (taken : List Event → Type 0) (number : ℕ) (whole now rest left : Option (List ℕ)) (rows : List Entry) → IsReading v cowns taken number whole now
+    → ((log : List Event) → taken log → rows ≡ entries log) → Consumes now rest (line (codes ".")) → EndIs rows number f.line f.kind rest left → IsFault f.kind f.line whole left
+last_refused f v cowns taken number whole now rest left rows r of q h =
+    let here : EndIs (entries r.events) (length r.events + 2) f.line f.kind rest left =
+    subst (λ (rs : List Entry). EndIs rs (length r.events + 2) f.line f.kind rest left) (of r.events r.has) (subst (λ (n : ℕ). EndIs rows n f.line f.kind rest left) r.number_is h) in
+    fault f.kind f.line whole left (end_faults f.kind f.line v cowns r.events whole now rest left r.begins r.given q here) (end_stop f.kind f.line v cowns r.events whole now rest left r.begins r.given q here)
+
+-- the last line was taken, the run is over, and nothing follows
+pub run_taken : (v : Version) (cowns : ℕ) (taken : List Event → Type 0) (number : ℕ) (whole now rest left : Option (List ℕ)) (rows : List Entry) → IsReading v cowns taken number whole now
+    → ((log : List Event) → taken log → rows ≡ entries log) → Consumes now rest (line (codes ".")) → IsOver rows → Consumes rest left [] → IsAtEnd left → TakesRun cowns taken whole left
+run_taken v cowns taken number whole now rest left rows r of q over none end = record {
+  version = v;
+  events = r.events;
+  has = r.has;
+  begins = r.begins;
+  complete = subst IsOver (of r.events r.has) over;
+  given = whole_text v whole now rest left cowns r.events r.given q none;
+  over = end;
+}
+
+-- ---- what a sink that has taken a run gives
+
+-- a record of the events that were taken is that of the text
+pub record_taken : (cowns : ℕ) (taken : List Event → Type 0) (whole left : Option (List ℕ)) (r : Recorded) (run : TakesRun cowns taken whole left) → IsRecord r → r.cowns ≡ cowns → r.events ≡ run.events → TakesRecord r whole left
+record_taken cowns taken whole left r run is same_cowns same_events = record {
+  text = record_text run.version cowns run.events;
+  text_of = record {
+    record_is = is;
+    version = run.version;
+    spelt = subst (AreSpelt run.version []) (sym same_events) run.begins.spelt;
+    is = ap (λ (n : ℕ). record_text run.version n run.events) (sym same_cowns) ∙ ap (record_text run.version r.cowns) (sym same_events);
+  };
+  taken = run.given;
+  over = run.over;
+}
+
+-- the rows that a judge gives are those of its run
+pub rows_given : (course : Course) (result : Result (List Row) Course) (rows : List Row) → GivesRows course result → result ≡ Ok rows → AreRowsOf course.rows rows
+rows_given course result rows h e = let both : GivesRows course (Ok rows) = subst (GivesRows course) e h in both.1
+
+-- the record of these rows
+pub rows_taken : (cowns : ℕ) (taken : List Event → Type 0) (whole left : Option (List ℕ)) (rows : List Row) (run : TakesRun cowns taken whole left) → AreRowsOf (entries run.events) rows → (r : Recorded) × TakesRecord r whole left × (rows ≡ r.rows)
+rows_taken cowns taken whole left rows run are =
+    let r : Recorded = record { cowns = cowns; events = run.events; rows = rows } in
+    (r, record_taken cowns taken whole left r run (record { few = run.begins.few; legal = run.begins.legal; complete = run.complete; rows_are = are }) refl refl, refl)
 
 -- what is to come of a source of which nothing is taken in yet
 pub from_start : (ahead : lines.LinesState) (known : Option (List ℕ)) → ahead.buffered ≡ [] → lines.to_come ahead known ≡ known

@@ -8,3 +8,4 @@ pub mod Short
 pub mod Beginnings
 pub mod OneFault
 pub mod Wrote
+pub mod Handing

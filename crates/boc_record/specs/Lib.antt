@@ -2,5 +2,6 @@ pub mod Versions
 pub mod Faults
 pub mod Fields
 pub mod Writing
+pub mod Sinks
 pub mod Reading
 pub mod Laws

@@ -6,12 +6,13 @@ use Rattle.boc_types.specs.declared.event.Event.{Event}
 use Rattle.boc_types.specs.declared.verdict.RecordFaultKind.{RecordFaultKind}
 use Rattle.boc_types.specs.declared.verdict.RecordFaultKind.TheVariants as kinds
 use Rattle.boc_types.specs.runs.Legal.{Entry, HasBounds, IsComplete}
+use Rattle.boc_types.specs.declared.rows.Row.{Row}
 use Rattle.boc_types.specs.runs.Records.{Recorded, IsRecord}
 use Rattle.boc_types.specs.text.RecordTexts.{Version, IsOneLine, IsCut, IsSpelt, IsTextOf, HasBegun, HasNoForm, FirstLineIs, begun, line, header, event_line, record_text, kind_of_rule, IsFirstFault}
 use Rattle.boc_text.specs.declared.lines.TheConstants.{CAPACITY}
-use Rattle.boc_rules.specs.Log.{Log}
-use Rattle.boc_rules.specs.declared.rules.RuleFault.{RuleFault}
-use Rattle.boc_rules.specs.declared.rules.RuleFault.TheVariants.{Broken, Memory}
+use Rattle.boc_rules.specs.Course.{IsOver}
+use Rattle.boc_rules.specs.declared.fault.RuleFault.{RuleFault}
+use Rattle.boc_rules.specs.declared.fault.RuleFault.TheVariants.{Broken, Memory}
 use Rattle.boc_record.specs.declared.fault.RecordFault.{RecordFault}
 use Rattle.boc_record.specs.declared.version.Version.{Version as Named}
 use Rattle.boc_record.specs.Versions.{spelling}
@@ -71,6 +72,11 @@ abbrev pub Reads : Result Recorded RecordFault → Option (List ℕ) → Option 
 Reads (Ok r) before after = TakesRecord r before after
 Reads (Err fault) before after = IsFault fault.kind fault.line before after
 
+-- the text of a record was taken which has these rows, or its fault told
+abbrev pub ReadsRows : Result (List Row) RecordFault → Option (List ℕ) → Option (List ℕ) → Type 0
+ReadsRows (Ok rows) before after = (r : Recorded) × TakesRecord r before after × (rows ≡ r.rows)
+ReadsRows (Err fault) before after = IsFault fault.kind fault.line before after
+
 -- the source failed where that is the answer, and there alone
 abbrev pub CountsKind : RecordFaultKind → ℕ → ℕ → Type 0
 CountsKind kinds.Device old new = new ≡ old + 1
@@ -82,6 +88,21 @@ CountsRead (Ok r) old new = new ≡ old
 CountsRead (Err fault) old new = CountsKind fault.kind old new
 
 -- ---- its parts
+
+-- A sink has so many cowns and has taken the events of a text, which are a complete run. The text was taken whole, and nothing follows it.
+pub record TakesRun (cowns : ℕ) (taken : List Event → Type 0) (before after : Option (List ℕ)) : Type 0 where
+  pub version : Version
+  pub events : List Event
+  pub has : taken events
+  pub begins : HasBegun version cowns events
+  pub complete : IsComplete events
+  pub given : Consumes before after (record_text version cowns events)
+  pub over : IsAtEnd after
+
+-- a sink has taken the events of a text, or the fault of the text is told
+abbrev pub ReadsRun : {E : Type 0} → (E → ℕ) → (E → List Event → Type 0) → Result E RecordFault → Option (List ℕ) → Option (List ℕ) → Type 0
+ReadsRun cowns taken (Ok sink) before after = TakesRun (cowns sink) (taken sink) before after
+ReadsRun cowns taken (Err fault) before after = IsFault fault.kind fault.line before after
 
 -- the same of a part that leaves the line to its caller
 abbrev pub CountsPart : {A : Type 0} → Result A RecordFaultKind → ℕ → ℕ → Type 0
@@ -99,19 +120,9 @@ pub record GivesPart (before after : Option (List ℕ)) : Type 0 where
   pub unended : IsOneLine left
   pub taken : Consumes before after left
 
--- the source gave a first line, and behind it no more than is taken in ahead
-pub record GivesHeader (before after : Option (List ℕ)) : Type 0 where
-  pub version : Version
-  pub cowns : ℕ
-  pub few : cowns ≤ MOST_COWNS
-  pub ahead : List ℕ
-  pub short : length ahead ≤ CAPACITY
-  pub taken : Consumes before after (line (header version cowns) ++ ahead)
-
--- what the source gave where it failed, and where memory was refused at the first line
+-- what the source gave where it failed
 abbrev pub StopsFor : RecordFaultKind → Option (List ℕ) → Option (List ℕ) → Type 0
 StopsFor kinds.Device before after = GivesPart before after
-StopsFor kinds.Memory before after = GivesHeader before after
 StopsFor _ before after = Unit {0}
 
 -- the same of a part
@@ -144,36 +155,34 @@ abbrev pub ReadsItem : Version → List Entry → Result (Option Event) RecordFa
 ReadsItem version rows (Ok item) before after = TakesItem version rows item before after
 ReadsItem version rows (Err kind) before after = ItemIs version kind before
 
--- the first line was taken, and nothing has happened yet
-pub record TakesHeader (version : Version) (rules : Log) (before after : Option (List ℕ)) : Type 0 where
-  pub few : rules.cowns ≤ MOST_COWNS
-  pub none : rules.events ≡ []
-  pub taken : Consumes before after (line (header version rules.cowns))
+-- the first line was taken
+pub record TakesHeader (version : Version) (cowns : ℕ) (before after : Option (List ℕ)) : Type 0 where
+  pub few : cowns ≤ MOST_COWNS
+  pub taken : Consumes before after (line (header version cowns))
 
 -- what is wrong with the first line where it was not taken
 abbrev pub HeaderIs : RecordFaultKind → Option (List ℕ) → Type 0
 HeaderIs kinds.Header known = IfSome known (λ text. FirstLineIs text kinds.Header)
 HeaderIs kinds.Truncated known = IfSome known (λ text. FirstLineIs text kinds.Truncated)
-HeaderIs kinds.Memory known = Unit {0}
 HeaderIs kinds.Device known = Unit {0}
 HeaderIs _ known = ⊥
 
 -- the first line was read
-abbrev pub ReadsHeader : Result (Named × Log) RecordFaultKind → Option (List ℕ) → Option (List ℕ) → Type 0
+abbrev pub ReadsHeader : Result (Named × ℕ) RecordFaultKind → Option (List ℕ) → Option (List ℕ) → Type 0
 ReadsHeader (Ok begun) before after = TakesHeader (spelling begun.0) begun.1 before after
 ReadsHeader (Err kind) before after = HeaderIs kind before
 
--- what is found behind the last line, the number of which is the first
-abbrev pub EndIs : Log → ℕ → RecordFaultKind → Option (List ℕ) → Option (List ℕ) → Type 0
-EndIs rules number kinds.Unended rest after = (IsComplete rules.events → ⊥) × (number ≡ length rules.events + 2)
-EndIs rules number kinds.After rest after = IsComplete rules.events × (number ≡ length rules.events + 3) × IfSome rest (λ text. 0 < length text)
-EndIs rules number kinds.Device rest after = IsComplete rules.events × (number ≡ length rules.events + 3) × GivesPart rest after
-EndIs rules number _ rest after = ⊥
+-- what is found at the last line, which has this number, or behind it
+abbrev pub EndIs : List Entry → ℕ → ℕ → RecordFaultKind → Option (List ℕ) → Option (List ℕ) → Type 0
+EndIs rows last number kinds.Unended rest after = (IsOver rows → ⊥) × (number ≡ last)
+EndIs rows last number kinds.After rest after = IsOver rows × (number ≡ last + 1) × IfSome rest (λ text. 0 < length text)
+EndIs rows last number kinds.Device rest after = IsOver rows × (number ≡ last + 1) × GivesPart rest after
+EndIs rows last number _ rest after = ⊥
 
 -- the run is complete and nothing follows the last line, or one of these is not so
-abbrev pub Finishes : Log → Result Recorded RecordFault → Option (List ℕ) → Option (List ℕ) → Type 0
-Finishes rules (Ok r) before after = (r.cowns ≡ rules.cowns) × (r.events ≡ rules.events) × IsRecord r × Consumes before after [] × IsAtEnd after
-Finishes rules (Err fault) before after = EndIs rules fault.line fault.kind before after
+abbrev pub Finishes : {A : Type 0} → List Entry → ℕ → Result A RecordFault → Option (List ℕ) → Option (List ℕ) → Type 0
+Finishes rows last (Ok done) before after = IsOver rows × Consumes before after [] × IsAtEnd after
+Finishes rows last (Err fault) before after = EndIs rows last fault.line fault.kind before after
 
 -- nothing follows
 abbrev pub ReadsEnd : {A : Type 0} → Result A RecordFaultKind → Option (List ℕ) → Option (List ℕ) → Type 0

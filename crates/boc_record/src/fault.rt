@@ -91,7 +91,7 @@ impl From<Stopped> for WriteFault {
     }
 }
 
-// What a line has wrong whose event is refused.
+/// What a line has wrong whose event is refused.
 pub fn kind_of(fault: RuleFault) -> RecordFaultKind
     ensures { result ≡ kind_of_fault fault }
 {

@@ -26,7 +26,7 @@ fn front_digits(text: &[u8]) -> (usize, u64)
     (most, value)
 }
 
-// The field at the front of a text, and what stands behind it.
+/// The field at the front of a text, and what stands behind it.
 pub fn split_field(text: &[u8]) -> Option<(u32, &[u8])>
     ensures { MatchOption result ((n : ℕ) (rest : List ℕ) → IsField text.now n rest → ⊥) (λ x. IsField text.now x.0 x.1.now) }
 {
@@ -51,7 +51,7 @@ pub fn split_field(text: &[u8]) -> Option<(u32, &[u8])>
     Some((value as u32, rest))
 }
 
-// The cowns of a text of at most eight fields.
+/// The cowns of a text of at most eight fields.
 pub fn cowns_of(text: &[u8]) -> Option<Cowns>
     ensures { MatchOption result ((ns : List ℕ) → AreSmall ns → length ns ≤ MOST_HELD → text.now ≡ fields_of ns → ⊥)
         (λ v. AreSmall v.items × (length v.items ≤ MOST_HELD) × (text.now ≡ fields_of v.items)) }

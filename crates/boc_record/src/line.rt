@@ -2,20 +2,20 @@
 
 ghost use Rattle.std.specs.Prelude.{◌≡◌, ◌≤◌, ◌++◌, ℕ, List, codes, length, MatchOption};
 ghost use Rattle.boc_types.specs.declared.limits.TheConstants.{MOST_COWNS, MOST_HELD};
-ghost use Rattle.boc_types.specs.runs.Legal.{entries, entry_cowns, HasBounds};
+ghost use Rattle.boc_types.specs.runs.Legal.{entry_cowns, HasBounds};
 ghost use Rattle.boc_types.specs.text.RecordTexts.{Version as Spelling, fields as fields_of, header, event_line, status_number, written_fields, IsHeader, IsEventLine, IsSpelt};
 ghost use Rattle.boc_record.specs.Versions.{spelling};
 ghost use Rattle.boc_record.specs.Fields.{AreSmall, Tells, TellsWritten};
 
 use crate::fields::{cowns_of, split_field};
 use crate::version::Version;
-use boc_rules::Rules;
+use boc_rules::Judge;
 use boc_types::body::EndStatus;
 use boc_types::event::Event;
 use boc_types::limits::MOST_COWNS;
 use boc_types::short::Cowns;
 
-// The version and the number of cowns that a first line tells.
+/// The version and the number of cowns that a first line tells.
 pub fn version_and_cowns(line: &[u8]) -> Option<(Version, u32)>
     ensures { MatchOption result (IsHeader line.now → ⊥) (λ h. (h.1 ≤ MOST_COWNS) × (line.now ≡ header (spelling h.0) h.1)) }
 {
@@ -37,16 +37,16 @@ fn after_mark(line: &[u8]) -> Option<&[u8]>
     }
 }
 
-// The event of a line that follows these events in this version.
-pub fn event_of_line(line: &[u8], version: Version, rules: &Rules) -> Option<Event>
+/// The event of a line that follows those of this run, in this version.
+pub fn event_of_line(line: &[u8], version: Version, judge: &Judge) -> Option<Event>
     ensures { MatchOption result (IsEventLine (spelling version) line.now → ⊥)
-        (λ event. HasBounds event × (line.now ≡ event_line (spelling version) event) × IsSpelt (spelling version) (entries rules.now.events) event) }
+        (λ event. HasBounds event × (line.now ≡ event_line (spelling version) event) × IsSpelt (spelling version) judge.now.rows event) }
 {
     let (sign, fields) = line.split_first()?;
     match sign {
         b'+' => spawn_of(fields),
         b'>' => start_of(fields),
-        b'<' => end_of(fields, version, rules),
+        b'<' => end_of(fields, version, judge),
         _ => None,
     }
 }
@@ -79,14 +79,14 @@ fn start_of(fields: &[u8]) -> Option<Event>
 }
 
 // The end that these fields tell: a row, its ticks, its status and what it wrote.
-fn end_of(fields: &[u8], version: Version, rules: &Rules) -> Option<Event>
+fn end_of(fields: &[u8], version: Version, judge: &Judge) -> Option<Event>
     ensures { MatchOption result ((event : Event) → Tells (spelling version) 60 fields.now event → ⊥)
-        (λ event. Tells (spelling version) 60 fields.now event × IsSpelt (spelling version) (entries rules.now.events) event) }
+        (λ event. Tells (spelling version) 60 fields.now event × IsSpelt (spelling version) judge.now.rows event) }
 {
     let (row, after_row) = split_field(fields)?;
     let (ticks, after_ticks) = split_field(after_row)?;
     let (number, after_number) = split_field(after_ticks)?;
-    let written = written_of(after_number, row, version, rules)?;
+    let written = written_of(after_number, row, version, judge)?;
     let status = status_of(number)?;
     Some(Event::End {
         row,
@@ -98,24 +98,24 @@ fn end_of(fields: &[u8], version: Version, rules: &Rules) -> Option<Event>
 
 // What the last fields of a row's end say that it wrote. In the first version there are none, and they stand for all
 // of its cowns.
-fn written_of(fields: &[u8], row: u32, version: Version, rules: &Rules) -> Option<Cowns>
+fn written_of(fields: &[u8], row: u32, version: Version, judge: &Judge) -> Option<Cowns>
     ensures { MatchOption result ((written : List ℕ) → AreSmall written → length written ≤ MOST_HELD → fields.now ≡ fields_of (written_fields (spelling version) written) → ⊥)
-        (λ written. TellsWritten (spelling version) (entries rules.now.events) row fields.now written.items) }
+        (λ written. TellsWritten (spelling version) judge.now.rows row fields.now written.items) }
 {
     match version {
-        Version::First if fields.is_empty() => Some(all_cowns_of(row, rules)),
+        Version::First if fields.is_empty() => Some(all_cowns_of(row, judge)),
         Version::First => None,
         Version::Second => cowns_of(fields),
     }
 }
 
 // All cowns of a row; none where it isn't there.
-fn all_cowns_of(row: u32, rules: &Rules) -> Cowns
-    ensures all { result.items ≡ entry_cowns (entries rules.now.events) row }
+fn all_cowns_of(row: u32, judge: &Judge) -> Cowns
+    ensures all { result.items ≡ entry_cowns judge.now.rows row }
     ensures small { AreSmall result.items }
     ensures few { length result.items ≤ MOST_HELD }
 {
-    match rules.cowns_of(row) {
+    match judge.cowns_of(row) {
         Some(cowns) => cowns_from(cowns.as_slice()),
         None => Cowns::new(),
     }

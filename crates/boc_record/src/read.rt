@@ -1,19 +1,20 @@
-// From a text to its record.
+// From a text to its record, and to its rows.
 
-ghost use Rattle.std.specs.Prelude.{◌≡◌, ◌<◌, ◌≤◌, ◌+◌, ◌^◌, length, false, OnOk};
+ghost use Rattle.std.specs.Prelude.{◌≡◌, ◌<◌, ◌≤◌, length, false, OnOk};
 ghost use Rattle.boc_text.specs.declared.lines.TheConstants.{CAPACITY};
 ghost use Rattle.boc_text.specs.Lines.{to_come};
-ghost use Rattle.boc_types.specs.runs.Legal.{entries};
 ghost use Rattle.boc_record.specs.Versions.{spelling};
-ghost use Rattle.boc_record.specs.Reading.{Reads, CountsRead, CountsPart, ReadsItem, ReadsHeader, ReadsEnd, Finishes, StopsWithin};
+ghost use Rattle.boc_record.specs.Reading.{Reads, ReadsRows, ReadsRun, CountsRead, CountsPart, ReadsItem, ReadsHeader, ReadsEnd, Finishes, StopsWithin};
 
 use crate::fault::{RecordFault, kind_of};
 use crate::line::{event_of_line, version_and_cowns};
+use crate::sink::EventSink;
 use crate::version::Version;
-use boc_rules::Rules;
+use boc_rules::{Judge, Rules};
 use boc_text::{Found, Lines, Source};
 use boc_types::event::Event;
 use boc_types::record::Record;
+use boc_types::rows::Rows;
 use boc_types::verdict::RecordFaultKind;
 use std::alloc::Global;
 
@@ -26,40 +27,59 @@ pub fn read_record<S: Source>(alloc: Global, source: &mut S) -> Result<Record, R
     ensures record_or_fault { Reads result (S.remaining source.old) (S.remaining source.new) }
     ensures failures { CountsRead result (S.failures source.old) (S.failures source.new) }
 {
+    let rules: Rules = read_run(alloc, source)?;
+    Ok(rules.into_record().unwrap())
+}
+
+/// Reads the rows of a record. The text is read and judged as `read_record` does, and its events are not kept.
+pub fn read_rows<S: Source>(alloc: Global, source: &mut S) -> Result<Rows, RecordFault>
+    requires { S.failures source.old < u64.MAX }
+    ensures rows_or_fault { ReadsRows result (S.remaining source.old) (S.remaining source.new) }
+    ensures failures { CountsRead result (S.failures source.old) (S.failures source.new) }
+{
+    let judge: Judge = read_run(alloc, source)?;
+    Ok(judge.into_rows().unwrap())
+}
+
+// Hands the events of a record's text to a sink, one after the other.
+fn read_run<S: Source, E: EventSink>(alloc: Global, source: &mut S) -> Result<E, RecordFault>
+    requires { S.failures source.old < u64.MAX }
+    ensures run_or_fault { ReadsRun E.cown_count E.has_taken result (S.remaining source.old) (S.remaining source.new) }
+    ensures failures { CountsRead result (S.failures source.old) (S.failures source.new) }
+{
     let mut lines = Lines::new();
-    let (version, mut rules) = match read_header(alloc, &mut lines, source) {
-        Ok(begun) => begun,
+    let (version, cowns) = match read_header(&mut lines, source) {
+        Ok(header) => header,
         Err(kind) => return Err(RecordFault { line: 1, kind }),
     };
+    let Ok(mut sink) = E::begin(alloc, cowns) else {
+        let kind = RecordFaultKind::Memory;
+        return Err(RecordFault { line: 1, kind });
+    };
+    let mut line = 2;
     loop {
-        let line = line_after(&rules);
-        match next_item(&mut lines, source, version, &rules) {
+        match next_item(&mut lines, source, version, sink.judge()) {
             Ok(Some(event)) => {
-                if let Err(fault) = rules.take(event) {
+                if let Err(fault) = sink.hand_over(event) {
                     let kind = kind_of(fault);
                     return Err(RecordFault { line, kind });
                 }
             }
-            Ok(None) => return finish(rules, &mut lines, source),
+            Ok(None) => {
+                finish(line, sink.judge(), &mut lines, source)?;
+                return Ok(sink);
+            }
             Err(kind) => return Err(RecordFault { line, kind }),
         }
+        line += 1;
     }
 }
 
-// The number of the line that follows the first one and those of the events so far.
-fn line_after(rules: &Rules) -> u64
-    ensures value { result ≡ length rules.now.events + 2 }
-    ensures few { length rules.now.events < 2 ^ 63 }
-{
-    rules.events().len() as u64 + 2
-}
-
-// Reads the first line, and gives its version and the rules over its cowns.
+// Reads the first line, and gives its version and its number of cowns.
 fn read_header<S: Source>(
-    alloc: Global,
     lines: &mut Lines,
     source: &mut S,
-) -> Result<(Version, Rules), RecordFaultKind>
+) -> Result<(Version, u32), RecordFaultKind>
     requires failures { S.failures source.old < u64.MAX }
     requires open { lines.old.is_over ≡ false }
     ensures header { ReadsHeader result (to_come lines.old (S.remaining source.old)) (to_come lines.new (S.remaining source.new)) }
@@ -70,10 +90,7 @@ fn read_header<S: Source>(
 {
     match lines.advance(source) {
         Found::Line => match version_and_cowns(lines.line()) {
-            Some((version, cowns)) => match Rules::new(alloc, cowns) {
-                Ok(rules) => Ok((version, rules)),
-                Err(_) => Err(RecordFaultKind::Memory),
-            },
+            Some(header) => Ok(header),
             None => Err(RecordFaultKind::Header),
         },
         Found::TooLong => Err(RecordFaultKind::Header),
@@ -82,16 +99,16 @@ fn read_header<S: Source>(
     }
 }
 
-// Reads the next line, in this version and behind these events: an event, or `None` for the last line.
+// Reads the next line, in this version and behind this run: an event, or `None` for the last line.
 fn next_item<S: Source>(
     lines: &mut Lines,
     source: &mut S,
     version: Version,
-    rules: &Rules,
+    judge: &Judge,
 ) -> Result<Option<Event>, RecordFaultKind>
     requires failures { S.failures source.old < u64.MAX }
     requires open { lines.old.is_over ≡ false }
-    ensures item { ReadsItem (spelling version) (entries rules.now.events) result (to_come lines.old (S.remaining source.old)) (to_come lines.new (S.remaining source.new)) }
+    ensures item { ReadsItem (spelling version) judge.now.rows result (to_come lines.old (S.remaining source.old)) (to_come lines.new (S.remaining source.new)) }
     ensures within { StopsWithin result (to_come lines.old (S.remaining source.old)) (S.remaining source.new) }
     ensures open { OnOk result (lines.new.is_over ≡ false) }
     ensures ahead { length lines.new.buffered ≤ CAPACITY }
@@ -99,7 +116,7 @@ fn next_item<S: Source>(
 {
     match lines.advance(source) {
         Found::Line if lines.line() == b".".as_slice() => Ok(None),
-        Found::Line => match event_of_line(lines.line(), version, rules) {
+        Found::Line => match event_of_line(lines.line(), version, judge) {
             Some(event) => Ok(Some(event)),
             None => Err(RecordFaultKind::Form),
         },
@@ -109,20 +126,25 @@ fn next_item<S: Source>(
     }
 }
 
-// The record of a complete run, of which the last line was read, where nothing follows it.
-fn finish<S: Source>(rules: Rules, lines: &mut Lines, source: &mut S) -> Result<Record, RecordFault>
+// Sees that the run is complete, the last line of which was read at this number, and that nothing follows it.
+fn finish<S: Source>(
+    line: u64,
+    judge: &Judge,
+    lines: &mut Lines,
+    source: &mut S,
+) -> Result<(), RecordFault>
+    requires more { line < u64.MAX }
     requires failures { S.failures source.old < u64.MAX }
     requires open { lines.old.is_over ≡ false }
-    ensures end { Finishes rules result (to_come lines.old (S.remaining source.old)) (S.remaining source.new) }
+    ensures end { Finishes judge.now.rows line result (to_come lines.old (S.remaining source.old)) (S.remaining source.new) }
     ensures failures { CountsRead result (S.failures source.old) (S.failures source.new) }
 {
-    let line = line_after(&rules);
-    let Ok(record) = rules.into_record() else {
+    if !judge.is_complete() {
         let kind = RecordFaultKind::Unended;
         return Err(RecordFault { line, kind });
-    };
+    }
     match read_end(lines, source) {
-        Ok(()) => Ok(record),
+        Ok(()) => Ok(()),
         Err(kind) => Err(RecordFault {
             line: line + 1,
             kind,

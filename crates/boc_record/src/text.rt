@@ -39,8 +39,9 @@ fn text_of(alloc: Global, record: &Record) -> Result<Vec<u8>, AllocError>
     Ok(text)
 }
 
-// The lines of events.
-fn put_events(text: &mut Vec<u8>, events: &[Event]) -> Result<(), AllocError>
+/// Puts the lines of events behind a text, as the second version of records has them. `AllocError` says that memory was refused;
+/// then a beginning of them may stand there.
+pub fn put_events(text: &mut Vec<u8>, events: &[Event]) -> Result<(), AllocError>
     ensures { OnOk result (text.new.items ≡ text.old.items ++ event_lines Second events.now) }
 {
     for event in events {

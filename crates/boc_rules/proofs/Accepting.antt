@@ -1,5 +1,5 @@
--- What is kept of a run stays that of its log as an event is put behind the others.
-use Rattle.std.proofs.Common.{◌≡◌, ℕ, ◌+◌, ◌<◌, List, [], ◌∷◌, ◌++◌, length, map, get_or, refl, sym, ◌∙◌, ap, subst, arith}
+-- What is kept of a run stays that of its rows as an event takes it on.
+use Rattle.std.proofs.Common.{◌≡◌, ℕ, suc, ◌+◌, ◌<◌, ◌≤◌, List, [], ◌∷◌, ◌++◌, length, map, get_or, refl, sym, ◌∙◌, ap, subst, arith}
 use Rattle.std.proofs.Math.ListN.{length-set}
 use Rattle.std.specs.Prelude.{slice_get, slice_set, Option, Some, None, All}
 use Rattle.std.proofs.lemmas.Option.{slice_get_within}
@@ -8,15 +8,17 @@ use Rattle.boc_types.specs.declared.body.EndStatus.{EndStatus}
 use Rattle.boc_types.specs.declared.event.Event.{Event}
 use Rattle.boc_types.specs.declared.event.Event.TheVariants.{Spawn, Start, End}
 use Rattle.boc_types.specs.declared.event.BrokenRule.TheVariants as rules
+use Rattle.boc_types.specs.declared.limits.TheConstants.{MOST_HELD}
 use Rattle.boc_types.specs.declared.rows.Row.{Row}
 use Rattle.boc_types.specs.runs.Lives as lives
 use Rattle.boc_types.specs.runs.Lives.{changed, MayStart}
-use Rattle.boc_types.specs.runs.Legal.{Entry, entries, pending, after, life_of, entry_cowns, MayEnd, MayNeed, IsParent, IsAllowed}
-use Rattle.boc_types.specs.runs.Records.{AreRowsOf}
+use Rattle.boc_types.specs.runs.Legal.{Entry, pending, after, life_of, entry_cowns, MayEnd, MayNeed, IsParent, IsAllowed}
+use Rattle.boc_types.specs.runs.Records.{IsRowOf, AreRowsOf}
 use Rattle.boc_rules.specs.declared.stage.Life.TheVariants.{Pending, Running, Ended}
 use Rattle.boc_rules.specs.declared.stage.Stage.{Stage}
 use Rattle.boc_rules.specs.Before.{noted}
-use Rattle.boc_rules.specs.SoFar.{AreStagesOf, AreFound, AreLatest, over_one, over, AreParts, new_row}
+use Rattle.boc_rules.specs.Course.{AreLegal}
+use Rattle.boc_rules.specs.SoFar.{IsStageOf, AreStagesOf, AreFound, AreLatest, over_one, over, entry_of, entries_of, AreParts, new_row}
 use Rattle.boc_rules.proofs.Lists.{got_in}
 use Rattle.boc_rules.proofs.Next.{living, after_more, legal_more}
 use Rattle.boc_rules.proofs.Keeping.{IsSet, rows_set, rows_stay, stages_set, found_set, latest_set, over_set, rows_push, stages_push, found_push, latest_push, over_push}
@@ -29,22 +31,59 @@ pub record IsThatOf (run : List Entry) (cowns : ℕ) (rows : List Row) (stages :
   pub latest_are : AreLatest run cowns latest
   pub ended_is : ended ≡ over run
 
-that : (cowns : ℕ) (events : List Event) (rows : List Row) (stages : List Stage) (found latest : List (Option ℕ)) (ended : ℕ) → AreParts cowns events rows stages found latest ended → IsThatOf (entries events) cowns rows stages found latest ended
-that cowns events rows stages found latest ended k = record { rows_are = k.rows_are; stages_are = k.stages_are; found_are = k.found_are; latest_are = k.latest_are; ended_is = k.ended_is }
+that : (cowns : ℕ) (run : List Entry) (rows : List Row) (stages : List Stage) (found latest : List (Option ℕ)) (ended : ℕ) → AreParts cowns run rows stages found latest ended → IsThatOf run cowns rows stages found latest ended
+that cowns run rows stages found latest ended k = record { rows_are = k.rows_are; stages_are = k.stages_are; found_are = k.found_are; latest_are = k.latest_are; ended_is = k.ended_is }
 
-keeps_more : (cowns : ℕ) (events : List Event) (event : Event) (rows rows' : List Row) (stages stages' : List Stage) (found found' latest latest' : List (Option ℕ)) (ended ended' : ℕ) → AreParts cowns events rows stages found latest ended → IsAllowed cowns (entries events) event
-    → IsThatOf (after (entries events) event) cowns rows' stages' found' latest' ended' → AreParts cowns (events ++ (event ∷ [])) rows' stages' found' latest' ended'
-keeps_more cowns events event rows rows' stages stages' found found' latest latest' ended ended' k a t =
-    let e = sym (after_more [] events event) in
-    let u : IsThatOf (entries (events ++ (event ∷ []))) cowns rows' stages' found' latest' ended' = subst (λ (run : List Entry). IsThatOf run cowns rows' stages' found' latest' ended') e t in record {
-      few = k.few;
-      legal = legal_more cowns [] events event k.legal a;
-      rows_are = u.rows_are;
-      stages_are = u.stages_are;
-      found_are = u.found_are;
-      latest_are = u.latest_are;
-      ended_is = u.ended_is;
-    }
+-- a row and its stage tell the entry
+same_entry : (e : Entry) (row : Row) (stage : Stage) → IsRowOf e row → IsStageOf e stage → e ≡ entry_of row stage
+same_entry e row stage of at =
+    ap (λ x. let y : Entry = record e { parent = x } in y) (sym of.parent)
+    ∙ ap (λ x. let y : Entry = record e { parent = row.parent; offset = x } in y) (sym of.offset)
+    ∙ ap (λ x. let y : Entry = record e { parent = row.parent; offset = row.offset; cowns = x } in y) (sym of.cowns)
+    ∙ ap (λ x. let y : Entry = record e { parent = row.parent; offset = row.offset; cowns = row.cowns.items; life = x } in y) (sym at.life)
+    ∙ ap (λ x. let y : Entry = record (entry_of row stage) { last = x; ticks = e.ticks; status = e.status; written = e.written } in y) (sym at.last)
+    ∙ ap (λ x. let y : Entry = record (entry_of row stage) { ticks = x; status = e.status; written = e.written } in y) (sym of.ticks)
+    ∙ ap (λ x. let y : Entry = record (entry_of row stage) { status = x; written = e.written } in y) (sym of.status)
+    ∙ ap (λ x. let y : Entry = record (entry_of row stage) { written = x } in y) (sym of.written)
+
+-- rows and their stages tell the run
+entries_same : (run : List Entry) (rows : List Row) (stages : List Stage) → AreRowsOf run rows → AreStagesOf run stages → run ≡ entries_of rows stages
+entries_same [] [] stages of at = refl
+entries_same [] (row ∷ rows) stages of at = absurd (omega (arith, of.all))
+entries_same (e ∷ run) [] stages of at = absurd (omega (arith, of.all))
+entries_same (e ∷ run) (row ∷ rows) [] of at = absurd (omega (arith, at.all))
+entries_same (e ∷ run) (row ∷ rows) (stage ∷ stages) of at =
+    let first = same_entry e row stage (of.each 0 e row refl refl) (at.each 0 e stage refl refl) in
+    let rest = entries_same run rows stages (record { all = omega (arith, of.all); each = λ r d x g h. of.each (suc r) d x g h }) (record { all = omega (arith, at.all); each = λ r d x g h. at.each (suc r) d x g h }) in
+    ap (λ x. x ∷ run) first ∙ ap (λ xs. entry_of row stage ∷ xs) rest
+
+-- the rows after an event that is allowed are those of a legal log
+pub legal_after : (cowns : ℕ) (run : List Entry) (event : Event) → AreLegal cowns run → IsAllowed cowns run event → AreLegal cowns (after run event)
+legal_after cowns run event l a = record {
+  few = l.few;
+  log = l.log ++ (event ∷ []);
+  legal = legal_more cowns [] l.log event l.legal (subst (λ (r : List Entry). IsAllowed cowns r event) l.rows_are a);
+  rows_are = ap (λ (r : List Entry). after r event) l.rows_are ∙ sym (after_more [] l.log event);
+}
+
+-- what is kept is that of the rows of a legal log, which are these
+pub record Goes (cowns : ℕ) (later : List Entry) (rows : List Row) (stages : List Stage) (found latest : List (Option ℕ)) (ended : ℕ) : Type 0 where
+  pub kept : AreParts cowns (entries_of rows stages) rows stages found latest ended
+  pub rows_are : entries_of rows stages ≡ later
+
+goes : (cowns : ℕ) (run : List Entry) (event : Event) (rows : List Row) (stages : List Stage) (found latest : List (Option ℕ)) (ended : ℕ) → AreLegal cowns run → IsAllowed cowns run event
+    → IsThatOf (after run event) cowns rows stages found latest ended → Goes cowns (after run event) rows stages found latest ended
+goes cowns run event rows stages found latest ended l a t =
+    let e = entries_same (after run event) rows stages t.rows_are t.stages_are in
+    let k : AreParts cowns (after run event) rows stages found latest ended = record {
+      legal = legal_after cowns run event l a;
+      rows_are = t.rows_are;
+      stages_are = t.stages_are;
+      found_are = t.found_are;
+      latest_are = t.latest_are;
+      ended_is = t.ended_is;
+    } in
+    record { kept = subst (λ (r : List Entry). AreParts cowns r rows stages found latest ended) e k; rows_are = sym e }
 
 that_start : (run : List Entry) (cowns : ℕ) (rows : List Row) (stages : List Stage) (found latest : List (Option ℕ)) (ended row : ℕ) → IsThatOf run cowns rows stages found latest ended → MayStart (life_of run) (entry_cowns run) row
     → IsThatOf (changed run row (λ x. record x { life = lives.Running }) (slice_get run row)) cowns rows (changed stages row (λ s. record s { life = Running }) (slice_get stages row)) found latest ended
@@ -115,13 +154,13 @@ abbrev new_stage : List (Option ℕ) → ArrayVec ℕ → Stage
 new_stage found cowns = record { life = Pending; last = 0; from = length found; to = length found + length cowns.items }
 
 -- a new row stands behind the others
-that_push : (run : List Entry) (count : ℕ) (rows : List Row) (stages : List Stage) (found latest : List (Option ℕ)) (ended row parent offset : ℕ) (cowns : ArrayVec ℕ) → IsThatOf run count rows stages found latest ended → row ≡ length run → All (λ c. c < count) cowns.items
+that_push : (run : List Entry) (count : ℕ) (rows : List Row) (stages : List Stage) (found latest : List (Option ℕ)) (ended row parent offset : ℕ) (cowns : ArrayVec ℕ) → IsThatOf run count rows stages found latest ended → row ≡ length run → All (λ c. c < count) cowns.items → length cowns.items ≤ MOST_HELD
     → IsThatOf (run ++ (pending parent offset cowns.items ∷ [])) count (rows ++ (new_row parent offset cowns ∷ [])) (stages ++ (new_stage found cowns ∷ [])) (found ++ map (λ c. get_or latest c None) cowns.items) (noted latest cowns.items row) ended
-that_push run count rows stages found latest ended row parent offset cowns t next below =
+that_push run count rows stages found latest ended row parent offset cowns t next below held =
     let v = pending parent offset cowns.items in record {
       rows_are = rows_push run rows v (new_row parent offset cowns) t.rows_are (record { parent = refl; offset = refl; cowns = refl; ticks = refl; status = refl; written = refl });
       stages_are = stages_push run stages v (new_stage found cowns) t.stages_are (record { life = refl; last = refl });
-      found_are = found_push run stages found v (new_stage found cowns) count latest t.stages_are t.found_are t.latest_are below refl refl;
+      found_are = found_push run stages found v (new_stage found cowns) count latest t.stages_are t.found_are t.latest_are below held refl refl;
       latest_are = subst (λ (n : ℕ). AreLatest (run ++ (v ∷ [])) count (noted latest cowns.items n)) (sym next) (latest_push run v count latest t.latest_are);
       ended_is = omega (arith, over_push run v, t.ended_is);
     }
@@ -131,15 +170,15 @@ no_stages [] e = refl
 no_stages (x ∷ stages) e = absurd (omega arith)
 
 that_spawn : (run : List Entry) (count : ℕ) (rows : List Row) (stages : List Stage) (found latest : List (Option ℕ)) (ended row parent offset : ℕ) (cowns : ArrayVec ℕ) → IsThatOf run count rows stages found latest ended → row ≡ length run
-    → IsParent run parent → MayNeed count run cowns.items
+    → IsParent run parent → MayNeed count run cowns.items → length cowns.items ≤ MOST_HELD
     → IsThatOf (changed run parent (λ x. record x { last = offset }) (slice_get run parent) ++ (pending parent offset cowns.items ∷ [])) count (rows ++ (new_row parent offset cowns ∷ []))
     (changed stages parent (λ s. record s { last = offset }) (slice_get stages parent) ++ (new_stage found cowns ∷ [])) (found ++ map (λ c. get_or latest c None) cowns.items) (noted latest cowns.items row) ended
-that_spawn [] count rows stages found latest ended row parent offset cowns t next p m =
+that_spawn [] count rows stages found latest ended row parent offset cowns t next p m held =
     let none : stages ≡ [] = no_stages stages t.stages_are.all in
     let same : changed stages parent (λ s. record s { last = offset }) (slice_get stages parent) ≡ stages = subst (λ (s : List Stage). changed s parent (λ s. record s { last = offset }) (slice_get s parent) ≡ s) (sym none) refl in
     subst (λ (s : List Stage). IsThatOf (pending parent offset cowns.items ∷ []) count (rows ++ (new_row parent offset cowns ∷ [])) (s ++ (new_stage found cowns ∷ [])) (found ++ map (λ c. get_or latest c None) cowns.items) (noted latest cowns.items row) ended) (sym same)
-    (that_push [] count rows stages found latest ended row parent offset cowns t next (subst (λ (cs : List ℕ). All (λ c. c < count) cs) (sym m) (λ k d h. absurd (omega arith))))
-that_spawn (main ∷ others) count rows stages found latest ended row parent offset cowns t next p m =
+    (that_push [] count rows stages found latest ended row parent offset cowns t next (subst (λ (cs : List ℕ). All (λ c. c < count) cs) (sym m) (λ k d h. absurd (omega arith))) held)
+that_spawn (main ∷ others) count rows stages found latest ended row parent offset cowns t next p m held =
     let run = main ∷ others in
     let e = living run parent lives.Running p in
     let inside : parent < length stages = omega (arith, t.stages_are.all, slice_get_within run parent e.0 e.1) in
@@ -151,22 +190,22 @@ that_spawn (main ∷ others) count rows stages found latest ended row parent off
     (subst (λ (s : List Stage). IsThatOf (slice_set run parent v ++ (pending parent offset cowns.items ∷ [])) count (rows ++ (new_row parent offset cowns ∷ [])) (s ++ (new_stage found cowns ∷ [])) (found ++ map (λ c. get_or latest c None) cowns.items) (noted latest cowns.items row) ended)
     (sym (ap (changed stages parent (λ s. record s { last = offset })) x.1))
     (that_push (slice_set run parent v) count rows (slice_set stages parent y) found latest ended row parent offset cowns
-    (that_child run count rows stages found latest ended parent offset e.0 x.0 t e.1 x.1) (next ∙ sym (length-set run parent v)) m.below))
+    (that_child run count rows stages found latest ended parent offset e.0 x.0 t e.1 x.1) (next ∙ sym (length-set run parent v)) m.below held))
 
-pub keeps_start : (cowns : ℕ) (events : List Event) (rows : List Row) (stages : List Stage) (found latest : List (Option ℕ)) (ended row : ℕ) → AreParts cowns events rows stages found latest ended → IsAllowed cowns (entries events) (Start row)
-    → AreParts cowns (events ++ (Start row ∷ [])) rows (changed stages row (λ s. record s { life = Running }) (slice_get stages row)) found latest ended
-keeps_start cowns events rows stages found latest ended row k a =
-    keeps_more cowns events (Start row) rows rows stages (changed stages row (λ s. record s { life = Running }) (slice_get stages row)) found found latest latest ended ended k a
-    (that_start (entries events) cowns rows stages found latest ended row (that cowns events rows stages found latest ended k) (a.keeps rules.StartNotAllowed))
+pub keeps_start : (cowns : ℕ) (run : List Entry) (rows : List Row) (stages : List Stage) (found latest : List (Option ℕ)) (ended row : ℕ) → AreParts cowns run rows stages found latest ended → IsAllowed cowns run (Start row)
+    → Goes cowns (after run (Start row)) rows (changed stages row (λ s. record s { life = Running }) (slice_get stages row)) found latest ended
+keeps_start cowns run rows stages found latest ended row k a =
+    goes cowns run (Start row) rows (changed stages row (λ s. record s { life = Running }) (slice_get stages row)) found latest ended k.legal a
+    (that_start run cowns rows stages found latest ended row (that cowns run rows stages found latest ended k) (a.keeps rules.StartNotAllowed))
 
-pub keeps_end : (cowns : ℕ) (events : List Event) (rows : List Row) (stages : List Stage) (found latest : List (Option ℕ)) (ended row ticks : ℕ) (status : EndStatus) (written : ArrayVec ℕ) → AreParts cowns events rows stages found latest ended → IsAllowed cowns (entries events) (End row ticks status written)
-    → AreParts cowns (events ++ (End row ticks status written ∷ [])) (changed rows row (λ x. record x { ticks = ticks; status = status; written = written }) (slice_get rows row)) (changed stages row (λ s. record s { life = Ended }) (slice_get stages row)) found latest (ended + 1)
-keeps_end cowns events rows stages found latest ended row ticks status written k a =
-    keeps_more cowns events (End row ticks status written) rows (changed rows row (λ x. record x { ticks = ticks; status = status; written = written }) (slice_get rows row)) stages (changed stages row (λ s. record s { life = Ended }) (slice_get stages row)) found found latest latest ended (ended + 1) k a
-    (that_end (entries events) cowns rows stages found latest ended row ticks status written (that cowns events rows stages found latest ended k) (a.keeps rules.EndNotAllowed))
+pub keeps_end : (cowns : ℕ) (run : List Entry) (rows : List Row) (stages : List Stage) (found latest : List (Option ℕ)) (ended row ticks : ℕ) (status : EndStatus) (written : ArrayVec ℕ) → AreParts cowns run rows stages found latest ended → IsAllowed cowns run (End row ticks status written)
+    → Goes cowns (after run (End row ticks status written)) (changed rows row (λ x. record x { ticks = ticks; status = status; written = written }) (slice_get rows row)) (changed stages row (λ s. record s { life = Ended }) (slice_get stages row)) found latest (ended + 1)
+keeps_end cowns run rows stages found latest ended row ticks status written k a =
+    goes cowns run (End row ticks status written) (changed rows row (λ x. record x { ticks = ticks; status = status; written = written }) (slice_get rows row)) (changed stages row (λ s. record s { life = Ended }) (slice_get stages row)) found latest (ended + 1) k.legal a
+    (that_end run cowns rows stages found latest ended row ticks status written (that cowns run rows stages found latest ended k) (a.keeps rules.EndNotAllowed))
 
-pub keeps_spawn : (count : ℕ) (events : List Event) (rows : List Row) (stages : List Stage) (found latest : List (Option ℕ)) (ended row parent offset : ℕ) (cowns : ArrayVec ℕ) → AreParts count events rows stages found latest ended → IsAllowed count (entries events) (Spawn row parent offset cowns)
-    → AreParts count (events ++ (Spawn row parent offset cowns ∷ [])) (rows ++ (new_row parent offset cowns ∷ [])) (changed stages parent (λ s. record s { last = offset }) (slice_get stages parent) ++ (new_stage found cowns ∷ [])) (found ++ map (λ c. get_or latest c None) cowns.items) (noted latest cowns.items row) ended
-keeps_spawn count events rows stages found latest ended row parent offset cowns k a =
-    keeps_more count events (Spawn row parent offset cowns) rows (rows ++ (new_row parent offset cowns ∷ [])) stages (changed stages parent (λ s. record s { last = offset }) (slice_get stages parent) ++ (new_stage found cowns ∷ [])) found (found ++ map (λ c. get_or latest c None) cowns.items) latest (noted latest cowns.items row) ended ended k a
-    (that_spawn (entries events) count rows stages found latest ended row parent offset cowns (that count events rows stages found latest ended k) (a.keeps rules.NumberNotNext) (a.keeps rules.ParentNotRunning) (a.keeps rules.Cowns))
+pub keeps_spawn : (count : ℕ) (run : List Entry) (rows : List Row) (stages : List Stage) (found latest : List (Option ℕ)) (ended row parent offset : ℕ) (cowns : ArrayVec ℕ) → AreParts count run rows stages found latest ended → IsAllowed count run (Spawn row parent offset cowns)
+    → Goes count (after run (Spawn row parent offset cowns)) (rows ++ (new_row parent offset cowns ∷ [])) (changed stages parent (λ s. record s { last = offset }) (slice_get stages parent) ++ (new_stage found cowns ∷ [])) (found ++ map (λ c. get_or latest c None) cowns.items) (noted latest cowns.items row) ended
+keeps_spawn count run rows stages found latest ended row parent offset cowns k a =
+    goes count run (Spawn row parent offset cowns) (rows ++ (new_row parent offset cowns ∷ [])) (changed stages parent (λ s. record s { last = offset }) (slice_get stages parent) ++ (new_stage found cowns ∷ [])) (found ++ map (λ c. get_or latest c None) cowns.items) (noted latest cowns.items row) ended k.legal a
+    (that_spawn run count rows stages found latest ended row parent offset cowns (that count run rows stages found latest ended k) (a.keeps rules.NumberNotNext) (a.keeps rules.ParentNotRunning) (a.keeps rules.Cowns) a.bounds.4)

@@ -1,36 +1,37 @@
 -- What a stage says of its row, and what a legal event finds there.
-use Rattle.std.proofs.Common.{◌≡◌, ℕ, ◌<◌, ◌≤◌, ◌↔◌, List, [], ◌∷◌, ◌++◌, length, get_or, refl, sym, ◌∙◌, ap, subst, arith}
+use Rattle.std.proofs.Common.{◌≡◌, ℕ, ◌*◌, ◌<◌, ◌≤◌, ◌↔◌, List, [], ◌∷◌, length, get_or, refl, sym, ◌∙◌, ap, subst, arith}
 use Rattle.std.proofs.Math.ListN.{length-set}
 use Rattle.std.specs.Prelude.{slice_get, slice_set, slice_range, Option, Some, All}
 use Rattle.std.specs.Option.{option_map_or}
 use Rattle.std.proofs.lemmas.Option.{slice_get_read, slice_get_past, slice_get_within}
-use Rattle.std.specs.Vec.{vec_len, vec_capacity}
 use Rattle.arrayvec.specs.ArrayVec.{ArrayVec}
 use Rattle.boc_types.specs.declared.body.EndStatus.{EndStatus}
-use Rattle.boc_types.specs.declared.event.Event.{Event}
 use Rattle.boc_types.specs.declared.event.Event.TheVariants.{Spawn, Start, End}
 use Rattle.boc_types.specs.declared.event.BrokenRule.TheVariants as rules
 use Rattle.boc_types.specs.declared.rows.Row.{Row}
-use Rattle.boc_types.specs.declared.limits.TheConstants.{MOST_ROWS}
+use Rattle.boc_types.specs.declared.limits.TheConstants.{MOST_HELD, MOST_ROWS}
 use Rattle.boc_types.specs.runs.Lives as lives
 use Rattle.boc_types.specs.runs.Lives.{MayStart}
-use Rattle.boc_types.specs.runs.Legal.{Entry, entries, life_of, entry_cowns, last_of, MayEnd, MayNeed, IsComplete, IsAllowed}
+use Rattle.boc_types.specs.runs.Legal.{Entry, after, life_of, entry_cowns, last_of, MayEnd, MayNeed, IsAllowed}
 use Rattle.boc_types.specs.runs.Rows.{IsRows}
-use Rattle.boc_types.specs.runs.Records.{IsRecord}
 use Rattle.boc_rules.specs.declared.stage.Life.TheVariants.{Pending, Running, Ended}
 use Rattle.boc_rules.specs.declared.stage.Life.{Life}
 use Rattle.boc_rules.specs.declared.stage.Stage.{Stage}
 use Rattle.boc_rules.specs.declared.so_far.RunSoFar.{RunSoFar}
-use Rattle.boc_rules.specs.Log.{HasRoomFor}
+use Rattle.boc_rules.specs.Course.{AreLegal, IsOver}
 use Rattle.boc_rules.specs.Before.{IsOverAt}
-use Rattle.boc_rules.specs.SoFar.{meant, IsStageOf, AreStagesOf, over_one, AreParts, IsRunSoFar, HasRooms, IsSpawned, IsStarted, IsEnded}
+use Rattle.boc_rules.specs.SoFar.{meant, IsStageOf, AreStagesOf, over_one, so_far, IsRunSoFar, IsSpawned, IsStarted, IsEnded}
 use Rattle.boc_rules.proofs.Lists.{got_in}
 use Rattle.boc_rules.proofs.Next.{living, life_at, last_at, well_log, not_pending_running, not_pending_ended}
 use Rattle.boc_rules.proofs.Starts.{starts, over_before}
 use Rattle.boc_rules.proofs.Keeping.{over_set}
-use Rattle.boc_rules.proofs.Accepting.{keeps_spawn, keeps_start, keeps_end}
-use Rattle.boc_rules.proofs.Events.{counted, start_left, end_left}
+use Rattle.boc_rules.proofs.Well.{IsWell}
+use Rattle.boc_rules.proofs.Accepting.{Goes, keeps_spawn, keeps_start, keeps_end}
 use Rattle.boc_rules.proofs.Finished.{over_few, all_over, over_all, is_rows}
+
+-- the rows of a legal log are well
+pub well_rows : (cowns : ℕ) (rows : List Entry) → AreLegal cowns rows → IsWell cowns rows
+well_rows cowns rows l = subst (IsWell cowns) (sym l.rows_are) (well_log cowns l.log l.legal)
 
 -- the entry of a stage that was read
 pub record IsReadAt (run : List Entry) (stages : List Stage) (r : ℕ) (stage : Stage) : Type 0 where
@@ -55,13 +56,13 @@ last_past run stages r are past = sym (ap (λ (o : Option Entry). option_map_or 
 
 -- a pending row may start where the rows before it on its cowns are over
 pub pending_may_start : (run : RunSoFar) (r : ℕ) (stage : Stage) (before : List (Option ℕ)) → IsRunSoFar run → r < length run.stages.items → stage ≡ get_or run.stages.items r stage → stage.life ≡ Pending → before ≡ slice_range run.found.items stage.from stage.to
-    → All (IsOverAt (entries run.events.items)) before ↔ MayStart (life_of (entries run.events.items)) (entry_cowns (entries run.events.items)) r
+    → All (IsOverAt (so_far run)) before ↔ MayStart (life_of (so_far run)) (entry_cowns (so_far run)) r
 pending_may_start run r stage before k less read waits same =
-    let rows = entries run.events.items in
+    let rows = so_far run in
     let h = read_at rows run.stages.items r stage k.stages_are less read in
     let life : life_of rows r ≡ Some lives.Pending = life_at rows r h.entry h.was ∙ ap (λ (l : lives.Life). Some l) (sym h.is.life ∙ ap meant waits) in
     let are = k.found_are.before r stage h.at in (
-      λ over. starts run.cowns rows r (slice_range run.found.items stage.from stage.to) (well_log run.cowns run.events.items k.legal) life are (subst (λ (b : List (Option ℕ)). All (IsOverAt rows) b) same over),
+      λ over. starts run.cowns rows r (slice_range run.found.items stage.from stage.to) (well_rows run.cowns (so_far run) k.legal) life are (subst (λ (b : List (Option ℕ)). All (IsOverAt rows) b) same over),
       λ may. subst (λ (b : List (Option ℕ)). All (IsOverAt rows) b) (sym same) (over_before rows r (slice_range run.found.items stage.from stage.to) may are),
     )
 
@@ -71,9 +72,9 @@ meant_pending Running e = absurd (not_pending_running (sym e))
 meant_pending Ended e = absurd (not_pending_ended (sym e))
 
 -- and no other row may
-pub others_may_not : (run : RunSoFar) (r : ℕ) (stage : Stage) → IsRunSoFar run → r < length run.stages.items → stage ≡ get_or run.stages.items r stage → MayStart (life_of (entries run.events.items)) (entry_cowns (entries run.events.items)) r → stage.life ≡ Pending
+pub others_may_not : (run : RunSoFar) (r : ℕ) (stage : Stage) → IsRunSoFar run → r < length run.stages.items → stage ≡ get_or run.stages.items r stage → MayStart (life_of (so_far run)) (entry_cowns (so_far run)) r → stage.life ≡ Pending
 others_may_not run r stage k less read may =
-    let rows = entries run.events.items in
+    let rows = so_far run in
     let h = read_at rows run.stages.items r stage k.stages_are less read in
     let e : Some h.entry.life ≡ Some lives.Pending = sym (life_at rows r h.entry h.was) ∙ may.waits in
     let f : h.entry.life ≡ lives.Pending = cc in
@@ -84,17 +85,25 @@ need_below count [] cowns m = subst (λ (cs : List ℕ). All (λ c. c < count) c
 need_below count (main ∷ others) cowns m = m.below
 
 -- An event that is allowed finds what it needs.
-pub spawn_finds : (run : RunSoFar) (row parent offset : ℕ) (cowns : ArrayVec ℕ) → IsRunSoFar run → IsAllowed run.cowns (entries run.events.items) (Spawn row parent offset cowns) → All (λ c. c < length run.latest.items) cowns.items
-spawn_finds run row parent offset cowns k a =
-    subst (λ (n : ℕ). All (λ c. c < n) cowns.items) (sym k.latest_are.all) (need_below run.cowns (entries run.events.items) cowns.items (a.keeps rules.Cowns))
+pub record IsSpawnable (run : RunSoFar) (row : ℕ) (cowns : ArrayVec ℕ) : Type 0 where
+  pub there : All (λ c. c < length run.latest.items) cowns.items
+  pub next : row < MOST_ROWS
+  pub few : length run.found.items ≤ MOST_HELD * MOST_ROWS
+
+pub spawn_finds : (run : RunSoFar) (row parent offset : ℕ) (cowns : ArrayVec ℕ) → IsRunSoFar run → IsAllowed run.cowns (so_far run) (Spawn row parent offset cowns) → IsSpawnable run row cowns
+spawn_finds run row parent offset cowns k a = record {
+  there = subst (λ (n : ℕ). All (λ c. c < n) cowns.items) (sym k.latest_are.all) (need_below run.cowns (so_far run) cowns.items (a.keeps rules.Cowns));
+  next = a.keeps rules.TooMany;
+  few = omega (arith, k.found_are.few, (well_rows run.cowns (so_far run) k.legal).few);
+}
 
 there : (rows : List Entry) (r : ℕ) (l : lives.Life) → life_of rows r ≡ Some l → r < length rows
 there rows r l h = let e = living rows r l h in slice_get_within rows r e.0 e.1
 
-pub start_finds : (run : RunSoFar) (row : ℕ) → IsRunSoFar run → IsAllowed run.cowns (entries run.events.items) (Start row) → row < length run.stages.items
+pub start_finds : (run : RunSoFar) (row : ℕ) → IsRunSoFar run → IsAllowed run.cowns (so_far run) (Start row) → row < length run.stages.items
 start_finds run row k a =
-    let may : MayStart (life_of (entries run.events.items)) (entry_cowns (entries run.events.items)) row = a.keeps rules.StartNotAllowed in
-    omega (arith, k.stages_are.all, there (entries run.events.items) row lives.Pending may.waits)
+    let may : MayStart (life_of (so_far run)) (entry_cowns (so_far run)) row = a.keeps rules.StartNotAllowed in
+    omega (arith, k.stages_are.all, there (so_far run) row lives.Pending may.waits)
 
 -- what the end of a row needs
 pub record IsEndable (run : RunSoFar) (row : ℕ) : Type 0 where
@@ -102,65 +111,56 @@ pub record IsEndable (run : RunSoFar) (row : ℕ) : Type 0 where
   pub placed : row < length run.rows.items
   pub few : run.ended < MOST_ROWS
 
-pub end_finds : (run : RunSoFar) (row ticks : ℕ) (status : EndStatus) (written : ArrayVec ℕ) → IsRunSoFar run → IsAllowed run.cowns (entries run.events.items) (End row ticks status written) → IsEndable run row
+pub end_finds : (run : RunSoFar) (row ticks : ℕ) (status : EndStatus) (written : ArrayVec ℕ) → IsRunSoFar run → IsAllowed run.cowns (so_far run) (End row ticks status written) → IsEndable run row
 end_finds run row ticks status written k a =
-    let rows = entries run.events.items in
+    let rows = so_far run in
     let may : MayEnd rows row ticks written.items = a.keeps rules.EndNotAllowed in
     let e = living rows row lives.Running may.runs in
     let v : Entry = record e.0 { life = lives.Ended } in
     let inside = slice_get_within rows row e.0 e.1 in
-    let w = well_log run.cowns run.events.items k.legal in record {
+    let w = well_rows run.cowns (so_far run) k.legal in record {
       staged = omega (arith, k.stages_are.all, inside);
       placed = omega (arith, k.rows_are.all, inside);
       few = omega (arith, k.ended_is, over_set rows row e.0 v e.1, ap over_one e.2, over_few (slice_set rows row v), length-set rows row v, w.few);
     }
 
-keeps_as : (cowns cowns' : ℕ) (events events' : List Event) (rows rows' : List Row) (stages stages' : List Stage) (found found' latest latest' : List (Option ℕ)) (ended ended' : ℕ) → AreParts cowns events rows stages found latest ended
-    → cowns' ≡ cowns → events' ≡ events → rows' ≡ rows → stages' ≡ stages → found' ≡ found → latest' ≡ latest → ended' ≡ ended → AreParts cowns' events' rows' stages' found' latest' ended'
-keeps_as cowns cowns' events events' rows rows' stages stages' found found' latest latest' ended ended' k a b c d g e f =
-    subst (λ (x : ℕ). AreParts x events' rows' stages' found' latest' ended') (sym a)
-    (subst (λ (x : List Event). AreParts cowns x rows' stages' found' latest' ended') (sym b)
-    (subst (λ (x : List Row). AreParts cowns events x stages' found' latest' ended') (sym c)
-    (subst (λ (x : List Stage). AreParts cowns events rows x found' latest' ended') (sym d)
-    (subst (λ (x : List (Option ℕ)). AreParts cowns events rows stages x latest' ended') (sym g)
-    (subst (λ (x : List (Option ℕ)). AreParts cowns events rows stages found x ended') (sym e)
-    (subst (λ (x : ℕ). AreParts cowns events rows stages found latest x) (sym f) k))))))
+-- what is kept of a run is that of these rows
+abbrev pub HasGone : RunSoFar → List Entry → Type 0
+HasGone run later = Goes run.cowns later run.rows.items run.stages.items run.found.items run.latest.items run.ended
+
+goes_as : (cowns cowns' : ℕ) (later : List Entry) (rows rows' : List Row) (stages stages' : List Stage) (found found' latest latest' : List (Option ℕ)) (ended ended' : ℕ) → Goes cowns later rows stages found latest ended
+    → cowns' ≡ cowns → rows' ≡ rows → stages' ≡ stages → found' ≡ found → latest' ≡ latest → ended' ≡ ended → Goes cowns' later rows' stages' found' latest' ended'
+goes_as cowns cowns' later rows rows' stages stages' found found' latest latest' ended ended' k a c d g e f =
+    subst (λ (x : ℕ). Goes x later rows' stages' found' latest' ended') (sym a)
+    (subst (λ (x : List Row). Goes cowns later x stages' found' latest' ended') (sym c)
+    (subst (λ (x : List Stage). Goes cowns later rows x found' latest' ended') (sym d)
+    (subst (λ (x : List (Option ℕ)). Goes cowns later rows stages x latest' ended') (sym g)
+    (subst (λ (x : List (Option ℕ)). Goes cowns later rows stages found x ended') (sym e)
+    (subst (λ (x : ℕ). Goes cowns later rows stages found latest x) (sym f) k)))))
 
 -- The run is kept after an event.
-pub kept_spawn : (old new : RunSoFar) (events : List Event) (row parent offset : ℕ) (cowns : ArrayVec ℕ) → IsRunSoFar old → IsAllowed old.cowns (entries old.events.items) (Spawn row parent offset cowns) → IsSpawned old new row parent offset cowns
-    → events ≡ new.events.items ++ (Spawn row parent offset cowns ∷ []) → AreParts new.cowns events new.rows.items new.stages.items new.found.items new.latest.items new.ended
-kept_spawn old new events row parent offset cowns k a h e =
-    keeps_as _ new.cowns _ events _ new.rows.items _ new.stages.items _ new.found.items _ new.latest.items _ new.ended
-    (keeps_spawn old.cowns old.events.items old.rows.items old.stages.items old.found.items old.latest.items old.ended row parent offset cowns k a)
-    h.cowns_stay (e ∙ ap (λ v. v.items ++ (Spawn row parent offset cowns ∷ [])) h.events_stay) h.rows h.stages h.found h.latest h.ended
+pub kept_spawn : (old new : RunSoFar) (row parent offset : ℕ) (cowns : ArrayVec ℕ) → IsRunSoFar old → IsAllowed old.cowns (so_far old) (Spawn row parent offset cowns) → IsSpawned old new row parent offset cowns → HasGone new (after (so_far old) (Spawn row parent offset cowns))
+kept_spawn old new row parent offset cowns k a h =
+    goes_as _ new.cowns _ _ new.rows.items _ new.stages.items _ new.found.items _ new.latest.items _ new.ended
+    (keeps_spawn old.cowns (so_far old) old.rows.items old.stages.items old.found.items old.latest.items old.ended row parent offset cowns k a)
+    h.cowns_stay h.rows h.stages h.found h.latest h.ended
 
-pub kept_start : (old new : RunSoFar) (events : List Event) (row : ℕ) → IsRunSoFar old → IsAllowed old.cowns (entries old.events.items) (Start row) → IsStarted old new row
-    → events ≡ new.events.items ++ (Start row ∷ []) → AreParts new.cowns events new.rows.items new.stages.items new.found.items new.latest.items new.ended
-kept_start old new events row k a h e =
-    keeps_as _ new.cowns _ events _ new.rows.items _ new.stages.items _ new.found.items _ new.latest.items _ new.ended
-    (keeps_start old.cowns old.events.items old.rows.items old.stages.items old.found.items old.latest.items old.ended row k a)
-    h.cowns_stay (e ∙ ap (λ v. v.items ++ (Start row ∷ [])) h.events_stay) h.rows_stay h.stages h.found_stays h.latest_stay h.ended
+pub kept_start : (old new : RunSoFar) (row : ℕ) → IsRunSoFar old → IsAllowed old.cowns (so_far old) (Start row) → IsStarted old new row → HasGone new (after (so_far old) (Start row))
+kept_start old new row k a h =
+    goes_as _ new.cowns _ _ new.rows.items _ new.stages.items _ new.found.items _ new.latest.items _ new.ended
+    (keeps_start old.cowns (so_far old) old.rows.items old.stages.items old.found.items old.latest.items old.ended row k a)
+    h.cowns_stay h.rows_stay h.stages h.found_stays h.latest_stay h.ended
 
-pub kept_end : (old new : RunSoFar) (events : List Event) (row ticks : ℕ) (status : EndStatus) (written : ArrayVec ℕ) → IsRunSoFar old → IsAllowed old.cowns (entries old.events.items) (End row ticks status written) → IsEnded old new row ticks status written
-    → events ≡ new.events.items ++ (End row ticks status written ∷ []) → AreParts new.cowns events new.rows.items new.stages.items new.found.items new.latest.items new.ended
-kept_end old new events row ticks status written k a h e =
-    keeps_as _ new.cowns _ events _ new.rows.items _ new.stages.items _ new.found.items _ new.latest.items _ new.ended
-    (keeps_end old.cowns old.events.items old.rows.items old.stages.items old.found.items old.latest.items old.ended row ticks status written k a)
-    h.cowns_stay (e ∙ ap (λ v. v.items ++ (End row ticks status written ∷ [])) h.events_stay) h.rows h.stages h.found_stays h.latest_stay h.ended
-
--- One more event has room.
-pub room_left : (run : RunSoFar) (event : Event) → IsRunSoFar run → HasRooms run → IsAllowed run.cowns (entries run.events.items) event → HasRoomFor run.rooms event → vec_len run.events < vec_capacity run.events
-room_left run (Spawn row parent offset cowns) k has a room =
-    omega (arith, counted run.cowns run.events.items k.legal, k.rows_are.all, run.rows.ok.0, run.events.ok.0, has.events, room)
-room_left run (Start row) k has a room =
-    omega (arith, start_left run.cowns run.events.items row k.legal a, k.rows_are.all, run.rows.ok.0, run.events.ok.0, has.events)
-room_left run (End row ticks status written) k has a room =
-    omega (arith, end_left run.cowns run.events.items row ticks status written k.legal a, k.rows_are.all, run.rows.ok.0, run.events.ok.0, has.events)
+pub kept_end : (old new : RunSoFar) (row ticks : ℕ) (status : EndStatus) (written : ArrayVec ℕ) → IsRunSoFar old → IsAllowed old.cowns (so_far old) (End row ticks status written) → IsEnded old new row ticks status written → HasGone new (after (so_far old) (End row ticks status written))
+kept_end old new row ticks status written k a h =
+    goes_as _ new.cowns _ _ new.rows.items _ new.stages.items _ new.found.items _ new.latest.items _ new.ended
+    (keeps_end old.cowns (so_far old) old.rows.items old.stages.items old.found.items old.latest.items old.ended row ticks status written k a)
+    h.cowns_stay h.rows h.stages h.found_stays h.latest_stay h.ended
 
 -- The run is over where all of its rows are.
-pub complete_is : (run : RunSoFar) → IsRunSoFar run → 0 < length run.rows.items → (run.ended ≡ length run.rows.items) ↔ IsComplete run.events.items
+pub complete_is : (run : RunSoFar) → IsRunSoFar run → 0 < length run.rows.items → (run.ended ≡ length run.rows.items) ↔ IsOver (so_far run)
 complete_is run k some =
-    let rows = entries run.events.items in (
+    let rows = so_far run in (
       λ all. record {
         some = omega (arith, k.rows_are.all, some);
         ended = all_over rows (omega (arith, k.ended_is, k.rows_are.all, all));
@@ -168,9 +168,6 @@ complete_is run k some =
       λ o. omega (arith, k.ended_is, k.rows_are.all, over_all rows o.ended),
     )
 
--- the record of a run that is over
-pub rows_of_complete : (run : RunSoFar) → IsRunSoFar run → IsComplete run.events.items → IsRows run.rows.items
-rows_of_complete run k o = is_rows run.cowns (entries run.events.items) run.rows.items k.few (well_log run.cowns run.events.items k.legal) o k.rows_are
-
-pub record_of_complete : (run : RunSoFar) → IsRunSoFar run → IsComplete run.events.items → IsRecord (record { cowns = run.cowns; events = run.events.items; rows = run.rows.items })
-record_of_complete run k o = record { few = k.few; legal = k.legal; complete = o; rows_are = k.rows_are }
+-- the rows of a run that is over have the shape of a record's
+pub rows_of_complete : (run : RunSoFar) → IsRunSoFar run → IsOver (so_far run) → IsRows run.rows.items
+rows_of_complete run k o = is_rows run.cowns (so_far run) run.rows.items k.legal.few (well_rows run.cowns (so_far run) k.legal) o k.rows_are

@@ -1,5 +1,5 @@
 -- What is kept of a run stays that of its log as a row is changed, or put behind the others.
-use Rattle.std.proofs.Common.{◌≡◌, ℕ, zero, suc, ◌+◌, ◌-◌, ◌<◌, ◌≤◌, ◌≢◌, ◌⊎◌, List, [], ◌∷◌, ◌++◌, length, map, get_or, take, drop, refl, sym, ◌∙◌, ap, subst, inl, inr, arith, length-append, length-drop, get_or-set_same, get_or-set_other}
+use Rattle.std.proofs.Common.{◌≡◌, ℕ, zero, suc, ◌+◌, ◌-◌, ◌*◌, ◌<◌, ◌≤◌, ◌≢◌, ◌⊎◌, List, [], ◌∷◌, ◌++◌, length, map, get_or, take, drop, refl, sym, ◌∙◌, ap, subst, inl, inr, arith, length-append, length-drop, get_or-set_same, get_or-set_other}
 use Rattle.std.proofs.Math.ListN.{length-set}
 use Rattle.std.specs.Prelude.{slice_get, slice_set, slice_range, Option, Some, None, All}
 use Rattle.std.specs.Option.{option_map_or}
@@ -7,6 +7,7 @@ use Rattle.std.specs.List.{Contains}
 use Rattle.std.proofs.lemmas.List.{get_or-map, length-map, take-append-le, drop-append-le, drop_at, take_all}
 use Rattle.std.proofs.lemmas.Option.{slice_get_within}
 use Rattle.std.proofs.lemmas.Bool.{cases_eq, cases_order}
+use Rattle.boc_types.specs.declared.limits.TheConstants.{MOST_HELD}
 use Rattle.boc_types.specs.declared.rows.Row.{Row}
 use Rattle.boc_types.specs.runs.Legal.{Entry, entry_cowns}
 use Rattle.boc_types.specs.runs.Records.{IsRowOf, AreRowsOf}
@@ -129,6 +130,7 @@ part_set stages r x y at from to k z i =
 pub found_set : (run : List Entry) (stages : List Stage) (found : List (Option ℕ)) (r : ℕ) (e v : Entry) (x y : Stage) → AreFound run stages found → IsSet run r e v → slice_get stages r ≡ Some x → x.from ≡ y.from → x.to ≡ y.to
     → AreFound (slice_set run r v) (slice_set stages r y) found
 found_set run stages found r e v x y are h at from to = record {
+  few = subst (λ (n : ℕ). length found ≤ MOST_HELD * n) (sym (length-set run r v)) are.few;
   ordered = λ k z i. let p = part_set stages r x y at from to k z i in omega (arith, p.from, p.to, are.ordered k p.old p.was);
   within = λ k z i. let p = part_set stages r x y at from to k z i in omega (arith, p.to, are.within k p.old p.was);
   before = λ k z i.
@@ -207,12 +209,13 @@ range_behind : {X : Type 0} (xs ys : List X) (i j : ℕ) → i ≡ length xs →
 range_behind xs ys i j h k =
     ap (λ zs. take (j - i) zs) (drop_at xs ys i (sym h)) ∙ take_all (j - i) ys (omega arith)
 
-pub found_push : (run : List Entry) (stages : List Stage) (found : List (Option ℕ)) (v : Entry) (y : Stage) (cowns : ℕ) (latest : List (Option ℕ)) → AreStagesOf run stages → AreFound run stages found → AreLatest run cowns latest → All (λ c. c < cowns) v.cowns
+pub found_push : (run : List Entry) (stages : List Stage) (found : List (Option ℕ)) (v : Entry) (y : Stage) (cowns : ℕ) (latest : List (Option ℕ)) → AreStagesOf run stages → AreFound run stages found → AreLatest run cowns latest → All (λ c. c < cowns) v.cowns → length v.cowns ≤ MOST_HELD
     → y.from ≡ length found → y.to ≡ length found + length v.cowns → AreFound (run ++ (v ∷ [])) (stages ++ (y ∷ [])) (found ++ map (λ c. get_or latest c None) v.cowns)
-found_push run stages found v y cowns latest stages_are are on below from to =
+found_push run stages found v y cowns latest stages_are are on below held from to =
     let more = map (λ c. get_or latest c None) v.cowns in
     let long = length-append found more in
     let new : length more ≡ length v.cowns = length-map v.cowns (λ c. get_or latest c None) in record {
+      few = omega (arith, are.few, length-append run (v ∷ []), long, new, held);
       ordered = λ k z i. elim (got_push stages k y z i) [
         | inl p ↦ are.ordered k z p
         | inr p ↦ omega (arith, ap (λ (a : Stage). a.from) p.1, ap (λ (a : Stage). a.to) p.1, from, to)

@@ -7,3 +7,4 @@ pub mod Accepting
 pub mod Finished
 pub mod Events
 pub mod Judging
+pub mod Logging

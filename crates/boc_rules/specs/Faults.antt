@@ -2,8 +2,8 @@
 use Rattle.std.specs.Prelude.{ℕ, List, codes}
 use Rattle.boc_types.specs.declared.event.BrokenRule.{BrokenRule}
 use Rattle.boc_types.specs.declared.event.BrokenRule.TheVariants as rules
-use Rattle.boc_rules.specs.declared.rules.RuleFault.{RuleFault}
-use Rattle.boc_rules.specs.declared.rules.RuleFault.TheVariants.{Broken, Memory}
+use Rattle.boc_rules.specs.declared.fault.RuleFault.{RuleFault}
+use Rattle.boc_rules.specs.declared.fault.RuleFault.TheVariants.{Broken, Memory}
 
 -- the number and the name of a rule that is broken
 abbrev pub rule_line : BrokenRule → List ℕ

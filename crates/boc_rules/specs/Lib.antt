@@ -1,5 +1,8 @@
 pub mod Log
+pub mod Course
+pub mod Logged
 pub mod Before
+pub mod MaybeRows
 pub mod SoFar
 pub mod Judges
 pub mod Rules

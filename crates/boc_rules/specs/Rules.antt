@@ -4,8 +4,8 @@ use Rattle.boc_types.specs.declared.event.Event.{Event}
 use Rattle.boc_types.specs.runs.Legal.{entries, IsAllowed, IsFirstBroken, IsComplete}
 use Rattle.boc_types.specs.runs.Records.{Recorded, IsRecord}
 use Rattle.boc_rules.specs.Log.{Log, HasRoomFor, grown}
-use Rattle.boc_rules.specs.declared.rules.RuleFault.{RuleFault}
-use Rattle.boc_rules.specs.declared.rules.RuleFault.TheVariants.{Broken, Memory}
+use Rattle.boc_rules.specs.declared.fault.RuleFault.{RuleFault}
+use Rattle.boc_rules.specs.declared.fault.RuleFault.TheVariants.{Broken, Memory}
 
 -- An event that is allowed is put behind the log, and one that isn't is refused for the first rule that it breaks.
 -- Memory is wanted only for a spawn that is allowed and finds no room. The log stays as it was where the event is refused.

@@ -1,20 +1,19 @@
--- What is kept of a run under way, and how an event changes it.
+-- What is kept of the rows of a run under way, and how an event changes it.
 use Rattle.std.specs.Prelude.{◌≡◌, ℕ, ◌+◌, ◌-◌, ◌*◌, ◌<◌, ◌≤◌, List, [], ◌∷◌, ◌++◌, length, map, Option, Some, None, slice_get, slice_index_or, slice_range, vec_len, vec_capacity}
 use Rattle.boc_types.specs.declared.body.EndStatus.{EndStatus}
 use Rattle.boc_types.specs.declared.body.EndStatus.TheVariants as statuses
-use Rattle.boc_types.specs.declared.event.Event.{Event}
 use Rattle.boc_types.specs.declared.rows.Row.{Row}
-use Rattle.boc_types.specs.declared.limits.TheConstants.{MOST_COWNS, MOST_HELD}
+use Rattle.boc_types.specs.declared.limits.TheConstants.{MOST_HELD}
 use Rattle.boc_types.specs.runs.Lives as lives
 use Rattle.boc_types.specs.runs.Lives.{changed}
-use Rattle.boc_types.specs.runs.Legal.{Entry, entries, IsLegal}
+use Rattle.boc_types.specs.runs.Legal.{Entry}
 use Rattle.boc_types.specs.runs.Records.{AreRowsOf}
 use Rattle.arrayvec.specs.ArrayVec.{ArrayVec}
 use Rattle.boc_rules.specs.declared.stage.Life.{Life}
 use Rattle.boc_rules.specs.declared.stage.Life.TheVariants.{Pending, Running, Ended}
 use Rattle.boc_rules.specs.declared.stage.Stage.{Stage}
 use Rattle.boc_rules.specs.declared.so_far.RunSoFar.{RunSoFar}
-use Rattle.boc_rules.specs.declared.so_far.TheConstants.{MOST_EVENTS}
+use Rattle.boc_rules.specs.Course.{AreLegal}
 use Rattle.boc_rules.specs.Before.{IsLatest, AreBefore, noted}
 
 -- what has become of a row
@@ -35,6 +34,7 @@ pub record AreStagesOf (run : List Entry) (stages : List Stage) : Type 0 where
 
 -- what was found for each row: the rows before it on its cowns
 pub record AreFound (run : List Entry) (stages : List Stage) (found : List (Option ℕ)) : Type 0 where
+  pub few : length found ≤ MOST_HELD * length run
   pub ordered : (r : ℕ) (stage : Stage) → slice_get stages r ≡ Some stage → stage.from ≤ stage.to
   pub within : (r : ℕ) (stage : Stage) → slice_get stages r ≡ Some stage → stage.to ≤ length found
   pub before : (r : ℕ) (stage : Stage) → slice_get stages r ≡ Some stage → AreBefore run r (slice_range found stage.from stage.to)
@@ -54,31 +54,51 @@ abbrev pub over : List Entry → ℕ
 over [] = 0
 over (entry ∷ entries) = over_one entry.life + over entries
 
--- what is kept is that of a legal log
-pub record AreParts (cowns : ℕ) (events : List Event) (rows : List Row) (stages : List Stage) (found latest : List (Option ℕ)) (ended : ℕ) : Type 0 where
-  pub few : cowns ≤ MOST_COWNS
-  pub legal : IsLegal cowns events
-  pub rows_are : AreRowsOf (entries events) rows
-  pub stages_are : AreStagesOf (entries events) stages
-  pub found_are : AreFound (entries events) stages found
-  pub latest_are : AreLatest (entries events) cowns latest
-  pub ended_is : ended ≡ over (entries events)
+-- a row of a run under way, of what is kept of it
+abbrev pub entry_of : Row → Stage → Entry
+entry_of row stage = record {
+  parent = row.parent;
+  offset = row.offset;
+  cowns = row.cowns.items;
+  life = meant stage.life;
+  last = stage.last;
+  ticks = row.ticks;
+  status = row.status;
+  written = row.written.items;
+}
 
--- what is kept of a run is that of a legal log
+-- rows with their stages
+abbrev pub entries_of : List Row → List Stage → List Entry
+entries_of [] stages = []
+entries_of (row ∷ rows) [] = []
+entries_of (row ∷ rows) (stage ∷ stages) = entry_of row stage ∷ entries_of rows stages
+
+-- the rows of a run so far, with what has become of each
+abbrev pub so_far : RunSoFar → List Entry
+so_far run = entries_of run.rows.items run.stages.items
+
+-- what is kept is that of the rows of a legal log
+pub record AreParts (cowns : ℕ) (run : List Entry) (rows : List Row) (stages : List Stage) (found latest : List (Option ℕ)) (ended : ℕ) : Type 0 where
+  pub legal : AreLegal cowns run
+  pub rows_are : AreRowsOf run rows
+  pub stages_are : AreStagesOf run stages
+  pub found_are : AreFound run stages found
+  pub latest_are : AreLatest run cowns latest
+  pub ended_is : ended ≡ over run
+
+-- what is kept of a run is that of the rows of a legal log
 abbrev pub IsRunSoFar : RunSoFar → Type 0
-IsRunSoFar run = AreParts run.cowns run.events.items run.rows.items run.stages.items run.found.items run.latest.items run.ended
+IsRunSoFar run = AreParts run.cowns (so_far run) run.rows.items run.stages.items run.found.items run.latest.items run.ended
 
--- there is room for so many more rows, and for the events of these rows and of those that are there
+-- there is room for so many more rows
 pub record HasRooms (run : RunSoFar) : Type 0 where
   pub rows : vec_len run.rows + run.rooms ≤ vec_capacity run.rows
   pub stages : vec_len run.stages + run.rooms ≤ vec_capacity run.stages
   pub found : vec_len run.found + MOST_HELD * run.rooms ≤ vec_capacity run.found
-  pub events : MOST_EVENTS * (vec_len run.rows + run.rooms) ≤ vec_capacity run.events
 
 -- the same run, whose lists may have more room
 pub record IsSameRun (old new : RunSoFar) : Type 0 where
   pub cowns : new.cowns ≡ old.cowns
-  pub events : new.events.items ≡ old.events.items
   pub rows : new.rows.items ≡ old.rows.items
   pub stages : new.stages.items ≡ old.stages.items
   pub found : new.found.items ≡ old.found.items
@@ -99,7 +119,6 @@ new_row parent offset cowns = record {
 -- a row was put behind the others
 pub record IsSpawned (old new : RunSoFar) (row parent offset : ℕ) (cowns : ArrayVec ℕ) : Type 0 where
   pub cowns_stay : new.cowns ≡ old.cowns
-  pub events_stay : new.events ≡ old.events
   pub rows : new.rows.items ≡ old.rows.items ++ new_row parent offset cowns ∷ []
   pub stages : new.stages.items ≡
       changed old.stages.items parent (λ s. record s { last = offset }) (slice_get old.stages.items parent)
@@ -112,7 +131,6 @@ pub record IsSpawned (old new : RunSoFar) (row parent offset : ℕ) (cowns : Arr
 -- a row runs
 pub record IsStarted (old new : RunSoFar) (row : ℕ) : Type 0 where
   pub cowns_stay : new.cowns ≡ old.cowns
-  pub events_stay : new.events ≡ old.events
   pub rows_stay : new.rows.items ≡ old.rows.items
   pub stages : new.stages.items ≡ changed old.stages.items row (λ s. record s { life = Running }) (slice_get old.stages.items row)
   pub found_stays : new.found.items ≡ old.found.items
@@ -123,7 +141,6 @@ pub record IsStarted (old new : RunSoFar) (row : ℕ) : Type 0 where
 -- a row is over
 pub record IsEnded (old new : RunSoFar) (row ticks : ℕ) (status : EndStatus) (written : ArrayVec ℕ) : Type 0 where
   pub cowns_stay : new.cowns ≡ old.cowns
-  pub events_stay : new.events ≡ old.events
   pub rows : new.rows.items ≡ changed old.rows.items row (λ x. record x { ticks = ticks; status = status; written = written }) (slice_get old.rows.items row)
   pub stages : new.stages.items ≡ changed old.stages.items row (λ s. record s { life = Ended }) (slice_get old.stages.items row)
   pub found_stays : new.found.items ≡ old.found.items

@@ -1,229 +1,145 @@
-// Which rules an event keeps.
+// A run under way as it is judged, event by event.
 
-ghost use Rattle.std.specs.Prelude.{◌≡◌, ◌<◌, ◌≤◌, ◌↔◌, All, IsTrue, MatchOption, Some, length};
-ghost use Rattle.std.specs.Option.{option_map};
+ghost use Rattle.std.specs.Prelude.{◌≡◌, ◌+◌, ◌<◌, ◌≤◌, ◌↔◌, [], IfOk, IsTrue, MatchOption, MatchResult, length};
 
+use crate::fault::RuleFault;
 use crate::so_far::RunSoFar;
-use crate::stage::Life;
-use boc_types::cowns::{are_among, are_cowns};
 use boc_types::event::{BrokenRule, Event};
-use boc_types::limits::{MOST_ROWS, MOST_TICKS};
+use boc_types::rows::Rows;
 use boc_types::short::Cowns;
+use std::alloc::{AllocError, Global};
+use std::marker::Model;
 
-impl RunSoFar {
-    ghost use Rattle.boc_types.specs.declared.body.EndStatus.{EndStatus};
-    ghost use Rattle.boc_types.specs.runs.Lives.{Running, MayStart};
-    ghost use Rattle.boc_types.specs.runs.Cowns.{AreAmong};
-    ghost use Rattle.boc_types.specs.runs.Legal.{entries, entry_cowns, life_of, last_of, IsParent, IsOffset, MayNeed, MayEnd, IsComplete};
-    ghost use Rattle.boc_rules.specs.SoFar.{IsRunSoFar, meant};
-    ghost use Rattle.boc_rules.specs.Before.{IsOverAt};
+/// The rows of a run so far, and what has become of each. They are those of events that keep the rules of runs over
+/// a number of cowns, which is at most 256; the events themselves are not kept.
+#[derive(Drop, Debug)]
+pub struct Judge {
+    run: RunSoFar,
+}
+
+impl Model for Judge {
+    ghost use Rattle.boc_rules.specs.Course.{Course};
+
+    ghost Value = { Course };
+
+    ghost use Rattle.boc_rules.specs.SoFar.{so_far, IsRunSoFar, HasRooms};
+
+    ghost view = { λ j. let v : Course = record { cowns = j.run.cowns; rows = so_far j.run; rooms = j.run.rooms } in v };
+
+    ghost invariant = { λ j. IsRunSoFar j.run × HasRooms j.run };
+}
+
+impl Judge {
+    ghost use Rattle.boc_types.specs.declared.limits.TheConstants.{MOST_COWNS};
+    ghost use Rattle.boc_types.specs.runs.Legal.{entry_cowns, IsAllowed};
+    ghost use Rattle.boc_rules.specs.Log.{HasRoomFor};
     ghost use Rattle.boc_rules.specs.Judges.{Judges};
+    ghost use Rattle.boc_rules.specs.Course.{stepped, AreLegal, IsOver, Steps, GivesRows};
+
+    /// No rows yet, over this many cowns, and no room for any.
+    pub fn new(alloc: Global, cowns: u32) -> Result<Judge, AllocError>
+        requires { cowns ≤ MOST_COWNS }
+        ensures { IfOk result (λ j. j ≡ record { cowns = cowns; rows = []; rooms = 0 }) }
+    {
+        Ok(Judge {
+            run: RunSoFar::new(alloc, cowns)?,
+        })
+    }
+
+    /// Takes the event if it keeps the rules, and otherwise answers the first rule that it breaks. Room is made
+    /// for a spawn that finds none, and is refused only where the spawn keeps the rules. Nothing changes after a
+    /// refusal. The time goes with the number of the event's cowns, amortised.
+    pub fn take(&mut self, event: Event) -> Result<(), RuleFault>
+        ensures { Steps self.old event result self.new }
+    {
+        if let Err(rule) = self.judge(&event) {
+            return Err(RuleFault::Broken(rule));
+        }
+        if !self.has_room_for(&event) && self.make_room().is_err() {
+            return Err(RuleFault::Memory);
+        }
+        self.put(event);
+        Ok(())
+    }
 
     /// The event keeps every rule, or this is the first that it breaks.
     pub fn judge(&self, event: &Event) -> Result<(), BrokenRule>
-        requires { IsRunSoFar self.now }
-        ensures { Judges self.now.cowns (entries self.now.events.items) event.now result }
+        ensures { Judges self.now.cowns self.now.rows event.now result }
+    {
+        self.run.judge(event)
+    }
+
+    /// There is room for the event: each but a spawn has it since its row's spawn.
+    pub fn has_room_for(&self, event: &Event) -> bool
+        ensures { IsTrue result ↔ HasRoomFor self.now.rooms event.now }
     {
         match event {
-            Event::Spawn {
-                row,
-                parent,
-                offset,
-                cowns,
-            } => self.judge_spawn(*row, *parent, *offset, cowns),
-            Event::Start { row } => self.judge_start(*row),
-            Event::End {
-                row,
-                ticks,
-                written,
-                ..
-            } => self.judge_end(*row, *ticks, written),
+            Event::Spawn { .. } => self.run.rooms > 0,
+            Event::Start { .. } | Event::End { .. } => true,
         }
     }
 
-    // The rules of a spawn, in the order in which they are judged.
-    fn judge_spawn(
-        &self,
-        row: u32,
-        parent: u32,
-        offset: u32,
-        cowns: &Cowns,
-    ) -> Result<(), BrokenRule>
-        requires { IsRunSoFar self.now }
-        ensures { Judges self.now.cowns (entries self.now.events.items) (Event.Spawn row parent offset cowns.now) result }
+    /// Makes room for one more row. Nothing changes where memory is refused. The time is constant, amortised.
+    pub fn make_room(&mut self) -> Result<(), AllocError>
+        ensures { MatchResult result (λ _. self.new ≡ record self.old { rooms = self.old.rooms + 1 }) (λ _. self.new ≡ self.old) }
     {
-        let needed = cowns.as_slice();
-        if row as usize != self.rows.len() {
-            return Err(BrokenRule::NumberNotNext);
-        }
-        if row as usize >= MOST_ROWS {
-            return Err(BrokenRule::TooMany);
-        }
-        if !self.is_parent(parent) {
-            return Err(BrokenRule::ParentNotRunning);
-        }
-        if !self.is_offset(parent, offset) {
-            return Err(BrokenRule::Offset);
-        }
-        if !self.may_need(needed) {
-            return Err(BrokenRule::Cowns);
-        }
-        Ok(())
+        self.run.make_room()
     }
 
-    // The rule of a start.
-    fn judge_start(&self, row: u32) -> Result<(), BrokenRule>
-        requires { IsRunSoFar self.now }
-        ensures { Judges self.now.cowns (entries self.now.events.items) (Event.Start row) result }
+    /// Takes an event that keeps the rules. For a spawn there must be room, which it takes. It takes no memory,
+    /// and judges nothing.
+    pub fn put(&mut self, event: Event)
+        requires allowed { IsAllowed self.old.cowns self.old.rows event }
+        requires room { HasRoomFor self.old.rooms event }
+        ensures { self.new ≡ stepped self.old event }
     {
-        if !self.may_start(row) {
-            return Err(BrokenRule::StartNotAllowed);
-        }
-        Ok(())
+        self.run.accept(event);
     }
 
-    // The rule of an end, whatever its status.
-    fn judge_end(&self, row: u32, ticks: u32, written: &Cowns) -> Result<(), BrokenRule>
-        requires { IsRunSoFar self.now }
-        ensures { (status : EndStatus) → Judges self.now.cowns (entries self.now.events.items) (Event.End row ticks status written.now) result }
+    /// How many rows there are.
+    pub fn count(&self) -> usize
+        ensures { result ≡ length self.now.rows }
     {
-        let wrote = written.as_slice();
-        if !self.may_end(row, ticks, wrote) {
-            return Err(BrokenRule::EndNotAllowed);
-        }
-        Ok(())
+        self.run.rows.len()
     }
 
-    // What has become of the row, if it is there.
-    fn life(&self, row: u32) -> Option<Life>
-        requires { IsRunSoFar self.now }
-        ensures { option_map meant result ≡ life_of (entries self.now.events.items) row }
+    /// How many rows there is room for that are not spawned yet.
+    pub fn rooms(&self) -> usize
+        ensures { result ≡ self.now.rooms }
     {
-        Some(self.stages.get(row as usize)?.life)
+        self.run.rooms
     }
 
-    // The offset of the row's last child; 0 where it has none, or isn't there.
-    fn last(&self, row: u32) -> u32
-        requires { IsRunSoFar self.now }
-        ensures { result ≡ last_of (entries self.now.events.items) row }
-    {
-        match self.stages.get(row as usize) {
-            Some(stage) => stage.last,
-            None => 0,
-        }
-    }
-
-    // The row is there and runs.
-    fn is_running(&self, row: u32) -> bool
-        requires { IsRunSoFar self.now }
-        ensures { IsTrue result ↔ (life_of (entries self.now.events.items) row ≡ Some Running) }
-    {
-        matches!(self.life(row), Some(Life::Running))
-    }
-
-    // The next row may have this parent.
-    fn is_parent(&self, parent: u32) -> bool
-        requires { IsRunSoFar self.now }
-        ensures { IsTrue result ↔ IsParent (entries self.now.events.items) parent }
-    {
-        if self.stages.is_empty() {
-            parent == 0
-        } else {
-            self.is_running(parent)
-        }
-    }
-
-    // The next row may have this offset.
-    fn is_offset(&self, parent: u32, offset: u32) -> bool
-        requires { IsRunSoFar self.now }
-        ensures { IsTrue result ↔ IsOffset (entries self.now.events.items) parent offset }
-    {
-        if self.stages.is_empty() {
-            offset == 0
-        } else {
-            self.last(parent) < offset && offset <= MOST_TICKS
-        }
-    }
-
-    // The next row may have these cowns.
-    fn may_need(&self, cowns: &[u32]) -> bool
-        requires { IsRunSoFar self.now }
-        ensures { IsTrue result ↔ MayNeed self.now.cowns (entries self.now.events.items) cowns.now }
-    {
-        if self.stages.is_empty() {
-            cowns.is_empty()
-        } else {
-            are_cowns(cowns, self.cowns)
-        }
-    }
-
-    // The row waits, and on each of its cowns the row before it is over.
-    fn may_start(&self, row: u32) -> bool
-        requires { IsRunSoFar self.now }
-        ensures { IsTrue result ↔ MayStart (life_of (entries self.now.events.items)) (entry_cowns (entries self.now.events.items)) row }
-    {
-        let Some(stage) = self.stages.get(row as usize) else {
-            return false;
-        };
-        match stage.life {
-            Life::Pending => self.are_over(&self.found[stage.from..stage.to]),
-            Life::Running | Life::Ended => false,
-        }
-    }
-
-    // All of these rows are over.
-    fn are_over(&self, rows: &[Option<u32>]) -> bool
-        requires { IsRunSoFar self.now }
-        ensures { IsTrue result ↔ All (IsOverAt (entries self.now.events.items)) rows.now }
-    {
-        for row in rows {
-            if let Some(row) = row {
-                if !matches!(self.life(*row), Some(Life::Ended)) {
-                    return false;
-                }
-            }
-        }
-        true
-    }
-
-    /// The cowns of the row, if it is there.
+    /// The cowns of a row, if it is there.
     pub fn cowns_of(&self, row: u32) -> Option<&Cowns>
-        requires { IsRunSoFar self.now }
-        ensures { MatchOption result (length (entries self.now.events.items) ≤ row)
-            (λ cowns. (row < length (entries self.now.events.items)) × (cowns.now.items ≡ entry_cowns (entries self.now.events.items) row)) }
+        ensures { MatchOption result (length self.now.rows ≤ row) (λ cowns. (row < length self.now.rows) × (cowns.now.items ≡ entry_cowns self.now.rows row)) }
     {
-        Some(&self.rows.get(row as usize)?.cowns)
+        self.run.cowns_of(row)
     }
 
-    // These rise strictly, and are among the row's cowns; a row that isn't there has none.
-    fn are_own(&self, row: u32, written: &[u32]) -> bool
-        requires { IsRunSoFar self.now }
-        ensures { IsTrue result ↔ AreAmong (entry_cowns (entries self.now.events.items) row) written.now }
+    /// How many cowns there are.
+    pub fn cowns(&self) -> u32
+        ensures value { result ≡ self.now.cowns }
+        ensures few { result ≤ MOST_COWNS }
+        ensures legal { AreLegal self.now.cowns self.now.rows }
     {
-        match self.cowns_of(row) {
-            Some(cowns) => are_among(written, cowns.as_slice()),
-            None => written.is_empty(),
-        }
+        self.run.cowns
     }
 
-    // The row runs, these ticks reach its last child's spawn, and what was written is its own.
-    fn may_end(&self, row: u32, ticks: u32, written: &[u32]) -> bool
-        requires { IsRunSoFar self.now }
-        ensures { IsTrue result ↔ MayEnd (entries self.now.events.items) row ticks written.now }
-    {
-        self.is_running(row)
-            && 0 < ticks
-            && ticks <= MOST_TICKS
-            && self.last(row) <= ticks
-            && self.are_own(row, written)
-    }
-
-    /// There is a row, and all rows have ended.
+    /// There is a row, and every row has ended.
     pub fn is_complete(&self) -> bool
-        requires { IsRunSoFar self.now }
-        ensures { IsTrue result ↔ IsComplete self.now.events.items }
+        ensures { IsTrue result ↔ IsOver self.now.rows }
     {
-        let rows = self.rows.len();
-        rows > 0 && self.ended as usize == rows
+        self.run.is_complete()
+    }
+
+    /// The rows of the run where it is complete; otherwise the judge comes back unchanged. It takes no memory.
+    pub fn into_rows(self) -> Result<Rows, Judge>
+        ensures { GivesRows self result }
+    {
+        if !self.run.is_complete() {
+            return Err(self);
+        }
+        Ok(Rows::new(self.run.rows))
     }
 }

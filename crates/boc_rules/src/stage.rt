@@ -15,6 +15,6 @@ pub struct Stage {
     /// The offset of its last child; 0 where it has none.
     pub last: u32,
     /// Where the rows before it on its cowns begin among those found, and where they end.
-    pub from: usize,
-    pub to: usize,
+    pub from: u32,
+    pub to: u32,
 }

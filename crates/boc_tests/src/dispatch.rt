@@ -5,7 +5,7 @@ use boc_dispatch::{
 };
 use boc_eval::{Frame, Outcome, Stop};
 use boc_reader::read_program;
-use boc_types::event::Event;
+use boc_record::put_events;
 use boc_types::program::Program;
 use boc_types::short::{Args, Input, Inputs};
 use std::alloc::Global;
@@ -79,19 +79,9 @@ fn serve<'a>(alloc: Global, core: &mut Dispatcher<'a>, job: Job<'a>) -> Result<(
     }
 }
 
-// The line of an event in the text of records, without what was written.
-fn line(alloc: Global, event: &Event) -> Result<String, Fail> {
-    Ok(match event {
-        Event::Spawn {
-            row,
-            parent,
-            offset,
-            ..
-        } => format!(in alloc; "+ {row} {parent} {offset}")?,
-        Event::Start { row } => format!(in alloc; "> {row}")?,
-        Event::End { row, ticks, .. } => format!(in alloc; "< {row} {ticks}")?,
-    })
-}
+// The lines of the log of a transfer that one worker makes.
+const LINES: &str =
+    "+ 0 0 0\n> 0\n+ 1 0 2 0\n+ 2 0 3 0 1\n+ 3 0 4 1\n< 0 4 0\n> 1\n< 1 2 0 0\n> 2\n< 2 3 0 0 1\n> 3\n< 3 2 0 1\n";
 
 #[test]
 fn transfer_by_one_worker(rt: HostRuntime) -> Result<(), Fail> {
@@ -112,14 +102,9 @@ fn transfer_by_one_worker(rt: HostRuntime) -> Result<(), Fail> {
         (core.value(0), core.value(1), core.value(2)),
         (Some(12), Some(4), None)
     );
-    let lines = [
-        "+ 0 0 0", "> 0", "+ 1 0 2", "+ 2 0 3", "+ 3 0 4", "< 0 4", "> 1", "< 1 2", "> 2", "< 2 3",
-        "> 3", "< 3 2",
-    ];
-    assert_eq!(rt; core.log().len(), lines.len());
-    for (event, wanted) in core.log().iter().zip(lines) {
-        assert_eq!(rt; line(alloc, event)?.as_str(), wanted);
-    }
+    let mut lines = Vec::new(alloc);
+    put_events(&mut lines, core.log())?;
+    assert_eq!(rt; String::from_utf8(lines)?.as_str(), LINES);
     let Ok(record) = core.into_record() else {
         return Err("a quiet dispatcher has a record".into());
     };

@@ -48,25 +48,6 @@ fn transfer_by_one_and_two(rt: HostRuntime) -> Result<(), Fail> {
 }
 
 #[test]
-fn four_squares_by_two_and_four(rt: HostRuntime) -> Result<(), Fail> {
-    let alloc = rt.alloc();
-    let rows = four_squares(alloc)?;
-    let two = plan_for(alloc, &rows, 2)?;
-    has_plan(&rt, &two, &[0, 2, 5, 10, 13], &[0, 1, 0, 1, 0], 21, 31);
-    let four = plan_for(alloc, &rows, 4)?;
-    has_plan(&rt, &four, &[0, 2, 3, 4, 5], &[0, 1, 2, 3, 0], 13, 22);
-    Ok(())
-}
-
-#[test]
-fn no_cowns_by_one(rt: HostRuntime) -> Result<(), Fail> {
-    let alloc = rt.alloc();
-    let one = plan_for(alloc, &no_cowns(alloc)?, 1)?;
-    has_plan(&rt, &one, &[0, 3, 7], &[0, 0, 0], 11, 18);
-    Ok(())
-}
-
-#[test]
 fn one_long_row_by_many(rt: HostRuntime) -> Result<(), Fail> {
     let alloc = rt.alloc();
     let mut list = Vec::new(alloc);

@@ -4,6 +4,8 @@
 #[cfg(test)]
 mod chain;
 #[cfg(test)]
+mod commands;
+#[cfg(test)]
 mod dispatch;
 #[cfg(test)]
 mod drives;
@@ -12,15 +14,17 @@ mod eval;
 #[cfg(test)]
 mod greedy;
 #[cfg(test)]
-mod names;
-#[cfg(test)]
 mod order;
-#[cfg(test)]
-mod reader;
 #[cfg(test)]
 mod record;
 #[cfg(test)]
+mod record_rows;
+#[cfg(test)]
 mod rules;
+#[cfg(test)]
+mod runs;
+#[cfg(test)]
+mod sweep;
 #[cfg(test)]
 mod text;
 #[cfg(test)]

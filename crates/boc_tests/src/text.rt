@@ -60,7 +60,7 @@ fn bytes(alloc: Global, text: &[u8]) -> Result<Bytes, AllocError>
     Ok(Bytes::new(Vec::from_slice(alloc, text)?))
 }
 
-/// What so many calls gave, in turn: each line with its line feed, and each other answer by its name.
+// What so many calls gave, in turn: each line with its line feed, and each other answer by its name.
 fn answers<S: Source>(alloc: Global, source: &mut S, calls: u32) -> Result<Vec<u8>, AllocError>
     requires { S.failures source.old ≡ 0 }
 {
@@ -81,7 +81,7 @@ fn answers<S: Source>(alloc: Global, source: &mut S, calls: u32) -> Result<Vec<u
     Ok(answers)
 }
 
-/// A front, so many letters, and a back.
+// A front, so many letters, and a back.
 fn around(alloc: Global, front: &[u8], letters: u32, back: &[u8]) -> Result<Vec<u8>, AllocError> {
     let mut text = Vec::from_slice(alloc, front)?;
     for _ in 0..letters {
@@ -162,7 +162,7 @@ fn one_read_fails(rt: HostRuntime) -> Result<(), Fail> {
     Ok(())
 }
 
-/// More lines than are taken in at once, of all lengths.
+// More lines than are taken in at once, of all lengths.
 #[test]
 fn many_lines(rt: HostRuntime) -> Result<(), Fail> {
     let alloc = rt.alloc();

@@ -79,16 +79,16 @@ fn refused_edits_change_nothing(rt: HostRuntime) -> Result<(), Fail> {
 #[test]
 fn sweep_of_a_transfer(rt: HostRuntime) -> Result<(), Fail> {
     let question = WhatIf::new(rt.alloc(), &transfer(rt.alloc())?)?;
-    let spans = question.sweep(&rt, rt.alloc())?;
+    let spans = question.sweep(rt.alloc())?;
     assert_eq!(rt; spans.as_slice(), [9, 8, 7, 8].as_slice());
     Ok(())
 }
 
 #[test]
-fn sweep_in_pieces(rt: HostRuntime) -> Result<(), Fail> {
+fn sweep_of_many_rows(rt: HostRuntime) -> Result<(), Fail> {
     let question = WhatIf::new(rt.alloc(), &many(rt.alloc())?)?;
     assert_eq!(rt; question.span(), 2_505);
-    let spans = question.sweep(&rt, rt.alloc())?;
+    let spans = question.sweep(rt.alloc())?;
     assert_eq!(rt; spans.len(), 2_500);
     for (row, span) in spans.iter().enumerate() {
         let wanted = if row == 2_499 { 2_501 } else { 2_505 };

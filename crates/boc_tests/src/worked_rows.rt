@@ -103,13 +103,3 @@ pub(crate) fn waiting_for_both(alloc: Global) -> Result<Rows, Fail> {
     list.push(row(0, 4, &[0, 1], 1))?;
     rows_of(list)
 }
-
-// Two rows on a cown each that end together, and a last one that needs both cowns.
-pub(crate) fn two_cowns(alloc: Global) -> Result<Rows, Fail> {
-    let mut list = Vec::new(alloc);
-    list.push(row(0, 0, &[], 4))?;
-    list.push(row(0, 1, &[0], 6))?;
-    list.push(row(0, 2, &[1], 5))?;
-    list.push(row(0, 3, &[0, 1], 3))?;
-    rows_of(list)
-}

@@ -5,3 +5,4 @@ pub mod Schedules
 pub mod Turns
 pub mod Sound
 pub mod AlongRows
+pub mod Movers

@@ -18,8 +18,8 @@ pub fn are_rows(rows: &[Row]) -> bool
     are_fit(rows, &mut [0; MOST_ROWS])
 }
 
-/// Whether each row can stand after those before it. `last` keeps the offset of the last child so far of each row,
-/// and 0 where it has none.
+// Whether each row can stand after those before it. `last` keeps the offset of the last child so far of each row,
+// and 0 where it has none.
 fn are_fit(rows: &[Row], last: &mut [u32]) -> bool
     requires whole { length rows.now ≤ length last.old }
     requires none { (p : ℕ) → slice_index last.old p ≡ 0 }
@@ -34,7 +34,7 @@ fn are_fit(rows: &[Row], last: &mut [u32]) -> bool
     true
 }
 
-/// Whether the row of this number can stand after those before it.
+// Whether the row of this number can stand after those before it.
 fn is_fit(rows: &[Row], number: usize, last: &[u32]) -> bool
     requires there { number < length rows.now }
     requires whole { length rows.now ≤ length last.now }
@@ -56,7 +56,7 @@ fn is_fit(rows: &[Row], number: usize, last: &[u32]) -> bool
     }
 }
 
-/// Whether the row of this number can stand after those before it as a child of one of them.
+// Whether the row of this number can stand after those before it as a child of one of them.
 fn is_fit_child(rows: &[Row], number: usize, last: &[u32]) -> bool
     requires there { number < length rows.now }
     requires whole { length rows.now ≤ length last.now }

@@ -7,7 +7,7 @@ use Rattle.boc_order.specs.declared.plan.Earliest.{Earliest}
 use Rattle.boc_order.specs.Room.{HasRoom}
 use Rattle.boc_order.specs.Standing.{IsPlanOf, HasFirst}
 use Rattle.boc_order.proofs.Replacing.{edited_first}
-use Rattle.boc_whatif.specs.Lasts.{HasLasts}
+use Rattle.boc_sweep.specs.Lasts.{HasLasts}
 use Rattle.boc_whatif.specs.Asked.{IsUpToDate}
 
 -- no row gets or loses a child

@@ -5,7 +5,7 @@ use Rattle.boc_types.specs.runs.Rows.{IsRows}
 use Rattle.boc_order.specs.declared.plan.Earliest.{Earliest}
 use Rattle.boc_order.specs.Room.{HasRoom}
 use Rattle.boc_order.specs.Standing.{IsPlanOf}
-use Rattle.boc_whatif.specs.Lasts.{HasLasts}
+use Rattle.boc_sweep.specs.Lasts.{HasLasts}
 
 -- the rows as they are edited, and how many rows the last edit computed again
 pub record Asked : Type 0 where

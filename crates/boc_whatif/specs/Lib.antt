@@ -1,3 +1,1 @@
-pub mod Lasts
 pub mod Asked
-pub mod Sweeps

@@ -1,15 +1,14 @@
 // Rows that are edited one after another.
 
-use crate::lasts::{check, last_children};
-use crate::sweep::sweep;
+use crate::fit::check;
 use boc_greedy::{Greedy, greedy_within};
 use boc_order::{Earliest, Profile, earliest_plan};
+use boc_sweep::{last_children, sweep};
 use boc_types::edit::EditFault;
 use boc_types::rows::Rows;
 use boc_types::workers::Workers;
 use std::alloc::{AllocError, Global};
 use std::marker::Model;
-use std::thread::Threads;
 
 /// The rows of a finished run, of which a caller asks what they would be worth with other ticks.
 ///
@@ -138,12 +137,11 @@ impl WhatIf {
     /// For each row the span that the rows would have if that row alone took the least ticks that it can: the offset
     /// of its last child, and 1 at least. `AllocError` says that memory was refused.
     ///
-    /// The rows are split into at most 64 pieces of neighbours, of at least 64 rows each but the last, which run in
-    /// several threads. A piece takes memory once, for a copy of the rows, a plan and its spans. For each of its rows
-    /// it computes that row and those after it again, as an edit does.
-    pub fn sweep(&self, rt: &(impl Threads + Sync), alloc: Global) -> Result<Vec<u64>, AllocError>
+    /// No row is placed again: it takes memory that grows with the number of rows and their cowns, and that much time
+    /// with its logarithm beside.
+    pub fn sweep(&self, alloc: Global) -> Result<Vec<u64>, AllocError>
         ensures { IfOk result (λ spans. IsSweep self.now.rows spans.items) }
     {
-        sweep(rt, alloc, &self.rows, &self.lasts)
+        sweep(alloc, self.rows.as_slice(), &self.plan, &self.lasts)
     }
 }

@@ -1,3 +1,4 @@
 pub mod Crossing
 pub mod Ended
 pub mod Sharing
+pub mod Reached

@@ -2,8 +2,8 @@
 use Rattle.std.specs.Prelude.{◌≡◌, ℕ, ◌+◌, Option, Some, None}
 use Rattle.boc_types.specs.declared.limits.TheConstants.{MOST_ROWS}
 use Rattle.boc_types.specs.declared.program.Program.{Program}
-use Rattle.boc_types.specs.machine.Steps.{State, recorded, unrecorded}
-use Rattle.boc_types.specs.machine.Sound.{IsSound}
+use Rattle.boc_types.specs.machine.Schedules.{Reaches}
+use Rattle.boc_types.specs.machine.Steps.{State, opening_state, recorded, unrecorded}
 use Rattle.boc_dispatch.specs.declared.answers.OpenFault.TheVariants as open_faults
 use Rattle.boc_dispatch.specs.declared.worker.Refusal.{Refusal}
 use Rattle.boc_dispatch.specs.declared.worker.Refusal.TheVariants as refusals
@@ -41,8 +41,12 @@ MayNote always_on _ = ⊥
 abbrev pub IsAtLimit : Underway → Type 0
 IsAtLimit u = recorded u.program u.state + unrecorded u.state ≡ MOST_ROWS
 
--- a sound state of the program in which rows and unrecorded enqueues are together as many as rows may be
-pub record CanHaveReachedLimit (p : Program) : Type 0 where
+-- some steps lead from the opening state of the dispatcher's program to where it stands
+abbrev pub IsReached : Underway → Type 0
+IsReached u = ∥ Reaches u.program (opening_state u.program) u.state ∥₁
+
+-- some steps lead from the opening state of the program to one in which rows and unrecorded enqueues are together as many as rows may be
+pub record CanReachLimit (p : Program) : Type 0 where
   pub state : State
-  pub sound : IsSound p state
+  pub reached : ∥ Reaches p (opening_state p) state ∥₁
   pub full : recorded p state + unrecorded state ≡ MOST_ROWS

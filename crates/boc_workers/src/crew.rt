@@ -4,14 +4,14 @@ ghost use Rattle.std.specs.Prelude.{◌≡◌, ◌≢◌, ◌≤◌, IfOk, IfErr
 ghost use Rattle.boc_types.specs.declared.limits.TheConstants.{MOST_RUNNERS};
 ghost use Rattle.boc_types.specs.runs.Records.{IsRecordOf};
 ghost use Rattle.boc_types.specs.machine.AlongRows.{EndsSerially, cowns_of_rows, steps_of_rows};
-ghost use Rattle.boc_workers.specs.Noting.{CanHaveReachedLimit, MayNote};
+ghost use Rattle.boc_workers.specs.Noting.{CanReachLimit, MayNote};
 ghost use Rattle.boc_workers.specs.declared.fault.RunFault.TheVariants as faults;
 
 use crate::fault::RunFault;
 use crate::gate::{Gate, Go};
 use crate::made::Made;
 use crate::shared::Shared;
-use boc_dispatch::{Dispatcher, Step, Turn, Worker};
+use boc_dispatch::{Step, Turn, Worker};
 use boc_types::program::Program;
 use boc_types::record::Record;
 use std::alloc::Global;
@@ -47,7 +47,7 @@ pub fn run<R: Threads + Wait + Sync, G: Gate>(
     ensures workers { IfOk result (λ a. vec_len a.made ≡ workers) }
     ensures steps { IfOk result (λ a. sum a.made.items ≡ steps_of_rows (cowns_of_rows a.record.events)) }
     ensures held { IfErr result (λ e. G.always_on → e ≢ faults.Held) }
-    ensures behaviours { IfErr result (λ e. e ≡ faults.Behaviours → CanHaveReachedLimit program.now) }
+    ensures behaviours { IfErr result (λ e. e ≡ faults.Behaviours → CanReachLimit program.now) }
 {
     let blank = Blank::new(u64::from(workers));
     run_by::<Brand, G, R>(rt, alloc, blank, program, workers, gate, STACK)
@@ -71,16 +71,16 @@ pub(crate) fn run_by<L: Ledger + Send + Sync, G: Gate, R: Threads + Wait + Sync>
     ensures workers { IfOk result (λ a. vec_len a.made ≡ workers) }
     ensures steps { IfOk result (λ a. sum a.made.items ≡ steps_of_rows (cowns_of_rows a.record.events)) }
     ensures held { IfErr result (λ e. G.always_on → e ≢ faults.Held) }
-    ensures behaviours { IfErr result (λ e. e ≡ faults.Behaviours → CanHaveReachedLimit program.now) }
+    ensures behaviours { IfErr result (λ e. e ≡ faults.Behaviours → CanReachLimit program.now) }
 {
     let (book, rest) = blank.open::<L>();
-    let Ok(dispatcher) = Dispatcher::new(alloc, program) else {
+    let Ok(shared) = Shared::new(alloc, program, book) else {
         return Err(RunFault::Memory);
     };
     let hall = Hall {
         rt,
         alloc,
-        lock: Mutex::new(Shared::new(dispatcher, book)),
+        lock: Mutex::new(shared),
         changed: Condvar::new(),
         gate,
         stack,

@@ -3,8 +3,9 @@
 ghost use Rattle.std.specs.Prelude.{◌≡◌, ◌≢◌, ◌+◌, IfSome, IfNone, None, Some, IfOk, IfErr, IsOk, IsErrOf, sum, vec_len};
 ghost use Rattle.boc_types.specs.runs.Records.{IsRecordOf};
 ghost use Rattle.boc_types.specs.machine.AlongRows.{EndsSerially, cowns_of_rows, steps_of_rows};
+ghost use Rattle.boc_types.specs.machine.Steps.{opening_state};
 ghost use Rattle.boc_dispatch.specs.Working.{Works};
-ghost use Rattle.boc_workers.specs.Noting.{CanHaveReachedLimit, IsAtLimit, MayNote, fault_of, noted_after, steps_made};
+ghost use Rattle.boc_workers.specs.Noting.{CanReachLimit, IsAtLimit, IsReached, MayNote, fault_of, noted_after, steps_made};
 ghost use Rattle.boc_workers.specs.declared.fault.RunFault.TheVariants as faults;
 
 use crate::crew::RunAnswer;
@@ -13,6 +14,7 @@ use crate::gate::Gate;
 use crate::made::Made;
 use boc_dispatch::{Dispatcher, OpenFault, Refusal, Turn, Worker};
 use boc_types::program::Program;
+use std::alloc::{AllocError, Global};
 use std::marker::PhantomData;
 use std::sync::ledger::{Book, Ledger, Share};
 
@@ -23,24 +25,31 @@ pub struct Shared<'a, 'g, L: Ledger, G: Gate> {
     book: Book<L>,
     fault: Option<RunFault>,
     gate: PhantomData<&'g G>,
+    pub ghost reached: { IsReached dispatcher },
     pub ghost counted: { book.total ≡ dispatcher.state.steps },
     pub ghost at_limit: { fault ≡ Some faults.Behaviours → IsAtLimit dispatcher },
     pub ghost not_held: { G.always_on → fault ≢ Some faults.Held },
 }
 
 impl<'a, 'g, L: Ledger, G: Gate> Shared<'a, 'g, L, G> {
-    /// A dispatcher with the book of its steps, and no fault noted.
-    pub fn new(dispatcher: Dispatcher<'a>, book: Book<L>) -> Shared<'a, 'g, L, G>
-        requires { book.total ≡ dispatcher.state.steps }
-        ensures dispatcher { result.dispatcher ≡ dispatcher.entry }
-        ensures fault { result.fault ≡ None }
+    /// A dispatcher of the program in its opening state, with the book of its steps, and no fault noted. `AllocError` says
+    /// that memory was refused.
+    pub fn new(
+        alloc: Global,
+        program: &'a Program,
+        book: Book<L>,
+    ) -> Result<Shared<'a, 'g, L, G>, AllocError>
+        requires { book.total ≡ 0 }
+        ensures dispatcher { IfOk result (λ s. s.dispatcher ≡ record { program = program.now; state = opening_state program.now }) }
+        ensures fault { IfOk result (λ s. s.fault ≡ None) }
     {
-        Shared {
+        let dispatcher = Dispatcher::new(alloc, program)?;
+        Ok(Shared {
             dispatcher,
             book,
             fault: None,
             gate: PhantomData,
-        }
+        })
     }
 
     /// One turn of a worker, unless a fault is noted. Where the call is refused, the fault is noted.
@@ -99,7 +108,7 @@ impl<'a, 'g, L: Ledger, G: Gate> Shared<'a, 'g, L, G> {
         ensures made { IfOk result (λ a. IfOk crew (λ r. a.made ≡ r.0)) }
         ensures steps { IfOk result (λ a. sum a.made.items ≡ steps_of_rows (cowns_of_rows a.record.events)) }
         ensures held { IfErr result (λ e. G.always_on → e ≢ faults.Held) }
-        ensures behaviours { IfErr result (λ e. e ≡ faults.Behaviours → CanHaveReachedLimit program.now) }
+        ensures behaviours { IfErr result (λ e. e ≡ faults.Behaviours → CanReachLimit program.now) }
     {
         let Shared {
             dispatcher,

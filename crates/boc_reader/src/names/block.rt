@@ -14,7 +14,7 @@ use crate::shape::{self, NamedCown, Spot};
 use boc_types::body::{Block, CownRef, Stmt};
 use std::alloc::Global;
 
-/// The cown that a name alone stands for: a cown parameter, or a single cown.
+// The cown that a name alone stands for: a cown parameter, or a single cown.
 fn resolve_alone(outside: &Outside<'_, '_>, spot: &Spot<'_>) -> Result<CownRef, Fault<NameFault>>
     ensures { Yields cown_ref_of result (held_or_single (slot_of_spec (outside_of outside.now).held spot.now.name.now) (global (outside_of outside.now).top spot.now.name.now)) }
 {
@@ -28,7 +28,7 @@ fn resolve_alone(outside: &Outside<'_, '_>, spot: &Spot<'_>) -> Result<CownRef, 
     }
 }
 
-/// A member of an array.
+// A member of an array.
 fn resolve_member(
     alloc: Global,
     outside: &Outside<'_, '_>,
@@ -71,7 +71,7 @@ fn resolve_ref(
     }
 }
 
-/// Each of several references, in their order.
+// Each of several references, in their order.
 fn resolve_refs(
     alloc: Global,
     outside: &Outside<'_, '_>,
@@ -88,7 +88,7 @@ fn resolve_refs(
     Ok(all)
 }
 
-/// A `when`, which gives its def as many arguments and cowns as it takes.
+// A `when`, which gives its def as many arguments and cowns as it takes.
 fn resolve_call(
     alloc: Global,
     outside: &Outside<'_, '_>,
@@ -110,7 +110,7 @@ fn resolve_call(
     Ok(Stmt::When(kind, args, references))
 }
 
-/// A statement. A `let` puts its name into the scope, once its expression is resolved.
+// A statement. A `let` puts its name into the scope, once its expression is resolved.
 #[cycle(resolve)]
 fn resolve_stmt<'a>(
     alloc: Global,

@@ -17,7 +17,7 @@ use crate::shape::{self, Spot};
 use boc_types::body::{Block, Body, Stmt};
 use std::alloc::{AllocError, Global};
 
-/// One slot more than the greatest that a block writes, and `least` at the least.
+// One slot more than the greatest that a block writes, and `least` at the least.
 #[cycle(slots)]
 fn block_slots(block: &Block, least: usize) -> usize
     requires { deepest least block.now ≤ 1016 }
@@ -51,7 +51,7 @@ fn stmt_slots(stmt: &Stmt, least: usize) -> usize
     }
 }
 
-/// Puts parameters into the scope, each of which must be free.
+// Puts parameters into the scope, each of which must be free.
 fn declare<'a>(
     top: &Top<'a>,
     scope: &mut Vec<&'a str>,
@@ -68,7 +68,7 @@ fn declare<'a>(
     Ok(())
 }
 
-/// The names in scope as a body begins: its value parameters, then its cown parameters.
+// The names in scope as a body begins: its value parameters, then its cown parameters.
 fn parameters<'a>(
     alloc: Global,
     top: &Top<'a>,
@@ -83,7 +83,7 @@ fn parameters<'a>(
     Ok(scope)
 }
 
-/// A body of parts that fit, with a slot for each parameter and for each slot that it writes.
+// A body of parts that fit, with a slot for each parameter and for each slot that it writes.
 fn fitting(
     alloc: Global,
     params: usize,

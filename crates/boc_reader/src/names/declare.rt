@@ -16,7 +16,7 @@ use boc_types::cown::Cown;
 use boc_types::text::Name;
 use std::alloc::{AllocError, Global};
 
-/// The size of an array, if a cown is one.
+// The size of an array, if a cown is one.
 fn array_size(cown: &CownShape<'_>) -> Option<u32>
     requires { members cown.now.size ≤ 256 }
     ensures { result ≡ cown.now.size }
@@ -27,14 +27,14 @@ fn array_size(cown: &CownShape<'_>) -> Option<u32>
     }
 }
 
-/// How many cowns a declaration makes: one, or as many as the array has members.
+// How many cowns a declaration makes: one, or as many as the array has members.
 fn members(size: Option<u32>) -> u32
     ensures { result ≡ members size }
 {
     size.unwrap_or(1)
 }
 
-/// The cowns, each with the number of its first member. No name may stand twice.
+// The cowns, each with the number of its first member. No name may stand twice.
 fn declare_cowns<'a>(
     alloc: Global,
     cowns: &[CownShape<'a>],
@@ -59,7 +59,7 @@ fn declare_cowns<'a>(
     Ok(declared)
 }
 
-/// The defs that are the first of their names.
+// The defs that are the first of their names.
 fn declare_defs<'a>(
     alloc: Global,
     cowns: &[TopCown<'a>],
@@ -102,7 +102,7 @@ pub fn names_of_cowns<'a>(alloc: Global, cowns: &[TopCown<'a>]) -> Result<Vec<&'
     Ok(names)
 }
 
-/// A cown as the program has it.
+// A cown as the program has it.
 fn resolve_cown(alloc: Global, cown: &CownShape<'_>) -> Result<Cown, AllocError>
     requires { members cown.now.size ≤ 256 }
     ensures { IfOk result (λ made. plain_declared made ≡ plain_cown (cown_of cown.now)) }

@@ -59,7 +59,7 @@ fn multiplies(operator: TermOperator) -> Operator
     }
 }
 
-/// The operand behind what stands to the left of it.
+// The operand behind what stands to the left of it.
 fn join(alloc: Global, left: Option<(Expr, Operator)>, right: Expr) -> Result<Expr, AllocError>
     ensures { IfOk result (λ e. slot_expr_of e ≡ joined (left_of left) (slot_expr_of right)) }
 {

@@ -1,6 +1,6 @@
 use Rattle.boc_chain.specs.declared.linked.Node.{Node}
 use Rattle.std.specs.Option.{option_map}
-use Rattle.std.proofs.Common.{◌≡◌, ◌∙◌, ap, sym, length}
+use Rattle.std.proofs.Common.{◌≡◌, ◌∙◌, ap, sym, length, arith}
 use Rattle.std.specs.Prelude.{None}
 use Rattle.boc_chain.specs.Chain.{cown}
 use Rattle.boc_chain.specs.Linked.{line, last_of}
@@ -49,3 +49,9 @@ returns-else-is_some c =
       blocked = leave_told_last s.last.items s.slots s.peak c.cown_at-c.result k own c.next_at.result w c.is_slot.result (sym c.is_some.ensures ∙ c.if-is_some.false)
           (λ e. sym read ∙ c.is_slot.ensures.0 e, λ e. c.is_slot.ensures.1 (read ∙ e));
     }
+
+pub overflow_cast-slot : goal.overflow_cast-slot
+overflow_cast-slot c = omega (arith, (c.args.self.now.linked.short c.args.slot.index c.args.i c.requires.there).0)
+
+pub overflow_cast-i : goal.overflow_cast-i
+overflow_cast-i c = omega (arith, (c.args.self.now.linked.short c.args.slot.index c.args.i c.requires.there).1)

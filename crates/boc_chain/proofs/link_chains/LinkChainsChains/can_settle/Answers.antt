@@ -1,4 +1,4 @@
-use Rattle.std.proofs.Common.{◌≡◌, ◌↔◌, false, sym, subst, refl, List}
+use Rattle.std.proofs.Common.{◌≡◌, ◌↔◌, false, sym, subst, refl, List, arith}
 use Rattle.boc_chain.specs.declared.request.Request.{Request}
 use Rattle.boc_chain.specs.declared.request.Settled.TheVariants.{Blocked}
 use Rattle.boc_chain.specs.declared.linked.Node.{Node}
@@ -26,3 +26,9 @@ returns c =
       blocked = subst (λ (xs : List Request). (c.can_settle_at.result ≡ false) ↔ (answer_behind (before c.args.slot.index xs) ≡ Blocked)) (sym (line_is s.last.items s.slots k k refl below))
           (c.can_settle_at.ensures k (line s.last.items s.slots k) (own_holds s.last.items s.slots s.peak own s.linked c.requires.there c.requires.exchanged));
     }
+
+pub overflow_cast-slot : goal.overflow_cast-slot
+overflow_cast-slot c = omega (arith, (c.args.self.now.linked.short c.args.slot.index c.args.i c.requires.there).0)
+
+pub overflow_cast-i : goal.overflow_cast-i
+overflow_cast-i c = omega (arith, (c.args.self.now.linked.short c.args.slot.index c.args.i c.requires.there).1)

@@ -1,3 +1,4 @@
+use Rattle.std.proofs.Common.{arith}
 use Rattle.boc_chain.specs.declared.linked.Node.{Node}
 use Rattle.boc_chain.specs.LinkViews.{place}
 use Rattle.boc_chain.specs.Linked.{line}
@@ -39,3 +40,9 @@ returns-clause-lists c =
     let below = s.linked.in_range c.args.slot.index c.args.i c.requires.there in
     let it = own_holds s.last.items s.slots s.peak own s.linked c.requires.there c.requires.exchanged in
     (flag_call s.last.items s.slots c.set_link.new.slots s.peak k own c.link_at-link.result s.linked below it (c.link_at-link.ensures k it.at) (c.set_link.ensures.here k it.at) c.set_link.ensures.other_slots (λ t d n. c.set_link.ensures.other_cowns k t d it.at n) c.set_link.ensures.places c.set_link.ensures.len).1
+
+pub overflow_cast-node : goal.overflow_cast-node
+overflow_cast-node c = omega (arith, (c.args.self.now.linked.short c.args.slot.index c.args.i c.requires.there).0)
+
+pub overflow_cast-node-2 : goal.overflow_cast-node-2
+overflow_cast-node-2 c = omega (arith, (c.args.self.now.linked.short c.args.slot.index c.args.i c.requires.there).1)

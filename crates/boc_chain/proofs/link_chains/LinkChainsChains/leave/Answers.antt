@@ -1,6 +1,6 @@
 use Rattle.boc_chain.specs.declared.linked.Node.{Node}
 use Rattle.std.specs.Option.{option_map}
-use Rattle.std.proofs.Common.{◌≡◌, ◌∙◌, ap, sym, length, true, false}
+use Rattle.std.proofs.Common.{◌≡◌, ◌∙◌, ap, sym, length, true, false, arith}
 use Rattle.std.specs.Prelude.{Some, None}
 use Rattle.boc_chain.specs.Linked.{line, last_of}
 use Rattle.boc_chain.specs.Chain.{cown}
@@ -170,3 +170,9 @@ returns-else-is_slot-clause-lists c =
     let read : option_map (λ (n : Node). n.slot) c.index.result.now ≡ last_of s.last.items c.cown_at-c.result = ap (option_map (λ (n : Node). n.slot)) (c.index.ensures ∙ any_default s.last.items c.cown_at-c.result c.index.result.now None (below_too c.cown_at-c.result k (length s.last.items) c.cown_at-c.ensures below)) in
     let far : ¬ (last_of s.last.items c.cown_at-c.result ≡ Some c.args.slot.index) = λ z. absurd (let y : c.is_slot.result ≡ true = c.is_slot.ensures.1 (read ∙ z) in let n : c.is_slot.result ≡ false = c.if-is_slot.false in cc) in
     (leave_blocked s.last.items s.slots c.pass_at.new.slots s.peak c.cown_at-c.result k own c.pass_at.result w far).1
+
+pub overflow_cast-slot : goal.overflow_cast-slot
+overflow_cast-slot c = omega (arith, (c.args.self.now.linked.short c.args.slot.index c.args.i c.requires.there).0)
+
+pub overflow_cast-i : goal.overflow_cast-i
+overflow_cast-i c = omega (arith, (c.args.self.now.linked.short c.args.slot.index c.args.i c.requires.there).1)

@@ -1,4 +1,4 @@
-use Rattle.std.proofs.Common.{◌∙◌, ap, sym, refl}
+use Rattle.std.proofs.Common.{◌∙◌, ap, sym, refl, arith}
 use Rattle.boc_chain.specs.declared.linked.Node.{Node}
 use Rattle.boc_chain.specs.LinkViews.{place}
 use Rattle.boc_chain.specs.Linked.{line}
@@ -37,3 +37,9 @@ returns-clause-lists c =
     let k = cown (place s c.args.slot.index) c.args.i in
     let below = s.linked.in_range c.args.slot.index c.args.i c.requires.there in
     (settle_call s.last.items s.slots c.settle_at.new.slots s.peak k own s.linked below (own_holds s.last.items s.slots s.peak own s.linked c.requires.there c.requires.exchanged) c.settle_at.ensures.spelled c.settle_at.ensures.placed c.settle_at.ensures.other_cowns c.settle_at.ensures.places c.settle_at.ensures.len).1
+
+pub overflow_cast-slot : goal.overflow_cast-slot
+overflow_cast-slot c = omega (arith, (c.args.self.now.linked.short c.args.slot.index c.args.i c.requires.there).0)
+
+pub overflow_cast-i : goal.overflow_cast-i
+overflow_cast-i c = omega (arith, (c.args.self.now.linked.short c.args.slot.index c.args.i c.requires.there).1)

@@ -1,4 +1,4 @@
-use Rattle.std.proofs.Common.{◌∙◌, length}
+use Rattle.std.proofs.Common.{◌∙◌, length, arith}
 use Rattle.std.specs.Prelude.{None}
 use Rattle.boc_chain.specs.declared.linked.Node.{Node}
 use Rattle.boc_chain.specs.LinkViews.{place}
@@ -31,3 +31,9 @@ returns-clause-lists c =
     let below = s.linked.in_range c.args.slot.index c.args.i c.requires.there in
     let inside = below_too c.cown_at-c.result k (length s.last.items) c.cown_at-c.ensures below in
     (swap_call s.last.items s.slots c.push_link.new.slots s.peak c.cown_at-c.result own c.index-before.result.now s.linked c.cown_at-c.ensures c.requires.next c.requires.there (c.index-before.ensures ∙ any_default s.last.items c.cown_at-c.result c.index-before.result.now None inside) c.push_link.ensures.here c.push_link.ensures.other_slots c.push_link.ensures.other_cowns c.push_link.ensures.place c.push_link.ensures.other_places c.push_link.ensures.len).1
+
+pub overflow_cast-slot : goal.overflow_cast-slot
+overflow_cast-slot c = omega (arith, (c.args.self.now.linked.short c.args.slot.index c.args.i c.requires.there).0)
+
+pub overflow_cast-i : goal.overflow_cast-i
+overflow_cast-i c = omega (arith, (c.args.self.now.linked.short c.args.slot.index c.args.i c.requires.there).1)

@@ -1,0 +1,84 @@
+-- What `whatif` and `sweep` answer.
+use Rattle.std.proofs.Common.{◌≡◌, ℕ, List, ◌++◌, Option, Result, Ok, Err, sym, ap, ◌∙◌, subst}
+use Rattle.std.specs.Result.{IsErrAnd}
+use Rattle.std.proofs.lemmas.List.{append-nil}
+use Rattle.boc_text.specs.Streams.{StopsAt}
+use Rattle.boc_commands.specs.declared.fault.Fault.{Fault}
+use Rattle.boc_commands.specs.declared.fault.Fault.TheVariants as faults
+use Rattle.std.specs.Prelude.{IfSome, Some, None}
+use Rattle.std.specs.Io.KnownBytes.{Consumes, IsAtEnd}
+use Rattle.boc_commands.specs.Commands.{Leaves, IsOfEdits, RefusesEdits}
+use Rattle.boc_types.specs.declared.rows.Row.{Row}
+use Rattle.boc_types.specs.declared.edit.Edit.{Edit}
+use Rattle.boc_types.specs.answers.Answers.{IsReport, IsProfileAnswer, IsWhatIfAnswer, IsSweepAnswer}
+use Rattle.boc_types.specs.plans.Edits.{AllFit, IsFirstUnfit, IsSweep, all_edited}
+use Rattle.boc_types.specs.answers.Texts.{sweep_lines}
+use Rattle.boc_types.specs.runs.Records.{Recorded}
+use Rattle.boc_types.specs.text.RecordTexts.{IsTextOf}
+
+-- the answer, from the rows that were asked about and those after the edits
+pub answered : (edits : List Edit) (asked : Option ℕ) (text : List ℕ) (r : Recorded) (before after last : List Row) (made output : List ℕ) → IsTextOf text r → before ≡ r.rows
+    → AllFit before edits → after ≡ all_edited before edits → last ≡ after → IsReport last asked made → output ≡ made
+    → IsWhatIfAnswer edits asked text output
+answered edits asked input r before after last made output spells same fit edited is report text = record {
+  recorded = r;
+  spells = spells;
+  fit = subst (λ rows. AllFit rows edits) same fit;
+  report = subst (λ t. IsReport (all_edited r.rows edits) asked t) (sym text)
+      (subst (λ rows. IsReport rows asked made) (is ∙ edited ∙ ap (λ rows. all_edited rows edits) same) report);
+}
+
+-- the answer of a sweep, from the rows that were swept
+pub swept : (input : List ℕ) (r : Recorded) (rows : List Row) (spans seen made output : List ℕ) → IsTextOf input r → rows ≡ r.rows → IsSweep rows spans → seen ≡ spans
+    → made ≡ sweep_lines 0 seen → output ≡ made → IsSweepAnswer input output
+swept input r rows spans seen made output spells same sweep read text is = record {
+  recorded = r;
+  spells = spells;
+  spans = spans;
+  sweep = subst (λ xs. IsSweep xs spans) same sweep;
+  text = is ∙ text ∙ ap (sweep_lines 0) read;
+}
+
+-- the sink failed after a beginning of the answer
+pub stopped : (IsText : List ℕ → Type 0) (r : Result (Unit {0}) Fault) (gone : ℕ) (text : List ℕ) (old new : Option (List ℕ))
+    → IsErrAnd r (λ f. f ≡ faults.Sink gone) → IsText text → StopsAt gone text old new → Leaves IsText r old new
+stopped IsText (Ok done) gone text old new h is stops = absurd h
+stopped IsText (Err f) gone text old new h is stops = subst (λ x. Leaves {A = Unit {0}} IsText (Err x) old new) (sym h) (text, is, stops)
+
+-- what holds of a text that was taken to the end holds of the bytes that the source told, if it told any
+pub told : (P : List ℕ → Type 0) (before after : Option (List ℕ)) (text : List ℕ) → Consumes before after text → IsAtEnd after → P text → IfSome before P
+told P None after text taken over h = tt
+told P (Some xs) None text taken over h = absurd taken
+told P (Some xs) (Some ys) text taken over h = subst P (sym (taken ∙ ap (λ zs. text ++ zs) over ∙ append-nil text)) h
+
+-- edits are refused for the first that the rows of a record that was read cannot take
+pub refused_edits : (fault : Fault) (edits : List Edit) (rows : List Row) (r : Recorded) (before : Option (List ℕ)) → IsOfEdits rows edits fault → rows ≡ r.rows
+    → IfSome before (λ text. IsTextOf text r) → RefusesEdits {A = Unit {0}} edits (Err fault) before
+refused_edits (faults.Edit number unfit) edits rows r before h same spells = record { recorded = r; spells = spells; unfit = subst (λ xs. IsFirstUnfit xs edits number unfit) same h }
+refused_edits (faults.Words e) edits rows r before h same spells = absurd h
+refused_edits (faults.EditWord number) edits rows r before h same spells = absurd h
+refused_edits (faults.Program x) edits rows r before h same spells = absurd h
+refused_edits (faults.Record x) edits rows r before h same spells = absurd h
+refused_edits faults.Behaviours edits rows r before h same spells = absurd h
+refused_edits faults.Held edits rows r before h same spells = absurd h
+refused_edits faults.NoThread edits rows r before h same spells = absurd h
+refused_edits faults.Stranger edits rows r before h same spells = absurd h
+refused_edits faults.Unfinished edits rows r before h same spells = absurd h
+refused_edits faults.Memory edits rows r before h same spells = absurd h
+refused_edits faults.Source edits rows r before h same spells = absurd h
+refused_edits (faults.Sink gone) edits rows r before h same spells = absurd h
+
+-- the report on the rows of a record that was read
+pub reported : (asked : Option ℕ) (text : List ℕ) (r : Recorded) (rows : List Row) (made output : List ℕ) → IsTextOf text r → rows ≡ r.rows → IsReport rows asked made → output ≡ made
+    → IsProfileAnswer asked text output
+reported asked text r rows made output spells same report is = record {
+  recorded = r;
+  spells = spells;
+  report = subst (λ t. IsReport r.rows asked t) (sym is) (subst (λ xs. IsReport xs asked made) same report);
+}
+
+-- so a result that is this fault refuses edits
+pub refuses_as : (result : Result (Unit {0}) Fault) (fault : Fault) (edits : List Edit) (before : Option (List ℕ)) → IsErrAnd result (λ f. f ≡ fault) → RefusesEdits {A = Unit {0}} edits (Err fault) before
+    → RefusesEdits edits result before
+refuses_as (Ok done) fault edits before h refused = absurd h
+refuses_as (Err f) fault edits before h refused = subst (λ x. RefusesEdits {A = Unit {0}} edits (Err x) before) (sym h) refused

@@ -1,0 +1,37 @@
+-- A fault that a part of a command passes on.
+use Rattle.std.proofs.Common.{◌≡◌, ◌+◌, ℕ, List, Option, Result, Ok, Err, MatchResult, sym, subst}
+use Rattle.std.specs.Result.{IsErrAnd}
+use Rattle.boc_text.specs.Streams.{ReadsWhole}
+use Rattle.boc_types.specs.declared.limits.TheConstants.{MOST_TEXT}
+use Rattle.boc_commands.specs.declared.fault.Fault.{Fault}
+use Rattle.boc_commands.specs.declared.fault.Fault.TheVariants as faults
+use Rattle.boc_commands.specs.Commands.{IsOfRun, RefusesRun}
+
+-- where a result is a fault, what holds of that fault holds of it
+pub passed_on : {A : Type 0} (Is : A → Type 0) (IsWrong : Fault → Type 0) (result : Result A Fault) (fault : Fault)
+    → IsErrAnd result (λ f. f ≡ fault) → IsWrong fault → MatchResult result Is IsWrong
+passed_on Is IsWrong (Ok done) fault h wrong = absurd h
+passed_on Is IsWrong (Err f) fault h wrong = subst IsWrong (sym h) wrong
+
+-- a run by threads is refused for the text that was taken
+pub refused_run : (always_on : Type 0) (result : Result (Unit {0}) Fault) (fault : Fault) (text : List ℕ) (before after : Option (List ℕ))
+    → IsErrAnd result (λ f. f ≡ fault) → ReadsWhole before after text (MOST_TEXT + 1) → IsOfRun always_on text fault
+    → RefusesRun always_on result before after
+refused_run always_on (Ok done) fault text before after h reads is = absurd h
+refused_run always_on (Err f) fault text before after h reads is =
+    subst (λ (x : Fault). RefusesRun {A = Unit {0}} always_on (Err x) before after) (sym h) (go fault is)
+  where
+    go : (x : Fault) → IsOfRun always_on text x → RefusesRun {A = Unit {0}} always_on (Err x) before after
+    go (faults.Program r) is = record { input = text; taken = reads; known = is }
+    go faults.Behaviours is = record { input = text; taken = reads; known = is }
+    go faults.Held is = record { input = text; taken = reads; known = is }
+    go faults.NoThread is = record { input = text; taken = reads; known = is }
+    go faults.Stranger is = record { input = text; taken = reads; known = is }
+    go faults.Unfinished is = record { input = text; taken = reads; known = is }
+    go faults.Memory is = tt
+    go faults.Source is = tt
+    go (faults.Sink gone) is = tt
+    go (faults.Words e) is = absurd is
+    go (faults.EditWord number) is = absurd is
+    go (faults.Record r) is = absurd is
+    go (faults.Edit number unfit) is = absurd is

@@ -1,0 +1,54 @@
+-- Why reports are true.
+use Rattle.std.proofs.Common.{◌≡◌, ◌+◌, ◌/◌, ◌<◌, ◌≤◌, ◌*◌, ◌-◌, ℕ, List, slice_index, refl, Option, Some, None, arith}
+use Rattle.boc_types.specs.declared.chain.ChainStep.{ChainStep}
+use Rattle.boc_types.specs.declared.rows.Row.{Row}
+use Rattle.boc_types.specs.runs.Rows.{IsRows}
+use Rattle.boc_types.specs.plans.Plans.{IsEarliest, IsEnd, work_of}
+use Rattle.boc_types.specs.plans.Chains.{IsChain}
+use Rattle.boc_types.specs.plans.Greedy.{IsForWorkers, IsGreedy, IsSpan, worker_of}
+use Rattle.boc_types.specs.answers.Answers.{IsAskedPart, IsReport}
+use Rattle.boc_greedy.specs.Plans.{IsGreedyPlanOf}
+use Rattle.boc_greedy.specs.declared.report.Greedy.{Greedy}
+use Rattle.boc_greedy.proofs.Bound.{end_within, greedy_close, greedy_for_workers, greedy_keeps}
+use Rattle.boc_order.proofs.Chaining.{weight_le_end}
+use Rattle.boc_commands.specs.Promises.{IsBest, IsTrueReport, IsWithinBound, PartIsWithinBound}
+
+-- the earliest plan is the best, with any chain
+pub best : (rows : List Row) (plan : List ℕ) (chain : List ChainStep) → IsEarliest rows plan → IsChain rows chain → IsBest rows plan chain
+best rows plan chain earliest is = record {
+  keeps = earliest.keeps;
+  no_earlier = earliest.least;
+  is_chain = is;
+  no_sooner = λ other last keeps end. weight_le_end rows other keeps last end chain is;
+}
+
+-- there is a worker, since there is a row
+some_worker : (rows : List Row) (p : ℕ) (plan workers : List ℕ) → IsRows rows → IsGreedy rows p plan workers → 0 < p
+some_worker rows p plan workers hr greedy =
+    let free = (greedy.at (slice_index plan 0)).free 0 hr.not_empty refl in
+    omega (arith, free.below)
+
+-- a greedy plan ends within its bound
+pub within_bound : (rows : List Row) (p : ℕ) (plan workers : List ℕ) (last : ℕ) → IsRows rows → IsGreedy rows p plan workers → IsEnd rows plan last
+    → IsWithinBound rows p plan workers last
+within_bound rows p plan workers last hr greedy end =
+    let some : 0 < p = some_worker rows p plan workers hr greedy in
+    record {
+      keeps = greedy_keeps rows hr p some plan workers greedy;
+      for_workers = greedy_for_workers rows hr p some plan workers greedy;
+      ends = end;
+      within = λ span is. end_within p (work_of rows) span last some (greedy_close rows hr p some plan workers greedy last end span is);
+    }
+
+part_within : (rows : List Row) (asked : Option ℕ) (part : List ℕ) → IsRows rows → (is : IsAskedPart rows asked part)
+    → PartIsWithinBound rows asked part is
+part_within rows None part hr is = tt
+part_within rows (Some p) part hr is = within_bound rows p is.starts is.workers is.last hr is.greedy is.last_is
+
+-- every report is true
+pub true_report : (rows : List Row) (asked : Option ℕ) (text : List ℕ) → IsRows rows → IsReport rows asked text → IsTrueReport rows asked text
+true_report rows asked text hr report = record {
+  report = report;
+  best = best rows report.starts report.steps report.earliest report.picked.chain;
+  greedy = part_within rows asked report.part hr report.part_is;
+}

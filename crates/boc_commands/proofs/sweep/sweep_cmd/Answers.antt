@@ -1,0 +1,20 @@
+use Rattle.std.proofs.Common.{◌∙◌}
+use Rattle.boc_commands.proofs.Asked.{swept}
+use Rattle.boc_commands.proofs.sweep.sweep_cmd.Goals as goal
+
+pub returns-clause-written : goal.returns-clause-written
+returns-clause-written g c =
+    let asked = c.in_ok-rows.ensures.rows_or_fault in
+    let r = asked.0 in
+    let read = asked.1 in (
+      c.deref-2.result.now,
+      record {
+        input = read.text;
+        taken = read.taken;
+        whole = read.over;
+        answers = swept read.text r c.in_ok-question.question.rows c.in_ok-spans.spans.items c.deref.result.now c.in_ok-answer.answer.items c.deref-2.result.now
+            read.text_of (c.in_ok-question.ensures.rows ∙ asked.2) c.in_ok-spans.ensures c.deref.ensures.value
+            c.in_ok-answer.ensures c.deref-2.ensures.value;
+      },
+      c.in_ok-put_out.ensures.ok,
+    )

@@ -1,0 +1,191 @@
+-- What a command does to its source and its sink.
+use Rattle.std.specs.Prelude.{◌≡◌, ℕ, ◌+◌, Bool, true, false, List, Option, Some, None, IfSome, Result, Ok, Err, string_bytes}
+use Rattle.std.specs.Io.KnownBytes.{Consumes, IsAtEnd, Appends, Keeps}
+use Rattle.boc_commands.specs.declared.fault.Fault.{Fault}
+use Rattle.boc_commands.specs.declared.fault.Fault.TheVariants as faults
+use Rattle.boc_commands.specs.declared.words.Command.{Command}
+use Rattle.boc_commands.specs.declared.words.Command.TheVariants as commands
+use Rattle.boc_commands.specs.Faults.{matter_of, IsWant, is_source, gone_of}
+use Rattle.boc_reader.specs.FaultMeanings.{SaysOf}
+use Rattle.boc_reader.specs.declared.fault.ReadFaultKind.{ReadFaultKind}
+use Rattle.boc_reader.specs.declared.fault.ReadFaultKind.TheVariants as read_kinds
+use Rattle.boc_record.specs.declared.fault.RecordFault.{RecordFault}
+use Rattle.boc_types.specs.declared.limits.TheConstants.{MOST_TEXT}
+use Rattle.boc_types.specs.declared.program.Program.{Program}
+use Rattle.boc_types.specs.declared.rows.Row.{Row}
+use Rattle.boc_types.specs.declared.edit.Edit.{Edit}
+use Rattle.boc_types.specs.declared.edit.EditFault.{EditFault}
+use Rattle.boc_types.specs.declared.verdict.RecordFaultKind.{RecordFaultKind}
+use Rattle.boc_types.specs.declared.verdict.RecordFaultKind.TheVariants as record_kinds
+use Rattle.boc_types.specs.text.Spells.{Spells}
+use Rattle.boc_types.specs.text.RecordTexts.{IsTextOf, IsFirstFault}
+use Rattle.boc_types.specs.runs.OwnOrder.{HasTooMany}
+use Rattle.boc_types.specs.runs.Records.{Recorded}
+use Rattle.boc_types.specs.plans.Edits.{IsFirstUnfit}
+use Rattle.boc_types.specs.answers.Answers.{IsValuesAnswer, IsCheckAnswer, IsProfileAnswer, IsWhatIfAnswer, IsSweepAnswer}
+use Rattle.boc_commands.specs.Promises.{IsRunAnswer, IsTimeAnswer}
+use Rattle.boc_workers.specs.Noting.{CanReachLimit}
+use Rattle.boc_text.specs.Streams.{StopsAt, ReadsWhole}
+
+-- ---- what goes out
+
+-- the source gave an input to its end, and this text is the answer to it
+pub record AnswersInput (IsAnswer : List ℕ → List ℕ → Type 0) (before after : Option (List ℕ)) (text : List ℕ) : Type 0 where
+  pub input : List ℕ
+  pub taken : Consumes before after input
+  pub whole : IsAtEnd after
+  pub answers : IsAnswer input text
+
+-- after a fault nothing went out; or, where the sink failed, a beginning of the answer
+abbrev pub LeavesAfter : (List ℕ → Type 0) → Option ℕ → Option (List ℕ) → Option (List ℕ) → Type 0
+LeavesAfter IsText None old new = Keeps old new
+LeavesAfter IsText (Some gone) old new = (text : List ℕ) × IsText text × StopsAt gone text old new
+
+-- the answer went out, and nothing else; or there was a fault
+abbrev pub Leaves : {A : Type 0} → (List ℕ → Type 0) → Result A Fault → Option (List ℕ) → Option (List ℕ) → Type 0
+Leaves IsText (Ok done) old new = (text : List ℕ) × IsText text × Appends old new text
+Leaves IsText (Err fault) old new = LeavesAfter IsText (gone_of fault) old new
+
+-- ---- what is counted
+
+-- one more failure, or as many as before
+abbrev pub CountsOne : Bool → ℕ → ℕ → Type 0
+CountsOne true old new = new ≡ old + 1
+CountsOne false old new = new ≡ old
+
+-- the source failed where that is the answer, and there alone
+abbrev pub CountsSource : {A : Type 0} → Result A Fault → ℕ → ℕ → Type 0
+CountsSource (Ok done) old new = new ≡ old
+CountsSource (Err fault) old new = CountsOne (is_source fault) old new
+
+-- one more failure where so much went out before it
+abbrev pub CountsGone : Option ℕ → ℕ → ℕ → Type 0
+CountsGone (Some gone) old new = new ≡ old + 1
+CountsGone None old new = new ≡ old
+
+-- the sink failed where that is the answer, and there alone
+abbrev pub CountsSink : {A : Type 0} → Result A Fault → ℕ → ℕ → Type 0
+CountsSink (Ok done) old new = new ≡ old
+CountsSink (Err fault) old new = CountsGone (gone_of fault) old new
+
+-- ---- what is refused
+
+-- nothing is refused: a fault is want of memory or of a device
+abbrev pub RefusesNothing : {A : Type 0} → Result A Fault → Type 0
+RefusesNothing (Ok done) = Unit {0}
+RefusesNothing (Err fault) = IsWant (matter_of fault)
+
+-- the kind of a refusal says what is wrong with a program text; want of memory is no refusal
+abbrev pub IsWrongWith : List ℕ → ReadFaultKind → Type 0
+IsWrongWith text read_kinds.Memory = ⊥
+IsWrongWith text kind = SaysOf kind text
+
+-- the text spells a program whose own order has too many behaviours
+pub record RunsOver (text : List ℕ) : Type 0 where
+  pub program : Program
+  pub spells : Spells text program
+  pub many : HasTooMany program
+
+-- a fault of a program text: what is wrong with it, or that its program has too many behaviours; no device failed
+abbrev pub IsOfText : List ℕ → Fault → Type 0
+IsOfText text (faults.Program r) = IsWrongWith text r.kind
+IsOfText text faults.Behaviours = RunsOver text
+IsOfText text faults.Memory = Unit {0}
+IsOfText text _ = ⊥
+
+-- a program text was taken, up to one byte more than it may have, of which this is known
+pub record TakesText (Known : List ℕ → Type 0) (before after : Option (List ℕ)) : Type 0 where
+  pub input : List ℕ
+  pub taken : ReadsWhole before after input (MOST_TEXT + 1)
+  pub known : Known input
+
+-- a program is refused for what was taken of the source: a wrong text, or one whose program has too many behaviours
+abbrev pub RefusesProgram : {A : Type 0} → Result A Fault → Option (List ℕ) → Option (List ℕ) → Type 0
+RefusesProgram (Ok done) before after = Unit {0}
+RefusesProgram (Err (faults.Program r)) before after = TakesText (λ text. IsWrongWith text r.kind) before after
+RefusesProgram (Err faults.Behaviours) before after = TakesText RunsOver before after
+RefusesProgram (Err fault) before after = IsWant (matter_of fault)
+
+-- the text spells a program
+abbrev pub IsProgram : List ℕ → Type 0
+IsProgram text = (program : Program) × Spells text program
+
+-- the text spells a program that can come to as many behaviours as there may be
+pub record CanRunOver (text : List ℕ) : Type 0 where
+  pub program : Program
+  pub spells : Spells text program
+  pub full : CanReachLimit program
+
+-- a fault of a run by threads: what is wrong with the program text, or what became of the run of its program; a gate that is always on
+-- holds nobody
+abbrev pub IsOfRun : Type 0 → List ℕ → Fault → Type 0
+IsOfRun always_on text (faults.Program r) = IsWrongWith text r.kind
+IsOfRun always_on text faults.Behaviours = CanRunOver text
+IsOfRun always_on text faults.Held = IsProgram text × (always_on → ⊥)
+IsOfRun always_on text faults.NoThread = IsProgram text
+IsOfRun always_on text faults.Stranger = IsProgram text
+IsOfRun always_on text faults.Unfinished = IsProgram text
+IsOfRun always_on text faults.Memory = Unit {0}
+IsOfRun always_on text _ = ⊥
+
+-- a run by threads is refused for what was taken of the source
+abbrev pub RefusesRun : {A : Type 0} → Type 0 → Result A Fault → Option (List ℕ) → Option (List ℕ) → Type 0
+RefusesRun always_on (Ok done) before after = Unit {0}
+RefusesRun always_on (Err faults.Memory) before after = Unit {0}
+RefusesRun always_on (Err faults.Source) before after = Unit {0}
+RefusesRun always_on (Err (faults.Sink gone)) before after = Unit {0}
+RefusesRun always_on (Err fault) before after = TakesText (λ text. IsOfRun always_on text fault) before after
+
+-- the kind of a refusal is the first fault of the text, where the source told it; want of memory or of a device is no refusal
+abbrev pub IsRecordRefusal : RecordFault → RecordFaultKind → Option (List ℕ) → Type 0
+IsRecordRefusal r record_kinds.Memory before = ⊥
+IsRecordRefusal r record_kinds.Device before = ⊥
+IsRecordRefusal r kind before = IfSome before (λ text. IsFirstFault text r.line kind)
+
+-- the text of a record is refused for its first fault
+abbrev pub RefusesRecord : {A : Type 0} → Result A Fault → Option (List ℕ) → Type 0
+RefusesRecord (Ok done) before = Unit {0}
+RefusesRecord (Err (faults.Record r)) before = IsRecordRefusal r r.kind before
+RefusesRecord (Err fault) before = IsWant (matter_of fault)
+
+-- the source told the text of a record, if it told any, and of these edits this is the first that the record's rows cannot take
+pub record RefusesEdit (edits : List Edit) (number : ℕ) (fault : EditFault) (before : Option (List ℕ)) : Type 0 where
+  pub recorded : Recorded
+  pub spells : IfSome before (λ text. IsTextOf text recorded)
+  pub unfit : IsFirstUnfit recorded.rows edits number fault
+
+-- edits are refused for the first that the rows cannot take, and the text of a record for its first fault
+abbrev pub RefusesEdits : {A : Type 0} → List Edit → Result A Fault → Option (List ℕ) → Type 0
+RefusesEdits edits (Ok done) before = Unit {0}
+RefusesEdits edits (Err (faults.Record r)) before = IsRecordRefusal r r.kind before
+RefusesEdits edits (Err (faults.Edit number fault)) before = RefusesEdit edits number fault before
+RefusesEdits edits (Err fault) before = IsWant (matter_of fault)
+
+-- the fault names the first of the edits that these rows cannot take
+abbrev pub IsOfEdits : List Row → List Edit → Fault → Type 0
+IsOfEdits rows edits (faults.Edit number fault) = IsFirstUnfit rows edits number fault
+IsOfEdits rows edits _ = ⊥
+
+-- ---- every command
+
+-- what goes out for a command: the answer to its input, or for a call for help the parser's text, for which nothing is taken
+abbrev pub AnswersCommand : Command → Option (List ℕ) → Option (List ℕ) → List ℕ → Type 0
+AnswersCommand commands.Values before after text = AnswersInput IsValuesAnswer before after text
+AnswersCommand commands.Check before after text = AnswersInput IsCheckAnswer before after text
+AnswersCommand (commands.Run runners) before after text = AnswersInput IsRunAnswer before after text
+AnswersCommand (commands.Profile workers) before after text = AnswersInput (IsProfileAnswer workers) before after text
+AnswersCommand (commands.Time runners workers) before after text = AnswersInput (IsTimeAnswer workers) before after text
+AnswersCommand (commands.WhatIf edits workers) before after text = AnswersInput (IsWhatIfAnswer edits.items workers) before after text
+AnswersCommand commands.Sweep before after text = AnswersInput IsSweepAnswer before after text
+AnswersCommand (commands.Help help) before after text = (text ≡ string_bytes help) × Keeps before after
+
+-- what a command refuses; a call for help refuses nothing
+abbrev pub RefusesCommand : {A : Type 0} → Type 0 → Command → Result A Fault → Option (List ℕ) → Option (List ℕ) → Type 0
+RefusesCommand always_on commands.Values result before after = RefusesProgram result before after
+RefusesCommand always_on commands.Check result before after = RefusesRecord result before
+RefusesCommand always_on (commands.Run runners) result before after = RefusesRun always_on result before after
+RefusesCommand always_on (commands.Profile workers) result before after = RefusesRecord result before
+RefusesCommand always_on (commands.Time runners workers) result before after = RefusesRun always_on result before after
+RefusesCommand always_on (commands.WhatIf edits workers) result before after = RefusesEdits edits.items result before
+RefusesCommand always_on commands.Sweep result before after = RefusesRecord result before
+RefusesCommand always_on (commands.Help help) result before after = RefusesNothing result

@@ -1,0 +1,110 @@
+-- What faults say.
+use Rattle.std.specs.Prelude.{ℕ, Bool, true, false, List, Option, Some, None, codes}
+use Rattle.boc_commands.specs.declared.fault.Fault.{Fault}
+use Rattle.boc_commands.specs.declared.fault.Fault.TheVariants as faults
+use Rattle.boc_types.specs.declared.edit.EditFault.{EditFault}
+use Rattle.boc_types.specs.declared.edit.EditFault.TheVariants as edits
+use Rattle.boc_text.specs.declared.whole.TextFault.{TextFault}
+use Rattle.boc_text.specs.declared.whole.TextFault.TheVariants as texts
+use Rattle.boc_eval.specs.declared.serial.SerialFault.{SerialFault}
+use Rattle.boc_eval.specs.declared.serial.SerialFault.TheVariants as serial
+use Rattle.boc_record.specs.declared.fault.RecordFault.{RecordFault}
+use Rattle.boc_record.specs.declared.fault.WriteFault.{WriteFault}
+use Rattle.boc_record.specs.declared.fault.WriteFault.TheVariants as writes
+use Rattle.boc_workers.specs.declared.fault.RunFault.{RunFault}
+use Rattle.boc_workers.specs.declared.fault.RunFault.TheVariants as runs
+use Rattle.boc_types.specs.declared.verdict.RecordFaultKind.{RecordFaultKind}
+use Rattle.boc_types.specs.declared.verdict.RecordFaultKind.TheVariants as records
+use Rattle.boc_reader.specs.declared.fault.ReadFault.{ReadFault}
+use Rattle.boc_reader.specs.declared.fault.ReadFaultKind.{ReadFaultKind}
+use Rattle.boc_reader.specs.declared.fault.ReadFaultKind.TheVariants as kinds
+
+-- what was refused: the words, the input or the run; or what was wanting: memory, or a device that works
+pub data Matter : Type 0 where
+  words : Matter
+  input : Matter
+  run : Matter
+  means : Matter
+
+-- what a fault is about
+abbrev pub matter_of : Fault → Matter
+matter_of (faults.Words e) = words
+matter_of (faults.EditWord number) = words
+matter_of (faults.Program r) = input
+matter_of (faults.Record r) = input
+matter_of (faults.Edit number fault) = input
+matter_of faults.Behaviours = run
+matter_of faults.Held = run
+matter_of faults.NoThread = run
+matter_of faults.Stranger = run
+matter_of faults.Unfinished = run
+matter_of faults.Memory = means
+matter_of faults.Source = means
+matter_of (faults.Sink gone) = means
+
+-- the status that goes with it
+abbrev pub status_of_matter : Matter → ℕ
+status_of_matter words = 2
+status_of_matter input = 3
+status_of_matter run = 4
+status_of_matter means = 5
+
+-- the status of the program
+abbrev pub status_of : Fault → ℕ
+status_of fault = status_of_matter (matter_of fault)
+
+-- the fault is want of memory or of a device
+abbrev pub IsWant : Matter → Type 0
+IsWant means = Unit {0}
+IsWant _ = ⊥
+
+-- the source failed
+abbrev pub is_source : Fault → Bool
+is_source faults.Source = true
+is_source _ = false
+
+-- how much went out before the sink failed
+abbrev pub gone_of : Fault → Option ℕ
+gone_of (faults.Sink gone) = Some gone
+gone_of _ = None
+
+-- the fault of an input that could not be taken in
+abbrev pub of_text : TextFault → Fault
+of_text texts.Memory = faults.Memory
+of_text texts.Device = faults.Source
+
+-- want of memory is no refusal of the text
+abbrev pub of_read : ReadFault → ReadFaultKind → Fault
+of_read r kinds.Memory = faults.Memory
+of_read r _ = faults.Program r
+
+-- want of memory and a failing source are no refusal of a record
+abbrev pub of_record : RecordFault → RecordFaultKind → Fault
+of_record r records.Memory = faults.Memory
+of_record r records.Device = faults.Source
+of_record r _ = faults.Record r
+
+-- the fault of a serial run
+abbrev pub of_serial : SerialFault → Fault
+of_serial serial.Memory = faults.Memory
+of_serial serial.Behaviours = faults.Behaviours
+
+-- the fault of a run by threads
+abbrev pub of_run : RunFault → Fault
+of_run runs.Memory = faults.Memory
+of_run runs.Behaviours = faults.Behaviours
+of_run runs.Held = faults.Held
+of_run runs.NoThread = faults.NoThread
+of_run runs.Stranger = faults.Stranger
+of_run runs.Unfinished = faults.Unfinished
+
+-- the fault of a record that could not be written
+abbrev pub of_write : WriteFault → Fault
+of_write writes.Memory = faults.Memory
+of_write (writes.Device gone) = faults.Sink gone
+
+-- the number and the name of what is wrong with an edit
+abbrev pub edit_line : EditFault → List ℕ
+edit_line edits.NoRow = codes "1 NoRow"
+edit_line edits.BelowSpawn = codes "2 BelowSpawn"
+edit_line edits.TooManyTicks = codes "3 TooManyTicks"

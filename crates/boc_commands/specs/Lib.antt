@@ -1,0 +1,5 @@
+pub mod Faults
+pub mod Promises
+pub mod Commands
+pub mod EditWords
+pub mod Words

@@ -1,0 +1,72 @@
+-- What is promised of a run of a program, and of the plans of its rows.
+use Rattle.std.specs.Prelude.{◌≡◌, ℕ, ◌+◌, ◌/◌, ◌<◌, ◌≤◌, List, length, Option, Some, None}
+use Rattle.boc_types.specs.declared.chain.ChainStep.{ChainStep}
+use Rattle.boc_types.specs.declared.program.Program.{Program}
+use Rattle.boc_types.specs.declared.rows.Row.{Row}
+use Rattle.boc_types.specs.text.Spells.{Spells}
+use Rattle.boc_types.specs.text.RecordTexts.{Second, record_text}
+use Rattle.boc_types.specs.runs.Records.{Recorded, IsRecord, IsRecordOf}
+use Rattle.boc_types.specs.machine.AlongRows.{EndsSerially}
+use Rattle.boc_types.specs.plans.Plans.{Keeps, IsEnd, start_of, work_of}
+use Rattle.boc_types.specs.plans.Chains.{IsChain, weight_of}
+use Rattle.boc_types.specs.plans.Greedy.{IsForWorkers, IsSpan}
+use Rattle.boc_types.specs.answers.Answers.{IsReport, IsAskedPart}
+
+-- ---- the run
+
+-- the record of a whole run of a program by the rule of runs, and of no other rows; each row ended as it does in the serial run along the rows
+pub record IsRunOf (program : Program) (recorded : Recorded) : Type 0 where
+  pub run : IsRecordOf program recorded
+  pub whole : IsRecord recorded
+  pub ends : EndsSerially program recorded.events
+
+-- a text spells a program of which this is the record of a run
+pub record IsRunOfText (text : List ℕ) (recorded : Recorded) : Type 0 where
+  pub program : Program
+  pub spells : Spells text program
+  pub run : IsRunOf program recorded
+
+-- the output is the text of the record of a run of the program that the input spells
+pub record IsRunAnswer (input output : List ℕ) : Type 0 where
+  pub recorded : Recorded
+  pub run : IsRunOfText input recorded
+  pub text : output ≡ record_text Second recorded.cowns recorded.events
+
+-- ---- the plans of its rows
+
+-- The plan keeps the spawn points and the cown orders of the rows; of all plans that keep them none starts a row earlier, and none
+-- ends before the ticks of the chain.
+pub record IsBest (rows : List Row) (plan : List ℕ) (chain : List ChainStep) : Type 0 where
+  pub keeps : Keeps rows plan
+  pub no_earlier : (other : List ℕ) → Keeps rows other → (r : ℕ) → r < length rows → start_of plan r ≤ start_of other r
+  pub is_chain : IsChain rows chain
+  pub no_sooner : (other : List ℕ) (last : ℕ) → Keeps rows other → IsEnd rows other last → weight_of chain ≤ last
+
+-- The plan for p workers keeps them too, no worker has two rows at one tick, and it has ended by the work divided by p, and the span.
+pub record IsWithinBound (rows : List Row) (p : ℕ) (plan workers : List ℕ) (last : ℕ) : Type 0 where
+  pub keeps : Keeps rows plan
+  pub for_workers : IsForWorkers rows p plan workers
+  pub ends : IsEnd rows plan last
+  pub within : (span : ℕ) → IsSpan rows span → last ≤ work_of rows / p + span
+
+-- the greedy part of a report is so, where it was asked for
+abbrev pub PartIsWithinBound : (rows : List Row) (asked : Option ℕ) (part : List ℕ) → IsAskedPart rows asked part → Type 0
+PartIsWithinBound rows None part none = Unit {0}
+PartIsWithinBound rows (Some p) part greedy = IsWithinBound rows p greedy.starts greedy.workers greedy.last
+
+-- the report on some rows: its plan and its chain are the best, and its greedy plan ends within its bound
+pub record IsTrueReport (rows : List Row) (asked : Option ℕ) (output : List ℕ) : Type 0 where
+  pub report : IsReport rows asked output
+  pub best : IsBest rows report.starts report.steps
+  pub greedy : PartIsWithinBound rows asked report.part report.part_is
+
+-- ---- both
+
+-- The input spells a program; the recorded run, in whatever order its threads made their steps, is a run of it by the rule of runs; and
+-- the output is the report on its rows. The plan that is reported keeps the run's spawn points and cown orders, every plan that keeps
+-- them starts no row earlier and ends no sooner than the reported chain's ticks, and the greedy plan for p workers ends within the work
+-- divided by p, and the span.
+pub record IsTimeAnswer (asked : Option ℕ) (input output : List ℕ) : Type 0 where
+  pub recorded : Recorded
+  pub run : IsRunOfText input recorded
+  pub report : IsTrueReport recorded.rows asked output

@@ -1,0 +1,228 @@
+// Why a command did not do what it was asked for.
+
+ghost use Rattle.std.specs.Prelude.{◌≡◌};
+ghost use Rattle.boc_commands.specs.Faults.{edit_line};
+
+use boc_eval::SerialFault;
+use boc_reader::{ReadFault, ReadFaultKind};
+use boc_record::{RecordFault, WriteFault};
+use boc_text::{Stopped, TextFault};
+use boc_types::edit::EditFault;
+use boc_types::verdict::RecordFaultKind;
+use boc_workers::RunFault;
+use std::alloc::{AllocError, AllocFailed, Global};
+use thiserror::Error;
+
+/// Why a command was refused or failed. Its text is the line for standard error.
+#[derive(Debug, Drop, Error)]
+pub enum Fault {
+    /// The words of the command line, with the parser's own text.
+    #[error("{0}")]
+    Words(clap::Error),
+    /// A word that should be an edit, `ROW=TICKS`, and is none; edits are counted from 1.
+    #[error("boc: edit {number}: not ROW=TICKS")]
+    EditWord { number: usize },
+    /// The program text.
+    #[error("boc: {0}")]
+    Program(ReadFault),
+    /// The text of a record.
+    #[error("boc: {0}")]
+    Record(RecordFault),
+    /// An edit that the rows can't take, counted from 1.
+    #[error("boc: edit {number}: {}", edit_fault_text(*.fault))]
+    Edit { number: usize, fault: EditFault },
+    /// The run would need more behaviours than a run may have.
+    #[error("boc: run: 2 Behaviours")]
+    Behaviours,
+    /// A gate stopped a thread of the run.
+    #[error("boc: run: 3 Held")]
+    Held,
+    /// A thread of the run could not be started.
+    #[error("boc: run: 4 NoThread")]
+    NoThread,
+    /// The dispatcher of the run doesn't know what a worker came with.
+    #[error("boc: run: 5 Stranger")]
+    Stranger,
+    /// All threads of the run have ended, and some behaviour isn't gone yet.
+    #[error("boc: run: 6 Unfinished")]
+    Unfinished,
+    /// Memory was refused.
+    #[error("boc: memory")]
+    Memory,
+    /// The source failed.
+    #[error("boc: device")]
+    Source,
+    /// The sink failed, after the first `gone` bytes of the output.
+    #[error("boc: device")]
+    Sink { gone: usize },
+}
+
+impl Fault {
+    ghost use Rattle.std.specs.Prelude.{◌≡◌};
+    ghost use Rattle.boc_commands.specs.Faults.{status_of, gone_of};
+
+    /// The status of the program: 2 where the words were refused, 3 where the input was, 4 where the
+    /// run was, 5 where memory was or a device failed.
+    pub fn status(&self) -> u8
+        ensures { result ≡ status_of self.now }
+    {
+        match self {
+            Fault::Words(_) | Fault::EditWord { .. } => 2,
+            Fault::Program(_) | Fault::Record(_) | Fault::Edit { .. } => 3,
+            Fault::Behaviours
+            | Fault::Held
+            | Fault::NoThread
+            | Fault::Stranger
+            | Fault::Unfinished => 4,
+            Fault::Memory | Fault::Source | Fault::Sink { .. } => 5,
+        }
+    }
+
+    /// How many bytes of the output went out before the sink failed, where it failed.
+    pub fn gone(&self) -> Option<usize>
+        ensures { result ≡ gone_of self.now }
+    {
+        match self {
+            Fault::Sink { gone } => Some(*gone),
+            _ => None,
+        }
+    }
+
+    /// The line for standard error, without its line feed. For refused words it is the parser's text.
+    pub fn line(&self, alloc: Global) -> Result<String, AllocError> {
+        self.to_string(alloc)
+    }
+}
+
+// The number and the name of what is wrong with an edit.
+fn edit_fault_text(fault: EditFault) -> &'static str
+    ensures { result.now ≡ edit_line fault }
+{
+    match fault {
+        EditFault::NoRow => "1 NoRow",
+        EditFault::BelowSpawn => "2 BelowSpawn",
+        EditFault::TooManyTicks => "3 TooManyTicks",
+    }
+}
+
+impl From<TextFault> for Fault {
+    ghost use Rattle.std.specs.Prelude.{◌≡◌};
+    ghost use Rattle.boc_commands.specs.Faults.{of_text};
+
+    ghost from_gives = { λ t f. f ≡ of_text t };
+
+    fn from(fault: TextFault) -> Fault {
+        match fault {
+            TextFault::Memory => Fault::Memory,
+            TextFault::Device => Fault::Source,
+        }
+    }
+}
+
+impl From<ReadFault> for Fault {
+    ghost use Rattle.std.specs.Prelude.{◌≡◌};
+    ghost use Rattle.boc_commands.specs.Faults.{of_read};
+
+    ghost from_gives = { λ r f. f ≡ of_read r r.kind };
+
+    fn from(fault: ReadFault) -> Fault {
+        match fault.kind {
+            ReadFaultKind::Memory => Fault::Memory,
+            _ => Fault::Program(fault),
+        }
+    }
+}
+
+impl From<RecordFault> for Fault {
+    ghost use Rattle.std.specs.Prelude.{◌≡◌};
+    ghost use Rattle.boc_commands.specs.Faults.{of_record};
+
+    ghost from_gives = { λ r f. f ≡ of_record r r.kind };
+
+    fn from(fault: RecordFault) -> Fault {
+        match fault.kind {
+            RecordFaultKind::Memory => Fault::Memory,
+            RecordFaultKind::Device => Fault::Source,
+            _ => Fault::Record(fault),
+        }
+    }
+}
+
+impl From<SerialFault> for Fault {
+    ghost use Rattle.std.specs.Prelude.{◌≡◌};
+    ghost use Rattle.boc_commands.specs.Faults.{of_serial};
+
+    ghost from_gives = { λ s f. f ≡ of_serial s };
+
+    fn from(fault: SerialFault) -> Fault {
+        match fault {
+            SerialFault::Memory => Fault::Memory,
+            SerialFault::Behaviours => Fault::Behaviours,
+        }
+    }
+}
+
+impl From<RunFault> for Fault {
+    ghost use Rattle.std.specs.Prelude.{◌≡◌};
+    ghost use Rattle.boc_commands.specs.Faults.{of_run};
+
+    ghost from_gives = { λ r f. f ≡ of_run r };
+
+    fn from(fault: RunFault) -> Fault {
+        match fault {
+            RunFault::Memory => Fault::Memory,
+            RunFault::Behaviours => Fault::Behaviours,
+            RunFault::Held => Fault::Held,
+            RunFault::NoThread => Fault::NoThread,
+            RunFault::Stranger => Fault::Stranger,
+            RunFault::Unfinished => Fault::Unfinished,
+        }
+    }
+}
+
+impl From<WriteFault> for Fault {
+    ghost use Rattle.std.specs.Prelude.{◌≡◌};
+    ghost use Rattle.boc_commands.specs.Faults.{of_write};
+
+    ghost from_gives = { λ w f. f ≡ of_write w };
+
+    fn from(fault: WriteFault) -> Fault {
+        match fault {
+            WriteFault::Memory => Fault::Memory,
+            WriteFault::Device { gone } => Fault::Sink { gone },
+        }
+    }
+}
+
+impl From<Stopped> for Fault {
+    ghost use Rattle.std.specs.Prelude.{◌≡◌};
+    ghost use Rattle.boc_commands.specs.declared.fault.Fault.TheVariants.{Sink};
+
+    ghost from_gives = { λ s f. f ≡ Sink s.gone };
+
+    fn from(stopped: Stopped) -> Fault {
+        Fault::Sink { gone: stopped.gone }
+    }
+}
+
+impl From<AllocError> for Fault {
+    ghost use Rattle.std.specs.Prelude.{◌≡◌};
+    ghost use Rattle.boc_commands.specs.declared.fault.Fault.TheVariants.{Memory};
+
+    ghost from_gives = { λ _ f. f ≡ Memory };
+
+    fn from(_error: AllocError) -> Fault {
+        Fault::Memory
+    }
+}
+
+impl<T: Drop> From<AllocFailed<T>> for Fault {
+    ghost use Rattle.std.specs.Prelude.{◌≡◌};
+    ghost use Rattle.boc_commands.specs.declared.fault.Fault.TheVariants.{Memory};
+
+    ghost from_gives = { λ _ f. f ≡ Memory };
+
+    fn from(_error: AllocFailed<T>) -> Fault {
+        Fault::Memory
+    }
+}

@@ -1,0 +1,37 @@
+// The command `profile`.
+
+ghost use Rattle.std.specs.Prelude.{◌<◌};
+ghost use Rattle.boc_types.specs.answers.Answers.{IsProfileAnswer};
+ghost use Rattle.boc_commands.specs.Commands.{AnswersInput, Leaves, CountsSource, CountsSink, RefusesRecord};
+
+use crate::fault::Fault;
+use crate::report::report_on;
+use boc_record::read_rows;
+use boc_text::{Sink, Source, put_out};
+use boc_types::workers::Workers;
+use std::alloc::Global;
+
+/// Reads the text of a record, and writes the report on its rows: their work, the span, the chain of rows that holds
+/// the run back, and the earliest plan. Where a number of workers is given, the greedy plan for them follows, with
+/// its end and the tick by which it has ended.
+///
+/// A text is refused at its first faulty line, and only where it is no record's. Nothing is written unless
+/// the whole output stands. After a failing write a beginning of it went out.
+pub fn profile_cmd<S: Source, W: Sink>(
+    alloc: Global,
+    workers: Option<Workers>,
+    source: &mut S,
+    sink: &mut W,
+) -> Result<(), Fault>
+    requires source { S.failures source.old < u64.MAX }
+    requires sink { W.failures sink.old < u64.MAX }
+    ensures written { Leaves (AnswersInput (IsProfileAnswer workers) (S.remaining source.old) (S.remaining source.new)) result (W.written sink.old) (W.written sink.new) }
+    ensures refused { RefusesRecord result (S.remaining source.old) }
+    ensures source { CountsSource result (S.failures source.old) (S.failures source.new) }
+    ensures sink { CountsSink result (W.failures sink.old) (W.failures sink.new) }
+{
+    let rows = read_rows(alloc, source)?;
+    let answer = report_on(alloc, workers, &rows)?;
+    put_out(sink, &answer)?;
+    Ok(())
+}

@@ -1,0 +1,59 @@
+// The command `whatif`.
+
+ghost use Rattle.std.specs.Prelude.{◌≡◌, ◌<◌, IfErr, OnOk};
+ghost use Rattle.boc_types.specs.answers.Answers.{IsWhatIfAnswer};
+ghost use Rattle.boc_types.specs.plans.Edits.{AllFit, all_edited};
+ghost use Rattle.boc_commands.specs.Commands.{AnswersInput, Leaves, CountsSource, CountsSink, IsOfEdits, RefusesEdits};
+
+use crate::fault::Fault;
+use crate::report::report_with;
+use boc_record::read_rows;
+use boc_text::{Sink, Source, put_out};
+use boc_types::edit::Edit;
+use boc_types::workers::Workers;
+use boc_whatif::WhatIf;
+use std::alloc::Global;
+
+/// Reads the text of a record, has its rows take other ticks, edit by edit, and writes the report on them, as the
+/// command `profile` does.
+///
+/// A text is refused at its first faulty line, and only where it is no record's. Edits are refused for the first
+/// that the rows can't take, as those before it have made them. Nothing is written unless the whole output stands.
+/// After a failing write a beginning of it went out.
+pub fn whatif_cmd<S: Source, W: Sink>(
+    alloc: Global,
+    edits: &[Edit],
+    workers: Option<Workers>,
+    source: &mut S,
+    sink: &mut W,
+) -> Result<(), Fault>
+    requires source { S.failures source.old < u64.MAX }
+    requires sink { W.failures sink.old < u64.MAX }
+    ensures written { Leaves (AnswersInput (IsWhatIfAnswer edits.now workers) (S.remaining source.old) (S.remaining source.new)) result (W.written sink.old) (W.written sink.new) }
+    ensures refused { RefusesEdits edits.now result (S.remaining source.old) }
+    ensures source { CountsSource result (S.failures source.old) (S.failures source.new) }
+    ensures sink { CountsSink result (W.failures sink.old) (W.failures sink.new) }
+{
+    let rows = read_rows(alloc, source)?;
+    let mut question = WhatIf::of(alloc, rows)?;
+    edit_all(&mut question, edits)?;
+    let profile = question.profile(alloc)?;
+    let answer = report_with(alloc, workers, question.rows(), &profile)?;
+    put_out(sink, &answer)?;
+    Ok(())
+}
+
+// Makes all edits, one after the other, up to the first that the rows can't take.
+fn edit_all(question: &mut WhatIf, edits: &[Edit]) -> Result<(), Fault>
+    ensures fit { OnOk result (AllFit question.old.rows edits.now) }
+    ensures rows { OnOk result (question.new.rows ≡ all_edited question.old.rows edits.now) }
+    ensures unfit { IfErr result (IsOfEdits question.old.rows edits.now) }
+{
+    for (index, edit) in edits.iter().enumerate() {
+        if let Err(fault) = question.edit(edit.row, edit.ticks) {
+            let number = index + 1;
+            return Err(Fault::Edit { number, fault });
+        }
+    }
+    Ok(())
+}

@@ -1,0 +1,103 @@
+//! Who can step.
+
+ghost use Rattle.std.specs.Prelude.{◌≡◌, ◌<◌, Some, length};
+ghost use Rattle.boc_types.specs.machine.Movers.{NobodyWorks};
+ghost use Rattle.boc_dispatch.specs.Calls.{NamesMover};
+ghost use Rattle.boc_dispatch.specs.Inside.{parts_of, underway, live_at, state, IsSoundMachine};
+ghost use Rattle.boc_dispatch.specs.Moves.{MovesOrNot, MovesAtOrNot, NamesWorker};
+
+use crate::answers::{Child, Leaving, Mover};
+use crate::live::Live;
+use crate::machine::Machine;
+use crate::moves::recorded_row;
+use boc_chain::{Chains, Slot};
+use boc_types::stage::{Phase, Stage};
+
+impl<'a, C: Chains + Drop> Machine<'a, C> {
+    /// Somebody who can step, unless all is over.
+    pub fn movable(&self) -> Option<Mover>
+        requires { IsSoundMachine C.lists C.place self.now }
+        ensures { NamesMover (underway (parts_of C.lists C.place self.now)) result }
+    {
+        match self.movable_worker() {
+            Some(mover) => Some(mover),
+            None => self.first_ready(),
+        }
+    }
+
+    // One of those that are being enqueued, run or leave, who can step.
+    fn movable_worker(&self) -> Option<Mover>
+        requires { IsSoundMachine C.lists C.place self.now }
+        ensures { NamesWorker (parts_of C.lists C.place self.now) result }
+    {
+        for slot in 0..self.live.len() {
+            if let Some(mover) = self.mover_at(slot) {
+                return Some(mover);
+            }
+        }
+        None
+    }
+
+    // The behaviour at a slot, if it can step.
+    fn mover_at(&self, slot: usize) -> Option<Mover>
+        requires sound { IsSoundMachine C.lists C.place self.now }
+        requires there { slot < length self.now.live.items }
+        ensures { MovesAtOrNot (parts_of C.lists C.place self.now) slot result }
+    {
+        match &self.live[slot] {
+            Some(live) => self.mover_of(slot, live),
+            None => None,
+        }
+    }
+
+    // The behaviour at a slot, which is this one, if it can step.
+    fn mover_of(&self, slot: usize, live: &Live) -> Option<Mover>
+        requires sound { IsSoundMachine C.lists C.place self.now }
+        requires is { live_at (parts_of C.lists C.place self.now).live slot ≡ Some live.now }
+        ensures { MovesOrNot (parts_of C.lists C.place self.now) live.now result }
+    {
+        let child = Child {
+            number: live.number,
+            row: live.parent,
+        };
+        match live.stage {
+            Stage::Asking { request, exchanged } => {
+                if exchanged && !self.chains.can_settle(Slot { index: slot }, request) {
+                    None
+                } else {
+                    Some(Mover::Enqueuing(child))
+                }
+            }
+            Stage::Recorded { row, phase } => match phase {
+                Phase::Flagging(_) => Some(Mover::Enqueuing(child)),
+                Phase::Owning => Some(Mover::Enqueuing(child)),
+                Phase::Waiting => None,
+                Phase::Ready => None,
+                Phase::Running => {
+                    if live.child.is_none() {
+                        Some(Mover::Running(row))
+                    } else {
+                        None
+                    }
+                }
+                Phase::Leaving(request) => {
+                    if self.chains.can_leave(Slot { index: slot }, request) {
+                        Some(Mover::Leaving(Leaving { row }))
+                    } else {
+                        None
+                    }
+                }
+            },
+        }
+    }
+
+    // The first of the ready list, where nobody works.
+    fn first_ready(&self) -> Option<Mover>
+        requires sound { IsSoundMachine C.lists C.place self.now }
+        requires idle { NobodyWorks (state (parts_of C.lists C.place self.now)) }
+        ensures { NamesMover (underway (parts_of C.lists C.place self.now)) result }
+    {
+        let slot = *self.ready.front()?;
+        Some(Mover::Ready(recorded_row(&self.live[slot])))
+    }
+}

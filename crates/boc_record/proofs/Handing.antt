@@ -1,0 +1,16 @@
+-- What a judge, and rules, do with an event that is handed to them.
+use Rattle.std.proofs.Common.{◌≡◌, List, [], ◌∷◌, ◌++◌, refl, sym, ◌∙◌, ap, subst}
+use Rattle.std.specs.Prelude.{Result, Ok, Err}
+use Rattle.boc_types.specs.declared.event.Event.{Event}
+use Rattle.boc_types.specs.runs.Legal.{Entry, entries, after, IsAllowed, IsFirstBroken}
+use Rattle.boc_rules.specs.declared.fault.RuleFault.{RuleFault}
+use Rattle.boc_rules.specs.declared.fault.RuleFault.TheVariants.{Broken, Memory}
+use Rattle.boc_rules.specs.Course.{Course, Steps}
+use Rattle.boc_rules.proofs.Next.{after_more}
+use Rattle.boc_record.specs.Sinks.{Hands}
+
+pub judge_hands : (result : Result (Unit {0}) RuleFault) (old new : Course) (log : List Event) (event : Event) → Steps old event result new → old.rows ≡ entries log → Hands old.cowns log event result (λ l. new.rows ≡ entries l)
+judge_hands (Ok done) old new log event s e =
+    (subst (λ (rows : List Entry). IsAllowed old.cowns rows event) e s.0, ap (λ (c : Course). c.rows) s.1 ∙ ap (λ (rows : List Entry). after rows event) e ∙ sym (after_more [] log event))
+judge_hands (Err (Broken rule)) old new log event s e = subst (λ (rows : List Entry). IsFirstBroken old.cowns rows event rule) e s.0
+judge_hands (Err Memory) old new log event s e = subst (λ (rows : List Entry). IsAllowed old.cowns rows event) e s.0

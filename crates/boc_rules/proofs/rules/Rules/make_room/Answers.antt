@@ -1,0 +1,9 @@
+use Rattle.std.proofs.Common.{arith}
+use Rattle.std.specs.Vec.{vec_capacity}
+use Rattle.boc_rules.proofs.Logging.{few_events}
+use Rattle.boc_rules.proofs.rules.Rules.make_room.Goals as goal
+
+pub overflow_sub-rows : goal.overflow_sub-rows
+overflow_sub-rows c =
+    let events = c.self.inside.events in
+    omega (arith, few_events c.self.inside.judge events.items (vec_capacity events) c.self.invariant, events.ok.0, c.len.ensures, c.count.ensures)

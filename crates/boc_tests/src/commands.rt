@@ -1,0 +1,207 @@
+//! Commands whose source or sink fails. What each command answers is in the program's own tests.
+
+ghost use Rattle.std.specs.Prelude.{◌≡◌, IfOk};
+
+use boc_commands::{Fault, check_cmd, profile_cmd, values_cmd};
+use boc_text::{Bytes, FailAt};
+use boc_types::workers::Workers;
+use std::alloc::{AllocError, Global};
+use std::test::*;
+
+pub(crate) const TRANSFER: &str = "cown a = 10; cown b = 0;
+def add(k; x) { x = x + k; }
+def move(k; x, y) { x = x - k; y = y + k; }
+main { when add(5; a); when move(3; a, b); when add(1; b); }
+";
+
+pub(crate) fn bytes(alloc: Global, text: &str) -> Result<Bytes, AllocError>
+    ensures { IfOk result (λ b. b.failures ≡ 0) }
+{
+    Ok(Bytes::new(Vec::from_slice(alloc, text.as_bytes())?))
+}
+
+#[test]
+fn one_read_fails(rt: HostRuntime) -> Result<(), Fail> {
+    let alloc = rt.alloc();
+    let reads = TRANSFER.len().div_ceil(5) as u64 + 1;
+    for k in 1..=reads + 1 {
+        let mut source = FailAt::new(bytes(alloc, TRANSFER)?, k, 5);
+        let mut sink = bytes(alloc, "")?;
+        match values_cmd(alloc, &mut source, &mut sink) {
+            Ok(()) => {
+                assert_eq!(rt; k, reads + 1);
+                assert_eq!(rt; sink.bytes.as_slice(), b"a 12\nb 4\n".as_slice());
+            }
+            Err(fault) => {
+                assert!(rt; k <= reads);
+                assert_eq!(rt; fault.line(alloc)?.as_str(), "boc: device");
+                assert_eq!(rt; fault.status(), 5);
+                assert_eq!(rt; sink.bytes.len(), 0);
+            }
+        }
+    }
+    Ok(())
+}
+
+#[test]
+fn one_write_fails(rt: HostRuntime) -> Result<(), Fail> {
+    let alloc = rt.alloc();
+    for (k, gone) in [(1, Some(0)), (2, Some(7)), (3, None)] {
+        let mut source = bytes(alloc, TRANSFER)?;
+        let mut sink = FailAt::new(bytes(alloc, "")?, k, 7);
+        let went_out = match values_cmd(alloc, &mut source, &mut sink) {
+            Ok(()) => 9,
+            Err(fault) => {
+                assert_eq!(rt; fault.line(alloc)?.as_str(), "boc: device");
+                assert_eq!(rt; fault.status(), 5);
+                assert_eq!(rt; fault.gone(), gone);
+                fault.gone().unwrap_or(0)
+            }
+        };
+        assert_eq!(rt;
+            Some(sink.inner.bytes.as_slice()),
+            b"a 12\nb 4\n".get(..went_out)
+        );
+    }
+    Ok(())
+}
+
+// The run of TRANSFER by one worker.
+const RECORD: &str = "boc 1 2
++ 0 0 0
+> 0
++ 1 0 2 0
++ 2 0 3 0 1
++ 3 0 4 1
+< 0 4 0
+> 1
+< 1 2 0
+> 2
+< 2 3 0
+> 3
+< 3 2 0
+.
+";
+
+#[test]
+fn one_read_of_a_record_fails(rt: HostRuntime) -> Result<(), Fail> {
+    let alloc = rt.alloc();
+    let reads = RECORD.len().div_ceil(5) as u64 + 1;
+    for k in 1..=reads + 1 {
+        let mut source = FailAt::new(bytes(alloc, RECORD)?, k, 5);
+        let mut sink = bytes(alloc, "")?;
+        match check_cmd(alloc, &mut source, &mut sink) {
+            Ok(()) => {
+                assert_eq!(rt; k, reads + 1);
+                assert_eq!(rt; sink.bytes.as_slice(), b"ok 4\n".as_slice());
+            }
+            Err(fault) => {
+                assert!(rt; k <= reads);
+                assert_eq!(rt; fault.line(alloc)?.as_str(), "boc: device");
+                assert_eq!(rt; fault.status(), 5);
+                assert_eq!(rt; sink.bytes.len(), 0);
+            }
+        }
+    }
+    Ok(())
+}
+
+#[test]
+fn one_write_of_a_check_fails(rt: HostRuntime) -> Result<(), Fail> {
+    let alloc = rt.alloc();
+    for (k, gone) in [(1, Some(0)), (2, Some(2)), (3, Some(4)), (4, None)] {
+        let mut sink = FailAt::new(bytes(alloc, "")?, k, 2);
+        let went_out = match check_cmd(alloc, &mut bytes(alloc, RECORD)?, &mut sink) {
+            Ok(()) => 5,
+            Err(fault) => {
+                assert_eq!(rt; fault.line(alloc)?.as_str(), "boc: device");
+                assert_eq!(rt; fault.gone(), gone);
+                fault.gone().unwrap_or(0)
+            }
+        };
+        assert_eq!(rt;
+            Some(sink.inner.bytes.as_slice()),
+            b"ok 4\n".get(..went_out)
+        );
+    }
+    Ok(())
+}
+
+// The report on RECORD.
+pub(crate) const REPORT: &str = "rows 4
+work 11
+span 9
+chain
+0 spawn 2
+1 order 2
+2 order 3
+3 end 2
+plan
+0 0 4
+1 2 4
+2 4 7
+3 7 9
+";
+
+// The report on NO_COWNS.
+pub(crate) const NO_COWNS_REPORT: &str = "rows 3
+work 11
+span 7
+chain
+0 spawn 3
+2 end 4
+plan
+0 0 3
+1 2 6
+2 3 7
+";
+
+// The greedy part of the report on RECORD for two workers.
+pub(crate) const GREEDY: &str = "greedy 2
+0 0 4 0
+1 2 4 1
+2 4 7 0
+3 7 9 0
+end 9 bound 14
+";
+
+#[test]
+fn one_write_of_a_profile_for_workers_fails(rt: HostRuntime) -> Result<(), Fail> {
+    let alloc = rt.alloc();
+    let mut sink = FailAt::new(bytes(alloc, "")?, 2, 7);
+    let result = profile_cmd(
+        alloc,
+        Workers::new(2),
+        &mut bytes(alloc, RECORD)?,
+        &mut sink,
+    );
+    assert!(rt; matches!(result, Err(Fault::Sink { gone: 7 })));
+    assert_eq!(rt; sink.inner.bytes.as_slice(), b"rows 4\n".as_slice());
+    Ok(())
+}
+
+#[test]
+fn one_read_or_write_of_a_profile_fails(rt: HostRuntime) -> Result<(), Fail> {
+    let alloc = rt.alloc();
+    for k in 1..=RECORD.len() as u64 + 1 {
+        let mut source = FailAt::new(bytes(alloc, RECORD)?, k, 1);
+        let mut sink = bytes(alloc, "")?;
+        let result = profile_cmd(alloc, None, &mut source, &mut sink);
+        assert!(rt; matches!(result, Err(Fault::Source)), "{k}");
+        assert_eq!(rt; sink.bytes.len(), 0);
+    }
+    for k in 1..=REPORT.len().div_ceil(7) as u64 {
+        let mut sink = FailAt::new(bytes(alloc, "")?, k, 7);
+        let result = profile_cmd(alloc, None, &mut bytes(alloc, RECORD)?, &mut sink);
+        let gone = 7 * (k as usize - 1);
+        assert!(rt;
+            matches!(result, Err(Fault::Sink { gone: told }) if told == gone),
+            "{k}"
+        );
+        assert_eq!(rt;
+            Some(sink.inner.bytes.as_slice()),
+            REPORT.as_bytes().get(..gone)
+        );
+    }
+    Ok(())
+}

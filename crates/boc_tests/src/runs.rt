@@ -1,0 +1,302 @@
+// The commands that run a program by threads.
+
+use crate::commands::{GREEDY, NO_COWNS_REPORT, REPORT, TRANSFER, bytes};
+use boc_commands::{Command, Fault, Runners, run_cmd, run_command, time_cmd};
+use boc_text::{Bytes, FailAt};
+use boc_types::workers::Workers;
+use boc_workers::{Gate, OpenGate};
+use std::alloc::{AllocError, Global};
+use std::sync::Wait;
+use std::test::*;
+use std::thread::Threads;
+
+mod gates;
+
+use gates::{Meeting, StopsAtSwap};
+
+// Four behaviours with a cown each.
+const FOUR_SQUARES: &str = "cown c[4] = 0;
+def w(n; x) { work n; x = x + n; }
+main { when w(6; c[0]); when w(6; c[1]); when w(6; c[2]); when w(6; c[3]); }
+";
+
+// The report on its rows.
+const FOUR_SQUARES_REPORT: &str = "rows 5
+work 37
+span 13
+chain
+0 spawn 5
+4 end 8
+plan
+0 0 5
+1 2 10
+2 3 11
+3 4 12
+4 5 13
+";
+
+// Its greedy parts for two and for four workers.
+const FOUR_SQUARES_BY_TWO: &str =
+    "greedy 2\n0 0 5 0\n1 2 10 1\n2 5 13 0\n3 10 18 1\n4 13 21 0\nend 21 bound 31\n";
+
+const FOUR_SQUARES_BY_FOUR: &str =
+    "greedy 4\n0 0 5 0\n1 2 10 1\n2 3 11 2\n3 4 12 3\n4 5 13 0\nend 13 bound 22\n";
+
+// Two behaviours with a cown each.
+const TWO_BODIES: &str = "cown c[2] = 0;
+def w(n; x) { work n; x = x + n; }
+main { when w(6; c[0]); when w(6; c[1]); }
+";
+
+// The report on its rows.
+const TWO_BODIES_REPORT: &str =
+    "rows 3\nwork 19\nspan 11\nchain\n0 spawn 3\n2 end 8\nplan\n0 0 3\n1 2 10\n2 3 11\n";
+
+// Behaviours without cowns.
+const NO_COWNS: &str = "def f(;) { work 3; } main { when f(;); when f(;); }";
+
+/// What a command did: its status, its line on standard error, and its output.
+#[derive(Drop)]
+struct Answer {
+    status: u8,
+    line: String,
+    output: String,
+}
+
+fn answer_of(alloc: Global, done: Result<(), Fault>, sink: Bytes) -> Result<Answer, Fail> {
+    let (status, line) = match done {
+        Ok(()) => (0, String::new(alloc)),
+        Err(fault) => (fault.status(), fault.line(alloc)?),
+    };
+    let output = String::from_utf8(sink.bytes)?;
+    Ok(Answer {
+        status,
+        line,
+        output,
+    })
+}
+
+// What `run` does with a program, by so many threads.
+fn run_of<R: Threads + Wait + Sync, G: Gate>(
+    rt: &R,
+    alloc: Global,
+    text: &str,
+    runners: u32,
+    gate: &G,
+) -> Result<Answer, Fail> {
+    let runners = Runners::new(runners).ok_or("there are 1 to 16 threads")?;
+    let mut source = bytes(alloc, text)?;
+    let mut sink = bytes(alloc, "")?;
+    let result = run_cmd(rt, alloc, runners, gate, &mut source, &mut sink);
+    answer_of(alloc, result, sink)
+}
+
+// What `time` does with a program, by so many threads, and for p workers, or for none where p is 0.
+fn time_of<R: Threads + Wait + Sync, G: Gate>(
+    rt: &R,
+    alloc: Global,
+    text: &str,
+    runners: u32,
+    p: u32,
+    gate: &G,
+) -> Result<Answer, Fail> {
+    let runners = Runners::new(runners).ok_or("there are 1 to 16 threads")?;
+    let workers = Workers::new(p);
+    let mut source = bytes(alloc, text)?;
+    let mut sink = bytes(alloc, "")?;
+    let result = time_cmd(rt, alloc, runners, workers, gate, &mut source, &mut sink);
+    answer_of(alloc, result, sink)
+}
+
+#[test]
+fn records_of_one_thread(rt: HostRuntime) -> Result<(), Fail> {
+    for (text, output) in [
+        (
+            TRANSFER,
+            "boc 2 2\n+ 0 0 0\n> 0\n+ 1 0 2 0\n+ 2 0 3 0 1\n+ 3 0 4 1\n< 0 4 0\n> 1\n< 1 2 0 0\n> 2\n< 2 3 0 0 1\n> 3\n< 3 2 0 1\n.\n",
+        ),
+        (
+            "cown a = 10; cown b = 0;
+             def move(k; x, y) { x = x - k; y = y + k; }
+             main { when move(1; a, a); }",
+            "boc 2 2\n+ 0 0 0\n> 0\n< 0 2 4\n.\n",
+        ),
+        (
+            NO_COWNS,
+            "boc 2 0\n+ 0 0 0\n> 0\n+ 1 0 2\n+ 2 0 3\n< 0 3 0\n> 1\n< 1 4 0\n> 2\n< 2 4 0\n.\n",
+        ),
+        (
+            "main { let x = 9223372036854775807; x = x + 1; }",
+            "boc 2 0\n+ 0 0 0\n> 0\n< 0 3 1\n.\n",
+        ),
+        (
+            "main { work 999999; }",
+            "boc 2 0\n+ 0 0 0\n> 0\n< 0 1000000 0\n.\n",
+        ),
+        (
+            "main { work 1000000; }",
+            "boc 2 0\n+ 0 0 0\n> 0\n< 0 1 6\n.\n",
+        ),
+        (
+            "cown a = 1;
+             def peek(; x) { let y = x; work 5; } def set(; x) { x = x; }
+             main { when peek(; a); when peek(; a); when set(; a); }",
+            "boc 2 1\n+ 0 0 0\n> 0\n+ 1 0 2 0\n+ 2 0 3 0\n+ 3 0 4 0\n< 0 4 0\n> 1\n< 1 7 0\n> 2\n< 2 7 0\n> 3\n< 3 2 0 0\n.\n",
+        ),
+    ] {
+        let answer = run_of(&rt, rt.alloc(), text, 1, &OpenGate)?;
+        assert_eq!(rt; answer.line.as_str(), "", "{text}");
+        assert_eq!(rt; answer.output.as_str(), output, "{text}");
+    }
+    Ok(())
+}
+
+#[test]
+fn reports_whatever_the_threads(rt: HostRuntime) -> Result<(), Fail> {
+    let alloc = rt.alloc();
+    for (text, p, report, greedy) in [
+        (
+            "main { }",
+            0,
+            "rows 1\nwork 1\nspan 1\nchain\n0 end 1\nplan\n0 0 1\n",
+            "",
+        ),
+        (TRANSFER, 2, REPORT, GREEDY),
+        (
+            TRANSFER,
+            1,
+            REPORT,
+            "greedy 1\n0 0 4 0\n1 4 6 0\n2 6 9 0\n3 9 11 0\nend 11 bound 20\n",
+        ),
+        (FOUR_SQUARES, 0, FOUR_SQUARES_REPORT, ""),
+        (FOUR_SQUARES, 2, FOUR_SQUARES_REPORT, FOUR_SQUARES_BY_TWO),
+        (FOUR_SQUARES, 4, FOUR_SQUARES_REPORT, FOUR_SQUARES_BY_FOUR),
+        (
+            "cown a = 0;
+             def down(n; x) { x = x + n; if n > 0 { when down(n - 1; x); } }
+             main { when down(2; a); }",
+            0,
+            "rows 4\nwork 13\nspan 13\nchain\n0 spawn 2\n1 spawn 4\n2 spawn 4\n3 end 3\nplan\n0 0 2\n1 2 6\n2 6 10\n3 10 13\n",
+            "",
+        ),
+        (
+            NO_COWNS,
+            1,
+            NO_COWNS_REPORT,
+            "greedy 1\n0 0 3 0\n1 3 7 0\n2 7 11 0\nend 11 bound 18\n",
+        ),
+    ] {
+        for runners in [1, 2, 16] {
+            let answer = time_of(&rt, alloc, text, runners, p, &OpenGate)?;
+            assert_eq!(rt; answer.line.as_str(), "", "{text}");
+            let output = format!(in alloc; "{report}{greedy}")?;
+            assert_eq!(rt; answer.output.as_str(), output.as_str(), "{text}");
+        }
+    }
+    Ok(())
+}
+
+#[test]
+fn two_bodies_at_once(rt: HostRuntime) -> Result<(), Fail> {
+    let gate = Meeting::new(&rt);
+    let answer = time_of(&rt, rt.alloc(), TWO_BODIES, 2, 0, &gate)?;
+    assert_eq!(rt; answer.line.as_str(), "");
+    assert_eq!(rt; answer.output.as_str(), TWO_BODIES_REPORT);
+    assert!(rt; gate.both_came());
+    Ok(())
+}
+
+#[test]
+fn as_many_threads_as_asked_for(rt: HostRuntime) -> Result<(), Fail> {
+    let alloc = rt.alloc();
+    let two = Runners::new(2).ok_or("there are 1 to 16 threads")?;
+    for command in [
+        Command::Run { runners: two },
+        Command::Time {
+            runners: two,
+            workers: None,
+        },
+    ] {
+        let gate = Meeting::new(&rt);
+        let mut source = bytes(alloc, TWO_BODIES)?;
+        let mut sink = bytes(alloc, "")?;
+        let result = run_command(&rt, alloc, &gate, &command, &mut source, &mut sink);
+        assert!(rt; result.is_ok());
+        assert!(rt; gate.both_came());
+    }
+    Ok(())
+}
+
+#[test]
+fn gate_that_stops(rt: HostRuntime) -> Result<(), Fail> {
+    for runners in [1, 2, 16] {
+        let answer = run_of(&rt, rt.alloc(), TRANSFER, runners, &StopsAtSwap)?;
+        assert_eq!(rt; answer.line.as_str(), "boc: run: 3 Held");
+        assert_eq!(rt; answer.status, 4);
+        assert_eq!(rt; answer.output.as_str(), "");
+    }
+    Ok(())
+}
+
+#[test]
+fn too_many_behaviours(rt: HostRuntime) -> Result<(), Fail> {
+    let forever = "def f(;) { when f(;); } main { when f(;); }";
+    for runners in [1, 4] {
+        let answer = run_of(&rt, rt.alloc(), forever, runners, &OpenGate)?;
+        assert_eq!(rt; answer.line.as_str(), "boc: run: 2 Behaviours");
+        assert_eq!(rt; answer.status, 4);
+        assert_eq!(rt; answer.output.as_str(), "");
+    }
+    Ok(())
+}
+
+#[test]
+fn program_that_is_refused(rt: HostRuntime) -> Result<(), Fail> {
+    let answer = time_of(&rt, rt.alloc(), "main { x = 1; }", 2, 1, &OpenGate)?;
+    assert_eq!(rt; answer.line.as_str(), "boc: line 1: 5 UnknownName");
+    assert_eq!(rt; answer.status, 3);
+    assert_eq!(rt; answer.output.as_str(), "");
+    Ok(())
+}
+
+#[test]
+fn one_read_or_write_of_a_run_fails(rt: HostRuntime) -> Result<(), Fail> {
+    let alloc = rt.alloc();
+    let one = Runners::one();
+    for k in 1..=TRANSFER.len().div_ceil(5) as u64 + 1 {
+        let mut source = FailAt::new(bytes(alloc, TRANSFER)?, k, 5);
+        let mut sink = bytes(alloc, "")?;
+        let result = run_cmd(&rt, alloc, one, &OpenGate, &mut source, &mut sink);
+        assert!(rt; matches!(result, Err(Fault::Source)), "{k}");
+        assert_eq!(rt; sink.bytes.len(), 0);
+    }
+    for k in 1..=13u64 {
+        let mut source = bytes(alloc, TRANSFER)?;
+        let mut sink = FailAt::new(bytes(alloc, "")?, k, 7);
+        let result = run_cmd(&rt, alloc, one, &OpenGate, &mut source, &mut sink);
+        let gone = 7 * (k as usize - 1);
+        assert!(rt;
+            matches!(result, Err(Fault::Sink { gone: told }) if told == gone),
+            "{k}"
+        );
+        assert_eq!(rt; sink.inner.bytes.len(), gone);
+    }
+    Ok(())
+}
+
+#[test]
+fn one_read_or_write_of_a_timing_fails(rt: HostRuntime) -> Result<(), Fail> {
+    let alloc = rt.alloc();
+    let one = Runners::one();
+    let mut source = FailAt::new(bytes(alloc, TRANSFER)?, 2, 5);
+    let mut sink = bytes(alloc, "")?;
+    let result = time_cmd(&rt, alloc, one, None, &OpenGate, &mut source, &mut sink);
+    assert!(rt; matches!(result, Err(Fault::Source)));
+    assert_eq!(rt; sink.bytes.len(), 0);
+    let mut source = bytes(alloc, TRANSFER)?;
+    let mut sink = FailAt::new(bytes(alloc, "")?, 2, 7);
+    let result = time_cmd(&rt, alloc, one, None, &OpenGate, &mut source, &mut sink);
+    assert!(rt; matches!(result, Err(Fault::Sink { gone: 7 })));
+    assert_eq!(rt; sink.inner.bytes.as_slice(), b"rows 4\n".as_slice());
+    Ok(())
+}

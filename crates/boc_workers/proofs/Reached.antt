@@ -1,0 +1,27 @@
+-- Where a turn leads to.
+use Rattle.std.proofs.Common.{◌≡◌, sym, subst}
+use Rattle.std.proofs.Math.Logic.{∥∥₁_elim}
+use Rattle.boc_types.specs.declared.program.Program.{Program}
+use Rattle.boc_types.specs.machine.Schedules.{Reaches, Here, Then}
+use Rattle.boc_types.specs.machine.Steps.{opening_state}
+use Rattle.boc_dispatch.specs.declared.worker.Hand.{Hand}
+use Rattle.boc_dispatch.specs.declared.worker.Turn.{Turn}
+use Rattle.boc_dispatch.specs.declared.worker.Turn.TheVariants as turns
+use Rattle.boc_dispatch.specs.Underway.{Underway}
+use Rattle.boc_dispatch.specs.Working.{Works}
+use Rattle.boc_workers.specs.Noting.{IsReached}
+
+-- no step leads to the opening state
+pub reached_first : (u : Underway) (p : Program) → u ≡ record { program = p; state = opening_state p } → IsReached u
+reached_first u p is = subst IsReached (sym is) ∣ Here ∣₁
+
+-- a turn leads on from where the dispatcher was
+pub reached_on : (u v : Underway) (h k : Hand) (t : Turn) → Works u h t v k → IsReached u → IsReached v
+reached_on u v h k (turns.Moved step) w is =
+    subst (λ (p : Program). ∥ Reaches p (opening_state p) v.state ∥₁) (sym w.same)
+    (∥∥₁_elim is squash₁ (λ steps. ∣ Then step u.state v.state steps w.makes ∣₁))
+reached_on u v h k turns.Blocked w is = subst IsReached (sym w.0) is
+reached_on u v h k turns.NoneReady w is = subst IsReached (sym w.0) is
+reached_on u v h k turns.Quiet w is = subst IsReached (sym w.0) is
+reached_on u v h k turns.Thinks w is = subst IsReached (sym w.0) is
+reached_on u v h k (turns.Refused refusal) w is = subst IsReached (sym w.0) is

@@ -25,8 +25,8 @@ pub struct Core<'a, C: Chains + Drop> {
     machine: Machine<'a, C>,
 }
 
-// How many cowns a program has.
-pub(crate) fn cown_count(program: &Program) -> usize
+/// How many cowns a program has: for so many, chains are made.
+pub fn cown_count(program: &Program) -> usize
     ensures value { result ≡ cowns_of program.now.cowns }
 {
     let cowns = program.cowns.as_slice();

@@ -1,7 +1,7 @@
 //! The dispatcher: each call makes one step of the machine.
 
 ghost use Rattle.boc_types.specs.program.Programs.{cown_count as cowns_of};
-ghost use Rattle.std.specs.Prelude.{◌≡◌, ◌↔◌, ◌+◌, ◌^◌, ◌<◌, ℕ, [], None, IfOk, IsTrue, replicate, slice_get};
+ghost use Rattle.std.specs.Prelude.{◌≡◌, ◌↔◌, ◌+◌, ◌^◌, ◌<◌, ℕ, [], None, IfOk, IsTrue, map, replicate, slice_get};
 
 use crate::answers::{Advanced, Child, FinishFault, Leaving, Left, Mover, OpenFault, Started};
 use crate::live::wished_behaviour;
@@ -191,6 +191,13 @@ impl<'a, C: Chains + Drop> Core<'a, C> {
         ensures { result.now ≡ self.now.state.log }
     {
         self.machine.rules.events()
+    }
+
+    /// The chains, whose lists are the queues: each slot stands for a behaviour's number.
+    pub fn chains(&self) -> &C
+        ensures { (number : ℕ → ℕ) × (map (λ requests. map (λ r. number r.slot) requests) (C.lists result.now) ≡ self.now.state.queues) }
+    {
+        &self.machine.chains
     }
 
     /// The program.

@@ -21,21 +21,27 @@ const UNDER_WAY: [u16; 25] = [
 
 const TO_THE_END: [u16; 15] = [0, 0, 0, 0, 0, 0, 0, 0, 1, 1, 1, 1, 1, 1, 1];
 
+// Each row but the last spawns the next one, and ends before that begins.
+const LONG_COUNTDOWN: &[u8] = b"cown a = 0;
+def down(n; x) { x = x + n; if n > 0 { when down(n - 1; x); } }
+main { when down(2000; a); }";
+
 // The program that a text spells.
-fn program(alloc: Global) -> Result<Program, Fail> {
-    match read_program(alloc, TWO_ORDERS) {
+fn program(alloc: Global, text: &[u8]) -> Result<Program, Fail> {
+    match read_program(alloc, text) {
         Ok(program) => Ok(program),
         Err(_) => Err("the text spells a program".into()),
     }
 }
 
-// A drive by two workers in which each choice has its turn.
+// A drive by so many workers in which each choice has its turn.
 fn driven<'a>(
     alloc: Global,
     program: &'a Program,
+    workers: u32,
     choices: &[u16],
 ) -> Result<Dispatcher<'a>, Fail> {
-    match drive(alloc, program, 2, choices) {
+    match drive(alloc, program, workers, choices) {
         Ok(core) => Ok(core),
         Err(_) => Err("each choice has its turn".into()),
     }
@@ -43,8 +49,8 @@ fn driven<'a>(
 
 #[test]
 fn run_under_way_has_no_record(rt: HostRuntime) -> Result<(), Fail> {
-    let program = program(rt.alloc())?;
-    let core = driven(rt.alloc(), &program, &UNDER_WAY)?;
+    let program = program(rt.alloc(), TWO_ORDERS)?;
+    let core = driven(rt.alloc(), &program, 2, &UNDER_WAY)?;
     let Err(core) = core.into_record() else {
         return Err("a run under way has no record yet".into());
     };
@@ -54,14 +60,29 @@ fn run_under_way_has_no_record(rt: HostRuntime) -> Result<(), Fail> {
 
 #[test]
 fn quiet_run_has_a_record(rt: HostRuntime) -> Result<(), Fail> {
-    let program = program(rt.alloc())?;
+    let program = program(rt.alloc(), TWO_ORDERS)?;
     let mut choices = Vec::new(rt.alloc());
     choices.extend_from_slice(&UNDER_WAY)?;
     choices.extend_from_slice(&TO_THE_END)?;
-    let core = driven(rt.alloc(), &program, &choices)?;
+    let core = driven(rt.alloc(), &program, 2, &choices)?;
     let Ok(record) = core.into_record() else {
         return Err("a quiet dispatcher has a record".into());
     };
     assert_eq!(rt; (record.cowns(), record.rows().as_slice().len()), (4, 5));
+    Ok(())
+}
+
+#[test]
+fn few_slots_are_held_at_once(rt: HostRuntime) -> Result<(), Fail> {
+    let program = program(rt.alloc(), LONG_COUNTDOWN)?;
+    let choices = vec![in rt.alloc(); 0; 16_010]?;
+    let core = driven(rt.alloc(), &program, 1, &choices)?;
+    assert_eq!(rt; (core.is_quiet(), core.steps()), (true, 16_010));
+    assert_eq!(rt; core.value(0), Some(2_001_000));
+    assert_eq!(rt; core.chains().peak(), 2);
+    let Ok(record) = core.into_record() else {
+        return Err("the run is over".into());
+    };
+    assert_eq!(rt; record.rows().as_slice().len(), 2_002);
     Ok(())
 }

@@ -289,7 +289,9 @@ fn tell_drive(rt: HostRuntime, program: &Program, workers: u32, choices: &[u16])
     tell_both(
         rt,
         drive(alloc, program, workers, choices).and_then(|run| Ok(run_text(alloc, &run)?)),
-        drive_over(alloc, program, chains, workers, choices).and_then(|run| Ok(run_text(alloc, &run)?)),
+        drive_over(alloc, program, chains, workers, choices).and_then(|run| Ok(run_text(
+            alloc, &run,
+        )?)),
     )
 }
 
@@ -311,7 +313,9 @@ fn tell_quiet(rt: HostRuntime, program: &Program, workers: u32, choices: &[u16])
     tell_both(
         rt,
         drive_quiet(alloc, program, workers, choices).and_then(|run| Ok(end_text(alloc, &run)?)),
-        drive_quiet_over(alloc, program, chains, workers, choices).and_then(|run| Ok(end_text(alloc, &run)?)),
+        drive_quiet_over(alloc, program, chains, workers, choices).and_then(|run| Ok(end_text(
+            alloc, &run,
+        )?)),
     )
 }
 

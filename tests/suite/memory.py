@@ -68,17 +68,25 @@ def build(library):
 
 def fault_of_refusals(program, library, words, source, expected):
     """Goes on to the number of the first request that the program doesn't make."""
-    told = 0
+    in_threads = words[0] in ("run", "time")
+    told = []
     for request in range(1, MOST_REQUESTS):
         answer, was_made = run_with_refusal(program, library, words, source, request)
         if not was_made:
-            fault = fault_of(expected, answer) or (None if told else "no request was told as refused")
-            return fault and f"with no request refused: {fault}"
-        if answer == MEMORY or answer == NO_THREAD and words[0] in ("run", "time"):
-            told += 1
+            fault = fault_of(expected, answer)
+            return f"with no request refused: {fault}" if fault else fault_of_told(told, in_threads and expected.status == 0)
+        if answer == MEMORY or answer == NO_THREAD and in_threads:
+            told.append(answer)
         elif fault_of(expected, answer) is not None:
             return f"with request {request} refused: {fault_of(MEMORY, answer)}"
     return f"it makes more than {MOST_REQUESTS} requests"
+
+
+def fault_of_told(told, has_run):
+    """What was never told: that a request was refused, or, where threads ran a program, that one of them was not started."""
+    if not told:
+        return "no request was told as refused"
+    return "no thread was told as not started" if has_run and NO_THREAD not in told else None
 
 
 def run_with_refusal(program, library, words, source, request):

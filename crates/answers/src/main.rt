@@ -6,19 +6,23 @@
 //! that edit, or why it is refused; and of that of a `sweep` the sweep. The first line of a `drive WORKERS` is a list of
 //! choices of so many workers, a letter for each, `a` for worker 0, and the rest is the program that they drive: where the
 //! run stands then is written as its log, its steps, and the values of its cowns. Of a `quiet WORKERS`, which is made so too,
-//! it is written who can step then, and the steps and values of the run once it went on until it is quiet.
+//! it is written who can step then, and the steps and values of the run once it went on until it is quiet. Each drive is
+//! made over linked chains and over plain ones, and what the plain ones give is written too, should it be something else.
 #![tactic(auto)]
 
 ghost use Rattle.std.specs.Prelude.{◌<◌, length, IfOk, IfSome};
 ghost use Rattle.boc_report.specs.Parts.{IsWhole};
 
-use boc_dispatch::{Dispatcher, DriveFault, drive, drive_quiet};
+use boc_chain::{Chains, ListChains};
+use boc_dispatch::{
+    Core, DriveFault, cown_count, drive, drive_over, drive_quiet, drive_quiet_over,
+};
 use boc_greedy::{Greedy, greedy};
 use boc_order::profile;
 use boc_reader::read_program;
 use boc_record::{RecordFault, WriteFault, put_events, read_record, write_record};
 use boc_report::{profile_text, sweep_text};
-use boc_text::Bytes;
+use boc_text::{Bytes, put_number, put_signed};
 use boc_types::limits::MOST_COWNS;
 use boc_types::program::Program;
 use boc_types::record::Record;
@@ -211,29 +215,39 @@ fn choices_of(alloc: Global, letters: &[u8]) -> Result<Vec<u16>, AllocError> {
     Ok(choices)
 }
 
-// Writes where a run stands: its log, its steps, and the values of its cowns.
-fn tell_run(rt: HostRuntime, run: &Dispatcher<'_>) -> io::Result<()> {
-    let mut lines = Vec::new(rt.alloc());
-    put_events(&mut lines, run.log())?;
-    rt.stdout().write_all(&lines)?;
-    tell_end(rt, run)
+// How a run stands: its log, its steps, and the values of its cowns.
+fn run_text<C: Chains + Drop>(alloc: Global, run: &Core<'_, C>) -> Result<Vec<u8>, AllocError> {
+    let mut text = Vec::new(alloc);
+    put_events(&mut text, run.log())?;
+    put_end(&mut text, run)?;
+    Ok(text)
 }
 
-// Writes the steps of a run, and the values of its cowns.
-fn tell_end(rt: HostRuntime, run: &Dispatcher<'_>) -> io::Result<()> {
-    let steps = run.steps();
-    if run.is_quiet() {
-        println!(rt; "steps {steps}, quiet")?;
+// How a run stands without its log.
+fn end_text<C: Chains + Drop>(alloc: Global, run: &Core<'_, C>) -> Result<Vec<u8>, AllocError> {
+    let mut text = Vec::new(alloc);
+    put_end(&mut text, run)?;
+    Ok(text)
+}
+
+// Adds the steps of a run, and the values of its cowns.
+fn put_end<C: Chains + Drop>(text: &mut Vec<u8>, run: &Core<'_, C>) -> Result<(), AllocError> {
+    text.extend_from_slice(b"steps ")?;
+    put_number(text, run.steps())?;
+    if !run.is_quiet() {
+        text.extend_from_slice(b", not")?;
     } else {
-        println!(rt; "steps {steps}, not quiet")?;
+        text.push(b',')?;
     }
-    print!(rt; "values")?;
+    text.extend_from_slice(b" quiet\nvalues")?;
     for cown in 0..MOST_COWNS as u32 {
         if let Some(value) = run.value(cown) {
-            print!(rt; " {value}")?;
+            text.push(b' ')?;
+            put_signed(text, value)?;
         }
     }
-    println!(rt; "")
+    text.push(b'\n')?;
+    Ok(())
 }
 
 // Writes why a drive ended before its last choice.
@@ -245,12 +259,38 @@ fn tell_drive_fault(rt: HostRuntime, fault: DriveFault) -> io::Result<()> {
     }
 }
 
-// Writes where a program's run stands after these choices, or why there is no such run.
-fn tell_drive(rt: HostRuntime, program: &Program, workers: u32, choices: &[u16]) -> io::Result<()> {
-    match drive(rt.alloc(), program, workers, choices) {
-        Ok(run) => tell_run(rt, &run),
+// Writes what became of a drive over the program's chains; and also of that over plain chains, where it is another.
+fn tell_both(
+    rt: HostRuntime,
+    linked: Result<Vec<u8>, DriveFault>,
+    plain: Result<Vec<u8>, DriveFault>,
+) -> io::Result<()> {
+    let are_the_same = linked == plain;
+    tell_one(rt, linked)?;
+    if are_the_same {
+        return Ok(());
+    }
+    println!(rt; "but over plain chains:")?;
+    tell_one(rt, plain)
+}
+
+// Writes what became of a drive.
+fn tell_one(rt: HostRuntime, told: Result<Vec<u8>, DriveFault>) -> io::Result<()> {
+    match told {
+        Ok(text) => rt.stdout().write_all(&text),
         Err(fault) => tell_drive_fault(rt, fault),
     }
+}
+
+// Writes where a program's run stands after these choices, or why there is no such run.
+fn tell_drive(rt: HostRuntime, program: &Program, workers: u32, choices: &[u16]) -> io::Result<()> {
+    let alloc = rt.alloc();
+    let chains = ListChains::new(alloc, cown_count(program))?;
+    tell_both(
+        rt,
+        drive(alloc, program, workers, choices).and_then(|run| Ok(run_text(alloc, &run)?)),
+        drive_over(alloc, program, chains, workers, choices).and_then(|run| Ok(run_text(alloc, &run)?)),
+    )
 }
 
 // Writes who can step after these choices.
@@ -266,10 +306,13 @@ fn tell_mover(rt: HostRuntime, program: &Program, workers: u32, choices: &[u16])
 
 // Writes where the run stands once it went on from these choices until it is quiet.
 fn tell_quiet(rt: HostRuntime, program: &Program, workers: u32, choices: &[u16]) -> io::Result<()> {
-    match drive_quiet(rt.alloc(), program, workers, choices) {
-        Ok(run) => tell_end(rt, &run),
-        Err(fault) => tell_drive_fault(rt, fault),
-    }
+    let alloc = rt.alloc();
+    let chains = ListChains::new(alloc, cown_count(program))?;
+    tell_both(
+        rt,
+        drive_quiet(alloc, program, workers, choices).and_then(|run| Ok(end_text(alloc, &run)?)),
+        drive_quiet_over(alloc, program, chains, workers, choices).and_then(|run| Ok(end_text(alloc, &run)?)),
+    )
 }
 
 // Writes what becomes of a program with the choices in front of it, as one kind of drive asks.

@@ -1,7 +1,7 @@
 //! The program `boc`: commands over programs of behaviours, from standard input to standard output.
 #![tactic(auto)]
 
-use boc_commands::{Fault, not_text, read_words, run_command};
+use boc_commands::{Fault, WordsFault, not_text, read_words, run_command};
 use boc_text::Counted;
 use boc_workers::OpenGate;
 use std::process::ExitCode;
@@ -41,7 +41,7 @@ fn words_given(rt: HostRuntime) -> Result<Vec<String>, Fault> {
     let args = match env::args(&rt) {
         Ok(args) => args,
         Err(error) if error.kind() == io::ErrorKind::OutOfMemory => return Err(Fault::Memory),
-        Err(_) => return Err(not_text(rt.alloc())),
+        Err(_) => return Err(Fault::from(not_text(rt.alloc()))),
     };
     let mut words = Vec::new(rt.alloc());
     for word in args {
@@ -54,7 +54,7 @@ fn words_given(rt: HostRuntime) -> Result<Vec<String>, Fault> {
 fn tell(rt: HostRuntime, fault: &Fault) {
     let _ = match fault {
         // The parser's text ends its own lines.
-        Fault::Words(error) => eprint!(rt; "{error}"),
+        Fault::Words(WordsFault::Parser(error)) => eprint!(rt; "{error}"),
         _ => eprintln!(rt; "{fault}"),
     };
 }

@@ -281,7 +281,7 @@ no_links v c e = ap (λ (ls : List Link). option_and_then (λ i. slice_get ls i)
 
 pub admit_call : (last : List (Option Node)) (held mid held' : Slab Linked) (peak n key peak' : ℕ) (v : Linked) → IsLinked last held peak → mid ≡ record held { capacity = n }
     → get mid key ≡ None → Updates mid held' key (Some v) → v.links.items ≡ [] → ((c : ℕ) → times c v.cowns.items ≤ 1) → ((c : ℕ) → 0 < times c v.cowns.items → c < length (lists_of last held))
-    → ((i : ℕ) → i < length v.cowns.items → (key < 2 ^ 32) × (i < 2 ^ 32))
+    → ((i : ℕ) → i < length v.cowns.items → (key < 2 ^ 16) × (i < 2 ^ 8))
     → slab_len held' ≤ peak' → IsLinked last held' peak' × (lists_of last held' ≡ lists_of last held)
 admit_call last held mid held' peak n key peak' v h e vacant updates none distinct range short few =
     let g = grown last held mid peak n h e in
@@ -311,7 +311,7 @@ admit_call last held mid held' peak n key peak' v h e vacant updates none distin
     (λ s i b. elim (same_or_not s key) [
       | inl f ↦
           let own = short i (subst (λ o. i < length (cowns_of (place_in o))) (at s f) b) in
-          (subst (λ (z : ℕ). z < 2 ^ 32) (sym f) own.0, own.1)
+          (subst (λ (z : ℕ). z < 2 ^ 16) (sym f) own.0, own.1)
       | inr f ↦ g.0.short s i (subst (λ o. i < length (cowns_of (place_in o))) (updates.others s f) b)
     ])
     few in

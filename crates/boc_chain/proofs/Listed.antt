@@ -97,7 +97,7 @@ pub none_changed : (last : List (Option Node)) (held held' : Slab Linked) (peak 
     → ((n : Node) (c : ℕ) → c < length last → 0 < times n.slot (slots (line last held c)) → IsAt held n c → IsAt held' n c)
     → ((s x : ℕ) → times x (cowns_of (place_at held' s)) ≤ 1)
     → ((s i : ℕ) → i < length (cowns_of (place_at held' s)) → cown (place_at held' s) i < length last)
-    → ((s i : ℕ) → i < length (cowns_of (place_at held' s)) → (s < 2 ^ 32) × (i < 2 ^ 32))
+    → ((s i : ℕ) → i < length (cowns_of (place_at held' s)) → (s < 2 ^ 16) × (i < 2 ^ 8))
     → slab_len held' ≤ peak'
     → IsLinked last held' peak' × (lists_of last held' ≡ lists_of last held)
 unfolding lists_of

@@ -127,6 +127,6 @@ pub record IsLinked (last : List (Option Node)) (slots : Slab Linked) (peak : �
   pub ended : (c : ℕ) (n : Node) → c < length last → last_at last c ≡ Some n → IsAt slots n c
   pub distinct : (s c : ℕ) → times c (cowns_of (place_at slots s)) ≤ 1
   pub in_range : (s i : ℕ) → i < length (cowns_of (place_at slots s)) → cown (place_at slots s) i < length last
-  -- slots and places have 32 bits
-  pub short : (s i : ℕ) → i < length (cowns_of (place_at slots s)) → (s < 2 ^ 32) × (i < 2 ^ 32)
+  -- slots have 16 bits, and places 8
+  pub short : (s i : ℕ) → i < length (cowns_of (place_at slots s)) → (s < 2 ^ 16) × (i < 2 ^ 8)
   pub held : slab_len slots ≤ peak

@@ -120,8 +120,8 @@ impl Chains for LinkChains {
     {
         let count = cowns.len();
         prove!(count <= MOST_HELD);
-        // Nodes name slots in 32 bits. Before these run out, memory has.
-        if self.slots.vacant_key() > u32::MAX as usize {
+        // Nodes name slots in 16 bits, which is enough for as many behaviours as a run may have.
+        if self.slots.vacant_key() > u16::MAX as usize {
             return Err(AllocError);
         }
         self.slots.reserve(1)?;
@@ -156,8 +156,8 @@ impl Chains for LinkChains {
             },
         );
         self.last[c as usize] = Some(Node {
-            slot: slot.index as u32,
-            place: i as u32,
+            slot: slot.index as u16,
+            place: i as u8,
         });
         slot_in(before)
     }
@@ -174,8 +174,8 @@ impl Chains for LinkChains {
         settle_at(
             &mut self.slots,
             Node {
-                slot: slot.index as u32,
-                place: i as u32,
+                slot: slot.index as u16,
+                place: i as u8,
             },
         )
     }
@@ -189,8 +189,8 @@ impl Chains for LinkChains {
         ensures as_many { HoldsAsMany self.old self.new }
     {
         let node = Node {
-            slot: slot.index as u32,
-            place: i as u32,
+            slot: slot.index as u16,
+            place: i as u8,
         };
         let link = link_at(&self.slots, node);
         set_link(
@@ -215,8 +215,8 @@ impl Chains for LinkChains {
         match pass_at(
             &mut self.slots,
             Node {
-                slot: slot.index as u32,
-                place: i as u32,
+                slot: slot.index as u16,
+                place: i as u8,
             },
         ) {
             Some(index) => Released::Passed(Slot { index }),
@@ -235,8 +235,8 @@ impl Chains for LinkChains {
         can_settle_at(
             &self.slots,
             Node {
-                slot: slot.index as u32,
-                place: i as u32,
+                slot: slot.index as u16,
+                place: i as u8,
             },
         )
     }
@@ -246,8 +246,8 @@ impl Chains for LinkChains {
         next_at(
             &self.slots,
             Node {
-                slot: slot.index as u32,
-                place: i as u32,
+                slot: slot.index as u16,
+                place: i as u8,
             },
         )
         .is_some()

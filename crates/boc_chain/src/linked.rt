@@ -19,8 +19,8 @@ use slab::Slab;
 /// each request.
 #[derive(Clone, Copy, Debug, Default, PartialEq, Eq)]
 pub struct Node {
-    pub slot: u32,
-    pub place: u32,
+    pub slot: u16,
+    pub place: u8,
 }
 
 /// How one request is kept: the one before it in its list, until that leaves, and the one after it, once that

@@ -1,18 +1,23 @@
 -- What `whatif` and `sweep` answer.
-use Rattle.std.proofs.Common.{◌≡◌, ℕ, List, ◌++◌, Option, Result, Ok, Err, sym, ap, ◌∙◌, subst}
+use Rattle.std.proofs.Common.{◌≡◌, ℕ, ◌+◌, ◌≤◌, List, ◌++◌, length, Option, Result, Ok, Err, sym, ap, ◌∙◌, subst, arith}
 use Rattle.std.specs.Result.{IsErrAnd}
 use Rattle.std.proofs.lemmas.List.{append-nil}
-use Rattle.boc_text.specs.Streams.{StopsAt}
+use Rattle.boc_text.specs.Streams.{ReadsWhole, StopsAt}
+use Rattle.boc_types.specs.declared.limits.TheConstants.{MOST_TEXT}
 use Rattle.boc_commands.specs.declared.fault.Fault.{Fault}
 use Rattle.boc_commands.specs.declared.fault.Fault.TheVariants as faults
+use Rattle.boc_commands.specs.Faults.{of_write}
+use Rattle.boc_record.specs.Writing.{Writes}
+use Rattle.boc_record.specs.declared.fault.WriteFault.{WriteFault}
+use Rattle.boc_record.specs.declared.fault.WriteFault.TheVariants as writes
 use Rattle.std.specs.Prelude.{IfSome, Some, None}
 use Rattle.std.specs.Io.KnownBytes.{Consumes, IsAtEnd}
-use Rattle.boc_commands.specs.Commands.{Leaves, IsOfEdits, RefusesEdits}
+use Rattle.boc_commands.specs.Commands.{AnswersInput, Leaves, IsOfEdits, RefusesEdits}
 use Rattle.boc_types.specs.declared.rows.Row.{Row}
 use Rattle.boc_types.specs.declared.edit.Edit.{Edit}
-use Rattle.boc_types.specs.answers.Answers.{IsReport, IsProfileAnswer, IsWhatIfAnswer, IsSweepAnswer}
+use Rattle.boc_types.specs.answers.Answers.{IsCheckAnswer, IsReport, IsProfileAnswer, IsWhatIfAnswer, IsSweepAnswer}
 use Rattle.boc_types.specs.plans.Edits.{AllFit, IsFirstUnfit, IsSweep, all_edited}
-use Rattle.boc_types.specs.answers.Texts.{sweep_lines}
+use Rattle.boc_types.specs.answers.Texts.{check_text, sweep_lines}
 use Rattle.boc_types.specs.runs.Records.{Recorded}
 use Rattle.boc_types.specs.text.RecordTexts.{IsTextOf}
 
@@ -45,6 +50,21 @@ pub stopped : (IsText : List ℕ → Type 0) (r : Result (Unit {0}) Fault) (gone
 stopped IsText (Ok done) gone text old new h is stops = absurd h
 stopped IsText (Err f) gone text old new h is stops = subst (λ x. Leaves {A = Unit {0}} IsText (Err x) old new) (sym h) (text, is, stops)
 
+-- an answer to a text that was taken whole, as what went out
+pub answers_text : (IsAnswer : List ℕ → List ℕ → Type 0) (before after : Option (List ℕ)) (text seen made output : List ℕ) → ReadsWhole before after text (MOST_TEXT + 1)
+    → seen ≡ text → output ≡ made → IsAnswer seen made → length seen ≤ MOST_TEXT → AnswersInput IsAnswer before after output
+answers_text IsAnswer before after text seen made output read same is answer few = record {
+  input = text;
+  taken = read.taken;
+  whole = read.whole (omega (arith, ap length same));
+  answers = subst (λ t. IsAnswer t output) same (subst (IsAnswer seen) (sym is) answer);
+}
+
+-- the answer of a check, from the rows that were read
+pub counted : (text : List ℕ) (r : Recorded) (rows : List Row) (made output : List ℕ) → IsTextOf text r → rows ≡ r.rows → made ≡ check_text (length rows) → output ≡ made
+    → IsCheckAnswer text output
+counted text r rows made output spells same is out = record { recorded = r; spells = spells; text = out ∙ is ∙ ap (λ xs. check_text (length xs)) same }
+
 -- what holds of a text that was taken to the end holds of the bytes that the source told, if it told any
 pub told : (P : List ℕ → Type 0) (before after : Option (List ℕ)) (text : List ℕ) → Consumes before after text → IsAtEnd after → P text → IfSome before P
 told P None after text taken over h = tt
@@ -56,7 +76,6 @@ pub refused_edits : (fault : Fault) (edits : List Edit) (rows : List Row) (r : R
     → IfSome before (λ text. IsTextOf text r) → RefusesEdits {A = Unit {0}} edits (Err fault) before
 refused_edits (faults.Edit number unfit) edits rows r before h same spells = record { recorded = r; spells = spells; unfit = subst (λ xs. IsFirstUnfit xs edits number unfit) same h }
 refused_edits (faults.Words e) edits rows r before h same spells = absurd h
-refused_edits (faults.EditWord number) edits rows r before h same spells = absurd h
 refused_edits (faults.Program x) edits rows r before h same spells = absurd h
 refused_edits (faults.Record x) edits rows r before h same spells = absurd h
 refused_edits faults.Behaviours edits rows r before h same spells = absurd h
@@ -82,3 +101,10 @@ pub refuses_as : (result : Result (Unit {0}) Fault) (fault : Fault) (edits : Lis
     → RefusesEdits edits result before
 refuses_as (Ok done) fault edits before h refused = absurd h
 refuses_as (Err f) fault edits before h refused = subst (λ x. RefusesEdits {A = Unit {0}} edits (Err x) before) (sym h) refused
+
+-- a record that could not be written leaves a beginning of it, or nothing
+pub unwritten : (IsText : List ℕ → Type 0) (r : Result (Unit {0}) Fault) (fault : WriteFault) (text : List ℕ) (old new : Option (List ℕ))
+    → IsErrAnd r (λ f. f ≡ of_write fault) → IsText text → Writes {A = Unit {0}} text (Err fault) old new → Leaves IsText r old new
+unwritten IsText (Ok done) fault text old new h is writes = absurd h
+unwritten IsText (Err f) writes.Memory text old new h is kept = subst (λ x. Leaves {A = Unit {0}} IsText (Err x) old new) (sym h) kept
+unwritten IsText (Err f) (writes.Device gone) text old new h is stops = subst (λ x. Leaves {A = Unit {0}} IsText (Err x) old new) (sym h) (text, is, stops)

@@ -1,14 +1,4 @@
 pub mod Unfit
 pub mod Asked
-pub mod EditWord
-pub mod CommandLines
-pub mod Told
-pub mod Parsed
-pub mod Given
-pub mod Walks
-pub mod Stops
-pub mod Numbers
-pub mod Named
-pub mod Refused
 pub mod Promised
 pub mod Passed

@@ -32,6 +32,5 @@ refused_run always_on (Err f) fault text before after h reads is =
     go faults.Source is = tt
     go (faults.Sink gone) is = tt
     go (faults.Words e) is = absurd is
-    go (faults.EditWord number) is = absurd is
     go (faults.Record r) is = absurd is
     go (faults.Edit number unfit) is = absurd is

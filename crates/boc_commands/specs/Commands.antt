@@ -3,8 +3,8 @@ use Rattle.std.specs.Prelude.{◌≡◌, ℕ, ◌+◌, Bool, true, false, List, 
 use Rattle.std.specs.Io.KnownBytes.{Consumes, IsAtEnd, Appends, Keeps}
 use Rattle.boc_commands.specs.declared.fault.Fault.{Fault}
 use Rattle.boc_commands.specs.declared.fault.Fault.TheVariants as faults
-use Rattle.boc_commands.specs.declared.words.Command.{Command}
-use Rattle.boc_commands.specs.declared.words.Command.TheVariants as commands
+use Rattle.boc_words.specs.declared.words.Command.{Command}
+use Rattle.boc_words.specs.declared.words.Command.TheVariants as commands
 use Rattle.boc_commands.specs.Faults.{matter_of, IsWant, is_source, gone_of}
 use Rattle.boc_reader.specs.FaultMeanings.{SaysOf}
 use Rattle.boc_reader.specs.declared.fault.ReadFaultKind.{ReadFaultKind}

@@ -11,6 +11,8 @@ use Rattle.boc_eval.specs.declared.serial.SerialFault.TheVariants as serial
 use Rattle.boc_record.specs.declared.fault.RecordFault.{RecordFault}
 use Rattle.boc_record.specs.declared.fault.WriteFault.{WriteFault}
 use Rattle.boc_record.specs.declared.fault.WriteFault.TheVariants as writes
+use Rattle.boc_words.specs.declared.fault.WordsFault.{WordsFault}
+use Rattle.boc_words.specs.declared.fault.WordsFault.TheVariants as asked
 use Rattle.boc_workers.specs.declared.fault.RunFault.{RunFault}
 use Rattle.boc_workers.specs.declared.fault.RunFault.TheVariants as runs
 use Rattle.boc_types.specs.declared.verdict.RecordFaultKind.{RecordFaultKind}
@@ -28,8 +30,7 @@ pub data Matter : Type 0 where
 
 -- what a fault is about
 abbrev pub matter_of : Fault → Matter
-matter_of (faults.Words e) = words
-matter_of (faults.EditWord number) = words
+matter_of (faults.Words w) = words
 matter_of (faults.Program r) = input
 matter_of (faults.Record r) = input
 matter_of (faults.Edit number fault) = input
@@ -67,6 +68,11 @@ is_source _ = false
 abbrev pub gone_of : Fault → Option ℕ
 gone_of (faults.Sink gone) = Some gone
 gone_of _ = None
+
+-- want of memory is no refusal of the words
+abbrev pub of_words : WordsFault → Fault
+of_words asked.Memory = faults.Memory
+of_words w = faults.Words w
 
 -- the fault of an input that could not be taken in
 abbrev pub of_text : TextFault → Fault

@@ -9,6 +9,7 @@ use boc_record::{RecordFault, WriteFault};
 use boc_text::{Stopped, TextFault};
 use boc_types::edit::EditFault;
 use boc_types::verdict::RecordFaultKind;
+use boc_words::WordsFault;
 use boc_workers::RunFault;
 use std::alloc::{AllocError, AllocFailed, Global};
 use thiserror::Error;
@@ -16,12 +17,9 @@ use thiserror::Error;
 /// Why a command was refused or failed. Its text is the line for standard error.
 #[derive(Debug, Drop, Error)]
 pub enum Fault {
-    /// The words of the command line, with the parser's own text.
+    /// The words of the command line.
     #[error("{0}")]
-    Words(clap::Error),
-    /// A word that should be an edit, `ROW=TICKS`, and is none; edits are counted from 1.
-    #[error("boc: edit {number}: not ROW=TICKS")]
-    EditWord { number: usize },
+    Words(WordsFault),
     /// The program text.
     #[error("boc: {0}")]
     Program(ReadFault),
@@ -67,7 +65,7 @@ impl Fault {
         ensures { result ≡ status_of self.now }
     {
         match self {
-            Fault::Words(_) | Fault::EditWord { .. } => 2,
+            Fault::Words(_) => 2,
             Fault::Program(_) | Fault::Record(_) | Fault::Edit { .. } => 3,
             Fault::Behaviours
             | Fault::Held
@@ -102,6 +100,20 @@ fn edit_fault_text(fault: EditFault) -> &'static str
         EditFault::NoRow => "1 NoRow",
         EditFault::BelowSpawn => "2 BelowSpawn",
         EditFault::TooManyTicks => "3 TooManyTicks",
+    }
+}
+
+impl From<WordsFault> for Fault {
+    ghost use Rattle.std.specs.Prelude.{◌≡◌};
+    ghost use Rattle.boc_commands.specs.Faults.{of_words};
+
+    ghost from_gives = { λ w f. f ≡ of_words w };
+
+    fn from(fault: WordsFault) -> Fault {
+        match fault {
+            WordsFault::Memory => Fault::Memory,
+            other => Fault::Words(other),
+        }
     }
 }
 

@@ -6,11 +6,11 @@ ghost use Rattle.boc_commands.specs.Commands.{AnswersInput, Leaves, CountsSource
 ghost use Rattle.boc_commands.specs.Promises.{IsRunAnswer, IsRunOfText};
 
 use crate::fault::Fault;
-use crate::runners::Runners;
 use crate::values::MOST_TAKEN;
 use boc_reader::read_program;
 use boc_record::write_record;
 use boc_text::{Sink, Source, read_all};
+use boc_words::Runners;
 use boc_workers::{Gate, RunAnswer, run};
 use std::alloc::Global;
 use std::sync::Wait;

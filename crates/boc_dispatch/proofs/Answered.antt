@@ -76,7 +76,7 @@ next_is u f row w may last =
 pub new_is : (d : Parts) (f : Framed) (row : ℕ) (wish : SpawnWish) (l : Live) → MayAsk (underway d) f row → Some (wish_of wish) ≡ last_wish_of f
     → behaviour_of l ≡ record { kind = wish.kind; args = wish.args.items; cowns = wish.cowns.items }
     → open_of l ≡ record { parent = row; offset = wish.offset; cowns = rising wish.cowns.items; stage = Asking 0 false }
-    → l.number ≡ d.opened → l.awaited ≡ length l.cowns.items + 1 → (l.inputs.items ≡ []) × (l.spawned ≡ 0) × (l.child ≡ None) → IsNew d row l
+    → l.number ≡ d.opened → l.awaited ≡ length l.cowns.items + 1 → (l.spawned ≡ 0) × (l.child ≡ None) → IsNew d row l
 new_is d f row wish l may last same_behaviour same_state number awaited fresh =
     let parent : l.parent ≡ row = ap (λ (b : OpenBehaviour). b.parent) same_state in
     let params : l.params.items ≡ wish.cowns.items = ap (λ (b : Behaviour). b.cowns) same_behaviour in
@@ -89,13 +89,13 @@ new_is d f row wish l may last same_behaviour same_state number awaited fresh =
         kind_is = sym (ap (λ (b : Behaviour). b.kind) same_behaviour);
         args_are = sym (ap (λ (b : Behaviour). b.args) same_behaviour);
         cowns_are = sym params;
-        new = (fresh.1, fresh.0);
+        new = fresh.0;
       };
       offset_is = ap (λ (b : OpenBehaviour). b.offset) same_state;
       rising_is = ap (λ (b : OpenBehaviour). b.cowns) same_state ∙ ap rising (sym params);
       stage_is = ap (λ (b : OpenBehaviour). b.stage) same_state;
       awaited_is = awaited;
-      childless = fresh.2;
+      childless = fresh.1;
     }
 
 module _ (d : Parts) (k : IsKept d) where

@@ -287,7 +287,7 @@ module _ (d : Parts) (k : IsKept d) (row slot : ℕ) (p : Live) (it : IsAtStage 
           | inl u ↦
               let h = k.of_run.recorded slot q p it.is (ap (λ z. row_at z.stage) (sym u.1) ∙ e) in
               subst (λ (z : Live). IsMember (members d.program s) z q) (sym u.1)
-              (record { member = h.member; is = h.is; behaviour_is = h.behaviour_is; inputs_are = h.inputs_are; spawned_is = h.spawned_is })
+              (record { member = h.member; is = h.is; behaviour_is = h.behaviour_is; spawned_is = h.spawned_is })
           | inr u ↦ k.of_run.recorded r q x u.1 e
         ]
       ];

@@ -80,7 +80,6 @@ of_run_then p rows row live k = record {
         member = n.0;
         is = n.1;
         behaviour_is = n.2 ∙ q.behaviour_is;
-        inputs_are = n.3 ∙ q.inputs_are;
         spawned_is = n.4 ∙ q.spawned_is;
       };
   asking = λ s l is e.

@@ -158,7 +158,7 @@ module _ (d : Parts) (k : IsKept d) (slot : ℕ) (l : Live) (is : live_at d.live
       | inl u ↦
           let h = k.of_run.recorded slot row l is (sym same_row ∙ ap (λ z. row_at z.stage) (sym u.1) ∙ b) in
           subst (λ (z : Live). IsMember (members d.program (state d)) z row) (sym u.1)
-          (record { member = h.member; is = h.is; behaviour_is = h.behaviour_is; inputs_are = h.inputs_are; spawned_is = h.spawned_is })
+          (record { member = h.member; is = h.is; behaviour_is = h.behaviour_is; spawned_is = h.spawned_is })
       | inr u ↦ k.of_run.recorded s row x u.1 b
     ];
     asking = λ s x a b. elim (new_on s x a) [

@@ -202,7 +202,7 @@ module _ (d : Parts) (slot : ℕ) (l : Live) (k : Tied d) (is : live_at d.live s
   still : eqb l.awaited 1 ≡ false → woken (state d) l.number ≡ state d → Grants d l.number (granted_by false l slot d)
   still more same =
       let m : Live = record l { awaited = l.awaited - 1 } in
-      let on : Steady l m = record { on = record { number = refl; parent = refl; behaviour = refl; inputs = refl; spawned = refl; cowns = refl; row = refl; asks = refl; settles = refl; flags = refl; exchanges = refl }; child = refl; enqueues = refl } in
+      let on : Steady l m = record { on = record { number = refl; parent = refl; behaviour = refl; spawned = refl; cowns = refl; row = refl; asks = refl; settles = refl; flags = refl; exchanges = refl }; child = refl; enqueues = refl } in
       let e = put_live d slot m in
       let gives : state e ≡ state d = state_same d slot l m k.numbered is on.on refl in
       record {
@@ -230,7 +230,6 @@ module _ (d : Parts) (slot : ℕ) (l : Live) (k : Tied d) (is : live_at d.live s
           number = refl;
           parent = refl;
           behaviour = refl;
-          inputs = refl;
           spawned = refl;
           cowns = refl;
           row = ap row_at stage_is ∙ sym (ap row_at stage);

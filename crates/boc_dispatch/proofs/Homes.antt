@@ -5,11 +5,12 @@ use Rattle.std.specs.Option.{option_eq}
 use Rattle.std.proofs.lemmas.Bool.Decides.{Decides-eqb}
 use Rattle.boc_types.specs.declared.body.Body.{Body}
 use Rattle.boc_types.specs.declared.short.Input.{Input}
-use Rattle.boc_types.specs.runs.Serial.{Behaviour}
+use Rattle.boc_types.specs.runs.Serial.{Behaviour, inputs_of}
 use Rattle.boc_types.specs.machine.Turns.{IsEnqueueOf}
 use Rattle.boc_types.specs.program.Programs.{cown_count}
 use Rattle.boc_types.specs.program.Signatures.{signature_of, AllBelow, CountsAre}
 use Rattle.boc_dispatch.proofs.Members.{MemberFits, all_fit, values_length}
+use Rattle.boc_dispatch.proofs.Present.{inputs_present}
 use Rattle.boc_types.proofs.ChangedItems.{item_at, place_below}
 use Rattle.boc_eval.specs.Frames.{UnderWay as Framed, last_of, last_wish_of, wishes_of}
 use Rattle.boc_dispatch.specs.Calls.{IsHandedOut, IsNextWish, IsLeaving}
@@ -30,7 +31,6 @@ pub record IsRowAt (d : Parts) (l : Live) (row : ℕ) : Type 0 where
   pub is : slice_get (members d.program (state d)) row ≡ Some member
   pub life_is : member.life ≡ life_at l.stage
   pub behaviour_is : member.behaviour ≡ behaviour_of l
-  pub inputs_are : member.inputs ≡ l.inputs.items
   pub spawned_is : member.spawned ≡ l.spawned
 
 -- the behaviour at a slot has this number
@@ -75,7 +75,6 @@ module _ (d : Parts) (k : IsKept d) where
         is = mem.is;
         life_is = ap (λ (m : Member). m.life) same ∙ has.life_is ∙ ap life open_is;
         behaviour_is = mem.behaviour_is;
-        inputs_are = mem.inputs_are;
         spawned_is = mem.spawned_is;
       }
 
@@ -155,8 +154,16 @@ module _ (d : Parts) (k : IsKept d) where
 
   -- ---- who was handed out runs
 
+  -- the inputs of a running row are the values that its cowns have now
+  present : (slot row : ℕ) (x : IsOfRow d slot row) → x.this.stage ≡ Recorded row phases.Running
+      → (row_at_slot slot row x.this x.is x.row_is).member.inputs ≡ inputs_of x.this.params.items d.values
+  present slot row x runs =
+      let r = row_at_slot slot row x.this x.is x.row_is in
+      inputs_present d.program d.rules.events k.sound.run row r.member r.is (r.life_is ∙ ap life_at runs)
+      ∙ (λ i. inputs_of ((r.behaviour_is i).cowns) (sym k.values_are i))
+
   pub hands_out : (slot row : ℕ) (x : IsOfRow d slot row) (body : Body) (args : List ℤ) (inputs : List Input) → x.this.stage ≡ Recorded row phases.Running
-      → slice_get d.program.bodies x.this.kind ≡ Some body → args ≡ x.this.args.items → inputs ≡ x.this.inputs.items → IsHandedOut (underway d) row body args inputs
+      → slice_get d.program.bodies x.this.kind ≡ Some body → args ≡ x.this.args.items → inputs ≡ inputs_of x.this.params.items d.values → IsHandedOut (underway d) row body args inputs
   hands_out slot row x body args inputs runs body_is args_are inputs_are =
       let r = row_at_slot slot row x.this x.is x.row_is in
       record {
@@ -165,7 +172,7 @@ module _ (d : Parts) (k : IsKept d) where
         runs = r.life_is ∙ ap life_at runs;
         body_is = ap (λ (b : Behaviour). slice_get d.program.bodies b.kind) r.behaviour_is ∙ body_is;
         args_are = args_are ∙ sym (ap (λ (b : Behaviour). b.args) r.behaviour_is);
-        inputs_are = inputs_are ∙ sym r.inputs_are;
+        inputs_are = inputs_are ∙ sym (present slot row x runs);
       }
 
   pub handed_slot : (row : ℕ) (body : Body) (args : List ℤ) (inputs : List Input) → IsHandedOut (underway d) row body args inputs → (slot : ℕ) × IsOfRow d slot row
@@ -173,15 +180,16 @@ module _ (d : Parts) (k : IsKept d) where
       slot_of_member row h.member h.is (λ ended. absurd (let e : Running ≡ Ended = sym h.runs ∙ ended in cc))
 
   pub handed_means : (slot row : ℕ) (x : IsOfRow d slot row) (body : Body) (args : List ℤ) (inputs : List Input) → IsHandedOut (underway d) row body args inputs
-      → (x.this.stage ≡ Recorded row phases.Running) × (slice_get d.program.bodies x.this.kind ≡ Some body) × (args ≡ x.this.args.items) × (inputs ≡ x.this.inputs.items)
+      → (x.this.stage ≡ Recorded row phases.Running) × (slice_get d.program.bodies x.this.kind ≡ Some body) × (args ≡ x.this.args.items) × (inputs ≡ inputs_of x.this.params.items d.values)
   handed_means slot row x body args inputs h =
       let r = row_at_slot slot row x.this x.is x.row_is in
       let same : h.member ≡ r.member = (let e : Some h.member ≡ Some r.member = sym h.is ∙ r.is in cc) in
-      let behaviour : h.member.behaviour ≡ behaviour_of x.this = ap (λ (m : Member). m.behaviour) same ∙ r.behaviour_is in (
-        running_stage row x.this.stage x.row_is (sym r.life_is ∙ ap (λ (m : Member). m.life) (sym same) ∙ h.runs),
+      let behaviour : h.member.behaviour ≡ behaviour_of x.this = ap (λ (m : Member). m.behaviour) same ∙ r.behaviour_is in
+      let runs = running_stage row x.this.stage x.row_is (sym r.life_is ∙ ap (λ (m : Member). m.life) (sym same) ∙ h.runs) in (
+        runs,
         ap (λ (b : Behaviour). slice_get d.program.bodies b.kind) (sym behaviour) ∙ h.body_is,
         h.args_are ∙ ap (λ (b : Behaviour). b.args) behaviour,
-        h.inputs_are ∙ ap (λ (m : Member). m.inputs) same ∙ r.inputs_are,
+        h.inputs_are ∙ ap (λ (m : Member). m.inputs) same ∙ present slot row x runs,
       )
 
   -- ---- a behaviour with a row fits the program

@@ -4,6 +4,7 @@ pub mod Fits
 pub mod Standing
 pub mod Complete
 pub mod Members
+pub mod Present
 pub mod Homes
 pub mod Counts
 pub mod Onward

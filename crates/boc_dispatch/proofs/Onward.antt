@@ -18,7 +18,6 @@ pub record Onward (l m : Live) : Type 0 where
   pub number : m.number ≡ l.number
   pub parent : m.parent ≡ l.parent
   pub behaviour : behaviour_of m ≡ behaviour_of l
-  pub inputs : m.inputs.items ≡ l.inputs.items
   pub spawned : m.spawned ≡ l.spawned
   pub cowns : m.cowns.items ≡ l.cowns.items
   pub row : row_at m.stage ≡ row_at l.stage
@@ -34,7 +33,7 @@ pub record Steady (l m : Live) : Type 0 where
   pub enqueues : enqueues_at m.stage ≡ enqueues_at l.stage
 
 pub stays : (l : Live) → Onward l l
-stays l = record { number = refl; parent = refl; behaviour = refl; inputs = refl; spawned = refl; cowns = refl; row = refl; asks = refl; settles = refl; flags = refl; exchanges = refl }
+stays l = record { number = refl; parent = refl; behaviour = refl; spawned = refl; cowns = refl; row = refl; asks = refl; settles = refl; flags = refl; exchanges = refl }
 
 pub steady : (l : Live) → Steady l l
 steady l = record { on = stays l; child = refl; enqueues = refl }
@@ -73,7 +72,6 @@ follows_then live live' live'' f g = record {
       number = b.number ∙ a.number;
       parent = b.parent ∙ a.parent;
       behaviour = b.behaviour ∙ a.behaviour;
-      inputs = b.inputs ∙ a.inputs;
       spawned = b.spawned ∙ a.spawned;
       cowns = b.cowns ∙ a.cowns;
       row = b.row ∙ a.row;
@@ -150,7 +148,6 @@ module _ (live live' : List (Option Live)) (fs : Follows Onward live live') wher
           member = q.member;
           is = q.is;
           behaviour_is = q.behaviour_is ∙ sym x.2.behaviour;
-          inputs_are = q.inputs_are ∙ sym x.2.inputs;
           spawned_is = q.spawned_is ∙ sym x.2.spawned;
         };
     asking = λ s l a e.
@@ -162,7 +159,7 @@ module _ (live live' : List (Option Live)) (fs : Follows Onward live live') wher
           kind_is = q.kind_is ∙ sym (ap (λ b. b.kind) x.2.behaviour);
           args_are = q.args_are ∙ sym (ap (λ b. b.args) x.2.behaviour);
           cowns_are = q.cowns_are ∙ sym (ap (λ b. b.cowns) x.2.behaviour);
-          new = (x.2.spawned ∙ q.new.0, x.2.inputs ∙ q.new.1);
+          new = x.2.spawned ∙ q.new;
         };
   }
 

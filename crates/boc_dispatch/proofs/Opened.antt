@@ -27,7 +27,6 @@ pub record IsMain (l : Live) : Type 0 where
   pub behaviour : behaviour_of l ≡ record { kind = 0; args = []; cowns = [] }
   pub state : open_of l ≡ record { parent = 0; offset = 0; cowns = []; stage = Recorded 0 phases.Ready }
   pub number : l.number ≡ 0
-  pub inputs : l.inputs.items ≡ []
   pub spawned : l.spawned ≡ 0
   pub child : l.child ≡ None
 
@@ -121,7 +120,6 @@ module _ (p : Program) (place : ℕ → Option Place) (table : List (Option Live
         member = waiting main_behaviour;
         is = refl;
         behaviour_is = sym main.behaviour;
-        inputs_are = sym main.inputs;
         spawned_is = sym main.spawned;
       }))
 

@@ -100,14 +100,13 @@ module _ (d : Parts) (parent slot row : ℕ) (holder l : Live) (o : Owning d par
   still_there = live_other d.live parent (Some freed) slot apart ∙ o.is
 
   freed_on : Onward holder freed
-  freed_on = record { number = refl; parent = refl; behaviour = refl; inputs = refl; spawned = refl; cowns = refl; row = refl; asks = refl; settles = refl; flags = refl; exchanges = refl }
+  freed_on = record { number = refl; parent = refl; behaviour = refl; spawned = refl; cowns = refl; row = refl; asks = refl; settles = refl; flags = refl; exchanges = refl }
 
   waiting_on : Onward l waiting
   waiting_on = record {
     number = refl;
     parent = refl;
     behaviour = refl;
-    inputs = refl;
     spawned = refl;
     cowns = refl;
     row = sym (ap row_at o.stage_is);

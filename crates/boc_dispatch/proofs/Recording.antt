@@ -339,8 +339,7 @@ module _ (d : Parts) (k : Tied d) (some : 0 < length (members d.program (state d
             member = newest;
             is = ap (λ z. slice_get rows' z) same ∙ row_new;
             behaviour_is = λ i. record { kind = wished.kind_is i; args = wished.args_are i; cowns = wished.cowns_are i };
-            inputs_are = sym wished.new.1;
-            spawned_is = sym wished.new.0;
+            spawned_is = sym wished.new;
           })
       | inr v ↦ elim v [
         | inl u ↦
@@ -352,13 +351,12 @@ module _ (d : Parts) (k : Tied d) (some : 0 < length (members d.program (state d
               member = with_one_more h.member;
               is = ap (λ z. slice_get rows' z) same ∙ row_parent h.member (ap (λ z. slice_get rows z) (sym same) ∙ h.is);
               behaviour_is = h.behaviour_is;
-              inputs_are = h.inputs_are;
               spawned_is = ap (λ z. z + 1) h.spawned_is;
             })
         | inr u ↦
             let h = k.of_run.recorded s row x u.2 b in
             let other : row ≢ l.parent = (λ f. u.1 (home_of s x u.2 (b ∙ ap (λ (z : ℕ). Some z) f))) in
-            record { member = h.member; is = row_old row h.member other h.is; behaviour_is = h.behaviour_is; inputs_are = h.inputs_are; spawned_is = h.spawned_is }
+            record { member = h.member; is = row_old row h.member other h.is; behaviour_is = h.behaviour_is; spawned_is = h.spawned_is }
       ]
     ];
     asking = λ s x a b. elim (e_is s x a) [

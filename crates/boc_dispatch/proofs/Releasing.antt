@@ -80,7 +80,6 @@ module _ (d : Parts) (slot row : ℕ) (l : Live) (request : ℕ) (e : Parts) (h 
       number = refl;
       parent = refl;
       behaviour = refl;
-      inputs = refl;
       spawned = refl;
       cowns = refl;
       row = sym h.row_is;

@@ -3,16 +3,13 @@ use Rattle.std.proofs.Common.{◌≡◌, ◌≢◌, ℕ, zero, suc, ◌+◌, ◌
 use Rattle.std.specs.Prelude.{slice_get, slice_set, slice_index_or, nat_lt, ℤ, Option, Some, None}
 use Rattle.std.specs.Option.{option_map, option_map_or}
 use Rattle.std.specs.List.{count_by}
-use Rattle.arrayvec.specs.ArrayVec.{ArrayVec}
 use Rattle.boc_types.specs.declared.event.Event.{Event}
 use Rattle.boc_types.specs.declared.event.Event.TheVariants.{Start}
-use Rattle.boc_types.specs.declared.short.Input.{Input}
 use Rattle.boc_types.specs.declared.stage.Phase.TheVariants as phases
 use Rattle.boc_types.specs.declared.stage.Stage.{Stage}
 use Rattle.boc_types.specs.declared.stage.Stage.TheVariants.{Asking, Recorded}
 use Rattle.boc_types.specs.runs.Lives.{Life, Pending, Running, Ended, changed}
 use Rattle.boc_types.specs.runs.Legal.{IsAllowed, entries}
-use Rattle.boc_types.specs.runs.Serial.{Behaviour, inputs_of}
 use Rattle.boc_types.specs.runs.Run.{Member, Config, config_of, opening, next_wish, started_on, state_of}
 use Rattle.boc_types.specs.machine.Stages.{settled_at, flagged_at, row_at, ready_row_at, life_at, asks_at, enqueues_at, waits_at, settled, enqueues, parent_of}
 use Rattle.boc_types.specs.machine.Queues.{times}
@@ -98,10 +95,9 @@ read_stands (x ∷ xs) (suc i) s e =
 abbrev pub started_parts : Parts → ℕ → Option Live → List ℕ → Log → Parts
 started_parts d slot place rest rules = record d { live = set d.live slot place; ready = rest; rules = rules; steps = d.steps + 1 }
 
-module _ (d : Parts) (k : IsKept d) (slot : ℕ) (rest : List ℕ) (head : d.ready ≡ slot ∷ rest) (l : Live) (row : ℕ) (is : live_at d.live slot ≡ Some l) (stage_is : l.stage ≡ Recorded row phases.Ready)
-    (inputs : ArrayVec Input) where
+module _ (d : Parts) (k : IsKept d) (slot : ℕ) (rest : List ℕ) (head : d.ready ≡ slot ∷ rest) (l : Live) (row : ℕ) (is : live_at d.live slot ≡ Some l) (stage_is : l.stage ≡ Recorded row phases.Ready) where
   abbrev m : Live
-  m = begun row inputs l
+  m = begun row l
 
   abbrev table : List (Option Live)
   table = set d.live slot (Some m)
@@ -202,8 +198,8 @@ module _ (d : Parts) (k : IsKept d) (slot : ℕ) (rest : List ℕ) (head : d.rea
         | inr u ↦ inr u
       ]
 
-  recorded_then : (inputs.items ≡ inputs_of l.params.items d.values) → (s r : ℕ) (x : Live) → live_at table s ≡ Some x → row_at x.stage ≡ Some r → IsMember (members d.program (state e)) x r
-  recorded_then inputs_are s r x a b =
+  recorded_then : (s r : ℕ) (x : Live) → live_at table s ≡ Some x → row_at x.stage ≡ Some r → IsMember (members d.program (state e)) x r
+  recorded_then s r x a b =
       elim (new_at s x a) [
         | inl u ↦
             (let same : row ≡ r = (let f : Some row ≡ Some r = ap (λ z. row_at z.stage) (sym u.1) ∙ b in cc) in
@@ -213,8 +209,6 @@ module _ (d : Parts) (k : IsKept d) (slot : ℕ) (rest : List ℕ) (head : d.rea
               member = start_it own_row.member;
               is = member_here;
               behaviour_is = own_row.behaviour_is;
-              inputs_are = ap (λ (z : Behaviour). inputs_of z.cowns (config_of d.program d.rules.events).values) own_row.behaviour_is
-                  ∙ ap (inputs_of l.params.items) (sym k.values_are) ∙ sym inputs_are;
               spawned_is = own_row.spawned_is;
             })))
         | inr u ↦
@@ -224,7 +218,6 @@ module _ (d : Parts) (k : IsKept d) (slot : ℕ) (rest : List ℕ) (head : d.rea
               member = q.member;
               is = member_other r other ∙ q.is;
               behaviour_is = q.behaviour_is;
-              inputs_are = q.inputs_are;
               spawned_is = q.spawned_is;
             })
       ]
@@ -270,8 +263,8 @@ module _ (d : Parts) (k : IsKept d) (slot : ℕ) (rest : List ℕ) (head : d.rea
       let other : s ≢ slot = (λ h. absurd (let stands = subst (λ (n : ℕ). 0 < times n rest) h (read_stands rest j s a) in omega arith)) in
       (q.0, q.1, live_other d.live slot (Some m) s other ∙ q.2, q.3)
 
-  pub start_keeps : inputs.items ≡ inputs_of l.params.items d.values → IsKept e
-  start_keeps inputs_are = record {
+  pub start_keeps : IsKept e
+  start_keeps = record {
     sound = sound_then;
     cowns_are = k.cowns_are;
     values_are = k.values_are ∙ sym values_then;
@@ -291,7 +284,7 @@ module _ (d : Parts) (k : IsKept d) (slot : ℕ) (rest : List ℕ) (head : d.rea
           });
       places = λ s. k.chained.places s ∙ sym (places_then s);
     };
-    of_run = record { recorded = recorded_then inputs_are; asking = asking_then };
+    of_run = record { recorded = recorded_then; asking = asking_then };
     counted = counted_then;
     ready_there = ready_then;
     left = ap (λ n. n + d.gone) (taken_changed d.live d.opened slot l m k.numbered is refl) ∙ k.left;

@@ -110,6 +110,11 @@ FinishesRow u row o (Err (same, finish_faults.Stranger)) v = (v ≡ u) × (same 
 FinishesRow u row o (Err (same, finish_faults.Busy)) v =
     (v ≡ u) × (same ≡ o) × IsHandedOut u row o.body o.args o.inputs × (HasSpawnedAll u row o.wishes → ⊥)
 
+-- an answer, with the outcome that comes back beside a fault
+abbrev pub with_outcome : Ran → Result (Option Leaving) FinishFault → Result (Option Leaving) (Ran × FinishFault)
+with_outcome o (Ok leaving) = Ok leaving
+with_outcome o (Err fault) = Err (o, fault)
+
 -- ---- leave
 
 -- the row's behaviour has ended, and releases its cowns

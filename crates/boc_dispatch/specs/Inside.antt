@@ -137,7 +137,6 @@ pub record IsMember (rows : List Member) (l : Live) (row : ℕ) : Type 0 where
   pub member : Member
   pub is : slice_get rows row ≡ Some member
   pub behaviour_is : member.behaviour ≡ behaviour_of l
-  pub inputs_are : member.inputs ≡ l.inputs.items
   pub spawned_is : member.spawned ≡ l.spawned
 
 -- an asking behaviour is that of its parent's next wish
@@ -147,7 +146,7 @@ pub record IsWished (p : Program) (rows : List Member) (l : Live) : Type 0 where
   pub kind_is : wish.kind ≡ l.kind
   pub args_are : wish.args ≡ l.args.items
   pub cowns_are : wish.cowns ≡ l.params.items
-  pub new : (l.spawned ≡ 0) × (l.inputs.items ≡ [])
+  pub new : l.spawned ≡ 0
 
 -- the behaviours are those of the run
 pub record AreOfRun (p : Program) (rows : List Member) (live : List (Option Live)) : Type 0 where

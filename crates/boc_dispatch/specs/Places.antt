@@ -2,13 +2,11 @@
 use Rattle.std.specs.Prelude.{◌≡◌, ℕ, suc, ◌+◌, ◌-◌, ◌<◌, Bool, true, false, if◌then◌else◌, nat_eq, length, Option, Some, None}
 use Rattle.boc_types.specs.declared.event.Event.{Event}
 use Rattle.boc_types.specs.declared.event.Event.TheVariants.{Spawn}
-use Rattle.boc_types.specs.declared.short.Input.{Input}
 use Rattle.boc_types.specs.declared.stage.Phase.{Phase}
 use Rattle.boc_types.specs.declared.stage.Phase.TheVariants as phases
 use Rattle.boc_types.specs.declared.stage.Stage.TheVariants.{Asking, Recorded}
 use Rattle.boc_types.specs.machine.Stages.{row_at}
 use Rattle.boc_types.specs.machine.Steps.{flagging}
-use Rattle.arrayvec.specs.ArrayVec.{ArrayVec}
 use Rattle.boc_dispatch.specs.declared.live.Live.{Live}
 
 -- there is a behaviour, and it is so
@@ -20,9 +18,9 @@ Has (Some l) IsSo = IsSo l
 abbrev pub in_phase : ℕ → Phase → Live → Live
 in_phase row phase l = record l { stage = Recorded row phase }
 
--- it runs on these inputs
-abbrev pub begun : ℕ → ArrayVec Input → Live → Live
-begun row inputs l = record l { inputs = inputs; stage = Recorded row phases.Running }
+-- it runs
+abbrev pub begun : ℕ → Live → Live
+begun row l = record l { stage = Recorded row phases.Running }
 
 -- it has this child in hand, or none
 abbrev pub with_child : Option ℕ → Live → Live

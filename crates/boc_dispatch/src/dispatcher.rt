@@ -1,7 +1,7 @@
 //! The dispatcher: each call makes one step of the machine.
 
 ghost use Rattle.boc_types.specs.program.Programs.{cown_count as cowns_of};
-ghost use Rattle.std.specs.Prelude.{◌≡◌, ◌↔◌, ◌+◌, ◌^◌, ◌<◌, ℕ, [], None, IfOk, IsTrue, map, replicate, slice_get};
+ghost use Rattle.std.specs.Prelude.{◌≡◌, ◌↔◌, ◌+◌, ◌^◌, ◌<◌, ℕ, [], None, IfOk, IsTrue, false, map, replicate, slice_get};
 
 use crate::answers::{Advanced, Child, FinishFault, Leaving, Left, Mover, OpenFault, Started};
 use crate::live::wished_behaviour;
@@ -69,7 +69,7 @@ impl<'a, C: Chains + Drop> Core<'a, C> {
     ghost use Rattle.boc_types.specs.program.Programs.{cown_count};
     ghost use Rattle.boc_types.specs.machine.Steps.{IsQuiet, opening_state, values};
     ghost use Rattle.boc_types.specs.machine.Sound.{IsSound};
-    ghost use Rattle.boc_dispatch.specs.Calls.{Begins, OpensWish, AdvancesChild, FinishesRow, LeavesCown, NamesMover, EndsAsRecord};
+    ghost use Rattle.boc_dispatch.specs.Calls.{Begins, OpensWish, AdvancesChild, FinishesRow, with_outcome, LeavesCown, NamesMover, EndsAsRecord};
 
     /// The opening state over chains with no request: main is opened, its spawn is recorded, and it is ready.
     pub fn over(alloc: Global, program: &'a Program, chains: C) -> Result<Core<'a, C>, AllocError>
@@ -160,16 +160,30 @@ impl<'a, C: Chains + Drop> Core<'a, C> {
     ) -> Result<Option<Leaving>, (Outcome<'a>, FinishFault)>
         ensures { FinishesRow self.old row outcome.entry result self.new }
     {
+        match self.finish_by(row, &outcome) {
+            Ok(leaving) => Ok(leaving),
+            Err(fault) => Err((outcome, fault)),
+        }
+    }
+
+    // The same by an outcome that stays where it is, as it is large.
+    pub(crate) fn finish_by(
+        &mut self,
+        row: u32,
+        outcome: &Outcome<'a>,
+    ) -> Result<Option<Leaving>, FinishFault>
+        ensures { FinishesRow self.old row outcome.now (with_outcome outcome.now result) self.new }
+    {
         let running = self
             .machine
             .running(row, outcome.body(), outcome.args(), outcome.inputs());
         let Some(slot) = running else {
-            return Err((outcome, FinishFault::Stranger));
+            return Err(FinishFault::Stranger);
         };
         if !self.machine.has_spawned(slot, row, outcome.wishes()) {
-            return Err((outcome, FinishFault::Busy));
+            return Err(FinishFault::Busy);
         }
-        if self.machine.finish(slot, row, &outcome) {
+        if self.machine.finish(slot, row, outcome) {
             Ok(Some(Leaving { row }))
         } else {
             Ok(None)
@@ -220,6 +234,13 @@ impl<'a, C: Chains + Drop> Core<'a, C> {
         ensures { IsTrue result ↔ IsQuiet self.now.state }
     {
         self.machine.gone == self.machine.opened
+    }
+
+    /// The ready list has a behaviour, so that `start` starts one.
+    pub fn has_ready(&self) -> bool
+        ensures { (result ≡ false) ↔ (self.now.state.ready ≡ []) }
+    {
+        !self.machine.ready.is_empty()
     }
 
     /// Somebody who can step, or nobody, exactly where it is quiet. It takes no memory.

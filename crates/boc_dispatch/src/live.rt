@@ -7,7 +7,8 @@ ghost use Rattle.boc_types.specs.declared.stage.Stage.TheVariants.{Asking, Recor
 ghost use Rattle.boc_types.specs.machine.Stages.{row_at};
 ghost use Rattle.boc_types.specs.machine.Steps.{flagging};
 ghost use Rattle.boc_types.specs.program.Rising.{rising};
-ghost use Rattle.boc_types.specs.runs.Serial.{Behaviour};
+ghost use Rattle.boc_types.specs.program.Signatures.{AllBelow};
+ghost use Rattle.boc_types.specs.runs.Serial.{Behaviour, inputs_of as inputs_at};
 ghost use Rattle.boc_dispatch.specs.Inside.{behaviour_of, open_of};
 ghost use Rattle.boc_dispatch.specs.Places.{in_phase};
 
@@ -15,8 +16,9 @@ use boc_eval::SpawnWish;
 use boc_types::body::Body;
 use boc_types::cowns::rising_cowns;
 use boc_types::program::Program;
-use boc_types::short::{Args, Cowns, Input, Inputs};
+use boc_types::short::{Args, Cowns, Input};
 use boc_types::stage::{Phase, Stage};
+use boc_types::values::inputs_of;
 
 /// A behaviour from its Open until its last request is released.
 #[derive(Drop, Debug)]
@@ -35,8 +37,6 @@ pub struct Live {
     pub params: Cowns,
     /// Its cowns in rising order, which is that of its requests.
     pub cowns: Cowns,
-    /// From its start on its cowns with the values that they had then.
-    pub inputs: Inputs,
     /// How far it is.
     pub stage: Stage,
     /// How many of its requests aren't granted, and one more before Own.
@@ -51,7 +51,7 @@ pub struct Live {
 pub fn main_behaviour() -> Live
     ensures behaviour { behaviour_of result ≡ record { kind = 0; args = []; cowns = [] } }
     ensures state { open_of result ≡ record { parent = 0; offset = 0; cowns = []; stage = Recorded 0 phases.Ready } }
-    ensures fresh { (result.number ≡ 0) × (result.inputs.items ≡ []) × (result.awaited ≡ 0) × (result.spawned ≡ 0) × (result.child ≡ None) }
+    ensures fresh { (result.number ≡ 0) × (result.awaited ≡ 0) × (result.spawned ≡ 0) × (result.child ≡ None) }
 {
     Live {
         number: 0,
@@ -61,7 +61,6 @@ pub fn main_behaviour() -> Live
         args: Args::new(),
         params: Cowns::new(),
         cowns: Cowns::new(),
-        inputs: Inputs::new(),
         stage: Stage::Recorded {
             row: 0,
             phase: Phase::Ready,
@@ -78,7 +77,7 @@ pub fn wished_behaviour(number: u32, row: u32, wish: &SpawnWish) -> Live
     ensures state { open_of result ≡ record { parent = row; offset = wish.now.offset; cowns = rising wish.now.cowns.items; stage = Asking 0 false } }
     ensures number { result.number ≡ number }
     ensures awaited { result.awaited ≡ length result.cowns.items + 1 }
-    ensures fresh { (result.inputs.items ≡ []) × (result.spawned ≡ 0) × (result.child ≡ None) }
+    ensures fresh { (result.spawned ≡ 0) × (result.child ≡ None) }
 {
     let cowns = rising_cowns(&wish.cowns);
     let awaited = cowns.len() + 1;
@@ -90,7 +89,6 @@ pub fn wished_behaviour(number: u32, row: u32, wish: &SpawnWish) -> Live
         args: Args::try_from(wish.args.as_slice()).unwrap(),
         params: Cowns::try_from(wish.cowns.as_slice()).unwrap(),
         cowns,
-        inputs: Inputs::new(),
         stage: Stage::Asking {
             request: 0,
             exchanged: false,
@@ -102,23 +100,26 @@ pub fn wished_behaviour(number: u32, row: u32, wish: &SpawnWish) -> Live
 }
 
 impl Live {
-    /// It runs as this row on this body, these arguments and inputs.
+    /// It runs as this row on this body, these arguments and inputs. While it runs, its inputs are the values that its
+    /// cowns have.
     pub fn runs_on(
         &self,
         program: &Program,
+        values: &[i64],
         row: u32,
         body: &Body,
         args: &[i64],
         inputs: &[Input],
     ) -> bool
-        requires { self.now.kind < length program.now.bodies }
+        requires kind { self.now.kind < length program.now.bodies }
+        requires below { AllBelow (length values.now) self.now.params.items }
         ensures { IsTrue result ↔ ((self.now.stage ≡ Recorded row phases.Running) × (slice_get program.now.bodies self.now.kind ≡ Some body.now)
-            × (args.now ≡ self.now.args.items) × (inputs.now ≡ self.now.inputs.items)) }
+            × (args.now ≡ self.now.args.items) × (inputs.now ≡ inputs_at self.now.params.items values.now)) }
     {
         self.is_running(row)
             && self.has_body(program, body)
             && self.has_args(args)
-            && self.has_inputs(inputs)
+            && self.has_inputs(values, inputs)
     }
 
     // It runs as this row.
@@ -147,11 +148,13 @@ impl Live {
         args == self.args.as_slice()
     }
 
-    // These are its inputs.
-    fn has_inputs(&self, inputs: &[Input]) -> bool
-        ensures { IsTrue result ↔ (inputs.now ≡ self.now.inputs.items) }
+    // These are its cowns, with these values.
+    fn has_inputs(&self, values: &[i64], inputs: &[Input]) -> bool
+        requires { AllBelow (length values.now) self.now.params.items }
+        ensures { IsTrue result ↔ (inputs.now ≡ inputs_at self.now.params.items values.now) }
     {
-        inputs == self.inputs.as_slice()
+        let own = inputs_of(&self.params, values);
+        inputs == own.as_slice()
     }
 
     /// Of so many wishes the last is the next to be spawned, and nothing is being enqueued.

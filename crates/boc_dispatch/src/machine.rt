@@ -178,7 +178,9 @@ impl<'a, C: Chains + Drop> Machine<'a, C> {
     {
         let slot = self.slot_of(row)?;
         match &self.live[slot] {
-            Some(live) if live.runs_on(self.program, row, body, args, inputs) => Some(slot),
+            Some(live) if live.runs_on(self.program, &self.values, row, body, args, inputs) => Some(
+                slot,
+            ),
             _ => None,
         }
     }
@@ -238,7 +240,8 @@ impl<'a, C: Chains + Drop> Machine<'a, C> {
         ensures homes { vec_capacity self.new.homes ≡ vec_capacity self.old.homes }
         ensures ready { length self.new.live.items ≤ deque_capacity self.new.ready }
     {
-        self.ready.reserve(slot.saturating_add(1))?;
+        let long = slot.saturating_add(1);
+        self.ready.reserve(long.saturating_sub(self.ready.len()))?;
         reach(&mut self.live, slot)
     }
 

@@ -14,7 +14,7 @@ use crate::answers::Job;
 use crate::live::Live;
 use boc_types::event::Event;
 use boc_types::program::Program;
-use boc_types::short::{Args, Cowns, Inputs};
+use boc_types::short::{Args, Cowns};
 use boc_types::stage::{Phase, Stage};
 use boc_types::values::{inputs_of, write_outputs};
 
@@ -23,7 +23,7 @@ pub fn begin<'a>(place: &mut Option<Live>, program: &'a Program, values: &[i64])
     requires recorded { (l : Live) → place.old ≡ Some l → (row : ℕ) × (row_at l.stage ≡ Some row) }
     requires counts { Has place.old (λ l. CountsAre (slice_get (map signature_of program.now.bodies) l.kind) (length l.args.items) (length l.params.items)) }
     requires below { Has place.old (λ l. AllBelow (length values.now) l.params.items) }
-    ensures started { place.new ≡ option_map (begun result.row result.inputs) place.old }
+    ensures started { place.new ≡ option_map (begun result.row) place.old }
     ensures row { Has place.old (λ l. row_at l.stage ≡ Some result.row) }
     ensures body { Has place.old (λ l. slice_get program.now.bodies l.kind ≡ Some result.body.now) }
     ensures args { Has place.old (λ l. result.args.items ≡ l.args.items) }
@@ -35,13 +35,12 @@ pub fn begin<'a>(place: &mut Option<Live>, program: &'a Program, values: &[i64])
                 Stage::Recorded { row, .. } => row,
                 Stage::Asking { .. } => unreachable!(),
             };
-            live.inputs = inputs_of(&live.params, values);
             live.go_on(row, Phase::Running);
             Job {
                 row,
                 body: program.body(live.kind),
                 args: Args::try_from(live.args.as_slice()).unwrap(),
-                inputs: Inputs::try_from(live.inputs.as_slice()).unwrap(),
+                inputs: inputs_of(&live.params, values),
             }
         }
         None => unreachable!(),

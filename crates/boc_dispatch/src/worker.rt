@@ -5,8 +5,7 @@ ghost use Rattle.std.specs.Prelude.{◌≡◌, ℕ, false, IfOk, None, length};
 use crate::answers::{Advanced, Child, FinishFault, Job, Leaving, Left, OpenFault, Started};
 use crate::dispatcher::Core;
 use boc_chain::Chains;
-use boc_eval::{Frame, Outcome, Stop};
-use boc_types::short::{Args, Inputs};
+use boc_eval::{Frame, Outcome, Spare, Stop};
 use boc_types::step::Step;
 use std::alloc::{AllocError, Global};
 
@@ -36,11 +35,12 @@ enum Hand<'a> {
     Leaving(Leaving),
 }
 
-/// A worker: its number, and what it has in hand.
+/// A worker: its number, what it has in hand, and the memory of its last frame for the next one.
 #[derive(Drop)]
 pub struct Worker<'a> {
     number: u32,
     hand: Hand<'a>,
+    spare: Spare<'a>,
 }
 
 /// Why a call that was due is refused.
@@ -78,25 +78,25 @@ ghost use Rattle.boc_dispatch.specs.declared.answers.Child.{Child};
 ghost use Rattle.boc_eval.specs.Frames.{UnderWay as Framed};
 
 // The frame of a behaviour that was started.
-fn frame_of<'a>(alloc: Global, job: &Job<'a>) -> Result<Frame<'a>, AllocError>
+fn frame_of<'a>(
+    alloc: Global,
+    spare: &mut Spare<'a>,
+    job: &Job<'a>,
+) -> Result<Frame<'a>, AllocError>
     ensures { IfOk result (λ frame. frame ≡ frame_at_start job.now) }
 {
-    Frame::new(
-        alloc,
-        job.body,
-        Args::try_from(job.args.as_slice()).unwrap(),
-        Inputs::try_from(job.inputs.as_slice()).unwrap(),
-    )
+    Frame::renewed(alloc, spare, job.body, &job.args, &job.inputs)
 }
 
 impl<'a> Worker<'a> {
     /// A worker that serves nobody yet.
     pub fn new(number: u32) -> Worker<'a>
-        ensures { result ≡ record { number = number; hand = hands.Nothing } }
+        ensures { result ≡ record { number = number; hand = hands.Nothing; spare = tt } }
     {
         Worker {
             number,
             hand: Hand::Nothing,
+            spare: Spare::new(),
         }
     }
 
@@ -128,10 +128,10 @@ impl<'a> Worker<'a> {
         ensures number { self.new.number ≡ self.old.number }
     {
         match &self.hand {
-            Hand::Started(_) => take_up(alloc, &mut self.hand),
+            Hand::Started(_) => take_up(alloc, &mut self.spare, &mut self.hand),
             Hand::Framed(_, _, due) => match *due {
                 Due::Going => {
-                    go_on(&mut self.hand);
+                    go_on(&mut self.spare, &mut self.hand);
                     Ok(())
                 }
                 _ => Ok(()),
@@ -166,17 +166,17 @@ impl<'a> Worker<'a> {
 }
 
 // The frame of a behaviour that was started is made, and goes on.
-fn take_up<'a>(alloc: Global, hand: &mut Hand<'a>) -> Result<(), AllocError>
+fn take_up<'a>(alloc: Global, spare: &mut Spare<'a>, hand: &mut Hand<'a>) -> Result<(), AllocError>
     requires { IsStarted hand.old }
     ensures { HasThought hand.old result hand.new }
 {
     match hand {
         Hand::Started(job) => {
             let row = job.row;
-            let mut frame = frame_of(alloc, job)?;
+            let mut frame = frame_of(alloc, spare, job)?;
             match frame.run() {
                 Stop::Wants(_) => *hand = Hand::Framed(row, frame, Due::Wishing),
-                Stop::Ended => *hand = Hand::Done(row, frame.into_outcome()),
+                Stop::Ended => *hand = Hand::Done(row, frame.end(spare)),
             }
             Ok(())
         }
@@ -185,7 +185,7 @@ fn take_up<'a>(alloc: Global, hand: &mut Hand<'a>) -> Result<(), AllocError>
 }
 
 // A frame goes on to its next wish, or its end. It stays where it stands until it has ended.
-fn go_on(hand: &mut Hand<'_>)
+fn go_on<'a>(spare: &mut Spare<'a>, hand: &mut Hand<'a>)
     requires { Goes hand.old }
     ensures { (row : ℕ) (f : Framed) → hand.old ≡ hands.Framed row f dues.Going → HasGoneOn row f hand.new }
 {
@@ -195,7 +195,7 @@ fn go_on(hand: &mut Hand<'_>)
     };
     match stop {
         Stop::Wants(_) => set_due(hand, Due::Wishing),
-        Stop::Ended => end(hand),
+        Stop::Ended => end(spare, hand),
     }
 }
 
@@ -209,12 +209,12 @@ fn set_due(hand: &mut Hand<'_>, due: Due)
 }
 
 // A frame that has ended gives way to what its body gave.
-fn end(hand: &mut Hand<'_>)
+fn end<'a>(spare: &mut Spare<'a>, hand: &mut Hand<'a>)
     requires { IsEnded hand.old }
     ensures { HasGiven hand.old hand.new }
 {
     *hand = match std::mem::replace(hand, Hand::Nothing) {
-        Hand::Framed(row, frame, _) => Hand::Done(row, frame.into_outcome()),
+        Hand::Framed(row, frame, _) => Hand::Done(row, frame.end(spare)),
         _ => unreachable!(),
     };
 }
@@ -287,19 +287,22 @@ fn finish<'a, C: Chains + Drop>(hand: &mut Hand<'a>, core: &mut Core<'a, C>) -> 
     ensures works { Works core.old hand.old result core.new hand.new }
     ensures fits { KeepsFitting core.old hand.old core.new hand.new }
 {
-    match std::mem::replace(hand, Hand::Nothing) {
-        Hand::Done(row, outcome) => match core.finish(row, outcome) {
-            Ok(Some(leaving)) => {
+    let finished = match &*hand {
+        Hand::Done(row, outcome) => core.finish_by(*row, outcome),
+        _ => unreachable!(),
+    };
+    match finished {
+        Ok(released) => match released {
+            Some(leaving) => {
                 *hand = Hand::Leaving(leaving);
                 Turn::Moved(Step::Finish)
             }
-            Ok(None) => Turn::Moved(Step::Finish),
-            Err((outcome, fault)) => {
-                *hand = Hand::Done(row, outcome);
-                Turn::Refused(Refusal::Finish(fault))
+            None => {
+                *hand = Hand::Nothing;
+                Turn::Moved(Step::Finish)
             }
         },
-        _ => unreachable!(),
+        Err(fault) => Turn::Refused(Refusal::Finish(fault)),
     }
 }
 

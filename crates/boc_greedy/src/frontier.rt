@@ -123,9 +123,9 @@ impl Frontier {
         self.heads[cowns[k] as usize] = next;
         if (next as usize) < rows.len()
             && self.stages[next as usize] == Stage::Waiting
-            && self.reaches_all(rows, next)
+            && self.reaches_all(rows, next as u32)
         {
-            self.ready.insert(next);
+            self.ready.insert(next as u32);
         }
     }
 
@@ -145,7 +145,7 @@ impl Frontier {
         let cowns = rows[row as usize].cowns.as_slice();
         let mut reached = self.reached[row as usize];
         while (reached as usize) < cowns.len()
-            && self.heads[cowns[reached as usize] as usize] == row
+            && self.heads[cowns[reached as usize] as usize] as u32 == row
         {
             reached += 1;
         }

@@ -10,11 +10,11 @@ use boc_types::limits::MOST_COWNS;
 use boc_types::rows::Row;
 use std::alloc::{AllocError, Global};
 
-/// For each cown, by its number, a row.
-pub type Heads = [u32; MOST_COWNS];
+/// For each cown, by its number, a row. There are at most 65,535, so 16 bits tell one, and that there is none.
+pub type Heads = [u16; MOST_COWNS];
 
 /// For each cown of a row, in their order, a row.
-pub type Next = [u32; 8];
+pub type Next = [u16; 8];
 
 /// The first row on each cown, and from each row the next ones on its cowns. The number of rows stands where
 /// there is none.
@@ -27,7 +27,7 @@ pub struct Links {
 }
 
 // Puts a row before the heads of its cowns, and answers what these heads were.
-fn put_before(heads: &mut Heads, cowns: &[u32], row: u32, none: u32) -> Next
+fn put_before(heads: &mut Heads, cowns: &[u32], row: u16, none: u16) -> Next
     requires few { length cowns.now ≤ 8 }
     requires small { All (λ c. c < MOST_COWNS) cowns.now }
     requires rise { IsStrictlyIncreasing cowns.now }
@@ -51,7 +51,7 @@ pub fn link(alloc: Global, rows: &[Row]) -> Result<Links, AllocError>
     ensures heads { IfOk result (λ l. AreHeads rows.now 0 l.heads) }
     ensures following { IfOk result (λ l. AreFollowing rows.now l.following.items) }
 {
-    let none = rows.len() as u32;
+    let none = rows.len() as u16;
     let mut heads = [none; MOST_COWNS];
     let mut following = Vec::with_capacity(alloc, rows.len())?;
     let mut row = none;

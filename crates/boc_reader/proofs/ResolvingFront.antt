@@ -24,6 +24,15 @@ front_more made front all z whole before rest so_far next more =
     so_far ∙ ap (with_front (map made front)) next ∙ front_step (map made front) (made z) rest
     ∙ ap (λ ys. with_front ys rest) (sym (map_push made front z) ∙ sym (ap (map made) more))
 
+-- one more is made as it is seen
+pub made_more : {X W Y Z : Type 0} (look : W → X) (view : X → Y) (made : Z → Y) (ws : List W) (i : ℕ) (w : W) (front all : List Z) (z : Z) (whole : List Y) → i < length ws → w ≡ get_or ws i w → made z ≡ view (look w) → all ≡ front ++ z ∷ [] → whole ≡ map made front ++ map view (map look (drop i ws)) → whole ≡ map made all ++ map view (map look (drop (i + 1) ws))
+made_more look view made ws i w front all z whole h e same more so_far =
+    let rest = map view (map look (drop (i + 1) ws)) in
+    so_far ∙ ap (λ us. map made front ++ map view (map look us)) (next_at ws i w h e)
+    ∙ ap (λ y. map made front ++ (y ∷ rest)) (sym same)
+    ∙ sym (append_snoc (map made front) (made z) rest)
+    ∙ ap (λ ys. ys ++ rest) (sym (map_push made front z) ∙ sym (ap (map made) more))
+
 -- one more of several is resolved
 pub names_more : {X W Y Z : Type 0} (names : X → Option Y) (view : W → X) (made : Z → Y) (ws : List W) (i : ℕ) (w : W) (front all : List Z) (z : Z) (whole : Option (List Y)) → i < length ws → w ≡ get_or ws i w → names (view w) ≡ Some (made z) → all ≡ front ++ z ∷ [] → whole ≡ with_front (map made front) (all_names names (map view (drop i ws))) → whole ≡ with_front (map made all) (all_names names (map view (drop (i + 1) ws)))
 names_more names view made ws i w front all z whole h e found more so_far =

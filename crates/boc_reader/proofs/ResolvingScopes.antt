@@ -1,9 +1,9 @@
 -- Statement after statement, with the names in scope.
-use Rattle.std.proofs.Common.{◌≡◌, ℕ, suc, ◌+◌, ◌≤◌, ◌<◌, List, [], ◌∷◌, ◌++◌, length, take, drop, get_or, Option, Some, None, refl, sym, ap, ◌∙◌, arith, add-one, drop-cons}
+use Rattle.std.proofs.Common.{◌≡◌, ℕ, zero, suc, ◌+◌, ◌≤◌, ◌<◌, List, [], ◌∷◌, ◌++◌, length, take, drop, get_or, Option, Some, None, refl, sym, ap, ◌∙◌, arith, add-one, drop-cons}
 use Rattle.std.proofs.lemmas.List.{take-take, length-take, drop_all}
 use Rattle.std.specs.Option.{option_map, option_and_then}
 use Rattle.boc_reader.specs.declared.shape.Stmt.{Stmt as Stmt'}
-use Rattle.boc_types.specs.text.Shape.{done, next}
+use Rattle.boc_types.specs.text.Shape.{done, next, stmt_nodes, block_nodes}
 use Rattle.boc_reader.specs.Views.{stmt_of, block_of}
 use Rattle.boc_types.specs.declared.body.Stmt.{Stmt}
 use Rattle.boc_types.specs.declared.body.Stmt.TheVariants as stmts
@@ -42,6 +42,12 @@ onto_done (s ∷ ss) = ap (before s) (onto_done ss)
 
 block_at : (b : List Stmt') (i : ℕ) (s : Stmt') → i < length b → s ≡ get_or b i s → block_of (drop i b) ≡ next (stmt_of s) (block_of (drop (i + 1) b))
 block_at b i s h e = rw (add-one, drop-cons b i s h) (ap (λ x. next (stmt_of x) (block_of (drop (suc i) b))) (sym e))
+
+-- a statement of a block has no more nodes than the block
+pub nodes_of_one : (b : List Stmt') (i : ℕ) (s : Stmt') → i < length b → s ≡ get_or b i s → stmt_nodes (stmt_of s) ≤ block_nodes (block_of b)
+nodes_of_one [] i s h e = absurd (omega (arith, h))
+nodes_of_one (x ∷ xs) zero s h e = omega (arith, ap (λ y. stmt_nodes (stmt_of y)) e)
+nodes_of_one (x ∷ xs) (suc i) s h e = omega (arith, nodes_of_one xs i s (omega (arith, h)) e)
 
 pub goes_on : (b : List Stmt') (i : ℕ) (s : Stmt') (front all : List Stmt) (x : Stmt) (outside : Outside) (scope scope' : List Named) (whole : Option Code) → i < length b → s ≡ get_or b i s → stmt_names (stmt_of s) outside scope ≡ Some (resolved_stmt_of x, scope') → all ≡ front ++ x ∷ [] → whole ≡ with_code front (block_names (block_of (drop i b)) outside scope) → whole ≡ with_code all (block_names (block_of (drop (i + 1) b)) outside scope')
 goes_on b i s front all x outside scope scope' whole h e found more so_far =

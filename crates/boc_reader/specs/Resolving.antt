@@ -8,8 +8,9 @@ use Rattle.boc_types.specs.declared.body.Stmt.{Stmt}
 use Rattle.boc_types.specs.declared.body.Stmt.TheVariants as stmts
 use Rattle.boc_types.specs.memory.View.{slot_expr_of, cown_ref_of}
 use Rattle.boc_types.specs.program.Sizes.{members}
-use Rattle.boc_types.specs.text.Shape.{Cown, Def, Tree}
-use Rattle.boc_types.specs.text.Names.{Named, Left, ResolvedStmt, Set, Spend, Choose, Loop, Spawn, Global, Callee, Top, Outside, PlainBody, PlainProgram, among, top_names, are_free, body_names, plain_cown}
+use Rattle.boc_types.specs.text.Shape as shape
+use Rattle.boc_types.specs.text.Shape.{Block, Cown, Def, Tree}
+use Rattle.boc_types.specs.text.Names.{Named, Left, ResolvedStmt, Set, Spend, Choose, Loop, Spawn, Global, Callee, Top, Outside, PlainBody, PlainProgram, among, top_names, are_free, block_names, body_names, expr_names, plain_cown, slot_of}
 use Rattle.boc_reader.specs.declared.fault.Fault.{Fault}
 use Rattle.boc_reader.specs.declared.fault.Fault.TheVariants.{Memory, At}
 use Rattle.boc_reader.specs.declared.fault.NameFault.{NameFault}
@@ -46,6 +47,19 @@ resolved_stmt_of (stmts.Work e) = Spend (slot_expr_of e)
 resolved_stmt_of (stmts.If e a b) = Choose (slot_expr_of e) a b
 resolved_stmt_of (stmts.Repeat e a) = Loop (slot_expr_of e) a
 resolved_stmt_of (stmts.When kind args refs) = Spawn kind (map slot_expr_of args.items) (map cown_ref_of refs.items)
+
+-- an assignment to a name in scope
+abbrev pub assign_names : Named → shape.Expr → List Named → Option ResolvedStmt
+assign_names x e scope = option_and_then (λ slot. option_map (λ v. Set slot v) (expr_names e scope)) (slot_of scope x)
+
+-- a choice between two blocks
+abbrev pub choice_names : shape.Expr → Block → Block → Outside → List Named → Option ResolvedStmt
+choice_names e b c outside scope =
+    option_and_then (λ v. option_and_then (λ a. option_map (λ o. Choose v a o) (block_names c outside scope)) (block_names b outside scope)) (expr_names e scope)
+
+-- a block that is repeated
+abbrev pub loop_names : shape.Expr → Block → Outside → List Named → Option ResolvedStmt
+loop_names e b outside scope = option_and_then (λ v. option_map (λ a. Loop v a) (block_names b outside scope)) (expr_names e scope)
 
 -- a declared cown without where its name lies
 abbrev pub global_of : Global' → Global
@@ -114,8 +128,12 @@ bodies_behind top before (d ∷ ds) =
 abbrev pub top_in_order : Tree → Option Top
 top_in_order t = option_map (λ gs. let top : Top = record { cowns = gs; defs = defs_behind gs [] t.defs } in top) (cowns_behind [] 0 t.cowns)
 
--- the program of a tree, by way of what is declared at its top, the bodies of its defs, and main's
+-- the program of a tree where this is declared at its top, by way of the bodies of its defs, and main's
+abbrev pub program_at : Tree → Top → Option PlainProgram
+program_at t top =
+    option_and_then (λ defs. option_map (λ main. let p : PlainProgram = record { cowns = map plain_cown t.cowns; bodies = main ∷ defs } in p)
+    (body_names top [] [] t.main)) (bodies_behind top (cown_names top.cowns) t.defs)
+
+-- the program of a tree, by way of what is declared at its top
 abbrev pub program_in_order : Tree → Option PlainProgram
-program_in_order t =
-    option_and_then (λ top. option_and_then (λ defs. option_map (λ main. let p : PlainProgram = record { cowns = map plain_cown t.cowns; bodies = main ∷ defs } in p)
-    (body_names top [] [] t.main)) (bodies_behind top (cown_names top.cowns) t.defs)) (top_in_order t)
+program_in_order t = option_and_then (program_at t) (top_in_order t)

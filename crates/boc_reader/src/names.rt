@@ -2,12 +2,12 @@
 
 ghost use Rattle.std.specs.Prelude.{◌≡◌, map};
 ghost use Rattle.boc_types.specs.text.Shape.{AreSmallDefs, IsWithinLimits};
-ghost use Rattle.boc_types.specs.text.Names.{PlainProgram, tree_names};
+ghost use Rattle.boc_types.specs.text.Names.{PlainProgram, plain_cown, tree_names};
 ghost use Rattle.boc_types.specs.text.Spells.{plain_body, plain_declared, plain_program};
 ghost use Rattle.boc_types.specs.program.Parts.{MakesProgram};
 ghost use Rattle.boc_reader.specs.Views.{def_of, tree_of};
 ghost use Rattle.boc_reader.specs.Resolves.{Resolves};
-ghost use Rattle.boc_reader.specs.Resolving.{Yields, EndWithin, names_of, declared_of, bodies_behind, program_in_order};
+ghost use Rattle.boc_reader.specs.Resolving.{Yields, EndWithin, names_of, declared_of, bodies_behind, program_at, program_in_order};
 
 mod block;
 mod body;
@@ -57,16 +57,30 @@ fn fitting(cowns: Vec<Cown>, bodies: Vec<Body>) -> Program
     Program::new(CownList::new(cowns), BodyList::new(bodies))
 }
 
+// The bodies of a tree, main's first.
+fn resolve_bodies<'a>(
+    alloc: Global,
+    top: &Top<'a>,
+    tree: &Tree<'a>,
+) -> Result<Vec<Body>, Fault<NameFault>>
+    requires limits { IsWithinLimits (tree_of tree.now) }
+    requires cowns { EndWithin 256 (declared_of top.now).cowns }
+    ensures { Yields (λ bodies. let p : PlainProgram = record { cowns = map plain_cown (tree_of tree.now).cowns; bodies = map plain_body bodies.items } in p) result (program_at (tree_of tree.now) (declared_of top.now)) }
+{
+    let before = names_of_cowns(alloc, &top.cowns)?;
+    let mut bodies = resolve_defs(alloc, top, before, &tree.defs)?;
+    let main = resolve_body(alloc, top, &[], &[], &tree.main)?;
+    bodies.insert(0, main)?;
+    Ok(bodies)
+}
+
 // The cowns and the bodies of a tree, main's body first.
 fn resolve_parts(alloc: Global, tree: &Tree<'_>) -> Result<(Vec<Cown>, Vec<Body>), Fault<NameFault>>
     requires { IsWithinLimits (tree_of tree.now) }
     ensures { Yields (λ parts. let p : PlainProgram = record { cowns = map plain_declared parts.0.items; bodies = map plain_body parts.1.items } in p) result (program_in_order (tree_of tree.now)) }
 {
     let top = declare_top(alloc, tree)?;
-    let before = names_of_cowns(alloc, &top.cowns)?;
-    let mut bodies = resolve_defs(alloc, &top, before, &tree.defs)?;
-    let main = resolve_body(alloc, &top, &[], &[], &tree.main)?;
-    bodies.insert(0, main)?;
+    let bodies = resolve_bodies(alloc, &top, tree)?;
     let cowns = resolve_cowns(alloc, &tree.cowns)?;
     Ok((cowns, bodies))
 }

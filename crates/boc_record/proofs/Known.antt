@@ -10,8 +10,8 @@ use Rattle.boc_types.specs.declared.verdict.RecordFaultKind.TheVariants as kinds
 use Rattle.boc_types.specs.declared.event.Event.{Event}
 use Rattle.boc_types.specs.declared.event.BrokenRule.{BrokenRule}
 use Rattle.boc_types.specs.declared.event.BrokenRule.TheVariants as rules
-use Rattle.boc_types.specs.declared.limits.TheConstants.{MOST_COWNS, MOST_ROWS}
-use Rattle.boc_types.specs.runs.Legal.{Entry, entries, IsAllowed, IsComplete, IsFirstBroken}
+use Rattle.boc_types.specs.declared.limits.TheConstants.{MOST_ROWS}
+use Rattle.boc_types.specs.runs.Legal.{Entry, entries, IsComplete, IsFirstBroken}
 use Rattle.boc_types.specs.declared.rows.Row.{Row}
 use Rattle.boc_types.specs.runs.Records.{Recorded, IsRecord, AreRowsOf}
 use Rattle.boc_types.specs.text.RecordTexts.{HasNoForm, FirstLineIs, NextLineIs, IsWrongAfter, IsCut, Version, BeginsLong, BeginsWith, IsOneLine, BreaksRule, HasMore, HasBegun, AreSpelt, IsFirstFault, line, header, event_line, event_lines, begun, record_text, kind_of_rule}

@@ -1,4 +1,5 @@
 pub mod Runs
+pub mod InFront
 pub mod Told
 pub mod Lines
 pub mod Put

@@ -127,9 +127,12 @@ front_so_far text i value within few is digits ends =
     }
 
 -- they are worth less than a number of one digit more
+pub worth_below : (most : ℕ) (text : List ℕ) (i value : ℕ) → i ≤ length text → i ≤ most → value ≡ value_of (take i text) → ((k : ℕ) → k < i → IsInRange 48 57 (get_or text k 0)) → value < 10 ^ most
+worth_below most text i value within few is digits =
+    subst (λ v. v < 10 ^ most) (sym is) (digits_value_short own (take i text) most (taken_digits text i within digits) (omega (arith, length-take i text, few)))
+
 pub few_worth : (text : List ℕ) (i value : ℕ) → i ≤ length text → i < 10 → value ≡ value_of (take i text) → ((k : ℕ) → k < i → IsInRange 48 57 (get_or text k 0)) → value < 10 ^ 9
-few_worth text i value within few is digits =
-    omega (arith, is, digits_value_short own (take i text) 9 (taken_digits text i within digits) (omega (arith, length-take i text, few)))
+few_worth text i value within few is digits = worth_below 9 text i value within (omega (arith, few)) is digits
 
 -- a text that is apart begins with no digit
 apart_no_digit : (rest : List ℕ) → IsApart rest → 0 < length rest → IsInRange 48 57 (get_or rest 0 0) → ⊥
@@ -169,19 +172,22 @@ no_field text after len value e f none n rest field =
     let s = same_front after rest len value n f field.small is field.apart in
     none n field.small (ap (λ m. take m after) s.0 ∙ ap (take (length (decimal n))) is ∙ take-append_seam (decimal n) rest) s.1 (subst IsApart (sym s.2) field.apart)
 
--- the field at the front of a text that begins with a space and digits
-pub is_field : (text after : List ℕ) (len value : ℕ) → text ≡ 32 ∷ after → IsFront after len value → 0 < len → (get_or after 0 0 ≡ 48 → len ≡ 1) → IsApart (drop len after) → value < 2 ^ 32 → IsField text value (drop len after)
-is_field text after len value e f some lead apart small =
+-- digits at the front of a text that are those of their number
+pub front_decimal : (after : List ℕ) (len value : ℕ) → IsFront after len value → 0 < len → (get_or after 0 0 ≡ 48 → len ≡ 1) → value < 2 ^ 32 → take len after ≡ decimal value
+front_decimal after len value f some lead small =
     let own = numerals_by_value (AllDigits 10) tells_digits in
     let long : length (take len after) ≡ len = omega (arith, length-take len after, f.within) in
     let first : get_or (take len after) 0 0 ≡ get_or after 0 0 = get_or-take len after 0 0 some in
     let fits : digits_value 10 (take len after) < 2 ^ 64 = omega (arith, f.worth, small) in
-    let front : take len after ≡ decimal value =
-    sym (decimal-digits_value own (take len after) f.digits (omega (arith, long, some)) (λ z. long ∙ lead (sym first ∙ z)) fits) ∙ ap decimal f.worth in record {
-      small = small;
-      is = e ∙ ap (λ xs. 32 ∷ xs) (sym (take-append-drop len after) ∙ ap (λ xs. xs ++ drop len after) front);
-      apart = apart;
-    }
+    sym (decimal-digits_value own (take len after) f.digits (omega (arith, long, some)) (λ z. long ∙ lead (sym first ∙ z)) fits) ∙ ap decimal f.worth
+
+-- the field at the front of a text that begins with a space and digits
+pub is_field : (text after : List ℕ) (len value : ℕ) → text ≡ 32 ∷ after → IsFront after len value → 0 < len → (get_or after 0 0 ≡ 48 → len ≡ 1) → IsApart (drop len after) → value < 2 ^ 32 → IsField text value (drop len after)
+is_field text after len value e f some lead apart small = record {
+  small = small;
+  is = e ∙ ap (λ xs. 32 ∷ xs) (sym (take-append-drop len after) ∙ ap (λ xs. xs ++ drop len after) (front_decimal after len value f some lead small));
+  apart = apart;
+}
 
 -- what the front of a text has where it is a number
 pub front_leads : (after : List ℕ) (len n : ℕ) → len ≤ length after → n < 2 ^ 32 → take len after ≡ decimal n → (0 < len) × (get_or after 0 0 ≡ 48 → len ≡ 1)

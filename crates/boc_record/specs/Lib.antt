@@ -1,5 +1,6 @@
 pub mod Versions
 pub mod Faults
+pub mod Ahead
 pub mod Fields
 pub mod Writing
 pub mod Sinks

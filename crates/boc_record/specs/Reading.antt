@@ -7,7 +7,7 @@ use Rattle.boc_types.specs.declared.verdict.RecordFaultKind.{RecordFaultKind}
 use Rattle.boc_types.specs.declared.verdict.RecordFaultKind.TheVariants as kinds
 use Rattle.boc_types.specs.runs.Legal.{Entry, HasBounds, IsComplete}
 use Rattle.boc_types.specs.declared.rows.Row.{Row}
-use Rattle.boc_types.specs.runs.Records.{Recorded, IsRecord}
+use Rattle.boc_types.specs.runs.Records.{Recorded}
 use Rattle.boc_types.specs.text.RecordTexts.{Version, IsOneLine, IsCut, IsSpelt, IsTextOf, HasBegun, HasNoForm, FirstLineIs, begun, line, header, event_line, record_text, kind_of_rule, IsFirstFault}
 use Rattle.boc_text.specs.declared.lines.TheConstants.{CAPACITY}
 use Rattle.boc_rules.specs.Course.{IsOver}

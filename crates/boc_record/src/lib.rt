@@ -8,6 +8,7 @@
 //! taken to have written all of its own.
 #![tactic(auto)]
 
+mod ahead;
 mod fault;
 mod fields;
 mod laws;

@@ -131,7 +131,7 @@ fn cowns_from(cowns: &[u32]) -> Cowns
 }
 
 // The status of a number.
-fn status_of(number: u32) -> Option<EndStatus>
+pub fn status_of(number: u32) -> Option<EndStatus>
     ensures { MatchOption result ((status : EndStatus) → number ≡ status_number status → ⊥) (λ status. number ≡ status_number status) }
 {
     match number {

@@ -6,6 +6,7 @@ ghost use Rattle.boc_text.specs.Lines.{to_come};
 ghost use Rattle.boc_record.specs.Versions.{spelling};
 ghost use Rattle.boc_record.specs.Reading.{Reads, ReadsRows, ReadsRun, CountsRead, CountsPart, ReadsItem, ReadsHeader, ReadsEnd, Finishes, StopsWithin};
 
+use crate::ahead::event_ahead;
 use crate::fault::{RecordFault, kind_of};
 use crate::line::{event_of_line, version_and_cowns};
 use crate::sink::EventSink;
@@ -114,6 +115,10 @@ fn next_item<S: Source>(
     ensures ahead { length lines.new.buffered ≤ CAPACITY }
     ensures failures { CountsPart result (S.failures source.old) (S.failures source.new) }
 {
+    if let Some((event, len)) = event_ahead(lines.buffered(), version) {
+        lines.take_line(len);
+        return Ok(Some(event));
+    }
     match lines.advance(source) {
         Found::Line if lines.line() == b".".as_slice() => Ok(None),
         Found::Line => match event_of_line(lines.line(), version, judge) {

@@ -4,9 +4,9 @@ ghost use Rattle.std.specs.Prelude.{◌≡◌, ◌++◌, Some, length, OnOk};
 ghost use Rattle.boc_types.specs.answers.Texts.{bound_line, served_line, served_lines};
 ghost use Rattle.boc_report.specs.Parts.{IsWhole, part_of};
 
-use crate::number_line::put_line;
+use crate::number_line::{MOST_FIELD, put_line};
 use boc_greedy::Greedy;
-use boc_text::put_number;
+use boc_text::{put_number, write_before};
 use std::alloc::AllocError;
 
 /// The most bytes of the first line and the last one.
@@ -58,15 +58,12 @@ fn put_served_row(
 ) -> Result<(), AllocError>
     ensures { OnOk result (text.new.items ≡ text.old.items ++ served_line row start end worker) }
 {
-    put_number(text, row)?;
-    text.push(b' ')?;
-    put_number(text, start)?;
-    text.push(b' ')?;
-    put_number(text, end)?;
-    text.push(b' ')?;
-    put_number(text, u64::from(worker))?;
-    text.push(b'\n')?;
-    Ok(())
+    let mut line = [0; 4 * MOST_FIELD];
+    let worker_at = write_before(&mut line, 4 * MOST_FIELD, u64::from(worker), b'\n');
+    let end_at = write_before(&mut line, worker_at, end, b' ');
+    let start_at = write_before(&mut line, end_at, start, b' ');
+    let row_at = write_before(&mut line, start_at, row, b' ');
+    text.extend_from_slice(&line[row_at..])
 }
 
 // The line of the end of a greedy plan and its bound.

@@ -5,10 +5,10 @@ ghost use Rattle.boc_types.specs.answers.Texts.{report_text, step_line, step_lin
 ghost use Rattle.boc_report.specs.Parts.{IsWhole, part_of};
 
 use crate::greedy_lines::{greedy_bytes, put_greedy};
-use crate::number_line::put_line;
+use crate::number_line::{MOST_FIELD, put_line};
 use boc_greedy::Greedy;
 use boc_order::Profile;
-use boc_text::put_number;
+use boc_text::{put_number, write_before};
 use boc_types::chain::{ChainStep, Via};
 use std::alloc::{AllocError, Global};
 
@@ -115,11 +115,9 @@ fn put_plan(text: &mut Vec<u8>, starts: &[u64], ends: &[u64]) -> Result<(), Allo
 fn put_row(text: &mut Vec<u8>, row: u64, start: u64, end: u64) -> Result<(), AllocError>
     ensures { OnOk result (text.new.items ≡ text.old.items ++ plan_line row start end) }
 {
-    put_number(text, row)?;
-    text.push(b' ')?;
-    put_number(text, start)?;
-    text.push(b' ')?;
-    put_number(text, end)?;
-    text.push(b'\n')?;
-    Ok(())
+    let mut line = [0; 3 * MOST_FIELD];
+    let end_at = write_before(&mut line, 3 * MOST_FIELD, end, b'\n');
+    let start_at = write_before(&mut line, end_at, start, b' ');
+    let row_at = write_before(&mut line, start_at, row, b' ');
+    text.extend_from_slice(&line[row_at..])
 }

@@ -3,7 +3,8 @@
 ghost use Rattle.std.specs.Prelude.{◌≡◌, ◌++◌, OnOk, IfOk};
 ghost use Rattle.boc_types.specs.answers.Texts.{sweep_line, sweep_lines};
 
-use boc_text::put_number;
+use crate::number_line::MOST_FIELD;
+use boc_text::write_before;
 use std::alloc::{AllocError, Global};
 
 /// The most bytes of the line of a row, of which spans have at most eleven digits.
@@ -33,9 +34,8 @@ fn put_sweep(text: &mut Vec<u8>, spans: &[u64]) -> Result<(), AllocError>
 fn put_swept_row(text: &mut Vec<u8>, row: u64, span: u64) -> Result<(), AllocError>
     ensures { OnOk result (text.new.items ≡ text.old.items ++ sweep_line row span) }
 {
-    put_number(text, row)?;
-    text.push(b' ')?;
-    put_number(text, span)?;
-    text.push(b'\n')?;
-    Ok(())
+    let mut line = [0; 2 * MOST_FIELD];
+    let span_at = write_before(&mut line, 2 * MOST_FIELD, span, b'\n');
+    let row_at = write_before(&mut line, span_at, row, b' ');
+    text.extend_from_slice(&line[row_at..])
 }

@@ -12,6 +12,8 @@ mod drives;
 #[cfg(test)]
 mod eval;
 #[cfg(test)]
+mod gates;
+#[cfg(test)]
 mod greedy;
 #[cfg(test)]
 mod order;
@@ -31,5 +33,7 @@ mod text;
 mod what_if;
 #[cfg(test)]
 mod worked_rows;
+#[cfg(test)]
+mod workers;
 #[cfg(test)]
 mod written;

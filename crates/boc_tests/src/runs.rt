@@ -1,6 +1,7 @@
 // The commands that run a program by threads.
 
 use crate::commands::{GREEDY, NO_COWNS_REPORT, REPORT, TRANSFER, bytes};
+use crate::gates::{Meeting, Place, StopsAtSwap};
 use boc_commands::{Command, Fault, Runners, run_cmd, run_command, time_cmd};
 use boc_text::{Bytes, FailAt};
 use boc_types::workers::Workers;
@@ -9,10 +10,6 @@ use std::alloc::{AllocError, Global};
 use std::sync::Wait;
 use std::test::*;
 use std::thread::Threads;
-
-mod gates;
-
-use gates::{Meeting, StopsAtSwap};
 
 // Four behaviours with a cown each.
 const FOUR_SQUARES: &str = "cown c[4] = 0;
@@ -198,11 +195,14 @@ fn reports_whatever_the_threads(rt: HostRuntime) -> Result<(), Fail> {
 
 #[test]
 fn two_bodies_at_once(rt: HostRuntime) -> Result<(), Fail> {
-    let gate = Meeting::new(&rt);
+    let gate = Meeting::new(&rt, Place::AtBody);
     let answer = time_of(&rt, rt.alloc(), TWO_BODIES, 2, 0, &gate)?;
     assert_eq!(rt; answer.line.as_str(), "");
     assert_eq!(rt; answer.output.as_str(), TWO_BODIES_REPORT);
     assert!(rt; gate.both_came());
+    let alone = Meeting::new(&rt, Place::AtBody);
+    let answer = time_of(&rt, rt.alloc(), TWO_BODIES, 1, 0, &alone)?;
+    assert_eq!(rt; answer.line.as_str(), "boc: run: 3 Held");
     Ok(())
 }
 
@@ -217,7 +217,7 @@ fn as_many_threads_as_asked_for(rt: HostRuntime) -> Result<(), Fail> {
             workers: None,
         },
     ] {
-        let gate = Meeting::new(&rt);
+        let gate = Meeting::new(&rt, Place::AtBody);
         let mut source = bytes(alloc, TWO_BODIES)?;
         let mut sink = bytes(alloc, "")?;
         let result = run_command(&rt, alloc, &gate, &command, &mut source, &mut sink);

@@ -1,11 +1,15 @@
 //! Numbers as decimal text.
 
-ghost use Rattle.std.specs.Prelude.{◌≡◌, ◌++◌, ◌<◌, ◌^◌, ℕ, decimal, OnOk, OnErr, MatchOption};
+ghost use Rattle.std.specs.Prelude.{◌≡◌, ◌++◌, ◌+◌, ◌∷◌, ◌<◌, ◌≤◌, ◌^◌, ℕ, decimal, drop, length, OnOk, OnErr, MatchOption};
 ghost use Rattle.std.specs.Fmt.{signed_decimal};
+ghost use Rattle.boc_text.specs.declared.decimal.TheConstants.{MOST_DIGITS};
 ghost use Rattle.std.specs.Str.Parse.{AllDigits, digits_value};
 
-use itoa::Buffer;
+use itoa::{Buffer, write_digits};
 use std::alloc::AllocError;
+
+/// The most digits of a number of 64 bits.
+pub const MOST_DIGITS: usize = 20;
 
 /// Puts a number behind the text. After a refusal of memory the text is as before.
 pub fn put_number(text: &mut Vec<u8>, number: u64) -> Result<(), AllocError>
@@ -22,6 +26,18 @@ pub fn put_signed(text: &mut Vec<u8>, value: i64) -> Result<(), AllocError>
     ensures err { OnErr result (text.new.items ≡ text.old.items) }
 {
     text.extend_from_slice(Buffer::new().format(value).as_bytes())
+}
+
+/// Writes a number in front of what a line has from a place on, with a byte between them, and says where it begins.
+pub fn write_before(line: &mut [u8], place: usize, number: u64, between: u8) -> usize
+    requires room { MOST_DIGITS < place }
+    requires within { place ≤ length line.old }
+    ensures written { drop result line.new ≡ decimal number ++ between ∷ drop place line.old }
+    ensures near { place ≤ result + MOST_DIGITS + 1 }
+{
+    let end = place - 1;
+    line[end] = between;
+    write_digits(number, line, end)
 }
 
 // The number that digits are worth.

@@ -15,7 +15,7 @@ pub mod whole;
 
 pub use bytes::Bytes;
 pub use counted::Counted;
-pub use decimal::{put_number, put_signed, read_number};
+pub use decimal::{MOST_DIGITS, put_number, put_signed, read_number, write_before};
 pub use fail_at::FailAt;
 pub use lines::{Found, Lines, MOST_LINE, Next};
 pub use stream::{Failed, Sink, Source};

@@ -125,14 +125,17 @@ impl Lines {
         }
     }
 
-    fn buffered(&self) -> &[u8]
-        ensures { result.now ≡ self.now.buffered }
+    /// The bytes that are taken in and not given yet.
+    pub fn buffered(&self) -> &[u8]
+        ensures bytes { result.now ≡ self.now.buffered }
+        ensures few { length result.now ≤ CAPACITY }
     {
         &self.buffer[self.start..self.end]
     }
 
-    // Goes past the line of so many bytes and its line feed.
-    fn take_line(&mut self, len: usize)
+    /// Goes past the line of so many bytes and its line feed, which stand at the front of those taken in. `line` then gives
+    /// it.
+    pub fn take_line(&mut self, len: usize)
         requires open { self.old.is_over ≡ false }
         requires within { len < length self.old.buffered }
         ensures line { self.new.line ≡ take len self.old.buffered }

@@ -11,13 +11,16 @@ use crate::fault::RunFault;
 use crate::gate::{Gate, Go};
 use crate::made::Made;
 use crate::shared::Shared;
+use crate::waiters::{Call, Waiters};
 use boc_dispatch::{Step, Turn, Worker};
 use boc_types::program::Program;
 use boc_types::record::Record;
 use std::alloc::Global;
+use std::hint::spin_loop;
 use std::marker::Brand;
+use std::sync::atomic::{AtomicU64, Ordering};
 use std::sync::ledger::{Blank, Ledger, Share};
-use std::sync::{Condvar, Mutex, Wait};
+use std::sync::{Condvar, Mutex, MutexGuard, Wait};
 use std::thread;
 use std::thread::{Builder, Scope, Threads};
 
@@ -30,6 +33,12 @@ pub struct RunAnswer {
 
 // The bytes of a worker's stack.
 const STACK: usize = 2 << 20;
+
+// How many pauses there are after each try for the lock, before a worker sleeps for it.
+const TRIES: [u32; 6] = [4, 8, 16, 32, 64, 64];
+
+// How long a worker looks for what it waits for before it sleeps, in pauses.
+const LOOKS: u32 = 200;
 
 /// Runs a program by so many workers, each in a thread of its own. There is no record after a fault. Of several faults the
 /// one that was noted first is answered; but that the program is a stranger comes before it, and that the run is
@@ -81,7 +90,10 @@ pub(crate) fn run_by<L: Ledger + Send + Sync, G: Gate, R: Threads + Wait + Sync>
         rt,
         alloc,
         lock: Mutex::new(shared),
-        changed: Condvar::new(),
+        waiters: Waiters::new(),
+        freed: Condvar::new(),
+        seen: Condvar::new(),
+        ready: Condvar::new(),
         gate,
         stack,
     };
@@ -90,7 +102,10 @@ pub(crate) fn run_by<L: Ledger + Send + Sync, G: Gate, R: Threads + Wait + Sync>
         rt: _,
         alloc: _,
         lock,
-        changed: _,
+        waiters: _,
+        freed: _,
+        seen: _,
+        ready: _,
         gate: _,
         stack: _,
     } = hall;
@@ -102,8 +117,13 @@ struct Hall<'a, 'g, 'r, L: Ledger, G: Gate, R> {
     rt: &'r R,
     alloc: Global,
     lock: Mutex<Shared<'a, 'g, L, G>>,
-    // Told of each change under the lock.
-    changed: Condvar,
+    waiters: Waiters,
+    // Rings where a request was settled or flagged, for those who are blocked.
+    freed: Condvar,
+    // Rings where a row is ready, for those who look for one.
+    seen: Condvar,
+    // Rings where a row is ready, for one who sleeps.
+    ready: Condvar,
     gate: &'g G,
     // The bytes of each thread's stack.
     stack: usize,
@@ -201,20 +221,88 @@ impl<'a, 'g, 'r, L: Ledger, G: Gate, R: Wait> Hall<'a, 'g, 'r, L, G, R> {
 
     // The next turn of a worker that isn't to wait for others.
     fn turn(&self, worker: &mut Worker<'a>, made: &mut Made<L>) -> Option<Turn> {
-        let mut shared = self.lock.lock(self.rt);
+        let waiters = &self.waiters;
+        let mut shared = self.enter();
+        let mut has_looked = false;
         for _ in self.rt.forever() {
-            match shared.turn(worker, made) {
-                Some(Turn::Blocked | Turn::NoneReady) => {
-                    shared = self.changed.wait(self.rt, shared);
-                }
-                turn => {
+            let turn = shared.turn(worker, made);
+            shared = match (turn, has_looked) {
+                (Some(Turn::Blocked), false) => self.look(shared, &waiters.blocked, &self.freed),
+                (Some(Turn::Blocked), true) => self.sleep(shared, &waiters.blocked, &self.freed),
+                (Some(Turn::NoneReady), false) => self.look(shared, &waiters.looking, &self.seen),
+                (Some(Turn::NoneReady), true) => self.sleep(shared, &waiters.sleeping, &self.ready),
+                _ => {
+                    let call = waiters.call_after(&shared, turn);
                     drop(shared);
-                    self.changed.notify_all();
+                    self.call(call);
                     return turn;
                 }
-            }
+            };
+            has_looked = !has_looked;
         }
         None
+    }
+
+    // The lock. For a short while it is tried at growing distances: who unlocks it then has nobody to wake.
+    fn enter(&self) -> MutexGuard<'_, Shared<'a, 'g, L, G>> {
+        for pauses in &TRIES {
+            if let Some(shared) = self.lock.try_lock() {
+                return shared;
+            }
+            for _ in 0..*pauses {
+                spin_loop();
+            }
+        }
+        self.lock.lock(self.rt)
+    }
+
+    // Looks for a while, with the lock free, whether this bell rings.
+    fn look<'s>(
+        &'s self,
+        shared: MutexGuard<'s, Shared<'a, 'g, L, G>>,
+        count: &AtomicU64,
+        bell: &Condvar,
+    ) -> MutexGuard<'s, Shared<'a, 'g, L, G>> {
+        count.fetch_add(1, Ordering::SeqCst);
+        let rung = bell.notifications();
+        drop(shared);
+        for _ in 0..LOOKS {
+            if bell.notifications() != rung {
+                break;
+            }
+            spin_loop();
+        }
+        let shared = self.enter();
+        count.fetch_sub(1, Ordering::SeqCst);
+        shared
+    }
+
+    // Sleeps until this bell rings.
+    fn sleep<'s>(
+        &'s self,
+        shared: MutexGuard<'s, Shared<'a, 'g, L, G>>,
+        count: &AtomicU64,
+        bell: &Condvar,
+    ) -> MutexGuard<'s, Shared<'a, 'g, L, G>> {
+        count.fetch_add(1, Ordering::SeqCst);
+        let shared = bell.wait(self.rt, shared);
+        count.fetch_sub(1, Ordering::SeqCst);
+        shared
+    }
+
+    // Calls those who wait and may go on.
+    fn call(&self, call: Call) {
+        match call {
+            Call::Nobody => {}
+            Call::Blocked => self.freed.notify_all(),
+            Call::Lookers => self.seen.notify_all(),
+            Call::Sleeper => self.ready.notify_one(),
+            Call::Everybody => {
+                self.freed.notify_all();
+                self.seen.notify_all();
+                self.ready.notify_all();
+            }
+        }
     }
 
     // What the gate says to a worker that made this step.
@@ -231,7 +319,7 @@ impl<'a, 'g, 'r, L: Ledger, G: Gate, R: Wait> Hall<'a, 'g, 'r, L, G, R> {
     fn stop(&self, fault: RunFault)
         requires { MayNote G.always_on fault }
     {
-        self.lock.lock(self.rt).note(fault);
-        self.changed.notify_all();
+        self.enter().note(fault);
+        self.call(Call::Everybody);
     }
 }

@@ -7,12 +7,10 @@ mod fault;
 mod gate;
 mod made;
 mod shared;
+mod waiters;
 
 pub use crew::{RunAnswer, run};
 pub use fault::RunFault;
 pub use gate::{Gate, Go, OpenGate};
 pub use made::Made;
 pub use shared::Shared;
-
-#[cfg(test)]
-mod tests;

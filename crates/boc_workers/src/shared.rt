@@ -1,6 +1,6 @@
 // What lies under the lock.
 
-ghost use Rattle.std.specs.Prelude.{◌≡◌, ◌≢◌, ◌+◌, IfSome, IfNone, None, Some, IfOk, IfErr, IsOk, IsErrOf, sum, vec_len};
+ghost use Rattle.std.specs.Prelude.{◌≡◌, ◌≢◌, ◌+◌, ◌↔◌, [], false, IfSome, IfNone, None, Some, IfOk, IfErr, IsOk, IsErrOf, sum, vec_len};
 ghost use Rattle.boc_types.specs.runs.Records.{IsRecordOf};
 ghost use Rattle.boc_types.specs.machine.AlongRows.{EndsSerially, cowns_of_rows, steps_of_rows};
 ghost use Rattle.boc_types.specs.machine.Steps.{opening_state};
@@ -77,6 +77,13 @@ impl<'a, 'g, L: Ledger, G: Gate> Shared<'a, 'g, L, G> {
             _ => {}
         }
         Some(turn)
+    }
+
+    /// A row is ready to be started.
+    pub fn has_ready(&self) -> bool
+        ensures { (result ≡ false) ↔ (self.now.dispatcher.state.ready ≡ []) }
+    {
+        self.dispatcher.has_ready()
     }
 
     /// Notes a fault, unless one is noted already.

@@ -2,10 +2,10 @@
 
 ghost use Rattle.std.specs.Prelude.{◌≡◌, OnOk, map, take, length};
 ghost use Rattle.boc_types.specs.memory.View.{cown_ref_of};
-ghost use Rattle.boc_types.specs.text.Shape.{member};
+ghost use Rattle.boc_types.specs.text.Shape.{declare, member};
 ghost use Rattle.boc_types.specs.text.Names.{slot_of as slot_of_spec, global, held_or_single, ref_names, all_names, call_names, stmt_names, block_names};
 ghost use Rattle.boc_reader.specs.Views.{expr_of, named_cown_of, stmt_of, block_of};
-ghost use Rattle.boc_reader.specs.Resolving.{Yields, YieldsIn, names_of, resolved_stmt_of, outside_of};
+ghost use Rattle.boc_reader.specs.Resolving.{Yields, YieldsIn, assign_names, choice_names, loop_names, names_of, resolved_stmt_of, outside_of};
 
 use crate::fault::{Fault, NameFault};
 use crate::names::expr::{resolve_expr, resolve_exprs, slot_of};
@@ -110,7 +110,43 @@ fn resolve_call(
     Ok(Stmt::When(kind, args, references))
 }
 
-// A statement. A `let` puts its name into the scope, once its expression is resolved.
+// A `let`, which puts its name into the scope once its expression is resolved.
+fn resolve_let<'a>(
+    alloc: Global,
+    outside: &Outside<'_, 'a>,
+    scope: &mut Vec<&'a str>,
+    spot: &Spot<'a>,
+    value: &shape::Expr<'a>,
+) -> Result<Stmt, Fault<NameFault>>
+    ensures names { YieldsIn resolved_stmt_of result (names_of scope.new.items) (stmt_names (declare spot.now.name.now (expr_of value.now)) (outside_of outside.now) (names_of scope.old.items)) }
+    ensures grows { OnOk result (take (length scope.old.items) scope.new.items ≡ scope.old.items) }
+{
+    if !outside.top.leaves_free(scope, spot.name) {
+        return Err(Fault::At(NameFault::NameTaken, spot.at));
+    }
+    let value = resolve_expr(alloc, scope, value)?;
+    let slot = scope.len();
+    scope.push(spot.name)?;
+    Ok(Stmt::Assign(slot, value))
+}
+
+// An assignment to a name in scope.
+fn resolve_assign(
+    alloc: Global,
+    scope: &[&str],
+    spot: &Spot<'_>,
+    value: &shape::Expr<'_>,
+) -> Result<Stmt, Fault<NameFault>>
+    ensures { Yields resolved_stmt_of result (assign_names spot.now.name.now (expr_of value.now) (names_of scope.now)) }
+{
+    let Some(slot) = slot_of(scope, spot.name) else {
+        return Err(Fault::At(NameFault::UnknownName, spot.at));
+    };
+    let value = resolve_expr(alloc, scope, value)?;
+    Ok(Stmt::Assign(slot, value))
+}
+
+// A statement.
 #[cycle(resolve)]
 fn resolve_stmt<'a>(
     alloc: Global,
@@ -122,43 +158,56 @@ fn resolve_stmt<'a>(
     ensures grows { OnOk result (take (length scope.old.items) scope.new.items ≡ scope.old.items) }
 {
     match stmt {
-        shape::Stmt::Let(spot, value) => {
-            if !outside.top.leaves_free(scope, spot.name) {
-                return Err(Fault::At(NameFault::NameTaken, spot.at));
-            }
-            let value = resolve_expr(alloc, scope, value)?;
-            let slot = scope.len();
-            scope.push(spot.name)?;
-            Ok(Stmt::Assign(slot, value))
-        }
-        shape::Stmt::Assign(spot, value) => {
-            let Some(slot) = slot_of(scope, spot.name) else {
-                return Err(Fault::At(NameFault::UnknownName, spot.at));
-            };
-            let value = resolve_expr(alloc, scope, value)?;
-            Ok(Stmt::Assign(slot, value))
-        }
+        shape::Stmt::Let(spot, value) => resolve_let(alloc, outside, scope, spot, value),
+        shape::Stmt::Assign(spot, value) => resolve_assign(alloc, scope, spot, value),
         shape::Stmt::Work(ticks) => Ok(Stmt::Work(resolve_expr(alloc, scope, ticks)?)),
         shape::Stmt::If(condition, block) => {
-            let condition = resolve_expr(alloc, scope, condition)?;
-            let block = resolve_block(alloc, outside, scope, block)?;
-            Ok(Stmt::If(condition, block, Block::new(Vec::new(alloc))))
+            resolve_choice(alloc, outside, scope, condition, block, &[])
         }
         shape::Stmt::IfElse(condition, block, other) => {
-            let condition = resolve_expr(alloc, scope, condition)?;
-            let block = resolve_block(alloc, outside, scope, block)?;
-            let other = resolve_block(alloc, outside, scope, other)?;
-            Ok(Stmt::If(condition, block, other))
+            resolve_choice(alloc, outside, scope, condition, block, other)
         }
-        shape::Stmt::Repeat(turns, block) => {
-            let turns = resolve_expr(alloc, scope, turns)?;
-            let block = resolve_block(alloc, outside, scope, block)?;
-            Ok(Stmt::Repeat(turns, block))
-        }
+        shape::Stmt::Repeat(turns, block) => { resolve_repeat(alloc, outside, scope, turns, block) }
         shape::Stmt::When(def, args, references) => {
             resolve_call(alloc, outside, scope, def, args, references)
         }
     }
+}
+
+// An `if`. Without `else` the other block is empty.
+#[cycle(resolve)]
+fn resolve_choice<'a>(
+    alloc: Global,
+    outside: &Outside<'_, 'a>,
+    scope: &mut Vec<&'a str>,
+    condition: &shape::Expr<'a>,
+    block: &[shape::Stmt<'a>],
+    other: &[shape::Stmt<'a>],
+) -> Result<Stmt, Fault<NameFault>>
+    ensures names { Yields resolved_stmt_of result (choice_names (expr_of condition.now) (block_of block.now) (block_of other.now) (outside_of outside.now) (names_of scope.old.items)) }
+    ensures scope { OnOk result (scope.new.items ≡ scope.old.items) }
+{
+    let condition = resolve_expr(alloc, scope, condition)?;
+    let block = resolve_block(alloc, outside, scope, block)?;
+    let other = resolve_block(alloc, outside, scope, other)?;
+    Ok(Stmt::If(condition, block, other))
+}
+
+// A `repeat`.
+#[cycle(resolve)]
+fn resolve_repeat<'a>(
+    alloc: Global,
+    outside: &Outside<'_, 'a>,
+    scope: &mut Vec<&'a str>,
+    turns: &shape::Expr<'a>,
+    block: &[shape::Stmt<'a>],
+) -> Result<Stmt, Fault<NameFault>>
+    ensures names { Yields resolved_stmt_of result (loop_names (expr_of turns.now) (block_of block.now) (outside_of outside.now) (names_of scope.old.items)) }
+    ensures scope { OnOk result (scope.new.items ≡ scope.old.items) }
+{
+    let turns = resolve_expr(alloc, scope, turns)?;
+    let block = resolve_block(alloc, outside, scope, block)?;
+    Ok(Stmt::Repeat(turns, block))
 }
 
 /// The statements of a block. The names that it declares are free again behind it.

@@ -11,3 +11,17 @@ returns-in_err-put_out-clause-written g c =
       whole = read.over;
       answers = reported c.args.workers read.text asked.0 c.in_ok-rows.rows c.in_ok-answer.answer.items c.deref.result.now read.text_of asked.2 c.in_ok-answer.ensures c.deref.ensures.value;
     }) c.in_err-put_out.ensures.stopped
+
+pub returns-clause-written : goal.returns-clause-written
+returns-clause-written g c =
+    let asked = c.in_ok-rows.ensures.rows_or_fault in
+    let read = asked.1 in (
+      c.deref.result.now,
+      record {
+        input = read.text;
+        taken = read.taken;
+        whole = read.over;
+        answers = reported c.args.workers read.text asked.0 c.in_ok-rows.rows c.in_ok-answer.answer.items c.deref.result.now read.text_of asked.2 c.in_ok-answer.ensures c.deref.ensures.value;
+      },
+      c.in_ok-put_out.ensures.ok,
+    )

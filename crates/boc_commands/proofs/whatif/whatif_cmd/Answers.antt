@@ -31,3 +31,19 @@ returns-in_err-edit_all-clause-refused g c =
     refuses_as _ _ c.args.edits.now _ c.from_residual-in_err-edit_all.ensures.1
     (refused_edits _ c.args.edits.now c.in_ok-question.question.rows r _ c.in_err-edit_all.ensures.unfit (c.in_ok-question.ensures.rows ∙ asked.2)
     (told (λ text. IsTextOf text r) _ _ read.text read.taken read.over read.text_of))
+
+pub returns-clause-written : goal.returns-clause-written
+returns-clause-written g c =
+    let asked = c.in_ok-rows.ensures.rows_or_fault in
+    let read = asked.1 in (
+      c.deref.result.now,
+      record {
+        input = read.text;
+        taken = read.taken;
+        whole = read.over;
+        answers = answered c.args.edits.now c.args.workers read.text asked.0 c.in_ok-question.question.rows c.edit_all.new.question.rows c.rows.result.now c.in_ok-answer.answer.items
+            c.deref.result.now read.text_of (c.in_ok-question.ensures.rows ∙ asked.2) c.in_ok-edit_all.ensures.fit c.in_ok-edit_all.ensures.rows
+            c.rows.ensures c.in_ok-answer.ensures c.deref.ensures.value;
+      },
+      c.in_ok-put_out.ensures.ok,
+    )

@@ -11,10 +11,10 @@ pub returns-in-Ended : goal.returns-in-Ended
 returns-in-Ended c =
     let job = c.in-Started.job in
     let ends = c.in-Ended.ensures.stop in
-    let gives = c.into_outcome.ensures in
+    let gives = c.end.ensures in
     let frame = c.in_ok-frame-in-Started.frame in
     let at_start = c.in_ok-frame-in-Started.ensures in
-    subst (λ (h : Hand). HasThought h (Ok tt) (hands.Done job.row c.into_outcome.result)) (sym c.in-Started.is) (
+    subst (λ (h : Hand). HasThought h (Ok tt) (hands.Done job.row c.end.result)) (sym c.in-Started.is) (
       refl,
       record {
         ended = c.run.new.self;

@@ -1,4 +1,4 @@
-use Rattle.std.proofs.Common.{List, subst, sym}
+use Rattle.std.proofs.Common.{List, subst}
 use Rattle.boc_types.specs.runs.Legal.{Entry}
 use Rattle.boc_types.specs.runs.Records.{AreRowsOf}
 use Rattle.boc_record.proofs.Known.{rows_given, rows_taken}

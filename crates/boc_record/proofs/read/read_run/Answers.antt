@@ -1,4 +1,4 @@
-use Rattle.std.proofs.Common.{◌≡◌, ◌∙◌, ◌+◌, ℕ, List, Option, sym, subst, arith}
+use Rattle.std.proofs.Common.{◌∙◌, ◌+◌, ℕ, List, Option, sym, subst, arith}
 use Rattle.std.proofs.lemmas.Result.{err_from_is_err_and}
 use Rattle.boc_text.specs.Lines.{to_come}
 use Rattle.boc_record.specs.Versions.{spelling}

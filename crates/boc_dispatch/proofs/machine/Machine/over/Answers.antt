@@ -34,7 +34,7 @@ returns-clause-sound g c =
     let table : List (Option Live) = c.reach.new.live.items in
     let l : Live = c.main_behaviour.result in
     let fresh = c.main_behaviour.ensures.fresh in
-    let main : IsMain l = record { behaviour = c.main_behaviour.ensures.behaviour; state = c.main_behaviour.ensures.state; number = fresh.0; inputs = fresh.1; spawned = fresh.3; child = fresh.4 } in
+    let main : IsMain l = record { behaviour = c.main_behaviour.ensures.behaviour; state = c.main_behaviour.ensures.state; number = fresh.0; spawned = fresh.2; child = fresh.3 } in
     let nothing : c.new-live.result.items ≡ [] = c.new-live.ensures.items in
     let same : (s : ℕ) → live_at table s ≡ live_at c.new-live.result.items s = c.in_ok-reach.ensures.same in
     let free : (s : ℕ) → live_at table s ≡ None = λ s. same s ∙ ap (λ (xs : List (Option Live)). live_at xs s) nothing ∙ nothing_at s in
@@ -115,7 +115,7 @@ returns-clause-opening g c =
     let table : List (Option Live) = c.reach.new.live.items in
     let l : Live = c.main_behaviour.result in
     let fresh = c.main_behaviour.ensures.fresh in
-    let main : IsMain l = record { behaviour = c.main_behaviour.ensures.behaviour; state = c.main_behaviour.ensures.state; number = fresh.0; inputs = fresh.1; spawned = fresh.3; child = fresh.4 } in
+    let main : IsMain l = record { behaviour = c.main_behaviour.ensures.behaviour; state = c.main_behaviour.ensures.state; number = fresh.0; spawned = fresh.2; child = fresh.3 } in
     let nothing : c.new-live.result.items ≡ [] = c.new-live.ensures.items in
     let same : (s : ℕ) → live_at table s ≡ live_at c.new-live.result.items s = c.in_ok-reach.ensures.same in
     let free : (s : ℕ) → live_at table s ≡ None = λ s. same s ∙ ap (λ (xs : List (Option Live)). live_at xs s) nothing ∙ nothing_at s in

@@ -5,12 +5,14 @@ use Rattle.boc_types.specs.declared.stage.Stage.{Stage}
 use Rattle.boc_types.specs.declared.stage.Stage.TheVariants.{Asking, Recorded}
 use Rattle.boc_types.specs.machine.Stages.{row_at}
 use Rattle.boc_types.specs.machine.Turns.{IsEnqueueOf}
+use Rattle.boc_types.specs.program.Signatures.{AllBelow}
+use Rattle.boc_types.specs.runs.Serial.{inputs_of}
 use Rattle.boc_dispatch.specs.declared.live.Live.{Live}
 use Rattle.boc_dispatch.specs.Calls.{IsHandedOut, IsLeaving}
 use Rattle.boc_dispatch.specs.Inside.{parts_of, state, underway, live_at, IsOfRow, IsStageAt, HasInHand}
 use Rattle.boc_dispatch.specs.Moves.{IsFoundEnqueue, IsFoundLeaving}
 use Rattle.boc_dispatch.proofs.Tables.{read_place, live_there}
-use Rattle.boc_dispatch.proofs.Homes.{handed_slot, handed_means, hands_out, kind_there}
+use Rattle.boc_dispatch.proofs.Homes.{handed_slot, handed_means, hands_out, kind_there, params_below}
 use Rattle.boc_dispatch.proofs.machine.Machine.running.Goals as goal
 
 pub returns-in_err-slot : goal.returns-in_err-slot
@@ -21,8 +23,8 @@ returns-in_err-slot g c =
     subst (λ (o : Option ℕ). MatchOption o (Handed → ⊥) (λ slot. Handed × IsStageAt d slot (Recorded row phases.Running))) (sym c.from_residual.ensures)
     (λ h. let s = handed_slot d c.requires.kept row c.args.body.now c.args.args.now c.args.inputs.now h in c.in_err-slot.ensures s.0 s.1)
 
-pub runs_on-requires : goal.runs_on-requires
-runs_on-requires g c =
+pub runs_on-requires-clause-kind : goal.runs_on-requires-clause-kind
+runs_on-requires-clause-kind g c =
     let d = parts_of g.C.Chains.lists g.C.Chains.place c.args.self.now in
     let row : ℕ = c.args.row in
     let slot : ℕ = c.in_ok-slot.slot in
@@ -30,6 +32,17 @@ runs_on-requires g c =
     let read : c.index.result.now ≡ Some x.this = read_place c.args.self.now.live.items slot x.this c.index.result.now x.is c.index.ensures in
     let same : c.in-Some.live ≡ x.this = (let e : Some c.in-Some.live ≡ Some x.this = sym c.in-Some.is ∙ read in cc) in
     subst (λ (l : Live). l.kind < length d.program.bodies) (sym same) (kind_there d c.requires.kept slot row x)
+
+pub runs_on-requires-clause-below : goal.runs_on-requires-clause-below
+runs_on-requires-clause-below g c =
+    let d = parts_of g.C.Chains.lists g.C.Chains.place c.args.self.now in
+    let row : ℕ = c.args.row in
+    let slot : ℕ = c.in_ok-slot.slot in
+    let x = c.in_ok-slot.ensures in
+    let read : c.index.result.now ≡ Some x.this = read_place c.args.self.now.live.items slot x.this c.index.result.now x.is c.index.ensures in
+    let same : c.in-Some.live ≡ x.this = (let e : Some c.in-Some.live ≡ Some x.this = sym c.in-Some.is ∙ read in cc) in
+    subst (λ (l : Live). AllBelow (length c.deref.result.now) l.params.items) (sym same)
+    (subst (λ (n : ℕ). AllBelow n x.this.params.items) (ap length (sym c.deref.ensures.value)) (params_below d c.requires.kept slot row x))
 
 pub returns-in-Some : goal.returns-in-Some
 returns-in-Some g c =
@@ -43,7 +56,7 @@ returns-in-Some g c =
     let stage = ap (λ (l : Live). l.stage) (sym same) ∙ runs.0 in (
       hands_out d c.requires.kept slot row x c.args.body.now c.args.args.now c.args.inputs.now stage
           (ap (λ (l : Live). slice_get d.program.bodies l.kind) (sym same) ∙ runs.1)
-          (runs.2 ∙ ap (λ (l : Live). l.args.items) same) (runs.3 ∙ ap (λ (l : Live). l.inputs.items) same),
+          (runs.2 ∙ ap (λ (l : Live). l.args.items) same) (runs.3 ∙ (λ i. inputs_of (same i).params.items (c.deref.ensures.value i))),
       (x.this, record { is = x.is; stage_is = stage }),
     )
 
@@ -61,6 +74,6 @@ returns-in_default g c =
       ap (λ (l : Live). l.stage) same ∙ means.0,
       ap (λ (l : Live). slice_get d.program.bodies l.kind) same ∙ means.1,
       means.2 ∙ ap (λ (l : Live). l.args.items) (sym same),
-      means.3 ∙ ap (λ (l : Live). l.inputs.items) (sym same),
+      means.3 ∙ (λ i. inputs_of (sym same i).params.items (sym c.deref.ensures.value i)),
     ) in
     absurd (let e : false ≡ true = sym c.if-runs_on.false ∙ yes in cc))

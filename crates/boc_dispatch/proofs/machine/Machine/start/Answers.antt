@@ -65,7 +65,7 @@ put-requires-clause-allowed g c =
     let row_is : row_at first.0.stage ≡ Some row = subst (λ (o : Option Live). Has o (λ l. row_at l.stage ≡ Some row)) read c.begin-job.ensures.row in
     let same : first.1 ≡ row = (let e : Some first.1 ≡ Some row = sym (ap row_at first.3) ∙ row_is in cc) in
     let stage_is : first.0.stage ≡ Recorded row phases.Ready = first.3 ∙ ap (λ (r : ℕ). Recorded r phases.Ready) same in
-    start_allowed d k slot c.pop_front.new.self.items c.in_ok-slot.ensures.items first.0 row first.2 stage_is c.begin-job.result.inputs
+    start_allowed d k slot c.pop_front.new.self.items c.in_ok-slot.ensures.items first.0 row first.2 stage_is
 
 pub overflow_add-self : goal.overflow_add-self
 overflow_add-self g c =
@@ -83,15 +83,12 @@ returns-clause-sound g c =
     let row_is : row_at first.0.stage ≡ Some row = subst (λ (o : Option Live). Has o (λ l. row_at l.stage ≡ Some row)) read c.begin-job.ensures.row in
     let same : first.1 ≡ row = (let e : Some first.1 ≡ Some row = sym (ap row_at first.3) ∙ row_is in cc) in
     let stage_is : first.0.stage ≡ Recorded row phases.Ready = first.3 ∙ ap (λ (r : ℕ). Recorded r phases.Ready) same in
-    let inputs = c.begin-job.result.inputs in
     let rest = c.pop_front.new.self.items in
-    let placed = read_changed (begun row inputs) d.live slot first.0 c.index_mut.result.now c.begin-job.new.place first.2 c.index_mut.ensures.value c.begin-job.ensures.started in
-    let inputs_are : inputs.items ≡ inputs_of first.0.params.items d.values =
-    subst (λ (o : Option Live). Has o (λ l. inputs.items ≡ inputs_of l.params.items c.deref.result.now)) read c.begin-job.ensures.inputs ∙ ap (inputs_of first.0.params.items) c.deref.ensures.value in
+    let placed = read_changed (begun row) d.live slot first.0 c.index_mut.result.now c.begin-job.new.place first.2 c.index_mut.ensures.value c.begin-job.ensures.started in
     let homes = vec_capacity c.args.self.now.homes in
     let ready = deque_capacity c.args.self.now.ready in
-    let kept = start_keeps d k slot rest c.in_ok-slot.ensures.items first.0 row first.2 stage_is inputs inputs_are in
-    let rooms = start_rooms d k slot rest c.in_ok-slot.ensures.items first.0 row first.2 stage_is inputs homes ready c.requires.rooms in
+    let kept = start_keeps d k slot rest c.in_ok-slot.ensures.items first.0 row first.2 stage_is in
+    let rooms = start_rooms d k slot rest c.in_ok-slot.ensures.items first.0 row first.2 stage_is homes ready c.requires.rooms in
     record {
       kept = subst (λ (r : Log). IsKept (started_parts d slot c.begin-job.new.place rest r)) (sym c.put.ensures)
           (subst (λ (o : Option Live). IsKept (started_parts d slot o rest (grown d.rules (Start row)))) placed kept);
@@ -111,18 +108,18 @@ returns-clause-starts g c =
     let row_is : row_at first.0.stage ≡ Some row = subst (λ (o : Option Live). Has o (λ l. row_at l.stage ≡ Some row)) read c.begin-job.ensures.row in
     let same : first.1 ≡ row = (let e : Some first.1 ≡ Some row = sym (ap row_at first.3) ∙ row_is in cc) in
     let stage_is : first.0.stage ≡ Recorded row phases.Ready = first.3 ∙ ap (λ (r : ℕ). Recorded r phases.Ready) same in
-    let inputs = c.begin-job.result.inputs in
     let rest = c.pop_front.new.self.items in
-    let placed = read_changed (begun row inputs) d.live slot first.0 c.index_mut.result.now c.begin-job.new.place first.2 c.index_mut.ensures.value c.begin-job.ensures.started in
+    let placed = read_changed (begun row) d.live slot first.0 c.index_mut.result.now c.begin-job.new.place first.2 c.index_mut.ensures.value c.begin-job.ensures.started in
+    let inputs = c.begin-job.result.inputs in
     let inputs_are : inputs.items ≡ inputs_of first.0.params.items d.values =
     subst (λ (o : Option Live). Has o (λ l. inputs.items ≡ inputs_of l.params.items c.deref.result.now)) read c.begin-job.ensures.inputs ∙ ap (inputs_of first.0.params.items) c.deref.ensures.value in
-    let made = starts d k slot rest c.in_ok-slot.ensures.items first.0 row first.2 stage_is inputs in
-    let kept = start_keeps d k slot rest c.in_ok-slot.ensures.items first.0 row first.2 stage_is inputs inputs_are in
-    let e = started_parts d slot (Some (begun row inputs first.0)) rest (grown d.rules (Start row)) in
-    let x : IsOfRow e slot row = record { this = begun row inputs first.0; is = live_here d.live slot (Some (begun row inputs first.0)) (live_there d.live slot first.0 first.2); row_is = refl } in
+    let made = starts d k slot rest c.in_ok-slot.ensures.items first.0 row first.2 stage_is in
+    let kept = start_keeps d k slot rest c.in_ok-slot.ensures.items first.0 row first.2 stage_is in
+    let e = started_parts d slot (Some (begun row first.0)) rest (grown d.rules (Start row)) in
+    let x : IsOfRow e slot row = record { this = begun row first.0; is = live_here d.live slot (Some (begun row first.0)) (live_there d.live slot first.0 first.2); row_is = refl } in
     let body = subst (λ (o : Option Live). Has o (λ l. slice_get d.program.bodies l.kind ≡ Some c.begin-job.result.body.now)) read c.begin-job.ensures.body in
     let args = subst (λ (o : Option Live). Has o (λ l. c.begin-job.result.args.items ≡ l.args.items)) read c.begin-job.ensures.args in
-    let handed = hands_out e kept slot row x c.begin-job.result.body.now c.begin-job.result.args.items inputs.items refl body args refl in (
+    let handed = hands_out e kept slot row x c.begin-job.result.body.now c.begin-job.result.args.items inputs.items refl body args inputs_are in (
       first.0.number,
       subst (λ (r : Log). Starts (state d) first.0.number row (state (started_parts d slot c.begin-job.new.place rest r))) (sym c.put.ensures)
           (subst (λ (o : Option Live). Starts (state d) first.0.number row (state (started_parts d slot o rest (grown d.rules (Start row))))) placed made),

@@ -1,5 +1,5 @@
 use Rattle.std.proofs.Common.{ap, ◌∙◌, sym, arith, Some}
-use Rattle.boc_reader.proofs.ResolvingScopes.{goes_on, at_end, stays_outer}
+use Rattle.boc_reader.proofs.ResolvingScopes.{goes_on, at_end, stays_outer, nodes_of_one}
 use Rattle.boc_reader.proofs.names.block.+resolve.Goals as goal
 
 pub resolve_block-loop-stmt-preserved : goal.resolve_block-loop-stmt-preserved
@@ -13,3 +13,7 @@ resolve_block-loop-stmt-preserved t c =
 pub resolve_block-returns-clause-names : goal.resolve_block-returns-clause-names
 resolve_block-returns-clause-names t c =
     at_end c.args.block.now c.loop-stmt.stmt-index c.loop-stmt.stmts.items _ _ _ (omega arith) c.loop-stmt.invariant.names ∙ ap Some (sym c.new.ensures)
+
+pub resolve_block-resolve_stmt-requires : goal.resolve_block-resolve_stmt-requires
+resolve_block-resolve_stmt-requires t c =
+    omega (arith, nodes_of_one c.args.block.now c.loop-stmt.stmt-index c.stmt-item.result (omega arith) c.stmt-item.is)

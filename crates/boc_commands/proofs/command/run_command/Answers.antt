@@ -1,0 +1,11 @@
+use Rattle.std.proofs.Common.{rules}
+use Rattle.boc_commands.proofs.command.run_command.Goals as goal
+
+pub returns-in-Run-clause-written : goal.returns-in-Run-clause-written
+returns-in-Run-clause-written g c = search rules
+
+pub returns-in-WhatIf-clause-written : goal.returns-in-WhatIf-clause-written
+returns-in-WhatIf-clause-written g c = search rules
+
+pub returns-in-Sweep-clause-written : goal.returns-in-Sweep-clause-written
+returns-in-Sweep-clause-written g c = search rules

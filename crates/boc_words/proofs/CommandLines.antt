@@ -1,0 +1,82 @@
+-- The definitions tried on command lines.
+use Rattle.std.proofs.Common.{◌≡◌, List, [], ◌∷◌, Some, None, true, inl, inr, refl, codes, lit≤}
+use Rattle.clap.proofs.OnLiterals.{clap_on_literals}
+use Rattle.clap.specs.Words.{Text, fault_of, is_simple, is_simple_and_free, subcommand_of}
+use Rattle.clap.specs.declared.error.kind.ErrorKind.TheVariants as kinds
+use Rattle.boc_words.specs.Words.{AreEdits, AreRunners, AreTaken, AreWorkers, Names, command_line}
+use Rattle.std.specs.Fmt.{digits}
+
+-- what the parser's contract says of `boc` is exact
+pub is_exact : is_simple_and_free command_line ≡ true
+is_exact = refl
+
+pub is_simple_too : is_simple command_line ≡ true
+is_simple_too = refl
+
+-- ---- words that are taken
+
+abbrev whatif_words : List Text
+whatif_words = codes "boc" ∷ codes "whatif" ∷ codes "--p" ∷ codes "+2" ∷ codes "2=1" ∷ codes "0=30" ∷ []
+
+pub whatif_taken : AreTaken whatif_words
+unfolding clap_on_literals
+whatif_taken = refl
+
+pub whatif_named : Names (subcommand_of command_line whatif_words) (codes "whatif") (λ rows.
+    AreEdits rows (record { row = 2; ticks = 1 } ∷ record { row = 0; ticks = 30 } ∷ []) × AreWorkers rows (Some 2))
+unfolding clap_on_literals digits
+whatif_named = (_, refl, (refl, record { text = codes "+2"; alone = refl; numeral = (lit≤ tt, (lit≤ tt, tt)); value = refl }))
+
+abbrev profile_words : List Text
+profile_words = codes "boc" ∷ codes "profile" ∷ []
+
+pub profile_named : Names (subcommand_of command_line profile_words) (codes "profile") (λ rows. AreWorkers rows None)
+unfolding clap_on_literals
+profile_named = (_, refl, refl)
+
+abbrev time_words : List Text
+time_words = codes "boc" ∷ codes "time" ∷ codes "--p" ∷ codes "3" ∷ codes "--workers=16" ∷ []
+
+pub time_taken : AreTaken time_words
+unfolding clap_on_literals
+time_taken = refl
+
+pub time_named : Names (subcommand_of command_line time_words) (codes "time") (λ rows. AreRunners rows 16 × AreWorkers rows (Some 3))
+unfolding clap_on_literals digits
+time_named = (
+  _,
+  refl,
+  (
+    inr (record { text = codes "16"; alone = refl; numeral = (lit≤ tt, (lit≤ tt, (lit≤ tt, tt))); value = refl }),
+    record { text = codes "3"; alone = refl; numeral = (lit≤ tt, (lit≤ tt, tt)); value = refl },
+  ),
+)
+
+abbrev run_words : List Text
+run_words = codes "boc" ∷ codes "run" ∷ []
+
+pub run_named : Names (subcommand_of command_line run_words) (codes "run") (λ rows. AreRunners rows 1)
+unfolding clap_on_literals
+run_named = (_, refl, inl (refl, refl))
+
+-- ---- words that are not
+
+pub no_command : fault_of command_line (codes "boc" ∷ []) ≡ kinds.DisplayHelpOnMissingArgumentOrSubcommand ∷ []
+unfolding clap_on_literals
+no_command = refl
+
+pub too_many_workers : fault_of command_line (codes "boc" ∷ codes "profile" ∷ codes "--p" ∷ codes "65" ∷ []) ≡ kinds.ValueValidation ∷ []
+unfolding clap_on_literals
+too_many_workers = refl
+
+pub too_many_runners : fault_of command_line (codes "boc" ∷ codes "run" ∷ codes "--workers" ∷ codes "17" ∷ []) ≡ kinds.ValueValidation ∷ []
+unfolding clap_on_literals
+too_many_runners = refl
+
+pub word_too_many : fault_of command_line (codes "boc" ∷ codes "values" ∷ codes "more" ∷ []) ≡ kinds.UnknownArgument ∷ []
+unfolding clap_on_literals
+word_too_many = refl
+
+pub help_asked : fault_of command_line (codes "boc" ∷ codes "--help" ∷ []) ≡ kinds.DisplayHelp ∷ []
+unfolding clap_on_literals
+help_asked = refl

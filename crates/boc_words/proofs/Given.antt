@@ -1,0 +1,95 @@
+-- What was found for an argument.
+use Rattle.std.proofs.Common.{zero, suc, ◌≡◌, ◌∙◌, ◌+◌, ◌<◌, ◌≤◌, ℕ, List, [], ◌∷◌, ◌++◌, map, take, drop, length, get_or, Option, Some, None, false, sym, ap, refl, subst, arith, Bor}
+use Rattle.std.specs.Prelude.{option_map, unwrap_or, codes, ◌^◌, ◌==◌}
+use Rattle.std.specs.Option.{UnwrapsOrElse}
+use Rattle.std.specs.List.{All}
+use Rattle.std.proofs.lemmas.List.Elements.{All-push}
+use Rattle.clap.specs.Words.{Row}
+use Rattle.std.specs.Str.Parse.{digits_value, without_leading_plus}
+use Rattle.boc_types.specs.declared.edit.Edit.{Edit}
+use Rattle.boc_words.specs.EditWords.{edit_word}
+use Rattle.boc_words.specs.Words.{HasNoNumber, IsEditWord, IsFirstMisspelt, IsGiven, values_at}
+
+-- the texts behind what was found, or none
+pub read : (found : Option (Bor (List (Bor (List ℕ))))) (r : Bor (List (Bor (List ℕ)))) (IsDefault : Bor (List (Bor (List ℕ))) → Type 0)
+    (all : Option (List (List ℕ))) → ((x : Bor (List (Bor (List ℕ)))) → IsDefault x → x.now ≡ [])
+    → UnwrapsOrElse found IsDefault r → option_map (λ s. map (λ v. v.now) s.now) found ≡ all
+    → map (λ v. v.now) r.now ≡ unwrap_or all []
+read None r IsDefault all empty h e = ap (map (λ v. v.now)) (empty r h) ∙ ap (λ (o : Option (List (List ℕ))). unwrap_or o []) e
+read (Some x) r IsDefault all empty h e = ap (λ (s : Bor (List (Bor (List ℕ)))). map (λ v. v.now) s.now) h ∙ ap (λ (o : Option (List (List ℕ))). unwrap_or o []) e
+
+some_text : (texts : List (Bor (List ℕ))) → (length texts == 0) ≡ false → map (λ t. t.now) texts ≡ [] → ⊥
+some_text [] some empty = cc
+some_text (text ∷ texts) some empty = cc
+
+-- texts that are there, and no number from 1 to this
+pub no_number : (id : List ℕ) (most : ℕ) (rows : List Row) (texts : List (Bor (List ℕ))) → map (λ t. t.now) texts ≡ values_at rows id → (length texts == 0) ≡ false
+    → ((number : ℕ) → 0 < number → number ≤ most → IsGiven (map (λ t. t.now) texts) number → ⊥) → HasNoNumber id most rows
+no_number id most rows texts is some none = record {
+  given = λ empty. some_text texts some (is ∙ empty);
+  none = λ number low high given. none number low high (subst (λ (l : List (List ℕ)). IsGiven l number) (sym is) given);
+}
+
+-- texts give one number at most
+pub one_number : (texts : List (List ℕ)) (n m : ℕ) → IsGiven texts n → IsGiven texts m → n ≡ m
+one_number texts n m a b =
+    let same : a.text ≡ b.text = cc in
+    sym a.value ∙ ap (λ text. digits_value 10 (without_leading_plus text)) same ∙ b.value
+
+-- the texts up to one more
+texts_more : (words : List (Bor (List ℕ))) (i : ℕ) (d : Bor (List ℕ)) → i < length words
+    → map (λ t. t.now) (take (suc i) words) ≡ map (λ t. t.now) (take i words) ++ ((get_or words i d).now ∷ [])
+texts_more [] i d h = absurd (omega (arith, h))
+texts_more (word ∷ words) zero d h = refl
+texts_more (word ∷ words) (suc i) d h = ap (λ l. word.now ∷ l) (texts_more words i d (omega (arith, h)))
+
+add_one : (i : ℕ) → i + 1 ≡ suc i
+add_one i = omega arith
+
+pub texts_next : (words : List (Bor (List ℕ))) (i : ℕ) (d : Bor (List ℕ)) → i < length words
+    → map (λ t. t.now) (take (i + 1) words) ≡ map (λ t. t.now) (take i words) ++ ((get_or words i d).now ∷ [])
+texts_next words i d h = ap (λ n. map (λ t. t.now) (take n words)) (add_one i) ∙ texts_more words i d h
+
+-- the texts of the edits, with one more
+edits_more : (edits : List Edit) (edit : Edit) → map (λ e. edit_word e.row e.ticks) (edits ++ (edit ∷ []))
+    ≡ map (λ e. edit_word e.row e.ticks) edits ++ (edit_word edit.row edit.ticks ∷ [])
+edits_more [] edit = refl
+edits_more (first ∷ edits) edit = ap (λ l. edit_word first.row first.ticks ∷ l) (edits_more edits edit)
+
+pub taken_next : (words : List (Bor (List ℕ))) (i : ℕ) (d : Bor (List ℕ)) (edits after : List Edit) (edit : Edit) → i < length words
+    → map (λ e. edit_word e.row e.ticks) edits ≡ map (λ t. t.now) (take i words) → after ≡ edits ++ (edit ∷ []) → (get_or words i d).now ≡ edit_word edit.row edit.ticks
+    → map (λ e. edit_word e.row e.ticks) after ≡ map (λ t. t.now) (take (i + 1) words)
+taken_next words i d edits after edit h taken is word =
+    ap (map (λ e. edit_word e.row e.ticks)) is ∙ edits_more edits edit ∙ ap (λ l. l ++ (edit_word edit.row edit.ticks ∷ [])) taken
+    ∙ ap (λ w. map (λ t. t.now) (take i words) ++ (w ∷ [])) (sym word) ∙ sym (texts_next words i d h)
+
+pub spelt_next : (words : List (Bor (List ℕ))) (i : ℕ) (d : Bor (List ℕ)) → i < length words → All IsEditWord (map (λ t. t.now) (take i words))
+    → IsEditWord (get_or words i d).now → All IsEditWord (map (λ t. t.now) (take (i + 1) words))
+spelt_next words i d h spelt word =
+    subst (All IsEditWord) (sym (texts_next words i d h)) (All-push IsEditWord (map (λ t. t.now) (take i words)) (get_or words i d).now spelt word)
+
+around : (words : List (Bor (List ℕ))) (i : ℕ) (d : Bor (List ℕ)) → i < length words
+    → map (λ t. t.now) words ≡ map (λ t. t.now) (take i words) ++ ((get_or words i d).now ∷ map (λ t. t.now) (drop (suc i) words))
+around [] i d h = absurd (omega (arith, h))
+around (word ∷ words) zero d h = refl
+around (word ∷ words) (suc i) d h = ap (λ l. word.now ∷ l) (around words i d (omega (arith, h)))
+
+length_before : (words : List (Bor (List ℕ))) (i : ℕ) → i < length words → length (map (λ (t : Bor (List ℕ)). t.now) (take i words)) ≡ i
+length_before [] i h = absurd (omega (arith, h))
+length_before (word ∷ words) zero h = refl
+length_before (word ∷ words) (suc i) h = ap suc (length_before words i (omega (arith, h)))
+
+-- the first word that is no edit
+pub first_misspelt : (values : List (List ℕ)) (words : List (Bor (List ℕ))) (i : ℕ) (d : Bor (List ℕ)) → map (λ t. t.now) words ≡ values → i < length words
+    → All IsEditWord (map (λ t. t.now) (take i words))
+    → ((row ticks : ℕ) → row < 2 ^ 32 → ticks < 2 ^ 32 → (get_or words i d).now ≡ edit_word row ticks → ⊥)
+    → IsFirstMisspelt values (i + 1)
+first_misspelt values words i d is h spelt none = record {
+  before = map (λ t. t.now) (take i words);
+  word = (get_or words i d).now;
+  after = map (λ t. t.now) (drop (suc i) words);
+  split = sym is ∙ around words i d h;
+  number_is = ap (λ n. n + 1) (sym (length_before words i h));
+  spelt = spelt;
+  misspelt = λ edit. none edit.row edit.ticks edit.few_rows edit.few_ticks edit.spells;
+}

@@ -1,0 +1,10 @@
+pub mod EditWord
+pub mod CommandLines
+pub mod Told
+pub mod Parsed
+pub mod Given
+pub mod Walks
+pub mod Stops
+pub mod Numbers
+pub mod Named
+pub mod Refused

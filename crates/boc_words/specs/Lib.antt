@@ -1,0 +1,2 @@
+pub mod EditWords
+pub mod Words

@@ -1,0 +1,11 @@
+//! The words of a command line, and what they ask for.
+#![tactic(auto)]
+
+mod edit_word;
+mod fault;
+mod runners;
+mod words;
+
+pub use fault::WordsFault;
+pub use runners::Runners;
+pub use words::{Command, not_text, read_words};

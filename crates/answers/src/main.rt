@@ -259,13 +259,15 @@ fn tell_drive_fault(rt: HostRuntime, fault: DriveFault) -> io::Result<()> {
     }
 }
 
-// Writes what became of a drive over the program's chains; and also of that over plain chains, where it is another.
+// Writes what became of a drive over linked chains; and also of that over plain chains, where it is another. What memory
+// was wanted for in one of both tells nothing of the other.
 fn tell_both(
     rt: HostRuntime,
     linked: Result<Vec<u8>, DriveFault>,
     plain: Result<Vec<u8>, DriveFault>,
 ) -> io::Result<()> {
-    let are_the_same = linked == plain;
+    let wants_memory = linked == Err(DriveFault::Memory) || plain == Err(DriveFault::Memory);
+    let are_the_same = wants_memory || linked == plain;
     tell_one(rt, linked)?;
     if are_the_same {
         return Ok(());
@@ -285,12 +287,16 @@ fn tell_one(rt: HostRuntime, told: Result<Vec<u8>, DriveFault>) -> io::Result<()
 // Writes where a program's run stands after these choices, or why there is no such run.
 fn tell_drive(rt: HostRuntime, program: &Program, workers: u32, choices: &[u16]) -> io::Result<()> {
     let alloc = rt.alloc();
-    let chains = ListChains::new(alloc, cown_count(program))?;
-    tell_both(
-        rt,
-        drive(alloc, program, workers, choices).and_then(|run| Ok(run_text(alloc, &run)?)),
-        drive_over(alloc, program, chains, workers, choices).and_then(|run| Ok(run_text(alloc, &run)?)),
-    )
+    let linked = drive(alloc, program, workers, choices).and_then(|run| Ok(run_text(alloc, &run)?));
+    let plain = plain_chains(alloc, program)
+        .and_then(|chains| drive_over(alloc, program, chains, workers, choices))
+        .and_then(|run| Ok(run_text(alloc, &run)?));
+    tell_both(rt, linked, plain)
+}
+
+// Empty plain chains for a program's cowns.
+fn plain_chains(alloc: Global, program: &Program) -> Result<ListChains, DriveFault> {
+    Ok(ListChains::new(alloc, cown_count(program))?)
 }
 
 // Writes who can step after these choices.
@@ -307,12 +313,11 @@ fn tell_mover(rt: HostRuntime, program: &Program, workers: u32, choices: &[u16])
 // Writes where the run stands once it went on from these choices until it is quiet.
 fn tell_quiet(rt: HostRuntime, program: &Program, workers: u32, choices: &[u16]) -> io::Result<()> {
     let alloc = rt.alloc();
-    let chains = ListChains::new(alloc, cown_count(program))?;
-    tell_both(
-        rt,
-        drive_quiet(alloc, program, workers, choices).and_then(|run| Ok(end_text(alloc, &run)?)),
-        drive_quiet_over(alloc, program, chains, workers, choices).and_then(|run| Ok(end_text(alloc, &run)?)),
-    )
+    let linked = drive_quiet(alloc, program, workers, choices).and_then(|run| Ok(end_text(alloc, &run)?));
+    let plain = plain_chains(alloc, program)
+        .and_then(|chains| drive_quiet_over(alloc, program, chains, workers, choices))
+        .and_then(|run| Ok(end_text(alloc, &run)?));
+    tell_both(rt, linked, plain)
 }
 
 // Writes what becomes of a program with the choices in front of it, as one kind of drive asks.

@@ -313,7 +313,9 @@ fn tell_mover(rt: HostRuntime, program: &Program, workers: u32, choices: &[u16])
 // Writes where the run stands once it went on from these choices until it is quiet.
 fn tell_quiet(rt: HostRuntime, program: &Program, workers: u32, choices: &[u16]) -> io::Result<()> {
     let alloc = rt.alloc();
-    let linked = drive_quiet(alloc, program, workers, choices).and_then(|run| Ok(end_text(alloc, &run)?));
+    let linked = drive_quiet(alloc, program, workers, choices).and_then(|run| Ok(end_text(
+        alloc, &run,
+    )?));
     let plain = plain_chains(alloc, program)
         .and_then(|chains| drive_quiet_over(alloc, program, chains, workers, choices))
         .and_then(|run| Ok(end_text(alloc, &run)?));

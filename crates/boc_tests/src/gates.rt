@@ -27,6 +27,22 @@ impl Gate for StopsAtSwap {
     }
 }
 
+/// Stops each worker that is about to run a body other than main's.
+#[derive(Clone, Copy)]
+pub(crate) struct StopsAtSecondBody;
+
+impl Gate for StopsAtSecondBody {
+    ghost always_on = { ⊥ };
+
+    fn at_body(&self, _worker: u32, row: u32) -> Go {
+        if row == 0 { Go::On } else { Go::Stop }
+    }
+
+    fn between_steps(&self, _worker: u32, _row: u32, _step: Step) -> Go {
+        Go::On
+    }
+}
+
 /// Which of two things a gate has seen.
 #[derive(Clone, Copy, Default)]
 struct Seen {

@@ -1,7 +1,7 @@
 // The commands that run a program by threads.
 
 use crate::commands::{GREEDY, NO_COWNS_REPORT, REPORT, TRANSFER, bytes};
-use crate::gates::{Meeting, Place, StopsAtSwap};
+use crate::gates::{Meeting, Place, StopsAtSecondBody, StopsAtSwap};
 use boc_commands::{Command, Fault, Runners, run_cmd, run_command, time_cmd};
 use boc_text::{Bytes, FailAt};
 use boc_types::workers::Workers;
@@ -49,8 +49,13 @@ main { when w(6; c[0]); when w(6; c[1]); }
 const TWO_BODIES_REPORT: &str =
     "rows 3\nwork 19\nspan 11\nchain\n0 spawn 3\n2 end 8\nplan\n0 0 3\n1 2 10\n2 3 11\n";
 
+// Two behaviours that read a cown, and one that writes it.
+pub(crate) const PEEK_AND_SET: &str = "cown a = 1;
+def peek(; x) { let y = x; work 5; } def set(; x) { x = x; }
+main { when peek(; a); when peek(; a); when set(; a); }";
+
 // Behaviours without cowns.
-const NO_COWNS: &str = "def f(;) { work 3; } main { when f(;); when f(;); }";
+pub(crate) const NO_COWNS: &str = "def f(;) { work 3; } main { when f(;); when f(;); }";
 
 /// What a command did: its status, its line on standard error, and its output.
 #[derive(Drop)]
@@ -135,9 +140,7 @@ fn records_of_one_thread(rt: HostRuntime) -> Result<(), Fail> {
             "boc 2 0\n+ 0 0 0\n> 0\n< 0 1 6\n.\n",
         ),
         (
-            "cown a = 1;
-             def peek(; x) { let y = x; work 5; } def set(; x) { x = x; }
-             main { when peek(; a); when peek(; a); when set(; a); }",
+            PEEK_AND_SET,
             "boc 2 1\n+ 0 0 0\n> 0\n+ 1 0 2 0\n+ 2 0 3 0\n+ 3 0 4 0\n< 0 4 0\n> 1\n< 1 7 0\n> 2\n< 2 7 0\n> 3\n< 3 2 0 0\n.\n",
         ),
     ] {
@@ -229,11 +232,16 @@ fn as_many_threads_as_asked_for(rt: HostRuntime) -> Result<(), Fail> {
 
 #[test]
 fn gate_that_stops(rt: HostRuntime) -> Result<(), Fail> {
+    let alloc = rt.alloc();
     for runners in [1, 2, 16] {
-        let answer = run_of(&rt, rt.alloc(), TRANSFER, runners, &StopsAtSwap)?;
-        assert_eq!(rt; answer.line.as_str(), "boc: run: 3 Held");
-        assert_eq!(rt; answer.status, 4);
-        assert_eq!(rt; answer.output.as_str(), "");
+        for answer in [
+            run_of(&rt, alloc, TRANSFER, runners, &StopsAtSwap)?,
+            run_of(&rt, alloc, TRANSFER, runners, &StopsAtSecondBody)?,
+        ] {
+            assert_eq!(rt; answer.line.as_str(), "boc: run: 3 Held");
+            assert_eq!(rt; answer.status, 4);
+            assert_eq!(rt; answer.output.as_str(), "");
+        }
     }
     Ok(())
 }

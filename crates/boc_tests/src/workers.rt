@@ -2,14 +2,17 @@
 
 use crate::commands::TRANSFER;
 use crate::gates::{Meeting, Overtaking, Place};
+use crate::runs::{NO_COWNS, PEEK_AND_SET};
+use boc_eval::{Frame, Stop};
 use boc_reader::read_program;
+use boc_types::body::Body;
 use boc_types::program::Program;
+use boc_types::rows::Row;
+use boc_types::short::{Args, Input, Inputs};
 use boc_workers::{OpenGate, RunAnswer, run};
 use std::alloc::Global;
+use std::process::Abort;
 use std::test::*;
-
-// Behaviours without cowns.
-const NO_COWNS: &str = "def f(;) { work 3; } main { when f(;); when f(;); }";
 
 // The program that a text spells.
 fn program(alloc: Global, text: &str) -> Result<Program, Fail> {
@@ -32,6 +35,50 @@ fn two_orders(alloc: Global, second: &str) -> Result<Program, Fail> {
     program(alloc, &text)
 }
 
+// Runs a body that takes no values over the first cowns, of which there are as many as values are given, and gives them
+// what it leaves there.
+fn run_over(rt: &impl Abort, alloc: Global, body: &Body, values: &mut [i64]) -> Result<(), Fail> {
+    let mut inputs = Inputs::new();
+    for value in values.iter() {
+        assert!(rt; inputs.len() < 8);
+        let cown = inputs.len() as u32;
+        inputs.push(Input {
+            cown,
+            value: *value,
+        });
+    }
+    assert!(rt; body.params == 0 && inputs.len() == body.cown_params);
+    let mut frame = Frame::new(alloc, body, Args::new(), inputs)?;
+    assert!(rt; matches!(frame.run(), Stop::Ended));
+    assert!(rt; frame.is_ended());
+    let outcome = frame.into_outcome();
+    for (value, left) in values.iter_mut().zip(outcome.outputs()) {
+        *value = *left;
+    }
+    Ok(())
+}
+
+// The values of a and b after these rows of two orders: `one` ran over both, and `two` over a alone.
+fn values_after(
+    rt: &impl Abort,
+    alloc: Global,
+    program: &Program,
+    rows: &[Row],
+) -> Result<[i64; 2], Fail> {
+    let [_, one, two, ..] = program.bodies.as_slice() else {
+        return Err("one and two are there".into());
+    };
+    let mut values = [0; 2];
+    for row in rows {
+        if row.cowns.as_slice() == [0, 1] {
+            run_over(rt, alloc, one, &mut values)?;
+        } else if row.cowns.as_slice() == [0] {
+            run_over(rt, alloc, two, &mut values[..1])?;
+        }
+    }
+    Ok(values)
+}
+
 // How many steps all workers made.
 fn all_made(answer: &RunAnswer) -> u64 {
     let mut all = 0u64;
@@ -43,7 +90,11 @@ fn all_made(answer: &RunAnswer) -> u64 {
 
 #[test]
 fn workers_make_all_steps(rt: HostRuntime) -> Result<(), Fail> {
-    for (text, events, steps) in [(TRANSFER, 12, 30), (NO_COWNS, 9, 10)] {
+    for (text, events, steps) in [
+        (TRANSFER, 12, 30),
+        (NO_COWNS, 9, 10),
+        (PEEK_AND_SET, 12, 26),
+    ] {
         let program = program(rt.alloc(), text)?;
         for workers in [1, 2, 16] {
             let answer = run(&rt, rt.alloc(), &program, workers, &OpenGate)?;
@@ -62,6 +113,11 @@ fn lock_is_free_after_a_swap(rt: HostRuntime) -> Result<(), Fail> {
     let answer = run(&rt, rt.alloc(), &program, 2, &gate)?;
     assert!(rt; gate.both_came());
     assert_eq!(rt; all_made(&answer), 38);
+    let rows = answer.record.rows().as_slice();
+    assert_eq!(rt; rows.len(), 5);
+    let one_comes_first = rows[3].cowns.len() == 2;
+    let values = values_after(&rt, rt.alloc(), &program, rows)?;
+    assert_eq!(rt; values, if one_comes_first { [10, 1] } else { [1, 1] });
     Ok(())
 }
 

@@ -70,9 +70,9 @@ fn values_after(
     };
     let mut values = [0; 2];
     for row in rows {
-        if row.cowns.as_slice() == [0, 1] {
+        if row.cowns.as_slice() == [0, 1].as_slice() {
             run_over(rt, alloc, one, &mut values)?;
-        } else if row.cowns.as_slice() == [0] {
+        } else if row.cowns.as_slice() == [0].as_slice() {
             run_over(rt, alloc, two, &mut values[..1])?;
         }
     }

@@ -4,6 +4,7 @@ use Rattle.boc_types.specs.text.Tokens as the
 use Rattle.boc_reader.specs.declared.token.Token.{Token}
 use Rattle.boc_reader.specs.declared.token.Token.TheVariants as tokens
 use Rattle.boc_reader.specs.declared.token.Placed.{Placed}
+use Rattle.boc_reader.specs.declared.token.TheConstants.{LONGEST}
 use Rattle.boc_reader.specs.declared.fault.Fault.{Fault}
 use Rattle.boc_reader.specs.declared.fault.Fault.TheVariants as faults
 
@@ -18,10 +19,10 @@ token_of (tokens.Sign s) = the.sign s
 abbrev pub tokens_of : List Placed → List the.Token
 tokens_of ps = map (λ p. token_of p.token) ps
 
--- the byte at which the first of these tokens begins, or the end of the text where there is none
-abbrev pub position_of : List Placed → ℕ → ℕ
-position_of [] end = end
-position_of (p ∷ ps) end = p.at
+-- the byte at which the first of these tokens begins; where there is none, a byte behind every text
+abbrev pub position_of : List Placed → ℕ
+position_of [] = LONGEST
+position_of (p ∷ ps) = p.at
 
 -- a fault that says something of the text holds of it
 abbrev pub Refusal : {K : Type 0} → Fault K → Type 0 → Type 0

@@ -1,6 +1,6 @@
 // A cursor among the tokens.
 
-ghost use Rattle.std.specs.Prelude.{◌≡◌, ◌≢◌, ◌+◌, ◌<◌, ◌∷◌, [], ℕ, List, drop, MatchResult, MatchOption, MatchBool};
+ghost use Rattle.std.specs.Prelude.{◌≡◌, ◌≢◌, ◌+◌, ◌<◌, ◌∷◌, [], ℕ, List, drop, MatchResult, MatchOption, MatchBool, IfErr};
 ghost use Rattle.std.specs.Bool.{OnTrue, OnFalse};
 ghost use Rattle.boc_types.specs.text.Tokens as the;
 ghost use Rattle.boc_types.specs.text.Tokens.{name, number, keyword, sign};
@@ -16,7 +16,7 @@ ghost use Rattle.boc_reader.specs.Placed.{token_of, tokens_of, position_of, Refu
 use crate::fault::{Fault, ShapeFault};
 use crate::natural::Natural;
 use crate::shape::Spot;
-use crate::token::{Placed, Token};
+use crate::token::{LONGEST, Placed, Token};
 use boc_types::level::{Comparison, SumOperator, TermOperator};
 use boc_types::token::{Keyword, Sign};
 use std::marker::Model;
@@ -27,7 +27,6 @@ use std::mem;
 #[derive(Drop)]
 pub struct Cursor<'t, 'a> {
     rest: &'t [Placed<'a>],
-    end: usize,
     room: u32,
 }
 
@@ -37,36 +36,35 @@ impl<'t, 'a> Model for Cursor<'t, 'a> {
 
     ghost Value = { Ahead };
 
-    ghost view = { λ c. record { tokens = tokens_of c.rest.now; position = position_of c.rest.now c.end; room = c.room } };
+    ghost view = { λ c. record { tokens = tokens_of c.rest.now; position = position_of c.rest.now; room = c.room } };
 }
 
 impl<'t, 'a> Cursor<'t, 'a> {
-    /// In front of all tokens of a text that ends at this byte.
-    pub fn new(tokens: &'t [Placed<'a>], end: usize, room: u32) -> Cursor<'t, 'a>
+    /// In front of all tokens of a text.
+    pub fn new(tokens: &'t [Placed<'a>], room: u32) -> Cursor<'t, 'a>
         ensures tokens { result.tokens ≡ tokens_of tokens.now }
-        ensures position { result.position ≡ position_of tokens.now end }
+        ensures position { result.position ≡ position_of tokens.now }
         ensures room { result.room ≡ room }
     {
         Cursor {
             rest: tokens,
-            end,
             room,
         }
     }
 
-    /// The byte at which the next token begins, or the end of the text.
+    /// The byte at which the next token begins. Where none is left it is one that is behind every text.
     pub fn position(&self) -> usize
         ensures { result ≡ self.now.position }
     {
         match self.rest {
-            [] => self.end,
+            [] => LONGEST,
             [first, ..] => first.at,
         }
     }
 
     /// The next token is not what the grammar allows there.
     pub fn unexpected(&self) -> Fault<ShapeFault>
-        ensures { (at : ℕ) × (result ≡ At ShapeFault.Unexpected at) }
+        ensures { result ≡ At ShapeFault.Unexpected self.now.position }
     {
         Fault::At(ShapeFault::Unexpected, self.position())
     }
@@ -105,6 +103,7 @@ impl<'t, 'a> Cursor<'t, 'a> {
         ensures tokens { self.new.tokens ≡ self.old.tokens }
         ensures room { MatchResult result (λ _. count + self.new.room ≡ self.old.room)
             (λ f. Refusal f (self.old.room < count)) }
+        ensures fault { IfErr result (λ f. f ≡ At ShapeFault.TooMany at) }
     {
         if u64::from(self.room) < count {
             return Err(Fault::At(ShapeFault::TooMany, at));

@@ -37,11 +37,11 @@ const LISTED: usize = 8;
 type Read<T> = Result<T, Fault<ShapeFault>>;
 
 /// The tree of a text that has these tokens and ends at this byte.
-pub fn parse_tree<'a>(alloc: Global, tokens: &[Placed<'a>], end: usize) -> Read<Tree<'a>>
+pub fn parse_tree<'a>(alloc: Global, tokens: &[Placed<'a>]) -> Read<Tree<'a>>
     ensures { MatchResult result (λ t. HasShape (tokens_of tokens.now) (tree_of t))
         (λ f. Refusal f (NoShape (tokens_of tokens.now))) }
 {
-    let mut cursor = Cursor::new(tokens, end, COWNS);
+    let mut cursor = Cursor::new(tokens, COWNS);
     let cowns = cowns(alloc, &mut cursor)?;
     cursor.refill(DEFS);
     let defs = defs(alloc, &mut cursor)?;

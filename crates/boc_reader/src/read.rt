@@ -12,11 +12,9 @@ use crate::fault::{Fault, NameFault, ReadFault, ReadFaultKind, ShapeFault, Token
 use crate::lex::tokens;
 use crate::names::resolve_program;
 use crate::parse::parse_tree;
+use crate::token::LONGEST;
 use boc_types::program::Program;
 use std::alloc::Global;
-
-/// The most bytes of a text.
-const LONGEST: usize = 65_536;
 
 const NO_MEMORY: ReadFault = ReadFault {
     line: 0,
@@ -39,7 +37,7 @@ pub fn read_program(alloc: Global, text: &[u8]) -> Result<Program, ReadFault>
         Ok(tokens) => tokens,
         Err(fault) => return Err(no_tokens(text, fault)),
     };
-    let tree = match parse_tree(alloc, &tokens, text.len()) {
+    let tree = match parse_tree(alloc, &tokens) {
         Ok(tree) => tree,
         Err(fault) => return Err(no_shape(text, fault)),
     };

@@ -3,6 +3,9 @@
 use crate::natural::Natural;
 use boc_types::token::{Keyword, Sign};
 
+/// The most bytes of a text. Each token begins before this byte.
+pub const LONGEST: usize = 65_536;
+
 /// A token. A name is the part of the text that spells it.
 #[derive(Clone, Copy, Debug)]
 pub enum Token<'a> {

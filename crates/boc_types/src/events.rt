@@ -2,7 +2,7 @@
 
 ghost use Rattle.std.specs.Prelude.{◌≡◌, ◌<◌, ◌↔◌, [], IsTrue, Some, length, slice_get};
 ghost use Rattle.boc_types.specs.declared.limits.TheConstants.{MOST_ROWS};
-ghost use Rattle.boc_types.specs.runs.Happenings.{event_of, told, happening_of, row_of, AreOf};
+ghost use Rattle.boc_types.specs.runs.Happenings.{event_of, told, happening_of, row_in, AreOf};
 
 use crate::event::Event;
 use crate::rows::Row;
@@ -47,7 +47,7 @@ impl<'a> Model for Events<'a> {
 impl Happening {
     /// What is kept of an event beside its row.
     pub fn of(event: &Event) -> Happening
-        requires { row_of event.now < MOST_ROWS }
+        requires { row_in event.now < MOST_ROWS }
         ensures { result ≡ happening_of event.now }
     {
         let (row, deed) = match event {

@@ -33,7 +33,7 @@ happening_of (Start row) = record { row = row; deed = Started }
 happening_of (End row ticks status written) = record { row = row; deed = Ended }
 
 -- the number of the row that an event is of
-abbrev pub row_of : Event → ℕ
-row_of (Spawn row parent offset cowns) = row
-row_of (Start row) = row
-row_of (End row ticks status written) = row
+abbrev pub row_in : Event → ℕ
+row_in (Spawn row parent offset cowns) = row
+row_in (Start row) = row
+row_in (End row ticks status written) = row

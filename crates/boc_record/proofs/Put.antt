@@ -30,5 +30,5 @@ pub put_line_more : (v : Version) (before text after : List ℕ) (events : List 
 put_line_more v before text after events i event at e put =
     put ∙ ap (λ xs. xs ++ line (event_line v event)) e ∙ append_assoc before (event_lines v (take i events)) (line (event_line v event))
     ∙ ap (λ xs. before ++ xs) (sym (lines_more v (take i events) event)
-      ∙ ap (λ x. event_lines v (take i events ++ x ∷ [])) (sym (get_or_from_slice_get events i event event at))
-      ∙ ap (event_lines v) (sym (take-suc events i event (slice_get_within events i event at)) ∙ ap (λ n. take n events) (sym (add_one i))))
+    ∙ ap (λ x. event_lines v (take i events ++ x ∷ [])) (sym (get_or_from_slice_get events i event event at))
+    ∙ ap (event_lines v) (sym (take-suc events i event (slice_get_within events i event at)) ∙ ap (λ n. take n events) (sym (add_one i))))

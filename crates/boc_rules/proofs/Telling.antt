@@ -65,14 +65,14 @@ later_more count rows (Start row) a =
     let may : MayStart (life_of rows) (entry_cowns rows) row = a.keeps rules.StartNotAllowed in
     later_changed rows row (λ e. record e { life = Running }) (slice_get rows row) refl
     (λ e at.
-      let waits = same_life rows row e Pending at may.waits in
-      record { parent = refl; offset = refl; cowns = refl; over = λ h. absurd (not_pending_ended (sym waits ∙ h)); same = λ h. refl })
+    let waits = same_life rows row e Pending at may.waits in
+    record { parent = refl; offset = refl; cowns = refl; over = λ h. absurd (not_pending_ended (sym waits ∙ h)); same = λ h. refl })
 later_more count rows (End row ticks status written) a =
     let may : MayEnd rows row ticks written.items = a.keeps rules.EndNotAllowed in
     later_changed rows row (λ e. record e { life = Ended; ticks = ticks; status = status; written = written.items }) (slice_get rows row) refl
     (λ e at.
-      let runs = same_life rows row e Running at may.runs in
-      record { parent = refl; offset = refl; cowns = refl; over = λ h. refl; same = λ h. absurd (not_running_ended (sym runs ∙ h)) })
+    let runs = same_life rows row e Running at may.runs in
+    record { parent = refl; offset = refl; cowns = refl; over = λ h. refl; same = λ h. absurd (not_running_ended (sym runs ∙ h)) })
 
 spawn_same : (n p p2 o o2 : ℕ) (c c2 : List ℕ) → p2 ≡ p → o2 ≡ o → c2 ≡ c → Spawn n p2 o2 (record { items = c2 }) ≡ Spawn n p o (record { items = c })
 spawn_same n p p2 o o2 c c2 e f g =
@@ -199,7 +199,7 @@ row_is e x is = sym (
     ∙ ap (λ (a : ℕ). made e.parent e.offset e.cowns a x.status x.written.items) is.ticks
     ∙ ap (λ (a : EndStatus). made e.parent e.offset e.cowns e.ticks a x.written.items) is.status
     ∙ ap (λ (a : List ℕ). made e.parent e.offset e.cowns e.ticks e.status a) is.written
-  )
+    )
 
 -- the rows so far are those of the run
 pub rows_of_run : (run : List Entry) (rows : List Row) → AreRowsOf run rows → map row_of run ≡ rows

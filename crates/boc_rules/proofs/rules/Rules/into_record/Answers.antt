@@ -23,5 +23,5 @@ returns-in-Ok c =
       c.new.ensures.events ∙ told_rows course.rows c.in-Ok.rows happenings.items are ∙ events,
       subst IsComplete events (complete_of course happenings.items (vec_capacity happenings) c.self.invariant over),
       recorded_as c.new.result course.cowns (told happenings.items c.in-Ok.rows) c.in-Ok.rows (c.new.ensures.cowns ∙ c.cowns-cowns.ensures.value) c.new.ensures.events c.new.ensures.rows
-      (record_of course happenings.items (vec_capacity happenings) c.in-Ok.rows c.self.invariant are over),
+          (record_of course happenings.items (vec_capacity happenings) c.in-Ok.rows c.self.invariant are over),
     )

@@ -218,7 +218,7 @@ fn choices_of(alloc: Global, letters: &[u8]) -> Result<Vec<u16>, AllocError> {
 // How a run stands: its log, its steps, and the values of its cowns.
 fn run_text<C: Chains + Drop>(alloc: Global, run: &Core<'_, C>) -> Result<Vec<u8>, AllocError> {
     let mut text = Vec::new(alloc);
-    put_events(&mut text, run.log())?;
+    put_events(&mut text, &run.log())?;
     put_end(&mut text, run)?;
     Ok(text)
 }

@@ -8,7 +8,7 @@ use crate::live::wished_behaviour;
 use crate::machine::{Enqueue, Machine};
 use boc_chain::{Chains, LinkChains};
 use boc_eval::{Frame, Outcome};
-use boc_types::event::Event;
+use boc_types::events::Events;
 use boc_types::limits::MOST_ROWS;
 use boc_types::program::Program;
 use boc_types::record::Record;
@@ -201,8 +201,8 @@ impl<'a, C: Chains + Drop> Core<'a, C> {
     }
 
     /// What has happened so far.
-    pub fn log(&self) -> &[Event]
-        ensures { result.now ≡ self.now.state.log }
+    pub fn log(&self) -> Events<'_>
+        ensures { result ≡ self.now.state.log }
     {
         self.machine.rules.events()
     }

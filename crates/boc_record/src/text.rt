@@ -8,6 +8,7 @@ use crate::fault::WriteFault;
 use boc_text::{Sink, put_number, put_out};
 use boc_types::body::EndStatus;
 use boc_types::event::Event;
+use boc_types::events::Events;
 use boc_types::record::Record;
 use std::alloc::{AllocError, Global};
 
@@ -34,18 +35,18 @@ fn text_of(alloc: Global, record: &Record) -> Result<Vec<u8>, AllocError>
     text.extend_from_slice(b"boc")?;
     put_fields(&mut text, &[WRITTEN_VERSION, record.cowns()])?;
     text.push(b'\n')?;
-    put_events(&mut text, record.events())?;
+    put_events(&mut text, &record.events())?;
     text.extend_from_slice(b".\n")?;
     Ok(text)
 }
 
 /// Puts the lines of events behind a text, as the second version of records has them. `AllocError` says that memory was refused;
 /// then a beginning of them may stand there.
-pub fn put_events(text: &mut Vec<u8>, events: &[Event]) -> Result<(), AllocError>
+pub fn put_events(text: &mut Vec<u8>, events: &Events<'_>) -> Result<(), AllocError>
     ensures { OnOk result (text.new.items ≡ text.old.items ++ event_lines Second events.now) }
 {
-    for event in events {
-        put_event(text, event)?;
+    for place in 0..events.len() {
+        put_event(text, &events.get(place))?;
     }
     Ok(())
 }

@@ -7,4 +7,5 @@ pub mod Accepting
 pub mod Finished
 pub mod Events
 pub mod Judging
+pub mod Telling
 pub mod Logging

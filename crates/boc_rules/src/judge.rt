@@ -5,7 +5,7 @@ ghost use Rattle.std.specs.Prelude.{◌≡◌, ◌+◌, ◌<◌, ◌≤◌, ◌�
 use crate::fault::RuleFault;
 use crate::so_far::RunSoFar;
 use boc_types::event::{BrokenRule, Event};
-use boc_types::rows::Rows;
+use boc_types::rows::{Row, Rows};
 use boc_types::short::Cowns;
 use std::alloc::{AllocError, Global};
 use std::marker::Model;
@@ -32,6 +32,7 @@ impl Model for Judge {
 impl Judge {
     ghost use Rattle.boc_types.specs.declared.limits.TheConstants.{MOST_COWNS};
     ghost use Rattle.boc_types.specs.runs.Legal.{entry_cowns, IsAllowed};
+    ghost use Rattle.boc_types.specs.runs.Records.{AreRowsOf};
     ghost use Rattle.boc_rules.specs.Log.{HasRoomFor};
     ghost use Rattle.boc_rules.specs.Judges.{Judges};
     ghost use Rattle.boc_rules.specs.Course.{stepped, AreLegal, IsOver, Steps, GivesRows};
@@ -124,6 +125,13 @@ impl Judge {
         ensures legal { AreLegal self.now.cowns self.now.rows }
     {
         self.run.cowns
+    }
+
+    /// The rows so far, of which one that hasn't ended has 0 ticks, the status `Done`, and wrote nothing.
+    pub fn rows(&self) -> &[Row]
+        ensures { AreRowsOf self.now.rows result.now }
+    {
+        self.run.rows.as_slice()
     }
 
     /// There is a row, and every row has ended.

@@ -5,6 +5,7 @@ ghost use Rattle.std.specs.Prelude.{◌≡◌, ◌+◌, ◌<◌, ◌≤◌, ◌�
 use crate::fault::RuleFault;
 use crate::judge::Judge;
 use boc_types::event::Event;
+use boc_types::events::{Events, Happening};
 use boc_types::record::Record;
 use boc_types::short::Cowns;
 use std::alloc::{AllocError, Global};
@@ -17,7 +18,7 @@ const MOST_EVENTS: usize = 3;
 #[derive(Drop, Debug)]
 pub struct Rules {
     judge: Judge,
-    events: Vec<Event>,
+    happenings: Vec<Happening>,
 }
 
 impl Model for Rules {
@@ -26,11 +27,11 @@ impl Model for Rules {
 
     ghost Value = { Log };
 
-    ghost use Rattle.boc_rules.specs.Logged.{IsLogged};
+    ghost use Rattle.boc_rules.specs.Logged.{told_of, IsLogged};
 
-    ghost view = { λ r. let v : Log = record { cowns = r.judge.cowns; events = r.events.items; rooms = r.judge.rooms } in v };
+    ghost view = { λ r. let v : Log = record { cowns = r.judge.cowns; events = told_of r.judge.rows r.happenings.items; rooms = r.judge.rooms } in v };
 
-    ghost invariant = { λ r. IsLogged r.judge r.events.items (vec_capacity r.events) };
+    ghost invariant = { λ r. IsLogged r.judge r.happenings.items (vec_capacity r.happenings) };
 }
 
 impl Rules {
@@ -47,7 +48,7 @@ impl Rules {
     {
         Ok(Rules {
             judge: Judge::new(alloc, cowns)?,
-            events: Vec::new(alloc),
+            happenings: Vec::new(alloc),
         })
     }
 
@@ -80,7 +81,8 @@ impl Rules {
         ensures { MatchResult result (λ _. self.new ≡ record self.old { rooms = self.old.rooms + 1 }) (λ _. self.new ≡ self.old) }
     {
         let rows = self.judge.count() + self.judge.rooms() + 1;
-        self.events.reserve(MOST_EVENTS * rows - self.events.len())?;
+        self.happenings
+            .reserve(MOST_EVENTS * rows - self.happenings.len())?;
         self.judge.make_room()
     }
 
@@ -98,8 +100,8 @@ impl Rules {
         requires room { HasRoomFor self.old.rooms event }
         ensures { self.new ≡ grown self.old event }
     {
-        self.judge.put(event.duplicate());
-        self.events.push_reserved(event);
+        self.happenings.push_reserved(Happening::of(&event));
+        self.judge.put(event);
     }
 
     /// The run as it is judged, without its events.
@@ -127,11 +129,11 @@ impl Rules {
     }
 
     /// The events so far.
-    pub fn events(&self) -> &[Event]
-        ensures value { result.now ≡ self.now.events }
+    pub fn events(&self) -> Events<'_>
+        ensures value { result ≡ self.now.events }
         ensures legal { IsLegal self.now.cowns self.now.events }
     {
-        self.events.as_slice()
+        Events::new(self.happenings.as_slice(), self.judge.rows())
     }
 
     /// There is a row, and every row has ended.
@@ -146,10 +148,10 @@ impl Rules {
         ensures { Records self result }
     {
         let cowns = self.judge.cowns();
-        let events = self.events;
+        let happenings = self.happenings;
         match self.judge.into_rows() {
-            Ok(rows) => Ok(Record::new(cowns, events, rows)),
-            Err(judge) => Err(Rules { judge, events }),
+            Ok(rows) => Ok(Record::new(cowns, happenings, rows)),
+            Err(judge) => Err(Rules { judge, happenings }),
         }
     }
 }

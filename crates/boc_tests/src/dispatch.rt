@@ -103,7 +103,7 @@ fn transfer_by_one_worker(rt: HostRuntime) -> Result<(), Fail> {
         (Some(12), Some(4), None)
     );
     let mut lines = Vec::new(alloc);
-    put_events(&mut lines, core.log())?;
+    put_events(&mut lines, &core.log())?;
     assert_eq!(rt; String::from_utf8(lines)?.as_str(), LINES);
     let Ok(record) = core.into_record() else {
         return Err("a quiet dispatcher has a record".into());

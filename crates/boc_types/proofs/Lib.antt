@@ -14,3 +14,4 @@ pub mod EditedTransfer
 pub mod Children
 pub mod Editing
 pub mod TransferRun
+pub mod Tellings

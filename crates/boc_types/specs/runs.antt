@@ -5,4 +5,5 @@ pub mod Legal
 pub mod Serial
 pub mod OwnOrder
 pub mod Run
+pub mod Happenings
 pub mod Records

@@ -2,7 +2,7 @@
 
 ghost use Rattle.std.specs.Prelude.{◌≡◌};
 
-use crate::event::Event;
+use crate::events::{Events, Happening};
 use crate::rows::{Row, Rows};
 use std::marker::Model;
 
@@ -13,7 +13,7 @@ use std::marker::Model;
 #[derive(Drop, Debug)]
 pub struct Record {
     cowns: u32,
-    events: Vec<Event>,
+    happenings: Vec<Happening>,
     rows: Rows,
 }
 
@@ -22,26 +22,30 @@ impl Model for Record {
 
     ghost Value = { Recorded };
 
+    ghost use Rattle.boc_types.specs.runs.Happenings.{told, AreOf};
     ghost use Rattle.boc_types.specs.runs.Records.{IsRecord};
 
-    ghost view = { λ r. let v : Recorded = record { cowns = r.cowns; events = r.events.items; rows = r.rows } in v };
+    ghost view = { λ r. let v : Recorded = record { cowns = r.cowns; events = told r.happenings.items r.rows; rows = r.rows } in v };
 
-    ghost invariant = { λ r. IsRecord (record { cowns = r.cowns; events = r.events.items; rows = r.rows }) };
+    ghost invariant = { λ r. AreOf r.happenings.items r.rows × IsRecord (record { cowns = r.cowns; events = told r.happenings.items r.rows; rows = r.rows }) };
 }
 
 impl Record {
+    ghost use Rattle.boc_types.specs.runs.Happenings.{told, AreOf};
     ghost use Rattle.boc_types.specs.runs.Records.{IsRecord};
 
-    /// The record of a complete run that keeps the rules, with its rows. It takes no memory.
-    pub fn new(cowns: u32, events: Vec<Event>, rows: Rows) -> Record
-        requires { IsRecord (record { cowns = cowns; events = events.items; rows = rows }) }
+    /// The record of a complete run that keeps the rules, with its rows, of which the happenings tell its events. It takes no
+    /// memory.
+    pub fn new(cowns: u32, happenings: Vec<Happening>, rows: Rows) -> Record
+        requires rows { AreOf happenings.items rows }
+        requires run { IsRecord (record { cowns = cowns; events = told happenings.items rows; rows = rows }) }
         ensures cowns { result.cowns ≡ cowns }
-        ensures events { result.events ≡ events.items }
+        ensures events { result.events ≡ told happenings.items rows }
         ensures rows { result.rows ≡ rows }
     {
         Record {
             cowns,
-            events,
+            happenings,
             rows,
         }
     }
@@ -55,11 +59,11 @@ impl Record {
     }
 
     /// The events in their order.
-    pub fn events(&self) -> &[Event]
-        ensures value { result.now ≡ self.now.events }
+    pub fn events(&self) -> Events<'_>
+        ensures value { result ≡ self.now.events }
         ensures run { IsRecord self.now }
     {
-        self.events.as_slice()
+        Events::new(self.happenings.as_slice(), self.rows.as_slice())
     }
 
     /// The rows, main first.

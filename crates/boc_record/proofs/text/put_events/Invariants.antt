@@ -2,5 +2,5 @@ use Rattle.std.proofs.Common.{◌≡◌, ◌++◌, take}
 use Rattle.boc_types.specs.text.RecordTexts.{Second, event_lines}
 use Rattle.boc_record.proofs.text.put_events.Given as goal
 
-abbrev pub invariant-loop-event : goal.invariant-loop-event
-invariant-loop-event l = l.text.items ≡ l.fn.text.items ++ event_lines Second (take l.event-index l.events)
+abbrev pub invariant-loop-place : goal.invariant-loop-place
+invariant-loop-place l = l.text.items ≡ l.fn.text.items ++ event_lines Second (take l.place l.events)

@@ -5,5 +5,5 @@ use Rattle.boc_rules.proofs.rules.Rules.make_room.Goals as goal
 
 pub overflow_sub-rows : goal.overflow_sub-rows
 overflow_sub-rows c =
-    let events = c.self.inside.events in
-    omega (arith, few_events c.self.inside.judge events.items (vec_capacity events) c.self.invariant, events.ok.0, c.len.ensures, c.count.ensures)
+    let happenings = c.self.inside.happenings in
+    omega (arith, few_events c.self.inside.judge happenings.items (vec_capacity happenings) c.self.invariant, happenings.ok.0, c.len.ensures, c.count.ensures)

@@ -39,11 +39,10 @@ impl HeldCowns {
         }
     }
 
-    /// These cowns.
-    pub fn of(cowns: &[CownNo]) -> HeldCowns
-        requires few { length cowns.now ≤ MOST_HELD }
-        requires below { All (λ c. c < MOST_COWNS) cowns.now }
-        ensures { result.items ≡ cowns.now }
+    /// These cowns, in their order.
+    pub fn of(cowns: &Cowns) -> HeldCowns
+        requires { All (λ c. c < MOST_COWNS) cowns.now.items }
+        ensures { result ≡ cowns.now }
     {
         let mut numbers = [0; MOST_HELD];
         for (place, cown) in cowns.iter().enumerate() {

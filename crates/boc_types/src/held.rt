@@ -74,7 +74,8 @@ impl HeldCowns {
 
     /// The same cowns, as an event has them.
     pub fn widened(&self) -> Cowns
-        ensures { result ≡ self.now }
+        ensures same { result ≡ self.now }
+        ensures small { All (λ c. c < MOST_COWNS) result.items }
     {
         let mut cowns = Cowns::new();
         for cown in self.as_slice() {

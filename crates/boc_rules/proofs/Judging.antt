@@ -127,7 +127,7 @@ end_finds run row ticks status written k a =
       placed = omega (arith, k.rows_are.all, inside);
       small = among_below MOST_COWNS (entry_cowns rows row) written.items
           (smaller run.cowns MOST_COWNS (entry_cowns rows row) k.legal.few
-              (subst (λ (cs : List ℕ). All (λ c. c < run.cowns) cs) (sym (cowns_at rows row e.0 e.1)) (w.cowned row e.0 e.1).below))
+          (subst (λ (cs : List ℕ). All (λ c. c < run.cowns) cs) (sym (cowns_at rows row e.0 e.1)) (w.cowned row e.0 e.1).below))
           may.own.own;
       few = omega (arith, k.ended_is, over_set rows row e.0 v e.1, ap over_one e.2, over_few (slice_set rows row v), length-set rows row v, w.few);
     }

@@ -6,7 +6,6 @@ ghost use Rattle.boc_types.specs.runs.Happenings.{event_of, told, happening_of, 
 
 use crate::event::Event;
 use crate::rows::Row;
-use crate::short::Cowns;
 use std::marker::Model;
 
 /// What a row took part in.
@@ -71,14 +70,14 @@ impl Happening {
                 row: number,
                 parent: row.parent,
                 offset: row.offset,
-                cowns: Cowns::try_from(row.cowns.as_slice()).unwrap(),
+                cowns: row.cowns.widened(),
             },
             Deed::Started => Event::Start { row: number },
             Deed::Ended => Event::End {
                 row: number,
                 ticks: row.ticks,
                 status: row.status,
-                written: Cowns::try_from(row.written.as_slice()).unwrap(),
+                written: row.written.widened(),
             },
         }
     }

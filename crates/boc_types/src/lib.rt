@@ -15,6 +15,7 @@ pub mod edit;
 mod equality;
 pub mod event;
 pub mod events;
+pub mod held;
 pub mod laws;
 pub mod level;
 pub mod limits;

@@ -105,7 +105,7 @@ impl Frontier {
         ensures stages { self.new.stages.items ≡ slice_set self.old.stages.items row Over }
     {
         self.stages[row as usize] = Stage::Over;
-        for k in 0..rows[row as usize].cowns.len() {
+        for k in 0..rows[row as usize].cowns.as_slice().len() {
             self.advance(rows, row, k);
         }
     }

@@ -27,7 +27,7 @@ pub struct Links {
 }
 
 // Puts a row before the heads of its cowns, and answers what these heads were.
-fn put_before(heads: &mut Heads, cowns: &[u32], row: u16, none: u16) -> Next
+fn put_before(heads: &mut Heads, cowns: &[u8], row: u16, none: u16) -> Next
     requires few { length cowns.now ≤ 8 }
     requires small { All (λ c. c < MOST_COWNS) cowns.now }
     requires rise { IsStrictlyIncreasing cowns.now }

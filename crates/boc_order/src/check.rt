@@ -9,7 +9,7 @@ use boc_types::chain::{Chain, ChainStep, Via};
 use boc_types::rows::{Row, Rows};
 
 // Whether these have a cown in common.
-fn share(a: &[u32], b: &[u32]) -> bool
+fn share(a: &[u8], b: &[u8]) -> bool
     ensures { IsTrue result ↔ ((c : ℕ) × Contains a.now c × Contains b.now c) }
 {
     a.iter().any(|cown| b.contains(cown))

@@ -33,7 +33,7 @@ pub fn later(a: Latest, b: Latest) -> Latest
 }
 
 /// The latest of what is remembered at any of these cowns.
-pub fn latest_at(cowns: &[u32], memory: &Memory) -> Latest
+pub fn latest_at(cowns: &[u8], memory: &Memory) -> Latest
     requires { All (λ c. c < MOST_COWNS) cowns.now }
     ensures { result ≡ latest_among memory.now nothing cowns.now }
 {
@@ -45,7 +45,7 @@ pub fn latest_at(cowns: &[u32], memory: &Memory) -> Latest
 }
 
 /// Remembers a row at each of its cowns.
-pub fn note(cowns: &[u32], memory: &mut Memory, row: Latest)
+pub fn note(cowns: &[u8], memory: &mut Memory, row: Latest)
     requires { All (λ c. c < MOST_COWNS) cowns.now }
     ensures { memory.new ≡ with_noted row memory.old cowns.now }
 {

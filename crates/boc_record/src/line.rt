@@ -116,18 +116,9 @@ fn all_cowns_of(row: u32, judge: &Judge) -> Cowns
     ensures few { length result.items ≤ MOST_HELD }
 {
     match judge.cowns_of(row) {
-        Some(cowns) => cowns_from(cowns.as_slice()),
+        Some(cowns) => cowns.widened(),
         None => Cowns::new(),
     }
-}
-
-// These few cowns.
-fn cowns_from(cowns: &[u32]) -> Cowns
-    requires { length cowns.now ≤ MOST_HELD }
-    ensures same { result.items ≡ cowns.now }
-    ensures small { AreSmall result.items }
-{
-    Cowns::try_from(cowns).unwrap()
 }
 
 // The status of a number.

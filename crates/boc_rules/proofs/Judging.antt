@@ -9,11 +9,12 @@ use Rattle.boc_types.specs.declared.body.EndStatus.{EndStatus}
 use Rattle.boc_types.specs.declared.event.Event.TheVariants.{Spawn, Start, End}
 use Rattle.boc_types.specs.declared.event.BrokenRule.TheVariants as rules
 use Rattle.boc_types.specs.declared.rows.Row.{Row}
-use Rattle.boc_types.specs.declared.limits.TheConstants.{MOST_HELD, MOST_ROWS}
+use Rattle.boc_types.specs.declared.limits.TheConstants.{MOST_COWNS, MOST_HELD, MOST_ROWS}
 use Rattle.boc_types.specs.runs.Lives as lives
 use Rattle.boc_types.specs.runs.Lives.{MayStart}
 use Rattle.boc_types.specs.runs.Legal.{Entry, after, life_of, entry_cowns, last_of, MayEnd, MayNeed, IsAllowed}
 use Rattle.boc_types.specs.runs.Rows.{IsRows}
+use Rattle.boc_types.proofs.RunsAreLegal.{smaller, among_below}
 use Rattle.boc_rules.specs.declared.stage.Life.TheVariants.{Pending, Running, Ended}
 use Rattle.boc_rules.specs.declared.stage.Life.{Life}
 use Rattle.boc_rules.specs.declared.stage.Stage.{Stage}
@@ -22,7 +23,7 @@ use Rattle.boc_rules.specs.Course.{AreLegal, IsOver}
 use Rattle.boc_rules.specs.Before.{IsOverAt}
 use Rattle.boc_rules.specs.SoFar.{meant, IsStageOf, AreStagesOf, over_one, so_far, IsRunSoFar, IsSpawned, IsStarted, IsEnded}
 use Rattle.boc_rules.proofs.Lists.{got_in}
-use Rattle.boc_rules.proofs.Next.{living, life_at, last_at, well_log, not_pending_running, not_pending_ended}
+use Rattle.boc_rules.proofs.Next.{living, cowns_at, life_at, last_at, well_log, not_pending_running, not_pending_ended}
 use Rattle.boc_rules.proofs.Starts.{starts, over_before}
 use Rattle.boc_rules.proofs.Keeping.{over_set}
 use Rattle.boc_rules.proofs.Well.{IsWell}
@@ -87,12 +88,14 @@ need_below count (main ∷ others) cowns m = m.below
 -- An event that is allowed finds what it needs.
 pub record IsSpawnable (run : RunSoFar) (row : ℕ) (cowns : ArrayVec ℕ) : Type 0 where
   pub there : All (λ c. c < length run.latest.items) cowns.items
+  pub small : All (λ c. c < MOST_COWNS) cowns.items
   pub next : row < MOST_ROWS
   pub few : length run.found.items ≤ MOST_HELD * MOST_ROWS
 
 pub spawn_finds : (run : RunSoFar) (row parent offset : ℕ) (cowns : ArrayVec ℕ) → IsRunSoFar run → IsAllowed run.cowns (so_far run) (Spawn row parent offset cowns) → IsSpawnable run row cowns
 spawn_finds run row parent offset cowns k a = record {
   there = subst (λ (n : ℕ). All (λ c. c < n) cowns.items) (sym k.latest_are.all) (need_below run.cowns (so_far run) cowns.items (a.keeps rules.Cowns));
+  small = smaller run.cowns MOST_COWNS cowns.items k.legal.few (need_below run.cowns (so_far run) cowns.items (a.keeps rules.Cowns));
   next = a.keeps rules.TooMany;
   few = omega (arith, k.found_are.few, (well_rows run.cowns (so_far run) k.legal).few);
 }
@@ -106,12 +109,13 @@ start_finds run row k a =
     omega (arith, k.stages_are.all, there (so_far run) row lives.Pending may.waits)
 
 -- what the end of a row needs
-pub record IsEndable (run : RunSoFar) (row : ℕ) : Type 0 where
+pub record IsEndable (run : RunSoFar) (row : ℕ) (written : ArrayVec ℕ) : Type 0 where
   pub staged : row < length run.stages.items
   pub placed : row < length run.rows.items
+  pub small : All (λ c. c < MOST_COWNS) written.items
   pub few : run.ended < MOST_ROWS
 
-pub end_finds : (run : RunSoFar) (row ticks : ℕ) (status : EndStatus) (written : ArrayVec ℕ) → IsRunSoFar run → IsAllowed run.cowns (so_far run) (End row ticks status written) → IsEndable run row
+pub end_finds : (run : RunSoFar) (row ticks : ℕ) (status : EndStatus) (written : ArrayVec ℕ) → IsRunSoFar run → IsAllowed run.cowns (so_far run) (End row ticks status written) → IsEndable run row written
 end_finds run row ticks status written k a =
     let rows = so_far run in
     let may : MayEnd rows row ticks written.items = a.keeps rules.EndNotAllowed in
@@ -121,6 +125,10 @@ end_finds run row ticks status written k a =
     let w = well_rows run.cowns (so_far run) k.legal in record {
       staged = omega (arith, k.stages_are.all, inside);
       placed = omega (arith, k.rows_are.all, inside);
+      small = among_below MOST_COWNS (entry_cowns rows row) written.items
+          (smaller run.cowns MOST_COWNS (entry_cowns rows row) k.legal.few
+          (subst (λ (cs : List ℕ). All (λ c. c < run.cowns) cs) (sym (cowns_at rows row e.0 e.1)) (w.cowned row e.0 e.1).below))
+          may.own.own;
       few = omega (arith, k.ended_is, over_set rows row e.0 v e.1, ap over_one e.2, over_few (slice_set rows row v), length-set rows row v, w.few);
     }
 

@@ -8,6 +8,7 @@ use crate::so_far::RunSoFar;
 use crate::stage::Life;
 use boc_types::cowns::{are_among, are_cowns};
 use boc_types::event::{BrokenRule, Event};
+use boc_types::held::HeldCowns;
 use boc_types::limits::{MOST_ROWS, MOST_TICKS};
 use boc_types::short::Cowns;
 
@@ -189,7 +190,7 @@ impl RunSoFar {
     }
 
     /// The cowns of the row, if it is there.
-    pub fn cowns_of(&self, row: u32) -> Option<&Cowns>
+    pub fn cowns_of(&self, row: u32) -> Option<&HeldCowns>
         requires { IsRunSoFar self.now }
         ensures { MatchOption result (length (so_far self.now) ≤ row)
             (λ cowns. (row < length (so_far self.now)) × (cowns.now.items ≡ entry_cowns (so_far self.now) row)) }

@@ -60,7 +60,7 @@ impl MaybeRow {
 }
 
 // Puts the latest row on each of the cowns, in their order, behind those found.
-fn find(found: &mut Vec<MaybeRow>, latest: &[MaybeRow], cowns: &[u32])
+fn find(found: &mut Vec<MaybeRow>, latest: &[MaybeRow], cowns: &[u8])
     requires cowns { All (λ c. c < length latest.now) cowns.now }
     requires room { vec_len found.old + length cowns.now ≤ vec_capacity found.old }
     ensures found { found.new.items ≡ found.old.items ++ map (λ c. slice_index_or latest.now c None) cowns.now }
@@ -72,7 +72,7 @@ fn find(found: &mut Vec<MaybeRow>, latest: &[MaybeRow], cowns: &[u32])
 }
 
 // Makes this row the latest on each of the cowns.
-fn note(latest: &mut Vec<MaybeRow>, cowns: &[u32], row: u32)
+fn note(latest: &mut Vec<MaybeRow>, cowns: &[u8], row: u32)
     requires cowns { All (λ c. c < length latest.old.items) cowns.now }
     requires row { row < MOST_ROWS }
     ensures { latest.new.items ≡ noted latest.old.items cowns.now row }
@@ -87,7 +87,7 @@ fn note(latest: &mut Vec<MaybeRow>, cowns: &[u32], row: u32)
 pub fn first_stage(
     found: &mut Vec<MaybeRow>,
     latest: &mut Vec<MaybeRow>,
-    cowns: &[u32],
+    cowns: &[u8],
     row: u32,
 ) -> Stage
     requires cowns { All (λ c. c < length latest.old.items) cowns.now }

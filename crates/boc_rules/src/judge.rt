@@ -5,8 +5,8 @@ ghost use Rattle.std.specs.Prelude.{◌≡◌, ◌+◌, ◌<◌, ◌≤◌, ◌�
 use crate::fault::RuleFault;
 use crate::so_far::RunSoFar;
 use boc_types::event::{BrokenRule, Event};
+use boc_types::held::HeldCowns;
 use boc_types::rows::Rows;
-use boc_types::short::Cowns;
 use std::alloc::{AllocError, Global};
 use std::marker::Model;
 
@@ -111,7 +111,7 @@ impl Judge {
     }
 
     /// The cowns of a row, if it is there.
-    pub fn cowns_of(&self, row: u32) -> Option<&Cowns>
+    pub fn cowns_of(&self, row: u32) -> Option<&HeldCowns>
         ensures { MatchOption result (length self.now.rows ≤ row) (λ cowns. (row < length self.now.rows) × (cowns.now.items ≡ entry_cowns self.now.rows row)) }
     {
         self.run.cowns_of(row)

@@ -5,8 +5,8 @@ ghost use Rattle.std.specs.Prelude.{◌≡◌, ◌+◌, ◌<◌, ◌≤◌, ◌�
 use crate::fault::RuleFault;
 use crate::judge::Judge;
 use boc_types::event::Event;
+use boc_types::held::HeldCowns;
 use boc_types::record::Record;
-use boc_types::short::Cowns;
 use std::alloc::{AllocError, Global};
 use std::marker::Model;
 
@@ -110,7 +110,7 @@ impl Rules {
     }
 
     /// The cowns of a row, if it is there.
-    pub fn cowns_of(&self, row: u32) -> Option<&Cowns>
+    pub fn cowns_of(&self, row: u32) -> Option<&HeldCowns>
         ensures { MatchOption result (length (entries self.now.events) ≤ row)
             (λ cowns. (row < length (entries self.now.events)) × (cowns.now.items ≡ entry_cowns (entries self.now.events) row)) }
     {

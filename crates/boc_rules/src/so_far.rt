@@ -7,9 +7,9 @@ use crate::before::{MaybeRow, first_stage};
 use crate::stage::{Life, Stage};
 use boc_types::body::EndStatus;
 use boc_types::event::Event;
+use boc_types::held::HeldCowns;
 use boc_types::limits::MOST_HELD;
 use boc_types::rows::Row;
-use boc_types::short::Cowns;
 use std::alloc::{AllocError, Global};
 
 /// How many rows the lists have memory for at first. Memory for so many is handed out in pages of its own, which
@@ -35,16 +35,16 @@ pub struct RunSoFar {
 }
 
 // A row that was just spawned.
-fn pending_row(parent: u32, offset: u32, cowns: Cowns) -> Row
+fn pending_row(parent: u32, offset: u32, cowns: HeldCowns) -> Row
     ensures { result ≡ new_row parent offset cowns }
 {
     Row {
         parent,
         offset,
-        cowns,
         ticks: 0,
+        cowns,
+        written: HeldCowns::new(),
         status: EndStatus::Done,
-        written: Cowns::new(),
     }
 }
 
@@ -109,19 +109,19 @@ impl RunSoFar {
                 parent,
                 offset,
                 cowns,
-            } => self.spawn(row, parent, offset, cowns),
+            } => self.spawn(row, parent, offset, HeldCowns::of(&cowns)),
             Event::Start { row } => self.start(row),
             Event::End {
                 row,
                 ticks,
                 status,
                 written,
-            } => self.end(row, ticks, status, written),
+            } => self.end(row, ticks, status, HeldCowns::of(&written)),
         }
     }
 
     // A new row, behind the others.
-    fn spawn(&mut self, row: u32, parent: u32, offset: u32, cowns: Cowns)
+    fn spawn(&mut self, row: u32, parent: u32, offset: u32, cowns: HeldCowns)
         requires cowns { All (λ c. c < length self.old.latest.items) cowns.items }
         requires held { length cowns.items ≤ MOST_HELD }
         requires row { row < MOST_ROWS }
@@ -151,7 +151,7 @@ impl RunSoFar {
     }
 
     // The row is over.
-    fn end(&mut self, row: u32, ticks: u32, status: EndStatus, written: Cowns)
+    fn end(&mut self, row: u32, ticks: u32, status: EndStatus, written: HeldCowns)
         requires staged { row < length self.old.stages.items }
         requires placed { row < length self.old.rows.items }
         requires few { self.old.ended < MOST_ROWS }

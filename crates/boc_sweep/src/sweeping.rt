@@ -20,7 +20,7 @@ use std::alloc::{AllocError, Global};
 
 // The waits for a row that ends at this tick, as stretches.
 fn push_waits(
-    cowns: &[u32],
+    cowns: &[u8],
     next: &Next,
     row: u32,
     end: u64,

@@ -22,7 +22,7 @@ pub struct Tails {
 pub type Next = [Option<u32>; MOST_COWNS];
 
 // The greatest tail of the rows that need one of the cowns next.
-fn next_tail(cowns: &[u32], next: &Next, starts: &[u64]) -> u64
+fn next_tail(cowns: &[u8], next: &Next, starts: &[u64]) -> u64
     requires small { All (λ c. c < MOST_COWNS) cowns.now }
     requires inside { (c b : ℕ) → c < MOST_COWNS → slice_index_or next.now c None ≡ Some b → b < length starts.now }
     ensures { IsNextTail cowns.now next.now starts.now result }
@@ -37,7 +37,7 @@ fn next_tail(cowns: &[u32], next: &Next, starts: &[u64]) -> u64
 }
 
 /// Remembers a row as the next at each of its cowns.
-pub fn note_next(cowns: &[u32], next: &mut Next, row: u32)
+pub fn note_next(cowns: &[u8], next: &mut Next, row: u32)
     requires { All (λ c. c < MOST_COWNS) cowns.now }
     ensures len { length next.new ≡ MOST_COWNS }
     ensures here { (c : ℕ) → Contains cowns.now c → slice_index_or next.new c None ≡ Some row }

@@ -108,7 +108,12 @@ fn is_ready(rows: &[Row], served: &[Option<Served>], number: usize, tick: u64) -
         if before >= number {
             break;
         }
-        let share = other.cowns.iter().any(|cown| row.cowns.contains(cown));
+        let cowns = row.cowns.as_slice();
+        let share = other
+            .cowns
+            .as_slice()
+            .iter()
+            .any(|cown| cowns.contains(cown));
         if share && !is_over(rows, served, before, tick) {
             return false;
         }

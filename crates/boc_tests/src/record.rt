@@ -36,7 +36,7 @@ fn reread(alloc: Global, text: &[u8]) -> Result<String, Fail> {
 
 #[test]
 fn both_versions_give_one_record(rt: HostRuntime) -> Result<(), Fail> {
-    let written: [&[u32]; 4] = [&[], &[0], &[0, 1], &[1]];
+    let written: [&[u8]; 4] = [&[], &[0], &[0, 1], &[1]];
     for text in [TRANSFER, FIRST_TRANSFER] {
         let record = read_record(rt.alloc(), &mut bytes(rt.alloc(), text.as_bytes())?)?;
         assert_eq!(rt; record.cowns(), 2);

@@ -2,7 +2,7 @@
 
 ghost use Rattle.std.specs.Prelude.{◌≡◌, IfOk};
 
-use crate::worked_rows::cowns;
+use crate::worked_rows::{cowns, held};
 use boc_record::{RecordFault, read_rows};
 use boc_rules::{Judge, RuleFault};
 use boc_text::{Bytes, FailAt};
@@ -30,10 +30,10 @@ fn bytes(alloc: Global, text: &[u8]) -> Result<Bytes, AllocError>
 // The rows are those of the transfer, whose last row wrote so.
 fn is_transfer(rows: &Rows, last_written: &[u32]) -> bool {
     let wanted = [
-        (0, cowns(&[]), 4, cowns(&[])),
-        (2, cowns(&[0]), 2, cowns(&[0])),
-        (3, cowns(&[0, 1]), 3, cowns(&[0, 1])),
-        (4, cowns(&[1]), 2, cowns(last_written)),
+        (0, held(&[]), 4, held(&[])),
+        (2, held(&[0]), 2, held(&[0])),
+        (3, held(&[0, 1]), 3, held(&[0, 1])),
+        (4, held(&[1]), 2, held(last_written)),
     ];
     let rows = rows.as_slice();
     rows.len() == wanted.len()

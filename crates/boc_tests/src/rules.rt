@@ -1,6 +1,6 @@
 //! The events of the transfer program, events that break a rule, and the end of a run.
 
-use crate::worked_rows::cowns;
+use crate::worked_rows::{cowns, held};
 use boc_rules::{RuleFault, Rules};
 use boc_types::body::EndStatus;
 use boc_types::event::{BrokenRule, Event};
@@ -104,10 +104,10 @@ fn transfer_is_taken(rt: HostRuntime) -> Result<(), Fail> {
     assert_eq!(rt; record.cowns(), 2);
     assert_eq!(rt; record.events().len(), 12);
     let wanted = [
-        (0, 0, 4, cowns(&[])),
-        (0, 2, 2, cowns(&[0])),
-        (0, 3, 3, cowns(&[0, 1])),
-        (0, 4, 2, cowns(&[])),
+        (0, 0, 4, held(&[])),
+        (0, 2, 2, held(&[0])),
+        (0, 3, 3, held(&[0, 1])),
+        (0, 4, 2, held(&[])),
     ];
     let rows = record.rows().as_slice();
     assert_eq!(rt; rows.len(), wanted.len());
@@ -246,7 +246,7 @@ fn rooms_are_counted(rt: HostRuntime) -> Result<(), Fail> {
 #[test]
 fn cowns_of_rows_are_told(rt: HostRuntime) -> Result<(), Fail> {
     let rules = begun(rt.alloc(), 5)?;
-    for (row, wanted) in [(0, cowns(&[])), (2, cowns(&[0, 1])), (3, cowns(&[1]))] {
+    for (row, wanted) in [(0, held(&[])), (2, held(&[0, 1])), (3, held(&[1]))] {
         let told = rules.cowns_of(row).map(|cowns| cowns.as_slice());
         assert_eq!(rt; told, Some(wanted.as_slice()));
     }

@@ -1,6 +1,8 @@
 // Rows that several tests ask about.
 
 use boc_types::body::EndStatus;
+use boc_types::held::HeldCowns;
+use boc_types::limits::MOST_COWNS;
 use boc_types::row_test::are_rows;
 use boc_types::rows::{Row, Rows};
 use boc_types::short::Cowns;
@@ -18,15 +20,25 @@ pub(crate) fn cowns(numbers: &[u32]) -> Cowns {
     list
 }
 
+// The first eight of these numbers as a row keeps them; none where one of them is no cown's.
+pub(crate) fn held(numbers: &[u32]) -> HeldCowns {
+    let list = cowns(numbers);
+    if list.iter().all(|cown| *cown < MOST_COWNS as u32) {
+        HeldCowns::of(&list)
+    } else {
+        HeldCowns::new()
+    }
+}
+
 // A row that wrote all its cowns.
 pub(crate) fn row(parent: u32, offset: u32, numbers: &[u32], ticks: u32) -> Row {
     Row {
         parent,
         offset,
-        cowns: cowns(numbers),
         ticks,
+        cowns: held(numbers),
+        written: held(numbers),
         status: EndStatus::Done,
-        written: cowns(numbers),
     }
 }
 

@@ -115,7 +115,7 @@ fn lock_is_free_after_a_swap(rt: HostRuntime) -> Result<(), Fail> {
     assert_eq!(rt; all_made(&answer), 38);
     let rows = answer.record.rows().as_slice();
     assert_eq!(rt; rows.len(), 5);
-    let one_comes_first = rows[3].cowns.len() == 2;
+    let one_comes_first = rows[3].cowns.as_slice().len() == 2;
     let values = values_after(&rt, rt.alloc(), &program, rows)?;
     assert_eq!(rt; values, if one_comes_first { [10, 1] } else { [1, 1] });
     Ok(())

@@ -112,11 +112,11 @@ below_at n (c ∷ cs) h (suc k) d l = below_at n cs h.1 k d (omega arith)
 all_below : (n : ℕ) (cs : List ℕ) → AllBelow n cs → All (λ c. c < n) cs
 all_below n cs h k d l = below_at n cs h k d l
 
-smaller : (a b : ℕ) (cs : List ℕ) → a ≤ b → All (λ c. c < a) cs → All (λ c. c < b) cs
+pub smaller : (a b : ℕ) (cs : List ℕ) → a ≤ b → All (λ c. c < a) cs → All (λ c. c < b) cs
 smaller a b cs le all k d l = omega (arith, all k d l)
 
 -- what is among cowns below a number is below it
-among_below : (n : ℕ) (cs some : List ℕ) → All (λ c. c < n) cs → All (Contains cs) some → All (λ c. c < n) some
+pub among_below : (n : ℕ) (cs some : List ℕ) → All (λ c. c < n) cs → All (Contains cs) some → All (λ c. c < n) some
 among_below n cs some low all k d l =
     let c = all k d l in
     subst (λ x. x < n) c.2 (low c.0 (slice_index_or some k d) c.1)

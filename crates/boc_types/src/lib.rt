@@ -14,6 +14,7 @@ pub mod cowns;
 pub mod edit;
 mod equality;
 pub mod event;
+pub mod held;
 pub mod laws;
 pub mod level;
 pub mod limits;

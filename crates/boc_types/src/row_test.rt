@@ -42,15 +42,15 @@ fn is_fit(rows: &[Row], number: usize, last: &[u32]) -> bool
     ensures { IsTrue result ↔ IsFit rows.now number }
 {
     let row = &rows[number];
-    let cowns = row.cowns.as_slice();
-    if !are_cowns(cowns, MOST_COWNS as u32) || !are_among(row.written.as_slice(), cowns) {
+    let (cowns, written) = (row.cowns.widened(), row.written.widened());
+    if !are_cowns(&cowns, MOST_COWNS as u32) || !are_among(&written, row.cowns.as_slice()) {
         return false;
     }
     if row.ticks == 0 || row.ticks > MOST_TICKS {
         return false;
     }
     if number == 0 {
-        row.parent == 0 && row.offset == 0 && row.cowns.is_empty()
+        row.parent == 0 && row.offset == 0 && cowns.is_empty()
     } else {
         is_fit_child(rows, number, last)
     }

@@ -3,7 +3,7 @@
 ghost use Rattle.std.specs.Prelude.{◌≡◌, IfOk};
 
 use crate::body::EndStatus;
-use crate::short::Cowns;
+use crate::held::HeldCowns;
 use std::alloc::{AllocError, Global};
 use std::marker::Model;
 
@@ -14,15 +14,17 @@ pub struct Row {
     pub parent: u32,
     /// The ticks that its parent had counted when it was spawned; 0 for main.
     pub offset: u32,
-    /// Its cowns, which rise strictly.
-    pub cowns: Cowns,
     /// The ticks that it took, from 1 to 1,000,000.
     pub ticks: u32,
+    /// Its cowns, which rise strictly.
+    pub cowns: HeldCowns,
+    /// Those of its cowns that an assignment wrote, which rise strictly.
+    pub written: HeldCowns,
     /// How it ended.
     pub status: EndStatus,
-    /// Those of its cowns that an assignment wrote, which rise strictly.
-    pub written: Cowns,
 }
+
+const _: () = prove!(size_of::<Row>() == 32);
 
 /// The behaviours of a finished run in the order of their spawns, main first.
 ///
@@ -56,10 +58,10 @@ impl Row {
         Row {
             parent: self.parent,
             offset: self.offset,
-            cowns: Cowns::try_from(self.cowns.as_slice()).unwrap(),
             ticks: self.ticks,
+            cowns: self.cowns.duplicate(),
+            written: self.written.duplicate(),
             status: self.status,
-            written: Cowns::try_from(self.written.as_slice()).unwrap(),
         }
     }
 }

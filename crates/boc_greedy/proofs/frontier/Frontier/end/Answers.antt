@@ -15,7 +15,7 @@ pub advance-requires-clause-within : goal.advance-requires-clause-within
 advance-requires-clause-within c =
     let there = slice_get_within c.args.self.now.stages.items c.args.row UnderWay c.requires.under_way in
     let read = read_cowns c.args.rows.now c.args.row c.index-rows-row.result _ (omega (arith, c.requires.frontier.whole)) refl in
-    omega (arith, ap length read, c.len-k-end.ensures.value)
+    omega (arith, ap length read, ap length c.as_slice-k-end.ensures.value)
 
 pub loop-k-preserved : goal.loop-k-preserved
 loop-k-preserved c =
@@ -29,4 +29,4 @@ pub returns-clause-kept : goal.returns-clause-kept
 returns-clause-kept c =
     let there = slice_get_within c.args.self.now.stages.items c.args.row UnderWay c.requires.under_way in
     let read = read_cowns c.args.rows.now c.args.row c.index-rows-row.result _ (omega (arith, c.requires.frontier.whole)) refl in
-    all_advanced _ _ _ c.loop-k.k (omega (arith, ap length read, c.len-k-end.ensures.value)) c.loop-k.invariant.ending
+    all_advanced _ _ _ c.loop-k.k (omega (arith, ap length read, ap length c.as_slice-k-end.ensures.value)) c.loop-k.invariant.ending

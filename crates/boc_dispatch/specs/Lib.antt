@@ -7,3 +7,4 @@ pub mod Codes
 pub mod Grants
 pub mod Working
 pub mod Driving
+pub mod KeptArguments

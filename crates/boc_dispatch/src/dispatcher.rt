@@ -115,7 +115,10 @@ impl<'a, C: Chains + Drop> Core<'a, C> {
         if self.machine.opened as usize >= MOST_ROWS {
             return Err(OpenFault::Behaviours);
         }
-        let child = wished_behaviour(self.machine.opened, row, wish);
+        let alloc = *self.machine.live.allocator();
+        let Ok(child) = wished_behaviour(alloc, self.machine.opened, row, wish) else {
+            return Err(OpenFault::Memory);
+        };
         match self.machine.open(slot, row, child) {
             Ok(child) => Ok(child),
             Err(_) => Err(OpenFault::Memory),

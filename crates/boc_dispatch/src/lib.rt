@@ -4,6 +4,7 @@
 mod answers;
 mod dispatcher;
 mod interleaving;
+mod kept_args;
 mod live;
 mod machine;
 mod movers;

@@ -1,6 +1,6 @@
 //! Behaviours that are not gone yet.
 
-ghost use Rattle.std.specs.Prelude.{◌≡◌, ◌+◌, ◌==◌, ◌≤◌, ◌<◌, ◌↔◌, ℕ, suc, None, Some, Option, IsTrue, length, slice_get, false, []};
+ghost use Rattle.std.specs.Prelude.{◌≡◌, ◌+◌, ◌==◌, ◌≤◌, ◌<◌, ◌↔◌, ℕ, suc, None, Some, Option, IsTrue, IfOk, length, slice_get, false, []};
 ghost use Rattle.boc_types.specs.declared.limits.TheConstants.{MOST_HELD};
 ghost use Rattle.boc_types.specs.declared.stage.Phase.TheVariants as phases;
 ghost use Rattle.boc_types.specs.declared.stage.Stage.TheVariants.{Asking, Recorded};
@@ -12,13 +12,16 @@ ghost use Rattle.boc_types.specs.runs.Serial.{Behaviour, inputs_of as inputs_at}
 ghost use Rattle.boc_dispatch.specs.Inside.{behaviour_of, open_of};
 ghost use Rattle.boc_dispatch.specs.Places.{in_phase};
 
+use crate::kept_args::KeptArgs;
 use boc_eval::SpawnWish;
 use boc_types::body::Body;
 use boc_types::cowns::rising_cowns;
+use boc_types::held::HeldCowns;
+use boc_types::limits::MOST_COWNS;
 use boc_types::program::Program;
-use boc_types::short::{Args, Cowns, Input};
+use boc_types::short::{Cowns, Input};
 use boc_types::stage::{Phase, Stage};
-use boc_types::values::inputs_of;
+use std::alloc::{AllocError, Global};
 
 /// A behaviour from its Open until its last request is released.
 #[derive(Drop, Debug)]
@@ -32,15 +35,15 @@ pub struct Live {
     /// The place of its body among the program's bodies.
     pub kind: usize,
     /// The values of its value parameters.
-    pub args: Args,
+    pub args: KeptArgs,
     /// Its cowns in the order of its cown parameters.
-    pub params: Cowns,
+    pub params: HeldCowns,
     /// Its cowns in rising order, which is that of its requests.
-    pub cowns: Cowns,
+    pub cowns: HeldCowns,
     /// How far it is.
     pub stage: Stage,
     /// How many of its requests aren't granted, and one more before Own.
-    pub awaited: usize,
+    pub awaited: u8,
     /// How many of its wishes were spawned.
     pub spawned: u32,
     /// The slot of the wish that is being enqueued.
@@ -58,9 +61,9 @@ pub fn main_behaviour() -> Live
         parent: 0,
         offset: 0,
         kind: 0,
-        args: Args::new(),
-        params: Cowns::new(),
-        cowns: Cowns::new(),
+        args: KeptArgs::new(),
+        params: HeldCowns::new(),
+        cowns: HeldCowns::new(),
         stage: Stage::Recorded {
             row: 0,
             phase: Phase::Ready,
@@ -71,24 +74,40 @@ pub fn main_behaviour() -> Live
     }
 }
 
-/// The behaviour of a row's wish as it is opened, under a number of its own.
-pub fn wished_behaviour(number: u32, row: u32, wish: &SpawnWish) -> Live
-    ensures behaviour { behaviour_of result ≡ record { kind = wish.now.kind; args = wish.now.args.items; cowns = wish.now.cowns.items } }
-    ensures state { open_of result ≡ record { parent = row; offset = wish.now.offset; cowns = rising wish.now.cowns.items; stage = Asking 0 false } }
-    ensures number { result.number ≡ number }
-    ensures awaited { result.awaited ≡ length result.cowns.items + 1 }
-    ensures fresh { (result.spawned ≡ 0) × (result.child ≡ None) }
+// These cowns in bytes. Any that has a number past a byte is refused, as if there were no memory for it.
+fn in_bytes(cowns: &Cowns) -> Result<HeldCowns, AllocError>
+    ensures { IfOk result (λ held. held ≡ cowns.now) }
+{
+    if cowns.iter().all(|cown| (*cown as usize) < MOST_COWNS) {
+        Ok(HeldCowns::of(cowns))
+    } else {
+        Err(AllocError)
+    }
+}
+
+/// The behaviour of a row's wish as it is opened, under a number of its own. `AllocError` says that memory was refused.
+pub fn wished_behaviour(
+    alloc: Global,
+    number: u32,
+    row: u32,
+    wish: &SpawnWish,
+) -> Result<Live, AllocError>
+    ensures behaviour { IfOk result (λ l. behaviour_of l ≡ record { kind = wish.now.kind; args = wish.now.args.items; cowns = wish.now.cowns.items }) }
+    ensures state { IfOk result (λ l. open_of l ≡ record { parent = row; offset = wish.now.offset; cowns = rising wish.now.cowns.items; stage = Asking 0 false }) }
+    ensures number { IfOk result (λ l. l.number ≡ number) }
+    ensures awaited { IfOk result (λ l. l.awaited ≡ length l.cowns.items + 1) }
+    ensures fresh { IfOk result (λ l. (l.spawned ≡ 0) × (l.child ≡ None)) }
 {
     let cowns = rising_cowns(&wish.cowns);
-    let awaited = cowns.len() + 1;
-    Live {
+    let awaited = cowns.len() as u8 + 1;
+    Ok(Live {
         number,
         parent: row,
         offset: wish.offset,
         kind: wish.kind,
-        args: Args::try_from(wish.args.as_slice()).unwrap(),
-        params: Cowns::try_from(wish.cowns.as_slice()).unwrap(),
-        cowns,
+        args: KeptArgs::of(alloc, &wish.args)?,
+        params: in_bytes(&wish.cowns)?,
+        cowns: in_bytes(&cowns)?,
         stage: Stage::Asking {
             request: 0,
             exchanged: false,
@@ -96,6 +115,22 @@ pub fn wished_behaviour(number: u32, row: u32, wish: &SpawnWish) -> Live
         awaited,
         spawned: 0,
         child: None,
+    })
+}
+
+// These are the cowns, with these values.
+fn are_inputs_of(inputs: &[Input], cowns: &[u8], values: &[i64]) -> bool
+    requires { AllBelow (length values.now) cowns.now }
+    ensures { IsTrue result ↔ (inputs.now ≡ inputs_at cowns.now values.now) }
+{
+    match (inputs, cowns) {
+        ([], []) => true,
+        ([input, more @ ..], [cown, others @ ..]) => {
+            input.cown == u32::from(*cown)
+                && input.value == values[*cown as usize]
+                && are_inputs_of(more, others, values)
+        }
+        _ => false,
     }
 }
 
@@ -153,8 +188,7 @@ impl Live {
         requires { AllBelow (length values.now) self.now.params.items }
         ensures { IsTrue result ↔ (inputs.now ≡ inputs_at self.now.params.items values.now) }
     {
-        let own = inputs_of(&self.params, values);
-        inputs == own.as_slice()
+        are_inputs_of(inputs, self.params.as_slice(), values)
     }
 
     /// Of so many wishes the last is the next to be spawned, and nothing is being enqueued.
@@ -200,7 +234,7 @@ impl Live {
     pub fn flagging(&self, request: usize) -> Phase
         ensures { result ≡ flagging self.now.cowns.items request }
     {
-        if request < self.cowns.len() {
+        if request < self.cowns.as_slice().len() {
             Phase::Flagging(request)
         } else {
             Phase::Owning

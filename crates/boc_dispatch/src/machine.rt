@@ -1,6 +1,6 @@
 //! What the dispatcher has in hand, and how each step changes it.
 
-ghost use Rattle.std.specs.Prelude.{◌≡◌, ◌+◌, ◌^◌, ◌<◌, ◌≤◌, ◌↔◌, ℕ, suc, [], None, Some, IfOk, IsTrue, IsSome, MatchOption, OnOk, false, true, length, max, replicate, vec_len, vec_capacity};
+ghost use Rattle.std.specs.Prelude.{◌≡◌, ◌+◌, ◌^◌, ◌<◌, ◌≤◌, ◌↔◌, ℕ, suc, [], None, Some, IfOk, IsTrue, IsSome, MatchOption, OnOk, false, true, length, max, replicate, slice_set, vec_len, vec_capacity};
 ghost use Rattle.std.specs.VecDeque.{deque_capacity};
 ghost use Rattle.boc_dispatch.specs.Inside.{live_at};
 
@@ -63,6 +63,14 @@ fn reach(live: &mut Vec<Option<Live>>, slot: usize) -> Result<(), AllocError>
         live.push(None)?;
     }
     Ok(())
+}
+
+// Puts a behaviour at a slot of a table.
+fn put(live: &mut Vec<Option<Live>>, slot: usize, child: Live)
+    requires { slot < length live.old.items }
+    ensures { live.new.items ≡ slice_set live.old.items slot (Some child) }
+{
+    live[slot] = Some(child);
 }
 
 ghost use Rattle.boc_types.specs.declared.event.Event.TheVariants.{End as EndEvent};
@@ -221,9 +229,7 @@ impl<'a, C: Chains + Drop> Machine<'a, C> {
         self.homes
             .reserve(self.opened as usize - self.homes.len() + 1)?;
         self.rules.make_room()?;
-        let own = self
-            .chains
-            .admit(Cowns::try_from(child.cowns.as_slice()).unwrap())?;
+        let own = self.chains.admit(child.cowns.widened())?;
         if self.make_places(own.index).is_err() {
             self.chains.dismiss(own);
             return Err(AllocError);
@@ -258,8 +264,8 @@ impl<'a, C: Chains + Drop> Machine<'a, C> {
             number: child.number,
             row: child.parent,
         };
-        let is_settled = child.cowns.is_empty();
-        self.live[slot] = Some(child);
+        let is_settled = child.cowns.as_slice().is_empty();
+        put(&mut self.live, slot, child);
         begin_child(&mut self.live[parent], slot);
         self.opened += 1;
         self.step_asking(parent, slot, is_settled);

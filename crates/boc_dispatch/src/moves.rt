@@ -14,7 +14,7 @@ use crate::answers::Job;
 use crate::live::Live;
 use boc_types::event::Event;
 use boc_types::program::Program;
-use boc_types::short::{Args, Cowns};
+use boc_types::short::Args;
 use boc_types::stage::{Phase, Stage};
 use boc_types::values::{inputs_of, write_outputs};
 
@@ -40,7 +40,7 @@ pub fn begin<'a>(place: &mut Option<Live>, program: &'a Program, values: &[i64])
                 row,
                 body: program.body(live.kind),
                 args: Args::try_from(live.args.as_slice()).unwrap(),
-                inputs: inputs_of(&live.params, values),
+                inputs: inputs_of(&live.params.widened(), values),
             }
         }
         None => unreachable!(),
@@ -111,14 +111,14 @@ pub fn ask(place: &mut Option<Live>, request: usize)
 }
 
 /// This request is settled, and so many more are granted. Answers whether it was the last.
-pub fn settle_next(place: &mut Option<Live>, request: usize, granted: usize) -> bool
+pub fn settle_next(place: &mut Option<Live>, request: usize, granted: u8) -> bool
     requires { Has place.old (λ l. (request < length l.cowns.items) × (granted ≤ l.awaited)) }
     ensures settles { place.new ≡ option_map (settled request granted) place.old }
     ensures last { Has place.old (λ l. result ≡ (suc request == length l.cowns.items)) }
 {
     match place {
         Some(live) => {
-            let count = live.cowns.len();
+            let count = live.cowns.as_slice().len();
             live.awaited -= granted;
             live.stage = Stage::Asking {
                 request: request + 1,
@@ -143,7 +143,7 @@ pub fn record(place: &mut Option<Live>, row: u32) -> Event
                 row,
                 parent: live.parent,
                 offset: live.offset,
-                cowns: Cowns::try_from(live.cowns.as_slice()).unwrap(),
+                cowns: live.cowns.widened(),
             }
         }
         None => unreachable!(),
@@ -157,7 +157,7 @@ pub fn flag_next(place: &mut Option<Live>, row: u32, request: usize)
 {
     match place {
         Some(live) => {
-            let count = live.cowns.len();
+            let count = live.cowns.as_slice().len();
             prove!(request < count);
             live.go_on(row, live.flagging(request + 1));
         }
@@ -208,9 +208,9 @@ pub fn end(place: &mut Option<Live>, row: u32, values: &mut [i64], outputs: &[i6
 {
     match place {
         Some(live) => {
-            write_outputs(values, &live.params, outputs);
+            write_outputs(values, &live.params.widened(), outputs);
             live.go_on(row, Phase::Leaving(0));
-            !live.cowns.is_empty()
+            !live.cowns.as_slice().is_empty()
         }
         None => unreachable!(),
     }
@@ -224,7 +224,7 @@ pub fn leave_next(place: &mut Option<Live>, row: u32, request: usize) -> bool
 {
     match place {
         Some(live) => {
-            let count = live.cowns.len();
+            let count = live.cowns.as_slice().len();
             prove!(request < count);
             live.go_on(row, Phase::Leaving(request + 1));
             request + 1 == count

@@ -5,7 +5,7 @@ ghost use Rattle.std.specs.Prelude.{◌≡◌, ℕ, false, IfOk, None, length};
 use crate::answers::{Advanced, Child, FinishFault, Job, Leaving, Left, OpenFault, Started};
 use crate::dispatcher::Core;
 use boc_chain::Chains;
-use boc_eval::{Frame, Outcome, Spare, Stop};
+use boc_eval::{Frame, Outcome, Spare};
 use boc_types::step::Step;
 use std::alloc::{AllocError, Global};
 
@@ -35,7 +35,7 @@ enum Hand<'a> {
     Leaving(Leaving),
 }
 
-/// A worker: its number, what it has in hand, and the memory of its last frame for the next one.
+/// A worker: its number, what it has in hand, and the room of its last body for the next one.
 #[derive(Drop)]
 pub struct Worker<'a> {
     number: u32,
@@ -131,7 +131,7 @@ impl<'a> Worker<'a> {
             Hand::Started(_) => take_up(alloc, &mut self.spare, &mut self.hand),
             Hand::Framed(_, _, due) => match *due {
                 Due::Going => {
-                    go_on(&mut self.spare, &mut self.hand);
+                    go_on(&mut self.hand);
                     Ok(())
                 }
                 _ => Ok(()),
@@ -147,7 +147,6 @@ impl<'a> Worker<'a> {
         ensures fits { KeepsFitting core.old self.old.hand core.new self.new.hand }
         ensures number { self.new.number ≡ self.old.number }
     {
-        // A frame is large, so most steps leave it where it stands, and have no room for another.
         match &self.hand {
             Hand::Started(_) => Turn::Thinks,
             Hand::Framed(_, _, due) => match *due {
@@ -159,7 +158,7 @@ impl<'a> Worker<'a> {
                 let leaving = *leaving;
                 leave(&mut self.hand, leaving, core)
             }
-            Hand::Done(..) => finish(&mut self.hand, core),
+            Hand::Done(..) => finish(&mut self.spare, &mut self.hand, core),
             Hand::Nothing => begin(&mut self.hand, core),
         }
     }
@@ -174,9 +173,10 @@ fn take_up<'a>(alloc: Global, spare: &mut Spare<'a>, hand: &mut Hand<'a>) -> Res
         Hand::Started(job) => {
             let row = job.row;
             let mut frame = frame_of(alloc, spare, job)?;
-            match frame.run() {
-                Stop::Wants(_) => *hand = Hand::Framed(row, frame, Due::Wishing),
-                Stop::Ended => *hand = Hand::Done(row, frame.end(spare)),
+            if frame.go_on() {
+                *hand = Hand::Framed(row, frame, Due::Wishing);
+            } else {
+                *hand = Hand::Done(row, frame.into_outcome());
             }
             Ok(())
         }
@@ -184,18 +184,19 @@ fn take_up<'a>(alloc: Global, spare: &mut Spare<'a>, hand: &mut Hand<'a>) -> Res
     }
 }
 
-// A frame goes on to its next wish, or its end. It stays where it stands until it has ended.
-fn go_on<'a>(spare: &mut Spare<'a>, hand: &mut Hand<'a>)
+// A frame goes on to its next wish, or its end.
+fn go_on(hand: &mut Hand<'_>)
     requires { Goes hand.old }
     ensures { (row : ℕ) (f : Framed) → hand.old ≡ hands.Framed row f dues.Going → HasGoneOn row f hand.new }
 {
-    let stop = match hand {
-        Hand::Framed(_, frame, _) => frame.run(),
+    let has_wish = match hand {
+        Hand::Framed(_, frame, _) => frame.go_on(),
         _ => unreachable!(),
     };
-    match stop {
-        Stop::Wants(_) => set_due(hand, Due::Wishing),
-        Stop::Ended => end(spare, hand),
+    if has_wish {
+        set_due(hand, Due::Wishing);
+    } else {
+        end(hand);
     }
 }
 
@@ -209,12 +210,12 @@ fn set_due(hand: &mut Hand<'_>, due: Due)
 }
 
 // A frame that has ended gives way to what its body gave.
-fn end<'a>(spare: &mut Spare<'a>, hand: &mut Hand<'a>)
+fn end(hand: &mut Hand<'_>)
     requires { IsEnded hand.old }
     ensures { HasGiven hand.old hand.new }
 {
     *hand = match std::mem::replace(hand, Hand::Nothing) {
-        Hand::Framed(row, frame, _) => Hand::Done(row, frame.end(spare)),
+        Hand::Framed(row, frame, _) => Hand::Done(row, frame.into_outcome()),
         _ => unreachable!(),
     };
 }
@@ -282,7 +283,11 @@ fn resume(hand: &mut Hand<'_>, child: Child)
 }
 
 // The turn of a worker whose row's body has ended.
-fn finish<'a, C: Chains + Drop>(hand: &mut Hand<'a>, core: &mut Core<'a, C>) -> Turn
+fn finish<'a, C: Chains + Drop>(
+    spare: &mut Spare<'a>,
+    hand: &mut Hand<'a>,
+    core: &mut Core<'a, C>,
+) -> Turn
     requires { IsDone hand.old }
     ensures works { Works core.old hand.old result core.new hand.new }
     ensures fits { KeepsFitting core.old hand.old core.new hand.new }
@@ -294,15 +299,25 @@ fn finish<'a, C: Chains + Drop>(hand: &mut Hand<'a>, core: &mut Core<'a, C>) -> 
     match finished {
         Ok(released) => match released {
             Some(leaving) => {
-                *hand = Hand::Leaving(leaving);
+                clear(spare, hand, Hand::Leaving(leaving));
                 Turn::Moved(Step::Finish)
             }
             None => {
-                *hand = Hand::Nothing;
+                clear(spare, hand, Hand::Nothing);
                 Turn::Moved(Step::Finish)
             }
         },
         Err(fault) => Turn::Refused(Refusal::Finish(fault)),
+    }
+}
+
+// What is next is in hand. The room of a body that has ended, if one was in hand, is there for the next body.
+fn clear<'a>(spare: &mut Spare<'a>, hand: &mut Hand<'a>, next: Hand<'a>)
+    ensures { hand.new ≡ next.entry }
+{
+    match std::mem::replace(hand, next) {
+        Hand::Done(_, outcome) => outcome.leave(spare),
+        _ => {}
     }
 }
 

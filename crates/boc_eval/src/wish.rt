@@ -19,6 +19,16 @@ pub struct SpawnWish {
 }
 
 impl SpawnWish {
+    /// A place for a wish.
+    pub(crate) fn blank() -> SpawnWish {
+        SpawnWish {
+            offset: 0,
+            kind: 0,
+            args: Args::new(),
+            cowns: Cowns::new(),
+        }
+    }
+
     /// The same wish once more. It takes no memory.
     pub(crate) fn duplicate(&self) -> SpawnWish
         ensures { wish_of result ≡ wish_of self.now }

@@ -28,12 +28,12 @@ ended row f g due (hands.Started job) ends gives = absurd gives
 ended row f g due (hands.Framed own h other) ends gives = absurd gives
 ended row f g due (hands.Leaving l) ends gives = absurd gives
 
-pub returns-in-Ended : goal.returns-in-Ended
-returns-in-Ended c row f is =
+pub returns-else-has_wish : goal.returns-else-has_wish
+returns-else-has_wish c row f is =
     let at = c.in-Framed in
     let both : hands.Framed at.field-0 at.frame at.field-2 ≡ hands.Framed row f dues.Going = sym at.is ∙ is in
     let rows : at.field-0 ≡ row = cc in
     let frames : at.frame ≡ f = cc in
     subst (λ (r : ℕ). HasGoneOn r f c.end.new.hand) rows
     (subst (λ (x : Framed). HasGoneOn at.field-0 x c.end.new.hand) frames
-    (ended at.field-0 at.frame c.run-stop.new.self at.field-2 c.end.new.hand c.in-Ended.ensures.stop c.end.ensures))
+    (ended at.field-0 at.frame c.go_on-has_wish.new.self at.field-2 c.end.new.hand c.if-has_wish.ensures.stop c.end.ensures))

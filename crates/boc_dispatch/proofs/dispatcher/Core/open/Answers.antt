@@ -1,4 +1,4 @@
-use Rattle.std.proofs.Common.{◌≡◌, subst, ℕ, sym}
+use Rattle.std.proofs.Common.{◌≡◌, subst, ℕ, refl, sym}
 use Rattle.std.specs.Prelude.{Result, Ok, Err}
 use Rattle.boc_dispatch.specs.Underway.{Underway}
 use Rattle.boc_dispatch.specs.Calls.{OpensWish, IsHandedOut, MayAsk}
@@ -9,7 +9,7 @@ use Rattle.boc_dispatch.specs.declared.answers.OpenFault.{OpenFault}
 use Rattle.boc_dispatch.specs.declared.answers.OpenFault.TheVariants as open_faults
 use Rattle.std.specs.declared.alloc.AllocError.{AllocError}
 use Rattle.boc_dispatch.proofs.Answered.{handed_as, full, opens, no_memory, new_is}
-use Rattle.boc_dispatch.proofs.dispatcher.Core.open.Goals.{in-Ok, in-Err}
+use Rattle.boc_dispatch.proofs.dispatcher.Core.open.Goals.{in-Ok-open, in-Err}
 use Rattle.boc_dispatch.proofs.dispatcher.Core.open.Goals as goal
 
 pub returns-then-self-ge-MOST_ROWS : goal.returns-then-self-ge-MOST_ROWS
@@ -33,8 +33,8 @@ open-requires-clause-new g c =
       handed = handed_as (underway d) row c.body.result.now f.body c.args-2.result.now f.args c.inputs.result.now f.inputs c.body.ensures c.args-2.ensures c.inputs.ensures c.in-Some.ensures.0;
       next = c.in-Some-next_wish.ensures.0;
     } in
-    let made = c.wished_behaviour-child.ensures in
-    new_is d f row c.in-Some-next_wish.wish.now c.wished_behaviour-child.result may c.in-Some-next_wish.ensures.2 made.behaviour made.state made.number made.awaited made.fresh
+    let made = c.in-Ok.ensures in
+    new_is d f row c.in-Some-next_wish.wish.now c.in-Ok.child may c.in-Some-next_wish.ensures.2 made.behaviour made.state made.number made.awaited made.fresh
 
 pub returns : goal.returns
 returns g c =
@@ -49,8 +49,21 @@ returns g c =
     let opened = c.open.ensures.opens in
     subst (λ (u : Underway). OpensWish u f row c.match-open.result (underway e)) c.self.view_is
     (elim c.match-open.branch [
-      | in-Ok w ↦ subst (λ (r : Result Child OpenFault). OpensWish (underway d) f row r (underway e)) (sym w.result-is)
-          (opens d c.self.invariant.kept e f row w.in-Ok.child may (subst (λ (r : Result Child AllocError). OpensChild d row r e) w.in-Ok.is opened))
+      | in-Ok-open w ↦ subst (λ (r : Result Child OpenFault). OpensWish (underway d) f row r (underway e)) (sym w.result-is)
+          (opens d c.self.invariant.kept e f row w.in-Ok-open.child may (subst (λ (r : Result Child AllocError). OpensChild d row r e) w.in-Ok-open.is opened))
       | in-Err w ↦ subst (λ (r : Result Child OpenFault). OpensWish (underway d) f row r (underway e)) (sym w.result-is)
           (no_memory d c.self.invariant.kept e f row may c.if-self-ge-MOST_ROWS.false (subst (λ (r : Result Child AllocError). OpensChild d row r e) w.in-Err.is opened))
     ])
+
+pub returns-in_default-wished_behaviour : goal.returns-in_default-wished_behaviour
+returns-in_default-wished_behaviour g c =
+    let d = parts_of g.C.Chains.lists g.C.Chains.place c.self.inside.machine in
+    let f = c.args.frame.now in
+    let row = c.args.row in
+    let may : MayAsk (underway d) f row = record {
+      handed = handed_as (underway d) row c.body.result.now f.body c.args-2.result.now f.args c.inputs.result.now f.inputs c.body.ensures c.args-2.ensures c.inputs.ensures c.in-Some.ensures.0;
+      next = c.in-Some-next_wish.ensures.0;
+    } in
+    let refused : OpensChild d row (Err c.in_default-wished_behaviour.field-0) d = refl in
+    subst (λ (u : Underway). OpensWish u f row (Err open_faults.Memory) u) c.self.view_is
+    (no_memory d c.self.invariant.kept d f row may c.if-self-ge-MOST_ROWS.false refused)

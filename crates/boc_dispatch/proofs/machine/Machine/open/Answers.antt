@@ -1,6 +1,7 @@
 use Rattle.std.proofs.Common.{◌≡◌, ◌∙◌, ◌+◌, ◌<◌, ◌≤◌, ℕ, List, [], length, sym, ap, subst, arith}
 use Rattle.std.specs.Prelude.{Option, Some, slice_index_or, vec_capacity}
 use Rattle.std.specs.VecDeque.{deque_capacity}
+use Rattle.arrayvec.specs.ArrayVec.{ArrayVec}
 use Rattle.boc_types.specs.machine.Steps.{unrecorded}
 use Rattle.boc_chain.specs.Chain.{times, slots}
 use Rattle.boc_dispatch.specs.Inside.{Parts, parts_of, state, underway, IsKept, HasRooms}
@@ -21,8 +22,7 @@ admit-requires-clause-distinct g c n =
     let p = c.requires.runs.0 in
     let it = c.requires.runs.1 in
     let free = free_of d c.args.slot p it.is c.requires.free in
-    let made = rw c.unwrap.ensures at c.try_from.ensures in
-    let cowns_are = made.0 ∙ c.as_slice.ensures.value in
+    let cowns_are = ap (λ (l : ArrayVec ℕ). l.items) c.widened.ensures.same in
     subst (λ (z : List ℕ). times n z ≤ 1) (sym cowns_are) (admit_distinct d k c.args.row c.args.slot p it free c.args.child c.requires.new c.requires.few n)
 
 pub admit-requires-clause-in_range : goal.admit-requires-clause-in_range
@@ -32,8 +32,7 @@ admit-requires-clause-in_range g c n h =
     let p = c.requires.runs.0 in
     let it = c.requires.runs.1 in
     let free = free_of d c.args.slot p it.is c.requires.free in
-    let made = rw c.unwrap.ensures at c.try_from.ensures in
-    let cowns_are = made.0 ∙ c.as_slice.ensures.value in
+    let cowns_are = ap (λ (l : ArrayVec ℕ). l.items) c.widened.ensures.same in
     admit_in d k c.args.row c.args.slot p it free c.args.child c.requires.new c.requires.few n (subst (λ (z : List ℕ). 0 < times n z) cowns_are h)
 
 pub dismiss-requires-clause-empty : goal.dismiss-requires-clause-empty
@@ -60,8 +59,7 @@ put_child-requires g c =
     let p = c.requires.runs.0 in
     let it = c.requires.runs.1 in
     let free = free_of d c.args.slot p it.is c.requires.free in
-    let made = rw c.unwrap.ensures at c.try_from.ensures in
-    let cowns_are = made.0 ∙ c.as_slice.ensures.value in
+    let cowns_are = ap (λ (l : ArrayVec ℕ). l.items) c.widened.ensures.same in
     let own = c.in_ok-own.own.index in
     let place = g.C.Chains.place c.admit.new.self in
     let fresh = c.in_ok-own.ensures.fresh in
@@ -86,8 +84,7 @@ returns-clause-sound g c =
     let p = c.requires.runs.0 in
     let it = c.requires.runs.1 in
     let free = free_of d c.args.slot p it.is c.requires.free in
-    let made = rw c.unwrap.ensures at c.try_from.ensures in
-    let cowns_are = made.0 ∙ c.as_slice.ensures.value in
+    let cowns_are = ap (λ (l : ArrayVec ℕ). l.items) c.widened.ensures.same in
     let own = c.in_ok-own.own.index in
     let place = g.C.Chains.place c.admit.new.self in
     let fresh = c.in_ok-own.ensures.fresh in
@@ -118,8 +115,7 @@ returns-clause-opens g c =
     let p = c.requires.runs.0 in
     let it = c.requires.runs.1 in
     let free = free_of d c.args.slot p it.is c.requires.free in
-    let made = rw c.unwrap.ensures at c.try_from.ensures in
-    let cowns_are = made.0 ∙ c.as_slice.ensures.value in
+    let cowns_are = ap (λ (l : ArrayVec ℕ). l.items) c.widened.ensures.same in
     let own = c.in_ok-own.own.index in
     let place = g.C.Chains.place c.admit.new.self in
     let fresh = c.in_ok-own.ensures.fresh in

@@ -88,6 +88,7 @@ fn transfer_is_taken(rt: HostRuntime) -> Result<(), Fail> {
     let alloc = rt.alloc();
     let mut rules = Rules::new(alloc, 2)?;
     assert_eq!(rt; rules.cowns(), 2);
+    assert!(rt; rules.events().is_empty());
     for event in &transfer() {
         assert!(rt; !rules.is_complete());
         rules = match rules.into_record() {

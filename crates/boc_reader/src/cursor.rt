@@ -46,10 +46,7 @@ impl<'t, 'a> Cursor<'t, 'a> {
         ensures position { result.position ≡ position_of tokens.now }
         ensures room { result.room ≡ room }
     {
-        Cursor {
-            rest: tokens,
-            room,
-        }
+        Cursor { rest: tokens, room }
     }
 
     /// The byte at which the next token begins. Where none is left it is one that is behind every text.

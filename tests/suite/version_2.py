@@ -16,11 +16,56 @@ READERS = lines_text(["boc 2 1", "+ 0 0 0", "> 0", "+ 1 0 2 0", "+ 2 0 3 0", "+ 
                       "< 2 7 0", "> 3", "< 3 2 0 0", "."])
 READERS_ROWS = [model.Row(0, 0, (), 4), model.Row(0, 2, (0,), 7), model.Row(0, 3, (0,), 7), model.Row(0, 4, (0,), 2)]
 
+# The program of which this is the record of a run by one worker.
+PEEKS = b"""cown a = 1;
+def peek(; x) { let y = x; work 5; }
+def set(; x) { x = x; }
+main { when peek(; a); when peek(; a); when set(; a); }
+"""
+
+# The report on these rows where what was only read is shared, and its greedy part for two workers.
+SHARED = """rows 4
+work 20
+span 12
+chain
+0 spawn 3
+2 order 7
+3 end 2
+plan
+0 0 4
+1 2 9
+2 3 10
+3 10 12
+"""
+SHARED_GREEDY = """greedy 2
+0 0 4 0
+1 2 9 1
+2 4 11 0
+3 11 13 0
+end 13 bound 22
+"""
+
+# The same text in version 1, in which rows count as having written all their cowns.
+READERS_OF_1 = lines_text(["boc 1 1", "+ 0 0 0", "> 0", "+ 1 0 2 0", "+ 2 0 3 0", "+ 3 0 4 0", "< 0 4 0", "> 1", "< 1 7 0", "> 2",
+                           "< 2 7 0", "> 3", "< 3 2 0", "."])
+
 # Records, and the answers to the commands that read them.
 READ = [
     (READERS, ["check"], "ok 4\n"),
     (READERS, ["profile"], model.report(READERS_ROWS).decode()),
     (READERS, ["profile", "--p", "2"], model.report(READERS_ROWS, 2).decode()),
+    (READERS, ["profile", "--shared-reads"], SHARED),
+    (READERS, ["profile", "--shared-reads", "--p", "2"], SHARED + SHARED_GREEDY),
+    (READERS, ["whatif", "--p", "2", "--shared-reads"], SHARED + SHARED_GREEDY),
+    (READERS, ["whatif", "--shared-reads", "2=1", "2=7"], SHARED),
+    (READERS, ["sweep"], model.sweep(READERS_ROWS).decode()),
+    (READERS, ["sweep", "--shared-reads"], "0 12\n1 12\n2 11\n3 11\n"),
+    (PEEKS, ["run"], READERS.decode()),
+    (PEEKS, ["time"], model.report(READERS_ROWS).decode()),
+    (PEEKS, ["time", "--shared-reads", "--p", "2"], SHARED + SHARED_GREEDY),
+    (READERS_OF_1, ["profile"], model.report(READERS_ROWS).decode()),
+    (READERS_OF_1, ["profile", "--shared-reads"], model.report(READERS_ROWS).decode()),
+    (READERS_OF_1, ["sweep", "--shared-reads"], model.sweep(READERS_ROWS).decode()),
     (lines_text(WRITTEN), ["check"], "ok 4\n"),
     (lines_text(WRITTEN), ["profile"], PROFILE),
     (lines_text(WRITTEN), ["profile", "--p", "2"], PROFILE + GREEDY),

@@ -9,7 +9,9 @@ TAKEN = [
     (["profile", "--p=2"], PROFILE + GREEDY),
     (["profile", "--p", "+2"], PROFILE + GREEDY),
     (["profile", "--p", "002"], PROFILE + GREEDY),
+    (["profile", "--shared-reads", "--p", "2"], PROFILE + GREEDY),
     (["whatif", "--", "2=1"], SHORTER),
+    (["whatif", "2=1", "--shared-reads"], SHORTER),
     (["whatif", "2=3", "--p", "2", "--", "2=1"], SHORTER + SHORTER_GREEDY),
 ]
 
@@ -40,6 +42,12 @@ REFUSED = [
     ["profile", "--p", "2", "--p", "2"],
     ["profile", "--q", "2"],
     ["profile", "--workers", "2"],
+    ["profile", "--shared-reads", "--shared-reads"],
+    ["profile", "--shared-reads=true"],
+    ["sweep", "--shared"],
+    ["check", "--shared-reads"],
+    ["values", "--shared-reads"],
+    ["run", "--shared-reads"],
     ["values", "--workers", "2"],
     ["run", "more"],
     ["run", "--p", "2"],

@@ -3,7 +3,8 @@
 //! A text of the table stands behind a line with its kind, a space and its length in bytes, and before a line feed. A
 //! `program` is read, and a `record` is read and written again. Of the record of a `report` the report is written, with
 //! the greedy plan for P workers, 1 to 64, where the kind is `report P`; of that of an `edit ROW TICKS` the report after
-//! that edit, or why it is refused; and of that of a `sweep` the sweep. The first line of a `drive WORKERS` is a list of
+//! that edit, or why it is refused; and of that of a `sweep` the sweep. With `shared ` in front of it, plans see what was
+//! only read as shared. The first line of a `drive WORKERS` is a list of
 //! choices of so many workers, a letter for each, `a` for worker 0, and the rest is the program that they drive: where the
 //! run stands then is written as its log, its steps, and the values of its cowns. Of a `quiet WORKERS`, which is made so too,
 //! it is written who can step then, and the steps and values of the run once it went on until it is quiet. Each drive is
@@ -27,6 +28,7 @@ use boc_types::limits::MOST_COWNS;
 use boc_types::program::Program;
 use boc_types::record::Record;
 use boc_types::rows::Rows;
+use boc_types::sharing::Sharing;
 use boc_types::workers::Workers;
 use boc_whatif::WhatIf;
 use std::alloc::{AllocError, Global};
@@ -37,11 +39,17 @@ use std::io::{self, Read, Write};
 enum Kind {
     Program,
     Record,
+    Plan { asked: Asked, sharing: Sharing },
+    Drive { workers: u32 },
+    Quiet { workers: u32 },
+}
+
+/// What is asked of the plans of a record's rows.
+#[derive(Clone, Copy)]
+enum Asked {
     Report { workers: Option<Workers> },
     Edit { row: u32, ticks: u32 },
     Sweep,
-    Drive { workers: u32 },
-    Quiet { workers: u32 },
 }
 
 // The kind that some words name.
@@ -49,18 +57,34 @@ fn kind_of(words: &str) -> Option<Kind> {
     match words {
         "program" => Some(Kind::Program),
         "record" => Some(Kind::Record),
-        "report" => Some(Kind::Report { workers: None }),
-        "sweep" => Some(Kind::Sweep),
-        _ => kind_with_numbers(words),
+        _ => run_kind(words).or(plan_kind(words)),
     }
 }
 
-// The kind that a word names with one or two numbers behind it.
-fn kind_with_numbers(words: &str) -> Option<Kind> {
+// What some words ask of plans. With `shared ` in front of them reads are shared.
+fn plan_kind(words: &str) -> Option<Kind> {
+    let (asked, sharing) = match words.strip_prefix("shared ") {
+        Some(words) => (asked_of(words)?, Sharing::SharedReads),
+        None => (asked_of(words)?, Sharing::Exclusive),
+    };
+    Some(Kind::Plan { asked, sharing })
+}
+
+// What a word asks of plans, with as many numbers behind it as it wants.
+fn asked_of(words: &str) -> Option<Asked> {
+    match words {
+        "report" => Some(Asked::Report { workers: None }),
+        "sweep" => Some(Asked::Sweep),
+        _ => asked_with_numbers(words),
+    }
+}
+
+// What a word asks of plans with one or two numbers behind it.
+fn asked_with_numbers(words: &str) -> Option<Asked> {
     match words.split_once(' ')? {
         ("report", workers) => {
             let workers = Workers::new(workers.parse().ok()?)?;
-            Some(Kind::Report {
+            Some(Asked::Report {
                 workers: Some(workers),
             })
         }
@@ -68,8 +92,15 @@ fn kind_with_numbers(words: &str) -> Option<Kind> {
             let (row, ticks) = numbers.split_once(' ')?;
             let row = row.parse().ok()?;
             let ticks = ticks.parse().ok()?;
-            Some(Kind::Edit { row, ticks })
+            Some(Asked::Edit { row, ticks })
         }
+        _ => None,
+    }
+}
+
+// The drive that a word names with a number of workers behind it.
+fn run_kind(words: &str) -> Option<Kind> {
+    match words.split_once(' ')? {
         ("drive", workers) => {
             let workers = workers.parse().ok()?;
             Some(Kind::Drive { workers })
@@ -156,34 +187,46 @@ fn greedy_for(
     alloc: Global,
     rows: &Rows,
     workers: Option<Workers>,
+    sharing: Sharing,
 ) -> Result<Option<Greedy>, AllocError>
     ensures { IfOk result (λ plan. IfSome plan IsWhole) }
 {
     match workers {
-        Some(workers) => Ok(Some(greedy(alloc, rows, workers)?)),
+        Some(workers) => Ok(Some(greedy(alloc, rows, workers, sharing)?)),
         None => Ok(None),
     }
 }
 
 // Writes the report on a record, or the line on a text that is none.
-fn tell_report(rt: HostRuntime, text: &[u8], workers: Option<Workers>) -> io::Result<()> {
+fn tell_report(
+    rt: HostRuntime,
+    text: &[u8],
+    workers: Option<Workers>,
+    sharing: Sharing,
+) -> io::Result<()> {
     let record = match record_of(rt, text)? {
         Ok(record) => record,
         Err(fault) => return println!(rt; "{fault}"),
     };
-    let found = profile(rt.alloc(), record.rows())?;
-    let plan = greedy_for(rt.alloc(), record.rows(), workers)?;
+    let found = profile(rt.alloc(), record.rows(), sharing)?;
+    let plan = greedy_for(rt.alloc(), record.rows(), workers, sharing)?;
     let report = profile_text(rt.alloc(), &found, plan.as_ref())?;
     rt.stdout().write_all(&report)
 }
 
 // Writes the report on a record after an edit, or why the edit is refused.
-fn tell_edit(rt: HostRuntime, text: &[u8], row: u32, ticks: u32) -> io::Result<()> {
+fn tell_edit(
+    rt: HostRuntime,
+    text: &[u8],
+    row: u32,
+    ticks: u32,
+    sharing: Sharing,
+) -> io::Result<()> {
     let record = match record_of(rt, text)? {
         Ok(record) => record,
         Err(fault) => return println!(rt; "{fault}"),
     };
-    let mut question = WhatIf::new(rt.alloc(), record.rows())?;
+    let mut question = WhatIf::new(rt.alloc(), record.rows(), sharing)?;
     match question.edit(row, ticks) {
         Ok(()) => {
             let found = question.profile(rt.alloc())?;
@@ -195,15 +238,24 @@ fn tell_edit(rt: HostRuntime, text: &[u8], row: u32, ticks: u32) -> io::Result<(
 }
 
 // Writes the sweep of a record.
-fn tell_sweep(rt: HostRuntime, text: &[u8]) -> io::Result<()> {
+fn tell_sweep(rt: HostRuntime, text: &[u8], sharing: Sharing) -> io::Result<()> {
     let record = match record_of(rt, text)? {
         Ok(record) => record,
         Err(fault) => return println!(rt; "{fault}"),
     };
-    let question = WhatIf::new(rt.alloc(), record.rows())?;
+    let question = WhatIf::new(rt.alloc(), record.rows(), sharing)?;
     let spans = question.sweep(rt.alloc())?;
     let lines = sweep_text(rt.alloc(), &spans)?;
     rt.stdout().write_all(&lines)
+}
+
+// Writes what is asked of the plans of a record's rows.
+fn tell_plan(rt: HostRuntime, text: &[u8], asked: Asked, sharing: Sharing) -> io::Result<()> {
+    match asked {
+        Asked::Report { workers } => tell_report(rt, text, workers, sharing),
+        Asked::Edit { row, ticks } => tell_edit(rt, text, row, ticks, sharing),
+        Asked::Sweep => tell_sweep(rt, text, sharing),
+    }
 }
 
 // The workers that letters name.
@@ -361,9 +413,7 @@ fn main(rt: HostRuntime) -> io::Result<()> {
         match kind {
             Kind::Program => tell_program(rt, text)?,
             Kind::Record => tell_record(rt, text)?,
-            Kind::Report { workers } => tell_report(rt, text, workers)?,
-            Kind::Edit { row, ticks } => tell_edit(rt, text, row, ticks)?,
-            Kind::Sweep => tell_sweep(rt, text)?,
+            Kind::Plan { asked, sharing } => tell_plan(rt, text, asked, sharing)?,
             Kind::Drive { workers } => tell_driven(rt, text, workers, false)?,
             Kind::Quiet { workers } => tell_driven(rt, text, workers, true)?,
         }

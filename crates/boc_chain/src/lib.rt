@@ -16,6 +16,7 @@ mod linked;
 mod list_chains;
 mod request;
 mod requests;
+mod short_link;
 
 pub use chains::Chains;
 pub use link_chains::LinkChains;

@@ -14,6 +14,7 @@ use crate::linked::{
 };
 use crate::request::{Released, Settled, Slot};
 use arrayvec::ArrayVec;
+use boc_types::held::HeldCowns;
 use boc_types::limits::MOST_HELD;
 use boc_types::short::{CownNo, Cowns};
 use slab::Slab;
@@ -120,10 +121,13 @@ impl Chains for LinkChains {
     {
         let count = cowns.len();
         prove!(count <= MOST_HELD);
-        // Nodes name slots in 16 bits, which is enough for as many behaviours as a run may have.
+        // Nodes name slots in 16 bits, which is enough for as many behaviours as a run may have, and cowns are kept in bytes.
         if self.slots.vacant_key() > u16::MAX as usize {
             return Err(AllocError);
         }
+        let Some(cowns) = HeldCowns::try_of(&cowns) else {
+            return Err(AllocError);
+        };
         self.slots.reserve(1)?;
         let index = self.slots.insert_reserved(Linked {
             cowns,

@@ -10,9 +10,11 @@ ghost use Rattle.boc_chain.specs.declared.request.Request.{Request};
 ghost use Rattle.boc_chain.specs.declared.request.Settled.TheVariants.{Blocked as SettleBlocked};
 
 use crate::request::Settled;
+use crate::short_link::ShortLink;
 use arrayvec::ArrayVec;
+use boc_types::held::HeldCowns;
 use boc_types::limits::MOST_HELD;
-use boc_types::short::{CownNo, Cowns};
+use boc_types::short::CownNo;
 use slab::Slab;
 
 /// Names a request: the slot that it is at, and its place among those of the slot. It is kept small, since there are two for
@@ -36,16 +38,16 @@ pub struct Link {
 /// What was admitted: the cowns, and the links of the requests exchanged so far.
 #[derive(Drop)]
 pub struct Linked {
-    pub cowns: Cowns,
-    pub links: ArrayVec<Link, MOST_HELD>,
+    pub cowns: HeldCowns,
+    pub links: ArrayVec<ShortLink, MOST_HELD>,
 }
 
 // Writes a link over the one at a place.
-fn put(links: &mut ArrayVec<Link, MOST_HELD>, place: usize, link: Link)
+fn put(links: &mut ArrayVec<ShortLink, MOST_HELD>, place: usize, link: Link)
     requires { place < length links.old.items }
     ensures { links.new.items ≡ slice_set links.old.items place link }
 {
-    links[place] = link;
+    links[place] = ShortLink::of(link);
 }
 
 impl Linked {
@@ -58,9 +60,9 @@ impl Linked {
             (d : ℕ) → d ≢ cown place (exchanged_of place) → stored_in (Some self.new) d ≡ stored_in (Some self.old) d }
         ensures place { place_in (Some self.new) ≡ one_more (place_in (Some self.old)) }
     {
-        let (count, all) = (self.links.len(), self.cowns.len());
+        let (count, all) = (self.links.len(), self.cowns.as_slice().len());
         prove!(count < all);
-        self.links.push(link);
+        self.links.push(ShortLink::of(link));
     }
 
     // The link of the request at a place.
@@ -69,7 +71,7 @@ impl Linked {
         ensures { (c : ℕ) → position (λ d. d == c) self.now.cowns.items ≡ Some place → stored_in (Some self.now) c
             ≡ Some result }
     {
-        self.links[place]
+        self.links[place].link()
     }
 
     // Puts a link in the place of the one at a place.
@@ -212,7 +214,7 @@ pub fn cown_at(slots: &Slab<Linked>, slot: usize, i: usize) -> CownNo
     requires { i < length (cowns_of (place_at slots.now slot)) }
     ensures { result ≡ cown (place_at slots.now slot) i }
 {
-    slots[slot].cowns[i]
+    CownNo::from(slots[slot].cowns.as_slice()[i])
 }
 
 /// The link of a request.

@@ -15,6 +15,8 @@ use Rattle.std.specs.Io.KnownBytes.{Consumes, IsAtEnd}
 use Rattle.boc_commands.specs.Commands.{AnswersInput, Leaves, IsOfEdits, RefusesEdits}
 use Rattle.boc_types.specs.declared.rows.Row.{Row}
 use Rattle.boc_types.specs.declared.edit.Edit.{Edit}
+use Rattle.boc_types.specs.declared.sharing.Sharing.{Sharing}
+use Rattle.boc_types.specs.runs.Seen.{seen}
 use Rattle.boc_types.specs.answers.Answers.{IsCheckAnswer, IsReport, IsProfileAnswer, IsWhatIfAnswer, IsSweepAnswer}
 use Rattle.boc_types.specs.plans.Edits.{AllFit, IsFirstUnfit, IsSweep, all_edited}
 use Rattle.boc_types.specs.answers.Texts.{check_text, sweep_lines}
@@ -22,26 +24,26 @@ use Rattle.boc_types.specs.runs.Records.{Recorded}
 use Rattle.boc_types.specs.text.RecordTexts.{IsTextOf}
 
 -- the answer, from the rows that were asked about and those after the edits
-pub answered : (edits : List Edit) (asked : Option ℕ) (text : List ℕ) (r : Recorded) (before after last : List Row) (made output : List ℕ) → IsTextOf text r → before ≡ r.rows
-    → AllFit before edits → after ≡ all_edited before edits → last ≡ after → IsReport last asked made → output ≡ made
-    → IsWhatIfAnswer edits asked text output
-answered edits asked input r before after last made output spells same fit edited is report text = record {
+pub answered : (edits : List Edit) (sharing kept : Sharing) (asked : Option ℕ) (text : List ℕ) (r : Recorded) (before after : List Row) (made output : List ℕ) → IsTextOf text r
+    → before ≡ r.rows → AllFit before edits → after ≡ all_edited before edits → kept ≡ sharing → IsReport (seen kept after) asked made → output ≡ made
+    → IsWhatIfAnswer edits sharing asked text output
+answered edits sharing kept asked input r before after made output spells same fit edited way report text = record {
   recorded = r;
   spells = spells;
   fit = subst (λ rows. AllFit rows edits) same fit;
-  report = subst (λ t. IsReport (all_edited r.rows edits) asked t) (sym text)
-      (subst (λ rows. IsReport rows asked made) (is ∙ edited ∙ ap (λ rows. all_edited rows edits) same) report);
+  report = subst (λ t. IsReport (seen sharing (all_edited r.rows edits)) asked t) (sym text)
+      (subst (λ rows. IsReport (seen sharing rows) asked made) (edited ∙ ap (λ rows. all_edited rows edits) same) (subst (λ s. IsReport (seen s after) asked made) way report));
 }
 
 -- the answer of a sweep, from the rows that were swept
-pub swept : (input : List ℕ) (r : Recorded) (rows : List Row) (spans seen made output : List ℕ) → IsTextOf input r → rows ≡ r.rows → IsSweep rows spans → seen ≡ spans
-    → made ≡ sweep_lines 0 seen → output ≡ made → IsSweepAnswer input output
-swept input r rows spans seen made output spells same sweep read text is = record {
+pub swept : (sharing kept : Sharing) (input : List ℕ) (r : Recorded) (rows : List Row) (spans read made output : List ℕ) → IsTextOf input r → rows ≡ r.rows → kept ≡ sharing
+    → IsSweep (seen kept rows) spans → read ≡ spans → made ≡ sweep_lines 0 read → output ≡ made → IsSweepAnswer sharing input output
+swept sharing kept input r rows spans read made output spells same way sweep are text is = record {
   recorded = r;
   spells = spells;
   spans = spans;
-  sweep = subst (λ xs. IsSweep xs spans) same sweep;
-  text = is ∙ text ∙ ap (sweep_lines 0) read;
+  sweep = subst (λ s. IsSweep (seen s r.rows) spans) way (subst (λ xs. IsSweep (seen kept xs) spans) same sweep);
+  text = is ∙ text ∙ ap (sweep_lines 0) are;
 }
 
 -- the sink failed after a beginning of the answer
@@ -88,12 +90,12 @@ refused_edits faults.Source edits rows r before h same spells = absurd h
 refused_edits (faults.Sink gone) edits rows r before h same spells = absurd h
 
 -- the report on the rows of a record that was read
-pub reported : (asked : Option ℕ) (text : List ℕ) (r : Recorded) (rows : List Row) (made output : List ℕ) → IsTextOf text r → rows ≡ r.rows → IsReport rows asked made → output ≡ made
-    → IsProfileAnswer asked text output
-reported asked text r rows made output spells same report is = record {
+pub reported : (sharing : Sharing) (asked : Option ℕ) (text : List ℕ) (r : Recorded) (rows : List Row) (made output : List ℕ) → IsTextOf text r → rows ≡ r.rows
+    → IsReport (seen sharing rows) asked made → output ≡ made → IsProfileAnswer sharing asked text output
+reported sharing asked text r rows made output spells same report is = record {
   recorded = r;
   spells = spells;
-  report = subst (λ t. IsReport r.rows asked t) (sym is) (subst (λ xs. IsReport xs asked made) same report);
+  report = subst (λ t. IsReport (seen sharing r.rows) asked t) (sym is) (subst (λ xs. IsReport (seen sharing xs) asked made) same report);
 }
 
 -- so a result that is this fault refuses edits

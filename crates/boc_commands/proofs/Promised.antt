@@ -1,14 +1,12 @@
 -- Why reports are true.
-use Rattle.std.proofs.Common.{◌≡◌, ◌+◌, ◌/◌, ◌<◌, ◌≤◌, ◌*◌, ◌-◌, ℕ, List, slice_index, refl, Option, Some, None, arith}
+use Rattle.std.proofs.Common.{◌<◌, ℕ, List, slice_index, refl, Option, Some, None, arith}
 use Rattle.boc_types.specs.declared.chain.ChainStep.{ChainStep}
 use Rattle.boc_types.specs.declared.rows.Row.{Row}
 use Rattle.boc_types.specs.runs.Rows.{IsRows}
 use Rattle.boc_types.specs.plans.Plans.{IsEarliest, IsEnd, work_of}
 use Rattle.boc_types.specs.plans.Chains.{IsChain}
-use Rattle.boc_types.specs.plans.Greedy.{IsForWorkers, IsGreedy, IsSpan, worker_of}
+use Rattle.boc_types.specs.plans.Greedy.{IsGreedy}
 use Rattle.boc_types.specs.answers.Answers.{IsAskedPart, IsReport}
-use Rattle.boc_greedy.specs.Plans.{IsGreedyPlanOf}
-use Rattle.boc_greedy.specs.declared.report.Greedy.{Greedy}
 use Rattle.boc_greedy.proofs.Bound.{end_within, greedy_close, greedy_for_workers, greedy_keeps}
 use Rattle.boc_order.proofs.Chaining.{weight_le_end}
 use Rattle.boc_commands.specs.Promises.{IsBest, IsTrueReport, IsWithinBound, PartIsWithinBound}

@@ -173,10 +173,10 @@ abbrev pub AnswersCommand : Command → Option (List ℕ) → Option (List ℕ) 
 AnswersCommand commands.Values before after text = AnswersInput IsValuesAnswer before after text
 AnswersCommand commands.Check before after text = AnswersInput IsCheckAnswer before after text
 AnswersCommand (commands.Run runners) before after text = AnswersInput IsRunAnswer before after text
-AnswersCommand (commands.Profile workers) before after text = AnswersInput (IsProfileAnswer workers) before after text
-AnswersCommand (commands.Time runners workers) before after text = AnswersInput (IsTimeAnswer workers) before after text
-AnswersCommand (commands.WhatIf edits workers) before after text = AnswersInput (IsWhatIfAnswer edits.items workers) before after text
-AnswersCommand commands.Sweep before after text = AnswersInput IsSweepAnswer before after text
+AnswersCommand (commands.Profile workers sharing) before after text = AnswersInput (IsProfileAnswer sharing workers) before after text
+AnswersCommand (commands.Time runners workers sharing) before after text = AnswersInput (IsTimeAnswer sharing workers) before after text
+AnswersCommand (commands.WhatIf edits workers sharing) before after text = AnswersInput (IsWhatIfAnswer edits.items sharing workers) before after text
+AnswersCommand (commands.Sweep sharing) before after text = AnswersInput (IsSweepAnswer sharing) before after text
 AnswersCommand (commands.Help help) before after text = (text ≡ string_bytes help) × Keeps before after
 
 -- what a command refuses; a call for help refuses nothing
@@ -184,8 +184,8 @@ abbrev pub RefusesCommand : {A : Type 0} → Type 0 → Command → Result A Fau
 RefusesCommand always_on commands.Values result before after = RefusesProgram result before after
 RefusesCommand always_on commands.Check result before after = RefusesRecord result before
 RefusesCommand always_on (commands.Run runners) result before after = RefusesRun always_on result before after
-RefusesCommand always_on (commands.Profile workers) result before after = RefusesRecord result before
-RefusesCommand always_on (commands.Time runners workers) result before after = RefusesRun always_on result before after
-RefusesCommand always_on (commands.WhatIf edits workers) result before after = RefusesEdits edits.items result before
-RefusesCommand always_on commands.Sweep result before after = RefusesRecord result before
+RefusesCommand always_on (commands.Profile workers sharing) result before after = RefusesRecord result before
+RefusesCommand always_on (commands.Time runners workers sharing) result before after = RefusesRun always_on result before after
+RefusesCommand always_on (commands.WhatIf edits workers sharing) result before after = RefusesEdits edits.items result before
+RefusesCommand always_on (commands.Sweep sharing) result before after = RefusesRecord result before
 RefusesCommand always_on (commands.Help help) result before after = RefusesNothing result

@@ -3,6 +3,8 @@ use Rattle.std.specs.Prelude.{◌≡◌, ℕ, ◌+◌, ◌/◌, ◌<◌, ◌≤�
 use Rattle.boc_types.specs.declared.chain.ChainStep.{ChainStep}
 use Rattle.boc_types.specs.declared.program.Program.{Program}
 use Rattle.boc_types.specs.declared.rows.Row.{Row}
+use Rattle.boc_types.specs.declared.sharing.Sharing.{Sharing}
+use Rattle.boc_types.specs.runs.Seen.{seen}
 use Rattle.boc_types.specs.text.Spells.{Spells}
 use Rattle.boc_types.specs.text.RecordTexts.{Second, record_text}
 use Rattle.boc_types.specs.runs.Records.{Recorded, IsRecord, IsRecordOf}
@@ -62,11 +64,12 @@ pub record IsTrueReport (rows : List Row) (asked : Option ℕ) (output : List �
 
 -- ---- both
 
--- The input spells a program; the recorded run, in whatever order its threads made their steps, is a run of it by the rule of runs; and
--- the output is the report on its rows. The plan that is reported keeps the run's spawn points and cown orders, every plan that keeps
+-- The input spells a program; the recorded run, in whatever order its threads made their steps, is a run of it by the rule of runs, in which
+-- cowns are exclusive; and the output is the report on its rows, as they share cowns in the way that was asked for. The plan that is reported
+-- keeps the run's spawn points and cown orders, every plan that keeps
 -- them starts no row earlier and ends no sooner than the reported chain's ticks, and the greedy plan for p workers ends within the work
 -- divided by p, and the span.
-pub record IsTimeAnswer (asked : Option ℕ) (input output : List ℕ) : Type 0 where
+pub record IsTimeAnswer (sharing : Sharing) (asked : Option ℕ) (input output : List ℕ) : Type 0 where
   pub recorded : Recorded
   pub run : IsRunOfText input recorded
-  pub report : IsTrueReport recorded.rows asked output
+  pub report : IsTrueReport (seen sharing recorded.rows) asked output

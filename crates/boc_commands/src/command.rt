@@ -41,12 +41,20 @@ pub fn run_command<R: Threads + Wait + Sync, G: Gate, S: Source, W: Sink>(
         Command::Values => values_cmd(alloc, source, sink),
         Command::Check => check_cmd(alloc, source, sink),
         Command::Run { runners } => run_cmd(rt, alloc, *runners, gate, source, sink),
-        Command::Profile(workers) => profile_cmd(alloc, *workers, source, sink),
-        Command::Time { runners, workers } => {
-            time_cmd(rt, alloc, *runners, *workers, gate, source, sink)
+        Command::Profile { workers, sharing } => {
+            profile_cmd(alloc, *workers, *sharing, source, sink)
         }
-        Command::WhatIf { edits, workers } => whatif_cmd(alloc, edits, *workers, source, sink),
-        Command::Sweep => sweep_cmd(alloc, source, sink),
+        Command::Time {
+            runners,
+            workers,
+            sharing,
+        } => time_cmd(rt, alloc, *runners, *workers, *sharing, gate, source, sink),
+        Command::WhatIf {
+            edits,
+            workers,
+            sharing,
+        } => whatif_cmd(alloc, edits, *workers, *sharing, source, sink),
+        Command::Sweep(sharing) => sweep_cmd(alloc, *sharing, source, sink),
         Command::Help(text) => help(text, sink),
     }
 }

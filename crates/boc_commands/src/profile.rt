@@ -8,30 +8,32 @@ use crate::fault::Fault;
 use crate::report::report_on;
 use boc_record::read_rows;
 use boc_text::{Sink, Source, put_out};
+use boc_types::sharing::Sharing;
 use boc_types::workers::Workers;
 use std::alloc::Global;
 
 /// Reads the text of a record, and writes the report on its rows: their work, the span, the chain of rows that holds
 /// the run back, and the earliest plan. Where a number of workers is given, the greedy plan for them follows, with
-/// its end and the tick by which it has ended.
+/// its end and the tick by which it has ended. Plans see the rows as they share cowns in this way.
 ///
 /// A text is refused at its first faulty line, and only where it is no record's. Nothing is written unless
 /// the whole output stands. After a failing write a beginning of it went out.
 pub fn profile_cmd<S: Source, W: Sink>(
     alloc: Global,
     workers: Option<Workers>,
+    sharing: Sharing,
     source: &mut S,
     sink: &mut W,
 ) -> Result<(), Fault>
     requires source { S.failures source.old < u64.MAX }
     requires sink { W.failures sink.old < u64.MAX }
-    ensures written { Leaves (AnswersInput (IsProfileAnswer workers) (S.remaining source.old) (S.remaining source.new)) result (W.written sink.old) (W.written sink.new) }
+    ensures written { Leaves (AnswersInput (IsProfileAnswer sharing workers) (S.remaining source.old) (S.remaining source.new)) result (W.written sink.old) (W.written sink.new) }
     ensures refused { RefusesRecord result (S.remaining source.old) }
     ensures source { CountsSource result (S.failures source.old) (S.failures source.new) }
     ensures sink { CountsSink result (W.failures sink.old) (W.failures sink.new) }
 {
     let rows = read_rows(alloc, source)?;
-    let answer = report_on(alloc, workers, &rows)?;
+    let answer = report_on(alloc, workers, &rows, sharing)?;
     put_out(sink, &answer)?;
     Ok(())
 }

@@ -4,13 +4,15 @@ ghost use Rattle.std.specs.Prelude.{◌≡◌, IfOk, IfSome};
 ghost use Rattle.boc_report.specs.Parts.{IsWhole, part_of};
 ghost use Rattle.boc_types.specs.answers.Answers.{IsAskedPart, IsReport};
 ghost use Rattle.boc_types.specs.plans.Greedy.{IsSpan};
-ghost use Rattle.boc_order.specs.Profiles.{IsProfileOf};
+ghost use Rattle.boc_types.specs.runs.Seen.{seen};
 
 use boc_greedy::{Greedy, greedy_within};
-use boc_order::{Profile, profile};
+use boc_order::profile;
 use boc_report::profile_text;
 use boc_types::rows::Rows;
+use boc_types::sharing::Sharing;
 use boc_types::workers::Workers;
+use boc_whatif::WhatIf;
 use std::alloc::{AllocError, Global};
 
 // The report on some rows, with the greedy part where a number of workers is given.
@@ -18,25 +20,26 @@ pub(crate) fn report_on(
     alloc: Global,
     workers: Option<Workers>,
     rows: &Rows,
+    sharing: Sharing,
 ) -> Result<Vec<u8>, AllocError>
-    ensures { IfOk result (λ text. IsReport rows.now workers text.items) }
+    ensures { IfOk result (λ text. IsReport (seen sharing rows.now) workers text.items) }
 {
-    let found = profile(alloc, rows)?;
-    report_with(alloc, workers, rows, &found)
+    let profile = profile(alloc, rows, sharing)?;
+    let greedy = greedy_for(alloc, workers, rows, profile.span, sharing)?;
+    profile_text(alloc, &profile, greedy.as_ref())
 }
 
-// The same report, for a caller who has the profile of the rows already.
-pub(crate) fn report_with(
+// The same report on rows that were edited.
+pub(crate) fn report_after(
     alloc: Global,
     workers: Option<Workers>,
-    rows: &Rows,
-    profile: &Profile,
+    question: &WhatIf,
 ) -> Result<Vec<u8>, AllocError>
-    requires { IsProfileOf rows.now profile.now }
-    ensures { IfOk result (λ text. IsReport rows.now workers text.items) }
+    ensures { IfOk result (λ text. IsReport (seen question.now.sharing question.now.rows) workers text.items) }
 {
-    let greedy = greedy_for(alloc, workers, rows, profile.span)?;
-    profile_text(alloc, profile, greedy.as_ref())
+    let profile = question.profile(alloc)?;
+    let greedy = greedy_after(alloc, workers, question)?;
+    profile_text(alloc, &profile, greedy.as_ref())
 }
 
 // The greedy plan for the workers that were asked for. Without such there is none.
@@ -45,16 +48,29 @@ fn greedy_for(
     workers: Option<Workers>,
     rows: &Rows,
     span: u64,
+    sharing: Sharing,
 ) -> Result<Option<Greedy>, AllocError>
-    requires { IsSpan rows.now span }
-    ensures part { IfOk result (λ greedy. IsAskedPart rows.now workers (part_of greedy)) }
+    requires { IsSpan (seen sharing rows.now) span }
+    ensures part { IfOk result (λ greedy. IsAskedPart (seen sharing rows.now) workers (part_of greedy)) }
     ensures whole { IfOk result (λ greedy. IfSome greedy IsWhole) }
 {
     match workers {
-        Some(workers) => {
-            let greedy = greedy_within(alloc, rows, workers, span)?;
-            Ok(Some(greedy))
-        }
+        Some(workers) => Ok(Some(greedy_within(alloc, rows, workers, span, sharing)?)),
+        None => Ok(None),
+    }
+}
+
+// The same of rows that were edited.
+fn greedy_after(
+    alloc: Global,
+    workers: Option<Workers>,
+    question: &WhatIf,
+) -> Result<Option<Greedy>, AllocError>
+    ensures part { IfOk result (λ greedy. IsAskedPart (seen question.now.sharing question.now.rows) workers (part_of greedy)) }
+    ensures whole { IfOk result (λ greedy. IfSome greedy IsWhole) }
+{
+    match workers {
+        Some(workers) => Ok(Some(question.greedy(alloc, workers)?)),
         None => Ok(None),
     }
 }

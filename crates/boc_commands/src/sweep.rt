@@ -8,28 +8,30 @@ use crate::fault::Fault;
 use boc_record::read_rows;
 use boc_report::sweep_text;
 use boc_text::{Sink, Source, put_out};
+use boc_types::sharing::Sharing;
 use boc_whatif::WhatIf;
 use std::alloc::Global;
 
 /// Reads the text of a record, and writes for each row the span that the rows would have if that row alone took the
-/// least ticks that it can.
+/// least ticks that it can. Plans see the rows as they share cowns in this way.
 ///
 /// A text is refused at its first faulty line, and only where it is no record's. Nothing is written unless
 /// the whole output stands. After a failing write a beginning of it went out.
 pub fn sweep_cmd<S: Source, W: Sink>(
     alloc: Global,
+    sharing: Sharing,
     source: &mut S,
     sink: &mut W,
 ) -> Result<(), Fault>
     requires source { S.failures source.old < u64.MAX }
     requires sink { W.failures sink.old < u64.MAX }
-    ensures written { Leaves (AnswersInput IsSweepAnswer (S.remaining source.old) (S.remaining source.new)) result (W.written sink.old) (W.written sink.new) }
+    ensures written { Leaves (AnswersInput (IsSweepAnswer sharing) (S.remaining source.old) (S.remaining source.new)) result (W.written sink.old) (W.written sink.new) }
     ensures refused { RefusesRecord result (S.remaining source.old) }
     ensures source { CountsSource result (S.failures source.old) (S.failures source.new) }
     ensures sink { CountsSink result (W.failures sink.old) (W.failures sink.new) }
 {
     let rows = read_rows(alloc, source)?;
-    let question = WhatIf::of(alloc, rows)?;
+    let question = WhatIf::of(alloc, rows, sharing)?;
     let spans = question.sweep(alloc)?;
     let answer = sweep_text(alloc, &spans)?;
     put_out(sink, &answer)?;

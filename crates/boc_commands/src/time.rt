@@ -3,6 +3,7 @@
 ghost use Rattle.std.specs.Prelude.{◌≡◌, ◌<◌, ◌≤◌, length, IfOk, MatchResult};
 ghost use Rattle.boc_types.specs.declared.limits.TheConstants.{MOST_TEXT};
 ghost use Rattle.boc_commands.specs.Commands.{AnswersInput, Leaves, CountsSource, CountsSink, IsOfRun, RefusesRun};
+ghost use Rattle.boc_types.specs.runs.Seen.{seen};
 ghost use Rattle.boc_commands.specs.Promises.{IsTimeAnswer, IsTrueReport};
 
 use crate::fault::Fault;
@@ -11,6 +12,7 @@ use crate::run::run_text;
 use crate::values::MOST_TAKEN;
 use boc_text::{Sink, Source, put_out, read_all};
 use boc_types::rows::Rows;
+use boc_types::sharing::Sharing;
 use boc_types::workers::Workers;
 use boc_words::Runners;
 use boc_workers::Gate;
@@ -21,8 +23,9 @@ use std::thread::Threads;
 /// Reads a program, runs it by so many threads, and writes the report on the rows of the run, as the command `profile`
 /// does for a record.
 ///
-/// Whatever the order in which the threads make their steps, the rows are those of a run of the program. The plan that is
-/// reported keeps their spawn points and cown orders, each plan that keeps them starts no row earlier and ends no sooner
+/// Whatever the order in which the threads make their steps, the rows are those of a run of the program, in which cowns are
+/// exclusive. Plans see the rows as they share cowns in the way that is asked for: the plan that is reported keeps their
+/// spawn points and cown orders, each plan that keeps them starts no row earlier and ends no sooner
 /// than the ticks of the chain, and the greedy plan for p workers ends within the work divided by p, and the span.
 ///
 /// What is refused, and what is written, is as for `run`.
@@ -31,19 +34,20 @@ pub fn time_cmd<R: Threads + Wait + Sync, G: Gate, S: Source, W: Sink>(
     alloc: Global,
     runners: Runners,
     workers: Option<Workers>,
+    sharing: Sharing,
     gate: &G,
     source: &mut S,
     sink: &mut W,
 ) -> Result<(), Fault>
     requires source { S.failures source.old < u64.MAX }
     requires sink { W.failures sink.old < u64.MAX }
-    ensures written { Leaves (AnswersInput (IsTimeAnswer workers) (S.remaining source.old) (S.remaining source.new)) result (W.written sink.old) (W.written sink.new) }
+    ensures written { Leaves (AnswersInput (IsTimeAnswer sharing workers) (S.remaining source.old) (S.remaining source.new)) result (W.written sink.old) (W.written sink.new) }
     ensures refused { RefusesRun G.always_on result (S.remaining source.old) (S.remaining source.new) }
     ensures source { CountsSource result (S.failures source.old) (S.failures source.new) }
     ensures sink { CountsSink result (W.failures sink.old) (W.failures sink.new) }
 {
     let text = read_all(alloc, source, MOST_TAKEN)?;
-    let answer = time_answer(rt, alloc, &text, runners, workers, gate)?;
+    let answer = time_answer(rt, alloc, &text, runners, workers, sharing, gate)?;
     put_out(sink, &answer)?;
     Ok(())
 }
@@ -55,20 +59,26 @@ fn time_answer<R: Threads + Wait + Sync, G: Gate>(
     text: &[u8],
     runners: Runners,
     workers: Option<Workers>,
+    sharing: Sharing,
     gate: &G,
 ) -> Result<Vec<u8>, Fault>
     ensures { MatchResult result
-        (λ answer. IsTimeAnswer workers text.now answer.items × (length text.now ≤ MOST_TEXT))
+        (λ answer. IsTimeAnswer sharing workers text.now answer.items × (length text.now ≤ MOST_TEXT))
         (IsOfRun G.always_on text.now) }
 {
     let answer = run_text(rt, alloc, text, runners, gate)?;
-    Ok(true_report(alloc, workers, answer.record.rows())?)
+    Ok(true_report(alloc, workers, answer.record.rows(), sharing)?)
 }
 
 // The report on some rows, with what its plans promise.
-fn true_report(alloc: Global, workers: Option<Workers>, rows: &Rows) -> Result<Vec<u8>, AllocError>
-    ensures { IfOk result (λ text. IsTrueReport rows.now workers text.items) }
+fn true_report(
+    alloc: Global,
+    workers: Option<Workers>,
+    rows: &Rows,
+    sharing: Sharing,
+) -> Result<Vec<u8>, AllocError>
+    ensures { IfOk result (λ text. IsTrueReport (seen sharing rows.now) workers text.items) }
 {
     let _shape = rows.as_slice();
-    report_on(alloc, workers, rows)
+    report_on(alloc, workers, rows, sharing)
 }

@@ -6,10 +6,11 @@ ghost use Rattle.boc_types.specs.plans.Edits.{AllFit, all_edited};
 ghost use Rattle.boc_commands.specs.Commands.{AnswersInput, Leaves, CountsSource, CountsSink, IsOfEdits, RefusesEdits};
 
 use crate::fault::Fault;
-use crate::report::report_with;
+use crate::report::report_after;
 use boc_record::read_rows;
 use boc_text::{Sink, Source, put_out};
 use boc_types::edit::Edit;
+use boc_types::sharing::Sharing;
 use boc_types::workers::Workers;
 use boc_whatif::WhatIf;
 use std::alloc::Global;
@@ -24,21 +25,21 @@ pub fn whatif_cmd<S: Source, W: Sink>(
     alloc: Global,
     edits: &[Edit],
     workers: Option<Workers>,
+    sharing: Sharing,
     source: &mut S,
     sink: &mut W,
 ) -> Result<(), Fault>
     requires source { S.failures source.old < u64.MAX }
     requires sink { W.failures sink.old < u64.MAX }
-    ensures written { Leaves (AnswersInput (IsWhatIfAnswer edits.now workers) (S.remaining source.old) (S.remaining source.new)) result (W.written sink.old) (W.written sink.new) }
+    ensures written { Leaves (AnswersInput (IsWhatIfAnswer edits.now sharing workers) (S.remaining source.old) (S.remaining source.new)) result (W.written sink.old) (W.written sink.new) }
     ensures refused { RefusesEdits edits.now result (S.remaining source.old) }
     ensures source { CountsSource result (S.failures source.old) (S.failures source.new) }
     ensures sink { CountsSink result (W.failures sink.old) (W.failures sink.new) }
 {
     let rows = read_rows(alloc, source)?;
-    let mut question = WhatIf::of(alloc, rows)?;
+    let mut question = WhatIf::of(alloc, rows, sharing)?;
     edit_all(&mut question, edits)?;
-    let profile = question.profile(alloc)?;
-    let answer = report_with(alloc, workers, question.rows(), &profile)?;
+    let answer = report_after(alloc, workers, &question)?;
     put_out(sink, &answer)?;
     Ok(())
 }
@@ -47,6 +48,7 @@ pub fn whatif_cmd<S: Source, W: Sink>(
 fn edit_all(question: &mut WhatIf, edits: &[Edit]) -> Result<(), Fault>
     ensures fit { OnOk result (AllFit question.old.rows edits.now) }
     ensures rows { OnOk result (question.new.rows ≡ all_edited question.old.rows edits.now) }
+    ensures sharing { question.new.sharing ≡ question.old.sharing }
     ensures unfit { IfErr result (IsOfEdits question.old.rows edits.now) }
 {
     for (index, edit) in edits.iter().enumerate() {

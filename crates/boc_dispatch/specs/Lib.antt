@@ -8,3 +8,4 @@ pub mod Grants
 pub mod Working
 pub mod Driving
 pub mod KeptArguments
+pub mod KeptStages

@@ -5,6 +5,7 @@ mod answers;
 mod dispatcher;
 mod interleaving;
 mod kept_args;
+mod kept_stage;
 mod live;
 mod machine;
 mod movers;

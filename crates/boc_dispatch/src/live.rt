@@ -13,11 +13,11 @@ ghost use Rattle.boc_dispatch.specs.Inside.{behaviour_of, open_of};
 ghost use Rattle.boc_dispatch.specs.Places.{in_phase};
 
 use crate::kept_args::KeptArgs;
+use crate::kept_stage::KeptStage;
 use boc_eval::SpawnWish;
 use boc_types::body::Body;
 use boc_types::cowns::rising_cowns;
 use boc_types::held::HeldCowns;
-use boc_types::limits::MOST_COWNS;
 use boc_types::program::Program;
 use boc_types::short::{Cowns, Input};
 use boc_types::stage::{Phase, Stage};
@@ -33,7 +33,7 @@ pub struct Live {
     /// The ticks that its parent had counted as it wished for it.
     pub offset: u32,
     /// The place of its body among the program's bodies.
-    pub kind: usize,
+    pub kind: u32,
     /// The values of its value parameters.
     pub args: KeptArgs,
     /// Its cowns in the order of its cown parameters.
@@ -41,7 +41,7 @@ pub struct Live {
     /// Its cowns in rising order, which is that of its requests.
     pub cowns: HeldCowns,
     /// How far it is.
-    pub stage: Stage,
+    pub stage: KeptStage,
     /// How many of its requests aren't granted, and one more before Own.
     pub awaited: u8,
     /// How many of its wishes were spawned.
@@ -64,28 +64,15 @@ pub fn main_behaviour() -> Live
         args: KeptArgs::new(),
         params: HeldCowns::new(),
         cowns: HeldCowns::new(),
-        stage: Stage::Recorded {
-            row: 0,
-            phase: Phase::Ready,
-        },
+        stage: KeptStage::recorded(0, Phase::Ready),
         awaited: 0,
         spawned: 0,
         child: None,
     }
 }
 
-// These cowns in bytes. Any that has a number past a byte is refused, as if there were no memory for it.
-fn in_bytes(cowns: &Cowns) -> Result<HeldCowns, AllocError>
-    ensures { IfOk result (λ held. held ≡ cowns.now) }
-{
-    if cowns.iter().all(|cown| (*cown as usize) < MOST_COWNS) {
-        Ok(HeldCowns::of(cowns))
-    } else {
-        Err(AllocError)
-    }
-}
-
-/// The behaviour of a row's wish as it is opened, under a number of its own. `AllocError` says that memory was refused.
+/// The behaviour of a row's wish as it is opened, under a number of its own. `AllocError` says that memory was refused; a cown
+/// that has no byte would be refused so too.
 pub fn wished_behaviour(
     alloc: Global,
     number: u32,
@@ -100,18 +87,22 @@ pub fn wished_behaviour(
 {
     let cowns = rising_cowns(&wish.cowns);
     let awaited = cowns.len() as u8 + 1;
+    let (Some(params), Some(cowns)) = (HeldCowns::try_of(&wish.cowns), HeldCowns::try_of(&cowns))
+    else {
+        return Err(AllocError);
+    };
+    let Ok(kind) = u32::try_from(wish.kind) else {
+        return Err(AllocError);
+    };
     Ok(Live {
         number,
         parent: row,
         offset: wish.offset,
-        kind: wish.kind,
+        kind,
         args: KeptArgs::of(alloc, &wish.args)?,
-        params: in_bytes(&wish.cowns)?,
-        cowns: in_bytes(&cowns)?,
-        stage: Stage::Asking {
-            request: 0,
-            exchanged: false,
-        },
+        params,
+        cowns,
+        stage: KeptStage::asking(0, false),
         awaited,
         spawned: 0,
         child: None,
@@ -165,7 +156,7 @@ impl Live {
             row,
             phase: Phase::Running,
         };
-        self.stage == runs
+        self.stage.stage() == runs
     }
 
     // This is its body.
@@ -173,7 +164,7 @@ impl Live {
         requires { self.now.kind < length program.now.bodies }
         ensures { IsTrue result ↔ (slice_get program.now.bodies self.now.kind ≡ Some body.now) }
     {
-        *program.body(self.kind) == *body
+        *program.body(self.kind as usize) == *body
     }
 
     // These are its arguments.
@@ -211,7 +202,7 @@ impl Live {
     pub fn row(&self) -> Option<u32>
         ensures { result ≡ row_at self.now.stage }
     {
-        match self.stage {
+        match self.stage.stage() {
             Stage::Asking { .. } => None,
             Stage::Recorded { row, .. } => Some(row),
         }
@@ -221,7 +212,7 @@ impl Live {
     pub fn leaving(&self, row: u32) -> Option<usize>
         ensures { (request : ℕ) → (result ≡ Some request) ↔ (self.now.stage ≡ Recorded row (phases.Leaving request)) }
     {
-        match self.stage {
+        match self.stage.stage() {
             Stage::Recorded {
                 row: own,
                 phase: Phase::Leaving(request),
@@ -245,6 +236,6 @@ impl Live {
     pub fn go_on(&mut self, row: u32, phase: Phase)
         ensures { self.new ≡ in_phase row phase self.old }
     {
-        self.stage = Stage::Recorded { row, phase };
+        self.stage = KeptStage::recorded(row, phase);
     }
 }

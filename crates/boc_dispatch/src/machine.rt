@@ -316,7 +316,7 @@ impl<'a, C: Chains + Drop> Machine<'a, C> {
             Some(live) if live.number == child.number => Some(Enqueue {
                 parent,
                 slot,
-                stage: live.stage,
+                stage: live.stage.stage(),
             }),
             _ => None,
         }

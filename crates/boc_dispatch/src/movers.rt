@@ -60,7 +60,7 @@ impl<'a, C: Chains + Drop> Machine<'a, C> {
             number: live.number,
             row: live.parent,
         };
-        match live.stage {
+        match live.stage.stage() {
             Stage::Asking { request, exchanged } => {
                 if exchanged && !self.chains.can_settle(Slot { index: slot }, request) {
                     None

@@ -11,6 +11,7 @@ ghost use Rattle.boc_types.specs.runs.Serial.{after_outputs, inputs_of as inputs
 ghost use Rattle.boc_dispatch.specs.Places.{Has, in_phase, begun, with_child, with_spawn, exchanged, settled, with_row, spawn_of, granted as with_grant};
 
 use crate::answers::Job;
+use crate::kept_stage::KeptStage;
 use crate::live::Live;
 use boc_types::event::Event;
 use boc_types::program::Program;
@@ -31,14 +32,14 @@ pub fn begin<'a>(place: &mut Option<Live>, program: &'a Program, values: &[i64])
 {
     match place {
         Some(live) => {
-            let row = match live.stage {
+            let row = match live.stage.stage() {
                 Stage::Recorded { row, .. } => row,
                 Stage::Asking { .. } => unreachable!(),
             };
             live.go_on(row, Phase::Running);
             Job {
                 row,
-                body: program.body(live.kind),
+                body: program.body(live.kind as usize),
                 args: Args::try_from(live.args.as_slice()).unwrap(),
                 inputs: inputs_of(&live.params.widened(), values),
             }
@@ -53,7 +54,7 @@ pub fn recorded_row(place: &Option<Live>) -> u32
     ensures { Has place.now (λ l. row_at l.stage ≡ Some result) }
 {
     match place {
-        Some(live) => match live.stage {
+        Some(live) => match live.stage.stage() {
             Stage::Recorded { row, .. } => row,
             Stage::Asking { .. } => unreachable!(),
         },
@@ -100,12 +101,7 @@ pub fn ask(place: &mut Option<Live>, request: usize)
     ensures { place.new ≡ option_map (exchanged request) place.old }
 {
     match place {
-        Some(live) => {
-            live.stage = Stage::Asking {
-                request,
-                exchanged: true,
-            }
-        }
+        Some(live) => live.stage = KeptStage::asking(request, true),
         None => unreachable!(),
     }
 }
@@ -120,10 +116,7 @@ pub fn settle_next(place: &mut Option<Live>, request: usize, granted: u8) -> boo
         Some(live) => {
             let count = live.cowns.as_slice().len();
             live.awaited -= granted;
-            live.stage = Stage::Asking {
-                request: request + 1,
-                exchanged: false,
-            };
+            live.stage = KeptStage::asking(request + 1, false);
             request + 1 == count
         }
         None => unreachable!(),
@@ -189,7 +182,7 @@ pub fn grant_one(place: &mut Option<Live>) -> bool
             if live.awaited > 0 {
                 return false;
             }
-            if let Stage::Recorded { row, .. } = live.stage {
+            if let Stage::Recorded { row, .. } = live.stage.stage() {
                 live.go_on(row, Phase::Ready);
             }
             true

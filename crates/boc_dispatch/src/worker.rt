@@ -299,11 +299,12 @@ fn finish<'a, C: Chains + Drop>(
     match finished {
         Ok(released) => match released {
             Some(leaving) => {
-                clear(spare, hand, Hand::Leaving(leaving));
+                clear(spare, hand);
+                *hand = Hand::Leaving(leaving);
                 Turn::Moved(Step::Finish)
             }
             None => {
-                clear(spare, hand, Hand::Nothing);
+                clear(spare, hand);
                 Turn::Moved(Step::Finish)
             }
         },
@@ -311,13 +312,14 @@ fn finish<'a, C: Chains + Drop>(
     }
 }
 
-// What is next is in hand. The room of a body that has ended, if one was in hand, is there for the next body.
-fn clear<'a>(spare: &mut Spare<'a>, hand: &mut Hand<'a>, next: Hand<'a>)
-    ensures { hand.new ≡ next.entry }
+// Nothing is in hand any more, and the room of the body that has ended is there for the next.
+fn clear<'a>(spare: &mut Spare<'a>, hand: &mut Hand<'a>)
+    requires { IsDone hand.old }
+    ensures { hand.new ≡ hands.Nothing }
 {
-    match std::mem::replace(hand, next) {
+    match std::mem::replace(hand, Hand::Nothing) {
         Hand::Done(_, outcome) => outcome.leave(spare),
-        _ => {}
+        _ => unreachable!(),
     }
 }
 

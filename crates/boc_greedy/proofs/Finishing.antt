@@ -1,5 +1,5 @@
 -- A simulation in which no row can start and every worker is idle has made the greedy plan.
-use Rattle.std.proofs.Common.{◌≡◌, ℕ, ◌<◌, ◌≤◌, ◌^◌, List, length, subst, arith}
+use Rattle.std.proofs.Common.{◌≡◌, ℕ, ◌<◌, ◌≤◌, ◌^◌, List, length, arith}
 use Rattle.std.specs.Prelude.{slice_index}
 use Rattle.boc_types.specs.declared.rows.Row.{Row}
 use Rattle.boc_types.specs.runs.Rows.{IsRows}
@@ -16,16 +16,15 @@ pub record IsDone (rows : List Row) (p : ℕ) (s : Simulation) : Type 0 where
   pub moments : CountsAll s.moments (IsMoment rows s.starts.items)
   pub low : (r : ℕ) → r < length rows → slice_index s.starts.items r < 2 ^ 62
 
-pub done : (rows list : List Row) (p : ℕ) (s : Simulation) (changes : List ℕ) → list ≡ rows → IsRows rows → IsSettled list p s → IsCounted list s → IsLow list s → 0 < p →
+pub done : (rows : List Row) (p : ℕ) (s : Simulation) (changes : List ℕ) → IsRows rows → IsSettled rows p s → IsCounted rows s → IsLow rows s → 0 < p →
     changes ≡ s.changes.items → ((v : ℕ) → v < length changes → later ≤ slice_index changes v) → IsDone rows p s
-done rows list p s changes same shape settled counted low some now none =
+done rows p s changes shape settled counted low some now none =
     let g = settled.giving in
     let k = g.kept in
     let idle : (v : ℕ) → v < p → later ≤ slice_index s.changes.items v = λ v h. (rw now at none) v (omega (arith, h, k.changes_whole)) in
-    let hr : IsRows list = rw same shape in
-    subst (λ (x : List Row). IsDone x p s) same (record {
-      greedy = greedy_all list hr p later _ _ _ _ _ _ _ k g.given g.passed settled.full some idle;
-      moments = counts_same _ (IsPast list s.starts.items s.tick) (IsMoment list s.starts.items) (λ x i. i.moment)
-          (λ x m. record { come = past_all list hr p later _ _ _ _ _ _ _ k g.given g.passed settled.full some idle x m; moment = m }) counted.moments;
-      low = λ r h. omega (arith, over_all list hr p later _ _ _ _ _ _ _ k g.given g.passed settled.full some idle r h, low.low, hr.not_many);
-    })
+    record {
+      greedy = greedy_all rows shape p later _ _ _ _ _ _ _ k g.given g.passed settled.full some idle;
+      moments = counts_same _ (IsPast rows s.starts.items s.tick) (IsMoment rows s.starts.items) (λ x i. i.moment)
+          (λ x m. record { come = past_all rows shape p later _ _ _ _ _ _ _ k g.given g.passed settled.full some idle x m; moment = m }) counted.moments;
+      low = λ r h. omega (arith, over_all rows shape p later _ _ _ _ _ _ _ k g.given g.passed settled.full some idle r h, low.low, shape.not_many);
+    }

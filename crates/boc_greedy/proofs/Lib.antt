@@ -1,9 +1,8 @@
-pub mod Linking
 pub mod WordsAbove
+pub mod Followed
 pub mod Queueing
 pub mod Staging
-pub mod Reaching
-pub mod HeadMoving
+pub mod Waking
 pub mod Puts
 pub mod Agreeing
 pub mod Standing

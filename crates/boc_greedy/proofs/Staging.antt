@@ -1,18 +1,16 @@
 -- What stays as one row moves on to another stage.
-use Rattle.std.proofs.Common.{◌≡◌, ◌≢◌, ℕ, zero, suc, ◌<◌, ◌⊎◌, List, [], ◌∷◌, length, refl, sym, ◌∙◌, ap, subst, inl, inr, arith}
-use Rattle.boc_types.specs.declared.limits.TheConstants.{MOST_COWNS}
-use Rattle.std.specs.Prelude.{slice_index, slice_set, Option, Some, None}
-use Rattle.std.specs.Option.{option_map_or}
+use Rattle.std.proofs.Common.{◌≡◌, ◌≢◌, ℕ, zero, suc, ◌+◌, ◌<◌, ◌⊎◌, List, [], ◌∷◌, length, refl, sym, ◌∙◌, ap, subst, inl, inr, arith}
+use Rattle.std.specs.Prelude.{slice_set, Some, None}
 use Rattle.std.specs.List.{Contains}
-use Rattle.std.proofs.lemmas.Bool.{cases_eq, cases_order}
-use Rattle.std.proofs.lemmas.Option.{slice_get_cases}
+use Rattle.std.proofs.lemmas.Bool.{cases_eq}
 use Rattle.boc_types.specs.declared.rows.Row.{Row}
-use Rattle.boc_types.specs.runs.Rows.{IsRows, cowns_of}
 use Rattle.boc_types.specs.plans.Plans.{Ordered}
+use Rattle.boc_order.specs.Waits.{links_of, AreWaits}
+use Rattle.boc_order.proofs.Near.{near_complete, near_ordered}
 use Rattle.boc_greedy.specs.declared.frontier.Stage.{Stage}
 use Rattle.boc_greedy.specs.declared.frontier.Stage.TheVariants.{Unspawned, Waiting, UnderWay, Over}
 use Rattle.boc_greedy.specs.Stages.{IsAt, CanStart}
-use Rattle.boc_greedy.specs.Frontier.{IsHead, IsFirst, AwaitsWorker}
+use Rattle.boc_greedy.specs.Frontier.{HasNoWaits, AwaitsWorker}
 
 -- the stage of a row in a list of which one row's stage was changed
 pub moved : (stages : List Stage) (r k : ℕ) (s t : Stage) → IsAt (slice_set stages r s) k t → ((k ≡ r) × (s ≡ t)) ⊎ ((k ≢ r) × IsAt stages k t)
@@ -56,54 +54,25 @@ waiting_not_under_way e = cc
 pub over_not_under_way : Over ≡ UnderWay → ⊥
 over_not_under_way e = cc
 
--- a row with a cown is there
-pub in_rows : (rows : List Row) (r c : ℕ) → Contains (cowns_of rows r) c → r < length rows
-in_rows rows r c h = elim (slice_get_cases rows r).1 [
-  | inl p ↦ p.1
-  | inr p ↦
-      let none : Contains (option_map_or (λ (x : Row). x.cowns.items) None []) c = subst (λ (o : Option Row). Contains (option_map_or (λ (x : Row). x.cowns.items) o []) c) p.1 h in
-      absurd (let f : none.0 < 0 = none.1 in omega arith)
-]
-
--- its cowns are below 256
-pub small_cown : (rows : List Row) (r c : ℕ) → IsRows rows → Contains (cowns_of rows r) c → c < MOST_COWNS
-small_cown rows r c h has = let l = h.cowns_below r (in_rows rows r c has) has.0 c has.1 in omega (arith, l, has.2)
-
--- where a row is the head of each of its cowns, the rows that are ordered before it are over
-pub first_clear : (rows : List Row) (stages : List Stage) (heads : List ℕ) (r : ℕ) → IsRows rows →
-    ((c : ℕ) → c < MOST_COWNS → IsHead rows stages c (slice_index heads c)) → IsFirst rows heads r →
-    (a : ℕ) → Ordered rows a r → IsAt stages a Over
-first_clear rows stages heads r shape are first a o =
-    let c = o.shared.0 in
-    let at : slice_index heads c ≡ r = first c o.shared.2 in
-    (are c (small_cown rows r c shape o.shared.2)).over_before a (omega (arith, o.before)) o.shared.1
-
--- and the other way round, if the row isn't over
-pub clear_first : (rows : List Row) (stages : List Stage) (heads : List ℕ) (r : ℕ) → IsRows rows →
-    ((c : ℕ) → c < MOST_COWNS → IsHead rows stages c (slice_index heads c)) → (IsAt stages r Over → ⊥) →
-    ((a : ℕ) → Ordered rows a r → IsAt stages a Over) → IsFirst rows heads r
-clear_first rows stages heads r shape are lives clear c has =
-    let there : r < length rows = in_rows rows r c has in
-    let head = are c (small_cown rows r c shape has) in
-    elim (cases_order (slice_index heads c) r) [
-      | inl e ↦ e
-      | inr p ↦ elim p [
-        | inl less ↦ absurd (head.not_over (omega arith) (clear (slice_index heads c) (record { before = less; shared = (c, head.has (omega arith), has) })))
-        | inr more ↦ absurd (lives (head.over_before r more has))
-      ]
+-- the rows that wait for nothing but a worker are those that can start
+module _ (rows : List Row) (waits : List (List ℕ)) (stages : List Stage) (are : AreWaits rows waits) where
+  module _ (past : (r : ℕ) → IsAt stages r Over → (a : ℕ) → Ordered rows a r → IsAt stages a Over) (r : ℕ) (there : r < length rows) (none : HasNoWaits waits stages r) where
+    over_from : (n a : ℕ) → Ordered rows a r → r < a + n → IsAt stages a Over
+    over_from zero a o h = absurd (omega (arith, o.before, h))
+    over_from (suc n) a o h = elim (near_complete rows a r there o) [
+      | inl near ↦ none a ((are.at r there).complete a near)
+      | inr p ↦ past p.0 (over_from n p.0 p.2 (omega (arith, h, p.1.before))) a p.1
     ]
 
--- the rows that are ready are those that can start
-pub ready_can : (rows : List Row) (stages : List Stage) (heads : List ℕ) (r : ℕ) → IsRows rows →
-    ((c : ℕ) → c < MOST_COWNS → IsHead rows stages c (slice_index heads c)) → AwaitsWorker rows stages heads r → CanStart rows stages r
-ready_can rows stages heads r shape are is = record { waits = is.waits; clear = first_clear rows stages heads r shape are is.first }
+    waits_clear : (a : ℕ) → Ordered rows a r → IsAt stages a Over
+    waits_clear a o = over_from (r + 1) a o (omega arith)
 
-pub can_ready : (rows : List Row) (stages : List Stage) (heads : List ℕ) (r : ℕ) → IsRows rows →
-    ((c : ℕ) → c < MOST_COWNS → IsHead rows stages c (slice_index heads c)) → CanStart rows stages r → AwaitsWorker rows stages heads r
-can_ready rows stages heads r shape are can = record {
-  waits = can.waits;
-  first = clear_first rows stages heads r shape are (λ e. waiting_not_over (one_stage stages r Waiting Over can.waits e)) can.clear;
-}
+  pub ready_can : ((r : ℕ) → IsAt stages r Over → (a : ℕ) → Ordered rows a r → IsAt stages a Over) →
+      (r : ℕ) → r < length rows → AwaitsWorker waits stages r → CanStart rows stages r
+  ready_can past r there is = record { waits = is.waiting; clear = waits_clear past r there is.over }
+
+  pub can_ready : (r : ℕ) → r < length rows → CanStart rows stages r → AwaitsWorker waits stages r
+  can_ready r there can = record { waiting = can.waits; over = λ a has. can.clear a (near_ordered rows a r ((are.at r there).sound a has)) }
 
 -- a row that isn't over moves on
 module _ (rows : List Row) (stages : List Stage) (row : ℕ) (from to : Stage) (was : IsAt stages row from) (lives : from ≡ Over → ⊥) where
@@ -129,22 +98,16 @@ module _ (rows : List Row) (stages : List Stage) (row : ℕ) (from to : Stage) (
     | inr p ↦ past r p.1 a o
   ])
 
-  pub head_stays : (c a : ℕ) → (to ≡ Over → Contains (cowns_of rows row) c → ⊥) → IsHead rows stages c a → IsHead rows (slice_set stages row to) c a
-  head_stays c a lacks head = record {
-    high = head.high;
-    has = head.has;
-    not_over = λ l e. elim (moved stages row a to Over e) [
-      | inl p ↦ lacks p.1 (subst (λ (x : ℕ). Contains (cowns_of rows x) c) p.0 (head.has l))
-      | inr p ↦ head.not_over l p.1
+  pub ready_stays : (waits : List (List ℕ)) (r : ℕ) → r ≢ row → AwaitsWorker waits stages r → AwaitsWorker waits (slice_set stages row to) r
+  ready_stays waits r n is = record { waiting = moved_other stages row r to Waiting n is.waiting; over = λ a has. over_stays a (is.over a has) }
+
+  -- a row that doesn't wait for this one, or not for its end
+  pub was_ready : (waits : List (List ℕ)) (r : ℕ) → r ≢ row → (to ≡ Over → Contains (links_of waits r) row → ⊥) →
+      AwaitsWorker waits (slice_set stages row to) r → AwaitsWorker waits stages r
+  was_ready waits r n lacks is = record {
+    waiting = elim (moved stages row r to Waiting is.waiting) [ inl p ↦ absurd (n p.0) | inr p ↦ p.1 ];
+    over = λ a has. elim (moved stages row a to Over (is.over a has)) [
+      | inl p ↦ absurd (lacks p.1 (subst (λ (x : ℕ). Contains (links_of waits r) x) p.0 has))
+      | inr p ↦ p.1
     ];
-    over_before = λ b l has. over_stays b (head.over_before b l has);
-  }
-
-  pub ready_stays : (heads : List ℕ) (r : ℕ) → r ≢ row → AwaitsWorker rows stages heads r → AwaitsWorker rows (slice_set stages row to) heads r
-  ready_stays heads r n is = record { waits = moved_other stages row r to Waiting n is.waits; first = is.first }
-
-  pub was_ready : (heads : List ℕ) (r : ℕ) → r ≢ row → AwaitsWorker rows (slice_set stages row to) heads r → AwaitsWorker rows stages heads r
-  was_ready heads r n is = record {
-    waits = elim (moved stages row r to Waiting is.waits) [ inl p ↦ absurd (n p.0) | inr p ↦ p.1 ];
-    first = is.first;
   }

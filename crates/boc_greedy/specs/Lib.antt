@@ -1,5 +1,4 @@
 pub mod Stages
-pub mod Links
 pub mod RowSets
 pub mod Frontier
 pub mod Families

@@ -4,7 +4,7 @@ ghost use Rattle.std.specs.Prelude.{IfOk};
 ghost use Rattle.boc_types.specs.runs.Rows.{IsRows};
 ghost use Rattle.boc_greedy.specs.Families.{IsFamily};
 
-use boc_types::rows::Row;
+use boc_types::sharing::SeenRows;
 use std::alloc::{AllocError, Global};
 
 /// For each row its first child, and the next child of its parent. Where there is none, the number of rows stands.
@@ -17,7 +17,7 @@ pub struct Family {
 }
 
 /// The children of the rows. `AllocError` says that memory was refused.
-pub fn family_of(alloc: Global, rows: &[Row]) -> Result<Family, AllocError>
+pub fn family_of(alloc: Global, rows: &SeenRows) -> Result<Family, AllocError>
     requires { IsRows rows.now }
     ensures { IfOk result (λ f. IsFamily rows.now f.first.items f.next.items) }
 {
@@ -27,7 +27,7 @@ pub fn family_of(alloc: Global, rows: &[Row]) -> Result<Family, AllocError>
     let mut row = rows.len();
     while row > 1 {
         row -= 1;
-        let parent = rows[row].parent as usize;
+        let parent = rows.parent(row) as usize;
         next[row] = first[parent];
         first[parent] = row as u32;
     }

@@ -1,8 +1,12 @@
 // Which rows can start, as rows are spawned, start and end.
 
-use crate::links::{Heads, Links, Next, link};
+ghost use Rattle.std.specs.Prelude.{◌≡◌, ℕ, ◌≤◌, ◌<◌, length, slice_index, All};
+ghost use Rattle.boc_greedy.specs.declared.frontier.Stage.TheVariants.{Over};
+ghost use Rattle.boc_greedy.specs.Stages.{IsAt};
+
 use crate::row_set::RowSet;
-use boc_types::rows::Row;
+use boc_order::Links;
+use boc_types::sharing::SeenRows;
 use std::alloc::{AllocError, Global};
 
 /// How far a row is.
@@ -10,7 +14,7 @@ use std::alloc::{AllocError, Global};
 pub enum Stage {
     /// It is not spawned yet.
     Unspawned,
-    /// It is spawned, and waits for its cowns or for a worker.
+    /// It is spawned, and waits for other rows or for a worker.
     Waiting,
     /// It has a worker.
     UnderWay,
@@ -20,54 +24,78 @@ pub enum Stage {
 
 /// The stages of the rows, and the rows that can start.
 #[derive(Drop)]
-pub struct Frontier {
+pub struct Frontier<'a> {
+    /// The rows that each row waits for.
+    waits: &'a Links,
+    /// The rows that wait for each row.
+    followers: &'a Links,
     /// How far each row is.
     pub stages: Vec<Stage>,
-    /// The least row on each cown that is not over, or the number of rows where there is none.
-    heads: Heads,
-    /// For each row, the next row on each of its cowns, or the number of rows where there is none.
-    following: Vec<Next>,
-    /// Of how many of its first cowns each row was found to be the head. These are not looked at again.
-    reached: Vec<u8>,
-    /// The rows that wait and are at the head of each of their cowns.
+    /// How many of the first rows that a row waits for were found to be over. These are not looked at again.
+    reached: Vec<usize>,
+    /// The rows that are spawned, and wait for nothing but a worker.
     ready: RowSet,
 }
 
-impl Frontier {
-    ghost use Rattle.std.specs.Prelude.{◌≡◌, ℕ, suc, ◌≤◌, ◌<◌, ◌↔◌, ◌∷◌, length, pred, replicate, slice_set, OnOk, IfOk, IfSome, IfNone, IsTrue};
-    ghost use Rattle.boc_types.specs.runs.Rows.{IsRows, cowns_of};
-    ghost use Rattle.boc_greedy.specs.declared.frontier.Stage.TheVariants.{Unspawned, Waiting, UnderWay, Over};
-    ghost use Rattle.boc_greedy.specs.Stages.{IsAt, CanStart};
-    ghost use Rattle.boc_greedy.specs.Frontier.{IsFrontier, IsEnding, IsFirst, AreReached};
+// How many of these rows, from a place on, are over before the first that is not.
+fn over_from(waits: &[u32], stages: &[Stage], from: usize) -> usize
+    requires there { All (λ r. r < length stages.now) waits.now }
+    requires within { from ≤ length waits.now }
+    ensures from { from ≤ result }
+    ensures within { result ≤ length waits.now }
+    ensures over { (k : ℕ) → from ≤ k → k < result → IsAt stages.now (slice_index waits.now k) Over }
+    ensures stopped { result < length waits.now → IsAt stages.now (slice_index waits.now result) Over → ⊥ }
+{
+    let mut reached = from;
+    while reached < waits.len() && stages[waits[reached] as usize] == Stage::Over {
+        reached += 1;
+    }
+    reached
+}
 
-    /// Main waits, and no other row is spawned.
-    pub fn new(alloc: Global, rows: &[Row]) -> Result<Frontier, AllocError>
-        requires { IsRows rows.now }
+impl<'a> Frontier<'a> {
+    ghost use Rattle.std.specs.Prelude.{◌≡◌, ℕ, ◌≤◌, ◌<◌, ◌↔◌, ◌⊎◌, ◌∷◌, [], length, pred, replicate, slice_set, IfOk, IfSome, IfNone, IsTrue};
+    ghost use Rattle.boc_types.specs.declared.limits.TheConstants.{MOST_ROWS};
+    ghost use Rattle.boc_types.specs.runs.Rows.{IsRows};
+    ghost use Rattle.boc_order.specs.Waits.{AreWaits, AreFollowers};
+    ghost use Rattle.boc_greedy.specs.declared.frontier.Stage.TheVariants.{Unspawned, Waiting, UnderWay, Over};
+    ghost use Rattle.boc_greedy.specs.RowSets.{IsRowSet, Has};
+    ghost use Rattle.boc_greedy.specs.Stages.{IsAt, CanStart};
+    ghost use Rattle.boc_greedy.specs.Frontier.{IsFrontier, AreReached, HasNoWaits, AwaitsWorker};
+
+    /// Main waits for a worker, and no other row is spawned.
+    pub fn new(
+        alloc: Global,
+        rows: &SeenRows,
+        waits: &'a Links,
+        followers: &'a Links,
+    ) -> Result<Frontier<'a>, AllocError>
+        requires shape { IsRows rows.now }
+        requires waits { AreWaits rows.now waits.now }
+        requires followers { AreFollowers waits.now followers.now }
         ensures kept { IfOk result (λ f. IsFrontier rows.now f) }
         ensures stages { IfOk result (λ f. f.stages.items ≡ Waiting ∷ replicate (pred (length rows.now)) Unspawned) }
     {
-        let Links { heads, following } = link(alloc, rows)?;
-        let mut stages = Vec::with_capacity(alloc, rows.len())?;
-        let mut reached = Vec::with_capacity(alloc, rows.len())?;
+        let count = rows.len();
+        let mut stages = Vec::with_capacity(alloc, count)?;
         stages.push(Stage::Waiting)?;
-        reached.push(0)?;
-        for _ in 1..rows.len() {
+        for _ in 1..count {
             stages.push(Stage::Unspawned)?;
-            reached.push(0)?;
         }
+        let reached = vec![in alloc; 0; count]?;
         let mut ready = RowSet::new(alloc)?;
         ready.insert(0);
         Ok(Frontier {
+            waits,
+            followers,
             stages,
-            heads,
-            following,
             reached,
             ready,
         })
     }
 
     /// The row is spawned.
-    pub fn spawn(&mut self, rows: &[Row], row: u32)
+    pub fn spawn(&mut self, rows: &SeenRows, row: u32)
         requires shape { IsRows rows.now }
         requires frontier { IsFrontier rows.now self.old }
         requires unspawned { IsAt self.old.stages.items row Unspawned }
@@ -75,13 +103,11 @@ impl Frontier {
         ensures stages { self.new.stages.items ≡ slice_set self.old.stages.items row Waiting }
     {
         self.stages[row as usize] = Stage::Waiting;
-        if self.reaches_all(rows, row) {
-            self.ready.insert(row);
-        }
+        self.wake(row);
     }
 
     /// Starts the least of the rows that can start, if there is one.
-    pub fn start_least(&mut self, rows: &[Row]) -> Option<u32>
+    pub fn start_least(&mut self, rows: &SeenRows) -> Option<u32>
         requires shape { IsRows rows.now }
         requires frontier { IsFrontier rows.now self.old }
         ensures kept { IsFrontier rows.now self.new }
@@ -97,7 +123,7 @@ impl Frontier {
     }
 
     /// A row that is under way ends.
-    pub fn end(&mut self, rows: &[Row], row: u32)
+    pub fn end(&mut self, rows: &SeenRows, row: u32)
         requires shape { IsRows rows.now }
         requires frontier { IsFrontier rows.now self.old }
         requires under_way { IsAt self.old.stages.items row UnderWay }
@@ -105,51 +131,45 @@ impl Frontier {
         ensures stages { self.new.stages.items ≡ slice_set self.old.stages.items row Over }
     {
         self.stages[row as usize] = Stage::Over;
-        for k in 0..rows[row as usize].cowns.as_slice().len() {
-            self.advance(rows, row, k);
+        let followers = self.followers;
+        for follower in followers.of(row as usize) {
+            self.wake(*follower);
         }
     }
 
-    // The next row on the k-th cown of a row that has ended becomes the cown's head, and may be ready by it.
-    fn advance(&mut self, rows: &[Row], row: u32, k: usize)
-        requires shape { IsRows rows.now }
-        requires ending { IsEnding rows.now self.old row k }
-        requires within { k < length (cowns_of rows.now row) }
-        ensures ending { IsEnding rows.now self.new row (suc k) }
+    // A row that is spawned is ready, if all that it waits for is over.
+    fn wake(&mut self, row: u32)
+        requires there { row < length self.old.stages.items }
+        requires few { length self.old.stages.items ≤ MOST_ROWS }
+        requires reached { AreReached self.old.waits.now self.old.stages.items self.old.reached.items }
+        requires set { IsRowSet self.old.ready }
+        ensures reached { AreReached self.old.waits.now self.old.stages.items self.new.reached.items }
+        ensures set { IsRowSet self.new.ready }
+        ensures rows { (r : ℕ) → Has self.new.ready r ↔ (Has self.old.ready r ⊎ ((r ≡ row) × AwaitsWorker self.old.waits.now self.old.stages.items row)) }
         ensures stages { self.new.stages.items ≡ self.old.stages.items }
+        ensures waits { self.new.waits.now ≡ self.old.waits.now }
+        ensures followers { self.new.followers.now ≡ self.old.followers.now }
     {
-        let cowns = rows[row as usize].cowns.as_slice();
-        let next = self.following[row as usize][k];
-        self.heads[cowns[k] as usize] = next;
-        if (next as usize) < rows.len()
-            && self.stages[next as usize] == Stage::Waiting
-            && self.reaches_all(rows, next as u32)
-        {
-            self.ready.insert(next as u32);
+        if self.stages[row as usize] == Stage::Waiting && self.waits_are_over(row) {
+            self.ready.insert(row);
         }
     }
 
-    // Whether a row that waits is the head of each of its cowns. It looks at them from where it stopped before.
-    fn reaches_all(&mut self, rows: &[Row], row: u32) -> bool
-        requires shape { IsRows rows.now }
-        requires there { row < length rows.now }
-        requires waits { IsAt self.old.stages.items row Waiting }
-        requires reached { AreReached rows.now self.old.stages.items self.old.heads self.old.reached.items }
-        ensures first { IsTrue result ↔ IsFirst rows.now self.old.heads row }
-        ensures reached { AreReached rows.now self.old.stages.items self.old.heads self.new.reached.items }
+    // Whether all that a row waits for is over. It looks from where it stopped before.
+    fn waits_are_over(&mut self, row: u32) -> bool
+        requires there { row < length self.old.stages.items }
+        requires reached { AreReached self.old.waits.now self.old.stages.items self.old.reached.items }
+        ensures over { IsTrue result ↔ HasNoWaits self.old.waits.now self.old.stages.items row }
+        ensures reached { AreReached self.old.waits.now self.old.stages.items self.new.reached.items }
         ensures stages { self.new.stages.items ≡ self.old.stages.items }
-        ensures heads { self.new.heads ≡ self.old.heads }
-        ensures following { self.new.following.items ≡ self.old.following.items }
+        ensures waits { self.new.waits.now ≡ self.old.waits.now }
+        ensures followers { self.new.followers.now ≡ self.old.followers.now }
         ensures ready { self.new.ready ≡ self.old.ready }
     {
-        let cowns = rows[row as usize].cowns.as_slice();
-        let mut reached = self.reached[row as usize];
-        while (reached as usize) < cowns.len()
-            && self.heads[cowns[reached as usize] as usize] as u32 == row
-        {
-            reached += 1;
-        }
+        let links = self.waits;
+        let waits = links.of(row as usize);
+        let reached = over_from(waits, &self.stages, self.reached[row as usize]);
         self.reached[row as usize] = reached;
-        reached as usize == cowns.len()
+        reached == waits.len()
     }
 }

@@ -8,7 +8,6 @@ mod bits;
 mod children;
 mod entry;
 mod frontier;
-mod links;
 mod report;
 mod row_set;
 mod simulate;
@@ -16,5 +15,5 @@ mod simulation;
 mod tournament;
 mod workers;
 
-pub use entry::{greedy, greedy_within};
+pub use entry::{greedy, greedy_over, greedy_within};
 pub use report::Greedy;

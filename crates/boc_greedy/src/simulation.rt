@@ -5,18 +5,19 @@ use crate::children::Family;
 use crate::frontier::Frontier;
 use crate::tournament::Tournament;
 use crate::workers::{LATER, all_idle, change_of, least_idle};
-use boc_types::rows::Row;
+use boc_order::Links;
+use boc_types::sharing::SeenRows;
 use std::alloc::{AllocError, Global};
 
 /// How far a simulation is.
 #[derive(Drop)]
-pub struct Simulation {
+pub struct Simulation<'a> {
     /// The tick at which each row starts, or a later one than any.
     pub starts: Vec<u64>,
     /// The worker that each row stands on.
     pub workers: Vec<u32>,
     /// How far the rows are.
-    pub frontier: Frontier,
+    pub frontier: Frontier<'a>,
     /// The tick at which each worker's row next spawns a child or ends, or a later one than any for an idle worker.
     pub changes: Vec<u64>,
     /// The same ticks in a tournament, which tells the earliest. It has room for the workers that were ever busy.
@@ -33,17 +34,26 @@ pub struct Simulation {
     pub moments: u64,
 }
 
-impl Simulation {
+impl<'a> Simulation<'a> {
     ghost use Rattle.std.specs.Prelude.{◌≡◌, ◌≢◌, ℕ, ◌<◌, ◌≤◌, length, slice_index, IfOk, IfSome, IfNone, OnOk, true, false};
     ghost use Rattle.boc_types.specs.runs.Rows.{IsRows};
+    ghost use Rattle.boc_order.specs.Waits.{AreWaits, AreFollowers};
     ghost use Rattle.boc_greedy.specs.Families.{IsFamily};
     ghost use Rattle.boc_greedy.specs.Tournaments.{IsTournamentOf};
     ghost use Rattle.boc_greedy.specs.Simulating.{later, IsLeastIdle, IsNextToChange, IsFull, HasPassed, steps_of_all};
     ghost use Rattle.boc_greedy.specs.Stepping.{IsStepping, IsGiving, IsSettled, IsCounted, IsLow, Goes};
 
     /// Tick 0, where only main is spawned, and nothing has started.
-    pub fn new(alloc: Global, rows: &[Row], p: u32) -> Result<Simulation, AllocError>
+    pub fn new(
+        alloc: Global,
+        rows: &SeenRows,
+        waits: &'a Links,
+        followers: &'a Links,
+        p: u32,
+    ) -> Result<Simulation<'a>, AllocError>
         requires shape { IsRows rows.now }
+        requires waits { AreWaits rows.now waits.now }
+        requires followers { AreFollowers waits.now followers.now }
         requires some { 0 < p }
         requires few { p ≤ 64 }
         ensures giving { IfOk result (λ s. IsGiving rows.now p s) }
@@ -53,7 +63,7 @@ impl Simulation {
         let count = rows.len();
         let starts = vec![in alloc; LATER; count]?;
         let workers = vec![in alloc; 0; count]?;
-        let frontier = Frontier::new(alloc, rows)?;
+        let frontier = Frontier::new(alloc, rows, waits, followers)?;
         let changes = vec![in alloc; LATER; p as usize]?;
         let tasks = vec![in alloc; 0; p as usize]?;
         let children = vec![in alloc; 0; p as usize]?;
@@ -72,7 +82,7 @@ impl Simulation {
     }
 
     // Gives the least row that can start to the least worker that is idle; false where no row can start.
-    fn give(&mut self, rows: &[Row], family: &Family, worker: usize) -> bool
+    fn give(&mut self, rows: &SeenRows, family: &Family, worker: usize) -> bool
         requires shape { IsRows rows.now }
         requires family { IsFamily rows.now family.now.first.items family.now.next.items }
         requires giving { IsGiving rows.now (length self.old.changes.items) self.old }
@@ -105,7 +115,7 @@ impl Simulation {
     }
 
     /// Gives rows that can start to idle workers, until there are no more of the ones or the others.
-    pub fn give_all(&mut self, rows: &[Row], family: &Family)
+    pub fn give_all(&mut self, rows: &SeenRows, family: &Family)
         requires shape { IsRows rows.now }
         requires family { IsFamily rows.now family.now.first.items family.now.next.items }
         requires giving { IsGiving rows.now (length self.old.changes.items) self.old }
@@ -124,7 +134,7 @@ impl Simulation {
     }
 
     // The worker's row spawns its next child.
-    fn spawn(&mut self, rows: &[Row], family: &Family, worker: usize)
+    fn spawn(&mut self, rows: &SeenRows, family: &Family, worker: usize)
         requires shape { IsRows rows.now }
         requires family { IsFamily rows.now family.now.first.items family.now.next.items }
         requires stepping { IsStepping rows.now (length self.old.changes.items) self.old }
@@ -146,7 +156,7 @@ impl Simulation {
     }
 
     // The worker's row ends.
-    fn end(&mut self, rows: &[Row], worker: usize)
+    fn end(&mut self, rows: &SeenRows, worker: usize)
         requires shape { IsRows rows.now }
         requires stepping { IsStepping rows.now (length self.old.changes.items) self.old }
         requires there { worker < length self.old.changes.items }
@@ -164,7 +174,7 @@ impl Simulation {
     }
 
     // What changes next for a worker.
-    fn change(&mut self, rows: &[Row], family: &Family, worker: usize)
+    fn change(&mut self, rows: &SeenRows, family: &Family, worker: usize)
         requires shape { IsRows rows.now }
         requires family { IsFamily rows.now family.now.first.items family.now.next.items }
         requires stepping { IsStepping rows.now (length self.old.changes.items) self.old }
@@ -192,7 +202,7 @@ impl Simulation {
     }
 
     /// All that changes at this tick.
-    pub fn change_all(&mut self, rows: &[Row], family: &Family)
+    pub fn change_all(&mut self, rows: &SeenRows, family: &Family)
         requires shape { IsRows rows.now }
         requires family { IsFamily rows.now family.now.first.items family.now.next.items }
         requires stepping { IsStepping rows.now (length self.old.changes.items) self.old }
@@ -212,7 +222,7 @@ impl Simulation {
     }
 
     /// Goes to the tick at which this worker, the next to change, changes.
-    pub fn advance(&mut self, rows: &[Row], family: &Family, worker: usize)
+    pub fn advance(&mut self, rows: &SeenRows, family: &Family, worker: usize)
         requires shape { IsRows rows.now }
         requires family { IsFamily rows.now family.now.first.items family.now.next.items }
         requires settled { IsSettled rows.now (length self.old.changes.items) self.old }

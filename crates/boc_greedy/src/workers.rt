@@ -6,7 +6,7 @@ ghost use Rattle.boc_types.specs.runs.Rows.{IsRows, offset_of, ticks_of};
 ghost use Rattle.boc_greedy.specs.Simulating.{later};
 
 use boc_types::limits::MOST_TICKS;
-use boc_types::rows::Row;
+use boc_types::sharing::SeenRows;
 
 /// A tick after every tick of a plan. Rows that haven't started stand here, and the changes of idle workers.
 pub const LATER: u64 = u64::MAX;
@@ -34,7 +34,7 @@ pub fn least_idle(idle: u64) -> Option<usize>
 }
 
 /// The tick at which a row that started then spawns this child or, where the child isn't there, ends.
-pub fn change_of(rows: &[Row], start: u64, row: u32, child: u32) -> u64
+pub fn change_of(rows: &SeenRows, start: u64, row: u32, child: u32) -> u64
     requires shape { IsRows rows.now }
     requires there { row < length rows.now }
     requires early { start + MOST_TICKS < later }
@@ -42,8 +42,8 @@ pub fn change_of(rows: &[Row], start: u64, row: u32, child: u32) -> u64
     ensures ends { length rows.now ≤ child → result ≡ start + ticks_of rows.now row }
 {
     if (child as usize) < rows.len() {
-        start + u64::from(rows[child as usize].offset)
+        start + u64::from(rows.offset(child as usize))
     } else {
-        start + u64::from(rows[row as usize].ticks)
+        start + u64::from(rows.ticks(row as usize))
     }
 }

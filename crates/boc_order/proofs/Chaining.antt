@@ -12,7 +12,6 @@ use Rattle.boc_types.specs.plans.Plans.{start_of, end_of, Keeps, IsEnd, IsEarlie
 use Rattle.boc_types.specs.plans.Chains.{IsSpawnTight, IsOrderTight, weight_of, LinkVia, IsLink, PickedVia, IsChain, IsPicked}
 use Rattle.boc_order.specs.Placed.{ArePlaced}
 use Rattle.boc_order.specs.Back.{IsStepBefore, LeadsTo, IsFirstLatest}
-use Rattle.boc_types.proofs.Children.{row_read}
 use Rattle.std.proofs.lemmas.List.{reverse-append, get_or_read}
 use Rattle.std.proofs.lemmas.Option.{get_or_from_slice_get}
 
@@ -206,12 +205,9 @@ waits_below rows starts ends after placed b above there a q =
     omega (arith, t.1.0.before, there)
 
 -- the first step that is made
-pub leads_read : (rows : List Row) (plan : List ℕ) (r : ℕ) (x : Row) (steps : List ChainStep) (weight : ℕ) (all : List ChainStep) → r < length rows → x ≡ get_or rows r x →
-    IsFirstLatest rows plan r → weight ≡ x.ticks → steps ≡ [] → all ≡ steps ++ record { row = r; via = Last; weight = weight } ∷ [] →
-    LeadsTo rows plan (end_of rows plan r) r (reverse all)
-leads_read rows plan r x steps weight all h is_row f m none e =
-    let i = row_read rows r x h is_row in
-    rw (e, none, m, ← i.ticks) (leads_last rows plan r h f.ends f.first)
+pub leads_first : (rows : List Row) (plan : List ℕ) (r weight : ℕ) (steps all : List ChainStep) → r < length rows → IsFirstLatest rows plan r →
+    weight ≡ ticks_of rows r → steps ≡ [] → all ≡ steps ++ record { row = r; via = Last; weight = weight } ∷ [] → LeadsTo rows plan (end_of rows plan r) r (reverse all)
+leads_first rows plan r weight steps all h f m none e = rw (e, none, m) (leads_last rows plan r h f.ends f.first)
 
 -- no plan that keeps ends sooner than the earliest
 pub earliest_le_end : (rows : List Row) (plan : List ℕ) (span : ℕ) → IsEarliest rows plan → IsEnd rows plan span →

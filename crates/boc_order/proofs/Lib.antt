@@ -1,3 +1,7 @@
+pub mod Listing
+pub mod Filling
+pub mod Near
+pub mod Using
 pub mod Remembering
 pub mod Placing
 pub mod Chaining

@@ -1,64 +1,19 @@
 -- One more row gets its place.
-use Rattle.std.proofs.Common.{◌≡◌, ℕ, ◌+◌, ◌*◌, ◌<◌, ◌≤◌, ◌⊎◌, Bool, true, false, List, [], ◌∷◌, ◌++◌, length, replicate, Option, Some, None, get_or, refl, sym, ap, subst, inl, inr, arith}
-use Rattle.boc_types.specs.declared.limits.TheConstants.{MOST_COWNS, MOST_TICKS}
+use Rattle.std.proofs.Common.{◌≡◌, ℕ, zero, suc, ◌+◌, ◌*◌, ◌<◌, ◌≤◌, ◌⊎◌, Bool, true, false, List, [], ◌∷◌, ◌++◌, length, Option, Some, None, refl, sym, ap, subst, inl, inr, arith}
+use Rattle.boc_types.specs.declared.limits.TheConstants.{MOST_TICKS}
 use Rattle.std.specs.Prelude.{slice_index, slice_index_or, nat_lt, MatchOption}
-use Rattle.std.specs.List.{Contains, All}
+use Rattle.std.specs.List.{Contains}
 use Rattle.std.proofs.lemmas.Bool.{cases_lt, cases_eq}
-use Rattle.std.proofs.lemmas.List.{get_or_append_left, get_or_push, length_push, length-replicate, get_or-replicate}
+use Rattle.std.proofs.lemmas.List.{get_or_append_left, get_or_push, length_push}
 use Rattle.boc_types.specs.declared.rows.Row.{Row}
-use Rattle.boc_types.specs.runs.Rows.{IsRows, parent_of, offset_of, ticks_of, cowns_of}
-use Rattle.boc_types.proofs.Children.{IsRow, row_read}
+use Rattle.boc_types.specs.runs.Rows.{IsRows, parent_of, offset_of, ticks_of}
 use Rattle.boc_types.specs.plans.Plans.{start_of, end_of, Ordered}
 use Rattle.boc_types.specs.plans.Chains.{IsSpawnTight, IsOrderTight}
 use Rattle.boc_order.specs.declared.latest.Latest.{Latest}
-use Rattle.boc_order.specs.Latest.{latest_among, with_noted, nothing, IsLatestOf}
-use Rattle.boc_order.specs.Placed.{placement, Placed, ArePlaced, Had, Remembers}
-use Rattle.boc_order.proofs.Remembering.{IsLatest-same, among_latest, noted_latest, length-noted, AtAny, NotedAt}
-
--- no cown is in use before the first row
-pub remembers_none : (rows : List Row) (ends : List ℕ) → Remembers rows ends (replicate MOST_COWNS nothing) 0
-remembers_none rows ends = record {
-  there = length-replicate MOST_COWNS nothing;
-  at = λ c k. rw (get_or-replicate MOST_COWNS c nothing nothing k) (record { none = λ e a m. omega (arith, m.below); some = λ l. absurd (omega (arith, l)) });
-}
-
--- the memory, once row n was noted at its cowns
-pub remembers_next : (rows : List Row) (ends : List ℕ) (memory : List Latest) (n end : ℕ) → All (λ c. c < MOST_COWNS) (cowns_of rows n) → 0 < end →
-    slice_index ends n ≡ end → Remembers rows ends memory n → Remembers rows ends (with_noted (record { end = end; row = n }) memory (cowns_of rows n)) (n + 1)
-remembers_next rows ends memory n end small above e p = record {
-  there = omega (arith, length-noted (record { end = end; row = n }) memory (cowns_of rows n), p.there);
-  at = λ c h.
-      IsLatest-same (NotedAt (Had rows n) (cowns_of rows n) n c) (Had rows (n + 1) c) (slice_index ends) (slice_index ends) _
-      (λ r m. elim m [
-        | inl m ↦ record { below = omega (arith, m.below); needs = m.needs }
-        | inr m ↦ record { below = omega (arith, m.1); needs = subst (λ (x : ℕ). Contains (cowns_of rows x) c) (sym m.1) m.0 }
-      ])
-      (λ r m. elim (cases_lt r n) [
-        | inl l ↦ inl (record { below = l; needs = m.needs })
-        | inr g ↦ (let same : r ≡ n = omega (arith, m.below) in inr (subst (λ (x : ℕ). Contains (cowns_of rows x) c) same m.needs, same))
-      ])
-      (λ r m. refl)
-      (noted_latest (Had rows n) (slice_index ends) (record { end = end; row = n }) memory (cowns_of rows n) small above e p.there p.at c h);
-}
-
--- the same, where the ends of more rows are known
-pub remembers_same : (rows : List Row) (ends ends' : List ℕ) (memory : List Latest) (n : ℕ) →
-    ((r : ℕ) → r < n → slice_index ends' r ≡ slice_index ends r) → Remembers rows ends memory n → Remembers rows ends' memory n
-remembers_same rows ends ends' memory n same p = record {
-  there = p.there;
-  at = λ c h. IsLatest-same (Had rows n c) (Had rows n c) (slice_index ends) (slice_index ends') _ (λ r m. m) (λ r m. m) (λ r m. same r m.below) (p.at c h);
-}
-
--- among the rows before n that are ordered before it, the latest
-pub ordered_latest : (rows : List Row) (ends : List ℕ) (memory : List Latest) (n : ℕ) →
-    All (λ c. c < MOST_COWNS) (cowns_of rows n) → Remembers rows ends memory n →
-    IsLatestOf (λ a. Ordered rows a n) (slice_index ends) (latest_among memory nothing (cowns_of rows n))
-ordered_latest rows ends memory n small p =
-    IsLatest-same (λ r. ⊥ ⊎ AtAny (Had rows n) (cowns_of rows n) r) (λ a. Ordered rows a n) (slice_index ends) (slice_index ends) _
-    (λ r m. elim m [ inl m ↦ absurd m | inr m ↦ record { before = m.2.below; shared = (m.0, m.2.needs, m.1) } ])
-    (λ r m. inr (m.shared.0, m.shared.2, record { below = m.before; needs = m.shared.1 }))
-    (λ r m. refl)
-    (among_latest (Had rows n) (λ r. ⊥) (slice_index ends) memory nothing (cowns_of rows n) small p.at (record { none = λ e a m. m; some = λ l. absurd (omega (arith, l)) }))
+use Rattle.boc_order.specs.Latest.{IsLatestOf}
+use Rattle.boc_order.specs.Placed.{placement, Placed, ArePlaced}
+use Rattle.boc_order.specs.Waits.{HasWaits}
+use Rattle.boc_order.proofs.Near.{near_complete, near_ordered}
 
 -- what the placement of row n says, ends being those of the rows before it
 pub record Waits (rows : List Row) (ends : List ℕ) (n spawned at : ℕ) (waits_for : Option ℕ) : Type 0 where
@@ -240,52 +195,84 @@ module _ (rows : List Row) (hr : IsRows rows) (starts ends : List ℕ) (after : 
       placed = λ b h. placed_by b (elim (cases_lt b n) [ inl l ↦ inl l | inr g ↦ inr (omega arith) ]);
     }
 
-    -- the memory, once row n was noted at its cowns
-    pub remembers_more : (memory : List Latest) → All (λ c. c < MOST_COWNS) (cowns_of rows n) → Remembers rows ends memory n →
-        Remembers rows (ends ++ (at + ticks_of rows n) ∷ []) (with_noted (record { end = at + ticks_of rows n; row = n }) memory (cowns_of rows n)) (n + 1)
-    remembers_more memory small p =
-        remembers_next rows (ends ++ (at + ticks_of rows n) ∷ []) memory n (at + ticks_of rows n) small (omega (arith, hr.ticks_low n there)) here_ends
-        (remembers_same rows ends (ends ++ (at + ticks_of rows n) ∷ []) memory n agree_ends p)
+-- all of it, for a row that waits for these
+module _ (rows : List Row) (hr : IsRows rows) (starts ends : List ℕ) (after : List (Option ℕ)) (n : ℕ) (done : ArePlaced rows starts ends after n)
+    (there : n < length rows) (waits : List ℕ) (has : HasWaits rows n waits) where
+  pub wait_there : (a : ℕ) → Contains waits a → a < length ends
+  wait_there a k = (let near = has.sound a k in omega (arith, near.near.before, done.ends_len))
 
--- all of it, for a row that was read and its place
-module _ (rows : List Row) (hr : IsRows rows) (starts ends : List ℕ) (after : List (Option ℕ)) (memory : List Latest) (n : ℕ)
-    (done : ArePlaced rows starts ends after n) (remembers : Remembers rows ends memory n)
-    (there : n < length rows) (x : Row) (is_row : x ≡ get_or rows n x) where
-  is : IsRow rows n x
-  is = row_read rows n x there is_row
+  late : (a : ℕ) → a < n → 0 < slice_index ends a
+  late a h = omega (arith, (done.placed a h).ends_then, hr.ticks_low a (omega (arith, h, there)))
 
-  pub read_small : All (λ c. c < MOST_COWNS) x.cowns.items
-  read_small = rw is.cowns at (hr.cowns_below n there)
+  pub all_late : (a : ℕ) → a < length ends → 0 < slice_index ends a
+  all_late a h = late a (omega (arith, h, done.ends_len))
 
-  pub read_parent : 0 < n → x.parent < n
-  read_parent h = omega (arith, hr.parent_before n h there, is.parent)
+  pub place_parent : 0 < n → parent_of rows n < length starts
+  place_parent above = omega (arith, hr.parent_before n above there, done.starts_len)
 
-  pub read_spawned_low : 0 < n → slice_index starts x.parent + x.offset ≤ n * MOST_TICKS
-  read_spawned_low h =
-      let before : parent_of rows n < n = hr.parent_before n h there in
+  pub place_spawned_low : 0 < n → slice_index starts (parent_of rows n) + offset_of rows n ≤ n * MOST_TICKS
+  place_spawned_low above =
+      let before : parent_of rows n < n = hr.parent_before n above there in
       let p = done.placed (parent_of rows n) before in
-      let l : slice_index starts (parent_of rows n) + offset_of rows n ≤ n * MOST_TICKS =
-      omega (arith, p.low, p.ends_then, hr.ticks_cover n h there) in
-      rw (is.parent, is.offset) at l
+      omega (arith, p.low, p.ends_then, hr.ticks_cover n above there)
 
-  module _ (spawned : ℕ) (main : n ≡ 0 → spawned ≡ 0) (child : 0 < n → spawned ≡ slice_index starts x.parent + x.offset)
-      (place : ℕ × Option ℕ) (placed : place ≡ placement spawned (latest_among memory nothing x.cowns.items)) where
-    sp : Spawned rows hr starts ends after n there done spawned place.0 place.1
-    sp = record { main = main; child = λ h. rw (is.parent, is.offset) (child h) }
+  -- the latest of those is the latest of all rows that are ordered before it
+  module _ (best : Latest) (q : IsLatestOf (λ a. Contains waits a) (slice_index ends) best) where
+    near_low : (a : ℕ) → Contains waits a → slice_index ends a ≤ best.end
+    near_low a k = elim (cases_eq best.end 0) [
+      | inl e ↦ absurd (q.none e a k)
+      | inr ne ↦ (q.some (omega arith)).latest a k
+    ]
 
-    waits : Waits rows ends n spawned place.0 place.1
-    waits = rw placed (rw (← is.cowns) (placement_waits rows ends n spawned (latest_among memory nothing (cowns_of rows n))
-        (ordered_latest rows ends memory n (hr.cowns_below n there) remembers)))
+    -- a row in between starts at its end or later
+    past : (a k : ℕ) → Ordered rows a k → k < n → slice_index ends a < slice_index ends k
+    past a k o h =
+        let p = done.placed k h in
+        omega (arith, p.in_order a o, p.ends_then, (done.placed a (omega (arith, o.before, h))).ends_then, hr.ticks_low k (omega (arith, h, there)))
 
-    pub read_low : place.0 ≤ n * MOST_TICKS
-    read_low = at_low rows hr starts ends after n there done spawned place.0 place.1 sp waits
+    before_low : (d a : ℕ) → n ≤ a + d → Ordered rows a n → slice_index ends a ≤ best.end
+    before_low zero a h o = absurd (omega (arith, h, o.before))
+    before_low (suc d) a h o = elim (near_complete rows a n there o) [
+      | inl near ↦ near_low a (has.complete a near)
+      | inr (k, first, second) ↦ (
+          let up : slice_index ends k ≤ best.end = before_low d k (omega (arith, h, first.before)) second in
+          omega (arith, past a k first second.before, up))
+    ]
 
-    pub read_placed : ArePlaced rows (starts ++ place.0 ∷ []) (ends ++ (place.0 + x.ticks) ∷ []) (after ++ place.1 ∷ []) (n + 1)
-    read_placed = rw (← is.ticks) (more_placed rows hr starts ends after n there done spawned place.0 place.1 sp waits)
+    low : (a : ℕ) → Ordered rows a n → slice_index ends a ≤ best.end
+    low a o = before_low n a (omega arith) o
 
-    pub read_remembers : Remembers rows (ends ++ (place.0 + x.ticks) ∷ []) (with_noted (record { end = place.0 + x.ticks; row = n }) memory x.cowns.items) (n + 1)
-    read_remembers = rw (← is.ticks, ← is.cowns)
-        (remembers_more rows hr starts ends after n there done spawned place.0 place.1 sp waits memory (hr.cowns_below n there) remembers)
+    tight_near : (a : ℕ) → Ordered rows a n → slice_index ends a ≡ best.end → Contains waits a
+    tight_near a o e = elim (near_complete rows a n there o) [
+      | inl near ↦ has.complete a near
+      | inr (k, first, second) ↦ absurd (omega (arith, e, past a k first second.before, low k second))
+    ]
+
+    ordered_latest : IsLatestOf (λ a. Ordered rows a n) (slice_index ends) best
+    ordered_latest = record {
+      none = λ e a o. omega (arith, e, low a o, late a o.before);
+      some = λ l.
+          (let p = q.some l in record {
+            member = near_ordered rows best.row n (has.sound best.row p.member);
+            ends_then = p.ends_then;
+            latest = low;
+            least = λ a o e. p.least a (tight_near a o e) e;
+          });
+    }
+
+    module _ (spawned : ℕ) (main : n ≡ 0 → spawned ≡ 0) (child : 0 < n → spawned ≡ slice_index starts (parent_of rows n) + offset_of rows n)
+        (place : ℕ × Option ℕ) (is : place ≡ placement spawned best) where
+      sp : Spawned rows hr starts ends after n there done spawned place.0 place.1
+      sp = record { main = main; child = child }
+
+      placed_waits : Waits rows ends n spawned place.0 place.1
+      placed_waits = rw is (placement_waits rows ends n spawned best ordered_latest)
+
+      pub place_low : place.0 ≤ n * MOST_TICKS
+      place_low = at_low rows hr starts ends after n there done spawned place.0 place.1 sp placed_waits
+
+      pub place_placed : ArePlaced rows (starts ++ place.0 ∷ []) (ends ++ (place.0 + ticks_of rows n) ∷ []) (after ++ place.1 ∷ []) (n + 1)
+      place_placed = more_placed rows hr starts ends after n there done spawned place.0 place.1 sp placed_waits
 
 -- before the first row
 pub placed_none : (rows : List Row) (starts ends : List ℕ) (after : List (Option ℕ)) → starts ≡ [] → ends ≡ [] → after ≡ [] → ArePlaced rows starts ends after 0
@@ -295,7 +282,3 @@ placed_none rows starts ends after p q r = rw (p, q, r) (record {
   after_len = refl;
   placed = λ b h. absurd (omega (arith, h));
 })
-
-pub place_is : (place : ℕ × Option ℕ) (spawned : ℕ) (best : Latest) (memory : List Latest) (xs ys : List ℕ) →
-    place ≡ placement spawned best → best ≡ latest_among memory nothing xs → xs ≡ ys → place ≡ placement spawned (latest_among memory nothing ys)
-place_is place spawned best memory xs ys p q r = cc

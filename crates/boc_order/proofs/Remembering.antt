@@ -1,12 +1,12 @@
--- What `later_of`, `latest_among` and `noted` keep of `IsLatestOf`.
-use Rattle.std.proofs.Common.{◌≡◌, ℕ, zero, suc, ◌<◌, ◌≤◌, ◌⊎◌, Bool, true, false, List, [], ◌∷◌, length, refl, sym, subst, inl, inr, arith, get_or-set_same, get_or-set_other, length-set}
-use Rattle.boc_types.specs.declared.limits.TheConstants.{MOST_COWNS}
-use Rattle.std.specs.Prelude.{if◌then◌else◌, slice_index_or, slice_set}
-use Rattle.std.specs.List.{Contains, All}
+-- What `later_of` keeps of `IsLatestOf`, and the latest of a list of rows.
+use Rattle.std.proofs.Common.{◌≡◌, ℕ, zero, suc, ◌+◌, ◌<◌, ◌≤◌, ◌⊎◌, Bool, true, false, List, ◌∷◌, length, refl, ap, sym, ◌∙◌, subst, inl, inr, arith}
+use Rattle.std.specs.Prelude.{if◌then◌else◌, slice_index}
+use Rattle.std.specs.List.{Contains}
+use Rattle.std.proofs.lemmas.List.{get_or_default}
 use Rattle.std.proofs.lemmas.Bool.Decides.{nat_tests}
 use Rattle.std.proofs.lemmas.Bool.{cases_eq}
 use Rattle.boc_order.specs.declared.latest.Latest.{Latest}
-use Rattle.boc_order.specs.Latest.{comes_after, later_of, latest_among, with_noted, nothing, IsLatest, IsLatestOf}
+use Rattle.boc_order.specs.Latest.{comes_after, later_of, IsLatest, IsLatestOf}
 
 after_true : (x y : Latest) → comes_after y x ≡ true → (x.end < y.end) ⊎ ((x.end ≡ y.end) × (y.row < x.row))
 after_true x y h = grind (arith, nat_tests)
@@ -114,39 +114,8 @@ pub contains_cases : (c d : ℕ) (cs : List ℕ) → Contains (c ∷ cs) d → (
 contains_cases c d cs (zero, l, e) = inl e
 contains_cases c d cs (suc k, l, e) = inr (k, omega arith, e)
 
--- the rows at any of some cowns
-abbrev pub AtAny : (ℕ → ℕ → Type 0) → List ℕ → ℕ → Type 0
-AtAny At cowns r = (c : ℕ) × Contains cowns c × At c r
-
--- `latest_among` gives the latest of the rows at any of the cowns
-pub among_latest : (At : ℕ → ℕ → Type 0) (A : ℕ → Type 0) (ends : ℕ → ℕ) (memory : List Latest) (best : Latest) (cowns : List ℕ) →
-    All (λ c. c < MOST_COWNS) cowns → ((c : ℕ) → c < MOST_COWNS → IsLatestOf (At c) ends (slice_index_or memory c nothing)) →
-    IsLatestOf A ends best → IsLatestOf (λ r. A r ⊎ AtAny At cowns r) ends (latest_among memory best cowns)
-among_latest At A ends memory best [] small at p =
-    IsLatest-same A (λ r. A r ⊎ AtAny At [] r) ends ends best (λ r m. inl m)
-    (λ r m. elim m [ inl m ↦ m | inr m ↦ absurd (omega (arith, m.1.1)) ]) (λ r m. refl) p
-among_latest At A ends memory best (c ∷ cs) small at p =
-    IsLatest-same (λ r. (A r ⊎ At c r) ⊎ AtAny At cs r) (λ r. A r ⊎ AtAny At (c ∷ cs) r) ends ends _
-    (λ r m. elim m [
-      | inl m ↦ elim m [ inl m ↦ inl m | inr m ↦ inr (c, contains_head c cs, m) ]
-      | inr m ↦ inr (m.0, contains_tail c m.0 cs m.1, m.2)
-    ])
-    (λ r m. elim m [
-      | inl m ↦ inl (inl m)
-      | inr m ↦ elim (contains_cases c m.0 cs m.1) [
-        | inl e ↦ inl (inr (subst (λ (x : ℕ). At x r) (sym e) m.2))
-        | inr k ↦ inr (m.0, k, m.2)
-      ]
-    ])
-    (λ r m. refl)
-    (among_latest At (λ r. A r ⊎ At c r) ends memory (later_of best (slice_index_or memory c nothing)) cs
-    (λ k d h. small (suc k) d (omega arith)) at (later_latest A (At c) ends best (slice_index_or memory c nothing) p (at c (small 0 0 (omega arith)))))
-
--- the rows at cown d once row r0 was noted at some cowns
-abbrev pub NotedAt : (ℕ → ℕ → Type 0) → List ℕ → ℕ → ℕ → ℕ → Type 0
-NotedAt At cowns r0 d r = At d r ⊎ (Contains cowns d × (r ≡ r0))
-
-single : (ends : ℕ → ℕ) (row : Latest) → 0 < row.end → ends row.row ≡ row.end → IsLatestOf (λ r. r ≡ row.row) ends row
+-- a row alone
+pub single : (ends : ℕ → ℕ) (row : Latest) → 0 < row.end → ends row.row ≡ row.end → IsLatestOf (λ r. r ≡ row.row) ends row
 single ends row above e = record {
   none = λ z a m. omega (arith, above, z);
   some = λ l. record {
@@ -157,64 +126,34 @@ single ends row above e = record {
   };
 }
 
-pub noted_latest : (At : ℕ → ℕ → Type 0) (ends : ℕ → ℕ) (row : Latest) (memory : List Latest) (cowns : List ℕ) →
-    All (λ c. c < MOST_COWNS) cowns → 0 < row.end → ends row.row ≡ row.end → length memory ≡ MOST_COWNS →
-    ((c : ℕ) → c < MOST_COWNS → IsLatestOf (At c) ends (slice_index_or memory c nothing)) →
-    (d : ℕ) → d < MOST_COWNS → IsLatestOf (NotedAt At cowns row.row d) ends (slice_index_or (with_noted row memory cowns) d nothing)
-noted_latest At ends row memory [] small above e l at d h =
-    IsLatest-same (At d) (NotedAt At [] row.row d) ends ends _ (λ r m. inl m)
-    (λ r m. elim m [ inl m ↦ m | inr m ↦ absurd (omega (arith, m.0.1)) ]) (λ r m. refl) (at d h)
-noted_latest At ends row memory (c ∷ cs) small above e l at d h =
-    IsLatest-same (NotedAt At' cs row.row d) (NotedAt At (c ∷ cs) row.row d) ends ends _
-    (λ r m. elim m [
-      | inl m ↦ elim m [ inl m ↦ inl m | inr m ↦ inr (subst (λ (x : ℕ). Contains (c ∷ cs) x) m.0 (contains_head c cs), m.1) ]
-      | inr m ↦ inr (contains_tail c d cs m.0, m.1)
-    ])
-    (λ r m. elim m [
-      | inl m ↦ inl (inl m)
-      | inr m ↦ elim (contains_cases c d cs m.0) [ inl k ↦ inl (inr (k, m.1)) | inr k ↦ inr (k, m.1) ]
-    ])
-    (λ r m. refl)
-    (noted_latest At' ends row memory' cs (λ k d h. small (suc k) d (omega arith)) above e (simp length-set l) at' d h)
+-- the first of some rows up to place k
+abbrev pub UpTo : List ℕ → ℕ → ℕ → Type 0
+UpTo rows k a = (j : ℕ) × (j < k) × (slice_index rows j ≡ a)
+
+pub latest_none : (rows : List ℕ) (ends : ℕ → ℕ) (row : ℕ) → IsLatestOf (UpTo rows 0) ends (record { end = 0; row = row })
+latest_none rows ends row = record { none = λ e a m. omega (arith, m.1); some = λ l. absurd (omega (arith, l)) }
+
+-- one more of them
+pub latest_more : (rows : List ℕ) (ends : ℕ → ℕ) (k : ℕ) (latest one : Latest) → one.row ≡ slice_index rows k → 0 < one.end → ends one.row ≡ one.end →
+    IsLatestOf (UpTo rows k) ends latest → IsLatestOf (UpTo rows (k + 1)) ends (later_of latest one)
+latest_more rows ends k latest one is above e p =
+    IsLatest-same (λ a. UpTo rows k a ⊎ (a ≡ one.row)) (UpTo rows (k + 1)) ends ends (later_of latest one)
+    (λ a m. elim m [ inl (j, h, same) ↦ (j, omega (arith, h), same) | inr same ↦ (k, omega arith, omega (arith, is, same)) ])
+    (λ a m. up_to a m)
+    (λ a m. refl)
+    (later_latest (UpTo rows k) (λ a. a ≡ one.row) ends latest one p (single ends one above e))
   where
-    At' : ℕ → ℕ → Type 0
-    At' = λ x r. At x r ⊎ ((c ≡ x) × (r ≡ row.row))
-
-    memory' : List Latest
-    memory' = slice_set memory c (later_of (slice_index_or memory c nothing) row)
-
-    is_small : c < MOST_COWNS
-    is_small = small 0 0 (omega arith)
-
-    at_same : IsLatestOf (At' c) ends (slice_index_or memory' c nothing)
-    at_same =
-        let fits : c < length memory = omega (arith, is_small) in
-        let old : Latest = slice_index_or memory c nothing in
-        rw get_or-set_same
-        (IsLatest-same (λ r. At c r ⊎ (r ≡ row.row)) (At' c) ends ends (later_of old row)
-        (λ r m. elim m [ inl m ↦ inl m | inr m ↦ inr (refl, m) ])
-        (λ r m. elim m [ inl m ↦ inl m | inr m ↦ inr m.1 ])
-        (λ r m. refl)
-        (later_latest (At c) (λ r. r ≡ row.row) ends old row (at c is_small) (single ends row above e)))
-
-    at_other : (x : ℕ) → x < MOST_COWNS → (x ≡ c → ⊥) → IsLatestOf (At' x) ends (slice_index_or memory' x nothing)
-    at_other x k other =
-        rw get_or-set_other
-        (IsLatest-same (At x) (At' x) ends ends (slice_index_or memory x nothing)
-        (λ r m. inl m)
-        (λ r m. elim m [ inl m ↦ m | inr m ↦ absurd (other (sym m.0)) ])
-        (λ r m. refl)
-        (at x k))
-
-    at' : (x : ℕ) → x < MOST_COWNS → IsLatestOf (At' x) ends (slice_index_or memory' x nothing)
-    at' x k = elim (cases_eq x c) [
-      | inl same ↦ subst (λ (y : ℕ). IsLatestOf (At' y) ends (slice_index_or memory' y nothing)) (sym same) at_same
-      | inr other ↦ at_other x k other
+    up_to : (a : ℕ) → UpTo rows (k + 1) a → UpTo rows k a ⊎ (a ≡ one.row)
+    up_to a (j, h, same) = elim (cases_eq j k) [
+      | inl q ↦ inr (sym same ∙ ap (slice_index rows) q ∙ sym is)
+      | inr ne ↦ inl (j, omega arith, same)
     ]
 
-pub length-noted : (row : Latest) (memory : List Latest) (cowns : List ℕ) → length (with_noted row memory cowns) ≡ length memory
-length-noted row memory [] = refl
-length-noted row memory (c ∷ cs) =
-    let m : List Latest = slice_set memory c (later_of (slice_index_or memory c nothing) row) in
-    let l : length m ≡ length memory = simp length-set in
-    omega (arith, length-noted row m cs)
+-- all of them
+pub latest_all : (rows : List ℕ) (ends : ℕ → ℕ) (k : ℕ) (latest : Latest) → k ≡ length rows → IsLatestOf (UpTo rows k) ends latest → IsLatestOf (λ a. Contains rows a) ends latest
+latest_all rows ends k latest all p =
+    IsLatest-same (UpTo rows k) (λ a. Contains rows a) ends ends latest
+    (λ a m. (m.0, omega (arith, m.1, all), get_or_default rows m.0 a 0 (omega (arith, m.1, all)) ∙ m.2))
+    (λ a m. (m.0, omega (arith, m.1, all), get_or_default rows m.0 0 a m.1 ∙ m.2))
+    (λ a m. refl)
+    p

@@ -1,15 +1,14 @@
 -- Rows that are placed anew from a row on: those before it stay placed where only later ticks change.
-use Rattle.std.proofs.Common.{◌≡◌, ◌≢◌, ℕ, ◌<◌, ◌≤◌, List, length, take, Option, Some, None, refl, sym, ◌∙◌, subst, arith}
+use Rattle.std.proofs.Common.{◌≡◌, ◌≢◌, ℕ, ◌<◌, ◌≤◌, List, length, take, Option, Some, None, refl, sym, ◌∙◌, arith}
 use Rattle.std.specs.Prelude.{slice_index, slice_index_or, MatchOption}
-use Rattle.std.specs.List.{Contains}
 use Rattle.std.proofs.lemmas.List.{get_or-take, length-take, take-take}
 use Rattle.boc_types.specs.declared.rows.Row.{Row}
-use Rattle.boc_types.specs.runs.Rows.{IsRows, parent_of, offset_of, ticks_of, cowns_of}
-use Rattle.boc_types.specs.plans.Plans.{IsChild, Ordered}
+use Rattle.boc_types.specs.runs.Rows.{IsRows, parent_of, offset_of, ticks_of, cowns_of, written_of}
+use Rattle.boc_types.specs.plans.Plans.{IsChild, ConflictOn, Ordered}
 use Rattle.boc_types.specs.plans.Chains.{IsSpawnTight, IsOrderTight}
 use Rattle.boc_types.specs.plans.Edits.{edited, Fits}
 use Rattle.boc_types.specs.plans.Greedy.{IsSpan}
-use Rattle.boc_types.proofs.Editing.{length-edited, parent_of-edited, offset_of-edited, cowns_of-edited, ticks_of-edited_other, rows_edited}
+use Rattle.boc_types.proofs.Editing.{length-edited, parent_of-edited, offset_of-edited, cowns_of-edited, written_of-edited, ticks_of-edited_other, rows_edited}
 use Rattle.boc_order.specs.Placed.{Placed, ArePlaced}
 use Rattle.boc_order.proofs.Placing.{still_placed}
 use Rattle.boc_order.proofs.Chaining.{placed_earliest}
@@ -20,6 +19,7 @@ pub record AreSameBefore (n : ℕ) (rows others : List Row) : Type 0 where
   pub parents : (r : ℕ) → parent_of others r ≡ parent_of rows r
   pub offsets : (r : ℕ) → offset_of others r ≡ offset_of rows r
   pub cowns : (r : ℕ) → cowns_of others r ≡ cowns_of rows r
+  pub written : (r : ℕ) → written_of others r ≡ written_of rows r
   pub ticks : (r : ℕ) → r < n → ticks_of others r ≡ ticks_of rows r
 
 pub same_back : (n : ℕ) (rows others : List Row) → AreSameBefore n rows others → AreSameBefore n others rows
@@ -28,6 +28,7 @@ same_back n rows others s = record {
   parents = λ r. sym (s.parents r);
   offsets = λ r. sym (s.offsets r);
   cowns = λ r. sym (s.cowns r);
+  written = λ r. sym (s.written r);
   ticks = λ r h. sym (s.ticks r h);
 }
 
@@ -37,6 +38,7 @@ edited_same rows row ticks = record {
   parents = parent_of-edited rows row ticks;
   offsets = offset_of-edited rows row ticks;
   cowns = cowns_of-edited rows row ticks;
+  written = written_of-edited rows row ticks;
   ticks = λ r h. ticks_of-edited_other rows row ticks r (let ne : r ≢ row = omega arith in ne);
 }
 
@@ -47,14 +49,17 @@ child_same n rows others a b s c = record {
   parent = sym (s.parents b) ∙ c.parent;
 }
 
+conflict_same : (n : ℕ) (rows others : List Row) (c a b : ℕ) → AreSameBefore n rows others → ConflictOn others c a b → ConflictOn rows c a b
+conflict_same n rows others c a b s o = record {
+  first = rw (s.cowns a) at o.first;
+  second = rw (s.cowns b) at o.second;
+  wrote = rw (s.written a, s.written b) at o.wrote;
+}
+
 ordered_same : (n : ℕ) (rows others : List Row) (a b : ℕ) → AreSameBefore n rows others → Ordered others a b → Ordered rows a b
 ordered_same n rows others a b s o = record {
   before = o.before;
-  shared = (
-    o.shared.0,
-    subst (λ (xs : List ℕ). Contains xs o.shared.0) (s.cowns a) o.shared.1,
-    subst (λ (xs : List ℕ). Contains xs o.shared.0) (s.cowns b) o.shared.2,
-  );
+  shared = (o.shared.0, conflict_same n rows others o.shared.0 a b s o.shared.1);
 }
 
 spawn_tight_same : (n : ℕ) (rows others : List Row) (starts : List ℕ) (b : ℕ) → AreSameBefore n rows others →
@@ -135,7 +140,7 @@ greatest_is_span rows hr starts ends after p last none_later r there e = record 
 }
 
 same_rows : (n : ℕ) (rows : List Row) → AreSameBefore n rows rows
-same_rows n rows = record { len = refl; parents = λ r. refl; offsets = λ r. refl; cowns = λ r. refl; ticks = λ r h. refl }
+same_rows n rows = record { len = refl; parents = λ r. refl; offsets = λ r. refl; cowns = λ r. refl; written = λ r. refl; ticks = λ r h. refl }
 
 -- of placed rows fewer are placed, too
 pub placed_less : (rows : List Row) → IsRows rows → (n m : ℕ) (starts ends : List ℕ) (after : List (Option ℕ)) → n ≤ m →

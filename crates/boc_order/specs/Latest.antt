@@ -1,10 +1,6 @@
--- The latest end among some rows, and how it is remembered at each cown.
-use Rattle.std.specs.Prelude.{◌≡◌, ℕ, ◌<◌, ◌≤◌, Bool, ◌||◌, ◌&&◌, ◌==◌, nat_lt, if◌then◌else◌, List, [], ◌∷◌, slice_index_or, slice_set}
+-- The latest end among some rows.
+use Rattle.std.specs.Prelude.{◌≡◌, ℕ, ◌<◌, ◌≤◌, Bool, ◌||◌, ◌&&◌, ◌==◌, nat_lt, if◌then◌else◌}
 use Rattle.boc_order.specs.declared.latest.Latest.{Latest}
-
--- what there is to tell of no rows
-abbrev pub nothing : Latest
-nothing = record { end = 0; row = 0 }
 
 -- whether x ends later than y, or together with it under a smaller number
 abbrev pub comes_after : Latest → Latest → Bool
@@ -13,16 +9,6 @@ comes_after y x = nat_lt x.end y.end || (x.end == y.end && nat_lt y.row x.row)
 -- the one that ends later, or has the smaller number where both end together
 abbrev pub later_of : Latest → Latest → Latest
 later_of x y = if comes_after y x then y else x
-
--- the latest of what is remembered at any of the cowns, and of `best`
-abbrev pub latest_among : List Latest → Latest → List ℕ → Latest
-latest_among memory best [] = best
-latest_among memory best (c ∷ cowns) = latest_among memory (later_of best (slice_index_or memory c nothing)) cowns
-
--- what is remembered once a row was noted at each of the cowns
-abbrev pub with_noted : Latest → List Latest → List ℕ → List Latest
-with_noted row memory [] = memory
-with_noted row memory (c ∷ cowns) = with_noted row (slice_set memory c (later_of (slice_index_or memory c nothing) row)) cowns
 
 -- the latest end among the rows of a set, and the least row that has it
 pub record IsLatest (In : ℕ → Type 0) (ends : ℕ → ℕ) (l : Latest) : Type 0 where

@@ -1,13 +1,11 @@
 -- What is known of the rows that have their place in the earliest plan.
 use Rattle.std.specs.Prelude.{◌≡◌, ℕ, ◌+◌, ◌*◌, ◌<◌, ◌≤◌, nat_lt, if◌then◌else◌, List, length, Option, Some, None, MatchOption, slice_index, slice_index_or}
-use Rattle.boc_types.specs.declared.limits.TheConstants.{MOST_COWNS, MOST_TICKS}
+use Rattle.boc_types.specs.declared.limits.TheConstants.{MOST_TICKS}
 use Rattle.boc_types.specs.declared.rows.Row.{Row}
-use Rattle.std.specs.List.{Contains}
-use Rattle.boc_types.specs.runs.Rows.{offset_of, cowns_of}
+use Rattle.boc_types.specs.runs.Rows.{offset_of}
 use Rattle.boc_types.specs.plans.Plans.{start_of, end_of, IsChild, Ordered}
 use Rattle.boc_types.specs.plans.Chains.{IsSpawnTight, IsOrderTight}
 use Rattle.boc_order.specs.declared.latest.Latest.{Latest}
-use Rattle.boc_order.specs.Latest.{IsLatestOf, nothing}
 
 -- the start of a row that is spawned at a tick, and the row that it waits for, given the latest of those before it
 abbrev pub placement : ℕ → Latest → ℕ × Option ℕ
@@ -29,13 +27,3 @@ pub record ArePlaced (rows : List Row) (starts ends : List ℕ) (after : List (O
   pub ends_len : length ends ≡ n
   pub after_len : length after ≡ n
   pub placed : (b : ℕ) → b < n → Placed rows starts ends (slice_index_or after b None) b
-
--- the rows below n that need cown c
-pub record Had (rows : List Row) (n c r : ℕ) : Type 0 where
-  pub below : r < n
-  pub needs : Contains (cowns_of rows r) c
-
--- the memory has the latest of the first n rows at each cown
-pub record Remembers (rows : List Row) (ends : List ℕ) (memory : List Latest) (n : ℕ) : Type 0 where
-  pub there : length memory ≡ MOST_COWNS
-  pub at : (c : ℕ) → c < MOST_COWNS → IsLatestOf (Had rows n c) (slice_index ends) (slice_index_or memory c nothing)

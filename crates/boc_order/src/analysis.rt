@@ -3,6 +3,7 @@
 ghost use Rattle.std.specs.Prelude.{◌≡◌, ℕ, ◌+◌, ◌<◌, ◌≤◌, List, length, IfOk, slice_index};
 ghost use Rattle.boc_types.specs.declared.rows.Row.{Row};
 ghost use Rattle.boc_types.specs.runs.Rows.{IsRows};
+ghost use Rattle.boc_types.specs.runs.Seen.{seen};
 ghost use Rattle.boc_types.specs.plans.Plans.{work_of, HasEnds, IsEnd, IsEarliest, NoneEndsBefore};
 ghost use Rattle.boc_types.specs.plans.Chains.{IsPicked, weight_of};
 ghost use Rattle.boc_types.specs.plans.Greedy.{IsSpan};
@@ -10,11 +11,13 @@ ghost use Rattle.boc_order.specs.Profiles.{IsProfileOf};
 ghost use Rattle.boc_order.specs.Standing.{IsPlanOf};
 
 use crate::back::chain_back;
+use crate::gathering::waits;
 use crate::plan::{Earliest, earliest_plan};
 use crate::report::Profile;
 use boc_types::chain::Chain;
 use boc_types::limits::{MOST_ROWS, MOST_TICKS};
 use boc_types::rows::{Row, Rows};
+use boc_types::sharing::{SeenRows, Sharing};
 use std::alloc::{AllocError, Global};
 
 // The number of the row that ends last; of several, the least.
@@ -59,18 +62,17 @@ pub fn work(rows: &[Row]) -> u64
 }
 
 // The chain that costs as many ticks as the plan of the rows takes, and these ticks.
-fn costliest(alloc: Global, rows: &Rows, plan: &Earliest) -> Result<(Chain, u64), AllocError>
-    requires { IsPlanOf rows.now plan.now }
-    ensures shape { IsRows rows.now }
+fn costliest(alloc: Global, rows: &SeenRows, plan: &Earliest) -> Result<(Chain, u64), AllocError>
+    requires shape { IsRows rows.now }
+    requires placed { IsPlanOf rows.now plan.now }
     ensures earliest { IfOk result (λ _. IsEarliest rows.now plan.now.starts.items) }
     ensures picked { IfOk result (λ c. IsPicked rows.now plan.now.starts.items c.0.steps.items) }
     ensures weight { IfOk result (λ c. weight_of c.0.steps.items ≡ c.1) }
     ensures span { IfOk result (λ c. IsEnd rows.now plan.now.starts.items c.1) }
     ensures no_sooner { IfOk result (λ c. NoneEndsBefore rows.now c.1) }
 {
-    let list = rows.as_slice();
     let last = last_row(&plan.ends);
-    let chain = chain_back(alloc, list, plan, last as u32)?;
+    let chain = chain_back(alloc, rows, plan, last as u32)?;
     Ok((chain, plan.ends[last]))
 }
 
@@ -82,13 +84,17 @@ fn costliest(alloc: Global, rows: &Rows, plan: &Earliest) -> Result<(Chain, u64)
 /// the row that ends last, of several the least, by the links that are tight in that plan: the spawn where that
 /// is tight, else the least row whose end the row waited for.
 ///
-/// It takes memory that grows with the number of rows, and time that grows with that of rows and their cowns.
-/// `AllocError` says that memory was refused.
-pub fn profile(alloc: Global, rows: &Rows) -> Result<Profile, AllocError>
-    ensures { IfOk result (λ profile. IsProfileOf rows.now profile) }
+/// With exclusive cowns two rows that share one are ordered; with shared reads only where one of them wrote it.
+///
+/// It takes memory and time that grow with the number of rows and their cowns. `AllocError` says that memory was
+/// refused.
+pub fn profile(alloc: Global, rows: &Rows, sharing: Sharing) -> Result<Profile, AllocError>
+    ensures { IfOk result (λ profile. IsProfileOf (seen sharing rows.now) profile) }
 {
-    let plan = earliest_plan(alloc, rows)?;
-    let (chain, span) = costliest(alloc, rows, &plan)?;
+    let rows = SeenRows::new(rows, sharing);
+    let waits = waits(alloc, &rows)?;
+    let plan = earliest_plan(alloc, &rows, &waits)?;
+    let (chain, span) = costliest(alloc, &rows, &plan)?;
     Ok(Profile {
         work: work_between(&plan.starts, &plan.ends),
         span,
@@ -100,14 +106,16 @@ pub fn profile(alloc: Global, rows: &Rows) -> Result<Profile, AllocError>
 
 impl Earliest {
     ghost use Rattle.std.specs.Prelude.{◌≡◌, IfOk};
+    ghost use Rattle.boc_types.specs.runs.Rows.{IsRows};
     ghost use Rattle.boc_order.specs.Profiles.{IsProfileOf};
     ghost use Rattle.boc_order.specs.Standing.{IsPlanOf};
 
     /// The profile of the rows that this plan places, as the function `profile` has it. No row is placed again.
     ///
     /// It takes memory and time that grow with the number of rows. `AllocError` says that memory was refused.
-    pub fn profile(&self, alloc: Global, rows: &Rows) -> Result<Profile, AllocError>
-        requires { IsPlanOf rows.now self.now }
+    pub fn profile(&self, alloc: Global, rows: &SeenRows) -> Result<Profile, AllocError>
+        requires shape { IsRows rows.now }
+        requires placed { IsPlanOf rows.now self.now }
         ensures { IfOk result (λ profile. IsProfileOf rows.now profile) }
     {
         let (chain, span) = costliest(alloc, rows, self)?;
@@ -124,11 +132,13 @@ impl Earliest {
 /// The span of the rows: the tick at which their earliest plan ends, as `profile` has it. No plan that keeps ends
 /// sooner.
 ///
-/// It takes memory that grows with the number of rows, and time that grows with that of rows and their cowns.
-/// `AllocError` says that memory was refused.
-pub fn span(alloc: Global, rows: &Rows) -> Result<u64, AllocError>
-    ensures { IfOk result (λ s. IsSpan rows.now s) }
+/// It takes memory and time that grow with the number of rows and their cowns. `AllocError` says that memory was
+/// refused.
+pub fn span(alloc: Global, rows: &Rows, sharing: Sharing) -> Result<u64, AllocError>
+    ensures { IfOk result (λ s. IsSpan (seen sharing rows.now) s) }
 {
-    let plan = earliest_plan(alloc, rows)?;
+    let rows = SeenRows::new(rows, sharing);
+    let waits = waits(alloc, &rows)?;
+    let plan = earliest_plan(alloc, &rows, &waits)?;
     Ok(plan.ends[last_row(&plan.ends)])
 }

@@ -9,11 +9,11 @@ ghost use Rattle.boc_order.specs.Back.{IsStepBefore, IsFirstLatest};
 
 use crate::plan::Earliest;
 use boc_types::chain::{Chain, ChainStep, Via};
-use boc_types::rows::Row;
+use boc_types::sharing::SeenRows;
 use std::alloc::{AllocError, Global};
 
 // The step whose link a row waited for.
-fn step_before(rows: &[Row], after: &[Option<u32>], row: u32) -> ChainStep
+fn step_before(rows: &SeenRows, after: &[Option<u32>], row: u32) -> ChainStep
     requires shape { IsRows rows.now }
     requires there { row < length rows.now }
     requires whole { length after.now ≡ length rows.now }
@@ -22,14 +22,14 @@ fn step_before(rows: &[Row], after: &[Option<u32>], row: u32) -> ChainStep
 {
     match after[row as usize] {
         None => ChainStep {
-            row: rows[row as usize].parent,
+            row: rows.parent(row as usize),
             via: Via::Spawn,
-            weight: rows[row as usize].offset,
+            weight: rows.offset(row as usize),
         },
         Some(before) => ChainStep {
             row: before,
             via: Via::Order,
-            weight: rows[before as usize].ticks,
+            weight: rows.ticks(before as usize),
         },
     }
 }
@@ -37,7 +37,7 @@ fn step_before(rows: &[Row], after: &[Option<u32>], row: u32) -> ChainStep
 /// The chain of the links that were waited for, which ends in the row `last`, of `rows` in the earliest plan.
 pub fn chain_back(
     alloc: Global,
-    rows: &[Row],
+    rows: &SeenRows,
     plan: &Earliest,
     last: u32,
 ) -> Result<Chain, AllocError>
@@ -53,7 +53,7 @@ pub fn chain_back(
     steps.push_reserved(ChainStep {
         row: last,
         via: Via::Last,
-        weight: rows[last as usize].ticks,
+        weight: rows.ticks(last as usize),
     });
     let mut row = last;
     while row > 0 {

@@ -1,9 +1,7 @@
 // Of some rows: the latest end, and the row that has it.
 
-ghost use Rattle.std.specs.Prelude.{◌≡◌, ℕ, ◌<◌, length, All};
-ghost use Rattle.boc_order.specs.Latest.{later_of, latest_among, with_noted, nothing};
-
-use boc_types::limits::MOST_COWNS;
+ghost use Rattle.std.specs.Prelude.{◌≡◌, ℕ, ◌<◌, length, slice_index, Contains};
+ghost use Rattle.boc_order.specs.Latest.{later_of, IsLatestOf};
 
 /// The latest end among some rows, and the least-numbered row that has it. Where there are no rows the end is 0,
 /// since each row ends after tick 0.
@@ -16,13 +14,10 @@ pub struct Latest {
 }
 
 /// That of no rows.
-pub const NOTHING: Latest = Latest { end: 0, row: 0 };
+const NOTHING: Latest = Latest { end: 0, row: 0 };
 
-/// What is remembered at each cown, by the cown's number.
-pub type Memory = [Latest; MOST_COWNS];
-
-/// The one that ends later; where both end together, the one with the smaller number.
-pub fn later(a: Latest, b: Latest) -> Latest
+// The one that ends later; where both end together, the one with the smaller number.
+fn later(a: Latest, b: Latest) -> Latest
     ensures { result ≡ later_of a b }
 {
     if a.end < b.end || (a.end == b.end && b.row < a.row) {
@@ -32,24 +27,16 @@ pub fn later(a: Latest, b: Latest) -> Latest
     }
 }
 
-/// The latest of what is remembered at any of these cowns.
-pub fn latest_at(cowns: &[u8], memory: &Memory) -> Latest
-    requires { All (λ c. c < MOST_COWNS) cowns.now }
-    ensures { result ≡ latest_among memory.now nothing cowns.now }
+/// The latest of these rows, by the ticks at which rows end.
+pub fn latest_of(rows: &[u32], ends: &[u64]) -> Latest
+    requires there { (a : ℕ) → Contains rows.now a → a < length ends.now }
+    requires late { (a : ℕ) → a < length ends.now → 0 < slice_index ends.now a }
+    ensures { IsLatestOf (λ a. Contains rows.now a) (slice_index ends.now) result }
 {
-    let mut best = NOTHING;
-    for cown in cowns {
-        best = later(best, memory[*cown as usize]);
+    let mut latest = NOTHING;
+    for row in rows {
+        let end = ends[*row as usize];
+        latest = later(latest, Latest { end, row: *row });
     }
-    best
-}
-
-/// Remembers a row at each of its cowns.
-pub fn note(cowns: &[u8], memory: &mut Memory, row: Latest)
-    requires { All (λ c. c < MOST_COWNS) cowns.now }
-    ensures { memory.new ≡ with_noted row memory.old cowns.now }
-{
-    for cown in cowns {
-        memory[*cown as usize] = later(memory[*cown as usize], row);
-    }
+    latest
 }

@@ -4,11 +4,18 @@
 mod analysis;
 mod back;
 mod check;
+mod following;
+mod gathering;
 mod latest;
+mod links;
 mod plan;
 mod report;
+mod uses;
 
 pub use analysis::{profile, span, work};
 pub use check::check_chain;
+pub use following::followers;
+pub use gathering::waits;
+pub use links::Links;
 pub use plan::{Earliest, earliest_plan, last_end};
 pub use report::Profile;

@@ -2,12 +2,14 @@
 
 ghost use Rattle.std.specs.Prelude.{◌≡◌, ℕ, ◌<◌, ◌≤◌, ◌+◌, ◌^◌, length, IfOk, slice_index};
 ghost use Rattle.boc_types.specs.runs.Rows.{IsRows};
-ghost use Rattle.boc_order.specs.Placed.{placement, ArePlaced, Remembers};
+ghost use Rattle.boc_types.specs.runs.Rows.{parent_of, offset_of};
+ghost use Rattle.boc_order.specs.Placed.{placement, ArePlaced};
 ghost use Rattle.boc_order.specs.Room.{HasRoom};
+ghost use Rattle.boc_order.specs.Waits.{AreWaits, HasWaits};
 
-use crate::latest::{Latest, Memory, NOTHING, latest_at, note};
-use boc_types::limits::MOST_COWNS;
-use boc_types::rows::{Row, Rows};
+use crate::latest::{Latest, latest_of};
+use crate::links::Links;
+use boc_types::sharing::SeenRows;
 use std::alloc::{AllocError, Global};
 
 /// The earliest plan.
@@ -34,36 +36,18 @@ fn earliest_start(spawned: u64, busy: Latest) -> (u64, Option<u32>)
 }
 
 // The tick at which a row is spawned.
-fn spawned_at(number: usize, row: &Row, starts: &[u64]) -> u64
-    requires parent { 0 < number → row.now.parent < length starts.now }
-    requires low { 0 < number → slice_index starts.now row.now.parent + row.now.offset < 2 ^ 64 }
+fn spawned_at(rows: &SeenRows, number: usize, starts: &[u64]) -> u64
+    requires there { number < length rows.now }
+    requires parent { 0 < number → parent_of rows.now number < length starts.now }
+    requires low { 0 < number → slice_index starts.now (parent_of rows.now number) + offset_of rows.now number < 2 ^ 64 }
     ensures main { number ≡ 0 → result ≡ 0 }
-    ensures child { 0 < number → result ≡ slice_index starts.now row.now.parent + row.now.offset }
+    ensures child { 0 < number → result ≡ slice_index starts.now (parent_of rows.now number) + offset_of rows.now number }
 {
     if number == 0 {
         0
     } else {
-        starts[row.parent as usize] + u64::from(row.offset)
+        starts[rows.parent(number) as usize] + u64::from(rows.offset(number))
     }
-}
-
-// What is remembered at the cowns once the first rows are placed, which end at these ticks.
-fn remembered(rows: &[Row], ends: &[u64]) -> Memory
-    requires shape { IsRows rows.now }
-    requires late { (r : ℕ) → r < length ends.now → 0 < slice_index ends.now r }
-    requires few { length ends.now ≤ length rows.now }
-    ensures { Remembers rows.now ends.now result (length ends.now) }
-{
-    let mut memory = [NOTHING; MOST_COWNS];
-    for (number, end) in ends.iter().enumerate() {
-        let row = &rows[number];
-        let done = Latest {
-            end: *end,
-            row: number as u32,
-        };
-        note(row.cowns.as_slice(), &mut memory, done);
-    }
-    memory
 }
 
 /// The last of the ticks at which rows end. It takes no memory.
@@ -80,7 +64,8 @@ impl Earliest {
     ghost use Rattle.boc_types.specs.declared.rows.Row.{Row};
     ghost use Rattle.boc_types.specs.runs.Rows.{IsRows};
     ghost use Rattle.boc_types.specs.plans.Greedy.{IsSpan};
-    ghost use Rattle.boc_order.specs.Placed.{ArePlaced, Remembers};
+    ghost use Rattle.boc_order.specs.Placed.{ArePlaced};
+    ghost use Rattle.boc_order.specs.Waits.{AreWaits, HasWaits};
     ghost use Rattle.boc_order.specs.Room.{HasRoom};
     ghost use Rattle.boc_order.specs.Standing.{IsPlanOf};
 
@@ -97,8 +82,9 @@ impl Earliest {
     }
 
     /// Places the rows from a given one on anew, where those before it stand as they must. It takes no memory.
-    pub fn place_from(&mut self, rows: &[Row], from: usize)
+    pub fn place_from(&mut self, rows: &SeenRows, waits: &Links, from: usize)
         requires shape { IsRows rows.now }
+        requires waits { AreWaits rows.now waits.now }
         requires room { HasRoom self.old (length rows.now) }
         requires from { from ≤ length rows.now }
         requires before { ArePlaced rows.now (take from self.old.starts.items) (take from self.old.ends.items) (take from self.old.after.items) from }
@@ -108,9 +94,8 @@ impl Earliest {
         self.starts.truncate(from);
         self.ends.truncate(from);
         self.after.truncate(from);
-        let mut memory = remembered(rows, &self.ends);
         for number in from..rows.len() {
-            self.place_next(rows, number, &mut memory);
+            self.place_next(rows, number, waits.of(number));
         }
     }
 
@@ -122,40 +107,33 @@ impl Earliest {
         last_end(&self.ends)
     }
 
-    // Places the next row behind those that are placed.
-    fn place_next(&mut self, rows: &[Row], number: usize, memory: &mut Memory)
+    // Places the next row, which waits for these, behind those that are placed.
+    fn place_next(&mut self, rows: &SeenRows, number: usize, waits: &[u32])
         requires shape { IsRows rows.now }
         requires there { number < length rows.now }
+        requires waits { HasWaits rows.now number waits.now }
         requires room { HasRoom self.old (length rows.now) }
         requires placed { ArePlaced rows.now self.old.starts.items self.old.ends.items self.old.after.items number }
-        requires remembers { Remembers rows.now self.old.ends.items memory.old number }
         ensures placed { ArePlaced rows.now self.new.starts.items self.new.ends.items self.new.after.items (number + 1) }
-        ensures remembers { Remembers rows.now self.new.ends.items memory.new (number + 1) }
         ensures room { HasRoom self.new (length rows.now) }
     {
-        let row = &rows[number];
-        let spawned = spawned_at(number, row, &self.starts);
-        let (start, waits_for) = earliest_start(spawned, latest_at(row.cowns.as_slice(), memory));
-        let end = start + u64::from(row.ticks);
+        let spawned = spawned_at(rows, number, &self.starts);
+        let (start, waits_for) = earliest_start(spawned, latest_of(waits, &self.ends));
         self.starts.push_reserved(start);
-        self.ends.push_reserved(end);
+        self.ends
+            .push_reserved(start + u64::from(rows.ticks(number)));
         self.after.push_reserved(waits_for);
-        let done = Latest {
-            end,
-            row: number as u32,
-        };
-        note(row.cowns.as_slice(), memory, done);
     }
 }
 
-/// The earliest plan of the rows. `AllocError` says that memory was refused.
-pub fn earliest_plan(alloc: Global, rows: &Rows) -> Result<Earliest, AllocError>
+/// The earliest plan of rows that wait for these. `AllocError` says that memory was refused.
+pub fn earliest_plan(alloc: Global, rows: &SeenRows, waits: &Links) -> Result<Earliest, AllocError>
+    requires { AreWaits rows.now waits.now }
     ensures shape { IsRows rows.now }
     ensures placed { IfOk result (λ e. ArePlaced rows.now e.starts.items e.ends.items e.after.items (length rows.now)) }
     ensures room { IfOk result (λ e. HasRoom e (length rows.now)) }
 {
-    let rows = rows.as_slice();
     let mut plan = Earliest::with_room(alloc, rows.len())?;
-    plan.place_from(rows, 0);
+    plan.place_from(rows, waits, 0);
     Ok(plan)
 }

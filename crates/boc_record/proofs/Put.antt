@@ -1,22 +1,14 @@
--- Texts that grow by a field or by a line.
-use Rattle.std.proofs.Common.{suc, get_or, length, take, append_assoc, ◌≡◌, ℕ, ◌+◌, ◌<◌, ◌∷◌, List, [], ◌++◌, sym, ap, ◌∙◌, arith}
+-- Texts that grow by a line.
+use Rattle.std.proofs.Common.{suc, take, append_assoc, ◌≡◌, ℕ, ◌+◌, ◌∷◌, List, [], ◌++◌, sym, ap, ◌∙◌, arith}
 use Rattle.std.proofs.lemmas.List.{append-nil}
 use Rattle.std.proofs.Math.Seq.{take-suc}
 use Rattle.std.specs.Prelude.{slice_get, Some}
 use Rattle.std.proofs.lemmas.Option.{slice_get_within, get_or_from_slice_get}
 use Rattle.boc_types.specs.declared.event.Event.{Event}
-use Rattle.boc_types.specs.text.RecordTexts.{Version, field, fields, line, event_line, event_lines}
-use Rattle.boc_record.proofs.Runs.{fields_more}
+use Rattle.boc_types.specs.text.RecordTexts.{Version, line, event_line, event_lines}
 
 add_one : (i : ℕ) → i + 1 ≡ suc i
 add_one i = omega arith
-
--- one field more
-pub put_field_more : (before text after : List ℕ) (ns : List ℕ) (i d : ℕ) → i < length ns → text ≡ before ++ fields (take i ns) → after ≡ text ++ field (get_or ns i d)
-    → after ≡ before ++ fields (take (i + 1) ns)
-put_field_more before text after ns i d h e put =
-    put ∙ ap (λ xs. xs ++ field (get_or ns i d)) e ∙ append_assoc before (fields (take i ns)) (field (get_or ns i d))
-    ∙ ap (λ xs. before ++ xs) (sym (fields_more (take i ns) (get_or ns i d)) ∙ ap fields (sym (take-suc ns i d h) ∙ ap (λ n. take n ns) (sym (add_one i))))
 
 -- one event more
 pub lines_more : (v : Version) (events : List Event) (event : Event) → event_lines v (events ++ event ∷ []) ≡ event_lines v events ++ line (event_line v event)

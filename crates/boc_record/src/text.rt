@@ -1,19 +1,34 @@
 // From a record to its text.
 
-ghost use Rattle.std.specs.Prelude.{◌≡◌, ◌<◌, ◌++◌, OnOk, IfOk};
+ghost use Rattle.std.specs.Prelude.{◌≡◌, ◌<◌, ◌≤◌, ◌+◌, ◌*◌, ◌∷◌, ◌++◌, length, drop, OnOk, IfOk};
 ghost use Rattle.boc_types.specs.text.RecordTexts.{Second, field, fields, line, event_line, event_lines, record_text, status_number};
 ghost use Rattle.boc_record.specs.Writing.{Writes, CountsWrite};
+ghost use Rattle.boc_record.specs.declared.text.TheConstants.{LINE_FEED_AT, MOST_BYTES, MOST_FIELD};
 
 use crate::fault::WriteFault;
-use boc_text::{Sink, put_number, put_out};
+use boc_text::{MOST_DIGITS, Sink, put_number, put_out, write_before};
 use boc_types::body::EndStatus;
 use boc_types::event::Event;
 use boc_types::events::Events;
+use boc_types::limits::MOST_HELD;
 use boc_types::record::Record;
+use boc_types::short::Cowns;
 use std::alloc::{AllocError, Global};
 
 /// The number of the version in which records are written, the second.
 const WRITTEN_VERSION: u32 = 2;
+
+// The most bytes of a number behind a space.
+const MOST_FIELD: usize = MOST_DIGITS + 1;
+
+// The most bytes of a line. It has a mark, at most eleven numbers, and a line feed.
+const MOST_BYTES: usize = 256;
+
+// The bytes that a line has at most on average, of most records. Where they are more, the text grows.
+const USUAL_BYTES: usize = 24;
+
+// Where a line has its line feed.
+const LINE_FEED_AT: usize = MOST_BYTES - 1;
 
 /// Writes the text of a record, in the second version. The whole text is formed first, and then goes out; after a failing write a
 /// beginning of it went out.
@@ -31,11 +46,13 @@ pub fn write_record<W: Sink>(alloc: Global, record: &Record, sink: &mut W) -> Re
 fn text_of(alloc: Global, record: &Record) -> Result<Vec<u8>, AllocError>
     ensures { IfOk result (λ text. text.items ≡ record_text Second «record».now.cowns «record».now.events) }
 {
-    let mut text = Vec::new(alloc);
+    let events = record.events();
+    let mut text = Vec::with_capacity(alloc, events.len().saturating_mul(USUAL_BYTES))?;
     text.extend_from_slice(b"boc")?;
-    put_fields(&mut text, &[WRITTEN_VERSION, record.cowns()])?;
+    put_field(&mut text, WRITTEN_VERSION)?;
+    put_field(&mut text, record.cowns())?;
     text.push(b'\n')?;
-    put_events(&mut text, &record.events())?;
+    put_events(&mut text, &events)?;
     text.extend_from_slice(b".\n")?;
     Ok(text)
 }
@@ -51,48 +68,87 @@ pub fn put_events(text: &mut Vec<u8>, events: &Events<'_>) -> Result<(), AllocEr
     Ok(())
 }
 
-// The line of an event.
+// The line of an event. It is formed from its end on, and goes behind the text at once.
 fn put_event(text: &mut Vec<u8>, event: &Event) -> Result<(), AllocError>
     ensures { OnOk result (text.new.items ≡ text.old.items ++ line (event_line Second event.now)) }
 {
-    match event {
+    let mut line = [b'\n'; MOST_BYTES];
+    let begin = match event {
         Event::Spawn {
             row,
             parent,
             offset,
             cowns,
         } => {
-            text.push(b'+')?;
-            put_fields(text, &[*row, *parent, *offset])?;
-            put_fields(text, cowns.as_slice())?;
+            let cowns_at = cowns_before(&mut line, cowns);
+            begun_before(&mut line, cowns_at, b'+', &[*row, *parent, *offset])
         }
-        Event::Start { row } => {
-            text.push(b'>')?;
-            put_field(text, *row)?;
-        }
+        Event::Start { row } => begun_before(&mut line, LINE_FEED_AT, b'>', &[*row]),
         Event::End {
             row,
             ticks,
             status,
             written,
         } => {
-            text.push(b'<')?;
-            put_fields(text, &[*row, *ticks, number_of(*status)])?;
-            put_fields(text, written.as_slice())?;
+            let written_at = cowns_before(&mut line, written);
+            begun_before(
+                &mut line,
+                written_at,
+                b'<',
+                &[*row, *ticks, number_of(*status)],
+            )
         }
-    }
-    text.push(b'\n')?;
-    Ok(())
+    };
+    text.extend_from_slice(&line[begin..])
 }
 
-// Numbers, each behind a space.
-fn put_fields(text: &mut Vec<u8>, numbers: &[u32]) -> Result<(), AllocError>
-    ensures { OnOk result (text.new.items ≡ text.old.items ++ fields numbers.now) }
+// Puts cowns in front of the line feed of a line, and says where they begin.
+fn cowns_before(line: &mut [u8], cowns: &Cowns) -> usize
+    requires { length line.old ≡ MOST_BYTES }
+    ensures written { drop result line.new ≡ fields cowns.now.items ++ drop LINE_FEED_AT line.old }
+    ensures room { (4 * MOST_FIELD < result) × (result < length line.new) }
 {
-    for number in numbers {
-        put_field(text, *number)?;
+    let count = cowns.len();
+    prove!(count <= MOST_HELD);
+    fields_before(line, LINE_FEED_AT, cowns.as_slice())
+}
+
+// Puts a mark and numbers in front of what a line has from a place on, and says where they begin.
+fn begun_before(line: &mut [u8], place: usize, mark: u8, numbers: &[u32]) -> usize
+    requires few { length numbers.now ≤ 3 }
+    requires room { (4 * MOST_FIELD < place) × (place < length line.old) }
+    ensures { drop result line.new ≡ mark ∷ fields numbers.now ++ drop place line.old }
+{
+    let at = fields_before(line, place, numbers) - 1;
+    line[at] = mark;
+    at
+}
+
+// Puts numbers, each behind a space, in front of what a line has from a place on, and says where they begin.
+fn fields_before(line: &mut [u8], place: usize, numbers: &[u32]) -> usize
+    requires room { (MOST_FIELD * length numbers.now + MOST_FIELD < place) × (place < length line.old) }
+    ensures written { drop result line.new ≡ fields numbers.now ++ drop place line.old }
+    ensures near { (result ≤ place) × (place ≤ result + MOST_FIELD * length numbers.now) }
+{
+    match numbers {
+        [] => place,
+        [first, rest @ ..] => {
+            let at = fields_before(line, place, rest);
+            field_before(line, at, *first)
+        }
     }
-    Ok(())
+}
+
+// Puts a number behind a space in front of what a line has from a place on, and says where the space is.
+fn field_before(line: &mut [u8], place: usize, number: u32) -> usize
+    requires room { (MOST_FIELD < place) × (place < length line.old) }
+    ensures written { drop result line.new ≡ field number ++ drop place line.old }
+    ensures near { (result ≤ place) × (place ≤ result + MOST_FIELD) }
+{
+    let next = line[place];
+    let at = write_before(line, place + 1, u64::from(number), next) - 1;
+    line[at] = b' ';
+    at
 }
 
 // A number behind a space.

@@ -10,62 +10,14 @@ use Rattle.boc_types.specs.plans.Edits.{edited, Fits}
 use Rattle.boc_types.specs.plans.Greedy.{IsSpan}
 use Rattle.boc_types.proofs.Editing.{length-edited, parent_of-edited, offset_of-edited, ticks_of-edited_same}
 use Rattle.boc_order.specs.Placed.{ArePlaced}
-use Rattle.boc_sweep.specs.Links.{Node, start, stop, finish, number_of, Links, Covers, IsNear, tick_of}
+use Rattle.boc_order.proofs.Near.{near_complete, near_ordered}
+use Rattle.boc_order.specs.Waits.{Covers, IsNear}
+use Rattle.boc_sweep.specs.Links.{Node, start, stop, finish, number_of, Links, tick_of}
 use Rattle.boc_sweep.specs.Cuts.{HasTails, tail_of, Crosses}
 use Rattle.boc_sweep.proofs.RowLinks.{cut_is_span}
 
-in_or : (y x : ℕ) (ys : List ℕ) → y ≢ x → (k : ℕ) → k < length (y ∷ ys) → get_or (y ∷ ys) k x ≡ x → Contains ys x
-in_or y x ys ne zero l e = absurd (ne e)
-in_or y x ys ne (suc k) l e = (k, omega arith, e)
-
--- a list has a number, or hasn't
-pub has : (ys : List ℕ) (x : ℕ) → Contains ys x ⊎ (Contains ys x → ⊥)
-has [] x = inr (λ c. omega (arith, c.1))
-has (y ∷ ys) x = elim (cases_eq y x) [
-  | inl e ↦ inl (0, omega arith, e)
-  | inr ne ↦ elim (has ys x) [
-    | inl c ↦ inl (suc c.0, omega (arith, c.1), c.2)
-    | inr none ↦ inr (λ c. none (in_or y x ys ne c.0 c.1 c.2))
-  ]
-]
-
--- from row a on the last row before row n that needs a cown
-last_with : (rows : List Row) (c a n : ℕ) → a < n → Contains (cowns_of rows a) c →
-    (k : ℕ) × (a ≤ k) × (k < n) × Contains (cowns_of rows k) c × ((j : ℕ) → k < j → j < n → Contains (cowns_of rows j) c → ⊥)
-last_with rows c a zero h m = absurd (omega (arith, h))
-last_with rows c a (suc n) h m = elim (has (cowns_of rows n) c) [
-  | inl here ↦ (n, omega arith, omega arith, here, λ j above below i. omega (arith, above, below))
-  | inr none ↦ elim (cases_eq a n) [
-    | inl e ↦ absurd (none (subst (λ (x : ℕ). Contains (cowns_of rows x) c) e m))
-    | inr ne ↦ (
-        let p = last_with rows c a n (omega arith) m in (
-          p.0,
-          p.1,
-          omega (arith, p.2),
-          p.3,
-          λ j above below i. elim (cases_eq j n) [
-            | inl e ↦ none (subst (λ (x : ℕ). Contains (cowns_of rows x) c) e i)
-            | inr other ↦ p.4 j above (omega arith) i
-          ],
-        ))
-  ]
-]
-
-near_complete : (rows : List Row) (a b : ℕ) → b < length rows → Ordered rows a b → IsNear rows a b ⊎ ((c : ℕ) × Ordered rows a c × IsNear rows c b)
-near_complete rows a b there o =
-    let p = last_with rows o.shared.0 a b o.before o.shared.1 in
-    let near : IsNear rows p.0 b = record { before = p.2; there = there; cown = o.shared.0; left = p.3; needs = o.shared.2; none_between = p.4 } in
-    elim (cases_eq a p.0) [
-      | inl e ↦ inl (subst (λ (x : ℕ). IsNear rows x b) (sym e) near)
-      | inr ne ↦ inr (p.0, record { before = omega (arith, ne, p.1); shared = (o.shared.0, o.shared.1, p.3) }, near)
-    ]
-
 pub near_covers : (rows : List Row) → Covers rows (IsNear rows)
-near_covers rows = record {
-  there = λ a b n. n.there;
-  sound = λ a b n. record { before = n.before; shared = (n.cown, n.left, n.needs) };
-  complete = near_complete rows;
-}
+near_covers rows = record { there = λ a b n. n.there; sound = near_ordered rows; complete = near_complete rows }
 
 -- what the sweep finds at a row is the span
 module _ (rows : List Row) (hr : IsRows rows) (starts ends : List ℕ) (after : List (Option ℕ)) (from_starts from_ends : List ℕ)

@@ -4,15 +4,16 @@ use Rattle.std.specs.Prelude.{slice_index_or, MatchOption}
 use Rattle.std.proofs.lemmas.Bool.{cases_eq}
 use Rattle.boc_types.specs.declared.rows.Row.{Row}
 use Rattle.boc_types.specs.runs.Rows.{IsRows, offset_of, ticks_of}
-use Rattle.boc_types.specs.plans.Plans.{start_of, IsChild, Ordered, IsEnd}
+use Rattle.boc_types.specs.plans.Plans.{start_of, IsChild, IsEnd}
 use Rattle.boc_types.specs.plans.Chains.{IsSpawnTight, IsOrderTight}
 use Rattle.boc_types.specs.plans.Edits.{edited, Fits}
 use Rattle.boc_types.specs.plans.Greedy.{IsSpan}
-use Rattle.boc_types.proofs.Editing.{length-edited, parent_of-edited, offset_of-edited, cowns_of-edited, ticks_of-edited_other, edited_back, rows_edited}
+use Rattle.boc_types.proofs.Editing.{length-edited, parent_of-edited, offset_of-edited, ordered_edited, ordered_back, ticks_of-edited_other, edited_back, rows_edited}
 use Rattle.boc_order.specs.Placed.{ArePlaced}
 use Rattle.boc_order.proofs.Chaining.{placed_earliest}
 use Rattle.boc_sweep.specs.Ways.{AreHeads, ChangesAt}
-use Rattle.boc_sweep.specs.Links.{Node, start, stop, finish, number_of, IsNode, Links, Covers, tick_of}
+use Rattle.boc_order.specs.Waits.{Covers}
+use Rattle.boc_sweep.specs.Links.{Node, start, stop, finish, number_of, IsNode, Links, tick_of}
 use Rattle.boc_sweep.specs.Cuts.{AreWays, IsMostAt}
 use Rattle.boc_sweep.proofs.Cut.{cut_heaviest}
 use Rattle.boc_sweep.proofs.Standing.{stands, has_end}
@@ -54,9 +55,9 @@ module _ (rows : List Row) (hr : IsRows rows) (Waits : ℕ → ℕ → Type 0) (
     wait_is_link : (a b : ℕ) → b < length rows → IsOrderTight rows starts a b → Waits a b
     wait_is_link a b there t = elim (covers.complete a b there t.0) [
       | inl w ↦ w
-      | inr (c, o, w) ↦ absurd (
-          let c_there : c < length rows = omega (arith, (covers.sound c b w).before, there) in
-          omega (arith, t.1, (placed.placed c c_there).in_order a o, (placed.placed b there).in_order c (covers.sound c b w), hr.ticks_low c c_there))
+      | inr (c, o, p) ↦ absurd (
+          let c_there : c < length rows = omega (arith, p.before, there) in
+          omega (arith, t.1, (placed.placed c c_there).in_order a o, (placed.placed b there).in_order c p, hr.ticks_low c c_there))
     ]
 
     tight_by : (b : ℕ) → b < length rows → (o : Option ℕ) → MatchOption o (IsSpawnTight rows starts b)
@@ -77,25 +78,13 @@ module _ (rows : List Row) (hr : IsRows rows) (Waits : ℕ → ℕ → Type 0) (
     plan_is_heads = record { at_source = (placed.placed 0 hr.not_empty).main refl; keeps = ticks_keep; tight = ticks_tight }
 
 -- the order stays
-ordered_edited : (rows : List Row) (row ticks a b : ℕ) → Ordered rows a b → Ordered (edited rows row ticks) a b
-ordered_edited rows row ticks a b o = record {
-  before = o.before;
-  shared = (o.shared.0, rw (cowns_of-edited rows row ticks a) o.shared.1, rw (cowns_of-edited rows row ticks b) o.shared.2);
-}
-
-ordered_back : (rows : List Row) (row ticks a b : ℕ) → Ordered (edited rows row ticks) a b → Ordered rows a b
-ordered_back rows row ticks a b o = record {
-  before = o.before;
-  shared = (o.shared.0, rw (cowns_of-edited rows row ticks a) at o.shared.1, rw (cowns_of-edited rows row ticks b) at o.shared.2);
-}
-
 covers_edited : (rows : List Row) (Waits : ℕ → ℕ → Type 0) (row ticks : ℕ) → Covers rows Waits → Covers (edited rows row ticks) Waits
 covers_edited rows Waits row ticks c = record {
   there = λ a b w. omega (arith, c.there a b w, length-edited rows row ticks);
   sound = λ a b w. ordered_edited rows row ticks a b (c.sound a b w);
   complete = λ a b there o. elim (c.complete a b (omega (arith, there, length-edited rows row ticks)) (ordered_back rows row ticks a b o)) [
     | inl w ↦ inl w
-    | inr (k, p, w) ↦ inr (k, ordered_edited rows row ticks a k p, w)
+    | inr (k, p, q) ↦ inr (k, ordered_edited rows row ticks a k p, ordered_edited rows row ticks k b q)
   ];
 }
 

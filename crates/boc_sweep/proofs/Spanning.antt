@@ -1,90 +1,69 @@
 -- The stretches of links that cross, and the spans that they make.
-use Rattle.std.proofs.Common.{◌≡◌, ℕ, suc, ◌+◌, ◌*◌, ◌<◌, ◌≤◌, ◌⊎◌, max, List, [], ◌∷◌, ◌++◌, length, Option, Some, None, inl, inr, refl, ap, sym, ◌∙◌, subst, arith}
-use Rattle.std.specs.Prelude.{slice_index, slice_index_or}
+use Rattle.std.proofs.Common.{◌≡◌, ℕ, ◌+◌, ◌*◌, ◌<◌, ◌≤◌, ◌⊎◌, max, List, [], ◌∷◌, ◌++◌, length, Option, inl, inr, refl, ap, sym, ◌∙◌, subst, arith}
+use Rattle.std.specs.Prelude.{slice_index}
 use Rattle.std.specs.List.{Contains}
 use Rattle.std.proofs.lemmas.Bool.{cases_lt, cases_eq}
 use Rattle.std.proofs.lemmas.List.{get_or_default, get_or_push, get_or_append_left}
 use Rattle.std.proofs.lemmas.List.Elements.{Contains-get_or, Contains-push, Contains-push_cases, Contains-append_left}
-use Rattle.boc_types.specs.declared.limits.TheConstants.{MOST_COWNS, MOST_ROWS, MOST_TICKS}
+use Rattle.boc_types.specs.declared.limits.TheConstants.{MOST_ROWS, MOST_TICKS}
 use Rattle.boc_types.specs.declared.rows.Row.{Row}
-use Rattle.boc_types.specs.runs.Rows.{IsRows, parent_of, offset_of, ticks_of, cowns_of}
+use Rattle.boc_types.specs.runs.Rows.{IsRows, parent_of, offset_of, ticks_of}
 use Rattle.boc_types.specs.plans.Plans.{start_of, end_of, IsChild}
 use Rattle.boc_types.specs.plans.Edits.{IsLeastSpan}
 use Rattle.boc_types.proofs.Editing.{least_fits}
 use Rattle.boc_order.specs.Placed.{ArePlaced}
 use Rattle.boc_sweep.specs.declared.windows.Stretch.{Stretch}
-use Rattle.boc_sweep.specs.Links.{start, stop, IsNear}
+use Rattle.boc_order.specs.Waits.{IsNear, HasWaits}
+use Rattle.boc_sweep.specs.Links.{start, stop}
 use Rattle.boc_sweep.specs.Cuts.{HasTails, Crosses}
-use Rattle.boc_sweep.specs.Tails.{HasNext}
 use Rattle.boc_sweep.specs.Tops.{AreTops}
 use Rattle.boc_sweep.specs.Crossing.{spawn_stretch, wait_stretch, AreCrossing, ArePushed, IsLatestEnd}
 use Rattle.boc_sweep.specs.Lasts.{HasLasts}
 use Rattle.boc_sweep.proofs.Nearest.{sweep_is_span}
 use Rattle.boc_sweep.proofs.Standing.{has_end}
-use Rattle.boc_sweep.proofs.Tailing.{near_next, next_near}
 
 -- no wait is pushed yet
-pub pushed_none : (cowns : List ℕ) (next : List (Option ℕ)) (row end : ℕ) (tails : List ℕ) (old : List Stretch) → ArePushed cowns next row end tails old 0 old
-pushed_none cowns next row end tails old = record { kept = λ r m. m; more = λ i b h q. absurd (omega (arith, h)); only = λ r m. inl m }
-
--- nor for a cown that no later row needs
-pub pushed_same : (cowns : List ℕ) (next : List (Option ℕ)) (row end : ℕ) (tails : List ℕ) (old : List Stretch) (k : ℕ) (new : List Stretch) →
-    ((b : ℕ) → slice_index_or next (slice_index cowns k) None ≡ Some b → ⊥) → ArePushed cowns next row end tails old k new → ArePushed cowns next row end tails old (k + 1) new
-pushed_same cowns next row end tails old k new none p = record {
-  kept = p.kept;
-  more = λ i b h q. elim (cases_eq i k) [
-    | inl e ↦ absurd (none b (rw e at q))
-    | inr ne ↦ p.more i b (omega arith) q
-  ];
-  only = p.only;
-}
+pub pushed_none : (waits : List ℕ) (row tail : ℕ) (ends : List ℕ) (old : List Stretch) → ArePushed waits row tail ends old 0 old
+pushed_none waits row tail ends old = record { kept = λ r m. m; more = λ i h. absurd (omega (arith, h)); only = λ r m. inl m }
 
 -- one wait more
-pub pushed_next : (cowns : List ℕ) (next : List (Option ℕ)) (row end : ℕ) (tails : List ℕ) (old : List Stretch) (k : ℕ) (new : List Stretch) (b : ℕ) → k < length cowns →
-    slice_index_or next (slice_index cowns k) None ≡ Some b → ArePushed cowns next row end tails old k new →
-    ArePushed cowns next row end tails old (k + 1) (new ++ wait_stretch end row tails b ∷ [])
-pushed_next cowns next row end tails old k new b there is p = record {
-  kept = λ r m. Contains-append_left new (wait_stretch end row tails b ∷ []) r (p.kept r m);
-  more = λ i x h q. elim (cases_eq i k) [
-    | inl e ↦ (
-        let same_some : Some b ≡ Some x = sym is ∙ (rw e at q) in
-        let same : b ≡ x = cc in
-        subst (λ (y : ℕ). Contains (new ++ wait_stretch end row tails b ∷ []) (wait_stretch end row tails y)) same (Contains-push new (wait_stretch end row tails b)))
-    | inr ne ↦ Contains-append_left new (wait_stretch end row tails b ∷ []) (wait_stretch end row tails x) (p.more i x (omega arith) q)
+pub pushed_next : (waits : List ℕ) (row tail : ℕ) (ends : List ℕ) (old : List Stretch) (k : ℕ) (new : List Stretch) (one : Stretch) → k < length waits →
+    one ≡ wait_stretch (slice_index ends (slice_index waits k)) (slice_index waits k) tail row → ArePushed waits row tail ends old k new →
+    ArePushed waits row tail ends old (k + 1) (new ++ one ∷ [])
+pushed_next waits row tail ends old k new one there is p = record {
+  kept = λ r m. Contains-append_left new (one ∷ []) r (p.kept r m);
+  more = λ i h. elim (cases_eq i k) [
+    | inl e ↦ rw e (subst (λ (x : Stretch). Contains (new ++ one ∷ []) x) is (Contains-push new one))
+    | inr ne ↦ Contains-append_left new (one ∷ []) (wait_stretch (slice_index ends (slice_index waits i)) (slice_index waits i) tail row) (p.more i (omega arith))
   ];
-  only = λ r m. elim (Contains-push_cases new (wait_stretch end row tails b) r m) [
+  only = λ r m. elim (Contains-push_cases new one r m) [
     | inl before ↦ p.only r before
-    | inr e ↦ inr (k, b, there, is, sym e)
+    | inr e ↦ inr (k, there, sym e ∙ is)
   ];
 }
 
 -- no stretch yet
-pub crossing_none : (rows : List Row) (starts tails : List ℕ) (n : ℕ) (stretches : List Stretch) → n ≡ length rows → stretches ≡ [] → AreCrossing rows starts tails n stretches
-crossing_none rows starts tails n stretches whole e = rw e (record {
+pub crossing_none : (rows : List Row) (starts tails : List ℕ) (stretches : List Stretch) → stretches ≡ [] → AreCrossing rows starts tails 0 stretches
+crossing_none rows starts tails stretches e = rw e (record {
   inside = λ r m. absurd (omega (arith, m.1));
   sound = λ r m v above below. absurd (omega (arith, m.1));
-  spawns = λ a b child h. absurd (omega (arith, child.there, h, whole));
-  waits = λ a b h near. absurd (omega (arith, near.before, near.there, h, whole));
+  spawns = λ a b child h. absurd (omega (arith, h));
+  waits = λ a b h near. absurd (omega (arith, h));
 })
 
 -- the stretches of one row more
-module _ (rows : List Row) (hr : IsRows rows) (starts tails : List ℕ) (v : ℕ) (there : v < length rows) (next : List (Option ℕ)) (has : HasNext rows next (suc v))
-    (old : List Stretch) (before : AreCrossing rows starts tails (suc v) old) (spawn : Stretch) (is_spawn : spawn ≡ spawn_stretch rows starts tails (parent_of rows v) v)
-    (end : ℕ) (is_end : end ≡ end_of rows starts v) (new : List Stretch)
-    (p : ArePushed (cowns_of rows v) next v end tails (old ++ spawn ∷ []) (length (cowns_of rows v)) new) where
-  small_cown : (c : ℕ) → Contains (cowns_of rows v) c → c < MOST_COWNS
-  small_cown c m = subst (λ (x : ℕ). x < MOST_COWNS) m.2 (hr.cowns_below v there m.0 c m.1)
-
-  near_of : (i b : ℕ) → i < length (cowns_of rows v) → slice_index_or next (slice_index (cowns_of rows v) i) None ≡ Some b → IsNear rows v b
-  near_of i b h q =
-      let m : Contains (cowns_of rows v) (slice_index (cowns_of rows v) i) = Contains-get_or (cowns_of rows v) i 0 h in
-      near_next rows v there (hr.cowns_below v there) next has (slice_index (cowns_of rows v) i) b (small_cown _ m) m q
+module _ (rows : List Row) (starts ends tails : List ℕ) (v : ℕ) (there : v < length rows) (row_waits : List ℕ) (has_waits : HasWaits rows v row_waits)
+    (ended : (a : ℕ) → a < length rows → slice_index ends a ≡ end_of rows starts a)
+    (old : List Stretch) (before : AreCrossing rows starts tails v old) (spawn : Stretch) (is_spawn : spawn ≡ spawn_stretch rows starts tails (parent_of rows v) v)
+    (new : List Stretch) (p : ArePushed row_waits v (slice_index tails v) ends (old ++ spawn ∷ []) (length row_waits) new) where
+  near_of : (i : ℕ) → i < length row_waits → IsNear rows (slice_index row_waits i) v
+  near_of i h = has_waits.sound (slice_index row_waits i) (Contains-get_or row_waits i 0 h)
 
   spawn_sound : (k : ℕ) → parent_of rows v ≤ k → k < v → Crosses rows starts tails k (start_of starts (parent_of rows v) + offset_of rows v + slice_index tails v)
   spawn_sound k above below = inl (parent_of rows v, v, above, below, record { not_main = omega arith; there = there; parent = refl }, refl)
 
-  wait_sound : (b : ℕ) → IsNear rows v b → (k : ℕ) → v + 1 ≤ k → k < b → Crosses rows starts tails k (end + slice_index tails b)
-  wait_sound b near k above below = inr (inl (v, b, omega (arith, above), below, near, omega (arith, is_end)))
+  wait_sound : (a : ℕ) → IsNear rows a v → (k : ℕ) → a + 1 ≤ k → k < v → Crosses rows starts tails k (slice_index ends a + slice_index tails v)
+  wait_sound a near k above below = inr (inl (a, v, omega (arith, above), below, near, omega (arith, ended a (omega (arith, near.near.before, there)))))
 
   sound : (r : Stretch) → Contains new r → (k : ℕ) → r.low ≤ k → k < r.high → Crosses rows starts tails k r.value
   sound r m = elim (p.only r m) [
@@ -92,7 +71,7 @@ module _ (rows : List Row) (hr : IsRows rows) (starts tails : List ℕ) (v : ℕ
       | inl first ↦ before.sound r first
       | inr e ↦ (let same : r ≡ spawn_stretch rows starts tails (parent_of rows v) v = sym e ∙ is_spawn in rw same spawn_sound)
     ]
-    | inr (i, b, h, q, e) ↦ rw e (wait_sound b (near_of i b h q))
+    | inr (i, h, e) ↦ rw e (wait_sound (slice_index row_waits i) (near_of i h))
   ]
 
   inside : (r : Stretch) → Contains new r → r.high ≤ length rows
@@ -101,10 +80,10 @@ module _ (rows : List Row) (hr : IsRows rows) (starts tails : List ℕ) (v : ℕ
       | inl first ↦ before.inside r first
       | inr e ↦ (let same : r ≡ spawn_stretch rows starts tails (parent_of rows v) v = sym e ∙ is_spawn in rw same (omega (arith, there)))
     ]
-    | inr (i, b, h, q, e) ↦ rw e (let near = near_of i b h q in omega (arith, near.there))
+    | inr (i, h, e) ↦ rw e (omega (arith, there))
   ]
 
-  spawns : (a b : ℕ) → IsChild rows a b → v ≤ b → Contains new (spawn_stretch rows starts tails a b)
+  spawns : (a b : ℕ) → IsChild rows a b → b < v + 1 → Contains new (spawn_stretch rows starts tails a b)
   spawns a b child h = elim (cases_eq b v) [
     | inl q ↦ (
         let is_a : parent_of rows v ≡ a = ap (parent_of rows) (sym q) ∙ child.parent in
@@ -115,21 +94,22 @@ module _ (rows : List Row) (hr : IsRows rows) (starts tails : List ℕ) (v : ℕ
         (Contains-append_left old (spawn ∷ []) (spawn_stretch rows starts tails a b) (before.spawns a b child (omega arith)))
   ]
 
-  wait_here : (b : ℕ) → IsNear rows v b → Contains new (wait_stretch (end_of rows starts v) v tails b)
-  wait_here b near =
-      let m = near.left in
-      let at : slice_index (cowns_of rows v) m.0 ≡ near.cown = get_or_default (cowns_of rows v) m.0 0 near.cown m.1 ∙ m.2 in
-      let q : slice_index_or next near.cown None ≡ Some b = next_near rows v there (hr.cowns_below v there) next has b near (small_cown near.cown m) in
-      rw is_end at (p.more m.0 b m.1 (rw at q))
+  wait_here : (a : ℕ) → IsNear rows a v → Contains new (wait_stretch (end_of rows starts a) a (slice_index tails v) v)
+  wait_here a near =
+      let m = has_waits.complete a near in
+      let at : slice_index row_waits m.0 ≡ a = get_or_default row_waits m.0 0 a m.1 ∙ m.2 in
+      let found : Contains new (wait_stretch (slice_index ends a) a (slice_index tails v) v) =
+      subst (λ (x : ℕ). Contains new (wait_stretch (slice_index ends x) x (slice_index tails v) v)) at (p.more m.0 m.1) in
+      subst (λ (x : ℕ). Contains new (wait_stretch x a (slice_index tails v) v)) (ended a (omega (arith, near.near.before, there))) found
 
-  waits : (a b : ℕ) → v ≤ a → IsNear rows a b → Contains new (wait_stretch (end_of rows starts a) a tails b)
-  waits a b h near = elim (cases_eq a v) [
-    | inl q ↦ rw q (wait_here b (subst (λ (x : ℕ). IsNear rows x b) q near))
-    | inr nq ↦ p.kept (wait_stretch (end_of rows starts a) a tails b)
-        (Contains-append_left old (spawn ∷ []) (wait_stretch (end_of rows starts a) a tails b) (before.waits a b (omega arith) near))
+  waits : (a b : ℕ) → b < v + 1 → IsNear rows a b → Contains new (wait_stretch (end_of rows starts a) a (slice_index tails b) b)
+  waits a b h near = elim (cases_eq b v) [
+    | inl q ↦ rw q (wait_here a (subst (λ (x : ℕ). IsNear rows a x) q near))
+    | inr nq ↦ p.kept (wait_stretch (end_of rows starts a) a (slice_index tails b) b)
+        (Contains-append_left old (spawn ∷ []) (wait_stretch (end_of rows starts a) a (slice_index tails b) b) (before.waits a b (omega arith) near))
   ]
 
-  pub crossing_more : AreCrossing rows starts tails v new
+  pub crossing_more : AreCrossing rows starts tails (v + 1) new
   crossing_more = record { inside = inside; sound = sound; spawns = spawns; waits = waits }
 
 -- the latest end, with one row more
@@ -153,7 +133,7 @@ latest_more rows starts n latest now is l = record {
 -- the span of one row
 module _ (rows : List Row) (hr : IsRows rows) (starts ends : List ℕ) (after : List (Option ℕ)) (placed : ArePlaced rows starts ends after (length rows))
     (from_starts from_ends : List ℕ) (tails : HasTails rows from_starts from_ends) (lasts : List ℕ) (lasts_are : HasLasts rows lasts)
-    (stretches : List Stretch) (crossing : AreCrossing rows starts from_starts 0 stretches) (tops : List ℕ) (tops_are : AreTops stretches (length rows) tops) where
+    (stretches : List Stretch) (crossing : AreCrossing rows starts from_starts (length rows) stretches) (tops : List ℕ) (tops_are : AreTops stretches (length rows) tops) where
   -- the ways from an end are no heavier than those from its start
   pub ends_low : (r : ℕ) → r < length rows → slice_index from_ends r ≤ MOST_ROWS * MOST_TICKS
   ends_low r h = omega (arith, tails.tails.keeps (stop r) (start r) (ticks_of rows r) (h, refl, refl), tails.low r h)
@@ -162,9 +142,9 @@ module _ (rows : List Row) (hr : IsRows rows) (starts ends : List ℕ) (after : 
       (is_own : own ≡ slice_index starts v + max 1 (slice_index lasts v) + slice_index from_ends v) (is : most ≡ max (max own (slice_index tops v)) latest) where
     cross : (w : ℕ) → Crosses rows starts from_starts v w → w ≤ most
     cross w (inl (a, b, low, high, child, e)) =
-        omega (arith, e, is, tops_are.above (spawn_stretch rows starts from_starts a b) (crossing.spawns a b child (omega arith)) v low high)
+        omega (arith, e, is, tops_are.above (spawn_stretch rows starts from_starts a b) (crossing.spawns a b child child.there) v low high)
     cross w (inr (inl (a, b, low, high, near, e))) =
-        omega (arith, e, is, tops_are.above (wait_stretch (end_of rows starts a) a from_starts b) (crossing.waits a b (omega arith) near) v (omega (arith, low)) high)
+        omega (arith, e, is, tops_are.above (wait_stretch (end_of rows starts a) a (slice_index from_starts b) b) (crossing.waits a b near.there near) v (omega (arith, low)) high)
     cross w (inr (inr (a, low, e))) = omega (arith, e, is, is_latest.above a low)
 
     by_top : own < slice_index tops v → most ≡ slice_index tops v → Crosses rows starts from_starts v most

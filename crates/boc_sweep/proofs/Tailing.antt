@@ -1,26 +1,33 @@
 -- One row more gets its tails.
-use Rattle.std.proofs.Common.{◌≡◌, ◌≢◌, ℕ, suc, ◌+◌, ◌-◌, ◌*◌, ◌<◌, ◌≤◌, ◌⊎◌, max, List, length, replicate, Option, Some, None, inl, inr, refl, ap, sym, ◌∙◌, subst, arith}
-use Rattle.std.specs.Prelude.{slice_index, slice_index_or, slice_set, MatchOption}
-use Rattle.std.specs.List.{Contains, All}
+use Rattle.std.proofs.Common.{◌≡◌, ◌≢◌, ℕ, suc, ◌+◌, ◌-◌, ◌*◌, ◌<◌, ◌≤◌, ◌⊎◌, max, List, length, inl, inr, refl, ap, sym, ◌∙◌, subst, arith}
+use Rattle.std.specs.Prelude.{slice_index, slice_set}
+use Rattle.std.specs.List.{Contains}
 use Rattle.std.proofs.lemmas.Bool.{cases_lt, cases_eq}
-use Rattle.std.proofs.lemmas.List.{length-set, get_or-set_same, get_or-set_other, length-replicate, get_or-replicate, get_or_default}
-use Rattle.std.proofs.lemmas.List.Elements.{Contains-get_or}
-use Rattle.boc_types.specs.declared.limits.TheConstants.{MOST_COWNS, MOST_TICKS}
+use Rattle.std.proofs.lemmas.List.{length-set, get_or-set_same, get_or-set_other}
+use Rattle.boc_types.specs.declared.limits.TheConstants.{MOST_TICKS}
 use Rattle.boc_types.specs.declared.rows.Row.{Row}
-use Rattle.boc_types.specs.runs.Rows.{IsRows, parent_of, offset_of, ticks_of, cowns_of}
+use Rattle.boc_types.specs.runs.Rows.{IsRows, parent_of, offset_of, ticks_of}
 use Rattle.boc_types.specs.plans.Plans.{IsChild}
-use Rattle.boc_sweep.specs.Links.{Node, start, stop, finish, IsNode, Links, IsNear}
+use Rattle.boc_order.specs.Waits.{IsNear, HasWaits}
+use Rattle.boc_order.proofs.Near.{has}
+use Rattle.boc_sweep.specs.Links.{Node, start, stop, finish, IsNode, Links}
 use Rattle.boc_sweep.specs.Cuts.{HasTails, tail_of}
-use Rattle.boc_sweep.specs.Tails.{IsFirst, NoneFrom, HasNext, IsNextTail, StartTight, TailsFrom}
+use Rattle.boc_sweep.specs.Tails.{StartTight, TailsFrom}
 
-module _ (rows : List Row) (hr : IsRows rows) (s e s' e' : ℕ → ℕ) (v : ℕ) (there : v < length rows) (from : TailsFrom rows s e (suc v)) (most : ℕ)
-    (none_above : (b : ℕ) → IsNear rows v b → s b ≤ most)
-    (reached : (most ≡ 0) ⊎ ((b : ℕ) × IsNear rows v b × (s b ≡ most)))
-    (end_here : e' v ≡ most)
-    (end_other : (r : ℕ) → r ≢ v → e' r ≡ e r)
-    (start_here : s' v ≡ max (s v) (ticks_of rows v + most))
+-- row v passes its tail on to its parent and to the rows that it waits for
+module _ (rows : List Row) (hr : IsRows rows) (s e s' e' : ℕ → ℕ) (v : ℕ) (there : v < length rows) (from : TailsFrom rows s e (suc v))
+    (near_or : (a : ℕ) → IsNear rows a v ⊎ (IsNear rows a v → ⊥))
+    (end_near : (a : ℕ) → IsNear rows a v → e' a ≡ max (e a) (s' v))
+    (end_other : (a : ℕ) → (IsNear rows a v → ⊥) → e' a ≡ e a)
+    (start_here : s' v ≡ max (s v) (ticks_of rows v + e v))
     (start_parent : 0 < v → s' (parent_of rows v) ≡ max (s (parent_of rows v)) (offset_of rows v + s' v))
     (start_other : (r : ℕ) → r ≢ v → (0 < v → r ≢ parent_of rows v) → s' r ≡ s r) where
+  stays : (r : ℕ) → v ≤ r → e' r ≡ e r
+  stays r h = end_other r (λ near. omega (arith, near.near.before, h))
+
+  end_grows : (r : ℕ) → e r ≤ e' r
+  end_grows r = elim (near_or r) [ inl near ↦ omega (arith, end_near r near) | inr isnt ↦ omega (arith, end_other r isnt) ]
+
   later : (r : ℕ) → v < r → s' r ≡ s r
   later r h = start_other r (λ e. omega (arith, e, h)) (λ above e. omega (arith, e, h, hr.parent_before v above there))
 
@@ -54,31 +61,31 @@ module _ (rows : List Row) (hr : IsRows rows) (s e s' e' : ℕ → ℕ) (v : ℕ
 
   own : (r : ℕ) → v ≤ r → r < length rows → ticks_of rows r + e' r ≤ s' r
   own r h below = elim (cases_eq r v) [
-    | inl q ↦ rw q (omega (arith, start_here, end_here))
-    | inr nq ↦ omega (arith, from.own r (omega arith) below, later r (omega arith), end_other r nq)
+    | inl q ↦ rw q (omega (arith, start_here, stays v (omega arith)))
+    | inr nq ↦ omega (arith, from.own r (omega arith) below, later r (omega arith), stays r h)
   ]
 
-  waits : (a b : ℕ) → v ≤ a → IsNear rows a b → s' b ≤ e' a
-  waits a b h near = elim (cases_eq a v) [
-    | inl q ↦ omega (arith, none_above b (subst (λ (x : ℕ). IsNear rows x b) q near), later b (omega (arith, near.before)), end_here, ap e' q)
-    | inr nq ↦ omega (arith, from.waits a b (omega arith) near, later b (omega (arith, near.before)), end_other a nq)
+  waits : (a b : ℕ) → v ≤ b → IsNear rows a b → s' b ≤ e' a
+  waits a b h near = elim (cases_eq b v) [
+    | inl q ↦ (let here : e' a ≡ max (e a) (s' v) = end_near a (subst (λ (x : ℕ). IsNear rows a x) q near) in rw q (omega (arith, here)))
+    | inr nq ↦ omega (arith, from.waits a b (omega arith) near, later b (omega arith), end_grows a)
   ]
 
   -- a row whose tails stay
   tight_same : (r : ℕ) → r ≢ v → s' r ≡ s r → StartTight rows s e (suc v) r → StartTight rows s' e' v r
   tight_same r nv same (inl (h, z)) = inl (omega (arith, h, nv), same ∙ z)
-  tight_same r nv same (inr (inl (h, q))) = inr (inl (omega (arith, h), omega (arith, q, same, end_other r nv)))
+  tight_same r nv same (inr (inl (h, q))) = inr (inl (omega (arith, h), omega (arith, q, same, stays r (omega (arith, h)))))
   tight_same r nv same (inr (inr (b, h, child, q))) = inr (inr (b, omega (arith, h), child, omega (arith, q, same, later b (omega (arith, h)))))
 
-  tight_here : ticks_of rows v + most < s v → StartTight rows s e (suc v) v → StartTight rows s' e' v v
+  tight_here : ticks_of rows v + e v < s v → StartTight rows s e (suc v) v → StartTight rows s' e' v v
   tight_here l (inl (h, z)) = absurd (omega (arith, z, l))
   tight_here l (inr (inl (h, q))) = absurd (omega (arith, h))
   tight_here l (inr (inr (b, h, child, q))) = inr (inr (b, omega (arith, h), child, omega (arith, q, l, start_here, later b (omega (arith, h)))))
 
   tight_v : StartTight rows s' e' v v
-  tight_v = elim (cases_lt (ticks_of rows v + most) (s v)) [
+  tight_v = elim (cases_lt (ticks_of rows v + e v) (s v)) [
     | inl l ↦ tight_here l (from.tight_start v there)
-    | inr g ↦ inr (inl (omega arith, omega (arith, start_here, end_here, g)))
+    | inr g ↦ inr (inl (omega arith, omega (arith, start_here, stays v (omega arith), g)))
   ]
 
   tight_p : (r : ℕ) → r < length rows → r ≢ v → 0 < v → r ≡ parent_of rows v → StartTight rows s' e' v r
@@ -98,26 +105,30 @@ module _ (rows : List Row) (hr : IsRows rows) (s e s' e' : ℕ → ℕ) (v : ℕ
     ]
   ]
 
-  tight_end : (r : ℕ) → v ≤ r → r < length rows → (e' r ≡ 0) ⊎ ((b : ℕ) × IsNear rows r b × (s' b ≡ e' r))
-  tight_end r h below = elim (cases_eq r v) [
-    | inl q ↦ rw q (elim reached [
-      | inl z ↦ inl (end_here ∙ z)
-      | inr (b, near, w) ↦ inr (b, near, omega (arith, later b (omega (arith, near.before)), w, end_here))
-    ])
-    | inr nq ↦ elim (from.tight_end r (omega arith) below) [
-      | inl z ↦ inl (end_other r nq ∙ z)
-      | inr (b, near, w) ↦ inr (b, near, omega (arith, later b (omega (arith, near.before, h)), w, end_other r nq))
+  -- an end whose tail stays
+  end_same : (r : ℕ) → r < length rows → e' r ≡ e r → (e' r ≡ 0) ⊎ ((b : ℕ) × (v ≤ b) × IsNear rows r b × (s' b ≡ e' r))
+  end_same r below same = elim (from.tight_end r below) [
+    | inl z ↦ inl (same ∙ z)
+    | inr (b, h, near, w) ↦ inr (b, omega (arith, h), near, omega (arith, later b (omega (arith, h)), w, same))
+  ]
+
+  tight_end : (r : ℕ) → r < length rows → (e' r ≡ 0) ⊎ ((b : ℕ) × (v ≤ b) × IsNear rows r b × (s' b ≡ e' r))
+  tight_end r below = elim (near_or r) [
+    | inr isnt ↦ end_same r below (end_other r isnt)
+    | inl near ↦ elim (cases_lt (e r) (s' v)) [
+      | inl l ↦ inr (v, omega arith, near, omega (arith, end_near r near, l))
+      | inr g ↦ end_same r below (omega (arith, end_near r near, g))
     ]
   ]
 
-  most_low : most + (v + 1) * MOST_TICKS ≤ length rows * MOST_TICKS
-  most_low = elim reached [
+  end_low : e v + (v + 1) * MOST_TICKS ≤ length rows * MOST_TICKS
+  end_low = elim (from.tight_end v there) [
     | inl z ↦ omega (arith, z, there)
-    | inr (b, near, w) ↦ omega (arith, w, near.before, from.low b near.there)
+    | inr (b, h, near, w) ↦ omega (arith, w, h, from.low b near.there)
   ]
 
   here_low : s' v + v * MOST_TICKS ≤ length rows * MOST_TICKS
-  here_low = omega (arith, start_here, from.low v there, most_low, hr.ticks_high v there)
+  here_low = omega (arith, start_here, from.low v there, end_low, hr.ticks_high v there)
 
   low : (r : ℕ) → r < length rows → s' r + r * MOST_TICKS ≤ length rows * MOST_TICKS
   low r below = elim (cases_eq r v) [
@@ -142,13 +153,13 @@ module _ (rows : List Row) (hr : IsRows rows) (s e s' e' : ℕ → ℕ) (v : ℕ
   tails_more = record { spawned = spawned; own = own; waits = waits; tight_start = tight_start; tight_end = tight_end; low = low }
 
 -- before the last row
-pub tails_none : (rows : List Row) (s e : ℕ → ℕ) (n : ℕ) → n ≡ length rows → ((r : ℕ) → r < length rows → s r ≡ 0) → TailsFrom rows s e n
-tails_none rows s e n whole zeros = record {
+pub tails_none : (rows : List Row) (s e : ℕ → ℕ) (n : ℕ) → n ≡ length rows → ((r : ℕ) → r < length rows → s r ≡ 0) → ((r : ℕ) → r < length rows → e r ≡ 0) → TailsFrom rows s e n
+tails_none rows s e n whole zeros zero_ends = record {
   spawned = λ a b child h. absurd (omega (arith, child.there, h, whole));
   own = λ r h below. absurd (omega (arith, below, h, whole));
-  waits = λ a b h near. absurd (omega (arith, near.before, near.there, h, whole));
+  waits = λ a b h near. absurd (omega (arith, near.there, h, whole));
   tight_start = λ r below. inl (omega (arith, below, whole), zeros r below);
-  tight_end = λ r h below. absurd (omega (arith, below, h, whole));
+  tight_end = λ r below. inl (zero_ends r below);
   low = λ r below. omega (arith, zeros r below, below);
 }
 
@@ -172,102 +183,35 @@ module _ (rows : List Row) (hr : IsRows rows) (s e : List ℕ) (from : TailsFrom
   tight : (y : Node) → IsNode (length rows) y →
       (y ≡ finish) ⊎ ((x : Node) × (w : ℕ) × IsNode (length rows) x × Links rows (IsNear rows) y x w × (tail_of s e x + w ≡ tail_of s e y))
   tight (start a) there = inr (tight_by a there (from.tight_start a there))
-  tight (stop a) there = elim (from.tight_end a (omega arith) there) [
+  tight (stop a) there = elim (from.tight_end a there) [
     | inl z ↦ inr (finish, 0, tt, (there, refl), omega (arith, z))
-    | inr (b, near, q) ↦ inr (start b, 0, near.there, (near, refl), omega (arith, q))
+    | inr (b, h, near, q) ↦ inr (start b, 0, near.there, (near, refl), omega (arith, q))
   ]
   tight finish there = inl refl
 
   pub tails_all : length s ≡ length rows → length e ≡ length rows → HasTails rows s e
   tails_all p q = record { starts_len = p; ends_len = q; tails = record { at_source = refl; keeps = keeps; tight = tight }; low = λ r h. omega (arith, from.low r h, hr.not_many) }
 
--- the next rows, once row v is one of them
-module _ (rows : List Row) (v : ℕ) (there : v < length rows) (next next' : List (Option ℕ)) (has : HasNext rows next (suc v))
-    (len : length next' ≡ MOST_COWNS)
-    (here : (c : ℕ) → Contains (cowns_of rows v) c → slice_index_or next' c None ≡ Some v)
-    (other : (c : ℕ) → (Contains (cowns_of rows v) c → ⊥) → slice_index_or next' c None ≡ slice_index_or next c None) where
-  first_more : (c : ℕ) → (Contains (cowns_of rows v) c → ⊥) → (o : Option ℕ) → MatchOption o (NoneFrom rows (suc v) c) (IsFirst rows (suc v) c) →
-      MatchOption o (NoneFrom rows v c) (IsFirst rows v c)
-  first_more c out None m = λ b low below needs. elim (cases_eq b v) [
-    | inl q ↦ out (subst (λ (x : ℕ). Contains (cowns_of rows x) c) q needs)
-    | inr nq ↦ m b (omega arith) below needs
-  ]
-  first_more c out (Some b) m = record {
-    low = omega (arith, m.low);
-    there = m.there;
-    needs = m.needs;
-    none_before = λ j low below needs. elim (cases_eq j v) [
-      | inl q ↦ out (subst (λ (x : ℕ). Contains (cowns_of rows x) c) q needs)
-      | inr nq ↦ m.none_before j (omega arith) below needs
-    ];
-  }
-
-  pub next_more : ((c : ℕ) → Contains (cowns_of rows v) c ⊎ (Contains (cowns_of rows v) c → ⊥)) → HasNext rows next' v
-  next_more or = record {
-    there = len;
-    at = λ c h. elim (or c) [
-      | inl m ↦ rw (here c m) (record { low = omega arith; there = there; needs = m; none_before = λ j low below needs. omega (arith, low, below) })
-      | inr out ↦ rw (other c out) (first_more c out (slice_index_or next c None) (has.at c h))
-    ];
-  }
-
--- the greatest tail of a next row, over the waits
-module _ (rows : List Row) (v : ℕ) (there : v < length rows) (small : All (λ c. c < MOST_COWNS) (cowns_of rows v)) (next : List (Option ℕ)) (has : HasNext rows next (suc v)) where
-  pub near_next : (c b : ℕ) → c < MOST_COWNS → Contains (cowns_of rows v) c → slice_index_or next c None ≡ Some b → IsNear rows v b
-  near_next c b h m q =
-      let f : IsFirst rows (suc v) c b = rw q at (has.at c h) in
-      record { before = f.low; there = f.there; cown = c; left = m; needs = f.needs; none_between = λ k above below needs. f.none_before k above below needs }
-
-  next_near_by : (c b : ℕ) → (o : Option ℕ) → MatchOption o (NoneFrom rows (suc v) c) (IsFirst rows (suc v) c) → v < b → b < length rows → Contains (cowns_of rows b) c →
-      ((k : ℕ) → v < k → k < b → Contains (cowns_of rows k) c → ⊥) → o ≡ Some b
-  next_near_by c b None m above below needs none = absurd (m b above below needs)
-  next_near_by c b (Some x) m above below needs none = elim (cases_lt x b) [
-    | inl l ↦ absurd (none x m.low l m.needs)
-    | inr g ↦ elim (cases_eq x b) [
-      | inl q ↦ ap Some q
-      | inr nq ↦ absurd (m.none_before b above (omega arith) needs)
-    ]
-  ]
-
-  pub next_near : (b : ℕ) → (n : IsNear rows v b) → n.cown < MOST_COWNS → slice_index_or next n.cown None ≡ Some b
-  next_near b n h = next_near_by n.cown b (slice_index_or next n.cown None) (has.at n.cown h) n.before n.there n.needs n.none_between
-
--- the next rows' greatest tail, over the waits of a row
-module _ (rows : List Row) (hr : IsRows rows) (v : ℕ) (there : v < length rows) (next : List (Option ℕ)) (has : HasNext rows next (suc v))
-    (s : List ℕ) (most : ℕ) (is : IsNextTail (cowns_of rows v) next s most) where
-  small_cown : (c : ℕ) → Contains (cowns_of rows v) c → c < MOST_COWNS
-  small_cown c m = subst (λ (x : ℕ). x < MOST_COWNS) m.2 (hr.cowns_below v there m.0 c m.1)
-
-  next_above : (b : ℕ) → IsNear rows v b → slice_index s b ≤ most
-  next_above b near =
-      let m = near.left in
-      let at : slice_index (cowns_of rows v) m.0 ≡ near.cown = get_or_default (cowns_of rows v) m.0 0 near.cown m.1 ∙ m.2 in
-      let q : slice_index_or next near.cown None ≡ Some b = next_near rows v there (hr.cowns_below v there) next has b near (small_cown near.cown m) in
-      is.none_above m.0 b m.1 (rw at q)
-
-  next_reached : (most ≡ 0) ⊎ ((b : ℕ) × IsNear rows v b × (slice_index s b ≡ most))
-  next_reached = elim is.reached [
-    | inl z ↦ inl z
-    | inr (i, b, below, q, w) ↦ (
-        let m : Contains (cowns_of rows v) (slice_index (cowns_of rows v) i) = Contains-get_or (cowns_of rows v) i 0 below in
-        inr (b, near_next rows v there (hr.cowns_below v there) next has (slice_index (cowns_of rows v) i) b (small_cown _ m) m q, w))
-  ]
-
 -- the loop's step
-pub tails_step : (rows : List Row) → IsRows rows → (v : ℕ) → v < length rows → (next : List (Option ℕ)) → HasNext rows next (suc v) →
-    (s e : List ℕ) → length s ≡ length rows → length e ≡ length rows → TailsFrom rows (slice_index s) (slice_index e) (suc v) →
-    (most : ℕ) → IsNextTail (cowns_of rows v) next s most → (tail up : ℕ) → tail ≡ max (most + ticks_of rows v) (slice_index s v) →
+pub tails_step : (rows : List Row) → IsRows rows → (v : ℕ) → v < length rows → (waits : List ℕ) → HasWaits rows v waits →
+    (s e e' : List ℕ) → length s ≡ length rows → TailsFrom rows (slice_index s) (slice_index e) (suc v) →
+    (tail up : ℕ) → tail ≡ max (slice_index e v + ticks_of rows v) (slice_index s v) →
     up ≡ max (tail + offset_of rows v) (slice_index (slice_set s v tail) (parent_of rows v)) →
-    TailsFrom rows (slice_index (slice_set (slice_set s v tail) (parent_of rows v) up)) (slice_index (slice_set e v most)) v
-tails_step rows hr v there next has s e ls le from most is tail up is_tail is_up =
-    tails_more rows hr (slice_index s) (slice_index e) (slice_index (slice_set (slice_set s v tail) (parent_of rows v) up)) (slice_index (slice_set e v most)) v there from most
-    (next_above rows hr v there next has s most is) (next_reached rows hr v there next has s most is)
-    (get_or-set_same e v most 0 (omega (arith, le, there)))
-    (λ r ne. get_or-set_other e v r most 0 ne)
-    (here ∙ is_tail ∙ (let flip : max (most + ticks_of rows v) (slice_index s v) ≡ max (slice_index s v) (ticks_of rows v + most) = omega arith in flip))
+    ((a : ℕ) → Contains waits a → slice_index e' a ≡ max (slice_index e a) tail) →
+    ((a : ℕ) → (Contains waits a → ⊥) → slice_index e' a ≡ slice_index e a) →
+    TailsFrom rows (slice_index (slice_set (slice_set s v tail) (parent_of rows v) up)) (slice_index e') v
+tails_step rows hr v there waits has_waits s e e' ls from tail up is_tail is_up end_here end_other =
+    tails_more rows hr (slice_index s) (slice_index e) (slice_index (slice_set (slice_set s v tail) (parent_of rows v) up)) (slice_index e') v there from
+    near_or
+    (λ a near. end_here a (has_waits.complete a near) ∙ ap (max (slice_index e a)) (sym here))
+    (λ a isnt. end_other a (λ k. isnt (has_waits.sound a k)))
+    (here ∙ is_tail ∙ (let flip : max (slice_index e v + ticks_of rows v) (slice_index s v) ≡ max (slice_index s v) (ticks_of rows v + slice_index e v) = omega arith in flip))
     parent
     other
   where
+    near_or : (a : ℕ) → IsNear rows a v ⊎ (IsNear rows a v → ⊥)
+    near_or a = elim (has waits a) [ inl k ↦ inl (has_waits.sound a k) | inr isnt ↦ inr (λ near. isnt (has_waits.complete a near)) ]
+
     at_v : slice_index (slice_set s v tail) v ≡ tail
     at_v = get_or-set_same s v tail 0 (omega (arith, ls, there))
 
@@ -308,60 +252,14 @@ tails_step rows hr v there next has s e ls le from most is tail up is_tail is_up
     ]
 
 -- no number is too great
-pub tail_small : (rows : List Row) → IsRows rows → (v : ℕ) → v < length rows → (next : List (Option ℕ)) → HasNext rows next (suc v) →
-    (s e : List ℕ) → TailsFrom rows (slice_index s) (slice_index e) (suc v) → (most : ℕ) → IsNextTail (cowns_of rows v) next s most →
-    most + (v + 1) * MOST_TICKS ≤ length rows * MOST_TICKS
-tail_small rows hr v there next has s e from most is = elim (next_reached rows hr v there next has s most is) [
+pub end_small : (rows : List Row) → (v : ℕ) → v < length rows → (s e : ℕ → ℕ) → TailsFrom rows s e (suc v) → e v + (v + 1) * MOST_TICKS ≤ length rows * MOST_TICKS
+end_small rows v there s e from = elim (from.tight_end v there) [
   | inl z ↦ omega (arith, z, there)
-  | inr (b, near, w) ↦ omega (arith, w, near.before, from.low b near.there)
+  | inr (b, h, near, w) ↦ omega (arith, w, h, from.low b near.there)
 ]
-
--- a next row is a row
-pub next_inside : (rows : List Row) (next : List (Option ℕ)) (k : ℕ) → HasNext rows next k → (c b : ℕ) → c < MOST_COWNS → slice_index_or next c None ≡ Some b → b < length rows
-next_inside rows next k has c b h q =
-    let f : IsFirst rows k c b = rw q at (has.at c h) in
-    f.there
-
--- before the last row none is next
-pub next_none : (rows : List Row) (n : ℕ) → n ≡ length rows → HasNext rows (replicate MOST_COWNS None) n
-next_none rows n whole = record {
-  there = length-replicate {A = Option ℕ} MOST_COWNS None;
-  at = λ c h. rw (get_or-replicate {A = Option ℕ} MOST_COWNS c None None h) (λ b low below needs. omega (arith, low, below, whole));
-}
 
 pub back : (P : ℕ → Type 0) (n : ℕ) → 0 < n → P n → P (suc (n - 1))
 back P n h p = let same : n ≡ suc (n - 1) = omega arith in subst P same p
-
--- the greatest tail among those seen so far, with one cown more
-pub seen_none : (cowns : List ℕ) (next : List (Option ℕ)) (tails : List ℕ) (k most : ℕ) → ((x : ℕ) → slice_index_or next (slice_index cowns k) None ≡ Some x → ⊥) →
-    ((i b : ℕ) → i < k → slice_index_or next (slice_index cowns i) None ≡ Some b → slice_index tails b ≤ most) →
-    (i b : ℕ) → i < k + 1 → slice_index_or next (slice_index cowns i) None ≡ Some b → slice_index tails b ≤ most
-seen_none cowns next tails k most none seen i b h q = elim (cases_eq i k) [
-  | inl e ↦ absurd (none b (rw e at q))
-  | inr ne ↦ seen i b (omega arith) q
-]
-
-pub seen_more : (cowns : List ℕ) (next : List (Option ℕ)) (tails : List ℕ) (k row most most' : ℕ) → slice_index_or next (slice_index cowns k) None ≡ Some row →
-    most' ≡ max (slice_index tails row) most →
-    ((i b : ℕ) → i < k → slice_index_or next (slice_index cowns i) None ≡ Some b → slice_index tails b ≤ most) →
-    (i b : ℕ) → i < k + 1 → slice_index_or next (slice_index cowns i) None ≡ Some b → slice_index tails b ≤ most'
-seen_more cowns next tails k row most most' some is seen i b h q = elim (cases_eq i k) [
-  | inl e ↦ (
-      let here : slice_index_or next (slice_index cowns i) None ≡ Some row = rw e some in
-      let same : row ≡ b = cc in
-      omega (arith, is, ap (slice_index tails) same))
-  | inr ne ↦ omega (arith, is, seen i b (omega arith) q)
-]
-
-pub seen_reached : (cowns : List ℕ) (next : List (Option ℕ)) (tails : List ℕ) (k row most most' : ℕ) → k < length cowns → slice_index_or next (slice_index cowns k) None ≡ Some row →
-    most' ≡ max (slice_index tails row) most →
-    (most ≡ 0) ⊎ ((i : ℕ) × (b : ℕ) × (i < length cowns) × (slice_index_or next (slice_index cowns i) None ≡ Some b) × (slice_index tails b ≡ most)) →
-    (most' ≡ 0) ⊎ ((i : ℕ) × (b : ℕ) × (i < length cowns) × (slice_index_or next (slice_index cowns i) None ≡ Some b) × (slice_index tails b ≡ most'))
-seen_reached cowns next tails k row most most' there some is r = elim (cases_lt (slice_index tails row) most) [
-  | inl l ↦ (let same : most ≡ most' = omega arith in
-      subst (λ (m : ℕ). (m ≡ 0) ⊎ ((i : ℕ) × (b : ℕ) × (i < length cowns) × (slice_index_or next (slice_index cowns i) None ≡ Some b) × (slice_index tails b ≡ m))) same r)
-  | inr g ↦ inr (k, row, there, some, omega arith)
-]
 
 -- an offset is as small as the ticks of the parent
 pub offset_small : (rows : List Row) → IsRows rows → (v : ℕ) → v < length rows → offset_of rows v ≤ MOST_TICKS

@@ -7,7 +7,8 @@ use Rattle.boc_types.specs.plans.Plans.{start_of, end_of, IsChild, IsEnd}
 use Rattle.boc_types.specs.plans.Edits.{edited}
 use Rattle.boc_order.specs.Placed.{ArePlaced}
 use Rattle.boc_sweep.specs.Ways.{AreTails, IsHeaviest}
-use Rattle.boc_sweep.specs.Links.{Node, start, stop, finish, number_of, IsNode, Links, Covers, IsNear, tick_of}
+use Rattle.boc_order.specs.Waits.{Covers, IsNear}
+use Rattle.boc_sweep.specs.Links.{Node, start, stop, finish, number_of, IsNode, Links, tick_of}
 
 -- the earliest plan, and the heaviest way from each node to the end of all
 pub record AreWays (rows : List Row) (Waits : ℕ → ℕ → Type 0) (starts ends : List ℕ) (after : List (Option ℕ)) (last : ℕ) (tail : Node → ℕ) : Type 0 where

@@ -1,9 +1,8 @@
 -- The links between the starts and the ends of rows.
-use Rattle.std.specs.Prelude.{◌≡◌, ℕ, ◌+◌, ◌*◌, ◌<◌, ◌⊎◌, List, length}
+use Rattle.std.specs.Prelude.{◌≡◌, ℕ, ◌+◌, ◌*◌, ◌<◌, List, length}
 use Rattle.boc_types.specs.declared.rows.Row.{Row}
-use Rattle.std.specs.List.{Contains}
-use Rattle.boc_types.specs.runs.Rows.{offset_of, ticks_of, cowns_of}
-use Rattle.boc_types.specs.plans.Plans.{start_of, end_of, IsChild, Ordered}
+use Rattle.boc_types.specs.runs.Rows.{offset_of, ticks_of}
+use Rattle.boc_types.specs.plans.Plans.{start_of, end_of, IsChild}
 
 -- the start of a row, its end, and the end of all
 pub data Node : Type 0 where
@@ -33,24 +32,8 @@ Links rows Waits (stop a) (stop b) w = ⊥
 Links rows Waits (stop a) finish w = (a < length rows) × (w ≡ 0)
 Links rows Waits finish y w = ⊥
 
--- These waits say as much as the order of the rows: each is one that the order asks for, and what the order asks for is one of them, or comes
--- by way of another row.
-pub record Covers (rows : List Row) (Waits : ℕ → ℕ → Type 0) : Type 0 where
-  pub there : (a b : ℕ) → Waits a b → b < length rows
-  pub sound : (a b : ℕ) → Waits a b → Ordered rows a b
-  pub complete : (a b : ℕ) → b < length rows → Ordered rows a b → Waits a b ⊎ ((c : ℕ) × Ordered rows a c × Waits c b)
-
 -- the tick at which a plan with this end comes to a node
 abbrev pub tick_of : List Row → List ℕ → ℕ → Node → ℕ
 tick_of rows plan last (start r) = start_of plan r
 tick_of rows plan last (stop r) = end_of rows plan r
 tick_of rows plan last finish = last
-
--- row b is the next after row a that needs some cown of it
-pub record IsNear (rows : List Row) (a b : ℕ) : Type 0 where
-  pub before : a < b
-  pub there : b < length rows
-  pub cown : ℕ
-  pub left : Contains (cowns_of rows a) cown
-  pub needs : Contains (cowns_of rows b) cown
-  pub none_between : (k : ℕ) → a < k → k < b → Contains (cowns_of rows k) cown → ⊥

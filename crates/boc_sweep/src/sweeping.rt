@@ -1,9 +1,10 @@
 // The spans that a run would have with one row after another at its least ticks.
 
-ghost use Rattle.std.specs.Prelude.{◌≡◌, ℕ, ◌<◌, ◌≤◌, ◌+◌, ◌*◌, List, All, Contains, length, IfOk, Some, None, slice_index, slice_index_or};
+ghost use Rattle.std.specs.Prelude.{◌≡◌, ℕ, ◌<◌, ◌≤◌, ◌+◌, ◌*◌, List, Contains, length, IfOk, slice_index};
 ghost use Rattle.boc_types.specs.runs.Rows.{IsRows};
 ghost use Rattle.boc_types.specs.plans.Edits.{IsSweep};
 ghost use Rattle.boc_order.specs.Standing.{IsPlanOf};
+ghost use Rattle.boc_order.specs.Waits.{AreWaits, HasWaits};
 ghost use Rattle.boc_sweep.specs.Cuts.{HasTails};
 ghost use Rattle.boc_sweep.specs.Tops.{AreTops};
 ghost use Rattle.boc_sweep.specs.declared.windows.Stretch.{Stretch};
@@ -11,75 +12,81 @@ ghost use Rattle.boc_sweep.specs.Crossing.{AreCrossing, ArePushed};
 ghost use Rattle.boc_sweep.specs.Lasts.{HasLasts};
 
 use crate::lasts::least_ticks;
-use crate::tails::{Next, Tails, all_tails, note_next};
+use crate::tails::{Tails, all_tails};
 use crate::windows::{Stretch, all_tops};
-use boc_order::Earliest;
-use boc_types::limits::{MOST_COWNS, MOST_ROWS, MOST_TICKS};
-use boc_types::rows::Row;
+use boc_order::{Earliest, Links};
+use boc_types::limits::{MOST_ROWS, MOST_TICKS};
+use boc_types::sharing::SeenRows;
 use std::alloc::{AllocError, Global};
 
-// The waits for a row that ends at this tick, as stretches.
+// The waits of a row with this tail, as stretches.
 fn push_waits(
-    cowns: &[u8],
-    next: &Next,
+    waits: &[u32],
     row: u32,
-    end: u64,
-    tails: &[u64],
+    tail: u64,
+    ends: &[u64],
     stretches: &mut Vec<Stretch>,
 ) -> Result<(), AllocError>
-    requires small { All (λ c. c < MOST_COWNS) cowns.now }
-    requires inside { (c b : ℕ) → c < MOST_COWNS → slice_index_or next.now c None ≡ Some b → b < length tails.now }
-    requires few { row < MOST_ROWS }
-    requires end { end ≤ MOST_ROWS * MOST_TICKS }
-    requires low { (b : ℕ) → b < length tails.now → slice_index tails.now b ≤ MOST_ROWS * MOST_TICKS }
-    ensures { IfOk result (λ _. ArePushed cowns.now next.now row end tails.now stretches.old.items (length cowns.now) stretches.new.items) }
+    requires before { (a : ℕ) → Contains waits.now a → a < row × (a < length ends.now) }
+    requires tail { tail ≤ MOST_ROWS * MOST_TICKS }
+    requires low { (a : ℕ) → a < length ends.now → slice_index ends.now a ≤ MOST_ROWS * MOST_TICKS }
+    ensures { IfOk result (λ _. ArePushed waits.now row tail ends.now stretches.old.items (length waits.now) stretches.new.items) }
 {
-    for cown in cowns {
-        if let Some(after) = next[*cown as usize] {
-            stretches.push(Stretch {
-                low: row + 1,
-                high: after,
-                value: end + tails[after as usize],
-            })?;
-        }
+    for before in waits {
+        stretches.push(Stretch {
+            low: *before + 1,
+            high: row,
+            value: ends[*before as usize] + tail,
+        })?;
     }
+    Ok(())
+}
+
+// The links to a row, as stretches of the rows over whose cuts they lead.
+fn push_links(
+    rows: &SeenRows,
+    row: usize,
+    waits: &[u32],
+    plan: &Earliest,
+    tails: &Tails,
+    stretches: &mut Vec<Stretch>,
+) -> Result<(), AllocError>
+    requires shape { IsRows rows.now }
+    requires there { row < length rows.now }
+    requires waits { HasWaits rows.now row waits.now }
+    requires placed { IsPlanOf rows.now plan.now }
+    requires tails { HasTails rows.now tails.now.starts.items tails.now.ends.items }
+    requires crossing { AreCrossing rows.now plan.now.starts.items tails.now.starts.items row stretches.old.items }
+    ensures { IfOk result (λ _. AreCrossing rows.now plan.now.starts.items tails.now.starts.items (row + 1) stretches.new.items) }
+{
+    let parent = rows.parent(row);
+    let tail = tails.starts[row];
+    stretches.push(Stretch {
+        low: parent,
+        high: row as u32,
+        value: plan.starts[parent as usize] + u64::from(rows.offset(row)) + tail,
+    })?;
+    push_waits(waits, row as u32, tail, &plan.ends, stretches)?;
     Ok(())
 }
 
 // The links that lead over the cuts of rows, as stretches of those rows.
 fn all_stretches(
     alloc: Global,
-    rows: &[Row],
+    rows: &SeenRows,
+    waits: &Links,
     plan: &Earliest,
     tails: &Tails,
 ) -> Result<Vec<Stretch>, AllocError>
     requires shape { IsRows rows.now }
+    requires waits { AreWaits rows.now waits.now }
     requires placed { IsPlanOf rows.now plan.now }
     requires tails { HasTails rows.now tails.now.starts.items tails.now.ends.items }
-    ensures { IfOk result (λ s. AreCrossing rows.now plan.now.starts.items tails.now.starts.items 0 s.items) }
+    ensures { IfOk result (λ s. AreCrossing rows.now plan.now.starts.items tails.now.starts.items (length rows.now) s.items) }
 {
     let mut stretches = Vec::new(alloc);
-    let mut next: Next = [None; MOST_COWNS];
-    let mut row = rows.len();
-    while row > 0 {
-        row -= 1;
-        let this = &rows[row];
-        let cowns = this.cowns.as_slice();
-        let spawn = Stretch {
-            low: this.parent,
-            high: row as u32,
-            value: plan.starts[this.parent as usize] + u64::from(this.offset) + tails.starts[row],
-        };
-        stretches.push(spawn)?;
-        push_waits(
-            cowns,
-            &next,
-            row as u32,
-            plan.ends[row],
-            &tails.starts,
-            &mut stretches,
-        )?;
-        note_next(cowns, &mut next, row as u32);
+    for row in 0..rows.len() {
+        push_links(rows, row, waits.of(row), plan, tails, &mut stretches)?;
     }
     Ok(stretches)
 }
@@ -87,7 +94,7 @@ fn all_stretches(
 // The spans, one row after another.
 fn spans(
     alloc: Global,
-    rows: &[Row],
+    rows: &SeenRows,
     plan: &Earliest,
     tails: &Tails,
     lasts: &[u32],
@@ -97,7 +104,7 @@ fn spans(
     requires placed { IsPlanOf rows.now plan.now }
     requires tails { HasTails rows.now tails.now.starts.items tails.now.ends.items }
     requires lasts { HasLasts rows.now lasts.now }
-    requires tops { (stretches : List Stretch) × AreCrossing rows.now plan.now.starts.items tails.now.starts.items 0 stretches × AreTops stretches (length rows.now) tops.now }
+    requires tops { (stretches : List Stretch) × AreCrossing rows.now plan.now.starts.items tails.now.starts.items (length rows.now) stretches × AreTops stretches (length rows.now) tops.now }
     ensures { IfOk result (λ s. IsSweep rows.now s.items) }
 {
     let mut spans = Vec::with_capacity(alloc, rows.len())?;
@@ -116,17 +123,19 @@ fn spans(
 /// It takes memory that grows with the number of rows and their cowns, and that much time with its logarithm beside.
 pub fn sweep(
     alloc: Global,
-    rows: &[Row],
+    rows: &SeenRows,
+    waits: &Links,
     plan: &Earliest,
     lasts: &[u32],
 ) -> Result<Vec<u64>, AllocError>
     requires shape { IsRows rows.now }
+    requires waits { AreWaits rows.now waits.now }
     requires placed { IsPlanOf rows.now plan.now }
     requires lasts { HasLasts rows.now lasts.now }
     ensures { IfOk result (λ spans. IsSweep rows.now spans.items) }
 {
-    let tails = all_tails(alloc, rows)?;
-    let stretches = all_stretches(alloc, rows, plan, &tails)?;
+    let tails = all_tails(alloc, rows, waits)?;
+    let stretches = all_stretches(alloc, rows, waits, plan, &tails)?;
     let tops = all_tops(alloc, &stretches, rows.len())?;
     spans(alloc, rows, plan, &tails, lasts, &tops)
 }

@@ -1,12 +1,13 @@
 // The heaviest ways from the starts and the ends of rows to the end of all.
 
-ghost use Rattle.std.specs.Prelude.{◌≡◌, ℕ, ◌<◌, ◌≤◌, ◌^◌, ◌+◌, All, Contains, length, IfOk, Option, Some, None, slice_index_or};
+ghost use Rattle.std.specs.Prelude.{◌≡◌, ℕ, ◌<◌, ◌≤◌, ◌+◌, max, Contains, length, IfOk, slice_index};
 ghost use Rattle.boc_types.specs.runs.Rows.{IsRows};
+ghost use Rattle.boc_order.specs.Waits.{AreWaits, HasWaits};
 ghost use Rattle.boc_sweep.specs.Cuts.{HasTails};
-ghost use Rattle.boc_sweep.specs.Tails.{IsNextTail};
+ghost use Rattle.boc_sweep.specs.Tails.{TailsFrom};
 
-use boc_types::limits::MOST_COWNS;
-use boc_types::rows::Row;
+use boc_order::Links;
+use boc_types::sharing::SeenRows;
 use std::alloc::{AllocError, Global};
 
 /// The heaviest ways to the end of all.
@@ -18,56 +19,49 @@ pub struct Tails {
     pub ends: Vec<u64>,
 }
 
-/// For each cown the next row that needs it.
-pub type Next = [Option<u32>; MOST_COWNS];
-
-// The greatest tail of the rows that need one of the cowns next.
-fn next_tail(cowns: &[u8], next: &Next, starts: &[u64]) -> u64
-    requires small { All (λ c. c < MOST_COWNS) cowns.now }
-    requires inside { (c b : ℕ) → c < MOST_COWNS → slice_index_or next.now c None ≡ Some b → b < length starts.now }
-    ensures { IsNextTail cowns.now next.now starts.now result }
+// The ends of these rows have a way on of this weight.
+fn raise_ends(rows: &[u32], tail: u64, ends: &mut [u64])
+    requires { (a : ℕ) → Contains rows.now a → a < length ends.old }
+    ensures len { length ends.new ≡ length ends.old }
+    ensures here { (a : ℕ) → Contains rows.now a → slice_index ends.new a ≡ max (slice_index ends.old a) tail }
+    ensures other { (a : ℕ) → (Contains rows.now a → ⊥) → slice_index ends.new a ≡ slice_index ends.old a }
 {
-    let mut most = 0;
-    for cown in cowns {
-        if let Some(row) = next[*cown as usize] {
-            most = starts[row as usize].max(most);
-        }
+    for row in rows {
+        ends[*row as usize] = tail.max(ends[*row as usize]);
     }
-    most
 }
 
-/// Remembers a row as the next at each of its cowns.
-pub fn note_next(cowns: &[u8], next: &mut Next, row: u32)
-    requires { All (λ c. c < MOST_COWNS) cowns.now }
-    ensures len { length next.new ≡ MOST_COWNS }
-    ensures here { (c : ℕ) → Contains cowns.now c → slice_index_or next.new c None ≡ Some row }
-    ensures other { (c : ℕ) → (Contains cowns.now c → ⊥) → slice_index_or next.new c None ≡ slice_index_or next.old c None }
+// One more row from the last one back has its tails, and passes them on to those that it waits for.
+fn pass_back(rows: &SeenRows, row: usize, waits: &[u32], starts: &mut [u64], ends: &mut [u64])
+    requires shape { IsRows rows.now }
+    requires there { row < length rows.now }
+    requires waits { HasWaits rows.now row waits.now }
+    requires starts_len { length starts.old ≡ length rows.now }
+    requires ends_len { length ends.old ≡ length rows.now }
+    requires later { TailsFrom rows.now (slice_index starts.old) (slice_index ends.old) (row + 1) }
+    ensures starts_len { length starts.new ≡ length rows.now }
+    ensures ends_len { length ends.new ≡ length rows.now }
+    ensures tails { TailsFrom rows.now (slice_index starts.new) (slice_index ends.new) row }
 {
-    for cown in cowns {
-        next[*cown as usize] = Some(row);
-    }
+    let tail = (ends[row] + u64::from(rows.ticks(row))).max(starts[row]);
+    starts[row] = tail;
+    let parent = rows.parent(row) as usize;
+    starts[parent] = (tail + u64::from(rows.offset(row))).max(starts[parent]);
+    raise_ends(waits, tail, ends);
 }
 
 /// The heaviest ways from the rows' starts and ends to the end of all.
-pub fn all_tails(alloc: Global, rows: &[Row]) -> Result<Tails, AllocError>
-    requires { IsRows rows.now }
+pub fn all_tails(alloc: Global, rows: &SeenRows, waits: &Links) -> Result<Tails, AllocError>
+    requires shape { IsRows rows.now }
+    requires waits { AreWaits rows.now waits.now }
     ensures { IfOk result (λ t. HasTails rows.now t.starts.items t.ends.items) }
 {
     let mut starts = vec![in alloc; 0; rows.len()]?;
     let mut ends = vec![in alloc; 0; rows.len()]?;
-    let mut next: Next = [None; MOST_COWNS];
     let mut row = rows.len();
     while row > 0 {
         row -= 1;
-        let this = &rows[row];
-        let cowns = this.cowns.as_slice();
-        let after = next_tail(cowns, &next, &starts);
-        let tail = (after + u64::from(this.ticks)).max(starts[row]);
-        ends[row] = after;
-        starts[row] = tail;
-        let parent = this.parent as usize;
-        starts[parent] = (tail + u64::from(this.offset)).max(starts[parent]);
-        note_next(cowns, &mut next, row as u32);
+        pass_back(rows, row, waits.of(row), &mut starts, &mut ends);
     }
     Ok(Tails { starts, ends })
 }

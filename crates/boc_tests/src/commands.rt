@@ -4,6 +4,7 @@ ghost use Rattle.std.specs.Prelude.{◌≡◌, IfOk};
 
 use boc_commands::{Fault, check_cmd, profile_cmd, values_cmd};
 use boc_text::{Bytes, FailAt};
+use boc_types::sharing::Sharing;
 use boc_types::workers::Workers;
 use std::alloc::{AllocError, Global};
 use std::test::*;
@@ -172,6 +173,7 @@ fn one_write_of_a_profile_for_workers_fails(rt: HostRuntime) -> Result<(), Fail>
     let result = profile_cmd(
         alloc,
         Workers::new(2),
+        Sharing::Exclusive,
         &mut bytes(alloc, RECORD)?,
         &mut sink,
     );
@@ -186,13 +188,19 @@ fn one_read_or_write_of_a_profile_fails(rt: HostRuntime) -> Result<(), Fail> {
     for k in 1..=RECORD.len() as u64 + 1 {
         let mut source = FailAt::new(bytes(alloc, RECORD)?, k, 1);
         let mut sink = bytes(alloc, "")?;
-        let result = profile_cmd(alloc, None, &mut source, &mut sink);
+        let result = profile_cmd(alloc, None, Sharing::Exclusive, &mut source, &mut sink);
         assert!(rt; matches!(result, Err(Fault::Source)), "{k}");
         assert_eq!(rt; sink.bytes.len(), 0);
     }
     for k in 1..=REPORT.len().div_ceil(7) as u64 {
         let mut sink = FailAt::new(bytes(alloc, "")?, k, 7);
-        let result = profile_cmd(alloc, None, &mut bytes(alloc, RECORD)?, &mut sink);
+        let result = profile_cmd(
+            alloc,
+            None,
+            Sharing::Exclusive,
+            &mut bytes(alloc, RECORD)?,
+            &mut sink,
+        );
         let gone = 7 * (k as usize - 1);
         assert!(rt;
             matches!(result, Err(Fault::Sink { gone: told }) if told == gone),

@@ -1,19 +1,26 @@
 //! The greedy plans of worked rows, and of small ones beside a simulation that goes tick by tick.
 
 use crate::worked_rows::{
-    countdown, crossing, four_squares, no_cowns, row, rows_of, transfer, waiting_for_both,
+    countdown, crossing, four_squares, no_cowns, peek_and_set, row, rows_of, transfer,
+    waiting_for_both,
 };
 use boc_greedy::{Greedy, greedy};
 use boc_types::rows::{Row, Rows};
+use boc_types::sharing::Sharing;
 use boc_types::workers::Workers;
 use std::alloc::Global;
 use std::process::Abort;
 use std::test::Fail;
 
-// The greedy plan for p workers.
+// The greedy plan for p workers, of rows that have their cowns to themselves.
 fn plan_for(alloc: Global, rows: &Rows, p: u32) -> Result<Greedy, Fail> {
+    shared_plan_for(alloc, rows, p, Sharing::Exclusive)
+}
+
+// The greedy plan for p workers.
+fn shared_plan_for(alloc: Global, rows: &Rows, p: u32, sharing: Sharing) -> Result<Greedy, Fail> {
     let workers = Workers::new(p).ok_or("no number of workers")?;
-    Ok(greedy(alloc, rows, workers)?)
+    Ok(greedy(alloc, rows, workers, sharing)?)
 }
 
 // The plan has these starts, workers, end and bound.
@@ -44,6 +51,17 @@ fn transfer_by_one_and_two(rt: HostRuntime) -> Result<(), Fail> {
     assert_eq!(rt; two.p, 2);
     // 0, the spawns at 2, 3 and 4, and the ends at 4, 7 and 9.
     assert_eq!(rt; two.moments, 6);
+    Ok(())
+}
+
+#[test]
+fn readers_side_by_side(rt: HostRuntime) -> Result<(), Fail> {
+    let alloc = rt.alloc();
+    let rows = peek_and_set(alloc)?;
+    let shared = shared_plan_for(alloc, &rows, 2, Sharing::SharedReads)?;
+    has_plan(&rt, &shared, &[0, 2, 4, 11], &[0, 1, 0, 0], 13, 22);
+    let exclusive = plan_for(alloc, &rows, 2)?;
+    assert_eq!(rt; (exclusive.ends_at, exclusive.bound), (18, 28));
     Ok(())
 }
 
@@ -96,8 +114,30 @@ fn is_spawned(row: &Row, number: usize, served: &[Option<Served>], tick: u64) ->
     }
 }
 
+// Whether one of these numbers is among those.
+fn have_one_in_common(numbers: &[u8], others: &[u8]) -> bool {
+    numbers.iter().any(|number| others.contains(number))
+}
+
+// Whether of two rows the later waits for the earlier.
+fn are_ordered(one: &Row, other: &Row, sharing: Sharing) -> bool {
+    match sharing {
+        Sharing::Exclusive => have_one_in_common(one.cowns.as_slice(), other.cowns.as_slice()),
+        Sharing::SharedReads => {
+            have_one_in_common(one.written.as_slice(), other.cowns.as_slice())
+                || have_one_in_common(one.cowns.as_slice(), other.written.as_slice())
+        }
+    }
+}
+
 // Whether a row waits at a tick for nothing but a worker.
-fn is_ready(rows: &[Row], served: &[Option<Served>], number: usize, tick: u64) -> bool {
+fn is_ready(
+    rows: &[Row],
+    served: &[Option<Served>],
+    number: usize,
+    tick: u64,
+    sharing: Sharing,
+) -> bool {
     let (Some(row), Some(None)) = (rows.get(number), served.get(number)) else {
         return false;
     };
@@ -108,13 +148,7 @@ fn is_ready(rows: &[Row], served: &[Option<Served>], number: usize, tick: u64) -
         if before >= number {
             break;
         }
-        let cowns = row.cowns.as_slice();
-        let share = other
-            .cowns
-            .as_slice()
-            .iter()
-            .any(|cown| cowns.contains(cown));
-        if share && !is_over(rows, served, before, tick) {
+        if are_ordered(other, row, sharing) && !is_over(rows, served, before, tick) {
             return false;
         }
     }
@@ -139,6 +173,7 @@ fn tick_by_tick(
     rows: &[Row],
     p: u32,
     last: u64,
+    sharing: Sharing,
 ) -> Result<Vec<Option<Served>>, Fail> {
     let mut served = Vec::new(alloc);
     for _row in rows {
@@ -146,7 +181,7 @@ fn tick_by_tick(
     }
     for tick in 0..last {
         for number in 0..rows.len() {
-            if !is_ready(rows, &served, number, tick) {
+            if !is_ready(rows, &served, number, tick, sharing) {
                 continue;
             }
             let free = (0..p).find(|worker| is_free(rows, &served, *worker, tick));
@@ -163,9 +198,15 @@ fn tick_by_tick(
 
 // The plan of the events is that of the ticks, for 1 to 8 workers.
 fn agrees(rt: &impl Abort, alloc: Global, rows: &Rows) -> Result<(), Fail> {
+    agrees_with(rt, alloc, rows, Sharing::Exclusive)?;
+    agrees_with(rt, alloc, rows, Sharing::SharedReads)
+}
+
+// The same, for one way to share cowns.
+fn agrees_with(rt: &impl Abort, alloc: Global, rows: &Rows, sharing: Sharing) -> Result<(), Fail> {
     for p in 1..9 {
-        let found = plan_for(alloc, rows, p)?;
-        let plain = tick_by_tick(alloc, rows.as_slice(), p, 100)?;
+        let found = shared_plan_for(alloc, rows, p, sharing)?;
+        let plain = tick_by_tick(alloc, rows.as_slice(), p, 100, sharing)?;
         assert_eq!(rt; found.starts.len(), plain.len());
         for ((start, worker), at) in found.starts.iter().zip(&found.workers).zip(&plain) {
             match at {
@@ -185,5 +226,6 @@ fn events_agree_with_ticks(rt: HostRuntime) -> Result<(), Fail> {
     agrees(&rt, alloc, &no_cowns(alloc)?)?;
     agrees(&rt, alloc, &countdown(alloc)?)?;
     agrees(&rt, alloc, &crossing(alloc)?)?;
+    agrees(&rt, alloc, &peek_and_set(alloc)?)?;
     agrees(&rt, alloc, &waiting_for_both(alloc)?)
 }

@@ -1,9 +1,10 @@
 //! Chains of worked rows that are true or false. The profiles of worked rows are in the table of `answers`.
 
-use crate::worked_rows::{transfer, waiting_for_both};
+use crate::worked_rows::{peek_and_set, transfer, waiting_for_both};
 use boc_order::check_chain;
 use boc_types::chain::{Chain, ChainStep, Via};
 use boc_types::rows::Rows;
+use boc_types::sharing::Sharing;
 use std::alloc::Global;
 use std::process::Abort;
 use std::test::Fail;
@@ -17,13 +18,14 @@ fn are_checked(
     rt: &impl Abort,
     alloc: Global,
     rows: &Rows,
+    sharing: Sharing,
     cases: &[(&[ChainStep], Result<u64, usize>)],
 ) -> Result<(), Fail> {
     for (steps, wanted) in cases {
         let chain = Chain {
             steps: steps.to_vec(alloc)?,
         };
-        assert_eq!(rt; check_chain(rows, &chain), *wanted, "{steps:?}");
+        assert_eq!(rt; check_chain(rows, &chain, sharing), *wanted, "{steps:?}");
     }
     Ok(())
 }
@@ -46,7 +48,7 @@ fn chains_are_checked(rt: HostRuntime) -> Result<(), Fail> {
         (&[deposit, both, last], Err(0)),
         (&[], Err(0)),
     ];
-    are_checked(&rt, alloc, &rows, &cases)
+    are_checked(&rt, alloc, &rows, Sharing::Exclusive, &cases)
 }
 
 #[test]
@@ -62,5 +64,29 @@ fn true_chain_and_false_ones_over_two_cowns(rt: HostRuntime) -> Result<(), Fail>
         (&[main, first, step(2, Via::Last, 2)], Err(1)),
         (&[], Err(0)),
     ];
-    are_checked(&rt, alloc, &rows, &cases)
+    are_checked(&rt, alloc, &rows, Sharing::Exclusive, &cases)
+}
+
+#[test]
+fn two_readers_are_ordered_only_where_cowns_are_exclusive(rt: HostRuntime) -> Result<(), Fail> {
+    let alloc = rt.alloc();
+    let rows = peek_and_set(alloc)?;
+    let chain = [
+        step(0, Via::Spawn, 2),
+        step(1, Via::Order, 7),
+        step(2, Via::Order, 7),
+        step(3, Via::Last, 2),
+    ];
+    let past_one = [
+        step(0, Via::Spawn, 3),
+        step(2, Via::Order, 7),
+        step(3, Via::Last, 2),
+    ];
+    let exclusive: [(&[ChainStep], Result<u64, usize>); 2] = [
+        (&chain, Ok(18)),
+        (&past_one, Ok(12)),
+    ];
+    are_checked(&rt, alloc, &rows, Sharing::Exclusive, &exclusive)?;
+    let shared: [(&[ChainStep], Result<u64, usize>); 2] = [(&chain, Err(1)), (&past_one, Ok(12))];
+    are_checked(&rt, alloc, &rows, Sharing::SharedReads, &shared)
 }

@@ -4,6 +4,7 @@ use crate::commands::{GREEDY, NO_COWNS_REPORT, REPORT, TRANSFER, bytes};
 use crate::gates::{Meeting, Place, StopsAtSecondBody, StopsAtSwap};
 use boc_commands::{Command, Fault, Runners, run_cmd, run_command, time_cmd};
 use boc_text::{Bytes, FailAt};
+use boc_types::sharing::Sharing;
 use boc_types::workers::Workers;
 use boc_workers::{Gate, OpenGate};
 use std::alloc::{AllocError, Global};
@@ -106,7 +107,16 @@ fn time_of<R: Threads + Wait + Sync, G: Gate>(
     let workers = Workers::new(p);
     let mut source = bytes(alloc, text)?;
     let mut sink = bytes(alloc, "")?;
-    let result = time_cmd(rt, alloc, runners, workers, gate, &mut source, &mut sink);
+    let result = time_cmd(
+        rt,
+        alloc,
+        runners,
+        workers,
+        Sharing::Exclusive,
+        gate,
+        &mut source,
+        &mut sink,
+    );
     answer_of(alloc, result, sink)
 }
 
@@ -218,6 +228,7 @@ fn as_many_threads_as_asked_for(rt: HostRuntime) -> Result<(), Fail> {
         Command::Time {
             runners: two,
             workers: None,
+            sharing: Sharing::Exclusive,
         },
     ] {
         let gate = Meeting::new(&rt, Place::AtBody);
@@ -298,12 +309,30 @@ fn one_read_or_write_of_a_timing_fails(rt: HostRuntime) -> Result<(), Fail> {
     let one = Runners::one();
     let mut source = FailAt::new(bytes(alloc, TRANSFER)?, 2, 5);
     let mut sink = bytes(alloc, "")?;
-    let result = time_cmd(&rt, alloc, one, None, &OpenGate, &mut source, &mut sink);
+    let result = time_cmd(
+        &rt,
+        alloc,
+        one,
+        None,
+        Sharing::Exclusive,
+        &OpenGate,
+        &mut source,
+        &mut sink,
+    );
     assert!(rt; matches!(result, Err(Fault::Source)));
     assert_eq!(rt; sink.bytes.len(), 0);
     let mut source = bytes(alloc, TRANSFER)?;
     let mut sink = FailAt::new(bytes(alloc, "")?, 2, 7);
-    let result = time_cmd(&rt, alloc, one, None, &OpenGate, &mut source, &mut sink);
+    let result = time_cmd(
+        &rt,
+        alloc,
+        one,
+        None,
+        Sharing::Exclusive,
+        &OpenGate,
+        &mut source,
+        &mut sink,
+    );
     assert!(rt; matches!(result, Err(Fault::Sink { gone: 7 })));
     assert_eq!(rt; sink.inner.bytes.as_slice(), b"rows 4\n".as_slice());
     Ok(())

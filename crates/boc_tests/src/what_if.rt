@@ -1,8 +1,9 @@
 //! Edits and sweeps of worked rows.
 
-use crate::worked_rows::{row, rows_of, transfer};
+use crate::worked_rows::{peek_and_set, row, rows_of, transfer};
 use boc_types::edit::EditFault;
 use boc_types::rows::Rows;
+use boc_types::sharing::Sharing;
 use boc_types::workers::Workers;
 use boc_whatif::WhatIf;
 use std::alloc::Global;
@@ -21,7 +22,7 @@ fn many(alloc: Global) -> Result<Rows, Fail> {
 
 #[test]
 fn cheaper_row_shortens_the_run(rt: HostRuntime) -> Result<(), Fail> {
-    let mut question = WhatIf::new(rt.alloc(), &transfer(rt.alloc())?)?;
+    let mut question = WhatIf::new(rt.alloc(), &transfer(rt.alloc())?, Sharing::Exclusive)?;
     assert_eq!(rt; question.touched(), 0);
     assert_eq!(rt; question.work(), 11);
     assert_eq!(rt; question.span(), 9);
@@ -39,7 +40,7 @@ fn cheaper_row_shortens_the_run(rt: HostRuntime) -> Result<(), Fail> {
 
 #[test]
 fn rows_are_taken_over(rt: HostRuntime) -> Result<(), Fail> {
-    let mut question = WhatIf::of(rt.alloc(), transfer(rt.alloc())?)?;
+    let mut question = WhatIf::of(rt.alloc(), transfer(rt.alloc())?, Sharing::Exclusive)?;
     assert_eq!(rt; question.touched(), 0);
     assert_eq!(rt; question.rows().as_slice().len(), 4);
     let before = question.profile(rt.alloc())?;
@@ -59,7 +60,7 @@ fn rows_are_taken_over(rt: HostRuntime) -> Result<(), Fail> {
 
 #[test]
 fn refused_edits_change_nothing(rt: HostRuntime) -> Result<(), Fail> {
-    let mut question = WhatIf::new(rt.alloc(), &transfer(rt.alloc())?)?;
+    let mut question = WhatIf::new(rt.alloc(), &transfer(rt.alloc())?, Sharing::Exclusive)?;
     assert_eq!(rt; question.edit(1, 1), Ok(()));
     let refused = [
         (0, 3, EditFault::BelowSpawn),
@@ -78,7 +79,7 @@ fn refused_edits_change_nothing(rt: HostRuntime) -> Result<(), Fail> {
 
 #[test]
 fn sweep_of_a_transfer(rt: HostRuntime) -> Result<(), Fail> {
-    let question = WhatIf::new(rt.alloc(), &transfer(rt.alloc())?)?;
+    let question = WhatIf::new(rt.alloc(), &transfer(rt.alloc())?, Sharing::Exclusive)?;
     let spans = question.sweep(rt.alloc())?;
     assert_eq!(rt; spans.as_slice(), [9, 8, 7, 8].as_slice());
     Ok(())
@@ -86,7 +87,7 @@ fn sweep_of_a_transfer(rt: HostRuntime) -> Result<(), Fail> {
 
 #[test]
 fn sweep_of_many_rows(rt: HostRuntime) -> Result<(), Fail> {
-    let question = WhatIf::new(rt.alloc(), &many(rt.alloc())?)?;
+    let question = WhatIf::new(rt.alloc(), &many(rt.alloc())?, Sharing::Exclusive)?;
     assert_eq!(rt; question.span(), 2_505);
     let spans = question.sweep(rt.alloc())?;
     assert_eq!(rt; spans.len(), 2_500);
@@ -94,5 +95,21 @@ fn sweep_of_many_rows(rt: HostRuntime) -> Result<(), Fail> {
         let wanted = if row == 2_499 { 2_501 } else { 2_505 };
         assert_eq!(rt; *span, wanted, "{row}");
     }
+    Ok(())
+}
+
+#[test]
+fn shared_reads_are_kept_by_edits(rt: HostRuntime) -> Result<(), Fail> {
+    let alloc = rt.alloc();
+    let mut question = WhatIf::of(alloc, peek_and_set(alloc)?, Sharing::SharedReads)?;
+    assert_eq!(rt; question.sharing(), Sharing::SharedReads);
+    assert_eq!(rt; (question.work(), question.span()), (20, 12));
+    assert_eq!(rt;
+        question.sweep(alloc)?.as_slice(),
+        [12, 12, 11, 11].as_slice()
+    );
+    assert_eq!(rt; question.edit(2, 1), Ok(()));
+    assert_eq!(rt; (question.work(), question.span()), (14, 11));
+    assert_eq!(rt; question.sharing(), Sharing::SharedReads);
     Ok(())
 }

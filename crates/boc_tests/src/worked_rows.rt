@@ -42,6 +42,23 @@ pub(crate) fn row(parent: u32, offset: u32, numbers: &[u32], ticks: u32) -> Row 
     }
 }
 
+// A row that only read its cowns.
+pub(crate) fn reader(parent: u32, offset: u32, numbers: &[u32], ticks: u32) -> Row {
+    let mut row = row(parent, offset, numbers, ticks);
+    row.written = HeldCowns::new();
+    row
+}
+
+// Two rows that read a cown, and one that writes it.
+pub(crate) fn peek_and_set(alloc: Global) -> Result<Rows, Fail> {
+    let mut list = Vec::new(alloc);
+    list.push(row(0, 0, &[], 4))?;
+    list.push(reader(0, 2, &[0], 7))?;
+    list.push(reader(0, 3, &[0], 7))?;
+    list.push(row(0, 4, &[0], 2))?;
+    rows_of(list)
+}
+
 // These rows, if they have the shape of a run's.
 pub(crate) fn rows_of(list: Vec<Row>) -> Result<Rows, Fail> {
     if are_rows(&list) {

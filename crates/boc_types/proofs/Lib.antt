@@ -15,3 +15,4 @@ pub mod Children
 pub mod Editing
 pub mod TransferRun
 pub mod Tellings
+pub mod Seeing

@@ -1,6 +1,7 @@
 pub mod Lives
 pub mod Cowns
 pub mod Rows
+pub mod Seen
 pub mod Legal
 pub mod Serial
 pub mod OwnOrder

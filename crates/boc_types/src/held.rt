@@ -1,9 +1,9 @@
 //! The cowns of a row, in bytes.
 
-ghost use Rattle.std.specs.Prelude.{◌≡◌, ◌<◌, ◌≤◌, [], length, All};
+ghost use Rattle.std.specs.Prelude.{◌≡◌, ◌<◌, ◌≤◌, [], length, All, MatchOption};
 ghost use Rattle.boc_types.specs.declared.limits.TheConstants.{MOST_COWNS, MOST_HELD};
 
-use crate::limits::MOST_HELD;
+use crate::limits::{MOST_COWNS, MOST_HELD};
 use crate::short::{CownNo, Cowns};
 use std::marker::Model;
 
@@ -51,6 +51,19 @@ impl HeldCowns {
         HeldCowns {
             numbers,
             count: cowns.len() as u8,
+        }
+    }
+
+    /// These cowns, in their order, unless one of them has no byte.
+    pub fn try_of(cowns: &Cowns) -> Option<HeldCowns>
+        ensures { MatchOption result
+            (All (λ c. c < MOST_COWNS) cowns.now.items → ⊥)
+            (λ held. held ≡ cowns.now) }
+    {
+        if cowns.iter().all(|cown| (*cown as usize) < MOST_COWNS) {
+            Some(HeldCowns::of(cowns))
+        } else {
+            None
         }
     }
 

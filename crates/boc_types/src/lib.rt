@@ -25,6 +25,7 @@ pub mod record;
 pub mod row_test;
 pub mod rows;
 mod same;
+pub mod sharing;
 pub mod short;
 pub mod stage;
 pub mod step;

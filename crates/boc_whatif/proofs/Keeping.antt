@@ -1,11 +1,16 @@
 -- What is kept beside the rows, once a row takes other ticks.
-use Rattle.std.proofs.Common.{◌≡◌, ℕ, ◌≤◌, List, length, ap, sym, ◌∙◌, arith}
+use Rattle.std.proofs.Common.{◌≡◌, ℕ, ◌≤◌, List, length, ap, sym, ◌∙◌, subst, inl, inr, arith}
 use Rattle.boc_types.specs.declared.rows.Row.{Row}
+use Rattle.boc_types.specs.declared.sharing.Sharing.{Sharing}
+use Rattle.boc_types.specs.runs.Rows.{IsLast, IsRows}
+use Rattle.boc_types.specs.runs.Seen.{seen}
 use Rattle.boc_types.specs.plans.Edits.{edited, Fits}
-use Rattle.boc_types.proofs.Editing.{length-edited, last_edited, rows_edited}
+use Rattle.boc_types.proofs.Editing.{length-edited, last_edited, rows_edited, conflict_edited, conflict_back}
+use Rattle.boc_types.proofs.Seeing.{length-seen, parent_of-seen, offset_of-seen, rows_seen, edited-seen}
 use Rattle.boc_order.specs.declared.plan.Earliest.{Earliest}
 use Rattle.boc_order.specs.Room.{HasRoom}
 use Rattle.boc_order.specs.Standing.{IsPlanOf, HasFirst}
+use Rattle.boc_order.specs.Waits.{IsNear, AreWaits}
 use Rattle.boc_order.proofs.Replacing.{edited_first}
 use Rattle.boc_sweep.specs.Lasts.{HasLasts}
 use Rattle.boc_whatif.specs.Asked.{IsUpToDate}
@@ -17,10 +22,61 @@ lasts_edited rows offsets row ticks h = record {
   at = λ r there. rw (length-edited rows row ticks) (last_edited rows row ticks (length rows) r _ (h.at r (omega (arith, there, length-edited rows row ticks))));
 }
 
-module _ (rows now list : List Row) (offsets : List ℕ) (plan : Earliest) (row ticks : ℕ) (kept : IsUpToDate rows offsets plan) (f : Fits rows row ticks)
-    (is : now ≡ edited rows row ticks) (seen : list ≡ now) where
+-- a row has the same last child however the rows are seen
+last_seen : (s : Sharing) (rows : List Row) (n p last : ℕ) → IsLast rows n p last → IsLast (seen s rows) n p last
+last_seen s rows n p last is = record {
+  none_above = λ a some below parent. rw (offset_of-seen s rows a) (is.none_above a some below (sym (parent_of-seen s rows a) ∙ parent));
+  reached = elim is.reached [
+    | inl none ↦ inl none
+    | inr (a, some, below, parent, offset) ↦ inr (a, some, below, parent_of-seen s rows a ∙ parent, offset_of-seen s rows a ∙ offset)
+  ];
+}
+
+pub lasts_seen : (s : Sharing) (rows list : List Row) (offsets : List ℕ) → list ≡ seen s rows → HasLasts rows offsets → HasLasts list offsets
+lasts_seen s rows list offsets is h = rw is (record {
+  whole = h.whole ∙ sym (length-seen s rows);
+  at = λ r there. rw (length-seen s rows) (last_seen s rows (length rows) r _ (h.at r (omega (arith, there, length-seen s rows))));
+})
+
+-- no row waits for others
+near_edited : (rows : List Row) (row ticks a b : ℕ) → IsNear rows a b → IsNear (edited rows row ticks) a b
+near_edited rows row ticks a b is = record {
+  there = omega (arith, is.there, length-edited rows row ticks);
+  cown = is.cown;
+  near = record {
+    before = is.near.before;
+    conflict = conflict_edited rows row ticks is.cown a b is.near.conflict;
+    none_between = λ k low high one two. is.near.none_between k low high (conflict_back rows row ticks is.cown a k one) (conflict_back rows row ticks is.cown k b two);
+  };
+}
+
+near_back : (rows : List Row) (row ticks a b : ℕ) → IsNear (edited rows row ticks) a b → IsNear rows a b
+near_back rows row ticks a b is = record {
+  there = omega (arith, is.there, length-edited rows row ticks);
+  cown = is.cown;
+  near = record {
+    before = is.near.before;
+    conflict = conflict_back rows row ticks is.cown a b is.near.conflict;
+    none_between = λ k low high one two. is.near.none_between k low high (conflict_edited rows row ticks is.cown a k one) (conflict_edited rows row ticks is.cown k b two);
+  };
+}
+
+waits_edited : (rows : List Row) (row ticks : ℕ) (waits : List (List ℕ)) → AreWaits rows waits → AreWaits (edited rows row ticks) waits
+waits_edited rows row ticks waits are = record {
+  whole = are.whole ∙ sym (length-edited rows row ticks);
+  at = λ b there. (let own = are.at b (omega (arith, there, length-edited rows row ticks)) in record {
+    sound = λ a has. near_edited rows row ticks a b (own.sound a has);
+    complete = λ a near. own.complete a (near_back rows row ticks a b near);
+  });
+}
+
+module _ (rows now list : List Row) (s : Sharing) (offsets : List ℕ) (waits : List (List ℕ)) (plan : Earliest) (row ticks : ℕ)
+    (kept : IsUpToDate rows s offsets waits plan) (f : Fits rows row ticks) (is : now ≡ edited rows row ticks) (seen_is : list ≡ seen s now) where
+  then_is : list ≡ edited (seen s rows) row ticks
+  then_is = seen_is ∙ ap (seen s) is ∙ edited-seen s rows row ticks
+
   pub whole_then : length list ≡ length rows
-  whole_then = ap (length {A = Row}) (seen ∙ is) ∙ length-edited rows row ticks
+  whole_then = ap (length {A = Row}) then_is ∙ length-edited (seen s rows) row ticks ∙ length-seen s rows
 
   pub room_then : HasRoom plan (length list)
   room_then = rw whole_then kept.room
@@ -28,13 +84,29 @@ module _ (rows now list : List Row) (offsets : List ℕ) (plan : Earliest) (row 
   pub row_then : row ≤ length list
   row_then = omega (arith, whole_then, f.there)
 
-  pub first_then : HasFirst list plan row
-  first_then = rw (seen, is) (edited_first rows kept.shape row ticks (length rows) plan.starts.items plan.ends.items plan.after.items (omega (arith, f.there)) kept.placed)
+  pub waits_then : AreWaits list waits
+  waits_then = rw then_is (waits_edited (seen s rows) row ticks waits kept.waits_are)
 
-  pub kept_then : (anew : Earliest) → IsPlanOf list anew → HasRoom anew (length list) → IsUpToDate now offsets anew
+  pub first_then : HasFirst list plan row
+  first_then = rw then_is (edited_first (seen s rows) (rows_seen s rows kept.shape) row ticks (length (seen s rows)) plan.starts.items plan.ends.items plan.after.items
+      (omega (arith, f.there, length-seen s rows)) kept.placed)
+
+  pub kept_then : (anew : Earliest) → IsPlanOf list anew → HasRoom anew (length list) → IsUpToDate now s offsets waits anew
   kept_then anew placed room = record {
     shape = rw is (rows_edited rows kept.shape row ticks f);
     lasts = rw is (lasts_edited rows offsets row ticks kept.lasts);
-    placed = rw seen at placed;
-    room = rw seen at room;
+    waits_are = subst (λ (l : List Row). AreWaits l waits) seen_is waits_then;
+    placed = subst (λ (l : List Row). IsPlanOf l anew) seen_is placed;
+    room = subst (HasRoom anew) (ap (length {A = Row}) seen_is ∙ length-seen s now) room;
   }
+
+-- what is kept, before any edit
+pub begun : (rows list : List Row) (s : Sharing) (offsets : List ℕ) (waits : List (List ℕ)) (plan : Earliest) → IsRows rows → list ≡ seen s rows → HasLasts rows offsets →
+    AreWaits list waits → IsPlanOf list plan → HasRoom plan (length list) → IsUpToDate rows s offsets waits plan
+begun rows list s offsets waits plan shape is lasts are placed room = record {
+  shape = shape;
+  lasts = lasts;
+  waits_are = subst (λ (l : List Row). AreWaits l waits) is are;
+  placed = subst (λ (l : List Row). IsPlanOf l plan) is placed;
+  room = subst (HasRoom plan) (ap (length {A = Row}) is ∙ length-seen s rows) room;
+}

@@ -1,10 +1,11 @@
 //! What a finished run would be worth if one of its behaviours took other ticks.
 //!
 //! A caller edits the ticks of rows one after another, and asks for the work, the span, the profile and the greedy
-//! plan of what came of it, or for a sweep: the span for each row at the least ticks that it can take.
+//! plan of what came of it, or for a sweep: the span for each row at the least ticks that it can take. All of these
+//! are of plans in which rows share cowns as was said at the start.
 //!
-//! An edit takes no memory, and time that grows with the number of rows: it computes its row and those after it
-//! again, and reads the cowns of those before it. A sweep computes no row again, and takes little more time than a plan.
+//! An edit takes no memory, and time that grows with the number of rows behind its own: it computes its row and those
+//! after it again. A sweep computes no row again, and takes little more time than a plan.
 #![tactic(auto)]
 
 mod fit;

@@ -1,23 +1,27 @@
 // Rows that are edited one after another.
 
 use crate::fit::check;
-use boc_greedy::{Greedy, greedy_within};
-use boc_order::{Earliest, Profile, earliest_plan};
+use boc_greedy::{Greedy, greedy_over};
+use boc_order::{Earliest, Links, Profile, earliest_plan, waits};
 use boc_sweep::{last_children, sweep};
 use boc_types::edit::EditFault;
 use boc_types::rows::Rows;
+use boc_types::sharing::{SeenRows, Sharing};
 use boc_types::workers::Workers;
 use std::alloc::{AllocError, Global};
 use std::marker::Model;
 
 /// The rows of a finished run, of which a caller asks what they would be worth with other ticks.
 ///
-/// It has rows of its own, and their earliest plan. An edit has one row take other ticks, and places that row and
-/// those after it anew. All times are ticks.
+/// It has rows of its own, with those that each waits for, and their earliest plan. An edit has one row take other
+/// ticks, and places that row and those after it anew. All times are ticks.
 #[derive(Drop)]
 pub struct WhatIf {
     rows: Rows,
+    sharing: Sharing,
     lasts: Vec<u32>,
+    // An edit changes no cown, so what each row waits for is found once.
+    waits: Links,
     plan: Earliest,
     touched: u64,
 }
@@ -27,9 +31,9 @@ impl Model for WhatIf {
 
     ghost Value = { Asked };
 
-    ghost view = { λ w. record { rows = w.rows; touched = w.touched } };
+    ghost view = { λ w. record { rows = w.rows; sharing = w.sharing; touched = w.touched } };
 
-    ghost invariant = { λ w. IsUpToDate w.rows w.lasts.items w.plan };
+    ghost invariant = { λ w. IsUpToDate w.rows w.sharing w.lasts.items w.waits w.plan };
 }
 
 impl WhatIf {
@@ -39,30 +43,37 @@ impl WhatIf {
     ghost use Rattle.boc_order.specs.Profiles.{IsProfileOf};
     ghost use Rattle.boc_greedy.specs.Plans.{IsGreedyPlanOf};
     ghost use Rattle.boc_types.specs.plans.Edits.{Fits, IsEditFault, IsSweep, edited};
+    ghost use Rattle.boc_types.specs.runs.Seen.{seen};
 
-    /// The same rows, none of them edited. `AllocError` says that memory was refused.
+    /// The same rows, none of them edited, of which plans see so much shared. `AllocError` says that memory was refused.
     ///
     /// It takes all memory that the edits need, and a copy of the rows. `of` takes over the rows of a caller who needs
     /// them no more.
-    pub fn new(alloc: Global, rows: &Rows) -> Result<WhatIf, AllocError>
+    pub fn new(alloc: Global, rows: &Rows, sharing: Sharing) -> Result<WhatIf, AllocError>
         ensures rows { IfOk result (λ w. w.rows ≡ rows.now) }
+        ensures sharing { IfOk result (λ w. w.sharing ≡ sharing) }
         ensures touched { IfOk result (λ w. w.touched ≡ 0) }
     {
-        WhatIf::of(alloc, rows.copy(alloc)?)
+        WhatIf::of(alloc, rows.copy(alloc)?, sharing)
     }
 
     /// These rows, none of them edited. `AllocError` says that memory was refused, and then the rows are gone.
     ///
     /// It takes all memory that the edits need, and time that grows with the number of rows and their cowns.
-    pub fn of(alloc: Global, rows: Rows) -> Result<WhatIf, AllocError>
+    pub fn of(alloc: Global, rows: Rows, sharing: Sharing) -> Result<WhatIf, AllocError>
         ensures rows { IfOk result (λ w. w.rows ≡ rows) }
+        ensures sharing { IfOk result (λ w. w.sharing ≡ sharing) }
         ensures touched { IfOk result (λ w. w.touched ≡ 0) }
     {
         let lasts = last_children(alloc, rows.as_slice())?;
-        let plan = earliest_plan(alloc, &rows)?;
+        let seen = SeenRows::new(&rows, sharing);
+        let waits = waits(alloc, &seen)?;
+        let plan = earliest_plan(alloc, &seen, &waits)?;
         Ok(WhatIf {
             rows,
+            sharing,
             lasts,
+            waits,
             plan,
             touched: 0,
         })
@@ -70,10 +81,11 @@ impl WhatIf {
 
     /// Has a row take so many ticks. The fault says why it can't, and then nothing changes.
     ///
-    /// It takes no memory. It computes the row and those after it again, and of those before it only reads the cowns.
+    /// It takes no memory. It computes the row and those after it again.
     pub fn edit(&mut self, row: u32, ticks: u32) -> Result<(), EditFault>
         ensures fits { OnOk result (Fits self.old.rows row ticks) }
         ensures rows { OnOk result (self.new.rows ≡ edited self.old.rows row ticks) }
+        ensures sharing { self.new.sharing ≡ self.old.sharing }
         ensures touched { OnOk result (self.new.touched + row ≡ length self.old.rows) }
         ensures fault { IfErr result (IsEditFault self.old.rows row ticks) }
         ensures refused { OnErr result (Fits self.old.rows row ticks → ⊥) }
@@ -81,9 +93,9 @@ impl WhatIf {
     {
         check(self.rows.as_slice(), &self.lasts, row, ticks)?;
         self.rows.set_ticks(row, ticks);
-        let rows = self.rows.as_slice();
+        let rows = SeenRows::new(&self.rows, self.sharing);
         let number = row as usize;
-        self.plan.place_from(rows, number);
+        self.plan.place_from(&rows, &self.waits, number);
         self.touched = (rows.len() - number) as u64;
         Ok(())
     }
@@ -102,6 +114,13 @@ impl WhatIf {
         &self.rows
     }
 
+    /// How the rows share cowns.
+    pub fn sharing(&self) -> Sharing
+        ensures { result ≡ self.now.sharing }
+    {
+        self.sharing
+    }
+
     /// The ticks of all rows together. It takes no memory.
     pub fn work(&self) -> u64
         ensures { result ≡ work_of self.now.rows }
@@ -111,7 +130,7 @@ impl WhatIf {
 
     /// The tick at which the earliest plan of the rows ends. It takes no memory.
     pub fn span(&self) -> u64
-        ensures { IsSpan self.now.rows result }
+        ensures { IsSpan (seen self.now.sharing self.now.rows) result }
     {
         self.plan.span()
     }
@@ -121,17 +140,19 @@ impl WhatIf {
     /// It comes from the plan that the edits keep, so no row is placed again. It takes memory and time that grow with
     /// the number of rows.
     pub fn profile(&self, alloc: Global) -> Result<Profile, AllocError>
-        ensures { IfOk result (λ profile. IsProfileOf self.now.rows profile) }
+        ensures { IfOk result (λ profile. IsProfileOf (seen self.now.sharing self.now.rows) profile) }
     {
-        self.plan.profile(alloc, &self.rows)
+        self.plan
+            .profile(alloc, &SeenRows::new(&self.rows, self.sharing))
     }
 
     /// The greedy plan of the rows for so many workers, as `boc_greedy::greedy` has it. `AllocError` says that
     /// memory was refused.
     pub fn greedy(&self, alloc: Global, workers: Workers) -> Result<Greedy, AllocError>
-        ensures { IfOk result (λ plan. IsGreedyPlanOf self.now.rows workers plan) }
+        ensures { IfOk result (λ plan. IsGreedyPlanOf (seen self.now.sharing self.now.rows) workers plan) }
     {
-        greedy_within(alloc, &self.rows, workers, self.span())
+        let rows = SeenRows::new(&self.rows, self.sharing);
+        greedy_over(alloc, &rows, &self.waits, workers, self.work(), self.span())
     }
 
     /// For each row the span that the rows would have if that row alone took the least ticks that it can: the offset
@@ -140,8 +161,9 @@ impl WhatIf {
     /// No row is placed again: it takes memory that grows with the number of rows and their cowns, and that much time
     /// with its logarithm beside.
     pub fn sweep(&self, alloc: Global) -> Result<Vec<u64>, AllocError>
-        ensures { IfOk result (λ spans. IsSweep self.now.rows spans.items) }
+        ensures { IfOk result (λ spans. IsSweep (seen self.now.sharing self.now.rows) spans.items) }
     {
-        sweep(alloc, self.rows.as_slice(), &self.plan, &self.lasts)
+        let rows = SeenRows::new(&self.rows, self.sharing);
+        sweep(alloc, &rows, &self.waits, &self.plan, &self.lasts)
     }
 }

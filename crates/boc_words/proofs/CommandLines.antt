@@ -3,7 +3,8 @@ use Rattle.std.proofs.Common.{◌≡◌, List, [], ◌∷◌, Some, None, true, 
 use Rattle.clap.proofs.OnLiterals.{clap_on_literals}
 use Rattle.clap.specs.Words.{Text, fault_of, is_simple, is_simple_and_free, subcommand_of}
 use Rattle.clap.specs.declared.error.kind.ErrorKind.TheVariants as kinds
-use Rattle.boc_words.specs.Words.{AreEdits, AreRunners, AreTaken, AreWorkers, Names, command_line}
+use Rattle.boc_words.specs.Words.{AreEdits, AreRunners, AreShared, AreTaken, AreWorkers, Names, command_line}
+use Rattle.boc_types.specs.declared.sharing.Sharing.TheVariants.{Exclusive, SharedReads}
 use Rattle.std.specs.Fmt.{digits}
 
 -- what the parser's contract says of `boc` is exact
@@ -27,12 +28,23 @@ pub whatif_named : Names (subcommand_of command_line whatif_words) (codes "whati
 unfolding clap_on_literals digits
 whatif_named = (_, refl, (refl, record { text = codes "+2"; alone = refl; numeral = (lit≤ tt, (lit≤ tt, tt)); value = refl }))
 
+abbrev sweep_words : List Text
+sweep_words = codes "boc" ∷ codes "sweep" ∷ codes "--shared-reads" ∷ []
+
+pub sweep_taken : AreTaken sweep_words
+unfolding clap_on_literals
+sweep_taken = refl
+
+pub sweep_named : Names (subcommand_of command_line sweep_words) (codes "sweep") (λ rows. AreShared rows SharedReads)
+unfolding clap_on_literals
+sweep_named = (_, refl, refl)
+
 abbrev profile_words : List Text
 profile_words = codes "boc" ∷ codes "profile" ∷ []
 
-pub profile_named : Names (subcommand_of command_line profile_words) (codes "profile") (λ rows. AreWorkers rows None)
+pub profile_named : Names (subcommand_of command_line profile_words) (codes "profile") (λ rows. AreWorkers rows None × AreShared rows Exclusive)
 unfolding clap_on_literals
-profile_named = (_, refl, refl)
+profile_named = (_, refl, (refl, λ e. cc))
 
 abbrev time_words : List Text
 time_words = codes "boc" ∷ codes "time" ∷ codes "--p" ∷ codes "3" ∷ codes "--workers=16" ∷ []

@@ -1,6 +1,8 @@
 -- What was found for an argument.
-use Rattle.std.proofs.Common.{zero, suc, ◌≡◌, ◌∙◌, ◌+◌, ◌<◌, ◌≤◌, ℕ, List, [], ◌∷◌, ◌++◌, map, take, drop, length, get_or, Option, Some, None, false, sym, ap, refl, subst, arith, Bor}
-use Rattle.std.specs.Prelude.{option_map, unwrap_or, codes, ◌^◌, ◌==◌}
+use Rattle.std.proofs.Common.{zero, suc, ◌≡◌, ◌∙◌, ◌+◌, ◌<◌, ◌≤◌, ℕ, List, [], ◌∷◌, ◌++◌, map, take, drop, length, get_or, Option, Some, None, Bool, true, false, sym, ap, refl, subst, arith, Bor}
+use Rattle.std.specs.Prelude.{option_map, unwrap_or, codes, ◌^◌, ◌==◌, ◌↔◌, IsTrue}
+use Rattle.std.specs.Str.{bytes_eq}
+use Rattle.std.proofs.lemmas.Slice.Eq.{bytes_eq-Decides}
 use Rattle.std.specs.Option.{UnwrapsOrElse}
 use Rattle.std.specs.List.{All}
 use Rattle.std.proofs.lemmas.List.Elements.{All-push}
@@ -93,3 +95,13 @@ first_misspelt values words i d is h spelt none = record {
   spelt = spelt;
   misspelt = λ edit. none edit.row edit.ticks edit.few_rows edit.few_ticks edit.spells;
 }
+
+-- there is one text, and it is this word
+pub one_text_is : (texts : List (Bor (List ℕ))) (d : Bor (List ℕ)) (word : List ℕ) (r : Bool) → 1 ≤ length texts → length texts < 2 → r ≡ bytes_eq (get_or texts 0 d).now word
+    → IsTrue r ↔ (map (λ t. t.now) texts ≡ word ∷ [])
+one_text_is [] d word r some one is = absurd (omega (arith, some))
+one_text_is (text ∷ []) d word r some one is = (
+  (λ yes. ap (λ x. x ∷ []) ((bytes_eq-Decides text.now word).0 (sym is ∙ yes))),
+  (λ same. (let e : text.now ≡ word = cc in is ∙ (bytes_eq-Decides text.now word).1 e)),
+)
+one_text_is (text ∷ more ∷ texts) d word r some one is = absurd (omega (arith, one))

@@ -9,18 +9,19 @@ use Rattle.std.proofs.lemmas.List.{append-nil}
 use Rattle.std.proofs.lemmas.Slice.Eq.{bytes_eq-Decides}
 use Rattle.clap.specs.Kinds.{range_kinds, value_kinds, values_kinds}
 use Rattle.clap.specs.Facts.{explicit_source}
-use Rattle.clap.specs.Faults.{check_fault, defaults_fault, entered_fault, level_fault, repeat_fault, set_fault, settle_fault, use_fault, walk_fault}
+use Rattle.clap.specs.Faults.{check_fault, defaults_fault, entered_fault, level_fault, repeat_fault, set_fault, settle_fault, use_fault, values_fault, walk_fault}
 use Rattle.clap.specs.Simple.{Shape, argument_words, built, entered, filled, help_rule, label_of, names_of, rows_at, with_index}
 use Rattle.clap.specs.ValueTests.{accepts}
-use Rattle.clap.specs.Walk.{Row, Rule, Text, all_of, answers_to, at_row, finished, has_row, more_values, nothing_held, reading_by, settled, stronger, used, values_or_missing, walk, walk_from}
+use Rattle.clap.specs.Walk.{Row, Rule, Text, all_of, answers_to, at_row, finished, has_row, more_values, nothing_held, reading_by, settled, stronger, used, values_or_missing, walk, walk_from, with_default, with_values}
 use Rattle.clap.specs.Words.{App, subcommand_of}
 use Rattle.clap.specs.declared.builder.value_parser.ValueParser.TheVariants as parsers
 use Rattle.clap.specs.declared.error.kind.ErrorKind.TheVariants as kind
-use Rattle.clap.specs.declared.parser.matches.ValueSource.TheVariants.{CommandLine}
-use Rattle.boc_words.specs.Words.{AreTaken, command_line, edits_operand, number_option}
+use Rattle.clap.specs.declared.parser.matches.ValueSource.{ValueSource}
+use Rattle.clap.specs.declared.parser.matches.ValueSource.TheVariants.{CommandLine, DefaultValue}
+use Rattle.boc_words.specs.Words.{AreTaken, command_line, edits_operand, number_option, sharing_flag}
 use Rattle.boc_words.proofs.Numbers.{HasOne, IsOne, other_rows, row_added, row_passed, row_read}
 use Rattle.boc_words.proofs.Stops.{IsOther, walk_other}
-use Rattle.boc_words.proofs.Walks.{Fine, level_good, neither}
+use Rattle.boc_words.proofs.Walks.{Fine, bare, level_good, neither}
 
 -- ---- each use of an argument keeps the rows to one number for each option
 
@@ -29,6 +30,9 @@ built_number id most = with_index 1 (filled (number_option id most))
 
 abbrev built_edits : Rule
 built_edits = with_index 1 (filled edits_operand)
+
+abbrev built_flag : Rule
+built_flag = with_index 1 (filled sharing_flag)
 
 abbrev built_help : Rule
 built_help = with_index 1 (filled help_rule)
@@ -141,6 +145,45 @@ fine_edits : Fine HasNumbers false built_edits
 fine_edits values rows none good =
     (edits_keep (codes "workers") 16 refl values rows none good.0, edits_keep (codes "p") 64 refl values rows none good.1)
 
+-- the row of the flag, with the text that stands for it
+abbrev row_of_flag : ValueSource → List Text → Row
+row_of_flag source values = record { id = codes "shared-reads"; values = values; count = None; source = Some source; reading = reading_by built_flag }
+
+-- a use of the flag adds a row
+used_flag : (values : List Text) (rows : List Row) → has_row (codes "shared-reads") rows ≡ false
+    → used built_flag values rows ≡ rows ++ (row_of_flag CommandLine (values_or_missing built_flag values) ∷ [])
+used_flag values rows clear =
+    ap (at_row (codes "shared-reads") (more_values CommandLine (values_or_missing built_flag values)) (row_of_flag CommandLine (values_or_missing built_flag values) ∷ []))
+    (row_added (codes "shared-reads") (λ _. []) [] rows clear ∙ append-nil rows)
+    ∙ row_added (codes "shared-reads") (more_values CommandLine (values_or_missing built_flag values)) (row_of_flag CommandLine (values_or_missing built_flag values) ∷ []) rows clear
+
+flag_keeps : (other : Text) (most : ℕ) (rows : List Row) (row : Row) → bytes_eq row.id other ≡ false → HasOne other most rows → HasOne other most (rows ++ (row ∷ []))
+flag_keeps other most rows row differs good = subst (IsOne most) (sym (row_passed other row rows differs)) good
+
+flag_added : (source : ValueSource) (values : List Text) (rows : List Row) → HasNumbers rows → HasNumbers (rows ++ (row_of_flag source values ∷ []))
+flag_added source values rows good = (
+  flag_keeps (codes "workers") 16 rows (row_of_flag source values) refl good.0,
+  flag_keeps (codes "p") 64 rows (row_of_flag source values) refl good.1,
+)
+
+fine_flag : Fine HasNumbers false built_flag
+fine_flag values rows none good =
+    let set = neither (range_kinds 0 0 (length values)) (set_fault false built_flag (values_or_missing built_flag values) rows) none in
+    let once = neither (repeat_fault false (codes "shared-reads") rows) (values_fault built_flag (values_or_missing built_flag values)) set.1 in
+    subst HasNumbers (sym (used_flag values rows (not_there (codes "shared-reads") rows once.0))) (flag_added CommandLine (values_or_missing built_flag values) rows good)
+
+-- and so does its default
+flag_default : (rows : List Row) → HasNumbers rows → HasNumbers (with_default rows built_flag)
+flag_default rows good = go (has_row (codes "shared-reads") rows) refl
+  where
+    go : (b : Bool) → has_row (codes "shared-reads") rows ≡ b
+        → HasNumbers (if b then rows else with_values (codes "shared-reads") (reading_by built_flag) DefaultValue (codes "false" ∷ []) rows)
+    go true is = good
+    go false is =
+        subst HasNumbers
+        (sym (row_added (codes "shared-reads") (more_values DefaultValue (codes "false" ∷ [])) (row_of_flag DefaultValue (codes "false" ∷ []) ∷ []) rows is))
+        (flag_added DefaultValue (codes "false" ∷ []) rows good)
+
 fine_help : Fine HasNumbers false built_help
 fine_help values rows none good = good
 
@@ -186,38 +229,20 @@ no_help word is other = go (bytes_eq (codes "help") word) refl is
         cc
     go false same clear = cc
 
+kept_runners : (rows : List Row) → HasNumbers rows → HasNumbers (with_default rows (built_number (codes "workers") 16))
+kept_runners = bare HasNumbers (built_number (codes "workers") 16) refl
+
+kept_workers : (rows : List Row) → HasNumbers rows → HasNumbers (with_default rows (built_number (codes "p") 64))
+kept_workers = bare HasNumbers (built_number (codes "p") 64) refl
+
+kept_edits : (rows : List Row) → HasNumbers rows → HasNumbers (with_default rows built_edits)
+kept_edits = bare HasNumbers built_edits refl
+
+kept_help : (rows : List Row) → HasNumbers rows → HasNumbers (with_default rows built_help)
+kept_help = bare HasNumbers built_help refl
+
 all_lead : AllLead (built command_line).subs
-all_lead = (
-  (λ word words is other none. (inl refl, level_good HasNumbers _ (fine_help, tt) words [] (refl, tt) none (tt, tt))),
-  (
-    (λ word words is other none. (inr (inl refl), level_good HasNumbers _ (fine_help, tt) words [] (refl, tt) none (tt, tt))),
-    (
-      (λ word words is other none.
-          (inr (inr (inl refl)), level_good HasNumbers _ (fine_runners, (fine_help, tt)) words [] (refl, (refl, tt)) none (tt, tt))),
-      (
-        (λ word words is other none.
-            (inr (inr (inr (inl refl))), level_good HasNumbers _ (fine_workers, (fine_help, tt)) words [] (refl, (refl, tt)) none (tt, tt))),
-        (
-          (λ word words is other none. (
-            inr (inr (inr (inr (inl refl)))),
-            level_good HasNumbers _ (fine_runners, (fine_workers, (fine_help, tt))) words [] (refl, (refl, (refl, tt))) none (tt, tt),
-          )),
-          (
-            (λ word words is other none. (
-              inr (inr (inr (inr (inr (inl refl))))),
-              level_good HasNumbers _ (fine_workers, (fine_edits, (fine_help, tt))) words [] (refl, (refl, (refl, tt))) none (tt, tt),
-            )),
-            (
-              (λ word words is other none.
-                  (inr (inr (inr (inr (inr (inr refl))))), level_good HasNumbers _ (fine_help, tt) words [] (refl, tt) none (tt, tt))),
-              ((λ word words is other none. absurd (no_help word is other)), tt),
-            ),
-          ),
-        ),
-      ),
-    ),
-  ),
-)
+all_lead = ((λ word words is other none. (inl refl, level_good HasNumbers _ (fine_help, tt) words [] (kept_help, tt) none (tt, tt))), ((λ word words is other none. (inr (inl refl), level_good HasNumbers _ (fine_help, tt) words [] (kept_help, tt) none (tt, tt))), ((λ word words is other none. (inr (inr (inl refl)), level_good HasNumbers _ (fine_runners, (fine_help, tt)) words [] (kept_runners, (kept_help, tt)) none (tt, tt))), ((λ word words is other none. (inr (inr (inr (inl refl))), level_good HasNumbers _ (fine_workers, (fine_flag, (fine_help, tt))) words [] (kept_workers, (flag_default, (kept_help, tt))) none (tt, tt))), ((λ word words is other none. (inr (inr (inr (inr (inl refl)))), level_good HasNumbers _ (fine_runners, (fine_workers, (fine_flag, (fine_help, tt)))) words [] (kept_runners, (kept_workers, (flag_default, (kept_help, tt)))) none (tt, tt))), ((λ word words is other none. (inr (inr (inr (inr (inr (inl refl))))), level_good HasNumbers _ (fine_workers, (fine_flag, (fine_edits, (fine_help, tt)))) words [] (kept_workers, (flag_default, (kept_edits, (kept_help, tt)))) none (tt, tt))), ((λ word words is other none. (inr (inr (inr (inr (inr (inr refl))))), level_good HasNumbers _ (fine_flag, (fine_help, tt)) words [] (flag_default, (kept_help, tt)) none (tt, tt))), ((λ word words is other none. absurd (no_help word is other)), tt))))))))
 
 -- a command is wanted
 wants_one : (rows : List Row) → check_fault (built command_line).top rows false ≡ [] → ⊥

@@ -195,29 +195,33 @@ module _ (Good : List Row → Type 0) (s : Shape) (fine : AllFine Good s.args_ov
       let both = neither (turn_fault s names w word) (walk_fault s names (walked s.rules names w word) words) none in
       walk_good names words (walked s.rules names w word) both.1 (turn_good names w word both.0 good)
 
-  -- no argument has a default
-  abbrev pub AllBare : List Rule → Type 0
-  AllBare [] = Unit {0}
-  AllBare (a ∷ rules) = (a.defaults ≡ []) × AllBare rules
+  -- what an argument that was not used has for a default keeps what holds of the rows
+  abbrev pub KeepsDefault : Rule → Type 0
+  KeepsDefault a = (rows : List Row) → Good rows → Good (with_default rows a)
 
-  bare : (rows : List Row) (a : Rule) → a.defaults ≡ [] → with_default rows a ≡ rows
-  bare rows a none = go (has_row a.id rows) a.defaults none
-    where
-      go : (b : Bool) (defaults : List Text) → defaults ≡ [] → (if b then rows else default_rows a.id (reading_by a) defaults rows) ≡ rows
-      go true defaults clear = refl
-      go false [] clear = refl
-      go false (v ∷ vs) clear = cc
+  abbrev pub AllKeep : List Rule → Type 0
+  AllKeep [] = Unit {0}
+  AllKeep (a ∷ rules) = KeepsDefault a × AllKeep rules
 
-  defaults_good : (rules : List Rule) (rows : List Row) → AllBare rules → Good rows → Good (fold with_default rows rules)
-  defaults_good [] rows bares good = good
-  defaults_good (a ∷ rules) rows bares good = defaults_good rules (with_default rows a) bares.1 (subst Good (sym (bare rows a bares.0)) good)
+  defaults_good : (rules : List Rule) (rows : List Row) → AllKeep rules → Good rows → Good (fold with_default rows rules)
+  defaults_good [] rows keep good = good
+  defaults_good (a ∷ rules) rows keep good = defaults_good rules (with_default rows a) keep.1 (keep.0 rows good)
 
   -- what holds of no rows holds of those of words with no fault
-  pub level_good : (words : List Text) (kinds : Kinds) → AllBare s.rules → level_fault s [] nothing_held words false kinds ≡ [] → Good [] → Good (rows_after s.rules [] words)
-  level_good words kinds bares none good =
+  pub level_good : (words : List Text) (kinds : Kinds) → AllKeep s.rules → level_fault s [] nothing_held words false kinds ≡ [] → Good [] → Good (rows_after s.rules [] words)
+  level_good words kinds keep none good =
       let end = (walk s.rules [] nothing_held words).held in
       let walks = neither (walk_fault s [] (walk_from nothing_held) words) _ none in
       let below = neither kinds _ walks.1 in
       let settles = neither (settle_fault s.rules s.args_override_self end) _ below.1 in
-      defaults_good s.rules (settled s.rules end).rows bares
+      defaults_good s.rules (settled s.rules end).rows keep
       (settled_good Good s.args_override_self s.rules fine end settles.0 (walk_good [] words (walk_from nothing_held) walks.0 good))
+
+-- an argument with no default
+pub bare : (Good : List Row → Type 0) (a : Rule) → a.defaults ≡ [] → (rows : List Row) → Good rows → Good (with_default rows a)
+bare Good a none rows good = subst Good (sym (go (has_row a.id rows) a.defaults none)) good
+  where
+    go : (b : Bool) (defaults : List Text) → defaults ≡ [] → (if b then rows else default_rows a.id (reading_by a) defaults rows) ≡ rows
+    go true defaults clear = refl
+    go false [] clear = refl
+    go false (v ∷ vs) clear = cc

@@ -10,9 +10,12 @@ use Rattle.clap.specs.declared.builder.command.Command.{Command as Parser}
 use Rattle.clap.specs.declared.builder.command.Command.TheViews.{out-Command}
 use Rattle.clap.specs.declared.error.Error.{Error}
 use Rattle.clap.specs.declared.error.kind.ErrorKind.TheVariants as kinds
+use Rattle.clap.specs.declared.builder.action.ArgAction.TheVariants as actions
 use Rattle.clap.specs.declared.builder.value_parser.ValueParser.TheVariants as parsers
 use Rattle.boc_types.specs.declared.edit.Edit.{Edit}
 use Rattle.boc_types.specs.declared.limits.TheConstants.{MOST_RUNNERS, MOST_WORKERS}
+use Rattle.boc_types.specs.declared.sharing.Sharing.{Sharing}
+use Rattle.boc_types.specs.declared.sharing.Sharing.TheVariants.{Exclusive, SharedReads}
 use Rattle.boc_words.specs.declared.fault.WordsFault.{WordsFault}
 use Rattle.boc_words.specs.declared.fault.WordsFault.TheVariants as faults
 use Rattle.boc_words.specs.declared.words.Command.{Command}
@@ -44,21 +47,32 @@ edits_operand = record (new_rule (codes "edits")) {
   range = Some (record { start_inclusive = 0; end_inclusive = usize_max });
 }
 
+-- the flag `--shared-reads`
+abbrev pub sharing_flag : Rule
+sharing_flag = record (new_rule (codes "shared-reads")) {
+  long = Some (codes "shared-reads");
+  action = Some actions.SetTrue;
+}
+
 -- `run`, with `--workers N`
 abbrev pub run_command : App
 run_command = with_rule (new_app (codes "run")) runners_option
 
--- `profile`, with `--p P`
+-- `profile`, with `--p P` and `--shared-reads`
 abbrev pub profile_command : App
-profile_command = with_rule (new_app (codes "profile")) workers_option
+profile_command = with_rule (with_rule (new_app (codes "profile")) workers_option) sharing_flag
 
--- `time`, with `--workers N` and `--p P`
+-- `time`, with `--workers N`, `--p P` and `--shared-reads`
 abbrev pub time_command : App
-time_command = with_rule (with_rule (new_app (codes "time")) runners_option) workers_option
+time_command = with_rule (with_rule (with_rule (new_app (codes "time")) runners_option) workers_option) sharing_flag
 
--- `whatif`, with `--p P` and edits
+-- `whatif`, with `--p P`, `--shared-reads` and edits
 abbrev pub whatif_command : App
-whatif_command = with_rule (with_rule (new_app (codes "whatif")) workers_option) edits_operand
+whatif_command = with_rule (with_rule (with_rule (new_app (codes "whatif")) workers_option) sharing_flag) edits_operand
+
+-- `sweep`, with `--shared-reads`
+abbrev pub sweep_command : App
+sweep_command = with_rule (new_app (codes "sweep")) sharing_flag
 
 -- `boc`, which wants one of its commands
 abbrev pub without_commands : App
@@ -70,7 +84,7 @@ without_commands = on_top (λ shape. record shape {
 -- the seven commands
 abbrev pub commands_of_boc : List App
 commands_of_boc = new_app (codes "values") ∷ new_app (codes "check") ∷ run_command ∷ profile_command ∷ time_command
-    ∷ whatif_command ∷ new_app (codes "sweep") ∷ []
+    ∷ whatif_command ∷ sweep_command ∷ []
 
 -- `boc` with its commands
 abbrev pub command_line : App
@@ -102,6 +116,11 @@ AreWorkers rows (Some number) = IsGiven (values_at rows (codes "p")) number
 -- no `--workers` was given, and it is 1, or one with this number
 abbrev pub AreRunners : List Row → ℕ → Type 0
 AreRunners rows number = ((values_at rows (codes "workers") ≡ []) × (number ≡ 1)) ⊎ IsGiven (values_at rows (codes "workers")) number
+
+-- `--shared-reads` was given, and what was only read is shared, or it was not, and cowns are exclusive
+abbrev pub AreShared : List Row → Sharing → Type 0
+AreShared rows SharedReads = values_at rows (codes "shared-reads") ≡ codes "true" ∷ []
+AreShared rows Exclusive = values_at rows (codes "shared-reads") ≢ codes "true" ∷ []
 
 -- the option was given, and there is no one number from 1 to this with it
 pub record HasNoNumber (id : List ℕ) (most : ℕ) (rows : List Row) : Type 0 where
@@ -165,12 +184,13 @@ abbrev pub IsNamed : Option (List ℕ × List Row) → Command → Type 0
 IsNamed named commands.Values = Names named (codes "values") Anything
 IsNamed named commands.Check = Names named (codes "check") Anything
 IsNamed named (commands.Run runners) = Names named (codes "run") (λ rows. AreRunners rows runners)
-IsNamed named (commands.Profile workers) = Names named (codes "profile") (λ rows. AreWorkers rows workers)
-IsNamed named (commands.Time runners workers) =
-    Names named (codes "time") (λ rows. AreRunners rows runners × AreWorkers rows workers)
-IsNamed named (commands.WhatIf edits workers) =
-    Names named (codes "whatif") (λ rows. AreEdits rows edits.items × AreWorkers rows workers)
-IsNamed named commands.Sweep = Names named (codes "sweep") Anything
+IsNamed named (commands.Profile workers sharing) =
+    Names named (codes "profile") (λ rows. AreWorkers rows workers × AreShared rows sharing)
+IsNamed named (commands.Time runners workers sharing) =
+    Names named (codes "time") (λ rows. AreRunners rows runners × AreWorkers rows workers × AreShared rows sharing)
+IsNamed named (commands.WhatIf edits workers sharing) =
+    Names named (codes "whatif") (λ rows. AreEdits rows edits.items × AreWorkers rows workers × AreShared rows sharing)
+IsNamed named (commands.Sweep sharing) = Names named (codes "sweep") (λ rows. AreShared rows sharing)
 IsNamed named (commands.Help text) = ⊥
 
 -- what was named is none of the commands

@@ -1,18 +1,19 @@
 // The words of the command line.
 
-ghost use Rattle.boc_words.specs.Words.{AreEdits, AreRunners, AreTaken, AreWorkers, IsAsked, IsGiven, IsHelp, IsMisnamed, IsNamed, IsOfEditWords, IsOfError, IsOfNoText, IsOfNumber, IsRefused, Told, command_line, edits_operand, profile_command as profile_as_told, run_command as run_as_told, runners_option, time_command as time_as_told, values_at, whatif_command as whatif_as_told, without_commands, workers_option};
+ghost use Rattle.boc_words.specs.Words.{AreEdits, AreRunners, AreShared, AreTaken, AreWorkers, IsAsked, IsGiven, IsHelp, IsMisnamed, IsNamed, IsOfEditWords, IsOfError, IsOfNoText, IsOfNumber, IsRefused, Told, command_line, edits_operand, profile_command as profile_as_told, run_command as run_as_told, runners_option, sharing_flag, sweep_command as sweep_as_told, time_command as time_as_told, values_at, whatif_command as whatif_as_told, without_commands, workers_option};
 ghost use Rattle.clap.specs.Kinds.{HasKind};
 ghost use Rattle.clap.specs.Words.{app_of, fault_of, found_of, kind_of, new_app, rows_of, rule_of, subcommand_of, subcommand_rows_of};
-ghost use Rattle.std.specs.Prelude.{◌≡◌, ◌<◌, ◌≤◌, ◌^◌, ℕ, IfErr, IfOk, MatchOption, codes, false, map, string_bytes};
+ghost use Rattle.std.specs.Prelude.{◌≡◌, ◌<◌, ◌≤◌, ◌^◌, ◌∷◌, ◌↔◌, [], ℕ, IfErr, IfOk, IsTrue, MatchOption, codes, false, map, string_bytes};
 
 use crate::edit_word::edit_of;
 use crate::fault::WordsFault;
 use crate::runners::Runners;
 use boc_types::edit::Edit;
 use boc_types::limits::{MOST_RUNNERS, MOST_WORKERS};
+use boc_types::sharing::Sharing;
 use boc_types::workers::Workers;
 use clap::error::ErrorKind;
-use clap::{Arg, ArgMatches, value_parser};
+use clap::{Arg, ArgAction, ArgMatches, value_parser};
 use std::alloc::{AllocError, Global};
 
 /// What the words ask for.
@@ -26,20 +27,26 @@ pub enum Command {
     Run {
         runners: Runners,
     },
-    /// The report on the rows of a record, with the greedy plan for so many workers where a number is given.
-    Profile(Option<Workers>),
+    /// The report on the rows of a record that share cowns in this way, with the greedy plan for so many workers where a
+    /// number is given.
+    Profile {
+        workers: Option<Workers>,
+        sharing: Sharing,
+    },
     /// The report on the rows of a run by so many threads, with the greedy plan as for a profile.
     Time {
         runners: Runners,
         workers: Option<Workers>,
+        sharing: Sharing,
     },
     /// The report on the rows of a record after these edits, with the greedy plan as for a profile.
     WhatIf {
         edits: Vec<Edit>,
         workers: Option<Workers>,
+        sharing: Sharing,
     },
     /// For each row of a record, the span with that row alone at its least ticks.
-    Sweep,
+    Sweep(Sharing),
     /// The parser's own text, for standard output.
     Help(String),
 }
@@ -84,6 +91,7 @@ fn parser<'a>(alloc: Global) -> Result<clap::Command<'a>, AllocError>
     let profile = profile_command(alloc)?;
     let timed = time_subcommand(alloc)?;
     let whatif = whatif_command(alloc)?;
+    let sweep = sweep_command(alloc)?;
     boc_command(alloc)
         .subcommand(values_command(alloc))?
         .subcommand(check_command(alloc))?
@@ -91,7 +99,7 @@ fn parser<'a>(alloc: Global) -> Result<clap::Command<'a>, AllocError>
         .subcommand(profile)?
         .subcommand(timed)?
         .subcommand(whatif)?
-        .subcommand(sweep_command(alloc))
+        .subcommand(sweep)
 }
 
 // The program, which wants one of its commands.
@@ -135,7 +143,8 @@ fn profile_command<'a>(alloc: Global) -> Result<clap::Command<'a>, AllocError>
         .about(
             "Reads the record of a run, and prints its work, its span, its costliest chain and its earliest plan",
         )
-        .arg(workers_arg(alloc))
+        .arg(workers_arg(alloc))?
+        .arg(sharing_arg(alloc))
 }
 
 fn time_subcommand<'a>(alloc: Global) -> Result<clap::Command<'a>, AllocError>
@@ -144,7 +153,8 @@ fn time_subcommand<'a>(alloc: Global) -> Result<clap::Command<'a>, AllocError>
     clap::Command::new(alloc, "time")
         .about("Reads a program, runs it by several threads, and prints the profile of the run")
         .arg(runners_arg(alloc))?
-        .arg(workers_arg(alloc))
+        .arg(workers_arg(alloc))?
+        .arg(sharing_arg(alloc))
 }
 
 fn whatif_command<'a>(alloc: Global) -> Result<clap::Command<'a>, AllocError>
@@ -155,15 +165,18 @@ fn whatif_command<'a>(alloc: Global) -> Result<clap::Command<'a>, AllocError>
             "Reads the record of a run, and prints the profile that it would have with other ticks",
         )
         .arg(workers_arg(alloc))?
+        .arg(sharing_arg(alloc))?
         .arg(edits_arg(alloc))
 }
 
-fn sweep_command<'a>(alloc: Global) -> clap::Command<'a>
-    ensures { Told result (new_app (codes "sweep")) }
+fn sweep_command<'a>(alloc: Global) -> Result<clap::Command<'a>, AllocError>
+    ensures { IfOk result (λ command. Told command sweep_as_told) }
 {
-    clap::Command::new(alloc, "sweep").about(
-        "Reads the record of a run, and prints for each row the span with that row alone at its least ticks",
-    )
+    clap::Command::new(alloc, "sweep")
+        .about(
+            "Reads the record of a run, and prints for each row the span with that row alone at its least ticks",
+        )
+        .arg(sharing_arg(alloc))
 }
 
 // The number of threads of a run.
@@ -188,6 +201,17 @@ fn workers_arg<'a>(alloc: Global) -> Arg<'a>
         .value_name("P")
         .value_parser(value_parser!(u32).range(1..=i64::from(MOST_WORKERS)))
         .help("Prints the greedy plan for P workers too, 1 to 64, with its end and its bound")
+}
+
+// Whether plans share what was only read.
+fn sharing_arg<'a>(alloc: Global) -> Arg<'a>
+    ensures rule { rule_of result ≡ sharing_flag }
+    ensures local { result.global ≡ false }
+{
+    Arg::new(alloc, "shared-reads")
+        .long("shared-reads")
+        .action(ArgAction::SetTrue)
+        .help("Lets behaviours that only read a cown share it, in plans")
 }
 
 // The edits of `whatif`.
@@ -224,18 +248,32 @@ fn command_of(alloc: Global, matches: &ArgMatches) -> Result<Command, WordsFault
             let runners = runners_asked(alloc, matches)?;
             Ok(Command::Run { runners })
         }
-        Some(("profile", matches)) => Ok(Command::Profile(workers_asked(alloc, matches)?)),
+        Some(("profile", matches)) => {
+            let workers = workers_asked(alloc, matches)?;
+            let sharing = sharing_asked(matches);
+            Ok(Command::Profile { workers, sharing })
+        }
         Some(("time", matches)) => {
             let runners = runners_asked(alloc, matches)?;
             let workers = workers_asked(alloc, matches)?;
-            Ok(Command::Time { runners, workers })
+            let sharing = sharing_asked(matches);
+            Ok(Command::Time {
+                runners,
+                workers,
+                sharing,
+            })
         }
         Some(("whatif", matches)) => {
             let edits = edits_asked(alloc, matches)?;
             let workers = workers_asked(alloc, matches)?;
-            Ok(Command::WhatIf { edits, workers })
+            let sharing = sharing_asked(matches);
+            Ok(Command::WhatIf {
+                edits,
+                workers,
+                sharing,
+            })
         }
-        Some(("sweep", _)) => Ok(Command::Sweep),
+        Some(("sweep", matches)) => Ok(Command::Sweep(sharing_asked(matches))),
         _ => Err(WordsFault::Parser(error_of_words(
             alloc,
             ErrorKind::MissingSubcommand,
@@ -304,6 +342,27 @@ fn workers_asked(alloc: Global, matches: &ArgMatches) -> Result<Option<Workers>,
             "`--p` is no number from 1 to 64",
         )?)),
     }
+}
+
+// How the words have plans share cowns: with `--shared-reads` what was only read is shared.
+fn sharing_asked(matches: &ArgMatches) -> Sharing
+    ensures { AreShared (rows_of (found_of matches.now)) result }
+{
+    if is_set(texts_at(matches, "shared-reads")) {
+        Sharing::SharedReads
+    } else {
+        Sharing::Exclusive
+    }
+}
+
+// These are the texts that are found for a flag that was given.
+fn is_set(texts: &[&str]) -> bool
+    ensures { IsTrue result ↔ (map (λ text. text.now) texts.now ≡ codes "true" ∷ []) }
+{
+    let [text] = texts else {
+        return false;
+    };
+    *text == "true"
 }
 
 // The threads that one text is the number of.

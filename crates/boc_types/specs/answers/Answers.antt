@@ -9,6 +9,8 @@ use Rattle.boc_types.specs.plans.Chains.{IsPicked}
 use Rattle.boc_types.specs.plans.Greedy.{IsGreedy, IsBound}
 use Rattle.boc_types.specs.runs.OwnOrder.{EndsWith}
 use Rattle.boc_types.specs.declared.edit.Edit.{Edit}
+use Rattle.boc_types.specs.declared.sharing.Sharing.{Sharing}
+use Rattle.boc_types.specs.runs.Seen.{seen}
 use Rattle.boc_types.specs.plans.Edits.{AllFit, all_edited, IsSweep}
 use Rattle.boc_types.specs.answers.Texts.{values_text, check_text, report_text, greedy_text, sweep_lines}
 use Rattle.boc_types.specs.runs.Records.{Recorded}
@@ -60,23 +62,23 @@ pub record IsReport (rows : List Row) (asked : Option ℕ) (output : List ℕ) :
   pub part_is : IsAskedPart rows asked part
   pub text : output ≡ report_text (work_of rows) span steps starts ends ++ part
 
--- the input is the text of a record, and the output is the report on its rows
-pub record IsProfileAnswer (asked : Option ℕ) (input output : List ℕ) : Type 0 where
+-- the input is the text of a record, and the output is the report on its rows, as they are seen
+pub record IsProfileAnswer (sharing : Sharing) (asked : Option ℕ) (input output : List ℕ) : Type 0 where
   pub recorded : Recorded
   pub spells : IsTextOf input recorded
-  pub report : IsReport recorded.rows asked output
+  pub report : IsReport (seen sharing recorded.rows) asked output
 
 -- the input is the text of a record whose rows the edits fit, one after the other, and the output is the report on the rows after them
-pub record IsWhatIfAnswer (edits : List Edit) (asked : Option ℕ) (input output : List ℕ) : Type 0 where
+pub record IsWhatIfAnswer (edits : List Edit) (sharing : Sharing) (asked : Option ℕ) (input output : List ℕ) : Type 0 where
   pub recorded : Recorded
   pub spells : IsTextOf input recorded
   pub fit : AllFit recorded.rows edits
-  pub report : IsReport (all_edited recorded.rows edits) asked output
+  pub report : IsReport (seen sharing (all_edited recorded.rows edits)) asked output
 
 -- the input is the text of a record, and the output tells for each row the span of the rows in which that row takes the least ticks that it can
-pub record IsSweepAnswer (input output : List ℕ) : Type 0 where
+pub record IsSweepAnswer (sharing : Sharing) (input output : List ℕ) : Type 0 where
   pub recorded : Recorded
   pub spells : IsTextOf input recorded
   pub spans : List ℕ
-  pub sweep : IsSweep recorded.rows spans
+  pub sweep : IsSweep (seen sharing recorded.rows) spans
   pub text : output ≡ sweep_lines 0 spans

@@ -1,8 +1,8 @@
--- Plans for the rows of a record, and the earliest of them.
-use Rattle.std.specs.Prelude.{◌≡◌, ℕ, ◌+◌, ◌<◌, ◌≤◌, List, length, slice_index}
+-- Plans for the rows of a record, and the earliest of them. Where cowns are exclusive, the rows are those that count as writing all their cowns.
+use Rattle.std.specs.Prelude.{◌≡◌, ℕ, ◌+◌, ◌<◌, ◌≤◌, ◌⊎◌, List, length, slice_index}
 use Rattle.std.specs.List.{Contains, sum_by}
 use Rattle.boc_types.specs.declared.rows.Row.{Row}
-use Rattle.boc_types.specs.runs.Rows.{parent_of, offset_of, ticks_of, cowns_of}
+use Rattle.boc_types.specs.runs.Rows.{parent_of, offset_of, ticks_of, cowns_of, written_of}
 
 -- the tick at which a row starts; a plan is the list of these
 abbrev pub start_of : List ℕ → ℕ → ℕ
@@ -18,10 +18,16 @@ pub record IsChild (rows : List Row) (a b : ℕ) : Type 0 where
   pub there : b < length rows
   pub parent : parent_of rows b ≡ a
 
--- row a comes before row b, and both need some cown
+-- both rows need cown c, and one of them wrote it
+pub record ConflictOn (rows : List Row) (c a b : ℕ) : Type 0 where
+  pub first : Contains (cowns_of rows a) c
+  pub second : Contains (cowns_of rows b) c
+  pub wrote : Contains (written_of rows a) c ⊎ Contains (written_of rows b) c
+
+-- row a comes before row b, and they conflict on some cown
 pub record Ordered (rows : List Row) (a b : ℕ) : Type 0 where
   pub before : a < b
-  pub shared : (c : ℕ) × Contains (cowns_of rows a) c × Contains (cowns_of rows b) c
+  pub shared : (c : ℕ) × ConflictOn rows c a b
 
 -- no row starts before its spawn, nor before the end of a row that is ordered before it
 pub record Keeps (rows : List Row) (plan : List ℕ) : Type 0 where

@@ -1,8 +1,11 @@
+use Rattle.boc_types.specs.runs.Seen.{seen}
+use Rattle.boc_types.proofs.Seeing.{rows_seen}
 use Rattle.boc_commands.proofs.Promised.{best, within_bound}
 use Rattle.boc_commands.proofs.laws.answers_are_true.Goals as goal
 
 pub returns-clause-best : goal.returns-clause-best
-returns-clause-best c = λ rows profile is. best rows profile.starts.items profile.chain.steps.items is.earliest is.picked.chain
+returns-clause-best c = λ rows sharing profile is. best (seen sharing rows) profile.starts.items profile.chain.steps.items is.earliest is.picked.chain
 
 pub returns-clause-greedy : goal.returns-clause-greedy
-returns-clause-greedy c = λ rows p plan hr is. within_bound rows p plan.starts.items plan.workers.items plan.ends_at hr is.greedy is.ends_at
+returns-clause-greedy c = λ rows sharing p plan hr is.
+    within_bound (seen sharing rows) p plan.starts.items plan.workers.items plan.ends_at (rows_seen sharing rows hr) is.greedy is.ends_at

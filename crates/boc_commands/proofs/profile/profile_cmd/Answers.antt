@@ -9,7 +9,7 @@ returns-in_err-put_out-clause-written g c =
       input = read.text;
       taken = read.taken;
       whole = read.over;
-      answers = reported c.args.workers read.text asked.0 c.in_ok-rows.rows c.in_ok-answer.answer.items c.deref.result.now read.text_of asked.2 c.in_ok-answer.ensures c.deref.ensures.value;
+      answers = reported c.args.sharing c.args.workers read.text asked.0 c.in_ok-rows.rows c.in_ok-answer.answer.items c.deref.result.now read.text_of asked.2 c.in_ok-answer.ensures c.deref.ensures.value;
     }) c.in_err-put_out.ensures.stopped
 
 pub returns-clause-written : goal.returns-clause-written
@@ -21,7 +21,7 @@ returns-clause-written g c =
         input = read.text;
         taken = read.taken;
         whole = read.over;
-        answers = reported c.args.workers read.text asked.0 c.in_ok-rows.rows c.in_ok-answer.answer.items c.deref.result.now read.text_of asked.2 c.in_ok-answer.ensures c.deref.ensures.value;
+        answers = reported c.args.sharing c.args.workers read.text asked.0 c.in_ok-rows.rows c.in_ok-answer.answer.items c.deref.result.now read.text_of asked.2 c.in_ok-answer.ensures c.deref.ensures.value;
       },
       c.in_ok-put_out.ensures.ok,
     )

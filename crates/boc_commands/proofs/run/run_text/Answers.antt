@@ -1,11 +1,9 @@
-use Rattle.std.proofs.Common.{◌≡◌, ◌≢◌, ℕ, List, Result, Ok, Err, MatchResult, refl, sym, subst}
-use Rattle.std.specs.Result.{IsErrAnd}
+use Rattle.std.proofs.Common.{◌≡◌, ◌≢◌, ℕ, List, refl}
 use Rattle.boc_types.specs.declared.program.Program.{Program}
 use Rattle.boc_types.specs.text.Spells.{Spells}
 use Rattle.boc_workers.specs.declared.fault.RunFault.{RunFault}
 use Rattle.boc_workers.specs.declared.fault.RunFault.TheVariants as runs
 use Rattle.boc_workers.specs.Noting.{CanReachLimit}
-use Rattle.boc_commands.specs.declared.fault.Fault.{Fault}
 use Rattle.boc_commands.specs.Faults.{of_run}
 use Rattle.boc_commands.specs.Commands.{IsOfRun}
 use Rattle.boc_commands.proofs.Passed.{passed_on}

@@ -12,8 +12,8 @@ returns-clause-written g c =
         input = read.text;
         taken = read.taken;
         whole = read.over;
-        answers = swept read.text r c.in_ok-question.question.rows c.in_ok-spans.spans.items c.deref.result.now c.in_ok-answer.answer.items c.deref-2.result.now
-            read.text_of (c.in_ok-question.ensures.rows ∙ asked.2) c.in_ok-spans.ensures c.deref.ensures.value
+        answers = swept c.args.sharing c.in_ok-question.question.sharing read.text r c.in_ok-question.question.rows c.in_ok-spans.spans.items c.deref.result.now c.in_ok-answer.answer.items c.deref-2.result.now
+            read.text_of (c.in_ok-question.ensures.rows ∙ asked.2) c.in_ok-question.ensures.sharing c.in_ok-spans.ensures c.deref.ensures.value
             c.in_ok-answer.ensures c.deref-2.ensures.value;
       },
       c.in_ok-put_out.ensures.ok,
@@ -27,6 +27,6 @@ returns-in_err-put_out-clause-written g c =
       input = read.text;
       taken = read.taken;
       whole = read.over;
-      answers = swept read.text asked.0 c.in_ok-question.question.rows c.in_ok-spans.spans.items c.deref.result.now c.in_ok-answer.answer.items c.deref-2.result.now
-          read.text_of (c.in_ok-question.ensures.rows ∙ asked.2) c.in_ok-spans.ensures c.deref.ensures.value c.in_ok-answer.ensures c.deref-2.ensures.value;
+      answers = swept c.args.sharing c.in_ok-question.question.sharing read.text asked.0 c.in_ok-question.question.rows c.in_ok-spans.spans.items c.deref.result.now c.in_ok-answer.answer.items c.deref-2.result.now
+          read.text_of (c.in_ok-question.ensures.rows ∙ asked.2) c.in_ok-question.ensures.sharing c.in_ok-spans.ensures c.deref.ensures.value c.in_ok-answer.ensures c.deref-2.ensures.value;
     }) c.in_err-put_out.ensures.stopped

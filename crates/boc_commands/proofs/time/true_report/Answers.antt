@@ -1,6 +1,8 @@
 use Rattle.std.proofs.lemmas.Result.{IfOk-weaker}
+use Rattle.boc_types.specs.runs.Seen.{seen}
+use Rattle.boc_types.proofs.Seeing.{rows_seen}
 use Rattle.boc_commands.proofs.Promised.{true_report}
 use Rattle.boc_commands.proofs.time.true_report.Goals as goal
 
 pub returns : goal.returns
-returns c = IfOk-weaker c.report_on.result _ _ (λ text is. true_report c.args.rows.now c.args.workers text.items c.as_slice-shape.ensures.shape is) c.report_on.ensures
+returns c = IfOk-weaker c.report_on.result _ _ (λ text is. true_report (seen c.args.sharing c.args.rows.now) c.args.workers text.items (rows_seen c.args.sharing c.args.rows.now c.as_slice-shape.ensures.shape) is) c.report_on.ensures

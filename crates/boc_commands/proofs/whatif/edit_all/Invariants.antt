@@ -6,4 +6,5 @@ abbrev pub invariant-loop-index : goal.invariant-loop-index
 invariant-loop-index l = record {
   fit : AllFit l.fn.question.rows (take l.index l.edits);
   rows : l.question.rows ≡ all_edited l.fn.question.rows (take l.index l.edits);
+  sharing : l.question.sharing ≡ l.fn.question.sharing;
 }

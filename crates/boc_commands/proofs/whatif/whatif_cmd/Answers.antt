@@ -10,11 +10,11 @@ returns-in_err-put_out-clause-written g c =
     let asked = c.in_ok-rows.ensures.rows_or_fault in
     let r = asked.0 in
     let read = asked.1 in
-    let answer : IsWhatIfAnswer c.args.edits.now c.args.workers read.text c.deref.result.now =
-    answered c.args.edits.now c.args.workers read.text r c.in_ok-question.question.rows c.edit_all.new.question.rows c.rows.result.now c.in_ok-answer.answer.items
+    let answer : IsWhatIfAnswer c.args.edits.now c.args.sharing c.args.workers read.text c.deref.result.now =
+    answered c.args.edits.now c.args.sharing c.edit_all.new.question.sharing c.args.workers read.text r c.in_ok-question.question.rows c.edit_all.new.question.rows c.in_ok-answer.answer.items
     c.deref.result.now read.text_of (c.in_ok-question.ensures.rows ∙ asked.2) c.in_ok-edit_all.ensures.fit c.in_ok-edit_all.ensures.rows
-    c.rows.ensures c.in_ok-answer.ensures c.deref.ensures.value in
-    let whole : AnswersInput (IsWhatIfAnswer c.args.edits.now c.args.workers) (g.S.Source.remaining c.args.source.now)
+    (c.in_ok-edit_all.ensures.sharing ∙ c.in_ok-question.ensures.sharing) c.in_ok-answer.ensures c.deref.ensures.value in
+    let whole : AnswersInput (IsWhatIfAnswer c.args.edits.now c.args.sharing c.args.workers) (g.S.Source.remaining c.args.source.now)
     (g.S.Source.remaining c.read_rows.new.source) c.deref.result.now = record {
       input = read.text;
       taken = read.taken;
@@ -41,9 +41,9 @@ returns-clause-written g c =
         input = read.text;
         taken = read.taken;
         whole = read.over;
-        answers = answered c.args.edits.now c.args.workers read.text asked.0 c.in_ok-question.question.rows c.edit_all.new.question.rows c.rows.result.now c.in_ok-answer.answer.items
+        answers = answered c.args.edits.now c.args.sharing c.edit_all.new.question.sharing c.args.workers read.text asked.0 c.in_ok-question.question.rows c.edit_all.new.question.rows c.in_ok-answer.answer.items
             c.deref.result.now read.text_of (c.in_ok-question.ensures.rows ∙ asked.2) c.in_ok-edit_all.ensures.fit c.in_ok-edit_all.ensures.rows
-            c.rows.ensures c.in_ok-answer.ensures c.deref.ensures.value;
+            (c.in_ok-edit_all.ensures.sharing ∙ c.in_ok-question.ensures.sharing) c.in_ok-answer.ensures c.deref.ensures.value;
       },
       c.in_ok-put_out.ensures.ok,
     )

@@ -1,11 +1,9 @@
-use Rattle.std.proofs.Common.{◌≡◌, ℕ, ◌<◌, length, ap, arith}
+use Rattle.std.proofs.Common.{◌≡◌, ℕ, ◌<◌, length, sym, arith}
 use Rattle.std.specs.Prelude.{slice_index, slice_set}
-use Rattle.boc_types.specs.declared.rows.Row.{Row}
 use Rattle.boc_types.specs.runs.Rows.{parent_of}
 use Rattle.boc_greedy.proofs.Puts.{Puts, puts}
 use Rattle.boc_greedy.proofs.Reading.{read_at}
-use Rattle.std.proofs.Common.{◌-◌, slice_index_or}
-use Rattle.boc_types.proofs.Children.{row_read}
+use Rattle.std.proofs.Common.{◌-◌}
 use Rattle.boc_greedy.proofs.Following.{found_more}
 use Rattle.boc_greedy.proofs.children.family_of.Goals as goal
 
@@ -15,9 +13,8 @@ loop-row-preserved c =
     let row : ℕ = c.loop-row.row - 1 in
     let h : row < length c.args.rows.now = omega (arith, i.within, c.loop-row-test.true) in
     let pos : 0 < row = omega (arith, c.loop-row-test.true) in
-    let parent : ℕ = (slice_index_or c.args.rows.now row c.index-rows-row.result).parent in
-    let read = row_read c.args.rows.now row c.index-rows-row.result h c.index-rows-row.is in
-    let parent_is : parent_of c.args.rows.now row ≡ parent = omega (arith, read.parent, ap (λ (x : Row). x.parent) c.index-rows-row.is) in
+    let parent : ℕ = c.parent-parent.result in
+    let parent_is : parent_of c.args.rows.now row ≡ parent = sym c.parent-parent.ensures in
     let low : parent < length c.args.rows.now = omega (arith, parent_is, c.requires.parent_before row pos h, h) in
     let v : ℕ = c.index.result.now in
     let v_is : slice_index c.loop-row.first.items parent ≡ v = read_at c.loop-row.first.items parent v (omega (arith, low, i.first_whole)) c.index.ensures in

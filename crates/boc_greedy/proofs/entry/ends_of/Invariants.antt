@@ -5,6 +5,6 @@ use Rattle.boc_greedy.proofs.entry.ends_of.Given as goal
 -- the rows so far have their ends
 abbrev pub invariant-loop-row : goal.invariant-loop-row
 invariant-loop-row l = record {
-  so_many : length l.ends.items ≡ length l.yielded;
-  at : (k : ℕ) → k < length l.yielded → get_or l.ends.items k 0 ≡ end_of l.rows l.starts k;
+  so_many : length l.ends.items ≡ l.row;
+  at : (k : ℕ) → k < l.row → get_or l.ends.items k 0 ≡ end_of l.rows l.starts k;
 }

@@ -1,54 +1,7 @@
-use Rattle.std.proofs.Common.{arith, ◌≡◌, ◌+◌, ◌-◌, ◌*◌, ◌/◌, ◌≤◌, ℕ, refl, ◌∙◌, sym, subst, ap}
-use Rattle.std.proofs.Math.Nat.{div-le_self}
-use Rattle.boc_types.specs.plans.Plans.{IsEnd, work_of}
-use Rattle.boc_types.specs.plans.Greedy.{IsSpan, IsBound}
-use Rattle.boc_greedy.specs.Plans.{IsClose}
-use Rattle.boc_greedy.proofs.Bound.{work_high, greatest_is_end, end_within, greedy_keeps, greedy_for_workers, row_le_work, span_le_work, greedy_close, greedy_twice}
-use Rattle.boc_greedy.proofs.FewMoments.{few_moments}
+use Rattle.std.proofs.Common.{sym, ◌∙◌}
+use Rattle.boc_types.proofs.Seeing.{work_of-seen}
 use Rattle.boc_greedy.proofs.entry.greedy_within.Goals as goal
-use Rattle.boc_greedy.proofs.entry.greedy_within.Goals.{After-from}
 
-pub ends_of-requires-clause-low : goal.ends_of-requires-clause-low
-ends_of-requires-clause-low c = rw (c.as_slice-list.ensures.same, c.deref.ensures.value) (λ r there.
-    omega (arith, row_le_work _ c.as_slice-list.ensures.shape _ (rw c.number-p.ensures.value c.number-p.ensures.some) _ _ c.in_ok-plan.ensures.greedy r there, work_high _ c.as_slice-list.ensures.shape))
-
-work_is : (c : After-from) → c.work.result ≡ work_of c.args.rows.now
-work_is c = rw c.as_slice-list.ensures.same at c.work.ensures
-
-pub overflow_add-bound : goal.overflow_add-bound
-overflow_add-bound c = omega (
-  arith,
-  work_is c,
-  work_high _ c.as_slice-list.ensures.shape,
-  div-le_self c.work.result c.from.result,
-  span_le_work _ c.as_slice-list.ensures.shape _ (rw c.number-p.ensures.value c.number-p.ensures.some) _ _ c.in_ok-plan.ensures.greedy c.args.span c.requires,
-)
-
--- the greatest of the ends is the end of the plan
-is_end : (c : After-from) → IsEnd c.args.rows.now c.in_ok-plan.plan.starts.items c.last_end-ends_at.result
-is_end c = greatest_is_end _ _ _ _ (rw (c.as_slice-list.ensures.same, c.deref.ensures.value) at c.in_ok-ends.ensures)
-    (rw c.deref-2.ensures.value at c.last_end-ends_at.ensures.none_later) (rw c.deref-2.ensures.value at c.last_end-ends_at.ensures.reached)
-
--- the plan is close for every span
-close : (c : After-from) → IsClose c.args.rows.now c.number-p.result c.last_end-ends_at.result
-close c = λ span s. greedy_close _ c.as_slice-list.ensures.shape _ (rw c.number-p.ensures.value c.number-p.ensures.some) _ _ c.in_ok-plan.ensures.greedy _ (is_end c) span s
-
--- the bound that is answered
-bound_is : (c : After-from) → c.work.result / c.from.result + c.args.span ≡ work_of c.args.rows.now / c.number-p.result + c.args.span
-bound_is c = ap (λ (x : ℕ). x / c.from.result + c.args.span) (work_is c) ∙ ap (λ (x : ℕ). work_of c.args.rows.now / x + c.args.span) c.from.ensures
-
-pub returns : goal.returns
-returns c = rw (sym c.number-p.ensures.value) (record {
-  asked = refl;
-  greedy = c.in_ok-plan.ensures.greedy;
-  ends = rw (c.as_slice-list.ensures.same, c.deref.ensures.value) at c.in_ok-ends.ensures;
-  ends_at = is_end c;
-  bound = record { span = c.args.span; is_span = c.requires; is = bound_is c };
-  moments = c.in_ok-plan.ensures.moments;
-  few_moments = few_moments _ _ _ c.as_slice-list.ensures.shape.not_empty c.in_ok-plan.ensures.moments;
-  keeps = greedy_keeps _ c.as_slice-list.ensures.shape _ (rw c.number-p.ensures.value c.number-p.ensures.some) _ _ c.in_ok-plan.ensures.greedy;
-  workers = greedy_for_workers _ c.as_slice-list.ensures.shape _ (rw c.number-p.ensures.value c.number-p.ensures.some) _ _ c.in_ok-plan.ensures.greedy;
-  close = close c;
-  within = rw (bound_is c) (end_within _ _ _ _ (rw c.number-p.ensures.value c.number-p.ensures.some) (close c c.args.span c.requires));
-  twice = greedy_twice _ c.as_slice-list.ensures.shape _ (rw c.number-p.ensures.value c.number-p.ensures.some) _ _ c.in_ok-plan.ensures.greedy _ (is_end c);
-})
+-- the rows take as many ticks, whatever is shared
+pub greedy_over-requires-clause-work : goal.greedy_over-requires-clause-work
+greedy_over-requires-clause-work c = rw c.new-rows.ensures.same ((rw c.as_slice.ensures.same at c.work-work.ensures) ∙ sym (work_of-seen c.args.sharing c.args.rows.now))

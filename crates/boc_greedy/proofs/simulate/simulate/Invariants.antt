@@ -4,9 +4,9 @@ use Rattle.boc_greedy.proofs.simulate.simulate.Given as goal
 
 abbrev pub invariant-loop-worker : goal.invariant-loop-worker
 invariant-loop-worker l = record {
-  settled : IsSettled l.list l.p l.simulation;
-  counted : IsCounted l.list l.simulation;
-  low : IsLow l.list l.simulation;
+  settled : IsSettled l.rows l.p l.simulation;
+  counted : IsCounted l.rows l.simulation;
+  low : IsLow l.rows l.simulation;
 }
 
 abbrev pub decreases-loop-worker : goal.decreases-loop-worker

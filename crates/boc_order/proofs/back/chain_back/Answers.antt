@@ -1,6 +1,5 @@
-use Rattle.std.proofs.Common.{arith, ◌≡◌, ◌<◌, sym, ap}
-use Rattle.boc_types.specs.declared.rows.Row.{Row}
-use Rattle.boc_order.proofs.Chaining.{reverse_push, waits_below, leads_read, leads_more, leads_all, step_is_before}
+use Rattle.std.proofs.Common.{arith, ◌≡◌, ◌<◌}
+use Rattle.boc_order.proofs.Chaining.{reverse_push, waits_below, leads_first, leads_more, leads_all, step_is_before}
 use Rattle.boc_types.specs.plans.Plans.{end_of}
 use Rattle.boc_types.specs.plans.Chains.{IsPicked, weight_of}
 use Rattle.boc_order.proofs.back.chain_back.Goals as goal
@@ -8,8 +7,7 @@ use Rattle.boc_order.proofs.back.chain_back.Goals as goal
 pub loop-row-init : goal.loop-row-init
 loop-row-init c = record {
   there = c.requires.there;
-  leads = leads_read _ _ c.args.last c.index-rows-last.result _ _ c.push_reserved.new.self.items c.requires.there c.index-rows-last.is c.requires.latest
-      (ap (λ (x : Row). x.ticks) (sym c.index-rows-last.is)) c.in_ok-steps.ensures.items c.push_reserved.ensures.items;
+  leads = leads_first _ _ c.args.last _ _ c.push_reserved.new.self.items c.requires.there c.requires.latest c.ticks.ensures c.in_ok-steps.ensures.items c.push_reserved.ensures.items;
   room = omega (arith, c.push_reserved.ensures.len, c.push_reserved.ensures.capacity, c.in_ok-steps.ensures.len, c.in_ok-steps.ensures.capacity);
 }
 

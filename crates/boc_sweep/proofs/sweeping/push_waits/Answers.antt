@@ -1,13 +1,17 @@
-use Rattle.boc_sweep.proofs.Spanning.{pushed_same, pushed_next}
+use Rattle.std.proofs.Common.{◌≡◌, ℕ, ◌<◌, ◌≤◌, refl, arith, length}
+use Rattle.std.specs.Prelude.{slice_index}
+use Rattle.std.proofs.lemmas.List.Elements.{Contains-get_or}
+use Rattle.boc_sweep.proofs.Spanning.{pushed_none, pushed_next}
 use Rattle.boc_sweep.proofs.sweeping.push_waits.Goals as goal
-use Rattle.boc_sweep.proofs.sweeping.push_waits.Goals.{in-Some+in_ok-push, in_default}
 
-pub loop-cown-preserved : goal.loop-cown-preserved
-loop-cown-preserved c = elim c.match-next-cown.branch [
-  | in-Some+in_ok-push w ↦ rw (w.stretches-is, w.in_ok-push.ensures.items)
-      (pushed_next c.args.cowns.now c.args.next.now c.args.row c.args.end c.args.tails.now c.args.stretches.now.items c.loop-cown.cown-index c.loop-cown.stretches.items w.in-Some.after
-      c.loop-cown-test.true w.in-Some.is c.loop-cown.invariant)
-  | in_default w ↦ rw w.stretches-is
-      (pushed_same c.args.cowns.now c.args.next.now c.args.row c.args.end c.args.tails.now c.args.stretches.now.items c.loop-cown.cown-index c.loop-cown.stretches.items
-      w.in_default.not-Some c.loop-cown.invariant)
-]
+pub loop-before-init : goal.loop-before-init
+loop-before-init c = pushed_none _ _ _ _ _
+
+pub overflow_add-before : goal.overflow_add-before
+overflow_add-before c = omega (arith, c.requires.before _ (Contains-get_or c.args.waits.now c.loop-before.before-index 0 c.loop-before-test.true), c.ranges.row)
+
+pub bounds-ends-before : goal.bounds-ends-before
+bounds-ends-before c = (c.requires.before _ (Contains-get_or c.args.waits.now c.loop-before.before-index 0 c.loop-before-test.true)).1
+
+pub loop-before-preserved : goal.loop-before-preserved
+loop-before-preserved c = rw c.in_ok-push.ensures.items (pushed_next _ _ _ _ _ _ _ _ c.loop-before-test.true refl c.loop-before.invariant)

@@ -1,5 +1,6 @@
 use Rattle.boc_sweep.specs.Crossing.{ArePushed}
 use Rattle.boc_sweep.proofs.sweeping.push_waits.Given as goal
 
-abbrev pub invariant-loop-cown : goal.invariant-loop-cown
-invariant-loop-cown l = ArePushed l.cowns l.next l.row l.end l.tails l.fn.stretches.items l.cown-index l.stretches.items
+-- the waits so far are among the stretches
+abbrev pub invariant-loop-before : goal.invariant-loop-before
+invariant-loop-before l = ArePushed l.waits l.row l.tail l.ends l.fn.stretches.items l.before-index l.stretches.items

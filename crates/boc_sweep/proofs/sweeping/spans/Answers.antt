@@ -8,7 +8,7 @@ use Rattle.boc_sweep.proofs.sweeping.spans.Goals as goal
 pub overflow_add-own-in-loop-row : goal.overflow_add-own-in-loop-row
 overflow_add-own-in-loop-row c =
     let v : ℕ = c.loop-row.row in
-    let there : v < length c.args.rows.now = c.loop-row-test.true in
+    let there : v < length c.args.rows.now = omega (arith, c.loop-row-test.true, c.len-row-end.ensures.count) in
     let read : c.index.result.now ≡ slice_index c.args.plan.now.starts.items v =
     get_or_read c.args.plan.now.starts.items v c.index.result.now (omega (arith, there, c.requires.placed.starts_len)) c.index.ensures 0 in
     let read_tail : c.index-in-loop-row.result.now ≡ slice_index c.args.tails.now.ends.items v =
@@ -20,7 +20,7 @@ overflow_add-own-in-loop-row c =
 pub loop-row-preserved : goal.loop-row-preserved
 loop-row-preserved c =
     let v : ℕ = c.loop-row.row in
-    let there : v < length c.args.rows.now = c.loop-row-test.true in
+    let there : v < length c.args.rows.now = omega (arith, c.loop-row-test.true, c.len-row-end.ensures.count) in
     let read : c.index.result.now ≡ slice_index c.args.plan.now.starts.items v =
     get_or_read c.args.plan.now.starts.items v c.index.result.now (omega (arith, there, c.requires.placed.starts_len)) c.index.ensures 0 in
     let read_tail : c.index-in-loop-row.result.now ≡ slice_index c.args.tails.now.ends.items v =

@@ -1,6 +1,6 @@
 use Rattle.std.proofs.Common.{◌≡◌, ◌≤◌, length}
 use Rattle.std.specs.Prelude.{slice_index}
-use Rattle.boc_sweep.specs.Tails.{HasNext, TailsFrom}
+use Rattle.boc_sweep.specs.Tails.{TailsFrom}
 use Rattle.boc_sweep.proofs.tails.all_tails.Given as goal
 
 -- the rows from this one on have their tails
@@ -9,7 +9,6 @@ invariant-loop-row l = record {
   low : l.row ≤ length l.rows;
   starts_len : length l.starts.items ≡ length l.rows;
   ends_len : length l.ends.items ≡ length l.rows;
-  next : HasNext l.rows l.next l.row;
   tails : TailsFrom l.rows (slice_index l.starts.items) (slice_index l.ends.items) l.row;
 }
 

@@ -11,4 +11,4 @@ returns c =
     let five = told_subcommand c.in_ok-subcommand-4.field-0 c.in_ok-timed.timed c.in_ok-subcommand-5.field-0 _ _ c.in_ok-subcommand-5.ensures four c.in_ok-timed.ensures in
     let six = told_subcommand c.in_ok-subcommand-5.field-0 c.in_ok-whatif.whatif c.in_ok-subcommand-6.field-0 _ _ c.in_ok-subcommand-6.ensures five c.in_ok-whatif.ensures in
     IfOk-weaker c.subcommand-7.result _ _
-    (λ parser added. (told_subcommand c.in_ok-subcommand-6.field-0 c.sweep_command.result parser _ _ added six c.sweep_command.ensures).app_is) c.subcommand-7.ensures
+    (λ parser added. (told_subcommand c.in_ok-subcommand-6.field-0 c.in_ok-sweep.sweep parser _ _ added six c.in_ok-sweep.ensures).app_is) c.subcommand-7.ensures

@@ -1,6 +1,9 @@
-use Rattle.std.proofs.Common.{ℕ, ◌≡◌, ◌≤◌, ◌<◌, ◌^◌, ◌∙◌, ap, sym, length, arith}
+use Rattle.std.proofs.Common.{ℕ, ◌≡◌, ◌≤◌, ◌<◌, ◌^◌, ◌∙◌, ap, sym, subst, length, arith}
+use Rattle.arrayvec.specs.ArrayVec.{ArrayVec}
 use Rattle.slab.specs.Slab.{Slab, slab_len}
 use Rattle.boc_chain.specs.declared.linked.Linked.{Linked}
+use Rattle.boc_chain.specs.Chain.{times}
+use Rattle.boc_chain.specs.LinkViews.{lists}
 use Rattle.boc_chain.proofs.Calls.{grown, admit_call}
 use Rattle.boc_chain.proofs.link_chains.LinkChainsChains.admit.Goals as goal
 
@@ -19,10 +22,14 @@ invariant_of-self-2 c =
     let s = c.args.self.now in
     let few : slab_len c.insert_reserved-index.new.self ≤ c.max-self.result = omega arith in
     let key : c.insert_reserved-index.result ≡ s.slots.vacant_key = c.insert_reserved-index.ensures.key ∙ ap (λ (x : Slab Linked). x.vacant_key) c.reserve.ensures.rest_kept in
-    let short : (i : ℕ) → i < length c.args.cowns.items → (c.insert_reserved-index.result < 2 ^ 16) × (i < 2 ^ 8) = λ i h. (omega (arith, key), omega arith) in
+    let kept = c.in-Some.cowns in
+    let same : kept ≡ c.args.cowns = c.in-Some.ensures in
+    let distinct = subst (λ (cs : ArrayVec ℕ). (n : ℕ) → times n cs.items ≤ 1) (sym same) c.requires.distinct in
+    let in_range = subst (λ (cs : ArrayVec ℕ). (n : ℕ) → 0 < times n cs.items → n < length (lists s)) (sym same) c.requires.in_range in
+    let short : (i : ℕ) → i < length kept.items → (c.insert_reserved-index.result < 2 ^ 16) × (i < 2 ^ 8) = λ i h. (omega (arith, key), omega (arith, h, ap (λ (cs : ArrayVec ℕ). length cs.items) same)) in
     record {
-      linked = (admit_call s.last.items s.slots c.reserve.new.self c.insert_reserved-index.new.self s.peak c.reserve.new.self.capacity c.insert_reserved-index.result c.max-self.result (record { cowns = c.args.cowns; links = c.new.result }) s.linked c.reserve.ensures.rest_kept
-          c.insert_reserved-index.ensures.was_vacant c.insert_reserved-index.ensures.updates c.new.ensures c.requires.distinct c.requires.in_range short few).0;
+      linked = (admit_call s.last.items s.slots c.reserve.new.self c.insert_reserved-index.new.self s.peak c.reserve.new.self.capacity c.insert_reserved-index.result c.max-self.result (record { cowns = kept; links = c.new.result }) s.linked c.reserve.ensures.rest_kept
+          c.insert_reserved-index.ensures.was_vacant c.insert_reserved-index.ensures.updates c.new.ensures distinct in_range short few).0;
     }
 
 pub returns-clause-lists : goal.returns-clause-lists
@@ -30,6 +37,10 @@ returns-clause-lists c =
     let s = c.args.self.now in
     let few : slab_len c.insert_reserved-index.new.self ≤ c.max-self.result = omega arith in
     let key : c.insert_reserved-index.result ≡ s.slots.vacant_key = c.insert_reserved-index.ensures.key ∙ ap (λ (x : Slab Linked). x.vacant_key) c.reserve.ensures.rest_kept in
-    let short : (i : ℕ) → i < length c.args.cowns.items → (c.insert_reserved-index.result < 2 ^ 16) × (i < 2 ^ 8) = λ i h. (omega (arith, key), omega arith) in
-    (admit_call s.last.items s.slots c.reserve.new.self c.insert_reserved-index.new.self s.peak c.reserve.new.self.capacity c.insert_reserved-index.result c.max-self.result (record { cowns = c.args.cowns; links = c.new.result }) s.linked c.reserve.ensures.rest_kept
-    c.insert_reserved-index.ensures.was_vacant c.insert_reserved-index.ensures.updates c.new.ensures c.requires.distinct c.requires.in_range short few).1
+    let kept = c.in-Some.cowns in
+    let same : kept ≡ c.args.cowns = c.in-Some.ensures in
+    let distinct = subst (λ (cs : ArrayVec ℕ). (n : ℕ) → times n cs.items ≤ 1) (sym same) c.requires.distinct in
+    let in_range = subst (λ (cs : ArrayVec ℕ). (n : ℕ) → 0 < times n cs.items → n < length (lists s)) (sym same) c.requires.in_range in
+    let short : (i : ℕ) → i < length kept.items → (c.insert_reserved-index.result < 2 ^ 16) × (i < 2 ^ 8) = λ i h. (omega (arith, key), omega (arith, h, ap (λ (cs : ArrayVec ℕ). length cs.items) same)) in
+    (admit_call s.last.items s.slots c.reserve.new.self c.insert_reserved-index.new.self s.peak c.reserve.new.self.capacity c.insert_reserved-index.result c.max-self.result (record { cowns = kept; links = c.new.result }) s.linked c.reserve.ensures.rest_kept
+    c.insert_reserved-index.ensures.was_vacant c.insert_reserved-index.ensures.updates c.new.ensures distinct in_range short few).1

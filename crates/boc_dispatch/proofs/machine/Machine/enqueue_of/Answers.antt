@@ -62,10 +62,10 @@ returns-in-Some-index g c =
     let own : c.in-Some-index.live ≡ down.child = (let e : Some c.in-Some-index.live ≡ Some down.child = sym c.in-Some-index.is ∙ read_child in cc) in
     record {
       this = down.child;
-      is = record { is = down.is; stage_is = ap (λ (l : Live). l.stage) (sym own) };
+      is = record { is = down.is; stage_is = ap (λ (l : Live). l.stage) (sym own) ∙ sym c.stage.ensures };
       number_is = ap (λ (l : Live). l.number) (sym own) ∙ c.if-live-child.true;
       parent_is = (let e : Some down.child.parent ≡ Some child.row = sym down.parent_is ∙ x.row_is in cc);
-      enqueued = ap (λ (l : Live). enqueues_at l.stage) own ∙ down.enqueued;
+      enqueued = ap enqueues_at c.stage.ensures ∙ ap (λ (l : Live). enqueues_at l.stage) own ∙ down.enqueued;
       held = record { this = x.this; is = x.is; child_is = knows };
     }
 

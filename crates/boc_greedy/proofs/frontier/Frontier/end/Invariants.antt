@@ -1,12 +1,13 @@
-use Rattle.std.proofs.Common.{◌≡◌}
+use Rattle.std.proofs.Common.{◌≡◌, drop}
 use Rattle.std.specs.Prelude.{slice_set}
 use Rattle.boc_greedy.specs.declared.frontier.Stage.TheVariants.{Over}
-use Rattle.boc_greedy.specs.Frontier.{IsEnding}
+use Rattle.boc_greedy.specs.Frontier.{IsFrontierBut}
 use Rattle.boc_greedy.proofs.frontier.Frontier.end.Given as goal
 
--- the row is no longer the head of its first k cowns
-abbrev pub invariant-loop-k : goal.invariant-loop-k
-invariant-loop-k l = record {
-  ending : IsEnding l.rows l.self l.row l.k;
+-- the followers from this one on are left
+abbrev pub invariant-loop-follower : goal.invariant-loop-follower
+invariant-loop-follower l = record {
+  kept : IsFrontierBut l.rows (drop l.follower-index l.follower-items) l.self;
   stages : l.self.stages.items ≡ slice_set l.fn.self.stages.items l.row Over;
+  followers : l.self.followers.now ≡ l.fn.self.followers.now;
 }

@@ -4,7 +4,4 @@ use Rattle.boc_greedy.proofs.frontier.Frontier.new.Given as goal
 
 -- main waits, and the other rows so far are not spawned
 abbrev pub invariant-loop : goal.invariant-loop
-invariant-loop l = record {
-  stages : l.stages.items ≡ Waiting ∷ replicate (l.counter - 1) Unspawned;
-  reached : l.reached.items ≡ replicate l.counter 0;
-}
+invariant-loop l = l.stages.items ≡ Waiting ∷ replicate (l.counter - 1) Unspawned

@@ -1,0 +1,103 @@
+// How far a behaviour is, as it is kept.
+
+ghost use Rattle.std.specs.Prelude.{◌≡◌};
+ghost use Rattle.boc_types.specs.declared.stage.Stage.TheVariants.{Asking, Recorded};
+
+use boc_types::stage::{Phase, Stage};
+use std::marker::Model;
+
+/// How far a behaviour is, in 16 bytes, since many behaviours wait at once. Contracts see the stage.
+#[derive(Drop, Debug)]
+pub struct KeptStage {
+    place: Place,
+    row: u32,
+    request: usize,
+}
+
+// The kind of a stage, and of its phase.
+#[derive(Clone, Copy, Debug)]
+enum Place {
+    Asking,
+    Exchanged,
+    Flagging,
+    Owning,
+    Waiting,
+    Ready,
+    Running,
+    Leaving,
+}
+
+impl Model for KeptStage {
+    ghost use Rattle.boc_types.specs.declared.stage.Stage.{Stage};
+    ghost use Rattle.boc_dispatch.specs.KeptStages.{kept_stage};
+
+    ghost Value = { Stage };
+
+    ghost view = { λ a. kept_stage a.place a.row a.request };
+}
+
+impl KeptStage {
+    /// The requests below this one are settled, and it is exchanged or not.
+    pub fn asking(request: usize, exchanged: bool) -> KeptStage
+        ensures { result ≡ Asking request exchanged }
+    {
+        let place = if exchanged {
+            Place::Exchanged
+        } else {
+            Place::Asking
+        };
+        KeptStage {
+            place,
+            row: 0,
+            request,
+        }
+    }
+
+    /// The spawn is recorded under this row, and the behaviour is in this phase.
+    pub fn recorded(row: u32, phase: Phase) -> KeptStage
+        ensures { result ≡ Recorded row phase }
+    {
+        let (place, request) = match phase {
+            Phase::Flagging(request) => (Place::Flagging, request),
+            Phase::Owning => (Place::Owning, 0),
+            Phase::Waiting => (Place::Waiting, 0),
+            Phase::Ready => (Place::Ready, 0),
+            Phase::Running => (Place::Running, 0),
+            Phase::Leaving(request) => (Place::Leaving, request),
+        };
+        KeptStage {
+            place,
+            row,
+            request,
+        }
+    }
+
+    /// The stage.
+    #[inline(always)]
+    pub fn stage(&self) -> Stage
+        ensures { result ≡ self.now }
+    {
+        let (row, request) = (self.row, self.request);
+        let phase = match self.place {
+            Place::Asking => {
+                return Stage::Asking {
+                    request,
+                    exchanged: false,
+                };
+            }
+            Place::Exchanged => {
+                return Stage::Asking {
+                    request,
+                    exchanged: true,
+                };
+            }
+            Place::Flagging => Phase::Flagging(request),
+            Place::Owning => Phase::Owning,
+            Place::Waiting => Phase::Waiting,
+            Place::Ready => Phase::Ready,
+            Place::Running => Phase::Running,
+            Place::Leaving => Phase::Leaving(request),
+        };
+        Stage::Recorded { row, phase }
+    }
+}

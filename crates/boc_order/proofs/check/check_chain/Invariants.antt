@@ -1,6 +1,0 @@
-use Rattle.boc_order.proofs.Checking.{Checked}
-use Rattle.boc_order.proofs.check.check_chain.Given as goal
-
--- the steps so far hold
-abbrev pub invariant-loop-place : goal.invariant-loop-place
-invariant-loop-place l = Checked l.list l.steps l.place l.weight

@@ -1,0 +1,7 @@
+use Rattle.boc_whatif.proofs.Keeping.{begun}
+use Rattle.boc_whatif.proofs.what_if.WhatIf.of.Goals as goal
+
+pub invariant_of-result : goal.invariant_of-result
+invariant_of-result c =
+    begun _ _ _ _ _ _ c.as_slice.ensures.shape c.new-seen.ensures.same (rw c.as_slice.ensures.same at c.in_ok-lasts.ensures) c.in_ok-waits.ensures
+    c.in_ok-plan.ensures.placed c.in_ok-plan.ensures.room

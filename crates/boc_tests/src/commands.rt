@@ -5,7 +5,6 @@ ghost use Rattle.std.specs.Prelude.{◌≡◌, IfOk};
 use boc_commands::{Fault, check_cmd, profile_cmd, values_cmd};
 use boc_text::{Bytes, FailAt};
 use boc_types::sharing::Sharing;
-use boc_types::workers::Workers;
 use std::alloc::{AllocError, Global};
 use std::test::*;
 
@@ -107,27 +106,6 @@ fn one_read_of_a_record_fails(rt: HostRuntime) -> Result<(), Fail> {
     Ok(())
 }
 
-#[test]
-fn one_write_of_a_check_fails(rt: HostRuntime) -> Result<(), Fail> {
-    let alloc = rt.alloc();
-    for (k, gone) in [(1, Some(0)), (2, Some(2)), (3, Some(4)), (4, None)] {
-        let mut sink = FailAt::new(bytes(alloc, "")?, k, 2);
-        let went_out = match check_cmd(alloc, &mut bytes(alloc, RECORD)?, &mut sink) {
-            Ok(()) => 5,
-            Err(fault) => {
-                assert_eq!(rt; fault.line(alloc)?.as_str(), "boc: device");
-                assert_eq!(rt; fault.gone(), gone);
-                fault.gone().unwrap_or(0)
-            }
-        };
-        assert_eq!(rt;
-            Some(sink.inner.bytes.as_slice()),
-            b"ok 4\n".get(..went_out)
-        );
-    }
-    Ok(())
-}
-
 // The report on RECORD.
 pub(crate) const REPORT: &str = "rows 4
 work 11
@@ -165,22 +143,6 @@ pub(crate) const GREEDY: &str = "greedy 2
 3 7 9 0
 end 9 bound 14
 ";
-
-#[test]
-fn one_write_of_a_profile_for_workers_fails(rt: HostRuntime) -> Result<(), Fail> {
-    let alloc = rt.alloc();
-    let mut sink = FailAt::new(bytes(alloc, "")?, 2, 7);
-    let result = profile_cmd(
-        alloc,
-        Workers::new(2),
-        Sharing::Exclusive,
-        &mut bytes(alloc, RECORD)?,
-        &mut sink,
-    );
-    assert!(rt; matches!(result, Err(Fault::Sink { gone: 7 })));
-    assert_eq!(rt; sink.inner.bytes.as_slice(), b"rows 4\n".as_slice());
-    Ok(())
-}
 
 #[test]
 fn one_read_or_write_of_a_profile_fails(rt: HostRuntime) -> Result<(), Fail> {

@@ -20,8 +20,6 @@ mod order;
 #[cfg(test)]
 mod record;
 #[cfg(test)]
-mod record_rows;
-#[cfg(test)]
 mod rules;
 #[cfg(test)]
 mod runs;
@@ -35,5 +33,3 @@ mod what_if;
 mod worked_rows;
 #[cfg(test)]
 mod workers;
-#[cfg(test)]
-mod written;

@@ -79,21 +79,6 @@ fn record_of_65535_rows(rt: HostRuntime) -> Result<(), Fail> {
 }
 
 #[test]
-fn one_byte_replaced_is_refused_or_kept(rt: HostRuntime) -> Result<(), Fail> {
-    for place in 0..TRANSFER.len() {
-        for byte in 0..=u8::MAX {
-            let mut text = Vec::from_slice(rt.alloc(), TRANSFER.as_bytes())?;
-            text[place] = byte;
-            let answer = reread(rt.alloc(), &text)?;
-            if !answer.as_str().starts_with("line ") {
-                assert_eq!(rt; answer.as_str().as_bytes(), text.as_slice());
-            }
-        }
-    }
-    Ok(())
-}
-
-#[test]
 fn sink_that_fails(rt: HostRuntime) -> Result<(), Fail> {
     let record = read_record(rt.alloc(), &mut bytes(rt.alloc(), TRANSFER.as_bytes())?)?;
     let mut sink = FailAt::new(bytes(rt.alloc(), b"")?, 2, 7);

@@ -1,7 +1,7 @@
 //! The events of the transfer program, events that break a rule, and the end of a run.
 
 use crate::worked_rows::{cowns, held};
-use boc_rules::{RuleFault, Rules};
+use boc_rules::{Judge, RuleFault, Rules};
 use boc_types::body::EndStatus;
 use boc_types::event::{BrokenRule, Event};
 use std::alloc::Global;
@@ -139,6 +139,12 @@ fn spawns_are_judged(rt: HostRuntime) -> Result<(), Fail> {
         (3, spawn(2, 0, 2, &[]), BrokenRule::Offset),
         (4, spawn(3, 1, 9, &[]), BrokenRule::ParentNotRunning),
         (12, spawn(4, 0, 9, &[]), BrokenRule::ParentNotRunning),
+        // Of several broken rules the first is told.
+        (2, spawn(5, 9, 0, &[7]), BrokenRule::NumberNotNext),
+        (2, spawn(1, 9, 0, &[7]), BrokenRule::ParentNotRunning),
+        (2, spawn(1, 0, 0, &[7]), BrokenRule::Offset),
+        (0, spawn(0, 1, 1, &[0]), BrokenRule::ParentNotRunning),
+        (0, spawn(0, 0, 1, &[0]), BrokenRule::Offset),
     ];
     for (count, event, rule) in &broken {
         refuses(&rt, alloc, *count, event, *rule)?;
@@ -188,45 +194,6 @@ fn starts_and_ends_are_judged(rt: HostRuntime) -> Result<(), Fail> {
 }
 
 #[test]
-fn first_broken_rule_is_told(rt: HostRuntime) -> Result<(), Fail> {
-    let alloc = rt.alloc();
-    let broken = [
-        (2, spawn(5, 9, 0, &[7]), BrokenRule::NumberNotNext),
-        (2, spawn(1, 9, 0, &[7]), BrokenRule::ParentNotRunning),
-        (2, spawn(1, 0, 0, &[7]), BrokenRule::Offset),
-        (0, spawn(0, 1, 1, &[0]), BrokenRule::ParentNotRunning),
-        (0, spawn(0, 0, 1, &[0]), BrokenRule::Offset),
-    ];
-    for (count, event, rule) in &broken {
-        refuses(&rt, alloc, *count, event, *rule)?;
-    }
-    Ok(())
-}
-
-#[test]
-fn a_row_too_many(rt: HostRuntime) -> Result<(), Fail> {
-    let mut rules = Rules::new(rt.alloc(), 0)?;
-    rules.apply(&spawn(0, 0, 0, &[]))?;
-    rules.apply(&start(0))?;
-    for row in 1..65_535 {
-        rules.apply(&spawn(row, 0, row, &[]))?;
-    }
-    let broken = [
-        (spawn(65_535, 0, 65_535, &[]), BrokenRule::TooMany),
-        (spawn(65_535, 70_000, 0, &[1]), BrokenRule::TooMany),
-        (spawn(65_536, 0, 65_535, &[]), BrokenRule::NumberNotNext),
-    ];
-    for (event, rule) in &broken {
-        match rules.apply(event) {
-            Err(RuleFault::Broken(found)) => assert_eq!(rt; found, *rule),
-            other => assert!(rt; false, "{event:?}: {other:?}"),
-        }
-    }
-    assert_eq!(rt; rules.events().len(), 65_536);
-    Ok(())
-}
-
-#[test]
 fn rooms_are_counted(rt: HostRuntime) -> Result<(), Fail> {
     let mut rules = Rules::new(rt.alloc(), 2)?;
     assert_eq!(rt; rules.rooms(), 0);
@@ -241,17 +208,6 @@ fn rooms_are_counted(rt: HostRuntime) -> Result<(), Fail> {
         }
     }
     assert!(rt; rules.is_complete());
-    Ok(())
-}
-
-#[test]
-fn cowns_of_rows_are_told(rt: HostRuntime) -> Result<(), Fail> {
-    let rules = begun(rt.alloc(), 5)?;
-    for (row, wanted) in [(0, held(&[])), (2, held(&[0, 1])), (3, held(&[1]))] {
-        let told = rules.cowns_of(row).map(|cowns| cowns.as_slice());
-        assert_eq!(rt; told, Some(wanted.as_slice()));
-    }
-    assert!(rt; rules.cowns_of(4).is_none());
     Ok(())
 }
 
@@ -285,5 +241,39 @@ fn faults_are_told(rt: HostRuntime) -> Result<(), Fail> {
         assert_eq!(rt; told.as_str(), *text);
         assert_eq!(rt; fault.text(), *text);
     }
+    Ok(())
+}
+
+#[test]
+fn judge_follows_a_run(rt: HostRuntime) -> Result<(), Fail> {
+    let mut judge = Judge::new(rt.alloc(), 1)?;
+    assert_eq!(rt; judge.cowns(), 1);
+    let main = spawn(0, 0, 0, &[]);
+    let child = spawn(1, 0, 3, &[0]);
+    assert!(rt; !judge.has_room_for(&main));
+    judge.make_room()?;
+    judge.make_room()?;
+    assert_eq!(rt; judge.rooms(), 2);
+    assert!(rt; judge.has_room_for(&main));
+    judge.take(main)?;
+    assert_eq!(rt; judge.judge(&child), Err(BrokenRule::ParentNotRunning));
+    judge.take(start(0))?;
+    if judge.judge(&child).is_ok() && judge.has_room_for(&child) {
+        judge.put(child);
+    }
+    assert_eq!(rt; judge.count(), 2);
+    assert_eq!(rt; judge.rooms(), 0);
+    assert_eq!(rt;
+        judge.cowns_of(1).map(|cowns| cowns.as_slice()),
+        Some([0].as_slice())
+    );
+    assert!(rt; judge.cowns_of(2).is_none());
+    // The child was spawned at tick 3.
+    match judge.take(end(0, 2, &[])) {
+        Err(RuleFault::Broken(rule)) => assert_eq!(rt; rule, BrokenRule::EndNotAllowed),
+        other => assert!(rt; false, "{other:?}"),
+    }
+    assert!(rt; !judge.is_complete());
+    assert!(rt; judge.into_rows().is_err());
     Ok(())
 }

@@ -270,15 +270,6 @@ fn too_many_behaviours(rt: HostRuntime) -> Result<(), Fail> {
 }
 
 #[test]
-fn program_that_is_refused(rt: HostRuntime) -> Result<(), Fail> {
-    let answer = time_of(&rt, rt.alloc(), "main { x = 1; }", 2, 1, &OpenGate)?;
-    assert_eq!(rt; answer.line.as_str(), "boc: line 1: 5 UnknownName");
-    assert_eq!(rt; answer.status, 3);
-    assert_eq!(rt; answer.output.as_str(), "");
-    Ok(())
-}
-
-#[test]
 fn one_read_or_write_of_a_run_fails(rt: HostRuntime) -> Result<(), Fail> {
     let alloc = rt.alloc();
     let one = Runners::one();
@@ -300,40 +291,5 @@ fn one_read_or_write_of_a_run_fails(rt: HostRuntime) -> Result<(), Fail> {
         );
         assert_eq!(rt; sink.inner.bytes.len(), gone);
     }
-    Ok(())
-}
-
-#[test]
-fn one_read_or_write_of_a_timing_fails(rt: HostRuntime) -> Result<(), Fail> {
-    let alloc = rt.alloc();
-    let one = Runners::one();
-    let mut source = FailAt::new(bytes(alloc, TRANSFER)?, 2, 5);
-    let mut sink = bytes(alloc, "")?;
-    let result = time_cmd(
-        &rt,
-        alloc,
-        one,
-        None,
-        Sharing::Exclusive,
-        &OpenGate,
-        &mut source,
-        &mut sink,
-    );
-    assert!(rt; matches!(result, Err(Fault::Source)));
-    assert_eq!(rt; sink.bytes.len(), 0);
-    let mut source = bytes(alloc, TRANSFER)?;
-    let mut sink = FailAt::new(bytes(alloc, "")?, 2, 7);
-    let result = time_cmd(
-        &rt,
-        alloc,
-        one,
-        None,
-        Sharing::Exclusive,
-        &OpenGate,
-        &mut source,
-        &mut sink,
-    );
-    assert!(rt; matches!(result, Err(Fault::Sink { gone: 7 })));
-    assert_eq!(rt; sink.inner.bytes.as_slice(), b"rows 4\n".as_slice());
     Ok(())
 }

@@ -92,24 +92,6 @@ fn around(alloc: Global, front: &[u8], letters: u32, back: &[u8]) -> Result<Vec<
 }
 
 #[test]
-fn lines_of_texts(rt: HostRuntime) -> Result<(), Fail> {
-    let alloc = rt.alloc();
-    for (text, given) in [
-        ("", "<end><end><end>"),
-        ("\n", "\n<end><end>"),
-        ("ab\n\ncde\n", "ab\n\ncde\n"),
-        ("ab", "<cut><end><end>"),
-        ("ab\nc", "ab\n<cut><end>"),
-        ("ab\r\n\n \0\n", "ab\r\n\n \0\n"),
-    ] {
-        let mut source = bytes(alloc, text.as_bytes())?;
-        let answers = answers(alloc, &mut source, 3)?;
-        assert_eq!(rt; answers.as_slice(), given.as_bytes(), "{text}");
-    }
-    Ok(())
-}
-
-#[test]
 fn longest_lines(rt: HostRuntime) -> Result<(), Fail> {
     let alloc = rt.alloc();
     for front in [b"".as_slice(), b"x\n"] {
@@ -159,24 +141,6 @@ fn one_read_fails(rt: HostRuntime) -> Result<(), Fail> {
             assert_eq!(rt; source.failures, u64::from(k <= reads), "{k} {most}");
         }
     }
-    Ok(())
-}
-
-// More lines than are taken in at once, of all lengths.
-#[test]
-fn many_lines(rt: HostRuntime) -> Result<(), Fail> {
-    let alloc = rt.alloc();
-    let mut text = Vec::new(alloc);
-    for line in 0..1000u32 {
-        for letter in 0..line % 81 {
-            text.push(b'a' + (letter % 26) as u8)?;
-        }
-        text.push(b'\n')?;
-    }
-    let mut source = bytes(alloc, &text)?;
-    let answers = answers(alloc, &mut source, 1001)?;
-    text.extend_from_slice(b"<end>")?;
-    assert_eq!(rt; answers.as_slice(), text.as_slice());
     Ok(())
 }
 

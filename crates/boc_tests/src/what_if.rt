@@ -1,24 +1,11 @@
 //! Edits and sweeps of worked rows.
 
-use crate::worked_rows::{peek_and_set, row, rows_of, transfer};
+use crate::worked_rows::{peek_and_set, transfer};
 use boc_types::edit::EditFault;
-use boc_types::rows::Rows;
 use boc_types::sharing::Sharing;
 use boc_types::workers::Workers;
 use boc_whatif::WhatIf;
-use std::alloc::Global;
 use std::test::Fail;
-
-// Children without cowns, one a tick, the last of which takes the longest.
-fn many(alloc: Global) -> Result<Rows, Fail> {
-    let mut list = Vec::new(alloc);
-    list.push(row(0, 0, &[], 2_500))?;
-    for number in 1..2_499 {
-        list.push(row(0, number + 1, &[], 1))?;
-    }
-    list.push(row(0, 2_500, &[], 5))?;
-    rows_of(list)
-}
 
 #[test]
 fn cheaper_row_shortens_the_run(rt: HostRuntime) -> Result<(), Fail> {
@@ -73,27 +60,6 @@ fn refused_edits_change_nothing(rt: HostRuntime) -> Result<(), Fail> {
         assert_eq!(rt; question.touched(), 3);
         assert_eq!(rt; question.work(), 10);
         assert_eq!(rt; question.span(), 8);
-    }
-    Ok(())
-}
-
-#[test]
-fn sweep_of_a_transfer(rt: HostRuntime) -> Result<(), Fail> {
-    let question = WhatIf::new(rt.alloc(), &transfer(rt.alloc())?, Sharing::Exclusive)?;
-    let spans = question.sweep(rt.alloc())?;
-    assert_eq!(rt; spans.as_slice(), [9, 8, 7, 8].as_slice());
-    Ok(())
-}
-
-#[test]
-fn sweep_of_many_rows(rt: HostRuntime) -> Result<(), Fail> {
-    let question = WhatIf::new(rt.alloc(), &many(rt.alloc())?, Sharing::Exclusive)?;
-    assert_eq!(rt; question.span(), 2_505);
-    let spans = question.sweep(rt.alloc())?;
-    assert_eq!(rt; spans.len(), 2_500);
-    for (row, span) in spans.iter().enumerate() {
-        let wanted = if row == 2_499 { 2_501 } else { 2_505 };
-        assert_eq!(rt; *span, wanted, "{row}");
     }
     Ok(())
 }

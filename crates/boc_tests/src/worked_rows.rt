@@ -78,51 +78,6 @@ pub(crate) fn transfer(alloc: Global) -> Result<Rows, Fail> {
     rows_of(list)
 }
 
-// Four behaviours with a cown each.
-pub(crate) fn four_squares(alloc: Global) -> Result<Rows, Fail> {
-    let mut list = Vec::new(alloc);
-    list.push(row(0, 0, &[], 5))?;
-    list.push(row(0, 2, &[0], 8))?;
-    list.push(row(0, 3, &[1], 8))?;
-    list.push(row(0, 4, &[2], 8))?;
-    list.push(row(0, 5, &[3], 8))?;
-    rows_of(list)
-}
-
-// Two behaviours without cowns.
-pub(crate) fn no_cowns(alloc: Global) -> Result<Rows, Fail> {
-    let mut list = Vec::new(alloc);
-    list.push(row(0, 0, &[], 3))?;
-    list.push(row(0, 2, &[], 4))?;
-    list.push(row(0, 3, &[], 4))?;
-    rows_of(list)
-}
-
-// A behaviour that spawns the next one on its cown, three times.
-pub(crate) fn countdown(alloc: Global) -> Result<Rows, Fail> {
-    let mut list = Vec::new(alloc);
-    list.push(row(0, 0, &[], 2))?;
-    list.push(row(0, 2, &[0], 4))?;
-    list.push(row(1, 4, &[0], 4))?;
-    list.push(row(2, 4, &[0], 3))?;
-    rows_of(list)
-}
-
-// Two chains of spawns that meet on shared cowns, with spawns and ends at the same ticks.
-pub(crate) fn crossing(alloc: Global) -> Result<Rows, Fail> {
-    let mut list = Vec::new(alloc);
-    list.push(row(0, 0, &[], 9))?;
-    list.push(row(0, 1, &[2, 3], 4))?;
-    list.push(row(0, 2, &[0], 6))?;
-    list.push(row(1, 2, &[0, 3], 5))?;
-    list.push(row(1, 4, &[1], 1))?;
-    list.push(row(2, 6, &[], 7))?;
-    list.push(row(0, 9, &[1, 2], 3))?;
-    list.push(row(3, 1, &[2], 2))?;
-    list.push(row(3, 5, &[0, 1, 2, 3], 1))?;
-    rows_of(list)
-}
-
 // Three rows over two cowns: the first two end one after the other, and the last needs the cowns of both.
 pub(crate) fn waiting_for_both(alloc: Global) -> Result<Rows, Fail> {
     let mut list = Vec::new(alloc);

@@ -67,7 +67,7 @@ fn span_with_least(
 
 #[test]
 fn sweep_is_as_if_each_row_were_lowered(rt: HostRuntime) -> Result<(), Fail> {
-    for seed in 1..40 {
+    for seed in 1..200 {
         let rows = tree(rt.alloc(), 100 + seed, 1 + seed % 9, seed * 31)?;
         for sharing in [Sharing::Exclusive, Sharing::SharedReads] {
             for (number, wanted) in sweep_of(rt.alloc(), &rows, sharing)?.iter().enumerate() {

@@ -1,6 +1,6 @@
 //! The events of the transfer program, events that break a rule, and the end of a run.
 
-use crate::worked_rows::{cowns, held};
+use crate::cown_lists::{cowns, held};
 use boc_rules::{Judge, RuleFault, Rules};
 use boc_types::body::EndStatus;
 use boc_types::event::{BrokenRule, Event};

@@ -8,13 +8,13 @@ use boc_types::sharing::Sharing;
 use std::alloc::{AllocError, Global};
 use std::test::*;
 
-pub(crate) const TRANSFER: &str = "cown a = 10; cown b = 0;
+const TRANSFER: &str = "cown a = 10; cown b = 0;
 def add(k; x) { x = x + k; }
 def move(k; x, y) { x = x - k; y = y + k; }
 main { when add(5; a); when move(3; a, b); when add(1; b); }
 ";
 
-pub(crate) fn bytes(alloc: Global, text: &str) -> Result<Bytes, AllocError>
+fn bytes(alloc: Global, text: &str) -> Result<Bytes, AllocError>
     ensures { IfOk result (λ b. b.failures ≡ 0) }
 {
     Ok(Bytes::new(Vec::from_slice(alloc, text.as_bytes())?))
@@ -107,7 +107,7 @@ fn one_read_of_a_record_fails(rt: HostRuntime) -> Result<(), Fail> {
 }
 
 // The report on RECORD.
-pub(crate) const REPORT: &str = "rows 4
+const REPORT: &str = "rows 4
 work 11
 span 9
 chain
@@ -120,28 +120,6 @@ plan
 1 2 4
 2 4 7
 3 7 9
-";
-
-// The report on NO_COWNS.
-pub(crate) const NO_COWNS_REPORT: &str = "rows 3
-work 11
-span 7
-chain
-0 spawn 3
-2 end 4
-plan
-0 0 3
-1 2 6
-2 3 7
-";
-
-// The greedy part of the report on RECORD for two workers.
-pub(crate) const GREEDY: &str = "greedy 2
-0 0 4 0
-1 2 4 1
-2 4 7 0
-3 7 9 0
-end 9 bound 14
 ";
 
 #[test]

@@ -11,7 +11,7 @@ use boc_types::short::{Args, Input, Inputs};
 use std::alloc::Global;
 use std::test::*;
 
-const TRANSFER: &[u8] = b"cown a = 10; cown b = 0;
+pub(crate) const TRANSFER: &[u8] = b"cown a = 10; cown b = 0;
 def add(k; x) { x = x + k; }
 def move(k; x, y) { x = x - k; y = y + k; }
 main { when add(5; a); when move(3; a, b); when add(1; b); }";

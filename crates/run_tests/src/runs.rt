@@ -1,6 +1,7 @@
 // The commands that run a program by threads.
 
-use crate::commands::{GREEDY, NO_COWNS_REPORT, REPORT, TRANSFER, bytes};
+ghost use Rattle.std.specs.Prelude.{◌≡◌, IfOk};
+
 use crate::gates::{Meeting, Place, StopsAtSecondBody, StopsAtSwap};
 use boc_commands::{Command, Fault, Runners, run_cmd, run_command, time_cmd};
 use boc_text::{Bytes, FailAt};
@@ -11,6 +12,38 @@ use std::alloc::{AllocError, Global};
 use std::sync::Wait;
 use std::test::*;
 use std::thread::Threads;
+
+// Two deposits and a transfer between two accounts.
+pub(crate) const TRANSFER: &str = "cown a = 10; cown b = 0;
+def add(k; x) { x = x + k; }
+def move(k; x, y) { x = x - k; y = y + k; }
+main { when add(5; a); when move(3; a, b); when add(1; b); }
+";
+
+// The report on its rows.
+const REPORT: &str = "rows 4
+work 11
+span 9
+chain
+0 spawn 2
+1 order 2
+2 order 3
+3 end 2
+plan
+0 0 4
+1 2 4
+2 4 7
+3 7 9
+";
+
+// Its greedy part for two workers.
+const GREEDY: &str = "greedy 2
+0 0 4 0
+1 2 4 1
+2 4 7 0
+3 7 9 0
+end 9 bound 14
+";
 
 // Four behaviours with a cown each.
 const FOUR_SQUARES: &str = "cown c[4] = 0;
@@ -57,6 +90,25 @@ main { when peek(; a); when peek(; a); when set(; a); }";
 
 // Behaviours without cowns.
 pub(crate) const NO_COWNS: &str = "def f(;) { work 3; } main { when f(;); when f(;); }";
+
+// The report on their rows.
+const NO_COWNS_REPORT: &str = "rows 3
+work 11
+span 7
+chain
+0 spawn 3
+2 end 4
+plan
+0 0 3
+1 2 6
+2 3 7
+";
+
+fn bytes(alloc: Global, text: &str) -> Result<Bytes, AllocError>
+    ensures { IfOk result (λ b. b.failures ≡ 0) }
+{
+    Ok(Bytes::new(Vec::from_slice(alloc, text.as_bytes())?))
+}
 
 /// What a command did: its status, its line on standard error, and its output.
 #[derive(Drop)]

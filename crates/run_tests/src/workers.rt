@@ -1,8 +1,7 @@
 //! Whole runs by one worker and by several: the steps that they make, and where the lock is free.
 
-use crate::commands::TRANSFER;
 use crate::gates::{Meeting, Overtaking, Place};
-use crate::runs::{NO_COWNS, PEEK_AND_SET};
+use crate::runs::{NO_COWNS, PEEK_AND_SET, TRANSFER};
 use boc_eval::{Frame, Stop};
 use boc_reader::read_program;
 use boc_types::body::Body;

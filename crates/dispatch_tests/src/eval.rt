@@ -1,6 +1,6 @@
 // A body that stops at each of its wishes. What bodies do otherwise is in the table of `answers`.
 
-use crate::commands::TRANSFER;
+use crate::dispatch::TRANSFER;
 use boc_eval::{Frame, Stop};
 use boc_reader::read_program;
 use boc_types::body::EndStatus;
@@ -10,7 +10,7 @@ use std::test::*;
 #[test]
 fn stops_at_each_wish(rt: HostRuntime) -> Result<(), Fail> {
     let alloc = rt.alloc();
-    let Ok(program) = read_program(alloc, TRANSFER.as_bytes()) else {
+    let Ok(program) = read_program(alloc, TRANSFER) else {
         return Err("the text spells a program".into());
     };
     let main = program.bodies.as_slice().first().ok_or("main is there")?;

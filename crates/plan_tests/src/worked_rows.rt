@@ -10,7 +10,7 @@ use std::alloc::Global;
 use std::test::Fail;
 
 // The first eight of these numbers.
-pub(crate) fn cowns(numbers: &[u32]) -> Cowns {
+fn cowns(numbers: &[u32]) -> Cowns {
     let mut list = Cowns::new();
     for number in numbers {
         if !list.is_full() {
@@ -43,7 +43,7 @@ pub(crate) fn row(parent: u32, offset: u32, numbers: &[u32], ticks: u32) -> Row 
 }
 
 // A row that only read its cowns.
-pub(crate) fn reader(parent: u32, offset: u32, numbers: &[u32], ticks: u32) -> Row {
+fn reader(parent: u32, offset: u32, numbers: &[u32], ticks: u32) -> Row {
     let mut row = row(parent, offset, numbers, ticks);
     row.written = HeldCowns::new();
     row

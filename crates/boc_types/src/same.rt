@@ -8,19 +8,39 @@ use crate::body::{Block, Body, CownRef, Expr, Stmt};
 use crate::cown::Cown;
 use crate::program::Program;
 
-/// The expressions are the same.
+/// The expressions are the same. It takes a call only for what is nested.
+#[cycle(operands)]
+#[inline(always)]
 pub(crate) fn same_expr(a: &Expr, b: &Expr) -> bool
     ensures { IsTrue result ↔ (slot_expr_of a.now ≡ slot_expr_of b.now) }
 {
     match (a, b) {
         (Expr::Number(x), Expr::Number(y)) => x == y,
         (Expr::Slot(x), Expr::Slot(y)) => x == y,
-        (Expr::Negate(x), Expr::Negate(y)) => same_expr(x, y),
+        (Expr::Negate(x), Expr::Negate(y)) => same_negated(x, y),
         (Expr::Binary(operator, left, right), Expr::Binary(operator_b, left_b, right_b)) => {
-            operator == operator_b && same_expr(left, left_b) && same_expr(right, right_b)
+            operator == operator_b && same_operands(left, right, left_b, right_b)
         }
         _ => false,
     }
+}
+
+// The expressions below a sign are the same.
+#[cycle(operands)]
+#[inline(never)]
+fn same_negated(a: &Expr, b: &Expr) -> bool
+    ensures { IsTrue result ↔ (slot_expr_of a.now ≡ slot_expr_of b.now) }
+{
+    same_expr(a, b)
+}
+
+// The expressions on each side of an operator are the same.
+#[cycle(operands)]
+#[inline(never)]
+fn same_operands(left: &Expr, right: &Expr, left_b: &Expr, right_b: &Expr) -> bool
+    ensures { IsTrue result ↔ ((slot_expr_of left.now ≡ slot_expr_of left_b.now) × (slot_expr_of right.now ≡ slot_expr_of right_b.now)) }
+{
+    same_expr(left, left_b) && same_expr(right, right_b)
 }
 
 fn same_ref(a: &CownRef, b: &CownRef) -> bool
@@ -61,12 +81,16 @@ fn same_refs(a: &[CownRef], b: &[CownRef]) -> bool
     }
 }
 
-/// The blocks are the same.
+/// The blocks are the same. An empty one, as an `if` without `else` has, takes no call.
 #[cycle(same)]
+#[inline(always)]
 pub(crate) fn same_block(a: &Block, b: &Block) -> bool
     ensures { IsTrue result ↔ (a.now ≡ b.now) }
 {
-    same_stmts(a.as_slice(), b.as_slice())
+    match (a.as_slice(), b.as_slice()) {
+        ([], []) => true,
+        (stmts, stmts_b) => same_stmts(stmts, stmts_b),
+    }
 }
 
 #[cycle(same)]

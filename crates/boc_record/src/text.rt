@@ -1,9 +1,9 @@
 // From a record to its text.
 
-ghost use Rattle.std.specs.Prelude.{◌≡◌, ◌<◌, ◌≤◌, ◌+◌, ◌*◌, ◌∷◌, ◌++◌, length, drop, OnOk, IfOk};
+ghost use Rattle.std.specs.Prelude.{◌≡◌, ◌<◌, ◌≤◌, ◌+◌, ◌*◌, [], ◌∷◌, ◌++◌, suc, codes, length, drop, OnOk, IfOk};
 ghost use Rattle.boc_types.specs.text.RecordTexts.{Second, field, fields, line, event_line, event_lines, record_text, status_number};
 ghost use Rattle.boc_record.specs.Writing.{Writes, CountsWrite};
-ghost use Rattle.boc_record.specs.declared.text.TheConstants.{LINE_FEED_AT, MOST_BYTES, MOST_FIELD};
+ghost use Rattle.boc_record.specs.declared.text.TheConstants.{MOST_BYTES, MOST_FIELD};
 
 use crate::fault::WriteFault;
 use boc_text::{MOST_DIGITS, Sink, put_number, put_out, write_before};
@@ -26,9 +26,6 @@ const MOST_BYTES: usize = 256;
 
 // The bytes that a line has at most on average, of most records. Where they are more, the text grows.
 const USUAL_BYTES: usize = 24;
-
-// Where a line has its line feed.
-const LINE_FEED_AT: usize = MOST_BYTES - 1;
 
 /// Writes the text of a record, in the second version. The whole text is formed first, and then goes out; after a failing write a
 /// beginning of it went out.
@@ -62,64 +59,102 @@ fn text_of(alloc: Global, record: &Record) -> Result<Vec<u8>, AllocError>
 pub fn put_events(text: &mut Vec<u8>, events: &Events<'_>) -> Result<(), AllocError>
     ensures { OnOk result (text.new.items ≡ text.old.items ++ event_lines Second events.now) }
 {
+    let mut room = [b'\n'; MOST_BYTES];
     for place in 0..events.len() {
-        put_event(text, &events.get(place))?;
+        put_event(text, &mut room, &events.get(place))?;
     }
     Ok(())
 }
 
-// The line of an event. It is formed from its end on, and goes behind the text at once.
-fn put_event(text: &mut Vec<u8>, event: &Event) -> Result<(), AllocError>
+// Puts the line of an event behind a text. It is formed in a room that all lines share.
+fn put_event(text: &mut Vec<u8>, room: &mut [u8], event: &Event) -> Result<(), AllocError>
+    requires { length room.old ≡ MOST_BYTES }
     ensures { OnOk result (text.new.items ≡ text.old.items ++ line (event_line Second event.now)) }
 {
-    let mut line = [b'\n'; MOST_BYTES];
-    let begin = match event {
+    let begin = line_before(room, event);
+    text.extend_from_slice(&room[begin..])
+}
+
+// Forms the line of an event at the end of a room, and says where it begins.
+fn line_before(room: &mut [u8], event: &Event) -> usize
+    requires { length room.old ≡ MOST_BYTES }
+    ensures written { drop result room.new ≡ line (event_line Second event.now) }
+    ensures within { result ≤ MOST_BYTES }
+{
+    let feed = end_line(room);
+    match event {
         Event::Spawn {
             row,
             parent,
             offset,
             cowns,
         } => {
-            let cowns_at = cowns_before(&mut line, cowns);
-            begun_before(&mut line, cowns_at, b'+', &[*row, *parent, *offset])
+            let cowns_at = cowns_before(room, feed, cowns);
+            three_before(room, cowns_at, b'+', *row, *parent, *offset)
         }
-        Event::Start { row } => begun_before(&mut line, LINE_FEED_AT, b'>', &[*row]),
+        Event::Start { row } => {
+            let at = field_before(room, feed, *row);
+            mark_before(room, at, b'>')
+        }
         Event::End {
             row,
             ticks,
             status,
             written,
         } => {
-            let written_at = cowns_before(&mut line, written);
-            begun_before(
-                &mut line,
-                written_at,
-                b'<',
-                &[*row, *ticks, number_of(*status)],
-            )
+            let written_at = cowns_before(room, feed, written);
+            three_before(room, written_at, b'<', *row, *ticks, number_of(*status))
         }
-    };
-    text.extend_from_slice(&line[begin..])
+    }
+}
+
+// Puts a line feed at the end of a room, and says where it is.
+fn end_line(room: &mut [u8]) -> usize
+    requires { length room.old ≡ MOST_BYTES }
+    ensures last { suc result ≡ MOST_BYTES }
+    ensures feed { drop result room.new ≡ codes "\n" }
+{
+    mark_before(room, MOST_BYTES, b'\n')
 }
 
 // Puts cowns in front of the line feed of a line, and says where they begin.
-fn cowns_before(line: &mut [u8], cowns: &Cowns) -> usize
-    requires { length line.old ≡ MOST_BYTES }
-    ensures written { drop result line.new ≡ fields cowns.now.items ++ drop LINE_FEED_AT line.old }
+fn cowns_before(line: &mut [u8], feed: usize, cowns: &Cowns) -> usize
+    requires long { length line.old ≡ MOST_BYTES }
+    requires feed { suc feed ≡ MOST_BYTES }
+    ensures written { drop result line.new ≡ fields cowns.now.items ++ drop feed line.old }
     ensures room { (4 * MOST_FIELD < result) × (result < length line.new) }
 {
     let count = cowns.len();
     prove!(count <= MOST_HELD);
-    fields_before(line, LINE_FEED_AT, cowns.as_slice())
+    fields_before(line, feed, cowns.as_slice())
 }
 
-// Puts a mark and numbers in front of what a line has from a place on, and says where they begin.
-fn begun_before(line: &mut [u8], place: usize, mark: u8, numbers: &[u32]) -> usize
-    requires few { length numbers.now ≤ 3 }
+// Puts a mark and three numbers in front of what a line has from a place on, and says where they begin.
+fn three_before(
+    line: &mut [u8],
+    place: usize,
+    mark: u8,
+    first: u32,
+    second: u32,
+    third: u32,
+) -> usize
     requires room { (4 * MOST_FIELD < place) × (place < length line.old) }
-    ensures { drop result line.new ≡ mark ∷ fields numbers.now ++ drop place line.old }
+    ensures written { drop result line.new ≡ mark ∷ fields (first ∷ second ∷ third ∷ []) ++ drop place line.old }
+    ensures near { result ≤ place }
 {
-    let at = fields_before(line, place, numbers) - 1;
+    let at = field_before(line, place, third);
+    let at = field_before(line, at, second);
+    let at = field_before(line, at, first);
+    mark_before(line, at, mark)
+}
+
+// Puts a mark in front of what a line has from a place on, and says where it is.
+fn mark_before(line: &mut [u8], place: usize, mark: u8) -> usize
+    requires room { (0 < place) × (place ≤ length line.old) }
+    ensures written { drop result line.new ≡ mark ∷ drop place line.old }
+    ensures near { suc result ≡ place }
+{
+    let at = place - 1;
     line[at] = mark;
     at
 }

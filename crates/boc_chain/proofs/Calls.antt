@@ -7,7 +7,7 @@ use Rattle.boc_chain.specs.declared.request.Request.{Request}
 use Rattle.boc_chain.specs.declared.request.Released.TheVariants.{Unhooked, Passed, Blocked}
 use Rattle.boc_chain.specs.declared.linked.Node.{Node}
 use Rattle.boc_chain.specs.declared.linked.Link.{Link}
-use Rattle.boc_chain.specs.declared.linked.Linked.{Linked}
+use Rattle.boc_chain.specs.declared.kept_links.Linked.{Linked}
 use Rattle.boc_chain.specs.Chain.{Place, IsGranted, times, slots, list, cowns_of, exchanged_of, cown, one_more, fresh, slot_of, last_slot, before, with_flagged, settled_behind, leave_answer, after_leave}
 use Rattle.boc_chain.specs.Links.{Tie, Spells, end_of, next_of}
 use Rattle.boc_chain.specs.Linked.{stored_in, stored, seen, links, IsAt, IsPlaced, Holds, Leads, last_at, place_in, place_at, slot_at, IsSpelled, IsList, IsLinked, last_of, line, from, lists_of, passed}

@@ -6,7 +6,7 @@ use Rattle.slab.specs.Slab.{Slab, get}
 use Rattle.boc_chain.specs.declared.request.Request.{Request}
 use Rattle.boc_chain.specs.declared.linked.Node.{Node}
 use Rattle.boc_chain.specs.declared.linked.Link.{Link}
-use Rattle.boc_chain.specs.declared.linked.Linked.{Linked}
+use Rattle.boc_chain.specs.declared.kept_links.Linked.{Linked}
 use Rattle.boc_chain.specs.Chain.{IsGranted, times, slots, cowns_of, exchanged_of, cown, with_settled, settled_behind}
 use Rattle.boc_chain.specs.Links.{Tie, Spells, next_of}
 use Rattle.boc_chain.specs.Linked.{stored_in, stored, seen, links, place_in, place_at, IsAt, NamesWell, IsPlaced, IsSpelled, Holds, Leads, passed}

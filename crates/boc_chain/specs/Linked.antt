@@ -4,7 +4,7 @@ use Rattle.std.specs.Option.{option_and_then, option_map}
 use Rattle.slab.specs.Slab.{Slab, get, slab_len}
 use Rattle.boc_chain.specs.declared.linked.Node.{Node}
 use Rattle.boc_chain.specs.declared.linked.Link.{Link}
-use Rattle.boc_chain.specs.declared.linked.Linked.{Linked}
+use Rattle.boc_chain.specs.declared.kept_links.Linked.{Linked}
 use Rattle.boc_chain.specs.Chain.{Place, IsGranted, times, slots, cowns_of, cown}
 use Rattle.boc_chain.specs.declared.request.Request.{Request}
 use Rattle.boc_chain.specs.declared.request.Slot.{Slot}

@@ -11,6 +11,7 @@
 
 mod chains;
 mod held;
+mod kept_links;
 mod link_chains;
 mod linked;
 mod list_chains;

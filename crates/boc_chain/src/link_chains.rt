@@ -8,12 +8,11 @@ ghost use Rattle.boc_chain.specs.Props.{Spells-prop};
 ghost use Rattle.std.proofs.Props.{props};
 
 use crate::chains::Chains;
+use crate::kept_links::{KeptLinks, Linked};
 use crate::linked::{
-    Link, Linked, Node, can_settle_at, cown_at, link_at, next_at, pass_at, push_link, set_link,
-    settle_at,
+    Link, Node, can_settle_at, cown_at, link_at, next_at, pass_at, push_link, set_link, settle_at,
 };
 use crate::request::{Released, Settled, Slot};
-use arrayvec::ArrayVec;
 use boc_types::held::HeldCowns;
 use boc_types::limits::MOST_HELD;
 use boc_types::short::{CownNo, Cowns};
@@ -128,11 +127,9 @@ impl Chains for LinkChains {
         let Some(cowns) = HeldCowns::try_of(&cowns) else {
             return Err(AllocError);
         };
+        let links = KeptLinks::with_room(*self.last.allocator(), count)?;
         self.slots.reserve(1)?;
-        let index = self.slots.insert_reserved(Linked {
-            cowns,
-            links: ArrayVec::new(),
-        });
+        let index = self.slots.insert_reserved(Linked { cowns, links });
         self.peak = self.peak.max(self.slots.len());
         Ok(Slot { index })
     }

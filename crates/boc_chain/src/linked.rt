@@ -1,6 +1,6 @@
 //! The requests of one behaviour, each linked to its neighbours.
 
-ghost use Rattle.std.specs.Prelude.{◌≡◌, ◌≢◌, ◌==◌, ◌↔◌, ℕ, ◌<◌, ◌≤◌, List, length, position, Some, false, drop, slice_set};
+ghost use Rattle.std.specs.Prelude.{◌≡◌, ◌≢◌, ◌==◌, ◌↔◌, ℕ, ◌<◌, ◌≤◌, List, length, position, Some, false, drop};
 ghost use Rattle.std.specs.Option.{option_map};
 ghost use Rattle.slab.specs.Slab.{slab_len};
 ghost use Rattle.boc_chain.specs.Linked.{stored_in, stored, links, place_in, place_at, IsAt, IsSpelled, IsPlaced, Holds, Leads, passed};
@@ -9,11 +9,8 @@ ghost use Rattle.boc_chain.specs.Chain.{cown, cowns_of, exchanged_of, one_more, 
 ghost use Rattle.boc_chain.specs.declared.request.Request.{Request};
 ghost use Rattle.boc_chain.specs.declared.request.Settled.TheVariants.{Blocked as SettleBlocked};
 
+use crate::kept_links::Linked;
 use crate::request::Settled;
-use crate::short_link::ShortLink;
-use arrayvec::ArrayVec;
-use boc_types::held::HeldCowns;
-use boc_types::limits::MOST_HELD;
 use boc_types::short::CownNo;
 use slab::Slab;
 
@@ -35,23 +32,9 @@ pub struct Link {
     pub next: Option<Node>,
 }
 
-/// What was admitted: the cowns, and the links of the requests exchanged so far.
-#[derive(Drop)]
-pub struct Linked {
-    pub cowns: HeldCowns,
-    pub links: ArrayVec<ShortLink, MOST_HELD>,
-}
-
-// Writes a link over the one at a place.
-fn put(links: &mut ArrayVec<ShortLink, MOST_HELD>, place: usize, link: Link)
-    requires { place < length links.old.items }
-    ensures { links.new.items ≡ slice_set links.old.items place link }
-{
-    links[place] = ShortLink::of(link);
-}
-
 impl Linked {
     // Adds the link of the next request.
+    #[inline(always)]
     fn push(&mut self, link: Link)
         requires { exchanged_of (place_in (Some self.old)) < length (cowns_of (place_in (Some self.old))) }
         ensures here { let place = place_in (Some self.old) in
@@ -60,21 +43,21 @@ impl Linked {
             (d : ℕ) → d ≢ cown place (exchanged_of place) → stored_in (Some self.new) d ≡ stored_in (Some self.old) d }
         ensures place { place_in (Some self.new) ≡ one_more (place_in (Some self.old)) }
     {
-        let (count, all) = (self.links.len(), self.cowns.as_slice().len());
-        prove!(count < all);
-        self.links.push(ShortLink::of(link));
+        self.links.push(link);
     }
 
     // The link of the request at a place.
+    #[inline(always)]
     fn link(&self, place: usize) -> Link
         requires { place < exchanged_of (place_in (Some self.now)) }
         ensures { (c : ℕ) → position (λ d. d == c) self.now.cowns.items ≡ Some place → stored_in (Some self.now) c
             ≡ Some result }
     {
-        self.links[place].link()
+        self.links.as_slice()[place].link()
     }
 
     // Puts a link in the place of the one at a place.
+    #[inline(always)]
     fn relink(&mut self, place: usize, link: Link)
         requires { place < exchanged_of (place_in (Some self.old)) }
         ensures here { (c : ℕ) → position (λ d. d == c) self.old.cowns.items ≡ Some place → stored_in (Some self.new) c
@@ -83,7 +66,7 @@ impl Linked {
             → stored_in (Some self.new) d ≡ stored_in (Some self.old) d }
         ensures place { place_in (Some self.new) ≡ place_in (Some self.old) }
     {
-        put(&mut self.links, place, link);
+        self.links.put(place, link);
     }
 }
 
@@ -218,6 +201,7 @@ pub fn cown_at(slots: &Slab<Linked>, slot: usize, i: usize) -> CownNo
 }
 
 /// The link of a request.
+#[inline]
 pub fn link_at(slots: &Slab<Linked>, node: Node) -> Link
     requires { node.place < exchanged_of (place_at slots.now node.slot) }
     ensures { (c : ℕ) → IsAt slots.now node c → stored slots.now node.slot c ≡ Some result }
@@ -226,6 +210,7 @@ pub fn link_at(slots: &Slab<Linked>, node: Node) -> Link
 }
 
 /// Puts a link in the place of that of a request.
+#[inline]
 pub fn set_link(slots: &mut Slab<Linked>, node: Node, link: Link)
     requires { node.place < exchanged_of (place_at slots.old node.slot) }
     ensures here { (c : ℕ) → IsAt slots.old node c → stored slots.new node.slot c ≡ Some link }

@@ -6,7 +6,7 @@ ghost use Rattle.boc_chain.specs.ShortLinks.{node_if};
 use crate::linked::{Link, Node};
 use std::marker::Model;
 
-/// A link in ten bytes, since there are eight for each behaviour that waits. Contracts see the link.
+/// A link in ten bytes, since there are two or more for each behaviour that waits. Contracts see the link.
 #[derive(Drop)]
 pub struct ShortLink {
     settled: bool,
@@ -34,6 +34,7 @@ impl Model for ShortLink {
 }
 
 // Whether there is a node, and its slot and its place.
+#[inline(always)]
 fn parts(node: Option<Node>) -> (bool, u16, u8)
     ensures { node_if result.0 result.1 result.2 ≡ node }
 {
@@ -44,6 +45,7 @@ fn parts(node: Option<Node>) -> (bool, u16, u8)
 }
 
 // The node of this slot and place, if there is one.
+#[inline(always)]
 fn node(is_there: bool, slot: u16, place: u8) -> Option<Node>
     ensures { result ≡ node_if is_there slot place }
 {
@@ -56,6 +58,7 @@ fn node(is_there: bool, slot: u16, place: u8) -> Option<Node>
 
 impl ShortLink {
     /// This link.
+    #[inline(always)]
     pub fn of(link: Link) -> ShortLink
         ensures { result ≡ link }
     {
@@ -74,6 +77,7 @@ impl ShortLink {
     }
 
     /// The link.
+    #[inline(always)]
     pub fn link(&self) -> Link
         ensures { result ≡ self.now }
     {

@@ -1,7 +1,7 @@
 use Rattle.std.proofs.Common.{ℕ, ◌≡◌, ◌≤◌, ◌<◌, ◌^◌, ◌∙◌, ap, sym, subst, length, arith}
 use Rattle.arrayvec.specs.ArrayVec.{ArrayVec}
 use Rattle.slab.specs.Slab.{Slab, slab_len}
-use Rattle.boc_chain.specs.declared.linked.Linked.{Linked}
+use Rattle.boc_chain.specs.declared.kept_links.Linked.{Linked}
 use Rattle.boc_chain.specs.Chain.{times}
 use Rattle.boc_chain.specs.LinkViews.{lists}
 use Rattle.boc_chain.proofs.Calls.{grown, admit_call}
@@ -28,8 +28,8 @@ invariant_of-self-2 c =
     let in_range = subst (λ (cs : ArrayVec ℕ). (n : ℕ) → 0 < times n cs.items → n < length (lists s)) (sym same) c.requires.in_range in
     let short : (i : ℕ) → i < length kept.items → (c.insert_reserved-index.result < 2 ^ 16) × (i < 2 ^ 8) = λ i h. (omega (arith, key), omega (arith, h, ap (λ (cs : ArrayVec ℕ). length cs.items) same)) in
     record {
-      linked = (admit_call s.last.items s.slots c.reserve.new.self c.insert_reserved-index.new.self s.peak c.reserve.new.self.capacity c.insert_reserved-index.result c.max-self.result (record { cowns = kept; links = c.new.result }) s.linked c.reserve.ensures.rest_kept
-          c.insert_reserved-index.ensures.was_vacant c.insert_reserved-index.ensures.updates c.new.ensures distinct in_range short few).0;
+      linked = (admit_call s.last.items s.slots c.reserve.new.self c.insert_reserved-index.new.self s.peak c.reserve.new.self.capacity c.insert_reserved-index.result c.max-self.result _ s.linked c.reserve.ensures.rest_kept
+          c.insert_reserved-index.ensures.was_vacant c.insert_reserved-index.ensures.updates c.in_ok-links.ensures.empty distinct in_range short few).0;
     }
 
 pub returns-clause-lists : goal.returns-clause-lists
@@ -42,5 +42,5 @@ returns-clause-lists c =
     let distinct = subst (λ (cs : ArrayVec ℕ). (n : ℕ) → times n cs.items ≤ 1) (sym same) c.requires.distinct in
     let in_range = subst (λ (cs : ArrayVec ℕ). (n : ℕ) → 0 < times n cs.items → n < length (lists s)) (sym same) c.requires.in_range in
     let short : (i : ℕ) → i < length kept.items → (c.insert_reserved-index.result < 2 ^ 16) × (i < 2 ^ 8) = λ i h. (omega (arith, key), omega (arith, h, ap (λ (cs : ArrayVec ℕ). length cs.items) same)) in
-    (admit_call s.last.items s.slots c.reserve.new.self c.insert_reserved-index.new.self s.peak c.reserve.new.self.capacity c.insert_reserved-index.result c.max-self.result (record { cowns = kept; links = c.new.result }) s.linked c.reserve.ensures.rest_kept
-    c.insert_reserved-index.ensures.was_vacant c.insert_reserved-index.ensures.updates c.new.ensures distinct in_range short few).1
+    (admit_call s.last.items s.slots c.reserve.new.self c.insert_reserved-index.new.self s.peak c.reserve.new.self.capacity c.insert_reserved-index.result c.max-self.result _ s.linked c.reserve.ensures.rest_kept
+    c.insert_reserved-index.ensures.was_vacant c.insert_reserved-index.ensures.updates c.in_ok-links.ensures.empty distinct in_range short few).1

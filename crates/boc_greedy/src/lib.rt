@@ -12,7 +12,6 @@ mod report;
 mod row_set;
 mod simulate;
 mod simulation;
-mod tournament;
 mod workers;
 
 pub use entry::{greedy, greedy_over, greedy_within};

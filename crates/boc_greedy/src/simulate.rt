@@ -37,11 +37,11 @@ pub fn simulate(
     let followers = followers(alloc, waits)?;
     let family = family_of(alloc, rows)?;
     let mut simulation = Simulation::new(alloc, rows, waits, &followers, p)?;
-    simulation.give_all(rows, &family);
+    simulation.give_all(rows, &family)?;
     while let Some(worker) = simulation.next_to_change() {
-        simulation.advance(rows, &family, worker);
-        simulation.change_all(rows, &family);
-        simulation.give_all(rows, &family);
+        simulation.advance(rows, &family, worker)?;
+        simulation.change_all(rows, &family)?;
+        simulation.give_all(rows, &family)?;
     }
     Ok(Simulated {
         starts: simulation.starts,

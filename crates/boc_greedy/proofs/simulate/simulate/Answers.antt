@@ -11,15 +11,12 @@ followers-requires-clause-inside c = λ b a has. (let p = wait_there c.args.rows
 
 pub returns-clause-greedy : goal.returns-clause-greedy
 returns-clause-greedy c =
-    let i = c.loop-worker.invariant in
-    (done _ _ _ _ c.requires.shape i.settled i.counted i.low c.requires.some refl c.in_default.ensures.none).greedy
+    (done _ _ _ _ c.requires.shape c.loop-worker.invariant c.requires.some refl c.in_default.ensures.none).greedy
 
 pub returns-clause-moments : goal.returns-clause-moments
 returns-clause-moments c =
-    let i = c.loop-worker.invariant in
-    (done _ _ _ _ c.requires.shape i.settled i.counted i.low c.requires.some refl c.in_default.ensures.none).moments
+    (done _ _ _ _ c.requires.shape c.loop-worker.invariant c.requires.some refl c.in_default.ensures.none).moments
 
 pub returns-clause-low : goal.returns-clause-low
 returns-clause-low c =
-    let i = c.loop-worker.invariant in
-    (done _ _ _ _ c.requires.shape i.settled i.counted i.low c.requires.some refl c.in_default.ensures.none).low
+    (done _ _ _ _ c.requires.shape c.loop-worker.invariant c.requires.some refl c.in_default.ensures.none).low

@@ -10,7 +10,6 @@ mod entry;
 mod frontier;
 mod report;
 mod row_set;
-mod simulate;
 mod simulation;
 mod workers;
 

@@ -1,6 +1,6 @@
 use Rattle.boc_greedy.specs.Simulating.{steps_of_all}
 use Rattle.boc_greedy.specs.Stepping.{IsSettled}
-use Rattle.boc_greedy.proofs.simulate.simulate.Given as goal
+use Rattle.boc_greedy.proofs.entry.greedy_over.Given as goal
 
 abbrev pub invariant-loop-worker : goal.invariant-loop-worker
 invariant-loop-worker l = IsSettled l.rows l.p l.simulation

@@ -1,9 +1,11 @@
 -- A simulation begins.
-use Rattle.std.proofs.Common.{◌≡◌, ℕ, zero, suc, ◌+◌, ◌<◌, ◌≤◌, List, ◌∷◌, length, replicate, Some, get_or, refl, ap, subst, inl, inr, arith}
+use Rattle.std.proofs.Common.{◌≡◌, ℕ, zero, suc, ◌+◌, ◌*◌, ◌<◌, ◌≤◌, List, ◌∷◌, length, replicate, Some, get_or, refl, ap, subst, inl, inr, arith}
 use Rattle.boc_types.specs.declared.limits.TheConstants.{MOST_TICKS}
 use Rattle.std.specs.Prelude.{slice_index, slice_get, pred}
 use Rattle.std.proofs.lemmas.Bool.{cases_lt}
 use Rattle.std.proofs.lemmas.List.{length-replicate, get_or-replicate}
+use Rattle.std.proofs.lemmas.List.Sums.{sum_by-cons}
+use Rattle.std.proofs.lemmas.List.Folds.{sum_by-replicate}
 use Rattle.std.proofs.lemmas.Option.{slice_get-get_or, slice_get_within}
 use Rattle.boc_types.specs.declared.rows.Row.{Row}
 use Rattle.boc_types.specs.runs.Rows.{IsRows}
@@ -11,7 +13,7 @@ use Rattle.boc_types.specs.plans.Plans.{start_of}
 use Rattle.boc_greedy.specs.declared.frontier.Stage.{Stage}
 use Rattle.boc_greedy.specs.declared.frontier.Stage.TheVariants.{Unspawned, Waiting, UnderWay, Over}
 use Rattle.boc_greedy.specs.Stages.{IsAt}
-use Rattle.boc_greedy.specs.Simulating.{Kept, Given, HasPassed}
+use Rattle.boc_greedy.specs.Simulating.{Kept, Given, HasPassed, steps_left, steps_of_all}
 use Rattle.boc_greedy.proofs.Puts.{waiting_unspawned}
 
 module _ (rows : List Row) (hr : IsRows rows) (p end : ℕ) (few : p ≤ 64) (early : MOST_TICKS < end) (starts workers : List ℕ) (stages : List Stage)
@@ -89,6 +91,11 @@ module _ (rows : List Row) (hr : IsRows rows) (p end : ℕ) (few : p ≤ 64) (ea
 
   pub passed_first : HasPassed p changes 0
   passed_first w h = omega (arith, change_at w h, early)
+
+-- main has two steps before it, and each other row three
+pub steps_first : (n : ℕ) (stages : List Stage) → 0 < n → stages ≡ Waiting ∷ replicate (pred n) Unspawned → steps_of_all stages + 1 ≡ n * 3
+steps_first zero stages some is = absurd (omega (arith, some))
+steps_first (suc n) stages some is = rw is (omega (arith, sum_by-cons steps_left Waiting (replicate n Unspawned), sum_by-replicate steps_left n Unspawned))
 
 -- an element of a list of one number
 pub start_all : (n v i : ℕ) (xs : List ℕ) → xs ≡ replicate n v → i < length xs → slice_index xs i ≡ v

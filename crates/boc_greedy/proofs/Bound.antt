@@ -64,11 +64,6 @@ span_within rows span s other keeps bound within =
 span_le : (rows : List Row) (a b : ℕ) → IsSpan rows a → IsSpan rows b → a ≤ b
 span_le rows a b s t = span_within rows a s t.plan t.earliest.keeps b t.ends.none_later
 
--- two spans of the same rows bound alike
-pub close_to_span : (rows : List Row) (p a b last : ℕ) → IsSpan rows a → IsSpan rows b → p * last ≤ work_of rows + (p - 1) * a →
-    p * last ≤ work_of rows + (p - 1) * b
-close_to_span rows p a b last s t close = omega (arith, mul-le-mul_left (p - 1) (span_le rows a b s t))
-
 -- the greatest of the ends is the end of the plan
 pub greatest_is_end : (rows : List Row) (plan ends : List ℕ) (last : ℕ) → HasEnds rows plan ends →
     ((k : ℕ) → k < length ends → slice_index ends k ≤ last) → (k : ℕ) × (k < length ends) × (slice_index ends k ≡ last) → IsEnd rows plan last

@@ -15,7 +15,8 @@ pub mod Beginning
 pub mod Reading
 pub mod Following
 pub mod Finishing
-pub mod Winning
+pub mod Queued
+pub mod Changing
 pub mod Totals
 pub mod Busy
 pub mod Bound

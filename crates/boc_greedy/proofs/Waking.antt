@@ -1,5 +1,5 @@
 -- The frontier as a row is spawned, starts or ends, and at the beginning.
-use Rattle.std.proofs.Common.{◌≡◌, ◌≢◌, ℕ, zero, suc, ◌+◌, ◌-◌, ◌++◌, ◌<◌, ◌≤◌, ◌⊎◌, List, [], ◌∷◌, length, get_or, refl, sym, ◌∙◌, ap, subst, inl, inr, arith, replicate, get_or-set_same, get_or-set_other, length-set}
+use Rattle.std.proofs.Common.{◌≡◌, ◌≢◌, ℕ, zero, suc, ◌+◌, ◌-◌, ◌++◌, ◌<◌, ◌⊎◌, List, [], ◌∷◌, length, get_or, refl, sym, ◌∙◌, ap, subst, inl, inr, arith, replicate, length-set}
 use Rattle.std.specs.Prelude.{slice_index, slice_set, Some, None, ◌↔◌}
 use Rattle.std.specs.List.{Contains}
 use Rattle.std.proofs.lemmas.Bool.{cases_eq}
@@ -13,7 +13,7 @@ use Rattle.boc_greedy.specs.declared.frontier.Stage.TheVariants.{Unspawned, Wait
 use Rattle.boc_greedy.specs.declared.row_set.RowSet.{RowSet}
 use Rattle.boc_greedy.specs.RowSets.{IsRowSet, Has}
 use Rattle.boc_greedy.specs.Stages.{IsAt, CanStart}
-use Rattle.boc_greedy.specs.Frontier.{HasNoWaits, AwaitsWorker, IsKeptBut, AreReached}
+use Rattle.boc_greedy.specs.Frontier.{AwaitsWorker, IsKeptBut, AreReached}
 use Rattle.boc_greedy.proofs.WordsAbove.{zero_at}
 use Rattle.boc_greedy.proofs.Followed.{follower_waits, waiter_follows, link_there}
 use Rattle.boc_greedy.proofs.Queueing.{queued, IsWoken, queued_each, queued_more, queued_woken, queued_pop}
@@ -29,35 +29,6 @@ reached_stays waits stages stages' reached whole stay are = record {
   within = are.within;
   over = λ r k l. stay (slice_index (links_of waits r) k) (are.over r k l);
 }
-
--- the first n rows that a row waits for were found to be over
-pub reached_set : (waits : List (List ℕ)) (stages : List Stage) (reached : List ℕ) (row n : ℕ) → row < length stages →
-    n ≤ length (links_of waits row) → ((k : ℕ) → k < n → IsAt stages (slice_index (links_of waits row) k) Over) →
-    AreReached waits stages reached → AreReached waits stages (slice_set reached row n)
-reached_set waits stages reached row n there within over are = record {
-  whole = simp length-set are.whole;
-  waits_whole = are.waits_whole;
-  there = are.there;
-  within = λ r. elim (cases_eq r row) [
-    | inl e ↦ rw e (rw (get_or-set_same reached row n 0 fits) within)
-    | inr o ↦ rw (get_or-set_other reached row r n 0 o) (are.within r)
-  ];
-  over = λ r k l. elim (cases_eq r row) [
-    | inl e ↦
-        let less : k < n = subst (λ (x : ℕ). k < x) (get_or-set_same reached row n 0 fits) (subst (λ (x : ℕ). k < slice_index (slice_set reached row n) x) e l) in
-        rw e (over k less)
-    | inr o ↦ are.over r k (subst (λ (x : ℕ). k < x) (get_or-set_other reached row r n 0 o) l)
-  ];
-}
-  where
-    fits : row < length reached
-    fits = omega (arith, are.whole, there)
-
--- all rows that a row waits for are over exactly if none of them stopped the search
-pub all_over : (waits : List (List ℕ)) (stages : List Stage) (row n : ℕ) → n ≡ length (links_of waits row) →
-    ((k : ℕ) → k < n → IsAt stages (slice_index (links_of waits row) k) Over) → HasNoWaits waits stages row
-all_over waits stages row n all over a has =
-    subst (λ (x : ℕ). IsAt stages x Over) (get_or_default (links_of waits row) has.0 0 a has.1 ∙ has.2) (over has.0 (omega (arith, all, has.1)))
 
 unspawned_not_waiting : Unspawned ≡ Waiting → ⊥
 unspawned_not_waiting e = cc

@@ -4,5 +4,5 @@ pub mod Frontier
 pub mod Families
 pub mod Simulating
 pub mod Stepping
-pub mod Tournaments
+pub mod Queues
 pub mod Plans

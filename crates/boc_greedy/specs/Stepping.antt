@@ -1,16 +1,26 @@
 -- A simulation as a whole.
-use Rattle.std.specs.Prelude.{◌≡◌, ℕ, ◌+◌, ◌*◌, ◌≤◌, List, length}
+use Rattle.std.specs.Prelude.{ℕ, ◌+◌, ◌*◌, ◌≤◌, List, length}
 use Rattle.boc_types.specs.declared.limits.TheConstants.{MOST_TICKS}
 use Rattle.boc_types.specs.declared.rows.Row.{Row}
 use Rattle.boc_types.specs.plans.Greedy.{CountsAll}
 use Rattle.boc_greedy.specs.declared.simulation.Simulation.{Simulation}
 use Rattle.boc_greedy.specs.Frontier.{IsFrontier}
-use Rattle.boc_greedy.specs.Tournaments.{IsTournamentOf}
+use Rattle.std.specs.BinaryHeap.{heap_items}
+use Rattle.boc_greedy.specs.Queues.{AreQueued}
 use Rattle.boc_greedy.specs.Simulating.{later, AreIdle, Kept, Given, IsFresh, HasPassed, IsFull, IsPast, steps_of_all}
 
 -- the simulation keeps what it has to keep
 abbrev pub IsSimulated : List Row → ℕ → Simulation → Type 0
 IsSimulated rows p s = Kept rows p later s.starts.items s.workers.items s.frontier.stages.items s.changes.items s.tasks.items s.children.items s.tick
+
+-- the moments so far are counted
+pub record IsCounted (rows : List Row) (starts : List ℕ) (tick moments : ℕ) : Type 0 where
+  pub all : CountsAll moments (IsPast rows starts tick)
+  pub low : moments ≤ tick + 1
+
+-- each step so far took at most 1,000,000 ticks
+abbrev pub IsLow : List Row → Simulation → Type 0
+IsLow rows s = s.tick + steps_of_all s.frontier.stages.items * MOST_TICKS ≤ length rows * 3000000
 
 -- the changes of this tick are made, one after another, and no row has started at it yet
 pub record IsStepping (rows : List Row) (p : ℕ) (s : Simulation) : Type 0 where
@@ -18,7 +28,8 @@ pub record IsStepping (rows : List Row) (p : ℕ) (s : Simulation) : Type 0 wher
   pub kept : IsSimulated rows p s
   pub fresh : IsFresh rows s.starts.items s.tick
   pub idle : AreIdle s.changes.items s.idle
-  pub tournament : IsTournamentOf s.changes.items s.tournament
+  pub queued : AreQueued s.changes.items (heap_items s.queue)
+  pub counted : IsCounted rows s.starts.items s.tick s.moments
 
 -- the changes of this tick are made, and rows start, one after another
 pub record IsGiving (rows : List Row) (p : ℕ) (s : Simulation) : Type 0 where
@@ -27,25 +38,11 @@ pub record IsGiving (rows : List Row) (p : ℕ) (s : Simulation) : Type 0 where
   pub given : Given rows p later s.starts.items s.workers.items s.frontier.stages.items s.changes.items s.tick
   pub passed : HasPassed p s.changes.items s.tick
   pub idle : AreIdle s.changes.items s.idle
-  pub tournament : IsTournamentOf s.changes.items s.tournament
+  pub queued : AreQueued s.changes.items (heap_items s.queue)
+  pub counted : IsCounted rows s.starts.items s.tick s.moments
+  pub low : IsLow rows s
 
 -- no more row can start at this tick
 pub record IsSettled (rows : List Row) (p : ℕ) (s : Simulation) : Type 0 where
   pub giving : IsGiving rows p s
   pub full : IsFull rows p later s.frontier.stages.items s.changes.items
-
--- the moments so far are counted
-pub record IsCounted (rows : List Row) (s : Simulation) : Type 0 where
-  pub moments : CountsAll s.moments (IsPast rows s.starts.items s.tick)
-  pub low : s.moments ≤ s.tick + 1
-
--- each step so far took at most 1,000,000 ticks
-pub record IsLow (rows : List Row) (s : Simulation) : Type 0 where
-  pub low : s.tick + steps_of_all s.frontier.stages.items * MOST_TICKS ≤ length rows * 3000000
-
--- the simulation stands where it stood, no row has started since, and at most as many steps are left
-pub record Goes (before after : Simulation) : Type 0 where
-  pub starts : after.starts.items ≡ before.starts.items
-  pub tick : after.tick ≡ before.tick
-  pub moments : after.moments ≡ before.moments
-  pub fewer : steps_of_all after.frontier.stages.items ≤ steps_of_all before.frontier.stages.items

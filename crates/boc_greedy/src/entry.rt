@@ -8,9 +8,10 @@ ghost use Rattle.boc_types.specs.plans.Greedy.{IsSpan};
 ghost use Rattle.boc_order.specs.Waits.{AreWaits};
 ghost use Rattle.boc_greedy.specs.Plans.{IsGreedyPlanOf};
 
+use crate::children::family_of;
 use crate::report::Greedy;
-use crate::simulate::simulate;
-use boc_order::{Links, waits};
+use crate::simulation::Simulation;
+use boc_order::{Links, followers, last_end, waits};
 use boc_types::rows::Rows;
 use boc_types::sharing::{SeenRows, Sharing};
 use boc_types::workers::Workers;
@@ -48,17 +49,25 @@ pub fn greedy_over(
     ensures { IfOk result (λ plan. IsGreedyPlanOf rows.now workers plan) }
 {
     let p = workers.number();
-    let plan = simulate(alloc, rows, waits, p)?;
-    let ends = ends_of(alloc, rows, &plan.starts)?;
-    let ends_at = boc_order::last_end(&ends);
+    let followers = followers(alloc, waits)?;
+    let family = family_of(alloc, rows)?;
+    let mut simulation = Simulation::new(alloc, rows, waits, &followers, p)?;
+    simulation.give_all(rows, &family)?;
+    while let Some(worker) = simulation.next_to_change() {
+        simulation.advance(rows, &family, worker)?;
+        simulation.change_all(rows, &family)?;
+        simulation.give_all(rows, &family)?;
+    }
+    let ends = ends_of(alloc, rows, &simulation.starts)?;
+    let ends_at = last_end(&ends);
     Ok(Greedy {
         p,
-        starts: plan.starts,
+        starts: simulation.starts,
         ends,
-        workers: plan.workers,
+        workers: simulation.workers,
         ends_at,
         bound: work / u64::from(p) + span,
-        moments: plan.moments,
+        moments: simulation.moments,
     })
 }
 

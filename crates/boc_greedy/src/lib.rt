@@ -10,9 +10,7 @@ mod entry;
 mod frontier;
 mod report;
 mod row_set;
-mod simulate;
 mod simulation;
-mod tournament;
 mod workers;
 
 pub use entry::{greedy, greedy_over, greedy_within};

@@ -1,7 +1,7 @@
 -- Lists that lie one behind the other in a flat one.
-use Rattle.std.proofs.Common.{◌≡◌, ℕ, zero, suc, ◌+◌, ◌-◌, ◌<◌, ◌≤◌, List, [], ◌∷◌, ◌++◌, length, take, drop, refl, ap, add-one, arith}
+use Rattle.std.proofs.Common.{◌≡◌, ℕ, zero, suc, ◌+◌, ◌-◌, ◌<◌, ◌≤◌, List, [], ◌∷◌, ◌++◌, length, take, drop, get_or, refl, sym, ap, add-one, arith}
 use Rattle.std.specs.Prelude.{slice_index, slice_index_or}
-use Rattle.std.proofs.lemmas.List.{take-append-le, drop-append-le, length-drop, length-append, take_all}
+use Rattle.std.proofs.lemmas.List.{take-append-le, drop-append-le, length-drop, length-append, take_all, get_or_read}
 use Rattle.std.proofs.Math.Seq.{drop-append_seam}
 use Rattle.boc_order.specs.Waits.{lists_from, lists_between, EndAt, AreBounds}
 
@@ -70,3 +70,13 @@ len_is first list lists n e p q = rw (e, q) (omega (arith, length-between first 
 -- a row's list lies between two bounds
 pub there_is : (first list : List ℕ) (lists : List (List ℕ)) (r : ℕ) → lists ≡ lists_between first list → AreBounds first (length list) → r < length lists → r + 1 < length first
 there_is first list lists r e p h = omega (arith, length-between first list p, ap (length {A = List ℕ}) e, h)
+
+-- a row's list, between the bounds that are read
+pub read_between : (first list : List ℕ) (lists : List (List ℕ)) (r begin end : ℕ) → lists ≡ lists_between first list → AreBounds first (length list) → r < length lists →
+    begin ≡ get_or first r begin → end ≡ get_or first (r + 1) end → (begin ≤ end) × (end ≤ length list) × (take (end - begin) (drop begin list) ≡ slice_index_or lists r [])
+read_between first list lists r begin end e p h b_read e_read =
+    let there = there_is first list lists r e p h in
+    let b : begin ≡ slice_index first r = get_or_read first r begin (omega (arith, there)) b_read 0 in
+    let n : end ≡ slice_index first (r + 1) = get_or_read first (r + 1) end there e_read 0 in
+    let i = list_between first list p r there in
+    rw (b, n, e) (i.rise, i.inside, sym i.is)

@@ -8,7 +8,7 @@ use Rattle.std.proofs.lemmas.List.Elements.{Contains-append_left, Contains-appen
 use Rattle.boc_types.specs.declared.rows.Row.{Row}
 use Rattle.boc_types.specs.runs.Rows.{IsRows, cowns_of, written_of}
 use Rattle.boc_types.specs.plans.Plans.{ConflictOn, Ordered}
-use Rattle.boc_order.specs.declared.uses.Use.{Use}
+use Rattle.boc_order.specs.declared.gathering.Use.{Use}
 use Rattle.boc_order.specs.Waits.{IsNearOn, IsNear}
 use Rattle.boc_order.specs.Uses.{NoneWrites, IsWriter, IsReader, IsUse, AddsNearOn}
 

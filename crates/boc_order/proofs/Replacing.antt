@@ -1,15 +1,16 @@
 -- Rows that are placed anew from a row on: those before it stay placed where only later ticks change.
-use Rattle.std.proofs.Common.{◌≡◌, ◌≢◌, ℕ, ◌<◌, ◌≤◌, List, length, take, Option, Some, None, refl, sym, ◌∙◌, arith}
+use Rattle.std.proofs.Common.{◌≡◌, ◌≢◌, ℕ, ◌<◌, ◌≤◌, List, length, take, Option, Some, None, sym, ◌∙◌, arith}
 use Rattle.std.specs.Prelude.{slice_index, slice_index_or, MatchOption}
-use Rattle.std.proofs.lemmas.List.{get_or-take, length-take, take-take}
+use Rattle.std.proofs.lemmas.List.{get_or-take, length-take}
 use Rattle.boc_types.specs.declared.rows.Row.{Row}
 use Rattle.boc_types.specs.runs.Rows.{IsRows, parent_of, offset_of, ticks_of, cowns_of, written_of}
 use Rattle.boc_types.specs.plans.Plans.{IsChild, ConflictOn, Ordered}
 use Rattle.boc_types.specs.plans.Chains.{IsSpawnTight, IsOrderTight}
-use Rattle.boc_types.specs.plans.Edits.{edited, Fits}
+use Rattle.boc_types.specs.plans.Edits.{edited}
 use Rattle.boc_types.specs.plans.Greedy.{IsSpan}
-use Rattle.boc_types.proofs.Editing.{length-edited, parent_of-edited, offset_of-edited, cowns_of-edited, written_of-edited, ticks_of-edited_other, rows_edited}
+use Rattle.boc_types.proofs.Editing.{length-edited, parent_of-edited, offset_of-edited, cowns_of-edited, written_of-edited, ticks_of-edited_other}
 use Rattle.boc_order.specs.Placed.{Placed, ArePlaced}
+use Rattle.boc_order.specs.Waits.{IsNear}
 use Rattle.boc_order.proofs.Placing.{still_placed}
 use Rattle.boc_order.proofs.Chaining.{placed_earliest}
 
@@ -60,6 +61,19 @@ ordered_same : (n : ℕ) (rows others : List Row) (a b : ℕ) → AreSameBefore 
 ordered_same n rows others a b s o = record {
   before = o.before;
   shared = (o.shared.0, conflict_same n rows others o.shared.0 a b s o.shared.1);
+}
+
+-- a row waits for the same rows
+pub near_same : (n : ℕ) (rows others : List Row) (a b : ℕ) → AreSameBefore n rows others → IsNear others a b → IsNear rows a b
+near_same n rows others a b s is = record {
+  there = omega (arith, s.len, is.there);
+  cown = is.cown;
+  near = record {
+    before = is.near.before;
+    conflict = conflict_same n rows others is.cown a b s is.near.conflict;
+    none_between = λ k low high one two. is.near.none_between k low high
+        (conflict_same n others rows is.cown a k (same_back n rows others s) one) (conflict_same n others rows is.cown k b (same_back n rows others s) two);
+  };
 }
 
 spawn_tight_same : (n : ℕ) (rows others : List Row) (starts : List ℕ) (b : ℕ) → AreSameBefore n rows others →
@@ -113,20 +127,6 @@ pub edited_first : (rows : List Row) → IsRows rows → (n ticks m : ℕ) (star
     ArePlaced rows starts ends after m → ArePlaced (edited rows n ticks) (take n starts) (take n ends) (take n after) n
 edited_first rows hr n ticks m starts ends after h p = placed_first n m rows (edited rows n ticks) hr starts ends after (edited_same rows n ticks) h p
 
--- the same, of a plan whose first m rows stand
-pub edited_first_of : (rows : List Row) → IsRows rows → (n ticks m : ℕ) (starts ends : List ℕ) (after : List (Option ℕ)) → n ≤ m →
-    ArePlaced rows (take m starts) (take m ends) (take m after) m → ArePlaced (edited rows n ticks) (take n starts) (take n ends) (take n after) n
-edited_first_of rows hr n ticks m starts ends after h p =
-    rw (take-take n m starts h, take-take n m ends h, take-take n m after h) at
-    (edited_first rows hr n ticks m (take m starts) (take m ends) (take m after) h p)
-
--- and once it has its own ticks again
-pub edited_back_first : (rows : List Row) → IsRows rows → (n ticks m : ℕ) (starts ends : List ℕ) (after : List (Option ℕ)) → Fits rows n ticks → n ≤ m →
-    ArePlaced (edited rows n ticks) starts ends after m → ArePlaced rows (take n starts) (take n ends) (take n after) n
-edited_back_first rows hr n ticks m starts ends after fits h p =
-    placed_first n m (edited rows n ticks) rows (rows_edited rows hr n ticks fits) starts ends after
-    (same_back n rows (edited rows n ticks) (edited_same rows n ticks)) h p
-
 -- the greatest end of the placed rows is their span
 pub greatest_is_span : (rows : List Row) → IsRows rows → (starts ends : List ℕ) (after : List (Option ℕ)) → ArePlaced rows starts ends after (length rows) →
     (last : ℕ) → ((k : ℕ) → k < length ends → slice_index ends k ≤ last) → (r : ℕ) → r < length ends → slice_index ends r ≡ last → IsSpan rows last
@@ -138,17 +138,3 @@ greatest_is_span rows hr starts ends after p last none_later r there e = record 
     reached = (r, omega (arith, p.ends_len), sym ((p.placed r (omega (arith, p.ends_len))).ends_then) ∙ e);
   };
 }
-
-same_rows : (n : ℕ) (rows : List Row) → AreSameBefore n rows rows
-same_rows n rows = record { len = refl; parents = λ r. refl; offsets = λ r. refl; cowns = λ r. refl; written = λ r. refl; ticks = λ r h. refl }
-
--- of placed rows fewer are placed, too
-pub placed_less : (rows : List Row) → IsRows rows → (n m : ℕ) (starts ends : List ℕ) (after : List (Option ℕ)) → n ≤ m →
-    ArePlaced rows starts ends after m → ArePlaced rows (take n starts) (take n ends) (take n after) n
-placed_less rows hr n m starts ends after h p = placed_first n m rows rows hr starts ends after (same_rows n rows) h p
-
-pub first_less : (rows : List Row) → IsRows rows → (n m : ℕ) (starts ends : List ℕ) (after : List (Option ℕ)) → n ≤ m →
-    ArePlaced rows (take m starts) (take m ends) (take m after) m → ArePlaced rows (take n starts) (take n ends) (take n after) n
-first_less rows hr n m starts ends after h p =
-    rw (take-take n m starts h, take-take n m ends h, take-take n m after h) at
-    (placed_less rows hr n m (take m starts) (take m ends) (take m after) h p)

@@ -11,7 +11,7 @@ use Rattle.boc_types.specs.declared.limits.TheConstants.{MOST_COWNS}
 use Rattle.boc_types.specs.declared.rows.Row.{Row}
 use Rattle.boc_types.proofs.ChangedItems.{set_same, set_other}
 use Rattle.boc_types.specs.runs.Rows.{IsRows, cowns_of, written_of}
-use Rattle.boc_order.specs.declared.uses.Use.{Use}
+use Rattle.boc_order.specs.declared.gathering.Use.{Use}
 use Rattle.boc_order.specs.Waits.{IsNearOn, IsNear, HasWaits, AreFirstWaits, links_of, lists_between, AreBounds}
 use Rattle.boc_order.specs.Uses.{NoneWrites, IsWriter, IsUse, AreUses, AddsNearOn, AddsNear}
 use Rattle.boc_order.proofs.Near.{has, writes_own}

@@ -4,7 +4,7 @@ use Rattle.std.specs.List.{Contains}
 use Rattle.boc_types.specs.declared.limits.TheConstants.{MOST_COWNS}
 use Rattle.boc_types.specs.declared.rows.Row.{Row}
 use Rattle.boc_types.specs.runs.Rows.{cowns_of, written_of}
-use Rattle.boc_order.specs.declared.uses.Use.{Use}
+use Rattle.boc_order.specs.declared.gathering.Use.{Use}
 use Rattle.boc_order.specs.Waits.{IsNearOn, IsNear}
 
 -- no row from row r on and before row n writes cown c

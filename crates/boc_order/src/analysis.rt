@@ -1,20 +1,20 @@
 // The profile of some rows.
 
-ghost use Rattle.std.specs.Prelude.{◌≡◌, ℕ, ◌+◌, ◌<◌, ◌≤◌, List, length, IfOk, slice_index};
+ghost use Rattle.std.specs.Prelude.{◌≡◌, ℕ, ◌+◌, ◌<◌, ◌≤◌, None, List, length, IfOk, slice_index, slice_index_or, slice_get};
 ghost use Rattle.boc_types.specs.declared.rows.Row.{Row};
 ghost use Rattle.boc_types.specs.runs.Rows.{IsRows};
 ghost use Rattle.boc_types.specs.runs.Seen.{seen};
-ghost use Rattle.boc_types.specs.plans.Plans.{work_of, HasEnds, IsEnd, IsEarliest, NoneEndsBefore};
+ghost use Rattle.boc_types.specs.plans.Plans.{work_of, end_of, HasEnds, IsEnd, IsEarliest, NoneEndsBefore};
 ghost use Rattle.boc_types.specs.plans.Chains.{IsPicked, weight_of};
 ghost use Rattle.boc_types.specs.plans.Greedy.{IsSpan};
+ghost use Rattle.boc_order.specs.Back.{IsStepBefore, IsFirstLatest};
 ghost use Rattle.boc_order.specs.Profiles.{IsProfileOf};
 ghost use Rattle.boc_order.specs.Standing.{IsPlanOf};
 
-use crate::back::chain_back;
 use crate::gathering::waits;
 use crate::plan::{Earliest, earliest_plan};
 use crate::report::Profile;
-use boc_types::chain::Chain;
+use boc_types::chain::{Chain, ChainStep, Via};
 use boc_types::limits::{MOST_ROWS, MOST_TICKS};
 use boc_types::rows::{Row, Rows};
 use boc_types::sharing::{SeenRows, Sharing};
@@ -59,6 +59,59 @@ pub fn work(rows: &[Row]) -> u64
     ensures { result ≡ work_of rows.now }
 {
     rows.iter().map(|row| u64::from(row.ticks)).sum()
+}
+
+// The step whose link a row waited for.
+fn step_before(rows: &SeenRows, after: &[Option<u32>], row: u32) -> ChainStep
+    requires shape { IsRows rows.now }
+    requires there { row < length rows.now }
+    requires whole { length after.now ≡ length rows.now }
+    requires among { (a : ℕ) → slice_get after.now row ≡ Some (Some a) → a < length rows.now }
+    ensures { IsStepBefore rows.now (slice_index_or after.now row None) row result }
+{
+    match after[row as usize] {
+        None => ChainStep {
+            row: rows.parent(row as usize),
+            via: Via::Spawn,
+            weight: rows.offset(row as usize),
+        },
+        Some(before) => ChainStep {
+            row: before,
+            via: Via::Order,
+            weight: rows.ticks(before as usize),
+        },
+    }
+}
+
+// The chain of the links that were waited for, which ends in the row `last`, of `rows` in the earliest plan.
+fn chain_back(
+    alloc: Global,
+    rows: &SeenRows,
+    plan: &Earliest,
+    last: u32,
+) -> Result<Chain, AllocError>
+    requires shape { IsRows rows.now }
+    requires placed { IsPlanOf rows.now plan.now }
+    requires there { last < length rows.now }
+    requires latest { IsFirstLatest rows.now plan.now.starts.items last }
+    ensures picked { IfOk result (λ c. IsPicked rows.now plan.now.starts.items c.steps.items) }
+    ensures weight { IfOk result (λ c. weight_of c.steps.items ≡ end_of rows.now plan.now.starts.items last) }
+{
+    // Each step goes back to a smaller row.
+    let mut steps = Vec::with_capacity(alloc, last as usize + 1)?;
+    steps.push_reserved(ChainStep {
+        row: last,
+        via: Via::Last,
+        weight: rows.ticks(last as usize),
+    });
+    let mut row = last;
+    while row > 0 {
+        let step = step_before(rows, &plan.after, row);
+        steps.push_reserved(step);
+        row = step.row;
+    }
+    steps.reverse();
+    Ok(Chain { steps })
 }
 
 // The chain that costs as many ticks as the plan of the rows takes, and these ticks.

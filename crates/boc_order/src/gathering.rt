@@ -1,14 +1,88 @@
-// The rows for which each row waits.
+// The rows for which each row waits, by what was used of each cown before it.
 
-ghost use Rattle.std.specs.Prelude.{◌≡◌, ◌<◌, ◌+◌, length, IfOk};
-ghost use Rattle.boc_types.specs.runs.Rows.{IsRows, cowns_of};
+ghost use Rattle.std.specs.Prelude.{◌≡◌, ◌<◌, ◌+◌, length, true, false, List, Contains, IfOk};
+ghost use Rattle.boc_types.specs.declared.rows.Row.{Row};
+ghost use Rattle.boc_types.specs.runs.Rows.{IsRows, cowns_of, written_of};
 ghost use Rattle.boc_order.specs.Waits.{AreWaits};
-ghost use Rattle.boc_order.specs.Uses.{AreUses, AddsNear};
+ghost use Rattle.boc_order.specs.Uses.{IsUse, AreUses, AddsNearOn, AddsNear};
 
 use crate::links::Links;
-use crate::uses::{Use, add_waits, note_use, unused};
+use boc_types::limits::MOST_COWNS;
 use boc_types::sharing::SeenRows;
 use std::alloc::{AllocError, Global};
+
+/// The last row that wrote a cown, and the rows that have only read it since.
+#[derive(Drop)]
+pub struct Use {
+    /// The last writer.
+    pub writer: Option<u32>,
+    /// The readers since.
+    pub readers: Vec<u32>,
+}
+
+// No cown was used. `AllocError` says that memory was refused.
+fn unused(alloc: Global) -> Result<Vec<Use>, AllocError>
+    ensures { IfOk result (λ uses. (rows : List Row) → AreUses rows 0 uses.items) }
+{
+    let mut uses = Vec::with_capacity(alloc, MOST_COWNS)?;
+    for _ in 0..MOST_COWNS {
+        uses.push_reserved(Use {
+            writer: None,
+            readers: Vec::new(alloc),
+        });
+    }
+    Ok(uses)
+}
+
+// Whether a row is to write a cown that others have read since it was written.
+fn follows_readers(rows: &SeenRows, row: usize, cown: u8, used: &Use) -> bool
+    requires there { row < length rows.now }
+    requires own { Contains (cowns_of rows.now row) cown }
+    ensures some { result ≡ true → Contains (written_of rows.now row) cown × (0 < length used.now.readers.items) }
+    ensures none { result ≡ false → Contains (written_of rows.now row) cown → length used.now.readers.items ≡ 0 }
+{
+    rows.writes(row, cown) && !used.readers.is_empty()
+}
+
+// Adds the rows for which a row waits on one of its cowns: to write it the readers, and where there are none, or to
+// read it, the writer.
+fn add_waits(
+    rows: &SeenRows,
+    row: usize,
+    cown: u8,
+    used: &Use,
+    list: &mut Vec<u32>,
+) -> Result<(), AllocError>
+    requires shape { IsRows rows.now }
+    requires there { row < length rows.now }
+    requires own { Contains (cowns_of rows.now row) cown }
+    requires used { IsUse rows.now row cown used.now }
+    ensures { IfOk result (λ _. AddsNearOn rows.now row cown list.old.items list.new.items) }
+{
+    if follows_readers(rows, row, cown, used) {
+        list.extend_from_slice(&used.readers)?;
+    } else if let Some(writer) = used.writer {
+        list.push(writer)?;
+    }
+    Ok(())
+}
+
+// Notes that a row uses one of its cowns.
+fn note_use(rows: &SeenRows, row: usize, cown: u8, used: &mut Use) -> Result<(), AllocError>
+    requires shape { IsRows rows.now }
+    requires there { row < length rows.now }
+    requires own { Contains (cowns_of rows.now row) cown }
+    requires used { IsUse rows.now row cown used.old }
+    ensures { IfOk result (λ _. IsUse rows.now (row + 1) cown used.new) }
+{
+    if rows.writes(row, cown) {
+        used.writer = Some(row as u32);
+        used.readers.clear();
+    } else {
+        used.readers.push(row as u32)?;
+    }
+    Ok(())
+}
 
 // Adds the rows for which a row waits, and notes what it uses.
 fn gather(

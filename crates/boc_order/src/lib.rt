@@ -2,7 +2,6 @@
 #![tactic(auto)]
 
 mod analysis;
-mod back;
 mod check;
 mod following;
 mod gathering;
@@ -10,7 +9,6 @@ mod latest;
 mod links;
 mod plan;
 mod report;
-mod uses;
 
 pub use analysis::{profile, span, work};
 pub use check::check_chain;

@@ -1,9 +1,5 @@
 // For each row some others, in one flat list.
 
-ghost use Rattle.std.specs.Prelude.{◌≡◌, ◌<◌, ◌+◌, length};
-ghost use Rattle.std.specs.List.{concat};
-ghost use Rattle.boc_order.specs.Waits.{lists_between, links_of, AreBounds};
-
 use std::marker::Model;
 
 /// For each row the numbers of others, by the row's number.
@@ -26,25 +22,6 @@ impl Model for Links {
     ghost invariant = { λ l. AreBounds l.first.items (length l.list.items) };
 }
 
-// The list of this number among those between the places of a flat list.
-fn list_between<'a>(first: &[usize], list: &'a [u32], row: usize) -> &'a [u32]
-    requires bounds { AreBounds first.now (length list.now) }
-    requires there { row + 1 < length first.now }
-    ensures { result.now ≡ links_of (lists_between first.now list.now) row }
-{
-    let begin = first[row];
-    let end = first[row + 1];
-    &list[begin..end]
-}
-
-// All that stands in the lists between these places of a flat list.
-fn list_from<'a>(first: &[usize], list: &'a [u32]) -> &'a [u32]
-    requires { AreBounds first.now (length list.now) }
-    ensures { result.now ≡ concat (lists_between first.now list.now) }
-{
-    &list[first[0]..]
-}
-
 impl Links {
     ghost use Rattle.std.specs.Prelude.{◌≡◌, ◌<◌, length};
     ghost use Rattle.std.specs.List.{concat};
@@ -62,7 +39,7 @@ impl Links {
     pub(crate) fn all(&self) -> &[u32]
         ensures { result.now ≡ concat self.now }
     {
-        list_from(self.first.as_slice(), self.list.as_slice())
+        &self.list[self.first[0]..]
     }
 
     /// How many rows there are.
@@ -77,6 +54,6 @@ impl Links {
         requires { row < length self.now }
         ensures { result.now ≡ links_of self.now row }
     {
-        list_between(self.first.as_slice(), self.list.as_slice(), row)
+        &self.list[self.first[row]..self.first[row + 1]]
     }
 }

@@ -1,8 +1,7 @@
 // The earliest plan of some rows, with the link that each row waits for.
 
 ghost use Rattle.std.specs.Prelude.{◌≡◌, ℕ, ◌<◌, ◌≤◌, ◌+◌, ◌^◌, length, IfOk, slice_index};
-ghost use Rattle.boc_types.specs.runs.Rows.{IsRows};
-ghost use Rattle.boc_types.specs.runs.Rows.{parent_of, offset_of};
+ghost use Rattle.boc_types.specs.runs.Rows.{IsRows, parent_of, offset_of};
 ghost use Rattle.boc_order.specs.Placed.{placement, ArePlaced};
 ghost use Rattle.boc_order.specs.Room.{HasRoom};
 ghost use Rattle.boc_order.specs.Waits.{AreWaits, HasWaits};

@@ -5,13 +5,13 @@ use Rattle.boc_types.specs.declared.sharing.Sharing.{Sharing}
 use Rattle.boc_types.specs.runs.Rows.{IsLast, IsRows}
 use Rattle.boc_types.specs.runs.Seen.{seen}
 use Rattle.boc_types.specs.plans.Edits.{edited, Fits}
-use Rattle.boc_types.proofs.Editing.{length-edited, last_edited, rows_edited, conflict_edited, conflict_back}
+use Rattle.boc_types.proofs.Editing.{length-edited, last_edited, rows_edited}
 use Rattle.boc_types.proofs.Seeing.{length-seen, parent_of-seen, offset_of-seen, rows_seen, edited-seen}
 use Rattle.boc_order.specs.declared.plan.Earliest.{Earliest}
 use Rattle.boc_order.specs.Room.{HasRoom}
 use Rattle.boc_order.specs.Standing.{IsPlanOf, HasFirst}
-use Rattle.boc_order.specs.Waits.{IsNear, AreWaits}
-use Rattle.boc_order.proofs.Replacing.{edited_first}
+use Rattle.boc_order.specs.Waits.{AreWaits}
+use Rattle.boc_order.proofs.Replacing.{edited_first, edited_same, same_back, near_same}
 use Rattle.boc_sweep.specs.Lasts.{HasLasts}
 use Rattle.boc_whatif.specs.Asked.{IsUpToDate}
 
@@ -39,34 +39,12 @@ lasts_seen s rows list offsets is h = rw is (record {
 })
 
 -- no row waits for others
-near_edited : (rows : List Row) (row ticks a b : ℕ) → IsNear rows a b → IsNear (edited rows row ticks) a b
-near_edited rows row ticks a b is = record {
-  there = omega (arith, is.there, length-edited rows row ticks);
-  cown = is.cown;
-  near = record {
-    before = is.near.before;
-    conflict = conflict_edited rows row ticks is.cown a b is.near.conflict;
-    none_between = λ k low high one two. is.near.none_between k low high (conflict_back rows row ticks is.cown a k one) (conflict_back rows row ticks is.cown k b two);
-  };
-}
-
-near_back : (rows : List Row) (row ticks a b : ℕ) → IsNear (edited rows row ticks) a b → IsNear rows a b
-near_back rows row ticks a b is = record {
-  there = omega (arith, is.there, length-edited rows row ticks);
-  cown = is.cown;
-  near = record {
-    before = is.near.before;
-    conflict = conflict_back rows row ticks is.cown a b is.near.conflict;
-    none_between = λ k low high one two. is.near.none_between k low high (conflict_edited rows row ticks is.cown a k one) (conflict_edited rows row ticks is.cown k b two);
-  };
-}
-
 waits_edited : (rows : List Row) (row ticks : ℕ) (waits : List (List ℕ)) → AreWaits rows waits → AreWaits (edited rows row ticks) waits
 waits_edited rows row ticks waits are = record {
   whole = are.whole ∙ sym (length-edited rows row ticks);
   at = λ b there. (let own = are.at b (omega (arith, there, length-edited rows row ticks)) in record {
-    sound = λ a has. near_edited rows row ticks a b (own.sound a has);
-    complete = λ a near. own.complete a (near_back rows row ticks a b near);
+    sound = λ a has. near_same row (edited rows row ticks) rows a b (same_back row rows (edited rows row ticks) (edited_same rows row ticks)) (own.sound a has);
+    complete = λ a near. own.complete a (near_same row rows (edited rows row ticks) a b (edited_same rows row ticks) near);
   });
 }
 

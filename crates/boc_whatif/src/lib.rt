@@ -8,7 +8,6 @@
 //! after it again. A sweep computes no row again, and takes little more time than a plan.
 #![tactic(auto)]
 
-mod fit;
 mod what_if;
 
 pub use what_if::WhatIf;

@@ -1,11 +1,15 @@
 // Rows that are edited one after another.
 
-use crate::fit::check;
+ghost use Rattle.std.specs.Prelude.{MatchResult};
+ghost use Rattle.boc_types.specs.plans.Edits.{Fits, IsEditFault};
+ghost use Rattle.boc_sweep.specs.Lasts.{HasLasts};
+
 use boc_greedy::{Greedy, greedy_over};
 use boc_order::{Earliest, Links, Profile, earliest_plan, waits};
-use boc_sweep::{last_children, sweep};
+use boc_sweep::{last_children, least_ticks, sweep};
 use boc_types::edit::EditFault;
-use boc_types::rows::Rows;
+use boc_types::limits::MOST_TICKS;
+use boc_types::rows::{Row, Rows};
 use boc_types::sharing::{SeenRows, Sharing};
 use boc_types::workers::Workers;
 use std::alloc::{AllocError, Global};
@@ -34,6 +38,23 @@ impl Model for WhatIf {
     ghost view = { λ w. record { rows = w.rows; sharing = w.sharing; touched = w.touched } };
 
     ghost invariant = { λ w. IsUpToDate w.rows w.sharing w.lasts.items w.waits w.plan };
+}
+
+// Tests whether a row can take so many ticks.
+fn check(rows: &[Row], lasts: &[u32], row: u32, ticks: u32) -> Result<(), EditFault>
+    requires { HasLasts rows.now lasts.now }
+    ensures { MatchResult result (λ _. Fits rows.now row ticks) (IsEditFault rows.now row ticks) }
+{
+    let number = row as usize;
+    if number >= rows.len() {
+        Err(EditFault::NoRow)
+    } else if ticks < least_ticks(lasts[number]) {
+        Err(EditFault::BelowSpawn)
+    } else if ticks > MOST_TICKS {
+        Err(EditFault::TooManyTicks)
+    } else {
+        Ok(())
+    }
 }
 
 impl WhatIf {

@@ -1,6 +1,6 @@
 use Rattle.std.proofs.Common.{refl, arith, length, ap}
 use Rattle.std.proofs.lemmas.List.{with_items_is}
-use Rattle.boc_order.specs.declared.uses.Use.{Use}
+use Rattle.boc_order.specs.declared.gathering.Use.{Use}
 use Rattle.boc_order.proofs.Listing.{bounds_more}
 use Rattle.boc_order.proofs.Using.{waits_more, adds_long}
 use Rattle.boc_order.proofs.gathering.waits.Goals as goal

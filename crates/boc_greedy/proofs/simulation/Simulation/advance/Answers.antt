@@ -2,7 +2,7 @@ use Rattle.std.proofs.Common.{◌≡◌, ℕ, ◌+◌, ◌<◌, ◌≤◌, lengt
 use Rattle.boc_types.specs.declared.limits.TheConstants.{MOST_TICKS}
 use Rattle.std.specs.Prelude.{slice_index}
 use Rattle.boc_greedy.specs.Simulating.{later}
-use Rattle.boc_greedy.proofs.Reading.{read_at, counted_on}
+use Rattle.boc_greedy.proofs.Reading.{read_at}
 use Rattle.boc_greedy.proofs.Standing.{change_soon}
 use Rattle.boc_greedy.proofs.Advancing.{forward, kept_next, fresh_next, next_moment, no_moment}
 use Rattle.boc_greedy.proofs.Counting.{counts_next}
@@ -16,31 +16,21 @@ change-requires-clause-stepping c =
     let u : ℕ = c.index.result.now in
     let u_is : slice_index c.args.self.now.changes.items c.args.worker ≡ u = read_at c.args.self.now.changes.items c.args.worker u n.there c.index.ensures in
     let soon = change_soon _ c.requires.shape _ _ _ _ _ _ _ _ _ k c.args.worker n.there n.busy in
-    let early : u + MOST_TICKS < later = omega (arith, u_is, soon, c.requires.low.low, c.requires.shape.not_many) in
-    record {
-      frontier = g.frontier;
-      kept = kept_next _ c.requires.shape _ _ _ _ _ _ _ _ _ k g.given g.passed c.requires.settled.full c.args.worker u n.there u_is (λ v h. omega (arith, u_is, n.least v h)) early;
-      fresh = fresh_next _ c.requires.shape _ _ _ _ _ _ _ _ _ k g.given g.passed c.requires.settled.full c.args.worker u n.there u_is (λ v h. omega (arith, u_is, n.least v h)) early;
-      idle = g.idle;
-      tournament = g.tournament;
-    }
-
-pub returns-clause-counted : goal.returns-clause-counted
-returns-clause-counted c =
-    let g = c.requires.settled.giving in
-    let k = g.kept in
-    let n = c.requires.next in
-    let u : ℕ = c.index.result.now in
-    let u_is : slice_index c.args.self.now.changes.items c.args.worker ≡ u = read_at c.args.self.now.changes.items c.args.worker u n.there c.index.ensures in
-    let soon = change_soon _ c.requires.shape _ _ _ _ _ _ _ _ _ k c.args.worker n.there n.busy in
-    let early : u + MOST_TICKS < later = omega (arith, u_is, soon, c.requires.low.low, c.requires.shape.not_many) in
+    let early : u + MOST_TICKS < later = omega (arith, u_is, soon, c.requires.settled.giving.low, c.requires.shape.not_many) in
     let least = λ (v : ℕ) (h : v < length c.args.self.now.changes.items). (let z : u ≤ slice_index c.args.self.now.changes.items v = omega (arith, u_is, n.least v h) in z) in
     let up = forward _ c.requires.shape _ _ _ _ _ _ _ _ _ k g.given g.passed c.requires.settled.full c.args.worker u n.there u_is least early in
-    let counts = counts_next _ _ _ u _ up
-    (next_moment _ c.requires.shape _ _ _ _ _ _ _ _ _ k g.given g.passed c.requires.settled.full c.args.worker u n.there u_is least early)
-    (no_moment _ c.requires.shape _ _ _ _ _ _ _ _ _ k g.given g.passed c.requires.settled.full c.args.worker u n.there u_is least early) c.requires.counted.moments in
-    let moments : c.args.self.now.moments + 1 ≤ u + 1 = omega (arith, up, c.requires.counted.low) in
-    counted_on _ _ _ c.change.ensures.goes (record { moments = counts; low = moments })
+    record {
+      frontier = g.frontier;
+      kept = kept_next _ c.requires.shape _ _ _ _ _ _ _ _ _ k g.given g.passed c.requires.settled.full c.args.worker u n.there u_is least early;
+      fresh = fresh_next _ c.requires.shape _ _ _ _ _ _ _ _ _ k g.given g.passed c.requires.settled.full c.args.worker u n.there u_is least early;
+      idle = g.idle;
+      queued = g.queued;
+      counted = record {
+        all = counts_next _ _ _ u _ up (next_moment _ c.requires.shape _ _ _ _ _ _ _ _ _ k g.given g.passed c.requires.settled.full c.args.worker u n.there u_is least early)
+            (no_moment _ c.requires.shape _ _ _ _ _ _ _ _ _ k g.given g.passed c.requires.settled.full c.args.worker u n.there u_is least early) g.counted.all;
+        low = omega (arith, up, g.counted.low);
+      };
+    }
 
 pub returns-clause-low : goal.returns-clause-low
 returns-clause-low c =
@@ -49,4 +39,4 @@ returns-clause-low c =
     let u : ℕ = c.index.result.now in
     let u_is : slice_index c.args.self.now.changes.items c.args.worker ≡ u = read_at c.args.self.now.changes.items c.args.worker u n.there c.index.ensures in
     let soon = change_soon _ c.requires.shape _ _ _ _ _ _ _ _ _ k c.args.worker n.there n.busy in
-    record { low = omega (arith, c.change.ensures.goes.tick, c.change.ensures.fewer, u_is, soon, c.requires.low.low) }
+    omega (arith, c.in_ok-change.ensures.tick, c.in_ok-change.ensures.fewer, u_is, soon, k.early, c.requires.settled.giving.low)

@@ -5,14 +5,15 @@ use Rattle.boc_greedy.specs.Stages.{CanStart}
 use Rattle.boc_greedy.specs.Families.{IsNextChild}
 use Rattle.boc_greedy.specs.Simulating.{later}
 use Rattle.boc_greedy.proofs.Puts.{puts, restages, weight_set}
-use Rattle.boc_greedy.proofs.Reading.{tournament_set, tournament_reaches, idle_less, read_at}
+use Rattle.boc_greedy.proofs.Reading.{idle_less, read_at}
+use Rattle.boc_greedy.proofs.Queued.{idle_out, with_change}
 use Rattle.boc_greedy.proofs.Standing.{there}
 use Rattle.boc_greedy.proofs.Giving.{change_below, kept_after, passed_after, given_after}
 use Rattle.boc_greedy.proofs.Counting.{counts_given}
 use Rattle.boc_greedy.proofs.simulation.Simulation.give.Goals as goal
 
-pub returns-in-Some-clause-giving : goal.returns-in-Some-clause-giving
-returns-in-Some-clause-giving c =
+pub returns-in_ok-push-in-Some-clause-giving : goal.returns-in_ok-push-in-Some-clause-giving
+returns-in_ok-push-in-Some-clause-giving c =
     let g = c.requires.giving in
     let k = g.kept in
     let x : ℕ = c.in-Some.row in
@@ -29,6 +30,7 @@ returns-in-Some-clause-giving c =
     let pt = puts c.args.self.now.tasks.items w x (omega (arith, c.requires.idle.there, k.tasks_whole)) in
     let pd = puts c.args.self.now.children.items w c.index-child.result.now (omega (arith, c.requires.idle.there, k.children_whole)) in
     let idle : later ≤ slice_index c.args.self.now.changes.items w = omega (arith, c.requires.idle.idle) in
+    let below = change_below _ c.requires.shape _ _ _ _ _ _ _ _ _ k x w _ _ _ _ _ _ _ _ ps pw sg pc pt pd can c.requires.idle.there idle next c.change_of-change.ensures.spawns c.change_of-change.ensures.ends in
     record {
       frontier = c.in-Some.ensures.kept;
       kept = kept_after _ c.requires.shape _ _ _ _ _ _ _ _ _ k x w _ _ _ _ _ _ _ _ ps pw sg pc pt pd can c.requires.idle.there idle next c.change_of-change.ensures.spawns c.change_of-change.ensures.ends;
@@ -36,33 +38,17 @@ returns-in-Some-clause-giving c =
           g.given g.passed c.in-Some.ensures.least c.requires.idle.least;
       passed = passed_after _ c.requires.shape _ _ _ _ _ _ _ _ _ k x w _ _ _ _ _ _ _ _ ps pw sg pc pt pd can c.requires.idle.there idle next c.change_of-change.ensures.spawns c.change_of-change.ensures.ends
           g.passed;
-      idle = idle_less _ _ w _ _ _ pc
-          (change_below _ c.requires.shape _ _ _ _ _ _ _ _ _ k x w _ _ _ _ _ _ _ _ ps pw sg pc pt pd can c.requires.idle.there idle next c.change_of-change.ensures.spawns c.change_of-change.ensures.ends)
+      idle = idle_less _ _ w _ _ _ pc below
           c.without_bit-self.ensures.cleared c.without_bit-self.ensures.others g.idle;
-      tournament = tournament_set _ _ _ _ w _ pc c.reach.ensures.there
-          (tournament_reaches _ _ _ g.tournament c.reach.ensures.won (omega (arith, c.reach.ensures.within, c.len.ensures)) c.reach.ensures.more c.reach.ensures.same c.reach.ensures.idle) c.set.ensures.won c.set.ensures.count c.set.ensures.placed c.set.ensures.others;
+      queued = with_change _ _ w _ _ pc (idle_out _ _ w idle g.queued) _ (c.in_ok-push-in-Some.ensures.heap_order g.queued.ordered) c.in_ok-push-in-Some.ensures.permutation c.requires.idle.there below;
+      counted = record {
+        all = counts_given _ c.requires.shape _ _ x _ later h (k.waiting x can.waits) (omega (arith, k.early)) ps _ g.counted.all;
+        low = g.counted.low;
+      };
+      low = omega (arith, weight_set c.args.self.now.frontier.stages.items c.start_least.new.self.stages.items x Waiting UnderWay can.waits c.in-Some.ensures.stages, g.low);
     }
 
-pub returns-in-Some-clause-counted : goal.returns-in-Some-clause-counted
-returns-in-Some-clause-counted c =
-    let k = c.requires.giving.kept in
-    let x : ℕ = c.in-Some.row in
-    let can : CanStart c.args.rows.now c.args.self.now.frontier.stages.items x = c.in-Some.ensures.can in
-    let h : x < length c.args.rows.now = there _ c.requires.shape _ _ _ _ _ _ _ _ _ k x Waiting can.waits in
-    let ps = puts c.args.self.now.starts.items x c.args.self.now.tick (omega (arith, h, k.starts_whole)) in
-    record {
-      moments = counts_given _ c.requires.shape _ _ x _ later h (k.waiting x can.waits) (omega (arith, k.early)) ps _ c.requires.counted.moments;
-      low = c.requires.counted.low;
-    }
-
-pub returns-in-Some-clause-low : goal.returns-in-Some-clause-low
-returns-in-Some-clause-low c =
-    let can : CanStart c.args.rows.now c.args.self.now.frontier.stages.items c.in-Some.row = c.in-Some.ensures.can in
-    let w = weight_set c.args.self.now.frontier.stages.items c.start_least.new.self.stages.items c.in-Some.row Waiting UnderWay can.waits c.in-Some.ensures.stages in
-    record { low = omega (arith, w, c.requires.low.low) }
-
-pub returns-in-Some-clause-fewer : goal.returns-in-Some-clause-fewer
-returns-in-Some-clause-fewer c = λ e.
+pub returns-in_ok-push-in-Some-clause-fewer : goal.returns-in_ok-push-in-Some-clause-fewer
+returns-in_ok-push-in-Some-clause-fewer c = λ e.
     (let can : CanStart c.args.rows.now c.args.self.now.frontier.stages.items c.in-Some.row = c.in-Some.ensures.can in
-    let w = weight_set c.args.self.now.frontier.stages.items c.start_least.new.self.stages.items c.in-Some.row Waiting UnderWay can.waits c.in-Some.ensures.stages in
-    omega (arith, w))
+    omega (arith, weight_set c.args.self.now.frontier.stages.items c.start_least.new.self.stages.items c.in-Some.row Waiting UnderWay can.waits c.in-Some.ensures.stages))

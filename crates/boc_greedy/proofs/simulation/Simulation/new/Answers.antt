@@ -4,12 +4,13 @@ use Rattle.std.proofs.lemmas.Bool.{cases_lt}
 use Rattle.boc_greedy.specs.Simulating.{later}
 use Rattle.std.proofs.Common.{replicate, rules, ap}
 use Rattle.std.proofs.lemmas.List.{length-replicate}
-use Rattle.boc_greedy.proofs.Beginning.{start_all, kept_first, given_first, passed_first}
+use Rattle.boc_greedy.proofs.Beginning.{start_all, steps_first, kept_first, given_first, passed_first}
 use Rattle.boc_greedy.proofs.Counting.{counts_first}
+use Rattle.boc_greedy.proofs.Queued.{none_queued}
 use Rattle.boc_greedy.proofs.simulation.Simulation.new.Goals as goal
 
-pub returns-clause-giving : goal.returns-clause-giving
-returns-clause-giving c =
+pub returns : goal.returns
+returns c =
     let starts : c.in_ok-starts.starts.items ≡ replicate (length c.args.rows.now) later = search rules in
     let workers : c.in_ok-workers.workers.items ≡ replicate (length c.args.rows.now) 0 = search rules in
     let changes : c.in_ok-changes.changes.items ≡ replicate c.args.p later = search rules in
@@ -29,13 +30,7 @@ returns-clause-giving c =
         ];
         clear = λ w h is. absurd (omega (arith, is, c.all_idle.ensures.set w (omega (arith, h, whole))));
       };
-      tournament = record {
-        count = omega (arith, c.new-2.ensures.count, whole, c.requires.some);
-        won = c.new-2.ensures.won;
-        same = λ w l. omega (arith, c.new-2.ensures.idle w (omega (arith, l, c.new-2.ensures.count)), start_all c.args.p later w _ changes (omega (arith, l, c.new-2.ensures.count, whole, c.requires.some)));
-        idle = λ w h ge. start_all c.args.p later w _ changes h;
-      };
+      queued = none_queued _ _ c.in_ok-with_capacity.ensures.items c.in_ok-with_capacity.ensures.heap_order (λ w h. omega (arith, start_all c.args.p later w _ changes h));
+      counted = record { all = counts_first _ _; low = omega arith };
+      low = omega (arith, steps_first (length c.args.rows.now) _ c.requires.shape.not_empty c.in_ok-frontier.ensures.stages);
     }
-
-pub returns-clause-counted : goal.returns-clause-counted
-returns-clause-counted c = record { moments = counts_first _ _; low = omega arith }

@@ -2,7 +2,7 @@ use Rattle.std.proofs.Common.{◌≡◌, ◌≤◌, length}
 use Rattle.std.specs.Prelude.{vec_len, vec_capacity}
 use Rattle.boc_types.specs.declared.limits.TheConstants.{MOST_COWNS}
 use Rattle.boc_order.proofs.Using.{AreUnused}
-use Rattle.boc_order.proofs.uses.unused.Given as goal
+use Rattle.boc_order.proofs.gathering.unused.Given as goal
 
 -- so many cowns are unused, and there is room for all
 abbrev pub invariant-loop : goal.invariant-loop

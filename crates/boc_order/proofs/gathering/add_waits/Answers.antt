@@ -1,6 +1,6 @@
 use Rattle.std.proofs.Common.{refl}
 use Rattle.boc_order.proofs.Near.{adds_readers, adds_writer, adds_none}
-use Rattle.boc_order.proofs.uses.add_waits.Goals as goal
+use Rattle.boc_order.proofs.gathering.add_waits.Goals as goal
 
 pub returns-in_ok-extend_from_slice : goal.returns-in_ok-extend_from_slice
 returns-in_ok-extend_from_slice c =

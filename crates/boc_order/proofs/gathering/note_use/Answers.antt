@@ -1,6 +1,6 @@
 use Rattle.std.proofs.Common.{refl, true≢false, ◌∙◌, sym}
 use Rattle.boc_order.proofs.Near.{use_written, use_read}
-use Rattle.boc_order.proofs.uses.note_use.Goals as goal
+use Rattle.boc_order.proofs.gathering.note_use.Goals as goal
 
 pub returns-then-writes : goal.returns-then-writes
 returns-then-writes c = use_written _ c.requires.shape _ _ c.requires.there c.requires.own _ _ c.requires.used (c.writes.ensures.0 c.if-writes.true) refl c.clear.ensures.items

@@ -2,7 +2,7 @@ use Rattle.std.proofs.Common.{◌+◌, ◌<◌, ◌≤◌, length, reverse}
 use Rattle.std.specs.Prelude.{vec_len, vec_capacity}
 use Rattle.boc_types.specs.plans.Plans.{end_of}
 use Rattle.boc_order.specs.Back.{LeadsTo}
-use Rattle.boc_order.proofs.back.chain_back.Given as goal
+use Rattle.boc_order.proofs.analysis.chain_back.Given as goal
 
 -- the steps so far, the last one first, lead on from the row, and there is room for all
 abbrev pub invariant-loop-row : goal.invariant-loop-row

@@ -1,7 +1,7 @@
 use Rattle.std.proofs.Common.{refl, arith}
 use Rattle.std.proofs.lemmas.List.{length_push}
 use Rattle.boc_order.proofs.Using.{unused_more, unused_all}
-use Rattle.boc_order.proofs.uses.unused.Goals as goal
+use Rattle.boc_order.proofs.gathering.unused.Goals as goal
 
 pub loop-preserved : goal.loop-preserved
 loop-preserved c = record {

@@ -2,7 +2,7 @@ use Rattle.std.proofs.Common.{arith, ◌≡◌, ◌<◌}
 use Rattle.boc_order.proofs.Chaining.{reverse_push, waits_below, leads_first, leads_more, leads_all, step_is_before}
 use Rattle.boc_types.specs.plans.Plans.{end_of}
 use Rattle.boc_types.specs.plans.Chains.{IsPicked, weight_of}
-use Rattle.boc_order.proofs.back.chain_back.Goals as goal
+use Rattle.boc_order.proofs.analysis.chain_back.Goals as goal
 
 pub loop-row-init : goal.loop-row-init
 loop-row-init c = record {

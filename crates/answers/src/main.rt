@@ -340,19 +340,26 @@ fn tell_one(rt: HostRuntime, told: Result<Vec<u8>, DriveFault>) -> io::Result<()
 fn tell_drive(rt: HostRuntime, program: &Program, workers: u32, choices: &[u16]) -> io::Result<()> {
     let alloc = rt.alloc();
     let linked = drive(alloc, program, workers, choices).and_then(|run| Ok(run_text(alloc, &run)?));
-    tell_both(rt, linked, plain_drive(alloc, program, workers, choices))
+    let plain = plain_text(alloc, program, workers, choices, false);
+    tell_both(rt, linked, plain)
 }
 
-// How a drive over plain chains stands after these choices.
-fn plain_drive(
+// How a drive over plain chains stands after these choices, or once it went on from there until it is quiet.
+fn plain_text(
     alloc: Global,
     program: &Program,
     workers: u32,
     choices: &[u16],
+    until_quiet: bool,
 ) -> Result<Vec<u8>, DriveFault> {
     let chains = ListChains::new(alloc, cown_count(program))?;
-    let run = drive_over(alloc, program, chains, workers, choices)?;
-    Ok(run_text(alloc, &run)?)
+    if until_quiet {
+        let run = drive_quiet_over(alloc, program, chains, workers, choices)?;
+        Ok(end_text(alloc, &run)?)
+    } else {
+        let run = drive_over(alloc, program, chains, workers, choices)?;
+        Ok(run_text(alloc, &run)?)
+    }
 }
 
 // Writes who can step after these choices.
@@ -372,19 +379,8 @@ fn tell_quiet(rt: HostRuntime, program: &Program, workers: u32, choices: &[u16])
     let linked = drive_quiet(alloc, program, workers, choices).and_then(|run| Ok(end_text(
         alloc, &run,
     )?));
-    tell_both(rt, linked, plain_quiet(alloc, program, workers, choices))
-}
-
-// How a drive over plain chains stands once it went on from these choices until it is quiet.
-fn plain_quiet(
-    alloc: Global,
-    program: &Program,
-    workers: u32,
-    choices: &[u16],
-) -> Result<Vec<u8>, DriveFault> {
-    let chains = ListChains::new(alloc, cown_count(program))?;
-    let run = drive_quiet_over(alloc, program, chains, workers, choices)?;
-    Ok(end_text(alloc, &run)?)
+    let plain = plain_text(alloc, program, workers, choices, true);
+    tell_both(rt, linked, plain)
 }
 
 // Writes what becomes of a program with the choices in front of it, as one kind of drive asks.

@@ -2,31 +2,17 @@
 
 use boc_types::body::EndStatus;
 use boc_types::held::HeldCowns;
-use boc_types::limits::MOST_COWNS;
 use boc_types::row_test::are_rows;
 use boc_types::rows::{Row, Rows};
 use boc_types::short::Cowns;
 use std::alloc::Global;
 use std::test::Fail;
 
-// The first eight of these numbers.
-fn cowns(numbers: &[u32]) -> Cowns {
-    let mut list = Cowns::new();
-    for number in numbers {
-        if !list.is_full() {
-            list.push(*number);
-        }
-    }
-    list
-}
-
-// The first eight of these numbers as a row keeps them; none where one of them is no cown's.
+// These cowns as a row keeps them; none where there are more than eight, or one of them has no byte.
 pub(crate) fn held(numbers: &[u32]) -> HeldCowns {
-    let list = cowns(numbers);
-    if list.iter().all(|cown| *cown < MOST_COWNS as u32) {
-        HeldCowns::of(&list)
-    } else {
-        HeldCowns::new()
+    match Cowns::try_from(numbers) {
+        Ok(cowns) => HeldCowns::try_of(&cowns).unwrap_or_else(HeldCowns::new),
+        Err(_) => HeldCowns::new(),
     }
 }
 

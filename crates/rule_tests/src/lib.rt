@@ -4,6 +4,4 @@
 #[cfg(test)]
 mod chain;
 #[cfg(test)]
-mod cown_lists;
-#[cfg(test)]
 mod rules;

@@ -1,12 +1,17 @@
 //! The events of the transfer program, events that break a rule, and the end of a run.
 
-use crate::cown_lists::{cowns, held};
 use boc_rules::{Judge, RuleFault, Rules};
 use boc_types::body::EndStatus;
 use boc_types::event::{BrokenRule, Event};
+use boc_types::short::Cowns;
 use std::alloc::Global;
 use std::process::Abort;
 use std::test::Fail;
+
+// These cowns; none where there are more than eight.
+fn cowns(numbers: &[u32]) -> Cowns {
+    Cowns::try_from(numbers).unwrap_or_default()
+}
 
 fn spawn(row: u32, parent: u32, offset: u32, numbers: &[u32]) -> Event {
     Event::Spawn {
@@ -104,11 +109,11 @@ fn transfer_is_taken(rt: HostRuntime) -> Result<(), Fail> {
     };
     assert_eq!(rt; record.cowns(), 2);
     assert_eq!(rt; record.events().len(), 12);
-    let wanted = [
-        (0, 0, 4, held(&[])),
-        (0, 2, 2, held(&[0])),
-        (0, 3, 3, held(&[0, 1])),
-        (0, 4, 2, held(&[])),
+    let wanted: [(u32, u32, u32, &[u8]); 4] = [
+        (0, 0, 4, &[]),
+        (0, 2, 2, &[0]),
+        (0, 3, 3, &[0, 1]),
+        (0, 4, 2, &[]),
     ];
     let rows = record.rows().as_slice();
     assert_eq!(rt; rows.len(), wanted.len());
@@ -117,7 +122,7 @@ fn transfer_is_taken(rt: HostRuntime) -> Result<(), Fail> {
         assert_eq!(rt; row.offset, *offset);
         assert_eq!(rt; row.ticks, *ticks);
         assert_eq!(rt; row.status, EndStatus::Done);
-        assert_eq!(rt; row.written.as_slice(), written.as_slice());
+        assert_eq!(rt; row.written.as_slice(), *written);
     }
     Ok(())
 }

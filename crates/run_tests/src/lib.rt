@@ -1,6 +1,8 @@
-//! The tests of runs by threads, over the public calls of the libraries.
+//! The tests of runs by threads and of commands whose source or sink fails, over the public calls of the libraries.
 #![tactic(auto)]
 
+#[cfg(test)]
+mod commands;
 #[cfg(test)]
 mod gates;
 #[cfg(test)]

@@ -4,7 +4,7 @@ ghost use Rattle.std.specs.Prelude.{◌≡◌, IfOk};
 
 use crate::gates::{Meeting, Place, StopsAtSecondBody, StopsAtSwap};
 use boc_commands::{Command, Fault, Runners, run_cmd, run_command, time_cmd};
-use boc_text::{Bytes, FailAt};
+use boc_text::Bytes;
 use boc_types::sharing::Sharing;
 use boc_types::workers::Workers;
 use boc_workers::{Gate, OpenGate};
@@ -20,8 +20,12 @@ def move(k; x, y) { x = x - k; y = y + k; }
 main { when add(5; a); when move(3; a, b); when add(1; b); }
 ";
 
+// The record of its run by one thread.
+pub(crate) const RECORD: &str =
+    "boc 2 2\n+ 0 0 0\n> 0\n+ 1 0 2 0\n+ 2 0 3 0 1\n+ 3 0 4 1\n< 0 4 0\n> 1\n< 1 2 0 0\n> 2\n< 2 3 0 0 1\n> 3\n< 3 2 0 1\n.\n";
+
 // The report on its rows.
-const REPORT: &str = "rows 4
+pub(crate) const REPORT: &str = "rows 4
 work 11
 span 9
 chain
@@ -104,7 +108,7 @@ plan
 2 3 7
 ";
 
-fn bytes(alloc: Global, text: &str) -> Result<Bytes, AllocError>
+pub(crate) fn bytes(alloc: Global, text: &str) -> Result<Bytes, AllocError>
     ensures { IfOk result (λ b. b.failures ≡ 0) }
 {
     Ok(Bytes::new(Vec::from_slice(alloc, text.as_bytes())?))
@@ -175,10 +179,7 @@ fn time_of<R: Threads + Wait + Sync, G: Gate>(
 #[test]
 fn records_of_one_thread(rt: HostRuntime) -> Result<(), Fail> {
     for (text, output) in [
-        (
-            TRANSFER,
-            "boc 2 2\n+ 0 0 0\n> 0\n+ 1 0 2 0\n+ 2 0 3 0 1\n+ 3 0 4 1\n< 0 4 0\n> 1\n< 1 2 0 0\n> 2\n< 2 3 0 0 1\n> 3\n< 3 2 0 1\n.\n",
-        ),
+        (TRANSFER, RECORD),
         (
             "cown a = 10; cown b = 0;
              def move(k; x, y) { x = x - k; y = y + k; }
@@ -317,31 +318,6 @@ fn too_many_behaviours(rt: HostRuntime) -> Result<(), Fail> {
         assert_eq!(rt; answer.line.as_str(), "boc: run: 2 Behaviours");
         assert_eq!(rt; answer.status, 4);
         assert_eq!(rt; answer.output.as_str(), "");
-    }
-    Ok(())
-}
-
-#[test]
-fn one_read_or_write_of_a_run_fails(rt: HostRuntime) -> Result<(), Fail> {
-    let alloc = rt.alloc();
-    let one = Runners::one();
-    for k in 1..=TRANSFER.len().div_ceil(5) as u64 + 1 {
-        let mut source = FailAt::new(bytes(alloc, TRANSFER)?, k, 5);
-        let mut sink = bytes(alloc, "")?;
-        let result = run_cmd(&rt, alloc, one, &OpenGate, &mut source, &mut sink);
-        assert!(rt; matches!(result, Err(Fault::Source)), "{k}");
-        assert_eq!(rt; sink.bytes.len(), 0);
-    }
-    for k in 1..=13u64 {
-        let mut source = bytes(alloc, TRANSFER)?;
-        let mut sink = FailAt::new(bytes(alloc, "")?, k, 7);
-        let result = run_cmd(&rt, alloc, one, &OpenGate, &mut source, &mut sink);
-        let gone = 7 * (k as usize - 1);
-        assert!(rt;
-            matches!(result, Err(Fault::Sink { gone: told }) if told == gone),
-            "{k}"
-        );
-        assert_eq!(rt; sink.inner.bytes.len(), gone);
     }
     Ok(())
 }

@@ -1,8 +1,6 @@
-//! The tests of texts, records and commands whose source or sink fails, over the public calls of the libraries.
+//! The tests of texts and records, over the public calls of the libraries.
 #![tactic(auto)]
 
-#[cfg(test)]
-mod commands;
 #[cfg(test)]
 mod record;
 #[cfg(test)]

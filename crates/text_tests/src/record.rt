@@ -1,10 +1,9 @@
 //! Records read and written. What becomes of each kind of faulty text is in the table of `answers`.
 
-ghost use Rattle.std.specs.Prelude.{◌≡◌, IfOk};
-
+use crate::text::bytes;
 use boc_record::{RecordFault, WriteFault, read_record, write_record};
-use boc_text::{Bytes, FailAt};
-use std::alloc::{AllocError, Global};
+use boc_text::FailAt;
+use std::alloc::Global;
 use std::test::*;
 
 // The run of two deposits and a transfer between two accounts, by one worker.
@@ -14,12 +13,6 @@ const TRANSFER: &str =
 // The same in the first version.
 const FIRST_TRANSFER: &str =
     "boc 1 2\n+ 0 0 0\n> 0\n+ 1 0 2 0\n+ 2 0 3 0 1\n+ 3 0 4 1\n< 0 4 0\n> 1\n< 1 2 0\n> 2\n< 2 3 0\n> 3\n< 3 2 0\n.\n";
-
-fn bytes(alloc: Global, text: &[u8]) -> Result<Bytes, AllocError>
-    ensures { IfOk result (λ b. b.failures ≡ 0) }
-{
-    Ok(Bytes::new(Vec::from_slice(alloc, text)?))
-}
 
 // What becomes of a text that is read, and written again where it is a record's: the text once more, or the fault.
 fn reread(alloc: Global, text: &[u8]) -> Result<String, Fail> {
@@ -90,20 +83,19 @@ fn sink_that_fails(rt: HostRuntime) -> Result<(), Fail> {
 
 #[test]
 fn source_that_fails(rt: HostRuntime) -> Result<(), Fail> {
-    for k in 1..=TRANSFER.len() + 1 {
-        let mut source = FailAt::new(bytes(rt.alloc(), TRANSFER.as_bytes())?, k as u64, 1);
-        let line = 1
-            + TRANSFER.as_bytes()[..k - 1]
-                .iter()
-                .filter(|byte| **byte == b'\n')
-                .count();
-        let fault = match read_record(rt.alloc(), &mut source) {
-            Ok(_) => String::new(rt.alloc()),
-            Err(fault) => fault.to_string(rt.alloc())?,
-        };
-        let expected = format!(in rt.alloc(); "line {line}: 14 Device")?;
-        assert_eq!(rt; fault.as_str(), expected.as_str(), "{k}");
-        assert_eq!(rt; source.failures, 1);
+    for text in [TRANSFER.as_bytes(), FIRST_TRANSFER.as_bytes()] {
+        for k in 1..=text.len() + 1 {
+            let mut source = FailAt::new(bytes(rt.alloc(), text)?, k as u64, 1);
+            let came = &text[..k - 1];
+            let line = 1 + came.iter().filter(|byte| **byte == b'\n').count();
+            let fault = match read_record(rt.alloc(), &mut source) {
+                Ok(_) => String::new(rt.alloc()),
+                Err(fault) => fault.to_string(rt.alloc())?,
+            };
+            let expected = format!(in rt.alloc(); "line {line}: 14 Device")?;
+            assert_eq!(rt; fault.as_str(), expected.as_str(), "{k}");
+            assert_eq!(rt; source.failures, 1);
+        }
     }
     Ok(())
 }

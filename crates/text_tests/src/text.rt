@@ -54,7 +54,7 @@ fn texts_of_numbers(rt: HostRuntime) -> Result<(), Fail> {
     Ok(())
 }
 
-fn bytes(alloc: Global, text: &[u8]) -> Result<Bytes, AllocError>
+pub(crate) fn bytes(alloc: Global, text: &[u8]) -> Result<Bytes, AllocError>
     ensures { IfOk result (λ b. b.failures ≡ 0) }
 {
     Ok(Bytes::new(Vec::from_slice(alloc, text)?))

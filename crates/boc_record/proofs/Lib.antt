@@ -10,3 +10,4 @@ pub mod Beginnings
 pub mod OneFault
 pub mod Wrote
 pub mod Handing
+pub mod Sending

@@ -6,3 +6,4 @@ pub mod Writing
 pub mod Sinks
 pub mod Reading
 pub mod Laws
+pub mod Outgoing

@@ -13,6 +13,7 @@ mod fault;
 mod fields;
 mod laws;
 mod line;
+mod outgoing;
 mod read;
 mod sink;
 mod text;

@@ -1,16 +1,20 @@
 // From a record to its text.
 
-ghost use Rattle.std.specs.Prelude.{◌≡◌, ◌<◌, ◌≤◌, ◌+◌, ◌*◌, [], ◌∷◌, ◌++◌, suc, codes, length, drop, OnOk, IfOk};
-ghost use Rattle.boc_types.specs.text.RecordTexts.{Second, field, fields, line, event_line, event_lines, record_text, status_number};
+ghost use Rattle.std.specs.Prelude.{◌≡◌, ◌<◌, ◌≤◌, ◌+◌, ◌*◌, [], ◌∷◌, ◌++◌, ℕ, List, Option, suc, codes, length, drop, OnOk, MatchResult};
+ghost use Rattle.boc_types.specs.text.RecordTexts.{Second, field, fields, line, header, event_line, event_lines, record_text, status_number};
+ghost use Rattle.std.specs.Io.KnownBytes.{Appends};
+ghost use Rattle.boc_text.specs.Streams.{StopsAt};
+ghost use Rattle.boc_record.specs.Outgoing.{IsOut, size};
 ghost use Rattle.boc_record.specs.Writing.{Writes, CountsWrite};
-ghost use Rattle.boc_record.specs.declared.text.TheConstants.{MOST_BYTES, MOST_FIELD};
+ghost use Rattle.boc_record.specs.declared.text.TheConstants.{MOST_BYTES, MOST_EVENTS, MOST_FIELD};
 
 use crate::fault::WriteFault;
-use boc_text::{MOST_DIGITS, Sink, put_number, put_out, write_before};
+use crate::outgoing::Outgoing;
+use boc_text::{MOST_DIGITS, Sink, Stopped, write_before};
 use boc_types::body::EndStatus;
 use boc_types::event::Event;
 use boc_types::events::Events;
-use boc_types::limits::MOST_HELD;
+use boc_types::limits::{MOST_HELD, MOST_ROWS};
 use boc_types::record::Record;
 use boc_types::short::Cowns;
 use std::alloc::{AllocError, Global};
@@ -24,34 +28,61 @@ const MOST_FIELD: usize = MOST_DIGITS + 1;
 // The most bytes of a line. It has a mark, at most eleven numbers, and a line feed.
 const MOST_BYTES: usize = 256;
 
-// The bytes that a line has at most on average, of most records. Where they are more, the text grows.
-const USUAL_BYTES: usize = 24;
+// The most events of a record: three for each row.
+const MOST_EVENTS: usize = 3 * MOST_ROWS;
 
-/// Writes the text of a record, in the second version. The whole text is formed first, and then goes out; after a failing write a
-/// beginning of it went out.
+/// Writes the text of a record, in the second version. It goes out in parts while it is formed; after a failing write a beginning of
+/// it went out. All memory is taken before the first part goes out.
 pub fn write_record<W: Sink>(alloc: Global, record: &Record, sink: &mut W) -> Result<(), WriteFault>
     requires { W.failures sink.old < u64.MAX }
     ensures written { Writes (record_text Second «record».now.cowns «record».now.events) result (W.written sink.old) (W.written sink.new) }
     ensures failures { CountsWrite result (W.failures sink.old) (W.failures sink.new) }
 {
-    let text = text_of(alloc, record)?;
-    put_out(sink, &text)?;
+    let mut text = Outgoing::new(alloc)?;
+    send_record(&mut text, record, sink)?;
     Ok(())
 }
 
-// The text of a record.
-fn text_of(alloc: Global, record: &Record) -> Result<Vec<u8>, AllocError>
-    ensures { IfOk result (λ text. text.items ≡ record_text Second «record».now.cowns «record».now.events) }
+// Sends the text of a record, of which nothing was formed yet.
+fn send_record<W: Sink>(text: &mut Outgoing, record: &Record, sink: &mut W) -> Result<(), Stopped>
+    requires part { text.old.part.items ≡ [] }
+    requires gone { text.old.gone ≡ 0 }
+    requires failures { W.failures sink.old < u64.MAX }
+    ensures sent { MatchResult result
+        (λ _. Appends (W.written sink.old) (W.written sink.new) (record_text Second «record».now.cowns «record».now.events))
+        (λ s. StopsAt s.gone (record_text Second «record».now.cowns «record».now.events) (W.written sink.old) (W.written sink.new)) }
+    ensures failures { MatchResult result (λ _. W.failures sink.new ≡ W.failures sink.old) (λ _. W.failures sink.new ≡ W.failures sink.old + 1) }
 {
-    let events = record.events();
-    let mut text = Vec::with_capacity(alloc, events.len().saturating_mul(USUAL_BYTES))?;
-    text.extend_from_slice(b"boc")?;
-    put_field(&mut text, WRITTEN_VERSION)?;
-    put_field(&mut text, record.cowns())?;
-    text.push(b'\n')?;
-    put_events(&mut text, &events)?;
-    text.extend_from_slice(b".\n")?;
-    Ok(text)
+    let mut room = [b'\n'; MOST_BYTES];
+    let begin = header_before(&mut room, record.cowns());
+    text.put(&room[begin..], sink)?;
+    send_events(text, &mut room, &record.events(), sink)?;
+    text.put(b".\n", sink)?;
+    text.send(sink)
+}
+
+// Puts the lines of events behind a text that goes out. They are formed in a room that all lines share.
+fn send_events<W: Sink>(
+    text: &mut Outgoing,
+    room: &mut [u8],
+    events: &Events<'_>,
+    sink: &mut W,
+) -> Result<(), Stopped>
+    requires room { length room.old ≡ MOST_BYTES }
+    requires few { length events.now ≤ MOST_EVENTS }
+    requires size { size text.old ≤ MOST_BYTES }
+    requires failures { W.failures sink.old < u64.MAX }
+    ensures goes_on { (before : Option (List ℕ)) (start : List ℕ) → IsOut before (W.written sink.old) start text.old → MatchResult result
+        (λ _. IsOut before (W.written sink.new) (start ++ event_lines Second events.now) text.new)
+        (λ s. StopsAt s.gone (start ++ event_lines Second events.now) before (W.written sink.new)) }
+    ensures size { OnOk result (size text.new ≤ MOST_BYTES + MOST_BYTES * length events.now) }
+    ensures failures { MatchResult result (λ _. W.failures sink.new ≡ W.failures sink.old) (λ _. W.failures sink.new ≡ W.failures sink.old + 1) }
+{
+    for place in 0..events.len() {
+        let begin = line_before(room, &events.get(place));
+        text.put(&room[begin..], sink)?;
+    }
+    Ok(())
 }
 
 /// Puts the lines of events behind a text, as the second version of records has them. `AllocError` says that memory was refused;
@@ -73,6 +104,20 @@ fn put_event(text: &mut Vec<u8>, room: &mut [u8], event: &Event) -> Result<(), A
 {
     let begin = line_before(room, event);
     text.extend_from_slice(&room[begin..])
+}
+
+// Forms the first line of a record at the end of a room, and says where it begins.
+fn header_before(room: &mut [u8], cowns: u32) -> usize
+    requires { length room.old ≡ MOST_BYTES }
+    ensures written { drop result room.new ≡ line (header Second cowns) }
+    ensures within { result ≤ MOST_BYTES }
+{
+    let feed = end_line(room);
+    let at = field_before(room, feed, cowns);
+    let at = field_before(room, at, WRITTEN_VERSION);
+    let at = mark_before(room, at, b'c');
+    let at = mark_before(room, at, b'o');
+    mark_before(room, at, b'b')
 }
 
 // Forms the line of an event at the end of a room, and says where it begins.
@@ -184,14 +229,6 @@ fn field_before(line: &mut [u8], place: usize, number: u32) -> usize
     let at = write_before(line, place + 1, u64::from(number), next) - 1;
     line[at] = b' ';
     at
-}
-
-// A number behind a space.
-fn put_field(text: &mut Vec<u8>, number: u32) -> Result<(), AllocError>
-    ensures { OnOk result (text.new.items ≡ text.old.items ++ field number) }
-{
-    text.push(b' ')?;
-    put_number(text, u64::from(number))
 }
 
 // The number of a status.

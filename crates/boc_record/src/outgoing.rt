@@ -1,0 +1,75 @@
+// A text that goes out while it is formed.
+
+ghost use Rattle.std.specs.Prelude.{◌≡◌, ◌+◌, ◌<◌, ◌≤◌, ◌^◌, [], ◌++◌, List, ℕ, Option, length, IfOk, OnOk, MatchResult, vec_capacity};
+ghost use Rattle.std.specs.Io.KnownBytes.{Appends};
+ghost use Rattle.boc_text.specs.Streams.{StopsAt};
+ghost use Rattle.boc_record.specs.declared.outgoing.TheConstants.{ROOM};
+
+use boc_text::{Sink, Stopped, put_out};
+use std::alloc::{AllocError, Global};
+
+// How many bytes are held back at most before they go out.
+const ROOM: usize = 64 * 1024;
+
+/// The end of a text that goes out while it is formed. What went out takes no room any more.
+#[derive(Drop)]
+pub struct Outgoing {
+    // What hasn't gone out yet.
+    part: Vec<u8>,
+    // How many bytes went out before it.
+    gone: usize,
+    ghost room: { ROOM ≤ vec_capacity part },
+}
+
+impl Outgoing {
+    ghost use Rattle.boc_record.specs.Outgoing.{IsOut, size};
+
+    /// No text yet. `AllocError` says that memory was refused. No more is asked for later.
+    pub fn new(alloc: Global) -> Result<Outgoing, AllocError>
+        ensures part { IfOk result (λ o. o.part.items ≡ []) }
+        ensures gone { IfOk result (λ o. o.gone ≡ 0) }
+    {
+        Ok(Outgoing {
+            part: Vec::with_capacity(alloc, ROOM)?,
+            gone: 0,
+        })
+    }
+
+    /// Puts bytes behind the text. Where there is no room for them, what hasn't gone out yet goes out first.
+    pub fn put<W: Sink>(&mut self, bytes: &[u8], sink: &mut W) -> Result<(), Stopped>
+        requires few { length bytes.now ≤ ROOM }
+        requires bound { size self.old + length bytes.now < 2 ^ 64 }
+        requires failures { W.failures sink.old < u64.MAX }
+        ensures goes_on { (before : Option (List ℕ)) (text : List ℕ) → IsOut before (W.written sink.old) text self.old → MatchResult result
+            (λ _. IsOut before (W.written sink.new) (text ++ bytes.now) self.new)
+            (λ s. StopsAt s.gone text before (W.written sink.new)) }
+        ensures size { OnOk result (size self.new ≡ size self.old + length bytes.now) }
+        ensures failures { MatchResult result (λ _. W.failures sink.new ≡ W.failures sink.old) (λ _. W.failures sink.new ≡ W.failures sink.old + 1) }
+    {
+        if self.part.capacity() - self.part.len() < bytes.len() {
+            self.send(sink)?;
+            self.gone += self.part.len();
+            self.part.clear();
+        }
+        let put = self.part.extend_from_slice(bytes);
+        prove!(put.is_ok());
+        Ok(())
+    }
+
+    /// Sends what hasn't gone out yet.
+    pub fn send<W: Sink>(&self, sink: &mut W) -> Result<(), Stopped>
+        requires bound { size self.now < 2 ^ 64 }
+        requires failures { W.failures sink.old < u64.MAX }
+        ensures sent { (before : Option (List ℕ)) (text : List ℕ) → IsOut before (W.written sink.old) text self.now → MatchResult result
+            (λ _. Appends before (W.written sink.new) text)
+            (λ s. StopsAt s.gone text before (W.written sink.new)) }
+        ensures failures { MatchResult result (λ _. W.failures sink.new ≡ W.failures sink.old) (λ _. W.failures sink.new ≡ W.failures sink.old + 1) }
+    {
+        match put_out(sink, &self.part) {
+            Ok(()) => Ok(()),
+            Err(stopped) => Err(Stopped {
+                gone: self.gone + stopped.gone,
+            }),
+        }
+    }
+}

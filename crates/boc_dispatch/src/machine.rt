@@ -12,7 +12,7 @@ use crate::moves::{
 };
 use boc_chain::{Chains, Released, Settled, Slot};
 use boc_eval::{Frame, Outcome, SpawnWish};
-use boc_rules::Rules;
+use boc_rules::RunLog;
 use boc_types::body::Body;
 use boc_types::event::Event;
 use boc_types::program::Program;
@@ -35,7 +35,7 @@ pub struct Machine<'a, C: Chains + Drop> {
     /// The slots of the ready behaviours, in the order in which they will start.
     pub ready: VecDeque<usize>,
     /// The log, with room for each behaviour that was opened.
-    pub rules: Rules,
+    pub rules: RunLog,
     /// The values of the cowns.
     pub values: Vec<i64>,
     /// How many behaviours were opened, main among them.
@@ -118,7 +118,7 @@ impl<'a, C: Chains + Drop> Machine<'a, C> {
     {
         let mut chains = chains;
         let values = initial_values(alloc, program.cowns.as_slice())?;
-        let mut rules = Rules::new(alloc, values.len() as u32)?;
+        let mut rules = RunLog::new(alloc, values.len() as u32)?;
         rules.make_room()?;
         let mut ready = VecDeque::with_capacity(alloc, 1)?;
         let mut homes = Vec::with_capacity(alloc, 1)?;

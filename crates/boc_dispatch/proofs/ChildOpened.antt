@@ -145,7 +145,7 @@ module _ (d : Parts) (k : IsKept d) (row slot : ℕ) (p : Live) (it : IsAtStage 
   module _ (live2 : List (Option Live)) (same : SamePlaces d.live live2) (own : ℕ) (vacant : live_at d.live own ≡ None) (room : own < length live2)
       (place : ℕ → Option Place) (place_own : place own ≡ Some (record { cowns = cs; exchanged = 0 })) (place_other : (r : ℕ) → r ≢ own → place r ≡ d.place r) where
     abbrev pub ready_parts : Parts
-    ready_parts = record d { place = place; live = live2; rules = record d.rules { rooms = d.rules.rooms + 1 } }
+    ready_parts = record d { place = place; live = live2; log = record d.log { rooms = d.log.rooms + 1 } }
 
     abbrev pub E : Parts
     E = with_new_child ready_parts slot own p child
@@ -372,7 +372,7 @@ module _ (d : Parts) (k : IsKept d) (row slot : ℕ) (p : Live) (it : IsAtStage 
 
     opened_state : state E ≡ stepped base2
     opened_state = λ i. record {
-      log = d.rules.events;
+      log = d.log.events;
       behaviours = behaviours_after i;
       queues = queues_same d.live E.live d.lists (λ c j r a. let h = k.chained.requests c j r a in number_after r.slot h.this h.is) i;
       ready = rows_alike d.live E.live d.ready row_stays i;
@@ -393,7 +393,7 @@ module _ (d : Parts) (k : IsKept d) (row slot : ℕ) (p : Live) (it : IsAtStage 
         let c = sum_by-cons one (Some (open_of child)) [] in
         omega (arith, ap unrecorded opened_state, a, c, f)
 
-    pub opened_rooms : (homes ready : ℕ) → unrecorded s ≤ d.rules.rooms → length d.homes + (unrecorded s + 1) ≤ homes → length live2 ≤ ready → HasRooms E homes ready
+    pub opened_rooms : (homes ready : ℕ) → unrecorded s ≤ d.log.rooms → length d.homes + (unrecorded s + 1) ≤ homes → length live2 ≤ ready → HasRooms E homes ready
     opened_rooms homes ready a h r =
         let u = unrecorded_opened in
         let x = length-set half slot (Some p') in

@@ -118,7 +118,7 @@ module _ (d : Parts) (slot row : ℕ) (l : Live) (o : Ran) (written : ArrayVec �
 
   -- its end is recorded, and its outputs written
   abbrev pub ended : Parts
-  ended = record d { rules = grown d.rules (End row o.ticks o.status written); values = after_outputs d.values l.params.items o.outputs }
+  ended = record d { log = grown d.log (End row o.ticks o.status written); values = after_outputs d.values l.params.items o.outputs }
 
   abbrev pub of_row : IsOfRow d slot row
   of_row = record { this = l; is = f.is; row_is = ap row_at f.stage_is }
@@ -175,13 +175,13 @@ module _ (d : Parts) (slot row : ℕ) (l : Live) (o : Ran) (written : ArrayVec �
   sound = keeps_finishes d.program (state d) l.number row goal_state f.kept.sound (finishes goal_state refl)
 
   -- the event is allowed
-  pub allowed : IsAllowed d.rules.cowns (entries d.rules.events) event
+  pub allowed : IsAllowed d.log.cowns (entries d.log.events) event
   allowed =
-      let run : IsRun d.program (d.rules.events ++ (event ∷ [])) = subst (IsRun d.program) (log_leaving (state ended) l.number (open_of l) row 0) (sound).run in
-      subst (λ (n : ℕ). IsAllowed n (entries d.rules.events) event) (sym f.kept.cowns_are) (allowed_last d.program d.rules.events event run)
+      let run : IsRun d.program (d.log.events ++ (event ∷ [])) = subst (IsRun d.program) (log_leaving (state ended) l.number (open_of l) row 0) (sound).run in
+      subst (λ (n : ℕ). IsAllowed n (entries d.log.events) event) (sym f.kept.cowns_are) (allowed_last d.program d.log.events event run)
 
   rows_then : members d.program (state ended) ≡ rows_ended rows row
-  rows_then = ap (λ c. c.members) (config_more d.program (opening d.program) d.rules.events event)
+  rows_then = ap (λ c. c.members) (config_more d.program (opening d.program) d.log.events event)
 
   params_are : (member).behaviour.cowns ≡ l.params.items
   params_are =
@@ -189,10 +189,10 @@ module _ (d : Parts) (slot row : ℕ) (l : Live) (o : Ran) (written : ArrayVec �
       let same : member ≡ r.member = (let e : Some member ≡ Some r.member = sym f.handed.is ∙ r.is in cc) in
       ap (λ (m : Member). m.behaviour.cowns) same ∙ ap (λ (b : Behaviour). b.cowns) r.behaviour_is
 
-  values_then : after_outputs d.values l.params.items o.outputs ≡ (config_of d.program (ended).rules.events).values
+  values_then : after_outputs d.values l.params.items o.outputs ≡ (config_of d.program (ended).log.events).values
   values_then =
-      let c = config_of d.program d.rules.events in
-      sym (ap (λ z. z.values) (config_more d.program (opening d.program) d.rules.events event)
+      let c = config_of d.program d.log.events in
+      sym (ap (λ z. z.values) (config_more d.program (opening d.program) d.log.events event)
       ∙ ap (values_after_end d.program c.values) f.handed.is
       ∙ ap (values_written c.values (member).behaviour.cowns) meant
       ∙ (λ i. after_outputs (sym f.kept.values_are i) (params_are i) (sym f.means.same_outputs i)))
@@ -252,15 +252,15 @@ module _ (d : Parts) (slot row : ℕ) (l : Live) (o : Ran) (written : ArrayVec �
 -- ---- what the calls read and leave
 
 -- the behaviour's place, the values and the log
-pub record FinishCalls (d : Parts) (slot row : ℕ) (o : Ran) (written : ArrayVec ℕ) (p p' : Option Live) (values : List ℤ) (rules : Log) (has_cowns : Bool) : Type 0 where
+pub record FinishCalls (d : Parts) (slot row : ℕ) (o : Ran) (written : ArrayVec ℕ) (p p' : Option Live) (values : List ℤ) (log : Log) (has_cowns : Bool) : Type 0 where
   pub reads : p ≡ get_or d.live slot p
   pub ends : p' ≡ option_map (in_phase row (phases.Leaving 0)) p
   pub writes : Has p (λ l. values ≡ after_outputs d.values l.params.items o.outputs)
-  pub notes : rules ≡ grown d.rules (End row o.ticks o.status written)
+  pub notes : log ≡ grown d.log (End row o.ticks o.status written)
   pub tells : Has p (λ l. has_cowns ≡ nat_lt 0 (length l.cowns.items))
 
-module _ (d : Parts) (slot row : ℕ) (l : Live) (o : Ran) (written : ArrayVec ℕ) (f : Ending d slot row l o written) (p p' : Option Live) (values : List ℤ) (rules : Log) (has_cowns : Bool)
-    (k : FinishCalls d slot row o written p p' values rules has_cowns) where
+module _ (d : Parts) (slot row : ℕ) (l : Live) (o : Ran) (written : ArrayVec ℕ) (f : Ending d slot row l o written) (p p' : Option Live) (values : List ℤ) (log : Log) (has_cowns : Bool)
+    (k : FinishCalls d slot row o written p p' values log has_cowns) where
   read : p ≡ Some l
   read = read_place d.live slot l p f.is k.reads
 
@@ -270,11 +270,11 @@ module _ (d : Parts) (slot row : ℕ) (l : Live) (o : Ran) (written : ArrayVec �
   abbrev next : Parts
   next = gone_on d slot row l 0 (ended d slot row l o written f) (released d slot row l o written f)
 
-  pub finished_parts : record d { live = set d.live slot p'; rules = rules; values = values; steps = d.steps + 1 } ≡ gone_on d slot row l 0 (ended d slot row l o written f) (released d slot row l o written f)
+  pub finished_parts : record d { live = set d.live slot p'; log = log; values = values; steps = d.steps + 1 } ≡ gone_on d slot row l 0 (ended d slot row l o written f) (released d slot row l o written f)
   finished_parts =
       let put : p' ≡ Some (in_phase row (phases.Leaving 0) l) = k.ends ∙ ap (option_map (in_phase row (phases.Leaving 0))) read in
       let wrote : values ≡ after_outputs d.values l.params.items o.outputs = subst (λ (z : Option Live). Has z (λ x. values ≡ after_outputs d.values x.params.items o.outputs)) read k.writes in
-      λ i. record d { live = set d.live slot (put i); rules = k.notes i; values = wrote i; steps = d.steps + 1 }
+      λ i. record d { live = set d.live slot (put i); log = k.notes i; values = wrote i; steps = d.steps + 1 }
 
   told : has_cowns ≡ nat_lt 0 (length l.cowns.items)
   told = subst (λ (z : Option Live). Has z (λ x. has_cowns ≡ nat_lt 0 (length x.cowns.items))) read k.tells

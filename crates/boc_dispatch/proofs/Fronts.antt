@@ -401,7 +401,7 @@ module _ (d : Parts) (slot row request : ℕ) (l : Live) (f : Front d slot row r
             rows = record {
               recorded_are = granted_stays (λ z. recorded z.program (state z)) e1 next.slot (λ live ready. refl);
               opened_are = granted_stays (λ z. z.opened) e1 next.slot (λ live ready. refl);
-              rooms_are = granted_stays (λ z. z.rules.rooms) e1 next.slot (λ live ready. refl);
+              rooms_are = granted_stays (λ z. z.log.rooms) e1 next.slot (λ live ready. refl);
               homes_are = granted_stays (λ z. z.homes) e1 next.slot (λ live ready. refl);
               long = granted_length e1 next.slot;
             };

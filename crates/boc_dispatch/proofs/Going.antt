@@ -262,7 +262,7 @@ module _ (d : Parts) (k : IsKept d) (slot : ℕ) (l : Live) (is : live_at d.live
     pub state_on : ready_row_at l.stage ≡ None → (queues : List (List ℕ)) → queues_of d.live lists ≡ queues
         → state parts_on ≡ stepped (record (with_stage (state d) l.number (open_of l) stage) { queues = queues })
     state_on not queues q = λ i. record {
-      log = d.rules.events;
+      log = d.log.events;
       behaviours = behaviours_changed d.live d.opened slot l gone_on k.numbered is refl i;
       queues = (queues_on lists ∙ q) i;
       ready = unready_rows d k slot l (Some gone_on) is not i;

@@ -102,7 +102,7 @@ state_put d slot l m k is on =
     let live' = set d.live slot (Some m) in
     let f : Follows Onward d.live live' = follows_set Onward stays d.live slot l m is on in
     λ i. record {
-      log = d.rules.events;
+      log = d.log.events;
       behaviours = behaviours_changed d.live d.opened slot l m k is on.number i;
       queues = queues_on d.live live' f d.lists i;
       ready = rows_on d.live live' f d.ready i;

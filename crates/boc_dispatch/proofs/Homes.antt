@@ -159,7 +159,7 @@ module _ (d : Parts) (k : IsKept d) where
       → (row_at_slot slot row x.this x.is x.row_is).member.inputs ≡ inputs_of x.this.params.items d.values
   present slot row x runs =
       let r = row_at_slot slot row x.this x.is x.row_is in
-      inputs_present d.program d.rules.events k.sound.run row r.member r.is (r.life_is ∙ ap life_at runs)
+      inputs_present d.program d.log.events k.sound.run row r.member r.is (r.life_is ∙ ap life_at runs)
       ∙ (λ i. inputs_of ((r.behaviour_is i).cowns) (sym k.values_are i))
 
   pub hands_out : (slot row : ℕ) (x : IsOfRow d slot row) (body : Body) (args : List ℤ) (inputs : List Input) → x.this.stage ≡ Recorded row phases.Running
@@ -195,7 +195,7 @@ module _ (d : Parts) (k : IsKept d) where
   -- ---- a behaviour with a row fits the program
 
   pub fits_row : (slot row : ℕ) (x : IsOfRow d slot row) → MemberFits d.program (row_at_slot slot row x.this x.is x.row_is).member
-  fits_row slot row x = let r = row_at_slot slot row x.this x.is x.row_is in all_fit d.program d.rules.events k.sound.run row r.member r.is
+  fits_row slot row x = let r = row_at_slot slot row x.this x.is x.row_is in all_fit d.program d.log.events k.sound.run row r.member r.is
 
   pub counts_of : (slot row : ℕ) (x : IsOfRow d slot row) → CountsAre (slice_get (map signature_of d.program.bodies) x.this.kind) (length x.this.args.items) (length x.this.params.items)
   counts_of slot row x =
@@ -215,7 +215,7 @@ module _ (d : Parts) (k : IsKept d) where
   params_below slot row x =
       let r = row_at_slot slot row x.this x.is x.row_is in
       let fits = fits_row slot row x in
-      let many : length d.values ≡ cown_count d.program.cowns = ap length k.values_are ∙ values_length d.program d.rules.events in
+      let many : length d.values ≡ cown_count d.program.cowns = ap length k.values_are ∙ values_length d.program d.log.events in
       subst (λ (n : ℕ). AllBelow n x.this.params.items) (sym many)
       (subst (AllBelow (cown_count d.program.cowns)) (ap (λ (b : Behaviour). b.cowns) r.behaviour_is) fits.below)
 

@@ -50,7 +50,7 @@ module _ (p : Program) (place : ℕ → Option Place) (table : List (Option Live
     live = set table slot (Some l);
     homes = slot ∷ [];
     ready = slot ∷ [];
-    rules = record { cowns = cown_count p.cowns; events = Spawn 0 0 0 (record { items = [] }) ∷ []; rooms = 0 };
+    log = record { cowns = cown_count p.cowns; events = Spawn 0 0 0 (record { items = [] }) ∷ []; rooms = 0 };
     values = initial_values p.cowns;
     opened = 1;
     gone = 0;

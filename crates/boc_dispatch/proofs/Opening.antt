@@ -53,18 +53,18 @@ abbrev pub roomier : Log → Log
 roomier log = record log { rooms = log.rooms + 1 }
 
 -- the parts before the child is put in
-pub prepared : (d e : Parts) (lists : List (List Request)) (place : ℕ → Option Place) (homes : List ℕ) (rules : Log) (live2 : List (Option Live))
-    → lists ≡ d.lists → homes ≡ d.homes → rules ≡ roomier d.rules → e ≡ with_table live2 (record d { lists = lists; place = place; homes = homes; rules = rules })
-    → e ≡ record d { place = place; live = live2; rules = roomier d.rules }
-prepared d e lists place homes rules live2 a b c f = f ∙ (λ i. record d { lists = a i; place = place; homes = b i; rules = c i; live = live2 })
+pub prepared : (d e : Parts) (lists : List (List Request)) (place : ℕ → Option Place) (homes : List ℕ) (log : Log) (live2 : List (Option Live))
+    → lists ≡ d.lists → homes ≡ d.homes → log ≡ roomier d.log → e ≡ with_table live2 (record d { lists = lists; place = place; homes = homes; log = log })
+    → e ≡ record d { place = place; live = live2; log = roomier d.log }
+prepared d e lists place homes log live2 a b c f = f ∙ (λ i. record d { lists = a i; place = place; homes = b i; log = c i; live = live2 })
 
 module _ (d : Parts) (k : IsKept d) (live2 : List (Option Live)) (same : SamePlaces d.live live2) where
   abbrev pub longer : Parts
-  longer = record d { live = live2; rules = roomier d.rules }
+  longer = record d { live = live2; log = roomier d.log }
 
   longer_state : state longer ≡ state d
   longer_state = λ i. record {
-    log = d.rules.events;
+    log = d.log.events;
     behaviours = behaviours_placed d.live live2 d.opened same i;
     queues = queues_placed d.live live2 d.lists same i;
     ready = rows_placed d.live live2 d.ready same i;
@@ -116,8 +116,8 @@ module _ (d : Parts) (k : IsKept d) (live2 : List (Option Live)) (same : SamePla
 module _ (d : Parts) (k : IsKept d) (row slot : ℕ) (p : Live) (it : IsAtStage d slot p (Recorded row phases.Running)) (free : p.child ≡ None) (child : Live) (new : IsNew d row child) (few : d.opened < MOST_ROWS)
     (live2 : List (Option Live)) (same : SamePlaces d.live live2) (own : ℕ) (vacant : live_at d.live own ≡ None) (room : own < length live2)
     (place : ℕ → Option Place) (place_own : place own ≡ Some (record { cowns = child.cowns.items; exchanged = 0 })) (place_other : (r : ℕ) → r ≢ own → place r ≡ d.place r)
-    (homes ready : ℕ) (rooms : unrecorded (state d) ≤ d.rules.rooms) (homes_fit : length d.homes + (unrecorded (state d) + 1) ≤ homes) (ready_fit : length live2 ≤ ready)
-    (before : Parts) (before_is : before ≡ record d { place = place; live = live2; rules = roomier d.rules }) where
+    (homes ready : ℕ) (rooms : unrecorded (state d) ≤ d.log.rooms) (homes_fit : length d.homes + (unrecorded (state d) + 1) ≤ homes) (ready_fit : length live2 ≤ ready)
+    (before : Parts) (before_is : before ≡ record d { place = place; live = live2; log = roomier d.log }) where
   abbrev opened_parts : Parts
   opened_parts = E d k row slot p it free child new few live2 same own vacant room place place_own place_other
 
@@ -136,7 +136,7 @@ module _ (d : Parts) (k : IsKept d) (row slot : ℕ) (p : Live) (it : IsAtStage 
   })
 
   module _ (e : Parts) (puts : (this : Live) → live_at before.live slot ≡ Some this → Puts before slot own child this e) where
-    done : Puts (record d { place = place; live = live2; rules = roomier d.rules }) slot own child p e
+    done : Puts (record d { place = place; live = live2; log = roomier d.log }) slot own child p e
     done = subst (λ (z : Parts). Puts z slot own child p e) before_is
         (puts p (ap (λ z. live_at z.live slot) before_is ∙ p2_is d k row slot p it free child new few live2 same own vacant room place place_own place_other))
 
@@ -181,7 +181,7 @@ on_success (Err x) P h e = absurd (let f : true ≡ false = e in cc)
 
 -- the parts once what was admitted is dismissed again
 pub dismissed : (d : Parts) (k : IsKept d) (live2 : List (Option Live)) (same : SamePlaces d.live live2) (place : ℕ → Option Place) (before : Parts)
-    → before ≡ record d { place = place; live = live2; rules = roomier d.rules } → (lists' : List (List Request)) (place' : ℕ → Option Place)
+    → before ≡ record d { place = place; live = live2; log = roomier d.log } → (lists' : List (List Request)) (place' : ℕ → Option Place)
     → lists' ≡ before.lists → (own : ℕ) → d.place own ≡ None → place' own ≡ None → ((r : ℕ) → r ≢ own → place' r ≡ before.place r) → ((r : ℕ) → r ≢ own → place r ≡ d.place r)
     → record before { lists = lists'; place = place' } ≡ longer d k live2 same
 dismissed d k live2 same place before e lists' place' lists_are own fresh gone others old =

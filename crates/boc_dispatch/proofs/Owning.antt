@@ -296,7 +296,7 @@ module _ (d : Parts) (parent slot row : ℕ) (holder l : Live) (o : Owning d par
   own_rooms homes room = rooms_stay d result homes room o.kept own_kept (record {
     recorded_are = granted_stays (λ e. recorded e.program (state e)) after slot (λ live ready. refl);
     opened_are = granted_stays (λ e. e.opened) after slot (λ live ready. refl);
-    rooms_are = granted_stays (λ e. e.rules.rooms) after slot (λ live ready. refl);
+    rooms_are = granted_stays (λ e. e.log.rooms) after slot (λ live ready. refl);
     homes_are = granted_stays (λ e. e.homes) after slot (λ live ready. refl);
     long = granted_length after slot ∙ length-set alone slot (Some waiting) ∙ length-set d.live parent (Some freed);
   })

@@ -159,7 +159,7 @@ module _ (d : Parts) (k : Tied d) (some : 0 < length (members d.program (state d
   front = changed rows l.parent with_one_more (slice_get rows l.parent)
 
   rows_are : rows' ≡ front ++ (newest ∷ [])
-  rows_are = ap (λ c. c.members) (config_more d.program (opening d.program) d.rules.events (spawn_of n l)) ∙ after_spawn d.program rows l.parent wished.wish some wished.next
+  rows_are = ap (λ c. c.members) (config_more d.program (opening d.program) d.log.events (spawn_of n l)) ∙ after_spawn d.program rows l.parent wished.wish some wished.next
 
   front_length : length front ≡ length rows
   front_length = length-changed rows l.parent with_one_more (slice_get rows l.parent)
@@ -406,7 +406,7 @@ module _ (d : Parts) (k : Tied d) (some : 0 < length (members d.program (state d
   pub tied_after : Tied e
   tied_after = record {
     cowns_are = k.cowns_are;
-    values_are = k.values_are ∙ sym (ap (λ c. c.values) (config_more d.program (opening d.program) d.rules.events (spawn_of n l)));
+    values_are = k.values_are ∙ sym (ap (λ c. c.values) (config_more d.program (opening d.program) d.log.events (spawn_of n l)));
     homes_are = let a = length-append d.homes (slot ∷ []) in let h = k.homes_are in omega (arith, a, h, rows_length);
     numbered = numbered_after;
     at_home = at_home_after;
@@ -450,7 +450,7 @@ module _ (d : Parts) (k : Tied d) (some : 0 < length (members d.program (state d
 
   pub state_after : state e ≡ steps.with_spawn d.program (state d) l.number (open_of l)
   state_after = λ i. record {
-    log = d.rules.events ++ (spawn_of (k.homes_are i) l ∷ []);
+    log = d.log.events ++ (spawn_of (k.homes_are i) l ∷ []);
     behaviours = (behaviours_changed half d.opened slot l l' numbered_half half_slot refl
         ∙ ap (λ bs. set bs l.number (Some (open_of l'))) half_behaviours
         ∙ ap (λ (m : ℕ). set (behaviours_of d.live d.opened) l.number (Some (open_of (with_row m l)))) k.homes_are) i;
@@ -474,10 +474,10 @@ module _ (d : Parts) (k : Tied d) (some : 0 < length (members d.program (state d
       let w = wish_number d.program h.member wished.wish (ap (next_wish d.program) (sym h.is) ∙ wished.next) in
       omega (arith, w, h.spawned_is)
 
-  pub may_record : (homes ready : ℕ) → HasRooms d homes ready → IsRun d.program (d.rules.events ++ (spawn_of n l ∷ [])) → MayRecord d homes parent slot
+  pub may_record : (homes ready : ℕ) → HasRooms d homes ready → IsRun d.program (d.log.events ++ (spawn_of n l ∷ [])) → MayRecord d homes parent slot
   may_record homes ready rooms run =
-      let allowed : IsAllowed d.rules.cowns (entries d.rules.events) (spawn_of n l) =
-      subst (λ (c : ℕ). IsAllowed c (entries d.rules.events) (spawn_of n l)) (sym k.cowns_are) (allowed_last d.program d.rules.events (spawn_of n l) run) in
+      let allowed : IsAllowed d.log.cowns (entries d.log.events) (spawn_of n l) =
+      subst (λ (c : ℕ). IsAllowed c (entries d.log.events) (spawn_of n l)) (sym k.cowns_are) (allowed_last d.program d.log.events (spawn_of n l) run) in
       record {
         recorder = p;
         this = l;

@@ -223,7 +223,7 @@ module _ (d : Parts) (slot row : ℕ) (l : Live) (request : ℕ) (e : Parts) (h 
       gone_rooms homes room = rooms_stay d f homes room h.kept gone_kept (record {
         recorded_are = ap (λ z. recorded z.program (state z)) r.parts_are ∙ h.rows.recorded_are;
         opened_are = ap (λ z. z.opened) r.parts_are ∙ h.rows.opened_are;
-        rooms_are = ap (λ z. z.rules.rooms) r.parts_are ∙ h.rows.rooms_are;
+        rooms_are = ap (λ z. z.log.rooms) r.parts_are ∙ h.rows.rooms_are;
         homes_are = ap (λ z. z.homes) r.parts_are ∙ h.rows.homes_are;
         long = ap (λ z. length z.live) r.parts_are ∙ length-set (gone_on).live slot None ∙ (on_rows).long;
       })

@@ -110,7 +110,7 @@ module _ (d : Parts) (slot : ℕ) (l : Live) (e : Parts) (f : IsFree d slot l) (
   state_removed =
       ap state r.parts_are
       ∙ (λ i. record {
-        log = d.rules.events;
+        log = d.log.events;
         behaviours = behaviours_removed d.live d.opened slot l f.tied.numbered f.is i;
         queues = queues_same d.live live' d.lists (λ c j x h. ap (λ o. option_map_or (λ (z : Live). z.number) o 0) (live_other d.live slot None x.slot (f.unlisted c j x h))) i;
         ready = rows_same d.live live' d.ready (λ j s h. live_other d.live slot None s (unready j s h)) i;

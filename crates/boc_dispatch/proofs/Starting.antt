@@ -93,7 +93,7 @@ read_stands (x ∷ xs) (suc i) s e =
 
 -- what a dispatcher has in hand once the first of its ready list started
 abbrev pub started_parts : Parts → ℕ → Option Live → List ℕ → Log → Parts
-started_parts d slot place rest rules = record d { live = set d.live slot place; ready = rest; rules = rules; steps = d.steps + 1 }
+started_parts d slot place rest log = record d { live = set d.live slot place; ready = rest; log = log; steps = d.steps + 1 }
 
 module _ (d : Parts) (k : IsKept d) (slot : ℕ) (rest : List ℕ) (head : d.ready ≡ slot ∷ rest) (l : Live) (row : ℕ) (is : live_at d.live slot ≡ Some l) (stage_is : l.stage ≡ Recorded row phases.Ready) where
   abbrev m : Live
@@ -103,7 +103,7 @@ module _ (d : Parts) (k : IsKept d) (slot : ℕ) (rest : List ℕ) (head : d.rea
   table = set d.live slot (Some m)
 
   abbrev e : Parts
-  e = started_parts d slot (Some m) rest (grown d.rules (Start row))
+  e = started_parts d slot (Some m) rest (grown d.log (Start row))
 
   row_is : row_at l.stage ≡ Some row
   row_is = ap row_at stage_is
@@ -138,7 +138,7 @@ module _ (d : Parts) (k : IsKept d) (slot : ℕ) (rest : List ℕ) (head : d.rea
 
   state_then : state e ≡ t
   state_then = λ i. record {
-    log = d.rules.events ++ Start row ∷ [];
+    log = d.log.events ++ Start row ∷ [];
     behaviours = behaviours_changed d.live d.opened slot l m k.numbered is refl i;
     queues = queues_same_now i;
     ready = map (λ s. row_same s i) rest;
@@ -159,10 +159,10 @@ module _ (d : Parts) (k : IsKept d) (slot : ℕ) (rest : List ℕ) (head : d.rea
   sound_then : IsSound d.program (state e)
   sound_then = keeps_starts d.program (state d) l.number row (state e) k.sound starts
 
-  pub start_allowed : IsAllowed d.rules.cowns (entries d.rules.events) (Start row)
+  pub start_allowed : IsAllowed d.log.cowns (entries d.log.events) (Start row)
   start_allowed =
-      subst (λ (n : ℕ). IsAllowed n (entries d.rules.events) (Start row)) (sym k.cowns_are)
-      (allowed_last d.program d.rules.events (Start row) sound_then.run)
+      subst (λ (n : ℕ). IsAllowed n (entries d.log.events) (Start row)) (sym k.cowns_are)
+      (allowed_last d.program d.log.events (Start row) sound_then.run)
 
   -- ---- the rows of the run
 
@@ -170,13 +170,13 @@ module _ (d : Parts) (k : IsKept d) (slot : ℕ) (rest : List ℕ) (head : d.rea
   ms = members d.program (state d)
 
   abbrev start_it : Member → Member
-  start_it = started_on (config_of d.program d.rules.events).values
+  start_it = started_on (config_of d.program d.log.events).values
 
   members_then : members d.program (state e) ≡ changed ms row start_it (slice_get ms row)
-  members_then = ap (λ (c : Config). c.members) (config_more d.program (opening d.program) d.rules.events (Start row))
+  members_then = ap (λ (c : Config). c.members) (config_more d.program (opening d.program) d.log.events (Start row))
 
-  values_then : (config_of d.program (d.rules.events ++ Start row ∷ [])).values ≡ (config_of d.program d.rules.events).values
-  values_then = ap (λ (c : Config). c.values) (config_more d.program (opening d.program) d.rules.events (Start row))
+  values_then : (config_of d.program (d.log.events ++ Start row ∷ [])).values ≡ (config_of d.program d.log.events).values
+  values_then = ap (λ (c : Config). c.values) (config_more d.program (opening d.program) d.log.events (Start row))
 
   own_row : IsRowAt d l row
   own_row = row_at_slot d k slot row l is row_is

@@ -55,8 +55,8 @@ AreReady live ready = (k slot : ℕ) → slice_get ready k ≡ Some slot → (l 
 
 -- what is kept, but for the state that is sound and for what each counts
 pub record Tied (d : Parts) : Type 0 where
-  pub cowns_are : d.rules.cowns ≡ cown_count d.program.cowns
-  pub values_are : d.values ≡ (config_of d.program d.rules.events).values
+  pub cowns_are : d.log.cowns ≡ cown_count d.program.cowns
+  pub values_are : d.values ≡ (config_of d.program d.log.events).values
   pub homes_are : length d.homes ≡ length (members d.program (state d))
   pub numbered : AreNumbered d.live d.opened
   pub at_home : AreAtHome d.live d.homes
@@ -70,7 +70,7 @@ pub record Tied (d : Parts) : Type 0 where
 pub record SameRows (d e : Parts) : Type 0 where
   pub recorded_are : recorded e.program (state e) ≡ recorded d.program (state d)
   pub opened_are : e.opened ≡ d.opened
-  pub rooms_are : e.rules.rooms ≡ d.rules.rooms
+  pub rooms_are : e.log.rooms ≡ d.log.rooms
   pub homes_are : e.homes ≡ d.homes
   pub long : length e.live ≡ length d.live
 

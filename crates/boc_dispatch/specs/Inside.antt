@@ -180,7 +180,7 @@ pub record Parts : Type 0 where
   pub live : List (Option Live)
   pub homes : List ℕ
   pub ready : List ℕ
-  pub rules : Log
+  pub log : Log
   pub values : List ℤ
   pub opened : ℕ
   pub gone : ℕ
@@ -188,7 +188,7 @@ pub record Parts : Type 0 where
 
 -- where its machine stands
 abbrev pub state : Parts → State
-state d = state_of d.rules.events d.live d.opened d.lists d.ready d.steps
+state d = state_of d.log.events d.live d.opened d.lists d.ready d.steps
 
 -- the program under way that it is
 abbrev pub underway : Parts → Underway
@@ -197,8 +197,8 @@ underway d = record { program = d.program; state = state d }
 -- what it keeps, apart from room
 pub record IsKept (d : Parts) : Type 0 where
   pub sound : IsSound d.program (state d)
-  pub cowns_are : d.rules.cowns ≡ cown_count d.program.cowns
-  pub values_are : d.values ≡ (config_of d.program d.rules.events).values
+  pub cowns_are : d.log.cowns ≡ cown_count d.program.cowns
+  pub values_are : d.values ≡ (config_of d.program d.log.events).values
   pub homes_are : length d.homes ≡ length (members d.program (state d))
   pub numbered : AreNumbered d.live d.opened
   pub at_home : AreAtHome d.live d.homes
@@ -211,7 +211,7 @@ pub record IsKept (d : Parts) : Type 0 where
 
 -- there is room for each behaviour that has no row yet: for its spawn, its start and its end, for its home, and in the ready list for all
 pub record HasRooms (d : Parts) (homes_room ready_room : ℕ) : Type 0 where
-  pub rooms : unrecorded (state d) ≤ d.rules.rooms
+  pub rooms : unrecorded (state d) ≤ d.log.rooms
   pub homes : length d.homes + unrecorded (state d) ≤ homes_room
   pub ready : length d.live ≤ ready_room
 
@@ -226,7 +226,7 @@ parts_of lists place m = record {
   live = m.live.items;
   homes = m.homes.items;
   ready = m.ready.items;
-  rules = m.rules;
+  log = m.log;
   values = m.values.items;
   opened = m.opened;
   gone = m.gone;

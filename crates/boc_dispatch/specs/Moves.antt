@@ -32,8 +32,8 @@ pub record MayRecord (d : Parts) (homes_room parent slot : ℕ) : Type 0 where
   pub apart : slot ≢ parent
   pub few : recorder.spawned + 1 < 2 ^ 32
   pub row_fits : length d.homes < 2 ^ 32
-  pub allowed : IsAllowed d.rules.cowns (entries d.rules.events) (spawn_of (length d.homes) this)
-  pub room : 0 < d.rules.rooms
+  pub allowed : IsAllowed d.log.cowns (entries d.log.events) (spawn_of (length d.homes) this)
+  pub room : 0 < d.log.rooms
   pub home : length d.homes < homes_room
 
 -- it is recorded: the one at its slot has a row, which has this slot as its home, and the parent has one more spawned
@@ -41,7 +41,7 @@ abbrev pub recorded : Parts → ℕ → ℕ → Live → Live → Parts
 recorded d parent slot recorder this = record d {
   live = slice_set (slice_set d.live parent (Some (with_spawn recorder))) slot (Some (with_row (length d.homes) this));
   homes = d.homes ++ slot ∷ [];
-  rules = grown d.rules (spawn_of (length d.homes) this);
+  log = grown d.log (spawn_of (length d.homes) this);
 }
 
 -- that, where it is so

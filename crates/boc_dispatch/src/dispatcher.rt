@@ -207,7 +207,7 @@ impl<'a, C: Chains + Drop> Core<'a, C> {
     pub fn log(&self) -> Events<'_>
         ensures { result ≡ self.now.state.log }
     {
-        self.machine.rules.events()
+        self.machine.log.events()
     }
 
     /// The chains, whose lists are the queues: each slot stands for a behaviour's number.
@@ -269,8 +269,8 @@ impl<'a, C: Chains + Drop> Core<'a, C> {
             return Err(self);
         }
         let Core { machine } = self;
-        let Machine { rules, .. } = machine;
-        match rules.into_record() {
+        let Machine { log, .. } = machine;
+        match log.into_record() {
             Ok(record) => Ok(record),
             Err(_) => unreachable!(),
         }

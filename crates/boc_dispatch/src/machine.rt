@@ -12,7 +12,7 @@ use crate::moves::{
 };
 use boc_chain::{Chains, Released, Settled, Slot};
 use boc_eval::{Frame, Outcome, SpawnWish};
-use boc_rules::Rules;
+use boc_rules::RunLog;
 use boc_types::body::Body;
 use boc_types::event::Event;
 use boc_types::program::Program;
@@ -35,7 +35,7 @@ pub struct Machine<'a, C: Chains + Drop> {
     /// The slots of the ready behaviours, in the order in which they will start.
     pub ready: VecDeque<usize>,
     /// The log, with room for each behaviour that was opened.
-    pub rules: Rules,
+    pub log: RunLog,
     /// The values of the cowns.
     pub values: Vec<i64>,
     /// How many behaviours were opened, main among them.
@@ -118,8 +118,8 @@ impl<'a, C: Chains + Drop> Machine<'a, C> {
     {
         let mut chains = chains;
         let values = initial_values(alloc, program.cowns.as_slice())?;
-        let mut rules = Rules::new(alloc, values.len() as u32)?;
-        rules.make_room()?;
+        let mut log = RunLog::new(alloc, values.len() as u32)?;
+        log.make_room()?;
         let mut ready = VecDeque::with_capacity(alloc, 1)?;
         let mut homes = Vec::with_capacity(alloc, 1)?;
         let slot = chains.admit(Cowns::new())?;
@@ -129,7 +129,7 @@ impl<'a, C: Chains + Drop> Machine<'a, C> {
         homes.push_reserved(slot.index);
         ready.reserve(live.len())?;
         ready.push_back_reserved(slot.index);
-        rules.put(Event::Spawn {
+        log.put(Event::Spawn {
             row: 0,
             parent: 0,
             offset: 0,
@@ -141,7 +141,7 @@ impl<'a, C: Chains + Drop> Machine<'a, C> {
             live,
             homes,
             ready,
-            rules,
+            log,
             values,
             opened: 1,
             gone: 0,
@@ -157,7 +157,7 @@ impl<'a, C: Chains + Drop> Machine<'a, C> {
     {
         let slot = self.ready.pop_front()?;
         let job = begin(&mut self.live[slot], self.program, &self.values);
-        self.rules.put(Event::Start { row: job.row });
+        self.log.put(Event::Start { row: job.row });
         self.steps += 1;
         Some(job)
     }
@@ -228,7 +228,7 @@ impl<'a, C: Chains + Drop> Machine<'a, C> {
     {
         self.homes
             .reserve(self.opened as usize - self.homes.len() + 1)?;
-        self.rules.make_room()?;
+        self.log.make_room()?;
         let own = self.chains.admit(child.cowns.widened())?;
         if self.make_places(own.index).is_err() {
             self.chains.dismiss(own);
@@ -296,7 +296,7 @@ impl<'a, C: Chains + Drop> Machine<'a, C> {
     {
         count_spawn(&mut self.live[parent]);
         let event = record(&mut self.live[slot], self.homes.len() as u32);
-        self.rules.put(event);
+        self.log.put(event);
         self.homes.push_reserved(slot);
     }
 
@@ -427,7 +427,7 @@ impl<'a, C: Chains + Drop> Machine<'a, C> {
             &mut self.values,
             outcome.outputs(),
         );
-        self.rules.put(end_event(row, outcome));
+        self.log.put(end_event(row, outcome));
         self.steps += 1;
         if has_cowns {
             return true;

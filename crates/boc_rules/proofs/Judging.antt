@@ -21,7 +21,7 @@ use Rattle.boc_rules.specs.declared.stage.Stage.{Stage}
 use Rattle.boc_rules.specs.declared.so_far.RunSoFar.{RunSoFar}
 use Rattle.boc_rules.specs.Course.{AreLegal, IsOver}
 use Rattle.boc_rules.specs.Before.{IsOverAt}
-use Rattle.boc_rules.specs.SoFar.{meant, IsStageOf, AreStagesOf, over_one, so_far, IsRunSoFar, IsSpawned, IsStarted, IsEnded}
+use Rattle.boc_rules.specs.SoFar.{meant, IsStageOf, AreStagesOf, over_one, over, so_far, IsRunSoFar, IsSpawned, IsStarted, IsEnded}
 use Rattle.boc_rules.proofs.Lists.{got_in}
 use Rattle.boc_rules.proofs.Next.{living, cowns_at, life_at, last_at, well_log, not_pending_running, not_pending_ended}
 use Rattle.boc_rules.proofs.Starts.{starts, over_before}
@@ -85,6 +85,19 @@ need_below : (count : ℕ) (rows : List Entry) (cowns : List ℕ) → MayNeed co
 need_below count [] cowns m = subst (λ (cs : List ℕ). All (λ c. c < count) cs) (sym m) (λ k d h. absurd (omega arith))
 need_below count (main ∷ others) cowns m = m.below
 
+-- the cowns that an allowed event names have bytes
+pub spawn_small : (count : ℕ) (rows : List Entry) (row parent offset : ℕ) (cowns : ArrayVec ℕ) → count ≤ MOST_COWNS → IsAllowed count rows (Spawn row parent offset cowns) → All (λ c. c < MOST_COWNS) cowns.items
+spawn_small count rows row parent offset cowns few a = smaller count MOST_COWNS cowns.items few (need_below count rows cowns.items (a.keeps rules.Cowns))
+
+pub written_small : (count : ℕ) (rows : List Entry) (row ticks : ℕ) (status : EndStatus) (written : ArrayVec ℕ) → AreLegal count rows → IsAllowed count rows (End row ticks status written) → All (λ c. c < MOST_COWNS) written.items
+written_small count rows row ticks status written l a =
+    let may : MayEnd rows row ticks written.items = a.keeps rules.EndNotAllowed in
+    let e = living rows row lives.Running may.runs in
+    among_below MOST_COWNS (entry_cowns rows row) written.items
+    (smaller count MOST_COWNS (entry_cowns rows row) l.few
+    (subst (λ (cs : List ℕ). All (λ c. c < count) cs) (sym (cowns_at rows row e.0 e.1)) ((well_rows count rows l).cowned row e.0 e.1).below))
+    may.own.own
+
 -- An event that is allowed finds what it needs.
 pub record IsSpawnable (run : RunSoFar) (row : ℕ) (cowns : ArrayVec ℕ) : Type 0 where
   pub there : All (λ c. c < length run.latest.items) cowns.items
@@ -95,12 +108,12 @@ pub record IsSpawnable (run : RunSoFar) (row : ℕ) (cowns : ArrayVec ℕ) : Typ
 pub spawn_finds : (run : RunSoFar) (row parent offset : ℕ) (cowns : ArrayVec ℕ) → IsRunSoFar run → IsAllowed run.cowns (so_far run) (Spawn row parent offset cowns) → IsSpawnable run row cowns
 spawn_finds run row parent offset cowns k a = record {
   there = subst (λ (n : ℕ). All (λ c. c < n) cowns.items) (sym k.latest_are.all) (need_below run.cowns (so_far run) cowns.items (a.keeps rules.Cowns));
-  small = smaller run.cowns MOST_COWNS cowns.items k.legal.few (need_below run.cowns (so_far run) cowns.items (a.keeps rules.Cowns));
+  small = spawn_small run.cowns (so_far run) row parent offset cowns k.legal.few a;
   next = a.keeps rules.TooMany;
   few = omega (arith, k.found_are.few, (well_rows run.cowns (so_far run) k.legal).few);
 }
 
-there : (rows : List Entry) (r : ℕ) (l : lives.Life) → life_of rows r ≡ Some l → r < length rows
+pub there : (rows : List Entry) (r : ℕ) (l : lives.Life) → life_of rows r ≡ Some l → r < length rows
 there rows r l h = let e = living rows r l h in slice_get_within rows r e.0 e.1
 
 pub start_finds : (run : RunSoFar) (row : ℕ) → IsRunSoFar run → IsAllowed run.cowns (so_far run) (Start row) → row < length run.stages.items
@@ -125,10 +138,7 @@ end_finds run row ticks status written k a =
     let w = well_rows run.cowns (so_far run) k.legal in record {
       staged = omega (arith, k.stages_are.all, inside);
       placed = omega (arith, k.rows_are.all, inside);
-      small = among_below MOST_COWNS (entry_cowns rows row) written.items
-          (smaller run.cowns MOST_COWNS (entry_cowns rows row) k.legal.few
-          (subst (λ (cs : List ℕ). All (λ c. c < run.cowns) cs) (sym (cowns_at rows row e.0 e.1)) (w.cowned row e.0 e.1).below))
-          may.own.own;
+      small = written_small run.cowns rows row ticks status written k.legal a;
       few = omega (arith, k.ended_is, over_set rows row e.0 v e.1, ap over_one e.2, over_few (slice_set rows row v), length-set rows row v, w.few);
     }
 
@@ -165,15 +175,15 @@ kept_end old new row ticks status written k a h =
     (keeps_end old.cowns (so_far old) old.rows.items old.stages.items old.found.items old.latest.items old.ended row ticks status written k a)
     h.cowns_stay h.rows h.stages h.found_stays h.latest_stay h.ended
 
--- The run is over where all of its rows are.
+-- A run is over where all of its rows are.
+pub over_is : (rows : List Entry) → 0 < length rows → (over rows ≡ length rows) ↔ IsOver rows
+over_is rows some = (λ all. record { some = some; ended = all_over rows all }, λ o. over_all rows o.ended)
+
 pub complete_is : (run : RunSoFar) → IsRunSoFar run → 0 < length run.rows.items → (run.ended ≡ length run.rows.items) ↔ IsOver (so_far run)
 complete_is run k some =
-    let rows = so_far run in (
-      λ all. record {
-        some = omega (arith, k.rows_are.all, some);
-        ended = all_over rows (omega (arith, k.ended_is, k.rows_are.all, all));
-      },
-      λ o. omega (arith, k.ended_is, k.rows_are.all, over_all rows o.ended),
+    let is = over_is (so_far run) (omega (arith, k.rows_are.all, some)) in (
+      λ all. is.0 (omega (arith, k.ended_is, k.rows_are.all, all)),
+      λ o. omega (arith, k.ended_is, k.rows_are.all, is.1 o),
     )
 
 -- the rows of a run that is over have the shape of a record's

@@ -9,3 +9,4 @@ pub mod Events
 pub mod Judging
 pub mod Telling
 pub mod Logging
+pub mod Putting

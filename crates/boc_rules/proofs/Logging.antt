@@ -42,7 +42,7 @@ few_events course happenings room k =
     omega (arith, counted course.cowns (told_of course.rows happenings) k.legal, told_length course.rows happenings, ap length k.rows_are)
 
 -- the number of its row has 16 bits
-row_few : (count : ℕ) (log : List Event) (event : Event) → IsLegal count log → IsAllowed count (entries log) event → row_in event < MOST_ROWS
+pub row_few : (count : ℕ) (log : List Event) (event : Event) → IsLegal count log → IsAllowed count (entries log) event → row_in event < MOST_ROWS
 row_few count log (Spawn row parent offset cowns) l a = a.keeps rules.TooMany
 row_few count log (Start row) l a =
     let may : MayStart (life_of (entries log)) (entry_cowns (entries log)) row = a.keeps rules.StartNotAllowed in
@@ -57,7 +57,7 @@ pub numbered : (course : Course) (happenings : List Happening) (room : ℕ) (eve
 numbered course happenings room event k a = row_few course.cowns (told_of course.rows happenings) event k.legal a
 
 -- the rows of an event and the rooms that are left are as many as before
-rooms_stay : (rows : List Entry) (rooms : ℕ) (event : Event) → HasRoomFor rooms event → length (after rows event) + rooms_after rooms event ≡ length rows + rooms
+pub rooms_stay : (rows : List Entry) (rooms : ℕ) (event : Event) → HasRoomFor rooms event → length (after rows event) + rooms_after rooms event ≡ length rows + rooms
 rooms_stay rows rooms (Spawn row parent offset cowns) has =
     let first = changed rows parent (λ e. record e { last = offset }) (slice_get rows parent) in
     omega (arith, length-append first (pending parent offset cowns.items ∷ []), length_changed rows parent (λ (e : Entry). record e { last = offset }) (slice_get rows parent), has)

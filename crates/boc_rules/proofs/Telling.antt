@@ -210,6 +210,14 @@ rows_of_run (e ∷ run) (x ∷ rows) are =
     ap (λ (y : Row). y ∷ map row_of run) (row_is e x (are.each 0 e x refl refl))
     ∙ ap (λ (ys : List Row). x ∷ ys) (rows_of_run run rows (record { all = omega (arith, are.all); each = λ r f y g h. are.each (suc r) f y g h }))
 
+rows_at : (run : List Entry) (r : ℕ) (e : Entry) (x : Row) → slice_get run r ≡ Some e → slice_get (map row_of run) r ≡ Some x → IsRowOf e x
+rows_at run r e x g h =
+    let one : row_of e ≡ x = one_got (map row_of run) r (row_of e) x (at_entry run r e g) h in
+    subst (IsRowOf e) one (record { parent = refl; offset = refl; cowns = refl; ticks = refl; status = refl; written = refl })
+
+pub run_of_rows : (run : List Entry) → AreRowsOf run (map row_of run)
+run_of_rows run = record { all = length-map run row_of; each = rows_at run }
+
 -- the happenings tell the log of the rows
 pub told_rows : (run : List Entry) (rows : List Row) (happenings : List Happening) → AreRowsOf run rows → told happenings rows ≡ told_of run happenings
 told_rows run rows happenings are = ap (told happenings) (sym (rows_of_run run rows are))

@@ -4,6 +4,7 @@ pub mod Logged
 pub mod Before
 pub mod MaybeRows
 pub mod SoFar
+pub mod RunLog
 pub mod Judges
 pub mod Rules
 pub mod Faults

@@ -8,7 +8,7 @@ use Rattle.boc_types.specs.declared.rows.Row.{Row}
 use Rattle.boc_types.specs.runs.Happenings.{told}
 use Rattle.boc_types.specs.runs.Lives as lives
 use Rattle.boc_types.specs.runs.Legal.{Entry, entries, life_of, IsLegal}
-use Rattle.boc_rules.specs.declared.rules.TheConstants.{MOST_EVENTS}
+use Rattle.boc_rules.specs.declared.rows.TheConstants.{MOST_EVENTS}
 use Rattle.boc_rules.specs.Course.{Course}
 
 -- a row of a run as it is so far

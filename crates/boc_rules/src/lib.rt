@@ -5,10 +5,13 @@ mod allowed;
 mod before;
 mod fault;
 mod judge;
+mod rows;
 mod rules;
+mod run_log;
 mod so_far;
 mod stage;
 
 pub use fault::RuleFault;
 pub use judge::Judge;
 pub use rules::Rules;
+pub use run_log::RunLog;

@@ -4,15 +4,13 @@ ghost use Rattle.std.specs.Prelude.{◌≡◌, ◌+◌, ◌<◌, ◌≤◌, ◌�
 
 use crate::fault::RuleFault;
 use crate::judge::Judge;
+use crate::rows::make_events_room;
 use boc_types::event::Event;
 use boc_types::events::{Events, Happening};
 use boc_types::held::HeldCowns;
 use boc_types::record::Record;
 use std::alloc::{AllocError, Global};
 use std::marker::Model;
-
-/// The most events of a row: its spawn, its start and its end.
-const MOST_EVENTS: usize = 3;
 
 /// The events of a run so far. They keep the rules of runs over a number of cowns, which is at most 256.
 #[derive(Drop, Debug)]
@@ -81,8 +79,7 @@ impl Rules {
         ensures { MatchResult result (λ _. self.new ≡ record self.old { rooms = self.old.rooms + 1 }) (λ _. self.new ≡ self.old) }
     {
         let rows = self.judge.count() + self.judge.rooms() + 1;
-        self.happenings
-            .reserve(MOST_EVENTS * rows - self.happenings.len())?;
+        make_events_room(&mut self.happenings, rows)?;
         self.judge.make_room()
     }
 
@@ -93,9 +90,9 @@ impl Rules {
         self.judge.rooms()
     }
 
-    /// Puts an event that keeps the rules behind the others. For a spawn there must be room, which it takes. It takes
-    /// no memory, and judges nothing.
-    pub fn put(&mut self, event: Event)
+    // Puts an event that keeps the rules behind the others. For a spawn there must be room, which it takes. It takes
+    // no memory, and judges nothing.
+    fn put(&mut self, event: Event)
         requires allowed { IsAllowed self.old.cowns (entries self.old.events) event }
         requires room { HasRoomFor self.old.rooms event }
         ensures { self.new ≡ grown self.old event }

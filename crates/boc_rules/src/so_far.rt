@@ -1,9 +1,9 @@
 // A run under way: its rows so far, and what has become of each.
 
 ghost use Rattle.std.specs.Prelude.{◌≡◌, ◌+◌, ◌*◌, ◌≤◌, ◌<◌, [], All, IfOk, OnOk, OnErr, length};
-ghost use Rattle.boc_rules.specs.SoFar.{new_row};
 
 use crate::before::{MaybeRow, first_stage};
+use crate::rows::{FIRST_ROWS, end_row, pending_row};
 use crate::stage::{Life, Stage};
 use boc_types::body::EndStatus;
 use boc_types::event::Event;
@@ -11,10 +11,6 @@ use boc_types::held::HeldCowns;
 use boc_types::limits::MOST_HELD;
 use boc_types::rows::Row;
 use std::alloc::{AllocError, Global};
-
-/// How many rows the lists have memory for at first. Memory for so many is handed out in pages of its own, which
-/// cost nothing before they are used, and the lists grow from there without being copied.
-const FIRST_ROWS: usize = 8192;
 
 /// The rows of a run so far.
 #[derive(Drop, Debug)]
@@ -32,20 +28,6 @@ pub struct RunSoFar {
     pub ended: u32,
     /// How many more rows there is room for.
     pub rooms: usize,
-}
-
-// A row that was just spawned.
-fn pending_row(parent: u32, offset: u32, cowns: HeldCowns) -> Row
-    ensures { result ≡ new_row parent offset cowns }
-{
-    Row {
-        parent,
-        offset,
-        ticks: 0,
-        cowns,
-        written: HeldCowns::new(),
-        status: EndStatus::Done,
-    }
 }
 
 impl RunSoFar {
@@ -160,10 +142,7 @@ impl RunSoFar {
         ensures has { HasRooms self.new }
     {
         self.stages[row as usize].life = Life::Ended;
-        let over = &mut self.rows[row as usize];
-        over.ticks = ticks;
-        over.status = status;
-        over.written = written;
+        end_row(&mut self.rows[row as usize], ticks, status, written);
         self.ended += 1;
     }
 }

@@ -12,7 +12,7 @@ use Rattle.std.specs.declared.sync.ledger.Ledger as ledgers
 use Rattle.boc_chain.specs.contracts.link_chains.LinkChains as LinkChains
 use Rattle.boc_chain.specs.contracts.link_chains.LinkChainsChains.TheImpl as linked
 use Rattle.boc_chain.proofs.link_chains.LinkChains.TheSendSync as chains
-use Rattle.boc_rules.proofs.rules.Rules.TheSendSync as rules
+use Rattle.boc_rules.proofs.run_log.RunLog.TheSendSync as log
 use Rattle.boc_dispatch.specs.contracts.dispatcher.Core as Core
 use Rattle.boc_dispatch.specs.contracts.live.Live as Live
 use Rattle.boc_dispatch.proofs.live.Live.TheSendSync as live
@@ -29,7 +29,7 @@ table_send = search (sendable, crosses, place_send) depth 20
 
 -- a dispatcher over linked chains
 core_send : (l : NamedLft) → IsSend (Core.the_row l LinkChains.the_row linked.ghosts)
-core_send l = search (sendable, crosses, program_sync, table_send, rules.the_send, chains.the_send) depth 80 fits 10000
+core_send l = search (sendable, crosses, program_sync, table_send, log.the_send, chains.the_send) depth 80 fits 10000
 
 module _ (a g r : NamedLft) (L G R : RattleType) (gate : gates.Ghosts G.Denot) (ledger : ledgers.Ghosts L.Denot) where
   shared_send : IsSend L → IsSync G → IsSend (Shared.the_row a g L G gate ledger)

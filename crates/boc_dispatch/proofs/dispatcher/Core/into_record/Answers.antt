@@ -12,13 +12,13 @@ pub unreachable-requires : goal.unreachable-requires
 unreachable-requires g c =
     let d = parts_of g.C.Chains.lists g.C.Chains.place c.self.inside.machine in
     let quiet : IsQuiet (state d) = subst (λ (u : Underway). IsQuiet u.state) (sym c.self.view_is) (c.is_quiet.ensures.0 c.if-not-is_quiet.false) in
-    c.in-Err.ensures.1 (whole_is_complete d.program d.rules.events (whole_run d.program (state d) c.self.invariant.kept.sound quiet))
+    c.in-Err.ensures.1 (whole_is_complete d.program d.log.events (whole_run d.program (state d) c.self.invariant.kept.sound quiet))
 
 pub returns : goal.returns
 returns g c =
     let d = parts_of g.C.Chains.lists g.C.Chains.place c.self.inside.machine in
     let quiet : IsQuiet (state d) = subst (λ (u : Underway). IsQuiet u.state) (sym c.self.view_is) (c.is_quiet.ensures.0 c.if-not-is_quiet.false) in
-    let whole : IsWholeRun d.program d.rules.events = whole_run d.program (state d) c.self.invariant.kept.sound quiet in
+    let whole : IsWholeRun d.program d.log.events = whole_run d.program (state d) c.self.invariant.kept.sound quiet in
     let r = c.in-Ok.ensures in
     let k = c.self.invariant.kept in
     let written : IsRecordOf d.program c.in-Ok.record = record { cowns = r.0 ∙ k.cowns_are; run = subst (IsWholeRun d.program) (sym r.1) whole } in (

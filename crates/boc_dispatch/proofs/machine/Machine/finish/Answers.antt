@@ -74,7 +74,7 @@ put-requires-clause-allowed g c =
       spawned = r.spawned;
       written_is = refl;
     } in
-    subst (λ (z : Event). IsAllowed d.rules.cowns (entries d.rules.events) z) (sym c.end_event.ensures) (allowed d c.args.slot c.args.row l o written f)
+    subst (λ (z : Event). IsAllowed d.log.cowns (entries d.log.events) z) (sym c.end_event.ensures) (allowed d c.args.slot c.args.row l o written f)
 
 pub overflow_add-self : goal.overflow_add-self
 overflow_add-self g c =
@@ -108,7 +108,7 @@ returns-then-has_cowns-clause-sound g c =
       reads = c.index_mut.ensures.value;
       ends = c.end-has_cowns.ensures.ended;
       writes = subst (λ (vs : List ℤ). Has p (λ x. vs ≡ after_outputs d.values x.params.items o.outputs)) (sym same_values) writes;
-      notes = c.put.ensures ∙ ap (grown d.rules) c.end_event.ensures;
+      notes = c.put.ensures ∙ ap (grown d.log) c.end_event.ensures;
       tells = c.end-has_cowns.ensures.cowns;
     } in
     let more = has_more d c.args.slot c.args.row l o written f p c.end-has_cowns.new.place values c.put.new.self c.end-has_cowns.result k c.if-has_cowns.true in
@@ -147,7 +147,7 @@ returns-then-has_cowns-clause-ends g c this at_stage =
       reads = c.index_mut.ensures.value;
       ends = c.end-has_cowns.ensures.ended;
       writes = subst (λ (vs : List ℤ). Has p (λ x. vs ≡ after_outputs d.values x.params.items o.outputs)) (sym same_values) writes;
-      notes = c.put.ensures ∙ ap (grown d.rules) c.end_event.ensures;
+      notes = c.put.ensures ∙ ap (grown d.log) c.end_event.ensures;
       tells = c.end-has_cowns.ensures.cowns;
     } in
     let more = has_more d c.args.slot c.args.row l o written f p c.end-has_cowns.new.place values c.put.new.self c.end-has_cowns.result k c.if-has_cowns.true in
@@ -180,7 +180,7 @@ remove-requires-clause-empty g c cown =
       reads = c.index_mut.ensures.value;
       ends = c.end-has_cowns.ensures.ended;
       writes = subst (λ (vs : List ℤ). Has p (λ x. vs ≡ after_outputs d.values x.params.items o.outputs)) (sym same_values) writes;
-      notes = c.put.ensures ∙ ap (grown d.rules) c.end_event.ensures;
+      notes = c.put.ensures ∙ ap (grown d.log) c.end_event.ensures;
       tells = c.end-has_cowns.ensures.cowns;
     } in
     let last = has_none d c.args.slot c.args.row l o written f p c.end-has_cowns.new.place values c.put.new.self c.end-has_cowns.result k c.if-has_cowns.false in
@@ -213,7 +213,7 @@ returns-clause-sound g c =
       reads = c.index_mut.ensures.value;
       ends = c.end-has_cowns.ensures.ended;
       writes = subst (λ (vs : List ℤ). Has p (λ x. vs ≡ after_outputs d.values x.params.items o.outputs)) (sym same_values) writes;
-      notes = c.put.ensures ∙ ap (grown d.rules) c.end_event.ensures;
+      notes = c.put.ensures ∙ ap (grown d.log) c.end_event.ensures;
       tells = c.end-has_cowns.ensures.cowns;
     } in
     let last = has_none d c.args.slot c.args.row l o written f p c.end-has_cowns.new.place values c.put.new.self c.end-has_cowns.result k c.if-has_cowns.false in
@@ -256,7 +256,7 @@ returns-clause-ends g c this at_stage =
       reads = c.index_mut.ensures.value;
       ends = c.end-has_cowns.ensures.ended;
       writes = subst (λ (vs : List ℤ). Has p (λ x. vs ≡ after_outputs d.values x.params.items o.outputs)) (sym same_values) writes;
-      notes = c.put.ensures ∙ ap (grown d.rules) c.end_event.ensures;
+      notes = c.put.ensures ∙ ap (grown d.log) c.end_event.ensures;
       tells = c.end-has_cowns.ensures.cowns;
     } in
     let last = has_none d c.args.slot c.args.row l o written f p c.end-has_cowns.new.place values c.put.new.self c.end-has_cowns.result k c.if-has_cowns.false in

@@ -57,12 +57,12 @@ returns-clause-sound g c =
     let ready_pushed : c.push_back_reserved.new.self.items ≡ c.reserve.new.self.items ++ slot ∷ [] = c.push_back_reserved.ensures.items in
     let ready_are : c.push_back_reserved.new.self.items ≡ slot ∷ [] = ready_pushed ∙ ap (λ (xs : List ℕ). xs ++ slot ∷ []) (ready_stay ∙ ready_were) in
     let event : Event = Spawn 0 0 0 c.new-3.result in
-    let begun : c.in_ok-rules.rules ≡ record { cowns = c.len.result; events = []; rooms = 0 } = c.in_ok-rules.ensures in
-    let roomy : c.make_room.new.self ≡ record c.in_ok-rules.rules { rooms = c.in_ok-rules.rules.rooms + 1 } = c.in_ok-make_room.ensures in
+    let begun : c.in_ok-log.log ≡ record { cowns = c.len.result; events = []; rooms = 0 } = c.in_ok-log.ensures in
+    let roomy : c.make_room.new.self ≡ record c.in_ok-log.log { rooms = c.in_ok-log.log.rooms + 1 } = c.in_ok-make_room.ensures in
     let put : c.put.new.self ≡ grown c.make_room.new.self event = c.put.ensures in
     let event_cowns : c.new-3.result.items ≡ [] = c.new-3.ensures in
     let more : Log → Log = λ r. record r { rooms = r.rooms + 1 } in
-    let rules_are : c.put.new.self ≡ record { cowns = cown_count cowns; events = Spawn 0 0 0 (record { items = [] }) ∷ []; rooms = 0 } =
+    let log_is : c.put.new.self ≡ record { cowns = cown_count cowns; events = Spawn 0 0 0 (record { items = [] }) ∷ []; rooms = 0 } =
     put ∙ ap (λ (r : Log). grown r event) (roomy ∙ ap more begun)
     ∙ (λ i. record { cowns = count i; events = Spawn 0 0 0 (record { items = event_cowns i }) ∷ []; rooms = 0 }) in
     let real : Parts = record {
@@ -72,7 +72,7 @@ returns-clause-sound g c =
       live = set table slot (Some l);
       homes = c.push_reserved.new.self.items;
       ready = c.push_back_reserved.new.self.items;
-      rules = c.put.new.self;
+      log = c.put.new.self;
       values = c.in_ok-values.values.items;
       opened = 1;
       gone = 0;
@@ -86,7 +86,7 @@ returns-clause-sound g c =
       live = set table slot (Some l);
       homes = homes_are i;
       ready = ready_are i;
-      rules = rules_are i;
+      log = log_is i;
       values = values_are i;
       opened = 1;
       gone = 0;
@@ -138,12 +138,12 @@ returns-clause-opening g c =
     let ready_pushed : c.push_back_reserved.new.self.items ≡ c.reserve.new.self.items ++ slot ∷ [] = c.push_back_reserved.ensures.items in
     let ready_are : c.push_back_reserved.new.self.items ≡ slot ∷ [] = ready_pushed ∙ ap (λ (xs : List ℕ). xs ++ slot ∷ []) (ready_stay ∙ ready_were) in
     let event : Event = Spawn 0 0 0 c.new-3.result in
-    let begun : c.in_ok-rules.rules ≡ record { cowns = c.len.result; events = []; rooms = 0 } = c.in_ok-rules.ensures in
-    let roomy : c.make_room.new.self ≡ record c.in_ok-rules.rules { rooms = c.in_ok-rules.rules.rooms + 1 } = c.in_ok-make_room.ensures in
+    let begun : c.in_ok-log.log ≡ record { cowns = c.len.result; events = []; rooms = 0 } = c.in_ok-log.ensures in
+    let roomy : c.make_room.new.self ≡ record c.in_ok-log.log { rooms = c.in_ok-log.log.rooms + 1 } = c.in_ok-make_room.ensures in
     let put : c.put.new.self ≡ grown c.make_room.new.self event = c.put.ensures in
     let event_cowns : c.new-3.result.items ≡ [] = c.new-3.ensures in
     let more : Log → Log = λ r. record r { rooms = r.rooms + 1 } in
-    let rules_are : c.put.new.self ≡ record { cowns = cown_count cowns; events = Spawn 0 0 0 (record { items = [] }) ∷ []; rooms = 0 } =
+    let log_is : c.put.new.self ≡ record { cowns = cown_count cowns; events = Spawn 0 0 0 (record { items = [] }) ∷ []; rooms = 0 } =
     put ∙ ap (λ (r : Log). grown r event) (roomy ∙ ap more begun)
     ∙ (λ i. record { cowns = count i; events = Spawn 0 0 0 (record { items = event_cowns i }) ∷ []; rooms = 0 }) in
     let real : Parts = record {
@@ -153,7 +153,7 @@ returns-clause-opening g c =
       live = set table slot (Some l);
       homes = c.push_reserved.new.self.items;
       ready = c.push_back_reserved.new.self.items;
-      rules = c.put.new.self;
+      log = c.put.new.self;
       values = c.in_ok-values.values.items;
       opened = 1;
       gone = 0;
@@ -167,7 +167,7 @@ returns-clause-opening g c =
       live = set table slot (Some l);
       homes = homes_are i;
       ready = ready_are i;
-      rules = rules_are i;
+      log = log_is i;
       values = values_are i;
       opened = 1;
       gone = 0;

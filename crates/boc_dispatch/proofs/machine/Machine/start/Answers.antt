@@ -91,10 +91,10 @@ returns-clause-sound g c =
     let rooms = start_rooms d k slot rest c.in_ok-slot.ensures.items first.0 row first.2 stage_is homes ready c.requires.rooms in
     record {
       kept = subst (λ (r : Log). IsKept (started_parts d slot c.begin-job.new.place rest r)) (sym c.put.ensures)
-          (subst (λ (o : Option Live). IsKept (started_parts d slot o rest (grown d.rules (Start row)))) placed kept);
+          (subst (λ (o : Option Live). IsKept (started_parts d slot o rest (grown d.log (Start row)))) placed kept);
       rooms = subst (λ (n : ℕ). HasRooms (started_parts d slot c.begin-job.new.place rest c.put.new.self) homes n) (sym c.in_ok-slot.ensures.capacity)
           (subst (λ (r : Log). HasRooms (started_parts d slot c.begin-job.new.place rest r) homes ready) (sym c.put.ensures)
-          (subst (λ (o : Option Live). HasRooms (started_parts d slot o rest (grown d.rules (Start row))) homes ready) placed rooms));
+          (subst (λ (o : Option Live). HasRooms (started_parts d slot o rest (grown d.log (Start row))) homes ready) placed rooms));
     }
 
 pub returns-clause-starts : goal.returns-clause-starts
@@ -115,15 +115,15 @@ returns-clause-starts g c =
     subst (λ (o : Option Live). Has o (λ l. inputs.items ≡ inputs_of l.params.items c.deref.result.now)) read c.begin-job.ensures.inputs ∙ ap (inputs_of first.0.params.items) c.deref.ensures.value in
     let made = starts d k slot rest c.in_ok-slot.ensures.items first.0 row first.2 stage_is in
     let kept = start_keeps d k slot rest c.in_ok-slot.ensures.items first.0 row first.2 stage_is in
-    let e = started_parts d slot (Some (begun row first.0)) rest (grown d.rules (Start row)) in
+    let e = started_parts d slot (Some (begun row first.0)) rest (grown d.log (Start row)) in
     let x : IsOfRow e slot row = record { this = begun row first.0; is = live_here d.live slot (Some (begun row first.0)) (live_there d.live slot first.0 first.2); row_is = refl } in
     let body = subst (λ (o : Option Live). Has o (λ l. slice_get d.program.bodies l.kind ≡ Some c.begin-job.result.body.now)) read c.begin-job.ensures.body in
     let args = subst (λ (o : Option Live). Has o (λ l. c.begin-job.result.args.items ≡ l.args.items)) read c.begin-job.ensures.args in
     let handed = hands_out e kept slot row x c.begin-job.result.body.now c.begin-job.result.args.items inputs.items refl body args inputs_are in (
       first.0.number,
       subst (λ (r : Log). Starts (state d) first.0.number row (state (started_parts d slot c.begin-job.new.place rest r))) (sym c.put.ensures)
-          (subst (λ (o : Option Live). Starts (state d) first.0.number row (state (started_parts d slot o rest (grown d.rules (Start row))))) placed made),
+          (subst (λ (o : Option Live). Starts (state d) first.0.number row (state (started_parts d slot o rest (grown d.log (Start row))))) placed made),
       refl,
       subst (λ (r : Log). IsHandedOut (underway (started_parts d slot c.begin-job.new.place rest r)) row c.begin-job.result.body.now c.begin-job.result.args.items inputs.items) (sym c.put.ensures)
-          (subst (λ (o : Option Live). IsHandedOut (underway (started_parts d slot o rest (grown d.rules (Start row)))) row c.begin-job.result.body.now c.begin-job.result.args.items inputs.items) placed handed),
+          (subst (λ (o : Option Live). IsHandedOut (underway (started_parts d slot o rest (grown d.log (Start row)))) row c.begin-job.result.body.now c.begin-job.result.args.items inputs.items) placed handed),
     )

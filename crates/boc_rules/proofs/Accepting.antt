@@ -21,18 +21,18 @@ use Rattle.boc_rules.specs.Course.{AreLegal}
 use Rattle.boc_rules.specs.SoFar.{IsStageOf, AreStagesOf, AreFound, AreLatest, over_one, over, entry_of, entries_of, AreParts, new_row}
 use Rattle.boc_rules.proofs.Lists.{got_in}
 use Rattle.boc_rules.proofs.Next.{living, after_more, legal_more}
-use Rattle.boc_rules.proofs.Keeping.{IsSet, rows_set, rows_stay, stages_set, found_set, latest_set, over_set, rows_push, stages_push, found_push, latest_push, over_push}
+use Rattle.boc_rules.proofs.KeptRows.{rows_go_on}
+use Rattle.boc_rules.proofs.Keeping.{IsSet, stages_set, found_set, latest_set, over_set, stages_push, found_push, latest_push, over_push}
 
--- what is kept is that of these rows
-pub record IsThatOf (run : List Entry) (cowns : ℕ) (rows : List Row) (stages : List Stage) (found latest : List (Option ℕ)) (ended : ℕ) : Type 0 where
-  pub rows_are : AreRowsOf run rows
+-- what is kept beside the rows is that of these
+pub record IsThatOf (run : List Entry) (cowns : ℕ) (stages : List Stage) (found latest : List (Option ℕ)) (ended : ℕ) : Type 0 where
   pub stages_are : AreStagesOf run stages
   pub found_are : AreFound run stages found
   pub latest_are : AreLatest run cowns latest
   pub ended_is : ended ≡ over run
 
-that : (cowns : ℕ) (run : List Entry) (rows : List Row) (stages : List Stage) (found latest : List (Option ℕ)) (ended : ℕ) → AreParts cowns run rows stages found latest ended → IsThatOf run cowns rows stages found latest ended
-that cowns run rows stages found latest ended k = record { rows_are = k.rows_are; stages_are = k.stages_are; found_are = k.found_are; latest_are = k.latest_are; ended_is = k.ended_is }
+that : (cowns : ℕ) (run : List Entry) (rows : List Row) (stages : List Stage) (found latest : List (Option ℕ)) (ended : ℕ) → AreParts cowns run rows stages found latest ended → IsThatOf run cowns stages found latest ended
+that cowns run rows stages found latest ended k = record { stages_are = k.stages_are; found_are = k.found_are; latest_are = k.latest_are; ended_is = k.ended_is }
 
 -- a row and its stage tell the entry
 same_entry : (e : Entry) (row : Row) (stage : Stage) → IsRowOf e row → IsStageOf e stage → e ≡ entry_of row stage
@@ -72,12 +72,12 @@ pub record Goes (cowns : ℕ) (later : List Entry) (rows : List Row) (stages : L
   pub rows_are : entries_of rows stages ≡ later
 
 goes : (cowns : ℕ) (run : List Entry) (event : Event) (rows : List Row) (stages : List Stage) (found latest : List (Option ℕ)) (ended : ℕ) → AreLegal cowns run → IsAllowed cowns run event
-    → IsThatOf (after run event) cowns rows stages found latest ended → Goes cowns (after run event) rows stages found latest ended
-goes cowns run event rows stages found latest ended l a t =
-    let e = entries_same (after run event) rows stages t.rows_are t.stages_are in
+    → AreRowsOf (after run event) rows → IsThatOf (after run event) cowns stages found latest ended → Goes cowns (after run event) rows stages found latest ended
+goes cowns run event rows stages found latest ended l a are t =
+    let e = entries_same (after run event) rows stages are t.stages_are in
     let k : AreParts cowns (after run event) rows stages found latest ended = record {
       legal = legal_after cowns run event l a;
-      rows_are = t.rows_are;
+      rows_are = are;
       stages_are = t.stages_are;
       found_are = t.found_are;
       latest_are = t.latest_are;
@@ -85,9 +85,9 @@ goes cowns run event rows stages found latest ended l a t =
     } in
     record { kept = subst (λ (r : List Entry). AreParts cowns r rows stages found latest ended) e k; rows_are = sym e }
 
-that_start : (run : List Entry) (cowns : ℕ) (rows : List Row) (stages : List Stage) (found latest : List (Option ℕ)) (ended row : ℕ) → IsThatOf run cowns rows stages found latest ended → MayStart (life_of run) (entry_cowns run) row
-    → IsThatOf (changed run row (λ x. record x { life = lives.Running }) (slice_get run row)) cowns rows (changed stages row (λ s. record s { life = Running }) (slice_get stages row)) found latest ended
-that_start run cowns rows stages found latest ended row t may =
+that_start : (run : List Entry) (cowns : ℕ) (stages : List Stage) (found latest : List (Option ℕ)) (ended row : ℕ) → IsThatOf run cowns stages found latest ended → MayStart (life_of run) (entry_cowns run) row
+    → IsThatOf (changed run row (λ x. record x { life = lives.Running }) (slice_get run row)) cowns (changed stages row (λ s. record s { life = Running }) (slice_get stages row)) found latest ended
+that_start run cowns stages found latest ended row t may =
     let e = living run row lives.Pending may.waits in
     let v : Entry = record e.0 { life = lives.Running } in
     let h : IsSet run row e.0 v = record { is = e.1; cowns = refl } in
@@ -96,54 +96,44 @@ that_start run cowns rows stages found latest ended row t may =
     let y : Stage = record x.0 { life = Running } in
     let was = t.stages_are.each row e.0 x.0 e.1 x.1 in
     let counted = over_set run row e.0 v e.1 in
-    subst (λ (r : List Entry). IsThatOf r cowns rows (changed stages row (λ s. record s { life = Running }) (slice_get stages row)) found latest ended) (sym (ap (changed run row (λ z. record z { life = lives.Running })) e.1))
-    (subst (λ (s : List Stage). IsThatOf (slice_set run row v) cowns rows s found latest ended) (sym (ap (changed stages row (λ s. record s { life = Running })) x.1))
+    subst (λ (r : List Entry). IsThatOf r cowns (changed stages row (λ s. record s { life = Running }) (slice_get stages row)) found latest ended) (sym (ap (changed run row (λ z. record z { life = lives.Running })) e.1))
+    (subst (λ (s : List Stage). IsThatOf (slice_set run row v) cowns s found latest ended) (sym (ap (changed stages row (λ s. record s { life = Running })) x.1))
     (record {
-      rows_are = rows_stay run rows row e.0 v t.rows_are h (λ y is. record { parent = is.parent; offset = is.offset; cowns = is.cowns; ticks = is.ticks; status = is.status; written = is.written });
       stages_are = stages_set run stages row e.0 v x.0 y t.stages_are h x.1 (record { life = refl; last = was.last });
       found_are = found_set run stages found row e.0 v x.0 y t.found_are h x.1 refl refl;
       latest_are = latest_set run row e.0 v cowns latest t.latest_are h;
       ended_is = omega (arith, counted, ap over_one e.2, t.ended_is);
     }))
 
-that_end : (run : List Entry) (cowns : ℕ) (rows : List Row) (stages : List Stage) (found latest : List (Option ℕ)) (ended row ticks : ℕ) (status : EndStatus) (written : ArrayVec ℕ) → IsThatOf run cowns rows stages found latest ended → MayEnd run row ticks written.items
-    → IsThatOf (changed run row (λ x. record x { life = lives.Ended; ticks = ticks; status = status; written = written.items }) (slice_get run row)) cowns (changed rows row (λ x. record x { ticks = ticks; status = status; written = written }) (slice_get rows row))
-    (changed stages row (λ s. record s { life = Ended }) (slice_get stages row)) found latest (ended + 1)
-that_end run cowns rows stages found latest ended row ticks status written t may =
+that_end : (run : List Entry) (cowns : ℕ) (stages : List Stage) (found latest : List (Option ℕ)) (ended row ticks : ℕ) (status : EndStatus) (written : ArrayVec ℕ) → IsThatOf run cowns stages found latest ended → MayEnd run row ticks written.items
+    → IsThatOf (changed run row (λ x. record x { life = lives.Ended; ticks = ticks; status = status; written = written.items }) (slice_get run row)) cowns (changed stages row (λ s. record s { life = Ended }) (slice_get stages row)) found latest (ended + 1)
+that_end run cowns stages found latest ended row ticks status written t may =
     let e = living run row lives.Running may.runs in
     let v : Entry = record e.0 { life = lives.Ended; ticks = ticks; status = status; written = written.items } in
     let h : IsSet run row e.0 v = record { is = e.1; cowns = refl } in
-    let there = slice_get_within run row e.0 e.1 in
-    let inside : row < length stages = omega (arith, t.stages_are.all, there) in
-    let listed : row < length rows = omega (arith, t.rows_are.all, there) in
+    let inside : row < length stages = omega (arith, t.stages_are.all, slice_get_within run row e.0 e.1) in
     let x = got_in stages row inside in
-    let z = got_in rows row listed in
     let y : Stage = record x.0 { life = Ended } in
-    let w : Row = record z.0 { ticks = ticks; status = status; written = written } in
     let was = t.stages_are.each row e.0 x.0 e.1 x.1 in
-    let row_was = t.rows_are.each row e.0 z.0 e.1 z.1 in
     let counted = over_set run row e.0 v e.1 in
-    subst (λ (r : List Entry). IsThatOf r cowns (changed rows row (λ x. record x { ticks = ticks; status = status; written = written }) (slice_get rows row)) (changed stages row (λ s. record s { life = Ended }) (slice_get stages row)) found latest (ended + 1))
+    subst (λ (r : List Entry). IsThatOf r cowns (changed stages row (λ s. record s { life = Ended }) (slice_get stages row)) found latest (ended + 1))
     (sym (ap (changed run row (λ z. record z { life = lives.Ended; ticks = ticks; status = status; written = written.items })) e.1))
-    (subst (λ (s : List Stage). IsThatOf (slice_set run row v) cowns (changed rows row (λ x. record x { ticks = ticks; status = status; written = written }) (slice_get rows row)) s found latest (ended + 1)) (sym (ap (changed stages row (λ s. record s { life = Ended })) x.1))
-    (subst (λ (s : List Row). IsThatOf (slice_set run row v) cowns s (slice_set stages row y) found latest (ended + 1)) (sym (ap (changed rows row (λ x. record x { ticks = ticks; status = status; written = written })) z.1))
+    (subst (λ (s : List Stage). IsThatOf (slice_set run row v) cowns s found latest (ended + 1)) (sym (ap (changed stages row (λ s. record s { life = Ended })) x.1))
     (record {
-      rows_are = rows_set run rows row e.0 v z.0 w t.rows_are h z.1 (record { parent = row_was.parent; offset = row_was.offset; cowns = row_was.cowns; ticks = refl; status = refl; written = refl });
       stages_are = stages_set run stages row e.0 v x.0 y t.stages_are h x.1 (record { life = refl; last = was.last });
       found_are = found_set run stages found row e.0 v x.0 y t.found_are h x.1 refl refl;
       latest_are = latest_set run row e.0 v cowns latest t.latest_are h;
       ended_is = omega (arith, counted, ap over_one e.2, t.ended_is);
-    })))
+    }))
 
 -- the parent has a further child
-that_child : (run : List Entry) (cowns : ℕ) (rows : List Row) (stages : List Stage) (found latest : List (Option ℕ)) (ended parent offset : ℕ) (e : Entry) (x : Stage) → IsThatOf run cowns rows stages found latest ended → slice_get run parent ≡ Some e → slice_get stages parent ≡ Some x
-    → IsThatOf (slice_set run parent (record e { last = offset })) cowns rows (slice_set stages parent (record x { last = offset })) found latest ended
-that_child run cowns rows stages found latest ended parent offset e x t is at =
+that_child : (run : List Entry) (cowns : ℕ) (stages : List Stage) (found latest : List (Option ℕ)) (ended parent offset : ℕ) (e : Entry) (x : Stage) → IsThatOf run cowns stages found latest ended → slice_get run parent ≡ Some e → slice_get stages parent ≡ Some x
+    → IsThatOf (slice_set run parent (record e { last = offset })) cowns (slice_set stages parent (record x { last = offset })) found latest ended
+that_child run cowns stages found latest ended parent offset e x t is at =
     let v : Entry = record e { last = offset } in
     let h : IsSet run parent e v = record { is = is; cowns = refl } in
     let was = t.stages_are.each parent e x is at in
     let counted = over_set run parent e v is in record {
-      rows_are = rows_stay run rows parent e v t.rows_are h (λ y is. record { parent = is.parent; offset = is.offset; cowns = is.cowns; ticks = is.ticks; status = is.status; written = is.written });
       stages_are = stages_set run stages parent e v x (record x { last = offset }) t.stages_are h at (record { life = was.life; last = refl });
       found_are = found_set run stages found parent e v x (record x { last = offset }) t.found_are h at refl refl;
       latest_are = latest_set run parent e v cowns latest t.latest_are h;
@@ -154,11 +144,10 @@ abbrev new_stage : List (Option ℕ) → ArrayVec ℕ → Stage
 new_stage found cowns = record { life = Pending; last = 0; from = length found; to = length found + length cowns.items }
 
 -- a new row stands behind the others
-that_push : (run : List Entry) (count : ℕ) (rows : List Row) (stages : List Stage) (found latest : List (Option ℕ)) (ended row parent offset : ℕ) (cowns : ArrayVec ℕ) → IsThatOf run count rows stages found latest ended → row ≡ length run → All (λ c. c < count) cowns.items → length cowns.items ≤ MOST_HELD
-    → IsThatOf (run ++ (pending parent offset cowns.items ∷ [])) count (rows ++ (new_row parent offset cowns ∷ [])) (stages ++ (new_stage found cowns ∷ [])) (found ++ map (λ c. get_or latest c None) cowns.items) (noted latest cowns.items row) ended
-that_push run count rows stages found latest ended row parent offset cowns t next below held =
+that_push : (run : List Entry) (count : ℕ) (stages : List Stage) (found latest : List (Option ℕ)) (ended row parent offset : ℕ) (cowns : ArrayVec ℕ) → IsThatOf run count stages found latest ended → row ≡ length run → All (λ c. c < count) cowns.items → length cowns.items ≤ MOST_HELD
+    → IsThatOf (run ++ (pending parent offset cowns.items ∷ [])) count (stages ++ (new_stage found cowns ∷ [])) (found ++ map (λ c. get_or latest c None) cowns.items) (noted latest cowns.items row) ended
+that_push run count stages found latest ended row parent offset cowns t next below held =
     let v = pending parent offset cowns.items in record {
-      rows_are = rows_push run rows v (new_row parent offset cowns) t.rows_are (record { parent = refl; offset = refl; cowns = refl; ticks = refl; status = refl; written = refl });
       stages_are = stages_push run stages v (new_stage found cowns) t.stages_are (record { life = refl; last = refl });
       found_are = found_push run stages found v (new_stage found cowns) count latest t.stages_are t.found_are t.latest_are below held refl refl;
       latest_are = subst (λ (n : ℕ). AreLatest (run ++ (v ∷ [])) count (noted latest cowns.items n)) (sym next) (latest_push run v count latest t.latest_are);
@@ -169,43 +158,43 @@ no_stages : (stages : List Stage) → length stages ≡ 0 → stages ≡ []
 no_stages [] e = refl
 no_stages (x ∷ stages) e = absurd (omega arith)
 
-that_spawn : (run : List Entry) (count : ℕ) (rows : List Row) (stages : List Stage) (found latest : List (Option ℕ)) (ended row parent offset : ℕ) (cowns : ArrayVec ℕ) → IsThatOf run count rows stages found latest ended → row ≡ length run
+that_spawn : (run : List Entry) (count : ℕ) (stages : List Stage) (found latest : List (Option ℕ)) (ended row parent offset : ℕ) (cowns : ArrayVec ℕ) → IsThatOf run count stages found latest ended → row ≡ length run
     → IsParent run parent → MayNeed count run cowns.items → length cowns.items ≤ MOST_HELD
-    → IsThatOf (changed run parent (λ x. record x { last = offset }) (slice_get run parent) ++ (pending parent offset cowns.items ∷ [])) count (rows ++ (new_row parent offset cowns ∷ []))
+    → IsThatOf (changed run parent (λ x. record x { last = offset }) (slice_get run parent) ++ (pending parent offset cowns.items ∷ [])) count
     (changed stages parent (λ s. record s { last = offset }) (slice_get stages parent) ++ (new_stage found cowns ∷ [])) (found ++ map (λ c. get_or latest c None) cowns.items) (noted latest cowns.items row) ended
-that_spawn [] count rows stages found latest ended row parent offset cowns t next p m held =
+that_spawn [] count stages found latest ended row parent offset cowns t next p m held =
     let none : stages ≡ [] = no_stages stages t.stages_are.all in
     let same : changed stages parent (λ s. record s { last = offset }) (slice_get stages parent) ≡ stages = subst (λ (s : List Stage). changed s parent (λ s. record s { last = offset }) (slice_get s parent) ≡ s) (sym none) refl in
-    subst (λ (s : List Stage). IsThatOf (pending parent offset cowns.items ∷ []) count (rows ++ (new_row parent offset cowns ∷ [])) (s ++ (new_stage found cowns ∷ [])) (found ++ map (λ c. get_or latest c None) cowns.items) (noted latest cowns.items row) ended) (sym same)
-    (that_push [] count rows stages found latest ended row parent offset cowns t next (subst (λ (cs : List ℕ). All (λ c. c < count) cs) (sym m) (λ k d h. absurd (omega arith))) held)
-that_spawn (main ∷ others) count rows stages found latest ended row parent offset cowns t next p m held =
+    subst (λ (s : List Stage). IsThatOf (pending parent offset cowns.items ∷ []) count (s ++ (new_stage found cowns ∷ [])) (found ++ map (λ c. get_or latest c None) cowns.items) (noted latest cowns.items row) ended) (sym same)
+    (that_push [] count stages found latest ended row parent offset cowns t next (subst (λ (cs : List ℕ). All (λ c. c < count) cs) (sym m) (λ k d h. absurd (omega arith))) held)
+that_spawn (main ∷ others) count stages found latest ended row parent offset cowns t next p m held =
     let run = main ∷ others in
     let e = living run parent lives.Running p in
     let inside : parent < length stages = omega (arith, t.stages_are.all, slice_get_within run parent e.0 e.1) in
     let x = got_in stages parent inside in
     let v : Entry = record e.0 { last = offset } in
     let y : Stage = record x.0 { last = offset } in
-    subst (λ (r : List Entry). IsThatOf (r ++ (pending parent offset cowns.items ∷ [])) count (rows ++ (new_row parent offset cowns ∷ [])) (changed stages parent (λ s. record s { last = offset }) (slice_get stages parent) ++ (new_stage found cowns ∷ [])) (found ++ map (λ c. get_or latest c None) cowns.items) (noted latest cowns.items row) ended)
+    subst (λ (r : List Entry). IsThatOf (r ++ (pending parent offset cowns.items ∷ [])) count (changed stages parent (λ s. record s { last = offset }) (slice_get stages parent) ++ (new_stage found cowns ∷ [])) (found ++ map (λ c. get_or latest c None) cowns.items) (noted latest cowns.items row) ended)
     (sym (ap (changed run parent (λ z. record z { last = offset })) e.1))
-    (subst (λ (s : List Stage). IsThatOf (slice_set run parent v ++ (pending parent offset cowns.items ∷ [])) count (rows ++ (new_row parent offset cowns ∷ [])) (s ++ (new_stage found cowns ∷ [])) (found ++ map (λ c. get_or latest c None) cowns.items) (noted latest cowns.items row) ended)
+    (subst (λ (s : List Stage). IsThatOf (slice_set run parent v ++ (pending parent offset cowns.items ∷ [])) count (s ++ (new_stage found cowns ∷ [])) (found ++ map (λ c. get_or latest c None) cowns.items) (noted latest cowns.items row) ended)
     (sym (ap (changed stages parent (λ s. record s { last = offset })) x.1))
-    (that_push (slice_set run parent v) count rows (slice_set stages parent y) found latest ended row parent offset cowns
-    (that_child run count rows stages found latest ended parent offset e.0 x.0 t e.1 x.1) (next ∙ sym (length-set run parent v)) m.below held))
+    (that_push (slice_set run parent v) count (slice_set stages parent y) found latest ended row parent offset cowns
+    (that_child run count stages found latest ended parent offset e.0 x.0 t e.1 x.1) (next ∙ sym (length-set run parent v)) m.below held))
 
 pub keeps_start : (cowns : ℕ) (run : List Entry) (rows : List Row) (stages : List Stage) (found latest : List (Option ℕ)) (ended row : ℕ) → AreParts cowns run rows stages found latest ended → IsAllowed cowns run (Start row)
     → Goes cowns (after run (Start row)) rows (changed stages row (λ s. record s { life = Running }) (slice_get stages row)) found latest ended
 keeps_start cowns run rows stages found latest ended row k a =
-    goes cowns run (Start row) rows (changed stages row (λ s. record s { life = Running }) (slice_get stages row)) found latest ended k.legal a
-    (that_start run cowns rows stages found latest ended row (that cowns run rows stages found latest ended k) (a.keeps rules.StartNotAllowed))
+    goes cowns run (Start row) rows (changed stages row (λ s. record s { life = Running }) (slice_get stages row)) found latest ended k.legal a (rows_go_on run rows (Start row) k.rows_are)
+    (that_start run cowns stages found latest ended row (that cowns run rows stages found latest ended k) (a.keeps rules.StartNotAllowed))
 
 pub keeps_end : (cowns : ℕ) (run : List Entry) (rows : List Row) (stages : List Stage) (found latest : List (Option ℕ)) (ended row ticks : ℕ) (status : EndStatus) (written : ArrayVec ℕ) → AreParts cowns run rows stages found latest ended → IsAllowed cowns run (End row ticks status written)
     → Goes cowns (after run (End row ticks status written)) (changed rows row (λ x. record x { ticks = ticks; status = status; written = written }) (slice_get rows row)) (changed stages row (λ s. record s { life = Ended }) (slice_get stages row)) found latest (ended + 1)
 keeps_end cowns run rows stages found latest ended row ticks status written k a =
-    goes cowns run (End row ticks status written) (changed rows row (λ x. record x { ticks = ticks; status = status; written = written }) (slice_get rows row)) (changed stages row (λ s. record s { life = Ended }) (slice_get stages row)) found latest (ended + 1) k.legal a
-    (that_end run cowns rows stages found latest ended row ticks status written (that cowns run rows stages found latest ended k) (a.keeps rules.EndNotAllowed))
+    goes cowns run (End row ticks status written) (changed rows row (λ x. record x { ticks = ticks; status = status; written = written }) (slice_get rows row)) (changed stages row (λ s. record s { life = Ended }) (slice_get stages row)) found latest (ended + 1) k.legal a (rows_go_on run rows (End row ticks status written) k.rows_are)
+    (that_end run cowns stages found latest ended row ticks status written (that cowns run rows stages found latest ended k) (a.keeps rules.EndNotAllowed))
 
 pub keeps_spawn : (count : ℕ) (run : List Entry) (rows : List Row) (stages : List Stage) (found latest : List (Option ℕ)) (ended row parent offset : ℕ) (cowns : ArrayVec ℕ) → AreParts count run rows stages found latest ended → IsAllowed count run (Spawn row parent offset cowns)
     → Goes count (after run (Spawn row parent offset cowns)) (rows ++ (new_row parent offset cowns ∷ [])) (changed stages parent (λ s. record s { last = offset }) (slice_get stages parent) ++ (new_stage found cowns ∷ [])) (found ++ map (λ c. get_or latest c None) cowns.items) (noted latest cowns.items row) ended
 keeps_spawn count run rows stages found latest ended row parent offset cowns k a =
-    goes count run (Spawn row parent offset cowns) (rows ++ (new_row parent offset cowns ∷ [])) (changed stages parent (λ s. record s { last = offset }) (slice_get stages parent) ++ (new_stage found cowns ∷ [])) (found ++ map (λ c. get_or latest c None) cowns.items) (noted latest cowns.items row) ended k.legal a
-    (that_spawn run count rows stages found latest ended row parent offset cowns (that count run rows stages found latest ended k) (a.keeps rules.NumberNotNext) (a.keeps rules.ParentNotRunning) (a.keeps rules.Cowns) a.bounds.4)
+    goes count run (Spawn row parent offset cowns) (rows ++ (new_row parent offset cowns ∷ [])) (changed stages parent (λ s. record s { last = offset }) (slice_get stages parent) ++ (new_stage found cowns ∷ [])) (found ++ map (λ c. get_or latest c None) cowns.items) (noted latest cowns.items row) ended k.legal a (rows_go_on run rows (Spawn row parent offset cowns) k.rows_are)
+    (that_spawn run count stages found latest ended row parent offset cowns (that count run rows stages found latest ended k) (a.keeps rules.NumberNotNext) (a.keeps rules.ParentNotRunning) (a.keeps rules.Cowns) a.bounds.4)

@@ -8,9 +8,7 @@ use Rattle.std.proofs.lemmas.List.{get_or-map, length-map, take-append-le, drop-
 use Rattle.std.proofs.lemmas.Option.{slice_get_within}
 use Rattle.std.proofs.lemmas.Bool.{cases_eq, cases_order}
 use Rattle.boc_types.specs.declared.limits.TheConstants.{MOST_HELD}
-use Rattle.boc_types.specs.declared.rows.Row.{Row}
 use Rattle.boc_types.specs.runs.Legal.{Entry, entry_cowns}
-use Rattle.boc_types.specs.runs.Records.{IsRowOf, AreRowsOf}
 use Rattle.boc_rules.specs.declared.stage.Stage.{Stage}
 use Rattle.boc_rules.specs.Before.{IsLatest, AreBefore, noted}
 use Rattle.boc_rules.specs.SoFar.{IsStageOf, AreStagesOf, AreFound, AreLatest, over_one, over}
@@ -76,30 +74,6 @@ same_set run r e v n h = record {
       ];
 }
 
-row_case : (run : List Entry) (rows : List Row) (r : ℕ) (v : Entry) (y : Row) → AreRowsOf run rows → IsRowOf v y → (k : ℕ) (f : Entry) (z : Row)
-    → ((k ≡ r) × (v ≡ f)) ⊎ ((k ≢ r) × (slice_get run k ≡ Some f)) → ((k ≡ r) × (y ≡ z)) ⊎ ((k ≢ r) × (slice_get rows k ≡ Some z)) → IsRowOf f z
-row_case run rows r v y are is k f z (inl p) (inl q) = subst (λ (a : Entry). IsRowOf a z) p.1 (subst (IsRowOf v) q.1 is)
-row_case run rows r v y are is k f z (inl p) (inr q) = absurd (q.0 p.0)
-row_case run rows r v y are is k f z (inr p) (inl q) = absurd (p.0 q.0)
-row_case run rows r v y are is k f z (inr p) (inr q) = are.each k f z p.1 q.1
-
-pub rows_set : (run : List Entry) (rows : List Row) (r : ℕ) (e v : Entry) (x y : Row) → AreRowsOf run rows → IsSet run r e v → slice_get rows r ≡ Some x → IsRowOf v y → AreRowsOf (slice_set run r v) (slice_set rows r y)
-rows_set run rows r e v x y are h at is = record {
-  all = length-set rows r y ∙ are.all ∙ sym (length-set run r v);
-  each = λ k f z g i. row_case run rows r v y are is k f z (got_set run r k v f g) (got_set rows r k y z i);
-}
-
--- the changed row has the same line in the rows
-pub rows_stay : (run : List Entry) (rows : List Row) (r : ℕ) (e v : Entry) → AreRowsOf run rows → IsSet run r e v → ((y : Row) → IsRowOf e y → IsRowOf v y) → AreRowsOf (slice_set run r v) rows
-rows_stay run rows r e v are h goes = record {
-  all = are.all ∙ sym (length-set run r v);
-  each = λ k f z g i.
-      elim (got_set run r k v f g) [
-        | inl p ↦ subst (λ (a : Entry). IsRowOf a z) p.1 (goes z (are.each k e z (got_at run k r e p.0 h.is) i))
-        | inr p ↦ are.each k f z p.1 i
-      ];
-}
-
 stage_case : (run : List Entry) (stages : List Stage) (r : ℕ) (v : Entry) (y : Stage) → AreStagesOf run stages → IsStageOf v y → (k : ℕ) (f : Entry) (z : Stage)
     → ((k ≡ r) × (v ≡ f)) ⊎ ((k ≢ r) × (slice_get run k ≡ Some f)) → ((k ≡ r) × (y ≡ z)) ⊎ ((k ≢ r) × (slice_get stages k ≡ Some z)) → IsStageOf f z
 stage_case run stages r v y are is k f z (inl p) (inl q) = subst (λ (a : Entry). IsStageOf a z) p.1 (subst (IsStageOf v) q.1 is)
@@ -157,19 +131,6 @@ over_set (x ∷ run) (suc r) e v g = omega (arith, over_set run r e v g)
 -- One row more.
 pub same_push : (run : List Entry) (v : Entry) (n : ℕ) → n ≤ length run → SameBelow run (run ++ (v ∷ [])) n
 same_push run v n h = record { cowns = λ k less. ap (λ (o : Option Entry). option_map_or (λ (x : Entry). x.cowns) o []) (push_below run k v (omega arith)) }
-
-row_push_case : (run : List Entry) (rows : List Row) (v : Entry) (y : Row) → AreRowsOf run rows → IsRowOf v y → (k : ℕ) (f : Entry) (z : Row)
-    → (slice_get run k ≡ Some f) ⊎ ((k ≡ length run) × (v ≡ f)) → (slice_get rows k ≡ Some z) ⊎ ((k ≡ length rows) × (y ≡ z)) → IsRowOf f z
-row_push_case run rows v y are is k f z (inl p) (inl q) = are.each k f z p q
-row_push_case run rows v y are is k f z (inl p) (inr q) = absurd (omega (arith, q.0, are.all, slice_get_within run k f p))
-row_push_case run rows v y are is k f z (inr p) (inl q) = absurd (omega (arith, p.0, are.all, slice_get_within rows k z q))
-row_push_case run rows v y are is k f z (inr p) (inr q) = subst (λ (a : Entry). IsRowOf a z) p.1 (subst (IsRowOf v) q.1 is)
-
-pub rows_push : (run : List Entry) (rows : List Row) (v : Entry) (y : Row) → AreRowsOf run rows → IsRowOf v y → AreRowsOf (run ++ (v ∷ [])) (rows ++ (y ∷ []))
-rows_push run rows v y are is = record {
-  all = omega (arith, length-append rows (y ∷ []), length-append run (v ∷ []), are.all);
-  each = λ k f z g i. row_push_case run rows v y are is k f z (got_push run k v f g) (got_push rows k y z i);
-}
 
 stage_push_case : (run : List Entry) (stages : List Stage) (v : Entry) (y : Stage) → AreStagesOf run stages → IsStageOf v y → (k : ℕ) (f : Entry) (z : Stage)
     → (slice_get run k ≡ Some f) ⊎ ((k ≡ length run) × (v ≡ f)) → (slice_get stages k ≡ Some z) ⊎ ((k ≡ length stages) × (y ≡ z)) → IsStageOf f z

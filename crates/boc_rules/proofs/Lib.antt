@@ -1,4 +1,5 @@
 pub mod Lists
+pub mod KeptRows
 pub mod Well
 pub mod Next
 pub mod Starts

@@ -1,11 +1,6 @@
 -- What a log that judges nothing keeps stays that of its events as one is put behind them.
-use Rattle.std.proofs.Common.{◌≡◌, ℕ, zero, suc, ◌+◌, ◌*◌, ◌<◌, ◌≤◌, ◌↔◌, List, [], ◌∷◌, ◌++◌, length, map, refl, sym, ◌∙◌, ap, subst, arith}
-use Rattle.std.specs.Prelude.{slice_get, Option, Some, None, All}
-use Rattle.std.specs.Option.{option_map}
-use Rattle.std.proofs.lemmas.List.{map-append, map-set}
-use Rattle.std.proofs.lemmas.Option.{slice_get-map}
-use Rattle.arrayvec.specs.ArrayVec.{ArrayVec}
-use Rattle.boc_types.specs.declared.body.EndStatus.{EndStatus}
+use Rattle.std.proofs.Common.{◌≡◌, ℕ, ◌+◌, ◌*◌, ◌<◌, ◌≤◌, ◌↔◌, List, [], ◌∷◌, ◌++◌, length, refl, sym, ◌∙◌, ap, subst, arith}
+use Rattle.std.specs.Prelude.{All}
 use Rattle.boc_types.specs.declared.event.Event.{Event}
 use Rattle.boc_types.specs.declared.event.Event.TheVariants.{Spawn, Start, End}
 use Rattle.boc_types.specs.declared.event.BrokenRule.TheVariants as rules
@@ -13,52 +8,22 @@ use Rattle.boc_types.specs.declared.events.Happening.{Happening}
 use Rattle.boc_types.specs.declared.rows.Row.{Row}
 use Rattle.boc_types.specs.runs.Happenings.{happening_of, told}
 use Rattle.boc_types.specs.runs.Lives as lives
-use Rattle.boc_types.specs.runs.Lives.{changed}
-use Rattle.boc_types.specs.runs.Legal.{Entry, entries, pending, after, MayEnd, IsAllowed, IsLegal, IsComplete}
+use Rattle.boc_types.specs.runs.Legal.{Entry, entries, after, MayEnd, IsAllowed, IsLegal, IsComplete}
 use Rattle.boc_types.specs.runs.Records.{AreRowsOf}
 use Rattle.boc_types.specs.runs.Rows.{IsRows}
 use Rattle.boc_types.proofs.Tellings.{told_all}
 use Rattle.boc_rules.specs.Log.{HasRoomFor, rooms_after}
-use Rattle.boc_rules.specs.Course.{Course, AreLegal}
-use Rattle.boc_rules.specs.Logged.{row_of, HasHappened, IsLogged}
+use Rattle.boc_rules.specs.Course.{AreLegal}
+use Rattle.boc_rules.specs.Logged.{HasHappened, IsLogged}
 use Rattle.boc_rules.specs.RunLog.{CanKeep, rows_after, IsRunLog}
-use Rattle.boc_rules.specs.SoFar.{over_one, over, new_row}
+use Rattle.boc_rules.specs.SoFar.{over_one, over}
 use Rattle.boc_rules.proofs.Next.{after_more, legal_more}
 use Rattle.boc_rules.proofs.Events.{left_one, left, counted}
 use Rattle.boc_rules.proofs.Finished.{is_rows}
 use Rattle.boc_rules.proofs.Judging.{well_rows, spawn_small, written_small, there, over_is}
 use Rattle.boc_rules.proofs.Logging.{room_left, rooms_stay}
-use Rattle.boc_rules.proofs.Telling.{told_more, happened_more, rows_of_run, run_of_rows, told_rows}
-
-changed_next : {A : Type 0} (x : A) (xs : List A) (r : ℕ) (f : A → A) (o : Option A) → changed (x ∷ xs) (suc r) f o ≡ x ∷ changed xs r f o
-changed_next x xs r f None = refl
-changed_next x xs r f (Some y) = refl
-
--- a list that changed in what isn't looked at
-map_stays : {A B : Type 0} (f : A → B) (g : A → A) → ((x : A) → f (g x) ≡ f x) → (xs : List A) (r : ℕ) → map f (changed xs r g (slice_get xs r)) ≡ map f xs
-map_stays f g same [] r = refl
-map_stays f g same (x ∷ xs) zero = ap (λ y. y ∷ map f xs) (same x)
-map_stays f g same (x ∷ xs) (suc r) = ap (map f) (changed_next x xs r g (slice_get xs r)) ∙ ap (λ ys. f x ∷ ys) (map_stays f g same xs r)
-
-changed_map : {A B : Type 0} (f : A → B) (g : A → A) (h : B → B) → ((x : A) → f (g x) ≡ h (f x)) → (xs : List A) (r : ℕ) (o : Option A) → map f (changed xs r g o) ≡ changed (map f xs) r h (option_map f o)
-changed_map f g h same xs r None = refl
-changed_map f g h same xs r (Some x) = map-set f xs r (g x) ∙ ap (λ y. changed (map f xs) r (λ _. y) (Some y)) (same x)
-
--- the rows of a run after an event
-rows_more : (run : List Entry) (event : Event) → map row_of (after run event) ≡ rows_after (map row_of run) event
-rows_more run (Spawn row parent offset cowns) =
-    let first = changed run parent (λ e. record e { last = offset }) (slice_get run parent) in
-    map-append row_of first (pending parent offset cowns.items ∷ [])
-    ∙ ap (λ (xs : List Row). xs ++ (new_row parent offset cowns ∷ [])) (map_stays row_of (λ e. record e { last = offset }) (λ e. refl) run parent)
-rows_more run (Start row) = map_stays row_of (λ e. record e { life = lives.Running }) (λ e. refl) run row
-rows_more run (End row ticks status written) =
-    let over : Row → Row = λ x. record x { ticks = ticks; status = status; written = written } in
-    changed_map row_of (λ e. record e { life = lives.Ended; ticks = ticks; status = status; written = written.items }) over (λ e. refl) run row (slice_get run row)
-    ∙ ap (changed (map row_of run) row over) (sym (slice_get-map row_of run row))
-
-pub rows_go_on : (run : List Entry) (rows : List Row) (event : Event) → AreRowsOf run rows → AreRowsOf (after run event) (rows_after rows event)
-rows_go_on run rows event are =
-    subst (AreRowsOf (after run event)) (rows_more run event ∙ ap (λ (xs : List Row). rows_after xs event) (rows_of_run run rows are)) (run_of_rows (after run event))
+use Rattle.boc_rules.proofs.KeptRows.{rows_go_on}
+use Rattle.boc_rules.proofs.Telling.{told_more, happened_more, told_rows}
 
 -- the log is that of its rows, with room for their events
 pub logged_of : (cowns : ℕ) (rows : List Row) (happenings : List Happening) (rooms row_room event_room : ℕ) → IsRunLog cowns rows happenings rooms row_room event_room

@@ -2,12 +2,10 @@
 use Rattle.std.proofs.Common.{◌≡◌, ℕ, suc, List, [], ◌∷◌, ◌++◌, length, map, get_or, refl, sym, ◌∙◌, ap, subst, inl, inr, arith}
 use Rattle.std.proofs.Math.ListN.{length-set}
 use Rattle.std.specs.Prelude.{slice_get, slice_set, Option, Some, None, All}
-use Rattle.std.specs.Option.{option_map}
 use Rattle.std.proofs.lemmas.Bool.{cases_eq}
 use Rattle.std.proofs.lemmas.List.{length-map, map-append}
 use Rattle.std.proofs.lemmas.List.Elements.{All-push}
-use Rattle.std.proofs.lemmas.Option.{slice_get-map, slice_get_within}
-use Rattle.boc_types.specs.declared.body.EndStatus.{EndStatus}
+use Rattle.std.proofs.lemmas.Option.{slice_get_within}
 use Rattle.boc_types.specs.declared.event.Event.{Event}
 use Rattle.boc_types.specs.declared.event.Event.TheVariants.{Spawn, Start, End}
 use Rattle.boc_types.specs.declared.event.BrokenRule.TheVariants as rules
@@ -18,10 +16,11 @@ use Rattle.boc_types.specs.declared.rows.Row.{Row}
 use Rattle.boc_types.specs.runs.Happenings.{event_of, event_at, happening_of, told, AreOf}
 use Rattle.boc_types.specs.runs.Lives.{Life, Pending, Running, Ended, changed, MayStart}
 use Rattle.boc_types.specs.runs.Legal.{Entry, pending, after, life_of, entry_cowns, MayEnd, IsAllowed}
-use Rattle.boc_types.specs.runs.Records.{IsRowOf, AreRowsOf}
+use Rattle.boc_types.specs.runs.Records.{AreRowsOf}
 use Rattle.boc_rules.specs.Logged.{row_of, told_of, HasHappened}
 use Rattle.boc_rules.proofs.Lists.{set_same, set_other, push_below, push_last, got_in, one_got, got_at}
 use Rattle.boc_rules.proofs.Next.{living, life_at, not_pending_ended, not_running_ended}
+use Rattle.boc_rules.proofs.KeptRows.{at_entry, rows_of_run}
 
 -- a row after an event: as it was spawned, and unchanged from its end on
 record IsLater (old new : Entry) : Type 0 where
@@ -82,9 +81,6 @@ tells_same : (n : ℕ) (d : Deed) (old new : Entry) → IsLater old new → (d �
 tells_same n deeds.Spawned old new l over = spawn_same n old.parent new.parent old.offset new.offset old.cowns new.cowns l.parent l.offset l.cowns
 tells_same n deeds.Started old new l over = refl
 tells_same n deeds.Ended old new l over = ap (λ (x : Row). event_of n x deeds.Ended) (l.same (over refl))
-
-at_entry : (rows : List Entry) (r : ℕ) (e : Entry) → slice_get rows r ≡ Some e → slice_get (map row_of rows) r ≡ Some (row_of e)
-at_entry rows r e at = slice_get-map row_of rows r ∙ ap (option_map row_of) at
 
 -- what a happening tells of the rows so far
 abbrev told_one : List Entry → Happening → Event
@@ -186,37 +182,6 @@ happened_more count rows happenings event all a =
 -- there are as many events as happenings
 pub told_length : (rows : List Entry) (happenings : List Happening) → length (told_of rows happenings) ≡ length happenings
 told_length rows happenings = length-map happenings (told_one rows)
-
--- a row with these parts
-abbrev made : ℕ → ℕ → List ℕ → ℕ → EndStatus → List ℕ → Row
-made parent offset cowns ticks status written = record { parent = parent; offset = offset; cowns = record { items = cowns }; ticks = ticks; status = status; written = record { items = written } }
-
-row_is : (e : Entry) (x : Row) → IsRowOf e x → row_of e ≡ x
-row_is e x is = sym (
-    ap (λ (a : ℕ). made a x.offset x.cowns.items x.ticks x.status x.written.items) is.parent
-    ∙ ap (λ (a : ℕ). made e.parent a x.cowns.items x.ticks x.status x.written.items) is.offset
-    ∙ ap (λ (a : List ℕ). made e.parent e.offset a x.ticks x.status x.written.items) is.cowns
-    ∙ ap (λ (a : ℕ). made e.parent e.offset e.cowns a x.status x.written.items) is.ticks
-    ∙ ap (λ (a : EndStatus). made e.parent e.offset e.cowns e.ticks a x.written.items) is.status
-    ∙ ap (λ (a : List ℕ). made e.parent e.offset e.cowns e.ticks e.status a) is.written
-    )
-
--- the rows so far are those of the run
-pub rows_of_run : (run : List Entry) (rows : List Row) → AreRowsOf run rows → map row_of run ≡ rows
-rows_of_run [] [] are = refl
-rows_of_run [] (x ∷ rows) are = absurd (let e = are.all in omega arith)
-rows_of_run (e ∷ run) [] are = absurd (let f = are.all in omega arith)
-rows_of_run (e ∷ run) (x ∷ rows) are =
-    ap (λ (y : Row). y ∷ map row_of run) (row_is e x (are.each 0 e x refl refl))
-    ∙ ap (λ (ys : List Row). x ∷ ys) (rows_of_run run rows (record { all = omega (arith, are.all); each = λ r f y g h. are.each (suc r) f y g h }))
-
-rows_at : (run : List Entry) (r : ℕ) (e : Entry) (x : Row) → slice_get run r ≡ Some e → slice_get (map row_of run) r ≡ Some x → IsRowOf e x
-rows_at run r e x g h =
-    let one : row_of e ≡ x = one_got (map row_of run) r (row_of e) x (at_entry run r e g) h in
-    subst (IsRowOf e) one (record { parent = refl; offset = refl; cowns = refl; ticks = refl; status = refl; written = refl })
-
-pub run_of_rows : (run : List Entry) → AreRowsOf run (map row_of run)
-run_of_rows run = record { all = length-map run row_of; each = rows_at run }
 
 -- the happenings tell the log of the rows
 pub told_rows : (run : List Entry) (rows : List Row) (happenings : List Happening) → AreRowsOf run rows → told happenings rows ≡ told_of run happenings

@@ -1,4 +1,4 @@
-use Rattle.std.proofs.Common.{arith, ◌≡◌, ◌*◌, ◌<◌, length, eqb-true, eq-eqb, sym, ◌∙◌, ap, subst}
+use Rattle.std.proofs.Common.{arith, ◌≡◌, ◌*◌, length, eqb-true, eq-eqb, sym, ◌∙◌, ap, subst}
 use Rattle.std.specs.Vec.{vec_capacity}
 use Rattle.boc_types.specs.runs.Legal.{IsComplete}
 use Rattle.boc_rules.specs.Log.{Log}

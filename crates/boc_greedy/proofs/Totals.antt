@@ -1,5 +1,5 @@
 -- Sums over the numbers below a bound, and counting by them.
-use Rattle.std.proofs.Common.{◌≡◌, ℕ, zero, suc, ◌+◌, ◌-◌, ◌*◌, ◌<◌, ◌≤◌, ◌⊎◌, Bool, cond, ◌&&◌, refl, ap, inl, inr, arith, ltb, leb}
+use Rattle.std.proofs.Common.{◌≡◌, ℕ, zero, suc, ◌+◌, ◌-◌, ◌*◌, ◌<◌, ◌≤◌, ◌⊎◌, Bool, cond, ◌&&◌, min, refl, ap, inl, inr, arith, ltb, leb}
 use Rattle.std.proofs.lemmas.Bool.{cases_lt, cases_eq}
 use Rattle.std.proofs.lemmas.Bool.Decides.{nat_tests}
 
@@ -18,16 +18,19 @@ total-le f g (suc n) h =
 
 -- a sum of the same numbers is the same
 pub total-same : (f g : ℕ → ℕ) (n : ℕ) → ((k : ℕ) → k < n → f k ≡ g k) → total f n ≡ total g n
-total-same f g zero h = refl
-total-same f g (suc n) h =
-    let ih : total f n ≡ total g n = total-same f g n (λ k l. h k (omega arith)) in
-    let last : f n ≡ g n = h n (omega arith) in
-    omega arith
+total-same f g n h = omega (arith, total-le f g n (λ k l. omega (arith, h k l)), total-le g f n (λ k l. omega (arith, h k l)))
 
 -- the sum of one number n times
-pub total-const : (c n : ℕ) → total (λ _. c) n ≡ n * c
+total-const : (c n : ℕ) → total (λ _. c) n ≡ n * c
 total-const c zero = omega arith
 total-const c (suc n) = let ih : total (λ _. c) n ≡ n * c = total-const c n in omega arith
+
+-- the sum of n numbers of which none is greater than c, or none less
+pub total-most : (f : ℕ → ℕ) (c n : ℕ) → ((k : ℕ) → k < n → f k ≤ c) → total f n ≤ n * c
+total-most f c n h = omega (arith, total-le f (λ _. c) n h, total-const c n)
+
+pub total-least : (f : ℕ → ℕ) (c n : ℕ) → ((k : ℕ) → k < n → c ≤ f k) → n * c ≤ total f n
+total-least f c n h = omega (arith, total-le (λ _. c) f n h, total-const c n)
 
 -- two sums make the sum of both
 pub total-plus : (f g : ℕ → ℕ) (n : ℕ) → total (λ k. f k + g k) n ≡ total f n + total g n
@@ -63,11 +66,10 @@ total-at_most_one f zero small apart = omega arith
 total-at_most_one f (suc n) small apart = elim (cases_eq (f n) 0) [
   | inl e ↦ (let ih : total f n ≤ 1 = total-at_most_one f n (λ k l. small k (omega arith)) (λ i j h k. apart i j (omega arith) (omega arith)) in omega arith)
   | inr ne ↦ (
-      let none : total f n ≤ total (λ _. 0) n = total-le f (λ _. 0) n (λ k l. elim (cases_eq (f k) 0) [
+      let none : total f n ≤ n * 0 = total-most f 0 n (λ k l. elim (cases_eq (f k) 0) [
         | inl z ↦ omega arith
         | inr nz ↦ (let same : k ≡ n = apart k n (omega arith) (omega arith) (omega arith) (omega arith) in absurd (omega arith))
       ]) in
-      let zeros : total (λ _. 0) n ≡ n * 0 = total-const 0 n in
       let last : f n ≤ 1 = small n (omega arith) in
       omega arith)
 ]
@@ -91,30 +93,10 @@ inside_cases s e t = elim (cases_lt t e) [
   | inr g ↦ inr (grind (arith, nat_tests), λ h. g)
 ]
 
--- no tick before s counts
-pub total-inside_before : (s e n : ℕ) → n ≤ s → total (inside s e) n ≡ 0
-total-inside_before s e zero h = refl
-total-inside_before s e (suc n) h =
-    let ih : total (inside s e) n ≡ 0 = total-inside_before s e n (omega arith) in
-    elim (inside_cases s e n) [ inl y ↦ absurd (omega (arith, y.1)) | inr out ↦ omega (arith, out.0) ]
-
--- from s on each tick before e counts
-pub total-inside_within : (s d n : ℕ) (e : ℕ) → e ≡ s + d → s ≤ n → n ≤ e → total (inside s e) n ≡ n - s
-total-inside_within s d zero e w h k = omega arith
-total-inside_within s d (suc n) e w h k = elim (cases_lt n s) [
-  | inl l ↦ (let none : total (inside s e) (suc n) ≡ 0 = total-inside_before s e (suc n) (omega arith) in omega arith)
-  | inr g ↦ (
-      let ih : total (inside s e) n ≡ n - s = total-inside_within s d n e w g (omega arith) in
-      let here : inside s e n ≡ 1 = inside_yes s e n g (omega arith) in
-      omega arith)
-]
-
--- by the tick e all d ticks have counted
-pub total-inside : (s d n : ℕ) (e : ℕ) → e ≡ s + d → e ≤ n → total (inside s e) n ≡ d
-total-inside s d zero e w h = omega arith
-total-inside s d (suc n) e w h = elim (cases_eq e (suc n)) [
-  | inl same ↦ (let all : total (inside s e) (suc n) ≡ suc n - s = total-inside_within s d (suc n) e w (omega arith) (omega arith) in omega arith)
-  | inr ne ↦ (
-      let ih : total (inside s e) n ≡ d = total-inside s d n e w (omega arith) in
-      elim (inside_cases s e n) [ inl y ↦ absurd (omega (arith, y.2)) | inr out ↦ omega (arith, out.0) ])
+-- by tick n those ticks have counted that are from s on, before e and before n
+pub total-inside : (s e n : ℕ) → s ≤ e → total (inside s e) n + min s n ≡ min e n
+total-inside s e zero h = omega arith
+total-inside s e (suc n) h = elim (inside_cases s e n) [
+  | inl y ↦ omega (arith, total-inside s e n h, y.0, y.1, y.2)
+  | inr out ↦ omega (arith, total-inside s e n h, out.0, out.1)
 ]

@@ -98,5 +98,5 @@ pub total-inside : (s e n : ℕ) → s ≤ e → total (inside s e) n + min s n 
 total-inside s e zero h = omega arith
 total-inside s e (suc n) h = elim (inside_cases s e n) [
   | inl y ↦ omega (arith, total-inside s e n h, y.0, y.1, y.2)
-  | inr out ↦ omega (arith, total-inside s e n h, out.0, out.1)
+  | inr out ↦ elim (cases_lt n s) [ inl l ↦ omega (arith, total-inside s e n h, out.0) | inr g ↦ omega (arith, total-inside s e n h, out.0, out.1 g) ]
 ]

@@ -23,7 +23,9 @@ ends_of-requires-clause-low c =
 pub overflow_add-result : goal.overflow_add-result
 overflow_add-result c =
     let d = done _ _ c.loop-worker.simulation _ c.requires.shape c.loop-worker.invariant (rw c.number-p.ensures.value c.number-p.ensures.some) refl c.in_default.ensures.none in
-    omega (arith, c.requires.work, work_high _ c.requires.shape, div-le_self c.args.work c.from.result, span_le_work _ c.requires.shape _ (rw c.number-p.ensures.value c.number-p.ensures.some) _ _ d.greedy c.args.span c.requires.span)
+    let end = greatest_is_end _ _ _ _ (rw c.deref.ensures.value at c.in_ok-ends.ensures)
+    (rw c.deref-2.ensures.value at c.last_end-ends_at.ensures.none_later) (rw c.deref-2.ensures.value at c.last_end-ends_at.ensures.reached) in
+    omega (arith, c.requires.work, work_high _ c.requires.shape, div-le_self c.args.work c.from.result, span_le_work _ c.requires.shape _ (rw c.number-p.ensures.value c.number-p.ensures.some) _ _ d.greedy _ end c.args.span c.requires.span)
 
 -- what the simulation has made
 all_done : (c : After-drop-followers-inside-3) → IsDone c.args.rows.now c.number-p.result c.loop-worker.simulation

@@ -1,4 +1,4 @@
-// The workers of a simulation, by the ticks at which something next changes for each of them.
+// The workers of a simulation, and the ticks at which something changes.
 
 ghost use Rattle.std.specs.Prelude.{◌≡◌, ℕ, ◌+◌, ◌<◌, ◌≤◌, length, IfSome, IfNone};
 ghost use Rattle.std.specs.Int.{bit_at};
@@ -8,7 +8,7 @@ ghost use Rattle.boc_greedy.specs.Simulating.{later};
 use boc_types::limits::MOST_TICKS;
 use boc_types::sharing::SeenRows;
 
-/// A tick after every tick of a plan. Rows that haven't started stand here, and the changes of idle workers.
+/// A tick after every tick of a plan, at which rows stand that haven't started.
 pub const LATER: u64 = u64::MAX;
 
 /// A bit for each of so many workers, all of them set.
@@ -22,7 +22,7 @@ pub fn all_idle(count: u32) -> u64
 }
 
 /// The least worker whose bit is set, if there is one.
-pub fn least_idle(idle: u64) -> Option<usize>
+pub fn least_idle(idle: u64) -> Option<u32>
     ensures found { IfSome result (λ w. bit_at idle w ≡ 1) }
     ensures least { IfSome result (λ w. (v : ℕ) → v < w → bit_at idle v ≡ 0) }
     ensures none { IfNone result ((w : ℕ) → bit_at idle w ≡ 0) }
@@ -30,7 +30,7 @@ pub fn least_idle(idle: u64) -> Option<usize>
     if idle == 0 {
         return None;
     }
-    Some(idle.trailing_zeros() as usize)
+    Some(idle.trailing_zeros())
 }
 
 /// The tick at which a row that started then spawns this child or, where the child isn't there, ends.

@@ -57,13 +57,13 @@ IsLatest-same A B ends ends' x f g s q = record {
   });
 }
 
-pub contains_head : (c : ℕ) (cs : List ℕ) → Contains (c ∷ cs) c
+pub contains_head : {X : Type 0} (c : X) (cs : List X) → Contains (c ∷ cs) c
 contains_head c cs = (0, omega arith, refl)
 
-pub contains_tail : (c d : ℕ) (cs : List ℕ) → Contains cs d → Contains (c ∷ cs) d
+pub contains_tail : {X : Type 0} (c d : X) (cs : List X) → Contains cs d → Contains (c ∷ cs) d
 contains_tail c d cs (k, l, e) = (suc k, omega arith, e)
 
-pub contains_cases : (c d : ℕ) (cs : List ℕ) → Contains (c ∷ cs) d → (c ≡ d) ⊎ Contains cs d
+pub contains_cases : {X : Type 0} (c d : X) (cs : List X) → Contains (c ∷ cs) d → (c ≡ d) ⊎ Contains cs d
 contains_cases c d cs (zero, l, e) = inl e
 contains_cases c d cs (suc k, l, e) = inr (k, omega arith, e)
 

@@ -1,9 +1,10 @@
 -- A simulation begins.
-use Rattle.std.proofs.Common.{◌≡◌, ℕ, zero, suc, ◌+◌, ◌*◌, ◌<◌, ◌≤◌, List, [], ◌∷◌, length, replicate, refl, ap, inl, inr, arith}
+use Rattle.std.proofs.Common.{◌≡◌, ℕ, zero, suc, ◌+◌, ◌-◌, ◌*◌, ◌/◌, ◌^◌, ◌<◌, ◌≤◌, List, [], ◌∷◌, length, replicate, refl, ap, inl, inr, arith}
 use Rattle.boc_types.specs.declared.limits.TheConstants.{MOST_TICKS}
 use Rattle.std.specs.Prelude.{pred}
 use Rattle.std.specs.Int.{bit_at}
 use Rattle.std.proofs.lemmas.Bool.{cases_lt}
+use Rattle.std.proofs.lemmas.Nat.Bits.{bit_at_ones, bit_at_ones_above, ones_shr}
 use Rattle.std.proofs.lemmas.List.{length-replicate, get_or-replicate}
 use Rattle.std.proofs.lemmas.List.Sums.{sum_by-cons}
 use Rattle.std.proofs.lemmas.List.Folds.{sum_by-replicate}
@@ -91,6 +92,16 @@ module _ (rows : List Row) (hr : IsRows rows) (p end : ℕ) (few : p ≤ 64) (ea
 
   pub passed_first : HasPassed queue 0
   passed_first at r i = absurd (none_in at r i)
+
+-- the lowest bits of a word, so many of them
+low_bits : (count : ℕ) → count ≤ 64 → (2 ^ 64 - 1) / 2 ^ (64 - count) ≡ 2 ^ count - 1
+low_bits count few = (let left : 64 - (64 - count) ≡ count = omega (arith, few) in rw left at (ones_shr 64 (64 - count) (omega arith)))
+
+pub all_set : (count : ℕ) → count ≤ 64 → (w : ℕ) → w < count → bit_at ((2 ^ 64 - 1) / 2 ^ (64 - count)) w ≡ 1
+all_set count few w h = rw (low_bits count few) (bit_at_ones count w h)
+
+pub others_clear : (count : ℕ) → count ≤ 64 → (w : ℕ) → count ≤ w → bit_at ((2 ^ 64 - 1) / 2 ^ (64 - count)) w ≡ 0
+others_clear count few w h = rw (low_bits count few) (bit_at_ones_above count w h)
 
 -- main has two steps before it, and each other row three
 pub steps_first : (n : ℕ) (stages : List Stage) → 0 < n → stages ≡ Waiting ∷ replicate (pred n) Unspawned → steps_of_all stages + 1 ≡ n * 3

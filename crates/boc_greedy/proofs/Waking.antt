@@ -1,8 +1,8 @@
 -- The frontier as a row is spawned, starts or ends, and at the beginning.
-use Rattle.std.proofs.Common.{◌≡◌, ◌≢◌, ℕ, zero, suc, ◌+◌, ◌-◌, ◌++◌, ◌<◌, ◌⊎◌, List, [], ◌∷◌, length, get_or, refl, sym, ◌∙◌, ap, subst, inl, inr, arith, replicate, length-set}
+use Rattle.std.proofs.Common.{◌≡◌, ◌≢◌, ℕ, zero, suc, ◌+◌, ◌-◌, ◌++◌, ◌<◌, ◌≤◌, ◌⊎◌, List, [], ◌∷◌, length, get_or, refl, sym, ◌∙◌, ap, subst, inl, inr, arith, replicate, length-set}
 use Rattle.std.specs.Prelude.{slice_index, slice_set, Some, None, ◌↔◌}
 use Rattle.std.specs.List.{Contains}
-use Rattle.std.proofs.lemmas.Bool.{cases_eq}
+use Rattle.std.proofs.lemmas.Bool.{cases_eq, cases_lt}
 use Rattle.std.proofs.lemmas.List.{get_or_default, length-replicate, replicate-append-replicate}
 use Rattle.std.proofs.lemmas.Option.{slice_get_within}
 use Rattle.boc_types.specs.declared.rows.Row.{Row}
@@ -126,6 +126,12 @@ module _ (rows : List Row) (waits followers : List (List ℕ)) (stages : List St
   follower_there left row r is there has =
       let all : length waits ≡ length stages = is.are_reached.waits_whole in
       omega (arith, all, link_there waits r row (follower_waits waits followers is.are_followers row r (omega (arith, all, there)) has))
+
+-- all that a row waits for is over, where it was looked at to its end
+pub all_over : (waits : List ℕ) (stages : List Stage) (from reached : ℕ) → ((k : ℕ) → k < from → IsAt stages (slice_index waits k) Over) →
+    ((k : ℕ) → from ≤ k → k < reached → IsAt stages (slice_index waits k) Over) → length waits ≤ reached → (a : ℕ) → Contains waits a → IsAt stages a Over
+all_over waits stages from reached old new all a (k, h, e) =
+    subst (λ (x : ℕ). IsAt stages x Over) (get_or_default waits k 0 a h ∙ e) (elim (cases_lt k from) [ inl l ↦ old k l | inr ge ↦ new k ge (omega (arith, h, all)) ])
 
 -- at the beginning main waits, and no other row is spawned
 spawned_none : (m k : ℕ) (s : Stage) → IsAt (replicate m Unspawned) k s → Unspawned ≡ s

@@ -137,7 +137,7 @@ impl<'a> Frontier<'a> {
         }
     }
 
-    // A row that is spawned is ready, if all that it waits for is over.
+    // A row that is spawned is ready, if all that it waits for is over. It looks from where it stopped before.
     fn wake(&mut self, row: u32)
         requires there { row < length self.old.stages.items }
         requires few { length self.old.stages.items ≤ MOST_ROWS }
@@ -150,26 +150,15 @@ impl<'a> Frontier<'a> {
         ensures waits { self.new.waits.now ≡ self.old.waits.now }
         ensures followers { self.new.followers.now ≡ self.old.followers.now }
     {
-        if self.stages[row as usize] == Stage::Waiting && self.waits_are_over(row) {
-            self.ready.insert(row);
-        }
-    }
-
-    // Whether all that a row waits for is over. It looks from where it stopped before.
-    fn waits_are_over(&mut self, row: u32) -> bool
-        requires there { row < length self.old.stages.items }
-        requires reached { AreReached self.old.waits.now self.old.stages.items self.old.reached.items }
-        ensures over { IsTrue result ↔ HasNoWaits self.old.waits.now self.old.stages.items row }
-        ensures reached { AreReached self.old.waits.now self.old.stages.items self.new.reached.items }
-        ensures stages { self.new.stages.items ≡ self.old.stages.items }
-        ensures waits { self.new.waits.now ≡ self.old.waits.now }
-        ensures followers { self.new.followers.now ≡ self.old.followers.now }
-        ensures ready { self.new.ready ≡ self.old.ready }
-    {
+        let Stage::Waiting = self.stages[row as usize] else {
+            return;
+        };
         let links = self.waits;
         let waits = links.of(row as usize);
         let reached = over_from(waits, &self.stages, self.reached[row as usize]);
         self.reached[row as usize] = reached;
-        reached == waits.len()
+        if reached == waits.len() {
+            self.ready.insert(row);
+        }
     }
 }

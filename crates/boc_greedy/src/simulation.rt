@@ -1,14 +1,36 @@
 // A simulation of workers, from one tick at which something changes to the next.
 
+ghost use Rattle.std.specs.Prelude.{◌≡◌, ◌+◌, ◌<◌, ◌≤◌, length};
+ghost use Rattle.boc_types.specs.runs.Rows.{IsRows, offset_of, ticks_of};
+ghost use Rattle.boc_greedy.specs.Simulating.{later};
+
 use crate::bits::{with_bit, without_bit};
 use crate::children::{Family, family_of};
 use crate::frontier::Frontier;
-use crate::workers::{LATER, all_idle, change_of, least_idle};
 use boc_order::Links;
+use boc_types::limits::MOST_TICKS;
 use boc_types::sharing::SeenRows;
 use std::alloc::{AllocError, Global};
 use std::cmp::Reverse;
 use std::collections::BinaryHeap;
+
+// A tick after every tick of a plan, at which rows stand that haven't started.
+const LATER: u64 = u64::MAX;
+
+// The tick at which a row that started then spawns this child or, where the child isn't there, ends.
+fn change_of(rows: &SeenRows, start: u64, row: u32, child: u32) -> u64
+    requires shape { IsRows rows.now }
+    requires there { row < length rows.now }
+    requires early { start + MOST_TICKS < later }
+    ensures spawns { child < length rows.now → result ≡ start + offset_of rows.now child }
+    ensures ends { length rows.now ≤ child → result ≡ start + ticks_of rows.now row }
+{
+    if (child as usize) < rows.len() {
+        start + u64::from(rows.offset(child as usize))
+    } else {
+        start + u64::from(rows.ticks(row as usize))
+    }
+}
 
 /// How far a simulation is.
 #[derive(Drop)]
@@ -69,7 +91,7 @@ impl<'a> Simulation<'a> {
             frontier,
             family,
             queue: BinaryHeap::with_capacity(alloc, p as usize)?,
-            idle: all_idle(p),
+            idle: u64::MAX >> (64 - p),
             tick: 0,
             moments: 1,
         })
@@ -108,7 +130,8 @@ impl<'a> Simulation<'a> {
         ensures settled { OnOk result (IsSettled rows.now self.new) }
         ensures no_more { OnOk result (steps_of_all self.new.frontier.stages.items ≤ steps_of_all self.old.frontier.stages.items) }
     {
-        while let Some(worker) = least_idle(self.idle) {
+        while self.idle != 0 {
+            let worker = self.idle.trailing_zeros();
             if !self.give(rows, worker)? {
                 return Ok(());
             }

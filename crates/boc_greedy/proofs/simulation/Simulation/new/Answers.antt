@@ -1,7 +1,7 @@
 use Rattle.std.proofs.Common.{◌≡◌, ◌<◌, length, arith, replicate, rules}
 use Rattle.boc_types.specs.declared.limits.TheConstants.{MOST_TICKS}
 use Rattle.boc_greedy.specs.Simulating.{later}
-use Rattle.boc_greedy.proofs.Beginning.{steps_first, kept_first, given_first, passed_first}
+use Rattle.boc_greedy.proofs.Beginning.{all_set, others_clear, steps_first, kept_first, given_first, passed_first}
 use Rattle.boc_greedy.proofs.Counting.{counts_first}
 use Rattle.boc_greedy.proofs.Queued.{empty_queue}
 use Rattle.boc_greedy.proofs.simulation.Simulation.new.Goals as goal
@@ -13,9 +13,9 @@ returns-clause-giving c =
     let early : MOST_TICKS < later = omega arith in
     record {
       frontier = c.in_ok-frontier.ensures.kept;
-      kept = kept_first _ c.requires.shape _ later c.requires.few early _ _ _ _ _ _ _ starts workers c.in_ok-frontier.ensures.stages c.in_ok-family.ensures c.in_ok-with_capacity.ensures.items c.all_idle.ensures.set c.all_idle.ensures.others;
-      given = given_first _ c.requires.shape _ later c.requires.few early _ _ _ _ _ _ _ starts workers c.in_ok-frontier.ensures.stages c.in_ok-family.ensures c.in_ok-with_capacity.ensures.items c.all_idle.ensures.set c.all_idle.ensures.others;
-      passed = passed_first _ c.requires.shape _ later c.requires.few early _ _ _ _ _ _ _ starts workers c.in_ok-frontier.ensures.stages c.in_ok-family.ensures c.in_ok-with_capacity.ensures.items c.all_idle.ensures.set c.all_idle.ensures.others;
+      kept = kept_first _ c.requires.shape _ later c.requires.few early _ _ _ _ _ _ _ starts workers c.in_ok-frontier.ensures.stages c.in_ok-family.ensures c.in_ok-with_capacity.ensures.items (all_set c.args.p c.requires.few) (others_clear c.args.p c.requires.few);
+      given = given_first _ c.requires.shape _ later c.requires.few early _ _ _ _ _ _ _ starts workers c.in_ok-frontier.ensures.stages c.in_ok-family.ensures c.in_ok-with_capacity.ensures.items (all_set c.args.p c.requires.few) (others_clear c.args.p c.requires.few);
+      passed = passed_first _ c.requires.shape _ later c.requires.few early _ _ _ _ _ _ _ starts workers c.in_ok-frontier.ensures.stages c.in_ok-family.ensures c.in_ok-with_capacity.ensures.items (all_set c.args.p c.requires.few) (others_clear c.args.p c.requires.few);
       are_next = c.in_ok-family.ensures.are_next;
       queue = empty_queue _ c.in_ok-with_capacity.ensures.items c.in_ok-with_capacity.ensures.heap_order;
       counted = record { all = counts_first _ _; low = omega arith };

@@ -25,24 +25,12 @@ module _ (rows : List Row) (hr : IsRows rows) (p end : ℕ) (starts workers : Li
 
     pub kept_next : Kept rows p end starts workers stages first queue idle u
     kept_next = record {
-      starts_whole = k.starts_whole;
-      workers_whole = k.workers_whole;
-      stages_whole = k.stages_whole;
-      first_whole = k.first_whole;
-      few = k.few;
+      staged = k.staged;
       early = early;
-      unspawned = k.unspawned;
-      not_main = k.not_main;
-      waiting = k.waiting;
       under_way = λ q e. (let o = k.under_way q e in record { begun = omega (arith, o.begun, forward); below = o.below; taken = o.taken; change = o.change; queued = o.queued });
       over = λ q e. omega (arith, k.over q e, forward);
       spawned = λ a b c out. omega (arith, k.spawned a b c out, forward);
-      all_spawned = k.all_spawned;
-      left = k.left;
       busy = λ at q i. (let y = k.busy at q i in record { under_way = y.under_way; ahead = least at q i; spawns = y.spawns; ends = y.ends });
-      apart = k.apart;
-      held = k.held;
-      idle_below = k.idle_below;
       greedy = λ x lt. elim (cases_lt x t) [
         | inl l ↦ k.greedy x l
         | inr ge ↦ greedy_now rows hr p end starts workers stages first queue idle t k x ge (omega (arith, lt, early)) (λ at q i. omega (arith, least at q i, lt)) full g
@@ -57,7 +45,7 @@ module _ (rows : List Row) (hr : IsRows rows) (p end : ℕ) (starts workers : Li
         let y = k.busy u r top in
         let h = there rows hr p end starts workers stages first queue idle t k r UnderWay y.under_way in
         elim (cases_lt (slice_index first r) (length rows)) [
-          | inl l ↦ inr (inr (r, slice_index first r, (k.left r h).child_is l, sym (y.spawns l)))
+          | inl l ↦ inr (inr (r, slice_index first r, (k.staged.left r h).child_is l, sym (y.spawns l)))
           | inr ge ↦ inr (inl (r, h, sym (y.ends ge)))
         ]
 
@@ -69,7 +57,7 @@ module _ (rows : List Row) (hr : IsRows rows) (p end : ℕ) (starts workers : Li
     ]
 
     no_spawn : (a b x : ℕ) → IsChild rows a b → start_of starts a + offset_of rows b ≡ x → t < x → x ≤ u → x ≡ u
-    no_spawn a b x c e lt le = elim (unspawned_or_not stages b (omega (arith, k.stages_whole, c.there))) [
+    no_spawn a b x c e lt le = elim (unspawned_or_not stages b (omega (arith, k.staged.stages_whole, c.there))) [
       | inl s ↦ (
           let h : a < length rows = omega (arith, parent_there rows hr p end starts workers stages first queue idle t k a b c, c.there) in
           let q = parent_under_way rows hr p end starts workers stages first queue idle t k a b c s h (omega (arith, e, le, early)) in
@@ -85,13 +73,13 @@ module _ (rows : List Row) (hr : IsRows rows) (p end : ℕ) (starts workers : Li
   -- no tick is left
   module _ (some : 0 < p) (none : (at q : ℕ) → IsIn queue at q → ⊥) where
     over_by : (r : ℕ) → r < length rows → ((a : ℕ) → a < r → IsAt stages a Over) → IsAt stages r Over
-    over_by r h before = elim (at_stage stages r (omega (arith, k.stages_whole, h))) [
+    over_by r h before = elim (at_stage stages r (omega (arith, k.staged.stages_whole, h))) [
       | inl e ↦ absurd (elim (cases_lt 0 r) [
         | inl pos ↦ (let c : IsChild rows (parent_of rows r) r = record { not_main = pos; there = h; parent = refl } in
-            k.all_spawned (parent_of rows r) r c (before (parent_of rows r) (hr.parent_before r pos h)) e)
-        | inr ge ↦ (let z : r ≡ 0 = omega (arith, ge) in k.not_main (subst (λ (x : ℕ). IsAt stages x Unspawned) z e))
+            k.staged.all_spawned (parent_of rows r) r c (before (parent_of rows r) (hr.parent_before r pos h)) e)
+        | inr ge ↦ (let z : r ≡ 0 = omega (arith, ge) in k.staged.not_main (subst (λ (x : ℕ). IsAt stages x Unspawned) z e))
       ])
-      | inr (inl e) ↦ absurd (let (q, on, at) = k.held 0 some (full r 0 (record { waits = e; clear = λ a o. before a o.before })) in none _ q (k.under_way q on).queued)
+      | inr (inl e) ↦ absurd (let (q, on, at) = k.staged.held 0 some (full r 0 (record { waits = e; clear = λ a o. before a o.before })) in none _ q (k.under_way q on).queued)
       | inr (inr (inl e)) ↦ absurd (none _ r (k.under_way r e).queued)
       | inr (inr (inr e)) ↦ e
     ]
@@ -118,8 +106,8 @@ module _ (rows : List Row) (hr : IsRows rows) (p end : ℕ) (starts workers : Li
 
     pub greedy_all : IsGreedy rows p starts workers
     greedy_all = record {
-      whole = k.starts_whole;
-      all_served = k.workers_whole;
+      whole = k.staged.starts_whole;
+      all_served = k.staged.workers_whole;
       at = λ u. elim (cases_lt u t) [
         | inl l ↦ k.greedy u l
         | inr ge ↦ elim (cases_lt t u) [

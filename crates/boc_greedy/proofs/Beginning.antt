@@ -62,28 +62,30 @@ module _ (rows : List Row) (hr : IsRows rows) (p end : ℕ) (few : p ≤ 64) (ea
 
   pub kept_first : Kept rows p end starts workers stages first queue idle 0
   kept_first = record {
-    starts_whole = rw starts_is (length-replicate (length rows) end);
-    workers_whole = rw workers_is (length-replicate (length rows) 0);
-    stages_whole = stages_whole;
-    first_whole = family.whole;
-    few = few;
+    staged = record {
+      starts_whole = rw starts_is (length-replicate (length rows) end);
+      workers_whole = rw workers_is (length-replicate (length rows) 0);
+      stages_whole = stages_whole;
+      first_whole = family.whole;
+      few = few;
+      unspawned = λ r e. start_at r (there r Unspawned e);
+      not_main = λ e. (let m : IsAt stages 0 Waiting = rw stages_is refl in cc);
+      waiting = λ r e. start_at r (there r Waiting e);
+      all_spawned = λ a b c o e. none_at Over (λ d. (cc)) (λ d. (cc)) a o;
+      left = λ r h. (let n = family.child r h in record {
+        child_is = n.child;
+        before = λ b c lt e. n.none_between b (omega (arith, c.not_main)) lt c;
+        after = λ b c ge. unspawned_at b c.not_main c.there;
+      });
+      apart = λ a b ea eb same. absurd (none_at UnderWay (λ d. (cc)) (λ d. (cc)) a ea);
+      held = λ w h out. absurd (out (set w h));
+      idle_below = λ w is. elim (cases_lt w p) [ inl l ↦ l | inr ge ↦ absurd (omega (arith, is, clear w ge)) ];
+    };
     early = omega (arith, early);
-    unspawned = λ r e. start_at r (there r Unspawned e);
-    not_main = λ e. (let m : IsAt stages 0 Waiting = rw stages_is refl in cc);
-    waiting = λ r e. start_at r (there r Waiting e);
     under_way = λ r e. absurd (none_at UnderWay (λ d. (cc)) (λ d. (cc)) r e);
     over = λ r e. absurd (none_at Over (λ d. (cc)) (λ d. (cc)) r e);
     spawned = λ a b c out. absurd (out (unspawned_at b c.not_main c.there));
-    all_spawned = λ a b c o e. none_at Over (λ d. (cc)) (λ d. (cc)) a o;
-    left = λ r h. (let n = family.child r h in record {
-      child_is = n.child;
-      before = λ b c lt e. n.none_between b (omega (arith, c.not_main)) lt c;
-      after = λ b c ge. unspawned_at b c.not_main c.there;
-    });
     busy = λ at r i. absurd (none_in at r i);
-    apart = λ a b ea eb same. absurd (none_at UnderWay (λ d. (cc)) (λ d. (cc)) a ea);
-    held = λ w h out. absurd (out (set w h));
-    idle_below = λ w is. elim (cases_lt w p) [ inl l ↦ l | inr ge ↦ absurd (omega (arith, is, clear w ge)) ];
     greedy = λ u lt. absurd (omega (arith, lt));
   }
 

@@ -1,5 +1,5 @@
 -- The row on top of the queue, for which something changes at this tick.
-use Rattle.std.proofs.Common.{◌≡◌, ℕ, ◌+◌, ◌<◌, List, length, arith}
+use Rattle.std.proofs.Common.{ℕ, ◌+◌, ◌<◌, List, length, arith}
 use Rattle.std.specs.Prelude.{slice_index}
 use Rattle.std.specs.BinaryHeap.{heap_items}
 use Rattle.boc_types.specs.declared.limits.TheConstants.{MOST_TICKS}
@@ -34,5 +34,5 @@ is_due rows hr s r i top =
       there = h;
       under_way = on;
       early = omega (arith, (k.under_way r on).begun, k.early);
-      unspawned = λ l. (k.left r h).after _ ((k.left r h).child_is l) (omega arith);
+      unspawned = λ l. (k.staged.left r h).after _ ((k.staged.left r h).child_is l) (omega arith);
     }

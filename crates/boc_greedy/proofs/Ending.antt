@@ -40,7 +40,7 @@ module _ (rows : List Row) (hr : IsRows rows) (p end : ℕ) (starts workers : Li
   on_after a e =
       let old = ran a e in
       let o = k.under_way a old.1 in
-      let other : worker_of workers a ≢ worker_of workers r = λ same. old.0 (k.apart a r old.1 is_busy.under_way same) in
+      let other : worker_of workers a ≢ worker_of workers r = λ same. old.0 (k.staged.apart a r old.1 is_busy.under_way same) in
       record { begun = o.begun; below = o.below; taken = λ is. o.taken (sym (others _ other) ∙ is); change = o.change; queued = po.stays o.change a old.0 o.queued }
 
   busy_after : (at q : ℕ) → IsIn rest at q → IsBusy rows starts stages' t q (slice_index first q) at
@@ -57,42 +57,44 @@ module _ (rows : List Row) (hr : IsRows rows) (p end : ℕ) (starts workers : Li
 
   all_after : (a b : ℕ) → IsChild rows a b → IsAt stages' a Over → IsAt stages' b Unspawned → ⊥
   all_after a b d o e = elim (cases_eq a r) [
-    | inl same ↦ (k.left r (there rows hr p end starts workers stages first queue idle t k r UnderWay is_busy.under_way)).before b (subst (λ (x : ℕ). IsChild rows x b) same d)
+    | inl same ↦ (k.staged.left r (there rows hr p end starts workers stages first queue idle t k r UnderWay is_busy.under_way)).before b (subst (λ (x : ℕ). IsChild rows x b) same d)
         (omega (arith, d.there, none_left)) (was b e)
-    | inr ne ↦ k.all_spawned a b d (sym (sg.others a ne) ∙ o) (was b e)
+    | inr ne ↦ k.staged.all_spawned a b d (sym (sg.others a ne) ∙ o) (was b e)
   ]
 
   held_after : (v : ℕ) → v < p → bit_at idle' v ≢ 1 → (q : ℕ) × IsAt stages' q UnderWay × (worker_of workers q ≡ v)
   held_after v h out =
       let other : v ≢ worker_of workers r = λ e. out (rw e is_set) in
-      let (q, on, at) = k.held v h (λ is. out (others v other ∙ is)) in
+      let (q, on, at) = k.staged.held v h (λ is. out (others v other ∙ is)) in
       (q, runs_on q (λ e. other (sym at ∙ ap (worker_of workers) e)) on, at)
 
   idle_after : (v : ℕ) → bit_at idle' v ≡ 1 → v < p
   idle_after v is = elim (cases_eq v (worker_of workers r)) [
     | inl e ↦ rw e (k.under_way r is_busy.under_way).below
-    | inr ne ↦ k.idle_below v (sym (others v ne) ∙ is)
+    | inr ne ↦ k.staged.idle_below v (sym (others v ne) ∙ is)
   ]
 
   pub kept_after : Kept rows p end starts workers stages' first rest idle' t
   kept_after = record {
-    starts_whole = k.starts_whole;
-    workers_whole = k.workers_whole;
-    stages_whole = omega (arith, sg.whole, k.stages_whole);
-    first_whole = k.first_whole;
-    few = k.few;
+    staged = record {
+      starts_whole = k.staged.starts_whole;
+      workers_whole = k.staged.workers_whole;
+      stages_whole = omega (arith, sg.whole, k.staged.stages_whole);
+      first_whole = k.staged.first_whole;
+      few = k.staged.few;
+      unspawned = λ b e. k.staged.unspawned b (was b e);
+      not_main = λ e. k.staged.not_main (was 0 e);
+      waiting = λ b e. k.staged.waiting b (other_stage stages stages' r Over sg b Waiting (λ d. (cc)) e).1;
+      all_spawned = all_after;
+      left = λ q h. left_same rows stages stages' q _ was (λ b d. stays b) (k.staged.left q h);
+      apart = λ a b ea eb. k.staged.apart a b (ran a ea).1 (ran b eb).1;
+      held = held_after;
+      idle_below = idle_after;
+    };
     early = k.early;
-    unspawned = λ b e. k.unspawned b (was b e);
-    not_main = λ e. k.not_main (was 0 e);
-    waiting = λ b e. k.waiting b (other_stage stages stages' r Over sg b Waiting (λ d. (cc)) e).1;
     under_way = on_after;
     over = over_after;
     spawned = λ a b d out. k.spawned a b d (λ e. out (stays b e));
-    all_spawned = all_after;
-    left = λ q h. left_same rows stages stages' q _ was (λ b d. stays b) (k.left q h);
     busy = busy_after;
-    apart = λ a b ea eb. k.apart a b (ran a ea).1 (ran b eb).1;
-    held = held_after;
-    idle_below = idle_after;
     greedy = k.greedy;
   }

@@ -1,5 +1,5 @@
 -- A row starts on an idle worker.
-use Rattle.std.proofs.Common.{◌≡◌, ◌≢◌, ℕ, ◌+◌, ◌<◌, ◌≤◌, List, length, refl, sym, ap, ◌∙◌, subst, inl, inr, arith}
+use Rattle.std.proofs.Common.{◌≡◌, ◌≢◌, ℕ, ◌+◌, ◌<◌, ◌≤◌, List, length, refl, sym, ap, ◌∙◌, inl, inr, arith}
 use Rattle.std.specs.Prelude.{slice_index}
 use Rattle.std.specs.Int.{bit_at}
 use Rattle.std.proofs.lemmas.Bool.{cases_lt, cases_eq}
@@ -14,8 +14,8 @@ use Rattle.boc_greedy.specs.Queues.{Entry, IsIn}
 use Rattle.boc_greedy.specs.Simulating.{IsOn, IsBusy, Kept, Given, HasPassed}
 use Rattle.boc_greedy.proofs.Puts.{Puts, Restages, other_stage, stage_stays, not_same, left_same}
 use Rattle.boc_greedy.proofs.Queued.{Pushed}
-use Rattle.boc_greedy.proofs.Agreeing.{Agree, ready_there, free_there, up, greedy_there}
-use Rattle.boc_greedy.proofs.Standing.{there, started, offset_low}
+use Rattle.boc_greedy.proofs.Agreeing.{Agree, ready_there, free_there, greedy_there}
+use Rattle.boc_greedy.proofs.Standing.{there, started}
 
 module _ (rows : List Row) (hr : IsRows rows) (p end : ℕ) (starts workers : List ℕ) (stages : List Stage) (first : List ℕ) (queue : List Entry) (idle t : ℕ)
     (k : Kept rows p end starts workers stages first queue idle t)
@@ -27,11 +27,11 @@ module _ (rows : List Row) (hr : IsRows rows) (p end : ℕ) (starts workers : Li
   x_there = there rows hr p end starts workers stages first queue idle t k x Waiting can.waits
 
   x_waits : start_of starts x ≡ end
-  x_waits = k.waiting x can.waits
+  x_waits = k.staged.waiting x can.waits
 
   change_above : t < change
   change_above = elim (cases_lt (slice_index first x) (length rows)) [
-    | inl l ↦ (let c = (k.left x x_there).child_is l in omega (arith, spawns l, hr.offset_above _ c.not_main c.there))
+    | inl l ↦ (let c = (k.staged.left x x_there).child_is l in omega (arith, spawns l, hr.offset_above _ c.not_main c.there))
     | inr ge ↦ omega (arith, ends ge, hr.ticks_low x x_there)
   ]
 
@@ -67,7 +67,7 @@ module _ (rows : List Row) (hr : IsRows rows) (p end : ℕ) (starts workers : Li
 
   on_after : (r : ℕ) → IsAt stages' r UnderWay → IsOn p starts' workers' queue' idle' t r
   on_after r e = elim (cases_eq r x) [
-    | inl same ↦ rw same (record { begun = omega (arith, ps.at); below = rw pw.at (k.idle_below w is_idle); taken = rw pw.at (λ is. omega (arith, is, cleared)); change = change; queued = pq.here })
+    | inl same ↦ rw same (record { begun = omega (arith, ps.at); below = rw pw.at (k.staged.idle_below w is_idle); taken = rw pw.at (λ is. omega (arith, is, cleared)); change = change; queued = pq.here })
     | inr ne ↦ (
         let o = was_on r ne e in
         let moved : worker_of workers' r ≡ worker_of workers r = pw.others r ne in
@@ -97,14 +97,14 @@ module _ (rows : List Row) (hr : IsRows rows) (p end : ℕ) (starts workers : Li
     ]
     | inr na ↦ elim (cases_eq b x) [
       | inl bx ↦ absurd (other_worker a na ea (same ∙ ap (worker_of workers') bx ∙ pw.at))
-      | inr nb ↦ k.apart a b (sym (sg.others a na) ∙ ea) (sym (sg.others b nb) ∙ eb) (sym (pw.others a na) ∙ same ∙ pw.others b nb)
+      | inr nb ↦ k.staged.apart a b (sym (sg.others a na) ∙ ea) (sym (sg.others b nb) ∙ eb) (sym (pw.others a na) ∙ same ∙ pw.others b nb)
     ]
   ]
 
   held_after : (v : ℕ) → v < p → bit_at idle' v ≢ 1 → (r : ℕ) × IsAt stages' r UnderWay × (worker_of workers' r ≡ v)
   held_after v h out = elim (cases_eq v w) [
     | inl e ↦ (x, sg.at, pw.at ∙ sym e)
-    | inr ne ↦ (let (r, on, at) = k.held v h (λ is. out (others v ne ∙ is)) in let o = other_on r on in (r, o.1, pw.others r o.0 ∙ at))
+    | inr ne ↦ (let (r, on, at) = k.staged.held v h (λ is. out (others v ne ∙ is)) in let o = other_on r on in (r, o.1, pw.others r o.0 ∙ at))
   ]
 
   -- a worker that is idle is another, and was idle
@@ -113,26 +113,28 @@ module _ (rows : List Row) (hr : IsRows rows) (p end : ℕ) (starts workers : Li
 
   pub kept_after : Kept rows p end starts' workers' stages' first queue' idle' t
   kept_after = record {
-    starts_whole = omega (arith, ps.whole, k.starts_whole);
-    workers_whole = omega (arith, pw.whole, k.workers_whole);
-    stages_whole = omega (arith, sg.whole, k.stages_whole);
-    first_whole = k.first_whole;
-    few = k.few;
+    staged = record {
+      starts_whole = omega (arith, ps.whole, k.staged.starts_whole);
+      workers_whole = omega (arith, pw.whole, k.staged.workers_whole);
+      stages_whole = omega (arith, sg.whole, k.staged.stages_whole);
+      first_whole = k.staged.first_whole;
+      few = k.staged.few;
+      unspawned = λ r e. (let o = other_stage stages stages' x UnderWay sg r Unspawned (λ d. (cc)) e in omega (arith, ps.others r o.0, k.staged.unspawned r o.1));
+      not_main = λ e. k.staged.not_main (was_unspawned 0 e);
+      waiting = λ r e. (let o = other_stage stages stages' x UnderWay sg r Waiting (λ d. (cc)) e in omega (arith, ps.others r o.0, k.staged.waiting r o.1));
+      all_spawned = λ a b c o e. k.staged.all_spawned a b c (other_stage stages stages' x UnderWay sg a Over (λ d. (cc)) o).1 (was_unspawned b e);
+      left = λ r h. left_same rows stages stages' r _ was_unspawned (λ b c. stays_unspawned b) (k.staged.left r h);
+      apart = apart_after;
+      held = held_after;
+      idle_below = λ v is. k.staged.idle_below v (was_idle v is).1;
+    };
     early = k.early;
-    unspawned = λ r e. (let o = other_stage stages stages' x UnderWay sg r Unspawned (λ d. (cc)) e in omega (arith, ps.others r o.0, k.unspawned r o.1));
-    not_main = λ e. k.not_main (was_unspawned 0 e);
-    waiting = λ r e. (let o = other_stage stages stages' x UnderWay sg r Waiting (λ d. (cc)) e in omega (arith, ps.others r o.0, k.waiting r o.1));
     under_way = on_after;
     over = λ r e. (let o = other_stage stages stages' x UnderWay sg r Over (λ d. (cc)) e in omega (arith, ps.others r o.0, k.over r o.1));
     spawned = λ a b c out. (
         let s = k.spawned a b c (λ e. out (stays_unspawned b e)) in
         omega (arith, s, ps.others a (not_x a (omega (arith, s)))));
-    all_spawned = λ a b c o e. k.all_spawned a b c (other_stage stages stages' x UnderWay sg a Over (λ d. (cc)) o).1 (was_unspawned b e);
-    left = λ r h. left_same rows stages stages' r _ was_unspawned (λ b c. stays_unspawned b) (k.left r h);
     busy = busy_after;
-    apart = apart_after;
-    held = held_after;
-    idle_below = λ v is. k.idle_below v (was_idle v is).1;
     greedy = λ u lt. greedy_there rows hr p t starts starts' workers workers' agree u lt (k.greedy u lt);
   }
 
@@ -157,7 +159,7 @@ module _ (rows : List Row) (hr : IsRows rows) (p end : ℕ) (starts workers : Li
     -- an idle worker has no row that isn't over
     w_free : IsFree rows p starts workers t w
     w_free = record {
-      below = k.idle_below w is_idle;
+      below = k.staged.idle_below w is_idle;
       idle = λ r h on lt. elim (started rows hr p end starts workers stages first queue idle t k r h (omega (arith, lt, k.early))) [
         | inl e ↦ absurd ((k.under_way r e).taken (rw on is_idle))
         | inr e ↦ k.over r e

@@ -25,7 +25,7 @@ module _ (rows : List Row) (hr : IsRows rows) (p end : ℕ) (starts workers : Li
   is_busy = rw c_is at (k.busy t r due)
 
   were_left : AreLeft rows stages r c
-  were_left = rw c_is at (k.left r (there rows hr p end starts workers stages first queue idle t k r UnderWay is_busy.under_way))
+  were_left = rw c_is at (k.staged.left r (there rows hr p end starts workers stages first queue idle t k r UnderWay is_busy.under_way))
 
   c_child : IsChild rows r c
   c_child = were_left.child_is c_there
@@ -69,7 +69,7 @@ module _ (rows : List Row) (hr : IsRows rows) (p end : ℕ) (starts workers : Li
       ]);
       after = λ b d ge. stays b (λ e. omega (arith, e, ge, next_is.above)) (were_left.after b d (omega (arith, ge, next_is.above)));
     })
-    | inr ne ↦ rw (pf.others q ne) (left_same rows stages stages' q _ (λ b e. (was b e).1) (λ b d. stays b (λ e. ne (parent_is_r q b d e))) (k.left q h))
+    | inr ne ↦ rw (pf.others q ne) (left_same rows stages stages' q _ (λ b e. (was b e).1) (λ b d. stays b (λ e. ne (parent_is_r q b d e))) (k.staged.left q h))
   ]
 
   on_after : (a : ℕ) → IsOn p starts workers queue idle t a → IsOn p starts workers queue' idle t a
@@ -89,8 +89,8 @@ module _ (rows : List Row) (hr : IsRows rows) (p end : ℕ) (starts workers : Li
 
   waiting_after : (b : ℕ) → IsAt stages' b Waiting → start_of starts b ≡ end
   waiting_after b e = elim (cases_eq b c) [
-    | inl same ↦ rw same (k.unspawned c c_unspawned)
-    | inr ne ↦ k.waiting b (sym (sg.others b ne) ∙ e)
+    | inl same ↦ rw same (k.staged.unspawned c c_unspawned)
+    | inr ne ↦ k.staged.waiting b (sym (sg.others b ne) ∙ e)
   ]
 
   spawned_after : (a b : ℕ) → IsChild rows a b → (IsAt stages' b Unspawned → ⊥) → start_of starts a + offset_of rows b ≤ t
@@ -101,23 +101,25 @@ module _ (rows : List Row) (hr : IsRows rows) (p end : ℕ) (starts workers : Li
 
   pub kept_after : Kept rows p end starts workers stages' first' queue' idle t
   kept_after = record {
-    starts_whole = k.starts_whole;
-    workers_whole = k.workers_whole;
-    stages_whole = omega (arith, sg.whole, k.stages_whole);
-    first_whole = omega (arith, pf.whole, k.first_whole);
-    few = k.few;
+    staged = record {
+      starts_whole = k.staged.starts_whole;
+      workers_whole = k.staged.workers_whole;
+      stages_whole = omega (arith, sg.whole, k.staged.stages_whole);
+      first_whole = omega (arith, pf.whole, k.staged.first_whole);
+      few = k.staged.few;
+      unspawned = λ b e. k.staged.unspawned b (was b e).1;
+      not_main = λ e. k.staged.not_main (was 0 e).1;
+      waiting = waiting_after;
+      all_spawned = λ a b d o e. k.staged.all_spawned a b d (other_stage stages stages' c Waiting sg a Over (λ d. (cc)) o).1 (was b e).1;
+      left = left_after;
+      apart = λ a b ea eb. k.staged.apart a b (ran a ea) (ran b eb);
+      held = λ w h out. (let (q, on, at) = k.staged.held w h out in (q, runs_on q on, at));
+      idle_below = k.staged.idle_below;
+    };
     early = k.early;
-    unspawned = λ b e. k.unspawned b (was b e).1;
-    not_main = λ e. k.not_main (was 0 e).1;
-    waiting = waiting_after;
     under_way = λ a e. on_after a (k.under_way a (ran a e));
     over = λ a e. k.over a (other_stage stages stages' c Waiting sg a Over (λ d. (cc)) e).1;
     spawned = spawned_after;
-    all_spawned = λ a b d o e. k.all_spawned a b d (other_stage stages stages' c Waiting sg a Over (λ d. (cc)) o).1 (was b e).1;
-    left = left_after;
     busy = busy_after;
-    apart = λ a b ea eb. k.apart a b (ran a ea) (ran b eb);
-    held = λ w h out. (let (q, on, at) = k.held w h out in (q, runs_on q on, at));
-    idle_below = k.idle_below;
     greedy = k.greedy;
   }

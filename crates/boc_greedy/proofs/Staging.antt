@@ -1,6 +1,6 @@
 -- What stays as one row moves on to another stage.
-use Rattle.std.proofs.Common.{◌≡◌, ◌≢◌, ℕ, zero, suc, ◌+◌, ◌<◌, ◌⊎◌, List, [], ◌∷◌, length, refl, sym, ◌∙◌, ap, subst, inl, inr, arith, length-set}
-use Rattle.std.specs.Prelude.{slice_set, Some, None}
+use Rattle.std.proofs.Common.{◌≡◌, ◌≢◌, ℕ, zero, suc, ◌+◌, ◌<◌, ◌⊎◌, List, length, sym, ◌∙◌, subst, inl, inr, arith, length-set}
+use Rattle.std.specs.Prelude.{slice_set, Some}
 use Rattle.std.specs.List.{Contains}
 use Rattle.std.proofs.lemmas.Bool.{cases_eq}
 use Rattle.boc_types.proofs.ChangedItems.{place_below, set_same, set_other}
@@ -9,9 +9,9 @@ use Rattle.boc_types.specs.plans.Plans.{Ordered}
 use Rattle.boc_order.specs.Waits.{links_of, AreWaits}
 use Rattle.boc_order.proofs.Near.{near_complete, near_ordered}
 use Rattle.boc_greedy.specs.declared.frontier.Stage.{Stage}
-use Rattle.boc_greedy.specs.declared.frontier.Stage.TheVariants.{Unspawned, Waiting, UnderWay, Over}
+use Rattle.boc_greedy.specs.declared.frontier.Stage.TheVariants.{Waiting, UnderWay, Over}
 use Rattle.boc_greedy.specs.Stages.{IsAt, CanStart}
-use Rattle.boc_greedy.specs.Frontier.{HasNoWaits, AwaitsWorker}
+use Rattle.boc_greedy.specs.Frontier.{HasNoWaits, AwaitsWorker, AreInTurn}
 
 -- the stage of a row in a list of which one row's stage was changed
 pub moved : (stages : List Stage) (r k : ℕ) (s t : Stage) → IsAt (slice_set stages r s) k t → ((k ≡ r) × (s ≡ t)) ⊎ ((k ≢ r) × IsAt stages k t)
@@ -58,21 +58,19 @@ module _ (rows : List Row) (stages : List Stage) (row : ℕ) (from to : Stage) (
     | inr n ↦ moved_other stages row a to Over n e
   ]
 
-  pub turns_stay : (to ≡ UnderWay → (a : ℕ) → Ordered rows a row → IsAt stages a Over) →
-      ((r : ℕ) → IsAt stages r UnderWay → (a : ℕ) → Ordered rows a r → IsAt stages a Over) →
-      (r : ℕ) → IsAt (slice_set stages row to) r UnderWay → (a : ℕ) → Ordered rows a r → IsAt (slice_set stages row to) a Over
-  turns_stay clear turns r e a o = over_stays a (elim (moved stages row r to UnderWay e) [
-    | inl p ↦ clear p.1 a (subst (Ordered rows a) p.0 o)
-    | inr p ↦ turns r p.1 a o
-  ])
-
-  pub past_stays : (to ≡ Over → (a : ℕ) → Ordered rows a row → IsAt stages a Over) →
-      ((r : ℕ) → IsAt stages r Over → (a : ℕ) → Ordered rows a r → IsAt stages a Over) →
-      (r : ℕ) → IsAt (slice_set stages row to) r Over → (a : ℕ) → Ordered rows a r → IsAt (slice_set stages row to) a Over
-  past_stays clear past r e a o = over_stays a (elim (moved stages row r to Over e) [
+  stay : (q : Stage) → (to ≡ q → (a : ℕ) → Ordered rows a row → IsAt stages a Over) → ((r : ℕ) → IsAt stages r q → (a : ℕ) → Ordered rows a r → IsAt stages a Over) →
+      (r : ℕ) → IsAt (slice_set stages row to) r q → (a : ℕ) → Ordered rows a r → IsAt (slice_set stages row to) a Over
+  stay q clear past r e a o = over_stays a (elim (moved stages row r to q e) [
     | inl p ↦ clear p.1 a (subst (Ordered rows a) p.0 o)
     | inr p ↦ past r p.1 a o
   ])
+
+  pub stay_in_turn : (to ≢ Waiting → (a : ℕ) → Ordered rows a row → IsAt stages a Over) → AreInTurn rows stages → AreInTurn rows (slice_set stages row to)
+  stay_in_turn clear is = record {
+    whole = simp length-set is.whole;
+    turns = stay UnderWay (λ e. clear (λ w. (cc))) is.turns;
+    past = stay Over (λ e. clear (λ w. (cc))) is.past;
+  }
 
   pub ready_stays : (waits : List (List ℕ)) (r : ℕ) → r ≢ row → AwaitsWorker waits stages r → AwaitsWorker waits (slice_set stages row to) r
   ready_stays waits r n is = record { waiting = moved_other stages row r to Waiting n is.waiting; over = λ a has. over_stays a (is.over a has) }

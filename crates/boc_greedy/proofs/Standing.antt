@@ -8,7 +8,7 @@ use Rattle.std.proofs.lemmas.Bool.{cases_lt, cases_eq}
 use Rattle.boc_types.specs.declared.rows.Row.{Row}
 use Rattle.boc_types.specs.runs.Rows.{IsRows, parent_of, offset_of, ticks_of}
 use Rattle.boc_types.specs.plans.Plans.{start_of, end_of, IsChild}
-use Rattle.boc_types.specs.plans.Greedy.{worker_of, IsReady, IsFree, IsTaken, IsGreedyAt}
+use Rattle.boc_types.specs.plans.Greedy.{IsReady, IsFree, IsTaken, IsGreedyAt}
 use Rattle.boc_greedy.specs.declared.frontier.Stage.{Stage}
 use Rattle.boc_greedy.specs.declared.frontier.Stage.TheVariants.{Unspawned, UnderWay, Over}
 use Rattle.boc_greedy.specs.Stages.{IsAt, CanStart}
@@ -19,13 +19,13 @@ use Rattle.boc_greedy.proofs.Puts.{at_stage}
 module _ (rows : List Row) (hr : IsRows rows) (p end : ℕ) (starts workers : List ℕ) (stages : List Stage) (first : List ℕ) (queue : List Entry) (idle t : ℕ)
     (k : Kept rows p end starts workers stages first queue idle t) where
   pub there : (r : ℕ) (s : Stage) → IsAt stages r s → r < length rows
-  there r s e = omega (arith, slice_get_within stages r s e, k.stages_whole)
+  there r s e = omega (arith, slice_get_within stages r s e, k.staged.stages_whole)
 
   -- a row that starts before the last tick has started
   pub started : (r : ℕ) → r < length rows → start_of starts r < end → IsAt stages r UnderWay ⊎ IsAt stages r Over
-  started r h lt = elim (at_stage stages r (omega (arith, k.stages_whole))) [
-    | inl e ↦ absurd (omega (arith, k.unspawned r e))
-    | inr (inl e) ↦ absurd (omega (arith, k.waiting r e))
+  started r h lt = elim (at_stage stages r (omega (arith, k.staged.stages_whole))) [
+    | inl e ↦ absurd (omega (arith, k.staged.unspawned r e))
+    | inr (inl e) ↦ absurd (omega (arith, k.staged.waiting r e))
     | inr (inr x) ↦ x
   ]
 
@@ -45,7 +45,7 @@ module _ (rows : List Row) (hr : IsRows rows) (p end : ℕ) (starts workers : Li
   -- a change comes no later than the end of the row
   pub change_low : (r change : ℕ) → IsBusy rows starts stages t r (slice_index first r) change → change ≤ end_of rows starts r
   change_low r change y = elim (cases_lt (slice_index first r) (length rows)) [
-    | inl l ↦ omega (arith, y.spawns l, offset_low r _ ((k.left r (there r UnderWay y.under_way)).child_is l))
+    | inl l ↦ omega (arith, y.spawns l, offset_low r _ ((k.staged.left r (there r UnderWay y.under_way)).child_is l))
     | inr ge ↦ omega (arith, y.ends ge)
   ]
 
@@ -59,7 +59,7 @@ module _ (rows : List Row) (hr : IsRows rows) (p end : ℕ) (starts workers : Li
   pub change_first : (r change : ℕ) → IsBusy rows starts stages t r (slice_index first r) change → (b : ℕ) → IsChild rows r b → IsAt stages b Unspawned →
       change ≤ start_of starts r + offset_of rows b
   change_first r change y b c e =
-      let left = k.left r (there r UnderWay y.under_way) in
+      let left = k.staged.left r (there r UnderWay y.under_way) in
       elim (cases_lt b (slice_index first r)) [
         | inl l ↦ absurd (left.before b c l e)
         | inr ge ↦ (
@@ -73,7 +73,7 @@ module _ (rows : List Row) (hr : IsRows rows) (p end : ℕ) (starts workers : Li
 
   -- a parent that has started, of a child that isn't spawned, is under way
   pub parent_under_way : (a b : ℕ) → IsChild rows a b → IsAt stages b Unspawned → a < length rows → start_of starts a < end → IsAt stages a UnderWay
-  parent_under_way a b c e h lt = elim (started a h lt) [ inl u ↦ u | inr o ↦ absurd (k.all_spawned a b c o e) ]
+  parent_under_way a b c e h lt = elim (started a h lt) [ inl u ↦ u | inr o ↦ absurd (k.staged.all_spawned a b c o e) ]
 
   pub parent_there : (a b : ℕ) → IsChild rows a b → a < b
   parent_there a b c = omega (arith, c.parent, hr.parent_before b c.not_main c.there)
@@ -82,7 +82,7 @@ module _ (rows : List Row) (hr : IsRows rows) (p end : ℕ) (starts workers : Li
   module _ (u : ℕ) (now : t ≤ u) (low : u < end) (passed : HasPassed queue u) where
     pub can_start : (b : ℕ) → IsReady rows starts u b → u < start_of starts b → CanStart rows stages b
     can_start b i lt = record {
-      waits = elim (at_stage stages b (omega (arith, k.stages_whole, i.there))) [
+      waits = elim (at_stage stages b (omega (arith, k.staged.stages_whole, i.there))) [
         | inl e ↦ absurd (elim (cases_lt 0 b) [
           | inl pos ↦ (
               let c : IsChild rows (parent_of rows b) b = record { not_main = pos; there = i.there; parent = refl } in
@@ -90,7 +90,7 @@ module _ (rows : List Row) (hr : IsRows rows) (p end : ℕ) (starts workers : Li
               let h : parent_of rows b < length rows = omega (arith, parent_there (parent_of rows b) b c, i.there) in
               let w = parent_under_way (parent_of rows b) b c e h (omega (arith, s)) in
               omega (arith, s, change_first _ _ (its_change (parent_of rows b) w) b c e, passed _ _ (k.under_way (parent_of rows b) w).queued))
-          | inr ge ↦ (let z : b ≡ 0 = omega (arith, ge) in k.not_main (subst (λ (x : ℕ). IsAt stages x Unspawned) z e))
+          | inr ge ↦ (let z : b ≡ 0 = omega (arith, ge) in k.staged.not_main (subst (λ (x : ℕ). IsAt stages x Unspawned) z e))
         ])
         | inr (inl e) ↦ e
         | inr (inr (inl e)) ↦ absurd (omega (arith, lt, (k.under_way b e).begun))
@@ -107,7 +107,7 @@ module _ (rows : List Row) (hr : IsRows rows) (p end : ℕ) (starts workers : Li
     -- a worker that has a row gets no other before it ends
     pub busy_taken : (w : ℕ) → bit_at idle w ≢ 1 → IsFree rows p starts workers u w → IsTaken rows starts workers u w
     busy_taken w out f =
-        let (r, on, stands) = k.held w f.below out in
+        let (r, on, stands) = k.staged.held w f.below out in
         elim (cases_lt (start_of starts r) u) [
           | inl l ↦ absurd (omega (arith, f.idle r (there r UnderWay on) stands l, change_low _ _ (its_change r on), passed _ _ (k.under_way r on).queued))
           | inr ge ↦ (r, there r UnderWay on, omega (arith, ge, (k.under_way r on).begun), stands)

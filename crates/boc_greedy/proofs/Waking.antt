@@ -18,7 +18,7 @@ use Rattle.boc_greedy.proofs.WordsAbove.{zero_at}
 use Rattle.boc_greedy.proofs.Followed.{follower_waits, waiter_follows, link_there}
 use Rattle.boc_greedy.proofs.Puts.{not_same}
 use Rattle.boc_greedy.proofs.Queueing.{queued, IsWoken, queued_each, queued_more, queued_woken, queued_pop}
-use Rattle.boc_greedy.proofs.Staging.{moved_same, ready_can, can_ready, turns_stay, past_stays, ready_stays, was_ready, over_stays}
+use Rattle.boc_greedy.proofs.Staging.{moved_same, ready_can, can_ready, stay_in_turn, ready_stays, was_ready, over_stays}
 
 -- rows that were over stay over
 pub reached_stays : (waits : List (List ℕ)) (stages stages' : List Stage) (reached : List ℕ) → length stages' ≡ length stages →
@@ -36,9 +36,7 @@ module _ (rows : List Row) (waits followers : List (List ℕ)) (stages : List St
   pub spawned : (row : ℕ) → IsKeptBut rows [] waits followers stages reached ready → IsAt stages row Unspawned →
       IsKeptBut rows (row ∷ []) waits followers (slice_set stages row Waiting) reached ready
   spawned row is was = record {
-    whole = simp length-set is.whole;
-    turns = turns_stay rows stages row Unspawned Waiting was (λ e. (cc)) (λ e. absurd (cc)) is.turns;
-    past = past_stays rows stages row Unspawned Waiting was (λ e. (cc)) (λ e. absurd (cc)) is.past;
+    in_turn = stay_in_turn rows stages row Unspawned Waiting was (λ e. (cc)) (λ other. absurd (other refl)) is.in_turn;
     are_waits = is.are_waits;
     are_followers = is.are_followers;
     are_reached = reached_stays waits stages (slice_set stages row Waiting) reached (length-set stages row Waiting)
@@ -58,11 +56,11 @@ module _ (rows : List Row) (waits followers : List (List ℕ)) (stages : List St
   pub had_can : (row : ℕ) → IsKeptBut rows [] waits followers stages reached ready → Has ready row → CanStart rows stages row
   had_can row is has =
       let m = had_awaits row is has in
-      ready_can rows waits stages is.are_waits is.past row (omega (arith, slice_get_within stages row Waiting m.waiting, is.whole)) m
+      ready_can rows waits stages is.are_waits is.in_turn.past row (omega (arith, slice_get_within stages row Waiting m.waiting, is.in_turn.whole)) m
 
   pub can_had : (row : ℕ) → IsKeptBut rows [] waits followers stages reached ready → CanStart rows stages row → Has ready row
   can_had row is can = (queued_each (AwaitsWorker waits stages) ready is.are_ready row).1
-      (can_ready rows waits stages is.are_waits row (omega (arith, slice_get_within stages row Waiting can.waits, is.whole)) can)
+      (can_ready rows waits stages is.are_waits row (omega (arith, slice_get_within stages row Waiting can.waits, is.in_turn.whole)) can)
 
   -- a row gets a worker
   pub started : (row : ℕ) (ready' : RowSet) → IsKeptBut rows [] waits followers stages reached ready → Has ready row → IsRowSet ready' →
@@ -70,9 +68,7 @@ module _ (rows : List Row) (waits followers : List (List ℕ)) (stages : List St
   started row ready' is has set less =
       let was : IsAt stages row Waiting = (had_awaits row is has).waiting in
       record {
-        whole = simp length-set is.whole;
-        turns = turns_stay rows stages row Waiting UnderWay was (λ e. (cc)) (λ _. (had_can row is has).clear) is.turns;
-        past = past_stays rows stages row Waiting UnderWay was (λ e. (cc)) (λ e. absurd (cc)) is.past;
+        in_turn = stay_in_turn rows stages row Waiting UnderWay was (λ e. (cc)) (λ _. (had_can row is has).clear) is.in_turn;
         are_waits = is.are_waits;
         are_followers = is.are_followers;
         are_reached = reached_stays waits stages (slice_set stages row UnderWay) reached (length-set stages row UnderWay)
@@ -87,9 +83,7 @@ module _ (rows : List Row) (waits followers : List (List ℕ)) (stages : List St
   pub ended : (row : ℕ) → IsKeptBut rows [] waits followers stages reached ready → IsAt stages row UnderWay →
       IsKeptBut rows (links_of followers row) waits followers (slice_set stages row Over) reached ready
   ended row is was = record {
-    whole = simp length-set is.whole;
-    turns = turns_stay rows stages row UnderWay Over was (λ e. (cc)) (λ e. absurd (cc)) is.turns;
-    past = past_stays rows stages row UnderWay Over was (λ e. (cc)) (λ _. is.turns row was) is.past;
+    in_turn = stay_in_turn rows stages row UnderWay Over was (λ e. (cc)) (λ _. is.in_turn.turns row was) is.in_turn;
     are_waits = is.are_waits;
     are_followers = is.are_followers;
     are_reached = reached_stays waits stages (slice_set stages row Over) reached (length-set stages row Over)
@@ -111,9 +105,7 @@ module _ (rows : List Row) (waits followers : List (List ℕ)) (stages : List St
       AreReached waits stages reached' → IsRowSet ready' → IsWoken (AwaitsWorker waits stages row) row ready ready' →
       IsKeptBut rows left waits followers stages reached' ready'
   woken row left reached' ready' is are set each = record {
-    whole = is.whole;
-    turns = is.turns;
-    past = is.past;
+    in_turn = is.in_turn;
     are_waits = is.are_waits;
     are_followers = is.are_followers;
     are_reached = are;
@@ -168,9 +160,11 @@ pub begun : (rows : List Row) (waits followers : List (List ℕ)) (stages : List
     stages ≡ Waiting ∷ replicate m Unspawned → m + 1 ≡ length rows → AreWaits rows waits → AreFollowers waits followers → reached ≡ replicate (length rows) 0 →
     ((r : ℕ) → Has none r → ⊥) → IsRowSet ready → ((r : ℕ) → Has ready r ↔ (Has none r ⊎ (r ≡ 0))) → IsKeptBut rows [] waits followers stages reached ready
 begun rows waits followers stages reached none ready m es all are follow zeros empty set main = rw es (record {
-  whole = so_many;
-  turns = λ r u. absurd (none_else m UnderWay (λ e. (cc)) (λ e. (cc)) r u);
-  past = λ r o. absurd (none_else m Over (λ e. (cc)) (λ e. (cc)) r o);
+  in_turn = record {
+    whole = so_many;
+    turns = λ r u. absurd (none_else m UnderWay (λ e. (cc)) (λ e. (cc)) r u);
+    past = λ r o. absurd (none_else m Over (λ e. (cc)) (λ e. (cc)) r o);
+  };
   are_waits = are;
   are_followers = follow;
   are_reached = rw zeros (reached_none rows waits first (replicate (length rows) 0) are so_many (length-replicate {A = ℕ} (length rows) 0) (zero_at (length rows)));

@@ -42,27 +42,31 @@ pub record AreLeft (rows : List Row) (stages : List Stage) (r child : ℕ) : Typ
   pub before : (b : ℕ) → IsChild rows r b → b < child → IsAt stages b Unspawned → ⊥
   pub after : (b : ℕ) → IsChild rows r b → child ≤ b → IsAt stages b Unspawned
 
--- at tick t, the rows that haven't started stand at a later tick in the plan, the others are at their stages, each worker
--- that isn't idle has a row, and the plan is greedy before t
-pub record Kept (rows : List Row) (p end : ℕ) (starts workers : List ℕ) (stages : List Stage) (first : List ℕ) (queue : List Entry) (idle t : ℕ) : Type 0 where
+-- the rows that haven't started stand at a later tick in the plan, the others are at their stages, with their children that are
+-- left, and each worker that isn't idle has a row
+pub record AreStaged (rows : List Row) (p end : ℕ) (starts workers : List ℕ) (stages : List Stage) (first : List ℕ) (idle : ℕ) : Type 0 where
   pub starts_whole : length starts ≡ length rows
   pub workers_whole : length workers ≡ length rows
   pub stages_whole : length stages ≡ length rows
   pub first_whole : length first ≡ length rows
   pub few : p ≤ 64
-  pub early : t + MOST_TICKS < end
   pub unspawned : (r : ℕ) → IsAt stages r Unspawned → start_of starts r ≡ end
   pub not_main : IsAt stages 0 Unspawned → ⊥
   pub waiting : (r : ℕ) → IsAt stages r Waiting → start_of starts r ≡ end
-  pub under_way : (r : ℕ) → IsAt stages r UnderWay → IsOn p starts workers queue idle t r
-  pub over : (r : ℕ) → IsAt stages r Over → end_of rows starts r ≤ t
-  pub spawned : (a b : ℕ) → IsChild rows a b → (IsAt stages b Unspawned → ⊥) → start_of starts a + offset_of rows b ≤ t
   pub all_spawned : (a b : ℕ) → IsChild rows a b → IsAt stages a Over → IsAt stages b Unspawned → ⊥
   pub left : (r : ℕ) → r < length rows → AreLeft rows stages r (slice_index first r)
-  pub busy : (change r : ℕ) → IsIn queue change r → IsBusy rows starts stages t r (slice_index first r) change
   pub apart : (a b : ℕ) → IsAt stages a UnderWay → IsAt stages b UnderWay → worker_of workers a ≡ worker_of workers b → a ≡ b
   pub held : (w : ℕ) → w < p → bit_at idle w ≢ 1 → (r : ℕ) × IsAt stages r UnderWay × (worker_of workers r ≡ w)
   pub idle_below : (w : ℕ) → bit_at idle w ≡ 1 → w < p
+
+-- at tick t, the rows are at their stages, those that are under way stand in the queue, and the plan is greedy before t
+pub record Kept (rows : List Row) (p end : ℕ) (starts workers : List ℕ) (stages : List Stage) (first : List ℕ) (queue : List Entry) (idle t : ℕ) : Type 0 where
+  pub staged : AreStaged rows p end starts workers stages first idle
+  pub early : t + MOST_TICKS < end
+  pub under_way : (r : ℕ) → IsAt stages r UnderWay → IsOn p starts workers queue idle t r
+  pub over : (r : ℕ) → IsAt stages r Over → end_of rows starts r ≤ t
+  pub spawned : (a b : ℕ) → IsChild rows a b → (IsAt stages b Unspawned → ⊥) → start_of starts a + offset_of rows b ≤ t
+  pub busy : (change r : ℕ) → IsIn queue change r → IsBusy rows starts stages t r (slice_index first r) change
   pub greedy : (u : ℕ) → u < t → IsGreedyAt rows p starts workers u
 
 -- no row starts at tick t

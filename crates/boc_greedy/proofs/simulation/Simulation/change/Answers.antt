@@ -1,11 +1,9 @@
 use Rattle.std.proofs.Common.{◌≡◌, ℕ, ◌+◌, ◌<◌, length, sym, arith}
 use Rattle.std.specs.Prelude.{slice_index}
 use Rattle.boc_types.specs.runs.Rows.{parent_of}
-use Rattle.boc_greedy.specs.declared.frontier.Stage.{Stage}
 use Rattle.boc_greedy.specs.declared.frontier.Stage.TheVariants.{Unspawned, Waiting, UnderWay, Over}
 use Rattle.boc_greedy.specs.Families.{IsNextChild}
 use Rattle.boc_greedy.specs.Simulating.{later}
-use Rattle.boc_greedy.specs.Stages.{IsAt}
 use Rattle.boc_greedy.proofs.Puts.{puts, restages, weight_set}
 use Rattle.boc_greedy.proofs.Reading.{read_at}
 use Rattle.boc_greedy.proofs.Changing.{is_due}
@@ -17,23 +15,23 @@ use Rattle.boc_greedy.proofs.simulation.Simulation.change.Goals as goal
 pub index-child-requires : goal.index-child-requires
 index-child-requires c =
     let d = is_due _ c.requires.shape c.args.self.now _ c.requires.stepping c.requires.top in
-    omega (arith, d.there, c.requires.stepping.kept.first_whole, c.args.self.now.family.first.ok.0)
+    omega (arith, d.there, c.requires.stepping.kept.staged.first_whole, c.args.self.now.family.first.ok.0)
 
 pub spawn-requires-clause-unspawned : goal.spawn-requires-clause-unspawned
 spawn-requires-clause-unspawned c =
     let d = is_due _ c.requires.shape c.args.self.now _ c.requires.stepping c.requires.top in
-    let child = read_at c.args.self.now.family.first.items c.args.row c.index-child.result.now (omega (arith, d.there, c.requires.stepping.kept.first_whole)) c.index-child.ensures in
+    let child = read_at c.args.self.now.family.first.items c.args.row c.index-child.result.now (omega (arith, d.there, c.requires.stepping.kept.staged.first_whole)) c.index-child.ensures in
     (rw child at d.unspawned) (omega (arith, c.if-child-len.true, c.len.ensures.count))
 
 pub index_mut-requires : goal.index_mut-requires
 index_mut-requires c =
     let d = is_due _ c.requires.shape c.args.self.now _ c.requires.stepping c.requires.top in
-    omega (arith, d.there, c.requires.stepping.kept.first_whole, c.args.self.now.family.first.ok.0)
+    omega (arith, d.there, c.requires.stepping.kept.staged.first_whole, c.args.self.now.family.first.ok.0)
 
 pub index-requires : goal.index-requires
 index-requires c =
     let d = is_due _ c.requires.shape c.args.self.now _ c.requires.stepping c.requires.top in
-    omega (arith, d.there, c.requires.stepping.kept.starts_whole, c.args.self.now.starts.ok.0)
+    omega (arith, d.there, c.requires.stepping.kept.staged.starts_whole, c.args.self.now.starts.ok.0)
 
 pub change_of-change-requires-clause-there : goal.change_of-change-requires-clause-there
 change_of-change-requires-clause-there c = (is_due _ c.requires.shape c.args.self.now _ c.requires.stepping c.requires.top).there
@@ -41,7 +39,7 @@ change_of-change-requires-clause-there c = (is_due _ c.requires.shape c.args.sel
 pub change_of-change-requires-clause-early : goal.change_of-change-requires-clause-early
 change_of-change-requires-clause-early c =
     let d = is_due _ c.requires.shape c.args.self.now _ c.requires.stepping c.requires.top in
-    omega (arith, d.early, read_at c.args.self.now.starts.items c.args.row c.index.result.now (omega (arith, d.there, c.requires.stepping.kept.starts_whole)) c.index.ensures)
+    omega (arith, d.early, read_at c.args.self.now.starts.items c.args.row c.index.result.now (omega (arith, d.there, c.requires.stepping.kept.staged.starts_whole)) c.index.ensures)
 
 pub end-requires-clause-under_way : goal.end-requires-clause-under_way
 end-requires-clause-under_way c = (is_due _ c.requires.shape c.args.self.now _ c.requires.stepping c.requires.top).under_way
@@ -49,14 +47,14 @@ end-requires-clause-under_way c = (is_due _ c.requires.shape c.args.self.now _ c
 pub index-requires-else-child-len : goal.index-requires-else-child-len
 index-requires-else-child-len c =
     let d = is_due _ c.requires.shape c.args.self.now _ c.requires.stepping c.requires.top in
-    omega (arith, d.there, c.requires.stepping.kept.workers_whole, c.args.self.now.workers.ok.0)
+    omega (arith, d.there, c.requires.stepping.kept.staged.workers_whole, c.args.self.now.workers.ok.0)
 
 pub with_bit-self-requires : goal.with_bit-self-requires
 with_bit-self-requires c =
     let d = is_due _ c.requires.shape c.args.self.now _ c.requires.stepping c.requires.top in
     let k = c.requires.stepping.kept in
-    let worker = read_at c.args.self.now.workers.items c.args.row c.index-else-child-len.result.now (omega (arith, d.there, k.workers_whole)) c.index-else-child-len.ensures in
-    omega (arith, worker, (k.under_way c.args.row d.under_way).below, k.few)
+    let worker = read_at c.args.self.now.workers.items c.args.row c.index-else-child-len.result.now (omega (arith, d.there, k.staged.workers_whole)) c.index-else-child-len.ensures in
+    omega (arith, worker, (k.under_way c.args.row d.under_way).below, k.staged.few)
 
 pub returns-in_ok-push-clause-stepping : goal.returns-in_ok-push-clause-stepping
 returns-in_ok-push-clause-stepping c =
@@ -67,14 +65,14 @@ returns-in_ok-push-clause-stepping c =
     let r : ℕ = c.args.row in
     let kid : ℕ = c.index-child.result.now in
     let d = is_due _ shape s r i c.requires.top in
-    let child = read_at s.family.first.items r kid (omega (arith, d.there, k.first_whole)) c.index-child.ensures in
+    let child = read_at s.family.first.items r kid (omega (arith, d.there, k.staged.first_whole)) c.index-child.ensures in
     let kid_there : kid < length c.args.rows.now = omega (arith, c.if-child-len.true, c.len.ensures.count) in
-    let pos : 0 < kid = omega (arith, (rw child at (k.left r d.there).child_is kid_there).not_main) in
-    let start : slice_index s.starts.items r ≡ c.index.result.now = read_at s.starts.items r c.index.result.now (omega (arith, d.there, k.starts_whole)) c.index.ensures in
+    let pos : 0 < kid = omega (arith, (rw child at (k.staged.left r d.there).child_is kid_there).not_main) in
+    let start : slice_index s.starts.items r ≡ c.index.result.now = read_at s.starts.items r c.index.result.now (omega (arith, d.there, k.staged.starts_whole)) c.index.ensures in
     let next_at = read_at s.family.next.items kid c.index-next.result.now (omega (arith, kid_there, i.are_next.whole)) c.index-next.ensures in
     let next : IsNextChild c.args.rows.now (parent_of c.args.rows.now kid) (kid + 1) c.index-next.result.now = rw next_at at (i.are_next.child kid pos kid_there) in
-    let sg = restages s.frontier.stages.items c.spawn.new.self.stages.items kid Waiting (omega (arith, kid_there, k.stages_whole)) c.spawn.ensures.stages in
-    let pf = puts s.family.first.items r c.index-next.result.now (omega (arith, d.there, k.first_whole)) in
+    let sg = restages s.frontier.stages.items c.spawn.new.self.stages.items kid Waiting (omega (arith, kid_there, k.staged.stages_whole)) c.spawn.ensures.stages in
+    let pf = puts s.family.first.items r c.index-next.result.now (omega (arith, d.there, k.staged.first_whole)) in
     let po = popped _ _ c.pop.result _ s.tick r i.queue c.requires.top s.queue.data.ok.0 c.pop.ensures.top c.pop.ensures.permutation c.pop.ensures.heap_order c.pop.ensures.none in
     let pq = pushed _ _ c.change_of-change.result r po.is_queue po.gone (c.in_ok-push.ensures.heap_order po.is_queue.ordered) c.in_ok-push.ensures.permutation in
     record {
@@ -91,7 +89,7 @@ pub returns-in_ok-push-clause-fewer : goal.returns-in_ok-push-clause-fewer
 returns-in_ok-push-clause-fewer c =
     let s = c.args.self.now in
     let d = is_due _ c.requires.shape s _ c.requires.stepping c.requires.top in
-    let child = read_at s.family.first.items c.args.row c.index-child.result.now (omega (arith, d.there, c.requires.stepping.kept.first_whole)) c.index-child.ensures in
+    let child = read_at s.family.first.items c.args.row c.index-child.result.now (omega (arith, d.there, c.requires.stepping.kept.staged.first_whole)) c.index-child.ensures in
     omega (
       arith,
       weight_set s.frontier.stages.items c.spawn.new.self.stages.items c.index-child.result.now Unspawned Waiting
@@ -106,9 +104,9 @@ returns-else-child-len-clause-stepping c =
     let k = i.kept in
     let r : ℕ = c.args.row in
     let d = is_due _ shape s r i c.requires.top in
-    let child = read_at s.family.first.items r c.index-child.result.now (omega (arith, d.there, k.first_whole)) c.index-child.ensures in
-    let worker = read_at s.workers.items r c.index-else-child-len.result.now (omega (arith, d.there, k.workers_whole)) c.index-else-child-len.ensures in
-    let sg = restages s.frontier.stages.items c.end.new.self.stages.items r Over (omega (arith, d.there, k.stages_whole)) c.end.ensures.stages in
+    let child = read_at s.family.first.items r c.index-child.result.now (omega (arith, d.there, k.staged.first_whole)) c.index-child.ensures in
+    let worker = read_at s.workers.items r c.index-else-child-len.result.now (omega (arith, d.there, k.staged.workers_whole)) c.index-else-child-len.ensures in
+    let sg = restages s.frontier.stages.items c.end.new.self.stages.items r Over (omega (arith, d.there, k.staged.stages_whole)) c.end.ensures.stages in
     let po = popped _ _ c.pop.result _ s.tick r i.queue c.requires.top s.queue.data.ok.0 c.pop.ensures.top c.pop.ensures.permutation c.pop.ensures.heap_order c.pop.ensures.none in
     record {
       frontier = c.end.ensures.kept;

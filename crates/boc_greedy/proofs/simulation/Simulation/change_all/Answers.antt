@@ -1,4 +1,4 @@
-use Rattle.std.proofs.Common.{List, [], length, ap, arith}
+use Rattle.std.proofs.Common.{List, length, ap, arith}
 use Rattle.std.specs.BinaryHeap.{heap_items}
 use Rattle.boc_types.specs.declared.rows.Row.{Row}
 use Rattle.boc_greedy.specs.declared.simulation.Simulation.{Simulation}

@@ -1,8 +1,13 @@
 // Which rows can start, as rows are spawned, start and end.
 
-ghost use Rattle.std.specs.Prelude.{◌≡◌, ℕ, ◌≤◌, ◌<◌, length, slice_index, All};
-ghost use Rattle.boc_greedy.specs.declared.frontier.Stage.TheVariants.{Over};
-ghost use Rattle.boc_greedy.specs.Stages.{IsAt};
+ghost use Rattle.std.specs.Prelude.{◌≡◌, ℕ, ◌≤◌, ◌<◌, ◌↔◌, ◌⊎◌, ◌∷◌, length, pred, replicate, slice_index, slice_set, All, IfOk, IfSome, IfNone};
+ghost use Rattle.boc_types.specs.declared.limits.TheConstants.{MOST_ROWS};
+ghost use Rattle.boc_types.specs.runs.Rows.{IsRows};
+ghost use Rattle.boc_order.specs.Waits.{AreWaits, AreFollowers};
+ghost use Rattle.boc_greedy.specs.declared.frontier.Stage.TheVariants.{Unspawned, Waiting, UnderWay, Over};
+ghost use Rattle.boc_greedy.specs.RowSets.{IsRowSet, Has};
+ghost use Rattle.boc_greedy.specs.Stages.{IsAt, CanStart};
+ghost use Rattle.boc_greedy.specs.Frontier.{IsFrontier, AreReached, AwaitsWorker};
 
 use crate::row_set::RowSet;
 use boc_order::Links;
@@ -54,15 +59,6 @@ fn over_from(waits: &[u32], stages: &[Stage], from: usize) -> usize
 }
 
 impl<'a> Frontier<'a> {
-    ghost use Rattle.std.specs.Prelude.{◌≡◌, ℕ, ◌≤◌, ◌<◌, ◌↔◌, ◌⊎◌, ◌∷◌, [], length, pred, replicate, slice_set, IfOk, IfSome, IfNone, IsTrue};
-    ghost use Rattle.boc_types.specs.declared.limits.TheConstants.{MOST_ROWS};
-    ghost use Rattle.boc_types.specs.runs.Rows.{IsRows};
-    ghost use Rattle.boc_order.specs.Waits.{AreWaits, AreFollowers};
-    ghost use Rattle.boc_greedy.specs.declared.frontier.Stage.TheVariants.{Unspawned, Waiting, UnderWay, Over};
-    ghost use Rattle.boc_greedy.specs.RowSets.{IsRowSet, Has};
-    ghost use Rattle.boc_greedy.specs.Stages.{IsAt, CanStart};
-    ghost use Rattle.boc_greedy.specs.Frontier.{IsFrontier, AreReached, HasNoWaits, AwaitsWorker};
-
     /// Main waits for a worker, and no other row is spawned.
     pub fn new(
         alloc: Global,

@@ -1,8 +1,12 @@
 // A simulation of workers, from one tick at which something changes to the next.
 
-ghost use Rattle.std.specs.Prelude.{◌≡◌, ◌+◌, ◌<◌, ◌≤◌, length};
+ghost use Rattle.std.specs.Prelude.{◌≡◌, ℕ, ◌+◌, ◌<◌, ◌≤◌, [], length, IfOk, IfSome, IfNone, OnOk, true, false};
+ghost use Rattle.std.specs.BinaryHeap.{heap_items};
 ghost use Rattle.boc_types.specs.runs.Rows.{IsRows, offset_of, ticks_of};
-ghost use Rattle.boc_greedy.specs.Simulating.{later};
+ghost use Rattle.boc_order.specs.Waits.{AreWaits, AreFollowers};
+ghost use Rattle.boc_greedy.specs.Queues.{IsQueue, IsIn, IsOnTop};
+ghost use Rattle.boc_greedy.specs.Simulating.{later, IsLeastIdle, steps_of_all};
+ghost use Rattle.boc_greedy.specs.Stepping.{IsStepping, IsGiving, IsSettled, IsLow};
 
 use crate::bits::{with_bit, without_bit};
 use crate::children::{Family, family_of};
@@ -56,14 +60,6 @@ pub struct Simulation<'a> {
 }
 
 impl<'a> Simulation<'a> {
-    ghost use Rattle.std.specs.Prelude.{◌≡◌, ℕ, ◌<◌, ◌≤◌, [], IfOk, IfSome, IfNone, OnOk, true, false};
-    ghost use Rattle.boc_types.specs.runs.Rows.{IsRows};
-    ghost use Rattle.boc_order.specs.Waits.{AreWaits, AreFollowers};
-    ghost use Rattle.boc_greedy.specs.Queues.{IsQueue, IsIn, IsOnTop};
-    ghost use Rattle.boc_greedy.specs.Simulating.{IsLeastIdle, IsFull, steps_of_all};
-    ghost use Rattle.boc_greedy.specs.Stepping.{IsStepping, IsGiving, IsSettled, IsLow};
-    ghost use Rattle.std.specs.BinaryHeap.{heap_items};
-
     /// Tick 0, where only main is spawned, and nothing has started.
     pub fn new(
         alloc: Global,

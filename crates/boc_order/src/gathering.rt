@@ -1,8 +1,8 @@
 // The rows for which each row waits, by what was used of each cown before it.
 
-ghost use Rattle.std.specs.Prelude.{◌≡◌, ◌<◌, ◌+◌, length, true, false, List, Contains, IfOk};
+ghost use Rattle.std.specs.Prelude.{◌<◌, ◌+◌, length, List, Contains, IfOk};
 ghost use Rattle.boc_types.specs.declared.rows.Row.{Row};
-ghost use Rattle.boc_types.specs.runs.Rows.{IsRows, cowns_of, written_of};
+ghost use Rattle.boc_types.specs.runs.Rows.{IsRows, cowns_of};
 ghost use Rattle.boc_order.specs.Waits.{AreWaits};
 ghost use Rattle.boc_order.specs.Uses.{IsUse, AreUses, AddsNearOn, AddsNear};
 

@@ -9,7 +9,7 @@ use Rattle.boc_types.specs.declared.rows.Row.{Row}
 use Rattle.boc_types.specs.runs.Rows.{IsRows, parent_of, offset_of, ticks_of}
 use Rattle.boc_types.specs.plans.Plans.{start_of, end_of, work_of, IsEnd, Keeps, HasEnds}
 use Rattle.boc_types.specs.plans.Greedy.{worker_of, RunsAt, IsForWorkers, IsReady, IsFree, IsGreedy, IsSpan}
-use Rattle.boc_greedy.proofs.Totals.{total, total-le, total-const, total-plus, total-times, at-le-total, one_if, inside_cases, inside_yes}
+use Rattle.boc_greedy.proofs.Totals.{total, total-most, total-least, total-plus, total-times, at-le-total, one_if, inside_cases, inside_yes}
 use Rattle.boc_greedy.proofs.Busy.{runs, busy, busy-work, work-total, on, on_yes, busy_all, busy_few}
 
 -- twice p less one is p and p less one
@@ -20,49 +20,9 @@ split_twice (suc q) n h =
     let b : suc q - 1 ≡ q = omega arith in
     rw (a, b) (omega arith)
 
--- some row ends last
-latest_below : (rows : List Row) (plan : List ℕ) (n : ℕ) → 0 < n →
-    (r : ℕ) × (r < n) × ((k : ℕ) → k < n → end_of rows plan k ≤ end_of rows plan r)
-latest_below rows plan zero h = absurd (omega (arith, h))
-latest_below rows plan (suc zero) h = (0, omega arith, λ k l. (let e : k ≡ 0 = omega arith in rw e (omega arith)))
-latest_below rows plan (suc (suc n)) h =
-    let (r, below, latest) = latest_below rows plan (suc n) (omega arith) in
-    elim (cases_lt (end_of rows plan r) (end_of rows plan (suc n))) [
-      | inl later ↦ (
-        suc n,
-        omega arith,
-        λ k l. elim (cases_eq k (suc n)) [
-          | inl e ↦ rw e (omega arith)
-          | inr ne ↦ omega (arith, latest k (omega arith))
-        ],
-      )
-      | inr not_later ↦ (
-        r,
-        omega arith,
-        λ k l. elim (cases_eq k (suc n)) [
-          | inl e ↦ rw e not_later
-          | inr ne ↦ latest k (omega arith)
-        ],
-      )
-    ]
-
 -- the work is at most a million ticks a row
 pub work_high : (rows : List Row) → IsRows rows → work_of rows ≤ 65535000000
-work_high rows hr =
-    let each : total (ticks_of rows) (length rows) ≤ total (λ _. MOST_TICKS) (length rows) = total-le (ticks_of rows) (λ _. MOST_TICKS) (length rows) hr.ticks_high in
-    let all : total (λ _. MOST_TICKS) (length rows) ≡ length rows * MOST_TICKS = total-const MOST_TICKS (length rows) in
-    omega (arith, work-total rows, hr.not_many)
-
--- the span is at most what bounds the ends of the rows in a plan that keeps
-span_within : (rows : List Row) (span : ℕ) → IsSpan rows span → (other : List ℕ) → Keeps rows other →
-    (bound : ℕ) → ((r : ℕ) → r < length rows → end_of rows other r ≤ bound) → span ≤ bound
-span_within rows span s other keeps bound within =
-    let (r, there, last) = s.ends.reached in
-    omega (arith, last, s.earliest.least other keeps r there, within r there)
-
--- of two spans of the same rows neither is greater
-span_le : (rows : List Row) (a b : ℕ) → IsSpan rows a → IsSpan rows b → a ≤ b
-span_le rows a b s t = span_within rows a s t.plan t.earliest.keeps b t.ends.none_later
+work_high rows hr = omega (arith, total-most (ticks_of rows) MOST_TICKS (length rows) hr.ticks_high, work-total rows, hr.not_many)
 
 -- the greatest of the ends is the end of the plan
 pub greatest_is_end : (rows : List Row) (plan ends : List ℕ) (last : ℕ) → HasEnds rows plan ends →
@@ -185,12 +145,11 @@ module _ (rows : List Row) (hr : IsRows rows) (p : ℕ) (some : 0 < p) (plan wor
               | inl e ↦ absurd (none r (first t e))
               | inr ne ↦ (
                   let full : p ≤ busy rows plan t = busy_while_ready r t ready (omega arith) in
-                  let empty : busy rows plan t ≤ total (λ _. 0) (length rows) = total-le (λ k. runs rows plan k t) (λ _. 0) (length rows)
+                  let empty : busy rows plan t ≤ length rows * 0 = total-most (λ k. runs rows plan k t) 0 (length rows)
                   (λ k hk. elim (inside_cases (start_of plan k) (end_of rows plan k) t) [
                     | inl y ↦ absurd (none k (record { there = hk; begun = y.1; not_over = y.2 }))
                     | inr out ↦ omega (arith, out.0)
                   ]) in
-                  let zeros : total (λ _. 0) (length rows) ≡ length rows * 0 = total-const 0 (length rows) in
                   absurd (omega arith))
             ])
       ]
@@ -211,21 +170,13 @@ module _ (rows : List Row) (hr : IsRows rows) (p : ℕ) (some : 0 < p) (plan wor
 
   -- the plan takes no more ticks than its work
   end_le_work : (last : ℕ) → IsEnd rows plan last → last ≤ work_of rows
-  end_le_work last end =
-      let each : total (λ _. 1) last ≤ total (busy rows plan) last = total-le (λ _. 1) (busy rows plan) last (λ t h. (let some_row = busy_some t last end h in omega arith)) in
-      let all : total (λ _. 1) last ≡ last * 1 = total-const 1 last in
-      omega (arith, busy-work rows plan last end)
-
-  -- no row ends later than that
-  pub row_le_work : (r : ℕ) → r < length rows → end_of rows plan r ≤ work_of rows
-  row_le_work r there =
-      let (q, below, latest) = latest_below rows plan (length rows) hr.not_empty in
-      let end : IsEnd rows plan (end_of rows plan q) = record { none_later = latest; reached = (q, below, refl) } in
-      omega (arith, latest r there, end_le_work (end_of rows plan q) end)
+  end_le_work last end = omega (arith, total-least (busy rows plan) 1 last (λ t h. busy_some t last end h), busy-work rows plan last end)
 
   -- nor does the earliest plan
-  pub span_le_work : (span : ℕ) → IsSpan rows span → span ≤ work_of rows
-  span_le_work span s = span_within rows span s plan greedy_keeps (work_of rows) row_le_work
+  pub span_le_work : (last : ℕ) → IsEnd rows plan last → (span : ℕ) → IsSpan rows span → span ≤ work_of rows
+  span_le_work last end span s =
+      let (r, there, at) = s.ends.reached in
+      omega (arith, at, s.earliest.least plan greedy_keeps r there, end.none_later r there, end_le_work last end)
 
   -- 1 at a tick at which a worker has no row
   abbrev idle : ℕ → ℕ
@@ -313,12 +264,11 @@ module _ (rows : List Row) (hr : IsRows rows) (p : ℕ) (some : 0 < p) (plan wor
   -- p workers for the length of the plan: its work, and the rest where one is idle
   ticks_split : (last : ℕ) → IsEnd rows plan last → (p' : ℕ) → p ≡ suc p' → p * last ≤ work_of rows + p' * total idle last
   ticks_split last end p' e =
-      let each : total (λ _. p) last ≤ total (λ t. busy rows plan t + p' * idle t) last = total-le (λ _. p) (λ t. busy rows plan t + p' * idle t) last
+      let each : last * p ≤ total (λ t. busy rows plan t + p' * idle t) last = total-least (λ t. busy rows plan t + p' * idle t) p last
       (λ t h. elim (idle_cases t) [
         | inl z ↦ omega (arith, z.1)
         | inr one ↦ (let some_row : 0 < busy rows plan t = busy_some t last end h in rw one (omega arith))
       ]) in
-      let all : total (λ _. p) last ≡ last * p = total-const p last in
       let plus : total (λ t. busy rows plan t + p' * idle t) last ≡ total (busy rows plan) last + total (λ t. p' * idle t) last =
       total-plus (busy rows plan) (λ t. p' * idle t) last in
       let times : total (λ t. p' * idle t) last ≡ p' * total idle last = total-times p' idle last in
@@ -338,9 +288,7 @@ module _ (rows : List Row) (hr : IsRows rows) (p : ℕ) (some : 0 < p) (plan wor
       IsEnd rows other other_last → p * last ≤ (2 * p - 1) * other_last
   greedy_twice last end other others other_last keeps for other_end =
       let first : p * last ≤ work_of rows + (p - 1) * other_last = greedy_end last end other other_last keeps other_end in
-      let few : total (busy rows other) other_last ≤ total (λ _. p) other_last =
-      total-le (busy rows other) (λ _. p) other_last (λ t h. busy_few rows other others t p for) in
-      let all : total (λ _. p) other_last ≡ other_last * p = total-const p other_last in
+      let few : total (busy rows other) other_last ≤ other_last * p = total-most (busy rows other) p other_last (λ t h. busy_few rows other others t p for) in
       let sum : (2 * p - 1) * other_last ≡ p * other_last + (p - 1) * other_last = split_twice p other_last some in
       omega (arith, busy-work rows other other_last other_end)
 

@@ -11,7 +11,7 @@ use Rattle.boc_types.specs.declared.rows.Row.{Row}
 use Rattle.boc_types.specs.runs.Rows.{ticks_of}
 use Rattle.boc_types.specs.plans.Plans.{start_of, end_of, work_of, IsEnd}
 use Rattle.boc_types.specs.plans.Greedy.{worker_of, RunsAt, IsForWorkers}
-use Rattle.boc_greedy.proofs.Totals.{total, total-le, total-same, total-const, total-swap, at-le-total, total-at_most_one, one_if, inside, inside_cases, inside_yes, total-inside}
+use Rattle.boc_greedy.proofs.Totals.{total, total-le, total-same, total-most, total-least, total-swap, at-le-total, total-at_most_one, one_if, inside, inside_cases, inside_yes, total-inside}
 
 -- 1 where row r is under way at tick t
 abbrev pub runs : List Row → List ℕ → ℕ → ℕ → ℕ
@@ -49,7 +49,7 @@ busy-work rows plan last end =
     total-swap (λ t r. runs rows plan r t) last (length rows) in
     let each : total (λ r. total (λ t. runs rows plan r t) last) (length rows) ≡ total (ticks_of rows) (length rows) =
     total-same (λ r. total (λ t. runs rows plan r t) last) (ticks_of rows) (length rows)
-    (λ r h. total-inside (start_of plan r) (ticks_of rows r) last (end_of rows plan r) refl (end.none_later r h)) in
+    (λ r h. omega (arith, total-inside (start_of plan r) (end_of rows plan r) last (omega arith), end.none_later r h)) in
     omega (arith, work-total rows)
 
 -- 1 where row r is under way at tick t on worker w
@@ -95,18 +95,15 @@ module _ (rows : List Row) (plan workers : List ℕ) (t : ℕ) where
         ]) in
         omega (arith, y.0))
     | inr out ↦ (
-        let none : total (λ w. on rows plan workers t r w) p ≤ total (λ _. 0) p = total-le (λ w. on rows plan workers t r w) (λ _. 0) p
-        (λ w h. rw out.0 (omega arith)) in
-        let zeros : total (λ _. 0) p ≡ p * 0 = total-const 0 p in
+        let none : total (λ w. on rows plan workers t r w) p ≤ p * 0 = total-most (λ w. on rows plan workers t r w) 0 p (λ w h. rw out.0 (omega arith)) in
         omega (arith, out.0))
   ]
 
   -- where each worker has a row, p rows are under way
   pub busy_all : (p : ℕ) → ((w : ℕ) → w < p → 0 < total (λ r. on rows plan workers t r w) (length rows)) → p ≤ busy rows plan t
   busy_all p each =
-      let ones : total (λ _. 1) p ≤ total (λ w. total (λ r. on rows plan workers t r w) (length rows)) p =
-      total-le (λ _. 1) (λ w. total (λ r. on rows plan workers t r w) (length rows)) p (λ w h. (let k = each w h in omega arith)) in
-      let count : total (λ _. 1) p ≡ p * 1 = total-const 1 p in
+      let ones : p * 1 ≤ total (λ w. total (λ r. on rows plan workers t r w) (length rows)) p =
+      total-least (λ w. total (λ r. on rows plan workers t r w) (length rows)) 1 p each in
       let swap : total (λ w. total (λ r. on rows plan workers t r w) (length rows)) p ≡ total (λ r. total (λ w. on rows plan workers t r w) p) (length rows) =
       total-swap (λ w r. on rows plan workers t r w) p (length rows) in
       let le : total (λ r. total (λ w. on rows plan workers t r w) p) (length rows) ≤ busy rows plan t =
@@ -129,13 +126,12 @@ module _ (rows : List Row) (plan workers : List ℕ) (t : ℕ) where
       ]) in
       let swap : total (λ w. total (λ r. on rows plan workers t r w) (length rows)) p ≡ total (λ r. total (λ w. on rows plan workers t r w) p) (length rows) =
       total-swap (λ w r. on rows plan workers t r w) p (length rows) in
-      let ones : total (λ w. total (λ r. on rows plan workers t r w) (length rows)) p ≤ total (λ _. 1) p =
-      total-le (λ w. total (λ r. on rows plan workers t r w) (length rows)) (λ _. 1) p
+      let ones : total (λ w. total (λ r. on rows plan workers t r w) (length rows)) p ≤ p * 1 =
+      total-most (λ w. total (λ r. on rows plan workers t r w) (length rows)) 1 p
       (λ w h. total-at_most_one (λ r. on rows plan workers t r w) (length rows)
       (λ r there. elim (on_cases r w there) [ inl e ↦ omega (arith, e.0) | inr z ↦ omega arith ])
       (λ i j hi hj a b. elim (on_cases i w hi) [
         | inl e ↦ elim (on_cases j w hj) [ inl f ↦ for.apart i j t e.1 f.1 (omega (arith, e.2, f.2)) | inr z ↦ absurd (omega arith) ]
         | inr z ↦ absurd (omega arith)
       ])) in
-      let count : total (λ _. 1) p ≡ p * 1 = total-const 1 p in
       omega arith

@@ -1,5 +1,5 @@
 -- The moments of a simulation, counted one after another.
-use Rattle.std.proofs.Common.{◌≡◌, ◌≢◌, ℕ, zero, suc, ◌+◌, ◌<◌, ◌≤◌, ◌⊎◌, List, [], ◌∷◌, ◌++◌, length, refl, sym, ap, subst, inl, inr, arith}
+use Rattle.std.proofs.Common.{◌≡◌, ℕ, zero, suc, ◌+◌, ◌<◌, ◌≤◌, ◌⊎◌, List, [], ◌∷◌, ◌++◌, length, refl, sym, subst, inl, inr, arith}
 use Rattle.std.specs.Prelude.{slice_index}
 use Rattle.std.specs.List.{Contains}
 use Rattle.std.proofs.lemmas.Bool.{cases_lt}
@@ -7,10 +7,9 @@ use Rattle.std.proofs.lemmas.List.{get_or_append_left, get_or_push, length_push}
 use Rattle.std.proofs.lemmas.List.Elements.{Contains-push, Contains-append_left}
 use Rattle.boc_types.specs.declared.rows.Row.{Row}
 use Rattle.boc_types.specs.runs.Rows.{IsRows}
-use Rattle.boc_types.specs.plans.Plans.{start_of}
 use Rattle.boc_types.specs.plans.Greedy.{IsMoment, CountsAll}
 use Rattle.boc_greedy.specs.Simulating.{IsPast}
-use Rattle.boc_greedy.proofs.Puts.{Puts}
+use Rattle.boc_greedy.proofs.Agreeing.{Agree, turned}
 
 -- numbers with the same properties are counted alike
 pub counts_same : (n : ℕ) (P Q : ℕ → Type 0) → ((x : ℕ) → P x → Q x) → ((x : ℕ) → Q x → P x) → CountsAll n P → CountsAll n Q
@@ -49,31 +48,20 @@ module _ (n : ℕ) (P Q : ℕ → Type 0) (t u : ℕ) (above : t < u) (low : (x 
     is = omega (arith, long, c.is);
   }
 
--- a row that starts now makes no moment before the next tick, nor was one there
-module _ (rows : List Row) (hr : IsRows rows) (starts starts' : List ℕ) (x t end : ℕ) (there : x < length rows) (waits : start_of starts x ≡ end) (early : t < end)
-    (ps : Puts starts starts' x t) where
-  not_x : (r : ℕ) → start_of starts r ≤ t → r ≢ x
-  not_x r h e = (let s : start_of starts r ≡ start_of starts x = ap (start_of starts) e in omega (arith, s, waits, h, early))
+-- plans that agree before a tick have the same moments up to it
+moment_there : (rows : List Row) → IsRows rows → (t : ℕ) (starts starts' workers workers' : List ℕ) → Agree t starts starts' workers workers' →
+    (u : ℕ) → u ≤ t → IsMoment rows starts u → IsMoment rows starts' u
+moment_there rows hr t starts starts' workers workers' a u le (inl z) = inl z
+moment_there rows hr t starts starts' workers workers' a u le (inr (inl m)) =
+    inr (inl (m.0, m.1, omega (arith, m.2, (a.there m.0 (omega (arith, m.2, le, hr.ticks_low m.0 m.1))).0)))
+moment_there rows hr t starts starts' workers workers' a u le (inr (inr m)) =
+    inr (inr (m.0, m.1, m.2, omega (arith, m.3, (a.there m.0 (omega (arith, m.3, le, hr.offset_above m.1 m.2.not_main m.2.there))).0)))
 
-  new_not_x : (r : ℕ) → start_of starts' r < t → r ≢ x
-  new_not_x r h e = (let s : start_of starts' r ≡ start_of starts' x = ap (start_of starts') e in omega (arith, s, ps.at, h))
-
-  moment_there : (u : ℕ) → u ≤ t → IsMoment rows starts u → IsMoment rows starts' u
-  moment_there u le (inl z) = inl z
-  moment_there u le (inr (inl m)) = inr (inl (m.0, m.1, omega (arith, m.2, ps.others m.0 (not_x m.0 (omega (arith, m.2, le))))))
-  moment_there u le (inr (inr m)) = inr (inr (m.0, m.1, m.2, omega (arith, m.3, ps.others m.0 (not_x m.0 (omega (arith, m.3, le))))))
-
-  moment_back : (u : ℕ) → u ≤ t → IsMoment rows starts' u → IsMoment rows starts u
-  moment_back u le (inl z) = inl z
-  moment_back u le (inr (inl m)) =
-      inr (inl (m.0, m.1, omega (arith, m.2, ps.others m.0 (new_not_x m.0 (omega (arith, m.2, le, hr.ticks_low m.0 m.1))))))
-  moment_back u le (inr (inr m)) = (let c = m.2 in
-      inr (inr (m.0, m.1, m.2, omega (arith, m.3, ps.others m.0 (new_not_x m.0 (omega (arith, m.3, le, hr.offset_above m.1 c.not_main c.there)))))))
-
-  pub counts_given : (n : ℕ) → CountsAll n (IsPast rows starts t) → CountsAll n (IsPast rows starts' t)
-  counts_given n c = counts_same n (IsPast rows starts t) (IsPast rows starts' t)
-      (λ u i. record { come = i.come; moment = moment_there u i.come i.moment })
-      (λ u i. record { come = i.come; moment = moment_back u i.come i.moment }) c
+pub counts_given : (rows : List Row) → IsRows rows → (t : ℕ) (starts starts' workers workers' : List ℕ) → Agree t starts starts' workers workers' →
+    (n : ℕ) → CountsAll n (IsPast rows starts t) → CountsAll n (IsPast rows starts' t)
+counts_given rows hr t starts starts' workers workers' a n c = counts_same n (IsPast rows starts t) (IsPast rows starts' t)
+    (λ u i. record { come = i.come; moment = moment_there rows hr t starts starts' workers workers' a u i.come i.moment })
+    (λ u i. record { come = i.come; moment = moment_there rows hr t starts' starts workers' workers (turned t starts starts' workers workers' a) u i.come i.moment }) c
 
 -- the next moment is counted
 pub counts_next : (rows : List Row) (starts : List ℕ) (t u n : ℕ) → t < u → IsMoment rows starts u → ((x : ℕ) → IsMoment rows starts x → t < x → x ≤ u → x ≡ u) →

@@ -1,6 +1,7 @@
 -- A row that is under way ends.
-use Rattle.std.proofs.Common.{◌≡◌, ◌≢◌, ℕ, ◌<◌, ◌≤◌, List, length, refl, ap, subst, inl, inr, arith}
-use Rattle.std.specs.Prelude.{slice_index, slice_get}
+use Rattle.std.proofs.Common.{◌≡◌, ◌≢◌, ℕ, ◌<◌, ◌≤◌, List, length, sym, ap, ◌∙◌, subst, inl, inr, arith}
+use Rattle.std.specs.Prelude.{slice_index}
+use Rattle.std.specs.Int.{bit_at}
 use Rattle.std.proofs.lemmas.Bool.{cases_eq}
 use Rattle.boc_types.specs.declared.rows.Row.{Row}
 use Rattle.boc_types.specs.runs.Rows.{IsRows}
@@ -9,80 +10,91 @@ use Rattle.boc_types.specs.plans.Greedy.{worker_of}
 use Rattle.boc_greedy.specs.declared.frontier.Stage.{Stage}
 use Rattle.boc_greedy.specs.declared.frontier.Stage.TheVariants.{Unspawned, Waiting, UnderWay, Over}
 use Rattle.boc_greedy.specs.Stages.{IsAt}
+use Rattle.boc_greedy.specs.Queues.{Entry, IsIn}
 use Rattle.boc_greedy.specs.Simulating.{IsOn, IsBusy, Kept}
-use Rattle.boc_greedy.proofs.Puts.{Puts, Restages, other_stage, stage_stays, not_same, under_way_unspawned, over_unspawned, over_waiting, over_under_way}
+use Rattle.boc_greedy.proofs.Puts.{Restages, other_stage, stage_stays, not_same, left_same}
+use Rattle.boc_greedy.proofs.Queued.{Popped}
+use Rattle.boc_greedy.proofs.Standing.{there}
 
-module _ (rows : List Row) (hr : IsRows rows) (p end : ℕ) (starts workers : List ℕ) (stages : List Stage) (changes tasks children : List ℕ) (t : ℕ)
-    (k : Kept rows p end starts workers stages changes tasks children t)
-    (w r : ℕ) (r_is : slice_index tasks w ≡ r) (none_left : length rows ≤ slice_index children w) (below : w < p) (due : slice_index changes w ≡ t) where
-  pub was_busy : IsBusy rows starts workers stages t w r (slice_index children w) t
-  was_busy = rw (r_is, due) at (k.busy w below (omega (arith, due, k.early)))
+module _ (rows : List Row) (hr : IsRows rows) (p end : ℕ) (starts workers : List ℕ) (stages : List Stage) (first : List ℕ) (queue : List Entry) (idle t : ℕ)
+    (k : Kept rows p end starts workers stages first queue idle t)
+    (r : ℕ) (stages' : List Stage) (rest : List Entry) (idle' : ℕ) (due : IsIn queue t r) (none_left : length rows ≤ slice_index first r)
+    (sg : Restages stages stages' r Over) (po : Popped queue rest r) (is_set : bit_at idle' (worker_of workers r) ≡ 1)
+    (others : (v : ℕ) → v ≢ worker_of workers r → bit_at idle' v ≡ bit_at idle v) where
+  is_busy : IsBusy rows starts stages t r (slice_index first r) t
+  is_busy = k.busy t r due
 
-  module _ (stages' : List Stage) (changes' : List ℕ) (sg : Restages stages stages' r Over) (pc : Puts changes changes' w end) where
-    was : (b : ℕ) → IsAt stages' b Unspawned → IsAt stages b Unspawned
-    was b e = (other_stage stages stages' r Over sg b Unspawned over_unspawned e).1
+  was : (b : ℕ) → IsAt stages' b Unspawned → IsAt stages b Unspawned
+  was b e = (other_stage stages stages' r Over sg b Unspawned (λ d. (cc)) e).1
 
-    stays : (b : ℕ) → IsAt stages b Unspawned → IsAt stages' b Unspawned
-    stays b e = stage_stays stages stages' r Over sg b Unspawned (not_same stages r UnderWay was_busy.under_way b Unspawned under_way_unspawned e) e
+  stays : (b : ℕ) → IsAt stages b Unspawned → IsAt stages' b Unspawned
+  stays b e = stage_stays stages stages' r Over sg b Unspawned (not_same stages r UnderWay is_busy.under_way b Unspawned (λ d. (cc)) e) e
 
-    on_after : (a : ℕ) → IsAt stages' a UnderWay → IsOn p end starts workers changes' tasks t a
-    on_after a e =
-        let old = other_stage stages stages' r Over sg a UnderWay over_under_way e in
-        let o = k.under_way a old.1 in
-        let v : worker_of workers a ≢ w = λ same. old.0
-        (let s : slice_index tasks (worker_of workers a) ≡ slice_index tasks w = ap (slice_index tasks) same in omega (arith, s, o.has, r_is)) in
-        record { begun = o.begun; below = o.below; has = o.has; busy = omega (arith, pc.others _ v, o.busy) }
+  ran : (a : ℕ) → IsAt stages' a UnderWay → (a ≢ r) × IsAt stages a UnderWay
+  ran a e = other_stage stages stages' r Over sg a UnderWay (λ d. (cc)) e
 
-    other : (v : ℕ) → (v ≢ w) → v < p → (q kid at : ℕ) → slice_index tasks v ≡ q → IsBusy rows starts workers stages t v q kid at → IsBusy rows starts workers stages' t v q kid at
-    other v ne h q kid at is y = record {
-      under_way = stage_stays stages stages' r Over sg q UnderWay
-          (λ e. ne (let z : worker_of workers q ≡ worker_of workers r = ap (worker_of workers) e in omega (arith, z, y.stands, was_busy.stands))) y.under_way;
-      stands = y.stands;
-      ahead = y.ahead;
-      child_is = y.child_is;
-      spawns = y.spawns;
-      ends = y.ends;
-      before = λ b d lt e. y.before b d lt (was b e);
-      after = λ b d ge. stays b (y.after b d ge);
-    }
+  runs_on : (a : ℕ) → a ≢ r → IsAt stages a UnderWay → IsAt stages' a UnderWay
+  runs_on a ne e = stage_stays stages stages' r Over sg a UnderWay ne e
 
-    busy_after : (v : ℕ) → v < p → slice_index changes' v < end →
-        IsBusy rows starts workers stages' t v (slice_index tasks v) (slice_index children v) (slice_index changes' v)
-    busy_after v h lt = elim (cases_eq v w) [
-      | inl e ↦ absurd (let s : slice_index changes' v ≡ slice_index changes' w = ap (slice_index changes') e in omega (arith, s, pc.at, lt))
-      | inr ne ↦ rw (pc.others v ne)
-          (other v ne h (slice_index tasks v) (slice_index children v) (slice_index changes v) refl (k.busy v h (omega (arith, pc.others v ne, lt))))
-    ]
+  on_after : (a : ℕ) → IsAt stages' a UnderWay → IsOn p starts workers rest idle' t a
+  on_after a e =
+      let old = ran a e in
+      let o = k.under_way a old.1 in
+      let other : worker_of workers a ≢ worker_of workers r = λ same. old.0 (k.staged.apart a r old.1 is_busy.under_way same) in
+      record { begun = o.begun; below = o.below; taken = λ is. o.taken (sym (others _ other) ∙ is); change = o.change; queued = po.stays o.change a old.0 o.queued }
 
-    over_after : (a : ℕ) → IsAt stages' a Over → end_of rows starts a ≤ t
-    over_after a e = elim (cases_eq a r) [
-      | inl same ↦ (let s : end_of rows starts a ≡ end_of rows starts r = ap (end_of rows starts) same in omega (arith, s, was_busy.ends none_left))
-      | inr ne ↦ k.over a (let g : slice_get stages' a ≡ slice_get stages a = sg.others a ne in cc)
-    ]
+  busy_after : (at q : ℕ) → IsIn rest at q → IsBusy rows starts stages' t q (slice_index first q) at
+  busy_after at q i =
+      let m = po.was at q i in
+      let y = k.busy at q m.0 in
+      record { under_way = runs_on q m.1 y.under_way; ahead = y.ahead; spawns = y.spawns; ends = y.ends }
 
-    all_after : (a b : ℕ) → IsChild rows a b → IsAt stages' a Over → IsAt stages' b Unspawned → ⊥
-    all_after a b d o e = elim (cases_eq a r) [
-      | inl same ↦ was_busy.before b (subst (λ (x : ℕ). IsChild rows x b) same d) (omega (arith, d.there, none_left)) (was b e)
-      | inr ne ↦ k.all_spawned a b d (let g : slice_get stages' a ≡ slice_get stages a = sg.others a ne in cc) (was b e)
-    ]
+  over_after : (a : ℕ) → IsAt stages' a Over → end_of rows starts a ≤ t
+  over_after a e = elim (cases_eq a r) [
+    | inl same ↦ rw same (omega (arith, is_busy.ends none_left))
+    | inr ne ↦ k.over a (sym (sg.others a ne) ∙ e)
+  ]
 
-    pub kept_after : Kept rows p end starts workers stages' changes' tasks children t
-    kept_after = record {
-      starts_whole = k.starts_whole;
-      workers_whole = k.workers_whole;
-      stages_whole = omega (arith, sg.whole, k.stages_whole);
-      changes_whole = omega (arith, pc.whole, k.changes_whole);
-      tasks_whole = k.tasks_whole;
-      children_whole = k.children_whole;
-      few = k.few;
-      early = k.early;
-      unspawned = λ b e. k.unspawned b (was b e);
-      not_main = λ e. k.not_main (was 0 e);
-      waiting = λ b e. k.waiting b (other_stage stages stages' r Over sg b Waiting over_waiting e).1;
-      under_way = on_after;
-      over = over_after;
-      spawned = λ a b d out. k.spawned a b d (λ e. out (stays b e));
+  all_after : (a b : ℕ) → IsChild rows a b → IsAt stages' a Over → IsAt stages' b Unspawned → ⊥
+  all_after a b d o e = elim (cases_eq a r) [
+    | inl same ↦ (k.staged.left r (there rows hr p end starts workers stages first queue idle t k r UnderWay is_busy.under_way)).before b (subst (λ (x : ℕ). IsChild rows x b) same d)
+        (omega (arith, d.there, none_left)) (was b e)
+    | inr ne ↦ k.staged.all_spawned a b d (sym (sg.others a ne) ∙ o) (was b e)
+  ]
+
+  held_after : (v : ℕ) → v < p → bit_at idle' v ≢ 1 → (q : ℕ) × IsAt stages' q UnderWay × (worker_of workers q ≡ v)
+  held_after v h out =
+      let other : v ≢ worker_of workers r = λ e. out (rw e is_set) in
+      let (q, on, at) = k.staged.held v h (λ is. out (others v other ∙ is)) in
+      (q, runs_on q (λ e. other (sym at ∙ ap (worker_of workers) e)) on, at)
+
+  idle_after : (v : ℕ) → bit_at idle' v ≡ 1 → v < p
+  idle_after v is = elim (cases_eq v (worker_of workers r)) [
+    | inl e ↦ rw e (k.under_way r is_busy.under_way).below
+    | inr ne ↦ k.staged.idle_below v (sym (others v ne) ∙ is)
+  ]
+
+  pub kept_after : Kept rows p end starts workers stages' first rest idle' t
+  kept_after = record {
+    staged = record {
+      starts_whole = k.staged.starts_whole;
+      workers_whole = k.staged.workers_whole;
+      stages_whole = omega (arith, sg.whole, k.staged.stages_whole);
+      first_whole = k.staged.first_whole;
+      few = k.staged.few;
+      unspawned = λ b e. k.staged.unspawned b (was b e);
+      not_main = λ e. k.staged.not_main (was 0 e);
+      waiting = λ b e. k.staged.waiting b (other_stage stages stages' r Over sg b Waiting (λ d. (cc)) e).1;
       all_spawned = all_after;
-      busy = busy_after;
-      greedy = k.greedy;
-    }
+      left = λ q h. left_same rows stages stages' q _ was (λ b d. stays b) (k.staged.left q h);
+      apart = λ a b ea eb. k.staged.apart a b (ran a ea).1 (ran b eb).1;
+      held = held_after;
+      idle_below = idle_after;
+    };
+    early = k.early;
+    under_way = on_after;
+    over = over_after;
+    spawned = λ a b d out. k.spawned a b d (λ e. out (stays b e));
+    busy = busy_after;
+    greedy = k.greedy;
+  }

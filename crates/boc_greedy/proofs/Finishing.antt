@@ -1,12 +1,14 @@
 -- A simulation in which no row can start and every worker is idle has made the greedy plan.
-use Rattle.std.proofs.Common.{◌≡◌, ℕ, ◌<◌, ◌≤◌, ◌^◌, List, length, arith}
+use Rattle.std.proofs.Common.{◌≡◌, ℕ, ◌<◌, ◌^◌, List, [], length, sym, ap, arith}
 use Rattle.std.specs.Prelude.{slice_index}
+use Rattle.std.specs.BinaryHeap.{heap_items}
 use Rattle.boc_types.specs.declared.rows.Row.{Row}
 use Rattle.boc_types.specs.runs.Rows.{IsRows}
 use Rattle.boc_types.specs.plans.Greedy.{IsGreedy, IsMoment, CountsAll}
 use Rattle.boc_greedy.specs.declared.simulation.Simulation.{Simulation}
 use Rattle.boc_greedy.specs.Simulating.{later, IsPast}
-use Rattle.boc_greedy.specs.Stepping.{IsSettled}
+use Rattle.boc_greedy.specs.Queues.{IsIn}
+use Rattle.boc_greedy.specs.Stepping.{IsSimulated, IsGiving, IsSettled}
 use Rattle.boc_greedy.proofs.Advancing.{over_all, greedy_all, past_all}
 use Rattle.boc_greedy.proofs.Counting.{counts_same}
 
@@ -16,15 +18,22 @@ pub record IsDone (rows : List Row) (p : ℕ) (s : Simulation) : Type 0 where
   pub moments : CountsAll s.moments (IsMoment rows s.starts.items)
   pub low : (r : ℕ) → r < length rows → slice_index s.starts.items r < 2 ^ 62
 
-pub done : (rows : List Row) (p : ℕ) (s : Simulation) (changes : List ℕ) → IsRows rows → IsSettled rows p s → 0 < p →
-    changes ≡ s.changes.items → ((v : ℕ) → v < length changes → later ≤ slice_index changes v) → IsDone rows p s
-done rows p s changes shape settled some now none =
-    let g = settled.giving in
-    let k = g.kept in
-    let idle : (v : ℕ) → v < p → later ≤ slice_index s.changes.items v = λ v h. (rw now at none) v (omega (arith, h, k.changes_whole)) in
-    record {
-      greedy = greedy_all rows shape p later _ _ _ _ _ _ _ k g.given g.passed settled.full some idle;
-      moments = counts_same _ (IsPast rows s.starts.items s.tick) (IsMoment rows s.starts.items) (λ x i. i.moment)
-          (λ x m. record { come = past_all rows shape p later _ _ _ _ _ _ _ k g.given g.passed settled.full some idle x m; moment = m }) g.counted.all;
-      low = λ r h. omega (arith, over_all rows shape p later _ _ _ _ _ _ _ k g.given g.passed settled.full some idle r h, g.low, shape.not_many);
-    }
+pub done : (rows : List Row) (p : ℕ) (s : Simulation) → IsRows rows → IsSettled rows s → s.p ≡ p → 0 < p → heap_items s.queue ≡ [] → IsDone rows p s
+done rows p s shape settled asked some empty = rw (sym asked) (record {
+  greedy = greedy_all _ shape _ later _ _ _ _ _ _ _ k g.given g.passed settled.full s_some none;
+  moments = counts_same _ (IsPast rows s.starts.items s.tick) (IsMoment rows s.starts.items) (λ x i. i.moment)
+      (λ x m. record { come = past_all _ shape _ later _ _ _ _ _ _ _ k g.given g.passed settled.full s_some none x m; moment = m }) g.counted.all;
+  low = λ r h. omega (arith, over_all _ shape _ later _ _ _ _ _ _ _ k g.given g.passed settled.full s_some none r h, g.low, shape.not_many);
+})
+  where
+    g : IsGiving rows s
+    g = settled.giving
+
+    k : IsSimulated rows s
+    k = g.kept
+
+    s_some : 0 < s.p
+    s_some = omega (arith, asked, some)
+
+    none : (at q : ℕ) → IsIn (heap_items s.queue) at q → ⊥
+    none at q i = omega (arith, i.1, ap length empty)

@@ -1,13 +1,15 @@
 -- Lists in which one element has changed.
-use Rattle.std.proofs.Common.{◌≡◌, ◌≢◌, ℕ, ◌+◌, ◌<◌, ◌⊎◌, List, length, set, get_or, Some, subst, inl, inr, arith, get_or-set_same, get_or-set_other, length-set}
+use Rattle.std.proofs.Common.{◌≡◌, ◌≢◌, ℕ, ◌+◌, ◌<◌, ◌⊎◌, List, length, set, get_or, Some, subst, inl, inr, get_or-set_same, get_or-set_other, length-set}
 use Rattle.std.specs.Prelude.{slice_index, slice_set, slice_get}
-use Rattle.std.proofs.lemmas.Option.{slice_get-get_or, slice_get_past, slice_get_within, get_or_from_slice_get}
-use Rattle.std.proofs.lemmas.Bool.{cases_lt}
+use Rattle.std.proofs.lemmas.Option.{slice_get_within, get_or_from_slice_get}
 use Rattle.std.proofs.lemmas.List.Sums.{sum_by-set}
+use Rattle.boc_types.specs.declared.rows.Row.{Row}
+use Rattle.boc_types.specs.plans.Plans.{IsChild}
+use Rattle.boc_types.proofs.ChangedItems.{item_at, set_same, set_other}
 use Rattle.boc_greedy.specs.declared.frontier.Stage.{Stage}
 use Rattle.boc_greedy.specs.declared.frontier.Stage.TheVariants.{Unspawned, Waiting, UnderWay, Over}
 use Rattle.boc_greedy.specs.Stages.{IsAt}
-use Rattle.boc_greedy.specs.Simulating.{steps_left, steps_of_all}
+use Rattle.boc_greedy.specs.Simulating.{AreLeft, steps_left, steps_of_all}
 
 -- ys is xs, with v at i
 pub record Puts (xs ys : List ℕ) (i v : ℕ) : Type 0 where
@@ -28,53 +30,26 @@ pub record Restages (xs ys : List Stage) (i : ℕ) (s : Stage) : Type 0 where
   pub others : (k : ℕ) → k ≢ i → slice_get ys k ≡ slice_get xs k
   pub whole : length ys ≡ length xs
 
-get_other : (xs : List Stage) (i k : ℕ) (s : Stage) → k ≢ i → slice_get (set xs i s) k ≡ slice_get xs k
-get_other xs i k s ne =
-    let len : length (set xs i s) ≡ length xs = simp length-set in
-    elim (cases_lt k (length xs)) [
-      | inl l ↦ (
-          let a : slice_get (set xs i s) k ≡ Some (get_or (set xs i s) k s) = slice_get-get_or (set xs i s) k s (omega arith) in
-          let b : slice_get xs k ≡ Some (get_or xs k s) = slice_get-get_or xs k s l in
-          let e : get_or (set xs i s) k s ≡ get_or xs k s = get_or-set_other xs i k s s ne in
-          cc)
-      | inr ge ↦ (
-          let a = slice_get_past (set xs i s) k (omega arith) in
-          let b = slice_get_past xs k ge in
-          cc (a, b))
-    ]
-
 pub restages : (xs ys : List Stage) (i : ℕ) (s : Stage) → i < length xs → ys ≡ slice_set xs i s → Restages xs ys i s
-restages xs ys i s h is = rw is (record {
-  at = (
-      let len : length (set xs i s) ≡ length xs = simp length-set in
-      let a : slice_get (set xs i s) i ≡ Some (get_or (set xs i s) i s) = slice_get-get_or (set xs i s) i s (omega arith) in
-      let e : get_or (set xs i s) i s ≡ s = get_or-set_same xs i s s h in
-      cc);
-  others = λ k ne. get_other xs i k s ne;
-  whole = simp length-set;
-})
+restages xs ys i s h is = rw is (record { at = set_same xs i s h; others = λ k ne. set_other xs i k s ne; whole = simp length-set })
 
--- a row is at some stage
-pub at_some : (xs : List Stage) (r : ℕ) → r < length xs → (s : Stage) × IsAt xs r s
-at_some xs r h = (get_or xs r Over, slice_get-get_or xs r Over h)
-
-at_one : (xs : List Stage) (r : ℕ) (s : Stage) → IsAt xs r s → IsAt xs r Unspawned ⊎ (IsAt xs r Waiting ⊎ (IsAt xs r UnderWay ⊎ IsAt xs r Over))
-at_one xs r Unspawned e = inl e
-at_one xs r Waiting e = inr (inl e)
-at_one xs r UnderWay e = inr (inr (inl e))
-at_one xs r Over e = inr (inr (inr e))
-
+-- a row is at one of the stages
 pub at_stage : (xs : List Stage) (r : ℕ) → r < length xs → IsAt xs r Unspawned ⊎ (IsAt xs r Waiting ⊎ (IsAt xs r UnderWay ⊎ IsAt xs r Over))
-at_stage xs r h = at_one xs r (at_some xs r h).0 (at_some xs r h).1
-
-unspawned_or : (xs : List Stage) (r : ℕ) (s : Stage) → IsAt xs r s → IsAt xs r Unspawned ⊎ (IsAt xs r Unspawned → ⊥)
-unspawned_or xs r Unspawned e = inl e
-unspawned_or xs r Waiting e = inr (λ f. (let bad : ⊥ = cc in bad))
-unspawned_or xs r UnderWay e = inr (λ f. (let bad : ⊥ = cc in bad))
-unspawned_or xs r Over e = inr (λ f. (let bad : ⊥ = cc in bad))
+at_stage xs r h = at_one (item_at xs r h).0 (item_at xs r h).1
+  where
+    at_one : (s : Stage) → IsAt xs r s → IsAt xs r Unspawned ⊎ (IsAt xs r Waiting ⊎ (IsAt xs r UnderWay ⊎ IsAt xs r Over))
+    at_one Unspawned e = inl e
+    at_one Waiting e = inr (inl e)
+    at_one UnderWay e = inr (inr (inl e))
+    at_one Over e = inr (inr (inr e))
 
 pub unspawned_or_not : (xs : List Stage) (r : ℕ) → r < length xs → IsAt xs r Unspawned ⊎ (IsAt xs r Unspawned → ⊥)
-unspawned_or_not xs r h = unspawned_or xs r (at_some xs r h).0 (at_some xs r h).1
+unspawned_or_not xs r h = elim (at_stage xs r h) [
+  | inl e ↦ inl e
+  | inr (inl e) ↦ inr (λ f. (cc))
+  | inr (inr (inl e)) ↦ inr (λ f. (cc))
+  | inr (inr (inr e)) ↦ inr (λ f. (cc))
+]
 
 -- one step lowers the weight by one
 pub weight_set : (xs ys : List Stage) (i : ℕ) (s t : Stage) → IsAt xs i s → ys ≡ slice_set xs i t → steps_of_all ys + steps_left s ≡ steps_of_all xs + steps_left t
@@ -98,32 +73,11 @@ stage_stays xs ys i s g r q ne h = (let o : slice_get ys r ≡ slice_get xs r = 
 pub not_same : (xs : List Stage) (i : ℕ) (s : Stage) → IsAt xs i s → (r : ℕ) (q : Stage) → (s ≡ q → ⊥) → IsAt xs r q → r ≢ i
 not_same xs i s at r q differs h e = differs (let a : IsAt xs i q = subst (λ (y : ℕ). IsAt xs y q) e h in cc)
 
-pub waiting_unspawned : Waiting ≡ Unspawned → ⊥
-waiting_unspawned e = cc
-
-pub waiting_under_way : Waiting ≡ UnderWay → ⊥
-waiting_under_way e = cc
-
-pub waiting_over : Waiting ≡ Over → ⊥
-waiting_over e = cc
-
-pub under_way_unspawned : UnderWay ≡ Unspawned → ⊥
-under_way_unspawned e = cc
-
-pub under_way_waiting : UnderWay ≡ Waiting → ⊥
-under_way_waiting e = cc
-
-pub under_way_over : UnderWay ≡ Over → ⊥
-under_way_over e = cc
-
-pub over_unspawned : Over ≡ Unspawned → ⊥
-over_unspawned e = cc
-
-pub over_waiting : Over ≡ Waiting → ⊥
-over_waiting e = cc
-
-pub over_under_way : Over ≡ UnderWay → ⊥
-over_under_way e = cc
-
-pub unspawned_under_way : Unspawned ≡ UnderWay → ⊥
-unspawned_under_way e = cc
+-- the children that are left are the same, where the same rows are unspawned
+pub left_same : (rows : List Row) (xs ys : List Stage) (r child : ℕ) → ((b : ℕ) → IsAt ys b Unspawned → IsAt xs b Unspawned) →
+    ((b : ℕ) → IsChild rows r b → IsAt xs b Unspawned → IsAt ys b Unspawned) → AreLeft rows xs r child → AreLeft rows ys r child
+left_same rows xs ys r child was stays l = record {
+  child_is = l.child_is;
+  before = λ b c lt e. l.before b c lt (was b e);
+  after = λ b c ge. stays b c (l.after b c ge);
+}

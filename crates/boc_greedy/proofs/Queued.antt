@@ -1,131 +1,88 @@
--- The queue of the workers' changes, from one change to the next.
-use Rattle.std.proofs.Common.{◌≡◌, ◌≢◌, ℕ, zero, suc, ◌+◌, ◌<◌, ◌≤◌, List, [], ◌∷◌, length, get_or, refl, sym, ap, subst, ◌∙◌, inl, inr, arith, true, false, Bool}
-use Rattle.std.specs.Prelude.{slice_index, slice_index_or, nat_eq, All, cond, Option, Some, None, IfSome, IfNone}
-use Rattle.std.specs.List.{Contains}
+-- The queue, as rows go in and out.
+use Rattle.std.proofs.Common.{◌≡◌, ◌≢◌, ℕ, ◌+◌, ◌≤◌, ◌⊎◌, List, [], ◌∷◌, length, get_or, sym, ap, ◌∙◌, inl, inr, arith}
+use Rattle.std.specs.Prelude.{slice_index_or, Option, Some, None, IfSome, IfNone}
 use Rattle.std.specs.List.Sorted.{IsPermutation}
 use Rattle.std.specs.BinaryHeap.{IsHeap, PopsGreatest}
 use Rattle.std.proofs.lemmas.Bool.{cases_eq}
-use Rattle.std.proofs.lemmas.Bool.Decides.{nat_tests}
-use Rattle.std.proofs.lemmas.List.Elements.{All-cons, All-tail}
-use Rattle.std.proofs.lemmas.List.Sorted.{All-permutation, Contains-permutation, sum_by-IsPermutation}
+use Rattle.std.proofs.lemmas.List.Elements.{Contains-get_or}
+use Rattle.std.proofs.lemmas.List.Sorted.{Contains-permutation, IsPermutation-sym, sum_by-IsPermutation}
 use Rattle.std.proofs.lemmas.List.Sums.{sum_by-cons, sum_by-le, get_or-le-sum_by}
 use Rattle.std.proofs.lemmas.Option.{slice_get_within, get_or_from_slice_get}
-use Rattle.boc_greedy.specs.Simulating.{later}
-use Rattle.boc_greedy.specs.Queues.{Entry, entry_order, entries_of, IsOnTop, IsChange, AreQueued}
-use Rattle.boc_greedy.proofs.Puts.{Puts}
+use Rattle.boc_order.proofs.Filling.{one_if, one_same, one_other}
+use Rattle.boc_order.proofs.Remembering.{contains_head, contains_tail, contains_cases}
+use Rattle.boc_greedy.specs.Queues.{Entry, entry_order, entries_of, IsIn, IsOnTop, IsQueue}
 
--- 1 where the entry is worker w's
-abbrev one_of : ℕ → Entry → ℕ
-one_of w e = cond (nat_eq e.0.1 w) 1 0
+-- what stands on top is in the queue
+pub on_top : (queue : List Entry) (tick r : ℕ) → IsOnTop queue tick r → IsIn queue tick r
+on_top queue tick r top = (0, slice_get_within queue 0 _ top, get_or_from_slice_get queue 0 _ _ top)
 
-mine : (w : ℕ) (e : Entry) → e.0.1 ≡ w → one_of w e ≡ 1
-mine w e same = by_test (nat_eq e.0.1 w) refl
-  where
-    by_test : (t : Bool) → nat_eq e.0.1 w ≡ t → one_of w e ≡ 1
-    by_test true q = rw q refl
-    by_test false q = absurd (let ne : e.0.1 ≢ w = grind (arith, nat_tests) in ne same)
+-- a row that is in the queue has an entry, and one that isn't has none
+in_counts : (queue : List Entry) (r : ℕ) → entries_of r queue ≡ 0 → (change q : ℕ) → IsIn queue change q → q ≢ r
+in_counts queue r none change q i same =
+    let one : one_if q r ≤ entries_of r queue = rw i.2 at (get_or-le-sum_by (λ (e : Entry). one_if e.0.1 r) queue i.0 (record { 0 = (change, q) }) i.1) in
+    omega (arith, none, one_same q r same)
 
-others : (w : ℕ) (e : Entry) → e.0.1 ≢ w → one_of w e ≡ 0
-others w e ne = by_test (nat_eq e.0.1 w) refl
-  where
-    by_test : (t : Bool) → nat_eq e.0.1 w ≡ t → one_of w e ≡ 0
-    by_test true q = absurd (let same : e.0.1 ≡ w = grind (arith, nat_tests) in ne same)
-    by_test false q = rw q refl
+pub none_counts : (queue : List Entry) (r : ℕ) → ((change q : ℕ) → IsIn queue change q → q ≢ r) → entries_of r queue ≡ 0
+none_counts queue r none = omega (
+  arith,
+  sum_by-le (λ (e : Entry). one_if e.0.1 r) 0 queue (λ k d h. omega (arith, one_other (get_or queue k d).0.1 r (none _ _ (Contains-get_or queue k d h)))),
+)
 
-contains_cons : (x y : Entry) (xs : List Entry) → Contains (x ∷ xs) y → y ≢ x → Contains xs y
-contains_cons x y xs (zero, h, e) ne = absurd (ne (sym e))
-contains_cons x y xs (suc k, h, e) ne = (k, omega (arith, h), e)
+pub empty_queue : (queue : List Entry) → queue ≡ [] → IsHeap entry_order queue → IsQueue queue
+empty_queue queue is heap = record { ordered = heap; once = λ r. rw is (omega arith) }
 
--- where all are idle, the queue is empty
-pub none_queued : (changes : List ℕ) (queue : List Entry) → queue ≡ [] → IsHeap entry_order queue → ((w : ℕ) → w < length changes → later ≤ slice_index changes w) → AreQueued changes queue
-none_queued changes queue is heap idle = record {
-  ordered = heap;
-  sound = λ k d h. absurd (omega (arith, h, ap length is));
-  complete = λ w h busy. absurd (omega (arith, busy, idle w h));
-  once = λ w. rw is (omega arith);
-}
+-- what is left of a queue where the entry of row r was taken out
+pub record Popped (queue rest : List Entry) (r : ℕ) : Type 0 where
+  pub is_queue : IsQueue rest
+  pub gone : entries_of r rest ≡ 0
+  pub was : (change q : ℕ) → IsIn rest change q → IsIn queue change q × (q ≢ r)
+  pub stays : (change q : ℕ) → q ≢ r → IsIn queue change q → IsIn rest change q
 
--- what stands on top is a change
-pub on_top : (changes : List ℕ) (queue : List Entry) (tick w : ℕ) → AreQueued changes queue → IsOnTop queue tick w → IsChange changes (record { 0 = (tick, w) })
-on_top changes queue tick w q top =
-    let is : get_or queue 0 (record { 0 = (tick, w) }) ≡ record { 0 = (tick, w) } = get_or_from_slice_get queue 0 (record { 0 = (tick, w) }) _ top in
-    subst (IsChange changes) is (q.sound 0 _ (slice_get_within queue 0 _ top))
-
--- the queue has the changes of all workers but w
-pub record AreOthers (changes : List ℕ) (w : ℕ) (queue : List Entry) : Type 0 where
-  pub sound : All (IsChange changes) queue
-  pub complete : (v : ℕ) → v ≢ w → v < length changes → slice_index changes v < later → Contains queue (record { 0 = (slice_index changes v, v) })
-  pub once : (v : ℕ) → entries_of v queue ≤ 1
-  pub gone : entries_of w queue ≡ 0
-
--- where the entry of worker w was taken out
-taken : (changes : List ℕ) (queue rest : List Entry) (x : Entry) (w : ℕ) → x.0.1 ≡ w → AreQueued changes queue → IsPermutation queue (x ∷ rest) → AreOthers changes w rest
-taken changes queue rest x w is q p = record {
-  sound = All-tail (IsChange changes) x rest (All-permutation (IsChange changes) queue (x ∷ rest) p q.sound);
-  complete = λ v ne h busy. contains_cons x _ rest (Contains-permutation queue (x ∷ rest) _ p (q.complete v h busy))
-      (λ e. ne (ap (λ (y : Entry). y.0.1) e ∙ is));
-  once = λ v. omega (arith, count v, q.once v);
-  gone = omega (arith, count w, q.once w, mine w x is);
-}
-  where
-    count : (v : ℕ) → one_of v x + entries_of v rest ≡ entries_of v queue
-    count v = omega (arith, sum_by-IsPermutation (one_of v) queue (x ∷ rest) p, sum_by-cons (one_of v) x rest)
-
--- what is left where the top was taken off
-pub popped : (changes : List ℕ) (queue rest : List Entry) (o : Option Entry) (len tick w : ℕ) → AreQueued changes queue → IsOnTop queue tick w → len ≡ length queue →
+-- the top was taken off
+pub popped : (queue rest : List Entry) (o : Option Entry) (len tick r : ℕ) → IsQueue queue → IsOnTop queue tick r → len ≡ length queue →
     IfSome o (λ x. x ≡ slice_index_or queue 0 x) → IfSome o (λ x. IsPermutation queue (x ∷ rest)) → IfSome o (λ x. PopsGreatest entry_order queue x rest) → IfNone o (len ≡ 0) →
-    AreOthers changes w rest × IsHeap entry_order rest
-popped changes queue rest None len tick w q top is at p heap none = absurd (omega (arith, is, none, slice_get_within queue 0 _ top))
-popped changes queue rest (Some x) len tick w q top is at p heap none =
-    let same : x ≡ record { 0 = (tick, w) } = at ∙ get_or_from_slice_get queue 0 _ x top in
-    (taken changes queue rest x w (ap (λ (e : Entry). e.0.1) same) q p, (heap q.ordered).0)
+    Popped queue rest r
+popped queue rest None len tick r q top is at p heap none = absurd (omega (arith, is, none, slice_get_within queue 0 _ top))
+popped queue rest (Some x) len tick r q top is at p heap none =
+    let row : x.0.1 ≡ r = ap (λ (e : Entry). e.0.1) (at ∙ get_or_from_slice_get queue 0 _ x top) in
+    let gone : entries_of r rest ≡ 0 = omega (arith, count r, q.once r, one_same x.0.1 r row) in
+    record {
+      is_queue = record { ordered = (heap q.ordered).0; once = λ v. omega (arith, count v, q.once v) };
+      gone = gone;
+      was = λ change v i. (Contains-permutation (x ∷ rest) queue _ (IsPermutation-sym _ _ p) (contains_tail x _ rest i), in_counts rest r gone change v i);
+      stays = λ change v ne i. elim (contains_cases x _ rest (Contains-permutation queue (x ∷ rest) _ p i)) [
+        | inl e ↦ absurd (ne (sym (ap (λ (y : Entry). y.0.1) e) ∙ row))
+        | inr m ↦ m
+      ];
+    }
+  where
+    count : (v : ℕ) → one_if x.0.1 v + entries_of v rest ≡ entries_of v queue
+    count v = omega (arith, sum_by-IsPermutation (λ (e : Entry). one_if e.0.1 v) queue (x ∷ rest) p, sum_by-cons (λ (e : Entry). one_if e.0.1 v) x rest)
 
--- an idle worker has no entry
-pub idle_out : (changes : List ℕ) (queue : List Entry) (w : ℕ) → later ≤ slice_index changes w → AreQueued changes queue → AreOthers changes w queue
-idle_out changes queue w idle q = record {
-  sound = q.sound;
-  complete = λ v ne. q.complete v;
-  once = q.once;
-  gone = omega (arith, sum_by-le (one_of w) 0 queue (λ k d h. omega (arith, none (get_or queue k d) (q.sound k d h))));
+-- a queue in which row r has come, with a tick
+pub record Pushed (queue more : List Entry) (change r : ℕ) : Type 0 where
+  pub is_queue : IsQueue more
+  pub here : IsIn more change r
+  pub was : (at q : ℕ) → IsIn more at q → ((at ≡ change) × (q ≡ r)) ⊎ IsIn queue at q
+  pub stays : (at q : ℕ) → IsIn queue at q → IsIn more at q
+
+pub pushed : (queue more : List Entry) (change r : ℕ) → IsQueue queue → entries_of r queue ≡ 0 → IsHeap entry_order more →
+    IsPermutation (record { 0 = (change, r) } ∷ queue) more → Pushed queue more change r
+pushed queue more change r q none heap p = record {
+  is_queue = record { ordered = heap; once = once };
+  here = Contains-permutation _ more _ p (contains_head _ queue);
+  was = λ at v i. elim (contains_cases x _ queue (Contains-permutation more (x ∷ queue) _ (IsPermutation-sym _ _ p) i)) [
+    | inl e ↦ inl (sym (ap (λ (y : Entry). y.0.0) e), sym (ap (λ (y : Entry). y.0.1) e))
+    | inr m ↦ inr m
+  ];
+  stays = λ at v i. Contains-permutation _ more _ p (contains_tail x _ queue i);
 }
   where
-    none : (e : Entry) → IsChange changes e → one_of w e ≡ 0
-    none e i = others w e (λ same. (let s : slice_index changes e.0.1 ≡ slice_index changes w = ap (slice_index changes) same in omega (arith, s, i.tick, i.busy, idle)))
+    x : Entry
+    x = record { 0 = (change, r) }
 
-module _ (changes changes' : List ℕ) (w change : ℕ) (queue : List Entry) (pc : Puts changes changes' w change) (o : AreOthers changes w queue) where
-  sound_still : All (IsChange changes') queue
-  sound_still k d h =
-      let e = get_or queue k d in
-      let i = o.sound k d h in
-      let ne : e.0.1 ≢ w = λ same. omega (arith, mine w e same, get_or-le-sum_by (one_of w) queue k d h, o.gone) in
-      record { there = omega (arith, i.there, pc.whole); tick = omega (arith, pc.others e.0.1 ne, i.tick); busy = i.busy }
-
-  complete_still : (v : ℕ) → v ≢ w → v < length changes' → slice_index changes' v < later → Contains queue (record { 0 = (slice_index changes' v, v) })
-  complete_still v ne h busy = rw (pc.others v ne) (o.complete v ne (omega (arith, h, pc.whole)) (omega (arith, busy, pc.others v ne)))
-
-  -- the worker has no change now
-  pub without : IsHeap entry_order queue → later ≤ change → AreQueued changes' queue
-  without heap idle = record {
-    ordered = heap;
-    sound = sound_still;
-    complete = λ v h busy. complete_still v (λ e. (let s : slice_index changes' v ≡ slice_index changes' w = ap (slice_index changes') e in omega (arith, s, pc.at, idle, busy))) h busy;
-    once = o.once;
-  }
-
-  -- the worker has a change again
-  pub with_change : (queue' : List Entry) → IsHeap entry_order queue' → IsPermutation (record { 0 = (change, w) } ∷ queue) queue' → w < length changes → change < later → AreQueued changes' queue'
-  with_change queue' heap p there busy = record {
-    ordered = heap;
-    sound = All-permutation (IsChange changes') _ queue' p (All-cons (IsChange changes') _ queue (record { there = omega (arith, there, pc.whole); tick = pc.at; busy = busy }) sound_still);
-    complete = λ v h lt. Contains-permutation _ queue' _ p (elim (cases_eq v w) [
-      | inl e ↦ (0, omega arith, rw (e, pc.at) refl)
-      | inr ne ↦ (let c = complete_still v ne h lt in (suc c.0, omega (arith, c.1), c.2))
-    ]);
-    once = λ v. elim (cases_eq w v) [
-      | inl e ↦ (let s : entries_of v queue ≡ entries_of w queue = ap (λ (u : ℕ). entries_of u queue) (sym e) in omega (arith, count v, mine v (record { 0 = (change, w) }) e, s, o.gone))
-      | inr ne ↦ omega (arith, count v, others v (record { 0 = (change, w) }) ne, o.once v)
-    ];
-  }
-    where
-      count : (v : ℕ) → entries_of v queue' ≡ one_of v (record { 0 = (change, w) }) + entries_of v queue
-      count v = omega (arith, sum_by-IsPermutation (one_of v) _ queue' p, sum_by-cons (one_of v) (record { 0 = (change, w) }) queue)
+    once : (v : ℕ) → entries_of v more ≤ 1
+    once v =
+        let count : entries_of v more ≡ one_if r v + entries_of v queue =
+        omega (arith, sum_by-IsPermutation (λ (e : Entry). one_if e.0.1 v) (x ∷ queue) more p, sum_by-cons (λ (e : Entry). one_if e.0.1 v) x queue) in
+        elim (cases_eq r v) [ inl e ↦ (let s : entries_of v queue ≡ entries_of r queue = ap (λ (u : ℕ). entries_of u queue) (sym e) in omega (arith, one_same r v e)) | inr ne ↦ omega (arith, one_other r v ne, q.once v) ]

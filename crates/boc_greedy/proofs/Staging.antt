@@ -1,58 +1,34 @@
 -- What stays as one row moves on to another stage.
-use Rattle.std.proofs.Common.{◌≡◌, ◌≢◌, ℕ, zero, suc, ◌+◌, ◌<◌, ◌⊎◌, List, [], ◌∷◌, length, refl, sym, ◌∙◌, ap, subst, inl, inr, arith}
-use Rattle.std.specs.Prelude.{slice_set, Some, None}
+use Rattle.std.proofs.Common.{◌≡◌, ◌≢◌, ℕ, zero, suc, ◌+◌, ◌<◌, ◌⊎◌, List, length, sym, ◌∙◌, subst, inl, inr, arith, length-set}
+use Rattle.std.specs.Prelude.{slice_set, Some}
 use Rattle.std.specs.List.{Contains}
 use Rattle.std.proofs.lemmas.Bool.{cases_eq}
+use Rattle.boc_types.proofs.ChangedItems.{place_below, set_same, set_other}
 use Rattle.boc_types.specs.declared.rows.Row.{Row}
 use Rattle.boc_types.specs.plans.Plans.{Ordered}
 use Rattle.boc_order.specs.Waits.{links_of, AreWaits}
 use Rattle.boc_order.proofs.Near.{near_complete, near_ordered}
 use Rattle.boc_greedy.specs.declared.frontier.Stage.{Stage}
-use Rattle.boc_greedy.specs.declared.frontier.Stage.TheVariants.{Unspawned, Waiting, UnderWay, Over}
+use Rattle.boc_greedy.specs.declared.frontier.Stage.TheVariants.{Waiting, UnderWay, Over}
 use Rattle.boc_greedy.specs.Stages.{IsAt, CanStart}
-use Rattle.boc_greedy.specs.Frontier.{HasNoWaits, AwaitsWorker}
+use Rattle.boc_greedy.specs.Frontier.{HasNoWaits, AwaitsWorker, AreInTurn}
 
 -- the stage of a row in a list of which one row's stage was changed
 pub moved : (stages : List Stage) (r k : ℕ) (s t : Stage) → IsAt (slice_set stages r s) k t → ((k ≡ r) × (s ≡ t)) ⊎ ((k ≢ r) × IsAt stages k t)
-moved [] r k s t e = absurd (let f : None ≡ Some t = e in cc)
-moved (y ∷ xs) zero zero s t e = inl (refl, (let f : Some s ≡ Some t = e in cc))
-moved (y ∷ xs) zero (suc k) s t e = inr ((λ f. omega arith), e)
-moved (y ∷ xs) (suc r) zero s t e = inr ((λ f. omega arith), e)
-moved (y ∷ xs) (suc r) (suc k) s t e = elim (moved xs r k s t e) [
-  | inl p ↦ inl (ap suc p.0, p.1)
-  | inr p ↦ inr ((λ f. p.0 (omega arith)), p.1)
+moved stages r k s t e = elim (cases_eq k r) [
+  | inl same ↦ (let at = set_same stages r s (omega (arith, place_below (slice_set stages r s) k t e, length-set stages r s)) in inl (same, (cc at)))
+  | inr ne ↦ inr (ne, sym (set_other stages r k s ne) ∙ e)
 ]
 
 pub moved_same : (stages : List Stage) (r : ℕ) (s t : Stage) → IsAt stages r t → IsAt (slice_set stages r s) r s
-moved_same [] r s t e = absurd (let f : None ≡ Some t = e in cc)
-moved_same (y ∷ xs) zero s t e = refl
-moved_same (y ∷ xs) (suc r) s t e = moved_same xs r s t e
+moved_same stages r s t e = set_same stages r s (place_below stages r t e)
 
 pub moved_other : (stages : List Stage) (r k : ℕ) (s t : Stage) → k ≢ r → IsAt stages k t → IsAt (slice_set stages r s) k t
-moved_other [] r k s t n e = e
-moved_other (y ∷ xs) zero zero s t n e = absurd (n refl)
-moved_other (y ∷ xs) zero (suc k) s t n e = e
-moved_other (y ∷ xs) (suc r) zero s t n e = e
-moved_other (y ∷ xs) (suc r) (suc k) s t n e = moved_other xs r k s t (λ f. n (ap suc f)) e
+moved_other stages r k s t n e = set_other stages r k s n ∙ e
 
 -- a row is at one stage only
 pub one_stage : (stages : List Stage) (r : ℕ) (s t : Stage) → IsAt stages r s → IsAt stages r t → s ≡ t
 one_stage stages r s t e f = let g : Some s ≡ Some t = sym e ∙ f in cc
-
-pub waiting_not_over : Waiting ≡ Over → ⊥
-waiting_not_over e = cc
-
-pub under_way_not_over : UnderWay ≡ Over → ⊥
-under_way_not_over e = cc
-
-pub unspawned_not_over : Unspawned ≡ Over → ⊥
-unspawned_not_over e = cc
-
-pub waiting_not_under_way : Waiting ≡ UnderWay → ⊥
-waiting_not_under_way e = cc
-
-pub over_not_under_way : Over ≡ UnderWay → ⊥
-over_not_under_way e = cc
 
 -- the rows that wait for nothing but a worker are those that can start
 module _ (rows : List Row) (waits : List (List ℕ)) (stages : List Stage) (are : AreWaits rows waits) where
@@ -82,21 +58,19 @@ module _ (rows : List Row) (stages : List Stage) (row : ℕ) (from to : Stage) (
     | inr n ↦ moved_other stages row a to Over n e
   ]
 
-  pub turns_stay : (to ≡ UnderWay → (a : ℕ) → Ordered rows a row → IsAt stages a Over) →
-      ((r : ℕ) → IsAt stages r UnderWay → (a : ℕ) → Ordered rows a r → IsAt stages a Over) →
-      (r : ℕ) → IsAt (slice_set stages row to) r UnderWay → (a : ℕ) → Ordered rows a r → IsAt (slice_set stages row to) a Over
-  turns_stay clear turns r e a o = over_stays a (elim (moved stages row r to UnderWay e) [
-    | inl p ↦ clear p.1 a (subst (Ordered rows a) p.0 o)
-    | inr p ↦ turns r p.1 a o
-  ])
-
-  pub past_stays : (to ≡ Over → (a : ℕ) → Ordered rows a row → IsAt stages a Over) →
-      ((r : ℕ) → IsAt stages r Over → (a : ℕ) → Ordered rows a r → IsAt stages a Over) →
-      (r : ℕ) → IsAt (slice_set stages row to) r Over → (a : ℕ) → Ordered rows a r → IsAt (slice_set stages row to) a Over
-  past_stays clear past r e a o = over_stays a (elim (moved stages row r to Over e) [
+  stay : (q : Stage) → (to ≡ q → (a : ℕ) → Ordered rows a row → IsAt stages a Over) → ((r : ℕ) → IsAt stages r q → (a : ℕ) → Ordered rows a r → IsAt stages a Over) →
+      (r : ℕ) → IsAt (slice_set stages row to) r q → (a : ℕ) → Ordered rows a r → IsAt (slice_set stages row to) a Over
+  stay q clear past r e a o = over_stays a (elim (moved stages row r to q e) [
     | inl p ↦ clear p.1 a (subst (Ordered rows a) p.0 o)
     | inr p ↦ past r p.1 a o
   ])
+
+  pub stay_in_turn : (to ≢ Waiting → (a : ℕ) → Ordered rows a row → IsAt stages a Over) → AreInTurn rows stages → AreInTurn rows (slice_set stages row to)
+  stay_in_turn clear is = record {
+    whole = simp length-set is.whole;
+    turns = stay UnderWay (λ e. clear (λ w. (cc))) is.turns;
+    past = stay Over (λ e. clear (λ w. (cc))) is.past;
+  }
 
   pub ready_stays : (waits : List (List ℕ)) (r : ℕ) → r ≢ row → AwaitsWorker waits stages r → AwaitsWorker waits (slice_set stages row to) r
   ready_stays waits r n is = record { waiting = moved_other stages row r to Waiting n is.waiting; over = λ a has. over_stays a (is.over a has) }

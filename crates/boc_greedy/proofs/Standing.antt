@@ -1,29 +1,31 @@
 -- What holds of a simulation that stands at a tick.
-use Rattle.std.proofs.Common.{◌≡◌, ℕ, ◌+◌, ◌<◌, ◌≤◌, ◌⊎◌, List, length, refl, ap, subst, inl, inr, arith}
+use Rattle.std.proofs.Common.{◌≡◌, ◌≢◌, ℕ, ◌+◌, ◌<◌, ◌≤◌, ◌⊎◌, List, length, refl, sym, ◌∙◌, ap, subst, inl, inr, arith}
 use Rattle.boc_types.specs.declared.limits.TheConstants.{MOST_TICKS}
 use Rattle.std.specs.Prelude.{slice_index}
+use Rattle.std.specs.Int.{bit_at}
 use Rattle.std.proofs.lemmas.Option.{slice_get_within}
 use Rattle.std.proofs.lemmas.Bool.{cases_lt, cases_eq}
 use Rattle.boc_types.specs.declared.rows.Row.{Row}
 use Rattle.boc_types.specs.runs.Rows.{IsRows, parent_of, offset_of, ticks_of}
 use Rattle.boc_types.specs.plans.Plans.{start_of, end_of, IsChild}
-use Rattle.boc_types.specs.plans.Greedy.{worker_of, IsReady, IsFree, IsTaken, IsGreedyAt}
+use Rattle.boc_types.specs.plans.Greedy.{IsReady, IsFree, IsTaken, IsGreedyAt}
 use Rattle.boc_greedy.specs.declared.frontier.Stage.{Stage}
 use Rattle.boc_greedy.specs.declared.frontier.Stage.TheVariants.{Unspawned, UnderWay, Over}
 use Rattle.boc_greedy.specs.Stages.{IsAt, CanStart}
+use Rattle.boc_greedy.specs.Queues.{Entry, IsIn}
 use Rattle.boc_greedy.specs.Simulating.{IsBusy, Kept, Given, HasPassed, IsFull}
 use Rattle.boc_greedy.proofs.Puts.{at_stage}
 
-module _ (rows : List Row) (hr : IsRows rows) (p end : ℕ) (starts workers : List ℕ) (stages : List Stage) (changes tasks children : List ℕ) (t : ℕ)
-    (k : Kept rows p end starts workers stages changes tasks children t) where
+module _ (rows : List Row) (hr : IsRows rows) (p end : ℕ) (starts workers : List ℕ) (stages : List Stage) (first : List ℕ) (queue : List Entry) (idle t : ℕ)
+    (k : Kept rows p end starts workers stages first queue idle t) where
   pub there : (r : ℕ) (s : Stage) → IsAt stages r s → r < length rows
-  there r s e = omega (arith, slice_get_within stages r s e, k.stages_whole)
+  there r s e = omega (arith, slice_get_within stages r s e, k.staged.stages_whole)
 
   -- a row that starts before the last tick has started
   pub started : (r : ℕ) → r < length rows → start_of starts r < end → IsAt stages r UnderWay ⊎ IsAt stages r Over
-  started r h lt = elim (at_stage stages r (omega (arith, k.stages_whole))) [
-    | inl e ↦ absurd (omega (arith, k.unspawned r e))
-    | inr (inl e) ↦ absurd (omega (arith, k.waiting r e))
+  started r h lt = elim (at_stage stages r (omega (arith, k.staged.stages_whole))) [
+    | inl e ↦ absurd (omega (arith, k.staged.unspawned r e))
+    | inr (inl e) ↦ absurd (omega (arith, k.staged.waiting r e))
     | inr (inr x) ↦ x
   ]
 
@@ -33,68 +35,62 @@ module _ (rows : List Row) (hr : IsRows rows) (p end : ℕ) (starts workers : Li
     | inr e ↦ omega (arith, k.over r e)
   ]
 
-  -- the worker of a row that is under way has it
-  pub its_worker : (r : ℕ) → IsAt stages r UnderWay →
-      IsBusy rows starts workers stages t (worker_of workers r) r (slice_index children (worker_of workers r)) (slice_index changes (worker_of workers r))
-  its_worker r e =
-      let o = k.under_way r e in
-      subst (λ (x : ℕ). IsBusy rows starts workers stages t (worker_of workers r) x (slice_index children (worker_of workers r)) (slice_index changes (worker_of workers r)))
-      o.has (k.busy (worker_of workers r) o.below o.busy)
+  -- what changes next for a row that is under way
+  pub its_change : (r : ℕ) (e : IsAt stages r UnderWay) → IsBusy rows starts stages t r (slice_index first r) (k.under_way r e).change
+  its_change r e = k.busy _ r (k.under_way r e).queued
 
   pub offset_low : (a b : ℕ) → IsChild rows a b → offset_of rows b ≤ ticks_of rows a
   offset_low a b c = subst (λ (x : ℕ). offset_of rows b ≤ ticks_of rows x) c.parent (hr.ticks_cover b c.not_main c.there)
 
   -- a change comes no later than the end of the row
-  pub change_low : (w r child change : ℕ) → IsBusy rows starts workers stages t w r child change → change ≤ end_of rows starts r
-  change_low w r child change b = elim (cases_lt child (length rows)) [
-    | inl l ↦ omega (arith, b.spawns l, offset_low r child (b.child_is l))
-    | inr ge ↦ omega (arith, b.ends ge)
+  pub change_low : (r change : ℕ) → IsBusy rows starts stages t r (slice_index first r) change → change ≤ end_of rows starts r
+  change_low r change y = elim (cases_lt (slice_index first r) (length rows)) [
+    | inl l ↦ omega (arith, y.spawns l, offset_low r _ ((k.staged.left r (there r UnderWay y.under_way)).child_is l))
+    | inr ge ↦ omega (arith, y.ends ge)
   ]
 
   -- and within 1,000,000 ticks
-  pub change_soon : (w : ℕ) → w < p → slice_index changes w < end → slice_index changes w ≤ t + MOST_TICKS
-  change_soon w h lt =
-      let y = k.busy w h lt in
-      omega (arith, change_low _ _ _ _ y, (k.under_way _ y.under_way).begun, hr.ticks_high _ (there _ UnderWay y.under_way))
+  pub change_soon : (change r : ℕ) → IsIn queue change r → change ≤ t + MOST_TICKS
+  change_soon change r i =
+      let y = k.busy change r i in
+      omega (arith, change_low r change y, (k.under_way r y.under_way).begun, hr.ticks_high r (there r UnderWay y.under_way))
 
   -- nor than the spawn of a child that isn't spawned yet
-  pub change_first : (w r child change : ℕ) → IsBusy rows starts workers stages t w r child change → (b : ℕ) → IsChild rows r b → IsAt stages b Unspawned →
+  pub change_first : (r change : ℕ) → IsBusy rows starts stages t r (slice_index first r) change → (b : ℕ) → IsChild rows r b → IsAt stages b Unspawned →
       change ≤ start_of starts r + offset_of rows b
-  change_first w r child change y b c e = elim (cases_lt b child) [
-    | inl l ↦ absurd (y.before b c l e)
-    | inr ge ↦ (
-        let in_rows : child < length rows = omega (arith, ge, c.there) in
-        let d = y.child_is in_rows in
-        elim (cases_eq child b) [
-          | inl same ↦ (let o : offset_of rows child ≡ offset_of rows b = ap (offset_of rows) same in omega (arith, y.spawns in_rows))
-          | inr ne ↦ (
-              let e : parent_of rows child ≡ parent_of rows b = omega (arith, d.parent, c.parent) in
-              let o = hr.offsets_rise child b d.not_main (omega (arith, ge, ne)) c.there e in
-              omega (arith, y.spawns in_rows))
-        ])
-  ]
+  change_first r change y b c e =
+      let left = k.staged.left r (there r UnderWay y.under_way) in
+      elim (cases_lt b (slice_index first r)) [
+        | inl l ↦ absurd (left.before b c l e)
+        | inr ge ↦ (
+            let in_rows : slice_index first r < length rows = omega (arith, ge, c.there) in
+            let d = left.child_is in_rows in
+            elim (cases_eq (slice_index first r) b) [
+              | inl same ↦ (let o : offset_of rows (slice_index first r) ≡ offset_of rows b = ap (offset_of rows) same in omega (arith, y.spawns in_rows))
+              | inr ne ↦ omega (arith, y.spawns in_rows, hr.offsets_rise _ b d.not_main (omega (arith, ge, ne)) c.there (d.parent ∙ sym c.parent))
+            ])
+      ]
 
   -- a parent that has started, of a child that isn't spawned, is under way
   pub parent_under_way : (a b : ℕ) → IsChild rows a b → IsAt stages b Unspawned → a < length rows → start_of starts a < end → IsAt stages a UnderWay
-  parent_under_way a b c e h lt = elim (started a h lt) [ inl u ↦ u | inr o ↦ absurd (k.all_spawned a b c o e) ]
+  parent_under_way a b c e h lt = elim (started a h lt) [ inl u ↦ u | inr o ↦ absurd (k.staged.all_spawned a b c o e) ]
 
   pub parent_there : (a b : ℕ) → IsChild rows a b → a < b
   parent_there a b c = omega (arith, c.parent, hr.parent_before b c.not_main c.there)
 
   -- nothing changes up to tick u, so a row that is ready there can start now
-  module _ (u : ℕ) (now : t ≤ u) (low : u < end) (passed : HasPassed p changes u) where
+  module _ (u : ℕ) (now : t ≤ u) (low : u < end) (passed : HasPassed queue u) where
     pub can_start : (b : ℕ) → IsReady rows starts u b → u < start_of starts b → CanStart rows stages b
     can_start b i lt = record {
-      waits = elim (at_stage stages b (omega (arith, k.stages_whole, i.there))) [
+      waits = elim (at_stage stages b (omega (arith, k.staged.stages_whole, i.there))) [
         | inl e ↦ absurd (elim (cases_lt 0 b) [
           | inl pos ↦ (
               let c : IsChild rows (parent_of rows b) b = record { not_main = pos; there = i.there; parent = refl } in
               let s = i.spawned (parent_of rows b) c in
               let h : parent_of rows b < length rows = omega (arith, parent_there (parent_of rows b) b c, i.there) in
               let w = parent_under_way (parent_of rows b) b c e h (omega (arith, s)) in
-              let y = its_worker (parent_of rows b) w in
-              omega (arith, s, change_first _ _ _ _ y b c e, passed _ (k.under_way (parent_of rows b) w).below))
-          | inr ge ↦ (let z : b ≡ 0 = omega (arith, ge) in k.not_main (subst (λ (x : ℕ). IsAt stages x Unspawned) z e))
+              omega (arith, s, change_first _ _ (its_change (parent_of rows b) w) b c e, passed _ _ (k.under_way (parent_of rows b) w).queued))
+          | inr ge ↦ (let z : b ≡ 0 = omega (arith, ge) in k.staged.not_main (subst (λ (x : ℕ). IsAt stages x Unspawned) z e))
         ])
         | inr (inl e) ↦ e
         | inr (inr (inl e)) ↦ absurd (omega (arith, lt, (k.under_way b e).begun))
@@ -103,33 +99,31 @@ module _ (rows : List Row) (hr : IsRows rows) (p end : ℕ) (starts workers : Li
       clear = λ a o. (
           let s = i.in_order a o in
           elim (started a (omega (arith, o.before, i.there)) (omega (arith, s))) [
-            | inl e ↦ absurd (omega (arith, s, change_low _ _ _ _ (its_worker a e), passed _ (k.under_way a e).below))
+            | inl e ↦ absurd (omega (arith, s, change_low _ _ (its_change a e), passed _ _ (k.under_way a e).queued))
             | inr e ↦ e
           ]);
     }
 
     -- a worker that has a row gets no other before it ends
-    pub busy_taken : (w : ℕ) → slice_index changes w < end → IsFree rows p starts workers u w → IsTaken rows starts workers u w
-    busy_taken w lt f =
-        let y = k.busy w f.below lt in
-        let r : ℕ = slice_index tasks w in
-        let h : r < length rows = there r UnderWay y.under_way in
+    pub busy_taken : (w : ℕ) → bit_at idle w ≢ 1 → IsFree rows p starts workers u w → IsTaken rows starts workers u w
+    busy_taken w out f =
+        let (r, on, stands) = k.staged.held w f.below out in
         elim (cases_lt (start_of starts r) u) [
-          | inl l ↦ absurd (omega (arith, f.idle r h y.stands l, change_low _ _ _ _ y, passed w f.below))
-          | inr ge ↦ (r, h, omega (arith, ge, (k.under_way r y.under_way).begun), y.stands)
+          | inl l ↦ absurd (omega (arith, f.idle r (there r UnderWay on) stands l, change_low _ _ (its_change r on), passed _ _ (k.under_way r on).queued))
+          | inr ge ↦ (r, there r UnderWay on, omega (arith, ge, (k.under_way r on).begun), stands)
         ]
 
     -- the plan is greedy where no more row can start
-    pub greedy_now : IsFull rows p end stages changes → Given rows p end starts workers stages changes t → IsGreedyAt rows p starts workers u
+    pub greedy_now : IsFull rows stages idle → Given rows p starts workers stages idle t → IsGreedyAt rows p starts workers u
     greedy_now full g = record {
       ready = λ r h e. rw (same r h e) (g.ready r h (omega (arith, same r h e, e)));
       free = λ r h e. rw (same r h e) (g.free r h (omega (arith, same r h e, e)));
       rising = λ a b lt h ea eb. g.rising a b lt h (omega (arith, ea, same b h eb)) (omega (arith, eb, same b h eb));
       least_rows = λ a b i lt h e. g.least_rows a b h (omega (arith, e, same a h e)) (can_start b i lt);
-      none_idle = λ b w i lt f. busy_taken w (full b w (can_start b i lt) f.below) f;
-      least_workers = λ r w h e f lt. elim (cases_lt (slice_index changes w) end) [
-        | inl l ↦ busy_taken w l f
-        | inr ge ↦ absurd (omega (arith, lt, g.least_workers r w h (omega (arith, e, same r h e)) f.below ge))
+      none_idle = λ b w i lt f. busy_taken w (full b w (can_start b i lt)) f;
+      least_workers = λ r w h e f lt. elim (cases_eq (bit_at idle w) 1) [
+        | inl is ↦ absurd (omega (arith, lt, g.least_workers r w h (omega (arith, e, same r h e)) is))
+        | inr out ↦ busy_taken w out f
       ];
     }
       where

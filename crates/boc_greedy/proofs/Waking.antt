@@ -1,8 +1,8 @@
 -- The frontier as a row is spawned, starts or ends, and at the beginning.
-use Rattle.std.proofs.Common.{◌≡◌, ◌≢◌, ℕ, zero, suc, ◌+◌, ◌-◌, ◌++◌, ◌<◌, ◌⊎◌, List, [], ◌∷◌, length, get_or, refl, sym, ◌∙◌, ap, subst, inl, inr, arith, replicate, length-set}
+use Rattle.std.proofs.Common.{◌≡◌, ◌≢◌, ℕ, zero, suc, ◌+◌, ◌-◌, ◌++◌, ◌<◌, ◌≤◌, ◌⊎◌, List, [], ◌∷◌, length, get_or, refl, sym, ◌∙◌, ap, subst, inl, inr, arith, replicate, length-set}
 use Rattle.std.specs.Prelude.{slice_index, slice_set, Some, None, ◌↔◌}
 use Rattle.std.specs.List.{Contains}
-use Rattle.std.proofs.lemmas.Bool.{cases_eq}
+use Rattle.std.proofs.lemmas.Bool.{cases_eq, cases_lt}
 use Rattle.std.proofs.lemmas.List.{get_or_default, length-replicate, replicate-append-replicate}
 use Rattle.std.proofs.lemmas.Option.{slice_get_within}
 use Rattle.boc_types.specs.declared.rows.Row.{Row}
@@ -16,8 +16,9 @@ use Rattle.boc_greedy.specs.Stages.{IsAt, CanStart}
 use Rattle.boc_greedy.specs.Frontier.{AwaitsWorker, IsKeptBut, AreReached}
 use Rattle.boc_greedy.proofs.WordsAbove.{zero_at}
 use Rattle.boc_greedy.proofs.Followed.{follower_waits, waiter_follows, link_there}
+use Rattle.boc_greedy.proofs.Puts.{not_same}
 use Rattle.boc_greedy.proofs.Queueing.{queued, IsWoken, queued_each, queued_more, queued_woken, queued_pop}
-use Rattle.boc_greedy.proofs.Staging.{moved_same, one_stage, waiting_not_over, under_way_not_over, unspawned_not_over, waiting_not_under_way, over_not_under_way, ready_can, can_ready, turns_stay, past_stays, ready_stays, was_ready, over_stays}
+use Rattle.boc_greedy.proofs.Staging.{moved_same, ready_can, can_ready, stay_in_turn, ready_stays, was_ready, over_stays}
 
 -- rows that were over stay over
 pub reached_stays : (waits : List (List ℕ)) (stages stages' : List Stage) (reached : List ℕ) → length stages' ≡ length stages →
@@ -30,30 +31,21 @@ reached_stays waits stages stages' reached whole stay are = record {
   over = λ r k l. stay (slice_index (links_of waits r) k) (are.over r k l);
 }
 
-unspawned_not_waiting : Unspawned ≡ Waiting → ⊥
-unspawned_not_waiting e = cc
-
-over_not_waiting : Over ≡ Waiting → ⊥
-over_not_waiting e = cc
-
 module _ (rows : List Row) (waits followers : List (List ℕ)) (stages : List Stage) (reached : List ℕ) (ready : RowSet) where
   -- a row is spawned, and is left
   pub spawned : (row : ℕ) → IsKeptBut rows [] waits followers stages reached ready → IsAt stages row Unspawned →
       IsKeptBut rows (row ∷ []) waits followers (slice_set stages row Waiting) reached ready
   spawned row is was = record {
-    whole = simp length-set is.whole;
-    turns = turns_stay rows stages row Unspawned Waiting was unspawned_not_over (λ e. absurd (waiting_not_under_way e)) is.turns;
-    past = past_stays rows stages row Unspawned Waiting was unspawned_not_over (λ e. absurd (waiting_not_over e)) is.past;
+    in_turn = stay_in_turn rows stages row Unspawned Waiting was (λ e. (cc)) (λ other. absurd (other refl)) is.in_turn;
     are_waits = is.are_waits;
     are_followers = is.are_followers;
     are_reached = reached_stays waits stages (slice_set stages row Waiting) reached (length-set stages row Waiting)
-        (over_stays rows stages row Unspawned Waiting was unspawned_not_over) is.are_reached;
+        (over_stays rows stages row Unspawned Waiting was (λ e. (cc))) is.are_reached;
     are_ready = queued_more (AwaitsWorker waits stages) (AwaitsWorker waits (slice_set stages row Waiting)) (row ∷ []) ready is.are_ready
-        (λ r m. ready_stays rows stages row Unspawned Waiting was unspawned_not_over waits r
-        (λ e. unspawned_not_waiting (one_stage stages row Unspawned Waiting was (subst (λ (x : ℕ). IsAt stages x Waiting) e m.waiting))) m)
+        (λ r m. ready_stays rows stages row Unspawned Waiting was (λ e. (cc)) waits r (not_same stages row Unspawned was r Waiting (λ e. (cc)) m.waiting) m)
         (λ r m. elim (cases_eq r row) [
           | inl e ↦ inr (0, omega arith, sym e)
-          | inr n ↦ inl (was_ready rows stages row Unspawned Waiting was unspawned_not_over waits r n (λ e. absurd (waiting_not_over e)) m)
+          | inr n ↦ inl (was_ready rows stages row Unspawned Waiting was (λ e. (cc)) waits r n (λ e. absurd (cc)) m)
         ]);
   }
 
@@ -64,11 +56,11 @@ module _ (rows : List Row) (waits followers : List (List ℕ)) (stages : List St
   pub had_can : (row : ℕ) → IsKeptBut rows [] waits followers stages reached ready → Has ready row → CanStart rows stages row
   had_can row is has =
       let m = had_awaits row is has in
-      ready_can rows waits stages is.are_waits is.past row (omega (arith, slice_get_within stages row Waiting m.waiting, is.whole)) m
+      ready_can rows waits stages is.are_waits is.in_turn.past row (omega (arith, slice_get_within stages row Waiting m.waiting, is.in_turn.whole)) m
 
   pub can_had : (row : ℕ) → IsKeptBut rows [] waits followers stages reached ready → CanStart rows stages row → Has ready row
   can_had row is can = (queued_each (AwaitsWorker waits stages) ready is.are_ready row).1
-      (can_ready rows waits stages is.are_waits row (omega (arith, slice_get_within stages row Waiting can.waits, is.whole)) can)
+      (can_ready rows waits stages is.are_waits row (omega (arith, slice_get_within stages row Waiting can.waits, is.in_turn.whole)) can)
 
   -- a row gets a worker
   pub started : (row : ℕ) (ready' : RowSet) → IsKeptBut rows [] waits followers stages reached ready → Has ready row → IsRowSet ready' →
@@ -76,54 +68,44 @@ module _ (rows : List Row) (waits followers : List (List ℕ)) (stages : List St
   started row ready' is has set less =
       let was : IsAt stages row Waiting = (had_awaits row is has).waiting in
       record {
-        whole = simp length-set is.whole;
-        turns = turns_stay rows stages row Waiting UnderWay was waiting_not_over (λ _. (had_can row is has).clear) is.turns;
-        past = past_stays rows stages row Waiting UnderWay was waiting_not_over (λ e. absurd (under_way_not_over e)) is.past;
+        in_turn = stay_in_turn rows stages row Waiting UnderWay was (λ e. (cc)) (λ _. (had_can row is has).clear) is.in_turn;
         are_waits = is.are_waits;
         are_followers = is.are_followers;
         are_reached = reached_stays waits stages (slice_set stages row UnderWay) reached (length-set stages row UnderWay)
-            (over_stays rows stages row Waiting UnderWay was waiting_not_over) is.are_reached;
+            (over_stays rows stages row Waiting UnderWay was (λ e. (cc))) is.are_reached;
         are_ready = queued_pop (AwaitsWorker waits stages) (AwaitsWorker waits (slice_set stages row UnderWay)) row ready ready' is.are_ready set less
-            (λ m. waiting_not_under_way (one_stage (slice_set stages row UnderWay) row Waiting UnderWay m.waiting (moved_same stages row UnderWay Waiting was)))
-            (ready_stays rows stages row Waiting UnderWay was waiting_not_over waits)
-            (λ r n. was_ready rows stages row Waiting UnderWay was waiting_not_over waits r n (λ e. absurd (under_way_not_over e)));
+            (λ m. not_same (slice_set stages row UnderWay) row UnderWay (moved_same stages row UnderWay Waiting was) row Waiting (λ e. (cc)) m.waiting refl)
+            (ready_stays rows stages row Waiting UnderWay was (λ e. (cc)) waits)
+            (λ r n. was_ready rows stages row Waiting UnderWay was (λ e. (cc)) waits r n (λ e. absurd (cc)));
       }
 
   -- a row that is under way ends, and those that follow it are left
   pub ended : (row : ℕ) → IsKeptBut rows [] waits followers stages reached ready → IsAt stages row UnderWay →
       IsKeptBut rows (links_of followers row) waits followers (slice_set stages row Over) reached ready
   ended row is was = record {
-    whole = simp length-set is.whole;
-    turns = turns_stay rows stages row UnderWay Over was under_way_not_over (λ e. absurd (over_not_under_way e)) is.turns;
-    past = past_stays rows stages row UnderWay Over was under_way_not_over (λ _. is.turns row was) is.past;
+    in_turn = stay_in_turn rows stages row UnderWay Over was (λ e. (cc)) (λ _. is.in_turn.turns row was) is.in_turn;
     are_waits = is.are_waits;
     are_followers = is.are_followers;
     are_reached = reached_stays waits stages (slice_set stages row Over) reached (length-set stages row Over)
-        (over_stays rows stages row UnderWay Over was under_way_not_over) is.are_reached;
+        (over_stays rows stages row UnderWay Over was (λ e. (cc))) is.are_reached;
     are_ready = queued_more (AwaitsWorker waits stages) (AwaitsWorker waits (slice_set stages row Over)) (links_of followers row) ready is.are_ready
-        (λ r m. ready_stays rows stages row UnderWay Over was under_way_not_over waits r
-        (λ e. waiting_not_under_way (one_stage stages row Waiting UnderWay (subst (λ (x : ℕ). IsAt stages x Waiting) e m.waiting) was)) m)
+        (λ r m. ready_stays rows stages row UnderWay Over was (λ e. (cc)) waits r (not_same stages row UnderWay was r Waiting (λ e. (cc)) m.waiting) m)
         (λ r m. elim (has (links_of waits r) row) [
           | inl waits_for ↦ inr (waiter_follows waits followers is.are_followers row r (there row is was) waits_for)
-          | inr lacks ↦ inl (was_ready rows stages row UnderWay Over was under_way_not_over waits r (ended_not row was r m) (λ _ has. lacks has) m)
+          | inr lacks ↦ inl (was_ready rows stages row UnderWay Over was (λ e. (cc)) waits r
+              (not_same (slice_set stages row Over) row Over (moved_same stages row Over UnderWay was) r Waiting (λ e. (cc)) m.waiting) (λ _ has. lacks has) m)
         ]);
   }
     where
       there : (row : ℕ) → IsKeptBut rows [] waits followers stages reached ready → IsAt stages row UnderWay → row < length waits
       there row is was = omega (arith, slice_get_within stages row UnderWay was, is.are_reached.waits_whole)
 
-      ended_not : (row : ℕ) → IsAt stages row UnderWay → (r : ℕ) → AwaitsWorker waits (slice_set stages row Over) r → r ≢ row
-      ended_not row was r m e = over_not_waiting (one_stage (slice_set stages row Over) row Over Waiting (moved_same stages row Over UnderWay was)
-          (subst (λ (x : ℕ). IsAt (slice_set stages row Over) x Waiting) e m.waiting))
-
   -- a row that was left was looked at
   pub woken : (row : ℕ) (left reached' : List ℕ) (ready' : RowSet) → IsKeptBut rows (row ∷ left) waits followers stages reached ready →
       AreReached waits stages reached' → IsRowSet ready' → IsWoken (AwaitsWorker waits stages row) row ready ready' →
       IsKeptBut rows left waits followers stages reached' ready'
   woken row left reached' ready' is are set each = record {
-    whole = is.whole;
-    turns = is.turns;
-    past = is.past;
+    in_turn = is.in_turn;
     are_waits = is.are_waits;
     are_followers = is.are_followers;
     are_reached = are;
@@ -137,21 +119,25 @@ module _ (rows : List Row) (waits followers : List (List ℕ)) (stages : List St
       let all : length waits ≡ length stages = is.are_reached.waits_whole in
       omega (arith, all, link_there waits r row (follower_waits waits followers is.are_followers row r (omega (arith, all, there)) has))
 
+-- all that a row waits for is over, where it was looked at to its end
+pub all_over : (waits : List ℕ) (stages : List Stage) (from reached : ℕ) → ((k : ℕ) → k < from → IsAt stages (slice_index waits k) Over) →
+    ((k : ℕ) → from ≤ k → k < reached → IsAt stages (slice_index waits k) Over) → length waits ≤ reached → (a : ℕ) → Contains waits a → IsAt stages a Over
+all_over waits stages from reached old new all a (k, h, e) =
+    subst (λ (x : ℕ). IsAt stages x Over) (get_or_default waits k 0 a h ∙ e) (elim (cases_lt k from) [ inl l ↦ old k l | inr ge ↦ new k ge (omega (arith, h, all)) ])
+
 -- at the beginning main waits, and no other row is spawned
 spawned_none : (m k : ℕ) (s : Stage) → IsAt (replicate m Unspawned) k s → Unspawned ≡ s
 spawned_none zero k s e = absurd (let f : None ≡ Some s = e in cc)
 spawned_none (suc m) zero s e = let f : Some Unspawned ≡ Some s = e in cc
 spawned_none (suc m) (suc k) s e = spawned_none m k s e
 
-main_alone : (m k : ℕ) (s : Stage) → IsAt (Waiting ∷ replicate m Unspawned) k s → ((k ≡ 0) × (Waiting ≡ s)) ⊎ (Unspawned ≡ s)
+pub main_alone : (m k : ℕ) (s : Stage) → IsAt (Waiting ∷ replicate m Unspawned) k s → ((k ≡ 0) × (Waiting ≡ s)) ⊎ (Unspawned ≡ s)
 main_alone m zero s e = inl (refl, (let f : Some Waiting ≡ Some s = e in cc))
 main_alone m (suc k) s e = inr (spawned_none m k s e)
 
-none_under_way : (m k : ℕ) → IsAt (Waiting ∷ replicate m Unspawned) k UnderWay → ⊥
-none_under_way m k e = elim (main_alone m k UnderWay e) [ inl p ↦ waiting_not_under_way p.1 | inr p ↦ (cc) ]
-
-none_over : (m k : ℕ) → IsAt (Waiting ∷ replicate m Unspawned) k Over → ⊥
-none_over m k e = elim (main_alone m k Over e) [ inl p ↦ waiting_not_over p.1 | inr p ↦ unspawned_not_over p ]
+-- and no row is at any other stage
+pub none_else : (m : ℕ) (s : Stage) → (Waiting ≡ s → ⊥) → (Unspawned ≡ s → ⊥) → (k : ℕ) → IsAt (Waiting ∷ replicate m Unspawned) k s → ⊥
+none_else m s not_main not_other k e = elim (main_alone m k s e) [ inl p ↦ not_main p.1 | inr q ↦ not_other q ]
 
 -- what a row waits for is there, before it
 pub wait_there : (rows : List Row) (waits : List (List ℕ)) → AreWaits rows waits → (r a : ℕ) → Contains (links_of waits r) a → (a < r) × (r < length rows)
@@ -174,15 +160,17 @@ pub begun : (rows : List Row) (waits followers : List (List ℕ)) (stages : List
     stages ≡ Waiting ∷ replicate m Unspawned → m + 1 ≡ length rows → AreWaits rows waits → AreFollowers waits followers → reached ≡ replicate (length rows) 0 →
     ((r : ℕ) → Has none r → ⊥) → IsRowSet ready → ((r : ℕ) → Has ready r ↔ (Has none r ⊎ (r ≡ 0))) → IsKeptBut rows [] waits followers stages reached ready
 begun rows waits followers stages reached none ready m es all are follow zeros empty set main = rw es (record {
-  whole = so_many;
-  turns = λ r u. absurd (none_under_way m r u);
-  past = λ r o. absurd (none_over m r o);
+  in_turn = record {
+    whole = so_many;
+    turns = λ r u. absurd (none_else m UnderWay (λ e. (cc)) (λ e. (cc)) r u);
+    past = λ r o. absurd (none_else m Over (λ e. (cc)) (λ e. (cc)) r o);
+  };
   are_waits = are;
   are_followers = follow;
   are_reached = rw zeros (reached_none rows waits first (replicate (length rows) 0) are so_many (length-replicate {A = ℕ} (length rows) 0) (zero_at (length rows)));
   are_ready = queued [] (AwaitsWorker waits first) ready set
       (λ r h. elim ((main r).0 h) [ inl was ↦ absurd (empty r was) | inr e ↦ subst (AwaitsWorker waits first) (sym e) main_awaits ])
-      (λ r h. elim (main_alone m r Waiting h.waiting) [ inl q ↦ inl ((main r).1 (inr q.0)) | inr q ↦ absurd (unspawned_not_waiting q) ]);
+      (λ r h. elim (main_alone m r Waiting h.waiting) [ inl q ↦ inl ((main r).1 (inr q.0)) | inr q ↦ absurd (cc) ]);
 })
   where
     first : List Stage

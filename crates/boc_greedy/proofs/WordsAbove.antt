@@ -1,9 +1,9 @@
 -- Words of bits, and the bits above them that say which words are not 0.
-use Rattle.std.proofs.Common.{◌≡◌, ◌≢◌, ℕ, zero, suc, ◌+◌, ◌*◌, ◌/◌, ◌%◌, ◌^◌, ◌<◌, ◌≤◌, ◌⊎◌, List, length, sym, ◌∙◌, ap, subst, inl, inr, arith, get_or-set_same, get_or-set_other, w64, refl, replicate}
+use Rattle.std.proofs.Common.{◌≡◌, ◌≢◌, ℕ, zero, suc, ◌+◌, ◌*◌, ◌/◌, ◌%◌, ◌^◌, ◌<◌, ◌≤◌, ◌⊎◌, List, length, get_or, sym, ◌∙◌, ap, subst, inl, inr, arith, get_or-set_same, get_or-set_other, w64, refl, replicate}
 use Rattle.std.specs.Prelude.{slice_index, slice_set, ◌↔◌}
 use Rattle.std.specs.Int.{bit_at, trailing_zeros}
 use Rattle.std.proofs.lemmas.Bool.{cases_eq, cases_lt}
-use Rattle.std.proofs.lemmas.List.{get_or_past, length-replicate}
+use Rattle.std.proofs.lemmas.List.{get_or_past, get_or_default, length-replicate}
 use Rattle.std.proofs.lemmas.Nat.Bits.{bit_at-zero, bit_at-trailing_zeros}
 use Rattle.boc_greedy.specs.declared.row_set.RowSet.{RowSet}
 use Rattle.boc_greedy.specs.RowSets.{IsSet, Has, IsRowSet}
@@ -152,6 +152,18 @@ module _ (s : RowSet) (is : IsRowSet s) where
         λ i has. low.2 (i / 64) ((is.words (i / 64)).1 (not_zero (slice_index s.rows.items (i / 64)) (i % 64) has)),
       )
 
+  -- and the first row, where the word of rows was read
+  pub least_row : (more : 0 < s.top) → (fits : s.top < 2 ^ 64) → (small : slice_index s.words (trailing_zeros w64 s.top) < 2 ^ 64) →
+      let word : ℕ = 64 * trailing_zeros w64 s.top + trailing_zeros w64 (slice_index s.words (trailing_zeros w64 s.top)) in
+      (x : ℕ) → x ≡ get_or s.rows.items word x → x < 2 ^ 64 → let row : ℕ = 64 * word + trailing_zeros w64 x in
+      (row < 65536) × Has s row × ((r : ℕ) → Has s r → row ≤ r)
+  least_row more fits small x read x_fits =
+      let word : ℕ = 64 * trailing_zeros w64 s.top + trailing_zeros w64 (slice_index s.words (trailing_zeros w64 s.top)) in
+      let w = least_word more fits small in
+      let is_word : x ≡ slice_index s.rows.items word = read ∙ get_or_default s.rows.items word x 0 (omega (arith, w.0, is.rows_room)) in
+      let low = lowest s.rows.items word x (trailing_zeros w64 x) is_word (omega (arith, w.1, is_word)) x_fits refl w.2 in
+      (omega (arith, w.0, low.0), low.1, low.2)
+
 -- the bits above a row's word, and above the word of those, as the row comes out
 module _ (s : RowSet) (row : ℕ) (is : IsRowSet s) (small : row < 65536) where
   abbrev word : ℕ
@@ -172,28 +184,26 @@ module _ (s : RowSet) (row : ℕ) (is : IsRowSet s) (small : row < 65536) where
   group_full : Has s row → 0 < slice_index s.words group
   group_full has = not_zero (slice_index s.words group) (word % 64) ((is.words word).1 (word_full has))
 
-  -- the word is still not 0
-  pub words_stay : (v : ℕ) → Has s row → v ≢ 0 → (w : ℕ) → IsSet s.words w ↔ 0 < slice_index (slice_set s.rows.items word v) w
-  words_stay v has more = marked (IsSet s.words) (IsSet s.words) s.rows.items word v there is.words (λ w n. ((λ h. h), (λ h. h)))
-      ((λ _. omega arith), (λ _. (is.words word).1 (word_full has)))
+  -- the word is still not 0, as it is read again, or has become 0
+  pub words_stay : (v x : ℕ) → x ≡ get_or (slice_set s.rows.items word v) word x → Has s row → x ≢ 0 → (w : ℕ) → IsSet s.words w ↔ 0 < slice_index (slice_set s.rows.items word v) w
+  words_stay v x read has more = marked (IsSet s.words) (IsSet s.words) s.rows.items word v there is.words (λ w n. ((λ h. h), (λ h. h)))
+      ((λ _. omega (arith, read ∙ get_or-set_same s.rows.items word v x there)), (λ _. (is.words word).1 (word_full has)))
 
-  -- the word becomes 0
-  pub words_clear : (v u : ℕ) → v ≡ 0 → bit_at u (word % 64) ≡ 0 → ((j : ℕ) → j ≢ word % 64 → bit_at u j ≡ bit_at (slice_index s.words group) j) →
-      (w : ℕ) → IsSet (slice_set s.words group u) w ↔ 0 < slice_index (slice_set s.rows.items word v) w
-  words_clear v u none cleared others =
+  pub words_clear : (v x u : ℕ) → x ≡ get_or (slice_set s.rows.items word v) word x → x ≡ 0 → bit_at u (word % 64) ≡ 0 →
+      ((j : ℕ) → j ≢ word % 64 → bit_at u j ≡ bit_at (slice_index s.words group) j) → (w : ℕ) → IsSet (slice_set s.words group u) w ↔ 0 < slice_index (slice_set s.rows.items word v) w
+  words_clear v x u read none cleared others =
       let gone = clear_bit s.words word group (word % 64) u above (omega arith) (omega arith) cleared others in
       marked (IsSet s.words) (IsSet (slice_set s.words group u)) s.rows.items word v there is.words
       (λ w n. elsewhere s.words group (word % 64) u w above (omega arith) others (λ e. n (omega arith)))
-      ((λ h. absurd (((gone word).0 h).1 refl)), (λ l. absurd (omega arith)))
+      ((λ h. absurd (((gone word).0 h).1 refl)), (λ l. absurd (omega (arith, read ∙ get_or-set_same s.rows.items word v x there))))
 
-  -- the word of those bits is still not 0
-  pub top_stays : (u : ℕ) → Has s row → u ≢ 0 → (w : ℕ) → (bit_at s.top w ≡ 1) ↔ 0 < slice_index (slice_set s.words group u) w
+  -- the word of those bits is still not 0, or has become 0 as well
+  pub top_stays : (u : ℕ) → Has s row → slice_index (slice_set s.words group u) group ≢ 0 → (w : ℕ) → (bit_at s.top w ≡ 1) ↔ 0 < slice_index (slice_set s.words group u) w
   top_stays u has more = marked (λ w. bit_at s.top w ≡ 1) (λ w. bit_at s.top w ≡ 1) s.words group u above is.top (λ w n. ((λ h. h), (λ h. h)))
-      ((λ _. omega arith), (λ _. (is.top group).1 (group_full has)))
+      ((λ _. omega (arith, get_or-set_same s.words group u 0 above)), (λ _. (is.top group).1 (group_full has)))
 
-  -- it becomes 0 as well
-  pub top_clears : (u t : ℕ) → u ≡ 0 → bit_at t group ≡ 0 → ((j : ℕ) → j ≢ group → bit_at t j ≡ bit_at s.top j) →
+  pub top_clears : (u t : ℕ) → slice_index (slice_set s.words group u) group ≡ 0 → bit_at t group ≡ 0 → ((j : ℕ) → j ≢ group → bit_at t j ≡ bit_at s.top j) →
       (w : ℕ) → (bit_at t w ≡ 1) ↔ 0 < slice_index (slice_set s.words group u) w
   top_clears u t none cleared others = marked (λ w. bit_at s.top w ≡ 1) (λ w. bit_at t w ≡ 1) s.words group u above is.top
       (λ w n. same_bit s.top t w (others w n))
-      ((λ h. absurd (omega arith)), (λ l. absurd (omega arith)))
+      ((λ h. absurd (omega arith)), (λ l. absurd (omega (arith, get_or-set_same s.words group u 0 above))))

@@ -11,9 +11,13 @@ pub record IsNextChild (rows : List Row) (a from b : ℕ) : Type 0 where
   pub child : b < length rows → IsChild rows a b
   pub none_between : (c : ℕ) → from ≤ c → c < b → IsChild rows a c → ⊥
 
+-- the next child of each row's parent
+pub record AreNext (rows : List Row) (next : List ℕ) : Type 0 where
+  pub whole : length next ≡ length rows
+  pub child : (b : ℕ) → 0 < b → b < length rows → IsNextChild rows (parent_of rows b) (b + 1) (slice_index next b)
+
 -- the first child of each row, and the next child of each row's parent
 pub record IsFamily (rows : List Row) (first next : List ℕ) : Type 0 where
-  pub first_whole : length first ≡ length rows
-  pub next_whole : length next ≡ length rows
-  pub first_child : (a : ℕ) → a < length rows → IsNextChild rows a 1 (slice_index first a)
-  pub next_child : (b : ℕ) → 0 < b → b < length rows → IsNextChild rows (parent_of rows b) (b + 1) (slice_index next b)
+  pub whole : length first ≡ length rows
+  pub child : (a : ℕ) → a < length rows → IsNextChild rows a 1 (slice_index first a)
+  pub are_next : AreNext rows next

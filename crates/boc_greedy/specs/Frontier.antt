@@ -32,11 +32,15 @@ pub record AreReached (waits : List (List ℕ)) (stages : List Stage) (reached :
   pub within : (r : ℕ) → slice_index reached r ≤ length (links_of waits r)
   pub over : (r k : ℕ) → k < slice_index reached r → IsAt stages (slice_index (links_of waits r) k) Over
 
--- what is kept is that of the rows at their stages, but that of some rows, which are left, it isn't known whether they wait for nothing but a worker
-pub record IsKeptBut (rows : List Row) (left : List ℕ) (waits followers : List (List ℕ)) (stages : List Stage) (reached : List ℕ) (ready : RowSet) : Type 0 where
+-- all rows that are ordered before one that is under way or over are over
+pub record AreInTurn (rows : List Row) (stages : List Stage) : Type 0 where
   pub whole : length stages ≡ length rows
   pub turns : (r : ℕ) → IsAt stages r UnderWay → (a : ℕ) → Ordered rows a r → IsAt stages a Over
   pub past : (r : ℕ) → IsAt stages r Over → (a : ℕ) → Ordered rows a r → IsAt stages a Over
+
+-- what is kept is that of the rows at their stages, but that of some rows, which are left, it isn't known whether they wait for nothing but a worker
+pub record IsKeptBut (rows : List Row) (left : List ℕ) (waits followers : List (List ℕ)) (stages : List Stage) (reached : List ℕ) (ready : RowSet) : Type 0 where
+  pub in_turn : AreInTurn rows stages
   pub are_waits : AreWaits rows waits
   pub are_followers : AreFollowers waits followers
   pub are_reached : AreReached waits stages reached

@@ -6,12 +6,13 @@ use Rattle.boc_types.specs.plans.Greedy.{CountsAll}
 use Rattle.boc_greedy.specs.declared.simulation.Simulation.{Simulation}
 use Rattle.boc_greedy.specs.Frontier.{IsFrontier}
 use Rattle.std.specs.BinaryHeap.{heap_items}
-use Rattle.boc_greedy.specs.Queues.{AreQueued}
-use Rattle.boc_greedy.specs.Simulating.{later, AreIdle, Kept, Given, IsFresh, HasPassed, IsFull, IsPast, steps_of_all}
+use Rattle.boc_greedy.specs.Families.{AreNext}
+use Rattle.boc_greedy.specs.Queues.{IsQueue}
+use Rattle.boc_greedy.specs.Simulating.{later, Kept, Given, IsFresh, HasPassed, IsFull, IsPast, steps_of_all}
 
 -- the simulation keeps what it has to keep
-abbrev pub IsSimulated : List Row → ℕ → Simulation → Type 0
-IsSimulated rows p s = Kept rows p later s.starts.items s.workers.items s.frontier.stages.items s.changes.items s.tasks.items s.children.items s.tick
+abbrev pub IsSimulated : List Row → Simulation → Type 0
+IsSimulated rows s = Kept rows s.p later s.starts.items s.workers.items s.frontier.stages.items s.family.first.items (heap_items s.queue) s.idle s.tick
 
 -- the moments so far are counted
 pub record IsCounted (rows : List Row) (starts : List ℕ) (tick moments : ℕ) : Type 0 where
@@ -23,26 +24,26 @@ abbrev pub IsLow : List Row → Simulation → Type 0
 IsLow rows s = s.tick + steps_of_all s.frontier.stages.items * MOST_TICKS ≤ length rows * 3000000
 
 -- the changes of this tick are made, one after another, and no row has started at it yet
-pub record IsStepping (rows : List Row) (p : ℕ) (s : Simulation) : Type 0 where
+pub record IsStepping (rows : List Row) (s : Simulation) : Type 0 where
   pub frontier : IsFrontier rows s.frontier
-  pub kept : IsSimulated rows p s
+  pub kept : IsSimulated rows s
   pub fresh : IsFresh rows s.starts.items s.tick
-  pub idle : AreIdle s.changes.items s.idle
-  pub queued : AreQueued s.changes.items (heap_items s.queue)
+  pub are_next : AreNext rows s.family.next.items
+  pub queue : IsQueue (heap_items s.queue)
   pub counted : IsCounted rows s.starts.items s.tick s.moments
 
 -- the changes of this tick are made, and rows start, one after another
-pub record IsGiving (rows : List Row) (p : ℕ) (s : Simulation) : Type 0 where
+pub record IsGiving (rows : List Row) (s : Simulation) : Type 0 where
   pub frontier : IsFrontier rows s.frontier
-  pub kept : IsSimulated rows p s
-  pub given : Given rows p later s.starts.items s.workers.items s.frontier.stages.items s.changes.items s.tick
-  pub passed : HasPassed p s.changes.items s.tick
-  pub idle : AreIdle s.changes.items s.idle
-  pub queued : AreQueued s.changes.items (heap_items s.queue)
+  pub kept : IsSimulated rows s
+  pub given : Given rows s.p s.starts.items s.workers.items s.frontier.stages.items s.idle s.tick
+  pub passed : HasPassed (heap_items s.queue) s.tick
+  pub are_next : AreNext rows s.family.next.items
+  pub queue : IsQueue (heap_items s.queue)
   pub counted : IsCounted rows s.starts.items s.tick s.moments
   pub low : IsLow rows s
 
 -- no more row can start at this tick
-pub record IsSettled (rows : List Row) (p : ℕ) (s : Simulation) : Type 0 where
-  pub giving : IsGiving rows p s
-  pub full : IsFull rows p later s.frontier.stages.items s.changes.items
+pub record IsSettled (rows : List Row) (s : Simulation) : Type 0 where
+  pub giving : IsGiving rows s
+  pub full : IsFull rows s.frontier.stages.items s.idle

@@ -7,16 +7,16 @@ ghost use Rattle.boc_greedy.specs.Families.{IsFamily};
 use boc_types::sharing::SeenRows;
 use std::alloc::{AllocError, Global};
 
-/// For each row its first child, and the next child of its parent. Where there is none, the number of rows stands.
+/// For each row a child, and the next child of its parent. Where there is none, the number of rows stands.
 #[derive(Drop)]
 pub struct Family {
-    /// The first child of each row.
+    /// The first child of each row, of those that are left.
     pub first: Vec<u32>,
     /// The next child of each row's parent.
     pub next: Vec<u32>,
 }
 
-/// The children of the rows. `AllocError` says that memory was refused.
+/// The children of the rows, with all of them left. `AllocError` says that memory was refused.
 pub fn family_of(alloc: Global, rows: &SeenRows) -> Result<Family, AllocError>
     requires { IsRows rows.now }
     ensures { IfOk result (λ f. IsFamily rows.now f.first.items f.next.items) }

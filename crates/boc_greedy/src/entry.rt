@@ -8,7 +8,6 @@ ghost use Rattle.boc_types.specs.plans.Greedy.{IsSpan};
 ghost use Rattle.boc_order.specs.Waits.{AreWaits};
 ghost use Rattle.boc_greedy.specs.Plans.{IsGreedyPlanOf};
 
-use crate::children::family_of;
 use crate::report::Greedy;
 use crate::simulation::Simulation;
 use boc_order::{Links, followers, last_end, waits};
@@ -50,13 +49,12 @@ pub fn greedy_over(
 {
     let p = workers.number();
     let followers = followers(alloc, waits)?;
-    let family = family_of(alloc, rows)?;
     let mut simulation = Simulation::new(alloc, rows, waits, &followers, p)?;
-    simulation.give_all(rows, &family)?;
-    while let Some(worker) = simulation.next_to_change() {
-        simulation.advance(rows, &family, worker)?;
-        simulation.change_all(rows, &family)?;
-        simulation.give_all(rows, &family)?;
+    simulation.give_all(rows)?;
+    while let Some((tick, row)) = simulation.next_change() {
+        simulation.advance(rows, tick, row)?;
+        simulation.change_all(rows)?;
+        simulation.give_all(rows)?;
     }
     let ends = ends_of(alloc, rows, &simulation.starts)?;
     let ends_at = last_end(&ends);

@@ -1,8 +1,13 @@
 // Which rows can start, as rows are spawned, start and end.
 
-ghost use Rattle.std.specs.Prelude.{◌≡◌, ℕ, ◌≤◌, ◌<◌, length, slice_index, All};
-ghost use Rattle.boc_greedy.specs.declared.frontier.Stage.TheVariants.{Over};
-ghost use Rattle.boc_greedy.specs.Stages.{IsAt};
+ghost use Rattle.std.specs.Prelude.{◌≡◌, ℕ, ◌≤◌, ◌<◌, ◌↔◌, ◌⊎◌, ◌∷◌, length, pred, replicate, slice_index, slice_set, All, IfOk, IfSome, IfNone};
+ghost use Rattle.boc_types.specs.declared.limits.TheConstants.{MOST_ROWS};
+ghost use Rattle.boc_types.specs.runs.Rows.{IsRows};
+ghost use Rattle.boc_order.specs.Waits.{AreWaits, AreFollowers};
+ghost use Rattle.boc_greedy.specs.declared.frontier.Stage.TheVariants.{Unspawned, Waiting, UnderWay, Over};
+ghost use Rattle.boc_greedy.specs.RowSets.{IsRowSet, Has};
+ghost use Rattle.boc_greedy.specs.Stages.{IsAt, CanStart};
+ghost use Rattle.boc_greedy.specs.Frontier.{IsFrontier, AreReached, AwaitsWorker};
 
 use crate::row_set::RowSet;
 use boc_order::Links;
@@ -54,15 +59,6 @@ fn over_from(waits: &[u32], stages: &[Stage], from: usize) -> usize
 }
 
 impl<'a> Frontier<'a> {
-    ghost use Rattle.std.specs.Prelude.{◌≡◌, ℕ, ◌≤◌, ◌<◌, ◌↔◌, ◌⊎◌, ◌∷◌, [], length, pred, replicate, slice_set, IfOk, IfSome, IfNone, IsTrue};
-    ghost use Rattle.boc_types.specs.declared.limits.TheConstants.{MOST_ROWS};
-    ghost use Rattle.boc_types.specs.runs.Rows.{IsRows};
-    ghost use Rattle.boc_order.specs.Waits.{AreWaits, AreFollowers};
-    ghost use Rattle.boc_greedy.specs.declared.frontier.Stage.TheVariants.{Unspawned, Waiting, UnderWay, Over};
-    ghost use Rattle.boc_greedy.specs.RowSets.{IsRowSet, Has};
-    ghost use Rattle.boc_greedy.specs.Stages.{IsAt, CanStart};
-    ghost use Rattle.boc_greedy.specs.Frontier.{IsFrontier, AreReached, HasNoWaits, AwaitsWorker};
-
     /// Main waits for a worker, and no other row is spawned.
     pub fn new(
         alloc: Global,
@@ -137,7 +133,7 @@ impl<'a> Frontier<'a> {
         }
     }
 
-    // A row that is spawned is ready, if all that it waits for is over.
+    // A row that is spawned is ready, if all that it waits for is over. It looks from where it stopped before.
     fn wake(&mut self, row: u32)
         requires there { row < length self.old.stages.items }
         requires few { length self.old.stages.items ≤ MOST_ROWS }
@@ -150,26 +146,15 @@ impl<'a> Frontier<'a> {
         ensures waits { self.new.waits.now ≡ self.old.waits.now }
         ensures followers { self.new.followers.now ≡ self.old.followers.now }
     {
-        if self.stages[row as usize] == Stage::Waiting && self.waits_are_over(row) {
-            self.ready.insert(row);
-        }
-    }
-
-    // Whether all that a row waits for is over. It looks from where it stopped before.
-    fn waits_are_over(&mut self, row: u32) -> bool
-        requires there { row < length self.old.stages.items }
-        requires reached { AreReached self.old.waits.now self.old.stages.items self.old.reached.items }
-        ensures over { IsTrue result ↔ HasNoWaits self.old.waits.now self.old.stages.items row }
-        ensures reached { AreReached self.old.waits.now self.old.stages.items self.new.reached.items }
-        ensures stages { self.new.stages.items ≡ self.old.stages.items }
-        ensures waits { self.new.waits.now ≡ self.old.waits.now }
-        ensures followers { self.new.followers.now ≡ self.old.followers.now }
-        ensures ready { self.new.ready ≡ self.old.ready }
-    {
+        let Stage::Waiting = self.stages[row as usize] else {
+            return;
+        };
         let links = self.waits;
         let waits = links.of(row as usize);
         let reached = over_from(waits, &self.stages, self.reached[row as usize]);
         self.reached[row as usize] = reached;
-        reached == waits.len()
+        if reached == waits.len() {
+            self.ready.insert(row);
+        }
     }
 }

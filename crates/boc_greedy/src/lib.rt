@@ -11,7 +11,6 @@ mod frontier;
 mod report;
 mod row_set;
 mod simulation;
-mod workers;
 
 pub use entry::{greedy, greedy_over, greedy_within};
 pub use report::Greedy;

@@ -1,32 +1,56 @@
 // A simulation of workers, from one tick at which something changes to the next.
 
+ghost use Rattle.std.specs.Prelude.{◌≡◌, ℕ, ◌+◌, ◌<◌, ◌≤◌, [], length, IfOk, IfSome, IfNone, OnOk, true, false};
+ghost use Rattle.std.specs.BinaryHeap.{heap_items};
+ghost use Rattle.boc_types.specs.runs.Rows.{IsRows, offset_of, ticks_of};
+ghost use Rattle.boc_order.specs.Waits.{AreWaits, AreFollowers};
+ghost use Rattle.boc_greedy.specs.Queues.{IsQueue, IsIn, IsOnTop};
+ghost use Rattle.boc_greedy.specs.Simulating.{later, IsLeastIdle, steps_of_all};
+ghost use Rattle.boc_greedy.specs.Stepping.{IsStepping, IsGiving, IsSettled, IsLow};
+
 use crate::bits::{with_bit, without_bit};
-use crate::children::Family;
+use crate::children::{Family, family_of};
 use crate::frontier::Frontier;
-use crate::workers::{LATER, all_idle, change_of, least_idle};
 use boc_order::Links;
+use boc_types::limits::MOST_TICKS;
 use boc_types::sharing::SeenRows;
 use std::alloc::{AllocError, Global};
 use std::cmp::Reverse;
 use std::collections::BinaryHeap;
 
+// A tick after every tick of a plan, at which rows stand that haven't started.
+const LATER: u64 = u64::MAX;
+
+// The tick at which a row that started then spawns this child or, where the child isn't there, ends.
+fn change_of(rows: &SeenRows, start: u64, row: u32, child: u32) -> u64
+    requires shape { IsRows rows.now }
+    requires there { row < length rows.now }
+    requires early { start + MOST_TICKS < later }
+    ensures spawns { child < length rows.now → result ≡ start + offset_of rows.now child }
+    ensures ends { length rows.now ≤ child → result ≡ start + ticks_of rows.now row }
+{
+    if (child as usize) < rows.len() {
+        start + u64::from(rows.offset(child as usize))
+    } else {
+        start + u64::from(rows.ticks(row as usize))
+    }
+}
+
 /// How far a simulation is.
 #[derive(Drop)]
 pub struct Simulation<'a> {
+    /// How many workers there are.
+    pub p: u32,
     /// The tick at which each row starts, or a later one than any.
     pub starts: Vec<u64>,
     /// The worker that each row stands on.
     pub workers: Vec<u32>,
     /// How far the rows are.
     pub frontier: Frontier<'a>,
-    /// The tick at which each worker's row next spawns a child or ends, or a later one than any for an idle worker.
-    pub changes: Vec<u64>,
-    /// For each worker that isn't idle the same tick, and the worker. The earliest is on top.
-    pub queue: BinaryHeap<Reverse<(u64, usize)>>,
-    /// The row of each worker that isn't idle.
-    pub tasks: Vec<u32>,
-    /// The child that each worker's row spawns next, or the number of rows.
-    pub children: Vec<u32>,
+    /// The children that are not spawned yet.
+    pub family: Family,
+    /// For each row that is under way the tick at which it next spawns a child or ends. The earliest is on top.
+    pub queue: BinaryHeap<Reverse<(u64, u32)>>,
     /// A bit for each worker, set for those that are idle.
     pub idle: u64,
     /// The tick at which the simulation stands.
@@ -36,15 +60,6 @@ pub struct Simulation<'a> {
 }
 
 impl<'a> Simulation<'a> {
-    ghost use Rattle.std.specs.Prelude.{◌≡◌, ◌≢◌, ℕ, ◌<◌, ◌≤◌, length, slice_index, IfOk, IfSome, IfNone, OnOk, true, false};
-    ghost use Rattle.boc_types.specs.runs.Rows.{IsRows};
-    ghost use Rattle.boc_order.specs.Waits.{AreWaits, AreFollowers};
-    ghost use Rattle.boc_greedy.specs.Families.{IsFamily};
-    ghost use Rattle.boc_greedy.specs.Queues.{AreQueued, IsOnTop};
-    ghost use Rattle.boc_greedy.specs.Simulating.{later, IsLeastIdle, IsNextToChange, IsFull, HasPassed, steps_of_all};
-    ghost use Rattle.boc_greedy.specs.Stepping.{IsStepping, IsGiving, IsSettled, IsLow};
-    ghost use Rattle.std.specs.BinaryHeap.{heap_items};
-
     /// Tick 0, where only main is spawned, and nothing has started.
     pub fn new(
         alloc: Global,
@@ -58,51 +73,45 @@ impl<'a> Simulation<'a> {
         requires followers { AreFollowers waits.now followers.now }
         requires some { 0 < p }
         requires few { p ≤ 64 }
-        ensures { IfOk result (λ s. IsGiving rows.now p s) }
+        ensures workers { IfOk result (λ s. s.p ≡ p) }
+        ensures giving { IfOk result (λ s. IsGiving rows.now s) }
     {
-        let count = rows.len();
-        let starts = vec![in alloc; LATER; count]?;
-        let workers = vec![in alloc; 0; count]?;
+        let starts = vec![in alloc; LATER; rows.len()]?;
+        let workers = vec![in alloc; 0; rows.len()]?;
         let frontier = Frontier::new(alloc, rows, waits, followers)?;
-        let changes = vec![in alloc; LATER; p as usize]?;
-        let tasks = vec![in alloc; 0; p as usize]?;
-        let children = vec![in alloc; 0; p as usize]?;
+        let family = family_of(alloc, rows)?;
         Ok(Simulation {
+            p,
             starts,
             workers,
             frontier,
-            changes,
+            family,
             queue: BinaryHeap::with_capacity(alloc, p as usize)?,
-            tasks,
-            children,
-            idle: all_idle(p),
+            idle: u64::MAX >> (64 - p),
             tick: 0,
             moments: 1,
         })
     }
 
     // Gives the least row that can start to the least worker that is idle; false where no row can start.
-    fn give(&mut self, rows: &SeenRows, family: &Family, worker: usize) -> Result<bool, AllocError>
+    fn give(&mut self, rows: &SeenRows, worker: u32) -> Result<bool, AllocError>
         requires shape { IsRows rows.now }
-        requires family { IsFamily rows.now family.now.first.items family.now.next.items }
-        requires giving { IsGiving rows.now (length self.old.changes.items) self.old }
-        requires idle { IsLeastIdle self.old.changes.items worker }
-        ensures giving { OnOk result (IsGiving rows.now (length self.old.changes.items) self.new) }
+        requires giving { IsGiving rows.now self.old }
+        requires idle { IsLeastIdle self.old.idle worker }
+        ensures workers { self.new.p ≡ self.old.p }
+        ensures giving { OnOk result (IsGiving rows.now self.new) }
         ensures fewer { IfOk result (λ given. given ≡ true → steps_of_all self.new.frontier.stages.items < steps_of_all self.old.frontier.stages.items) }
-        ensures full { IfOk result (λ given. given ≡ false → IsFull rows.now (length self.old.changes.items) later self.new.frontier.stages.items self.new.changes.items) }
-        ensures settled { IfOk result (λ given. given ≡ false → steps_of_all self.new.frontier.stages.items ≤ steps_of_all self.old.frontier.stages.items) }
+        ensures settled { IfOk result (λ given. given ≡ false → IsSettled rows.now self.new) }
+        ensures no_more { IfOk result (λ given. given ≡ false → steps_of_all self.new.frontier.stages.items ≤ steps_of_all self.old.frontier.stages.items) }
     {
         match self.frontier.start_least(rows) {
             Some(row) => {
-                let child = family.first[row as usize];
+                let child = self.family.first[row as usize];
                 let change = change_of(rows, self.tick, row, child);
-                self.queue.push(Reverse((change, worker)))?;
+                self.queue.push(Reverse((change, row)))?;
                 self.starts[row as usize] = self.tick;
-                self.workers[row as usize] = worker as u32;
-                self.tasks[worker] = row;
-                self.children[worker] = child;
-                self.changes[worker] = change;
-                self.idle = without_bit(self.idle, worker as u32);
+                self.workers[row as usize] = worker;
+                self.idle = without_bit(self.idle, worker);
                 Ok(true)
             }
             None => Ok(false),
@@ -110,98 +119,90 @@ impl<'a> Simulation<'a> {
     }
 
     /// Gives rows that can start to idle workers, until there are no more of the ones or the others.
-    pub fn give_all(&mut self, rows: &SeenRows, family: &Family) -> Result<(), AllocError>
+    pub fn give_all(&mut self, rows: &SeenRows) -> Result<(), AllocError>
         requires shape { IsRows rows.now }
-        requires family { IsFamily rows.now family.now.first.items family.now.next.items }
-        requires giving { IsGiving rows.now (length self.old.changes.items) self.old }
-        ensures settled { OnOk result (IsSettled rows.now (length self.old.changes.items) self.new) }
-        ensures fewer { OnOk result (steps_of_all self.new.frontier.stages.items ≤ steps_of_all self.old.frontier.stages.items) }
+        requires giving { IsGiving rows.now self.old }
+        ensures workers { self.new.p ≡ self.old.p }
+        ensures settled { OnOk result (IsSettled rows.now self.new) }
+        ensures no_more { OnOk result (steps_of_all self.new.frontier.stages.items ≤ steps_of_all self.old.frontier.stages.items) }
     {
-        while let Some(worker) = least_idle(self.idle) {
-            if !self.give(rows, family, worker)? {
+        while self.idle != 0 {
+            let worker = self.idle.trailing_zeros();
+            if !self.give(rows, worker)? {
                 return Ok(());
             }
         }
         Ok(())
     }
 
-    // What changes next for the worker on top: its row spawns its next child, or ends.
-    fn change(&mut self, rows: &SeenRows, family: &Family, worker: usize) -> Result<(), AllocError>
+    // What changes next for the row on top: it spawns its next child, or ends.
+    fn change(&mut self, rows: &SeenRows, row: u32) -> Result<(), AllocError>
         requires shape { IsRows rows.now }
-        requires family { IsFamily rows.now family.now.first.items family.now.next.items }
-        requires stepping { IsStepping rows.now (length self.old.changes.items) self.old }
-        requires top { IsOnTop (heap_items self.old.queue) self.old.tick worker }
-        ensures stepping { OnOk result (IsStepping rows.now (length self.old.changes.items) self.new) }
+        requires stepping { IsStepping rows.now self.old }
+        requires top { IsOnTop (heap_items self.old.queue) self.old.tick row }
+        ensures workers { self.new.p ≡ self.old.p }
+        ensures tick { self.new.tick ≡ self.old.tick }
+        ensures stepping { OnOk result (IsStepping rows.now self.new) }
         ensures fewer { OnOk result (steps_of_all self.new.frontier.stages.items < steps_of_all self.old.frontier.stages.items) }
-        ensures tick { OnOk result (self.new.tick ≡ self.old.tick) }
     {
-        let row = self.tasks[worker];
-        let child = self.children[worker];
+        let child = self.family.first[row as usize];
         self.queue.pop();
         if (child as usize) < rows.len() {
             self.frontier.spawn(rows, child);
-            let next = family.next[child as usize];
+            let next = self.family.next[child as usize];
+            self.family.first[row as usize] = next;
             let change = change_of(rows, self.starts[row as usize], row, next);
-            self.children[worker] = next;
-            self.changes[worker] = change;
-            self.queue.push(Reverse((change, worker)))?;
+            self.queue.push(Reverse((change, row)))?;
             Ok(())
         } else {
             self.frontier.end(rows, row);
-            self.changes[worker] = LATER;
-            self.idle = with_bit(self.idle, worker as u32);
+            self.idle = with_bit(self.idle, self.workers[row as usize]);
             Ok(())
         }
     }
 
-    /// A worker for which something changes before or when anything changes for the others, if one isn't idle.
-    pub fn next_to_change(&self) -> Option<usize>
-        requires { AreQueued self.now.changes.items (heap_items self.now.queue) }
-        ensures found { IfSome result (λ w. IsNextToChange self.now.changes.items w) }
-        ensures top { IfSome result (λ w. IsOnTop (heap_items self.now.queue) (slice_index self.now.changes.items w) w) }
-        ensures none { IfNone result ((w : ℕ) → w < length self.now.changes.items → later ≤ slice_index self.now.changes.items w) }
+    /// The tick at which something changes next, and a row for which it does, if there is one.
+    pub fn next_change(&self) -> Option<(u64, u32)>
+        requires { IsQueue (heap_items self.now.queue) }
+        ensures top { IfSome result (λ change. IsOnTop (heap_items self.now.queue) change.0 change.1) }
+        ensures least { IfSome result (λ change. (tick row : ℕ) → IsIn (heap_items self.now.queue) tick row → change.0 ≤ tick) }
+        ensures none { IfNone result (heap_items self.now.queue ≡ []) }
     {
-        let Reverse((_, worker)) = self.queue.peek()?;
-        Some(*worker)
+        let Reverse(change) = self.queue.peek()?;
+        Some(*change)
     }
 
     /// All that changes at this tick.
-    pub fn change_all(&mut self, rows: &SeenRows, family: &Family) -> Result<(), AllocError>
+    pub fn change_all(&mut self, rows: &SeenRows) -> Result<(), AllocError>
         requires shape { IsRows rows.now }
-        requires family { IsFamily rows.now family.now.first.items family.now.next.items }
-        requires stepping { IsStepping rows.now (length self.old.changes.items) self.old }
+        requires stepping { IsStepping rows.now self.old }
         requires low { IsLow rows.now self.old }
-        ensures giving { OnOk result (IsGiving rows.now (length self.old.changes.items) self.new) }
-        ensures fewer { OnOk result (steps_of_all self.new.frontier.stages.items ≤ steps_of_all self.old.frontier.stages.items) }
+        ensures workers { self.new.p ≡ self.old.p }
+        ensures giving { OnOk result (IsGiving rows.now self.new) }
+        ensures no_more { OnOk result (steps_of_all self.new.frontier.stages.items ≤ steps_of_all self.old.frontier.stages.items) }
     {
-        while let Some(worker) = self.next_to_change() {
-            if self.changes[worker] != self.tick {
+        while let Some((tick, row)) = self.next_change() {
+            if tick != self.tick {
                 return Ok(());
             }
-            self.change(rows, family, worker)?;
+            self.change(rows, row)?;
         }
         Ok(())
     }
 
-    /// Goes to the tick at which this worker, the next to change, changes.
-    pub fn advance(
-        &mut self,
-        rows: &SeenRows,
-        family: &Family,
-        worker: usize,
-    ) -> Result<(), AllocError>
+    /// Goes to the tick at which something changes next, and makes the change for this row.
+    pub fn advance(&mut self, rows: &SeenRows, tick: u64, row: u32) -> Result<(), AllocError>
         requires shape { IsRows rows.now }
-        requires family { IsFamily rows.now family.now.first.items family.now.next.items }
-        requires settled { IsSettled rows.now (length self.old.changes.items) self.old }
-        requires next { IsNextToChange self.old.changes.items worker }
-        requires top { IsOnTop (heap_items self.old.queue) (slice_index self.old.changes.items worker) worker }
-        ensures stepping { OnOk result (IsStepping rows.now (length self.old.changes.items) self.new) }
+        requires settled { IsSettled rows.now self.old }
+        requires top { IsOnTop (heap_items self.old.queue) tick row }
+        requires least { (other r : ℕ) → IsIn (heap_items self.old.queue) other r → tick ≤ other }
+        ensures workers { self.new.p ≡ self.old.p }
+        ensures stepping { OnOk result (IsStepping rows.now self.new) }
         ensures low { OnOk result (IsLow rows.now self.new) }
         ensures fewer { OnOk result (steps_of_all self.new.frontier.stages.items < steps_of_all self.old.frontier.stages.items) }
     {
-        self.tick = self.changes[worker];
+        self.tick = tick;
         self.moments += 1;
-        self.change(rows, family, worker)?;
-        Ok(())
+        self.change(rows, row)
     }
 }

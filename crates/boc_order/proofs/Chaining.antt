@@ -1,17 +1,17 @@
 -- Chains: what the links back from a last row make, and what a chain says of every plan.
-use Rattle.std.proofs.Common.{◌≡◌, ℕ, zero, suc, ◌+◌, ◌<◌, ◌≤◌, List, [], ◌∷◌, ◌++◌, reverse, get_or, length, Option, Some, None, refl, ap, subst, inl, inr, arith}
-use Rattle.std.specs.Prelude.{slice_get, slice_index, slice_index_or, MatchOption}
+use Rattle.std.proofs.Common.{◌≡◌, ℕ, zero, suc, ◌+◌, ◌<◌, ◌≤◌, List, [], ◌∷◌, ◌++◌, reverse, get_or, length, Option, Some, None, refl, sym, ap, subst, inl, inr, arith}
+use Rattle.std.specs.Prelude.{slice_get, slice_index, slice_index_or}
 use Rattle.std.proofs.lemmas.List.Sums.{sum_by-cons}
 use Rattle.std.proofs.lemmas.Bool.{cases_eq}
 use Rattle.boc_types.specs.declared.rows.Row.{Row}
 use Rattle.boc_types.specs.declared.chain.ChainStep.{ChainStep}
 use Rattle.boc_types.specs.declared.chain.Via.{Via}
 use Rattle.boc_types.specs.declared.chain.Via.TheVariants.{Spawn, Order, Last}
-use Rattle.boc_types.specs.runs.Rows.{IsRows, parent_of, offset_of, ticks_of}
+use Rattle.boc_types.specs.runs.Rows.{IsRows, parent_of, ticks_of}
 use Rattle.boc_types.specs.plans.Plans.{start_of, end_of, Keeps, IsEnd, IsEarliest}
-use Rattle.boc_types.specs.plans.Chains.{IsSpawnTight, IsOrderTight, weight_of, LinkVia, IsLink, PickedVia, IsChain, IsPicked}
-use Rattle.boc_order.specs.Placed.{ArePlaced}
-use Rattle.boc_order.specs.Back.{IsStepBefore, LeadsTo, IsFirstLatest}
+use Rattle.boc_types.specs.plans.Chains.{weight_of, LinkVia, IsLink, PickedVia, IsChain, IsPicked}
+use Rattle.boc_order.specs.Placed.{IsTight, ArePlaced}
+use Rattle.boc_order.specs.Back.{IsStepBefore, ArePicked, LeadsTo, IsFirstLatest}
 use Rattle.std.proofs.lemmas.List.{reverse-append, get_or_read}
 use Rattle.std.proofs.lemmas.Option.{get_or_from_slice_get}
 
@@ -52,39 +52,20 @@ module _ (rows : List Row) (plan : List ℕ) (keeps : Keeps rows plan) (last : �
       omega arith
 
 -- the last step alone
-pub leads_last : (rows : List Row) (plan : List ℕ) (r : ℕ) → r < length rows → IsEnd rows plan (end_of rows plan r) →
-    ((other : ℕ) → other < length rows → IsEnd rows plan (end_of rows plan other) → r ≤ other) →
+pub leads_last : (rows : List Row) (plan : List ℕ) (r : ℕ) → r < length rows → IsFirstLatest rows plan r →
     LeadsTo rows plan (end_of rows plan r) r (record { row = r; via = Last; weight = ticks_of rows r } ∷ [])
-leads_last rows plan r h e least = record {
+leads_last rows plan r h f = record {
   top = record { row = r; via = Last; weight = ticks_of rows r };
   rest = [];
   is = refl;
   at = refl;
-  links = at;
+  picked = ((h, refl), (f.ends, f.first), tt);
   weight = omega arith;
 }
-  where
-    at : (k : ℕ) (s : ChainStep) → slice_get (record { row = r; via = Last; weight = ticks_of rows r } ∷ []) k ≡ Some s →
-        IsLink rows s (slice_get (record { row = r; via = Last; weight = ticks_of rows r } ∷ []) (suc k)) × PickedVia rows plan s.row s.via (slice_get (record { row = r; via = Last; weight = ticks_of rows r } ∷ []) (suc k))
-    at zero s q =
-        let same : record { row = r; via = Last; weight = ticks_of rows r } ≡ s = cc in
-        subst (λ (t : ChainStep). IsLink rows t None × PickedVia rows plan t.row t.via None) same ((h, refl), (e, least))
-    at (suc k) s q = absurd (let bad : ⊥ = cc in bad)
 
 -- one more step in front
 module _ (rows : List Row) (hr : IsRows rows) (starts ends : List ℕ) (after : List (Option ℕ))
     (placed : ArePlaced rows starts ends after (length rows)) (last b : ℕ) (above : 0 < b) (there : b < length rows) where
-  front : (s : ChainStep) (top : ChainStep) (rest : List ChainStep) → top.row ≡ b →
-      ((k : ℕ) (t : ChainStep) → slice_get (top ∷ rest) k ≡ Some t →
-      IsLink rows t (slice_get (top ∷ rest) (suc k)) × PickedVia rows starts t.row t.via (slice_get (top ∷ rest) (suc k))) →
-      IsLink rows s (Some top) → PickedVia rows starts s.row s.via (Some top) →
-      (k : ℕ) (t : ChainStep) → slice_get (s ∷ top ∷ rest) k ≡ Some t →
-      IsLink rows t (slice_get (s ∷ top ∷ rest) (suc k)) × PickedVia rows starts t.row t.via (slice_get (s ∷ top ∷ rest) (suc k))
-  front s top rest at links link picked zero t q =
-      let same : s ≡ t = cc in
-      subst (λ (u : ChainStep). IsLink rows u (Some top) × PickedVia rows starts u.row u.via (Some top)) same (link, picked)
-  front s top rest at links link picked (suc k) t q = links k t q
-
   lead : (s : ChainStep) (steps : List ChainStep) → (l : LeadsTo rows starts last b steps) → IsLink rows s (Some l.top) →
       PickedVia rows starts s.row s.via (Some l.top) → start_of starts s.row + s.weight ≡ start_of starts b → LeadsTo rows starts last s.row (s ∷ steps)
   lead s steps l link picked w = rw l.is (record {
@@ -92,53 +73,33 @@ module _ (rows : List Row) (hr : IsRows rows) (starts ends : List ℕ) (after : 
     rest = l.top ∷ l.rest;
     is = refl;
     at = refl;
-    links = front s l.top l.rest l.at (rw l.is at l.links) link picked;
+    picked = (link, picked, rw l.is at l.picked);
     weight =
         let e : start_of starts b + weight_of (l.top ∷ l.rest) ≡ last = rw l.is at l.weight in
-        let sums : weight_of (s ∷ l.top ∷ l.rest) ≡ s.weight + weight_of (l.top ∷ l.rest) = sum_by-cons (λ (t : ChainStep). t.weight) s (l.top ∷ l.rest) in
-        omega arith;
+        omega (arith, sum_by-cons (λ (t : ChainStep). t.weight) s (l.top ∷ l.rest));
   })
 
-  -- the step that row b waited for
-  lead_by : (o : Option ℕ) → MatchOption o (IsSpawnTight rows starts b)
-      (λ a. (IsSpawnTight rows starts b → ⊥) × IsOrderTight rows starts a b × ((other : ℕ) → IsOrderTight rows starts other b → a ≤ other)) →
-      (s : ChainStep) (steps : List ChainStep) → IsStepBefore rows o b s → LeadsTo rows starts last b steps → LeadsTo rows starts last s.row (s ∷ steps)
-  lead_by None tight s steps q l =
+  -- the step that row b waited for is an earlier row's, and leads on
+  step_by : (o : Option ℕ) → IsTight rows starts b o → (s : ChainStep) (steps : List ChainStep) → IsStepBefore rows o b s → LeadsTo rows starts last b steps →
+      (s.row < b) × LeadsTo rows starts last s.row (s ∷ steps)
+  step_by None tight s steps q l =
       let before : parent_of rows b < b = hr.parent_before b above there in
-      let same : parent_of rows b ≡ tight.0 = tight.1.parent in
-      let row : s.row ≡ tight.0 = cc in
-      let via : s.via ≡ Spawn = cc in
-      let weight : s.weight ≡ offset_of rows b = cc in
-      lead s steps l
-      (omega (arith, row, same, before, there), rw (via, row, weight, l.at) (tight.1, refl))
-      (rw (via, l.at) tight)
-      (rw (row, weight) tight.2)
-  lead_by (Some a) tight s steps q l =
-      let row : s.row ≡ a = cc in
-      let via : s.via ≡ Order = cc in
-      let weight : s.weight ≡ ticks_of rows a = cc in
-      lead s steps l
-      (omega (arith, row, tight.1.0.before, there), rw (via, row, weight, l.at) (tight.1.0, refl))
-      (rw (via, row, l.at) tight)
-      (rw (row, weight) tight.1.1)
+      rw q (before, lead _ steps l (omega (arith, there), rw l.at (record { not_main = above; there = there; parent = refl }, refl)) (rw l.at tight) (rw tight.1.parent tight.2))
+  step_by (Some a) tight s steps q l =
+      let before : a < b = tight.1.0.before in
+      rw q (before, lead _ steps l (omega (arith, there), rw l.at (tight.1.0, refl)) (rw l.at tight) tight.1.1)
 
-  pub leads_more : (s : ChainStep) (steps : List ChainStep) → IsStepBefore rows (slice_index_or after b None) b s →
-      LeadsTo rows starts last b steps → LeadsTo rows starts last s.row (s ∷ steps)
-  leads_more s steps q l = lead_by (slice_index_or after b None) ((placed.placed b there).tight above) s steps q l
+  pub step_back : (s : ChainStep) (steps : List ChainStep) → IsStepBefore rows (slice_index_or after b None) b s → LeadsTo rows starts last b steps →
+      (s.row < b) × LeadsTo rows starts last s.row (s ∷ steps)
+  step_back = step_by (slice_index_or after b None) ((placed.placed b there).tight above)
 
-  -- it is an earlier row
-  before_by : (o : Option ℕ) → MatchOption o (IsSpawnTight rows starts b)
-      (λ a. (IsSpawnTight rows starts b → ⊥) × IsOrderTight rows starts a b × ((other : ℕ) → IsOrderTight rows starts other b → a ≤ other)) →
-      (s : ChainStep) → IsStepBefore rows o b s → s.row < b
-  before_by None tight s q =
-      let row : s.row ≡ parent_of rows b = cc in
-      omega (arith, hr.parent_before b above there)
-  before_by (Some a) tight s q =
-      let row : s.row ≡ a = cc in
-      omega (arith, tight.1.0.before)
-
-  pub step_is_before : (s : ChainStep) → IsStepBefore rows (slice_index_or after b None) b s → s.row < b
-  step_is_before s q = before_by (slice_index_or after b None) ((placed.placed b there).tight above) s q
+-- of the steps each one, by its place
+each_picked : (rows : List Row) (plan : List ℕ) (steps : List ChainStep) → ArePicked rows plan steps → (k : ℕ) (s : ChainStep) → slice_get steps k ≡ Some s →
+    IsLink rows s (slice_get steps (suc k)) × PickedVia rows plan s.row s.via (slice_get steps (suc k))
+each_picked rows plan [] p k s q = absurd (cc)
+each_picked rows plan (x ∷ steps) p zero s q =
+    let same : x ≡ s = cc in subst (λ (y : ChainStep). IsLink rows y (slice_get steps 0) × PickedVia rows plan y.row y.via (slice_get steps 0)) same (p.0, p.1)
+each_picked rows plan (x ∷ steps) p (suc k) s q = each_picked rows plan steps p.2 k s q
 
 -- all the way back
 pub leads_all : (rows : List Row) (hr : IsRows rows) (starts ends : List ℕ) (after : List (Option ℕ)) → ArePlaced rows starts ends after (length rows) →
@@ -146,20 +107,16 @@ pub leads_all : (rows : List Row) (hr : IsRows rows) (starts ends : List ℕ) (a
 leads_all rows hr starts ends after placed last steps l = (
   record {
     chain = record {
-      not_empty = let e : length steps ≡ length (l.top ∷ l.rest) = ap length l.is in omega arith;
-      holds = λ k s q. (λ z. first k s q z, (l.links k s q).0);
+      not_empty = omega (arith, ap length l.is);
+      holds = λ k s q. (
+        λ z. (let p : slice_get (l.top ∷ l.rest) 0 ≡ Some s = rw (z, l.is) at q in let same : l.top ≡ s = cc in rw (sym same) l.at),
+        (each_picked rows starts steps l.picked k s q).0,
+      );
     };
-    picked = λ k s q. (l.links k s q).1;
+    picked = λ k s q. (each_picked rows starts steps l.picked k s q).1;
   },
   omega (arith, l.weight, (placed.placed 0 hr.not_empty).main refl),
 )
-  where
-    first : (k : ℕ) (s : ChainStep) → slice_get steps k ≡ Some s → k ≡ 0 → s.row ≡ 0
-    first k s q z =
-        let p : slice_get (l.top ∷ l.rest) 0 ≡ Some s = rw (z, l.is) at q in
-        let same : l.top ≡ s = cc in
-        let row : l.top.row ≡ s.row = ap (λ (t : ChainStep). t.row) same in
-        omega (arith, l.at)
 
 -- what the placed rows make
 pub placed_earliest : (rows : List Row) (hr : IsRows rows) (starts ends : List ℕ) (after : List (Option ℕ)) →
@@ -175,9 +132,7 @@ placed_earliest rows hr starts ends after placed = record {
   where
     by_tight : (o : Option ℕ) (other : List ℕ) → Keeps rows other → (r : ℕ) → r < length rows →
         ((a : ℕ) → a < r → a < length rows → start_of starts a ≤ start_of other a) →
-        MatchOption o (IsSpawnTight rows starts r)
-        (λ a. (IsSpawnTight rows starts r → ⊥) × IsOrderTight rows starts a r × ((other : ℕ) → IsOrderTight rows starts other r → a ≤ other)) →
-        start_of starts r ≤ start_of other r
+        IsTight rows starts r o → start_of starts r ≤ start_of other r
     by_tight None other keeps r there ih tight =
         let before : tight.0 < r = omega (arith, hr.parent_before r tight.1.not_main there, tight.1.parent) in
         omega (arith, ih tight.0 before (omega arith), keeps.spawned tight.0 r tight.1, tight.2)
@@ -207,7 +162,7 @@ waits_below rows starts ends after placed b above there a q =
 -- the first step that is made
 pub leads_first : (rows : List Row) (plan : List ℕ) (r weight : ℕ) (steps all : List ChainStep) → r < length rows → IsFirstLatest rows plan r →
     weight ≡ ticks_of rows r → steps ≡ [] → all ≡ steps ++ record { row = r; via = Last; weight = weight } ∷ [] → LeadsTo rows plan (end_of rows plan r) r (reverse all)
-leads_first rows plan r weight steps all h f m none e = rw (e, none, m) (leads_last rows plan r h f.ends f.first)
+leads_first rows plan r weight steps all h f m none e = rw (e, none, m) (leads_last rows plan r h f)
 
 -- no plan that keeps ends sooner than the earliest
 pub earliest_le_end : (rows : List Row) (plan : List ℕ) (span : ℕ) → IsEarliest rows plan → IsEnd rows plan span →

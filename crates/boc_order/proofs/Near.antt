@@ -4,17 +4,14 @@ use Rattle.std.specs.Prelude.{MatchOption}
 use Rattle.std.specs.List.{Contains}
 use Rattle.std.proofs.lemmas.Bool.{cases_lt, cases_eq}
 use Rattle.std.proofs.lemmas.List.{get_or_default, append-nil}
-use Rattle.std.proofs.lemmas.List.Elements.{Contains-append_left, Contains-append_right, Contains-append_cases}
+use Rattle.std.proofs.lemmas.List.Elements.{Contains-append_left, Contains-push, Contains-push_cases}
 use Rattle.boc_types.specs.declared.rows.Row.{Row}
 use Rattle.boc_types.specs.runs.Rows.{IsRows, cowns_of, written_of}
 use Rattle.boc_types.specs.plans.Plans.{ConflictOn, Ordered}
 use Rattle.boc_order.specs.declared.gathering.Use.{Use}
 use Rattle.boc_order.specs.Waits.{IsNearOn, IsNear}
 use Rattle.boc_order.specs.Uses.{NoneWrites, IsWriter, IsReader, IsUse, AddsNearOn}
-
-in_or : (y x : ℕ) (ys : List ℕ) → y ≢ x → (k : ℕ) → k < length (y ∷ ys) → get_or (y ∷ ys) k x ≡ x → Contains ys x
-in_or y x ys ne zero l e = absurd (ne e)
-in_or y x ys ne (suc k) l e = (k, omega arith, e)
+use Rattle.boc_order.proofs.Remembering.{contains_tail, contains_cases}
 
 -- a list has a number, or hasn't
 pub has : (ys : List ℕ) (x : ℕ) → Contains ys x ⊎ (Contains ys x → ⊥)
@@ -22,8 +19,8 @@ has [] x = inr (λ c. omega (arith, c.1))
 has (y ∷ ys) x = elim (cases_eq y x) [
   | inl e ↦ inl (0, omega arith, e)
   | inr ne ↦ elim (has ys x) [
-    | inl c ↦ inl (suc c.0, omega (arith, c.1), c.2)
-    | inr none ↦ inr (λ c. none (in_or y x ys ne c.0 c.1 c.2))
+    | inl c ↦ inl (contains_tail y x ys c)
+    | inr none ↦ inr (λ c. elim (contains_cases y x ys c) [ inl e ↦ ne e | inr m ↦ none m ])
   ]
 ]
 
@@ -38,6 +35,26 @@ one_in x a e = (0, omega arith, e)
 -- a row writes only what it has
 pub writes_own : (rows : List Row) → IsRows rows → (r c : ℕ) → r < length rows → Contains (written_of rows r) c → Contains (cowns_of rows r) c
 writes_own rows hr r c there (k, h, e) = subst (λ (x : ℕ). Contains (cowns_of rows r) x) e ((hr.written_own r there).own k c h)
+
+-- where row n doesn't write a cown, its last writer and the readers since stay
+module _ (rows : List Row) (n c : ℕ) where
+  module _ (isnt : Contains (written_of rows n) c → ⊥) where
+    pub none_more : (r : ℕ) → NoneWrites rows c r n → NoneWrites rows c r (n + 1)
+    none_more r none k low below w = elim (cases_eq k n) [
+      | inl e ↦ isnt (subst (λ (x : ℕ). Contains (written_of rows x) c) e w)
+      | inr ne ↦ none k low (omega (arith, below)) w
+    ]
+
+    pub writer_more : (o : Option ℕ) → MatchOption o (NoneWrites rows c 0 n) (IsWriter rows n c) → MatchOption o (NoneWrites rows c 0 (n + 1)) (IsWriter rows (n + 1) c)
+    writer_more None p = none_more 0 p
+    writer_more (Some x) p = record { before = omega (arith, p.before); wrote = p.wrote; last = none_more (x + 1) p.last }
+
+    pub reader_more : (r : ℕ) → IsReader rows n c r → IsReader rows (n + 1) c r
+    reader_more r p = record { before = omega (arith, p.before); needs = p.needs; since = none_more r p.since }
+
+  -- an earlier reader was one before
+  pub reader_less : (r : ℕ) → r ≢ n → IsReader rows (n + 1) c r → IsReader rows n c r
+  reader_less r ne i = record { before = omega (arith, i.before); needs = i.needs; since = λ k low below w. i.since k low (omega (arith, below)) w }
 
 -- row b waits on cown c
 module _ (rows : List Row) (hr : IsRows rows) (b c : ℕ) (there : b < length rows) (own : Contains (cowns_of rows b) c) where
@@ -158,85 +175,62 @@ module _ (rows : List Row) (hr : IsRows rows) (b c : ℕ) (there : b < length ro
       complete = λ r i. absurd (i.since b (omega (arith, i.before)) (omega arith) w);
     }
 
-    none_more : (Contains (written_of rows b) c → ⊥) → (r : ℕ) → NoneWrites rows c r b → NoneWrites rows c r (b + 1)
-    none_more isnt r none k low below w = elim (cases_eq k b) [
-      | inl e ↦ isnt (subst (λ (x : ℕ). Contains (written_of rows x) c) e w)
-      | inr ne ↦ none k low (omega (arith, below)) w
-    ]
-
-    writer_more : (Contains (written_of rows b) c → ⊥) → (o : Option ℕ) → MatchOption o (NoneWrites rows c 0 b) (IsWriter rows b c) →
-        MatchOption o (NoneWrites rows c 0 (b + 1)) (IsWriter rows (b + 1) c)
-    writer_more isnt None p = none_more isnt 0 p
-    writer_more isnt (Some x) p = record { before = omega (arith, p.before); wrote = p.wrote; last = none_more isnt (x + 1) p.last }
-
     -- row b only reads it
     pub use_read : (Contains (written_of rows b) c → ⊥) → next.writer ≡ used.writer → next.readers.items ≡ used.readers.items ++ b ∷ [] → IsUse rows (b + 1) c next
     use_read isnt is more = record {
-      writer = rw is (writer_more isnt used.writer u.writer);
-      sound = rw more (λ r k. elim (Contains-append_cases used.readers.items (b ∷ []) r k) [
-        | inl i ↦ (let p = u.sound r i in record { before = omega (arith, p.before); needs = p.needs; since = none_more isnt r p.since })
-        | inr i ↦ subst (λ (x : ℕ). IsReader rows (b + 1) c x) (in_one b r i)
-            (record { before = omega arith; needs = own; since = none_more isnt b (λ k low below w. omega (arith, low, below)) })
+      writer = rw is (writer_more rows b c isnt used.writer u.writer);
+      sound = rw more (λ r k. elim (Contains-push_cases used.readers.items b r k) [
+        | inl i ↦ reader_more rows b c isnt r (u.sound r i)
+        | inr e ↦ subst (IsReader rows (b + 1) c) e (record { before = omega arith; needs = own; since = none_more rows b c isnt b (λ k low below w. omega (arith, low, below)) })
       ]);
       complete = rw more (λ r i. elim (cases_eq r b) [
-        | inl e ↦ Contains-append_right used.readers.items (b ∷ []) r (one_in b r (sym e))
-        | inr ne ↦ Contains-append_left used.readers.items (b ∷ []) r
-            (u.complete r (record { before = omega (arith, i.before); needs = i.needs; since = λ k low below w. i.since k low (omega (arith, below)) w }))
+        | inl e ↦ rw e (Contains-push used.readers.items b)
+        | inr ne ↦ Contains-append_left used.readers.items (b ∷ []) r (u.complete r (reader_less rows b c r ne i))
       ]);
     }
+
+-- of two things both hold, or not; and one of them does, or neither
+both : {A B : Type 0} → A ⊎ (A → ⊥) → B ⊎ (B → ⊥) → (A × B) ⊎ (A × B → ⊥)
+both (inr none) e = inr (λ p. none p.0)
+both (inl a) (inr none) = inr (λ p. none p.1)
+both (inl a) (inl b) = inl (a, b)
+
+either : {A B : Type 0} → A ⊎ (A → ⊥) → B ⊎ (B → ⊥) → (A ⊎ B) ⊎ (A ⊎ B → ⊥)
+either (inl a) e = inl (inl a)
+either (inr none) (inl b) = inl (inr b)
+either (inr none) (inr nor) = inr (λ p. elim p [ inl a ↦ none a | inr b ↦ nor b ])
+
+-- some number below n has a property, or none has
+some_below : (P : ℕ → Type 0) → ((k : ℕ) → P k ⊎ (P k → ⊥)) → (n : ℕ) → ((k : ℕ) × (k < n) × P k) ⊎ ((k : ℕ) → k < n → P k → ⊥)
+some_below P each zero = inr (λ k h. omega (arith, h))
+some_below P each (suc n) = elim (some_below P each n) [
+  | inl (k, h, p) ↦ inl (k, omega (arith, h), p)
+  | inr none ↦ elim (each n) [
+    | inl p ↦ inl (n, omega arith, p)
+    | inr isnt ↦ inr (λ k h p. elim (cases_eq k n) [ inl e ↦ isnt (subst P e p) | inr ne ↦ none k (omega (arith, h)) p ])
+  ]
+]
 
 -- what the order asks for is near, or comes by way of a row in between
 module _ (rows : List Row) where
   pub conflict_at : (c a b : ℕ) → ConflictOn rows c a b ⊎ (ConflictOn rows c a b → ⊥)
-  conflict_at c a b = elim (has (cowns_of rows a) c) [
-    | inr isnt ↦ inr (λ p. isnt p.first)
-    | inl f ↦ elim (has (cowns_of rows b) c) [
-      | inr isnt ↦ inr (λ p. isnt p.second)
-      | inl s ↦ elim (has (written_of rows a) c) [
-        | inl w ↦ inl (record { first = f; second = s; wrote = inl w })
-        | inr isnt ↦ elim (has (written_of rows b) c) [
-          | inl w ↦ inl (record { first = f; second = s; wrote = inr w })
-          | inr none ↦ inr (λ p. elim p.wrote [ inl w ↦ isnt w | inr w ↦ none w ])
-        ]
-      ]
-    ]
+  conflict_at c a b = elim (both (has (cowns_of rows a) c) (both (has (cowns_of rows b) c) (either (has (written_of rows a) c) (has (written_of rows b) c)))) [
+    | inl p ↦ inl (record { first = p.0; second = p.1.0; wrote = p.1.1 })
+    | inr none ↦ inr (λ p. none (p.first, (p.second, p.wrote)))
   ]
 
-  -- a row between two others that conflicts with both
-  abbrev Between : ℕ → ℕ → ℕ → ℕ → Type 0
-  Between c a b n = (k : ℕ) × (a < k) × (k < n) × ConflictOn rows c a k × ConflictOn rows c k b
-
-  between : (c a b n : ℕ) → Between c a b n ⊎ (Between c a b n → ⊥)
-  between c a b zero = inr (λ p. omega (arith, p.2))
-  between c a b (suc n) = elim (between c a b n) [
-    | inl (k, low, below, p, q) ↦ inl (k, low, omega (arith, below), p, q)
-    | inr none ↦ elim (cases_lt a n) [
-      | inr g ↦ inr (λ p. omega (arith, g, p.1, p.2))
-      | inl low ↦ elim (conflict_at c a n) [
-        | inr isnt ↦ inr (λ p. last none p (λ x y. isnt x))
-        | inl x ↦ elim (conflict_at c n b) [
-          | inr isnt ↦ inr (λ p. last none p (λ x y. isnt y))
-          | inl y ↦ inl (n, low, omega arith, x, y)
-        ]
-      ]
-    ]
-  ]
-    where
-      last : (Between c a b n → ⊥) → (p : Between c a b (suc n)) → (ConflictOn rows c a n → ConflictOn rows c n b → ⊥) → ⊥
-      last none (k, low, below, p, q) isnt = elim (cases_eq k n) [
-        | inl e ↦ isnt (subst (λ (x : ℕ). ConflictOn rows c a x) e p) (subst (λ (x : ℕ). ConflictOn rows c x b) e q)
-        | inr ne ↦ none (k, low, omega (arith, below), p, q)
-      ]
+  after : (a k : ℕ) → (a < k) ⊎ (a < k → ⊥)
+  after a k = elim (cases_lt a k) [ inl l ↦ inl l | inr g ↦ inr (λ l. omega (arith, l, g)) ]
 
   pub near_complete : (a b : ℕ) → b < length rows → Ordered rows a b → IsNear rows a b ⊎ ((c : ℕ) × Ordered rows a c × Ordered rows c b)
   near_complete a b there o =
       let c : ℕ = o.shared.0 in
-      elim (between c a b b) [
-        | inl (k, low, below, p, q) ↦ inr (k, record { before = low; shared = (c, p) }, record { before = below; shared = (c, q) })
+      elim (some_below (λ k. (a < k) × (ConflictOn rows c a k × ConflictOn rows c k b)) (λ k. both (after a k) (both (conflict_at c a k) (conflict_at c k b))) b) [
+        | inl (k, below, (low, (p, q))) ↦ inr (k, record { before = low; shared = (c, p) }, record { before = below; shared = (c, q) })
         | inr none ↦ inl (record {
           there = there;
           cown = c;
-          near = record { before = o.before; conflict = o.shared.1; none_between = λ k low below p q. none (k, low, below, p, q) };
+          near = record { before = o.before; conflict = o.shared.1; none_between = λ k low below p q. none k below (low, (p, q)) };
         })
       ]
 

@@ -1,19 +1,20 @@
 -- One more row gets its place.
-use Rattle.std.proofs.Common.{◌≡◌, ℕ, zero, suc, ◌+◌, ◌*◌, ◌<◌, ◌≤◌, ◌⊎◌, Bool, true, false, List, [], ◌∷◌, ◌++◌, length, Option, Some, None, refl, sym, ap, subst, inl, inr, arith}
+use Rattle.std.proofs.Common.{◌≡◌, ℕ, zero, suc, ◌+◌, ◌*◌, ◌<◌, ◌≤◌, ◌⊎◌, Bool, true, false, List, [], ◌∷◌, ◌++◌, length, Option, Some, None, refl, sym, ap, ◌∙◌, subst, inl, inr, arith}
 use Rattle.boc_types.specs.declared.limits.TheConstants.{MOST_TICKS}
 use Rattle.std.specs.Prelude.{slice_index, slice_index_or, nat_lt, MatchOption}
 use Rattle.std.specs.List.{Contains}
 use Rattle.std.proofs.lemmas.Bool.{cases_lt, cases_eq}
 use Rattle.std.proofs.lemmas.List.{get_or_append_left, get_or_push, length_push}
 use Rattle.boc_types.specs.declared.rows.Row.{Row}
-use Rattle.boc_types.specs.runs.Rows.{IsRows, parent_of, offset_of, ticks_of}
-use Rattle.boc_types.specs.plans.Plans.{start_of, end_of, Ordered}
+use Rattle.boc_types.specs.runs.Rows.{IsRows, parent_of, offset_of, ticks_of, cowns_of, written_of}
+use Rattle.boc_types.specs.plans.Plans.{start_of, end_of, IsChild, ConflictOn, Ordered}
 use Rattle.boc_types.specs.plans.Chains.{IsSpawnTight, IsOrderTight}
 use Rattle.boc_order.specs.declared.latest.Latest.{Latest}
 use Rattle.boc_order.specs.Latest.{IsLatestOf}
-use Rattle.boc_order.specs.Placed.{placement, Placed, ArePlaced}
+use Rattle.boc_order.specs.Placed.{placement, IsTight, Placed, ArePlaced}
 use Rattle.boc_order.specs.Waits.{HasWaits}
 use Rattle.boc_order.proofs.Near.{near_complete, near_ordered}
+use Rattle.boc_order.proofs.Remembering.{some_latest}
 
 -- what the placement of row n says, ends being those of the rows before it
 pub record Waits (rows : List Row) (ends : List ℕ) (n spawned at : ℕ) (waits_for : Option ℕ) : Type 0 where
@@ -27,12 +28,6 @@ pub placement_waits : (rows : List Row) (ends : List ℕ) (n spawned : ℕ) (bes
     Waits rows ends n spawned (placement spawned best).0 (placement spawned best).1
 placement_waits rows ends n spawned last p = go (nat_lt spawned last.end) refl
   where
-    early : last.end ≤ spawned → (a : ℕ) → Ordered rows a n → slice_index ends a ≤ spawned
-    early h a m = elim (cases_eq last.end 0) [
-      | inl e ↦ absurd (p.none e a m)
-      | inr ne ↦ omega (arith, (p.some (omega arith)).latest a m)
-    ]
-
     go : (b : Bool) → nat_lt spawned last.end ≡ b →
         Waits rows ends n spawned (placement spawned last).0 (placement spawned last).1
     go true e = rw e (let h : spawned < last.end = grind (arith) in
@@ -43,7 +38,7 @@ placement_waits rows ends n spawned last p = go (nat_lt spawned last.end) refl
         })
     go false e = rw e (let h : last.end ≤ spawned = grind (arith) in record {
       spawned_then = omega arith;
-      in_order = early h;
+      in_order = λ a o. omega (arith, h, (some_latest _ _ last p a o).latest a o);
       tight = refl;
     })
 
@@ -54,45 +49,77 @@ Agrees xs ys n = (r : ℕ) → r < n → slice_index ys r ≡ slice_index xs r
 pub Agrees-push : (xs : List ℕ) (x n : ℕ) → length xs ≡ n → Agrees xs (xs ++ x ∷ []) n
 Agrees-push xs x n l r h = get_or_append_left xs (x ∷ []) 0 r (omega arith)
 
-module _ (rows : List Row) (hr : IsRows rows) (starts starts' : List ℕ) (n : ℕ) (agree : Agrees starts starts' n) where
-  spawn_tight : (b : ℕ) → b < n → IsSpawnTight rows starts b → IsSpawnTight rows starts' b
-  spawn_tight b h (a, child, e) =
-      let before : a < b = omega (arith, hr.parent_before b child.not_main child.there, child.parent) in
-      (a, child, omega (arith, agree a (omega arith), agree b h))
+-- the same rows but for the ticks of row n and those after it
+pub record AreSameBefore (n : ℕ) (rows others : List Row) : Type 0 where
+  pub len : length others ≡ length rows
+  pub parents : (r : ℕ) → parent_of others r ≡ parent_of rows r
+  pub offsets : (r : ℕ) → offset_of others r ≡ offset_of rows r
+  pub cowns : (r : ℕ) → cowns_of others r ≡ cowns_of rows r
+  pub written : (r : ℕ) → written_of others r ≡ written_of rows r
+  pub ticks : (r : ℕ) → r < n → ticks_of others r ≡ ticks_of rows r
 
-  order_tight : (a b : ℕ) → b < n → IsOrderTight rows starts a b → IsOrderTight rows starts' a b
-  order_tight a b h (o, e) = (o, omega (arith, agree a (omega (arith, o.before)), agree b h))
+same_rows : (n : ℕ) (rows : List Row) → AreSameBefore n rows rows
+same_rows n rows = record { len = refl; parents = λ r. refl; offsets = λ r. refl; cowns = λ r. refl; written = λ r. refl; ticks = λ r h. refl }
 
--- a placed row stays placed
-module _ (rows : List Row) (hr : IsRows rows) (starts starts' ends ends' : List ℕ) (n : ℕ)
-    (agree : Agrees starts starts' n) (agree_ends : Agrees ends ends' n) where
-  back : Agrees starts' starts n
-  back r h = sym (agree r h)
+pub same_back : (n : ℕ) (rows others : List Row) → AreSameBefore n rows others → AreSameBefore n others rows
+same_back n rows others s = record {
+  len = sym s.len;
+  parents = λ r. sym (s.parents r);
+  offsets = λ r. sym (s.offsets r);
+  cowns = λ r. sym (s.cowns r);
+  written = λ r. sym (s.written r);
+  ticks = λ r h. sym (s.ticks r h);
+}
 
-  still_tight : (w : Option ℕ) (b : ℕ) → b < n →
-      MatchOption w (IsSpawnTight rows starts b)
-      (λ a. (IsSpawnTight rows starts b → ⊥) × IsOrderTight rows starts a b × ((other : ℕ) → IsOrderTight rows starts other b → a ≤ other)) →
-      MatchOption w (IsSpawnTight rows starts' b)
-      (λ a. (IsSpawnTight rows starts' b → ⊥) × IsOrderTight rows starts' a b × ((other : ℕ) → IsOrderTight rows starts' other b → a ≤ other))
-  still_tight None b h p = spawn_tight rows hr starts starts' n agree b h p
-  still_tight (Some a) b h p = (
-    λ t. p.0 (spawn_tight rows hr starts' starts n back b h t),
-    order_tight rows hr starts starts' n agree a b h p.1,
-    λ o t. p.2 o (order_tight rows hr starts' starts n back o b h t),
+-- such rows have the same children and orders, and what was tight below n, in a plan that agrees there, is tight
+module _ (n : ℕ) (rows others : List Row) (s : AreSameBefore n rows others) where
+  child_same : (a b : ℕ) → IsChild others a b → IsChild rows a b
+  child_same a b c = record { not_main = c.not_main; there = omega (arith, s.len, c.there); parent = sym (s.parents b) ∙ c.parent }
+
+  pub conflict_same : (c a b : ℕ) → ConflictOn others c a b → ConflictOn rows c a b
+  conflict_same c a b o = record { first = rw (s.cowns a) at o.first; second = rw (s.cowns b) at o.second; wrote = rw (s.written a, s.written b) at o.wrote }
+
+  ordered_same : (a b : ℕ) → Ordered others a b → Ordered rows a b
+  ordered_same a b o = record { before = o.before; shared = (o.shared.0, conflict_same o.shared.0 a b o.shared.1) }
+
+  module _ (starts starts' : List ℕ) (agree : Agrees starts starts' n) (b : ℕ) (h : b < n) where
+    spawn_tight : ((a : ℕ) → IsChild rows a b → a < b) → IsSpawnTight others starts' b → IsSpawnTight rows starts b
+    spawn_tight before (a, child, e) =
+        let c = child_same a b child in
+        (a, c, omega (arith, agree a (omega (arith, before a c, h)), agree b h, s.offsets b, e))
+
+    order_tight : (a : ℕ) → IsOrderTight others starts' a b → IsOrderTight rows starts a b
+    order_tight a (o, e) = (ordered_same a b o, omega (arith, agree a (omega (arith, o.before, h)), agree b h, s.ticks a (omega (arith, o.before, h)), e))
+
+-- a placed row stays placed, in a plan that agrees, among rows that are the same
+module _ (n : ℕ) (rows others : List Row) (s : AreSameBefore n rows others) (hr : IsRows rows) (starts starts' ends ends' : List ℕ)
+    (agree : Agrees starts starts' n) (agree_ends : Agrees ends ends' n) (b : ℕ) (h : b < n) where
+  back : AreSameBefore n others rows
+  back = same_back n rows others s
+
+  agree_back : Agrees starts' starts n
+  agree_back r l = sym (agree r l)
+
+  before : (a : ℕ) → IsChild rows a b → a < b
+  before a c = omega (arith, hr.parent_before b c.not_main c.there, c.parent)
+
+  still_tight : (w : Option ℕ) → IsTight rows starts b w → IsTight others starts' b w
+  still_tight None p = spawn_tight n others rows back starts' starts agree_back b h (λ a c. before a (child_same n rows others s a b c)) p
+  still_tight (Some a) p = (
+    λ t. p.0 (spawn_tight n rows others s starts starts' agree b h before t),
+    order_tight n others rows back starts' starts agree_back b h a p.1,
+    λ o t. p.2 o (order_tight n rows others s starts starts' agree b h o t),
   )
 
-  pub still_placed : (w : Option ℕ) (b : ℕ) → b < n → Placed rows starts ends w b → Placed rows starts' ends' w b
-  still_placed w b h p = record {
+  pub still_placed : (w : Option ℕ) → Placed rows starts ends w b → Placed others starts' ends' w b
+  still_placed w p = record {
     main = λ e. omega (arith, p.main e, agree b h);
-    ends_then = omega (arith, p.ends_then, agree b h, agree_ends b h);
+    ends_then = omega (arith, p.ends_then, agree b h, agree_ends b h, s.ticks b h);
     low = omega (arith, p.low, agree_ends b h);
-    spawned = λ a child.
-        (let before : a < n = omega (arith, hr.parent_before b child.not_main child.there, child.parent) in
-        omega (arith, p.spawned a child, agree a before, agree b h));
-    in_order = λ a o.
-        (let before : a < n = omega (arith, o.before) in
-        omega (arith, p.in_order a o, agree a before, agree b h));
-    tight = λ k. still_tight w b h (p.tight k);
+    spawned = λ a child. (let c = child_same n rows others s a b child in
+        omega (arith, s.offsets b, p.spawned a c, agree a (omega (arith, before a c, h)), agree b h));
+    in_order = λ a o. omega (arith, s.ticks a (omega (arith, o.before, h)), p.in_order a (ordered_same n rows others s a b o), agree a (omega (arith, o.before, h)), agree b h);
+    tight = λ k. still_tight w (p.tight k);
   }
 
 -- the next row
@@ -141,9 +168,7 @@ module _ (rows : List Row) (hr : IsRows rows) (starts ends : List ℕ) (after : 
 
     tight_by : (o : Option ℕ) → 0 < n → MatchOption o (at ≡ spawned)
         (λ a. (spawned < at) × Ordered rows a n × (slice_index ends a ≡ at) × ((o : ℕ) → Ordered rows o n → slice_index ends o ≡ at → a ≤ o)) →
-        MatchOption o (IsSpawnTight rows (starts ++ at ∷ []) n)
-        (λ a. (IsSpawnTight rows (starts ++ at ∷ []) n → ⊥) × IsOrderTight rows (starts ++ at ∷ []) a n ×
-        ((other : ℕ) → IsOrderTight rows (starts ++ at ∷ []) other n → a ≤ other))
+        IsTight rows (starts ++ at ∷ []) n o
     tight_by None above t =
         let before : parent_of rows n < n = hr.parent_before n above there in (
           parent_of rows n,
@@ -180,8 +205,8 @@ module _ (rows : List Row) (hr : IsRows rows) (starts ends : List ℕ) (after : 
     placed_by b (inl h) =
         let same : slice_index_or (after ++ waits_for ∷ []) b None ≡ slice_index_or after b None =
         get_or_append_left after (waits_for ∷ []) None b (omega (arith, done.after_len)) in
-        rw same (still_placed rows hr starts (starts ++ at ∷ []) ends (ends ++ (at + ticks_of rows n) ∷ []) n agree agree_ends
-        (slice_index_or after b None) b h (done.placed b h))
+        rw same (still_placed n rows rows (same_rows n rows) hr starts (starts ++ at ∷ []) ends (ends ++ (at + ticks_of rows n) ∷ []) agree agree_ends
+        b h (slice_index_or after b None) (done.placed b h))
     placed_by b (inr e) =
         subst (λ (x : ℕ). Placed rows (starts ++ at ∷ []) (ends ++ (at + ticks_of rows n) ∷ []) (slice_index_or (after ++ waits_for ∷ []) x None) x) (sym e)
         (let same : slice_index_or (after ++ waits_for ∷ []) n None ≡ waits_for = get_or_push after waits_for None n done.after_len in
@@ -207,23 +232,8 @@ module _ (rows : List Row) (hr : IsRows rows) (starts ends : List ℕ) (after : 
   pub all_late : (a : ℕ) → a < length ends → 0 < slice_index ends a
   all_late a h = late a (omega (arith, h, done.ends_len))
 
-  pub place_parent : 0 < n → parent_of rows n < length starts
-  place_parent above = omega (arith, hr.parent_before n above there, done.starts_len)
-
-  pub place_spawned_low : 0 < n → slice_index starts (parent_of rows n) + offset_of rows n ≤ n * MOST_TICKS
-  place_spawned_low above =
-      let before : parent_of rows n < n = hr.parent_before n above there in
-      let p = done.placed (parent_of rows n) before in
-      omega (arith, p.low, p.ends_then, hr.ticks_cover n above there)
-
   -- the latest of those is the latest of all rows that are ordered before it
   module _ (best : Latest) (q : IsLatestOf (λ a. Contains waits a) (slice_index ends) best) where
-    near_low : (a : ℕ) → Contains waits a → slice_index ends a ≤ best.end
-    near_low a k = elim (cases_eq best.end 0) [
-      | inl e ↦ absurd (q.none e a k)
-      | inr ne ↦ (q.some (omega arith)).latest a k
-    ]
-
     -- a row in between starts at its end or later
     past : (a k : ℕ) → Ordered rows a k → k < n → slice_index ends a < slice_index ends k
     past a k o h =
@@ -233,7 +243,7 @@ module _ (rows : List Row) (hr : IsRows rows) (starts ends : List ℕ) (after : 
     before_low : (d a : ℕ) → n ≤ a + d → Ordered rows a n → slice_index ends a ≤ best.end
     before_low zero a h o = absurd (omega (arith, h, o.before))
     before_low (suc d) a h o = elim (near_complete rows a n there o) [
-      | inl near ↦ near_low a (has.complete a near)
+      | inl near ↦ (some_latest _ _ best q a (has.complete a near)).latest a (has.complete a near)
       | inr (k, first, second) ↦ (
           let up : slice_index ends k ≤ best.end = before_low d k (omega (arith, h, first.before)) second in
           omega (arith, past a k first second.before, up))
@@ -267,9 +277,6 @@ module _ (rows : List Row) (hr : IsRows rows) (starts ends : List ℕ) (after : 
 
       placed_waits : Waits rows ends n spawned place.0 place.1
       placed_waits = rw is (placement_waits rows ends n spawned best ordered_latest)
-
-      pub place_low : place.0 ≤ n * MOST_TICKS
-      place_low = at_low rows hr starts ends after n there done spawned place.0 place.1 sp placed_waits
 
       pub place_placed : ArePlaced rows (starts ++ place.0 ∷ []) (ends ++ (place.0 + ticks_of rows n) ∷ []) (after ++ place.1 ∷ []) (n + 1)
       place_placed = more_placed rows hr starts ends after n there done spawned place.0 place.1 sp placed_waits

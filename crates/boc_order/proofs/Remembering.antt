@@ -8,87 +8,40 @@ use Rattle.std.proofs.lemmas.Bool.{cases_eq}
 use Rattle.boc_order.specs.declared.latest.Latest.{Latest}
 use Rattle.boc_order.specs.Latest.{comes_after, later_of, IsLatest, IsLatestOf}
 
-after_true : (x y : Latest) → comes_after y x ≡ true → (x.end < y.end) ⊎ ((x.end ≡ y.end) × (y.row < x.row))
+after_true : (x y : Latest) → comes_after y x ≡ true → (x.end ≤ y.end) × (y.end ≡ x.end → y.row ≤ x.row)
 after_true x y h = grind (arith, nat_tests)
 
 after_false : (x y : Latest) → comes_after y x ≡ false → (y.end ≤ x.end) × (x.end ≡ y.end → x.row ≤ y.row)
 after_false x y h = grind (arith, nat_tests)
 
+-- where a set has a row, it has a latest
+pub some_latest : (In : ℕ → Type 0) (ends : ℕ → ℕ) (x : Latest) → IsLatestOf In ends x → (a : ℕ) → In a → IsLatest In ends x
+some_latest In ends x q a m = elim (cases_eq x.end 0) [ inl e ↦ absurd (q.none e a m) | inr ne ↦ q.some (omega arith) ]
+
+-- the latest of one set is that of both, where the other's ends no later, nor together with it under a smaller number
+picked : (A B C : ℕ → Type 0) (ends : ℕ → ℕ) (x y : Latest) → (y.end ≤ x.end) × (x.end ≡ y.end → x.row ≤ y.row) →
+    ((a : ℕ) → A a → C a) → ((a : ℕ) → C a → A a ⊎ B a) → IsLatestOf A ends x → IsLatestOf B ends y → IsLatestOf C ends x
+picked A B C ends x y h to from p q = record {
+  none = λ e a m. elim (from a m) [ inl i ↦ p.none e a i | inr i ↦ q.none (omega (arith, h.0)) a i ];
+  some = λ l. (let s = p.some l in record {
+    member = to x.row s.member;
+    ends_then = s.ends_then;
+    latest = λ a m. elim (from a m) [ inl i ↦ s.latest a i | inr i ↦ omega (arith, h.0, (some_latest B ends y q a i).latest a i) ];
+    least = λ a m e. elim (from a m) [
+      | inl i ↦ s.least a i e
+      | inr i ↦ (let o = some_latest B ends y q a i in
+          let same : x.end ≡ y.end = omega (arith, h.0, o.latest a i) in omega (arith, h.1 same, o.least a i (omega arith)))
+    ];
+  });
+}
+
 -- the later of the latest of two sets is the latest of both
-module _ (A B : ℕ → Type 0) (ends : ℕ → ℕ) where
-  pick_second : (x y : Latest) → (x.end < y.end) ⊎ ((x.end ≡ y.end) × (y.row < x.row)) →
-      IsLatest A ends x → IsLatest B ends y → IsLatest (λ r. A r ⊎ B r) ends y
-  pick_second x y h p q = record {
-    member = inr q.member;
-    ends_then = q.ends_then;
-    latest = λ a m. elim m [ inl m ↦ (let k : ends a ≤ x.end = p.latest a m in omega arith) | inr m ↦ q.latest a m ];
-    least = λ a m e. elim m [
-      | inl m ↦ (let k : ends a ≤ x.end = p.latest a m in
-          elim h [ inl h ↦ absurd (omega arith) | inr h ↦ (let l : x.row ≤ a = p.least a m (omega arith) in omega arith) ])
-      | inr m ↦ q.least a m e
-    ];
-  }
-
-  pick_first : (x y : Latest) → (y.end ≤ x.end) × (x.end ≡ y.end → x.row ≤ y.row) →
-      IsLatest A ends x → IsLatest B ends y → IsLatest (λ r. A r ⊎ B r) ends x
-  pick_first x y h p q = record {
-    member = inl p.member;
-    ends_then = p.ends_then;
-    latest = λ a m. elim m [ inl m ↦ p.latest a m | inr m ↦ (let k : ends a ≤ y.end = q.latest a m in omega (arith, h.0)) ];
-    least = λ a m e. elim m [
-      | inl m ↦ p.least a m e
-      | inr m ↦ (let k : ends a ≤ y.end = q.latest a m in
-          let same : x.end ≡ y.end = omega (arith, h.0) in
-          let l : y.row ≤ a = q.least a m (omega arith) in omega (arith, h.1 same))
-    ];
-  }
-
-  wider_second : (y : Latest) → ((a : ℕ) → A a → ⊥) → IsLatest B ends y → IsLatest (λ r. A r ⊎ B r) ends y
-  wider_second y none q = record {
-    member = inr q.member;
-    ends_then = q.ends_then;
-    latest = λ a m. elim m [ inl m ↦ absurd (none a m) | inr m ↦ q.latest a m ];
-    least = λ a m e. elim m [ inl m ↦ absurd (none a m) | inr m ↦ q.least a m e ];
-  }
-
-  wider_first : (x : Latest) → ((a : ℕ) → B a → ⊥) → IsLatest A ends x → IsLatest (λ r. A r ⊎ B r) ends x
-  wider_first x none p = record {
-    member = inl p.member;
-    ends_then = p.ends_then;
-    latest = λ a m. elim m [ inl m ↦ p.latest a m | inr m ↦ absurd (none a m) ];
-    least = λ a m e. elim m [ inl m ↦ p.least a m e | inr m ↦ absurd (none a m) ];
-  }
-
-  -- what is picked, where one of the sets may be empty
-  picked_second : (x y : Latest) → (x.end < y.end) ⊎ ((x.end ≡ y.end) × (y.row < x.row)) →
-      IsLatestOf A ends x → IsLatestOf B ends y → IsLatestOf (λ r. A r ⊎ B r) ends y
-  picked_second x y h p q = record {
-    none = λ e a m. elim m [ inl m ↦ p.none (omega (arith, late)) a m | inr m ↦ q.none e a m ];
-    some = λ l. elim (cases_eq x.end 0) [
-      | inl e ↦ wider_second y (p.none e) (q.some l)
-      | inr ne ↦ pick_second x y h (p.some (omega arith)) (q.some l)
-    ];
-  }
-    where
-      late : x.end ≤ y.end
-      late = elim h [ inl l ↦ omega arith | inr s ↦ omega (arith, s.0) ]
-
-  picked_first : (x y : Latest) → (y.end ≤ x.end) × (x.end ≡ y.end → x.row ≤ y.row) →
-      IsLatestOf A ends x → IsLatestOf B ends y → IsLatestOf (λ r. A r ⊎ B r) ends x
-  picked_first x y h p q = record {
-    none = λ e a m. elim m [ inl m ↦ p.none e a m | inr m ↦ q.none (omega (arith, h.0)) a m ];
-    some = λ l. elim (cases_eq y.end 0) [
-      | inl e ↦ wider_first x (q.none e) (p.some l)
-      | inr ne ↦ pick_first x y h (p.some l) (q.some (omega arith))
-    ];
-  }
-
-  pub later_latest : (x y : Latest) → IsLatestOf A ends x → IsLatestOf B ends y → IsLatestOf (λ r. A r ⊎ B r) ends (later_of x y)
-  later_latest x y p q = by_test (comes_after y x) refl
-    where
-      by_test : (b : Bool) → comes_after y x ≡ b → IsLatestOf (λ r. A r ⊎ B r) ends (if comes_after y x then y else x)
-      by_test true e = rw e (picked_second x y (after_true x y e) p q)
-      by_test false e = rw e (picked_first x y (after_false x y e) p q)
+pub later_latest : (A B : ℕ → Type 0) (ends : ℕ → ℕ) (x y : Latest) → IsLatestOf A ends x → IsLatestOf B ends y → IsLatestOf (λ r. A r ⊎ B r) ends (later_of x y)
+later_latest A B ends x y p q = by_test (comes_after y x) refl
+  where
+    by_test : (b : Bool) → comes_after y x ≡ b → IsLatestOf (λ r. A r ⊎ B r) ends (if comes_after y x then y else x)
+    by_test true e = rw e (picked B A (λ r. A r ⊎ B r) ends y x (after_true x y e) (λ a i. inr i) (λ a m. elim m [ inl i ↦ inr i | inr i ↦ inl i ]) q p)
+    by_test false e = rw e (picked A B (λ r. A r ⊎ B r) ends x y (after_false x y e) (λ a i. inl i) (λ a m. m) p q)
 
 -- the same rows, with the same ends
 pub IsLatest-same : (A B : ℕ → Type 0) (ends ends' : ℕ → ℕ) (x : Latest) →
@@ -104,13 +57,13 @@ IsLatest-same A B ends ends' x f g s q = record {
   });
 }
 
-pub contains_head : (c : ℕ) (cs : List ℕ) → Contains (c ∷ cs) c
+pub contains_head : {X : Type 0} (c : X) (cs : List X) → Contains (c ∷ cs) c
 contains_head c cs = (0, omega arith, refl)
 
-pub contains_tail : (c d : ℕ) (cs : List ℕ) → Contains cs d → Contains (c ∷ cs) d
+pub contains_tail : {X : Type 0} (c d : X) (cs : List X) → Contains cs d → Contains (c ∷ cs) d
 contains_tail c d cs (k, l, e) = (suc k, omega arith, e)
 
-pub contains_cases : (c d : ℕ) (cs : List ℕ) → Contains (c ∷ cs) d → (c ≡ d) ⊎ Contains cs d
+pub contains_cases : {X : Type 0} (c d : X) (cs : List X) → Contains (c ∷ cs) d → (c ≡ d) ⊎ Contains cs d
 contains_cases c d cs (zero, l, e) = inl e
 contains_cases c d cs (suc k, l, e) = inr (k, omega arith, e)
 

@@ -1,11 +1,11 @@
 -- The uses of the cowns, once a row has used its own.
-use Rattle.std.proofs.Common.{◌≡◌, ◌≢◌, ℕ, zero, suc, ◌+◌, ◌-◌, ◌<◌, ◌≤◌, List, [], ◌∷◌, ◌++◌, length, get_or, Option, Some, None, inl, inr, ap, sym, ◌∙◌, subst, arith, append_assoc}
-use Rattle.std.specs.Prelude.{MatchOption, slice_index, slice_get, slice_set}
+use Rattle.std.proofs.Common.{◌≡◌, ◌≢◌, ℕ, zero, suc, ◌+◌, ◌<◌, ◌≤◌, List, [], ◌∷◌, ◌++◌, length, get_or, Some, None, inl, inr, ap, sym, ◌∙◌, subst, arith, append_assoc}
+use Rattle.std.specs.Prelude.{slice_index, slice_get, slice_set}
 use Rattle.std.specs.List.{Contains}
-use Rattle.std.specs.List.Sorted.{IsStrictlyIncreasing}
 use Rattle.std.proofs.lemmas.Bool.{cases_eq}
 use Rattle.std.proofs.lemmas.Option.{slice_get-get_or, slice_get_within, get_or_from_slice_get}
 use Rattle.std.proofs.lemmas.List.{length-set, get_or_default, append-nil, get_or_append_left, get_or_push, length_push, length-append}
+use Rattle.std.proofs.lemmas.List.Kept.{AllPairs-from_increasing}
 use Rattle.std.proofs.lemmas.List.Elements.{Contains-append_left, Contains-append_right, Contains-append_cases}
 use Rattle.boc_types.specs.declared.limits.TheConstants.{MOST_COWNS}
 use Rattle.boc_types.specs.declared.rows.Row.{Row}
@@ -13,24 +13,9 @@ use Rattle.boc_types.proofs.ChangedItems.{set_same, set_other}
 use Rattle.boc_types.specs.runs.Rows.{IsRows, cowns_of, written_of}
 use Rattle.boc_order.specs.declared.gathering.Use.{Use}
 use Rattle.boc_order.specs.Waits.{IsNearOn, IsNear, HasWaits, AreFirstWaits, links_of, lists_between, AreBounds}
-use Rattle.boc_order.specs.Uses.{NoneWrites, IsWriter, IsUse, AreUses, AddsNearOn, AddsNear}
-use Rattle.boc_order.proofs.Near.{has, writes_own}
+use Rattle.boc_order.specs.Uses.{IsUse, AreUses, AddsNearOn, AddsNear}
+use Rattle.boc_order.proofs.Near.{has, writes_own, writer_more, reader_more, reader_less}
 use Rattle.boc_order.proofs.Listing.{between_more}
-
--- of numbers that rise, each is below the later ones
-rises : (xs : List ℕ) → IsStrictlyIncreasing xs → (gap j : ℕ) → j + gap + 1 < length xs → slice_index xs j < slice_index xs (j + gap + 1)
-rises xs up zero j h = let e : j + 0 + 1 ≡ j + 1 = omega arith in rw e (up j (omega arith))
-rises xs up (suc gap) j h =
-    let before : slice_index xs j < slice_index xs (j + gap + 1) = rises xs up gap j (omega arith) in
-    let step : slice_index xs (j + gap + 1) < slice_index xs (j + gap + 1 + 1) = up (j + gap + 1) (omega arith) in
-    let e : j + suc gap + 1 ≡ j + gap + 1 + 1 = omega arith in
-    rw e (omega arith)
-
-pub rises_to : (xs : List ℕ) → IsStrictlyIncreasing xs → (j k : ℕ) → j < k → k < length xs → slice_index xs j < slice_index xs k
-rises_to xs up j k less h =
-    let e : k ≡ j + (k - j - 1) + 1 = omega arith in
-    let l : j + (k - j - 1) + 1 < length xs = omega arith in
-    subst (λ (x : ℕ). slice_index xs j < slice_index xs x) (sym e) (rises xs up (k - j - 1) j l)
 
 -- row n has used the first i of its cowns
 pub record Halfway (rows : List Row) (n i : ℕ) (cowns : List ℕ) (uses : List Use) : Type 0 where
@@ -59,27 +44,19 @@ halfway_more rows n i cowns uses next small p u = record {
     before : (j : ℕ) → j < i + 1 → slice_index cowns j ≢ slice_index cowns i → j < i
     before j h ne = elim (cases_eq j i) [ inl e ↦ absurd (ne (ap (slice_index cowns) e)) | inr other ↦ omega arith ]
 
--- a cown that row n hasn't
-module _ (rows : List Row) (hr : IsRows rows) (n c : ℕ) (there : n < length rows) (other : Contains (cowns_of rows n) c → ⊥) where
-  none_more : (r : ℕ) → NoneWrites rows c r n → NoneWrites rows c r (n + 1)
-  none_more r none k low below w = elim (cases_eq k n) [
-    | inl e ↦ other (writes_own rows hr n c there (subst (λ (x : ℕ). Contains (written_of rows x) c) e w))
-    | inr ne ↦ none k low (omega (arith, below)) w
-  ]
-
-  writer_more : (o : Option ℕ) → MatchOption o (NoneWrites rows c 0 n) (IsWriter rows n c) → MatchOption o (NoneWrites rows c 0 (n + 1)) (IsWriter rows (n + 1) c)
-  writer_more None p = none_more 0 p
-  writer_more (Some x) p = record { before = omega (arith, p.before); wrote = p.wrote; last = none_more (x + 1) p.last }
-
-  use_other : (used : Use) → IsUse rows n c used → IsUse rows (n + 1) c used
-  use_other used u = record {
-    writer = writer_more used.writer u.writer;
-    sound = λ r k. (let p = u.sound r k in record { before = omega (arith, p.before); needs = p.needs; since = none_more r p.since });
-    complete = λ r i. elim (cases_eq r n) [
-      | inl e ↦ absurd (other (subst (λ (x : ℕ). Contains (cowns_of rows x) c) e i.needs))
-      | inr ne ↦ u.complete r (record { before = omega (arith, i.before); needs = i.needs; since = λ k low below w. i.since k low (omega (arith, below)) w })
-    ];
-  }
+-- a cown that row n hasn't is used as before
+use_other : (rows : List Row) → IsRows rows → (n c : ℕ) → n < length rows → (Contains (cowns_of rows n) c → ⊥) → (used : Use) → IsUse rows n c used → IsUse rows (n + 1) c used
+use_other rows hr n c there other used u = record {
+  writer = writer_more rows n c isnt used.writer u.writer;
+  sound = λ r k. reader_more rows n c isnt r (u.sound r k);
+  complete = λ r i. elim (cases_eq r n) [
+    | inl e ↦ absurd (other (subst (λ (x : ℕ). Contains (cowns_of rows x) c) e i.needs))
+    | inr ne ↦ u.complete r (reader_less rows n c r ne i)
+  ];
+}
+  where
+    isnt : Contains (written_of rows n) c → ⊥
+    isnt w = other (writes_own rows hr n c there w)
 
 pub halfway_all : (rows : List Row) → IsRows rows → (n i : ℕ) (cowns : List ℕ) (uses : List Use) → n < length rows → cowns ≡ cowns_of rows n → i ≡ length cowns →
     Halfway rows n i cowns uses → AreUses rows (n + 1) uses
@@ -104,7 +81,7 @@ pub turn_use : (rows : List Row) → IsRows rows → (n i : ℕ) (uses : List Us
 turn_use rows hr n i uses d there h p =
     let cown : ℕ = slice_index (cowns_of rows n) i in
     p.rest cown (get_or uses cown d)
-    (λ j below same. omega (arith, same, rises_to (cowns_of rows n) (hr.cowns_rise n there) j i below h))
+    (λ j below same. omega (arith, same, AllPairs-from_increasing (cowns_of rows n) (hr.cowns_rise n there) j i 0 below h))
     (slice_get-get_or uses cown d (omega (arith, p.whole, cown_small rows hr n i there h)))
 
 -- the rows for which row b waits on the first i of its cowns were added

@@ -1,5 +1,5 @@
 -- The links that were waited for, from a last row back to main.
-use Rattle.std.specs.Prelude.{◌≡◌, ℕ, suc, ◌+◌, ◌<◌, ◌≤◌, List, ◌∷◌, length, Option, Some, None, slice_get}
+use Rattle.std.specs.Prelude.{◌≡◌, ℕ, ◌+◌, ◌<◌, ◌≤◌, List, [], ◌∷◌, length, Option, Some, None, slice_get, ⊤}
 use Rattle.boc_types.specs.declared.rows.Row.{Row}
 use Rattle.boc_types.specs.declared.chain.ChainStep.{ChainStep}
 use Rattle.boc_types.specs.declared.chain.Via.TheVariants.{Spawn, Order}
@@ -12,14 +12,18 @@ abbrev pub IsStepBefore : List Row → Option ℕ → ℕ → ChainStep → Type
 IsStepBefore rows None b s = s ≡ record { row = parent_of rows b; via = Spawn; weight = offset_of rows b }
 IsStepBefore rows (Some a) b s = s ≡ record { row = a; via = Order; weight = ticks_of rows a }
 
+-- each step has a link to the next one, and it is the one that is picked
+abbrev pub ArePicked : List Row → List ℕ → List ChainStep → Type 0
+ArePicked rows plan [] = ⊤
+ArePicked rows plan (s ∷ steps) = IsLink rows s (slice_get steps 0) × PickedVia rows plan s.row s.via (slice_get steps 0) × ArePicked rows plan steps
+
 -- the steps lead on from row r to the end of the plan, by picked links
 pub record LeadsTo (rows : List Row) (plan : List ℕ) (last r : ℕ) (steps : List ChainStep) : Type 0 where
   pub top : ChainStep
   pub rest : List ChainStep
   pub is : steps ≡ top ∷ rest
   pub at : top.row ≡ r
-  pub links : (k : ℕ) (s : ChainStep) → slice_get steps k ≡ Some s →
-      IsLink rows s (slice_get steps (suc k)) × PickedVia rows plan s.row s.via (slice_get steps (suc k))
+  pub picked : ArePicked rows plan steps
   pub weight : start_of plan r + weight_of steps ≡ last
 
 -- the least-numbered row that ends at the end of the plan

@@ -158,11 +158,6 @@ pub fn profile(alloc: Global, rows: &Rows, sharing: Sharing) -> Result<Profile, 
 }
 
 impl Earliest {
-    ghost use Rattle.std.specs.Prelude.{◌≡◌, IfOk};
-    ghost use Rattle.boc_types.specs.runs.Rows.{IsRows};
-    ghost use Rattle.boc_order.specs.Profiles.{IsProfileOf};
-    ghost use Rattle.boc_order.specs.Standing.{IsPlanOf};
-
     /// The profile of the rows that this plan places, as the function `profile` has it. No row is placed again.
     ///
     /// It takes memory and time that grow with the number of rows. `AllocError` says that memory was refused.

@@ -1,8 +1,8 @@
 // The rows for which each row waits, by what was used of each cown before it.
 
-ghost use Rattle.std.specs.Prelude.{◌≡◌, ◌<◌, ◌+◌, length, true, false, List, Contains, IfOk};
+ghost use Rattle.std.specs.Prelude.{◌<◌, ◌+◌, length, List, Contains, IfOk};
 ghost use Rattle.boc_types.specs.declared.rows.Row.{Row};
-ghost use Rattle.boc_types.specs.runs.Rows.{IsRows, cowns_of, written_of};
+ghost use Rattle.boc_types.specs.runs.Rows.{IsRows, cowns_of};
 ghost use Rattle.boc_order.specs.Waits.{AreWaits};
 ghost use Rattle.boc_order.specs.Uses.{IsUse, AreUses, AddsNearOn, AddsNear};
 
@@ -34,16 +34,6 @@ fn unused(alloc: Global) -> Result<Vec<Use>, AllocError>
     Ok(uses)
 }
 
-// Whether a row is to write a cown that others have read since it was written.
-fn follows_readers(rows: &SeenRows, row: usize, cown: u8, used: &Use) -> bool
-    requires there { row < length rows.now }
-    requires own { Contains (cowns_of rows.now row) cown }
-    ensures some { result ≡ true → Contains (written_of rows.now row) cown × (0 < length used.now.readers.items) }
-    ensures none { result ≡ false → Contains (written_of rows.now row) cown → length used.now.readers.items ≡ 0 }
-{
-    rows.writes(row, cown) && !used.readers.is_empty()
-}
-
 // Adds the rows for which a row waits on one of its cowns: to write it the readers, and where there are none, or to
 // read it, the writer.
 fn add_waits(
@@ -59,7 +49,7 @@ fn add_waits(
     requires used { IsUse rows.now row cown used.now }
     ensures { IfOk result (λ _. AddsNearOn rows.now row cown list.old.items list.new.items) }
 {
-    if follows_readers(rows, row, cown, used) {
+    if rows.writes(row, cown) && !used.readers.is_empty() {
         list.extend_from_slice(&used.readers)?;
     } else if let Some(writer) = used.writer {
         list.push(writer)?;

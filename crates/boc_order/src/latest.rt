@@ -13,9 +13,6 @@ pub struct Latest {
     pub row: u32,
 }
 
-/// That of no rows.
-const NOTHING: Latest = Latest { end: 0, row: 0 };
-
 // The one that ends later; where both end together, the one with the smaller number.
 fn later(a: Latest, b: Latest) -> Latest
     ensures { result ≡ later_of a b }
@@ -33,7 +30,7 @@ pub fn latest_of(rows: &[u32], ends: &[u64]) -> Latest
     requires late { (a : ℕ) → a < length ends.now → 0 < slice_index ends.now a }
     ensures { IsLatestOf (λ a. Contains rows.now a) (slice_index ends.now) result }
 {
-    let mut latest = NOTHING;
+    let mut latest = Latest { end: 0, row: 0 };
     for row in rows {
         let end = ends[*row as usize];
         latest = later(latest, Latest { end, row: *row });

@@ -1,9 +1,12 @@
 // The earliest plan of some rows, with the link that each row waits for.
 
-ghost use Rattle.std.specs.Prelude.{◌≡◌, ℕ, ◌<◌, ◌≤◌, ◌+◌, ◌^◌, length, IfOk, slice_index};
+ghost use Rattle.std.specs.Prelude.{◌≡◌, ℕ, ◌<◌, ◌≤◌, ◌+◌, ◌^◌, List, [], length, take, IfOk, slice_index};
+ghost use Rattle.boc_types.specs.declared.rows.Row.{Row};
 ghost use Rattle.boc_types.specs.runs.Rows.{IsRows, parent_of, offset_of};
+ghost use Rattle.boc_types.specs.plans.Greedy.{IsSpan};
 ghost use Rattle.boc_order.specs.Placed.{placement, ArePlaced};
 ghost use Rattle.boc_order.specs.Room.{HasRoom};
+ghost use Rattle.boc_order.specs.Standing.{IsPlanOf};
 ghost use Rattle.boc_order.specs.Waits.{AreWaits, HasWaits};
 
 use crate::latest::{Latest, latest_of};
@@ -59,15 +62,6 @@ pub fn last_end(ends: &[u64]) -> u64
 }
 
 impl Earliest {
-    ghost use Rattle.std.specs.Prelude.{◌≡◌, ◌≤◌, ◌<◌, ◌+◌, List, [], take, length, IfOk};
-    ghost use Rattle.boc_types.specs.declared.rows.Row.{Row};
-    ghost use Rattle.boc_types.specs.runs.Rows.{IsRows};
-    ghost use Rattle.boc_types.specs.plans.Greedy.{IsSpan};
-    ghost use Rattle.boc_order.specs.Placed.{ArePlaced};
-    ghost use Rattle.boc_order.specs.Waits.{AreWaits, HasWaits};
-    ghost use Rattle.boc_order.specs.Room.{HasRoom};
-    ghost use Rattle.boc_order.specs.Standing.{IsPlanOf};
-
     /// No row is placed, and there is room for so many. `AllocError` says that memory was refused.
     pub fn with_room(alloc: Global, count: usize) -> Result<Earliest, AllocError>
         ensures none { IfOk result (λ e. (e.starts.items ≡ []) × (e.ends.items ≡ []) × (e.after.items ≡ [])) }

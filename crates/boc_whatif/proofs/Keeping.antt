@@ -11,7 +11,8 @@ use Rattle.boc_order.specs.declared.plan.Earliest.{Earliest}
 use Rattle.boc_order.specs.Room.{HasRoom}
 use Rattle.boc_order.specs.Standing.{IsPlanOf, HasFirst}
 use Rattle.boc_order.specs.Waits.{AreWaits}
-use Rattle.boc_order.proofs.Replacing.{edited_first, edited_same, same_back, near_same}
+use Rattle.boc_order.proofs.Placing.{same_back}
+use Rattle.boc_order.proofs.Replacing.{edited_first, edited_same, near_same}
 use Rattle.boc_sweep.specs.Lasts.{HasLasts}
 use Rattle.boc_whatif.specs.Asked.{IsUpToDate}
 

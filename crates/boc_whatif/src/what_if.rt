@@ -1,7 +1,12 @@
 // Rows that are edited one after another.
 
-ghost use Rattle.std.specs.Prelude.{MatchResult};
-ghost use Rattle.boc_types.specs.plans.Edits.{Fits, IsEditFault};
+ghost use Rattle.std.specs.Prelude.{◌≡◌, ◌+◌, length, IfOk, IfErr, OnOk, OnErr, MatchResult};
+ghost use Rattle.boc_types.specs.plans.Plans.{work_of};
+ghost use Rattle.boc_types.specs.plans.Greedy.{IsSpan};
+ghost use Rattle.boc_types.specs.plans.Edits.{Fits, IsEditFault, IsSweep, edited};
+ghost use Rattle.boc_types.specs.runs.Seen.{seen};
+ghost use Rattle.boc_order.specs.Profiles.{IsProfileOf};
+ghost use Rattle.boc_greedy.specs.Plans.{IsGreedyPlanOf};
 ghost use Rattle.boc_sweep.specs.Lasts.{HasLasts};
 
 use boc_greedy::{Greedy, greedy_over};
@@ -58,14 +63,6 @@ fn check(rows: &[Row], lasts: &[u32], row: u32, ticks: u32) -> Result<(), EditFa
 }
 
 impl WhatIf {
-    ghost use Rattle.std.specs.Prelude.{◌≡◌, ◌+◌, length, IfOk, IfErr, OnOk, OnErr};
-    ghost use Rattle.boc_types.specs.plans.Plans.{work_of};
-    ghost use Rattle.boc_types.specs.plans.Greedy.{IsSpan};
-    ghost use Rattle.boc_order.specs.Profiles.{IsProfileOf};
-    ghost use Rattle.boc_greedy.specs.Plans.{IsGreedyPlanOf};
-    ghost use Rattle.boc_types.specs.plans.Edits.{Fits, IsEditFault, IsSweep, edited};
-    ghost use Rattle.boc_types.specs.runs.Seen.{seen};
-
     /// The same rows, none of them edited, of which plans see so much shared. `AllocError` says that memory was refused.
     ///
     /// It takes all memory that the edits need, and a copy of the rows. `of` takes over the rows of a caller who needs

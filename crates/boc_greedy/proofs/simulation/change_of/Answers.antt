@@ -3,7 +3,7 @@ use Rattle.boc_types.specs.declared.limits.TheConstants.{MOST_TICKS}
 use Rattle.std.proofs.lemmas.Bool.{cases_lt}
 use Rattle.boc_types.specs.declared.rows.Row.{Row}
 use Rattle.boc_types.specs.runs.Rows.{IsRows, parent_of, offset_of}
-use Rattle.boc_greedy.proofs.workers.change_of.Goals as goal
+use Rattle.boc_greedy.proofs.simulation.change_of.Goals as goal
 
 offset_small : (rows : List Row) → IsRows rows → (r : ℕ) → r < length rows → offset_of rows r ≤ MOST_TICKS
 offset_small rows hr r h = elim (cases_lt 0 r) [

@@ -1,6 +1,7 @@
 -- The slots and cown parameters that a body's parts name are there.
 use Rattle.std.specs.Prelude.{ℕ, IsTrue, List, map, length, ℤ}
 use Rattle.boc_types.specs.declared.body.Expr.{Expr}
+use Rattle.boc_types.specs.declared.body.Expr.TheVariants as expr
 use Rattle.boc_types.specs.declared.body.CownRef.{CownRef}
 use Rattle.boc_types.specs.program.Meaning.{State}
 use Rattle.boc_types.specs.program.Resolved.{Scope, expr_fits, ref_fits, every}
@@ -29,3 +30,10 @@ RefsFit held slots references = IsTrue (every (map (ref_fits (scope held slots))
 -- a body that holds these cowns has these values in its slots after so many ticks
 abbrev pub standing : List ℕ → List ℤ → ℕ → State
 standing held slots ticks = record { held = held; slots = slots; ticks = ticks }
+
+-- it is no number and no slot alone
+abbrev pub IsNested : Expr → Type 0
+IsNested (expr.Number z) = ⊥
+IsNested (expr.Slot i) = ⊥
+IsNested (expr.Negate' p e) = Unit {0}
+IsNested (expr.Binary' op p a q b) = Unit {0}

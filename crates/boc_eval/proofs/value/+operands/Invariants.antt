@@ -3,11 +3,11 @@ use Rattle.boc_types.specs.program.Resolved.{expr_nodes}
 use Rattle.boc_types.specs.memory.View.{slot_expr_of}
 use Rattle.boc_eval.proofs.value.+operands.Given as goal
 
-abbrev pub decreases-operand : goal.decreases-operand
-decreases-operand l = 2 * expr_nodes (slot_expr_of l.expr.now)
+abbrev pub decreases-combined : goal.decreases-combined
+decreases-combined l = 2 * (expr_nodes (slot_expr_of l.left.now) + expr_nodes (slot_expr_of l.right.now)) + 1
+
+abbrev pub decreases-applied : goal.decreases-applied
+decreases-applied l = 2 * expr_nodes (slot_expr_of l.expr.now)
 
 abbrev pub decreases-negated : goal.decreases-negated
 decreases-negated l = 2 * expr_nodes (slot_expr_of l.inner.now) + 1
-
-abbrev pub decreases-applied : goal.decreases-applied
-decreases-applied l = 2 * (expr_nodes (slot_expr_of l.left.now) + expr_nodes (slot_expr_of l.right.now)) + 1

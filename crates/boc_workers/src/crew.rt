@@ -35,10 +35,10 @@ pub struct RunAnswer {
 const STACK: usize = 2 << 20;
 
 // How many pauses there are after each try for the lock, before a worker sleeps for it.
-const TRIES: [u32; 6] = [4, 8, 16, 32, 64, 64];
+const TRIES: [u32; 8] = [8, 16, 32, 64, 128, 128, 128, 128];
 
 // How long a worker looks for what it waits for before it sleeps, in pauses.
-const LOOKS: u32 = 200;
+const LOOKS: u32 = 500;
 
 /// Runs a program by so many workers, each in a thread of its own. There is no record after a fault. Of several faults the
 /// one that was noted first is answered; but that the program is a stranger comes before it, and that the run is

@@ -35,7 +35,7 @@ pub struct RunAnswer {
 const STACK: usize = 2 << 20;
 
 // How many pauses there are after each try for the lock, before a worker sleeps for it.
-const TRIES: [u32; 8] = [8, 16, 32, 64, 128, 128, 128, 128];
+const TRIES: [u32; 8] = [16, 32, 64, 128, 256, 256, 256, 256];
 
 // How long a worker looks for what it waits for before it sleeps, in pauses.
 const LOOKS: u32 = 500;

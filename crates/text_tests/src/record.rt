@@ -82,6 +82,24 @@ fn sink_that_fails(rt: HostRuntime) -> Result<(), Fail> {
 }
 
 #[test]
+fn sink_that_fails_behind_a_part(rt: HostRuntime) -> Result<(), Fail> {
+    let text = wide_text(rt.alloc(), 5_000)?;
+    let record = read_record(rt.alloc(), &mut bytes(rt.alloc(), text.as_bytes())?)?;
+    let mut before = 0;
+    for k in [2, 3] {
+        let mut sink = FailAt::new(bytes(rt.alloc(), b"")?, k, text.len().max(1));
+        let result = write_record(rt.alloc(), &record, &mut sink);
+        let went_out = sink.inner.bytes.as_slice();
+        let gone = went_out.len();
+        assert_eq!(rt; result, Err(WriteFault::Device { gone }));
+        assert!(rt; before < gone);
+        assert_eq!(rt; text.as_bytes().get(..gone), Some(went_out));
+        before = gone;
+    }
+    Ok(())
+}
+
+#[test]
 fn source_that_fails(rt: HostRuntime) -> Result<(), Fail> {
     for text in [TRANSFER.as_bytes(), FIRST_TRANSFER.as_bytes()] {
         for k in 1..=text.len() + 1 {

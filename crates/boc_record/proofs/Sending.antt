@@ -44,10 +44,10 @@ stopped_so Is IsWrong (Err s) stopped h wrong = subst IsWrong (sym h) wrong
 -- of no text nothing went out
 pub none_out : (now : Option (List ℕ)) (o : Outgoing) → o.part.items ≡ [] → o.gone ≡ 0 → IsOut now now [] o
 none_out now o part gone = record { sent = []; split = sym part; out = nothing now; gone = gone }
-    where
-      nothing : (now : Option (List ℕ)) → Appends now now []
-      nothing None = tt
-      nothing (Some bytes) = sym (append-nil bytes)
+  where
+    nothing : (now : Option (List ℕ)) → Appends now now []
+    nothing None = tt
+    nothing (Some bytes) = sym (append-nil bytes)
 
 -- a record has three events for each row at most
 pub few_events : (r : Recorded) → IsRecord r → length r.events ≤ MOST_EVENTS

@@ -24,8 +24,8 @@ returns-in_err-send_events-clause-sent g c =
     let before = g.W.Sink.written c.args.sink.now in
     let head = line (header Second r.cowns) in
     let first : IsOut before (g.W.Sink.written c.put.new.sink) head c.put.new.self =
-          first_out before _ r.cowns c.header_before-begin.new.room MOST_BYTES c.header_before-begin.result c.put.new.self (search rules) (c.header_before-begin.ensures.written ∙ ap (λ (n : ℕ). line (header Second n)) c.cowns.ensures.value)
-          (c.in_ok-put.ensures.goes_on before [] (none_out before c.args.text.now c.requires.part c.requires.gone)) in
+    first_out before _ r.cowns c.header_before-begin.new.room MOST_BYTES c.header_before-begin.result c.put.new.self (search rules) (c.header_before-begin.ensures.written ∙ ap (λ (n : ℕ). line (header Second n)) c.cowns.ensures.value)
+    (c.in_ok-put.ensures.goes_on before [] (none_out before c.args.text.now c.requires.part c.requires.gone)) in
     stopped_so _ (λ s. StopsAt s.gone (record_text Second r.cowns r.events) before (g.W.Sink.written c.send_events.new.sink)) c.from_residual-in_err-send_events.result _ c.from_residual-in_err-send_events.ensures.1
     (stops_before _ (head ++ event_lines Second r.events) (line (codes ".")) before _
     (subst (λ (events : List Event). StopsAt c.in_err-send_events.field-0.0.gone (head ++ event_lines Second events) before (g.W.Sink.written c.send_events.new.sink)) c.events.ensures.value (c.in_err-send_events.ensures.goes_on before head first)))
@@ -39,10 +39,10 @@ returns-in_err-put-2-clause-sent g c =
     let before = g.W.Sink.written c.args.sink.now in
     let head = line (header Second r.cowns) in
     let first : IsOut before (g.W.Sink.written c.put.new.sink) head c.put.new.self =
-          first_out before _ r.cowns c.header_before-begin.new.room MOST_BYTES c.header_before-begin.result c.put.new.self (search rules) (c.header_before-begin.ensures.written ∙ ap (λ (n : ℕ). line (header Second n)) c.cowns.ensures.value)
-          (c.in_ok-put.ensures.goes_on before [] (none_out before c.args.text.now c.requires.part c.requires.gone)) in
+    first_out before _ r.cowns c.header_before-begin.new.room MOST_BYTES c.header_before-begin.result c.put.new.self (search rules) (c.header_before-begin.ensures.written ∙ ap (λ (n : ℕ). line (header Second n)) c.cowns.ensures.value)
+    (c.in_ok-put.ensures.goes_on before [] (none_out before c.args.text.now c.requires.part c.requires.gone)) in
     let lines : IsOut before (g.W.Sink.written c.send_events.new.sink) (head ++ event_lines Second r.events) c.send_events.new.text =
-          subst (λ (events : List Event). IsOut before (g.W.Sink.written c.send_events.new.sink) (head ++ event_lines Second events) c.send_events.new.text) c.events.ensures.value (c.in_ok-send_events.ensures.goes_on before head first) in
+    subst (λ (events : List Event). IsOut before (g.W.Sink.written c.send_events.new.sink) (head ++ event_lines Second events) c.send_events.new.text) c.events.ensures.value (c.in_ok-send_events.ensures.goes_on before head first) in
     stopped_so _ (λ s. StopsAt s.gone (record_text Second r.cowns r.events) before (g.W.Sink.written c.put-2.new.sink)) c.from_residual-in_err-put-2.result _ c.from_residual-in_err-put-2.ensures.1
     (stops_before _ (head ++ event_lines Second r.events) (line (codes ".")) before _ (c.in_err-put-2.ensures.goes_on before (head ++ event_lines Second r.events) lines))
 
@@ -56,8 +56,8 @@ returns-clause-sent g c =
     let before = g.W.Sink.written c.args.sink.now in
     let head = line (header Second r.cowns) in
     let first : IsOut before (g.W.Sink.written c.put.new.sink) head c.put.new.self =
-          first_out before _ r.cowns c.header_before-begin.new.room MOST_BYTES c.header_before-begin.result c.put.new.self (search rules) (c.header_before-begin.ensures.written ∙ ap (λ (n : ℕ). line (header Second n)) c.cowns.ensures.value)
-          (c.in_ok-put.ensures.goes_on before [] (none_out before c.args.text.now c.requires.part c.requires.gone)) in
+    first_out before _ r.cowns c.header_before-begin.new.room MOST_BYTES c.header_before-begin.result c.put.new.self (search rules) (c.header_before-begin.ensures.written ∙ ap (λ (n : ℕ). line (header Second n)) c.cowns.ensures.value)
+    (c.in_ok-put.ensures.goes_on before [] (none_out before c.args.text.now c.requires.part c.requires.gone)) in
     let lines : IsOut before (g.W.Sink.written c.send_events.new.sink) (head ++ event_lines Second r.events) c.send_events.new.text =
-          subst (λ (events : List Event). IsOut before (g.W.Sink.written c.send_events.new.sink) (head ++ event_lines Second events) c.send_events.new.text) c.events.ensures.value (c.in_ok-send_events.ensures.goes_on before head first) in
+    subst (λ (events : List Event). IsOut before (g.W.Sink.written c.send_events.new.sink) (head ++ event_lines Second events) c.send_events.new.text) c.events.ensures.value (c.in_ok-send_events.ensures.goes_on before head first) in
     c.send.ensures.sent before (record_text Second r.cowns r.events) (c.in_ok-put-2.ensures.goes_on before (head ++ event_lines Second r.events) lines)

@@ -1,19 +1,13 @@
 -- A statement and what follows it.
-use Rattle.std.proofs.Common.{◌≡◌, ◌+◌, ◌≤◌, List, ◌∷◌, [], arith, refl, sym, length, IsTrue, false, true, Bool, map}
+use Rattle.std.proofs.Common.{◌≡◌, ◌+◌, ◌≤◌, ◌++◌, arith, append_assoc, refl, length, false, true, Bool, map}
 use Rattle.std.specs.Prelude.{◌&&◌, nat_lt, nat_le}
 use Rattle.boc_types.specs.program.Resolved.{Scope, fits, nodes, expr_fits, ref_fits, every}
 use Rattle.boc_types.specs.declared.body.Stmt.{Stmt}
 use Rattle.boc_types.specs.declared.body.Stmt.TheVariants as stmt
 use Rattle.boc_types.specs.program.Syntax.{Code, Done, code_size}
 use Rattle.boc_types.specs.program.Signatures.{Test, whens_pass}
-use Rattle.boc_types.specs.memory.View.{before, code_of, slot_expr_of, cown_ref_of}
-
-pub then_not_done : (s : Stmt) (rest : Code) → before s rest ≡ Done → ⊥
-then_not_done (stmt.Assign slot e) rest h = cc
-then_not_done (stmt.Work e) rest h = cc
-then_not_done (stmt.If e a b) rest h = cc
-then_not_done (stmt.Repeat e a) rest h = cc
-then_not_done (stmt.When kind args refs) rest h = cc
+use Rattle.boc_types.specs.memory.View.{before, slot_expr_of, cown_ref_of}
+use Rattle.boc_types.specs.memory.Words.{words_of, stmt_words}
 
 pub then_size : (s : Stmt) (rest : Code) → code_size (before s rest) ≡ code_size (before s Done) + code_size rest
 then_size (stmt.Assign slot e) rest = omega arith
@@ -29,20 +23,20 @@ then_positive (stmt.If e a b) = omega arith
 then_positive (stmt.Repeat e a) = omega arith
 then_positive (stmt.When kind args refs) = omega arith
 
-pub apart : (xs ys : List Stmt) → length xs ≡ 0 → 1 ≤ length ys → code_of xs ≡ code_of ys → IsTrue false
-apart [] [] h k e = absurd (omega arith)
-apart [] (y ∷ ys) h k e = absurd (then_not_done y (code_of ys) (sym e))
-apart (x ∷ xs) ys h k e = absurd (omega arith)
-
-pub apart_too : (xs ys : List Stmt) → 1 ≤ length xs → length ys ≡ 0 → code_of xs ≡ code_of ys → IsTrue false
-apart_too xs ys h k e = apart ys xs k h (sym e)
-
 pub nodes_before : (s : Stmt) (rest : Code) → nodes (before s rest) ≡ nodes (before s Done) + nodes rest
 nodes_before (stmt.Assign slot e) rest = omega arith
 nodes_before (stmt.Work e) rest = omega arith
 nodes_before (stmt.If e a b) rest = omega arith
 nodes_before (stmt.Repeat e a) rest = omega arith
 nodes_before (stmt.When kind args refs) rest = omega arith
+
+-- the words of a statement stand before those of what follows
+pub words_before : (s : Stmt) (rest : Code) → words_of (before s rest) ≡ stmt_words s ++ words_of rest
+words_before (stmt.Assign slot e) rest = refl
+words_before (stmt.Work e) rest = refl
+words_before (stmt.If e a b) rest = simp append_assoc refl
+words_before (stmt.Repeat e a) rest = simp append_assoc refl
+words_before (stmt.When kind args refs) rest = simp append_assoc refl
 
 and_swap : (x r : Bool) → (x && r) ≡ ((x && true) && r)
 and_swap true r = refl

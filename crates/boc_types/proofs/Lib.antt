@@ -16,3 +16,4 @@ pub mod Editing
 pub mod TransferRun
 pub mod Tellings
 pub mod Seeing
+pub mod WordsLaw

@@ -1,5 +1,5 @@
 -- A run of a program keeps the rules of runs, over as many cowns as the program has.
-use Rattle.std.proofs.Common.{◌≡◌, ◌≢◌, ℕ, zero, suc, ◌+◌, ◌^◌, ◌<◌, ◌≤◌, ◌⊎◌, inl, inr, List, [], ◌∷◌, ◌++◌, length, map, Some, None, true, refl, sym, ap, subst, ◌∙◌, arith, ℤ}
+use Rattle.std.proofs.Common.{◌≡◌, ℕ, zero, suc, ◌+◌, ◌^◌, ◌<◌, ◌≤◌, inl, inr, List, [], ◌∷◌, ◌++◌, length, map, Some, None, true, refl, sym, ap, subst, ◌∙◌, arith, ℤ}
 use Rattle.std.specs.Prelude.{slice_get, slice_set, slice_index_or, nat_eq, Option, option_map, IsTrue}
 use Rattle.std.specs.Option.{option_map_or}
 use Rattle.std.specs.List.{All, Contains}
@@ -24,8 +24,8 @@ use Rattle.boc_types.specs.program.Programs.{cown_count, has_main}
 use Rattle.boc_types.specs.program.Signatures.{Signature, signature_of, CountsAre, AllBelow, WishFits, WishesFit, calls_fit}
 use Rattle.boc_types.specs.runs.Serial.{Behaviour, behaviour_of, main_behaviour, inputs_of}
 use Rattle.boc_types.specs.runs.Lives.{Life, Pending, Running, Ended, changed, Overlap, MayStart}
-use Rattle.boc_types.specs.runs.Cowns.{AreCowns, AreAmong}
-use Rattle.boc_types.specs.runs.Legal.{Entry, HasBounds, pending, after, after_all, life_of, entry_cowns, last_of, IsParent, IsOffset, MayNeed, MayEnd, KeepsRule, IsAllowed, IsLegalFrom, IsLegal}
+use Rattle.boc_types.specs.runs.Cowns.{AreCowns}
+use Rattle.boc_types.specs.runs.Legal.{Entry, HasBounds, pending, after, life_of, entry_cowns, last_of, IsParent, IsOffset, MayNeed, MayEnd, KeepsRule, IsAllowed, IsLegalFrom, IsLegal}
 use Rattle.boc_types.specs.runs.Run.{Member, Config, waiting, meaning_of, wish_at, next_wish, spawned_by, members_after_spawn, started_on, config_after, opening, state_of, member_cowns, SpawnsWish, MaySpawn, CanEnd, MayHappen, IsRunFrom, IsRun}
 use Rattle.boc_types.proofs.Rising.{meaning_rises}
 use Rattle.boc_types.proofs.Fitting.{meaning_fits}

@@ -1,19 +1,14 @@
 -- The rule of runs tried on the run of the transfer by one worker, and on logs that are no runs.
-use Rattle.std.proofs.Common.{◌≡◌, ℕ, zero, suc, ◌<◌, List, [], ◌∷◌, ◌++◌, Some, None, Bool, true, false, refl, sym, ap, pos, ℤ, lit≤, take, arith, length, ◌∙◌, IsTrue}
-use Rattle.std.specs.Prelude.{Option, ◌&&◌, slice_get}
-use Rattle.std.specs.List.{Contains}
-use Rattle.boc_types.specs.declared.body.Body.{Body}
-use Rattle.boc_types.specs.declared.body.EndStatus.TheVariants.{Done}
-use Rattle.boc_types.specs.declared.event.Event.{Event}
+use Rattle.std.proofs.Common.{◌≡◌, ℕ, zero, suc, ◌<◌, List, [], ◌∷◌, ◌++◌, Some, Bool, true, false, refl, sym, ap, pos, ℤ, lit≤, take, arith, length, ◌∙◌, IsTrue}
+use Rattle.std.specs.Prelude.{◌&&◌}
 use Rattle.boc_types.specs.declared.event.BrokenRule.TheVariants as rules
-use Rattle.boc_types.specs.declared.event.Event.TheVariants.{Spawn, Start, End}
+use Rattle.boc_types.specs.declared.event.Event.TheVariants.{Start}
 use Rattle.boc_types.specs.declared.short.Input.{Input}
-use Rattle.boc_types.specs.program.Meaning.{Wish, Meaning, meaning}
-use Rattle.boc_types.specs.runs.Serial.{Behaviour, main_behaviour}
-use Rattle.boc_types.specs.runs.Lives.{Life, Pending, Running, Ended, MayStart, AreOver}
+use Rattle.boc_types.specs.program.Meaning.{Meaning, meaning}
+use Rattle.boc_types.specs.runs.Lives.{Life, Pending, Running, Ended, MayStart}
 use Rattle.boc_types.specs.runs.Legal.{IsLegal}
-use Rattle.boc_types.specs.runs.Run.{Member, Config, config_of, state_of, member_cowns, meaning_of, SpawnsWish, CanEnd, IsRun, IsWholeRun}
-use Rattle.boc_types.proofs.Transfer.{program, main_body, add_body, move_body, log, spawned, over}
+use Rattle.boc_types.specs.runs.Run.{Member, config_of, state_of, member_cowns, meaning_of, IsRun, IsWholeRun}
+use Rattle.boc_types.proofs.Transfer.{program, main_body, add_body, move_body, log, over}
 use Rattle.boc_types.proofs.RunsAreLegal.{run_is_legal}
 
 -- ---- rows of which none runs, or none waits before one

@@ -4,6 +4,7 @@ ghost use Rattle.std.specs.Prelude.{◌≡◌, ◌+◌, ◌≤◌, IsTrue};
 ghost use Rattle.boc_types.specs.program.Resolved.{nodes, fits};
 ghost use Rattle.boc_types.specs.declared.limits.TheConstants.{MOST_ARGUMENTS, MOST_HELD, MOST_NODES, MOST_SLOTS};
 
+use crate::script::Script;
 use crate::short::CownNo;
 use std::marker::Model;
 
@@ -137,7 +138,7 @@ pub struct Body {
     pub params: usize,
     pub cown_params: usize,
     pub slots: usize,
-    pub block: Block,
+    pub block: Script,
     pub ghost few_params: { params ≤ MOST_ARGUMENTS },
     pub ghost few_cowns: { cown_params ≤ MOST_HELD },
     pub ghost few_slots: { slots ≤ MOST_SLOTS },

@@ -97,7 +97,7 @@ pub(crate) fn calls_fit(callers: &[Body], bodies: &[Body], cowns: usize) -> bool
     match callers {
         [] => true,
         [first, rest @ ..] => {
-            block_calls_fit(&first.block, bodies, first.cown_params, cowns)
+            stmts_calls_fit(first.block.as_slice(), bodies, first.cown_params, cowns)
                 && calls_fit(rest, bodies, cowns)
         }
     }

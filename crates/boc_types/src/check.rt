@@ -9,6 +9,7 @@ ghost use Rattle.boc_types.specs.program.Parts.{MakesBody, IsMadeOf};
 
 use crate::body::{Block, Body, CownRef, Expr, Stmt};
 use crate::limits::{MOST_ARGUMENTS, MOST_COWNS, MOST_HELD, MOST_NODES, MOST_SLOTS};
+use crate::script::Script;
 use std::alloc::{AllocError, Global};
 
 // Every slot of an expression is there.
@@ -168,8 +169,8 @@ fn after_stmt(stmt: &Stmt, left: usize) -> Option<usize>
 impl Body {
     /// A body of these parts, which fit together. This is the one place that makes a body.
     ///
-    /// `slots` counts the value parameters, the cown parameters and the locals. It takes no memory yet:
-    /// the allocator is there for what will be made of a block beside it.
+    /// `slots` counts the value parameters, the cown parameters and the locals. It takes memory for the words
+    /// of the block.
     pub fn new(
         alloc: Global,
         params: usize,
@@ -180,7 +181,7 @@ impl Body {
         requires { MakesBody params cown_params slots block }
         ensures { IfOk result (IsMadeOf params cown_params slots block) }
     {
-        let _ = alloc;
+        let block = Script::new(alloc, block)?;
         Ok(Body {
             params,
             cown_params,

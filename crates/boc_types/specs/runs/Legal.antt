@@ -1,5 +1,5 @@
 -- The rules that the events of a run keep, and the rows that they make.
-use Rattle.std.specs.Prelude.{◌≡◌, ℕ, ◌^◌, ◌<◌, ◌≤◌, List, [], ◌∷◌, ◌++◌, length, All, Option, Some, None, slice_get, option_map}
+use Rattle.std.specs.Prelude.{◌≡◌, ℕ, ◌^◌, ◌<◌, ◌≤◌, List, [], ◌∷◌, ◌++◌, length, All, Option, Some, slice_get, option_map}
 use Rattle.boc_types.specs.declared.limits.TheConstants.{MOST_HELD, MOST_ROWS, MOST_TICKS}
 use Rattle.std.specs.Option.{option_map_or}
 use Rattle.boc_types.specs.declared.body.EndStatus.{EndStatus}

@@ -1,4 +1,4 @@
-use Rattle.std.proofs.Common.{refl, sym}
+use Rattle.std.proofs.Common.{sym}
 use Rattle.boc_types.proofs.Seeing.{length_is, shape_is}
 use Rattle.boc_types.proofs.sharing.SeenRows.len.Goals as goal
 

@@ -1,4 +1,4 @@
-use Rattle.std.proofs.Common.{◌≡◌, arith, sym, subst}
+use Rattle.std.proofs.Common.{arith, sym, subst}
 use Rattle.boc_types.proofs.Seeing.{IsSeenRow, seen_read, seen_there}
 use Rattle.boc_types.proofs.sharing.SeenRows.row.Goals as goal
 use Rattle.boc_types.proofs.sharing.SeenRows.row.Goals.{After-index-rows-row}

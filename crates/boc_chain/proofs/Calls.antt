@@ -7,7 +7,7 @@ use Rattle.boc_chain.specs.declared.request.Request.{Request}
 use Rattle.boc_chain.specs.declared.request.Released.TheVariants.{Unhooked, Passed, Blocked}
 use Rattle.boc_chain.specs.declared.linked.Node.{Node}
 use Rattle.boc_chain.specs.declared.linked.Link.{Link}
-use Rattle.boc_chain.specs.declared.kept_links.Linked.{Linked}
+use Rattle.boc_chain.specs.KeptLinks.{Linked}
 use Rattle.boc_chain.specs.Chain.{Place, IsGranted, times, slots, list, cowns_of, exchanged_of, cown, one_more, fresh, slot_of, last_slot, before, with_flagged, settled_behind, leave_answer, after_leave}
 use Rattle.boc_chain.specs.Links.{Tie, Spells, end_of, next_of}
 use Rattle.boc_chain.specs.Linked.{stored_in, stored, seen, links, IsAt, IsPlaced, Holds, Leads, last_at, place_in, place_at, slot_at, IsSpelled, IsList, IsLinked, last_of, line, from, lists_of, passed}
@@ -90,7 +90,7 @@ cowns_more (Some p) = refl
 
 fresh_in : (o : Option Linked) (i : ℕ) → ((d : ℕ) → times d (cowns_of (place_in o)) ≤ 1) → i < length (cowns_of (place_in o)) → i ≡ exchanged_of (place_in o) → stored_in o (cown (place_in o) i) ≡ None
 fresh_in None i one h e = refl
-fresh_in (Some v) i one h e = no_link v.cowns.items v.links.items i one h (omega arith)
+fresh_in (Some v) i one h e = no_link v.cowns.items v.links i one h (omega arith)
 
 in_pushed : (xs : List Request) (s t : ℕ) → 0 < times t (slots (xs ++ (fresh s ∷ []))) → t ≢ s → 0 < times t (slots xs)
 in_pushed xs s t m n =
@@ -276,11 +276,11 @@ nothing : (o : Option ℕ) → option_and_then {U = Link} (λ i. slice_get [] i)
 nothing None = refl
 nothing (Some i) = refl
 
-no_links : (v : Linked) (c : ℕ) → v.links.items ≡ [] → stored_in (Some v) c ≡ None
+no_links : (v : Linked) (c : ℕ) → v.links ≡ [] → stored_in (Some v) c ≡ None
 no_links v c e = ap (λ (ls : List Link). option_and_then (λ i. slice_get ls i) (position (λ d. d == c) v.cowns.items)) e ∙ nothing (position (λ d. d == c) v.cowns.items)
 
 pub admit_call : (last : List (Option Node)) (held mid held' : Slab Linked) (peak n key peak' : ℕ) (v : Linked) → IsLinked last held peak → mid ≡ record held { capacity = n }
-    → get mid key ≡ None → Updates mid held' key (Some v) → v.links.items ≡ [] → ((c : ℕ) → times c v.cowns.items ≤ 1) → ((c : ℕ) → 0 < times c v.cowns.items → c < length (lists_of last held))
+    → get mid key ≡ None → Updates mid held' key (Some v) → v.links ≡ [] → ((c : ℕ) → times c v.cowns.items ≤ 1) → ((c : ℕ) → 0 < times c v.cowns.items → c < length (lists_of last held))
     → ((i : ℕ) → i < length v.cowns.items → (key < 2 ^ 16) × (i < 2 ^ 8))
     → slab_len held' ≤ peak' → IsLinked last held' peak' × (lists_of last held' ≡ lists_of last held)
 admit_call last held mid held' peak n key peak' v h e vacant updates none distinct range short few =

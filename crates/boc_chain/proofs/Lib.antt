@@ -12,3 +12,4 @@ pub mod Fuel
 pub mod Steps
 pub mod Listed
 pub mod Calls
+pub mod Keeping

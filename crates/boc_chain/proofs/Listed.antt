@@ -5,7 +5,7 @@ use Rattle.std.specs.Option.{option_map}
 use Rattle.slab.specs.Slab.{Slab, slab_len}
 use Rattle.boc_chain.specs.declared.request.Request.{Request}
 use Rattle.boc_chain.specs.declared.linked.Node.{Node}
-use Rattle.boc_chain.specs.declared.kept_links.Linked.{Linked}
+use Rattle.boc_chain.specs.KeptLinks.{Linked}
 use Rattle.boc_chain.specs.Chain.{times, slots, list, cowns_of, cown}
 use Rattle.boc_chain.specs.Linked.{stored, seen, links, place_at, IsAt, IsPlaced, last_at, IsList, IsLinked, last_of, line, from, lists_of}
 use Rattle.boc_chain.specs.Links.{Tie}

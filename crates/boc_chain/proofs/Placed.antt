@@ -6,7 +6,7 @@ use Rattle.slab.specs.Slab.{Slab, get}
 use Rattle.boc_chain.specs.declared.request.Request.{Request}
 use Rattle.boc_chain.specs.declared.linked.Node.{Node}
 use Rattle.boc_chain.specs.declared.linked.Link.{Link}
-use Rattle.boc_chain.specs.declared.kept_links.Linked.{Linked}
+use Rattle.boc_chain.specs.KeptLinks.{Linked}
 use Rattle.boc_chain.specs.Chain.{IsGranted, times, slots, cowns_of, exchanged_of, cown, with_settled, settled_behind}
 use Rattle.boc_chain.specs.Links.{Tie, Spells, next_of}
 use Rattle.boc_chain.specs.Linked.{stored_in, stored, seen, links, place_in, place_at, IsAt, NamesWell, IsPlaced, IsSpelled, Holds, Leads, passed}
@@ -67,7 +67,7 @@ has_stored held c s xs h m = let t = has_link (links held) c None xs s h.spells 
 
 pub links_of : Option Linked → List Link
 links_of None = []
-links_of (Some v) = v.links.items
+links_of (Some v) = v.links
 
 pub no_cown : (c : ℕ) (i : ℕ) → position (λ d. d == c) [] ≡ Some i → ⊥
 no_cown c i e = (let f : None ≡ Some i = e in absurd cc)
@@ -76,12 +76,12 @@ no_cown c i e = (let f : None ≡ Some i = e in absurd cc)
 stored_there : (o : Option Linked) (c i : ℕ) → position (λ d. d == c) (cowns_of (place_in o)) ≡ Some i → stored_in o c ≡ slice_get (links_of o) i
 unfolding links_of
 stored_there None c i e = absurd (no_cown c i e)
-stored_there (Some v) c i e = ap (λ o. option_and_then (λ k. slice_get v.links.items k) o) e
+stored_there (Some v) c i e = ap (λ o. option_and_then (λ k. slice_get v.links k) o) e
 
 within_links : (o : Option Linked) (i : ℕ) (l : Link) → slice_get (links_of o) i ≡ Some l → i < exchanged_of (place_in o)
 unfolding links_of
 within_links None i l e = absurd (let f : None ≡ Some l = e in cc)
-within_links (Some v) i l e = within v.links.items i e
+within_links (Some v) i l e = within v.links i e
   where
     within : (ls : List Link) (k : ℕ) → slice_get ls k ≡ Some l → k < length ls
     within [] k f = absurd (let g : None ≡ Some l = f in cc)

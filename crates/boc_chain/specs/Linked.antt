@@ -4,7 +4,7 @@ use Rattle.std.specs.Option.{option_and_then, option_map}
 use Rattle.slab.specs.Slab.{Slab, get, slab_len}
 use Rattle.boc_chain.specs.declared.linked.Node.{Node}
 use Rattle.boc_chain.specs.declared.linked.Link.{Link}
-use Rattle.boc_chain.specs.declared.kept_links.Linked.{Linked}
+use Rattle.boc_chain.specs.KeptLinks.{Linked}
 use Rattle.boc_chain.specs.Chain.{Place, IsGranted, times, slots, cowns_of, cown}
 use Rattle.boc_chain.specs.declared.request.Request.{Request}
 use Rattle.boc_chain.specs.declared.request.Slot.{Slot}
@@ -17,7 +17,7 @@ slot_at i = record { index = i }
 -- the link that is kept of the request on c
 abbrev pub stored_in : Option Linked → ℕ → Option Link
 stored_in None c = None
-stored_in (Some h) c = option_and_then (λ i. slice_get h.links.items i) (position (λ d. d == c) h.cowns.items)
+stored_in (Some h) c = option_and_then (λ i. slice_get h.links i) (position (λ d. d == c) h.cowns.items)
 
 -- the link as it is kept
 abbrev pub stored : Slab Linked → ℕ → ℕ → Option Link
@@ -39,7 +39,7 @@ links held s c = option_map seen (stored held s c)
 -- what was admitted at a slot that is held
 abbrev pub place_in : Option Linked → Option Place
 place_in None = None
-place_in (Some h) = Some (record { cowns = h.cowns.items; exchanged = length h.links.items })
+place_in (Some h) = Some (record { cowns = h.cowns.items; exchanged = length h.links })
 
 -- what is at a slot
 abbrev pub place_at : Slab Linked → ℕ → Option Place

@@ -1,167 +1,200 @@
-// The links of one behaviour, as its slot keeps them.
+// What a slot keeps of one behaviour.
 
-ghost use Rattle.std.specs.Prelude.{◌≡◌, ◌<◌, ◌≤◌, [], ◌∷◌, ◌++◌, length, slice_set, IfOk};
-ghost use Rattle.boc_chain.specs.declared.kept_links.TheConstants.{FEW};
+ghost use Rattle.std.specs.Prelude.{◌≡◌, ◌<◌, ◌+◌, [], ◌∷◌, ◌++◌, length, slice_get, slice_set, Some, IfOk};
+ghost use Rattle.boc_chain.specs.KeptLinks.{HasPlaces, head_of, places_of, room_of};
 ghost use Rattle.boc_types.specs.declared.limits.TheConstants.{MOST_HELD};
 
 use crate::linked::Link;
 use crate::short_link::ShortLink;
-use arrayvec::ArrayVec;
 use boc_types::held::HeldCowns;
 use boc_types::limits::MOST_HELD;
 use std::alloc::{AllocError, Global};
 use std::marker::Model;
 
-// As many links as a slot keeps in itself.
+// As many links as a slot keeps in itself, and as many as it keeps beside itself where it has to.
 const FEW: usize = 2;
 
+const REST: usize = MOST_HELD - FEW;
+
 /// What was admitted: the cowns, and the links of the requests exchanged so far.
+///
+/// There is room for the link of each request, so that an exchange takes no memory. Many behaviours wait at once, and most
+/// have at most two cowns, whose links are kept in the slot itself.
 #[derive(Drop)]
 pub struct Linked {
-    pub cowns: HeldCowns,
-    pub links: KeptLinks,
-    // There is room for the link of each request, so that an exchange takes no memory.
-    ghost fits: { length cowns.items ≤ links.room },
+    kept: Kept,
 }
 
 const _: () = prove!(size_of::<Linked>() == 40);
 
-/// The links of at most eight requests, in little room: many behaviours wait at once, and most have at most two cowns.
-/// Contracts see the links, and how many there is room for.
 #[derive(Drop)]
-pub struct KeptLinks {
-    list: List,
+enum Kept {
+    Few(Head),
+    More(Head, Box<[ShortLink; REST]>),
 }
 
+// The cowns, and the first links. What stands behind the links that are there is not looked at.
 #[derive(Drop)]
-enum List {
-    Few(FewLinks),
-    More(Box<ArrayVec<ShortLink, MOST_HELD>>),
-}
-
-// At most two links. Contracts see them as a list.
-#[derive(Drop)]
-struct FewLinks {
-    // The links stand first. What stands behind them is not looked at.
-    links: [ShortLink; FEW],
-    // How many links there are.
+struct Head {
+    cowns: HeldCowns,
+    // How many links there are, in the head and beside it.
     count: u8,
+    first: [ShortLink; FEW],
 }
 
-impl Model for FewLinks {
-    ghost use Rattle.std.specs.Prelude.{List, ◌≤◌, take};
-    ghost use Rattle.boc_chain.specs.declared.linked.Link.{Link};
-    ghost use Rattle.boc_chain.specs.declared.kept_links.TheConstants.{FEW};
+impl Model for Linked {
+    ghost use Rattle.boc_chain.specs.KeptLinks.{Linked, linked, IsKept};
 
-    ghost Value = { List Link };
+    ghost Value = { Linked };
 
-    ghost view = { λ a. take a.count a.links };
+    ghost view = { λ a. linked a.kept };
 
-    ghost invariant = { λ a. a.count ≤ FEW };
+    ghost invariant = { λ a. IsKept a.kept };
 }
 
-impl Model for KeptLinks {
-    ghost use Rattle.boc_chain.specs.KeptLinks.{LinkList, link_list};
-
-    ghost Value = { LinkList };
-
-    ghost view = { λ a. link_list a.list };
+// Room for the links that are kept beside a slot.
+fn blanks() -> [ShortLink; REST] {
+    [
+        ShortLink::blank(),
+        ShortLink::blank(),
+        ShortLink::blank(),
+        ShortLink::blank(),
+        ShortLink::blank(),
+        ShortLink::blank(),
+    ]
 }
 
-impl FewLinks {
-    // No links.
-    #[inline]
-    fn new() -> FewLinks
-        ensures { result ≡ [] }
+impl Kept {
+    // The cowns, and the first links.
+    #[inline(always)]
+    fn head(&self) -> &Head
+        ensures { result.now ≡ head_of self.now }
     {
-        FewLinks {
-            links: [ShortLink::default(), ShortLink::default()],
-            count: 0,
+        match self {
+            Kept::Few(head) => head,
+            Kept::More(head, _) => head,
         }
     }
 
-    // The links, in their order.
+    // What stands at a place.
     #[inline(always)]
-    fn as_slice(&self) -> &[ShortLink]
-        ensures { result.now ≡ self.now }
+    #[tactic(auto, using(crate::proofs::Keeping::first_at, crate::proofs::Keeping::rest_at))]
+    fn at(&self, place: usize) -> Link
+        requires there { place < room_of self.now }
+        requires places { HasPlaces self.now }
+        ensures { slice_get (places_of self.now) place ≡ Some result }
     {
-        &self.links[..self.count as usize]
+        match self {
+            Kept::Few(head) => head.first[place].link(),
+            Kept::More(head, rest) => {
+                if place < FEW {
+                    head.first[place].link()
+                } else {
+                    rest[place - FEW].link()
+                }
+            }
+        }
     }
 
-    // Adds a link behind the others.
+    // Writes over what stands at a place.
     #[inline(always)]
-    fn push(&mut self, link: ShortLink)
-        requires { length self.old < FEW }
-        ensures { self.new ≡ self.old ++ link ∷ [] }
-    {
-        self.links[self.count as usize] = link;
-        self.count += 1;
-    }
-
-    // Writes a link over the one at a place.
-    #[inline(always)]
+    #[tactic(auto, using(crate::proofs::Keeping::set_rest))]
     fn put(&mut self, place: usize, link: ShortLink)
-        requires { place < length self.old }
-        ensures { self.new ≡ slice_set self.old place link }
+        requires there { place < room_of self.old }
+        requires has { HasPlaces self.old }
+        ensures has { HasPlaces self.new }
+        ensures places { places_of self.new ≡ slice_set (places_of self.old) place link }
+        ensures room { room_of self.new ≡ room_of self.old }
+        ensures cowns { (head_of self.new).cowns ≡ (head_of self.old).cowns }
+        ensures count { (head_of self.new).count ≡ (head_of self.old).count }
     {
-        let count = self.count as usize;
-        prove!(place < count);
-        self.links[place] = link;
+        match self {
+            Kept::Few(head) => head.first[place] = link,
+            Kept::More(head, rest) => {
+                if place < FEW {
+                    head.first[place] = link;
+                } else {
+                    rest[place - FEW] = link;
+                }
+            }
+        }
+    }
+
+    // One more of the places has a link.
+    #[inline(always)]
+    fn count(&mut self)
+        requires few { (head_of self.old).count < MOST_HELD }
+        requires has { HasPlaces self.old }
+        ensures has { HasPlaces self.new }
+        ensures places { places_of self.new ≡ places_of self.old }
+        ensures room { room_of self.new ≡ room_of self.old }
+        ensures cowns { (head_of self.new).cowns ≡ (head_of self.old).cowns }
+        ensures count { (head_of self.new).count ≡ (head_of self.old).count + 1 }
+    {
+        match self {
+            Kept::Few(head) => head.count += 1,
+            Kept::More(head, _) => head.count += 1,
+        }
     }
 }
 
-impl KeptLinks {
-    /// No links, and room for so many. Room for more than two takes memory; `AllocError` says that it was refused.
+impl Linked {
+    /// These cowns, and no links. Room for more than two links takes memory; `AllocError` says that it was refused.
     #[inline]
-    pub fn with_room(alloc: Global, room: usize) -> Result<KeptLinks, AllocError>
-        requires { room ≤ MOST_HELD }
-        ensures empty { IfOk result (λ kept. kept.items ≡ []) }
-        ensures room { IfOk result (λ kept. room ≤ kept.room) }
+    pub fn new(alloc: Global, cowns: HeldCowns) -> Result<Linked, AllocError>
+        ensures cowns { IfOk result (λ l. l.cowns ≡ cowns) }
+        ensures empty { IfOk result (λ l. l.links ≡ []) }
     {
-        let list = if room <= FEW {
-            List::Few(FewLinks::new())
-        } else {
-            List::More(Box::new(alloc, ArrayVec::new())?)
+        let room = cowns.as_slice().len();
+        let head = Head {
+            cowns,
+            count: 0,
+            first: [ShortLink::blank(), ShortLink::blank()],
         };
-        Ok(KeptLinks { list })
+        let kept = if room <= FEW {
+            Kept::Few(head)
+        } else {
+            Kept::More(head, Box::new(alloc, blanks())?)
+        };
+        Ok(Linked { kept })
     }
 
-    /// The links, in their order.
+    /// The cowns, in the order of their requests.
     #[inline(always)]
-    pub fn as_slice(&self) -> &[ShortLink]
-        ensures { result.now ≡ self.now.items }
+    pub fn cowns(&self) -> &[u8]
+        ensures { result.now ≡ self.now.cowns.items }
     {
-        match &self.list {
-            List::Few(links) => links.as_slice(),
-            List::More(links) => links.as_slice(),
-        }
+        self.kept.head().cowns.as_slice()
     }
 
-    /// Adds a link behind the others.
+    /// The link at a place.
     #[inline(always)]
-    pub fn push(&mut self, link: Link)
-        requires { length self.old.items < self.old.room }
-        ensures items { self.new.items ≡ self.old.items ++ link ∷ [] }
-        ensures room { self.new.room ≡ self.old.room }
+    pub fn at(&self, place: usize) -> Link
+        requires { place < length self.now.links }
+        ensures { slice_get self.now.links place ≡ Some result }
     {
-        let link = ShortLink::of(link);
-        match &mut self.list {
-            List::Few(links) => links.push(link),
-            List::More(links) => links.push(link),
-        }
+        self.kept.at(place)
     }
 
     /// Writes a link over the one at a place.
     #[inline(always)]
     pub fn put(&mut self, place: usize, link: Link)
-        requires { place < length self.old.items }
-        ensures items { self.new.items ≡ slice_set self.old.items place link }
-        ensures room { self.new.room ≡ self.old.room }
+        requires { place < length self.old.links }
+        ensures links { self.new.links ≡ slice_set self.old.links place link }
+        ensures cowns { self.new.cowns ≡ self.old.cowns }
     {
-        let link = ShortLink::of(link);
-        match &mut self.list {
-            List::Few(links) => links.put(place, link),
-            List::More(links) => links[place] = link,
-        }
+        self.kept.put(place, ShortLink::of(link));
+    }
+
+    /// Adds a link behind the others.
+    #[inline(always)]
+    pub fn add(&mut self, link: Link)
+        requires { length self.old.links < length self.old.cowns.items }
+        ensures links { self.new.links ≡ self.old.links ++ link ∷ [] }
+        ensures cowns { self.new.cowns ≡ self.old.cowns }
+    {
+        let place = self.kept.head().count as usize;
+        self.kept.put(place, ShortLink::of(link));
+        self.kept.count();
     }
 }

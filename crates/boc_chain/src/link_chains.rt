@@ -8,7 +8,7 @@ ghost use Rattle.boc_chain.specs.Props.{Spells-prop};
 ghost use Rattle.std.proofs.Props.{props};
 
 use crate::chains::Chains;
-use crate::kept_links::{KeptLinks, Linked};
+use crate::kept_links::Linked;
 use crate::linked::{
     Link, Node, can_settle_at, cown_at, link_at, next_at, pass_at, push_link, set_link, settle_at,
 };
@@ -127,9 +127,9 @@ impl Chains for LinkChains {
         let Some(cowns) = HeldCowns::try_of(&cowns) else {
             return Err(AllocError);
         };
-        let links = KeptLinks::with_room(*self.last.allocator(), count)?;
+        let linked = Linked::new(*self.last.allocator(), cowns)?;
         self.slots.reserve(1)?;
-        let index = self.slots.insert_reserved(Linked { cowns, links });
+        let index = self.slots.insert_reserved(linked);
         self.peak = self.peak.max(self.slots.len());
         Ok(Slot { index })
     }

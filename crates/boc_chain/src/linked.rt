@@ -43,7 +43,7 @@ impl Linked {
             (d : ℕ) → d ≢ cown place (exchanged_of place) → stored_in (Some self.new) d ≡ stored_in (Some self.old) d }
         ensures place { place_in (Some self.new) ≡ one_more (place_in (Some self.old)) }
     {
-        self.links.push(link);
+        self.add(link);
     }
 
     // The link of the request at a place.
@@ -53,7 +53,7 @@ impl Linked {
         ensures { (c : ℕ) → position (λ d. d == c) self.now.cowns.items ≡ Some place → stored_in (Some self.now) c
             ≡ Some result }
     {
-        self.links.as_slice()[place].link()
+        self.at(place)
     }
 
     // Puts a link in the place of the one at a place.
@@ -66,7 +66,7 @@ impl Linked {
             → stored_in (Some self.new) d ≡ stored_in (Some self.old) d }
         ensures place { place_in (Some self.new) ≡ place_in (Some self.old) }
     {
-        self.links.put(place, link);
+        self.put(place, link);
     }
 }
 
@@ -197,7 +197,7 @@ pub fn cown_at(slots: &Slab<Linked>, slot: usize, i: usize) -> CownNo
     requires { i < length (cowns_of (place_at slots.now slot)) }
     ensures { result ≡ cown (place_at slots.now slot) i }
 {
-    CownNo::from(slots[slot].cowns.as_slice()[i])
+    CownNo::from(slots[slot].cowns()[i])
 }
 
 /// The link of a request.

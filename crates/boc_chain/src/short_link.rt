@@ -1,36 +1,130 @@
 // Links as they are kept.
 
 ghost use Rattle.std.specs.Prelude.{◌≡◌};
-ghost use Rattle.boc_chain.specs.ShortLinks.{node_if};
+ghost use Rattle.boc_chain.specs.ShortLinks.{has_before, has_next, has_settled, is_scheduled, node_if};
 
 use crate::linked::{Link, Node};
 use std::marker::Model;
 
-/// A link in ten bytes, since there are two or more for each behaviour that waits. Contracts see the link.
+/// A link in eight bytes, since there are one or more for each behaviour that waits. Contracts see the link.
 #[derive(Drop)]
 pub struct ShortLink {
-    settled: bool,
-    scheduled: bool,
-    has_before: bool,
-    has_next: bool,
+    marks: Marks,
+    sides: Sides,
     before_place: u8,
     next_place: u8,
     before_slot: u16,
     next_slot: u16,
 }
 
+const _: () = prove!(size_of::<ShortLink>() == 8);
+
+// What has become of a request.
+#[derive(Clone, Copy)]
+enum Marks {
+    Neither,
+    Settled,
+    Scheduled,
+    Both,
+}
+
+// Which of its neighbours a request knows.
+#[derive(Clone, Copy)]
+enum Sides {
+    Neither,
+    Before,
+    Next,
+    Both,
+}
+
 impl Model for ShortLink {
     ghost use Rattle.boc_chain.specs.declared.linked.Link.{Link};
-    ghost use Rattle.boc_chain.specs.ShortLinks.{node_if};
+    ghost use Rattle.boc_chain.specs.ShortLinks.{has_before, has_next, has_settled, is_scheduled, node_if};
 
     ghost Value = { Link };
 
     ghost view = { λ a. record {
-      settled = a.settled;
-      scheduled = a.scheduled;
-      before = node_if a.has_before a.before_slot a.before_place;
-      next = node_if a.has_next a.next_slot a.next_place;
+      settled = has_settled a.marks;
+      scheduled = is_scheduled a.marks;
+      before = node_if (has_before a.sides) a.before_slot a.before_place;
+      next = node_if (has_next a.sides) a.next_slot a.next_place;
     } };
+}
+
+impl Marks {
+    // The marks of a request that has settled or not, and is scheduled or not.
+    #[inline(always)]
+    fn of(settled: bool, scheduled: bool) -> Marks
+        ensures settled { has_settled result ≡ settled }
+        ensures scheduled { is_scheduled result ≡ scheduled }
+    {
+        match (settled, scheduled) {
+            (false, false) => Marks::Neither,
+            (true, false) => Marks::Settled,
+            (false, true) => Marks::Scheduled,
+            (true, true) => Marks::Both,
+        }
+    }
+
+    // The request has settled.
+    #[inline(always)]
+    fn has_settled(self) -> bool
+        ensures { result ≡ has_settled self }
+    {
+        match self {
+            Marks::Settled | Marks::Both => true,
+            Marks::Neither | Marks::Scheduled => false,
+        }
+    }
+
+    // The request is scheduled.
+    #[inline(always)]
+    fn is_scheduled(self) -> bool
+        ensures { result ≡ is_scheduled self }
+    {
+        match self {
+            Marks::Scheduled | Marks::Both => true,
+            Marks::Neither | Marks::Settled => false,
+        }
+    }
+}
+
+impl Sides {
+    // The sides of a request that knows the one before it or not, and the one after it or not.
+    #[inline(always)]
+    fn of(before: bool, next: bool) -> Sides
+        ensures before { has_before result ≡ before }
+        ensures next { has_next result ≡ next }
+    {
+        match (before, next) {
+            (false, false) => Sides::Neither,
+            (true, false) => Sides::Before,
+            (false, true) => Sides::Next,
+            (true, true) => Sides::Both,
+        }
+    }
+
+    // The request before it is known.
+    #[inline(always)]
+    fn has_before(self) -> bool
+        ensures { result ≡ has_before self }
+    {
+        match self {
+            Sides::Before | Sides::Both => true,
+            Sides::Neither | Sides::Next => false,
+        }
+    }
+
+    // The request after it is known.
+    #[inline(always)]
+    fn has_next(self) -> bool
+        ensures { result ≡ has_next self }
+    {
+        match self {
+            Sides::Next | Sides::Both => true,
+            Sides::Neither | Sides::Before => false,
+        }
+    }
 }
 
 // Whether there is a node, and its slot and its place.
@@ -65,10 +159,8 @@ impl ShortLink {
         let (has_before, before_slot, before_place) = parts(link.before);
         let (has_next, next_slot, next_place) = parts(link.next);
         ShortLink {
-            settled: link.settled,
-            scheduled: link.scheduled,
-            has_before,
-            has_next,
+            marks: Marks::of(link.settled, link.scheduled),
+            sides: Sides::of(has_before, has_next),
             before_place,
             next_place,
             before_slot,
@@ -82,20 +174,15 @@ impl ShortLink {
         ensures { result ≡ self.now }
     {
         Link {
-            settled: self.settled,
-            scheduled: self.scheduled,
-            before: node(self.has_before, self.before_slot, self.before_place),
-            next: node(self.has_next, self.next_slot, self.next_place),
+            settled: self.marks.has_settled(),
+            scheduled: self.marks.is_scheduled(),
+            before: node(self.sides.has_before(), self.before_slot, self.before_place),
+            next: node(self.sides.has_next(), self.next_slot, self.next_place),
         }
     }
-}
 
-impl Default for ShortLink {
-    ghost use Rattle.std.specs.Prelude.{◌≡◌, None, false};
-
-    ghost is_default = { λ a. a ≡ record { settled = false; scheduled = false; before = None; next = None } };
-
-    fn default() -> ShortLink {
+    /// What stands where there is no link yet.
+    pub fn blank() -> ShortLink {
         ShortLink::of(Link {
             settled: false,
             scheduled: false,

@@ -1,7 +1,7 @@
 use Rattle.std.proofs.Common.{ℕ, ◌≡◌, ◌≤◌, ◌<◌, ◌^◌, ◌∙◌, ap, sym, subst, length, arith}
 use Rattle.arrayvec.specs.ArrayVec.{ArrayVec}
 use Rattle.slab.specs.Slab.{Slab, slab_len}
-use Rattle.boc_chain.specs.declared.kept_links.Linked.{Linked}
+use Rattle.boc_chain.specs.KeptLinks.{Linked}
 use Rattle.boc_chain.specs.Chain.{times}
 use Rattle.boc_chain.specs.LinkViews.{lists}
 use Rattle.boc_chain.proofs.Calls.{grown, admit_call}
@@ -22,14 +22,14 @@ invariant_of-self-2 c =
     let s = c.args.self.now in
     let few : slab_len c.insert_reserved-index.new.self ≤ c.max-self.result = omega arith in
     let key : c.insert_reserved-index.result ≡ s.slots.vacant_key = c.insert_reserved-index.ensures.key ∙ ap (λ (x : Slab Linked). x.vacant_key) c.reserve.ensures.rest_kept in
-    let kept = c.in-Some.cowns in
-    let same : kept ≡ c.args.cowns = c.in-Some.ensures in
+    let kept = c.in_ok-linked.linked.cowns in
+    let same : kept ≡ c.args.cowns = c.in_ok-linked.ensures.cowns ∙ c.in-Some.ensures in
     let distinct = subst (λ (cs : ArrayVec ℕ). (n : ℕ) → times n cs.items ≤ 1) (sym same) c.requires.distinct in
     let in_range = subst (λ (cs : ArrayVec ℕ). (n : ℕ) → 0 < times n cs.items → n < length (lists s)) (sym same) c.requires.in_range in
     let short : (i : ℕ) → i < length kept.items → (c.insert_reserved-index.result < 2 ^ 16) × (i < 2 ^ 8) = λ i h. (omega (arith, key), omega (arith, h, ap (λ (cs : ArrayVec ℕ). length cs.items) same)) in
     record {
       linked = (admit_call s.last.items s.slots c.reserve.new.self c.insert_reserved-index.new.self s.peak c.reserve.new.self.capacity c.insert_reserved-index.result c.max-self.result _ s.linked c.reserve.ensures.rest_kept
-          c.insert_reserved-index.ensures.was_vacant c.insert_reserved-index.ensures.updates c.in_ok-links.ensures.empty distinct in_range short few).0;
+          c.insert_reserved-index.ensures.was_vacant c.insert_reserved-index.ensures.updates c.in_ok-linked.ensures.empty distinct in_range short few).0;
     }
 
 pub returns-clause-lists : goal.returns-clause-lists
@@ -37,10 +37,10 @@ returns-clause-lists c =
     let s = c.args.self.now in
     let few : slab_len c.insert_reserved-index.new.self ≤ c.max-self.result = omega arith in
     let key : c.insert_reserved-index.result ≡ s.slots.vacant_key = c.insert_reserved-index.ensures.key ∙ ap (λ (x : Slab Linked). x.vacant_key) c.reserve.ensures.rest_kept in
-    let kept = c.in-Some.cowns in
-    let same : kept ≡ c.args.cowns = c.in-Some.ensures in
+    let kept = c.in_ok-linked.linked.cowns in
+    let same : kept ≡ c.args.cowns = c.in_ok-linked.ensures.cowns ∙ c.in-Some.ensures in
     let distinct = subst (λ (cs : ArrayVec ℕ). (n : ℕ) → times n cs.items ≤ 1) (sym same) c.requires.distinct in
     let in_range = subst (λ (cs : ArrayVec ℕ). (n : ℕ) → 0 < times n cs.items → n < length (lists s)) (sym same) c.requires.in_range in
     let short : (i : ℕ) → i < length kept.items → (c.insert_reserved-index.result < 2 ^ 16) × (i < 2 ^ 8) = λ i h. (omega (arith, key), omega (arith, h, ap (λ (cs : ArrayVec ℕ). length cs.items) same)) in
     (admit_call s.last.items s.slots c.reserve.new.self c.insert_reserved-index.new.self s.peak c.reserve.new.self.capacity c.insert_reserved-index.result c.max-self.result _ s.linked c.reserve.ensures.rest_kept
-    c.insert_reserved-index.ensures.was_vacant c.insert_reserved-index.ensures.updates c.in_ok-links.ensures.empty distinct in_range short few).1
+    c.insert_reserved-index.ensures.was_vacant c.insert_reserved-index.ensures.updates c.in_ok-linked.ensures.empty distinct in_range short few).1

@@ -1,5 +1,8 @@
--- The parts of links that are kept short.
+-- The parts of links that are kept short, and changes of them.
 use Rattle.std.specs.Prelude.{ℕ, Bool, true, false, Option, Some, None}
+use Rattle.boc_chain.specs.declared.linked.Change.{Change}
+use Rattle.boc_chain.specs.declared.linked.Change.TheVariants.{Settle, Schedule, Next, Lead}
+use Rattle.boc_chain.specs.declared.linked.Link.{Link}
 use Rattle.boc_chain.specs.declared.linked.Node.{Node}
 use Rattle.boc_chain.specs.declared.short_link.Marks.{Marks}
 use Rattle.boc_chain.specs.declared.short_link.Marks.TheVariants as marks
@@ -38,3 +41,10 @@ has_next sides.Neither = false
 has_next sides.Before = false
 has_next sides.Next = true
 has_next sides.Both = true
+
+-- a link with one part of it changed
+abbrev pub changed : Change → Link → Link
+changed Settle link = record link { settled = true }
+changed Schedule link = record link { scheduled = true }
+changed (Next node) link = record link { next = Some node }
+changed Lead link = record link { before = None }

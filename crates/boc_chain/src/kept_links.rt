@@ -2,9 +2,11 @@
 
 ghost use Rattle.std.specs.Prelude.{◌≡◌, ◌<◌, ◌+◌, [], ◌∷◌, ◌++◌, length, slice_get, slice_set, Some, IfOk};
 ghost use Rattle.boc_chain.specs.KeptLinks.{HasPlaces, head_of, places_of, room_of};
+ghost use Rattle.boc_chain.specs.ShortLinks.{changed};
+ghost use Rattle.boc_chain.specs.declared.linked.Link.{Link};
 ghost use Rattle.boc_types.specs.declared.limits.TheConstants.{MOST_HELD};
 
-use crate::linked::Link;
+use crate::linked::{Change, Link};
 use crate::short_link::ShortLink;
 use boc_types::held::HeldCowns;
 use boc_types::limits::MOST_HELD;
@@ -120,6 +122,29 @@ impl Kept {
         }
     }
 
+    // Changes what stands at a place.
+    #[inline(always)]
+    fn change(&mut self, place: usize, change: Change)
+        requires there { place < room_of self.old }
+        requires has { HasPlaces self.old }
+        ensures has { HasPlaces self.new }
+        ensures places { (l : Link) → slice_get (places_of self.old) place ≡ Some l → places_of self.new ≡ slice_set (places_of self.old) place (changed change l) }
+        ensures room { room_of self.new ≡ room_of self.old }
+        ensures cowns { (head_of self.new).cowns ≡ (head_of self.old).cowns }
+        ensures count { (head_of self.new).count ≡ (head_of self.old).count }
+    {
+        match self {
+            Kept::Few(head) => head.first[place].change(change),
+            Kept::More(head, rest) => {
+                if place < FEW {
+                    head.first[place].change(change);
+                } else {
+                    rest[place - FEW].change(change);
+                }
+            }
+        }
+    }
+
     // One more of the places has a link.
     #[inline(always)]
     fn count(&mut self)
@@ -184,6 +209,17 @@ impl Linked {
         ensures cowns { self.new.cowns ≡ self.old.cowns }
     {
         self.kept.put(place, ShortLink::of(link));
+    }
+
+    /// Changes the link at a place.
+    #[inline(always)]
+    pub fn change(&mut self, place: usize, change: Change)
+        requires { place < length self.old.links }
+        ensures links { (l : Link) → slice_get self.old.links place ≡ Some l → self.new.links ≡ slice_set self.old.links place (changed change l) }
+        ensures cowns { self.new.cowns ≡ self.old.cowns }
+        ensures length { length self.new.links ≡ length self.old.links }
+    {
+        self.kept.change(place, change);
     }
 
     /// Adds a link behind the others.

@@ -10,7 +10,7 @@ ghost use Rattle.std.proofs.Props.{props};
 use crate::chains::Chains;
 use crate::kept_links::Linked;
 use crate::linked::{
-    Link, Node, can_settle_at, cown_at, link_at, next_at, pass_at, push_link, set_link, settle_at,
+    Change, Link, Node, can_settle_at, change_link, cown_at, next_at, pass_at, push_link, settle_at,
 };
 use crate::request::{Released, Settled, Slot};
 use boc_types::held::HeldCowns;
@@ -193,15 +193,7 @@ impl Chains for LinkChains {
             slot: slot.index as u16,
             place: i as u8,
         };
-        let link = link_at(&self.slots, node);
-        set_link(
-            &mut self.slots,
-            node,
-            Link {
-                scheduled: true,
-                ..link
-            },
-        );
+        change_link(&mut self.slots, node, Change::Schedule);
     }
 
     fn leave(&mut self, slot: Slot, i: usize) -> Released

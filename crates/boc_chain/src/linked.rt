@@ -5,6 +5,7 @@ ghost use Rattle.std.specs.Option.{option_map};
 ghost use Rattle.slab.specs.Slab.{slab_len};
 ghost use Rattle.boc_chain.specs.Linked.{stored_in, stored, links, place_in, place_at, IsAt, IsSpelled, IsPlaced, Holds, Leads, passed};
 ghost use Rattle.boc_chain.specs.Links.{next_of};
+ghost use Rattle.boc_chain.specs.ShortLinks.{changed};
 ghost use Rattle.boc_chain.specs.Chain.{cown, cowns_of, exchanged_of, one_more, times, settle_answer, after_settle};
 ghost use Rattle.boc_chain.specs.declared.request.Request.{Request};
 ghost use Rattle.boc_chain.specs.declared.request.Settled.TheVariants.{Blocked as SettleBlocked};
@@ -30,6 +31,19 @@ pub struct Link {
     pub scheduled: bool,
     pub before: Option<Node>,
     pub next: Option<Node>,
+}
+
+/// A change of one part of a link.
+#[derive(Clone, Copy, Debug)]
+pub enum Change {
+    /// The request has settled.
+    Settle,
+    /// The request is scheduled.
+    Schedule,
+    /// This one is after it.
+    Next(Node),
+    /// None is before it any more.
+    Lead,
 }
 
 impl Linked {
@@ -68,6 +82,19 @@ impl Linked {
     {
         self.put(place, link);
     }
+
+    // Changes the link at a place.
+    #[inline(always)]
+    fn alter(&mut self, place: usize, change: Change)
+        requires { place < exchanged_of (place_in (Some self.old)) }
+        ensures here { (c : ℕ) (l : Link) → position (λ d. d == c) self.old.cowns.items ≡ Some place → stored_in (Some self.old) c ≡ Some l
+            → stored_in (Some self.new) c ≡ Some (changed change l) }
+        ensures others { (c d : ℕ) → position (λ d. d == c) self.old.cowns.items ≡ Some place → d ≢ c
+            → stored_in (Some self.new) d ≡ stored_in (Some self.old) d }
+        ensures place { place_in (Some self.new) ≡ place_in (Some self.old) }
+    {
+        self.change(place, change);
+    }
 }
 
 /// Settles a request.
@@ -85,27 +112,13 @@ pub fn settle_at(slots: &mut Slab<Linked>, node: Node) -> Settled
     let link = link_at(slots, node);
     match link.before {
         None => {
-            set_link(
-                slots,
-                node,
-                Link {
-                    settled: true,
-                    ..link
-                },
-            );
+            change_link(slots, node, Change::Settle);
             Settled::Lone
         }
         Some(before) => {
             let ahead = link_at(slots, before);
             if ahead.scheduled {
-                set_link(
-                    slots,
-                    before,
-                    Link {
-                        next: Some(node),
-                        ..ahead
-                    },
-                );
+                change_link(slots, before, Change::Next(node));
                 set_link(
                     slots,
                     node,
@@ -162,15 +175,7 @@ pub fn pass_at(slots: &mut Slab<Linked>, node: Node) -> Option<usize>
 {
     match link_at(slots, node).next {
         Some(next) => {
-            let link = link_at(slots, next);
-            set_link(
-                slots,
-                next,
-                Link {
-                    before: None,
-                    ..link
-                },
-            );
+            change_link(slots, next, Change::Lead);
             Some(next.slot as usize)
         }
         None => None,
@@ -207,6 +212,19 @@ pub fn link_at(slots: &Slab<Linked>, node: Node) -> Link
     ensures { (c : ℕ) → IsAt slots.now node c → stored slots.now node.slot c ≡ Some result }
 {
     slots[node.slot as usize].link(node.place as usize)
+}
+
+/// Changes the link of a request.
+#[inline]
+pub fn change_link(slots: &mut Slab<Linked>, node: Node, change: Change)
+    requires { node.place < exchanged_of (place_at slots.old node.slot) }
+    ensures here { (c : ℕ) (l : Link) → IsAt slots.old node c → stored slots.old node.slot c ≡ Some l → stored slots.new node.slot c ≡ Some (changed change l) }
+    ensures other_slots { (s d : ℕ) → s ≢ node.slot → stored slots.new s d ≡ stored slots.old s d }
+    ensures other_cowns { (c s d : ℕ) → IsAt slots.old node c → d ≢ c → stored slots.new s d ≡ stored slots.old s d }
+    ensures places { (s : ℕ) → place_at slots.new s ≡ place_at slots.old s }
+    ensures len { slab_len slots.new ≡ slab_len slots.old }
+{
+    slots[node.slot as usize].alter(node.place as usize, change);
 }
 
 /// Puts a link in the place of that of a request.

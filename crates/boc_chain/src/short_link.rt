@@ -1,9 +1,9 @@
 // Links as they are kept.
 
 ghost use Rattle.std.specs.Prelude.{◌≡◌};
-ghost use Rattle.boc_chain.specs.ShortLinks.{has_before, has_next, has_settled, is_scheduled, node_if};
+ghost use Rattle.boc_chain.specs.ShortLinks.{changed, has_before, has_next, has_settled, is_scheduled, node_if};
 
-use crate::linked::{Link, Node};
+use crate::linked::{Change, Link, Node};
 use std::marker::Model;
 
 /// A link in eight bytes, since there are one or more for each behaviour that waits. Contracts see the link.
@@ -178,6 +178,23 @@ impl ShortLink {
             scheduled: self.marks.is_scheduled(),
             before: node(self.sides.has_before(), self.before_slot, self.before_place),
             next: node(self.sides.has_next(), self.next_slot, self.next_place),
+        }
+    }
+
+    /// Changes one part of the link, and leaves the others where they stand.
+    #[inline(always)]
+    pub fn change(&mut self, change: Change)
+        ensures { self.new ≡ changed change self.old }
+    {
+        match change {
+            Change::Settle => self.marks = Marks::of(true, self.marks.is_scheduled()),
+            Change::Schedule => self.marks = Marks::of(self.marks.has_settled(), true),
+            Change::Lead => self.sides = Sides::of(false, self.sides.has_next()),
+            Change::Next(node) => {
+                self.sides = Sides::of(self.sides.has_before(), true);
+                self.next_slot = node.slot;
+                self.next_place = node.place;
+            }
         }
     }
 

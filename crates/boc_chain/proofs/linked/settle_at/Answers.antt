@@ -11,18 +11,18 @@ use Rattle.boc_chain.proofs.linked.settle_at.Goals as goal
 pub link_at-link-requires : goal.link_at-link-requires
 link_at-link-requires c = (holds_it c.args.slots.now c.requires.0 c.args.node c.requires.1.0 c.requires.1.1).exchanged
 
-pub set_link-requires : goal.set_link-requires
-set_link-requires c = (holds_it c.args.slots.now c.requires.0 c.args.node c.requires.1.0 c.requires.1.1).exchanged
+pub change_link-requires : goal.change_link-requires
+change_link-requires c = (holds_it c.args.slots.now c.requires.0 c.args.node c.requires.1.0 c.requires.1.1).exchanged
 
 pub link_at-ahead-requires : goal.link_at-ahead-requires
 link_at-ahead-requires c = (before_it c.args.slots.now c.requires.0 c.args.node c.in-Some.before c.requires.1.0 c.link_at-link.result c.requires.1.1 (c.link_at-link.ensures c.requires.0 c.requires.1.1.at) c.in-Some.is).exchanged
 
-pub set_link-requires-then-ahead : goal.set_link-requires-then-ahead
-set_link-requires-then-ahead c = (before_it c.args.slots.now c.requires.0 c.args.node c.in-Some.before c.requires.1.0 c.link_at-link.result c.requires.1.1 (c.link_at-link.ensures c.requires.0 c.requires.1.1.at) c.in-Some.is).exchanged
+pub change_link-requires-then-ahead : goal.change_link-requires-then-ahead
+change_link-requires-then-ahead c = (before_it c.args.slots.now c.requires.0 c.args.node c.in-Some.before c.requires.1.0 c.link_at-link.result c.requires.1.1 (c.link_at-link.ensures c.requires.0 c.requires.1.1.at) c.in-Some.is).exchanged
 
-pub set_link-requires-then-ahead-2 : goal.set_link-requires-then-ahead-2
-set_link-requires-then-ahead-2 c =
-    omega (arith, (holds_it c.args.slots.now c.requires.0 c.args.node c.requires.1.0 c.requires.1.1).exchanged, ap exchanged_of (c.set_link-then-ahead.ensures.places c.args.node.slot))
+pub set_link-requires : goal.set_link-requires
+set_link-requires c =
+    omega (arith, (holds_it c.args.slots.now c.requires.0 c.args.node c.requires.1.0 c.requires.1.1).exchanged, ap exchanged_of (c.change_link-then-ahead.ensures.places c.args.node.slot))
 
 pub returns-in-None-clause-answer : goal.returns-in-None-clause-answer
 returns-in-None-clause-answer c = λ d xs h.
@@ -30,14 +30,14 @@ returns-in-None-clause-answer c = λ d xs h.
 
 pub returns-in-None-clause-spelled : goal.returns-in-None-clause-spelled
 returns-in-None-clause-spelled c = λ d xs h.
-    lone_spelled (links c.args.slots.now) (links c.set_link.new.slots) d c.args.node.slot xs (seen c.link_at-link.result) h.inside
+    lone_spelled (links c.args.slots.now) (links c.change_link.new.slots) d c.args.node.slot xs (seen c.link_at-link.result) h.inside
     (ap (option_map seen) (c.link_at-link.ensures d h.at)) (ap (option_map (λ (n : Node). n.slot)) c.in-None.is)
-    (ap (option_map seen) (c.set_link.ensures.here d h.at)) (λ t n. ap (option_map seen) (c.set_link.ensures.other_slots t d n))
+    (ap (option_map seen) (c.change_link.ensures.here d c.link_at-link.result h.at (c.link_at-link.ensures d h.at))) (λ t n. ap (option_map seen) (c.change_link.ensures.other_slots t d n))
 
 pub returns-in-None-clause-placed : goal.returns-in-None-clause-placed
 returns-in-None-clause-placed c = λ d xs h.
-    lone_placed c.args.slots.now c.set_link.new.slots d c.args.node xs (before c.args.node.slot xs) c.link_at-link.result h (c.link_at-link.ensures d h.at)
-    (c.set_link.ensures.here d h.at) (λ t n. c.set_link.ensures.other_slots t d n) c.set_link.ensures.places
+    lone_placed c.args.slots.now c.change_link.new.slots d c.args.node xs (before c.args.node.slot xs) c.link_at-link.result h (c.link_at-link.ensures d h.at)
+    (c.change_link.ensures.here d c.link_at-link.result h.at (c.link_at-link.ensures d h.at)) (λ t n. c.change_link.ensures.other_slots t d n) c.change_link.ensures.places
 
 pub returns-then-ahead-clause-answer : goal.returns-then-ahead-clause-answer
 returns-then-ahead-clause-answer c = λ d xs h.
@@ -51,27 +51,27 @@ pub returns-then-ahead-clause-spelled : goal.returns-then-ahead-clause-spelled
 returns-then-ahead-clause-spelled c = λ d xs h.
     let got = c.link_at-link.ensures d h.at in
     let it = before_it c.args.slots.now d c.args.node c.in-Some.before xs c.link_at-link.result h got c.in-Some.is in
-    let at = at_kept c.args.slots.now c.set_link-then-ahead.new.slots c.args.node d (ap cowns_of (c.set_link-then-ahead.ensures.places c.args.node.slot)) h.at in
-    linked_spelled (links c.args.slots.now) (links c.set_link-then-ahead.new.slots) (links c.set_link-then-ahead-2.new.slots) d c.args.node.slot c.in-Some.before.slot xs (seen c.link_at-link.result) (seen c.link_at-ahead.result) h.inside
+    let at = at_kept c.args.slots.now c.change_link-then-ahead.new.slots c.args.node d (ap cowns_of (c.change_link-then-ahead.ensures.places c.args.node.slot)) h.at in
+    linked_spelled (links c.args.slots.now) (links c.change_link-then-ahead.new.slots) (links c.set_link.new.slots) d c.args.node.slot c.in-Some.before.slot xs (seen c.link_at-link.result) (seen c.link_at-ahead.result) h.inside
     (ap (option_map seen) got) (ap (option_map (λ (n : Node). n.slot)) c.in-Some.is) (ap (option_map seen) (c.link_at-ahead.ensures d it.at)) c.if-ahead.true
-    (ap (option_map seen) (c.set_link-then-ahead.ensures.here d it.at)) (λ t n. ap (option_map seen) (c.set_link-then-ahead.ensures.other_slots t d n))
-    (ap (option_map seen) (c.set_link-then-ahead-2.ensures.here d at)) (λ t n. ap (option_map seen) (c.set_link-then-ahead-2.ensures.other_slots t d n))
+    (ap (option_map seen) (c.change_link-then-ahead.ensures.here d c.link_at-ahead.result it.at (c.link_at-ahead.ensures d it.at))) (λ t n. ap (option_map seen) (c.change_link-then-ahead.ensures.other_slots t d n))
+    (ap (option_map seen) (c.set_link.ensures.here d at)) (λ t n. ap (option_map seen) (c.set_link.ensures.other_slots t d n))
 
 pub returns-then-ahead-clause-placed : goal.returns-then-ahead-clause-placed
 returns-then-ahead-clause-placed c = λ d xs h.
     let got = c.link_at-link.ensures d h.at in
     let it = before_it c.args.slots.now d c.args.node c.in-Some.before xs c.link_at-link.result h got c.in-Some.is in
-    let at = at_kept c.args.slots.now c.set_link-then-ahead.new.slots c.args.node d (ap cowns_of (c.set_link-then-ahead.ensures.places c.args.node.slot)) h.at in
-    linked_placed c.args.slots.now c.set_link-then-ahead.new.slots c.set_link-then-ahead-2.new.slots d c.args.node c.in-Some.before xs (before c.args.node.slot xs) c.link_at-link.result c.link_at-ahead.result h got
+    let at = at_kept c.args.slots.now c.change_link-then-ahead.new.slots c.args.node d (ap cowns_of (c.change_link-then-ahead.ensures.places c.args.node.slot)) h.at in
+    linked_placed c.args.slots.now c.change_link-then-ahead.new.slots c.set_link.new.slots d c.args.node c.in-Some.before xs (before c.args.node.slot xs) c.link_at-link.result c.link_at-ahead.result h got
     (c.link_at-ahead.ensures d it.at) it.there
-    (c.set_link-then-ahead.ensures.here d it.at) (λ t n. c.set_link-then-ahead.ensures.other_slots t d n) c.set_link-then-ahead.ensures.places
-    (c.set_link-then-ahead-2.ensures.here d at) (λ t n. c.set_link-then-ahead-2.ensures.other_slots t d n) c.set_link-then-ahead-2.ensures.places
+    (c.change_link-then-ahead.ensures.here d c.link_at-ahead.result it.at (c.link_at-ahead.ensures d it.at)) (λ t n. c.change_link-then-ahead.ensures.other_slots t d n) c.change_link-then-ahead.ensures.places
+    (c.set_link.ensures.here d at) (λ t n. c.set_link.ensures.other_slots t d n) c.set_link.ensures.places
 
 pub returns-then-ahead-clause-other_cowns : goal.returns-then-ahead-clause-other_cowns
 returns-then-ahead-clause-other_cowns c = λ d s e xs h n.
     let it = before_it c.args.slots.now d c.args.node c.in-Some.before xs c.link_at-link.result h (c.link_at-link.ensures d h.at) c.in-Some.is in
-    let at = at_kept c.args.slots.now c.set_link-then-ahead.new.slots c.args.node d (ap cowns_of (c.set_link-then-ahead.ensures.places c.args.node.slot)) h.at in
-    c.set_link-then-ahead-2.ensures.other_cowns d s e at n ∙ c.set_link-then-ahead.ensures.other_cowns d s e it.at n
+    let at = at_kept c.args.slots.now c.change_link-then-ahead.new.slots c.args.node d (ap cowns_of (c.change_link-then-ahead.ensures.places c.args.node.slot)) h.at in
+    c.set_link.ensures.other_cowns d s e at n ∙ c.change_link-then-ahead.ensures.other_cowns d s e it.at n
 
 pub returns-else-ahead-clause-answer : goal.returns-else-ahead-clause-answer
 returns-else-ahead-clause-answer c = λ d xs h.

@@ -122,6 +122,10 @@ added_all rows b i cowns old new is all p = record {
         let at : slice_index cowns k ≡ near.cown = get_or_default cowns k 0 near.cown h ∙ same in
         p.complete a k (omega (arith, h, all)) (subst (λ (x : ℕ). IsNearOn rows x a b) (sym at) near.near)
 
+-- where there were no links before, they are those of row b
+pub adds_all : (rows : List Row) (b : ℕ) (old new : List ℕ) → old ≡ [] → AddsNear rows b old new → HasWaits rows b new
+adds_all rows b old new none adds = rw (adds.is, none) (record { sound = adds.sound; complete = adds.complete })
+
 -- none of these cowns was used
 abbrev pub AreUnused : List Use → Type 0
 AreUnused uses = (used : Use) → Contains uses used → (used.writer ≡ None) × (used.readers.items ≡ [])

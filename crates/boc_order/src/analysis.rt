@@ -11,8 +11,7 @@ ghost use Rattle.boc_order.specs.Back.{IsStepBefore, IsFirstLatest};
 ghost use Rattle.boc_order.specs.Profiles.{IsProfileOf};
 ghost use Rattle.boc_order.specs.Standing.{IsPlanOf};
 
-use crate::gathering::waits;
-use crate::plan::{Earliest, earliest_plan};
+use crate::plan::{Earliest, plan_of};
 use crate::report::Profile;
 use boc_types::chain::{Chain, ChainStep, Via};
 use boc_types::limits::{MOST_ROWS, MOST_TICKS};
@@ -145,8 +144,7 @@ pub fn profile(alloc: Global, rows: &Rows, sharing: Sharing) -> Result<Profile, 
     ensures { IfOk result (λ profile. IsProfileOf (seen sharing rows.now) profile) }
 {
     let rows = SeenRows::new(rows, sharing);
-    let waits = waits(alloc, &rows)?;
-    let plan = earliest_plan(alloc, &rows, &waits)?;
+    let plan = plan_of(alloc, &rows)?;
     let (chain, span) = costliest(alloc, &rows, &plan)?;
     Ok(Profile {
         work: work_between(&plan.starts, &plan.ends),
@@ -186,7 +184,6 @@ pub fn span(alloc: Global, rows: &Rows, sharing: Sharing) -> Result<u64, AllocEr
     ensures { IfOk result (λ s. IsSpan (seen sharing rows.now) s) }
 {
     let rows = SeenRows::new(rows, sharing);
-    let waits = waits(alloc, &rows)?;
-    let plan = earliest_plan(alloc, &rows, &waits)?;
+    let plan = plan_of(alloc, &rows)?;
     Ok(plan.ends[last_row(&plan.ends)])
 }

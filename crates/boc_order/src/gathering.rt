@@ -21,7 +21,7 @@ pub struct Use {
 }
 
 // No cown was used. `AllocError` says that memory was refused.
-fn unused(alloc: Global) -> Result<Vec<Use>, AllocError>
+pub(crate) fn unused(alloc: Global) -> Result<Vec<Use>, AllocError>
     ensures { IfOk result (λ uses. (rows : List Row) → AreUses rows 0 uses.items) }
 {
     let mut uses = Vec::with_capacity(alloc, MOST_COWNS)?;
@@ -75,7 +75,7 @@ fn note_use(rows: &SeenRows, row: usize, cown: u8, used: &mut Use) -> Result<(),
 }
 
 // Adds the rows for which a row waits, and notes what it uses.
-fn gather(
+pub(crate) fn gather(
     rows: &SeenRows,
     row: usize,
     uses: &mut [Use],

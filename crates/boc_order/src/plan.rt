@@ -9,6 +9,7 @@ ghost use Rattle.boc_order.specs.Room.{HasRoom};
 ghost use Rattle.boc_order.specs.Standing.{IsPlanOf};
 ghost use Rattle.boc_order.specs.Waits.{AreWaits, HasWaits};
 
+use crate::gathering::{gather, unused};
 use crate::latest::{Latest, latest_of};
 use crate::links::Links;
 use boc_types::sharing::SeenRows;
@@ -128,5 +129,23 @@ pub fn earliest_plan(alloc: Global, rows: &SeenRows, waits: &Links) -> Result<Ea
 {
     let mut plan = Earliest::with_room(alloc, rows.len())?;
     plan.place_from(rows, waits, 0);
+    Ok(plan)
+}
+
+/// The earliest plan of the rows, each of which is placed as soon as it is known for which rows it waits. `AllocError`
+/// says that memory was refused.
+pub fn plan_of(alloc: Global, rows: &SeenRows) -> Result<Earliest, AllocError>
+    ensures shape { IsRows rows.now }
+    ensures placed { IfOk result (λ e. ArePlaced rows.now e.starts.items e.ends.items e.after.items (length rows.now)) }
+    ensures room { IfOk result (λ e. HasRoom e (length rows.now)) }
+{
+    let mut plan = Earliest::with_room(alloc, rows.len())?;
+    let mut uses = unused(alloc)?;
+    let mut list = Vec::new(alloc);
+    for row in 0..rows.len() {
+        list.clear();
+        gather(rows, row, &mut uses, &mut list)?;
+        plan.place_next(rows, row, &list);
+    }
     Ok(plan)
 }

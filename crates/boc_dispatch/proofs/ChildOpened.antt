@@ -1,5 +1,5 @@
 -- A child is opened.
-use Rattle.std.proofs.Common.{◌≡◌, ◌≢◌, ℕ, zero, suc, ◌+◌, ◌-◌, ◌<◌, ◌≤◌, ◌⊎◌, inl, inr, Bool, true, false, cond, ◌&&◌, ◌||◌, eqb, ltb, List, [], ◌∷◌, ◌++◌, length, map, set, take, get_or, refl, sym, ◌∙◌, ap, subst, arith, length-set, get_or-set_same, get_or-set_other, length-append}
+use Rattle.std.proofs.Common.{◌≡◌, ◌≢◌, ℕ, zero, suc, ◌+◌, ◌-◌, ◌^◌, ◌<◌, ◌≤◌, ◌⊎◌, inl, inr, Bool, true, false, cond, ◌&&◌, ◌||◌, eqb, ltb, List, [], ◌∷◌, ◌++◌, length, map, set, take, get_or, refl, sym, ◌∙◌, ap, subst, arith, length-set, get_or-set_same, get_or-set_other, length-append}
 use Rattle.std.specs.Prelude.{slice_get, slice_index_or, nat_lt, Option, Some, None}
 use Rattle.std.specs.Option.{option_map, option_map_or}
 use Rattle.std.specs.List.{count_by}
@@ -393,12 +393,13 @@ module _ (d : Parts) (k : IsKept d) (row slot : ℕ) (p : Live) (it : IsAtStage 
         let c = sum_by-cons one (Some (open_of child)) [] in
         omega (arith, ap unrecorded opened_state, a, c, f)
 
-    pub opened_rooms : (homes ready : ℕ) → unrecorded s ≤ d.log.rooms → length d.homes + (unrecorded s + 1) ≤ homes → length live2 ≤ ready → HasRooms E homes ready
-    opened_rooms homes ready a h r =
+    pub opened_rooms : (homes ready : ℕ) → unrecorded s ≤ d.log.rooms → length d.homes + (unrecorded s + 1) ≤ homes → length live2 ≤ ready
+        → length live2 ≤ 2 ^ 32 → HasRooms E homes ready
+    opened_rooms homes ready a h r few =
         let u = unrecorded_opened in
         let x = length-set half slot (Some p') in
         let y = length-set live2 own (Some child) in
-        record { rooms = omega (arith, u, a); homes = omega (arith, u, h); ready = omega (arith, x, y, r) }
+        record { rooms = omega (arith, u, a); homes = omega (arith, u, h); ready = omega (arith, x, y, r); few = omega (arith, x, y, few) }
 
     -- what each of the others awaits, in a state that has them as before
     others_counted : (t : State) (x : Live) (r : ℕ) → ((who : ℕ) → who ≢ opened s → at t who ≡ at s who) → ((c : ℕ) → queue t c ≡ queue s c) → live_at d.live r ≡ Some x

@@ -284,6 +284,7 @@ module _ (d : Parts) (k : IsKept d) (slot : ℕ) (l : Live) (is : live_at d.live
           rooms = omega (arith, u, h.rooms);
           homes = omega (arith, u, h.homes);
           ready = omega (arith, length-set d.live slot (Some gone_on), h.ready);
+          few = omega (arith, length-set d.live slot (Some gone_on), h.few);
         }
 
     pub kept_on : IsSound d.program (state parts_on) → AreCounted (state parts_on) table_on → AreChained table_on lists place

@@ -352,4 +352,5 @@ rooms_stay d e homes ready k k' same h =
       rooms = omega (arith, u, h.rooms, same.rooms_are);
       homes = omega (arith, u, h.homes, ap length same.homes_are);
       ready = omega (arith, same.long, h.ready);
+      few = omega (arith, same.long, h.few);
     }

@@ -1,5 +1,5 @@
 -- What a dispatcher has in hand at first.
-use Rattle.std.proofs.Common.{◌≡◌, ◌≢◌, ℕ, zero, suc, ◌+◌, ◌<◌, ◌≤◌, ◌⊎◌, inl, inr, Bool, true, false, ◌||◌, List, [], ◌∷◌, length, map, set, get_or, replicate, refl, sym, ◌∙◌, ap, subst, arith, length-set, count_by}
+use Rattle.std.proofs.Common.{◌≡◌, ◌≢◌, ℕ, zero, suc, ◌+◌, ◌^◌, ◌<◌, ◌≤◌, ◌⊎◌, inl, inr, Bool, true, false, ◌||◌, List, [], ◌∷◌, length, map, set, get_or, replicate, refl, sym, ◌∙◌, ap, subst, arith, length-set, count_by}
 use Rattle.std.specs.Prelude.{slice_get, slice_index_or, ℤ, Option, Some, None}
 use Rattle.std.specs.Option.{option_map, option_map_or}
 use Rattle.boc_types.specs.declared.event.Event.{Event}
@@ -163,11 +163,11 @@ module _ (p : Program) (place : ℕ → Option Place) (table : List (Option Live
   none_unrecorded : unrecorded (state d) ≡ 0
   none_unrecorded = ap unrecorded opened_state
 
-  pub opened_rooms : (homes ready : ℕ) → 1 ≤ homes → length table ≤ ready → HasRooms d homes ready
-  opened_rooms homes ready one long =
+  pub opened_rooms : (homes ready : ℕ) → 1 ≤ homes → length table ≤ ready → length table ≤ 2 ^ 32 → HasRooms d homes ready
+  opened_rooms homes ready one long few =
       let none = none_unrecorded in
       let same = length-set table slot (Some l) in
-      record { rooms = omega arith; homes = omega arith; ready = omega arith }
+      record { rooms = omega arith; homes = omega arith; ready = omega arith; few = omega (arith, same, few) }
 
 -- an empty table has no behaviour
 pub nothing_at : (s : ℕ) → live_at [] s ≡ None

@@ -74,10 +74,11 @@ module _ (d : Parts) (k : IsKept d) (live2 : List (Option Live)) (same : SamePla
   pub longer_stays : underway longer ≡ underway d
   longer_stays = λ i. record { program = d.program; state = longer_state i }
 
-  pub longer_rooms : (homes ready : ℕ) → HasRooms d homes ready → (homes' ready' : ℕ) → homes ≤ homes' → length live2 ≤ ready' → HasRooms longer homes' ready'
-  longer_rooms homes ready h homes' ready' a b =
+  pub longer_rooms : (homes ready : ℕ) → HasRooms d homes ready → (homes' ready' : ℕ) → homes ≤ homes' → length live2 ≤ ready'
+      → length live2 ≤ 2 ^ 32 → HasRooms longer homes' ready'
+  longer_rooms homes ready h homes' ready' a b few =
       let u : unrecorded (state longer) ≡ unrecorded (state d) = ap unrecorded longer_state in
-      record { rooms = omega (arith, u, h.rooms); homes = omega (arith, u, a, h.homes); ready = b }
+      record { rooms = omega (arith, u, h.rooms); homes = omega (arith, u, a, h.homes); ready = b; few = few }
 
   there : (r : ℕ) (x : Live) → live_at live2 r ≡ Some x → live_at d.live r ≡ Some x
   there r x is = sym (same r) ∙ is
@@ -116,13 +117,14 @@ module _ (d : Parts) (k : IsKept d) (live2 : List (Option Live)) (same : SamePla
 module _ (d : Parts) (k : IsKept d) (row slot : ℕ) (p : Live) (it : IsAtStage d slot p (Recorded row phases.Running)) (free : p.child ≡ None) (child : Live) (new : IsNew d row child) (few : d.opened < MOST_ROWS)
     (live2 : List (Option Live)) (same : SamePlaces d.live live2) (own : ℕ) (vacant : live_at d.live own ≡ None) (room : own < length live2)
     (place : ℕ → Option Place) (place_own : place own ≡ Some (record { cowns = child.cowns.items; exchanged = 0 })) (place_other : (r : ℕ) → r ≢ own → place r ≡ d.place r)
-    (homes ready : ℕ) (rooms : unrecorded (state d) ≤ d.log.rooms) (homes_fit : length d.homes + (unrecorded (state d) + 1) ≤ homes) (ready_fit : length live2 ≤ ready)
+    (homes ready : ℕ) (rooms : unrecorded (state d) ≤ d.log.rooms) (homes_fit : length d.homes + (unrecorded (state d) + 1) ≤ homes)
+    (ready_fit : length live2 ≤ ready) (slots_fit : length live2 ≤ 2 ^ 32)
     (before : Parts) (before_is : before ≡ record d { place = place; live = live2; log = roomier d.log }) where
   abbrev opened_parts : Parts
   opened_parts = E d k row slot p it free child new few live2 same own vacant room place place_own place_other
 
   opened_fit : HasRooms opened_parts homes ready
-  opened_fit = opened_rooms d k row slot p it free child new few live2 same own vacant room place place_own place_other homes ready rooms homes_fit ready_fit
+  opened_fit = opened_rooms d k row slot p it free child new few live2 same own vacant room place place_own place_other homes ready rooms homes_fit ready_fit slots_fit
 
   pub may_be_put : MayPut before homes slot own child
   may_be_put = subst (λ (z : Parts). MayPut z homes slot own child) (sym before_is) (record {

@@ -505,4 +505,9 @@ module _ (d : Parts) (k : Tied d) (some : 0 < length (members d.program (state d
       let a = length-append d.homes (slot ∷ []) in
       let b = length-set half slot (Some l') in
       let c = length-set d.live parent (Some p') in
-      record { rooms = omega (arith, u, h.rooms); homes = omega (arith, u, a, h.homes); ready = omega (arith, b, c, h.ready) }
+      record {
+        rooms = omega (arith, u, h.rooms);
+        homes = omega (arith, u, a, h.homes);
+        ready = omega (arith, b, c, h.ready);
+        few = omega (arith, b, c, h.few);
+      }

@@ -273,7 +273,7 @@ module _ (d : Parts) (k : IsKept d) (slot : ℕ) (l : Live) (request : ℕ) (it 
 
 -- with the rooms of the code's own vectors
 pub rooms_in : (e : Parts) (homes ready homes' ready' : ℕ) → homes' ≡ homes → ready' ≡ ready → HasRooms e homes ready → HasRooms e homes' ready'
-rooms_in e homes ready homes' ready' a b h = record { rooms = h.rooms; homes = omega (arith, a, h.homes); ready = omega (arith, b, h.ready) }
+rooms_in e homes ready homes' ready' a b h = record { rooms = h.rooms; homes = omega (arith, a, h.homes); ready = omega (arith, b, h.ready); few = h.few }
 
 -- ---- the one before is not flagged: nothing changes
 

@@ -308,4 +308,4 @@ module _ (d : Parts) (k : IsKept d) (slot : ℕ) (rest : List ℕ) (head : d.rea
       let before = behaviours_length d.live d.opened in
       let after = behaviours_length table d.opened in
       let long = length-set d.live slot (Some m) in
-      record { rooms = omega (arith, rooms.rooms); homes = omega (arith, rooms.homes); ready = omega (arith, rooms.ready) }
+      record { rooms = omega (arith, rooms.rooms); homes = omega (arith, rooms.homes); ready = omega (arith, rooms.ready); few = omega (arith, rooms.few) }

@@ -1,5 +1,5 @@
 -- How a dispatcher is kept, and what it keeps.
-use Rattle.std.specs.Prelude.{◌≡◌, ℕ, zero, suc, ◌+◌, ◌<◌, ◌≤◌, Bool, true, false, ◌&&◌, ◌||◌, if◌then◌else◌, nat_eq, nat_lt, List, [], ◌∷◌, ◌++◌, length, map, ℤ, slice_get, slice_index_or, vec_capacity, Option, Some, None}
+use Rattle.std.specs.Prelude.{◌≡◌, ℕ, zero, suc, ◌+◌, ◌^◌, ◌<◌, ◌≤◌, Bool, true, false, ◌&&◌, ◌||◌, if◌then◌else◌, nat_eq, nat_lt, List, [], ◌∷◌, ◌++◌, length, map, ℤ, slice_get, slice_index_or, vec_capacity, Option, Some, None}
 use Rattle.std.specs.Option.{option_map, option_map_or}
 use Rattle.std.specs.List.{count_by}
 use Rattle.std.specs.VecDeque.{deque_capacity}
@@ -209,11 +209,13 @@ pub record IsKept (d : Parts) : Type 0 where
   pub ready_there : (k slot : ℕ) → slice_get d.ready k ≡ Some slot → (l : Live) × (row : ℕ) × (live_at d.live slot ≡ Some l) × (l.stage ≡ Recorded row phases.Ready)
   pub left : count_by is_taken d.live + d.gone ≡ d.opened
 
--- there is room for each behaviour that has no row yet: for its spawn, its start and its end, for its home, and in the ready list for all
+-- there is room for each behaviour that has no row yet: for its spawn, its start and its end, for its home, and in the ready list for all;
+-- and each slot is kept in 32 bits
 pub record HasRooms (d : Parts) (homes_room ready_room : ℕ) : Type 0 where
   pub rooms : unrecorded (state d) ≤ d.log.rooms
   pub homes : length d.homes + unrecorded (state d) ≤ homes_room
   pub ready : length d.live ≤ ready_room
+  pub few : length d.live ≤ 2 ^ 32
 
 -- ---- the same of the machine itself, whose chains have these lists and places
 

@@ -1,5 +1,6 @@
 -- How far a behaviour is, as it is kept.
 use Rattle.std.specs.Prelude.{ℕ, true, false}
+use Rattle.boc_types.specs.declared.stage.Phase.{Phase}
 use Rattle.boc_types.specs.declared.stage.Phase.TheVariants as phases
 use Rattle.boc_types.specs.declared.stage.Stage.{Stage}
 use Rattle.boc_types.specs.declared.stage.Stage.TheVariants.{Asking as AsksFor, Recorded}
@@ -16,3 +17,12 @@ kept_stage Waiting row request = Recorded row phases.Waiting
 kept_stage Ready row request = Recorded row phases.Ready
 kept_stage Running row request = Recorded row phases.Running
 kept_stage Leaving row request = Recorded row (phases.Leaving request)
+
+-- the request of a phase, and 0 where it has none
+abbrev pub request_of : Phase → ℕ
+request_of (phases.Flagging request) = request
+request_of phases.Owning = 0
+request_of phases.Waiting = 0
+request_of phases.Ready = 0
+request_of phases.Running = 0
+request_of (phases.Leaving request) = request

@@ -144,11 +144,11 @@ impl<'a, C: Chains + Drop> Core<'a, C> {
                 if exchanged {
                     self.machine.settle(parent, slot, request)
                 } else {
-                    self.machine.swap(slot, request)
+                    self.machine.swap(slot as usize, request)
                 }
             }
             Stage::Recorded { row, phase } => match phase {
-                Phase::Flagging(request) => self.machine.flag(slot, row, request),
+                Phase::Flagging(request) => self.machine.flag(slot as usize, row, request),
                 _ => self.machine.own(parent, slot, row),
             },
         }

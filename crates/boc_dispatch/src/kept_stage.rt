@@ -1,18 +1,22 @@
 // How far a behaviour is, as it is kept.
 
-ghost use Rattle.std.specs.Prelude.{◌≡◌};
+ghost use Rattle.std.specs.Prelude.{◌≡◌, ◌<◌, ◌^◌};
 ghost use Rattle.boc_types.specs.declared.stage.Stage.TheVariants.{Asking, Recorded};
+ghost use Rattle.boc_dispatch.specs.KeptStages.{request_of};
 
 use boc_types::stage::{Phase, Stage};
 use std::marker::Model;
 
-/// How far a behaviour is, in 16 bytes, since many behaviours wait at once. Contracts see the stage.
+/// How far a behaviour is, in 8 bytes, since many behaviours wait at once. Contracts see the stage.
 #[derive(Drop, Debug)]
 pub struct KeptStage {
     place: Place,
+    /// A behaviour has few requests, so a byte does for each.
+    request: u8,
     row: u32,
-    request: usize,
 }
+
+const _: () = prove!(size_of::<KeptStage>() == 8);
 
 // The kind of a stage, and of its phase.
 #[derive(Clone, Copy, Debug)]
@@ -39,6 +43,7 @@ impl Model for KeptStage {
 impl KeptStage {
     /// The requests below this one are settled, and it is exchanged or not.
     pub fn asking(request: usize, exchanged: bool) -> KeptStage
+        requires { request < 2 ^ 8 }
         ensures { result ≡ Asking request exchanged }
     {
         let place = if exchanged {
@@ -48,13 +53,14 @@ impl KeptStage {
         };
         KeptStage {
             place,
+            request: request as u8,
             row: 0,
-            request,
         }
     }
 
     /// The spawn is recorded under this row, and the behaviour is in this phase.
     pub fn recorded(row: u32, phase: Phase) -> KeptStage
+        requires { request_of phase < 2 ^ 8 }
         ensures { result ≡ Recorded row phase }
     {
         let (place, request) = match phase {
@@ -67,8 +73,8 @@ impl KeptStage {
         };
         KeptStage {
             place,
+            request: request as u8,
             row,
-            request,
         }
     }
 
@@ -77,7 +83,7 @@ impl KeptStage {
     pub fn stage(&self) -> Stage
         ensures { result ≡ self.now }
     {
-        let (row, request) = (self.row, self.request);
+        let (row, request) = (self.row, self.request as usize);
         let phase = match self.place {
             Place::Asking => {
                 return Stage::Asking {

@@ -1,6 +1,6 @@
 //! Behaviours that are not gone yet.
 
-ghost use Rattle.std.specs.Prelude.{◌≡◌, ◌+◌, ◌==◌, ◌≤◌, ◌<◌, ◌↔◌, ℕ, suc, None, Some, Option, IsTrue, IfOk, length, slice_get, false, []};
+ghost use Rattle.std.specs.Prelude.{◌≡◌, ◌+◌, ◌==◌, ◌≤◌, ◌<◌, ◌^◌, ◌↔◌, ℕ, suc, None, Some, Option, IsTrue, IfOk, length, slice_get, false, []};
 ghost use Rattle.boc_types.specs.declared.limits.TheConstants.{MOST_HELD};
 ghost use Rattle.boc_types.specs.declared.stage.Phase.TheVariants as phases;
 ghost use Rattle.boc_types.specs.declared.stage.Stage.TheVariants.{Asking, Recorded};
@@ -10,6 +10,7 @@ ghost use Rattle.boc_types.specs.program.Rising.{rising};
 ghost use Rattle.boc_types.specs.program.Signatures.{AllBelow};
 ghost use Rattle.boc_types.specs.runs.Serial.{Behaviour, inputs_of as inputs_at};
 ghost use Rattle.boc_dispatch.specs.Inside.{behaviour_of, open_of};
+ghost use Rattle.boc_dispatch.specs.KeptStages.{request_of};
 ghost use Rattle.boc_dispatch.specs.Places.{in_phase};
 
 use crate::kept_args::KeptArgs;
@@ -40,15 +41,18 @@ pub struct Live {
     pub params: HeldCowns,
     /// Its cowns in rising order, which is that of its requests.
     pub cowns: HeldCowns,
-    /// How far it is.
-    pub stage: KeptStage,
     /// How many of its requests aren't granted, and one more before Own.
     pub awaited: u8,
+    /// How far it is.
+    pub stage: KeptStage,
     /// How many of its wishes were spawned.
     pub spawned: u32,
     /// The slot of the wish that is being enqueued.
-    pub child: Option<usize>,
+    pub child: Option<u32>,
 }
+
+// Many behaviours wait at once: no room is lost between the fields.
+const _: () = prove!(size_of::<Option<Live>>() == 80);
 
 /// Main as it is opened: its spawn is recorded, and it is ready.
 pub fn main_behaviour() -> Live
@@ -64,8 +68,8 @@ pub fn main_behaviour() -> Live
         args: KeptArgs::new(),
         params: HeldCowns::new(),
         cowns: HeldCowns::new(),
-        stage: KeptStage::recorded(0, Phase::Ready),
         awaited: 0,
+        stage: KeptStage::recorded(0, Phase::Ready),
         spawned: 0,
         child: None,
     }
@@ -102,8 +106,8 @@ pub fn wished_behaviour(
         args: KeptArgs::of(alloc, &wish.args)?,
         params,
         cowns,
-        stage: KeptStage::asking(0, false),
         awaited,
+        stage: KeptStage::asking(0, false),
         spawned: 0,
         child: None,
     })
@@ -223,7 +227,8 @@ impl Live {
 
     /// It goes on with the flag of this request; behind the last its enqueue is over but for Own.
     pub fn flagging(&self, request: usize) -> Phase
-        ensures { result ≡ flagging self.now.cowns.items request }
+        ensures phase { result ≡ flagging self.now.cowns.items request }
+        ensures few { request_of result < 2 ^ 8 }
     {
         if request < self.cowns.as_slice().len() {
             Phase::Flagging(request)
@@ -234,6 +239,7 @@ impl Live {
 
     /// It is in this phase of its row from now on.
     pub fn go_on(&mut self, row: u32, phase: Phase)
+        requires { request_of phase < 2 ^ 8 }
         ensures { self.new ≡ in_phase row phase self.old }
     {
         self.stage = KeptStage::recorded(row, phase);

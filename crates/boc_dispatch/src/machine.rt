@@ -31,9 +31,9 @@ pub struct Machine<'a, C: Chains + Drop> {
     /// The behaviours that aren't gone, each at the slot of its requests.
     pub live: Vec<Option<Live>>,
     /// The slot that the behaviour of each row has, or had.
-    pub homes: Vec<usize>,
+    pub homes: Vec<u32>,
     /// The slots of the ready behaviours, in the order in which they will start.
-    pub ready: VecDeque<usize>,
+    pub ready: VecDeque<u32>,
     /// The log, with room for each behaviour that was opened.
     pub log: RunLog,
     /// The values of the cowns.
@@ -49,9 +49,12 @@ pub struct Machine<'a, C: Chains + Drop> {
 /// An open enqueue: the slots of the parent and of the child, and how far the child is.
 pub struct Enqueue {
     pub parent: usize,
-    pub slot: usize,
+    pub slot: u32,
     pub stage: Stage,
 }
+
+// The last slot that is kept, in 32 bits.
+const LAST_SLOT: usize = u32::MAX as usize;
 
 // Makes a table long enough to have this slot, and no longer than that.
 fn reach(live: &mut Vec<Option<Live>>, slot: usize) -> Result<(), AllocError>
@@ -123,12 +126,15 @@ impl<'a, C: Chains + Drop> Machine<'a, C> {
         let mut ready = VecDeque::with_capacity(alloc, 1)?;
         let mut homes = Vec::with_capacity(alloc, 1)?;
         let slot = chains.admit(Cowns::new())?;
+        if slot.index > LAST_SLOT {
+            return Err(AllocError);
+        }
         let mut live = Vec::new(alloc);
         reach(&mut live, slot.index)?;
         live[slot.index] = Some(main_behaviour());
-        homes.push_reserved(slot.index);
+        homes.push_reserved(slot.index as u32);
         ready.reserve(live.len())?;
-        ready.push_back_reserved(slot.index);
+        ready.push_back_reserved(slot.index as u32);
         log.put(Event::Spawn {
             row: 0,
             parent: 0,
@@ -156,7 +162,7 @@ impl<'a, C: Chains + Drop> Machine<'a, C> {
         ensures starts { StartsJob (parts_of C.lists C.place self.old) result (parts_of C.lists C.place self.new) }
     {
         let slot = self.ready.pop_front()?;
-        let job = begin(&mut self.live[slot], self.program, &self.values);
+        let job = begin(&mut self.live[slot as usize], self.program, &self.values);
         self.log.put(Event::Start { row: job.row });
         self.steps += 1;
         Some(job)
@@ -170,8 +176,8 @@ impl<'a, C: Chains + Drop> Machine<'a, C> {
             (λ slot. IsOfRow (parts_of C.lists C.place self.now) slot row) }
     {
         let slot = *self.homes.get(row as usize)?;
-        match self.live.get(slot)? {
-            Some(live) if live.row() == Some(row) => Some(slot),
+        match self.live.get(slot as usize)? {
+            Some(live) if live.row() == Some(row) => Some(slot as usize),
             _ => None,
         }
     }
@@ -234,25 +240,32 @@ impl<'a, C: Chains + Drop> Machine<'a, C> {
             self.chains.dismiss(own);
             return Err(AllocError);
         }
-        Ok(self.put_child(slot, own.index, child))
+        Ok(self.put_child(slot, own.index as u32, child))
     }
 
-    // Makes the table long enough for this slot, and the ready list for the table.
+    // Makes the table long enough for this slot, and the ready list for the table. A slot that has no 32 bits is refused as
+    // memory is.
     fn make_places(&mut self, slot: usize) -> Result<(), AllocError>
-        requires { length self.old.live.items ≤ deque_capacity self.old.ready }
+        requires ready { length self.old.live.items ≤ deque_capacity self.old.ready }
+        requires few { length self.old.live.items ≤ 2 ^ 32 }
         ensures parts { parts_of C.lists C.place self.new ≡ with_table self.new.live.items (parts_of C.lists C.place self.old) }
         ensures same { (s : ℕ) → live_at self.new.live.items s ≡ live_at self.old.live.items s }
         ensures long { OnOk result (slot < length self.new.live.items) }
+        ensures small { OnOk result (slot < 2 ^ 32) }
         ensures homes { vec_capacity self.new.homes ≡ vec_capacity self.old.homes }
         ensures ready { length self.new.live.items ≤ deque_capacity self.new.ready }
+        ensures few { length self.new.live.items ≤ 2 ^ 32 }
     {
-        let long = slot.saturating_add(1);
-        self.ready.reserve(long.saturating_sub(self.ready.len()))?;
+        if slot > LAST_SLOT {
+            return Err(AllocError);
+        }
+        self.ready
+            .reserve((slot + 1).saturating_sub(self.ready.len()))?;
         reach(&mut self.live, slot)
     }
 
     // Puts a child of the behaviour at a slot into its own slot, where there is room for it.
-    fn put_child(&mut self, parent: usize, slot: usize, child: Live) -> Child
+    fn put_child(&mut self, parent: usize, slot: u32, child: Live) -> Child
         requires { MayPut (parts_of C.lists C.place self.old) (vec_capacity self.old.homes) parent slot child }
         ensures token { (result.number ≡ child.number) × (result.row ≡ child.parent) }
         ensures puts { (this : Live) → live_at self.old.live.items parent ≡ Some this
@@ -265,7 +278,7 @@ impl<'a, C: Chains + Drop> Machine<'a, C> {
             row: child.parent,
         };
         let is_settled = child.cowns.as_slice().is_empty();
-        put(&mut self.live, slot, child);
+        put(&mut self.live, slot as usize, child);
         begin_child(&mut self.live[parent], slot);
         self.opened += 1;
         self.step_asking(parent, slot, is_settled);
@@ -273,7 +286,7 @@ impl<'a, C: Chains + Drop> Machine<'a, C> {
     }
 
     // One step is made. Where the requests of the behaviour at a slot are all settled, its spawn is recorded by its parent's.
-    fn step_asking(&mut self, parent: usize, slot: usize, is_settled: bool)
+    fn step_asking(&mut self, parent: usize, slot: u32, is_settled: bool)
         requires fits { self.old.steps + 1 < 2 ^ 64 }
         requires may { is_settled ≡ true → MayRecord (parts_of C.lists C.place self.old) (vec_capacity self.old.homes) parent slot }
         ensures asks { is_settled ≡ false → parts_of C.lists C.place self.new ≡ counted (parts_of C.lists C.place self.old) }
@@ -288,14 +301,14 @@ impl<'a, C: Chains + Drop> Machine<'a, C> {
     }
 
     // Records the spawn of the behaviour at a slot by its parent's.
-    fn record_spawn(&mut self, parent: usize, slot: usize)
+    fn record_spawn(&mut self, parent: usize, slot: u32)
         requires { MayRecord (parts_of C.lists C.place self.old) (vec_capacity self.old.homes) parent slot }
         ensures records { Records (parts_of C.lists C.place self.old) parent slot (parts_of C.lists C.place self.new) }
         ensures homes { vec_capacity self.new.homes ≡ vec_capacity self.old.homes }
         ensures ready { deque_capacity self.new.ready ≡ deque_capacity self.old.ready }
     {
         count_spawn(&mut self.live[parent]);
-        let event = record(&mut self.live[slot], self.homes.len() as u32);
+        let event = record(&mut self.live[slot as usize], self.homes.len() as u32);
         self.log.put(event);
         self.homes.push_reserved(slot);
     }
@@ -312,7 +325,7 @@ impl<'a, C: Chains + Drop> Machine<'a, C> {
             Some(live) => live.child?,
             None => return None,
         };
-        match &self.live[slot] {
+        match &self.live[slot as usize] {
             Some(live) if live.number == child.number => Some(Enqueue {
                 parent,
                 slot,
@@ -338,7 +351,7 @@ impl<'a, C: Chains + Drop> Machine<'a, C> {
     }
 
     /// Settles this request of the behaviour at a slot, unless that is blocked. With the last one its spawn is recorded.
-    pub fn settle(&mut self, parent: usize, slot: usize, request: usize) -> Advanced
+    pub fn settle(&mut self, parent: usize, slot: u32, request: usize) -> Advanced
         requires sound { IsSoundMachine C.lists C.place self.old }
         requires due { IsStageAt (parts_of C.lists C.place self.old) slot (Asking request true) }
         requires held { HasInHand (parts_of C.lists C.place self.old) parent (Some slot) }
@@ -346,12 +359,17 @@ impl<'a, C: Chains + Drop> Machine<'a, C> {
         ensures settles { (l : Live) → IsAtStage (parts_of C.lists C.place self.old) slot l (Asking request true)
             → SettlesNext (parts_of C.lists C.place self.old) l.number request result (parts_of C.lists C.place self.new) }
     {
-        let granted = match self.chains.settle(Slot { index: slot }, request) {
+        let granted = match self.chains.settle(
+            Slot {
+                index: slot as usize,
+            },
+            request,
+        ) {
             Settled::Blocked => return Advanced::Blocked,
             Settled::Lone => 1,
             Settled::Linked => 0,
         };
-        let is_last = settle_next(&mut self.live[slot], request, granted);
+        let is_last = settle_next(&mut self.live[slot as usize], request, granted);
         self.step_asking(parent, slot, is_last);
         Advanced::Moved(Step::Settle(request))
     }
@@ -372,7 +390,7 @@ impl<'a, C: Chains + Drop> Machine<'a, C> {
     }
 
     /// Ends the enqueue of the behaviour at a slot, which its parent has in hand: it is ready, or waits.
-    pub fn own(&mut self, parent: usize, slot: usize, row: u32) -> Advanced
+    pub fn own(&mut self, parent: usize, slot: u32, row: u32) -> Advanced
         requires sound { IsSoundMachine C.lists C.place self.old }
         requires due { IsStageAt (parts_of C.lists C.place self.old) slot (Recorded row phases.Owning) }
         requires held { HasInHand (parts_of C.lists C.place self.old) parent (Some slot) }
@@ -382,19 +400,19 @@ impl<'a, C: Chains + Drop> Machine<'a, C> {
             → GoesOn (λ s t. Owns s l.number t) (parts_of C.lists C.place self.old) (parts_of C.lists C.place self.new) }
     {
         end_child(&mut self.live[parent]);
-        wait(&mut self.live[slot], row);
+        wait(&mut self.live[slot as usize], row);
         self.grant(slot);
         self.steps += 1;
         Advanced::Enqueued
     }
 
     // The behaviour at a slot awaits one thing less. Where it awaits nothing more it joins the ready list.
-    fn grant(&mut self, slot: usize)
+    fn grant(&mut self, slot: u32)
         requires { MayBeGranted (parts_of C.lists C.place self.old) slot (deque_capacity self.old.ready) }
         ensures granted { parts_of C.lists C.place self.new ≡ with_granted slot (parts_of C.lists C.place self.old) }
         ensures rooms { (self.new.homes ≡ self.old.homes) × (deque_capacity self.new.ready ≡ deque_capacity self.old.ready) }
     {
-        if grant_one(&mut self.live[slot]) {
+        if grant_one(&mut self.live[slot as usize]) {
             self.ready.push_back_reserved(slot);
         }
     }
@@ -476,7 +494,7 @@ impl<'a, C: Chains + Drop> Machine<'a, C> {
             Released::Blocked => Left::Blocked,
             Released::Unhooked => self.leave_on(slot, row, request, Step::Unhook(request)),
             Released::Passed(next) => {
-                self.grant(next.index);
+                self.grant(next.index as u32);
                 self.leave_on(slot, row, request, Step::Pass(request))
             }
         }

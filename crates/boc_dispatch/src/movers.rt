@@ -98,6 +98,6 @@ impl<'a, C: Chains + Drop> Machine<'a, C> {
         ensures { NamesMover (underway (parts_of C.lists C.place self.now)) result }
     {
         let slot = *self.ready.front()?;
-        Some(Mover::Ready(recorded_row(&self.live[slot])))
+        Some(Mover::Ready(recorded_row(&self.live[slot as usize])))
     }
 }

@@ -63,7 +63,7 @@ pub fn recorded_row(place: &Option<Live>) -> u32
 }
 
 /// A wish of it is being enqueued at this slot.
-pub fn begin_child(place: &mut Option<Live>, child: usize)
+pub fn begin_child(place: &mut Option<Live>, child: u32)
     requires { Has place.old (λ l. Unit {0}) }
     ensures { place.new ≡ option_map (with_child (Some child)) place.old }
 {
@@ -97,11 +97,15 @@ pub fn count_spawn(place: &mut Option<Live>)
 
 /// This request is exchanged.
 pub fn ask(place: &mut Option<Live>, request: usize)
-    requires { Has place.old (λ l. Unit {0}) }
+    requires { Has place.old (λ l. request < length l.cowns.items) }
     ensures { place.new ≡ option_map (exchanged request) place.old }
 {
     match place {
-        Some(live) => live.stage = KeptStage::asking(request, true),
+        Some(live) => {
+            let count = live.cowns.as_slice().len();
+            prove!(request < count);
+            live.stage = KeptStage::asking(request, true);
+        }
         None => unreachable!(),
     }
 }

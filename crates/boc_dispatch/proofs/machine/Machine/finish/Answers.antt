@@ -226,6 +226,7 @@ returns-clause-sound g c =
         rooms = rooms.rooms;
         homes = omega (arith, rooms.homes, ap vec_capacity c.remove.ensures.rooms.0);
         ready = omega (arith, rooms.ready, ap deque_capacity c.remove.ensures.rooms.1);
+        few = rooms.few;
       };
     }
 

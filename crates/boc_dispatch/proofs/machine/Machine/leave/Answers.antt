@@ -5,6 +5,7 @@ use Rattle.boc_types.specs.declared.step.Step.TheVariants as steps
 use Rattle.boc_dispatch.specs.Inside.{Parts, parts_of, underway, IsKept, HasRooms}
 use Rattle.boc_dispatch.proofs.Fronts.{Front, low, low_place, may_leave}
 use Rattle.boc_dispatch.proofs.Departing.{LetGo, releases_of, unhooked_released, unhooked_makes, passed_may, passed_released, passed_makes, passed_program, blocked_parts, blocked_is}
+use Rattle.boc_dispatch.proofs.Tables.{live_there}
 use Rattle.boc_dispatch.proofs.machine.Machine.leave.Goals as goal
 
 pub leave-requires-clause-there : goal.leave-requires-clause-there
@@ -71,6 +72,17 @@ grant-requires g c =
     let let_go : LetGo d c.args.slot c.args.request e = record { lists_are = c.leave.ensures.lists; places = c.leave.ensures.places; parts_are = refl } in
     passed_may d c.args.slot c.args.row c.args.request c.requires.due.0 f e let_go c.in-Passed.next c.in-Passed.ensures.answer (deque_capacity c.args.self.now.ready) c.requires.sound.rooms.ready
 
+-- who is granted is there, and each slot of the table is kept in 32 bits
+pub overflow_cast-next : goal.overflow_cast-next
+overflow_cast-next g c =
+    let d = parts_of g.C.Chains.lists g.C.Chains.place c.args.self.now in
+    let f : Front d c.args.slot c.args.row c.args.request c.requires.due.0 = record { kept = c.requires.sound.kept; is = c.requires.due.1.is; stage_is = c.requires.due.1.stage_is } in
+    let e : Parts = record d { lists = g.C.Chains.lists c.leave.new.self; place = g.C.Chains.place c.leave.new.self } in
+    let let_go : LetGo d c.args.slot c.args.request e = record { lists_are = c.leave.ensures.lists; places = c.leave.ensures.places; parts_are = refl } in
+    let rooms = c.requires.sound.rooms in
+    let may = passed_may d c.args.slot c.args.row c.args.request c.requires.due.0 f e let_go c.in-Passed.next c.in-Passed.ensures.answer (deque_capacity c.args.self.now.ready) rooms.ready in
+    omega (arith, rooms.few, live_there d.live c.in-Passed.next.index may.this may.is)
+
 pub leave_on-requires-in-Passed : goal.leave_on-requires-in-Passed
 leave_on-requires-in-Passed g c =
     let d = parts_of g.C.Chains.lists g.C.Chains.place c.args.self.now in
@@ -87,6 +99,7 @@ leave_on-requires-in-Passed g c =
         rooms = rooms.rooms;
         homes = omega (arith, rooms.homes, ap vec_capacity c.grant.ensures.rooms.0);
         ready = omega (arith, rooms.ready, c.grant.ensures.rooms.1);
+        few = rooms.few;
       };
     }
 

@@ -75,7 +75,7 @@ put_child-requires g c =
     let homes_fit : length d.homes + (unrecorded (state d) + 1) ≤ homes =
     omega (arith, homes_left d k, c.in_ok-reserve.ensures.ok, c.make_places.ensures.homes, c.len.ensures, c.args.self.now.homes.ok.0, c.reserve.ensures.len) in
     may_be_put d k c.args.row c.args.slot p it free c.args.child c.requires.new c.requires.few live2 c.make_places.ensures.same own vacant room
-    place place_own c.in_ok-own.ensures.other_places homes ready c.requires.sound.rooms.rooms homes_fit c.make_places.ensures.ready before before_is
+    place place_own c.in_ok-own.ensures.other_places homes ready c.requires.sound.rooms.rooms homes_fit c.make_places.ensures.ready c.make_places.ensures.few before before_is
 
 pub returns-clause-sound : goal.returns-clause-sound
 returns-clause-sound g c =
@@ -102,10 +102,10 @@ returns-clause-sound g c =
     let after = parts_of g.C.Chains.lists g.C.Chains.place c.put_child.new.self in
     record {
       kept = put_kept d k c.args.row c.args.slot p it free c.args.child c.requires.new c.requires.few live2 c.make_places.ensures.same own vacant room
-          place place_own c.in_ok-own.ensures.other_places homes ready c.requires.sound.rooms.rooms homes_fit c.make_places.ensures.ready before before_is after c.put_child.ensures.puts;
+          place place_own c.in_ok-own.ensures.other_places homes ready c.requires.sound.rooms.rooms homes_fit c.make_places.ensures.ready c.make_places.ensures.few before before_is after c.put_child.ensures.puts;
       rooms = rooms_in after homes ready (vec_capacity c.put_child.new.self.homes) (deque_capacity c.put_child.new.self.ready) c.put_child.ensures.homes c.put_child.ensures.ready
           (put_rooms d k c.args.row c.args.slot p it free c.args.child c.requires.new c.requires.few live2 c.make_places.ensures.same own vacant room
-          place place_own c.in_ok-own.ensures.other_places homes ready c.requires.sound.rooms.rooms homes_fit c.make_places.ensures.ready before before_is after c.put_child.ensures.puts);
+          place place_own c.in_ok-own.ensures.other_places homes ready c.requires.sound.rooms.rooms homes_fit c.make_places.ensures.ready c.make_places.ensures.few before before_is after c.put_child.ensures.puts);
     }
 
 pub returns-clause-opens : goal.returns-clause-opens
@@ -132,7 +132,7 @@ returns-clause-opens g c =
     omega (arith, homes_left d k, c.in_ok-reserve.ensures.ok, c.make_places.ensures.homes, c.len.ensures, c.args.self.now.homes.ok.0, c.reserve.ensures.len) in
     let after = parts_of g.C.Chains.lists g.C.Chains.place c.put_child.new.self in
     let both = put_opens d k c.args.row c.args.slot p it free c.args.child c.requires.new c.requires.few live2 c.make_places.ensures.same own vacant room
-    place place_own c.in_ok-own.ensures.other_places homes ready c.requires.sound.rooms.rooms homes_fit c.make_places.ensures.ready before before_is after c.put_child.ensures.puts in
+    place place_own c.in_ok-own.ensures.other_places homes ready c.requires.sound.rooms.rooms homes_fit c.make_places.ensures.ready c.make_places.ensures.few before before_is after c.put_child.ensures.puts in
     (both.0, both.1, c.put_child.ensures.token.0 ∙ c.requires.new.number_is, c.put_child.ensures.token.1 ∙ c.requires.new.parent_is)
 
 pub returns-then-is_err-clause-sound : goal.returns-then-is_err-clause-sound
@@ -160,7 +160,7 @@ returns-then-is_err-clause-sound g c =
     record {
       kept = subst IsKept (sym same) (longer_kept d k live2 c.make_places.ensures.same);
       rooms = subst (λ (z : Parts). HasRooms z homes' ready') (sym same)
-          (longer_rooms d k live2 c.make_places.ensures.same homes ready c.requires.sound.rooms homes' ready' grown c.make_places.ensures.ready);
+          (longer_rooms d k live2 c.make_places.ensures.same homes ready c.requires.sound.rooms homes' ready' grown c.make_places.ensures.ready c.make_places.ensures.few);
     }
 
 pub returns-then-is_err-clause-opens : goal.returns-then-is_err-clause-opens

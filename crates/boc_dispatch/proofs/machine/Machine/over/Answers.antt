@@ -1,4 +1,4 @@
-use Rattle.std.proofs.Common.{◌≡◌, ◌≢◌, ◌∷◌, ◌++◌, [], ◌∙◌, ◌+◌, ◌<◌, ◌≤◌, ℕ, set, List, ap, refl, subst, sym, arith, length, replicate}
+use Rattle.std.proofs.Common.{◌≡◌, ◌≢◌, ◌∷◌, ◌++◌, [], ◌∙◌, ◌+◌, ◌^◌, ◌<◌, ◌≤◌, ℕ, set, List, ap, refl, subst, sym, arith, length, replicate}
 use Rattle.std.specs.Prelude.{Option, Some, None, vec_capacity}
 use Rattle.std.specs.VecDeque.{deque_capacity, deque_len}
 use Rattle.boc_types.specs.program.Programs.{cown_count, initial_values}
@@ -101,9 +101,10 @@ returns-clause-sound g c =
     let long : c.len-2.result ≡ c.reach.new.live.len = c.len-2.ensures in
     let one : 1 ≤ homes = omega arith in
     let wide : length table ≤ ready = omega (arith, c.reach.new.live.ok.0) in
+    let few : length table ≤ 2 ^ 32 = omega (arith, c.in_ok-reach.ensures.no_longer, ap length nothing) in
     record {
       kept = subst IsKept (sym is) (opened_keeps p place table slot l main free below here others);
-      rooms = subst (λ (x : Parts). HasRooms x homes ready) (sym is) (opened_rooms p place table slot l main free below here others homes ready one wide);
+      rooms = subst (λ (x : Parts). HasRooms x homes ready) (sym is) (opened_rooms p place table slot l main free below here others homes ready one wide few);
     }
 
 pub returns-clause-opening : goal.returns-clause-opening

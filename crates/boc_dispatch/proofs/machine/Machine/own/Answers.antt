@@ -61,6 +61,7 @@ returns-clause-sound g c =
         rooms = rooms.rooms;
         homes = omega (arith, rooms.homes, ap vec_capacity c.grant.ensures.rooms.0);
         ready = omega (arith, rooms.ready, c.grant.ensures.rooms.1);
+        few = rooms.few;
       };
     }
 

@@ -6,7 +6,7 @@ use Rattle.boc_dispatch.specs.declared.live.Live.{Live}
 use Rattle.boc_dispatch.specs.Inside.{parts_of, state, IsKept, HasRooms}
 use Rattle.boc_dispatch.specs.Places.{Has, exchanged}
 use Rattle.boc_dispatch.proofs.Fits.{steps_fit}
-use Rattle.boc_dispatch.proofs.Exchanged.{swap_there, swap_due, swap_steps, swap_keeps, swap_rooms}
+use Rattle.boc_dispatch.proofs.Exchanged.{swap_next, swap_there, swap_due, swap_steps, swap_keeps, swap_rooms}
 use Rattle.boc_dispatch.proofs.Going.{placed}
 use Rattle.boc_dispatch.proofs.Tables.{read_place, read_changed}
 use Rattle.boc_dispatch.proofs.machine.Machine.swap.Goals as goal
@@ -24,8 +24,9 @@ swap-requires-clause-there g c =
 pub ask-requires : goal.ask-requires
 ask-requires g c =
     let d = parts_of g.C.Chains.lists g.C.Chains.place c.args.self.now in
-    subst (λ (o : Option Live). Has o (λ x. Unit {0}))
-    (sym (read_place d.live c.args.slot c.requires.due.0 c.index_mut.result.now c.requires.due.1.is c.index_mut.ensures.value)) tt
+    subst (λ (o : Option Live). Has o (λ x. c.args.request < length x.cowns.items))
+    (sym (read_place d.live c.args.slot c.requires.due.0 c.index_mut.result.now c.requires.due.1.is c.index_mut.ensures.value))
+    (swap_next d c.requires.sound.kept c.args.slot c.requires.due.0 c.args.request c.requires.due.1)
 
 pub overflow_add-self : goal.overflow_add-self
 overflow_add-self g c =

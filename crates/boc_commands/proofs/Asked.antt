@@ -6,20 +6,22 @@ use Rattle.boc_text.specs.Streams.{ReadsWhole, StopsAt}
 use Rattle.boc_types.specs.declared.limits.TheConstants.{MOST_TEXT}
 use Rattle.boc_commands.specs.declared.fault.Fault.{Fault}
 use Rattle.boc_commands.specs.declared.fault.Fault.TheVariants as faults
-use Rattle.boc_commands.specs.Faults.{of_write}
-use Rattle.boc_record.specs.Writing.{Writes}
-use Rattle.boc_record.specs.declared.fault.WriteFault.{WriteFault}
-use Rattle.boc_record.specs.declared.fault.WriteFault.TheVariants as writes
+use Rattle.boc_commands.specs.Faults.{gone_of, of_write}
+use Rattle.boc_text.specs.Writing.{Writes}
+use Rattle.boc_text.specs.declared.fault.WriteFault.{WriteFault}
+use Rattle.boc_text.specs.declared.fault.WriteFault.TheVariants as writes
 use Rattle.std.specs.Prelude.{IfSome, Some, None}
 use Rattle.std.specs.Io.KnownBytes.{Consumes, IsAtEnd}
-use Rattle.boc_commands.specs.Commands.{AnswersInput, Leaves, IsOfEdits, RefusesEdits}
+use Rattle.boc_commands.specs.Commands.{AnswersInput, Leaves, LeavesAfter, IsOfEdits, RefusesEdits}
 use Rattle.boc_types.specs.declared.rows.Row.{Row}
 use Rattle.boc_types.specs.declared.edit.Edit.{Edit}
 use Rattle.boc_types.specs.declared.sharing.Sharing.{Sharing}
 use Rattle.boc_types.specs.runs.Seen.{seen}
-use Rattle.boc_types.specs.answers.Answers.{IsCheckAnswer, IsReport, IsProfileAnswer, IsWhatIfAnswer, IsSweepAnswer}
+use Rattle.boc_order.specs.declared.report.Profile.{Profile}
+use Rattle.boc_order.specs.Profiles.{IsProfileOf}
+use Rattle.boc_types.specs.answers.Answers.{IsAskedPart, IsCheckAnswer, IsReport, IsProfileAnswer, IsWhatIfAnswer, IsSweepAnswer}
 use Rattle.boc_types.specs.plans.Edits.{AllFit, IsFirstUnfit, IsSweep, all_edited}
-use Rattle.boc_types.specs.answers.Texts.{check_text, sweep_lines}
+use Rattle.boc_types.specs.answers.Texts.{check_text, report_text, sweep_lines}
 use Rattle.boc_types.specs.runs.Records.{Recorded}
 use Rattle.boc_types.specs.text.RecordTexts.{IsTextOf}
 
@@ -89,6 +91,23 @@ refused_edits faults.Memory edits rows r before h same spells = absurd h
 refused_edits faults.Source edits rows r before h same spells = absurd h
 refused_edits (faults.Sink gone) edits rows r before h same spells = absurd h
 
+-- the report on a profile and its greedy part
+pub is_report : (rows : List Row) (asked : Option ℕ) (profile : Profile) (part : List ℕ) → IsProfileOf rows profile → IsAskedPart rows asked part
+    → IsReport rows asked (report_text profile.work profile.span profile.chain.steps.items profile.starts.items profile.ends.items ++ part)
+is_report rows asked profile part is part_is = record {
+  starts = profile.starts.items;
+  earliest = is.earliest;
+  ends = profile.ends.items;
+  ends_are = is.ends;
+  span = profile.span;
+  span_is = is.span;
+  steps = profile.chain.steps.items;
+  picked = is.picked;
+  part = part;
+  part_is = part_is;
+  text = ap (λ work. report_text work profile.span profile.chain.steps.items profile.starts.items profile.ends.items ++ part) is.work;
+}
+
 -- the report on the rows of a record that was read
 pub reported : (sharing : Sharing) (asked : Option ℕ) (text : List ℕ) (r : Recorded) (rows : List Row) (made output : List ℕ) → IsTextOf text r → rows ≡ r.rows
     → IsReport (seen sharing rows) asked made → output ≡ made → IsProfileAnswer sharing asked text output
@@ -104,9 +123,20 @@ pub refuses_as : (result : Result (Unit {0}) Fault) (fault : Fault) (edits : Lis
 refuses_as (Ok done) fault edits before h refused = absurd h
 refuses_as (Err f) fault edits before h refused = subst (λ x. RefusesEdits {A = Unit {0}} edits (Err x) before) (sym h) refused
 
--- a record that could not be written leaves a beginning of it, or nothing
+-- a text that could not be written leaves a beginning of it, or nothing
 pub unwritten : (IsText : List ℕ → Type 0) (r : Result (Unit {0}) Fault) (fault : WriteFault) (text : List ℕ) (old new : Option (List ℕ))
     → IsErrAnd r (λ f. f ≡ of_write fault) → IsText text → Writes {A = Unit {0}} text (Err fault) old new → Leaves IsText r old new
 unwritten IsText (Ok done) fault text old new h is writes = absurd h
 unwritten IsText (Err f) writes.Memory text old new h is kept = subst (λ x. Leaves {A = Unit {0}} IsText (Err x) old new) (sym h) kept
 unwritten IsText (Err f) (writes.Device gone) text old new h is stops = subst (λ x. Leaves {A = Unit {0}} IsText (Err x) old new) (sym h) (text, is, stops)
+
+-- what goes out as one answer goes out as another that it is
+pub leaves_as : (IsText IsOther : List ℕ → Type 0) (r : Result (Unit {0}) Fault) (old new : Option (List ℕ)) → ((text : List ℕ) → IsText text
+    → IsOther text) → Leaves IsText r old new
+    → Leaves IsOther r old new
+leaves_as IsText IsOther (Ok done) old new other left = (left.0, other left.0 left.1, left.2)
+leaves_as IsText IsOther (Err fault) old new other left = after (gone_of fault) left
+  where
+    after : (gone : Option ℕ) → LeavesAfter IsText gone old new → LeavesAfter IsOther gone old new
+    after None kept = kept
+    after (Some gone) left = (left.0, other left.0 left.1, left.2)

@@ -5,7 +5,8 @@ use Rattle.boc_text.specs.Streams.{ReadsWhole}
 use Rattle.boc_types.specs.declared.limits.TheConstants.{MOST_TEXT}
 use Rattle.boc_commands.specs.declared.fault.Fault.{Fault}
 use Rattle.boc_commands.specs.declared.fault.Fault.TheVariants as faults
-use Rattle.boc_commands.specs.Commands.{IsOfRun, RefusesRun}
+use Rattle.boc_types.specs.declared.edit.Edit.{Edit}
+use Rattle.boc_commands.specs.Commands.{IsOfRun, RefusesNothing, RefusesRecord, RefusesEdits, RefusesRun}
 
 -- where a result is a fault, what holds of that fault holds of it
 pub passed_on : {A : Type 0} (Is : A → Type 0) (IsWrong : Fault → Type 0) (result : Result A Fault) (fault : Fault)
@@ -34,3 +35,53 @@ refused_run always_on (Err f) fault text before after h reads is =
     go (faults.Words e) is = absurd is
     go (faults.Record r) is = absurd is
     go (faults.Edit number unfit) is = absurd is
+
+-- want of memory or of a device refuses no record
+pub wants_record : (result : Result (Unit {0}) Fault) (before : Option (List ℕ)) → RefusesNothing result → RefusesRecord result before
+wants_record (Ok done) before h = tt
+wants_record (Err (faults.Words e)) before h = absurd h
+wants_record (Err (faults.Program x)) before h = absurd h
+wants_record (Err (faults.Record x)) before h = absurd h
+wants_record (Err (faults.Edit number unfit)) before h = absurd h
+wants_record (Err faults.Behaviours) before h = absurd h
+wants_record (Err faults.Held) before h = absurd h
+wants_record (Err faults.NoThread) before h = absurd h
+wants_record (Err faults.Stranger) before h = absurd h
+wants_record (Err faults.Unfinished) before h = absurd h
+wants_record (Err faults.Memory) before h = tt
+wants_record (Err faults.Source) before h = tt
+wants_record (Err (faults.Sink gone)) before h = tt
+
+-- nor edits of one
+pub wants_edits : (edits : List Edit) (result : Result (Unit {0}) Fault) (before : Option (List ℕ)) → RefusesNothing result
+    → RefusesEdits edits result before
+wants_edits edits (Ok done) before h = tt
+wants_edits edits (Err (faults.Words e)) before h = absurd h
+wants_edits edits (Err (faults.Program x)) before h = absurd h
+wants_edits edits (Err (faults.Record x)) before h = absurd h
+wants_edits edits (Err (faults.Edit number unfit)) before h = absurd h
+wants_edits edits (Err faults.Behaviours) before h = absurd h
+wants_edits edits (Err faults.Held) before h = absurd h
+wants_edits edits (Err faults.NoThread) before h = absurd h
+wants_edits edits (Err faults.Stranger) before h = absurd h
+wants_edits edits (Err faults.Unfinished) before h = absurd h
+wants_edits edits (Err faults.Memory) before h = tt
+wants_edits edits (Err faults.Source) before h = tt
+wants_edits edits (Err (faults.Sink gone)) before h = tt
+
+-- nor a run
+pub wants_run : (always_on : Type 0) (result : Result (Unit {0}) Fault) (before after : Option (List ℕ)) → RefusesNothing result
+    → RefusesRun always_on result before after
+wants_run always_on (Ok done) before after h = tt
+wants_run always_on (Err (faults.Words e)) before after h = absurd h
+wants_run always_on (Err (faults.Program x)) before after h = absurd h
+wants_run always_on (Err (faults.Record x)) before after h = absurd h
+wants_run always_on (Err (faults.Edit number unfit)) before after h = absurd h
+wants_run always_on (Err faults.Behaviours) before after h = absurd h
+wants_run always_on (Err faults.Held) before after h = absurd h
+wants_run always_on (Err faults.NoThread) before after h = absurd h
+wants_run always_on (Err faults.Stranger) before after h = absurd h
+wants_run always_on (Err faults.Unfinished) before after h = absurd h
+wants_run always_on (Err faults.Memory) before after h = tt
+wants_run always_on (Err faults.Source) before after h = tt
+wants_run always_on (Err (faults.Sink gone)) before after h = tt

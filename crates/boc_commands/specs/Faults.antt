@@ -9,8 +9,8 @@ use Rattle.boc_text.specs.declared.whole.TextFault.TheVariants as texts
 use Rattle.boc_eval.specs.declared.serial.SerialFault.{SerialFault}
 use Rattle.boc_eval.specs.declared.serial.SerialFault.TheVariants as serial
 use Rattle.boc_record.specs.declared.fault.RecordFault.{RecordFault}
-use Rattle.boc_record.specs.declared.fault.WriteFault.{WriteFault}
-use Rattle.boc_record.specs.declared.fault.WriteFault.TheVariants as writes
+use Rattle.boc_text.specs.declared.fault.WriteFault.{WriteFault}
+use Rattle.boc_text.specs.declared.fault.WriteFault.TheVariants as writes
 use Rattle.boc_words.specs.declared.fault.WordsFault.{WordsFault}
 use Rattle.boc_words.specs.declared.fault.WordsFault.TheVariants as asked
 use Rattle.boc_workers.specs.declared.fault.RunFault.{RunFault}
@@ -104,7 +104,7 @@ of_run runs.NoThread = faults.NoThread
 of_run runs.Stranger = faults.Stranger
 of_run runs.Unfinished = faults.Unfinished
 
--- the fault of a record that could not be written
+-- the fault of a text that could not be written
 abbrev pub of_write : WriteFault → Fault
 of_write writes.Memory = faults.Memory
 of_write (writes.Device gone) = faults.Sink gone

@@ -7,7 +7,7 @@ ghost use Rattle.boc_commands.specs.Commands.{AnswersInput, Leaves, CountsSource
 use crate::fault::Fault;
 use crate::report::report_on;
 use boc_record::read_rows;
-use boc_text::{Sink, Source, put_out};
+use boc_text::{Sink, Source};
 use boc_types::sharing::Sharing;
 use boc_types::workers::Workers;
 use std::alloc::Global;
@@ -33,7 +33,5 @@ pub fn profile_cmd<S: Source, W: Sink>(
     ensures sink { CountsSink result (W.failures sink.old) (W.failures sink.new) }
 {
     let rows = read_rows(alloc, source)?;
-    let answer = report_on(alloc, workers, &rows, sharing)?;
-    put_out(sink, &answer)?;
-    Ok(())
+    report_on(alloc, workers, &rows, sharing, sink)
 }

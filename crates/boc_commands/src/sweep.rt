@@ -6,8 +6,8 @@ ghost use Rattle.boc_commands.specs.Commands.{AnswersInput, Leaves, CountsSource
 
 use crate::fault::Fault;
 use boc_record::read_rows;
-use boc_report::sweep_text;
-use boc_text::{Sink, Source, put_out};
+use boc_report::write_sweep;
+use boc_text::{Sink, Source};
 use boc_types::sharing::Sharing;
 use boc_whatif::WhatIf;
 use std::alloc::Global;
@@ -33,7 +33,6 @@ pub fn sweep_cmd<S: Source, W: Sink>(
     let rows = read_rows(alloc, source)?;
     let question = WhatIf::of(alloc, rows, sharing)?;
     let spans = question.sweep(alloc)?;
-    let answer = sweep_text(alloc, &spans)?;
-    put_out(sink, &answer)?;
+    write_sweep(alloc, &spans, sink)?;
     Ok(())
 }

@@ -1,8 +1,7 @@
 // The command `time`.
 
-ghost use Rattle.std.specs.Prelude.{◌≡◌, ◌<◌, ◌≤◌, length, IfOk, MatchResult};
-ghost use Rattle.boc_types.specs.declared.limits.TheConstants.{MOST_TEXT};
-ghost use Rattle.boc_commands.specs.Commands.{AnswersInput, Leaves, CountsSource, CountsSink, IsOfRun, RefusesRun};
+ghost use Rattle.std.specs.Prelude.{◌≡◌, ◌<◌, ℕ};
+ghost use Rattle.boc_commands.specs.Commands.{AnswersInput, Leaves, CountsSource, CountsSink, RefusesNothing, RefusesRun};
 ghost use Rattle.boc_types.specs.runs.Seen.{seen};
 ghost use Rattle.boc_commands.specs.Promises.{IsTimeAnswer, IsTrueReport};
 
@@ -10,13 +9,13 @@ use crate::fault::Fault;
 use crate::report::report_on;
 use crate::run::run_text;
 use crate::values::MOST_TAKEN;
-use boc_text::{Sink, Source, put_out, read_all};
+use boc_text::{Sink, Source, read_all};
 use boc_types::rows::Rows;
 use boc_types::sharing::Sharing;
 use boc_types::workers::Workers;
 use boc_words::Runners;
 use boc_workers::Gate;
-use std::alloc::{AllocError, Global};
+use std::alloc::Global;
 use std::sync::Wait;
 use std::thread::Threads;
 
@@ -47,38 +46,24 @@ pub fn time_cmd<R: Threads + Wait + Sync, G: Gate, S: Source, W: Sink>(
     ensures sink { CountsSink result (W.failures sink.old) (W.failures sink.new) }
 {
     let text = read_all(alloc, source, MOST_TAKEN)?;
-    let answer = time_answer(rt, alloc, &text, runners, workers, sharing, gate)?;
-    put_out(sink, &answer)?;
-    Ok(())
+    let answer = run_text(rt, alloc, &text, runners, gate)?;
+    true_report(alloc, workers, answer.record.rows(), sharing, sink)
 }
 
-// The report on the rows of a run of the program that a text spells.
-fn time_answer<R: Threads + Wait + Sync, G: Gate>(
-    rt: &R,
-    alloc: Global,
-    text: &[u8],
-    runners: Runners,
-    workers: Option<Workers>,
-    sharing: Sharing,
-    gate: &G,
-) -> Result<Vec<u8>, Fault>
-    ensures { MatchResult result
-        (λ answer. IsTimeAnswer sharing workers text.now answer.items × (length text.now ≤ MOST_TEXT))
-        (IsOfRun G.always_on text.now) }
-{
-    let answer = run_text(rt, alloc, text, runners, gate)?;
-    Ok(true_report(alloc, workers, answer.record.rows(), sharing)?)
-}
-
-// The report on some rows, with what its plans promise.
-fn true_report(
+// Writes the report on some rows, with what its plans promise.
+fn true_report<W: Sink>(
     alloc: Global,
     workers: Option<Workers>,
     rows: &Rows,
     sharing: Sharing,
-) -> Result<Vec<u8>, AllocError>
-    ensures { IfOk result (λ text. IsTrueReport (seen sharing rows.now) workers text.items) }
+    sink: &mut W,
+) -> Result<(), Fault>
+    requires { W.failures sink.old < u64.MAX }
+    ensures written { Leaves (IsTrueReport (seen sharing rows.now) workers) result (W.written sink.old) (W.written sink.new) }
+    ensures refused { RefusesNothing result }
+    ensures source { (count : ℕ) → CountsSource result count count }
+    ensures sink { CountsSink result (W.failures sink.old) (W.failures sink.new) }
 {
     let _shape = rows.as_slice();
-    report_on(alloc, workers, rows, sharing)
+    report_on(alloc, workers, rows, sharing, sink)
 }

@@ -8,7 +8,7 @@ ghost use Rattle.boc_commands.specs.Commands.{AnswersInput, Leaves, CountsSource
 use crate::fault::Fault;
 use crate::report::report_after;
 use boc_record::read_rows;
-use boc_text::{Sink, Source, put_out};
+use boc_text::{Sink, Source};
 use boc_types::edit::Edit;
 use boc_types::sharing::Sharing;
 use boc_types::workers::Workers;
@@ -39,9 +39,7 @@ pub fn whatif_cmd<S: Source, W: Sink>(
     let rows = read_rows(alloc, source)?;
     let mut question = WhatIf::of(alloc, rows, sharing)?;
     edit_all(&mut question, edits)?;
-    let answer = report_after(alloc, workers, &question)?;
-    put_out(sink, &answer)?;
-    Ok(())
+    report_after(alloc, workers, &question, sink)
 }
 
 // Makes all edits, one after the other, up to the first that the rows can't take.

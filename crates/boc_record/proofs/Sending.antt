@@ -1,33 +1,24 @@
--- A text that goes out while it is formed.
-use Rattle.std.proofs.Common.{ℕ, ◌≤◌, ◌-◌, List, [], ◌∷◌, ◌++◌, Option, take, drop, length, length-append, length-drop, append_assoc, take-append-drop, refl, sym, ap, subst, ◌∙◌, arith}
-use Rattle.std.specs.Prelude.{◌≡◌, Some, None, Result, Ok, Err, MatchResult}
-use Rattle.std.specs.Result.{IsErrAnd}
-use Rattle.std.specs.Io.KnownBytes.{Appends}
-use Rattle.std.proofs.lemmas.List.{append-nil, take-append-le, take_all}
+-- The text of a record that goes out while it is formed.
+use Rattle.std.proofs.Common.{ℕ, ◌≤◌, ◌-◌, List, [], ◌∷◌, ◌++◌, Option, take, drop, length, length-drop, append_assoc, take-append-drop, refl, sym, ap, subst, ◌∙◌, arith}
+use Rattle.std.specs.Prelude.{◌≡◌}
+use Rattle.std.proofs.lemmas.List.{take_all}
 use Rattle.boc_types.specs.declared.event.Event.{Event}
 use Rattle.boc_types.specs.runs.Records.{Recorded, IsRecord}
 use Rattle.boc_types.specs.text.RecordTexts.{Version, Second, line, header, event_line, event_lines}
 use Rattle.boc_rules.proofs.Events.{counted}
 use Rattle.boc_rules.proofs.Next.{well_log}
-use Rattle.boc_text.specs.declared.whole.Stopped.{Stopped}
+use Rattle.boc_text.specs.declared.outgoing.Outgoing.{Outgoing}
 use Rattle.boc_text.specs.Streams.{StopsAt}
-use Rattle.boc_record.specs.declared.outgoing.Outgoing.{Outgoing}
+use Rattle.boc_text.specs.Outgoing.{IsOut}
+use Rattle.boc_text.proofs.Sending.{stops_before}
 use Rattle.boc_record.specs.declared.text.TheConstants.{MOST_EVENTS}
-use Rattle.boc_record.specs.Outgoing.{IsOut}
 
 lines_append : (v : Version) (first more : List Event) → event_lines v (first ++ more) ≡ event_lines v first ++ event_lines v more
 lines_append v [] more = refl
 lines_append v (event ∷ first) more =
     ap (λ xs. line (event_line v event) ++ xs) (lines_append v first more) ∙ sym (append_assoc (line (event_line v event)) (event_lines v first) (event_lines v more))
 
--- a text that stopped has stopped as well where more was to come
-pub stops_before : (gone : ℕ) (text more : List ℕ) (old new : Option (List ℕ)) → StopsAt gone text old new → StopsAt gone (text ++ more) old new
-stops_before gone text more old new s = record {
-  short = omega (arith, s.short, length-append text more);
-  out = subst (Appends old new) (sym (take-append-le gone text more (omega (arith, s.short)))) s.out;
-}
-
--- and so has one of which the first lines had come
+-- a text of which the first lines had come when it stopped has stopped as well where all were to come
 pub stops_within : (v : Version) (gone : ℕ) (before : List ℕ) (events : List Event) (i : ℕ) (old new : Option (List ℕ)) → StopsAt gone (before ++ event_lines v (take i events)) old new
     → StopsAt gone (before ++ event_lines v events) old new
 stops_within v gone before events i old new s =
@@ -35,19 +26,6 @@ stops_within v gone before events i old new s =
     (append_assoc before (event_lines v (take i events)) (event_lines v (drop i events))
     ∙ ap (λ (xs : List ℕ). before ++ xs) (sym (lines_append v (take i events) (drop i events)) ∙ ap (event_lines v) (take-append-drop i events)))
     (stops_before gone (before ++ event_lines v (take i events)) (event_lines v (drop i events)) old new s)
-
--- where a call has stopped, what holds of how it stopped holds of its answer
-pub stopped_so : {A : Type 0} (Is : A → Type 0) (IsWrong : Stopped → Type 0) (result : Result A Stopped) (stopped : Stopped) → IsErrAnd result (λ s. s ≡ stopped) → IsWrong stopped → MatchResult result Is IsWrong
-stopped_so Is IsWrong (Ok done) stopped h wrong = absurd h
-stopped_so Is IsWrong (Err s) stopped h wrong = subst IsWrong (sym h) wrong
-
--- of no text nothing went out
-pub none_out : (now : Option (List ℕ)) (o : Outgoing) → o.part.items ≡ [] → o.gone ≡ 0 → IsOut now now [] o
-none_out now o part gone = record { sent = []; split = sym part; out = nothing now; gone = gone }
-  where
-    nothing : (now : Option (List ℕ)) → Appends now now []
-    nothing None = tt
-    nothing (Some bytes) = sym (append-nil bytes)
 
 -- a record has three events for each row at most
 pub few_events : (r : Recorded) → IsRecord r → length r.events ≤ MOST_EVENTS

@@ -2,8 +2,6 @@ pub mod Versions
 pub mod Faults
 pub mod Ahead
 pub mod Fields
-pub mod Writing
 pub mod Sinks
 pub mod Reading
 pub mod Laws
-pub mod Outgoing

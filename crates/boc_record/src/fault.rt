@@ -1,14 +1,12 @@
-// Why a record was not read or written.
+// Why a record was not read.
 
 ghost use Rattle.std.specs.Prelude.{◌≡◌};
 ghost use Rattle.boc_record.specs.Faults.{kind_line};
 ghost use Rattle.boc_record.specs.Reading.{kind_of_fault};
 
 use boc_rules::RuleFault;
-use boc_text::Stopped;
 use boc_types::event::BrokenRule;
 use boc_types::verdict::RecordFaultKind;
-use std::alloc::{AllocError, AllocFailed};
 use thiserror::Error;
 
 /// Why a text was refused as a record: its first faulty line, counted from 1, and what is wrong with it.
@@ -47,47 +45,6 @@ impl RecordFault {
         ensures { result.now ≡ kind_line self.now.kind }
     {
         kind_text(self.kind)
-    }
-}
-
-/// Why a record was not written.
-#[derive(Clone, Copy, PartialEq, Eq, Debug, Error)]
-pub enum WriteFault {
-    /// Memory was refused, and nothing went out.
-    #[error("memory")]
-    Memory,
-    /// The sink failed, after the first `gone` bytes of the text.
-    #[error("device")]
-    Device { gone: usize },
-}
-
-impl From<AllocError> for WriteFault {
-    ghost use Rattle.boc_record.specs.declared.fault.WriteFault.TheVariants.{Memory};
-
-    ghost from_gives = { λ _ f. f ≡ Memory };
-
-    fn from(_error: AllocError) -> WriteFault {
-        WriteFault::Memory
-    }
-}
-
-impl<T: Drop> From<AllocFailed<T>> for WriteFault {
-    ghost use Rattle.boc_record.specs.declared.fault.WriteFault.TheVariants.{Memory};
-
-    ghost from_gives = { λ _ f. f ≡ Memory };
-
-    fn from(_error: AllocFailed<T>) -> WriteFault {
-        WriteFault::Memory
-    }
-}
-
-impl From<Stopped> for WriteFault {
-    ghost use Rattle.boc_record.specs.declared.fault.WriteFault.TheVariants.{Device};
-
-    ghost from_gives = { λ s f. f ≡ Device s.gone };
-
-    fn from(stopped: Stopped) -> WriteFault {
-        WriteFault::Device { gone: stopped.gone }
     }
 }
 

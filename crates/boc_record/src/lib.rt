@@ -13,13 +13,13 @@ mod fault;
 mod fields;
 mod laws;
 mod line;
-mod outgoing;
 mod read;
 mod sink;
 mod text;
 mod version;
 
-pub use fault::{RecordFault, WriteFault};
+pub use boc_text::WriteFault;
+pub use fault::RecordFault;
 pub use laws::{record_has_one_text, text_is_of_one_record};
 pub use read::{read_record, read_rows};
 pub use text::{put_events, write_record};

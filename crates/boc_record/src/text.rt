@@ -4,13 +4,11 @@ ghost use Rattle.std.specs.Prelude.{◌≡◌, ◌<◌, ◌≤◌, ◌+◌, ◌*
 ghost use Rattle.boc_types.specs.text.RecordTexts.{Second, field, fields, line, header, event_line, event_lines, record_text, status_number};
 ghost use Rattle.std.specs.Io.KnownBytes.{Appends};
 ghost use Rattle.boc_text.specs.Streams.{StopsAt};
-ghost use Rattle.boc_record.specs.Outgoing.{IsOut, size};
-ghost use Rattle.boc_record.specs.Writing.{Writes, CountsWrite};
+ghost use Rattle.boc_text.specs.Outgoing.{IsOut, IsUnused, size};
+ghost use Rattle.boc_text.specs.Writing.{Writes, CountsWrite};
 ghost use Rattle.boc_record.specs.declared.text.TheConstants.{MOST_BYTES, MOST_EVENTS, MOST_FIELD};
 
-use crate::fault::WriteFault;
-use crate::outgoing::Outgoing;
-use boc_text::{MOST_DIGITS, Sink, Stopped, write_before};
+use boc_text::{MOST_DIGITS, Outgoing, Sink, Stopped, WriteFault, write_before};
 use boc_types::body::EndStatus;
 use boc_types::event::Event;
 use boc_types::events::Events;
@@ -45,8 +43,8 @@ pub fn write_record<W: Sink>(alloc: Global, record: &Record, sink: &mut W) -> Re
 
 // Sends the text of a record, of which nothing was formed yet.
 fn send_record<W: Sink>(text: &mut Outgoing, record: &Record, sink: &mut W) -> Result<(), Stopped>
-    requires part { text.old.part.items ≡ [] }
-    requires gone { text.old.gone ≡ 0 }
+    requires unused { IsUnused text.old }
+    requires size { size text.old ≡ 0 }
     requires failures { W.failures sink.old < u64.MAX }
     ensures sent { MatchResult result
         (λ _. Appends (W.written sink.old) (W.written sink.new) (record_text Second «record».now.cowns «record».now.events))

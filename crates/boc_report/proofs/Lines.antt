@@ -1,9 +1,39 @@
 -- Texts that grow by a line.
-use Rattle.std.proofs.Common.{zero, suc, get_or, length, take, append_assoc, ◌≡◌, ℕ, ◌+◌, ◌<◌, ◌∷◌, List, [], ◌++◌, sym, ap, ◌∙◌, arith}
-use Rattle.std.proofs.lemmas.List.{append-nil}
+use Rattle.std.proofs.Common.{zero, suc, codes, decimal, get_or, length, drop, take, append_assoc, ◌≡◌, ℕ, ◌+◌, ◌<◌, ◌≤◌, ◌∷◌, List, [], ◌++◌, sym, ap, ◌∙◌, arith}
+use Rattle.std.proofs.lemmas.List.{append-nil, drop_all, take_all}
 use Rattle.std.proofs.Math.Seq.{take-suc}
 use Rattle.boc_types.specs.declared.chain.ChainStep.{ChainStep}
-use Rattle.boc_types.specs.answers.Texts.{step_line, step_lines, plan_line, plan_lines, served_line, served_lines, sweep_line, sweep_lines}
+use Rattle.boc_types.specs.declared.chain.Via.TheVariants.{Last}
+use Rattle.boc_text.proofs.Sending.{GrowsBy}
+use Rattle.boc_types.specs.answers.Texts.{bound_line, number_line, plan_line, plan_lines, report_head, served_line, served_lines, step_line, step_lines, sweep_line, sweep_lines, via_word}
+
+-- nothing stands behind a room
+pub behind : (n : ℕ) (room : List ℕ) → length room ≡ n → drop n room ≡ []
+behind n room same = drop_all n room (omega (arith, same))
+
+-- lines as they are formed, from their end on
+pub sweep_formed : (row span : ℕ) → decimal row ++ 32 ∷ (decimal span ++ 10 ∷ []) ≡ sweep_line row span
+sweep_formed row span = simp append_assoc
+
+pub plan_formed : (row start end : ℕ) → decimal row ++ 32 ∷ (decimal start ++ 32 ∷ (decimal end ++ 10 ∷ [])) ≡ plan_line row start end
+plan_formed row start end = simp append_assoc
+
+pub served_formed : (row start end worker : ℕ)
+    → decimal row ++ 32 ∷ (decimal start ++ 32 ∷ (decimal end ++ 32 ∷ (decimal worker ++ 10 ∷ []))) ≡ served_line row start end worker
+served_formed row start end worker = simp append_assoc
+
+pub step_formed : (step : ChainStep) → decimal step.row ++ (via_word step.via ++ (decimal step.weight ++ 10 ∷ [])) ≡ step_line step
+step_formed step = simp append_assoc
+
+pub bound_formed : (end bound : ℕ) → codes "end " ++ (decimal end ++ 32 ∷ (codes "bound " ++ (decimal bound ++ 10 ∷ []))) ≡ bound_line end bound
+bound_formed end bound = simp append_assoc
+
+pub head_formed : (rows work span : ℕ) → number_line (codes "rows ") rows ++ (number_line (codes "work ") work ++ (number_line
+    (codes "span ") span ++ codes "chain\n"))
+    ≡ report_head rows work span ++ codes "chain\n"
+head_formed rows work span = sym (append_assoc (number_line (codes "rows ") rows ++ number_line (codes "work ") work) (number_line
+    (codes "span ") span) (codes "chain\n")
+    ∙ append_assoc (number_line (codes "rows ") rows) (number_line (codes "work ") work) (number_line (codes "span ") span ++ codes "chain\n"))
 
 add_one : (i : ℕ) → i + 1 ≡ suc i
 add_one i = omega arith
@@ -16,12 +46,24 @@ steps_more : (steps : List ChainStep) (step : ChainStep) → step_lines (steps +
 steps_more [] step = append-nil (step_line step)
 steps_more (first ∷ steps) step = ap (λ xs. step_line first ++ xs) (steps_more steps step) ∙ sym (append_assoc (step_line first) (step_lines steps) (step_line step))
 
--- the line of one step more
-pub put_step_more : (before text after : List ℕ) (steps : List ChainStep) (i : ℕ) (d : ChainStep) → i < length steps → text ≡ before ++ step_lines (take i steps)
-    → after ≡ text ++ step_line (get_or steps i d) → after ≡ before ++ step_lines (take (i + 1) steps)
-put_step_more before text after steps i d h e put =
-    put ∙ ap (λ xs. xs ++ step_line (get_or steps i d)) e ∙ append_assoc before (step_lines (take i steps)) (step_line (get_or steps i d))
-    ∙ ap (λ xs. before ++ xs) (sym (steps_more (take i steps) (get_or steps i d)) ∙ ap step_lines (sym (take-suc steps i d h) ∙ ap (λ n. take n steps) (sym (add_one i))))
+-- the lines of the first steps
+abbrev pub steps_to : List ChainStep → ℕ → List ℕ
+steps_to steps i = step_lines (take i steps)
+
+-- the line of a step
+abbrev pub step_at : List ChainStep → ChainStep → ℕ → List ℕ
+step_at steps none i = step_line (get_or steps i none)
+
+-- a step, of which nothing is said
+abbrev pub no_step : ChainStep
+no_step = record { row = 0; weight = 0; via = Last }
+
+pub steps_grow : (steps : List ChainStep) (none : ChainStep) → GrowsBy (steps_to steps) (step_at steps none) (length steps)
+steps_grow steps none i h =
+    ap step_lines (ap (λ n. take n steps) (add_one i) ∙ take-suc steps i none h) ∙ steps_more (take i steps) (get_or steps i none)
+
+pub steps_all : (steps : List ChainStep) (i : ℕ) → length steps ≤ i → steps_to steps i ≡ step_lines steps
+steps_all steps i end = ap step_lines (take_all i steps end)
 
 -- the lines of the first rows of a plan, and that of the next one
 rows_more : (r i : ℕ) (starts ends : List ℕ) → i < length starts → length starts ≡ length ends
@@ -35,15 +77,22 @@ rows_more r (suc i) (start ∷ starts) (end ∷ ends) h e =
     ∙ ap (λ n. plan_lines (suc r) (take i starts) (take i ends) ++ plan_line n (get_or starts i 0) (get_or ends i 0)) (omega arith))
     ∙ sym (append_assoc (plan_line r start end) (plan_lines (suc r) (take i starts) (take i ends)) (plan_line (r + suc i) (get_or starts i 0) (get_or ends i 0)))
 
--- the line of one row more
-pub put_row_more : (before text after : List ℕ) (starts ends : List ℕ) (i : ℕ) → i < length starts → length starts ≡ length ends
-    → text ≡ before ++ plan_lines 0 (take i starts) (take i ends) → after ≡ text ++ plan_line i (get_or starts i 0) (get_or ends i 0)
-    → after ≡ before ++ plan_lines 0 (take (i + 1) starts) (take (i + 1) ends)
-put_row_more before text after starts ends i h same e put =
-    put ∙ ap (λ xs. xs ++ plan_line i (get_or starts i 0) (get_or ends i 0)) e
-    ∙ append_assoc before (plan_lines 0 (take i starts) (take i ends)) (plan_line i (get_or starts i 0) (get_or ends i 0))
-    ∙ ap (λ xs. before ++ xs) (ap (λ n. plan_lines 0 (take i starts) (take i ends) ++ plan_line n (get_or starts i 0) (get_or ends i 0)) (zero_more i)
-    ∙ sym (rows_more 0 i starts ends h same) ∙ ap (λ n. plan_lines 0 (take n starts) (take n ends)) (sym (add_one i)))
+-- the lines of the first rows
+abbrev pub plan_to : List ℕ → List ℕ → ℕ → List ℕ
+plan_to starts ends i = plan_lines 0 (take i starts) (take i ends)
+
+-- the line of a row
+abbrev pub plan_at : List ℕ → List ℕ → ℕ → List ℕ
+plan_at starts ends i = plan_line i (get_or starts i 0) (get_or ends i 0)
+
+pub plan_grows : (starts ends : List ℕ) → length starts ≡ length ends → GrowsBy (plan_to starts ends) (plan_at starts ends) (length starts)
+plan_grows starts ends same i h =
+    ap (plan_to starts ends) (add_one i) ∙ rows_more 0 i starts ends h same
+    ∙ ap (λ n. plan_to starts ends i ++ plan_line n (get_or starts i 0) (get_or ends i 0)) (sym (zero_more i))
+
+pub plan_all : (starts ends : List ℕ) (i : ℕ) → length starts ≡ length ends → length starts ≤ i → plan_to starts ends i ≡ plan_lines 0 starts ends
+plan_all starts ends i same end = ap (λ xs. plan_lines 0 xs (take i ends)) (take_all i starts end)
+    ∙ ap (plan_lines 0 starts) (take_all i ends (omega (arith, same, end)))
 
 -- the lines of the first rows of a greedy plan, and that of the next one
 served_more : (r i : ℕ) (starts ends workers : List ℕ) → i < length starts → length starts ≡ length ends → length starts ≡ length workers
@@ -60,19 +109,26 @@ served_more r (suc i) (start ∷ starts) (end ∷ ends) (worker ∷ workers) h e
     ∙ sym (append_assoc (served_line r start end worker) (served_lines (suc r) (take i starts) (take i ends) (take i workers))
     (served_line (r + suc i) (get_or starts i 0) (get_or ends i 0) (get_or workers i 0)))
 
--- the line of one row more of a greedy plan
-pub put_served_more : (before text after : List ℕ) (starts ends workers : List ℕ) (i : ℕ) → i < length starts
-    → length starts ≡ length ends → length starts ≡ length workers
-    → text ≡ before ++ served_lines 0 (take i starts) (take i ends) (take i workers)
-    → after ≡ text ++ served_line i (get_or starts i 0) (get_or ends i 0) (get_or workers i 0)
-    → after ≡ before ++ served_lines 0 (take (i + 1) starts) (take (i + 1) ends) (take (i + 1) workers)
-put_served_more before text after starts ends workers i h ends_too workers_too e put =
-    put ∙ ap (λ xs. xs ++ served_line i (get_or starts i 0) (get_or ends i 0) (get_or workers i 0)) e
-    ∙ append_assoc before (served_lines 0 (take i starts) (take i ends) (take i workers)) (served_line i (get_or starts i 0) (get_or ends i 0) (get_or workers i 0))
-    ∙ ap (λ xs. before ++ xs) (ap (λ n. served_lines 0 (take i starts) (take i ends) (take i workers)
-    ++ served_line n (get_or starts i 0) (get_or ends i 0) (get_or workers i 0)) (zero_more i)
-    ∙ sym (served_more 0 i starts ends workers h ends_too workers_too)
-    ∙ ap (λ n. served_lines 0 (take n starts) (take n ends) (take n workers)) (sym (add_one i)))
+-- the lines of the first rows of a greedy plan
+abbrev pub served_to : List ℕ → List ℕ → List ℕ → ℕ → List ℕ
+served_to starts ends workers i = served_lines 0 (take i starts) (take i ends) (take i workers)
+
+-- the line of a row of a greedy plan
+abbrev pub served_at : List ℕ → List ℕ → List ℕ → ℕ → List ℕ
+served_at starts ends workers i = served_line i (get_or starts i 0) (get_or ends i 0) (get_or workers i 0)
+
+pub served_grow : (starts ends workers : List ℕ) → length starts ≡ length ends → length starts ≡ length workers
+    → GrowsBy (served_to starts ends workers) (served_at starts ends workers) (length starts)
+served_grow starts ends workers ends_too workers_too i h =
+    ap (served_to starts ends workers) (add_one i) ∙ served_more 0 i starts ends workers h ends_too workers_too
+    ∙ ap (λ n. served_to starts ends workers i ++ served_line n (get_or starts i 0) (get_or ends i 0) (get_or workers i 0)) (sym (zero_more i))
+
+pub served_all : (starts ends workers : List ℕ) (i : ℕ) → length starts ≡ length ends → length starts ≡ length workers → length starts ≤ i
+    → served_to starts ends workers i ≡ served_lines 0 starts ends workers
+served_all starts ends workers i ends_too workers_too end =
+    ap (λ xs. served_lines 0 xs (take i ends) (take i workers)) (take_all i starts end)
+    ∙ ap (λ xs. served_lines 0 starts xs (take i workers)) (take_all i ends (omega (arith, ends_too, end)))
+    ∙ ap (served_lines 0 starts ends) (take_all i workers (omega (arith, workers_too, end)))
 
 -- the lines of the first rows of a sweep, and that of the next one
 swept_more : (r i : ℕ) (spans : List ℕ) → i < length spans
@@ -84,11 +140,17 @@ swept_more r (suc i) (span ∷ spans) h =
     ∙ ap (λ n. sweep_lines (suc r) (take i spans) ++ sweep_line n (get_or spans i 0)) (omega arith))
     ∙ sym (append_assoc (sweep_line r span) (sweep_lines (suc r) (take i spans)) (sweep_line (r + suc i) (get_or spans i 0)))
 
--- the line of one row more of a sweep
-pub put_swept_more : (before text after : List ℕ) (spans : List ℕ) (i : ℕ) → i < length spans
-    → text ≡ before ++ sweep_lines 0 (take i spans) → after ≡ text ++ sweep_line i (get_or spans i 0)
-    → after ≡ before ++ sweep_lines 0 (take (i + 1) spans)
-put_swept_more before text after spans i h e put =
-    put ∙ ap (λ xs. xs ++ sweep_line i (get_or spans i 0)) e ∙ append_assoc before (sweep_lines 0 (take i spans)) (sweep_line i (get_or spans i 0))
-    ∙ ap (λ xs. before ++ xs) (ap (λ n. sweep_lines 0 (take i spans) ++ sweep_line n (get_or spans i 0)) (zero_more i)
-    ∙ sym (swept_more 0 i spans h) ∙ ap (λ n. sweep_lines 0 (take n spans)) (sym (add_one i)))
+-- the lines of the first rows of a sweep
+abbrev pub swept_to : List ℕ → ℕ → List ℕ
+swept_to spans i = sweep_lines 0 (take i spans)
+
+-- the line of a row of a sweep
+abbrev pub swept_at : List ℕ → ℕ → List ℕ
+swept_at spans i = sweep_line i (get_or spans i 0)
+
+pub sweep_grows : (spans : List ℕ) → GrowsBy (swept_to spans) (swept_at spans) (length spans)
+sweep_grows spans i h =
+    ap (swept_to spans) (add_one i) ∙ swept_more 0 i spans h ∙ ap (λ n. swept_to spans i ++ sweep_line n (get_or spans i 0)) (sym (zero_more i))
+
+pub sweep_all : (spans : List ℕ) (i : ℕ) → length spans ≤ i → swept_to spans i ≡ sweep_lines 0 spans
+sweep_all spans i end = ap (sweep_lines 0) (take_all i spans end)

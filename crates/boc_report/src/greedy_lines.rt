@@ -1,79 +1,99 @@
 // The greedy part of a report.
 
-ghost use Rattle.std.specs.Prelude.{◌≡◌, ◌++◌, Some, length, OnOk};
-ghost use Rattle.boc_types.specs.answers.Texts.{bound_line, served_line, served_lines};
+ghost use Rattle.std.specs.Prelude.{◌≡◌, ◌++◌, ◌+◌, ◌*◌, ◌<◌, ◌≤◌, ◌^◌, Some, codes, drop, length, OnOk};
+ghost use Rattle.boc_types.specs.answers.Texts.{bound_line, number_line, served_line, served_lines};
+ghost use Rattle.boc_text.specs.Outgoing.{Puts, size};
+ghost use Rattle.boc_text.specs.Streams.{CountsFailure};
 ghost use Rattle.boc_report.specs.Parts.{IsWhole, part_of};
+ghost use Rattle.boc_report.specs.declared.number_line.TheConstants.{MOST_LINES, MOST_PART};
+ghost use Rattle.boc_report.specs.declared.greedy_lines.TheConstants.{MOST_FRAME, MOST_SERVED};
 
-use crate::number_line::{MOST_FIELD, put_line};
+use crate::number_line::{MOST_FIELD, number_before, word_before};
 use boc_greedy::Greedy;
-use boc_text::{put_number, write_before};
-use std::alloc::AllocError;
+use boc_text::{Outgoing, Sink, Stopped, write_before};
 
-/// The most bytes of the first line and the last one.
-const MOST_FRAME: usize = 50;
+/// The most bytes of the first line and of the last one.
+const MOST_FRAME: usize = 2 * MOST_FIELD + 10;
 
-/// The most bytes of the line of a row, of which starts and ends have at most eleven digits and workers two.
-const MOST_SERVED: usize = 36;
-
-/// The room for the greedy part of a report.
-pub(crate) fn greedy_bytes(greedy: &Greedy) -> usize {
-    let rows = greedy.starts.len().saturating_mul(MOST_SERVED);
-    rows.saturating_add(MOST_FRAME)
-}
+/// The most bytes of the line of a row.
+const MOST_SERVED: usize = 4 * MOST_FIELD;
 
 /// The greedy part of a report: the number of workers, each row with its worker, and the end with its bound.
-pub(crate) fn put_greedy(text: &mut Vec<u8>, greedy: &Greedy) -> Result<(), AllocError>
-    requires { IsWhole greedy.now }
-    ensures { OnOk result (text.new.items ≡ text.old.items ++ part_of (Some greedy.now)) }
+pub(crate) fn put_greedy<W: Sink>(
+    out: &mut Outgoing,
+    greedy: &Greedy,
+    sink: &mut W,
+) -> Result<(), Stopped>
+    requires whole { IsWhole greedy.now }
+    requires few { length greedy.now.starts.items ≤ MOST_LINES }
+    requires size { size out.old ≤ MOST_PART }
+    requires failures { W.failures sink.old < u64.MAX }
+    ensures goes_on { Puts (part_of (Some greedy.now)) result out.old out.new (W.written sink.old) (W.written sink.new) }
+    ensures size { OnOk result (size out.new ≤ size out.old + MOST_PART) }
+    ensures failures { CountsFailure result (W.failures sink.old) (W.failures sink.new) }
 {
-    put_line(text, b"greedy ", u64::from(greedy.p))?;
-    put_served(text, &greedy.starts, &greedy.ends, &greedy.workers)?;
-    put_bound(text, greedy.ends_at, greedy.bound)
+    let mut room = [0; MOST_FRAME];
+    let begin = workers_before(&mut room, greedy.p);
+    out.put(&room[begin..], sink)?;
+    put_served(out, &greedy.starts, &greedy.ends, &greedy.workers, sink)?;
+    let begin = bound_before(&mut room, greedy.ends_at, greedy.bound);
+    out.put(&room[begin..], sink)
 }
 
 // The lines of the rows of a greedy plan.
-fn put_served(
-    text: &mut Vec<u8>,
+fn put_served<W: Sink>(
+    out: &mut Outgoing,
     starts: &[u64],
     ends: &[u64],
     workers: &[u32],
-) -> Result<(), AllocError>
+    sink: &mut W,
+) -> Result<(), Stopped>
     requires ends { length starts.now ≡ length ends.now }
     requires workers { length starts.now ≡ length workers.now }
-    ensures { OnOk result (text.new.items ≡ text.old.items ++ served_lines 0 starts.now ends.now workers.now) }
+    requires few { length starts.now ≤ MOST_LINES }
+    requires size { size out.old ≤ 2 * MOST_PART }
+    requires failures { W.failures sink.old < u64.MAX }
+    ensures goes_on { Puts (served_lines 0 starts.now ends.now workers.now) result out.old out.new (W.written sink.old) (W.written sink.new) }
+    ensures size { OnOk result (size out.new ≤ size out.old + MOST_SERVED * length starts.now) }
+    ensures failures { CountsFailure result (W.failures sink.old) (W.failures sink.new) }
 {
+    let mut room = [0; MOST_SERVED];
     for row in 0..starts.len() {
-        put_served_row(text, row as u64, starts[row], ends[row], workers[row])?;
+        let begin = served_before(&mut room, row as u64, starts[row], ends[row], workers[row]);
+        out.put(&room[begin..], sink)?;
     }
     Ok(())
 }
 
-// The line of a row in a greedy plan.
-fn put_served_row(
-    text: &mut Vec<u8>,
-    row: u64,
-    start: u64,
-    end: u64,
-    worker: u32,
-) -> Result<(), AllocError>
-    ensures { OnOk result (text.new.items ≡ text.old.items ++ served_line row start end worker) }
+// Forms the line of the number of workers at the end of a room, and says where it begins.
+fn workers_before(room: &mut [u8], workers: u32) -> usize
+    requires { length room.old ≡ MOST_FRAME }
+    ensures written { drop result room.new ≡ number_line (codes "greedy ") workers }
+    ensures within { result ≤ MOST_FRAME }
 {
-    let mut line = [0; 4 * MOST_FIELD];
-    let worker_at = write_before(&mut line, 4 * MOST_FIELD, u64::from(worker), b'\n');
-    let end_at = write_before(&mut line, worker_at, end, b' ');
-    let start_at = write_before(&mut line, end_at, start, b' ');
-    let row_at = write_before(&mut line, start_at, row, b' ');
-    text.extend_from_slice(&line[row_at..])
+    number_before(room, MOST_FRAME, b"greedy ", u64::from(workers))
 }
 
-// The line of the end of a greedy plan and its bound.
-fn put_bound(text: &mut Vec<u8>, end: u64, bound: u64) -> Result<(), AllocError>
-    ensures { OnOk result (text.new.items ≡ text.old.items ++ bound_line end bound) }
+// Forms the line of a row in a greedy plan at the end of a room, and says where it begins.
+fn served_before(room: &mut [u8], row: u64, start: u64, end: u64, worker: u32) -> usize
+    requires { length room.old ≡ MOST_SERVED }
+    ensures written { drop result room.new ≡ served_line row start end worker }
+    ensures within { result ≤ MOST_SERVED }
 {
-    text.extend_from_slice(b"end ")?;
-    put_number(text, end)?;
-    text.extend_from_slice(b" bound ")?;
-    put_number(text, bound)?;
-    text.push(b'\n')?;
-    Ok(())
+    let worker_at = write_before(room, MOST_SERVED, u64::from(worker), b'\n');
+    let end_at = write_before(room, worker_at, end, b' ');
+    let start_at = write_before(room, end_at, start, b' ');
+    write_before(room, start_at, row, b' ')
+}
+
+// Forms the line of the end of a greedy plan and its bound at the end of a room, and says where it begins.
+fn bound_before(room: &mut [u8], end: u64, bound: u64) -> usize
+    requires { length room.old ≡ MOST_FRAME }
+    ensures written { drop result room.new ≡ bound_line end bound }
+    ensures within { result ≤ MOST_FRAME }
+{
+    let bound_at = write_before(room, MOST_FRAME, bound, b'\n');
+    let word_at = word_before(room, bound_at, b"bound ");
+    let end_at = write_before(room, word_at, end, b' ');
+    word_before(room, end_at, b"end ")
 }

@@ -1,20 +1,39 @@
-// A line with a number.
+// Lines that are formed from their end on, in a room.
 
-ghost use Rattle.std.specs.Prelude.{◌≡◌, ◌++◌, OnOk};
+ghost use Rattle.std.specs.Prelude.{◌≡◌, ◌++◌, ◌+◌, ◌≤◌, drop, length};
 ghost use Rattle.boc_types.specs.answers.Texts.{number_line};
+ghost use Rattle.boc_report.specs.declared.number_line.TheConstants.{MOST_FIELD};
 
-use boc_text::{MOST_DIGITS, put_number};
-use std::alloc::AllocError;
+use boc_text::{MOST_DIGITS, write_before};
 
 /// The most bytes of a number, and one behind it.
 pub(crate) const MOST_FIELD: usize = MOST_DIGITS + 1;
 
-/// A line of a word and a number.
-pub(crate) fn put_line(text: &mut Vec<u8>, word: &[u8], number: u64) -> Result<(), AllocError>
-    ensures { OnOk result (text.new.items ≡ text.old.items ++ number_line word.now number) }
+/// The most lines of one kind in a report. Rows have numbers of 32 bits.
+pub(crate) const MOST_LINES: usize = 1 << 32;
+
+/// The most bytes of a report without its greedy part, of a greedy part, and of a sweep.
+pub(crate) const MOST_PART: usize = 1 << 40;
+
+/// Puts a word in front of what a line has from a place on, and says where it begins.
+pub(crate) fn word_before(line: &mut [u8], place: usize, word: &[u8]) -> usize
+    requires room { length word.now ≤ place }
+    requires within { place ≤ length line.old }
+    ensures written { drop result line.new ≡ word.now ++ drop place line.old }
+    ensures near { result + length word.now ≡ place }
 {
-    text.extend_from_slice(word)?;
-    put_number(text, number)?;
-    text.push(b'\n')?;
-    Ok(())
+    let at = place - word.len();
+    line[at..place].copy_from_slice(word);
+    at
+}
+
+/// Puts a line of a word and a number in front of what a room has from a place on, and says where it begins.
+pub(crate) fn number_before(room: &mut [u8], place: usize, word: &[u8], number: u64) -> usize
+    requires room { MOST_FIELD + length word.now ≤ place }
+    requires within { place ≤ length room.old }
+    ensures written { drop result room.new ≡ number_line word.now number ++ drop place room.old }
+    ensures near { place ≤ result + MOST_FIELD + length word.now }
+{
+    let at = write_before(room, place, number, b'\n');
+    word_before(room, at, word)
 }

@@ -1,123 +1,228 @@
 // The report on the rows of a record.
 
-ghost use Rattle.std.specs.Prelude.{◌≡◌, ◌++◌, length, option_map, OnOk, IfOk, IfSome};
-ghost use Rattle.boc_types.specs.answers.Texts.{report_text, step_line, step_lines, plan_line, plan_lines, via_word};
+ghost use Rattle.std.specs.Prelude.{◌≡◌, ◌∷◌, ◌++◌, ◌+◌, ◌*◌, ◌<◌, ◌≤◌, ◌^◌, codes, drop, length, option_map, OnOk, IfSome, MatchResult};
+ghost use Rattle.std.specs.Bool.{OnFalse};
+ghost use Rattle.std.specs.Io.KnownBytes.{Appends};
+ghost use Rattle.boc_types.specs.answers.Texts.{report_head, report_text, step_line, step_lines, plan_line, plan_lines, via_word};
+ghost use Rattle.boc_text.specs.Outgoing.{IsUnused, Puts, size};
+ghost use Rattle.boc_text.specs.Streams.{CountsFailure, StopsAt};
+ghost use Rattle.boc_text.specs.Writing.{CountsWrite, Writes};
 ghost use Rattle.boc_report.specs.Parts.{IsWhole, part_of};
+ghost use Rattle.boc_report.specs.declared.number_line.TheConstants.{MOST_LINES, MOST_PART};
+ghost use Rattle.boc_report.specs.declared.profile_lines.TheConstants.{MOST_HEAD, MOST_STEP, MOST_ROW};
 
-use crate::greedy_lines::{greedy_bytes, put_greedy};
-use crate::number_line::{MOST_FIELD, put_line};
+use crate::greedy_lines::put_greedy;
+use crate::number_line::{MOST_FIELD, MOST_LINES, number_before, word_before};
 use boc_greedy::Greedy;
 use boc_order::Profile;
-use boc_text::{put_number, write_before};
+use boc_text::{Outgoing, Sink, Stopped, WriteFault, write_before};
 use boc_types::chain::{ChainStep, Via};
-use std::alloc::{AllocError, Global};
+use std::alloc::Global;
 
-/// The most bytes of the lines before the chain, of `chain` and of `plan`.
-const MOST_HEAD: usize = 100;
+/// The most bytes of the lines before the chain, and of `chain`.
+const MOST_HEAD: usize = 3 * (MOST_FIELD + 5) + 6;
 
 /// The most bytes of the line of a step.
-const MOST_STEP: usize = 30;
+const MOST_STEP: usize = 2 * MOST_FIELD + 6;
 
-/// The most bytes of the line of a row in a plan, of which starts and ends have at most eleven digits.
-const MOST_ROW: usize = 32;
+/// The most bytes of the line of a row in a plan.
+const MOST_ROW: usize = 3 * MOST_FIELD;
 
-/// The text of the report on a profile: how many rows, their work and the span, the chain, and the plan with each
-/// row's start and end, a line each. Where there is a greedy plan, its part follows. The memory is taken at once.
-pub fn profile_text(
+/// Writes the report on a profile: how many rows, their work and the span, the chain, and the plan with each row's start and end, a
+/// line each. Where there is a greedy plan, its part follows. The text goes out in parts while it is formed; after a failing write a
+/// beginning of it went out. All memory is taken before the first part goes out. A report on more rows than there are numbers is
+/// refused as one for which there is no memory.
+pub fn write_report<W: Sink>(
     alloc: Global,
     profile: &Profile,
     greedy: Option<&Greedy>,
-) -> Result<Vec<u8>, AllocError>
+    sink: &mut W,
+) -> Result<(), WriteFault>
     requires plan { length profile.now.starts.items ≡ length profile.now.ends.items }
     requires greedy { IfSome greedy (λ g. IsWhole g.now) }
-    ensures { IfOk result (λ text. text.items
-        ≡ report_text profile.now.work profile.now.span profile.now.chain.steps.items profile.now.starts.items profile.now.ends.items
-        ++ part_of (option_map (λ g. g.now) greedy.entry)) }
+    requires failures { W.failures sink.old < u64.MAX }
+    ensures written { Writes
+        (report_text profile.now.work profile.now.span profile.now.chain.steps.items profile.now.starts.items profile.now.ends.items
+        ++ part_of (option_map (λ g. g.now) greedy.entry)) result (W.written sink.old) (W.written sink.new) }
+    ensures failures { CountsWrite result (W.failures sink.old) (W.failures sink.new) }
 {
-    let mut text = Vec::with_capacity(alloc, most_bytes(profile, greedy))?;
-    put_profile(&mut text, profile)?;
-    if let Some(greedy) = greedy {
-        put_greedy(&mut text, greedy)?;
+    if has_too_many(profile, greedy) {
+        return Err(WriteFault::Memory);
     }
-    Ok(text)
+    let mut out = Outgoing::new(alloc)?;
+    send_report(&mut out, profile, greedy, sink)?;
+    Ok(())
 }
 
-// The room for a report.
-fn most_bytes(profile: &Profile, greedy: Option<&Greedy>) -> usize {
-    let chain = profile.chain.steps.len().saturating_mul(MOST_STEP);
-    let plan = profile.starts.len().saturating_mul(MOST_ROW);
-    let served = greedy.map_or(0, greedy_bytes);
-    chain
-        .saturating_add(plan)
-        .saturating_add(served)
-        .saturating_add(MOST_HEAD)
+// More lines of one kind come than there are numbers for rows.
+fn has_too_many(profile: &Profile, greedy: Option<&Greedy>) -> bool
+    ensures steps { OnFalse result (length profile.now.chain.steps.items ≤ MOST_LINES) }
+    ensures plan { OnFalse result (length profile.now.starts.items ≤ MOST_LINES) }
+    ensures greedy { OnFalse result (IfSome greedy.entry (λ g. length g.now.starts.items ≤ MOST_LINES)) }
+{
+    let served = match greedy {
+        Some(greedy) => greedy.starts.len(),
+        None => 0,
+    };
+    profile.chain.steps.len() > MOST_LINES
+        || profile.starts.len() > MOST_LINES
+        || served > MOST_LINES
+}
+
+// Sends the report on a profile, of which nothing was formed yet.
+fn send_report<W: Sink>(
+    out: &mut Outgoing,
+    profile: &Profile,
+    greedy: Option<&Greedy>,
+    sink: &mut W,
+) -> Result<(), Stopped>
+    requires plan { length profile.now.starts.items ≡ length profile.now.ends.items }
+    requires greedy { IfSome greedy (λ g. IsWhole g.now) }
+    requires few_steps { length profile.now.chain.steps.items ≤ MOST_LINES }
+    requires few_rows { length profile.now.starts.items ≤ MOST_LINES }
+    requires few_served { IfSome greedy (λ g. length g.now.starts.items ≤ MOST_LINES) }
+    requires unused { IsUnused out.old }
+    requires size { size out.old ≡ 0 }
+    requires failures { W.failures sink.old < u64.MAX }
+    ensures sent { MatchResult result
+        (λ _. Appends (W.written sink.old) (W.written sink.new)
+        (report_text profile.now.work profile.now.span profile.now.chain.steps.items profile.now.starts.items profile.now.ends.items
+        ++ part_of (option_map (λ g. g.now) greedy.entry)))
+        (λ s. StopsAt s.gone
+        (report_text profile.now.work profile.now.span profile.now.chain.steps.items profile.now.starts.items profile.now.ends.items
+        ++ part_of (option_map (λ g. g.now) greedy.entry)) (W.written sink.old) (W.written sink.new)) }
+    ensures failures { CountsFailure result (W.failures sink.old) (W.failures sink.new) }
+{
+    put_profile(out, profile, sink)?;
+    put_part(out, greedy, sink)?;
+    out.send(sink)
+}
+
+// The greedy part of a report, where there is a greedy plan.
+fn put_part<W: Sink>(
+    out: &mut Outgoing,
+    greedy: Option<&Greedy>,
+    sink: &mut W,
+) -> Result<(), Stopped>
+    requires whole { IfSome greedy (λ g. IsWhole g.now) }
+    requires few { IfSome greedy (λ g. length g.now.starts.items ≤ MOST_LINES) }
+    requires size { size out.old ≤ MOST_PART }
+    requires failures { W.failures sink.old < u64.MAX }
+    ensures goes_on { Puts (part_of (option_map (λ g. g.now) greedy.entry)) result out.old out.new (W.written sink.old) (W.written sink.new) }
+    ensures size { OnOk result (size out.new ≤ size out.old + MOST_PART) }
+    ensures failures { CountsFailure result (W.failures sink.old) (W.failures sink.new) }
+{
+    match greedy {
+        Some(greedy) => put_greedy(out, greedy, sink),
+        None => Ok(()),
+    }
 }
 
 // The report without a greedy part.
-fn put_profile(text: &mut Vec<u8>, profile: &Profile) -> Result<(), AllocError>
-    requires { length profile.now.starts.items ≡ length profile.now.ends.items }
-    ensures { OnOk result (text.new.items ≡ text.old.items
-        ++ report_text profile.now.work profile.now.span profile.now.chain.steps.items profile.now.starts.items profile.now.ends.items) }
+fn put_profile<W: Sink>(out: &mut Outgoing, profile: &Profile, sink: &mut W) -> Result<(), Stopped>
+    requires plan { length profile.now.starts.items ≡ length profile.now.ends.items }
+    requires few_steps { length profile.now.chain.steps.items ≤ MOST_LINES }
+    requires few_rows { length profile.now.starts.items ≤ MOST_LINES }
+    requires size { size out.old ≡ 0 }
+    requires failures { W.failures sink.old < u64.MAX }
+    ensures goes_on { Puts
+        (report_text profile.now.work profile.now.span profile.now.chain.steps.items profile.now.starts.items profile.now.ends.items)
+        result out.old out.new (W.written sink.old) (W.written sink.new) }
+    ensures size { OnOk result (size out.new ≤ MOST_PART) }
+    ensures failures { CountsFailure result (W.failures sink.old) (W.failures sink.new) }
 {
-    put_line(text, b"rows ", profile.starts.len() as u64)?;
-    put_line(text, b"work ", profile.work)?;
-    put_line(text, b"span ", profile.span)?;
-    text.extend_from_slice(b"chain\n")?;
-    put_steps(text, &profile.chain.steps)?;
-    text.extend_from_slice(b"plan\n")?;
-    put_plan(text, &profile.starts, &profile.ends)
+    let mut room = [0; MOST_HEAD];
+    let begin = head_before(&mut room, profile);
+    out.put(&room[begin..], sink)?;
+    put_steps(out, &profile.chain.steps, sink)?;
+    out.put(b"plan\n", sink)?;
+    put_plan(out, &profile.starts, &profile.ends, sink)
+}
+
+// Forms the numbers of a report and the line before its chain at the end of a room, and says where they begin.
+fn head_before(room: &mut [u8], profile: &Profile) -> usize
+    requires { length room.old ≡ MOST_HEAD }
+    ensures written { drop result room.new ≡ report_head (length profile.now.starts.items) profile.now.work profile.now.span ++ codes "chain\n" }
+    ensures within { result ≤ MOST_HEAD }
+{
+    let chain_at = word_before(room, MOST_HEAD, b"chain\n");
+    let span_at = number_before(room, chain_at, b"span ", profile.span);
+    let work_at = number_before(room, span_at, b"work ", profile.work);
+    number_before(room, work_at, b"rows ", profile.starts.len() as u64)
 }
 
 // The lines of a chain's steps.
-fn put_steps(text: &mut Vec<u8>, steps: &[ChainStep]) -> Result<(), AllocError>
-    ensures { OnOk result (text.new.items ≡ text.old.items ++ step_lines steps.now) }
+fn put_steps<W: Sink>(out: &mut Outgoing, steps: &[ChainStep], sink: &mut W) -> Result<(), Stopped>
+    requires few { length steps.now ≤ MOST_LINES }
+    requires size { size out.old ≤ MOST_PART }
+    requires failures { W.failures sink.old < u64.MAX }
+    ensures goes_on { Puts (step_lines steps.now) result out.old out.new (W.written sink.old) (W.written sink.new) }
+    ensures size { OnOk result (size out.new ≤ size out.old + MOST_STEP * length steps.now) }
+    ensures failures { CountsFailure result (W.failures sink.old) (W.failures sink.new) }
 {
+    let mut room = [0; MOST_STEP];
     for step in steps {
-        put_step(text, *step)?;
+        let begin = step_before(&mut room, *step);
+        out.put(&room[begin..], sink)?;
     }
     Ok(())
 }
 
-// The line of a step.
-fn put_step(text: &mut Vec<u8>, step: ChainStep) -> Result<(), AllocError>
-    ensures { OnOk result (text.new.items ≡ text.old.items ++ step_line step) }
+// Forms the line of a step at the end of a room, and says where it begins.
+fn step_before(room: &mut [u8], step: ChainStep) -> usize
+    requires { length room.old ≡ MOST_STEP }
+    ensures written { drop result room.new ≡ step_line step }
+    ensures within { result ≤ MOST_STEP }
 {
-    put_number(text, u64::from(step.row))?;
-    put_via(text, step.via)?;
-    put_number(text, u64::from(step.weight))?;
-    text.push(b'\n')?;
-    Ok(())
+    let weight_at = write_before(room, MOST_STEP, u64::from(step.weight), b'\n');
+    let via_at = via_before(room, weight_at, step.via);
+    write_before(room, via_at, u64::from(step.row), b' ')
 }
 
-// What stands between the row and the weight of a step.
-fn put_via(text: &mut Vec<u8>, via: Via) -> Result<(), AllocError>
-    ensures { OnOk result (text.new.items ≡ text.old.items ++ via_word via) }
+// Puts what stands behind the row of a step and a space in front of what a line has from a place on, and says where it begins.
+fn via_before(line: &mut [u8], place: usize, via: Via) -> usize
+    requires room { 6 ≤ place }
+    requires within { place ≤ length line.old }
+    ensures written { 32 ∷ drop result line.new ≡ via_word via ++ drop place line.old }
+    ensures near { place ≤ result + 6 }
 {
     match via {
-        Via::Spawn => text.extend_from_slice(b" spawn "),
-        Via::Order => text.extend_from_slice(b" order "),
-        Via::Last => text.extend_from_slice(b" end "),
+        Via::Spawn => word_before(line, place, b"spawn "),
+        Via::Order => word_before(line, place, b"order "),
+        Via::Last => word_before(line, place, b"end "),
     }
 }
 
 // The lines of the rows of a plan.
-fn put_plan(text: &mut Vec<u8>, starts: &[u64], ends: &[u64]) -> Result<(), AllocError>
-    requires { length starts.now ≡ length ends.now }
-    ensures { OnOk result (text.new.items ≡ text.old.items ++ plan_lines 0 starts.now ends.now) }
+fn put_plan<W: Sink>(
+    out: &mut Outgoing,
+    starts: &[u64],
+    ends: &[u64],
+    sink: &mut W,
+) -> Result<(), Stopped>
+    requires lengths { length starts.now ≡ length ends.now }
+    requires few { length starts.now ≤ MOST_LINES }
+    requires size { size out.old ≤ MOST_PART }
+    requires failures { W.failures sink.old < u64.MAX }
+    ensures goes_on { Puts (plan_lines 0 starts.now ends.now) result out.old out.new (W.written sink.old) (W.written sink.new) }
+    ensures size { OnOk result (size out.new ≤ size out.old + MOST_ROW * length starts.now) }
+    ensures failures { CountsFailure result (W.failures sink.old) (W.failures sink.new) }
 {
+    let mut room = [0; MOST_ROW];
     for row in 0..starts.len() {
-        put_row(text, row as u64, starts[row], ends[row])?;
+        let begin = row_before(&mut room, row as u64, starts[row], ends[row]);
+        out.put(&room[begin..], sink)?;
     }
     Ok(())
 }
 
-// The line of a row in a plan.
-fn put_row(text: &mut Vec<u8>, row: u64, start: u64, end: u64) -> Result<(), AllocError>
-    ensures { OnOk result (text.new.items ≡ text.old.items ++ plan_line row start end) }
+// Forms the line of a row in a plan at the end of a room, and says where it begins.
+fn row_before(room: &mut [u8], row: u64, start: u64, end: u64) -> usize
+    requires { length room.old ≡ MOST_ROW }
+    ensures written { drop result room.new ≡ plan_line row start end }
+    ensures within { result ≤ MOST_ROW }
 {
-    let mut line = [0; 3 * MOST_FIELD];
-    let end_at = write_before(&mut line, 3 * MOST_FIELD, end, b'\n');
-    let start_at = write_before(&mut line, end_at, start, b' ');
-    let row_at = write_before(&mut line, start_at, row, b' ');
-    text.extend_from_slice(&line[row_at..])
+    let end_at = write_before(room, MOST_ROW, end, b'\n');
+    let start_at = write_before(room, end_at, start, b' ');
+    write_before(room, start_at, row, b' ')
 }

@@ -1,41 +1,75 @@
 // The lines of a sweep.
 
-ghost use Rattle.std.specs.Prelude.{◌≡◌, ◌++◌, OnOk, IfOk};
+ghost use Rattle.std.specs.Prelude.{◌≡◌, ◌+◌, ◌*◌, ◌<◌, ◌≤◌, ◌^◌, drop, length, OnOk, MatchResult};
+ghost use Rattle.std.specs.Io.KnownBytes.{Appends};
 ghost use Rattle.boc_types.specs.answers.Texts.{sweep_line, sweep_lines};
+ghost use Rattle.boc_text.specs.Outgoing.{IsUnused, Puts, size};
+ghost use Rattle.boc_text.specs.Streams.{CountsFailure, StopsAt};
+ghost use Rattle.boc_text.specs.Writing.{CountsWrite, Writes};
+ghost use Rattle.boc_report.specs.declared.number_line.TheConstants.{MOST_LINES, MOST_PART};
+ghost use Rattle.boc_report.specs.declared.sweep_lines.TheConstants.{MOST_SWEPT};
 
-use crate::number_line::MOST_FIELD;
-use boc_text::write_before;
-use std::alloc::{AllocError, Global};
+use crate::number_line::{MOST_FIELD, MOST_LINES};
+use boc_text::{Outgoing, Sink, Stopped, WriteFault, write_before};
+use std::alloc::Global;
 
-/// The most bytes of the line of a row, of which spans have at most eleven digits.
-const MOST_SWEPT: usize = 20;
+/// The most bytes of the line of a row.
+const MOST_SWEPT: usize = 2 * MOST_FIELD;
 
-/// The text of a sweep: a line for each row, with its number and the span that goes with it. The memory is taken at
-/// once.
-pub fn sweep_text(alloc: Global, spans: &[u64]) -> Result<Vec<u8>, AllocError>
-    ensures { IfOk result (λ text. text.items ≡ sweep_lines 0 spans.now) }
+/// Writes the text of a sweep: a line for each row, with its number and the span that goes with it. It goes out in parts while it is
+/// formed; after a failing write a beginning of it went out. All memory is taken before the first part goes out. A sweep of more rows
+/// than there are numbers is refused as one for which there is no memory.
+pub fn write_sweep<W: Sink>(alloc: Global, spans: &[u64], sink: &mut W) -> Result<(), WriteFault>
+    requires { W.failures sink.old < u64.MAX }
+    ensures written { Writes (sweep_lines 0 spans.now) result (W.written sink.old) (W.written sink.new) }
+    ensures failures { CountsWrite result (W.failures sink.old) (W.failures sink.new) }
 {
-    let mut text = Vec::with_capacity(alloc, spans.len().saturating_mul(MOST_SWEPT))?;
-    put_sweep(&mut text, spans)?;
-    Ok(text)
+    if spans.len() > MOST_LINES {
+        return Err(WriteFault::Memory);
+    }
+    let mut out = Outgoing::new(alloc)?;
+    send_sweep(&mut out, spans, sink)?;
+    Ok(())
+}
+
+// Sends the text of a sweep, of which nothing was formed yet.
+fn send_sweep<W: Sink>(out: &mut Outgoing, spans: &[u64], sink: &mut W) -> Result<(), Stopped>
+    requires unused { IsUnused out.old }
+    requires size { size out.old ≡ 0 }
+    requires few { length spans.now ≤ MOST_LINES }
+    requires failures { W.failures sink.old < u64.MAX }
+    ensures sent { MatchResult result
+        (λ _. Appends (W.written sink.old) (W.written sink.new) (sweep_lines 0 spans.now))
+        (λ s. StopsAt s.gone (sweep_lines 0 spans.now) (W.written sink.old) (W.written sink.new)) }
+    ensures failures { CountsFailure result (W.failures sink.old) (W.failures sink.new) }
+{
+    put_sweep(out, spans, sink)?;
+    out.send(sink)
 }
 
 // The lines of the rows of a sweep.
-fn put_sweep(text: &mut Vec<u8>, spans: &[u64]) -> Result<(), AllocError>
-    ensures { OnOk result (text.new.items ≡ text.old.items ++ sweep_lines 0 spans.now) }
+fn put_sweep<W: Sink>(out: &mut Outgoing, spans: &[u64], sink: &mut W) -> Result<(), Stopped>
+    requires few { length spans.now ≤ MOST_LINES }
+    requires size { size out.old ≤ MOST_PART }
+    requires failures { W.failures sink.old < u64.MAX }
+    ensures goes_on { Puts (sweep_lines 0 spans.now) result out.old out.new (W.written sink.old) (W.written sink.new) }
+    ensures size { OnOk result (size out.new ≤ size out.old + MOST_SWEPT * length spans.now) }
+    ensures failures { CountsFailure result (W.failures sink.old) (W.failures sink.new) }
 {
+    let mut room = [0; MOST_SWEPT];
     for row in 0..spans.len() {
-        put_swept_row(text, row as u64, spans[row])?;
+        let begin = swept_before(&mut room, row as u64, spans[row]);
+        out.put(&room[begin..], sink)?;
     }
     Ok(())
 }
 
-// The line of a row in a sweep.
-fn put_swept_row(text: &mut Vec<u8>, row: u64, span: u64) -> Result<(), AllocError>
-    ensures { OnOk result (text.new.items ≡ text.old.items ++ sweep_line row span) }
+// Forms the line of a row in a sweep at the end of a room, and says where it begins.
+fn swept_before(room: &mut [u8], row: u64, span: u64) -> usize
+    requires { length room.old ≡ MOST_SWEPT }
+    ensures written { drop result room.new ≡ sweep_line row span }
+    ensures within { result ≤ MOST_SWEPT }
 {
-    let mut line = [0; 2 * MOST_FIELD];
-    let span_at = write_before(&mut line, 2 * MOST_FIELD, span, b'\n');
-    let row_at = write_before(&mut line, span_at, row, b' ');
-    text.extend_from_slice(&line[row_at..])
+    let span_at = write_before(room, MOST_SWEPT, span, b'\n');
+    write_before(room, span_at, row, b' ')
 }

@@ -1,3 +1,4 @@
 pub mod Numerals
 pub mod Ahead
 pub mod Progress
+pub mod Sending

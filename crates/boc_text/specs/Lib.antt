@@ -1,2 +1,4 @@
 pub mod Streams
 pub mod Lines
+pub mod Outgoing
+pub mod Writing

@@ -33,6 +33,7 @@ pub fn write_before(line: &mut [u8], place: usize, number: u64, between: u8) -> 
     requires room { MOST_DIGITS < place }
     requires within { place ≤ length line.old }
     ensures written { drop result line.new ≡ decimal number ++ between ∷ drop place line.old }
+    ensures before { result < place }
     ensures near { place ≤ result + MOST_DIGITS + 1 }
 {
     let end = place - 1;

@@ -1,27 +1,24 @@
-use Rattle.boc_commands.proofs.Asked.{reported, stopped}
+use Rattle.std.proofs.Common.{ℕ, refl, subst}
+use Rattle.boc_commands.specs.Commands.{CountsSource}
+use Rattle.boc_commands.proofs.Asked.{leaves_as, reported}
+use Rattle.boc_commands.proofs.Passed.{wants_record}
 use Rattle.boc_commands.proofs.profile.profile_cmd.Goals as goal
-
-pub returns-in_err-put_out-clause-written : goal.returns-in_err-put_out-clause-written
-returns-in_err-put_out-clause-written g c =
-    let asked = c.in_ok-rows.ensures.rows_or_fault in
-    let read = asked.1 in
-    stopped _ _ _ c.deref.result.now _ _ c.from_residual-in_err-put_out.ensures.1 (record {
-      input = read.text;
-      taken = read.taken;
-      whole = read.over;
-      answers = reported c.args.sharing c.args.workers read.text asked.0 c.in_ok-rows.rows c.in_ok-answer.answer.items c.deref.result.now read.text_of asked.2 c.in_ok-answer.ensures c.deref.ensures.value;
-    }) c.in_err-put_out.ensures.stopped
 
 pub returns-clause-written : goal.returns-clause-written
 returns-clause-written g c =
     let asked = c.in_ok-rows.ensures.rows_or_fault in
-    let read = asked.1 in (
-      c.deref.result.now,
-      record {
-        input = read.text;
-        taken = read.taken;
-        whole = read.over;
-        answers = reported c.args.sharing c.args.workers read.text asked.0 c.in_ok-rows.rows c.in_ok-answer.answer.items c.deref.result.now read.text_of asked.2 c.in_ok-answer.ensures c.deref.ensures.value;
-      },
-      c.in_ok-put_out.ensures.ok,
-    )
+    let read = asked.1 in
+    leaves_as _ _ c.report_on.result _ _ (λ text report. record {
+      input = read.text;
+      taken = read.taken;
+      whole = read.over;
+      answers = reported c.args.sharing c.args.workers read.text asked.0 c.in_ok-rows.rows text text read.text_of asked.2 report refl;
+    }) c.report_on.ensures.written
+
+pub returns-clause-refused : goal.returns-clause-refused
+returns-clause-refused g c = wants_record c.report_on.result _ c.report_on.ensures.refused
+
+pub returns-clause-source : goal.returns-clause-source
+returns-clause-source g c =
+    subst (λ (n : ℕ). CountsSource c.report_on.result n (g.S.Source.failures c.read_rows.new.source)) c.in_ok-rows.ensures.failures
+    (c.report_on.ensures.source _)

@@ -1,8 +1,10 @@
-use Rattle.std.proofs.Common.{ℕ, List, subst}
-use Rattle.boc_commands.specs.Commands.{IsOfRun}
-use Rattle.boc_commands.proofs.Passed.{refused_run}
-use Rattle.boc_commands.specs.Promises.{IsTimeAnswer}
-use Rattle.boc_commands.proofs.Asked.{answers_text, stopped}
+use Rattle.std.proofs.Common.{ℕ, List, refl, subst}
+use Rattle.boc_commands.specs.Commands.{CountsSource, IsOfRun}
+use Rattle.boc_types.specs.declared.rows.Row.{Row}
+use Rattle.boc_types.specs.runs.Seen.{seen}
+use Rattle.boc_commands.specs.Promises.{IsTimeAnswer, IsTrueReport}
+use Rattle.boc_commands.proofs.Asked.{answers_text, leaves_as}
+use Rattle.boc_commands.proofs.Passed.{refused_run, wants_run}
 use Rattle.boc_commands.proofs.time.time_cmd.Goals as goal
 
 pub returns-in_err-answer-clause-refused : goal.returns-in_err-answer-clause-refused
@@ -12,10 +14,20 @@ returns-in_err-answer-clause-refused g c =
 
 pub returns-clause-written : goal.returns-clause-written
 returns-clause-written g c =
-    (c.deref-2.result.now, answers_text (IsTimeAnswer c.args.sharing c.args.workers) _ _ c.in_ok-text.text.items c.deref.result.now c.in_ok-answer.answer.items c.deref-2.result.now c.in_ok-text.ensures.text c.deref.ensures.value c.deref-2.ensures.value c.in_ok-answer.ensures.0 c.in_ok-answer.ensures.1, c.in_ok-put_out.ensures.ok)
+    let run = c.in_ok-answer.ensures in
+    leaves_as (IsTrueReport (seen c.args.sharing c.rows.result.now) c.args.workers) _ c.true_report.result _ _ (λ text report.
+    answers_text (IsTimeAnswer c.args.sharing c.args.workers) _ _ c.in_ok-text.text.items c.deref.result.now text text c.in_ok-text.ensures.text
+    c.deref.ensures.value refl
+    (record {
+      recorded = c.in_ok-answer.answer.record;
+      run = run.0;
+      report = subst (λ (rows : List Row). IsTrueReport (seen c.args.sharing rows) c.args.workers text) c.rows.ensures.value report;
+    }) run.1) c.true_report.ensures.written
 
-pub returns-in_err-put_out-clause-written : goal.returns-in_err-put_out-clause-written
-returns-in_err-put_out-clause-written g c =
-    stopped _ _ _ c.deref-2.result.now _ _ c.from_residual-in_err-put_out.ensures.1
-    (answers_text (IsTimeAnswer c.args.sharing c.args.workers) _ _ c.in_ok-text.text.items c.deref.result.now c.in_ok-answer.answer.items c.deref-2.result.now c.in_ok-text.ensures.text c.deref.ensures.value c.deref-2.ensures.value c.in_ok-answer.ensures.0 c.in_ok-answer.ensures.1)
-    c.in_err-put_out.ensures.stopped
+pub returns-clause-refused : goal.returns-clause-refused
+returns-clause-refused g c = wants_run _ c.true_report.result _ _ c.true_report.ensures.refused
+
+pub returns-clause-source : goal.returns-clause-source
+returns-clause-source g c =
+    subst (λ (n : ℕ). CountsSource c.true_report.result n (g.S.Source.failures c.read_all.new.source)) c.in_ok-text.ensures.failures
+    (c.true_report.ensures.source _)

@@ -1,8 +1,10 @@
-use Rattle.std.proofs.lemmas.Result.{IfOk-weaker}
 use Rattle.boc_types.specs.runs.Seen.{seen}
 use Rattle.boc_types.proofs.Seeing.{rows_seen}
+use Rattle.boc_commands.proofs.Asked.{leaves_as}
 use Rattle.boc_commands.proofs.Promised.{true_report}
 use Rattle.boc_commands.proofs.time.true_report.Goals as goal
 
-pub returns : goal.returns
-returns c = IfOk-weaker c.report_on.result _ _ (λ text is. true_report (seen c.args.sharing c.args.rows.now) c.args.workers text.items (rows_seen c.args.sharing c.args.rows.now c.as_slice-shape.ensures.shape) is) c.report_on.ensures
+pub returns-clause-written : goal.returns-clause-written
+returns-clause-written g c =
+    leaves_as _ _ c.report_on.result _ _ (λ text is. true_report (seen c.args.sharing c.args.rows.now) c.args.workers text
+    (rows_seen c.args.sharing c.args.rows.now c.as_slice-shape.ensures.shape) is) c.report_on.ensures.written

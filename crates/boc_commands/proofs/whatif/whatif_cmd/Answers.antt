@@ -1,27 +1,9 @@
-use Rattle.std.proofs.Common.{◌∙◌}
-use Rattle.boc_types.specs.answers.Answers.{IsWhatIfAnswer}
+use Rattle.std.proofs.Common.{ℕ, ◌∙◌, refl, subst}
 use Rattle.boc_types.specs.text.RecordTexts.{IsTextOf}
-use Rattle.boc_commands.specs.Commands.{AnswersInput}
-use Rattle.boc_commands.proofs.Asked.{answered, stopped, told, refused_edits, refuses_as}
+use Rattle.boc_commands.specs.Commands.{CountsSource}
+use Rattle.boc_commands.proofs.Asked.{answered, leaves_as, told, refused_edits, refuses_as}
+use Rattle.boc_commands.proofs.Passed.{wants_edits}
 use Rattle.boc_commands.proofs.whatif.whatif_cmd.Goals as goal
-
-pub returns-in_err-put_out-clause-written : goal.returns-in_err-put_out-clause-written
-returns-in_err-put_out-clause-written g c =
-    let asked = c.in_ok-rows.ensures.rows_or_fault in
-    let r = asked.0 in
-    let read = asked.1 in
-    let answer : IsWhatIfAnswer c.args.edits.now c.args.sharing c.args.workers read.text c.deref.result.now =
-    answered c.args.edits.now c.args.sharing c.edit_all.new.question.sharing c.args.workers read.text r c.in_ok-question.question.rows c.edit_all.new.question.rows c.in_ok-answer.answer.items
-    c.deref.result.now read.text_of (c.in_ok-question.ensures.rows ∙ asked.2) c.in_ok-edit_all.ensures.fit c.in_ok-edit_all.ensures.rows
-    (c.in_ok-edit_all.ensures.sharing ∙ c.in_ok-question.ensures.sharing) c.in_ok-answer.ensures c.deref.ensures.value in
-    let whole : AnswersInput (IsWhatIfAnswer c.args.edits.now c.args.sharing c.args.workers) (g.S.Source.remaining c.args.source.now)
-    (g.S.Source.remaining c.read_rows.new.source) c.deref.result.now = record {
-      input = read.text;
-      taken = read.taken;
-      whole = read.over;
-      answers = answer;
-    } in
-    stopped _ _ _ c.deref.result.now _ _ c.from_residual-in_err-put_out.ensures.1 whole c.in_err-put_out.ensures.stopped
 
 pub returns-in_err-edit_all-clause-refused : goal.returns-in_err-edit_all-clause-refused
 returns-in_err-edit_all-clause-refused g c =
@@ -35,15 +17,21 @@ returns-in_err-edit_all-clause-refused g c =
 pub returns-clause-written : goal.returns-clause-written
 returns-clause-written g c =
     let asked = c.in_ok-rows.ensures.rows_or_fault in
-    let read = asked.1 in (
-      c.deref.result.now,
-      record {
-        input = read.text;
-        taken = read.taken;
-        whole = read.over;
-        answers = answered c.args.edits.now c.args.sharing c.edit_all.new.question.sharing c.args.workers read.text asked.0 c.in_ok-question.question.rows c.edit_all.new.question.rows c.in_ok-answer.answer.items
-            c.deref.result.now read.text_of (c.in_ok-question.ensures.rows ∙ asked.2) c.in_ok-edit_all.ensures.fit c.in_ok-edit_all.ensures.rows
-            (c.in_ok-edit_all.ensures.sharing ∙ c.in_ok-question.ensures.sharing) c.in_ok-answer.ensures c.deref.ensures.value;
-      },
-      c.in_ok-put_out.ensures.ok,
-    )
+    let read = asked.1 in
+    leaves_as _ _ c.report_after.result _ _ (λ text report. record {
+      input = read.text;
+      taken = read.taken;
+      whole = read.over;
+      answers = answered c.args.edits.now c.args.sharing c.edit_all.new.question.sharing c.args.workers read.text asked.0
+          c.in_ok-question.question.rows c.edit_all.new.question.rows text text
+          read.text_of (c.in_ok-question.ensures.rows ∙ asked.2) c.in_ok-edit_all.ensures.fit c.in_ok-edit_all.ensures.rows
+          (c.in_ok-edit_all.ensures.sharing ∙ c.in_ok-question.ensures.sharing) report refl;
+    }) c.report_after.ensures.written
+
+pub returns-clause-refused : goal.returns-clause-refused
+returns-clause-refused g c = wants_edits c.args.edits.now c.report_after.result _ c.report_after.ensures.refused
+
+pub returns-clause-source : goal.returns-clause-source
+returns-clause-source g c =
+    subst (λ (n : ℕ). CountsSource c.report_after.result n (g.S.Source.failures c.read_rows.new.source)) c.in_ok-rows.ensures.failures
+    (c.report_after.ensures.source _)

@@ -2,9 +2,10 @@ use Rattle.std.proofs.Common.{ℕ, List, ◌++◌, ◌∙◌, take, drop, length
 use Rattle.std.proofs.lemmas.List.{take_all}
 use Rattle.boc_text.specs.Streams.{StopsAt}
 use Rattle.boc_types.specs.text.RecordTexts.{Second, event_lines}
-use Rattle.boc_record.specs.Outgoing.{IsOut}
+use Rattle.boc_text.specs.Outgoing.{IsOut}
 use Rattle.boc_record.proofs.Put.{put_line_more}
-use Rattle.boc_record.proofs.Sending.{stops_within, stopped_so}
+use Rattle.boc_text.proofs.Sending.{stopped_so}
+use Rattle.boc_record.proofs.Sending.{stops_within}
 use Rattle.boc_record.proofs.text.send_events.Goals as goal
 
 pub returns-in_err-put-clause-goes_on : goal.returns-in_err-put-clause-goes_on

@@ -1,6 +1,13 @@
-use Rattle.std.proofs.Common.{◌≡◌, ◌++◌, take}
-use Rattle.boc_types.specs.answers.Texts.{plan_lines}
+use Rattle.std.proofs.Common.{◌≡◌, ◌≤◌, ◌+◌, ◌*◌}
+use Rattle.boc_text.specs.Outgoing.{size}
+use Rattle.boc_text.proofs.Sending.{HasPut}
+use Rattle.boc_report.specs.declared.profile_lines.TheConstants.{MOST_ROW}
+use Rattle.boc_report.proofs.Lines.{plan_to}
 use Rattle.boc_report.proofs.profile_lines.put_plan.Given as goal
 
 abbrev pub invariant-loop-row : goal.invariant-loop-row
-invariant-loop-row l = l.text.items ≡ l.fn.text.items ++ plan_lines 0 (take l.row l.starts) (take l.row l.ends)
+invariant-loop-row g l = record {
+  came : HasPut (plan_to l.starts l.ends l.row) l.fn.out l.out (g.W.Sink.written l.initial.sink) (g.W.Sink.written l.sink);
+  size : size l.out ≤ size l.fn.out + MOST_ROW * l.row;
+  failures : g.W.Sink.failures l.sink ≡ g.W.Sink.failures l.initial.sink;
+}

@@ -1,6 +1,13 @@
-use Rattle.std.proofs.Common.{◌≡◌, ◌++◌, take}
-use Rattle.boc_types.specs.answers.Texts.{sweep_lines}
+use Rattle.std.proofs.Common.{◌≡◌, ◌≤◌, ◌+◌, ◌*◌}
+use Rattle.boc_text.specs.Outgoing.{size}
+use Rattle.boc_text.proofs.Sending.{HasPut}
+use Rattle.boc_report.specs.declared.sweep_lines.TheConstants.{MOST_SWEPT}
+use Rattle.boc_report.proofs.Lines.{swept_to}
 use Rattle.boc_report.proofs.sweep_lines.put_sweep.Given as goal
 
 abbrev pub invariant-loop-row : goal.invariant-loop-row
-invariant-loop-row l = l.text.items ≡ l.fn.text.items ++ sweep_lines 0 (take l.row l.spans)
+invariant-loop-row g l = record {
+  came : HasPut (swept_to l.spans l.row) l.fn.out l.out (g.W.Sink.written l.initial.sink) (g.W.Sink.written l.sink);
+  size : size l.out ≤ size l.fn.out + MOST_SWEPT * l.row;
+  failures : g.W.Sink.failures l.sink ≡ g.W.Sink.failures l.initial.sink;
+}

@@ -1,15 +1,16 @@
-// A text that goes out while it is formed.
+//! A text that goes out while it is formed.
 
-ghost use Rattle.std.specs.Prelude.{◌≡◌, ◌+◌, ◌<◌, ◌≤◌, ◌^◌, [], ◌++◌, List, ℕ, Option, length, IfOk, OnOk, MatchResult, vec_capacity};
+ghost use Rattle.std.specs.Prelude.{◌≡◌, ◌+◌, ◌<◌, ◌≤◌, ◌^◌, ◌++◌, List, ℕ, Option, length, IfOk, OnOk, MatchResult, vec_capacity};
 ghost use Rattle.std.specs.Io.KnownBytes.{Appends};
-ghost use Rattle.boc_text.specs.Streams.{StopsAt};
-ghost use Rattle.boc_record.specs.declared.outgoing.TheConstants.{ROOM};
+ghost use Rattle.boc_text.specs.Streams.{StopsAt, CountsFailure};
+ghost use Rattle.boc_text.specs.declared.outgoing.TheConstants.{ROOM};
 
-use boc_text::{Sink, Stopped, put_out};
+use crate::stream::Sink;
+use crate::whole::{Stopped, put_out};
 use std::alloc::{AllocError, Global};
 
-// How many bytes are held back at most before they go out.
-const ROOM: usize = 64 * 1024;
+/// How many bytes are held back at most before they go out.
+pub const ROOM: usize = 64 * 1024;
 
 /// The end of a text that goes out while it is formed. What went out takes no room any more.
 #[derive(Drop)]
@@ -22,12 +23,12 @@ pub struct Outgoing {
 }
 
 impl Outgoing {
-    ghost use Rattle.boc_record.specs.Outgoing.{IsOut, size};
+    ghost use Rattle.boc_text.specs.Outgoing.{IsOut, IsUnused, size};
 
     /// No text yet. `AllocError` says that memory was refused. No more is asked for later.
     pub fn new(alloc: Global) -> Result<Outgoing, AllocError>
-        ensures part { IfOk result (λ o. o.part.items ≡ []) }
-        ensures gone { IfOk result (λ o. o.gone ≡ 0) }
+        ensures unused { IfOk result IsUnused }
+        ensures size { IfOk result (λ o. size o ≡ 0) }
     {
         Ok(Outgoing {
             part: Vec::with_capacity(alloc, ROOM)?,
@@ -44,7 +45,7 @@ impl Outgoing {
             (λ _. IsOut before (W.written sink.new) (text ++ bytes.now) self.new)
             (λ s. StopsAt s.gone text before (W.written sink.new)) }
         ensures size { OnOk result (size self.new ≡ size self.old + length bytes.now) }
-        ensures failures { MatchResult result (λ _. W.failures sink.new ≡ W.failures sink.old) (λ _. W.failures sink.new ≡ W.failures sink.old + 1) }
+        ensures failures { CountsFailure result (W.failures sink.old) (W.failures sink.new) }
     {
         if self.part.capacity() - self.part.len() < bytes.len() {
             self.send(sink)?;
@@ -63,7 +64,7 @@ impl Outgoing {
         ensures sent { (before : Option (List ℕ)) (text : List ℕ) → IsOut before (W.written sink.old) text self.now → MatchResult result
             (λ _. Appends before (W.written sink.new) text)
             (λ s. StopsAt s.gone text before (W.written sink.new)) }
-        ensures failures { MatchResult result (λ _. W.failures sink.new ≡ W.failures sink.old) (λ _. W.failures sink.new ≡ W.failures sink.old + 1) }
+        ensures failures { CountsFailure result (W.failures sink.old) (W.failures sink.new) }
     {
         match put_out(sink, &self.part) {
             Ok(()) => Ok(()),

@@ -1,9 +1,9 @@
--- What a record's text has done to a sink.
+-- What a text that was to be written has done to a sink.
 use Rattle.std.specs.Prelude.{◌≡◌, ℕ, ◌+◌, List, Option, Result, Ok, Err}
 use Rattle.std.specs.Io.KnownBytes.{Appends, Keeps}
 use Rattle.boc_text.specs.Streams.{StopsAt}
-use Rattle.boc_record.specs.declared.fault.WriteFault.{WriteFault}
-use Rattle.boc_record.specs.declared.fault.WriteFault.TheVariants.{Memory, Device}
+use Rattle.boc_text.specs.declared.fault.WriteFault.{WriteFault}
+use Rattle.boc_text.specs.declared.fault.WriteFault.TheVariants.{Memory, Device}
 
 -- the text went out and nothing else; or its first `gone` bytes; or nothing
 abbrev pub Writes : {A : Type 0} → List ℕ → Result A WriteFault → Option (List ℕ) → Option (List ℕ) → Type 0

@@ -10,6 +10,7 @@ use Rattle.std.specs.BinaryHeap.{IsHeap}
 abbrev pub Entry : Type 0
 Entry = Reverse (ℕ × ℕ)
 
+-- an entry with an earlier tick is the greater one, and of two with the same tick the one with the smaller row
 abbrev pub entry_order : Entry → Entry → Ordering
 entry_order x y = ordering_then (nat_cmp y.0.0 x.0.0) (nat_cmp y.0.1 x.0.1)
 

@@ -11,7 +11,7 @@
 //! made over linked chains and over plain ones, and what the plain ones give is written too, should it be something else.
 #![tactic(auto)]
 
-ghost use Rattle.std.specs.Prelude.{◌≡◌, ◌<◌, length, IfOk, IfSome};
+ghost use Rattle.std.specs.Prelude.{◌<◌, length, IfOk, IfSome};
 ghost use Rattle.boc_report.specs.Parts.{IsWhole};
 
 use boc_chain::{Chains, ListChains};
@@ -19,10 +19,10 @@ use boc_dispatch::{
     Core, DriveFault, cown_count, drive, drive_over, drive_quiet, drive_quiet_over,
 };
 use boc_greedy::{Greedy, greedy};
-use boc_order::{Profile, profile};
+use boc_order::profile;
 use boc_reader::read_program;
 use boc_record::{RecordFault, WriteFault, put_events, read_record, write_record};
-use boc_report::{write_report, write_sweep};
+use boc_report::{profile_text, sweep_text};
 use boc_text::{Bytes, put_number, put_signed};
 use boc_types::limits::MOST_COWNS;
 use boc_types::program::Program;
@@ -197,35 +197,6 @@ fn greedy_for(
     }
 }
 
-// The report on a profile and a greedy plan, as it is written.
-fn report_of(
-    rt: HostRuntime,
-    profile: &Profile,
-    greedy: Option<&Greedy>,
-) -> Result<Vec<u8>, WriteFault>
-    requires plan { length profile.now.starts.items ≡ length profile.now.ends.items }
-    requires greedy { IfSome greedy (λ g. IsWhole g.now) }
-{
-    let mut sink = Bytes::new(Vec::new(rt.alloc()));
-    write_report(rt.alloc(), profile, greedy, &mut sink)?;
-    Ok(sink.bytes)
-}
-
-// The text of a sweep, as it is written.
-fn sweep_of(rt: HostRuntime, spans: &[u64]) -> Result<Vec<u8>, WriteFault> {
-    let mut sink = Bytes::new(Vec::new(rt.alloc()));
-    write_sweep(rt.alloc(), spans, &mut sink)?;
-    Ok(sink.bytes)
-}
-
-// Writes a text, or why it was not formed.
-fn tell_text(rt: HostRuntime, text: Result<Vec<u8>, WriteFault>) -> io::Result<()> {
-    match text {
-        Ok(text) => rt.stdout().write_all(&text),
-        Err(fault) => println!(rt; "{fault}"),
-    }
-}
-
 // Writes the report on a record, or the line on a text that is none.
 fn tell_report(
     rt: HostRuntime,
@@ -239,7 +210,8 @@ fn tell_report(
     };
     let found = profile(rt.alloc(), record.rows(), sharing)?;
     let plan = greedy_for(rt.alloc(), record.rows(), workers, sharing)?;
-    tell_text(rt, report_of(rt, &found, plan.as_ref()))
+    let report = profile_text(rt.alloc(), &found, plan.as_ref())?;
+    rt.stdout().write_all(&report)
 }
 
 // Writes the report on a record after an edit, or why the edit is refused.
@@ -258,7 +230,8 @@ fn tell_edit(
     match question.edit(row, ticks) {
         Ok(()) => {
             let found = question.profile(rt.alloc())?;
-            tell_text(rt, report_of(rt, &found, None))
+            let report = profile_text(rt.alloc(), &found, None)?;
+            rt.stdout().write_all(&report)
         }
         Err(fault) => println!(rt; "{fault:?}"),
     }
@@ -272,7 +245,8 @@ fn tell_sweep(rt: HostRuntime, text: &[u8], sharing: Sharing) -> io::Result<()> 
     };
     let question = WhatIf::new(rt.alloc(), record.rows(), sharing)?;
     let spans = question.sweep(rt.alloc())?;
-    tell_text(rt, sweep_of(rt, &spans))
+    let lines = sweep_text(rt.alloc(), &spans)?;
+    rt.stdout().write_all(&lines)
 }
 
 // Writes what is asked of the plans of a record's rows.

@@ -6,5 +6,5 @@ mod number_line;
 mod profile_lines;
 mod sweep_lines;
 
-pub use profile_lines::write_report;
-pub use sweep_lines::write_sweep;
+pub use profile_lines::{profile_text, write_report};
+pub use sweep_lines::{sweep_text, write_sweep};

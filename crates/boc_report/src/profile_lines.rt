@@ -1,6 +1,6 @@
 // The report on the rows of a record.
 
-ghost use Rattle.std.specs.Prelude.{◌≡◌, ◌∷◌, ◌++◌, ◌+◌, ◌*◌, ◌<◌, ◌≤◌, ◌^◌, codes, drop, length, option_map, OnOk, IfSome, MatchResult};
+ghost use Rattle.std.specs.Prelude.{◌≡◌, ◌∷◌, ◌++◌, ◌+◌, ◌*◌, ◌<◌, ◌≤◌, ◌^◌, codes, drop, length, option_map, OnOk, IfOk, IfSome, MatchResult};
 ghost use Rattle.std.specs.Bool.{OnFalse};
 ghost use Rattle.std.specs.Io.KnownBytes.{Appends};
 ghost use Rattle.boc_types.specs.answers.Texts.{report_head, report_text, step_line, step_lines, plan_line, plan_lines, via_word};
@@ -15,9 +15,9 @@ use crate::greedy_lines::put_greedy;
 use crate::number_line::{MOST_FIELD, MOST_LINES, number_before, word_before};
 use boc_greedy::Greedy;
 use boc_order::Profile;
-use boc_text::{Outgoing, Sink, Stopped, WriteFault, write_before};
+use boc_text::{Bytes, Outgoing, Sink, Stopped, WriteFault, write_before};
 use boc_types::chain::{ChainStep, Via};
-use std::alloc::Global;
+use std::alloc::{AllocError, Global};
 
 /// The most bytes of the lines before the chain, and of `chain`.
 const MOST_HEAD: usize = 3 * (MOST_FIELD + 5) + 6;
@@ -52,6 +52,25 @@ pub fn write_report<W: Sink>(
     let mut out = Outgoing::new(alloc)?;
     send_report(&mut out, profile, greedy, sink)?;
     Ok(())
+}
+
+/// The text of the same report, in memory.
+pub fn profile_text(
+    alloc: Global,
+    profile: &Profile,
+    greedy: Option<&Greedy>,
+) -> Result<Vec<u8>, AllocError>
+    requires plan { length profile.now.starts.items ≡ length profile.now.ends.items }
+    requires greedy { IfSome greedy (λ g. IsWhole g.now) }
+    ensures { IfOk result (λ text. text.items
+        ≡ report_text profile.now.work profile.now.span profile.now.chain.steps.items profile.now.starts.items profile.now.ends.items
+        ++ part_of (option_map (λ g. g.now) greedy.entry)) }
+{
+    let mut text = Bytes::new(Vec::new(alloc));
+    match write_report(alloc, profile, greedy, &mut text) {
+        Ok(()) => Ok(text.bytes),
+        Err(_) => Err(AllocError),
+    }
 }
 
 // More lines of one kind come than there are numbers for rows.

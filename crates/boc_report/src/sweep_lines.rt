@@ -1,6 +1,6 @@
 // The lines of a sweep.
 
-ghost use Rattle.std.specs.Prelude.{◌≡◌, ◌+◌, ◌*◌, ◌<◌, ◌≤◌, ◌^◌, drop, length, OnOk, MatchResult};
+ghost use Rattle.std.specs.Prelude.{◌≡◌, ◌+◌, ◌*◌, ◌<◌, ◌≤◌, ◌^◌, drop, length, OnOk, IfOk, MatchResult};
 ghost use Rattle.std.specs.Io.KnownBytes.{Appends};
 ghost use Rattle.boc_types.specs.answers.Texts.{sweep_line, sweep_lines};
 ghost use Rattle.boc_text.specs.Outgoing.{IsUnused, Puts, size};
@@ -10,8 +10,8 @@ ghost use Rattle.boc_report.specs.declared.number_line.TheConstants.{MOST_LINES,
 ghost use Rattle.boc_report.specs.declared.sweep_lines.TheConstants.{MOST_SWEPT};
 
 use crate::number_line::{MOST_FIELD, MOST_LINES};
-use boc_text::{Outgoing, Sink, Stopped, WriteFault, write_before};
-use std::alloc::Global;
+use boc_text::{Bytes, Outgoing, Sink, Stopped, WriteFault, write_before};
+use std::alloc::{AllocError, Global};
 
 /// The most bytes of the line of a row.
 const MOST_SWEPT: usize = 2 * MOST_FIELD;
@@ -30,6 +30,17 @@ pub fn write_sweep<W: Sink>(alloc: Global, spans: &[u64], sink: &mut W) -> Resul
     let mut out = Outgoing::new(alloc)?;
     send_sweep(&mut out, spans, sink)?;
     Ok(())
+}
+
+/// The text of the same sweep, in memory.
+pub fn sweep_text(alloc: Global, spans: &[u64]) -> Result<Vec<u8>, AllocError>
+    ensures { IfOk result (λ text. text.items ≡ sweep_lines 0 spans.now) }
+{
+    let mut text = Bytes::new(Vec::new(alloc));
+    match write_sweep(alloc, spans, &mut text) {
+        Ok(()) => Ok(text.bytes),
+        Err(_) => Err(AllocError),
+    }
 }
 
 // Sends the text of a sweep, of which nothing was formed yet.

@@ -21,7 +21,7 @@ use std::thread::Threads;
 /// Does what a command asks for: the answer to its input goes out, and nothing else. A call for help takes no input.
 ///
 /// What runs in several threads is started by way of `rt`, and the gate sees the threads of a run between their steps.
-/// Nothing is written unless the whole output stands. After a failing write a beginning of it went out.
+/// Nothing is written unless the whole answer stands. After a failing write a beginning of it went out.
 pub fn run_command<R: Threads + Wait + Sync, G: Gate, S: Source, W: Sink>(
     rt: &R,
     alloc: Global,

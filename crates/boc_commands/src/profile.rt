@@ -17,7 +17,7 @@ use std::alloc::Global;
 /// its end and the tick by which it has ended. Plans see the rows as they share cowns in this way.
 ///
 /// A text is refused at its first faulty line, and only where it is no record's. Nothing is written unless
-/// the whole output stands. After a failing write a beginning of it went out.
+/// the whole answer stands. After a failing write a beginning of it went out.
 pub fn profile_cmd<S: Source, W: Sink>(
     alloc: Global,
     workers: Option<Workers>,

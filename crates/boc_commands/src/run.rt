@@ -20,7 +20,7 @@ use std::thread::Threads;
 ///
 /// A program text is refused only where it spells no program, and a run for having too many behaviours only where the
 /// program can come to as many as there may be. A gate that is always on holds nobody. Nothing is written unless the
-/// whole output stands. After a failing write a beginning of it went out.
+/// whole answer stands. After a failing write a beginning of it went out.
 pub fn run_cmd<R: Threads + Wait + Sync, G: Gate, S: Source, W: Sink>(
     rt: &R,
     alloc: Global,

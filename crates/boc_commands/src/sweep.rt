@@ -16,7 +16,7 @@ use std::alloc::Global;
 /// least ticks that it can. Plans see the rows as they share cowns in this way.
 ///
 /// A text is refused at its first faulty line, and only where it is no record's. Nothing is written unless
-/// the whole output stands. After a failing write a beginning of it went out.
+/// the whole answer stands. After a failing write a beginning of it went out.
 pub fn sweep_cmd<S: Source, W: Sink>(
     alloc: Global,
     sharing: Sharing,

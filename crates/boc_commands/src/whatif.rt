@@ -19,7 +19,7 @@ use std::alloc::Global;
 /// command `profile` does.
 ///
 /// A text is refused at its first faulty line, and only where it is no record's. Edits are refused for the first
-/// that the rows can't take, as those before it have made them. Nothing is written unless the whole output stands.
+/// that the rows can't take, as those before it have made them. Nothing is written unless the whole answer stands.
 /// After a failing write a beginning of it went out.
 pub fn whatif_cmd<S: Source, W: Sink>(
     alloc: Global,

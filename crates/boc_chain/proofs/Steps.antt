@@ -112,6 +112,10 @@ apart s (r ∷ xs) q e = elim (same_or_not r.slot s) [
   | inr n ↦ prior_not r xs s q n (ap (λ b. cond b None (prior (Some r) s xs)) (sym (eqb_other r.slot s n)) ∙ e)
 ]
 
+-- a request and the one before it are at two slots
+pub far_before : (link : ℕ → ℕ → Option Tie) (c s b : ℕ) (xs : List Request) (l : Tie) → IsIn link c s xs → link s c ≡ Some l → l.before ≡ Some b → s ≢ b
+far_before link c s b xs l h e n = let q = behind link c s xs l b h e n in λ z. apart s xs q.0 q.1 (q.2 ∙ sym z)
+
 pub linked_spelled : (link mid link' : ℕ → ℕ → Option Tie) (c s b : ℕ) (xs : List Request) (l la : Tie) → IsIn link c s xs → link s c ≡ Some l → l.before ≡ Some b → link b c ≡ Some la → la.scheduled ≡ true
     → mid b c ≡ Some (record la { next = Some s }) → ((t : ℕ) → t ≢ b → mid t c ≡ link t c)
     → link' s c ≡ Some (record l { settled = true }) → ((t : ℕ) → t ≢ s → link' t c ≡ mid t c) → IsSpelled link' c (settled_behind (before s xs) s xs)

@@ -201,16 +201,6 @@ impl Linked {
         self.kept.at(place)
     }
 
-    /// Writes a link over the one at a place.
-    #[inline(always)]
-    pub fn put(&mut self, place: usize, link: Link)
-        requires { place < length self.old.links }
-        ensures links { self.new.links ≡ slice_set self.old.links place link }
-        ensures cowns { self.new.cowns ≡ self.old.cowns }
-    {
-        self.kept.put(place, ShortLink::of(link));
-    }
-
     /// Changes the link at a place.
     #[inline(always)]
     pub fn change(&mut self, place: usize, change: Change)

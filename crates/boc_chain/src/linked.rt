@@ -70,19 +70,6 @@ impl Linked {
         self.at(place)
     }
 
-    // Puts a link in the place of the one at a place.
-    #[inline(always)]
-    fn relink(&mut self, place: usize, link: Link)
-        requires { place < exchanged_of (place_in (Some self.old)) }
-        ensures here { (c : ℕ) → position (λ d. d == c) self.old.cowns.items ≡ Some place → stored_in (Some self.new) c
-            ≡ Some link }
-        ensures others { (c d : ℕ) → position (λ d. d == c) self.old.cowns.items ≡ Some place → d ≢ c
-            → stored_in (Some self.new) d ≡ stored_in (Some self.old) d }
-        ensures place { place_in (Some self.new) ≡ place_in (Some self.old) }
-    {
-        self.put(place, link);
-    }
-
     // Changes the link at a place.
     #[inline(always)]
     fn alter(&mut self, place: usize, change: Change)
@@ -119,14 +106,7 @@ pub fn settle_at(slots: &mut Slab<Linked>, node: Node) -> Settled
             let ahead = link_at(slots, before);
             if ahead.scheduled {
                 change_link(slots, before, Change::Next(node));
-                set_link(
-                    slots,
-                    node,
-                    Link {
-                        settled: true,
-                        ..link
-                    },
-                );
+                change_link(slots, node, Change::Settle);
                 Settled::Linked
             } else {
                 Settled::Blocked
@@ -205,8 +185,8 @@ pub fn cown_at(slots: &Slab<Linked>, slot: usize, i: usize) -> CownNo
     CownNo::from(slots[slot].cowns()[i])
 }
 
-/// The link of a request.
-#[inline]
+/// The link of a request. It is unpacked where it is called, so that only those parts are which the caller looks at.
+#[inline(always)]
 pub fn link_at(slots: &Slab<Linked>, node: Node) -> Link
     requires { node.place < exchanged_of (place_at slots.now node.slot) }
     ensures { (c : ℕ) → IsAt slots.now node c → stored slots.now node.slot c ≡ Some result }
@@ -215,7 +195,7 @@ pub fn link_at(slots: &Slab<Linked>, node: Node) -> Link
 }
 
 /// Changes the link of a request.
-#[inline]
+#[inline(always)]
 pub fn change_link(slots: &mut Slab<Linked>, node: Node, change: Change)
     requires { node.place < exchanged_of (place_at slots.old node.slot) }
     ensures here { (c : ℕ) (l : Link) → IsAt slots.old node c → stored slots.old node.slot c ≡ Some l → stored slots.new node.slot c ≡ Some (changed change l) }
@@ -225,17 +205,4 @@ pub fn change_link(slots: &mut Slab<Linked>, node: Node, change: Change)
     ensures len { slab_len slots.new ≡ slab_len slots.old }
 {
     slots[node.slot as usize].alter(node.place as usize, change);
-}
-
-/// Puts a link in the place of that of a request.
-#[inline]
-pub fn set_link(slots: &mut Slab<Linked>, node: Node, link: Link)
-    requires { node.place < exchanged_of (place_at slots.old node.slot) }
-    ensures here { (c : ℕ) → IsAt slots.old node c → stored slots.new node.slot c ≡ Some link }
-    ensures other_slots { (s d : ℕ) → s ≢ node.slot → stored slots.new s d ≡ stored slots.old s d }
-    ensures other_cowns { (c s d : ℕ) → IsAt slots.old node c → d ≢ c → stored slots.new s d ≡ stored slots.old s d }
-    ensures places { (s : ℕ) → place_at slots.new s ≡ place_at slots.old s }
-    ensures len { slab_len slots.new ≡ slab_len slots.old }
-{
-    slots[node.slot as usize].relink(node.place as usize, link);
 }

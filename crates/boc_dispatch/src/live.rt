@@ -1,6 +1,6 @@
 //! Behaviours that are not gone yet.
 
-ghost use Rattle.std.specs.Prelude.{◌≡◌, ◌+◌, ◌==◌, ◌≤◌, ◌<◌, ◌^◌, ◌↔◌, ℕ, suc, None, Some, Option, IsTrue, IfOk, length, slice_get, false, []};
+ghost use Rattle.std.specs.Prelude.{◌≡◌, ◌+◌, ◌==◌, ◌≤◌, ◌<◌, ◌^◌, ◌↔◌, ℕ, suc, None, Some, Option, IsTrue, IfOk, IfSome, length, slice_get, false, []};
 ghost use Rattle.boc_types.specs.declared.limits.TheConstants.{MOST_HELD};
 ghost use Rattle.boc_types.specs.declared.stage.Phase.TheVariants as phases;
 ghost use Rattle.boc_types.specs.declared.stage.Stage.TheVariants.{Asking, Recorded};
@@ -17,8 +17,9 @@ use crate::kept_args::KeptArgs;
 use crate::kept_stage::KeptStage;
 use boc_eval::SpawnWish;
 use boc_types::body::Body;
-use boc_types::cowns::rising_cowns;
+use boc_types::cowns::{are_cowns, rising_cowns};
 use boc_types::held::HeldCowns;
+use boc_types::limits::MOST_COWNS;
 use boc_types::program::Program;
 use boc_types::short::{Cowns, Input};
 use boc_types::stage::{Phase, Stage};
@@ -75,6 +76,20 @@ pub fn main_behaviour() -> Live
     }
 }
 
+// Some cowns in their order and in rising order, unless one of them has no byte. Mostly they rise as they stand.
+#[tactic(auto, using(boc_types::proofs::RisingNumbers::rising_is))]
+fn held_cowns(cowns: &Cowns) -> Option<(HeldCowns, HeldCowns)>
+    ensures same { IfSome result (λ held. held.0 ≡ cowns.now) }
+    ensures rising { IfSome result (λ held. held.1.items ≡ rising cowns.now.items) }
+{
+    if are_cowns(cowns, MOST_COWNS as u32) {
+        let held = HeldCowns::of(cowns);
+        return Some((held.duplicate(), held));
+    }
+    let rising = HeldCowns::try_of(&rising_cowns(cowns))?;
+    Some((HeldCowns::try_of(cowns)?, rising))
+}
+
 /// The behaviour of a row's wish as it is opened, under a number of its own. `AllocError` says that memory was refused; a cown
 /// that has no byte would be refused so too.
 pub fn wished_behaviour(
@@ -89,12 +104,10 @@ pub fn wished_behaviour(
     ensures awaited { IfOk result (λ l. l.awaited ≡ length l.cowns.items + 1) }
     ensures fresh { IfOk result (λ l. (l.spawned ≡ 0) × (l.child ≡ None)) }
 {
-    let cowns = rising_cowns(&wish.cowns);
-    let awaited = cowns.len() as u8 + 1;
-    let (Some(params), Some(cowns)) = (HeldCowns::try_of(&wish.cowns), HeldCowns::try_of(&cowns))
-    else {
+    let Some((params, cowns)) = held_cowns(&wish.cowns) else {
         return Err(AllocError);
     };
+    let awaited = cowns.as_slice().len() as u8 + 1;
     let Ok(kind) = u32::try_from(wish.kind) else {
         return Err(AllocError);
     };

@@ -502,6 +502,7 @@ impl<'a, C: Chains + Drop> Machine<'a, C> {
 
     // This request of the leaving behaviour of a row, which is at a slot, is released by this step: it goes on with the next
     // one, or is gone.
+    #[inline(always)]
     fn leave_on(&mut self, slot: usize, row: u32, request: usize, step: Step) -> Left
         requires { IsReleased slot row request (parts_of C.lists C.place self.old)
             (vec_capacity self.old.homes) (deque_capacity self.old.ready) }

@@ -1,13 +1,14 @@
 // The rows for which each row waits, by what was used of each cown before it.
 
-ghost use Rattle.std.specs.Prelude.{◌<◌, ◌+◌, length, List, Contains, IfOk};
+ghost use Rattle.std.specs.Prelude.{◌≡◌, ◌<◌, ◌≤◌, ◌+◌, length, List, Contains, IfOk};
 ghost use Rattle.boc_types.specs.declared.rows.Row.{Row};
 ghost use Rattle.boc_types.specs.runs.Rows.{IsRows, cowns_of};
-ghost use Rattle.boc_order.specs.Waits.{AreWaits};
+ghost use Rattle.boc_order.specs.Waits.{AreBounds, AreWaits, links_of, lists_between};
+ghost use Rattle.boc_order.specs.Gathered.{AreGathered};
 ghost use Rattle.boc_order.specs.Uses.{IsUse, AreUses, AddsNearOn, AddsNear};
 
-use crate::links::Links;
-use boc_types::limits::MOST_COWNS;
+use crate::links::{Links, end_of};
+use boc_types::limits::{MOST_COWNS, MOST_HELD, MOST_ROWS};
 use boc_types::sharing::SeenRows;
 use std::alloc::{AllocError, Global};
 
@@ -95,22 +96,75 @@ pub(crate) fn gather(
     Ok(())
 }
 
+/// The rows for which the rows so far wait.
+#[derive(Drop)]
+pub struct Gathering {
+    /// What was used of each cown.
+    pub uses: Vec<Use>,
+    /// Where each row's waits begin in the list, and where those of the last row end.
+    pub first: Vec<u32>,
+    /// The waits of all rows, one behind the other.
+    pub list: Vec<u32>,
+}
+
+impl Gathering {
+    // No row's waits are gathered, and there is room for the bounds of so many. `AllocError` says that memory was
+    // refused.
+    pub(crate) fn with_room(alloc: Global, count: usize) -> Result<Gathering, AllocError>
+        requires { count ≤ MOST_ROWS }
+        ensures { IfOk result (λ g. (rows : List Row) → length rows ≡ count → AreGathered rows 0 g) }
+    {
+        let mut first = Vec::with_capacity(alloc, count + 1)?;
+        first.push_reserved(0);
+        Ok(Gathering {
+            uses: unused(alloc)?,
+            first,
+            // A row waits for no more rows than it has cowns, where cowns are exclusive.
+            list: Vec::with_capacity(alloc, MOST_HELD * count)?,
+        })
+    }
+
+    // Gathers the waits of the next row.
+    pub(crate) fn gather_next(&mut self, rows: &SeenRows, row: usize) -> Result<(), AllocError>
+        requires shape { IsRows rows.now }
+        requires there { row < length rows.now }
+        requires gathered { AreGathered rows.now row self.old }
+        ensures { IfOk result (λ _. AreGathered rows.now (row + 1) self.new) }
+    {
+        gather(rows, row, &mut self.uses, &mut self.list)?;
+        self.first.push_reserved(end_of(&self.list)?);
+        Ok(())
+    }
+
+    // The waits of a row, the last so far.
+    pub(crate) fn last(&self, row: usize) -> &[u32]
+        requires bounds { AreBounds self.now.first.items (length self.now.list.items) }
+        requires last { length self.now.first.items ≡ row + 2 }
+        ensures { result.now ≡ links_of (lists_between self.now.first.items self.now.list.items) row }
+    {
+        &self.list[self.first[row] as usize..]
+    }
+
+    // The waits of all rows.
+    pub(crate) fn into_links(self) -> Links
+        requires { AreBounds self.first.items (length self.list.items) }
+        ensures { result ≡ lists_between self.first.items self.list.items }
+    {
+        Links::new(self.first, self.list)
+    }
+}
+
 /// For each row the nearest rows that it waits for: every other row that it waits for is before one of them. A row may
 /// stand twice where two cowns are in common.
 ///
 /// There are at most twice as many links as the rows have cowns, and it takes memory and time that grow with the
-/// number of these. `AllocError` says that memory was refused.
+/// number of rows and of these. `AllocError` says that memory was refused.
 pub fn waits(alloc: Global, rows: &SeenRows) -> Result<Links, AllocError>
     ensures { IfOk result (λ links. AreWaits rows.now links) }
 {
-    let count = rows.len();
-    let mut uses = unused(alloc)?;
-    let mut list = Vec::new(alloc);
-    let mut first = Vec::with_capacity(alloc, count + 1)?;
-    first.push_reserved(0);
-    for row in 0..count {
-        gather(rows, row, &mut uses, &mut list)?;
-        first.push_reserved(list.as_slice().len());
+    let mut gathering = Gathering::with_room(alloc, rows.len())?;
+    for row in 0..rows.len() {
+        gathering.gather_next(rows, row)?;
     }
-    Ok(Links::new(first, list))
+    Ok(gathering.into_links())
 }

@@ -13,14 +13,19 @@ pub struct Latest {
     pub row: u32,
 }
 
-// The one that ends later; where both end together, the one with the smaller number.
+// The one that ends later; where both end together, the one with the smaller number. Ends are in no order that could
+// be foretold, so each part is chosen by itself, in a way that needs no branch.
 fn later(a: Latest, b: Latest) -> Latest
     ensures { result ≡ later_of a b }
 {
-    if a.end < b.end || (a.end == b.end && b.row < a.row) {
-        b
+    let least = if a.end == b.end {
+        a.row.min(b.row)
     } else {
-        a
+        a.row
+    };
+    Latest {
+        end: a.end.max(b.end),
+        row: if a.end < b.end { b.row } else { least },
     }
 }
 

@@ -15,5 +15,5 @@ pub use check::check_chain;
 pub use following::followers;
 pub use gathering::waits;
 pub use links::Links;
-pub use plan::{Earliest, earliest_plan, last_end};
+pub use plan::{Earliest, last_end, waits_and_plan};
 pub use report::Profile;

@@ -1,12 +1,15 @@
 // For each row some others, in one flat list.
 
+ghost use Rattle.std.specs.Prelude.{◌≡◌, length, IfOk};
+
+use std::alloc::AllocError;
 use std::marker::Model;
 
 /// For each row the numbers of others, by the row's number.
 #[derive(Drop)]
 pub struct Links {
     // Where each row's links begin in the list, and where those of the last row end.
-    first: Vec<usize>,
+    first: Vec<u32>,
     list: Vec<u32>,
 }
 
@@ -22,13 +25,21 @@ impl Model for Links {
     ghost invariant = { λ l. AreBounds l.first.items (length l.list.items) };
 }
 
+// The place at which a list of links ends, as places are kept. A list that is too long for them is memory that is
+// refused.
+pub(crate) fn end_of(list: &[u32]) -> Result<u32, AllocError>
+    ensures { IfOk result (λ end. end ≡ length list.now) }
+{
+    u32::try_from(list.len()).map_err(|_| AllocError)
+}
+
 impl Links {
     ghost use Rattle.std.specs.Prelude.{◌≡◌, ◌<◌, length};
     ghost use Rattle.std.specs.List.{concat};
     ghost use Rattle.boc_order.specs.Waits.{lists_between, links_of, AreBounds};
 
     /// The lists between these places of a flat list.
-    pub(crate) fn new(first: Vec<usize>, list: Vec<u32>) -> Links
+    pub(crate) fn new(first: Vec<u32>, list: Vec<u32>) -> Links
         requires { AreBounds first.items (length list.items) }
         ensures { result ≡ lists_between first.items list.items }
     {
@@ -39,7 +50,7 @@ impl Links {
     pub(crate) fn all(&self) -> &[u32]
         ensures { result.now ≡ concat self.now }
     {
-        &self.list[self.first[0]..]
+        &self.list[self.first[0] as usize..]
     }
 
     /// How many rows there are.
@@ -54,6 +65,6 @@ impl Links {
         requires { row < length self.now }
         ensures { result.now ≡ links_of self.now row }
     {
-        &self.list[self.first[row]..self.first[row + 1]]
+        &self.list[self.first[row] as usize..self.first[row + 1] as usize]
     }
 }

@@ -9,7 +9,7 @@ ghost use Rattle.boc_order.specs.Room.{HasRoom};
 ghost use Rattle.boc_order.specs.Standing.{IsPlanOf};
 ghost use Rattle.boc_order.specs.Waits.{AreWaits, HasWaits};
 
-use crate::gathering::{gather, unused};
+use crate::gathering::{Gathering, gather, unused};
 use crate::latest::{Latest, latest_of};
 use crate::links::Links;
 use boc_types::sharing::SeenRows;
@@ -120,16 +120,21 @@ impl Earliest {
     }
 }
 
-/// The earliest plan of rows that wait for these. `AllocError` says that memory was refused.
-pub fn earliest_plan(alloc: Global, rows: &SeenRows, waits: &Links) -> Result<Earliest, AllocError>
-    requires { AreWaits rows.now waits.now }
+/// For each row the rows that it waits for, as `waits` has them, and the earliest plan of the rows. `AllocError` says
+/// that memory was refused.
+pub fn waits_and_plan(alloc: Global, rows: &SeenRows) -> Result<(Links, Earliest), AllocError>
     ensures shape { IsRows rows.now }
-    ensures placed { IfOk result (λ e. ArePlaced rows.now e.starts.items e.ends.items e.after.items (length rows.now)) }
-    ensures room { IfOk result (λ e. HasRoom e (length rows.now)) }
+    ensures waits { IfOk result (λ found. AreWaits rows.now found.0) }
+    ensures placed { IfOk result (λ found. IsPlanOf rows.now found.1) }
+    ensures room { IfOk result (λ found. HasRoom found.1 (length rows.now)) }
 {
     let mut plan = Earliest::with_room(alloc, rows.len())?;
-    plan.place_from(rows, waits, 0);
-    Ok(plan)
+    let mut gathering = Gathering::with_room(alloc, rows.len())?;
+    for row in 0..rows.len() {
+        gathering.gather_next(rows, row)?;
+        plan.place_next(rows, row, gathering.last(row));
+    }
+    Ok((gathering.into_links(), plan))
 }
 
 /// The earliest plan of the rows, each of which is placed as soon as it is known for which rows it waits. `AllocError`

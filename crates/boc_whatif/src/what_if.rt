@@ -10,7 +10,7 @@ ghost use Rattle.boc_greedy.specs.Plans.{IsGreedyPlanOf};
 ghost use Rattle.boc_sweep.specs.Lasts.{HasLasts};
 
 use boc_greedy::{Greedy, greedy_over};
-use boc_order::{Earliest, Links, Profile, earliest_plan, waits};
+use boc_order::{Earliest, Links, Profile, waits_and_plan};
 use boc_sweep::{last_children, least_ticks, sweep};
 use boc_types::edit::EditFault;
 use boc_types::limits::MOST_TICKS;
@@ -85,8 +85,7 @@ impl WhatIf {
     {
         let lasts = last_children(alloc, rows.as_slice())?;
         let seen = SeenRows::new(&rows, sharing);
-        let waits = waits(alloc, &seen)?;
-        let plan = earliest_plan(alloc, &seen, &waits)?;
+        let (waits, plan) = waits_and_plan(alloc, &seen)?;
         Ok(WhatIf {
             rows,
             sharing,

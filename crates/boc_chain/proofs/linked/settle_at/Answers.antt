@@ -4,7 +4,7 @@ use Rattle.boc_chain.specs.declared.linked.Node.{Node}
 use Rattle.boc_chain.specs.declared.request.Settled.TheVariants.{Linked, Blocked}
 use Rattle.boc_chain.specs.Chain.{before, answer_behind, times, cowns_of, exchanged_of}
 use Rattle.boc_chain.specs.Linked.{links, seen}
-use Rattle.boc_chain.proofs.Steps.{lone_before, lone_spelled, behind_answer, linked_spelled, blocked_spelled}
+use Rattle.boc_chain.proofs.Steps.{lone_before, lone_spelled, behind_answer, linked_spelled, blocked_spelled, far_before}
 use Rattle.boc_chain.proofs.Placed.{at_kept, placed_kept, slots_settled_behind, holds_it, before_it, lone_placed, linked_placed}
 use Rattle.boc_chain.proofs.linked.settle_at.Goals as goal
 
@@ -20,8 +20,8 @@ link_at-ahead-requires c = (before_it c.args.slots.now c.requires.0 c.args.node 
 pub change_link-requires-then-ahead : goal.change_link-requires-then-ahead
 change_link-requires-then-ahead c = (before_it c.args.slots.now c.requires.0 c.args.node c.in-Some.before c.requires.1.0 c.link_at-link.result c.requires.1.1 (c.link_at-link.ensures c.requires.0 c.requires.1.1.at) c.in-Some.is).exchanged
 
-pub set_link-requires : goal.set_link-requires
-set_link-requires c =
+pub change_link-requires-then-ahead-2 : goal.change_link-requires-then-ahead-2
+change_link-requires-then-ahead-2 c =
     omega (arith, (holds_it c.args.slots.now c.requires.0 c.args.node c.requires.1.0 c.requires.1.1).exchanged, ap exchanged_of (c.change_link-then-ahead.ensures.places c.args.node.slot))
 
 pub returns-in-None-clause-answer : goal.returns-in-None-clause-answer
@@ -52,26 +52,28 @@ returns-then-ahead-clause-spelled c = λ d xs h.
     let got = c.link_at-link.ensures d h.at in
     let it = before_it c.args.slots.now d c.args.node c.in-Some.before xs c.link_at-link.result h got c.in-Some.is in
     let at = at_kept c.args.slots.now c.change_link-then-ahead.new.slots c.args.node d (ap cowns_of (c.change_link-then-ahead.ensures.places c.args.node.slot)) h.at in
-    linked_spelled (links c.args.slots.now) (links c.change_link-then-ahead.new.slots) (links c.set_link.new.slots) d c.args.node.slot c.in-Some.before.slot xs (seen c.link_at-link.result) (seen c.link_at-ahead.result) h.inside
+    let far = far_before (links c.args.slots.now) d c.args.node.slot c.in-Some.before.slot xs (seen c.link_at-link.result) h.inside (ap (option_map seen) got) (ap (option_map (λ (n : Node). n.slot)) c.in-Some.is) in
+    linked_spelled (links c.args.slots.now) (links c.change_link-then-ahead.new.slots) (links c.change_link-then-ahead-2.new.slots) d c.args.node.slot c.in-Some.before.slot xs (seen c.link_at-link.result) (seen c.link_at-ahead.result) h.inside
     (ap (option_map seen) got) (ap (option_map (λ (n : Node). n.slot)) c.in-Some.is) (ap (option_map seen) (c.link_at-ahead.ensures d it.at)) c.if-ahead.true
     (ap (option_map seen) (c.change_link-then-ahead.ensures.here d c.link_at-ahead.result it.at (c.link_at-ahead.ensures d it.at))) (λ t n. ap (option_map seen) (c.change_link-then-ahead.ensures.other_slots t d n))
-    (ap (option_map seen) (c.set_link.ensures.here d at)) (λ t n. ap (option_map seen) (c.set_link.ensures.other_slots t d n))
+    (ap (option_map seen) (c.change_link-then-ahead-2.ensures.here d c.link_at-link.result at (c.change_link-then-ahead.ensures.other_slots c.args.node.slot d far ∙ got))) (λ t n. ap (option_map seen) (c.change_link-then-ahead-2.ensures.other_slots t d n))
 
 pub returns-then-ahead-clause-placed : goal.returns-then-ahead-clause-placed
 returns-then-ahead-clause-placed c = λ d xs h.
     let got = c.link_at-link.ensures d h.at in
     let it = before_it c.args.slots.now d c.args.node c.in-Some.before xs c.link_at-link.result h got c.in-Some.is in
     let at = at_kept c.args.slots.now c.change_link-then-ahead.new.slots c.args.node d (ap cowns_of (c.change_link-then-ahead.ensures.places c.args.node.slot)) h.at in
-    linked_placed c.args.slots.now c.change_link-then-ahead.new.slots c.set_link.new.slots d c.args.node c.in-Some.before xs (before c.args.node.slot xs) c.link_at-link.result c.link_at-ahead.result h got
+    let far = far_before (links c.args.slots.now) d c.args.node.slot c.in-Some.before.slot xs (seen c.link_at-link.result) h.inside (ap (option_map seen) got) (ap (option_map (λ (n : Node). n.slot)) c.in-Some.is) in
+    linked_placed c.args.slots.now c.change_link-then-ahead.new.slots c.change_link-then-ahead-2.new.slots d c.args.node c.in-Some.before xs (before c.args.node.slot xs) c.link_at-link.result c.link_at-ahead.result h got
     (c.link_at-ahead.ensures d it.at) it.there
     (c.change_link-then-ahead.ensures.here d c.link_at-ahead.result it.at (c.link_at-ahead.ensures d it.at)) (λ t n. c.change_link-then-ahead.ensures.other_slots t d n) c.change_link-then-ahead.ensures.places
-    (c.set_link.ensures.here d at) (λ t n. c.set_link.ensures.other_slots t d n) c.set_link.ensures.places
+    (c.change_link-then-ahead-2.ensures.here d c.link_at-link.result at (c.change_link-then-ahead.ensures.other_slots c.args.node.slot d far ∙ got)) (λ t n. c.change_link-then-ahead-2.ensures.other_slots t d n) c.change_link-then-ahead-2.ensures.places
 
 pub returns-then-ahead-clause-other_cowns : goal.returns-then-ahead-clause-other_cowns
 returns-then-ahead-clause-other_cowns c = λ d s e xs h n.
     let it = before_it c.args.slots.now d c.args.node c.in-Some.before xs c.link_at-link.result h (c.link_at-link.ensures d h.at) c.in-Some.is in
     let at = at_kept c.args.slots.now c.change_link-then-ahead.new.slots c.args.node d (ap cowns_of (c.change_link-then-ahead.ensures.places c.args.node.slot)) h.at in
-    c.set_link.ensures.other_cowns d s e at n ∙ c.change_link-then-ahead.ensures.other_cowns d s e it.at n
+    c.change_link-then-ahead-2.ensures.other_cowns d s e at n ∙ c.change_link-then-ahead.ensures.other_cowns d s e it.at n
 
 pub returns-else-ahead-clause-answer : goal.returns-else-ahead-clause-answer
 returns-else-ahead-clause-answer c = λ d xs h.

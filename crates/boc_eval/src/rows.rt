@@ -4,6 +4,7 @@ ghost use Rattle.std.specs.Prelude.{◌≡◌, ◌<◌, ◌≤◌, [], ◌∷◌
 ghost use Rattle.boc_types.specs.runs.Serial.{Behaviour};
 ghost use Rattle.boc_eval.specs.Behaviours.{IsConsistent, behaviour_at, behaviours_of};
 
+use crate::lists::push_each;
 use boc_types::short::CownNo;
 use std::alloc::{AllocError, Global};
 
@@ -64,8 +65,8 @@ impl Rows {
     {
         let args_from = self.args.len() as u32;
         let cowns_from = self.cowns.len() as u32;
-        self.args.extend_from_slice(args)?;
-        self.cowns.extend_from_slice(cowns)?;
+        push_each(&mut self.args, args)?;
+        push_each(&mut self.cowns, cowns)?;
         self.rows.push(Row {
             kind,
             args: Extent {

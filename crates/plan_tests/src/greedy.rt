@@ -1,89 +1,85 @@
 //! The greedy plans of worked rows. Those of many other rows are in the table of `answers`.
 
+use crate::figures::are;
 use crate::worked_rows::{peek_and_set, row, rows_of, transfer};
 use boc_greedy::{Greedy, greedy};
-use boc_types::rows::Rows;
+use boc_types::rows::{Row, Rows};
 use boc_types::sharing::Sharing;
 use boc_types::workers::Workers;
-use std::alloc::Global;
+use std::alloc::{AllocError, Global};
 use std::process::Abort;
-use std::test::Fail;
-
-// The greedy plan for p workers, of rows that have their cowns to themselves.
-fn plan_for(alloc: Global, rows: &Rows, p: u32) -> Result<Greedy, Fail> {
-    shared_plan_for(alloc, rows, p, Sharing::Exclusive)
-}
 
 // The greedy plan for p workers.
-fn shared_plan_for(alloc: Global, rows: &Rows, p: u32, sharing: Sharing) -> Result<Greedy, Fail> {
-    let workers = Workers::new(p).ok_or("no number of workers")?;
-    Ok(greedy(alloc, rows, workers, sharing)?)
+fn plan_for(rt: &impl Abort, alloc: Global, rows: &Rows, p: u32, sharing: Sharing) -> Greedy {
+    let workers = Workers::new(p).expect(rt, "a number of workers");
+    greedy(alloc, rows, workers, sharing).expect(rt, "memory")
 }
 
-// The plan has these starts, workers, end and bound.
-fn has_plan(
-    rt: &impl Abort,
-    found: &Greedy,
-    starts: &[u64],
-    workers: &[u32],
-    ends_at: u64,
-    bound: u64,
-) {
-    assert_eq!(rt; found.starts.as_slice(), starts);
+// The plan has these starts and workers, and this number of workers, end and bound.
+fn has_plan(rt: &impl Abort, found: &Greedy, starts: &[u64], workers: &[u32], figures: [u64; 3]) {
+    are(rt, &found.starts, starts);
     assert_eq!(rt; found.workers.as_slice(), workers);
-    assert_eq!(rt; found.ends_at, ends_at);
-    assert_eq!(rt; found.bound, bound);
+    are(
+        rt,
+        &[u64::from(found.p), found.ends_at, found.bound],
+        &figures,
+    );
 }
 
 #[test]
-fn transfer_by_one_and_two(rt: HostRuntime) -> Result<(), Fail> {
+fn transfer_by_one(rt: HostRuntime) {
     let alloc = rt.alloc();
-    let rows = transfer(alloc)?;
-    let one = plan_for(alloc, &rows, 1)?;
-    has_plan(&rt, &one, &[0, 4, 6, 9], &[0, 0, 0, 0], 11, 20);
-    assert_eq!(rt; one.ends.as_slice(), [4, 6, 9, 11].as_slice());
-    assert_eq!(rt; one.p, 1);
-    let two = plan_for(alloc, &rows, 2)?;
-    has_plan(&rt, &two, &[0, 2, 4, 7], &[0, 1, 0, 0], 9, 14);
-    assert_eq!(rt; two.p, 2);
+    let rows = transfer(&rt, alloc);
+    let one = plan_for(&rt, alloc, &rows, 1, Sharing::Exclusive);
+    has_plan(&rt, &one, &[0, 4, 6, 9], &[0, 0, 0, 0], [1, 11, 20]);
+    are(&rt, &one.ends, &[4, 6, 9, 11]);
+}
+
+#[test]
+fn transfer_by_two(rt: HostRuntime) {
+    let alloc = rt.alloc();
+    let rows = transfer(&rt, alloc);
+    let two = plan_for(&rt, alloc, &rows, 2, Sharing::Exclusive);
+    has_plan(&rt, &two, &[0, 2, 4, 7], &[0, 1, 0, 0], [2, 9, 14]);
     // 0, the spawns at 2, 3 and 4, and the ends at 4, 7 and 9.
-    assert_eq!(rt; two.moments, 6);
-    Ok(())
+    are(&rt, &[two.moments], &[6]);
 }
 
 #[test]
-fn readers_side_by_side(rt: HostRuntime) -> Result<(), Fail> {
+fn readers_side_by_side(rt: HostRuntime) {
     let alloc = rt.alloc();
-    let rows = peek_and_set(alloc)?;
-    let shared = shared_plan_for(alloc, &rows, 2, Sharing::SharedReads)?;
-    has_plan(&rt, &shared, &[0, 2, 4, 11], &[0, 1, 0, 0], 13, 22);
-    let exclusive = plan_for(alloc, &rows, 2)?;
-    assert_eq!(rt; (exclusive.ends_at, exclusive.bound), (18, 28));
-    Ok(())
+    let rows = peek_and_set(&rt, alloc);
+    let shared = plan_for(&rt, alloc, &rows, 2, Sharing::SharedReads);
+    has_plan(&rt, &shared, &[0, 2, 4, 11], &[0, 1, 0, 0], [2, 13, 22]);
+    let exclusive = plan_for(&rt, alloc, &rows, 2, Sharing::Exclusive);
+    are(&rt, &[exclusive.ends_at, exclusive.bound], &[18, 28]);
 }
 
 #[test]
-fn one_long_row_by_many(rt: HostRuntime) -> Result<(), Fail> {
+fn one_long_row_by_many(rt: HostRuntime) {
     let alloc = rt.alloc();
-    let mut list = Vec::new(alloc);
-    list.push(row(0, 0, &[], 1_000_000))?;
-    let many = plan_for(alloc, &rows_of(list)?, 64)?;
-    has_plan(&rt, &many, &[0], &[0], 1_000_000, 1_015_625);
-    assert_eq!(rt; many.moments, 2);
-    Ok(())
+    let list = Vec::from_array(alloc, [row(0, 0, &[], 1_000_000)]).expect(&rt, "memory");
+    let many = plan_for(&rt, alloc, &rows_of(&rt, list), 64, Sharing::Exclusive);
+    has_plan(&rt, &many, &[0], &[0], [64, 1_000_000, 1_015_625]);
+    are(&rt, &[many.moments], &[2]);
 }
 
-#[test]
-fn as_many_long_rows_as_there_can_be(rt: HostRuntime) -> Result<(), Fail> {
-    let alloc = rt.alloc();
-    let mut list = Vec::new(alloc);
+// Main, and as many long rows as it can spawn.
+fn long_rows(alloc: Global) -> Result<Vec<Row>, AllocError> {
+    let mut list = Vec::with_capacity(alloc, 65_535)?;
     list.push(row(0, 0, &[], 65_535))?;
     for number in 1..65_535 {
         list.push(row(0, number + 1, &[], 1_000_000))?;
     }
-    let many = plan_for(alloc, &rows_of(list)?, 64)?;
-    assert_eq!(rt; many.bound, 1_025_035_308);
+    Ok(list)
+}
+
+#[test]
+fn as_many_long_rows_as_there_can_be(rt: HostRuntime) {
+    let alloc = rt.alloc();
+    let rows = rows_of(&rt, long_rows(alloc).expect(&rt, "memory"));
+    let many = plan_for(&rt, alloc, &rows, 64, Sharing::Exclusive);
+    are(&rt, &[many.bound], &[1_025_035_308]);
     assert!(rt; many.moments <= 131_070);
     assert!(rt; many.ends_at <= many.bound);
-    Ok(())
 }

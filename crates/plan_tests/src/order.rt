@@ -7,7 +7,6 @@ use boc_types::rows::Rows;
 use boc_types::sharing::Sharing;
 use std::alloc::Global;
 use std::process::Abort;
-use std::test::Fail;
 
 fn step(row: u32, via: Via, weight: u32) -> ChainStep {
     ChainStep { row, via, weight }
@@ -20,20 +19,18 @@ fn are_checked(
     rows: &Rows,
     sharing: Sharing,
     cases: &[(&[ChainStep], Result<u64, usize>)],
-) -> Result<(), Fail> {
-    for (steps, wanted) in cases {
-        let chain = Chain {
-            steps: steps.to_vec(alloc)?,
-        };
-        assert_eq!(rt; check_chain(rows, &chain, sharing), *wanted, "{steps:?}");
+) {
+    for (place, (steps, wanted)) in cases.iter().enumerate() {
+        let steps = steps.to_vec(alloc).expect(rt, "memory");
+        let found = check_chain(rows, &Chain { steps }, sharing);
+        assert_eq!(rt; (place, found), (place, *wanted));
     }
-    Ok(())
 }
 
 #[test]
-fn chains_are_checked(rt: HostRuntime) -> Result<(), Fail> {
+fn chains_are_checked(rt: HostRuntime) {
     let alloc = rt.alloc();
-    let rows = transfer(alloc)?;
+    let rows = transfer(&rt, alloc);
     let main = step(0, Via::Spawn, 2);
     let deposit = step(1, Via::Order, 2);
     let both = step(2, Via::Order, 3);
@@ -48,13 +45,13 @@ fn chains_are_checked(rt: HostRuntime) -> Result<(), Fail> {
         (&[deposit, both, last], Err(0)),
         (&[], Err(0)),
     ];
-    are_checked(&rt, alloc, &rows, Sharing::Exclusive, &cases)
+    are_checked(&rt, alloc, &rows, Sharing::Exclusive, &cases);
 }
 
 #[test]
-fn true_chain_and_false_ones_over_two_cowns(rt: HostRuntime) -> Result<(), Fail> {
+fn true_chain_and_false_ones_over_two_cowns(rt: HostRuntime) {
     let alloc = rt.alloc();
-    let rows = waiting_for_both(alloc)?;
+    let rows = waiting_for_both(&rt, alloc);
     let main = step(0, Via::Spawn, 2);
     let first = step(1, Via::Order, 3);
     let last = step(3, Via::Last, 1);
@@ -64,13 +61,13 @@ fn true_chain_and_false_ones_over_two_cowns(rt: HostRuntime) -> Result<(), Fail>
         (&[main, first, step(2, Via::Last, 2)], Err(1)),
         (&[], Err(0)),
     ];
-    are_checked(&rt, alloc, &rows, Sharing::Exclusive, &cases)
+    are_checked(&rt, alloc, &rows, Sharing::Exclusive, &cases);
 }
 
 #[test]
-fn two_readers_are_ordered_only_where_cowns_are_exclusive(rt: HostRuntime) -> Result<(), Fail> {
+fn two_readers_are_ordered_only_where_cowns_are_exclusive(rt: HostRuntime) {
     let alloc = rt.alloc();
-    let rows = peek_and_set(alloc)?;
+    let rows = peek_and_set(&rt, alloc);
     let chain = [
         step(0, Via::Spawn, 2),
         step(1, Via::Order, 7),
@@ -86,7 +83,7 @@ fn two_readers_are_ordered_only_where_cowns_are_exclusive(rt: HostRuntime) -> Re
         (&chain, Ok(18)),
         (&past_one, Ok(12)),
     ];
-    are_checked(&rt, alloc, &rows, Sharing::Exclusive, &exclusive)?;
+    are_checked(&rt, alloc, &rows, Sharing::Exclusive, &exclusive);
     let shared: [(&[ChainStep], Result<u64, usize>); 2] = [(&chain, Err(1)), (&past_one, Ok(12))];
-    are_checked(&rt, alloc, &rows, Sharing::SharedReads, &shared)
+    are_checked(&rt, alloc, &rows, Sharing::SharedReads, &shared);
 }

@@ -1,81 +1,116 @@
 //! Edits and sweeps of worked rows.
 
+use crate::figures::are;
 use crate::worked_rows::{peek_and_set, transfer};
 use boc_types::edit::EditFault;
 use boc_types::sharing::Sharing;
 use boc_types::workers::Workers;
 use boc_whatif::WhatIf;
-use std::test::Fail;
+use std::alloc::Global;
+use std::process::Abort;
 
-#[test]
-fn cheaper_row_shortens_the_run(rt: HostRuntime) -> Result<(), Fail> {
-    let mut question = WhatIf::new(rt.alloc(), &transfer(rt.alloc())?, Sharing::Exclusive)?;
-    assert_eq!(rt; question.touched(), 0);
-    assert_eq!(rt; question.work(), 11);
-    assert_eq!(rt; question.span(), 9);
-    assert_eq!(rt; question.edit(2, 1), Ok(()));
-    assert_eq!(rt; question.work(), 9);
-    assert_eq!(rt; question.span(), 7);
-    assert_eq!(rt; question.touched(), 2);
-    let profile = question.profile(rt.alloc())?;
-    assert_eq!(rt; profile.starts.as_slice(), [0, 2, 4, 5].as_slice());
-    assert_eq!(rt; question.edit(2, 1), Ok(()));
-    assert_eq!(rt; question.span(), 7);
-    assert_eq!(rt; question.rows().as_slice()[0].ticks, 4);
-    Ok(())
+// What the transfer program's rows would be worth.
+fn of_transfer(rt: &impl Abort, alloc: Global) -> WhatIf {
+    WhatIf::of(alloc, transfer(rt, alloc), Sharing::Exclusive).expect(rt, "memory")
 }
 
-#[test]
-fn rows_are_taken_over(rt: HostRuntime) -> Result<(), Fail> {
-    let mut question = WhatIf::of(rt.alloc(), transfer(rt.alloc())?, Sharing::Exclusive)?;
-    assert_eq!(rt; question.touched(), 0);
-    assert_eq!(rt; question.rows().as_slice().len(), 4);
-    let before = question.profile(rt.alloc())?;
-    assert_eq!(rt; (before.work, before.span), (11, 9));
-    assert_eq!(rt; before.starts.as_slice(), [0, 2, 4, 7].as_slice());
-    assert_eq!(rt; question.edit(2, 1), Ok(()));
-    let after = question.profile(rt.alloc())?;
-    assert_eq!(rt; (after.work, after.span), (9, 7));
-    assert_eq!(rt; after.starts.as_slice(), [0, 2, 4, 5].as_slice());
-    assert_eq!(rt; after.ends.as_slice(), [4, 4, 5, 7].as_slice());
-    let two = Workers::new(2).ok_or("no number of workers")?;
-    let greedy = question.greedy(rt.alloc(), two)?;
-    assert_eq!(rt; greedy.starts.as_slice(), [0, 2, 4, 5].as_slice());
-    assert_eq!(rt; (greedy.ends_at, greedy.bound), (7, 11));
-    Ok(())
-}
-
-#[test]
-fn refused_edits_change_nothing(rt: HostRuntime) -> Result<(), Fail> {
-    let mut question = WhatIf::new(rt.alloc(), &transfer(rt.alloc())?, Sharing::Exclusive)?;
-    assert_eq!(rt; question.edit(1, 1), Ok(()));
-    let refused = [
-        (0, 3, EditFault::BelowSpawn),
-        (2, 0, EditFault::BelowSpawn),
-        (4, 1, EditFault::NoRow),
-        (2, 1_000_001, EditFault::TooManyTicks),
-    ];
-    for (row, ticks, fault) in &refused {
-        assert_eq!(rt; question.edit(*row, *ticks), Err(*fault));
-        assert_eq!(rt; question.touched(), 3);
-        assert_eq!(rt; question.work(), 10);
-        assert_eq!(rt; question.span(), 8);
-    }
-    Ok(())
-}
-
-#[test]
-fn shared_reads_are_kept_by_edits(rt: HostRuntime) -> Result<(), Fail> {
-    let alloc = rt.alloc();
-    let mut question = WhatIf::of(alloc, peek_and_set(alloc)?, Sharing::SharedReads)?;
-    assert_eq!(rt; question.sharing(), Sharing::SharedReads);
-    assert_eq!(rt; (question.work(), question.span()), (20, 12));
-    assert_eq!(rt;
-        question.sweep(alloc)?.as_slice(),
-        [12, 12, 11, 11].as_slice()
+// The last edit computed so many rows again, and the rows have this work and span.
+fn is_at(rt: &impl Abort, question: &WhatIf, figures: [u64; 3]) {
+    are(
+        rt,
+        &[question.touched(), question.work(), question.span()],
+        &figures,
     );
-    assert_eq!(rt; question.edit(2, 1), Ok(()));
-    assert_eq!(rt; (question.work(), question.span()), (14, 11));
+}
+
+// An edit is answered so, and leaves these figures.
+fn edits(
+    rt: &impl Abort,
+    question: &mut WhatIf,
+    (row, ticks): (u32, u32),
+    answer: Result<(), EditFault>,
+    figures: [u64; 3],
+) {
+    assert_eq!(rt; question.edit(row, ticks), answer);
+    is_at(rt, question, figures);
+}
+
+// The profile has these starts and ends, and this work and span.
+fn has_profile(
+    rt: &impl Abort,
+    alloc: Global,
+    question: &WhatIf,
+    starts: &[u64],
+    ends: &[u64],
+    figures: [u64; 2],
+) {
+    let profile = question.profile(alloc).expect(rt, "memory");
+    are(rt, &profile.starts, starts);
+    are(rt, &profile.ends, ends);
+    are(rt, &[profile.work, profile.span], &figures);
+}
+
+#[test]
+fn cheaper_row_shortens_the_run(rt: HostRuntime) {
+    let alloc = rt.alloc();
+    let rows = transfer(&rt, alloc);
+    let mut question = WhatIf::new(alloc, &rows, Sharing::Exclusive).expect(&rt, "memory");
+    is_at(&rt, &question, [0, 11, 9]);
+    edits(&rt, &mut question, (2, 1), Ok(()), [2, 9, 7]);
+    has_profile(&rt, alloc, &question, &[0, 2, 4, 5], &[4, 4, 5, 7], [9, 7]);
+    edits(&rt, &mut question, (2, 1), Ok(()), [2, 9, 7]);
+    assert_eq!(rt; question.rows().as_slice()[0].ticks, 4);
+}
+
+#[test]
+fn rows_are_taken_over(rt: HostRuntime) {
+    let alloc = rt.alloc();
+    let mut question = of_transfer(&rt, alloc);
+    is_at(&rt, &question, [0, 11, 9]);
+    assert_eq!(rt; question.rows().as_slice().len(), 4);
+    has_profile(&rt, alloc, &question, &[0, 2, 4, 7], &[4, 4, 7, 9], [11, 9]);
+    edits(&rt, &mut question, (2, 1), Ok(()), [2, 9, 7]);
+    has_profile(&rt, alloc, &question, &[0, 2, 4, 5], &[4, 4, 5, 7], [9, 7]);
+}
+
+#[test]
+fn edited_rows_are_planned(rt: HostRuntime) {
+    let alloc = rt.alloc();
+    let mut question = of_transfer(&rt, alloc);
+    edits(&rt, &mut question, (2, 1), Ok(()), [2, 9, 7]);
+    let two = Workers::new(2).expect(&rt, "a number of workers");
+    let greedy = question.greedy(alloc, two).expect(&rt, "memory");
+    are(&rt, &greedy.starts, &[0, 2, 4, 5]);
+    are(&rt, &[greedy.ends_at, greedy.bound], &[7, 11]);
+}
+
+#[test]
+fn refused_edits_change_nothing(rt: HostRuntime) {
+    let mut question = of_transfer(&rt, rt.alloc());
+    edits(&rt, &mut question, (1, 1), Ok(()), [3, 10, 8]);
+    let refused = [
+        ((0, 3), EditFault::BelowSpawn),
+        ((2, 0), EditFault::BelowSpawn),
+        ((4, 1), EditFault::NoRow),
+        ((2, 1_000_001), EditFault::TooManyTicks),
+    ];
+    for (edit, fault) in refused {
+        edits(&rt, &mut question, edit, Err(fault), [3, 10, 8]);
+    }
+}
+
+#[test]
+fn shared_reads_are_kept_by_edits(rt: HostRuntime) {
+    let alloc = rt.alloc();
+    let rows = peek_and_set(&rt, alloc);
+    let mut question = WhatIf::of(alloc, rows, Sharing::SharedReads).expect(&rt, "memory");
     assert_eq!(rt; question.sharing(), Sharing::SharedReads);
-    Ok(())
+    is_at(&rt, &question, [0, 20, 12]);
+    are(
+        &rt,
+        &question.sweep(alloc).expect(&rt, "memory"),
+        &[12, 12, 11, 11],
+    );
+    edits(&rt, &mut question, (2, 1), Ok(()), [2, 14, 11]);
+    assert_eq!(rt; question.sharing(), Sharing::SharedReads);
 }

@@ -3,10 +3,11 @@
 use boc_rules::{Judge, RuleFault, Rules};
 use boc_types::body::EndStatus;
 use boc_types::event::{BrokenRule, Event};
+use boc_types::record::Record;
+use boc_types::rows::Row;
 use boc_types::short::Cowns;
 use std::alloc::Global;
 use std::process::Abort;
-use std::test::Fail;
 
 // These cowns; none where there are more than eight.
 fn cowns(numbers: &[u32]) -> Cowns {
@@ -54,83 +55,98 @@ fn transfer() -> [Event; 12] {
     ]
 }
 
-// The rules after so many events of the transfer.
-fn begun(alloc: Global, count: usize) -> Result<Rules, Fail> {
-    let mut rules = Rules::new(alloc, 2)?;
-    for event in transfer().iter().take(count) {
-        rules.apply(event)?;
+// The rules of a run with two cowns and no event.
+fn two_cowns(rt: &impl Abort, alloc: Global) -> Rules {
+    Rules::new(alloc, 2).expect(rt, "memory")
+}
+
+// Each of these events keeps every rule.
+fn take_all(rt: &impl Abort, rules: &mut Rules, events: &[Event]) {
+    for event in events {
+        rules.apply(event).expect(rt, "an event that is allowed");
     }
-    Ok(rules)
+}
+
+// The rule that was broken, if one was.
+fn broken(answer: Result<(), RuleFault>) -> Option<BrokenRule> {
+    match answer {
+        Err(RuleFault::Broken(rule)) => Some(rule),
+        _ => None,
+    }
 }
 
 // After so many events of the transfer, this one is refused for this rule, and the events stay.
-fn refuses(
-    rt: &impl Abort,
-    alloc: Global,
-    count: usize,
-    event: &Event,
-    rule: BrokenRule,
-) -> Result<(), Fail> {
-    let mut rules = begun(alloc, count)?;
-    match rules.apply(event) {
-        Err(RuleFault::Broken(found)) => assert_eq!(rt;
-            found,
-            rule,
-            "after {count} events: {event:?}"
-        ),
-        other => assert!(rt; false, "after {count} events: {event:?}: {other:?}"),
-    }
+fn refuses(rt: &impl Abort, alloc: Global, count: usize, event: &Event, rule: BrokenRule) {
+    let events = transfer();
+    assert!(rt; count <= events.len());
+    let (before, after) = events.split_at(count);
+    let mut rules = two_cowns(rt, alloc);
+    take_all(rt, &mut rules, before);
+    assert_eq!(rt; broken(rules.apply(event)), Some(rule), "{event:?}");
     assert_eq!(rt; rules.events().len(), count);
-    for rest in transfer().iter().skip(count) {
-        rules.apply(rest)?;
-    }
+    take_all(rt, &mut rules, after);
     assert!(rt; rules.is_complete());
-    Ok(())
 }
 
-#[test]
-fn transfer_is_taken(rt: HostRuntime) -> Result<(), Fail> {
-    let alloc = rt.alloc();
-    let mut rules = Rules::new(alloc, 2)?;
-    assert_eq!(rt; rules.cowns(), 2);
-    assert!(rt; rules.events().is_empty());
+// After so many events of the transfer each of these is refused for its rule.
+fn are_refused(rt: &impl Abort, alloc: Global, cases: &[(usize, Event, BrokenRule)]) {
+    for (count, event, rule) in cases {
+        refuses(rt, alloc, *count, event, *rule);
+    }
+}
+
+// The same rules, of a run that is not at its end.
+fn unfinished(rt: &impl Abort, rules: Rules) -> Rules {
+    assert!(rt; !rules.is_complete());
+    let Err(same) = rules.into_record() else {
+        panic!(rt; "a record before the end");
+    };
+    same
+}
+
+// The record of the transfer, which there is only after its last event.
+fn recorded(rt: &impl Abort, alloc: Global) -> Record {
+    let mut rules = two_cowns(rt, alloc);
     for event in &transfer() {
-        assert!(rt; !rules.is_complete());
-        rules = match rules.into_record() {
-            Ok(_) => return Err(Fail::from("a record before the end")),
-            Err(same) => same,
-        };
-        rules.apply(event)?;
+        rules = unfinished(rt, rules);
+        rules.apply(event).expect(rt, "an event that is allowed");
     }
     assert!(rt; rules.is_complete());
     assert_eq!(rt; rules.events().len(), 12);
-    let Ok(record) = rules.into_record() else {
-        return Err(Fail::from("no record at the end"));
-    };
-    assert_eq!(rt; record.cowns(), 2);
-    assert_eq!(rt; record.events().len(), 12);
-    let wanted: [(u32, u32, u32, &[u8]); 4] = [
-        (0, 0, 4, &[]),
-        (0, 2, 2, &[0]),
-        (0, 3, 3, &[0, 1]),
-        (0, 4, 2, &[]),
-    ];
-    let rows = record.rows().as_slice();
-    assert_eq!(rt; rows.len(), wanted.len());
-    for (row, (parent, offset, ticks, written)) in rows.iter().zip(&wanted) {
-        assert_eq!(rt; row.parent, *parent);
-        assert_eq!(rt; row.offset, *offset);
-        assert_eq!(rt; row.ticks, *ticks);
-        assert_eq!(rt; row.status, EndStatus::Done);
-        assert_eq!(rt; row.written.as_slice(), *written);
-    }
-    Ok(())
+    rules.into_record().ok().expect(rt, "a record at the end")
+}
+
+// A row with this parent, offset and ticks is done, and wrote these cowns.
+fn is_row(rt: &impl Abort, row: &Row, figures: [u32; 3], written: &[u8]) {
+    assert_eq!(rt; [row.parent, row.offset, row.ticks], figures);
+    assert_eq!(rt; row.status, EndStatus::Done);
+    assert_eq!(rt; row.written.as_slice(), written);
+}
+
+// Each of these rows is as the transfer's.
+fn are_rows_of_transfer(rt: &impl Abort, rows: &[Row]) {
+    assert_eq!(rt; rows.len(), 4);
+    is_row(rt, &rows[0], [0, 0, 4], &[]);
+    is_row(rt, &rows[1], [0, 2, 2], &[0]);
+    is_row(rt, &rows[2], [0, 3, 3], &[0, 1]);
+    is_row(rt, &rows[3], [0, 4, 2], &[]);
 }
 
 #[test]
-fn spawns_are_judged(rt: HostRuntime) -> Result<(), Fail> {
+fn transfer_is_taken(rt: HostRuntime) {
     let alloc = rt.alloc();
-    let broken = [
+    let rules = two_cowns(&rt, alloc);
+    assert_eq!(rt; rules.cowns(), 2);
+    assert!(rt; rules.events().is_empty());
+    let record = recorded(&rt, alloc);
+    assert_eq!(rt; record.cowns(), 2);
+    assert_eq!(rt; record.events().len(), 12);
+    are_rows_of_transfer(&rt, record.rows().as_slice());
+}
+
+#[test]
+fn spawns_are_judged(rt: HostRuntime) {
+    let cases = [
         (0, spawn(1, 0, 0, &[]), BrokenRule::NumberNotNext),
         (0, spawn(0, 1, 0, &[]), BrokenRule::ParentNotRunning),
         (0, spawn(0, 0, 1, &[]), BrokenRule::Offset),
@@ -144,21 +160,24 @@ fn spawns_are_judged(rt: HostRuntime) -> Result<(), Fail> {
         (3, spawn(2, 0, 2, &[]), BrokenRule::Offset),
         (4, spawn(3, 1, 9, &[]), BrokenRule::ParentNotRunning),
         (12, spawn(4, 0, 9, &[]), BrokenRule::ParentNotRunning),
-        // Of several broken rules the first is told.
+    ];
+    are_refused(&rt, rt.alloc(), &cases);
+}
+
+#[test]
+fn first_of_several_broken_rules_is_told(rt: HostRuntime) {
+    let cases = [
         (2, spawn(5, 9, 0, &[7]), BrokenRule::NumberNotNext),
         (2, spawn(1, 9, 0, &[7]), BrokenRule::ParentNotRunning),
         (2, spawn(1, 0, 0, &[7]), BrokenRule::Offset),
         (0, spawn(0, 1, 1, &[0]), BrokenRule::ParentNotRunning),
         (0, spawn(0, 0, 1, &[0]), BrokenRule::Offset),
     ];
-    for (count, event, rule) in &broken {
-        refuses(&rt, alloc, *count, event, *rule)?;
-    }
-    Ok(())
+    are_refused(&rt, rt.alloc(), &cases);
 }
 
 #[test]
-fn starts_and_ends_are_judged(rt: HostRuntime) -> Result<(), Fail> {
+fn starts_are_judged(rt: HostRuntime) {
     let alloc = rt.alloc();
     let starts = [
         (0, 0),
@@ -170,115 +189,124 @@ fn starts_and_ends_are_judged(rt: HostRuntime) -> Result<(), Fail> {
         (9, 3),
         (12, 1),
     ];
-    for (count, row) in &starts {
-        refuses(
-            &rt,
-            alloc,
-            *count,
-            &start(*row),
-            BrokenRule::StartNotAllowed,
-        )?;
+    for (count, row) in starts {
+        refuses(&rt, alloc, count, &start(row), BrokenRule::StartNotAllowed);
     }
-    let ends = [
-        (0, end(0, 1, &[])),
-        (2, end(0, 0, &[])),
-        (5, end(0, 3, &[])),
-        (5, end(0, 1_000_001, &[])),
-        (5, end(0, 4, &[0])),
-        (5, end(1, 1, &[])),
-        (7, end(1, 2, &[1])),
-        (7, end(1, 2, &[0, 0])),
-        (9, end(2, 3, &[1, 0])),
-        (9, end(2, 3, &[0, 2])),
-        (12, end(1, 2, &[])),
-    ];
-    for (count, event) in &ends {
-        refuses(&rt, alloc, *count, event, BrokenRule::EndNotAllowed)?;
-    }
-    Ok(())
 }
 
 #[test]
-fn rooms_are_counted(rt: HostRuntime) -> Result<(), Fail> {
-    let mut rules = Rules::new(rt.alloc(), 2)?;
+fn ends_are_judged(rt: HostRuntime) {
+    let alloc = rt.alloc();
+    let ends: [(usize, u32, u32, &[u32]); 11] = [
+        (0, 0, 1, &[]),
+        (2, 0, 0, &[]),
+        (5, 0, 3, &[]),
+        (5, 0, 1_000_001, &[]),
+        (5, 0, 4, &[0]),
+        (5, 1, 1, &[]),
+        (7, 1, 2, &[1]),
+        (7, 1, 2, &[0, 0]),
+        (9, 2, 3, &[1, 0]),
+        (9, 2, 3, &[0, 2]),
+        (12, 1, 2, &[]),
+    ];
+    for (count, row, ticks, written) in ends {
+        let event = end(row, ticks, written);
+        refuses(&rt, alloc, count, &event, BrokenRule::EndNotAllowed);
+    }
+}
+
+#[test]
+fn rooms_are_counted(rt: HostRuntime) {
+    let mut rules = two_cowns(&rt, rt.alloc());
     assert_eq!(rt; rules.rooms(), 0);
-    rules.make_room()?;
-    rules.make_room()?;
+    rules.make_room().expect(&rt, "memory");
+    rules.make_room().expect(&rt, "memory");
     assert_eq!(rt; rules.rooms(), 2);
-    let mut left = [1, 0, 0, 0].iter();
-    for event in &transfer() {
-        rules.apply(event)?;
-        if matches!(event, Event::Spawn { .. }) {
-            assert_eq!(rt; Some(rules.rooms()), left.next().copied());
-        }
+    // The events of the transfer, and the rooms that each leaves.
+    let left = [1, 1, 0, 0, 0, 0, 0, 0, 0, 0, 0, 0];
+    for (event, rooms) in transfer().iter().zip(left) {
+        rules.apply(event).expect(&rt, "an event that is allowed");
+        assert_eq!(rt; rules.rooms(), rooms);
     }
     assert!(rt; rules.is_complete());
-    Ok(())
+}
+
+// A fault is told so, and no other way.
+fn tells(rt: &impl Abort, alloc: Global, fault: &RuleFault, text: &str) {
+    let told = format!(in alloc; "{fault}").expect(rt, "memory");
+    assert_eq!(rt; told.as_str(), text);
+    assert_eq!(rt; fault.text(), text);
 }
 
 #[test]
-fn faults_are_told(rt: HostRuntime) -> Result<(), Fail> {
+fn faults_are_told(rt: HostRuntime) {
     let alloc = rt.alloc();
     let texts = [
-        (
-            RuleFault::Broken(BrokenRule::NumberNotNext),
-            "1 NumberNotNext",
-        ),
-        (
-            RuleFault::Broken(BrokenRule::ParentNotRunning),
-            "2 ParentNotRunning",
-        ),
-        (RuleFault::Broken(BrokenRule::Offset), "3 Offset"),
-        (RuleFault::Broken(BrokenRule::Cowns), "4 Cowns"),
-        (
-            RuleFault::Broken(BrokenRule::StartNotAllowed),
-            "5 StartNotAllowed",
-        ),
-        (
-            RuleFault::Broken(BrokenRule::EndNotAllowed),
-            "6 EndNotAllowed",
-        ),
-        (RuleFault::Broken(BrokenRule::TooMany), "7 TooMany"),
-        (RuleFault::Memory, "8 Memory"),
+        (BrokenRule::NumberNotNext, "1 NumberNotNext"),
+        (BrokenRule::ParentNotRunning, "2 ParentNotRunning"),
+        (BrokenRule::Offset, "3 Offset"),
+        (BrokenRule::Cowns, "4 Cowns"),
+        (BrokenRule::StartNotAllowed, "5 StartNotAllowed"),
+        (BrokenRule::EndNotAllowed, "6 EndNotAllowed"),
+        (BrokenRule::TooMany, "7 TooMany"),
     ];
-    for (fault, text) in &texts {
-        let told = format!(in alloc; "{fault}")?;
-        assert_eq!(rt; told.as_str(), *text);
-        assert_eq!(rt; fault.text(), *text);
+    for (rule, text) in texts {
+        tells(&rt, alloc, &RuleFault::Broken(rule), text);
     }
-    Ok(())
+    tells(&rt, alloc, &RuleFault::Memory, "8 Memory");
+}
+
+// A judge of a run with one cown and no event, with room for two rows.
+fn with_two_rooms(rt: &impl Abort, alloc: Global) -> Judge {
+    let mut judge = Judge::new(alloc, 1).expect(rt, "memory");
+    judge.make_room().expect(rt, "memory");
+    judge.make_room().expect(rt, "memory");
+    judge
+}
+
+// A judge of a run with one cown, of which main runs, with room for a child.
+fn with_main(rt: &impl Abort, alloc: Global) -> Judge {
+    let mut judge = with_two_rooms(rt, alloc);
+    judge.take(spawn(0, 0, 0, &[])).expect(rt, "main");
+    judge.take(start(0)).expect(rt, "the start of main");
+    judge
 }
 
 #[test]
-fn judge_follows_a_run(rt: HostRuntime) -> Result<(), Fail> {
-    let mut judge = Judge::new(rt.alloc(), 1)?;
-    assert_eq!(rt; judge.cowns(), 1);
+fn judge_has_room_once_it_is_made(rt: HostRuntime) {
+    let alloc = rt.alloc();
     let main = spawn(0, 0, 0, &[]);
-    let child = spawn(1, 0, 3, &[0]);
+    let judge = Judge::new(alloc, 1).expect(&rt, "memory");
+    assert_eq!(rt; judge.cowns(), 1);
     assert!(rt; !judge.has_room_for(&main));
-    judge.make_room()?;
-    judge.make_room()?;
+    let judge = with_two_rooms(&rt, alloc);
     assert_eq!(rt; judge.rooms(), 2);
     assert!(rt; judge.has_room_for(&main));
-    judge.take(main)?;
+}
+
+#[test]
+fn parents_run_before_they_spawn(rt: HostRuntime) {
+    let mut judge = with_two_rooms(&rt, rt.alloc());
+    judge.take(spawn(0, 0, 0, &[])).expect(&rt, "main");
+    let child = spawn(1, 0, 3, &[0]);
     assert_eq!(rt; judge.judge(&child), Err(BrokenRule::ParentNotRunning));
-    judge.take(start(0))?;
+}
+
+#[test]
+fn judge_follows_a_run(rt: HostRuntime) {
+    let mut judge = with_main(&rt, rt.alloc());
+    let child = spawn(1, 0, 3, &[0]);
     if judge.judge(&child).is_ok() && judge.has_room_for(&child) {
         judge.put(child);
     }
-    assert_eq!(rt; judge.count(), 2);
-    assert_eq!(rt; judge.rooms(), 0);
-    assert_eq!(rt;
-        judge.cowns_of(1).map(|cowns| cowns.as_slice()),
-        Some([0].as_slice())
-    );
+    assert_eq!(rt; [judge.count(), judge.rooms()], [2, 0]);
+    let cowns = judge.cowns_of(1).expect(&rt, "the child");
+    assert_eq!(rt; cowns.as_slice(), [0].as_slice());
     assert!(rt; judge.cowns_of(2).is_none());
     // The child was spawned at tick 3.
-    match judge.take(end(0, 2, &[])) {
-        Err(RuleFault::Broken(rule)) => assert_eq!(rt; rule, BrokenRule::EndNotAllowed),
-        other => assert!(rt; false, "{other:?}"),
-    }
+    let early = judge.take(end(0, 2, &[]));
+    assert_eq!(rt; broken(early), Some(BrokenRule::EndNotAllowed));
     assert!(rt; !judge.is_complete());
     assert!(rt; judge.into_rows().is_err());
-    Ok(())
 }

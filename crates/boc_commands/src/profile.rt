@@ -33,5 +33,5 @@ pub fn profile_cmd<S: Source, W: Sink>(
     ensures sink { CountsSink result (W.failures sink.old) (W.failures sink.new) }
 {
     let rows = read_rows(alloc, source)?;
-    report_on(alloc, workers, &rows, sharing, sink)
+    report_on(alloc, workers, rows, sharing, sink)
 }

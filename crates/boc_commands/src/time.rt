@@ -47,19 +47,19 @@ pub fn time_cmd<R: Threads + Wait + Sync, G: Gate, S: Source, W: Sink>(
 {
     let text = read_all(alloc, source, MOST_TAKEN)?;
     let answer = run_text(rt, alloc, &text, runners, gate)?;
-    true_report(alloc, workers, answer.record.rows(), sharing, sink)
+    true_report(alloc, workers, answer.record.into_rows(), sharing, sink)
 }
 
 // Writes the report on some rows, with what its plans promise.
 fn true_report<W: Sink>(
     alloc: Global,
     workers: Option<Workers>,
-    rows: &Rows,
+    rows: Rows,
     sharing: Sharing,
     sink: &mut W,
 ) -> Result<(), Fault>
     requires { W.failures sink.old < u64.MAX }
-    ensures written { Leaves (IsTrueReport (seen sharing rows.now) workers) result (W.written sink.old) (W.written sink.new) }
+    ensures written { Leaves (IsTrueReport (seen sharing rows) workers) result (W.written sink.old) (W.written sink.new) }
     ensures refused { RefusesNothing result }
     ensures source { (count : ℕ) → CountsSource result count count }
     ensures sink { CountsSink result (W.failures sink.old) (W.failures sink.new) }

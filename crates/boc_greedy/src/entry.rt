@@ -10,7 +10,7 @@ ghost use Rattle.boc_greedy.specs.Plans.{IsGreedyPlanOf};
 
 use crate::report::Greedy;
 use crate::simulation::Simulation;
-use boc_order::{Links, followers, last_end, waits};
+use boc_order::{Links, followers, last_end, waits_and_plan};
 use boc_types::rows::Rows;
 use boc_types::sharing::{SeenRows, Sharing};
 use boc_types::workers::Workers;
@@ -69,25 +69,6 @@ pub fn greedy_over(
     })
 }
 
-/// The greedy plan of the rows for p workers, as `greedy` has it, for a caller who knows their span.
-///
-/// It answers all that `greedy` answers. `AllocError` says that memory was refused.
-pub fn greedy_within(
-    alloc: Global,
-    rows: &Rows,
-    workers: Workers,
-    span: u64,
-    sharing: Sharing,
-) -> Result<Greedy, AllocError>
-    requires { IsSpan (seen sharing rows.now) span }
-    ensures { IfOk result (λ plan. IsGreedyPlanOf (seen sharing rows.now) workers plan) }
-{
-    let work = boc_order::work(rows.as_slice());
-    let rows = SeenRows::new(rows, sharing);
-    let waits = waits(alloc, &rows)?;
-    greedy_over(alloc, &rows, &waits, workers, work, span)
-}
-
 /// The greedy plan of the rows for p workers.
 ///
 /// All times are ticks. At each tick the rows that end free their workers first. Then, while a worker is free and
@@ -105,6 +86,8 @@ pub fn greedy(
 ) -> Result<Greedy, AllocError>
     ensures { IfOk result (λ plan. IsGreedyPlanOf (seen sharing rows.now) workers plan) }
 {
-    let span = boc_order::span(alloc, rows, sharing)?;
-    greedy_within(alloc, rows, workers, span, sharing)
+    let work = boc_order::work(rows.as_slice());
+    let rows = SeenRows::new(rows, sharing);
+    let (waits, plan) = waits_and_plan(alloc, &rows)?;
+    greedy_over(alloc, &rows, &waits, workers, work, plan.span())
 }

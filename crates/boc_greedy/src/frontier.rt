@@ -37,7 +37,7 @@ pub struct Frontier<'a> {
     /// How far each row is.
     pub stages: Vec<Stage>,
     /// How many of the first rows that a row waits for were found to be over. These are not looked at again.
-    reached: Vec<usize>,
+    reached: Vec<u32>,
     /// The rows that are spawned, and wait for nothing but a worker.
     ready: RowSet,
 }
@@ -151,8 +151,9 @@ impl<'a> Frontier<'a> {
         };
         let links = self.waits;
         let waits = links.of(row as usize);
-        let reached = over_from(waits, &self.stages, self.reached[row as usize]);
-        self.reached[row as usize] = reached;
+        let reached = over_from(waits, &self.stages, self.reached[row as usize] as usize);
+        // It may look again at some that are over, so a number that is too great for its place is cut.
+        self.reached[row as usize] = u32::try_from(reached).unwrap_or(u32::MAX);
         if reached == waits.len() {
             self.ready.insert(row);
         }

@@ -12,5 +12,5 @@ mod report;
 mod row_set;
 mod simulation;
 
-pub use entry::{greedy, greedy_over, greedy_within};
+pub use entry::{greedy, greedy_over};
 pub use report::Greedy;

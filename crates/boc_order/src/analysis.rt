@@ -6,7 +6,6 @@ ghost use Rattle.boc_types.specs.runs.Rows.{IsRows};
 ghost use Rattle.boc_types.specs.runs.Seen.{seen};
 ghost use Rattle.boc_types.specs.plans.Plans.{work_of, end_of, HasEnds, IsEnd, IsEarliest, NoneEndsBefore};
 ghost use Rattle.boc_types.specs.plans.Chains.{IsPicked, weight_of};
-ghost use Rattle.boc_types.specs.plans.Greedy.{IsSpan};
 ghost use Rattle.boc_order.specs.Back.{IsStepBefore, IsFirstLatest};
 ghost use Rattle.boc_order.specs.Profiles.{IsProfileOf};
 ghost use Rattle.boc_order.specs.Standing.{IsPlanOf};
@@ -173,17 +172,4 @@ impl Earliest {
             chain,
         })
     }
-}
-
-/// The span of the rows: the tick at which their earliest plan ends, as `profile` has it. No plan that keeps ends
-/// sooner.
-///
-/// It takes memory and time that grow with the number of rows and their cowns. `AllocError` says that memory was
-/// refused.
-pub fn span(alloc: Global, rows: &Rows, sharing: Sharing) -> Result<u64, AllocError>
-    ensures { IfOk result (λ s. IsSpan (seen sharing rows.now) s) }
-{
-    let rows = SeenRows::new(rows, sharing);
-    let plan = plan_of(alloc, &rows)?;
-    Ok(plan.ends[last_row(&plan.ends)])
 }

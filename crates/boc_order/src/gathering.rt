@@ -3,7 +3,7 @@
 ghost use Rattle.std.specs.Prelude.{◌≡◌, ◌<◌, ◌≤◌, ◌+◌, length, List, Contains, IfOk};
 ghost use Rattle.boc_types.specs.declared.rows.Row.{Row};
 ghost use Rattle.boc_types.specs.runs.Rows.{IsRows, cowns_of};
-ghost use Rattle.boc_order.specs.Waits.{AreBounds, AreWaits, links_of, lists_between};
+ghost use Rattle.boc_order.specs.Waits.{AreBounds, links_of, lists_between};
 ghost use Rattle.boc_order.specs.Gathered.{AreGathered};
 ghost use Rattle.boc_order.specs.Uses.{IsUse, AreUses, AddsNearOn, AddsNear};
 
@@ -152,19 +152,4 @@ impl Gathering {
     {
         Links::new(self.first, self.list)
     }
-}
-
-/// For each row the nearest rows that it waits for: every other row that it waits for is before one of them. A row may
-/// stand twice where two cowns are in common.
-///
-/// There are at most twice as many links as the rows have cowns, and it takes memory and time that grow with the
-/// number of rows and of these. `AllocError` says that memory was refused.
-pub fn waits(alloc: Global, rows: &SeenRows) -> Result<Links, AllocError>
-    ensures { IfOk result (λ links. AreWaits rows.now links) }
-{
-    let mut gathering = Gathering::with_room(alloc, rows.len())?;
-    for row in 0..rows.len() {
-        gathering.gather_next(rows, row)?;
-    }
-    Ok(gathering.into_links())
 }

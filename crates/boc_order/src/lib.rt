@@ -10,10 +10,9 @@ mod links;
 mod plan;
 mod report;
 
-pub use analysis::{profile, span, work};
+pub use analysis::{profile, work};
 pub use check::check_chain;
 pub use following::followers;
-pub use gathering::waits;
 pub use links::Links;
 pub use plan::{Earliest, last_end, waits_and_plan};
 pub use report::Profile;

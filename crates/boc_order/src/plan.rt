@@ -120,8 +120,11 @@ impl Earliest {
     }
 }
 
-/// For each row the rows that it waits for, as `waits` has them, and the earliest plan of the rows. `AllocError` says
-/// that memory was refused.
+/// For each row the nearest rows that it waits for, and the earliest plan of the rows. Every other row that a row waits
+/// for is before one of these. One may stand twice where two cowns are in common.
+///
+/// There are at most twice as many links as the rows have cowns, and it takes memory and time that grow with the
+/// number of rows and of these. `AllocError` says that memory was refused.
 pub fn waits_and_plan(alloc: Global, rows: &SeenRows) -> Result<(Links, Earliest), AllocError>
     ensures shape { IsRows rows.now }
     ensures waits { IfOk result (λ found. AreWaits rows.now found.0) }

@@ -3,7 +3,7 @@
 ghost use Rattle.std.specs.Prelude.{◌<◌};
 
 use crate::worked_rows::{held, row, rows_of};
-use boc_order::span;
+use boc_order::profile;
 use boc_sweep::{last_children, least_ticks};
 use boc_types::body::EndStatus;
 use boc_types::limits::MOST_COWNS;
@@ -81,8 +81,8 @@ fn is_span(
     found: u64,
 ) {
     let list = lowered(alloc, rows, number).expect(rt, "memory");
-    let wanted = span(alloc, &rows_of(rt, list), sharing).expect(rt, "memory");
-    assert_eq!(rt; (number, found), (number, wanted));
+    let wanted = profile(alloc, &rows_of(rt, list), sharing).expect(rt, "memory");
+    assert_eq!(rt; (number, found), (number, wanted.span));
 }
 
 // A sweep of all rows finds the span for each.

@@ -1,6 +1,6 @@
 use Rattle.std.proofs.Common.{sym, ◌∙◌}
 use Rattle.boc_types.proofs.Seeing.{work_of-seen}
-use Rattle.boc_greedy.proofs.entry.greedy_within.Goals as goal
+use Rattle.boc_greedy.proofs.entry.greedy.Goals as goal
 
 -- the rows take as many ticks, whatever is shared
 pub greedy_over-requires-clause-work : goal.greedy_over-requires-clause-work

@@ -1,7 +1,8 @@
 -- A turn of a serial run, as its rows tell it.
-use Rattle.std.proofs.Common.{◌≡◌, ℕ, ◌+◌, ◌<◌, ◌≤◌, List, [], ◌∷◌, ◌++◌, map, length, drop, ap, ◌∙◌, subst, arith, ℤ, length-drop}
+use Rattle.std.proofs.Common.{◌≡◌, ℕ, Some, ◌+◌, ◌<◌, ◌≤◌, List, [], ◌∷◌, ◌++◌, map, length, drop, ap, ◌∙◌, subst, arith, ℤ, length-drop}
 use Rattle.std.specs.Prelude.{slice_index_or}
 use Rattle.std.proofs.lemmas.List.{drop_more, drop_all, get_or_append_left, length-map}
+use Rattle.boc_types.specs.declared.body.Body.{Body}
 use Rattle.boc_types.specs.declared.program.Program.{Program}
 use Rattle.boc_types.specs.program.Programs.{initial_values}
 use Rattle.boc_types.specs.runs.Serial.{Behaviour, main_behaviour}
@@ -13,6 +14,10 @@ use Rattle.boc_eval.specs.Behaviours.{behaviour_in, behaviours_of, behaviour_at,
 
 pub rows_are : (rows : Rows) → length (behaviours_of rows) ≡ length rows.rows.items
 rows_are rows = length-map rows.rows.items (behaviour_in rows.args.items rows.cowns.items)
+
+-- two bodies that are found at one place are the same
+pub same_found : (a b : Body) → Some a ≡ Some b → a ≡ b
+same_found a b e = cc
 
 -- the behaviours that come behind leave those before them as they are
 pub stays_at : (old new : Rows) (more : List Behaviour) (turn : ℕ) → turn < length old.rows.items → behaviours_of new ≡ behaviours_of old ++ more → behaviour_at new turn ≡ behaviour_at old turn

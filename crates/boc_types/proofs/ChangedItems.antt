@@ -1,7 +1,7 @@
 -- Lists of which one item is changed, and lists with one more item.
-use Rattle.std.proofs.Common.{◌≡◌, ◌≢◌, ℕ, zero, suc, ◌<◌, ◌≤◌, List, [], ◌∷◌, ◌++◌, length, Some, None, refl, ap, arith}
-use Rattle.std.specs.Prelude.{slice_get, slice_set, Option}
-use Rattle.std.proofs.lemmas.List.{length-set}
+use Rattle.std.proofs.Common.{◌≡◌, ◌≢◌, ℕ, zero, suc, ◌<◌, ◌≤◌, List, [], ◌∷◌, ◌++◌, length, take, drop, Some, None, refl, sym, ap, ◌∙◌, ◌+◌, ◌-◌, arith}
+use Rattle.std.specs.Prelude.{slice_get, slice_set, slice_range, Option}
+use Rattle.std.proofs.lemmas.List.{length-set, length-drop, take-append-le, drop-append-le, drop_at, take_all}
 use Rattle.boc_types.specs.runs.Lives.{changed}
 
 -- there is an item at each place below the length
@@ -52,3 +52,14 @@ pub front_item : {A : Type 0} (xs : List A) (x : A) (i : ℕ) → i < length xs 
 front_item [] x i h = absurd (omega arith)
 front_item (y ∷ xs) x zero h = refl
 front_item (y ∷ xs) x (suc i) h = front_item xs x i (omega arith)
+
+-- a part that is there stays as it is where a list grows
+pub range_stays : {X : Type 0} (xs ys : List X) (i j : ℕ) → i ≤ j → j ≤ length xs → slice_range (xs ++ ys) i j ≡ slice_range xs i j
+range_stays xs ys i j h k =
+    ap (λ zs. take (j - i) zs) (drop-append-le i xs ys (omega arith))
+    ∙ take-append-le (j - i) (drop i xs) ys (omega (arith, length-drop i xs))
+
+-- the part behind a list is what it grew by
+pub range_behind : {X : Type 0} (xs ys : List X) (i j : ℕ) → i ≡ length xs → j ≡ length xs + length ys → slice_range (xs ++ ys) i j ≡ ys
+range_behind xs ys i j h k =
+    ap (λ zs. take (j - i) zs) (drop_at xs ys i (sym h)) ∙ take_all (j - i) ys (omega arith)

@@ -1,6 +1,7 @@
 -- Rows of which one takes other ticks: what changes, and what stays.
 use Rattle.std.proofs.Common.{◌≡◌, ◌≢◌, ℕ, zero, suc, ◌<◌, ◌≤◌, List, [], ◌∷◌, length, refl, ap, sym, ◌∙◌, inl, inr, arith, get_or}
-use Rattle.std.specs.Prelude.{slice_set, max}
+use Rattle.std.specs.Option.{option_map_or}
+use Rattle.std.specs.Prelude.{slice_get, slice_set, max}
 use Rattle.std.proofs.lemmas.Bool.{cases_eq}
 use Rattle.boc_types.specs.declared.rows.Row.{Row}
 use Rattle.boc_types.specs.runs.Rows.{IsRows, IsLast, parent_of, offset_of, ticks_of, cowns_of, written_of}
@@ -13,33 +14,26 @@ length-edited [] row ticks = refl
 length-edited (x ∷ rows) zero ticks = refl
 length-edited (x ∷ rows) (suc row) ticks = ap suc (length-edited rows row ticks)
 
+-- what a row tells besides its ticks stays
+kept_edited : {X : Type 0} (f : Row → X) (d : X) → ((x : Row) (ticks : ℕ) → f (record x { ticks = ticks }) ≡ f x) → (rows : List Row) (row ticks r : ℕ)
+    → option_map_or f (slice_get (edited rows row ticks) r) d ≡ option_map_or f (slice_get rows r) d
+kept_edited f d keeps [] row ticks r = refl
+kept_edited f d keeps (x ∷ rows) zero ticks zero = keeps x ticks
+kept_edited f d keeps (x ∷ rows) zero ticks (suc r) = refl
+kept_edited f d keeps (x ∷ rows) (suc row) ticks zero = refl
+kept_edited f d keeps (x ∷ rows) (suc row) ticks (suc r) = kept_edited f d keeps rows row ticks r
+
 pub parent_of-edited : (rows : List Row) (row ticks r : ℕ) → parent_of (edited rows row ticks) r ≡ parent_of rows r
-parent_of-edited [] row ticks r = refl
-parent_of-edited (x ∷ rows) zero ticks zero = refl
-parent_of-edited (x ∷ rows) zero ticks (suc r) = refl
-parent_of-edited (x ∷ rows) (suc row) ticks zero = refl
-parent_of-edited (x ∷ rows) (suc row) ticks (suc r) = parent_of-edited rows row ticks r
+parent_of-edited = kept_edited (λ (x : Row). x.parent) 0 (λ x ticks. refl)
 
 pub offset_of-edited : (rows : List Row) (row ticks r : ℕ) → offset_of (edited rows row ticks) r ≡ offset_of rows r
-offset_of-edited [] row ticks r = refl
-offset_of-edited (x ∷ rows) zero ticks zero = refl
-offset_of-edited (x ∷ rows) zero ticks (suc r) = refl
-offset_of-edited (x ∷ rows) (suc row) ticks zero = refl
-offset_of-edited (x ∷ rows) (suc row) ticks (suc r) = offset_of-edited rows row ticks r
+offset_of-edited = kept_edited (λ (x : Row). x.offset) 0 (λ x ticks. refl)
 
 pub cowns_of-edited : (rows : List Row) (row ticks r : ℕ) → cowns_of (edited rows row ticks) r ≡ cowns_of rows r
-cowns_of-edited [] row ticks r = refl
-cowns_of-edited (x ∷ rows) zero ticks zero = refl
-cowns_of-edited (x ∷ rows) zero ticks (suc r) = refl
-cowns_of-edited (x ∷ rows) (suc row) ticks zero = refl
-cowns_of-edited (x ∷ rows) (suc row) ticks (suc r) = cowns_of-edited rows row ticks r
+cowns_of-edited = kept_edited (λ (x : Row). x.cowns.items) [] (λ x ticks. refl)
 
 pub written_of-edited : (rows : List Row) (row ticks r : ℕ) → written_of (edited rows row ticks) r ≡ written_of rows r
-written_of-edited [] row ticks r = refl
-written_of-edited (x ∷ rows) zero ticks zero = refl
-written_of-edited (x ∷ rows) zero ticks (suc r) = refl
-written_of-edited (x ∷ rows) (suc row) ticks zero = refl
-written_of-edited (x ∷ rows) (suc row) ticks (suc r) = written_of-edited rows row ticks r
+written_of-edited = kept_edited (λ (x : Row). x.written.items) [] (λ x ticks. refl)
 
 pub ticks_of-edited_other : (rows : List Row) (row ticks r : ℕ) → r ≢ row → ticks_of (edited rows row ticks) r ≡ ticks_of rows r
 ticks_of-edited_other [] row ticks r ne = refl

@@ -9,12 +9,16 @@ use Rattle.boc_types.specs.program.Signatures.{Test, whens_pass}
 use Rattle.boc_types.specs.memory.View.{before, slot_expr_of, cown_ref_of}
 use Rattle.boc_types.specs.memory.Words.{words_of, stmt_words}
 
+-- a statement and what follows it count together, in size and in nodes
+then_counts : (s : Stmt) (rest : Code) → (code_size (before s rest) ≡ code_size (before s Done) + code_size rest) × (nodes (before s rest) ≡ nodes (before s Done) + nodes rest)
+then_counts (stmt.Assign slot e) rest = (omega arith, omega arith)
+then_counts (stmt.Work e) rest = (omega arith, omega arith)
+then_counts (stmt.If e a b) rest = (omega arith, omega arith)
+then_counts (stmt.Repeat e a) rest = (omega arith, omega arith)
+then_counts (stmt.When kind args refs) rest = (omega arith, omega arith)
+
 pub then_size : (s : Stmt) (rest : Code) → code_size (before s rest) ≡ code_size (before s Done) + code_size rest
-then_size (stmt.Assign slot e) rest = omega arith
-then_size (stmt.Work e) rest = omega arith
-then_size (stmt.If e a b) rest = omega arith
-then_size (stmt.Repeat e a) rest = omega arith
-then_size (stmt.When kind args refs) rest = omega arith
+then_size s rest = (then_counts s rest).0
 
 pub then_positive : (s : Stmt) → 1 ≤ code_size (before s Done)
 then_positive (stmt.Assign slot e) = omega arith
@@ -24,11 +28,7 @@ then_positive (stmt.Repeat e a) = omega arith
 then_positive (stmt.When kind args refs) = omega arith
 
 pub nodes_before : (s : Stmt) (rest : Code) → nodes (before s rest) ≡ nodes (before s Done) + nodes rest
-nodes_before (stmt.Assign slot e) rest = omega arith
-nodes_before (stmt.Work e) rest = omega arith
-nodes_before (stmt.If e a b) rest = omega arith
-nodes_before (stmt.Repeat e a) rest = omega arith
-nodes_before (stmt.When kind args refs) rest = omega arith
+nodes_before s rest = (then_counts s rest).1
 
 -- the words of a statement stand before those of what follows
 pub words_before : (s : Stmt) (rest : Code) → words_of (before s rest) ≡ stmt_words s ++ words_of rest

@@ -8,6 +8,7 @@ pub mod RunsAreLegal
 pub mod Fitting
 pub mod Behaviours
 pub mod OwnOrders
+pub mod Samples
 pub mod Transfer
 pub mod SerialRuns
 pub mod EditedTransfer

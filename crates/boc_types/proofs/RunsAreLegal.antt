@@ -285,15 +285,11 @@ running_of ms r m is runs =
 
 -- a parent, its row, and the wish that it spawns next
 record Spawning (p : Program) (ms : List Member) (es : List Entry) (parent offset : ℕ) (cowns : List ℕ) : Type 0 where
-  m : Member
-  e : Entry
-  m_is : slice_get ms parent ≡ Some m
-  e_is : slice_get es parent ≡ Some e
-  twins : Twins p m e
-  runs : m.life ≡ Running
+  both : Beside p ms es parent
+  runs : both.m.life ≡ Running
   wish : Wish
   next : next_wish p (slice_get ms parent) ≡ Some wish
-  wish_is : slice_get (whole_meaning p m e twins).wishes m.spawned ≡ Some wish
+  wish_is : slice_get (whole_meaning p both.m both.e both.twins).wishes both.m.spawned ≡ Some wish
   offset_is : offset ≡ wish.offset
   cowns_are : cowns ≡ rising wish.cowns
 
@@ -302,11 +298,7 @@ spawning p ms es h parent offset cowns s =
     let b = beside p ms es h parent (is_there ms parent Running s.runs) in
     let next : wish_at (meaning_of p b.m) b.m.spawned ≡ Some s.wish = sym (ap (λ o. next_wish p o) b.m_is) ∙ s.next in
     record {
-      m = b.m;
-      e = b.e;
-      m_is = b.m_is;
-      e_is = b.e_is;
-      twins = b.twins;
+      both = b;
       runs = running_of ms parent b.m b.m_is s.runs;
       wish = s.wish;
       next = s.next;
@@ -318,7 +310,7 @@ spawning p ms es h parent offset cowns s =
 -- a wish that a behaviour of a run spawns fits the program
 module _ (p : Program) (ms : List Member) (es : List Entry) (parent offset : ℕ) (cowns : List ℕ) (s : Spawning p ms es parent offset cowns) where
   fits : WishFits (map signature_of p.bodies) (cown_count p.cowns) s.wish
-  fits = wish_fits (map signature_of p.bodies) (cown_count p.cowns) (whole_meaning p s.m s.e s.twins).wishes s.m.spawned s.wish (meant_fits p s.m s.e s.twins s.runs) s.wish_is
+  fits = wish_fits (map signature_of p.bodies) (cown_count p.cowns) (whole_meaning p s.both.m s.both.e s.both.twins).wishes s.both.m.spawned s.wish (meant_fits p s.both.m s.both.e s.both.twins s.runs) s.wish_is
 
   low_wish : All (λ c. c < cown_count p.cowns) (rising s.wish.cowns)
   low_wish = rising_all (λ c. c < cown_count p.cowns) s.wish.cowns (all_below (cown_count p.cowns) s.wish.cowns fits.below)
@@ -326,18 +318,18 @@ module _ (p : Program) (ms : List Member) (es : List Entry) (parent offset : ℕ
   few_wish : length (rising s.wish.cowns) ≤ MOST_HELD
   few_wish = omega (arith, length-rising s.wish.cowns, few_held p s.wish.kind (length s.wish.args) (length s.wish.cowns) fits.counts)
 
-  last_now : s.e.last ≡ last_offset (Some (whole_meaning p s.m s.e s.twins)) s.m.spawned
-  last_now = s.twins.last ∙ ap (λ o. last_offset o s.m.spawned) (is_meant p s.m s.e s.twins)
+  last_now : s.both.e.last ≡ last_offset (Some (whole_meaning p s.both.m s.both.e s.both.twins)) s.both.m.spawned
+  last_now = s.both.twins.last ∙ ap (λ o. last_offset o s.both.m.spawned) (is_meant p s.both.m s.both.e s.both.twins)
 
-  later_wish : s.e.last < offset
-  later_wish = omega (arith, last_now, s.offset_is, last_before_next (whole_meaning p s.m s.e s.twins) s.m.spawned s.wish (meant_rises p s.m s.e s.twins) s.wish_is)
+  later_wish : s.both.e.last < offset
+  later_wish = omega (arith, last_now, s.offset_is, last_before_next (whole_meaning p s.both.m s.both.e s.both.twins) s.both.m.spawned s.wish (meant_rises p s.both.m s.both.e s.both.twins) s.wish_is)
 
   short_wish : offset ≤ MOST_TICKS
   short_wish = omega (
     arith,
     s.offset_is,
-    (wish_between 1 (whole_meaning p s.m s.e s.twins).ticks (whole_meaning p s.m s.e s.twins).wishes s.m.spawned s.wish (meant_rises p s.m s.e s.twins) s.wish_is).1,
-    meant_short p s.m s.e s.twins,
+    (wish_between 1 (whole_meaning p s.both.m s.both.e s.both.twins).ticks (whole_meaning p s.both.m s.both.e s.both.twins).wishes s.both.m.spawned s.wish (meant_rises p s.both.m s.both.e s.both.twins) s.wish_is).1,
+    meant_short p s.both.m s.both.e s.both.twins,
   )
 
 spawn_bounds : (n row parent offset : ℕ) (cowns : ArrayVec ℕ) (own : List ℕ) → row < MOST_ROWS → parent ≤ MOST_ROWS → offset ≤ MOST_TICKS → n ≤ MOST_COWNS → cowns.items ≡ own
@@ -361,9 +353,9 @@ spawn_allowed p (m ∷ ms) [] h row parent offset cowns next few s = absurd (ome
 spawn_allowed p (m ∷ ms) (e ∷ es) h row parent offset cowns next few s =
     let t = spawning p (m ∷ ms) (e ∷ es) h parent offset cowns.items s in
     let own : length (e ∷ es) ≡ length (m ∷ ms) = h.same in
-    let last : last_of (e ∷ es) parent ≡ t.e.last = ap (λ o. option_map_or (λ (x : Entry). x.last) o 0) t.e_is in
+    let last : last_of (e ∷ es) parent ≡ t.both.e.last = ap (λ o. option_map_or (λ (x : Entry). x.last) o 0) t.both.e_is in
     record {
-      bounds = spawn_bounds (cown_count p.cowns) row parent offset cowns (rising t.wish.cowns) few (omega (arith, place_below (m ∷ ms) parent t.m t.m_is, h.few)) (short_wish p (m ∷ ms) (e ∷ es) parent offset cowns.items t) p.few_cowns t.cowns_are
+      bounds = spawn_bounds (cown_count p.cowns) row parent offset cowns (rising t.wish.cowns) few (omega (arith, place_below (m ∷ ms) parent t.both.m t.both.m_is, h.few)) (short_wish p (m ∷ ms) (e ∷ es) parent offset cowns.items t) p.few_cowns t.cowns_are
           (low_wish p (m ∷ ms) (e ∷ es) parent offset cowns.items t) (few_wish p (m ∷ ms) (e ∷ es) parent offset cowns.items t);
       keeps = spawn_keeps (cown_count p.cowns) (e ∷ es) row parent offset cowns (next ∙ sym own) few (same_life p (m ∷ ms) (e ∷ es) h parent ∙ s.runs)
           (omega (arith, last, later_wish p (m ∷ ms) (e ∷ es) parent offset cowns.items t), short_wish p (m ∷ ms) (e ∷ es) parent offset cowns.items t)

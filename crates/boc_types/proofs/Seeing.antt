@@ -1,5 +1,7 @@
 -- The rows as plans see them: all but what they wrote stays.
 use Rattle.std.proofs.Common.{◌≡◌, ℕ, zero, suc, ◌<◌, List, [], ◌∷◌, length, refl, ap, sym, ◌∙◌, get_or, arith}
+use Rattle.std.specs.Option.{option_map_or}
+use Rattle.std.specs.Prelude.{slice_get}
 use Rattle.std.specs.List.{Contains}
 use Rattle.std.specs.List.Sorted.{IsStrictlyIncreasing}
 use Rattle.std.proofs.lemmas.List.Elements.{Contains-get_or}
@@ -19,51 +21,38 @@ pub length-writing : (rows : List Row) → length (writing_all rows) ≡ length 
 length-writing [] = refl
 length-writing (x ∷ rows) = ap suc (length-writing rows)
 
-parent_of-writing : (rows : List Row) (r : ℕ) → parent_of (writing_all rows) r ≡ parent_of rows r
-parent_of-writing [] r = refl
-parent_of-writing (x ∷ rows) zero = refl
-parent_of-writing (x ∷ rows) (suc r) = parent_of-writing rows r
-
-offset_of-writing : (rows : List Row) (r : ℕ) → offset_of (writing_all rows) r ≡ offset_of rows r
-offset_of-writing [] r = refl
-offset_of-writing (x ∷ rows) zero = refl
-offset_of-writing (x ∷ rows) (suc r) = offset_of-writing rows r
-
-ticks_of-writing : (rows : List Row) (r : ℕ) → ticks_of (writing_all rows) r ≡ ticks_of rows r
-ticks_of-writing [] r = refl
-ticks_of-writing (x ∷ rows) zero = refl
-ticks_of-writing (x ∷ rows) (suc r) = ticks_of-writing rows r
-
-cowns_of-writing : (rows : List Row) (r : ℕ) → cowns_of (writing_all rows) r ≡ cowns_of rows r
-cowns_of-writing [] r = refl
-cowns_of-writing (x ∷ rows) zero = refl
-cowns_of-writing (x ∷ rows) (suc r) = cowns_of-writing rows r
+-- what a row tells, where what it wrote counts as all its cowns
+read_writing : {X : Type 0} (f g : Row → X) (d : X) → ((x : Row) → f (record x { written = x.cowns }) ≡ g x) → (rows : List Row) (r : ℕ)
+    → option_map_or f (slice_get (writing_all rows) r) d ≡ option_map_or g (slice_get rows r) d
+read_writing f g d tells [] r = refl
+read_writing f g d tells (x ∷ rows) zero = tells x
+read_writing f g d tells (x ∷ rows) (suc r) = read_writing f g d tells rows r
 
 -- where cowns are exclusive, a row writes what it has
 pub written_of-writing : (rows : List Row) (r : ℕ) → written_of (writing_all rows) r ≡ cowns_of rows r
-written_of-writing [] r = refl
-written_of-writing (x ∷ rows) zero = refl
-written_of-writing (x ∷ rows) (suc r) = written_of-writing rows r
+written_of-writing = read_writing (λ (x : Row). x.written.items) (λ (x : Row). x.cowns.items) [] (λ x. refl)
+
+-- what else a row tells stays
+kept_seen : {X : Type 0} (f : Row → X) (d : X) → ((x : Row) → f (record x { written = x.cowns }) ≡ f x) → (s : Sharing) (rows : List Row) (r : ℕ)
+    → option_map_or f (slice_get (seen s rows) r) d ≡ option_map_or f (slice_get rows r) d
+kept_seen f d tells Exclusive rows r = read_writing f f d tells rows r
+kept_seen f d tells SharedReads rows r = refl
 
 pub length-seen : (s : Sharing) (rows : List Row) → length (seen s rows) ≡ length rows
 length-seen Exclusive rows = length-writing rows
 length-seen SharedReads rows = refl
 
 pub parent_of-seen : (s : Sharing) (rows : List Row) (r : ℕ) → parent_of (seen s rows) r ≡ parent_of rows r
-parent_of-seen Exclusive rows r = parent_of-writing rows r
-parent_of-seen SharedReads rows r = refl
+parent_of-seen = kept_seen (λ (x : Row). x.parent) 0 (λ x. refl)
 
 pub offset_of-seen : (s : Sharing) (rows : List Row) (r : ℕ) → offset_of (seen s rows) r ≡ offset_of rows r
-offset_of-seen Exclusive rows r = offset_of-writing rows r
-offset_of-seen SharedReads rows r = refl
+offset_of-seen = kept_seen (λ (x : Row). x.offset) 0 (λ x. refl)
 
 pub ticks_of-seen : (s : Sharing) (rows : List Row) (r : ℕ) → ticks_of (seen s rows) r ≡ ticks_of rows r
-ticks_of-seen Exclusive rows r = ticks_of-writing rows r
-ticks_of-seen SharedReads rows r = refl
+ticks_of-seen = kept_seen (λ (x : Row). x.ticks) 0 (λ x. refl)
 
 pub cowns_of-seen : (s : Sharing) (rows : List Row) (r : ℕ) → cowns_of (seen s rows) r ≡ cowns_of rows r
-cowns_of-seen Exclusive rows r = cowns_of-writing rows r
-cowns_of-seen SharedReads rows r = refl
+cowns_of-seen = kept_seen (λ (x : Row). x.cowns.items) [] (λ x. refl)
 
 -- a row's cowns are among themselves
 own_among : (cowns : List ℕ) → IsStrictlyIncreasing cowns → AreAmong cowns cowns
@@ -77,23 +66,23 @@ module _ (rows : List Row) (hr : IsRows rows) where
   rows_writing = record {
     not_empty = omega (arith, length-writing rows, hr.not_empty);
     not_many = omega (arith, length-writing rows, hr.not_many);
-    cowns_rise = λ r h. rw (cowns_of-writing rows r) (hr.cowns_rise r (within r h));
-    cowns_below = λ r h. rw (cowns_of-writing rows r) (hr.cowns_below r (within r h));
-    written_own = λ r h. rw (cowns_of-writing rows r, written_of-writing rows r) (own_among (cowns_of rows r) (hr.cowns_rise r (within r h)));
-    main_parent = parent_of-writing rows 0 ∙ hr.main_parent;
-    main_offset = offset_of-writing rows 0 ∙ hr.main_offset;
-    main_cowns = cowns_of-writing rows 0 ∙ hr.main_cowns;
-    parent_before = λ r above h. omega (arith, parent_of-writing rows r, hr.parent_before r above (within r h));
-    offset_above = λ r above h. omega (arith, offset_of-writing rows r, hr.offset_above r above (within r h));
+    cowns_rise = λ r h. rw (cowns_of-seen Exclusive rows r) (hr.cowns_rise r (within r h));
+    cowns_below = λ r h. rw (cowns_of-seen Exclusive rows r) (hr.cowns_below r (within r h));
+    written_own = λ r h. rw (cowns_of-seen Exclusive rows r, written_of-writing rows r) (own_among (cowns_of rows r) (hr.cowns_rise r (within r h)));
+    main_parent = parent_of-seen Exclusive rows 0 ∙ hr.main_parent;
+    main_offset = offset_of-seen Exclusive rows 0 ∙ hr.main_offset;
+    main_cowns = cowns_of-seen Exclusive rows 0 ∙ hr.main_cowns;
+    parent_before = λ r above h. omega (arith, parent_of-seen Exclusive rows r, hr.parent_before r above (within r h));
+    offset_above = λ r above h. omega (arith, offset_of-seen Exclusive rows r, hr.offset_above r above (within r h));
     offsets_rise = λ a b above before h same. omega (
       arith,
-      offset_of-writing rows a,
-      offset_of-writing rows b,
-      hr.offsets_rise a b above before (within b h) (sym (parent_of-writing rows a) ∙ same ∙ parent_of-writing rows b),
+      offset_of-seen Exclusive rows a,
+      offset_of-seen Exclusive rows b,
+      hr.offsets_rise a b above before (within b h) (sym (parent_of-seen Exclusive rows a) ∙ same ∙ parent_of-seen Exclusive rows b),
     );
-    ticks_low = λ r h. omega (arith, ticks_of-writing rows r, hr.ticks_low r (within r h));
-    ticks_high = λ r h. omega (arith, ticks_of-writing rows r, hr.ticks_high r (within r h));
-    ticks_cover = λ r above h. rw (offset_of-writing rows r, parent_of-writing rows r, ticks_of-writing rows (parent_of rows r)) (hr.ticks_cover r above (within r h));
+    ticks_low = λ r h. omega (arith, ticks_of-seen Exclusive rows r, hr.ticks_low r (within r h));
+    ticks_high = λ r h. omega (arith, ticks_of-seen Exclusive rows r, hr.ticks_high r (within r h));
+    ticks_cover = λ r above h. rw (offset_of-seen Exclusive rows r, parent_of-seen Exclusive rows r, ticks_of-seen Exclusive rows (parent_of rows r)) (hr.ticks_cover r above (within r h));
   }
 
 -- the rows as they are seen are the rows of a record
@@ -113,7 +102,7 @@ edited-seen SharedReads rows row ticks = refl
 
 -- where cowns are exclusive, a row counts as writing each cown that it has
 pub written_of-seen : (s : Sharing) (rows all : List Row) (r c : ℕ) → all ≡ seen s rows → Contains (cowns_of all r) c → s ≡ Exclusive → Contains (written_of all r) c
-written_of-seen Exclusive rows all r c same has e = rw (same, written_of-writing rows r) (rw (same, cowns_of-writing rows r) at has)
+written_of-seen Exclusive rows all r c same has e = rw (same, written_of-writing rows r) (rw (same, cowns_of-seen Exclusive rows r) at has)
 written_of-seen SharedReads rows all r c same has e = absurd (let bad : ⊥ = cc in bad)
 
 -- and else what it wrote

@@ -8,6 +8,7 @@ use Rattle.boc_types.specs.program.Syntax.{Number, Slot, Binary, Held, Single, D
 use Rattle.boc_types.specs.runs.Serial.{serial_along}
 use Rattle.boc_types.specs.runs.OwnOrder.{IsOwnOrder, EndsWith, HasTooMany}
 use Rattle.boc_types.proofs.OwnOrders.{ends_once, not_too_many}
+use Rattle.boc_types.proofs.Samples.{body_of, program_of}
 use Rattle.boc_types.proofs.Transfer.{main_body, add_body}
 
 -- cown a = 0; def down(n; x) { x = x + n; if n > 0 { when down(n - 1; x); } } main { when down(2; a); }
@@ -23,15 +24,7 @@ down = record add_body {
 }
 
 abbrev countdown : Program
-countdown = record {
-  cowns = (record { name = codes "a"; size = None; initial = pos 0 }) ∷ [];
-  bodies = countdown_main ∷ down ∷ [];
-  few_cowns = lit≤ tt;
-  few_defs = lit≤ tt;
-  members = refl;
-  main = refl;
-  calls = refl;
-}
+countdown = program_of ((record { name = codes "a"; size = None; initial = pos 0 }) ∷ []) (countdown_main ∷ down ∷ []) (refl, tt, tt, refl, refl)
 
 -- each behaviour has the next as its child, three times
 pub countdown_ends : EndsWith countdown (pos 3 ∷ [])
@@ -65,16 +58,7 @@ abbrev two_wishes : Body
 two_wishes = record main_body { block = When 3 [] (Single 0 ∷ []) (When 4 [] [] Done); few_nodes = lit≤ tt; resolved = refl }
 
 abbrev inc : Body
-inc = record add_body {
-  params = 0;
-  slots = 1;
-  block = Assign 0 (Binary Add (Slot 0) (Number (pos 1))) Done;
-  few_params = lit≤ tt;
-  few_slots = lit≤ tt;
-  parameters_are_slots = lit≤ tt;
-  few_nodes = lit≤ tt;
-  resolved = refl;
-}
+inc = body_of 0 1 1 (Assign 0 (Binary Add (Slot 0) (Number (pos 1))) Done) (tt, tt, tt, tt, tt, refl)
 
 abbrev tenfold : Body
 tenfold = record inc { block = Assign 0 (Binary Multiply (Slot 0) (Number (pos 10))) Done; few_nodes = lit≤ tt; resolved = refl }
@@ -86,15 +70,9 @@ abbrev second : Body
 second = record main_body { block = When 2 [] (Single 1 ∷ []) Done; few_nodes = lit≤ tt; resolved = refl }
 
 abbrev two_orders : Program
-two_orders = record {
-  cowns = (record { name = codes "a"; size = None; initial = pos 0 }) ∷ (record { name = codes "b"; size = None; initial = pos 1 }) ∷ [];
-  bodies = two_wishes ∷ inc ∷ tenfold ∷ first ∷ second ∷ [];
-  few_cowns = lit≤ tt;
-  few_defs = lit≤ tt;
-  members = refl;
-  main = refl;
-  calls = refl;
-}
+two_orders = program_of
+    ((record { name = codes "a"; size = None; initial = pos 0 }) ∷ (record { name = codes "b"; size = None; initial = pos 1 }) ∷ [])
+    (two_wishes ∷ inc ∷ tenfold ∷ first ∷ second ∷ []) (refl, tt, tt, refl, refl)
 
 -- in the program's own order the child of the first comes before that of the second
 pub in_own_order : EndsWith two_orders (pos 0 ∷ pos 20 ∷ [])

@@ -1,5 +1,5 @@
 -- The definitions tried on a program: one that adds to a cown and moves a part of it to another.
-use Rattle.std.proofs.Common.{◌≡◌, ℕ, List, [], ◌∷◌, ◌++◌, Some, None, false, refl, codes, decimal, pos, lit≤}
+use Rattle.std.proofs.Common.{◌≡◌, ℕ, List, [], ◌∷◌, ◌++◌, Some, None, false, refl, codes, decimal, pos}
 use Rattle.boc_types.specs.declared.level.SumOperator.TheVariants as sums
 use Rattle.boc_types.specs.declared.body.Operator.TheVariants as operators
 use Rattle.boc_types.specs.declared.body.Body.{Body}
@@ -20,6 +20,7 @@ use Rattle.boc_types.specs.runs.Lives.{Ended}
 use Rattle.boc_types.specs.runs.Legal.{Entry, entries}
 use Rattle.boc_types.specs.text.RecordTexts.{First, Second, record_text}
 use Rattle.boc_types.specs.runs.Run.{Member, config_of}
+use Rattle.boc_types.proofs.Samples.{body_of, program_of}
 use Rattle.std.specs.Prelude.{map}
 use Rattle.std.specs.Fmt.{digits}
 
@@ -60,60 +61,23 @@ abbrev pub cowns : List Cown
 cowns = (record { name = codes "a"; size = None; initial = pos 10 }) ∷ (record { name = codes "b"; size = None; initial = pos 0 }) ∷ []
 
 abbrev pub main_body : Body
-main_body = record {
-  params = 0;
-  cown_params = 0;
-  slots = 0;
-  block = resolved.When 1 (resolved.Number (pos 5) ∷ []) (resolved.Single 0 ∷ [])
-      (resolved.When 2 (resolved.Number (pos 3) ∷ []) (resolved.Single 0 ∷ resolved.Single 1 ∷ [])
-      (resolved.When 1 (resolved.Number (pos 1) ∷ []) (resolved.Single 1 ∷ []) resolved.Done));
-  few_params = lit≤ tt;
-  few_cowns = lit≤ tt;
-  few_slots = lit≤ tt;
-  parameters_are_slots = lit≤ tt;
-  few_nodes = lit≤ tt;
-  resolved = refl;
-}
+main_body = body_of 0 0 0
+    (resolved.When 1 (resolved.Number (pos 5) ∷ []) (resolved.Single 0 ∷ [])
+    (resolved.When 2 (resolved.Number (pos 3) ∷ []) (resolved.Single 0 ∷ resolved.Single 1 ∷ [])
+    (resolved.When 1 (resolved.Number (pos 1) ∷ []) (resolved.Single 1 ∷ []) resolved.Done)))
+    (tt, tt, tt, tt, tt, refl)
 
 abbrev pub add_body : Body
-add_body = record {
-  params = 1;
-  cown_params = 1;
-  slots = 2;
-  block = resolved.Assign 1 (resolved.Binary operators.Add (resolved.Slot 1) (resolved.Slot 0)) resolved.Done;
-  few_params = lit≤ tt;
-  few_cowns = lit≤ tt;
-  few_slots = lit≤ tt;
-  parameters_are_slots = lit≤ tt;
-  few_nodes = lit≤ tt;
-  resolved = refl;
-}
+add_body = body_of 1 1 2 (resolved.Assign 1 (resolved.Binary operators.Add (resolved.Slot 1) (resolved.Slot 0)) resolved.Done) (tt, tt, tt, tt, tt, refl)
 
 abbrev pub move_body : Body
-move_body = record {
-  params = 1;
-  cown_params = 2;
-  slots = 3;
-  block = resolved.Assign 1 (resolved.Binary operators.Subtract (resolved.Slot 1) (resolved.Slot 0))
-      (resolved.Assign 2 (resolved.Binary operators.Add (resolved.Slot 2) (resolved.Slot 0)) resolved.Done);
-  few_params = lit≤ tt;
-  few_cowns = lit≤ tt;
-  few_slots = lit≤ tt;
-  parameters_are_slots = lit≤ tt;
-  few_nodes = lit≤ tt;
-  resolved = refl;
-}
+move_body = body_of 1 2 3
+    (resolved.Assign 1 (resolved.Binary operators.Subtract (resolved.Slot 1) (resolved.Slot 0))
+    (resolved.Assign 2 (resolved.Binary operators.Add (resolved.Slot 2) (resolved.Slot 0)) resolved.Done))
+    (tt, tt, tt, tt, tt, refl)
 
 abbrev pub program : Program
-program = record {
-  cowns = cowns;
-  bodies = main_body ∷ add_body ∷ move_body ∷ [];
-  few_cowns = lit≤ tt;
-  few_defs = lit≤ tt;
-  members = refl;
-  main = refl;
-  calls = refl;
-}
+program = program_of cowns (main_body ∷ add_body ∷ move_body ∷ []) (refl, tt, tt, refl, refl)
 
 pub names : tree_names tree ≡ Some (plain_program program)
 names = refl

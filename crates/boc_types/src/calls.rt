@@ -8,7 +8,7 @@ ghost use Rattle.boc_types.specs.program.Signatures.{signature_of, ref_below as 
 ghost use Rattle.boc_types.specs.program.Programs.{cown_count, has_main as has_main_spec, have_members as have_members_spec};
 ghost use Rattle.boc_types.specs.memory.Spent.{spent};
 
-use crate::body::{Block, Body, CownRef, Expr, Stmt};
+use crate::body::{Body, CownRef, Expr, Stmt};
 use crate::cown::Cown;
 
 // The cown that a reference names is one of `cowns`, where `held` are held.
@@ -54,13 +54,6 @@ fn call_fits(
 }
 
 #[cycle(calls)]
-fn block_calls_fit(block: &Block, bodies: &[Body], held: usize, cowns: usize) -> bool
-    ensures { result ≡ whens_pass (call_fits_spec (map signature_of bodies.now) held cowns) block.now }
-{
-    stmts_calls_fit(block.as_slice(), bodies, held, cowns)
-}
-
-#[cycle(calls)]
 #[tactic(auto, using(crate::proofs::Followed::whens_before, crate::proofs::Followed::then_size, crate::proofs::Followed::then_positive))]
 fn stmts_calls_fit(stmts: &[Stmt], bodies: &[Body], held: usize, cowns: usize) -> bool
     ensures { result ≡ whens_pass (call_fits_spec (map signature_of bodies.now) held cowns) (code_of stmts.now) }
@@ -80,10 +73,10 @@ fn stmt_calls_fit(stmt: &Stmt, bodies: &[Body], held: usize, cowns: usize) -> bo
     match stmt {
         Stmt::Assign(..) | Stmt::Work(_) => true,
         Stmt::If(_, first, second) => {
-            block_calls_fit(first, bodies, held, cowns)
-                && block_calls_fit(second, bodies, held, cowns)
+            stmts_calls_fit(first.as_slice(), bodies, held, cowns)
+                && stmts_calls_fit(second.as_slice(), bodies, held, cowns)
         }
-        Stmt::Repeat(_, block) => block_calls_fit(block, bodies, held, cowns),
+        Stmt::Repeat(_, block) => stmts_calls_fit(block.as_slice(), bodies, held, cowns),
         Stmt::When(kind, args, references) => {
             call_fits(bodies, held, cowns, *kind, args, references)
         }

@@ -55,13 +55,6 @@ fn refs_fit(references: &[CownRef], slots: usize, cowns: usize) -> bool
 }
 
 #[cycle(fits)]
-fn block_fits(block: &Block, slots: usize, cowns: usize) -> bool
-    ensures { result ≡ fits (record { slots = slots; cowns = cowns }) block.now }
-{
-    stmts_fit(block.as_slice(), slots, cowns)
-}
-
-#[cycle(fits)]
 #[tactic(auto, using(crate::proofs::Followed::fits_before, crate::proofs::Followed::then_size, crate::proofs::Followed::then_positive))]
 fn stmts_fit(stmts: &[Stmt], slots: usize, cowns: usize) -> bool
     ensures { result ≡ fits (record { slots = slots; cowns = cowns }) (code_of stmts.now) }
@@ -81,10 +74,12 @@ fn stmt_fits(stmt: &Stmt, slots: usize, cowns: usize) -> bool
         Stmt::Work(expr) => expr_fits(expr, slots),
         Stmt::If(condition, first, second) => {
             expr_fits(condition, slots)
-                && block_fits(first, slots, cowns)
-                && block_fits(second, slots, cowns)
+                && stmts_fit(first.as_slice(), slots, cowns)
+                && stmts_fit(second.as_slice(), slots, cowns)
         }
-        Stmt::Repeat(turns, block) => expr_fits(turns, slots) && block_fits(block, slots, cowns),
+        Stmt::Repeat(turns, block) => {
+            expr_fits(turns, slots) && stmts_fit(block.as_slice(), slots, cowns)
+        }
         Stmt::When(_, args, refs) => {
             args.len() <= MOST_ARGUMENTS
                 && refs.len() <= MOST_HELD
@@ -134,13 +129,6 @@ fn after_refs(references: &[CownRef], left: usize) -> Option<usize>
 }
 
 #[cycle(after)]
-fn after_block(block: &Block, left: usize) -> Option<usize>
-    ensures { spent result (nodes block.now) left }
-{
-    after_stmts(block.as_slice(), left)
-}
-
-#[cycle(after)]
 #[tactic(auto, using(crate::proofs::Followed::nodes_before, crate::proofs::Followed::then_size, crate::proofs::Followed::then_positive))]
 fn after_stmts(stmts: &[Stmt], left: usize) -> Option<usize>
     ensures { spent result (nodes (code_of stmts.now)) left }
@@ -158,9 +146,10 @@ fn after_stmt(stmt: &Stmt, left: usize) -> Option<usize>
     let left = match stmt {
         Stmt::Assign(_, expr) | Stmt::Work(expr) => after_expr(expr, left)?,
         Stmt::If(condition, first, second) => {
-            after_block(second, after_block(first, after_expr(condition, left)?)?)?
+            let left = after_stmts(first.as_slice(), after_expr(condition, left)?)?;
+            after_stmts(second.as_slice(), left)?
         }
-        Stmt::Repeat(turns, block) => after_block(block, after_expr(turns, left)?)?,
+        Stmt::Repeat(turns, block) => after_stmts(block.as_slice(), after_expr(turns, left)?)?,
         Stmt::When(_, args, refs) => after_refs(refs, after_exprs(args, left)?)?,
     };
     left.checked_sub(1)
@@ -207,7 +196,8 @@ impl Body {
         {
             return Ok(None);
         }
-        if after_block(&block, MOST_NODES).is_none() || !block_fits(&block, slots, cown_params) {
+        let stmts = block.as_slice();
+        if after_stmts(stmts, MOST_NODES).is_none() || !stmts_fit(stmts, slots, cown_params) {
             return Ok(None);
         }
         let body = Body::new(alloc, params, cown_params, slots, block)?;

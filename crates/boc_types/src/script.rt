@@ -3,7 +3,7 @@
 ghost use Rattle.std.specs.Prelude.{◌≡◌, ◌↔◌, IsTrue, IfOk};
 
 use crate::body::{Block, Stmt};
-use crate::words::put_block;
+use crate::words::put_stmts;
 use std::alloc::{AllocError, Global};
 use std::marker::Model;
 
@@ -37,7 +37,7 @@ impl Script {
         ensures { IfOk result (λ script. script ≡ block) }
     {
         let mut words = Vec::new(alloc);
-        put_block(&mut words, &block)?;
+        put_stmts(&mut words, block.as_slice())?;
         Ok(Script { block, words })
     }
 

@@ -5,7 +5,7 @@ ghost use Rattle.boc_types.specs.memory.View.{slot_expr_of, cown_ref_of, code_of
 ghost use Rattle.boc_types.specs.memory.Words.{sign_word as sign_word_spec, operator_word as operator_word_spec};
 ghost use Rattle.boc_types.specs.memory.Words.{expr_words, exprs_words, ref_words, refs_words, words_of, stmt_words};
 
-use crate::body::{Block, CownRef, Expr, Operator, Stmt};
+use crate::body::{CownRef, Expr, Operator, Stmt};
 use std::alloc::AllocError;
 
 // The tag of a number, which tells its sign.
@@ -117,18 +117,10 @@ fn put_refs(words: &mut Vec<u64>, references: &[CownRef]) -> Result<(), AllocErr
     }
 }
 
-/// Puts the words of a block behind those that are there.
-#[cycle(put)]
-pub(crate) fn put_block(words: &mut Vec<u64>, block: &Block) -> Result<(), AllocError>
-    ensures { OnOk result (words.new.items ≡ words.old.items ++ words_of block.now) }
-{
-    put_stmts(words, block.as_slice())
-}
-
-// Puts the words of statements, and their end.
+/// Puts the words of statements, and their end, behind those that are there.
 #[cycle(put)]
 #[tactic(auto, using(crate::proofs::Followed::words_before, crate::proofs::Followed::then_size, crate::proofs::Followed::then_positive))]
-fn put_stmts(words: &mut Vec<u64>, stmts: &[Stmt]) -> Result<(), AllocError>
+pub(crate) fn put_stmts(words: &mut Vec<u64>, stmts: &[Stmt]) -> Result<(), AllocError>
     ensures { OnOk result (words.new.items ≡ words.old.items ++ words_of (code_of stmts.now)) }
 {
     match stmts {
@@ -161,13 +153,13 @@ fn put_stmt(words: &mut Vec<u64>, stmt: &Stmt) -> Result<(), AllocError>
         Stmt::If(condition, first, second) => {
             words.push(3)?;
             put_expr(words, condition)?;
-            put_block(words, first)?;
-            put_block(words, second)
+            put_stmts(words, first.as_slice())?;
+            put_stmts(words, second.as_slice())
         }
         Stmt::Repeat(turns, block) => {
             words.push(4)?;
             put_expr(words, turns)?;
-            put_block(words, block)
+            put_stmts(words, block.as_slice())
         }
         Stmt::When(kind, args, refs) => {
             words.push(5)?;

@@ -3,11 +3,8 @@ use Rattle.boc_types.specs.program.Syntax.{Done, code_size}
 use Rattle.boc_types.specs.memory.View.{code_of, before}
 use Rattle.boc_types.proofs.words.+put.Given as goal
 
-abbrev pub decreases-put_block : goal.decreases-put_block
-decreases-put_block l = 3 * code_size l.block.now + 2
-
 abbrev pub decreases-put_stmts : goal.decreases-put_stmts
-decreases-put_stmts l = 3 * code_size (code_of l.stmts.now) + 1
+decreases-put_stmts l = 2 * code_size (code_of l.stmts.now) + 1
 
 abbrev pub decreases-put_stmt : goal.decreases-put_stmt
-decreases-put_stmt l = 3 * code_size (before l.stmt.now Done)
+decreases-put_stmt l = 2 * code_size (before l.stmt.now Done)

@@ -102,21 +102,21 @@ module _ (p : Program) (s : State) (k : Core p s nobody) (who : ℕ) (b : OpenBe
       let long : length t.queues ≡ length s.queues = length-set s.queues c (queue s c ++ (who ∷ [])) in
       core_on p s nobody k who b (Some b') due.is t.queues nobody long asks_same ready_same (λ d h. h)
       (exchange (at s) (at t) (queue s) (queue t) who c k.laws (record {
-          other = other;
-          longer = longer;
-          elsewhere = elsewhere;
-          here = ap (times c) stand' ∙ taken_here b.cowns i c due.cown ∙ ap (λ z. times c z + 1) (sym stand);
-          there = λ d n. ap (times d) stand' ∙ taken_there b.cowns i c d due.cown n ∙ ap (times d) (sym stand);
-          cowns = cowns;
-          settled_same = ap settled is' ∙ sym set;
-          not_settled = ap (times c) set ∙ fresh_at b.cowns i c due.cown once;
-          flagged_same = ap flagged is' ∙ sym (ap flagged due.is ∙ ap (λ z. flagged_at z b.cowns) due.stage_is);
-          no_row = no_row;
-          still_none = no_row';
-          holds_not = ap holds is';
-        }))
+        other = other;
+        longer = longer;
+        elsewhere = elsewhere;
+        here = ap (times c) stand' ∙ taken_here b.cowns i c due.cown ∙ ap (λ z. times c z + 1) (sym stand);
+        there = λ d n. ap (times d) stand' ∙ taken_there b.cowns i c d due.cown n ∙ ap (times d) (sym stand);
+        cowns = cowns;
+        settled_same = ap settled is' ∙ sym set;
+        not_settled = ap (times c) set ∙ fresh_at b.cowns i c due.cown once;
+        flagged_same = ap flagged is' ∙ sym (ap flagged due.is ∙ ap (λ z. flagged_at z b.cowns) due.stage_is);
+        no_row = no_row;
+        still_none = no_row';
+        holds_not = ap holds is';
+      }))
       (waits_exchange (at s) (at t) (queue s) (queue t) who c nobody k.waiting other longer elsewhere
-            (ap waits is'))
+      (ap waits is'))
       (fits_on p (members p s) (at s) (at t) who k.fits other (goes_on_at b (Asking i false) (Asking i true) (at s who)
       (at t who) due.is due.stage_is is' refl refl (λ h. h) (λ h. h)))
 
@@ -183,13 +183,13 @@ module _ (p : Program) (s : State) (k : Core p s nobody) (who : ℕ) (b : OpenBe
       let ready_same : ready_row (Some b') ≡ ready_row (Some b) = sym (asks_ready b.stage a.asks_is) in
       core_on p s nobody k who b (Some b') a.is s.queues nobody refl asks_same ready_same (λ d h. h)
       (relabel (at s) (at t) (queue s) who k.laws other
-            (λ d. ap (times d) (ap standing is' ∙ sym (ap standing a.is ∙ a.stands)))
-            cowns
-            (λ d ahead behind x e h. a.free d ahead behind x e
-            (subst (λ (cs : List ℕ). 0 < times d cs) (ap settled is') h))
-            (λ d h. absurd (let f = unflagged d in omega arith))
-            (ordered_kept (at s) (at t) (queue s) who k.laws other rows_same)
-            (λ d h. absurd (let f : false ≡ true = sym (ap holds is') ∙ h in cc)))
+      (λ d. ap (times d) (ap standing is' ∙ sym (ap standing a.is ∙ a.stands)))
+      cowns
+      (λ d ahead behind x e h. a.free d ahead behind x e
+      (subst (λ (cs : List ℕ). 0 < times d cs) (ap settled is') h))
+      (λ d h. absurd (let f = unflagged d in omega arith))
+      (ordered_kept (at s) (at t) (queue s) who k.laws other rows_same)
+      (λ d h. absurd (let f : false ≡ true = sym (ap holds is') ∙ h in cc)))
       (waits_on (at s) (at t) (queue s) who nobody k.waiting other (ap waits is'))
       (fits_on p (members p s) (at s) (at t) who k.fits other (goes_on_at b b.stage (Asking n false) (at s who)
       (at t who) a.is refl is' (sym (asks_row b.stage a.asks_is)) (sym (asks_life b.stage a.asks_is)) (λ h. a.asks_is)

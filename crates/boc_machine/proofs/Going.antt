@@ -185,28 +185,28 @@ module _ (p : Program) (s : State) (but : ℕ → Type 0) (k : Core p s but) (wh
       (at s who) (at t who) is stage is' refl (sym pending) (λ h. h)
       (λ h. absurd (let f : false ≡ true = h in cc))))
       (λ v. at_each (λ u z. (row : ℕ) → ready_row z ≡ Some row → times row (s.ready ++ (r ∷ [])) ≡ 1)
-            (at s) (at t) who other
-            (λ q h.
-            let same : r ≡ q = (let f : Some r ≡ Some q = sym (ap ready_row is') ∙ h in cc) in
-            omega (
-              arith,
-              ap (λ z. times z (s.ready ++ (r ∷ []))) (sym same),
-              times-append r s.ready (r ∷ []),
-              times-here r [],
-              absent,
-            ))
-            (λ u n q h.
-            let differ : r ≢ q = λ e. n (k.fits.one_row u who q (ready_has_row (at s u) q h)
-            (row ∙ ap (λ z. Some z) e)) in
-            omega (arith, times-append q s.ready (r ∷ []), times-other q r [] differ, k.ready_once u q h)) v)
+      (at s) (at t) who other
+      (λ q h.
+      let same : r ≡ q = (let f : Some r ≡ Some q = sym (ap ready_row is') ∙ h in cc) in
+      omega (
+        arith,
+        ap (λ z. times z (s.ready ++ (r ∷ []))) (sym same),
+        times-append r s.ready (r ∷ []),
+        times-here r [],
+        absent,
+      ))
+      (λ u n q h.
+      let differ : r ≢ q = λ e. n (k.fits.one_row u who q (ready_has_row (at s u) q h)
+      (row ∙ ap (λ z. Some z) e)) in
+      omega (arith, times-append q s.ready (r ∷ []), times-other q r [] differ, k.ready_once u q h)) v)
       (λ q h. elim (same_or_not r q) [
-          | inl e ↦ (who, ap ready_row is' ∙ ap (λ z. Some z) e)
-          | inr n ↦
-              let o = k.ready_only q (omega (arith, h, times-append q s.ready (r ∷ []), times-other q r [] n)) in
-              let differ : o.0 ≢ who = λ e. let f : None ≡ Some q = sym was_not ∙ ap (λ z. ready_row (at s z)) (sym e)
-              ∙ o.1 in cc in
-              (o.0, ap ready_row (other o.0 differ) ∙ o.1)
-        ])
+        | inl e ↦ (who, ap ready_row is' ∙ ap (λ z. Some z) e)
+        | inr n ↦
+            let o = k.ready_only q (omega (arith, h, times-append q s.ready (r ∷ []), times-other q r [] n)) in
+            let differ : o.0 ≢ who = λ e. let f : None ≡ Some q = sym was_not ∙ ap (λ z. ready_row (at s z)) (sym e)
+            ∙ o.1 in cc in
+            (o.0, ap ready_row (other o.0 differ) ∙ o.1)
+      ])
 
 -- ---- Start and Finish: the row changes beside it
 
@@ -297,18 +297,18 @@ module _ (p : Program) (s : State) (k : Core p s nobody) (who : ℕ) (b : OpenBe
       ∙ start_may.waits in cc)
       refl refl refl refl refl refl (λ m. refl) (λ m. refl)
       (λ v. at_each (λ u z. (q : ℕ) → ready_row z ≡ Some q → times q rest ≡ 1) (at s) (at t) who other
-            (λ q h. absurd (let f : None ≡ Some q = sym (ap ready_row is') ∙ h in cc))
-            (λ u n q h.
-            let differ : r ≢ q = λ e. n (k.fits.one_row u who q (ready_has_row (at s u) q h)
-            (row_is ∙ ap (λ z. Some z) e)) in
-            omega (arith, sym (times-other q r rest differ), ap (times q) head, k.ready_once u q h)) v)
+      (λ q h. absurd (let f : None ≡ Some q = sym (ap ready_row is') ∙ h in cc))
+      (λ u n q h.
+      let differ : r ≢ q = λ e. n (k.fits.one_row u who q (ready_has_row (at s u) q h)
+      (row_is ∙ ap (λ z. Some z) e)) in
+      omega (arith, sym (times-other q r rest differ), ap (times q) head, k.ready_once u q h)) v)
       (λ q h.
-            let differ : r ≢ q = λ e. let f : times q rest ≡ 0 = ap (λ z. times z rest) (sym e)
-            ∙ none_left in omega arith in
-            let o = k.ready_only q (omega (arith, h, times-other q r rest differ, ap (times q) head)) in
-            let apart : o.0 ≢ who = λ e. let f : Some r ≡ Some q = sym (ap ready_row is ∙ ap ready_row_at stage)
-            ∙ ap (λ z. ready_row (at s z)) (sym e) ∙ o.1 in differ (let g : r ≡ q = cc in g) in
-            (o.0, ap ready_row (other o.0 apart) ∙ o.1))
+      let differ : r ≢ q = λ e. let f : times q rest ≡ 0 = ap (λ z. times z rest) (sym e)
+      ∙ none_left in omega arith in
+      let o = k.ready_only q (omega (arith, h, times-other q r rest differ, ap (times q) head)) in
+      let apart : o.0 ≢ who = λ e. let f : Some r ≡ Some q = sym (ap ready_row is ∙ ap ready_row_at stage)
+      ∙ ap (λ z. ready_row (at s z)) (sym e) ∙ o.1 in differ (let g : r ≡ q = cc in g) in
+      (o.0, ap ready_row (other o.0 apart) ∙ o.1))
 
 -- ---- Finish
 
@@ -382,19 +382,19 @@ module _ (p : Program) (s : State) (k : Core p s nobody) (who : ℕ) (b : OpenBe
       core_on p s nobody k who b (Some b') due.is t.queues (λ v. is_first v rest ≡ true) long asks_same ready_same
       (λ d h. h)
       (release (at s) (at t) (queue s) (queue t) who c k.laws (record {
-          other = other;
-          shorter = shorter;
-          elsewhere = elsewhere;
-          here = ap (λ cs. times c cs + 1) stand' ∙ dropped_here b.cowns i c due.cown ∙ ap (times c) (sym stand);
-          there = λ d n. ap (times d) stand' ∙ dropped_there b.cowns i c d due.cown n ∙ ap (times d) (sym stand);
-          cowns = cowns;
-          settled_same = ap settled is' ∙ sym (ap settled due.is ∙ ap (λ z. settled_at z b.cowns) due.stage_is);
-          flagged_same = ap flagged is' ∙ sym (ap flagged due.is ∙ ap (λ z. flagged_at z b.cowns) due.stage_is);
-          row_same = ap row_of is' ∙ sym row;
-          held = ap holds due.is ∙ ap holds_at due.stage_is;
-        }))
+        other = other;
+        shorter = shorter;
+        elsewhere = elsewhere;
+        here = ap (λ cs. times c cs + 1) stand' ∙ dropped_here b.cowns i c due.cown ∙ ap (times c) (sym stand);
+        there = λ d n. ap (times d) stand' ∙ dropped_there b.cowns i c d due.cown n ∙ ap (times d) (sym stand);
+        cowns = cowns;
+        settled_same = ap settled is' ∙ sym (ap settled due.is ∙ ap (λ z. settled_at z b.cowns) due.stage_is);
+        flagged_same = ap flagged is' ∙ sym (ap flagged due.is ∙ ap (λ z. flagged_at z b.cowns) due.stage_is);
+        row_same = ap row_of is' ∙ sym row;
+        held = ap holds due.is ∙ ap holds_at due.stage_is;
+      }))
       (λ v h n. waits_release (at s) (at t) (queue s) (queue t) who c k.waiting other shorter elsewhere
-            (ap waits is') v h (λ f. n (ap (is_first v) (sym set_here) ∙ f)))
+      (ap waits is') v h (λ f. n (ap (is_first v) (sym set_here) ∙ f)))
       (fits_on p (members p s) (at s) (at t) who k.fits other (goes_on_at b (Recorded r (Leaving i))
       (Recorded r (Leaving (suc i))) (at s who) (at t who) due.is due.stage_is is' refl refl (λ h. h) (λ h. h)))
 

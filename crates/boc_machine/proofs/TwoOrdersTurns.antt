@@ -25,7 +25,7 @@ use Rattle.std.proofs.lemmas.Bool.{ltb-true}
 use Rattle.boc_machine.proofs.Lists.{and_true, same_numbers}
 use Rattle.boc_machine.proofs.Every.{opening_sound, whole_run}
 use Rattle.boc_machine.proofs.OneTurn.{turns_keep}
-use Rattle.boc_machine.proofs.TwoOrders.{program, log, main_body, one_body, two_body, left_body, right_body, main_at, left_at, right_at, one_at, two_at, state_0, state_1, state_2, state_3, state_4, state_5, state_6, state_7, state_8, state_9, state_10, state_11, state_12, state_13, state_14, state_15, state_16, state_17, state_18, state_19, state_20, state_21, state_22, state_23, state_24, state_25, state_26, state_27, state_28, state_29, state_30, state_31, state_32, state_33, state_34, state_35, state_36, state_37, state_38, state_39, state_40}
+use Rattle.boc_machine.proofs.TwoOrders.{program, log, main_body, one_body, two_body, left_body, right_body, main_at, left_at, right_at, one_at, two_at, state_0, state_1, state_2, state_3, state_4, state_5, state_6, state_7, state_8, state_9, state_10, state_11, state_12, state_13, state_14, state_15, state_16, state_17, state_18, state_20, state_21, state_22, state_24, state_25, state_26, state_27, state_28, state_29, state_30, state_31, state_32, state_33, state_34, state_35, state_36, state_37, state_38, state_39, state_40}
 
 -- ---- tests by which conditions over all numbers are shown
 
@@ -128,12 +128,12 @@ driven_40 = record { state = state_40; serves = None ∷ None ∷ [] }
 -- turns, one after the other
 data Played : Driven → List ℕ → Driven → Type 0 where
   Over : {d : Driven} → Played d [] d
-  Then : {d e f : Driven} {worker : ℕ} {workers : List ℕ} → Turn program d worker e → Played e workers f
+  Then : {d f : Driven} {worker : ℕ} {workers : List ℕ} (e : Driven) → Turn program d worker e → Played e workers f
       → Played d (worker ∷ workers) f
 
-turns_of : (d : Driven) (workers : List ℕ) (e : Driven) → Played d workers e → Turns program d workers e
-turns_of d [] d Over = refl
-turns_of d (worker ∷ workers) f (Then {e = e} turn others) = (e, turn, turns_of e workers f others)
+turns_of : {d e : Driven} {workers : List ℕ} → Played d workers e → Turns program d workers e
+turns_of Over = refl
+turns_of (Then e turn others) = (e, turn, turns_of others)
 
 joined : (d e f : Driven) (xs ys : List ℕ) → Turns program d xs e → Turns program e ys f → Turns program d (xs ++ ys) f
 joined d e f [] ys is others = subst (λ (z : Driven). Turns program z ys f) is others
@@ -163,13 +163,13 @@ module _ {d : Driven} {worker : ℕ} where
   serves_on t row after takes serving =
       record { before = Some row; after = after; is = serving; takes = takes; serves_are = refl }
 
-  opens : (t : State) (row : ℕ) (wish : Wish) → state_of (members program d.state) row ≡ Some lives.Running
+  opens_next : (t : State) (row : ℕ) (wish : Wish) → state_of (members program d.state) row ≡ Some lives.Running
       → IsTrue (is_none_open d.state.behaviours row)
       → next_wish program (slice_get (members program d.state) row) ≡ Some wish
       → recorded program d.state + unrecorded d.state < MOST_ROWS
       → t ≡ stepped (asking_on program (with_new d.state (child row wish)) (opened d.state) (child row wish) 0)
       → slice_get d.serves worker ≡ Some (Some row) → Turn program d worker (then_at d t worker (Some row))
-  opens t row wish runs none next room gives = serves_on t row (Some row) (Opened row t (record {
+  opens_next t row wish runs none next room gives = serves_on t row (Some row) (Opened row t (record {
     wish = wish;
     may = record { runs = runs; none_open = none_open d.state row none; next = next; room = room };
     gives = gives;
@@ -180,9 +180,9 @@ module _ {d : Driven} {worker : ℕ} where
       → this.stage ≡ stage → enqueues_at stage ≡ true → Advances program d.state who step t
       → slice_get d.serves worker ≡ Some (Some this.parent)
       → Turn program d worker (then_at d t worker (Some this.parent))
-  advances t who this stage step is stage_is open makes = serves_on t this.parent (Some this.parent)
+  advances t who this stage step is stage_is enqueued makes = serves_on t this.parent (Some this.parent)
       (Advanced this.parent who step t
-      (record { is_open = ap enqueues is ∙ ap enqueues_at stage_is ∙ open; parent = ap parent_of is }) makes)
+      (record { is_open = ap enqueues is ∙ ap enqueues_at stage_is ∙ enqueued; parent = ap parent_of is }) makes)
 
   swaps : (t : State) (who i c : ℕ) (this : OpenBehaviour) → at d.state who ≡ Some this → this.stage ≡ Asking i false
       → slice_get this.cowns i ≡ Some c
@@ -316,38 +316,36 @@ opens = refl
 
 -- eighteen choices
 turns_to_18 : Turns program driven_0 (take 18 first_choices) driven_18
-turns_to_18 = turns_of driven_0 (take 18 first_choices) driven_18 $
-    Then (begins state_1 0 0 (main_at (Recorded 0 Ready)) [] refl refl refl refl refl) $
-    Then (opens state_2 0 left_wish refl refl refl (lit≤ tt) refl refl) $
-    Then (swaps state_3 1 0 2 (left_at (Asking 0 false)) refl refl refl refl refl) $
-    Then (settles state_4 1 0 2 (left_at (Asking 0 true)) refl refl refl refl refl refl) $
-    Then (flags state_5 1 1 0 2 (left_at (Recorded 1 (Flagging 0))) refl refl refl refl refl) $
-    Then (owns state_6 1 1 (left_at (Recorded 1 Owning)) refl refl refl refl) $
-    Then (opens state_7 0 right_wish refl refl refl (lit≤ tt) refl refl) $
-    Then (swaps state_8 2 0 3 (right_at (Asking 0 false)) refl refl refl refl refl) $
-    Then (settles state_9 2 0 3 (right_at (Asking 0 true)) refl refl refl refl refl refl) $
-    Then (flags state_10 2 2 0 3 (right_at (Recorded 2 (Flagging 0))) refl refl refl refl refl) $
-    Then (owns state_11 2 2 (right_at (Recorded 2 Owning)) refl refl refl refl) $
-    Then (finishes state_12 0 0 3 [] (main_at (Recorded 0 Running)) (ran 0 [] [] 2) main_body refl refl refl refl refl refl refl refl refl refl refl refl) $
-    Then (begins state_13 1 1 (left_at (Recorded 1 Ready)) (2 ∷ []) refl refl refl refl refl) $
-    Then (begins state_14 2 2 (right_at (Recorded 2 Ready)) [] refl refl refl refl refl) $
-    Then (opens state_15 1 one_wish refl refl refl (lit≤ tt) refl refl) $
-    Then (swaps state_16 3 0 0 (one_at (Asking 0 false)) refl refl refl refl refl) $
-    Then (opens state_17 2 two_wish refl refl refl (lit≤ tt) refl refl) $
-    Then (swaps state_18 4 0 0 (two_at (Asking 0 false)) refl refl refl refl refl) $
-    Over
+turns_to_18 = turns_of {d = driven_0} {e = driven_18} {workers = take 18 first_choices}
+    (Then _ (begins state_1 0 0 (main_at (Recorded 0 Ready)) [] refl refl refl refl refl)
+    (Then _ (opens_next state_2 0 left_wish refl refl refl (lit≤ tt) refl refl)
+    (Then _ (swaps state_3 1 0 2 (left_at (Asking 0 false)) refl refl refl refl refl)
+    (Then _ (settles state_4 1 0 2 (left_at (Asking 0 true)) refl refl refl refl refl refl)
+    (Then _ (flags state_5 1 1 0 2 (left_at (Recorded 1 (Flagging 0))) refl refl refl refl refl)
+    (Then _ (owns state_6 1 1 (left_at (Recorded 1 Owning)) refl refl refl refl)
+    (Then _ (opens_next state_7 0 right_wish refl refl refl (lit≤ tt) refl refl)
+    (Then _ (swaps state_8 2 0 3 (right_at (Asking 0 false)) refl refl refl refl refl)
+    (Then _ (settles state_9 2 0 3 (right_at (Asking 0 true)) refl refl refl refl refl refl)
+    (Then _ (flags state_10 2 2 0 3 (right_at (Recorded 2 (Flagging 0))) refl refl refl refl refl)
+    (Then _ (owns state_11 2 2 (right_at (Recorded 2 Owning)) refl refl refl refl)
+    (Then _ (finishes state_12 0 0 3 [] (main_at (Recorded 0 Running)) (ran 0 [] [] 2) main_body refl refl refl refl refl refl refl refl refl refl refl refl)
+    (Then _ (begins state_13 1 1 (left_at (Recorded 1 Ready)) (2 ∷ []) refl refl refl refl refl)
+    (Then _ (begins state_14 2 2 (right_at (Recorded 2 Ready)) [] refl refl refl refl refl)
+    (Then _ (opens_next state_15 1 one_wish refl refl refl (lit≤ tt) refl refl)
+    (Then _ (swaps state_16 3 0 0 (one_at (Asking 0 false)) refl refl refl refl refl)
+    (Then _ (opens_next state_17 2 two_wish refl refl refl (lit≤ tt) refl refl)
+    (Then _ (swaps state_18 4 0 0 (two_at (Asking 0 false)) refl refl refl refl refl) Over))))))))))))))))))
 
 -- twenty-five choices, of which two are blocked: so many steps, and so many events
 turns_from_18 : Turns program driven_18 (1 ∷ 0 ∷ 0 ∷ 0 ∷ 1 ∷ 0 ∷ 1 ∷ []) driven_25
-turns_from_18 = turns_of driven_18 (1 ∷ 0 ∷ 0 ∷ 0 ∷ 1 ∷ 0 ∷ 1 ∷ []) driven_25 $
-    Then (waits 4 0 0 (two_at (Asking 0 true)) [] 3 [] refl refl refl refl refl refl) $
-    Then (settles state_20 3 0 0 (one_at (Asking 0 true)) refl refl refl refl refl refl) $
-    Then (swaps state_21 3 1 1 (one_at (Asking 1 false)) refl refl refl refl refl) $
-    Then (settles state_22 3 1 1 (one_at (Asking 1 true)) refl refl refl refl refl refl) $
-    Then (waits 4 0 0 (two_at (Asking 0 true)) [] 3 [] refl refl refl refl refl refl) $
-    Then (flags state_24 3 3 0 0 (one_at (Recorded 3 (Flagging 0))) refl refl refl refl refl) $
-    Then (settles state_25 4 0 0 (two_at (Asking 0 true)) refl refl refl refl refl refl) $
-    Over
+turns_from_18 = turns_of {d = driven_18} {e = driven_25} {workers = 1 ∷ 0 ∷ 0 ∷ 0 ∷ 1 ∷ 0 ∷ 1 ∷ []}
+    (Then _ (waits 4 0 0 (two_at (Asking 0 true)) [] 3 [] refl refl refl refl refl refl)
+    (Then _ (settles state_20 3 0 0 (one_at (Asking 0 true)) refl refl refl refl refl refl)
+    (Then _ (swaps state_21 3 1 1 (one_at (Asking 1 false)) refl refl refl refl refl)
+    (Then _ (settles state_22 3 1 1 (one_at (Asking 1 true)) refl refl refl refl refl refl)
+    (Then _ (waits 4 0 0 (two_at (Asking 0 true)) [] 3 [] refl refl refl refl refl refl)
+    (Then _ (flags state_24 3 3 0 0 (one_at (Recorded 3 (Flagging 0))) refl refl refl refl refl)
+    (Then _ (settles state_25 4 0 0 (two_at (Asking 0 true)) refl refl refl refl refl refl) Over)))))))
 
 pub turns_to_25 : Turns program driven_0 first_choices driven_25
 turns_to_25 = joined driven_0 driven_18 driven_25 (take 18 first_choices) (1 ∷ 0 ∷ 0 ∷ 0 ∷ 1 ∷ 0 ∷ 1 ∷ []) turns_to_18
@@ -364,23 +362,22 @@ abbrev last_choices : List ℕ
 last_choices = 1 ∷ 1 ∷ 0 ∷ 0 ∷ 0 ∷ 0 ∷ 0 ∷ 0 ∷ 0 ∷ 0 ∷ 1 ∷ 1 ∷ 1 ∷ 1 ∷ 1 ∷ []
 
 pub turns_to_40 : Turns program driven_25 last_choices driven_40
-turns_to_40 = turns_of driven_25 last_choices driven_40 $
-    Then (flags state_26 4 4 0 0 (two_at (Recorded 4 (Flagging 0))) refl refl refl refl refl) $
-    Then (owns state_27 4 4 (two_at (Recorded 4 Owning)) refl refl refl refl) $
-    Then (flags state_28 3 3 1 1 (one_at (Recorded 3 (Flagging 1))) refl refl refl refl refl) $
-    Then (owns state_29 3 3 (one_at (Recorded 3 Owning)) refl refl refl refl) $
-    Then (finishes state_30 1 1 2 [] (left_at (Recorded 1 Running)) (ran 3 (input 2 0 ∷ []) (2 ∷ []) 1) left_body refl refl refl refl refl refl refl refl refl refl refl refl) $
-    Then (unhooks state_31 1 1 0 2 (left_at (Recorded 1 (Leaving 0))) refl refl refl refl refl refl) $
-    Then (begins state_32 3 3 (one_at (Recorded 3 Ready)) [] refl refl refl refl refl) $
-    Then (finishes state_33 3 3 3 (0 ∷ 1 ∷ []) (one_at (Recorded 3 Running)) (ran 1 (input 0 0 ∷ input 1 0 ∷ []) (0 ∷ 1 ∷ []) 0) one_body refl refl refl refl refl refl refl refl refl refl refl refl) $
-    Then (passes state_34 3 3 0 0 4 [] (one_at (Recorded 3 (Leaving 0))) refl refl refl refl (lit≤ tt) refl refl) $
-    Then (unhooks state_35 3 3 1 1 (one_at (Recorded 3 (Leaving 1))) refl refl refl refl refl refl) $
-    Then (finishes state_36 2 2 2 [] (right_at (Recorded 2 Running)) (ran 4 (input 3 0 ∷ []) (3 ∷ []) 1) right_body refl refl refl refl refl refl refl refl refl refl refl refl) $
-    Then (unhooks state_37 2 2 0 3 (right_at (Recorded 2 (Leaving 0))) refl refl refl refl refl refl) $
-    Then (begins state_38 4 4 (two_at (Recorded 4 Ready)) [] refl refl refl refl refl) $
-    Then (finishes state_39 4 4 2 (0 ∷ []) (two_at (Recorded 4 Running)) (ran 2 (input 0 1 ∷ []) (0 ∷ []) 0) two_body refl refl refl refl refl refl refl refl refl refl refl refl) $
-    Then (unhooks state_40 4 4 0 0 (two_at (Recorded 4 (Leaving 0))) refl refl refl refl refl refl) $
-    Over
+turns_to_40 = turns_of {d = driven_25} {e = driven_40} {workers = last_choices}
+    (Then _ (flags state_26 4 4 0 0 (two_at (Recorded 4 (Flagging 0))) refl refl refl refl refl)
+    (Then _ (owns state_27 4 4 (two_at (Recorded 4 Owning)) refl refl refl refl)
+    (Then _ (flags state_28 3 3 1 1 (one_at (Recorded 3 (Flagging 1))) refl refl refl refl refl)
+    (Then _ (owns state_29 3 3 (one_at (Recorded 3 Owning)) refl refl refl refl)
+    (Then _ (finishes state_30 1 1 2 [] (left_at (Recorded 1 Running)) (ran 3 (input 2 0 ∷ []) (2 ∷ []) 1) left_body refl refl refl refl refl refl refl refl refl refl refl refl)
+    (Then _ (unhooks state_31 1 1 0 2 (left_at (Recorded 1 (Leaving 0))) refl refl refl refl refl refl)
+    (Then _ (begins state_32 3 3 (one_at (Recorded 3 Ready)) [] refl refl refl refl refl)
+    (Then _ (finishes state_33 3 3 3 (0 ∷ 1 ∷ []) (one_at (Recorded 3 Running)) (ran 1 (input 0 0 ∷ input 1 0 ∷ []) (0 ∷ 1 ∷ []) 0) one_body refl refl refl refl refl refl refl refl refl refl refl refl)
+    (Then _ (passes state_34 3 3 0 0 4 [] (one_at (Recorded 3 (Leaving 0))) refl refl refl refl (lit≤ tt) refl refl)
+    (Then _ (unhooks state_35 3 3 1 1 (one_at (Recorded 3 (Leaving 1))) refl refl refl refl refl refl)
+    (Then _ (finishes state_36 2 2 2 [] (right_at (Recorded 2 Running)) (ran 4 (input 3 0 ∷ []) (3 ∷ []) 1) right_body refl refl refl refl refl refl refl refl refl refl refl refl)
+    (Then _ (unhooks state_37 2 2 0 3 (right_at (Recorded 2 (Leaving 0))) refl refl refl refl refl refl)
+    (Then _ (begins state_38 4 4 (two_at (Recorded 4 Ready)) [] refl refl refl refl refl)
+    (Then _ (finishes state_39 4 4 2 (0 ∷ []) (two_at (Recorded 4 Running)) (ran 2 (input 0 1 ∷ []) (0 ∷ []) 0) two_body refl refl refl refl refl refl refl refl refl refl refl refl)
+    (Then _ (unhooks state_40 4 4 0 0 (two_at (Recorded 4 (Leaving 0))) refl refl refl refl refl refl) Over)))))))))))))))
 
 pub sound_18 : IsSound program state_18
 sound_18 = turns_keep program driven_0 driven_18 (take 18 first_choices) (opening_sound program) turns_to_18

@@ -60,6 +60,10 @@ handed_as u row b c xs ys i j same_body same_args same_inputs h = record {
   inputs_are = sym same_inputs ∙ h.inputs_are;
 }
 
+-- a frame may ask that was handed out so, and has a wish next
+pub may_ask : (u : Underway) (f : Framed) (row : ℕ) (b : Body) (xs : List ℤ) (i : List Input) → b ≡ f.body → xs ≡ f.args → i ≡ f.inputs → IsHandedOut u row b xs i → IsNextWish u row f.made → MayAsk u f row
+may_ask u f row b xs i body args inputs h next = record { handed = handed_as u row b f.body xs f.args i f.inputs body args inputs h; next = next }
+
 -- the last wish of a frame that may ask is the next of its row
 pub next_is : (u : Underway) (f : Framed) (row : ℕ) (w : Wish) → MayAsk u f row → Some w ≡ last_wish_of f → next_wish u.program (slice_get (members u.program u.state) row) ≡ Some w
 next_is u f row w may last =
@@ -159,6 +163,10 @@ module _ (d : Parts) (k : IsKept d) where
       (s.0, enqueue_is child.number child.row found f, subst (λ (n : ℕ). IsBlockedAsking (state d) n) f.number_is s.1)
   settled_or_not e child found f request advanced.Enqueued s = absurd s
   settled_or_not e child found f request advanced.Unknown s = absurd s
+
+-- as it is answered, and seen from outside
+pub seen_so : (d e : Parts) (u : Underway) (child : Child) (told made : Advanced) → underway d ≡ u → told ≡ made → AdvancesChild (underway d) child made (underway e) → AdvancesChild u child told (underway e)
+seen_so d e u child told made is same h = subst (λ (x : Underway). AdvancesChild x child told (underway e)) is (subst (λ (a : Advanced). AdvancesChild (underway d) child a (underway e)) (sym same) h)
 
 -- an open enqueue that is recorded and flags no more owns
 pub owning : (row : ℕ) (phase : Phase) → enqueues_at (Recorded row phase) ≡ true → ((request : ℕ) → phase ≡ phases.Flagging request → ⊥) → phase ≡ phases.Owning

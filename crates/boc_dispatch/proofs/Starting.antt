@@ -1,5 +1,5 @@
 -- The first of the ready list starts: the state that follows, and what is kept.
-use Rattle.std.proofs.Common.{◌≡◌, ◌≢◌, ℕ, zero, suc, ◌+◌, ◌<◌, ◌≤◌, ◌⊎◌, inl, inr, Bool, true, false, ◌||◌, List, [], ◌∷◌, ◌++◌, length, map, set, refl, sym, ◌∙◌, ap, subst, arith, length-set}
+use Rattle.std.proofs.Common.{◌≡◌, ◌≢◌, ℕ, zero, suc, ◌+◌, ◌<◌, ◌≤◌, ◌⊎◌, inl, inr, Bool, true, false, ◌||◌, List, [], ◌∷◌, ◌++◌, length, map, set, get_or, refl, sym, ◌∙◌, ap, subst, arith, length-set}
 use Rattle.std.specs.Prelude.{slice_get, slice_set, slice_index_or, nat_lt, ℤ, Option, Some, None}
 use Rattle.std.specs.Option.{option_map, option_map_or}
 use Rattle.std.specs.List.{count_by}
@@ -24,9 +24,9 @@ use Rattle.boc_chain.specs.declared.request.Request.{Request}
 use Rattle.boc_chain.specs.Chain.{Place}
 use Rattle.boc_rules.specs.Log.{Log, grown}
 use Rattle.boc_dispatch.specs.declared.live.Live.{Live}
-use Rattle.boc_dispatch.specs.Places.{begun}
+use Rattle.boc_dispatch.specs.Places.{Has, begun}
 use Rattle.boc_dispatch.specs.Inside.{Parts, state, live_at, open_of, behaviour_of, place_of, exchanged_at, number_at, queues_of, rows_at, row_or_0, IsKept, HasRooms, IsOfRow, AreInHand, AreChained, AreCounted, AreOfRun, IsMember, IsWished, awaits}
-use Rattle.boc_dispatch.proofs.Tables.{live_there, live_here, live_other, live_new, at_slot, behaviours_length, numbered_changed, behaviours_changed, number_changed, taken_changed}
+use Rattle.boc_dispatch.proofs.Tables.{read_place, live_there, live_here, live_other, live_new, at_slot, behaviours_length, numbered_changed, behaviours_changed, number_changed, taken_changed}
 use Rattle.boc_dispatch.proofs.Standing.{open_is, ready_distinct}
 use Rattle.boc_dispatch.proofs.Going.{awaits_same, granted_same}
 use Rattle.boc_dispatch.proofs.Onward.{Follows, follows_set}
@@ -90,6 +90,27 @@ read_stands (x ∷ xs) (suc i) s e =
       | inl h ↦ subst (λ (n : ℕ). 0 < times n (x ∷ xs)) h (let one = times-here x xs in omega arith)
       | inr n ↦ (let same = times-other s x xs n in omega arith)
     ]
+
+-- the first of the ready list, as a call read it
+pub record FirstReady (d : Parts) (slot row : ℕ) (p : Option Live) : Type 0 where
+  pub this : Live
+  pub is : live_at d.live slot ≡ Some this
+  pub stage_is : this.stage ≡ Recorded row phases.Ready
+  pub read : p ≡ Some this
+
+pub first_ready : (d : Parts) → IsKept d → (slot : ℕ) (rest : List ℕ) → d.ready ≡ slot ∷ rest → (p : Option Live) → p ≡ get_or d.live slot p → (row : ℕ) × FirstReady d slot row p
+first_ready d k slot rest head p reads =
+    let first = k.ready_there 0 slot (ap (λ (xs : List ℕ). slice_get xs 0) head) in
+    (first.1, record { this = first.0; is = first.2; stage_is = first.3; read = read_place d.live slot first.0 p first.2 reads })
+
+-- under the row that the call told
+pub first_told : (d : Parts) → IsKept d → (slot : ℕ) (rest : List ℕ) → d.ready ≡ slot ∷ rest → (p : Option Live) → p ≡ get_or d.live slot p
+    → (row : ℕ) → Has p (λ l. row_at l.stage ≡ Some row) → FirstReady d slot row p
+first_told d k slot rest head p reads row told =
+    let f = first_ready d k slot rest head p reads in
+    let row_is : row_at f.1.this.stage ≡ Some row = subst (λ (o : Option Live). Has o (λ l. row_at l.stage ≡ Some row)) f.1.read told in
+    let same : f.0 ≡ row = (let e : Some f.0 ≡ Some row = sym (ap row_at f.1.stage_is) ∙ row_is in cc) in
+    subst (λ (r : ℕ). FirstReady d slot r p) same f.1
 
 -- what a dispatcher has in hand once the first of its ready list started
 abbrev pub started_parts : Parts → ℕ → Option Live → List ℕ → Log → Parts

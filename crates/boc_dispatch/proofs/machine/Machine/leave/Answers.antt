@@ -8,17 +8,14 @@ use Rattle.boc_dispatch.proofs.Departing.{LetGo, releases_of, unhooked_released,
 use Rattle.boc_dispatch.proofs.Tables.{live_there}
 use Rattle.boc_dispatch.proofs.machine.Machine.leave.Goals as goal
 
-pub leave-requires-clause-there : goal.leave-requires-clause-there
-leave-requires-clause-there g c =
+pub leave-requires : goal.leave-requires
+leave-requires g c =
     let d = parts_of g.C.Chains.lists g.C.Chains.place c.args.self.now in
     let f : Front d c.args.slot c.args.row c.args.request c.requires.due.0 = record { kept = c.requires.sound.kept; is = c.requires.due.1.is; stage_is = c.requires.due.1.stage_is } in
-    low_place d c.args.slot c.args.row c.args.request c.requires.due.0 f
-
-pub leave-requires-clause-granted : goal.leave-requires-clause-granted
-leave-requires-clause-granted g c =
-    let d = parts_of g.C.Chains.lists g.C.Chains.place c.args.self.now in
-    let f : Front d c.args.slot c.args.row c.args.request c.requires.due.0 = record { kept = c.requires.sound.kept; is = c.requires.due.1.is; stage_is = c.requires.due.1.stage_is } in
-    may_leave d c.args.slot c.args.row c.args.request c.requires.due.0 f
+    record {
+      there = low_place d c.args.slot c.args.row c.args.request c.requires.due.0 f;
+      granted = may_leave d c.args.slot c.args.row c.args.request c.requires.due.0 f;
+    }
 
 pub returns-in-Blocked-clause-sound : goal.returns-in-Blocked-clause-sound
 returns-in-Blocked-clause-sound g c =

@@ -179,33 +179,31 @@ owning row (phases.Leaving request) open_is other = absurd (let h : false ≡ tr
 
 -- ---- finish
 
-pub ends_leaving : (d e : Parts) (who row : ℕ) (o : Ran) → IsHandedOut (underway d) row o.body o.args o.inputs → EndsBehaviour d who row true e
-    → FinishesRow (underway d) row o (Ok (Some (record { row = row }))) (underway e)
-ends_leaving d e who row o handed ends = (
+-- the row ends, and this is answered; there is a token where it is left
+ends_so : (d e : Parts) (who row : ℕ) (o : Ran) (left : Bool) (token : Option Leaving) → IsHandedOut (underway d) row o.body o.args o.inputs → EndsBehaviour d who row left e
+    → (token ≡ None → left ≡ false) → ((t : Leaving) → token ≡ Some t → (t.row ≡ row) × (left ≡ true)) → FinishesRow (underway d) row o (Ok token) (underway e)
+ends_so d e who row o left token handed ends none some = (
   handed,
   record {
     who = who;
     state = state e;
     finishes = ends.finishes;
     same = moved d e ends.same;
-    gone = λ none. absurd (let token : Leaving = record { row = row } in let h : Some token ≡ None = none in cc);
-    left = λ token is. ((let own : Leaving = record { row = row } in let h : Some own ≡ Some token = is in let same : token ≡ own = cc in ap (λ (t : Leaving). t.row) same), ends.left refl);
+    gone = λ is. ends.gone (none is);
+    left = λ t is. ((some t is).0, ends.left (some t is).1);
   },
 )
 
+pub ends_leaving : (d e : Parts) (who row : ℕ) (o : Ran) → IsHandedOut (underway d) row o.body o.args o.inputs → EndsBehaviour d who row true e
+    → FinishesRow (underway d) row o (Ok (Some (record { row = row }))) (underway e)
+ends_leaving d e who row o handed ends =
+    let own : Leaving = record { row = row } in
+    ends_so d e who row o true (Some own) handed ends (λ none. let h : Some own ≡ None = none in cc)
+    (λ token is. (let h : Some own ≡ Some token = is in let same : token ≡ own = cc in ap (λ (t : Leaving). t.row) same, refl))
+
 pub ends_gone : (d e : Parts) (who row : ℕ) (o : Ran) → IsHandedOut (underway d) row o.body o.args o.inputs → EndsBehaviour d who row false e
     → FinishesRow (underway d) row o (Ok None) (underway e)
-ends_gone d e who row o handed ends = (
-  handed,
-  record {
-    who = who;
-    state = state e;
-    finishes = ends.finishes;
-    same = moved d e ends.same;
-    gone = λ none. ends.gone refl;
-    left = λ token is. absurd (let h : None ≡ Some token = is in cc);
-  },
-)
+ends_gone d e who row o handed ends = ends_so d e who row o false None handed ends (λ none. refl) (λ token is. absurd (let h : None ≡ Some token = is in cc))
 
 -- ---- leave
 

@@ -42,7 +42,7 @@ use Rattle.boc_dispatch.proofs.Fits.{allowed_last}
 use Rattle.boc_dispatch.proofs.Homes.{row_at_slot, childless, fits_row, params_below}
 use Rattle.boc_dispatch.proofs.Outputs.{output_for_each}
 use Rattle.boc_dispatch.proofs.Granting.{tied_of}
-use Rattle.boc_dispatch.proofs.Releasing.{gone_on, moved_state, moved_there, gone_state, gone_not_there}
+use Rattle.boc_dispatch.proofs.Releasing.{leaving_same, gone_on, moved_state, moved_there, gone_state, gone_not_there}
 
 -- ---- rows of which one has ended
 
@@ -96,13 +96,6 @@ of_run_then p rows row live k = record {
         new = q.new;
       };
 }
-
-log_leaving : (s : State) (who : ℕ) (b : OpenBehaviour) (row request : ℕ) → (leaving_on s who b row request).log ≡ s.log
-log_leaving s who b row request = by_test (nat_lt request (length b.cowns))
-  where
-    by_test : (t : Bool) → (cond t (with_stage s who b (Recorded row (phases.Leaving request))) (with_behaviour s who None)).log ≡ s.log
-    by_test true = refl
-    by_test false = refl
 
 -- ---- the end of a behaviour
 
@@ -180,7 +173,7 @@ module _ (d : Parts) (slot row : ℕ) (l : Live) (o : Ran) (written : ArrayVec �
   -- the event is allowed
   pub allowed : IsAllowed d.log.cowns (entries d.log.events) event
   allowed =
-      let run : IsRun d.program (d.log.events ++ (event ∷ [])) = subst (IsRun d.program) (log_leaving (state ended) l.number (open_of l) row 0) (sound).run in
+      let run : IsRun d.program (d.log.events ++ (event ∷ [])) = subst (IsRun d.program) (leaving_same (λ z. z.log) (state ended) l.number (open_of l) row 0 refl refl) (sound).run in
       subst (λ (n : ℕ). IsAllowed n (entries d.log.events) event) (sym f.kept.cowns_are) (allowed_last d.program d.log.events event run)
 
   rows_then : members d.program (state ended) ≡ rows_ended rows row

@@ -78,17 +78,21 @@ module _ (d : Parts) (k : IsKept d) (slot : ℕ) (l : Live) (request : ℕ) (it 
       state_on d k slot l it.is asking awaited lists place (ap ready_row_at it.stage_is) s.queues
       (settled_queues d k slot l request it awaited out.free lists place lists_are places_are)
 
+  -- it settles this request, whatever state that gives
+  settles_so : (t : State) → t ≡ stepped (steps.asking_on d.program s l.number (open_of l) (suc request)) → Settles d.program s l.number request t
+  settles_so t gives = record {
+    this = open_of l;
+    c = slice_index_or cs request 0;
+    due = due d k slot l request it;
+    free = free_before d k slot l request it out.free;
+    gives = gives;
+  }
+
   -- ---- it wasn't the last
 
   module _ (more : suc request < length cs) where
     pub settles_on : Settles d.program s l.number request (state mid)
-    settles_on = record {
-      this = open_of l;
-      c = slice_index_or cs request 0;
-      due = due d k slot l request it;
-      free = free_before d k slot l request it out.free;
-      gives = mid_state ∙ ap (λ b. stepped (cond b (with_stage s l.number (open_of l) asking) (steps.with_spawn d.program s l.number (open_of l)))) (sym (lt-ltb (suc request) (length cs) more));
-    }
+    settles_on = settles_so (state mid) (mid_state ∙ ap (λ b. stepped (cond b (with_stage s l.number (open_of l) asking) (steps.with_spawn d.program s l.number (open_of l)))) (sym (lt-ltb (suc request) (length cs) more)))
 
     pub settled_on_kept : IsKept mid
     settled_on_kept =
@@ -159,13 +163,7 @@ module _ (d : Parts) (k : IsKept d) (slot : ℕ) (l : Live) (request : ℕ) (it 
         })
 
     pub settles_last : Settles d.program s l.number request (state end)
-    settles_last = record {
-      this = open_of l;
-      c = slice_index_or cs request 0;
-      due = due d k slot l request it;
-      free = free_before d k slot l request it out.free;
-      gives = end_state ∙ ap (λ b. stepped (cond b (with_stage s l.number (open_of l) asking) (steps.with_spawn d.program s l.number (open_of l)))) (sym (le-ltb (suc request) (length cs) (omega (arith, last))));
-    }
+    settles_last = settles_so (state end) (end_state ∙ ap (λ b. stepped (cond b (with_stage s l.number (open_of l) asking) (steps.with_spawn d.program s l.number (open_of l)))) (sym (le-ltb (suc request) (length cs) (omega (arith, last)))))
 
     sound_end : IsSound d.program (state end)
     sound_end = keeps_settles d.program s l.number request (state end) k.sound settles_last

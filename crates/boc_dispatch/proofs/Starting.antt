@@ -29,7 +29,7 @@ use Rattle.boc_dispatch.specs.Inside.{Parts, state, live_at, open_of, behaviour_
 use Rattle.boc_dispatch.proofs.Tables.{read_place, live_there, live_here, live_other, live_new, at_slot, behaviours_length, numbered_changed, behaviours_changed, number_changed, taken_changed}
 use Rattle.boc_dispatch.proofs.Standing.{open_is, ready_distinct}
 use Rattle.boc_dispatch.proofs.Going.{awaits_same, granted_same}
-use Rattle.boc_dispatch.proofs.Onward.{Follows, follows_set}
+use Rattle.boc_dispatch.proofs.Onward.{Follows, follows_set, in_hand_by, request_by}
 use Rattle.boc_dispatch.proofs.Fits.{allowed_last}
 use Rattle.boc_dispatch.proofs.Homes.{IsRowAt, row_at_slot}
 
@@ -48,29 +48,7 @@ like_self : (x : Live) → Like x x
 like_self x = record { number = refl; parent = refl; child = refl; row = refl; enqueues = refl; settles = refl; flags = refl; place = refl }
 
 in_hand_like : (live live' : List (Option Live)) → Follows Like live live' → AreInHand live → AreInHand live'
-in_hand_like live live' fs k = record {
-  children = λ home slot l a e.
-      let x = fs.before home l a in
-      let q = k.children home slot x.0 x.1 (sym x.2.child ∙ e) in
-      let y = fs.after slot q.child q.is in
-      record {
-        child = y.0;
-        is = y.1;
-        enqueued = y.2.enqueues ∙ q.enqueued;
-        parent_is = x.2.row ∙ q.parent_is ∙ ap (λ z. Some z) (sym y.2.parent);
-      };
-  parents = λ slot l a e.
-      let x = fs.before slot l a in
-      let q = k.parents slot x.0 x.1 (sym x.2.enqueues ∙ e) in
-      let y = fs.after q.home q.parent q.is in
-      record {
-        home = q.home;
-        parent = y.0;
-        is = y.1;
-        row_is = y.2.row ∙ q.row_is ∙ ap (λ z. Some z) (sym x.2.parent);
-        knows = y.2.child ∙ q.knows;
-      };
-}
+in_hand_like live live' fs k = in_hand_by Like (λ l m r. r.child) (λ l m r. r.row) (λ l m r. r.parent) (λ l m r. r.enqueues) live live' fs k
 
 -- who asks has an open enqueue
 enqueues_if_asks : (stage : Stage) → asks_at stage ≡ true → enqueues_at stage ≡ true
@@ -294,15 +272,7 @@ module _ (d : Parts) (k : IsKept d) (slot : ℕ) (rest : List ℕ) (head : d.rea
     at_home = λ s r x a b. (let y = follows.before s x a in k.at_home s r y.0 y.1 (sym y.2.row ∙ b));
     in_hand = in_hand_like d.live table follows k.in_hand;
     chained = record {
-      requests = λ c j r a.
-          (let q = k.chained.requests c j r a in
-          let y = follows.after r.slot q.this q.is in
-          record {
-            this = y.0;
-            is = y.1;
-            settled_is = q.settled_is ∙ ap (λ cs. nat_lt 0 (times c cs)) (sym y.2.settles);
-            flagged_is = q.flagged_is ∙ ap (λ cs. nat_lt 0 (times c cs)) (sym y.2.flags);
-          });
+      requests = λ c j r a. request_by Like (λ x y h. h.settles) (λ x y h. h.flags) d.live table follows c r (k.chained.requests c j r a);
       places = λ s. k.chained.places s ∙ sym (places_then s);
     };
     of_run = record { recorded = recorded_then; asking = asking_then };

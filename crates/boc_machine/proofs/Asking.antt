@@ -102,17 +102,19 @@ module _ (p : Program) (s : State) (k : Core p s nobody) (who : ℕ) (b : OpenBe
       let long : length t.queues ≡ length s.queues = length-set s.queues c (queue s c ++ (who ∷ [])) in
       core_on p s nobody k who b (Some b') due.is t.queues nobody long asks_same ready_same (λ d h. h)
       (exchange (at s) (at t) (queue s) (queue t) who c k.laws (record {
-        other = other;
         longer = longer;
-        elsewhere = elsewhere;
         here = ap (times c) stand' ∙ taken_here b.cowns i c due.cown ∙ ap (λ z. times c z + 1) (sym stand);
-        there = λ d n. ap (times d) stand' ∙ taken_there b.cowns i c d due.cown n ∙ ap (times d) (sym stand);
-        cowns = cowns;
-        settled_same = ap settled is' ∙ sym set;
+        moves = record {
+          other = other;
+          elsewhere = elsewhere;
+          there = λ d n. ap (times d) stand' ∙ taken_there b.cowns i c d due.cown n ∙ ap (times d) (sym stand);
+          cowns = cowns;
+          settled_same = ap settled is' ∙ sym set;
+          flagged_same = ap flagged is' ∙ sym (ap flagged due.is ∙ ap (λ z. flagged_at z b.cowns) due.stage_is);
+          row_same = no_row' ∙ sym no_row;
+        };
         not_settled = ap (times c) set ∙ fresh_at b.cowns i c due.cown once;
-        flagged_same = ap flagged is' ∙ sym (ap flagged due.is ∙ ap (λ z. flagged_at z b.cowns) due.stage_is);
         no_row = no_row;
-        still_none = no_row';
         holds_not = ap holds is';
       }))
       (waits_exchange (at s) (at t) (queue s) (queue t) who c nobody k.waiting other longer elsewhere

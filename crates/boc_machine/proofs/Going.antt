@@ -382,15 +382,17 @@ module _ (p : Program) (s : State) (k : Core p s nobody) (who : ℕ) (b : OpenBe
       core_on p s nobody k who b (Some b') due.is t.queues (λ v. is_first v rest ≡ true) long asks_same ready_same
       (λ d h. h)
       (release (at s) (at t) (queue s) (queue t) who c k.laws (record {
-        other = other;
         shorter = shorter;
-        elsewhere = elsewhere;
         here = ap (λ cs. times c cs + 1) stand' ∙ dropped_here b.cowns i c due.cown ∙ ap (times c) (sym stand);
-        there = λ d n. ap (times d) stand' ∙ dropped_there b.cowns i c d due.cown n ∙ ap (times d) (sym stand);
-        cowns = cowns;
-        settled_same = ap settled is' ∙ sym (ap settled due.is ∙ ap (λ z. settled_at z b.cowns) due.stage_is);
-        flagged_same = ap flagged is' ∙ sym (ap flagged due.is ∙ ap (λ z. flagged_at z b.cowns) due.stage_is);
-        row_same = ap row_of is' ∙ sym row;
+        moves = record {
+          other = other;
+          elsewhere = elsewhere;
+          there = λ d n. ap (times d) stand' ∙ dropped_there b.cowns i c d due.cown n ∙ ap (times d) (sym stand);
+          cowns = cowns;
+          settled_same = ap settled is' ∙ sym (ap settled due.is ∙ ap (λ z. settled_at z b.cowns) due.stage_is);
+          flagged_same = ap flagged is' ∙ sym (ap flagged due.is ∙ ap (λ z. flagged_at z b.cowns) due.stage_is);
+          row_same = ap row_of is' ∙ sym row;
+        };
         held = ap holds due.is ∙ ap holds_at due.stage_is;
       }))
       (λ v h n. waits_release (at s) (at t) (queue s) (queue t) who c k.waiting other shorter elsewhere

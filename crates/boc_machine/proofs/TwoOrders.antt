@@ -126,6 +126,12 @@ here events behaviours queues ready steps = record {
   steps = steps;
 }
 
+-- where left and right run and have asked for cown a: the stages of what they enqueue, and the list of cown b
+abbrev both_run : ℕ → Stage → Stage → List ℕ → List ℕ → ℕ → State
+both_run events first second on_b ready steps = here events
+    (None ∷ left (Recorded 1 Running) ∷ right (Recorded 2 Running) ∷ one first ∷ two second ∷ [])
+    ((3 ∷ 4 ∷ []) ∷ on_b ∷ (1 ∷ []) ∷ (2 ∷ []) ∷ []) ready steps
+
 -- ---- the states, after so many choices
 
 -- main is ready
@@ -238,67 +244,47 @@ state_17 = here 7
 
 -- 18 by worker 1: Swap 0 of two
 abbrev pub state_18 : State
-state_18 = here 7
-    (None ∷ left (Recorded 1 Running) ∷ right (Recorded 2 Running) ∷ one (Asking 0 true) ∷ two (Asking 0 true) ∷ [])
-    ((3 ∷ 4 ∷ []) ∷ [] ∷ (1 ∷ []) ∷ (2 ∷ []) ∷ []) [] 18
+state_18 = both_run 7 (Asking 0 true) (Asking 0 true) [] [] 18
 
 -- 19 by worker 1: blocked at Settle 0 of two, which changes nothing
 
 -- 20 by worker 0: Settle 0 of one
 abbrev pub state_20 : State
-state_20 = here 7
-    (None ∷ left (Recorded 1 Running) ∷ right (Recorded 2 Running) ∷ one (Asking 1 false) ∷ two (Asking 0 true) ∷ [])
-    ((3 ∷ 4 ∷ []) ∷ [] ∷ (1 ∷ []) ∷ (2 ∷ []) ∷ []) [] 19
+state_20 = both_run 7 (Asking 1 false) (Asking 0 true) [] [] 19
 
 -- 21 by worker 0: Swap 1 of one
 abbrev pub state_21 : State
-state_21 = here 7
-    (None ∷ left (Recorded 1 Running) ∷ right (Recorded 2 Running) ∷ one (Asking 1 true) ∷ two (Asking 0 true) ∷ [])
-    ((3 ∷ 4 ∷ []) ∷ (3 ∷ []) ∷ (1 ∷ []) ∷ (2 ∷ []) ∷ []) [] 20
+state_21 = both_run 7 (Asking 1 true) (Asking 0 true) (3 ∷ []) [] 20
 
 -- 22 by worker 0: Settle 1 of one
 abbrev pub state_22 : State
-state_22 = here 8
-    (None ∷ left (Recorded 1 Running) ∷ right (Recorded 2 Running) ∷ one (Recorded 3 (Flagging 0)) ∷ two (Asking 0 true) ∷ [])
-    ((3 ∷ 4 ∷ []) ∷ (3 ∷ []) ∷ (1 ∷ []) ∷ (2 ∷ []) ∷ []) [] 21
+state_22 = both_run 8 (Recorded 3 (Flagging 0)) (Asking 0 true) (3 ∷ []) [] 21
 
 -- 23 by worker 1: blocked at Settle 0 of two, which changes nothing
 
 -- 24 by worker 0: Flag 0 of one
 abbrev pub state_24 : State
-state_24 = here 8
-    (None ∷ left (Recorded 1 Running) ∷ right (Recorded 2 Running) ∷ one (Recorded 3 (Flagging 1)) ∷ two (Asking 0 true) ∷ [])
-    ((3 ∷ 4 ∷ []) ∷ (3 ∷ []) ∷ (1 ∷ []) ∷ (2 ∷ []) ∷ []) [] 22
+state_24 = both_run 8 (Recorded 3 (Flagging 1)) (Asking 0 true) (3 ∷ []) [] 22
 
 -- 25 by worker 1: Settle 0 of two
 abbrev pub state_25 : State
-state_25 = here 9
-    (None ∷ left (Recorded 1 Running) ∷ right (Recorded 2 Running) ∷ one (Recorded 3 (Flagging 1)) ∷ two (Recorded 4 (Flagging 0)) ∷ [])
-    ((3 ∷ 4 ∷ []) ∷ (3 ∷ []) ∷ (1 ∷ []) ∷ (2 ∷ []) ∷ []) [] 23
+state_25 = both_run 9 (Recorded 3 (Flagging 1)) (Recorded 4 (Flagging 0)) (3 ∷ []) [] 23
 
 -- 26 by worker 1: Flag 0 of two
 abbrev pub state_26 : State
-state_26 = here 9
-    (None ∷ left (Recorded 1 Running) ∷ right (Recorded 2 Running) ∷ one (Recorded 3 (Flagging 1)) ∷ two (Recorded 4 Owning) ∷ [])
-    ((3 ∷ 4 ∷ []) ∷ (3 ∷ []) ∷ (1 ∷ []) ∷ (2 ∷ []) ∷ []) [] 24
+state_26 = both_run 9 (Recorded 3 (Flagging 1)) (Recorded 4 Owning) (3 ∷ []) [] 24
 
 -- 27 by worker 1: Own of two, which is waiting
 abbrev pub state_27 : State
-state_27 = here 9
-    (None ∷ left (Recorded 1 Running) ∷ right (Recorded 2 Running) ∷ one (Recorded 3 (Flagging 1)) ∷ two (Recorded 4 Waiting) ∷ [])
-    ((3 ∷ 4 ∷ []) ∷ (3 ∷ []) ∷ (1 ∷ []) ∷ (2 ∷ []) ∷ []) [] 25
+state_27 = both_run 9 (Recorded 3 (Flagging 1)) (Recorded 4 Waiting) (3 ∷ []) [] 25
 
 -- 28 by worker 0: Flag 1 of one
 abbrev pub state_28 : State
-state_28 = here 9
-    (None ∷ left (Recorded 1 Running) ∷ right (Recorded 2 Running) ∷ one (Recorded 3 Owning) ∷ two (Recorded 4 Waiting) ∷ [])
-    ((3 ∷ 4 ∷ []) ∷ (3 ∷ []) ∷ (1 ∷ []) ∷ (2 ∷ []) ∷ []) [] 26
+state_28 = both_run 9 (Recorded 3 Owning) (Recorded 4 Waiting) (3 ∷ []) [] 26
 
 -- 29 by worker 0: Own of one, which is ready
 abbrev pub state_29 : State
-state_29 = here 9
-    (None ∷ left (Recorded 1 Running) ∷ right (Recorded 2 Running) ∷ one (Recorded 3 Ready) ∷ two (Recorded 4 Waiting) ∷ [])
-    ((3 ∷ 4 ∷ []) ∷ (3 ∷ []) ∷ (1 ∷ []) ∷ (2 ∷ []) ∷ []) (3 ∷ []) 27
+state_29 = both_run 9 (Recorded 3 Ready) (Recorded 4 Waiting) (3 ∷ []) (3 ∷ []) 27
 
 -- 30 by worker 0: Finish of left
 abbrev pub state_30 : State

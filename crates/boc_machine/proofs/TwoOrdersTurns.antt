@@ -17,7 +17,7 @@ use Rattle.boc_types.specs.runs.Lives as lives
 use Rattle.boc_types.specs.runs.Run.{Member, IsWholeRun, meaning_of, next_wish, state_of}
 use Rattle.boc_types.specs.machine.Stages.{OpenBehaviour, flagged, settled, enqueues, enqueues_at, parent_of}
 use Rattle.boc_types.specs.machine.Queues.{times}
-use Rattle.boc_types.specs.machine.Steps.{State, at, queue, values, members, recorded, unrecorded, opened, stepped, noted, with_stage, with_queue, with_new, with_ready, asking_on, leaving_on, flagging, owned, woken, child, Advances, IsQuiet, HasNoEnqueue, IsFlaggedBefore}
+use Rattle.boc_types.specs.machine.Steps.{State, at, queue, values, members, recorded, unrecorded, opened, stepped, noted, with_stage, with_queue, with_new, with_ready, asking_on, leaving_on, flagging, owned, woken, child, Advances, IsDue, IsBlockedAsking, IsQuiet, HasNoEnqueue, IsFlaggedBefore}
 use Rattle.boc_types.specs.machine.AlongRows.{cowns_of_rows, steps_of_rows, serial_of_log}
 use Rattle.boc_types.specs.machine.Turns.{Begins, Advanced, WaitsToSettle, Opened, Finished, Left, Driven, opening_driven, unless_gone, TakesTurn, Turn, Turns}
 use Rattle.boc_types.specs.machine.Sound.{IsSound}
@@ -198,32 +198,15 @@ module _ {d : Driven} {worker : ℕ} where
       → t ≡ stepped (asking_on program d.state who this (suc i)) → slice_get d.serves worker ≡ Some (Some this.parent)
       → Turn program d worker (then_at d t worker (Some this.parent))
   settles t who i c this is stage cown free gives =
-      advances t who this (Asking i true) (steps.Settle i) is stage refl (record {
-        this = this;
-        c = c;
-        due = record { is = is; stage_is = stage; cown = cown };
-        free = free_in d.state c who free;
-        gives = gives;
-      })
+      let due : IsDue d.state who this (Asking i true) i c = record { is = is; stage_is = stage; cown = cown } in
+      advances t who this (Asking i true) (steps.Settle i) is stage refl
+      (record { this = this; c = c; due = due; free = free_in d.state c who free; gives = gives })
 
-  waits : (who i c : ℕ) (this : OpenBehaviour) (ahead : List ℕ) (before : ℕ) (behind : List ℕ)
-      → at d.state who ≡ Some this → this.stage ≡ Asking i true → slice_get this.cowns i ≡ Some c
-      → queue d.state c ≡ ahead ++ (before ∷ (who ∷ behind)) → times c (flagged (at d.state before)) ≡ 0
-      → slice_get d.serves worker ≡ Some (Some this.parent)
+  waits : (who : ℕ) (this : OpenBehaviour) → at d.state who ≡ Some this → enqueues_at this.stage ≡ true
+      → IsBlockedAsking d.state who → slice_get d.serves worker ≡ Some (Some this.parent)
       → Turn program d worker (then_at d d.state worker (Some this.parent))
-  waits who i c this ahead before behind is stage cown stands unflagged =
-      serves_on d.state this.parent (Some this.parent) (WaitsToSettle this.parent who
-      (record { is_open = ap enqueues is ∙ ap enqueues_at stage; parent = ap parent_of is }) (record {
-        this = this;
-        request = i;
-        c = c;
-        due = record { is = is; stage_is = stage; cown = cown };
-        ahead = ahead;
-        before = before;
-        behind = behind;
-        stands = stands;
-        unflagged = unflagged;
-      }))
+  waits who this is enqueued blocked = serves_on d.state this.parent (Some this.parent)
+      (WaitsToSettle this.parent who (record { is_open = ap enqueues is ∙ enqueued; parent = ap parent_of is }) blocked)
 
   flags : (t : State) (who row i c : ℕ) (this : OpenBehaviour) → at d.state who ≡ Some this
       → this.stage ≡ Recorded row (Flagging i) → slice_get this.cowns i ≡ Some c
@@ -279,13 +262,9 @@ module _ {d : Driven} {worker : ℕ} where
       → slice_get d.serves worker ≡ Some (Some row)
       → Turn program d worker (then_at d t worker (unless_gone row (at t who)))
   unhooks t who row i c this is stage cown alone gives =
-      serves_on t row (unless_gone row (at t who)) (Left row who (steps.Unhook i) t (record {
-        this = this;
-        c = c;
-        due = record { is = is; stage_is = stage; cown = cown };
-        alone = alone;
-        gives = gives;
-      }))
+      let due : IsDue d.state who this (Recorded row (Leaving i)) i c = record { is = is; stage_is = stage; cown = cown } in
+      serves_on t row (unless_gone row (at t who))
+      (Left row who (steps.Unhook i) t (record { this = this; c = c; due = due; alone = alone; gives = gives }))
 
   passes : (t : State) (who row i c next : ℕ) (rest : List ℕ) (this : OpenBehaviour) → at d.state who ≡ Some this
       → this.stage ≡ Recorded row (Leaving i) → slice_get this.cowns i ≡ Some c
@@ -304,6 +283,21 @@ module _ {d : Driven} {worker : ℕ} where
         settled_next = settled_next;
         gives = gives;
       }))
+
+-- the second behaviour on cown a waits for the first to be flagged
+pub blocked_at : (s : State) → at s 4 ≡ Some (two_at (Asking 0 true)) → queue s 0 ≡ 3 ∷ (4 ∷ [])
+    → times 0 (flagged (at s 3)) ≡ 0 → IsBlockedAsking s 4
+blocked_at s is stands unflagged = record {
+  this = two_at (Asking 0 true);
+  request = 0;
+  c = 0;
+  due = record { is = is; stage_is = refl; cown = refl };
+  ahead = [];
+  before = 3;
+  behind = [];
+  stands = stands;
+  unflagged = unflagged;
+}
 
 -- ---- what they lead to
 
@@ -339,11 +333,11 @@ turns_to_18 = turns_of {d = driven_0} {e = driven_18} {workers = take 18 first_c
 -- twenty-five choices, of which two are blocked: so many steps, and so many events
 turns_from_18 : Turns program driven_18 (1 ∷ 0 ∷ 0 ∷ 0 ∷ 1 ∷ 0 ∷ 1 ∷ []) driven_25
 turns_from_18 = turns_of {d = driven_18} {e = driven_25} {workers = 1 ∷ 0 ∷ 0 ∷ 0 ∷ 1 ∷ 0 ∷ 1 ∷ []}
-    (Then _ (waits 4 0 0 (two_at (Asking 0 true)) [] 3 [] refl refl refl refl refl refl)
+    (Then _ (waits 4 (two_at (Asking 0 true)) refl refl (blocked_at state_18 refl refl refl) refl)
     (Then _ (settles state_20 3 0 0 (one_at (Asking 0 true)) refl refl refl refl refl refl)
     (Then _ (swaps state_21 3 1 1 (one_at (Asking 1 false)) refl refl refl refl refl)
     (Then _ (settles state_22 3 1 1 (one_at (Asking 1 true)) refl refl refl refl refl refl)
-    (Then _ (waits 4 0 0 (two_at (Asking 0 true)) [] 3 [] refl refl refl refl refl refl)
+    (Then _ (waits 4 (two_at (Asking 0 true)) refl refl (blocked_at state_22 refl refl refl) refl)
     (Then _ (flags state_24 3 3 0 0 (one_at (Recorded 3 (Flagging 0))) refl refl refl refl refl)
     (Then _ (settles state_25 4 0 0 (two_at (Asking 0 true)) refl refl refl refl refl refl) Over)))))))
 

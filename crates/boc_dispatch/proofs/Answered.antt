@@ -168,6 +168,10 @@ module _ (d : Parts) (k : IsKept d) where
 pub seen_so : (d e : Parts) (u : Underway) (child : Child) (told made : Advanced) → underway d ≡ u → told ≡ made → AdvancesChild (underway d) child made (underway e) → AdvancesChild u child told (underway e)
 seen_so d e u child told made is same h = subst (λ (x : Underway). AdvancesChild x child told (underway e)) is (subst (λ (a : Advanced). AdvancesChild (underway d) child a (underway e)) (sym same) h)
 
+pub step_seen : (d e : Parts) (k : IsKept d) (u : Underway) (child : Child) (found : Enqueue) (f : IsFoundEnqueue d child.number child.row found) (step : Step) (told : Advanced) → step ≢ Own
+    → Advances d.program (state d) f.this.number step (state e) × (e.program ≡ d.program) → underway d ≡ u → told ≡ advanced.Moved step → AdvancesChild u child told (underway e)
+step_seen d e k u child found f step told other makes is same = seen_so d e u child told (advanced.Moved step) is same (step_made d k e child found f step other makes.0 makes.1)
+
 -- an open enqueue that is recorded and flags no more owns
 pub owning : (row : ℕ) (phase : Phase) → enqueues_at (Recorded row phase) ≡ true → ((request : ℕ) → phase ≡ phases.Flagging request → ⊥) → phase ≡ phases.Owning
 owning row (phases.Flagging request) open_is other = absurd (other request refl)

@@ -1,5 +1,5 @@
 -- One request more is granted: the state that follows, and what is kept.
-use Rattle.std.proofs.Common.{◌≡◌, ◌≢◌, ℕ, zero, suc, ◌+◌, ◌-◌, ◌⊎◌, inl, inr, Bool, true, false, cond, eqb, List, [], ◌∷◌, ◌++◌, length, set, refl, sym, ◌∙◌, ap, subst, arith, get_or-set_other, length-set}
+use Rattle.std.proofs.Common.{◌≡◌, ◌≢◌, ℕ, zero, suc, ◌+◌, ◌-◌, ◌⊎◌, inl, inr, Bool, true, false, cond, eqb, List, [], ◌∷◌, ◌++◌, length, set, refl, sym, ◌∙◌, ap, subst, arith, get_or-set_other, length-set, rules}
 use Rattle.std.specs.Prelude.{slice_get, nat_eq, ◌||◌, Option, Some, None}
 use Rattle.std.specs.Option.{option_map_or}
 use Rattle.std.specs.List.{count_by}
@@ -27,18 +27,7 @@ use Rattle.boc_dispatch.proofs.Tables.{live_there, live_here, live_other, live_n
 -- ---- what is kept, but for the state that is sound and for what each counts
 
 pub tied_of : (d : Parts) → IsKept d → Tied d
-tied_of d k = record {
-  cowns_are = k.cowns_are;
-  values_are = k.values_are;
-  homes_are = k.homes_are;
-  numbered = k.numbered;
-  at_home = k.at_home;
-  in_hand = k.in_hand;
-  chained = k.chained;
-  of_run = k.of_run;
-  ready_there = k.ready_there;
-  left = k.left;
-}
+tied_of d k = search rules
 
 pub kept_of : (d : Parts) → Tied d → IsSound d.program (state d) → AreCounted (state d) d.live → IsKept d
 kept_of d k sound counted = record {
@@ -58,18 +47,7 @@ kept_of d k sound counted = record {
 
 -- with other requests in the lists, other ready slots, and after any number of steps
 pub tied_with : (d : Parts) (lists : List (List Request)) (ready : List ℕ) (steps : ℕ) → Tied d → AreChained d.live lists d.place → AreReady d.live ready → Tied (record d { lists = lists; ready = ready; steps = steps })
-tied_with d lists ready steps k chained ready_there = record {
-  cowns_are = k.cowns_are;
-  values_are = k.values_are;
-  homes_are = k.homes_are;
-  numbered = k.numbered;
-  at_home = k.at_home;
-  in_hand = k.in_hand;
-  chained = chained;
-  of_run = k.of_run;
-  ready_there = ready_there;
-  left = k.left;
-}
+tied_with d lists ready steps k chained ready_there = search rules
 
 -- ---- one behaviour put in place of another
 

@@ -1,5 +1,5 @@
 -- Swap and Settle keep what every state keeps.
-use Rattle.std.proofs.Common.{◌≡◌, ◌≢◌, ℕ, zero, suc, ◌+◌, ◌<◌, ◌≤◌, Bool, true, false, cond, List, [], ◌∷◌, ◌++◌, length, take, refl, sym, ◌∙◌, ap, subst, arith, length-append, get_or-set_other, get_or-set_same, length-set}
+use Rattle.std.proofs.Common.{◌≡◌, ◌≢◌, ℕ, zero, suc, ◌+◌, ◌<◌, ◌≤◌, Bool, true, false, cond, List, [], ◌∷◌, ◌++◌, length, take, refl, sym, ◌∙◌, ap, subst, arith, rules, length-append, get_or-set_other, get_or-set_same, length-set}
 use Rattle.std.specs.Prelude.{slice_get, Option, Some, None}
 use Rattle.boc_types.specs.declared.program.Program.{Program}
 use Rattle.boc_types.specs.declared.event.Event.{Event}
@@ -209,26 +209,10 @@ pub record IsEnqueuing (ph : Phase) : Type 0 where
   pub enqueued : (r : ℕ) → enqueues_at (Recorded r ph) ≡ true
 
 flags_enqueuing : (i : ℕ) → IsEnqueuing (Flagging i)
-flags_enqueuing i = record {
-  stand = λ r cs. refl;
-  life_is = λ r. refl;
-  holds_not = λ r. refl;
-  waits_not =
-      λ r. refl;
-  ready_not = λ r. refl;
-  enqueued = λ r. refl;
-}
+flags_enqueuing i = search rules
 
 owns_enqueuing : IsEnqueuing Owning
-owns_enqueuing = record {
-  stand = λ r cs. refl;
-  life_is = λ r. refl;
-  holds_not = λ r. refl;
-  waits_not =
-      λ r. refl;
-  ready_not = λ r. refl;
-  enqueued = λ r. refl;
-}
+owns_enqueuing = search rules
 
 either_enqueuing : (b : Bool) (i : ℕ) → IsEnqueuing (cond b (Flagging i) Owning)
 either_enqueuing true i = flags_enqueuing i

@@ -1,5 +1,5 @@
 -- What the steps keep, but for how many were made; and what of it stays where one behaviour goes on.
-use Rattle.std.proofs.Common.{◌≡◌, ℕ, ◌+◌, ◌<◌, ◌≤◌, Bool, cond, List, length, set, refl, sym, ◌∙◌, ap, subst, arith, get_or-set_other, get_or-set_same, length-set}
+use Rattle.std.proofs.Common.{◌≡◌, ℕ, ◌+◌, ◌<◌, ◌≤◌, Bool, cond, List, length, set, refl, sym, ◌∙◌, ap, subst, arith, rules, get_or-set_other, get_or-set_same, length-set}
 use Rattle.std.specs.Prelude.{Option, Some, None}
 use Rattle.std.specs.List.{sum_by}
 use Rattle.std.proofs.lemmas.List.Sums.{sum_by-set}
@@ -31,19 +31,7 @@ pub record Core (p : Program) (s : State) (but : ℕ → Type 0) : Type 0 where
   pub few : opened s ≤ MOST_ROWS
 
 pub core_of : (p : Program) (s : State) → IsSound p s → Core p s nobody
-core_of p s k = record {
-  run = k.run;
-  laws = laws_of (at s) (queue s) k.lawful;
-  waiting = waits_of (at s) (queue s) k.lawful;
-  fits = k.fits;
-  queues_are = k.queues_are;
-  in_range = k.in_range;
-  ready_once = k.ready_once;
-  ready_only = k.ready_only;
-  some = k.some;
-  counted = k.counted;
-  few = k.few;
-}
+core_of p s k = search (rules, laws_of (at s) (queue s) k.lawful, waits_of (at s) (queue s) k.lawful)
 
 -- each next request is there
 abbrev pub HasRequests : State → Type 0
@@ -73,19 +61,7 @@ sound_of p s k r n = record {
 -- after any number of steps, and where the law of who waits is known otherwise
 core_after : (p : Program) (s : State) (but other : ℕ → Type 0) (steps : ℕ) → Core p s but
     → WaitsBut (at s) (queue s) other → Core p (record s { steps = steps }) other
-core_after p s but other steps k w = record {
-  run = k.run;
-  laws = k.laws;
-  waiting = w;
-  fits = k.fits;
-  queues_are = k.queues_are;
-  in_range = k.in_range;
-  ready_once = k.ready_once;
-  ready_only = k.ready_only;
-  some = k.some;
-  counted = k.counted;
-  few = k.few;
-}
+core_after p s but other steps k w = search rules
 
 -- one step more changes nothing of it
 pub core_stepped : (p : Program) (s : State) (but : ℕ → Type 0) → Core p s but → Core p (stepped s) but

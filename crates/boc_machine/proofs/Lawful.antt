@@ -1,6 +1,6 @@
 -- What the queues keep under each kind of change.
 use Rattle.std.proofs.lemmas.Bool.Decides.{Decides-eqb}
-use Rattle.std.proofs.Common.{◌≡◌, ℕ, zero, suc, ◌+◌, ◌<◌, ◌≤◌, ◌≢◌, Bool, true, false, List, [], ◌∷◌, ◌++◌, take, drop, refl, sym, ◌∙◌, ap, subst, inl, inr, arith, append_assoc}
+use Rattle.std.proofs.Common.{◌≡◌, ℕ, zero, suc, ◌+◌, ◌<◌, ◌≤◌, ◌≢◌, Bool, true, false, List, [], ◌∷◌, ◌++◌, take, drop, refl, sym, ◌∙◌, ap, subst, inl, inr, arith, rules, append_assoc}
 use Rattle.std.specs.Prelude.{slice_get, nat_lt, ◌&&◌, Option, Some, None}
 use Rattle.std.specs.List.{list_all}
 use Rattle.boc_types.specs.declared.stage.Phase.TheVariants.{Flagging, Owning, Waiting, Ready, Running, Leaving}
@@ -29,14 +29,7 @@ abbrev pub nobody : ℕ → Type 0
 nobody who = ⊥
 
 pub laws_of : (at : ℕ → Option OpenBehaviour) (queue : ℕ → List ℕ) → Lawful at queue → Laws at queue
-laws_of at queue l = record {
-  stands = l.stands;
-  once = l.once;
-  linked = l.linked;
-  ordered = l.ordered;
-  first =
-      l.first;
-}
+laws_of at queue l = search rules
 
 pub waits_of : (at : ℕ → Option OpenBehaviour) (queue : ℕ → List ℕ) → Lawful at queue → WaitsBut at queue nobody
 waits_of at queue l who h none = l.waiting who h

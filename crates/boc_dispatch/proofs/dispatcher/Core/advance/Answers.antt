@@ -9,7 +9,7 @@ use Rattle.boc_dispatch.specs.Underway.{Underway}
 use Rattle.boc_dispatch.specs.Calls.{AdvancesChild}
 use Rattle.boc_dispatch.specs.Inside.{parts_of, underway}
 use Rattle.boc_dispatch.specs.declared.answers.Advanced.TheVariants as advanced
-use Rattle.boc_dispatch.proofs.Answered.{found_at, seen_so, step_made, own_made, settled_or_not, owning}
+use Rattle.boc_dispatch.proofs.Answered.{found_at, seen_so, step_seen, own_made, settled_or_not, owning}
 use Rattle.boc_dispatch.proofs.dispatcher.Core.advance.Goals as goal
 
 pub returns-then-exchanged : goal.returns-then-exchanged
@@ -26,19 +26,19 @@ returns-else-exchanged g c =
     let d = parts_of g.C.Chains.lists g.C.Chains.place c.self.inside.machine in
     let e = parts_of g.C.Chains.lists g.C.Chains.place c.swap.new.self in
     let f = c.in-Some.ensures in
-    let makes = c.swap.ensures.swaps f.this (found_at d c.self.invariant.kept c.args.child.now.number c.args.child.now.row _ f (Asking c.in-Asking.request false) (c.in-Asking.is ∙ ap (Asking c.in-Asking.request) c.if-exchanged.false)) in
-    seen_so d e _ c.args.child.now c.swap.result (advanced.Moved (steps.Swap c.in-Asking.request)) c.self.view_is c.swap.ensures.moved
-    (step_made d c.self.invariant.kept e c.args.child.now _ f (steps.Swap c.in-Asking.request) (λ own. absurd (let h : steps.Swap c.in-Asking.request ≡ steps.Own = own in cc)) makes.0 makes.1)
+    step_seen d e c.self.invariant.kept _ c.args.child.now _ f (steps.Swap c.in-Asking.request) c.swap.result (λ own. absurd (let h : steps.Swap c.in-Asking.request ≡ steps.Own = own in cc))
+    (c.swap.ensures.swaps f.this (found_at d c.self.invariant.kept c.args.child.now.number c.args.child.now.row _ f (Asking c.in-Asking.request false) (c.in-Asking.is ∙ ap (Asking c.in-Asking.request) c.if-exchanged.false)))
+    c.self.view_is c.swap.ensures.moved
 
 pub returns-in-Flagging : goal.returns-in-Flagging
 returns-in-Flagging g c =
     let d = parts_of g.C.Chains.lists g.C.Chains.place c.self.inside.machine in
     let e = parts_of g.C.Chains.lists g.C.Chains.place c.flag.new.self in
     let f = c.in-Some.ensures in
-    let is = c.in-Recorded.is ∙ ap (Recorded c.in-Recorded.row) c.in-Flagging.is in
-    let makes = c.flag.ensures.flags f.this (found_at d c.self.invariant.kept c.args.child.now.number c.args.child.now.row _ f (Recorded c.in-Recorded.row (phases.Flagging c.in-Flagging.request)) is) in
-    seen_so d e _ c.args.child.now c.flag.result (advanced.Moved (steps.Flag c.in-Flagging.request)) c.self.view_is c.flag.ensures.moved
-    (step_made d c.self.invariant.kept e c.args.child.now _ f (steps.Flag c.in-Flagging.request) (λ own. absurd (let h : steps.Flag c.in-Flagging.request ≡ steps.Own = own in cc)) makes.0 makes.1)
+    step_seen d e c.self.invariant.kept _ c.args.child.now _ f (steps.Flag c.in-Flagging.request) c.flag.result (λ own. absurd (let h : steps.Flag c.in-Flagging.request ≡ steps.Own = own in cc))
+    (c.flag.ensures.flags f.this (found_at d c.self.invariant.kept c.args.child.now.number c.args.child.now.row _ f (Recorded c.in-Recorded.row (phases.Flagging c.in-Flagging.request))
+    (c.in-Recorded.is ∙ ap (Recorded c.in-Recorded.row) c.in-Flagging.is)))
+    c.self.view_is c.flag.ensures.moved
 
 pub returns-in_default-phase : goal.returns-in_default-phase
 returns-in_default-phase g c =

@@ -33,17 +33,15 @@ overflow_add-self g c = omega (arith, steps_fit c.args.self.now.program.now (sta
 pub returns-clause-sound : goal.returns-clause-sound
 returns-clause-sound g c =
     let d = parts_of g.C.Chains.lists g.C.Chains.place c.args.self.now in
-    let lists = g.C.Chains.lists c.flag.new.self in
-    let place = g.C.Chains.place c.flag.new.self in
     let change : Live → Live = λ x. in_phase c.args.row (flagging x.cowns.items (suc c.args.request)) x in
     let new_is = read_changed change d.live c.args.slot c.requires.due.0 c.index_mut.result.now c.flag_next.new.place c.requires.due.1.is c.index_mut.ensures.value c.flag_next.ensures in
     let homes = vec_capacity c.args.self.now.homes in
     let ready = deque_capacity c.args.self.now.ready in
     record {
-      kept = subst (λ (o : Option Live). IsKept (placed d lists place c.args.slot o)) new_is
-          (flag_keeps d c.requires.sound.kept c.args.slot c.requires.due.0 c.args.row c.args.request c.requires.due.1 lists place c.flag.ensures.lists c.flag.ensures.places);
-      rooms = subst (λ (o : Option Live). HasRooms (placed d lists place c.args.slot o) homes ready) new_is
-          (flag_rooms d c.requires.sound.kept c.args.slot c.requires.due.0 c.args.row c.args.request c.requires.due.1 lists place c.flag.ensures.lists c.flag.ensures.places homes ready c.requires.sound.rooms);
+      kept = subst (λ (o : Option Live). IsKept (placed d (g.C.Chains.lists c.flag.new.self) (g.C.Chains.place c.flag.new.self) c.args.slot o)) new_is
+          (flag_keeps d c.requires.sound.kept c.args.slot c.requires.due.0 c.args.row c.args.request c.requires.due.1 (g.C.Chains.lists c.flag.new.self) (g.C.Chains.place c.flag.new.self) c.flag.ensures.lists c.flag.ensures.places);
+      rooms = subst (λ (o : Option Live). HasRooms (placed d (g.C.Chains.lists c.flag.new.self) (g.C.Chains.place c.flag.new.self) c.args.slot o) homes ready) new_is
+          (flag_rooms d c.requires.sound.kept c.args.slot c.requires.due.0 c.args.row c.args.request c.requires.due.1 (g.C.Chains.lists c.flag.new.self) (g.C.Chains.place c.flag.new.self) c.flag.ensures.lists c.flag.ensures.places homes ready c.requires.sound.rooms);
     }
 
 pub returns-clause-flags : goal.returns-clause-flags

@@ -30,20 +30,7 @@ pub tied_of : (d : Parts) → IsKept d → Tied d
 tied_of d k = search rules
 
 pub kept_of : (d : Parts) → Tied d → IsSound d.program (state d) → AreCounted (state d) d.live → IsKept d
-kept_of d k sound counted = record {
-  sound = sound;
-  cowns_are = k.cowns_are;
-  values_are = k.values_are;
-  homes_are = k.homes_are;
-  numbered = k.numbered;
-  at_home = k.at_home;
-  in_hand = k.in_hand;
-  chained = k.chained;
-  of_run = k.of_run;
-  counted = counted;
-  ready_there = k.ready_there;
-  left = k.left;
-}
+kept_of d k sound counted = search rules
 
 -- with other requests in the lists, other ready slots, and after any number of steps
 pub tied_with : (d : Parts) (lists : List (List Request)) (ready : List ℕ) (steps : ℕ) → Tied d → AreChained d.live lists d.place → AreReady d.live ready → Tied (record d { lists = lists; ready = ready; steps = steps })

@@ -288,6 +288,21 @@ module _ (at at' : ℕ → Option OpenBehaviour) (queue queue' : ℕ → List �
       (by_cown (λ d q. q ≡ ahead ++ (x ∷ (mid ++ (y ∷ behind))) → InOrder (row_of (at x)) (row_of (at y)))
       queue queue' c0 m.elsewhere (here ahead mid behind x y) (λ d n f. l.ordered d ahead mid behind x y f) c e)
 
+  laws_then : ((w : ℕ) → times w (queue' c0) ≡ times c0 (standing (at' w)))
+      → ((ahead behind : List ℕ) (x y : ℕ) → queue' c0 ≡ ahead ++ (x ∷ (y ∷ behind))
+      → 0 < times c0 (settled (at y)) → 0 < times c0 (flagged (at x)))
+      → ((ahead mid behind : List ℕ) (x y : ℕ) → queue' c0 ≡ ahead ++ (x ∷ (mid ++ (y ∷ behind)))
+      → InOrder (row_of (at x)) (row_of (at y)))
+      → ((w c : ℕ) → holds (at' w) ≡ true → 0 < times c (standing (at' w)) → slice_get (queue' c) 0 ≡ Some w)
+      → Laws at' queue'
+  laws_then stands linked ordered first = record {
+    stands = stands_then stands;
+    once = once_then;
+    linked = linked_then linked;
+    ordered = ordered_then ordered;
+    first = first;
+  }
+
 pub record Exchanges (at at' : ℕ → Option OpenBehaviour) (queue queue' : ℕ → List ℕ) (who c0 : ℕ) : Type 0 where
   pub longer : queue' c0 ≡ queue c0 ++ (who ∷ [])
   pub here : times c0 (standing (at' who)) ≡ times c0 (standing (at who)) + 1
@@ -300,38 +315,32 @@ pub record Exchanges (at at' : ℕ → Option OpenBehaviour) (queue queue' : ℕ
 pub exchange : (at at' : ℕ → Option OpenBehaviour) (queue queue' : ℕ → List ℕ) (who c0 : ℕ) → Laws at queue
     → Exchanges at at' queue queue' who c0 → Laws at' queue'
 exchange at at' queue queue' who c0 l h =
-    let m = h.moves in
-    record {
-      stands = stands_then at at' queue queue' who c0 l m
-          (at_each (λ v b. times v (queue' c0) ≡ times c0 (standing b)) at at' who m.other
-          (ap (times who) h.longer ∙ times-append who (queue c0) (who ∷ [])
-          ∙ omega (arith, times-here who [], l.stands who c0, h.here))
-          (λ v n. ap (times v) h.longer ∙ times-append v (queue c0) (who ∷ [])
-          ∙ omega (arith, times-other v who [] (λ e. n (sym e)), l.stands v c0)));
-      once = once_then at at' queue queue' who c0 l m;
-      linked = linked_then at at' queue queue' who c0 l m
-          (λ ahead behind x y f t. elim (place_in_longer (queue c0) (ahead ++ (x ∷ [])) behind who y
-          (sym h.longer ∙ f ∙ sym (append_assoc ahead (x ∷ []) (y ∷ behind)))) [
-            | inl p ↦ absurd (let k : times c0 (settled (at y)) ≡ 0 = ap (λ v. times c0 (settled (at v))) p.1
-                ∙ h.not_settled in omega arith)
-            | inr p ↦ l.linked c0 ahead p.0 x y (p.2 ∙ append_assoc ahead (x ∷ []) (y ∷ p.0)) t
-          ]);
-      ordered = ordered_then at at' queue queue' who c0 l m
-          (λ ahead mid behind x y f. elim (place_in_longer (queue c0) (ahead ++ (x ∷ mid)) behind who y
-          (sym h.longer ∙ f ∙ sym (append_assoc ahead (x ∷ mid) (y ∷ behind)))) [
-            | inl p ↦ in_order_at (row_of (at x)) (row_of (at x)) None (row_of (at y)) refl
-                (ap (λ v. row_of (at v)) p.1 ∙ h.no_row) (before_unrecorded (row_of (at x)))
-            | inr p ↦ l.ordered c0 ahead mid p.0 x y (p.2 ∙ append_assoc ahead (x ∷ mid) (y ∷ p.0))
-          ]);
-      first = λ w c. at_each (λ v b. holds b ≡ true → 0 < times c (standing b)
-          → slice_get (queue' c) 0 ≡ Some v) at at' who m.other
-          (λ t s. absurd (let f : false ≡ true = sym h.holds_not ∙ t in cc))
-          (λ v n t s. by_cown (λ d q. 0 < times d (standing (at v))
-          → slice_get q 0 ≡ Some v) queue queue' c0 m.elsewhere
-          (λ z. subst (λ (q : List ℕ). slice_get q 0 ≡ Some v) (sym h.longer)
-          (head_stays (queue c0) who v (l.first v c0 t z)))
-          (λ d m z. l.first v d t z) c s) w;
-    }
+    laws_then at at' queue queue' who c0 l h.moves
+    (at_each (λ v b. times v (queue' c0) ≡ times c0 (standing b)) at at' who h.moves.other
+    (ap (times who) h.longer ∙ times-append who (queue c0) (who ∷ [])
+    ∙ omega (arith, times-here who [], l.stands who c0, h.here))
+    (λ v n. ap (times v) h.longer ∙ times-append v (queue c0) (who ∷ [])
+    ∙ omega (arith, times-other v who [] (λ e. n (sym e)), l.stands v c0)))
+    (λ ahead behind x y f t. elim (place_in_longer (queue c0) (ahead ++ (x ∷ [])) behind who y
+    (sym h.longer ∙ f ∙ sym (append_assoc ahead (x ∷ []) (y ∷ behind)))) [
+      | inl p ↦ absurd (let k : times c0 (settled (at y)) ≡ 0 = ap (λ v. times c0 (settled (at v))) p.1
+          ∙ h.not_settled in omega arith)
+      | inr p ↦ l.linked c0 ahead p.0 x y (p.2 ∙ append_assoc ahead (x ∷ []) (y ∷ p.0)) t
+    ])
+    (λ ahead mid behind x y f. elim (place_in_longer (queue c0) (ahead ++ (x ∷ mid)) behind who y
+    (sym h.longer ∙ f ∙ sym (append_assoc ahead (x ∷ mid) (y ∷ behind)))) [
+      | inl p ↦ in_order_at (row_of (at x)) (row_of (at x)) None (row_of (at y)) refl
+          (ap (λ v. row_of (at v)) p.1 ∙ h.no_row) (before_unrecorded (row_of (at x)))
+      | inr p ↦ l.ordered c0 ahead mid p.0 x y (p.2 ∙ append_assoc ahead (x ∷ mid) (y ∷ p.0))
+    ])
+    (λ w c. at_each (λ v b. holds b ≡ true → 0 < times c (standing b)
+    → slice_get (queue' c) 0 ≡ Some v) at at' who h.moves.other
+    (λ t s. absurd (let f : false ≡ true = sym h.holds_not ∙ t in cc))
+    (λ v n t s. by_cown (λ d q. 0 < times d (standing (at v))
+    → slice_get q 0 ≡ Some v) queue queue' c0 h.moves.elsewhere
+    (λ z. subst (λ (q : List ℕ). slice_get q 0 ≡ Some v) (sym h.longer)
+    (head_stays (queue c0) who v (l.first v c0 t z)))
+    (λ d m z. l.first v d t z) c s) w)
 
 pub record Releases (at at' : ℕ → Option OpenBehaviour) (queue queue' : ℕ → List ℕ) (who c0 : ℕ) : Type 0 where
   pub shorter : queue c0 ≡ who ∷ queue' c0
@@ -343,34 +352,28 @@ pub record Releases (at at' : ℕ → Option OpenBehaviour) (queue queue' : ℕ 
 pub release : (at at' : ℕ → Option OpenBehaviour) (queue queue' : ℕ → List ℕ) (who c0 : ℕ) → Laws at queue
     → Releases at at' queue queue' who c0 → Laws at' queue'
 release at at' queue queue' who c0 l h =
-    let m = h.moves in
-    record {
-      stands = stands_then at at' queue queue' who c0 l m
-          (at_each (λ v b. times v (queue' c0) ≡ times c0 (standing b)) at at' who m.other
-          (omega (arith, ap (times who) h.shorter, times-here who (queue' c0), l.stands who c0, h.here))
-          (λ v n. omega (
-            arith,
-            ap (times v) h.shorter,
-            times-other v who (queue' c0) (λ e. n (sym e)),
-            l.stands v c0,
-          )));
-      once = once_then at at' queue queue' who c0 l m;
-      linked = linked_then at at' queue queue' who c0 l m
-          (λ ahead behind x y f t. l.linked c0 (who ∷ ahead) behind x y (h.shorter ∙ ap (λ zs. who ∷ zs) f) t);
-      ordered = ordered_then at at' queue queue' who c0 l m
-          (λ ahead mid behind x y f. l.ordered c0 (who ∷ ahead) mid behind x y (h.shorter ∙ ap (λ zs. who ∷ zs) f));
-      first = λ w c. at_each (λ v b. holds b ≡ true → 0 < times c (standing b)
-          → slice_get (queue' c) 0 ≡ Some v) at at' who m.other
-          (λ t s. by_cown (λ d q. 0 < times d (standing (at' who))
-          → slice_get q 0 ≡ Some who) queue queue' c0 m.elsewhere
-          (λ z. absurd (omega (arith, h.here, standing_le c0 (at who), l.once who c0)))
-          (λ d n z. l.first who d h.held (subst (λ (k : ℕ). 0 < k) (m.there d n) z)) c s)
-          (λ v n t s. by_cown (λ d q. 0 < times d (standing (at v))
-          → slice_get q 0 ≡ Some v) queue queue' c0 m.elsewhere
-          (λ z. absurd (n (let f : Some who ≡ Some v = ap (λ zs. slice_get zs 0) (sym h.shorter)
-          ∙ l.first v c0 t z in cc)))
-          (λ d m z. l.first v d t z) c s) w;
-    }
+    laws_then at at' queue queue' who c0 l h.moves
+    (at_each (λ v b. times v (queue' c0) ≡ times c0 (standing b)) at at' who h.moves.other
+    (omega (arith, ap (times who) h.shorter, times-here who (queue' c0), l.stands who c0, h.here))
+    (λ v n. omega (
+      arith,
+      ap (times v) h.shorter,
+      times-other v who (queue' c0) (λ e. n (sym e)),
+      l.stands v c0,
+    )))
+    (λ ahead behind x y f t. l.linked c0 (who ∷ ahead) behind x y (h.shorter ∙ ap (λ zs. who ∷ zs) f) t)
+    (λ ahead mid behind x y f. l.ordered c0 (who ∷ ahead) mid behind x y (h.shorter ∙ ap (λ zs. who ∷ zs) f))
+    (λ w c. at_each (λ v b. holds b ≡ true → 0 < times c (standing b)
+    → slice_get (queue' c) 0 ≡ Some v) at at' who h.moves.other
+    (λ t s. by_cown (λ d q. 0 < times d (standing (at' who))
+    → slice_get q 0 ≡ Some who) queue queue' c0 h.moves.elsewhere
+    (λ z. absurd (omega (arith, h.here, standing_le c0 (at who), l.once who c0)))
+    (λ d n z. l.first who d h.held (subst (λ (k : ℕ). 0 < k) (h.moves.there d n) z)) c s)
+    (λ v n t s. by_cown (λ d q. 0 < times d (standing (at v))
+    → slice_get q 0 ≡ Some v) queue queue' c0 h.moves.elsewhere
+    (λ z. absurd (n (let f : Some who ≡ Some v = ap (λ zs. slice_get zs 0) (sym h.shorter)
+    ∙ l.first v c0 t z in cc)))
+    (λ d m z. l.first v d t z) c s) w)
 
 -- a behaviour that stands nowhere comes or goes
 pub nowhere : (at at' : ℕ → Option OpenBehaviour) (queue : ℕ → List ℕ) (who : ℕ) → Laws at queue → OthersStay at at' who

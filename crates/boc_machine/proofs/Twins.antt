@@ -1,6 +1,6 @@
 -- A run beside the serial run along the rows of its log: each row that has started has the inputs that it has there, and
 -- the value of a cown is the one there after the rows that wrote it so far.
-use Rattle.std.proofs.Common.{◌≡◌, ◌≢◌, ℕ, suc, ◌<◌, ◌≤◌, ◌⊎◌, inl, inr, List, [], ◌∷◌, ◌++◌, length, take, refl, sym, ◌∙◌, ap, subst, arith, ℤ, length-append}
+use Rattle.std.proofs.Common.{◌≡◌, ◌≢◌, ℕ, suc, ◌<◌, ◌≤◌, ◌⊎◌, inl, inr, List, [], ◌∷◌, ◌++◌, length, take, refl, sym, ◌∙◌, ap, subst, arith, ℤ, length-append, rules}
 use Rattle.std.specs.Prelude.{slice_get, Option, Some, None, option_map}
 use Rattle.std.specs.Option.{option_map_or}
 use Rattle.std.specs.List.{Contains}
@@ -58,16 +58,7 @@ pub record Twin (p : Program) (ps : List ℕ) (r : ℕ) (m : Member) : Type 0 wh
 pub twin_lives : (p : Program) (ps : List ℕ) (r : ℕ) (m : Member) (inputs : List Input) (life : Life)
     (t : Twin p ps r m) → (life ≢ Pending → inputs ≡ t.row.inputs)
     → Twin p ps r (record m { inputs = inputs; life = life })
-twin_lives p ps r m inputs life t begun = record {
-  row = t.row;
-  is = t.is;
-  behaviour_is = t.behaviour_is;
-  inputs_are = t.inputs_are;
-  means_are = t.means_are;
-  writes = t.writes;
-  begun = begun;
-  spawned_is = t.spawned_is;
-}
+twin_lives p ps r m inputs life t begun = search rules
 
 -- of the rows over a cown those before this one have ended, and the others not
 abbrev pub EndedBefore : List Member → ℕ → ℕ → Type 0

@@ -24,18 +24,16 @@ returns-then-exchanged g c =
 pub returns-else-exchanged : goal.returns-else-exchanged
 returns-else-exchanged g c =
     let d = parts_of g.C.Chains.lists g.C.Chains.place c.self.inside.machine in
-    let e = parts_of g.C.Chains.lists g.C.Chains.place c.swap.new.self in
     let f = c.in-Some.ensures in
-    step_seen d e c.self.invariant.kept _ c.args.child.now _ f (steps.Swap c.in-Asking.request) c.swap.result (λ own. absurd (let h : steps.Swap c.in-Asking.request ≡ steps.Own = own in cc))
+    step_seen d (parts_of g.C.Chains.lists g.C.Chains.place c.swap.new.self) c.self.invariant.kept _ c.args.child.now _ f (steps.Swap c.in-Asking.request) c.swap.result (λ own. absurd (let h : steps.Swap c.in-Asking.request ≡ steps.Own = own in cc))
     (c.swap.ensures.swaps f.this (found_at d c.self.invariant.kept c.args.child.now.number c.args.child.now.row _ f (Asking c.in-Asking.request false) (c.in-Asking.is ∙ ap (Asking c.in-Asking.request) c.if-exchanged.false)))
     c.self.view_is c.swap.ensures.moved
 
 pub returns-in-Flagging : goal.returns-in-Flagging
 returns-in-Flagging g c =
     let d = parts_of g.C.Chains.lists g.C.Chains.place c.self.inside.machine in
-    let e = parts_of g.C.Chains.lists g.C.Chains.place c.flag.new.self in
     let f = c.in-Some.ensures in
-    step_seen d e c.self.invariant.kept _ c.args.child.now _ f (steps.Flag c.in-Flagging.request) c.flag.result (λ own. absurd (let h : steps.Flag c.in-Flagging.request ≡ steps.Own = own in cc))
+    step_seen d (parts_of g.C.Chains.lists g.C.Chains.place c.flag.new.self) c.self.invariant.kept _ c.args.child.now _ f (steps.Flag c.in-Flagging.request) c.flag.result (λ own. absurd (let h : steps.Flag c.in-Flagging.request ≡ steps.Own = own in cc))
     (c.flag.ensures.flags f.this (found_at d c.self.invariant.kept c.args.child.now.number c.args.child.now.row _ f (Recorded c.in-Recorded.row (phases.Flagging c.in-Flagging.request))
     (c.in-Recorded.is ∙ ap (Recorded c.in-Recorded.row) c.in-Flagging.is)))
     c.self.view_is c.flag.ensures.moved

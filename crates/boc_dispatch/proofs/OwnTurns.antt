@@ -1,5 +1,5 @@
 -- What a worker has in hand after its own turn fits the dispatcher.
-use Rattle.std.proofs.Common.{◌≡◌, ◌≢◌, ℕ, suc, ◌+◌, inl, inr, true, false, cond, List, [], ◌∷◌, ◌++◌, length, refl, sym, ◌∙◌, ap, subst, arith}
+use Rattle.std.proofs.Common.{◌≡◌, ◌≢◌, ℕ, suc, ◌+◌, inl, inr, true, false, cond, List, [], ◌∷◌, ◌++◌, length, refl, sym, ◌∙◌, ap, subst, arith, rules}
 use Rattle.std.specs.Prelude.{nat_lt, slice_get, Option, Some, None, Ok, Err}
 use Rattle.std.specs.Option.{option_map}
 use Rattle.boc_types.specs.declared.program.Program.{Program}
@@ -115,15 +115,7 @@ record HasAsked (p : Program) (t : State) (who row : ℕ) (m : Member) : Type 0 
 
 -- one step more changes nothing of it
 asked_stepped : (p : Program) (t : State) (who row : ℕ) (m : Member) → HasAsked p t who row m → HasAsked p (stepped t) who row m
-asked_stepped p t who row m a = record {
-  member = a.member;
-  is = a.is;
-  life_same = a.life_same;
-  behaviour_same = a.behaviour_same;
-  inputs_same = a.inputs_same;
-  came = a.came;
-  enqueue = record { is_open = a.enqueue.is_open; parent = a.enqueue.parent };
-}
+asked_stepped p t who row m a = search rules
 
 flagging_enqueues : (row request : ℕ) (cowns : List ℕ) → enqueues_at (Recorded row (flagging cowns request)) ≡ true
 flagging_enqueues row request cowns =

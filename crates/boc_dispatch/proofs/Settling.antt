@@ -1,5 +1,5 @@
 -- What is kept where a request is settled: its behaviour asks on, or its spawn is recorded.
-use Rattle.std.proofs.Common.{◌≡◌, ◌≢◌, ℕ, zero, suc, ◌+◌, ◌-◌, ◌<◌, ◌≤◌, ◌⊎◌, inl, inr, Bool, true, false, cond, ◌||◌, eqb, ltb, List, [], ◌∷◌, ◌++◌, length, set, take, refl, sym, ◌∙◌, ap, subst, arith}
+use Rattle.std.proofs.Common.{◌≡◌, ◌≢◌, ℕ, zero, suc, ◌+◌, ◌-◌, ◌<◌, ◌≤◌, ◌⊎◌, inl, inr, Bool, true, false, cond, ◌||◌, eqb, ltb, List, [], ◌∷◌, ◌++◌, length, set, take, refl, sym, ◌∙◌, ap, subst, arith, rules}
 use Rattle.std.specs.Prelude.{nat_lt, slice_index_or, Option, Some, None}
 use Rattle.std.proofs.lemmas.Bool.{lt-ltb, le-ltb, eqb-true, eqb-false}
 use Rattle.std.proofs.lemmas.List.{set-get_or}
@@ -217,18 +217,7 @@ module _ (d : Parts) (k : IsKept d) (slot : ℕ) (l : Live) (request : ℕ) (it 
     pub may_settle_so : (homes ready : ℕ) → HasRooms d homes ready → MayRecord (changed_parts d lists place slot new) homes parent slot
     may_settle_so homes ready h =
         let m = may_settle d k slot l request it granted out lists place lists_are places_are last parent held homes ready h in
-        subst (λ (o : Option Live). MayRecord (changed_parts d lists place slot o) homes parent slot) new_is (record {
-          recorder = m.recorder;
-          this = m.this;
-          recorder_is = m.recorder_is;
-          this_is = m.this_is;
-          apart = m.apart;
-          few = m.few;
-          row_fits = m.row_fits;
-          allowed = m.allowed;
-          room = m.room;
-          home = m.home;
-        })
+        subst (λ (o : Option Live). MayRecord (changed_parts d lists place slot o) homes parent slot) new_is (search rules)
 
     pub last_parts : (e : Parts) → Records (counted (changed_parts d lists place slot new)) parent slot e → e ≡ end d k slot l request it granted out lists place lists_are places_are last parent held
     last_parts e h =

@@ -43,20 +43,7 @@ HasSteps s = s.steps + 2 + sum_by owed s.behaviours
     ≡ sum_by (λ cowns. steps_of (length cowns)) (cowns_of_rows s.log) + sum_by made s.behaviours
 
 pub sound_of : (p : Program) (s : State) → Core p s nobody → HasRequests s → HasSteps s → IsSound p s
-sound_of p s k r n = record {
-  run = k.run;
-  lawful = lawful_of (at s) (queue s) k.laws k.waiting;
-  fits = k.fits;
-  requests = r;
-  queues_are = k.queues_are;
-  in_range = k.in_range;
-  ready_once = k.ready_once;
-  ready_only = k.ready_only;
-  some = k.some;
-  counted = k.counted;
-  few = k.few;
-  steps_are = n;
-}
+sound_of p s k r n = search (rules, lawful_of (at s) (queue s) k.laws k.waiting)
 
 -- after any number of steps, and where the law of who waits is known otherwise
 core_after : (p : Program) (s : State) (but other : ℕ → Type 0) (steps : ℕ) → Core p s but

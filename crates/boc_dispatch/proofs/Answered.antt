@@ -60,6 +60,10 @@ handed_as u row b c xs ys i j same_body same_args same_inputs h = record {
   inputs_are = sym same_inputs ∙ h.inputs_are;
 }
 
+-- a frame may ask that was handed out so, and has a wish next
+pub may_ask : (u : Underway) (f : Framed) (row : ℕ) (b : Body) (xs : List ℤ) (i : List Input) → b ≡ f.body → xs ≡ f.args → i ≡ f.inputs → IsHandedOut u row b xs i → IsNextWish u row f.made → MayAsk u f row
+may_ask u f row b xs i body args inputs h next = record { handed = handed_as u row b f.body xs f.args i f.inputs body args inputs h; next = next }
+
 -- the last wish of a frame that may ask is the next of its row
 pub next_is : (u : Underway) (f : Framed) (row : ℕ) (w : Wish) → MayAsk u f row → Some w ≡ last_wish_of f → next_wish u.program (slice_get (members u.program u.state) row) ≡ Some w
 next_is u f row w may last =
@@ -160,6 +164,14 @@ module _ (d : Parts) (k : IsKept d) where
   settled_or_not e child found f request advanced.Enqueued s = absurd s
   settled_or_not e child found f request advanced.Unknown s = absurd s
 
+-- as it is answered, and seen from outside
+pub seen_so : (d e : Parts) (u : Underway) (child : Child) (told made : Advanced) → underway d ≡ u → told ≡ made → AdvancesChild (underway d) child made (underway e) → AdvancesChild u child told (underway e)
+seen_so d e u child told made is same h = subst (λ (x : Underway). AdvancesChild x child told (underway e)) is (subst (λ (a : Advanced). AdvancesChild (underway d) child a (underway e)) (sym same) h)
+
+pub step_seen : (d e : Parts) (k : IsKept d) (u : Underway) (child : Child) (found : Enqueue) (f : IsFoundEnqueue d child.number child.row found) (step : Step) (told : Advanced) → step ≢ Own
+    → Advances d.program (state d) f.this.number step (state e) × (e.program ≡ d.program) → underway d ≡ u → told ≡ advanced.Moved step → AdvancesChild u child told (underway e)
+step_seen d e k u child found f step told other makes is same = seen_so d e u child told (advanced.Moved step) is same (step_made d k e child found f step other makes.0 makes.1)
+
 -- an open enqueue that is recorded and flags no more owns
 pub owning : (row : ℕ) (phase : Phase) → enqueues_at (Recorded row phase) ≡ true → ((request : ℕ) → phase ≡ phases.Flagging request → ⊥) → phase ≡ phases.Owning
 owning row (phases.Flagging request) open_is other = absurd (other request refl)
@@ -171,33 +183,31 @@ owning row (phases.Leaving request) open_is other = absurd (let h : false ≡ tr
 
 -- ---- finish
 
-pub ends_leaving : (d e : Parts) (who row : ℕ) (o : Ran) → IsHandedOut (underway d) row o.body o.args o.inputs → EndsBehaviour d who row true e
-    → FinishesRow (underway d) row o (Ok (Some (record { row = row }))) (underway e)
-ends_leaving d e who row o handed ends = (
+-- the row ends, and this is answered; there is a token where it is left
+ends_so : (d e : Parts) (who row : ℕ) (o : Ran) (left : Bool) (token : Option Leaving) → IsHandedOut (underway d) row o.body o.args o.inputs → EndsBehaviour d who row left e
+    → (token ≡ None → left ≡ false) → ((t : Leaving) → token ≡ Some t → (t.row ≡ row) × (left ≡ true)) → FinishesRow (underway d) row o (Ok token) (underway e)
+ends_so d e who row o left token handed ends none some = (
   handed,
   record {
     who = who;
     state = state e;
     finishes = ends.finishes;
     same = moved d e ends.same;
-    gone = λ none. absurd (let token : Leaving = record { row = row } in let h : Some token ≡ None = none in cc);
-    left = λ token is. ((let own : Leaving = record { row = row } in let h : Some own ≡ Some token = is in let same : token ≡ own = cc in ap (λ (t : Leaving). t.row) same), ends.left refl);
+    gone = λ is. ends.gone (none is);
+    left = λ t is. ((some t is).0, ends.left (some t is).1);
   },
 )
 
+pub ends_leaving : (d e : Parts) (who row : ℕ) (o : Ran) → IsHandedOut (underway d) row o.body o.args o.inputs → EndsBehaviour d who row true e
+    → FinishesRow (underway d) row o (Ok (Some (record { row = row }))) (underway e)
+ends_leaving d e who row o handed ends =
+    let own : Leaving = record { row = row } in
+    ends_so d e who row o true (Some own) handed ends (λ none. let h : Some own ≡ None = none in cc)
+    (λ token is. (let h : Some own ≡ Some token = is in let same : token ≡ own = cc in ap (λ (t : Leaving). t.row) same, refl))
+
 pub ends_gone : (d e : Parts) (who row : ℕ) (o : Ran) → IsHandedOut (underway d) row o.body o.args o.inputs → EndsBehaviour d who row false e
     → FinishesRow (underway d) row o (Ok None) (underway e)
-ends_gone d e who row o handed ends = (
-  handed,
-  record {
-    who = who;
-    state = state e;
-    finishes = ends.finishes;
-    same = moved d e ends.same;
-    gone = λ none. ends.gone refl;
-    left = λ token is. absurd (let h : None ≡ Some token = is in cc);
-  },
-)
+ends_gone d e who row o handed ends = ends_so d e who row o false None handed ends (λ none. refl) (λ token is. absurd (let h : None ≡ Some token = is in cc))
 
 -- ---- leave
 

@@ -2,7 +2,10 @@
 use Rattle.std.proofs.Common.{◌≡◌, ℕ, zero, suc, ◌+◌, ◌<◌, ◌≤◌, inl, inr, Bool, true, false, cond, List, [], ◌∷◌, ◌++◌, length, set, get_or, refl, sym, ◌∙◌, ap, subst, arith, ℤ}
 use Rattle.std.specs.Prelude.{slice_get, nat_lt, Option, Some, None}
 use Rattle.std.specs.Option.{option_map}
-use Rattle.std.proofs.lemmas.List.{length-map}
+use Rattle.std.specs.Vec.{vec_len, with_items}
+use Rattle.std.specs.declared.vec.Vec.{Vec}
+use Rattle.std.specs.declared.alloc.Global.{Global}
+use Rattle.std.proofs.lemmas.List.{length-map, with_items_is}
 use Rattle.std.proofs.lemmas.Bool.Decides.{Decides-ltb}
 use Rattle.arrayvec.specs.ArrayVec.{ArrayVec}
 use Rattle.boc_types.specs.declared.body.Body.{Body}
@@ -31,7 +34,7 @@ use Rattle.boc_eval.specs.Frames.{Ran, Means}
 use Rattle.boc_dispatch.specs.declared.live.Live.{Live}
 use Rattle.boc_dispatch.specs.Calls.{IsHandedOut, HasSpawnedAll}
 use Rattle.boc_dispatch.specs.Grants.{IsRemoved, Tied, Released}
-use Rattle.boc_dispatch.specs.Inside.{Parts, state, underway, live_at, open_of, AreOfRun, IsKept, IsOfRow}
+use Rattle.boc_dispatch.specs.Inside.{Parts, state, underway, live_at, open_of, AreOfRun, IsKept, IsAtStage, IsOfRow}
 use Rattle.boc_dispatch.specs.Moves.{EndsBehaviour}
 use Rattle.boc_dispatch.specs.Places.{Has, in_phase}
 use Rattle.boc_dispatch.proofs.Tables.{at_slot, read_place}
@@ -39,7 +42,7 @@ use Rattle.boc_dispatch.proofs.Fits.{allowed_last}
 use Rattle.boc_dispatch.proofs.Homes.{row_at_slot, childless, fits_row, params_below}
 use Rattle.boc_dispatch.proofs.Outputs.{output_for_each}
 use Rattle.boc_dispatch.proofs.Granting.{tied_of}
-use Rattle.boc_dispatch.proofs.Releasing.{gone_on, moved_state, moved_there, gone_state, gone_not_there}
+use Rattle.boc_dispatch.proofs.Releasing.{leaving_same, gone_on, moved_state, moved_there, gone_state, gone_not_there}
 
 -- ---- rows of which one has ended
 
@@ -93,13 +96,6 @@ of_run_then p rows row live k = record {
         new = q.new;
       };
 }
-
-log_leaving : (s : State) (who : ℕ) (b : OpenBehaviour) (row request : ℕ) → (leaving_on s who b row request).log ≡ s.log
-log_leaving s who b row request = by_test (nat_lt request (length b.cowns))
-  where
-    by_test : (t : Bool) → (cond t (with_stage s who b (Recorded row (phases.Leaving request))) (with_behaviour s who None)).log ≡ s.log
-    by_test true = refl
-    by_test false = refl
 
 -- ---- the end of a behaviour
 
@@ -177,7 +173,7 @@ module _ (d : Parts) (slot row : ℕ) (l : Live) (o : Ran) (written : ArrayVec �
   -- the event is allowed
   pub allowed : IsAllowed d.log.cowns (entries d.log.events) event
   allowed =
-      let run : IsRun d.program (d.log.events ++ (event ∷ [])) = subst (IsRun d.program) (log_leaving (state ended) l.number (open_of l) row 0) (sound).run in
+      let run : IsRun d.program (d.log.events ++ (event ∷ [])) = subst (IsRun d.program) (leaving_same (λ z. z.log) (state ended) l.number (open_of l) row 0 refl refl) (sound).run in
       subst (λ (n : ℕ). IsAllowed n (entries d.log.events) event) (sym f.kept.cowns_are) (allowed_last d.program d.log.events event run)
 
   rows_then : members d.program (state ended) ≡ rows_ended rows row
@@ -315,3 +311,37 @@ pub written_long : (d : Parts) (slot : ℕ) (l : Live) (o : Ran) (p : Option Liv
 written_long d slot l o p values is reads writes =
     ap (length {A = ℤ}) (subst (λ (z : Option Live). Has z (λ x. values ≡ after_outputs d.values x.params.items o.outputs)) (read_place d.live slot l p is reads) writes)
     ∙ length-after_outputs d.values l.params.items o.outputs
+
+-- ---- as the code tells it
+
+-- what is asked of a call of finish
+pub ending : (d : Parts) (slot row : ℕ) (l : Live) (o : Ran) → IsKept d → IsAtStage d slot l (Recorded row phases.Running) → Means o → IsHandedOut (underway d) row o.body o.args o.inputs
+    → HasSpawnedAll (underway d) row o.wishes → Ending d slot row l o (record { items = o.written })
+ending d slot row l o kept it means handed spawned = record {
+  kept = kept;
+  is = it.is;
+  stage_is = it.stage_is;
+  means = means;
+  handed = handed;
+  spawned = spawned;
+  written_is = refl;
+}
+
+-- what its calls read and leave, where they were handed the values and the outputs as these
+pub finish_calls : (d : Parts) (slot row : ℕ) (l : Live) (o : Ran) (f : Ending d slot row l o (record { items = o.written })) (p p' : Option Live) (held outputs wrote : List ℤ) (values : Vec ℤ Global) (event : Event) (log : Log) (has_cowns : Bool)
+    → p ≡ get_or d.live slot p → p' ≡ option_map (in_phase row (phases.Leaving 0)) p → outputs ≡ o.outputs → held ≡ d.values → length held ≡ vec_len values
+    → Has p (λ x. wrote ≡ after_outputs held x.params.items outputs) → event ≡ End row o.ticks o.status (record { items = o.written }) → log ≡ grown d.log event
+    → Has p (λ x. has_cowns ≡ nat_lt 0 (length x.cowns.items))
+    → FinishCalls d slot row o (record { items = o.written }) p p' (with_items values wrote).items log has_cowns
+finish_calls d slot row l o f p p' held outputs wrote values event log has_cowns reads ends outputs_are held_is long writes event_is notes tells =
+    let written : Has p (λ x. wrote ≡ after_outputs d.values x.params.items o.outputs) = subst (λ (os : List ℤ). Has p (λ x. wrote ≡ after_outputs d.values x.params.items os)) outputs_are
+    (subst (λ (vs : List ℤ). Has p (λ x. wrote ≡ after_outputs vs x.params.items outputs)) held_is writes) in
+    let same : (with_items values wrote).items ≡ wrote = with_items_is values wrote
+    (written_long d slot l o p wrote f.is reads written ∙ ap (length {A = ℤ}) (sym held_is) ∙ long) in
+    record {
+      reads = reads;
+      ends = ends;
+      writes = subst (λ (vs : List ℤ). Has p (λ x. vs ≡ after_outputs d.values x.params.items o.outputs)) (sym same) written;
+      notes = notes ∙ ap (grown d.log) event_is;
+      tells = tells;
+    }

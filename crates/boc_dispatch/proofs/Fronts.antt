@@ -23,12 +23,12 @@ use Rattle.boc_chain.specs.Chain.{Place, cown, leave_answer, after_leave, IsGran
 use Rattle.boc_chain.specs.Chain.{cowns_of as cowns_at}
 use Rattle.boc_dispatch.specs.declared.live.Live.{Live}
 use Rattle.boc_dispatch.specs.Grants.{granted_if, with_granted, MayBeGranted, Tied, SameRows, Released, IsStarted}
-use Rattle.boc_dispatch.specs.Inside.{Parts, state, live_at, open_of, row_or_0, number_at, ungranted, awaits, AreCounted, IsKept}
+use Rattle.boc_dispatch.specs.Inside.{Parts, state, live_at, open_of, row_or_0, number_at, ungranted, awaits, AreCounted, IsKept, IsAtStage}
 use Rattle.boc_dispatch.specs.Places.{granted as as_granted}
 use Rattle.boc_dispatch.proofs.Counts.{first_stays, next_granted}
 use Rattle.boc_dispatch.proofs.Tables.{live_other, at_slot, queue_at, queues_put, queues_length}
 use Rattle.boc_dispatch.proofs.Standing.{place_is, ready_fits}
-use Rattle.boc_dispatch.proofs.Granting.{tied_of, CountedBut, awaits_same, Grants, grants, granted_stays, granted_length}
+use Rattle.boc_dispatch.proofs.Granting.{tied_with, tied_of, CountedBut, awaits_same, Grants, grants, granted_stays, granted_length}
 use Rattle.boc_dispatch.proofs.Owning.{holder_runs}
 use Rattle.boc_dispatch.proofs.Waking.{leaving_either}
 
@@ -99,6 +99,9 @@ pub record Front (d : Parts) (slot row request : ℕ) (l : Live) : Type 0 where
   pub kept : IsKept d
   pub is : live_at d.live slot ≡ Some l
   pub stage_is : l.stage ≡ Recorded row (phases.Leaving request)
+
+pub front_of : (d : Parts) (slot row request : ℕ) (l : Live) → IsKept d → IsAtStage d slot l (Recorded row (phases.Leaving request)) → Front d slot row request l
+front_of d slot row request l kept it = record { kept = kept; is = it.is; stage_is = it.stage_is }
 
 module _ (d : Parts) (slot row request : ℕ) (l : Live) (f : Front d slot row request l) where
   -- its cown
@@ -172,33 +175,22 @@ module _ (d : Parts) (slot row request : ℕ) (l : Live) (f : Front d slot row r
   popped_tied : (requests : List Request) → c < length d.lists → ((k : ℕ) (r : Request) → slice_get requests k ≡ Some r → (j : ℕ) × (slice_get q j ≡ Some r)) → Tied (popped requests)
   popped_tied requests inside among_them =
       let k = tied_of d f.kept in
-      record {
-        cowns_are = k.cowns_are;
-        values_are = k.values_are;
-        homes_are = k.homes_are;
-        numbered = k.numbered;
-        at_home = k.at_home;
-        in_hand = k.in_hand;
-        chained = record {
-          requests = λ e j r h. elim (same_or_not e c) [
-            | inl g ↦
-                let at_c : slice_get requests j ≡ Some r = sym (ap (λ z. slice_get z j) (ap (λ z. get_or (set d.lists c requests) z []) g ∙ get_or-set_same d.lists c requests [] inside)) ∙ h in
-                let o = among_them j r at_c in
-                let was = k.chained.requests c o.0 r o.1 in
-                record {
-                  this = was.this;
-                  is = was.is;
-                  settled_is = was.settled_is ∙ ap (λ z. nat_lt 0 (times z (settled_at was.this.stage was.this.cowns.items))) (sym g);
-                  flagged_is = was.flagged_is ∙ ap (λ z. nat_lt 0 (times z (flagged_at was.this.stage was.this.cowns.items))) (sym g);
-                }
-            | inr n ↦ k.chained.requests e j r (sym (ap (λ z. slice_get z j) (get_or-set_other d.lists c e requests [] n)) ∙ h)
-          ];
-          places = k.chained.places;
-        };
-        of_run = k.of_run;
-        ready_there = k.ready_there;
-        left = k.left;
-      }
+      tied_with d (set d.lists c requests) d.ready d.steps k (record {
+        requests = λ e j r h. elim (same_or_not e c) [
+          | inl g ↦
+              let at_c : slice_get requests j ≡ Some r = sym (ap (λ z. slice_get z j) (ap (λ z. get_or (set d.lists c requests) z []) g ∙ get_or-set_same d.lists c requests [] inside)) ∙ h in
+              let o = among_them j r at_c in
+              let was = k.chained.requests c o.0 r o.1 in
+              record {
+                this = was.this;
+                is = was.is;
+                settled_is = was.settled_is ∙ ap (λ z. nat_lt 0 (times z (settled_at was.this.stage was.this.cowns.items))) (sym g);
+                flagged_is = was.flagged_is ∙ ap (λ z. nat_lt 0 (times z (flagged_at was.this.stage was.this.cowns.items))) (sym g);
+              }
+          | inr n ↦ k.chained.requests e j r (sym (ap (λ z. slice_get z j) (get_or-set_other d.lists c e requests [] n)) ∙ h)
+        ];
+        places = k.chained.places;
+      }) k.ready_there
 
   same_rows : (requests : List Request) → SameRows d (popped requests)
   same_rows requests = record { recorded_are = refl; opened_are = refl; rooms_are = refl; homes_are = refl; long = refl }

@@ -191,20 +191,24 @@ module _ (d : Parts) (k : IsKept d) (slot : ℕ) (l : Live) (is : live_at d.live
       (q.0, q.1, live_other d.live slot (Some gone_on) s other ∙ q.2, q.3)
 
   -- a request stays that of its behaviour, where the same are settled and flagged
-  pub same_marks : ((c : ℕ) → (times c (settled_at stage l.cowns.items) ≡ times c (settled_at l.stage l.cowns.items)) × (times c (flagged_at stage l.cowns.items) ≡ times c (flagged_at l.stage l.cowns.items)))
-      → (c : ℕ) (r : Request) → IsRequestOf d.live c r → IsRequestOf table_on c r
-  same_marks same c r h =
+  marks_at : (c : ℕ) → (times c (settled_at stage l.cowns.items) ≡ times c (settled_at l.stage l.cowns.items)) × (times c (flagged_at stage l.cowns.items) ≡ times c (flagged_at l.stage l.cowns.items))
+      → (r : Request) → IsRequestOf d.live c r → IsRequestOf table_on c r
+  marks_at c same r h =
       elim (same_or_not r.slot slot) [
         | inl e ↦
             let this : h.this ≡ l = (let g : Some h.this ≡ Some l = sym h.is ∙ ap (live_at d.live) e ∙ is in cc) in
             record {
               this = gone_on;
               is = ap (live_at table_on) e ∙ here_on;
-              settled_is = h.settled_is ∙ ap (λ z. nat_lt 0 (times c (settled_at z.stage z.cowns.items))) this ∙ ap (nat_lt 0) (sym (same c).0);
-              flagged_is = h.flagged_is ∙ ap (λ z. nat_lt 0 (times c (flagged_at z.stage z.cowns.items))) this ∙ ap (nat_lt 0) (sym (same c).1);
+              settled_is = h.settled_is ∙ ap (λ z. nat_lt 0 (times c (settled_at z.stage z.cowns.items))) this ∙ ap (nat_lt 0) (sym same.0);
+              flagged_is = h.flagged_is ∙ ap (λ z. nat_lt 0 (times c (flagged_at z.stage z.cowns.items))) this ∙ ap (nat_lt 0) (sym same.1);
             }
         | inr n ↦ record { this = h.this; is = live_other d.live slot (Some gone_on) r.slot n ∙ h.is; settled_is = h.settled_is; flagged_is = h.flagged_is }
       ]
+
+  pub same_marks : ((c : ℕ) → (times c (settled_at stage l.cowns.items) ≡ times c (settled_at l.stage l.cowns.items)) × (times c (flagged_at stage l.cowns.items) ≡ times c (flagged_at l.stage l.cowns.items)))
+      → (c : ℕ) (r : Request) → IsRequestOf d.live c r → IsRequestOf table_on c r
+  same_marks same c r h = marks_at c (same c) r h
 
   -- the requests of one list are changed by f, which changes only those of this slot
   module _ (c0 : ℕ) (f : Request → Request) (keeps : KeepsSlots f) (alone : (r : Request) → r.slot ≢ slot → f r ≡ r)
@@ -225,18 +229,7 @@ module _ (d : Parts) (k : IsKept d) (slot : ℕ) (l : Live) (is : live_at d.live
         ]
 
     same_request : (c : ℕ) → c ≢ c0 → (r : Request) → IsRequestOf d.live c r → IsRequestOf table_on c r
-    same_request c other r h =
-        elim (same_or_not r.slot slot) [
-          | inl e ↦
-              let this : h.this ≡ l = (let g : Some h.this ≡ Some l = sym h.is ∙ ap (live_at d.live) e ∙ is in cc) in
-              record {
-                this = gone_on;
-                is = ap (live_at table_on) e ∙ here_on;
-                settled_is = h.settled_is ∙ ap (λ z. nat_lt 0 (times c (settled_at z.stage z.cowns.items))) this ∙ ap (nat_lt 0) (sym (elsewhere c other).0);
-                flagged_is = h.flagged_is ∙ ap (λ z. nat_lt 0 (times c (flagged_at z.stage z.cowns.items))) this ∙ ap (nat_lt 0) (sym (elsewhere c other).1);
-              }
-          | inr n ↦ record { this = h.this; is = live_other d.live slot (Some gone_on) r.slot n ∙ h.is; settled_is = h.settled_is; flagged_is = h.flagged_is }
-        ]
+    same_request c other r h = marks_at c (elsewhere c other) r h
 
     pub requests_on : (c j : ℕ) (r : Request) → slice_get (slice_index_or (set d.lists c0 (map f (get_or d.lists c0 []))) c []) j ≡ Some r → IsRequestOf table_on c r
     requests_on c j r a =

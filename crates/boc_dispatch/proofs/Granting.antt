@@ -1,5 +1,5 @@
 -- One request more is granted: the state that follows, and what is kept.
-use Rattle.std.proofs.Common.{◌≡◌, ◌≢◌, ℕ, zero, suc, ◌+◌, ◌-◌, ◌⊎◌, inl, inr, Bool, true, false, cond, eqb, List, [], ◌∷◌, ◌++◌, length, set, refl, sym, ◌∙◌, ap, subst, arith, get_or-set_other, length-set}
+use Rattle.std.proofs.Common.{◌≡◌, ◌≢◌, ℕ, zero, suc, ◌+◌, ◌-◌, ◌⊎◌, inl, inr, Bool, true, false, cond, eqb, List, [], ◌∷◌, ◌++◌, length, set, refl, sym, ◌∙◌, ap, subst, arith, get_or-set_other, length-set, rules}
 use Rattle.std.specs.Prelude.{slice_get, nat_eq, ◌||◌, Option, Some, None}
 use Rattle.std.specs.Option.{option_map_or}
 use Rattle.std.specs.List.{count_by}
@@ -14,46 +14,27 @@ use Rattle.boc_types.specs.machine.Sound.{IsSound}
 use Rattle.boc_types.specs.machine.Steps.{State, at, queue, members, unrecorded, with_behaviour, made_ready, woken, woken_at, woken_if}
 use Rattle.boc_machine.proofs.Lists.{same_or_not, not_eq}
 use Rattle.boc_machine.proofs.Core.{one_if}
+use Rattle.boc_chain.specs.declared.request.Request.{Request}
 use Rattle.boc_dispatch.specs.declared.live.Live.{Live}
 use Rattle.boc_dispatch.specs.Grants.{granted_if, with_granted, SameRows}
 pub use Rattle.boc_dispatch.specs.Grants.{AreReady, Tied}
-use Rattle.boc_dispatch.specs.Inside.{Parts, state, live_at, open_of, behaviours_of, rows_at, row_or_0, exchanged_at, ungranted, awaits, is_taken, AreNumbered, AreInHand, AreCounted, IsKept, HasRooms}
+use Rattle.boc_dispatch.specs.Inside.{Parts, state, live_at, open_of, behaviours_of, rows_at, row_or_0, exchanged_at, ungranted, awaits, is_taken, AreNumbered, AreInHand, AreChained, AreCounted, IsKept, HasRooms}
 use Rattle.boc_dispatch.specs.Places.{granted}
 use Rattle.boc_dispatch.proofs.Counts.{waited_same, all_are_granted}
-use Rattle.boc_dispatch.proofs.Onward.{Onward, Steady, Follows, follows_set, follows_on, stays, steady, numbered_on, home_on, queues_on, rows_on, chained_on, of_run_on, in_hand_on}
+use Rattle.boc_dispatch.proofs.Onward.{Onward, Steady, Follows, follows_set, follows_on, stays, steady, onward_at, numbered_on, home_on, queues_on, rows_on, chained_on, of_run_on, in_hand_on}
 use Rattle.boc_dispatch.proofs.Tables.{live_there, live_here, live_other, live_new, at_slot, behaviours_changed, taken_changed, behaviours_length}
 
 -- ---- what is kept, but for the state that is sound and for what each counts
 
 pub tied_of : (d : Parts) → IsKept d → Tied d
-tied_of d k = record {
-  cowns_are = k.cowns_are;
-  values_are = k.values_are;
-  homes_are = k.homes_are;
-  numbered = k.numbered;
-  at_home = k.at_home;
-  in_hand = k.in_hand;
-  chained = k.chained;
-  of_run = k.of_run;
-  ready_there = k.ready_there;
-  left = k.left;
-}
+tied_of d k = search rules
 
 pub kept_of : (d : Parts) → Tied d → IsSound d.program (state d) → AreCounted (state d) d.live → IsKept d
-kept_of d k sound counted = record {
-  sound = sound;
-  cowns_are = k.cowns_are;
-  values_are = k.values_are;
-  homes_are = k.homes_are;
-  numbered = k.numbered;
-  at_home = k.at_home;
-  in_hand = k.in_hand;
-  chained = k.chained;
-  of_run = k.of_run;
-  counted = counted;
-  ready_there = k.ready_there;
-  left = k.left;
-}
+kept_of d k sound counted = search rules
+
+-- with other requests in the lists, other ready slots, and after any number of steps
+pub tied_with : (d : Parts) (lists : List (List Request)) (ready : List ℕ) (steps : ℕ) → Tied d → AreChained d.live lists d.place → AreReady d.live ready → Tied (record d { lists = lists; ready = ready; steps = steps })
+tied_with d lists ready steps k chained ready_there = search rules
 
 -- ---- one behaviour put in place of another
 
@@ -181,21 +162,10 @@ abbrev at_stage : OpenBehaviour → Stage → OpenBehaviour
 at_stage b stage = record b { stage = stage }
 
 tied_ready : (d : Parts) (slot : ℕ) (l : Live) (row : ℕ) → Tied d → live_at d.live slot ≡ Some l → l.stage ≡ Recorded row phases.Ready → Tied (record d { ready = d.ready ++ slot ∷ [] })
-tied_ready d slot l row k is stage = record {
-  cowns_are = k.cowns_are;
-  values_are = k.values_are;
-  homes_are = k.homes_are;
-  numbered = k.numbered;
-  at_home = k.at_home;
-  in_hand = k.in_hand;
-  chained = k.chained;
-  of_run = k.of_run;
-  ready_there = λ i s e. elim (pushed d.ready slot i s e) [
-    | inl h ↦ k.ready_there i s h
-    | inr h ↦ (l, row, ap (live_at d.live) h ∙ is, stage)
-  ];
-  left = k.left;
-}
+tied_ready d slot l row k is stage = tied_with d d.lists (d.ready ++ slot ∷ []) d.steps k k.chained (λ i s e. elim (pushed d.ready slot i s e) [
+  | inl h ↦ k.ready_there i s h
+  | inr h ↦ (l, row, ap (live_at d.live) h ∙ is, stage)
+])
 
 module _ (d : Parts) (slot : ℕ) (l : Live) (k : Tied d) (is : live_at d.live slot ≡ Some l) (counts : CountedBut (state d) d.live slot) where
   -- it awaits more
@@ -226,18 +196,7 @@ module _ (d : Parts) (slot : ℕ) (l : Live) (k : Tied d) (is : live_at d.live s
       let stage_is : m.stage ≡ Recorded row phases.Ready = ap (λ z. Recorded z phases.Ready) row_is in
       let cs = l.cowns.items in
       let on : Steady l m = record {
-        on = record {
-          number = refl;
-          parent = refl;
-          behaviour = refl;
-          spawned = refl;
-          cowns = refl;
-          row = ap row_at stage_is ∙ sym (ap row_at stage);
-          asks = sym (ap asks_at stage);
-          settles = sym (ap (λ z. settled_at z cs) stage);
-          flags = sym (ap (λ z. flagged_at z cs) stage);
-          exchanges = sym (ap (λ z. exchanged_at z cs) stage);
-        };
+        on = onward_at l 0 (Recorded row phases.Waiting) m.stage stage (ap row_at stage_is) refl refl refl refl;
         child = refl;
         enqueues = sym (ap enqueues_at stage);
       } in
@@ -329,18 +288,7 @@ abbrev pub stepped_on : Parts → Parts
 stepped_on d = record d { steps = d.steps + 1 }
 
 pub tied_stepped : (d : Parts) → Tied d → Tied (stepped_on d)
-tied_stepped d k = record {
-  cowns_are = k.cowns_are;
-  values_are = k.values_are;
-  homes_are = k.homes_are;
-  numbered = k.numbered;
-  at_home = k.at_home;
-  in_hand = k.in_hand;
-  chained = k.chained;
-  of_run = k.of_run;
-  ready_there = k.ready_there;
-  left = k.left;
-}
+tied_stepped d k = tied_with d d.lists d.ready (d.steps + 1) k k.chained k.ready_there
 
 -- rooms stay where as many behaviours are opened, and as many rows recorded
 pub rooms_stay : (d e : Parts) (homes ready : ℕ) → IsKept d → IsKept e → SameRows d e → HasRooms d homes ready → HasRooms e homes ready

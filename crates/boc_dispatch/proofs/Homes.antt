@@ -260,6 +260,13 @@ place_read [] slot place below is = absurd (omega arith)
 place_read (p ∷ live) zero place below is = sym is
 place_read (p ∷ live) (suc slot) place below is = place_read live slot place (omega arith) is
 
+-- the same of lists that are read by their slices
+pub home_read : (xs homes : List ℕ) (i x : ℕ) → xs ≡ homes → i < length xs → x ≡ get_or xs i x → slice_get homes i ≡ Some x
+home_read xs homes i x same below is = subst (λ (ys : List ℕ). slice_get ys i ≡ Some x) same (number_read xs i x below is)
+
+pub live_read : (xs live : List (Option Live)) (slot : ℕ) (place : Option Live) → xs ≡ live → slot < length xs → place ≡ get_or xs slot place → live_at live slot ≡ place
+live_read xs live slot place same below is = subst (λ (ys : List (Option Live)). live_at ys slot ≡ place) same (place_read xs slot place below is)
+
 -- a test of a row that failed
 pub another_row : (o : Option ℕ) (row : ℕ) → option_eq eqb o (Some row) ≡ false → o ≡ Some row → ⊥
 another_row o row failed is =

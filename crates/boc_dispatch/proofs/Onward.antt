@@ -3,13 +3,14 @@ use Rattle.std.proofs.Common.{◌≡◌, ℕ, ◌<◌, inl, inr, List, set, map,
 use Rattle.std.specs.Prelude.{slice_get, nat_lt, Option, Some, None}
 use Rattle.std.specs.Option.{option_map, option_map_or}
 use Rattle.boc_types.specs.declared.program.Program.{Program}
+use Rattle.boc_types.specs.declared.stage.Stage.{Stage}
 use Rattle.boc_types.specs.machine.Stages.{settled_at, flagged_at, row_at, asks_at, enqueues_at}
 use Rattle.boc_types.specs.machine.Queues.{times}
 use Rattle.boc_types.specs.runs.Run.{Member, next_wish}
 use Rattle.boc_chain.specs.declared.request.Request.{Request}
 use Rattle.boc_chain.specs.Chain.{Place}
 use Rattle.boc_dispatch.specs.declared.live.Live.{Live}
-use Rattle.boc_dispatch.specs.Inside.{live_at, behaviour_of, exchanged_at, place_of, number_at, queues_of, rows_at, row_or_0, AreNumbered, AreAtHome, AreInHand, AreChained, AreOfRun}
+use Rattle.boc_dispatch.specs.Inside.{live_at, behaviour_of, exchanged_at, place_of, number_at, queues_of, rows_at, row_or_0, IsRequestOf, AreNumbered, AreAtHome, AreInHand, AreChained, AreOfRun}
 use Rattle.boc_dispatch.proofs.Tables.{live_there, live_here, live_other, live_new}
 use Rattle.boc_machine.proofs.Lists.{same_or_not}
 
@@ -38,10 +39,40 @@ stays l = record { number = refl; parent = refl; behaviour = refl; spawned = ref
 pub steady : (l : Live) → Steady l l
 steady l = record { on = stays l; child = refl; enqueues = refl }
 
+-- it goes on from a stage to another
+pub onward_at : (l : Live) (awaited : ℕ) (from stage : Stage) → l.stage ≡ from → row_at stage ≡ row_at from → asks_at stage ≡ asks_at from
+    → settled_at stage l.cowns.items ≡ settled_at from l.cowns.items → flagged_at stage l.cowns.items ≡ flagged_at from l.cowns.items
+    → exchanged_at stage l.cowns.items ≡ exchanged_at from l.cowns.items → Onward l (record l { awaited = awaited; stage = stage })
+onward_at l awaited from stage is row asks settles flags exchanges = record {
+  number = refl;
+  parent = refl;
+  behaviour = refl;
+  spawned = refl;
+  cowns = refl;
+  row = row ∙ sym (ap row_at is);
+  asks = asks ∙ sym (ap asks_at is);
+  settles = settles ∙ sym (ap (λ z. settled_at z l.cowns.items) is);
+  flags = flags ∙ sym (ap (λ z. flagged_at z l.cowns.items) is);
+  exchanges = exchanges ∙ sym (ap (λ z. exchanged_at z l.cowns.items) is);
+}
+
 -- at each place of the one table is one that is so related to that at this place of the other
 pub record Follows (R : Live → Live → Type 0) (live live' : List (Option Live)) : Type 0 where
   pub before : (s : ℕ) (x : Live) → live_at live' s ≡ Some x → (y : Live) × (live_at live s ≡ Some y) × R y x
   pub after : (s : ℕ) (y : Live) → live_at live s ≡ Some y → (x : Live) × (live_at live' s ≡ Some x) × R y x
+
+-- a request stays that of its behaviour, where the same are settled and flagged
+pub request_by : (R : Live → Live → Type 0) → ((l m : Live) → R l m → settled_at m.stage m.cowns.items ≡ settled_at l.stage l.cowns.items)
+    → ((l m : Live) → R l m → flagged_at m.stage m.cowns.items ≡ flagged_at l.stage l.cowns.items) → (live live' : List (Option Live)) → Follows R live live'
+    → (c : ℕ) (r : Request) → IsRequestOf live c r → IsRequestOf live' c r
+request_by R settles flags live live' fs c r q =
+    let x = fs.after r.slot q.this q.is in
+    record {
+      this = x.0;
+      is = x.1;
+      settled_is = q.settled_is ∙ ap (λ cs. nat_lt 0 (times c cs)) (sym (settles q.this x.0 x.2));
+      flagged_is = q.flagged_is ∙ ap (λ cs. nat_lt 0 (times c cs)) (sym (flags q.this x.0 x.2));
+    }
 
 -- one is put in place of another that it follows
 pub follows_set : (R : Live → Live → Type 0) → ((l : Live) → R l l) → (live : List (Option Live)) (slot : ℕ) (l m : Live) → live_at live slot ≡ Some l → R l m
@@ -127,15 +158,7 @@ module _ (live live' : List (Option Live)) (fs : Follows Onward live live') wher
 
   pub chained_on : (lists : List (List Request)) (place : ℕ → Option Place) → AreChained live lists place → AreChained live' lists place
   chained_on lists place k = record {
-    requests = λ c i r e.
-        let q = k.requests c i r e in
-        let x = fs.after r.slot q.this q.is in
-        record {
-          this = x.0;
-          is = x.1;
-          settled_is = q.settled_is ∙ ap (λ cs. nat_lt 0 (times c cs)) (sym x.2.settles);
-          flagged_is = q.flagged_is ∙ ap (λ cs. nat_lt 0 (times c cs)) (sym x.2.flags);
-        };
+    requests = λ c i r e. request_by Onward (λ l m x. x.settles) (λ l m x. x.flags) live live' fs c r (k.requests c i r e);
     places = λ s. k.places s ∙ sym (read_on (λ o. option_map place_of o) live live' fs (λ l m r. λ i. Some (record { cowns = r.cowns i; exchanged = r.exchanges i })) s);
   }
 
@@ -163,27 +186,32 @@ module _ (live live' : List (Option Live)) (fs : Follows Onward live live') wher
         };
   }
 
-pub in_hand_on : (live live' : List (Option Live)) → Follows Steady live live' → AreInHand live → AreInHand live'
-in_hand_on live live' fs k = record {
+-- where the child in hand, the row, the parent and an open enqueue are as before
+pub in_hand_by : (R : Live → Live → Type 0) → ((l m : Live) → R l m → m.child ≡ l.child) → ((l m : Live) → R l m → row_at m.stage ≡ row_at l.stage) → ((l m : Live) → R l m → m.parent ≡ l.parent)
+    → ((l m : Live) → R l m → enqueues_at m.stage ≡ enqueues_at l.stage) → (live live' : List (Option Live)) → Follows R live live' → AreInHand live → AreInHand live'
+in_hand_by R child row parent enqueues live live' fs k = record {
   children = λ home slot l a e.
       let x = fs.before home l a in
-      let q = k.children home slot x.0 x.1 (sym x.2.child ∙ e) in
+      let q = k.children home slot x.0 x.1 (sym (child x.0 l x.2) ∙ e) in
       let y = fs.after slot q.child q.is in
       record {
         child = y.0;
         is = y.1;
-        enqueued = y.2.enqueues ∙ q.enqueued;
-        parent_is = x.2.on.row ∙ q.parent_is ∙ ap (λ z. Some z) (sym y.2.on.parent);
+        enqueued = enqueues q.child y.0 y.2 ∙ q.enqueued;
+        parent_is = row x.0 l x.2 ∙ q.parent_is ∙ ap (λ z. Some z) (sym (parent q.child y.0 y.2));
       };
   parents = λ slot l a e.
       let x = fs.before slot l a in
-      let q = k.parents slot x.0 x.1 (sym x.2.enqueues ∙ e) in
+      let q = k.parents slot x.0 x.1 (sym (enqueues x.0 l x.2) ∙ e) in
       let y = fs.after q.home q.parent q.is in
       record {
         home = q.home;
         parent = y.0;
         is = y.1;
-        row_is = y.2.on.row ∙ q.row_is ∙ ap (λ z. Some z) (sym x.2.on.parent);
-        knows = y.2.child ∙ q.knows;
+        row_is = row q.parent y.0 y.2 ∙ q.row_is ∙ ap (λ z. Some z) (sym (parent x.0 l x.2));
+        knows = child q.parent y.0 y.2 ∙ q.knows;
       };
 }
+
+pub in_hand_on : (live live' : List (Option Live)) → Follows Steady live live' → AreInHand live → AreInHand live'
+in_hand_on live live' fs k = in_hand_by Steady (λ l m r. r.child) (λ l m r. r.on.row) (λ l m r. r.on.parent) (λ l m r. r.enqueues) live live' fs k

@@ -1,5 +1,5 @@
 -- What a worker has in hand after its own turn fits the dispatcher.
-use Rattle.std.proofs.Common.{◌≡◌, ◌≢◌, ℕ, suc, ◌+◌, inl, inr, true, false, cond, List, [], ◌∷◌, ◌++◌, length, refl, sym, ◌∙◌, ap, subst, arith}
+use Rattle.std.proofs.Common.{◌≡◌, ◌≢◌, ℕ, suc, ◌+◌, inl, inr, true, false, cond, List, [], ◌∷◌, ◌++◌, length, refl, sym, ◌∙◌, ap, subst, arith, rules}
 use Rattle.std.specs.Prelude.{nat_lt, slice_get, Option, Some, None, Ok, Err}
 use Rattle.std.specs.Option.{option_map}
 use Rattle.boc_types.specs.declared.program.Program.{Program}
@@ -113,6 +113,10 @@ record HasAsked (p : Program) (t : State) (who row : ℕ) (m : Member) : Type 0 
   came : m.spawned + 1 ≡ member.spawned + cond (asks (at t who)) 1 0
   enqueue : IsEnqueueOf t who row
 
+-- one step more changes nothing of it
+asked_stepped : (p : Program) (t : State) (who row : ℕ) (m : Member) → HasAsked p t who row m → HasAsked p (stepped t) who row m
+asked_stepped p t who row m a = search rules
+
 flagging_enqueues : (row request : ℕ) (cowns : List ℕ) → enqueues_at (Recorded row (flagging cowns request)) ≡ true
 flagging_enqueues row request cowns =
     by_test (λ phase. enqueues_at (Recorded row phase) ≡ true) (nat_lt request (length cowns)) (Flagging request) Owning (λ h. refl) (λ h. refl)
@@ -184,15 +188,7 @@ module _ (u : Underway) (f : Framed) (who row : ℕ) where
       (ap (next_wish u.program) (sym h.may.handed.is) ∙ m.may.next) in
       asked_fits t h.may.handed (n.next ∙ ap (λ (z : Member). z.spawned + 1) same)
       (subst (λ (z : State). HasAsked u.program z who row x) (sym m.gives) (subst (λ z. HasAsked u.program (stepped (asking_on u.program (with_new s b) (opened s) b 0)) z row x) (sym number)
-      (record {
-        member = a.member;
-        is = a.is;
-        life_same = a.life_same;
-        behaviour_same = a.behaviour_same;
-        inputs_same = a.inputs_same;
-        came = a.came;
-        enqueue = record { is_open = a.enqueue.is_open; parent = a.enqueue.parent };
-      })))
+      (asked_stepped u.program (asking_on u.program (with_new s b) (opened s) b 0) (opened s) row x a)))
 
   -- the same members, and the enqueue at another stage, at which it asks as before
   staged_fits : (t : State) (b : OpenBehaviour) (stage : Stage) → IsEnqueuing u f who row → at u.state who ≡ Some b → t.log ≡ u.state.log
@@ -224,15 +220,7 @@ module _ (u : Underway) (f : Framed) (who row : ℕ) where
       let next : next_wish u.program (Some x) ≡ Some wished.wish = ap (next_wish u.program) (sym h.handed.is ∙ ap (slice_get (members u.program s)) (sym h.enqueue.parent)) ∙ wished.next in
       let a = has_asked u.program s who row b (suc i) x wished.wish m.due.is (sym (ap parent_of m.due.is) ∙ h.enqueue.parent) h.handed.is next in
       asked_fits t h.handed (h.came ∙ ap (λ z. x.spawned + cond z 1 0) asking)
-      (subst (λ (z : State). HasAsked u.program z who row x) (sym m.gives) (record {
-        member = a.member;
-        is = a.is;
-        life_same = a.life_same;
-        behaviour_same = a.behaviour_same;
-        inputs_same = a.inputs_same;
-        came = a.came;
-        enqueue = record { is_open = a.enqueue.is_open; parent = a.enqueue.parent };
-      }))
+      (subst (λ (z : State). HasAsked u.program z who row x) (sym m.gives) (asked_stepped u.program (asking_on u.program s who b (suc i)) who row x a))
   advanced_fits (steps.Flag i) t sound other h m =
       let stage : Stage = Recorded m.row (flagging m.this.cowns (suc i)) in
       let b' : OpenBehaviour = record m.this { stage = stage } in

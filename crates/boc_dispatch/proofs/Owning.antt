@@ -24,7 +24,7 @@ use Rattle.boc_dispatch.specs.Grants.{with_granted, MayBeGranted, Tied, AreReady
 use Rattle.boc_dispatch.specs.Inside.{Parts, state, live_at, open_of, behaviours_of, exchanged_at, ungranted, awaits, is_taken, AreNumbered, AreInHand, IsChildOf, IsParentOf, IsKept, HasRooms, GoesOn}
 use Rattle.boc_dispatch.specs.Places.{in_phase, with_child}
 use Rattle.boc_dispatch.proofs.Counts.{waited_same}
-use Rattle.boc_dispatch.proofs.Onward.{Onward, Follows, follows_set, follows_then, stays}
+use Rattle.boc_dispatch.proofs.Onward.{Onward, onward_at, Follows, follows_set, follows_then, stays}
 use Rattle.boc_dispatch.proofs.Tables.{live_there, live_here, live_other, live_new, at_slot, numbered_changed, taken_changed, read_place}
 use Rattle.boc_dispatch.proofs.Standing.{ready_fits}
 use Rattle.boc_dispatch.proofs.Granting.{tied_of, tied_on, ready_put, put_live, state_put, state_same, CountedBut, awaits_same, Grants, grants, with_behaviours, granted_stays, granted_length, stepped_on, tied_stepped, kept_of, rooms_stay}
@@ -103,18 +103,7 @@ module _ (d : Parts) (parent slot row : ℕ) (holder l : Live) (o : Owning d par
   freed_on = record { number = refl; parent = refl; behaviour = refl; spawned = refl; cowns = refl; row = refl; asks = refl; settles = refl; flags = refl; exchanges = refl }
 
   waiting_on : Onward l waiting
-  waiting_on = record {
-    number = refl;
-    parent = refl;
-    behaviour = refl;
-    spawned = refl;
-    cowns = refl;
-    row = sym (ap row_at o.stage_is);
-    asks = sym (ap asks_at o.stage_is);
-    settles = sym (ap (λ z. settled_at z l.cowns.items) o.stage_is);
-    flags = sym (ap (λ z. flagged_at z l.cowns.items) o.stage_is);
-    exchanges = sym (ap (λ z. exchanged_at z l.cowns.items) o.stage_is);
-  }
+  waiting_on = onward_at l l.awaited (Recorded row phases.Owning) (Recorded row phases.Waiting) o.stage_is refl refl refl refl refl
 
   on : Follows Onward d.live enqueued
   on = follows_then d.live alone enqueued (follows_set Onward stays d.live parent holder freed o.holder_is freed_on) (follows_set Onward stays alone slot l waiting still_there waiting_on)

@@ -1,5 +1,5 @@
 -- A drive that goes on until it is quiet.
-use Rattle.std.proofs.Common.{◌≡◌, ◌≢◌, ℕ, zero, suc, ◌+◌, ◌*◌, ◌-◌, ◌<◌, true, false, List, [], ◌∷◌, ◌++◌, length, take, refl, sym, ◌∙◌, ap, subst, arith, length-append}
+use Rattle.std.proofs.Common.{◌≡◌, ◌≢◌, ℕ, zero, suc, ◌+◌, ◌*◌, ◌-◌, ◌<◌, true, false, List, [], ◌∷◌, ◌++◌, length, take, get_or, refl, sym, ◌∙◌, ap, subst, arith, length-append}
 use Rattle.std.specs.Prelude.{slice_get, slice_set, Option, Some, None, Err, MatchOption}
 use Rattle.std.proofs.lemmas.List.{append-nil, append_assoc, take-append-le}
 use Rattle.std.proofs.lemmas.Option.{slice_get-map}
@@ -15,6 +15,7 @@ use Rattle.boc_types.specs.machine.Steps.{State, at, members}
 use Rattle.boc_types.specs.machine.Sound.{IsSound}
 use Rattle.boc_types.specs.machine.Turns.{TakesTurn, Turns, opening_driven}
 use Rattle.boc_types.specs.machine.Movers.{works, works_at, NobodyWorks}
+use Rattle.std.proofs.lemmas.Option.{slice_get_read}
 use Rattle.boc_types.proofs.ChangedItems.{place_below, item_at, front_item}
 use Rattle.boc_machine.proofs.Bounds.{few_steps}
 use Rattle.boc_machine.proofs.OneTurn.{enqueue_running, leaving_row, who_leaves}
@@ -211,6 +212,14 @@ abbrev pub FindsServer : List Worker → Mover → Option ℕ → Type 0
 FindsServer crew mover result =
     MatchOption result ((k : ℕ) (w : Worker) → slice_get crew k ≡ Some w → row_in w.hand ≢ row_for mover)
     (λ k. (w : Worker) × (slice_get crew k ≡ Some w) × (row_in w.hand ≡ row_for mover))
+
+-- as a call found it in the same crew
+pub finds_in : (crew ws : List Worker) (mover : Mover) (result : Option ℕ) → ws ≡ crew → FindsServer ws mover result → FindsServer crew mover result
+finds_in crew ws mover result same = subst (λ (xs : List Worker). FindsServer xs mover result) same
+
+-- the worker that is read there
+pub server_read : (crew : List Worker) (mover : Mover) (chosen : ℕ) (w : Worker) → FindsServer crew mover (Some chosen) → w ≡ get_or crew chosen w → slice_get crew chosen ≡ Some w
+server_read crew mover chosen w found reads = slice_get_read crew (length crew) chosen w refl (place_below crew chosen found.0 found.1) reads
 
 -- ---- each further turn is a step
 

@@ -384,8 +384,9 @@ module _ (d : Parts) (k : Tied d) (some : 0 < length (members d.program (state d
     ];
   }
 
-  ready_after : AreReady e.live d.ready
-  ready_after j s a =
+  -- who is ready is the parent, or neither of the two
+  who_is_ready : (j s : ℕ) (a : slice_get d.ready j ≡ Some s) → ((s ≡ parent) × ((k.ready_there j s a).0 ≡ p)) ⊎ ((s ≢ slot) × (s ≢ parent))
+  who_is_ready j s a =
       let q = k.ready_there j s a in
       elim (same_or_not s slot) [
         | inl f ↦
@@ -393,11 +394,17 @@ module _ (d : Parts) (k : Tied d) (some : 0 < length (members d.program (state d
             absurd (asks_no_row l.stage q.1 asks_here (ap (λ z. row_at z.stage) (sym this) ∙ ap row_at q.3))
         | inr u ↦
             elim (same_or_not s parent) [
-              | inl f ↦
-                  let this = p_only q.0 (ap (live_at d.live) (sym f) ∙ q.2) in
-                  (p', q.1, ap (live_at e.live) f ∙ e_parent, ap (λ z. z.stage) (sym this) ∙ q.3)
-              | inr v ↦ (q.0, q.1, e_other s u v ∙ q.2, q.3)
+              | inl f ↦ inl (f, p_only q.0 (ap (live_at d.live) (sym f) ∙ q.2))
+              | inr v ↦ inr (u, v)
             ]
+      ]
+
+  ready_after : AreReady e.live d.ready
+  ready_after j s a =
+      let q = k.ready_there j s a in
+      elim (who_is_ready j s a) [
+        | inl f ↦ (p', q.1, ap (live_at e.live) f.0 ∙ e_parent, ap (λ z. z.stage) (sym f.1) ∙ q.3)
+        | inr n ↦ (q.0, q.1, e_other s n.0 n.1 ∙ q.2, q.3)
       ]
 
   taken_after : count_by is_taken e.live ≡ count_by is_taken d.live
@@ -433,16 +440,9 @@ module _ (d : Parts) (k : Tied d) (some : 0 < length (members d.program (state d
 
   row_stays : (j s : ℕ) → slice_get d.ready j ≡ Some s → row_in (live_at e.live s) ≡ row_in (live_at d.live s)
   row_stays j s a =
-      let q = k.ready_there j s a in
-      elim (same_or_not s slot) [
-        | inl f ↦
-            let this = l_only q.0 (ap (live_at d.live) (sym f) ∙ q.2) in
-            absurd (asks_no_row l.stage q.1 asks_here (ap (λ z. row_at z.stage) (sym this) ∙ ap row_at q.3))
-        | inr u ↦
-            elim (same_or_not s parent) [
-              | inl f ↦ ap row_in (ap (live_at e.live) f ∙ e_parent) ∙ sym (ap row_in (ap (live_at d.live) f ∙ p_is))
-              | inr v ↦ ap row_in (e_other s u v)
-            ]
+      elim (who_is_ready j s a) [
+        | inl f ↦ ap row_in (ap (live_at e.live) f.0 ∙ e_parent) ∙ sym (ap row_in (ap (live_at d.live) f.0 ∙ p_is))
+        | inr n ↦ ap row_in (e_other s n.0 n.1)
       ]
 
   rows_after : rows_at e.live d.ready ≡ rows_at d.live d.ready

@@ -26,7 +26,7 @@ use Rattle.boc_dispatch.specs.declared.live.Live.{Live}
 use Rattle.boc_dispatch.specs.Grants.{IsRemoved, IsStarted, IsReleased, LeftAs, Tied, SameRows, Released}
 use Rattle.boc_dispatch.specs.Inside.{Parts, state, live_at, open_of, behaviours_of, number_at, place_of, exchanged_at, is_taken, AreCounted, IsKept, HasRooms}
 use Rattle.boc_dispatch.specs.Places.{Has, in_phase}
-use Rattle.boc_dispatch.proofs.Onward.{Steady}
+use Rattle.boc_dispatch.proofs.Onward.{Steady, onward_at}
 use Rattle.boc_dispatch.proofs.Tables.{live_there, live_here, at_slot, queue_at, behaviours_length, read_place}
 use Rattle.boc_dispatch.proofs.Fits.{steps_fit}
 use Rattle.boc_dispatch.proofs.Standing.{times_slots}
@@ -75,22 +75,13 @@ module _ (d : Parts) (slot row : ℕ) (l : Live) (request : ℕ) (e : Parts) (h 
   starts = started_stage l.stage row h.started h.row_is
 
   on : Steady l next
-  on = let s = starts in record {
-    on = record {
-      number = refl;
-      parent = refl;
-      behaviour = refl;
-      spawned = refl;
-      cowns = refl;
-      row = sym h.row_is;
-      asks = sym (ap asks_at s.stage_is);
-      settles = sym (ap (λ z. settled_at z l.cowns.items) s.stage_is);
-      flags = sym (ap (λ z. flagged_at z l.cowns.items) s.stage_is ∙ s.flags l.cowns.items);
-      exchanges = sym (ap (λ z. exchanged_at z l.cowns.items) s.stage_is);
-    };
-    child = refl;
-    enqueues = sym (ap enqueues_at s.stage_is ∙ s.enqueues);
-  }
+  on =
+      let s = starts in
+      record {
+        on = onward_at l l.awaited (Recorded row s.phase) (Recorded row (phases.Leaving request)) s.stage_is refl refl refl (sym (s.flags l.cowns.items)) refl;
+        child = refl;
+        enqueues = sym (ap enqueues_at s.stage_is ∙ s.enqueues);
+      }
 
   pub on_tied : Tied gone_on
   on_tied = tied_stepped (put_live e slot next) (tied_steady e slot l next h.tied h.here on (λ r g. absurd ((starts).not_ready r g)))
@@ -230,19 +221,21 @@ module _ (d : Parts) (slot row : ℕ) (l : Live) (request : ℕ) (e : Parts) (h 
 
 -- ---- what the calls leave in the table's places
 
-steps_leaving : (s : State) (who : ℕ) (b : OpenBehaviour) (row request : ℕ) → (leaving_on s who b row request).steps ≡ s.steps
-steps_leaving s who b row request = by_test (nat_lt request (length b.cowns))
+-- what is read of a state stays where a behaviour goes on with its release, if it does where it goes on and where it is gone
+pub leaving_same : {X : Type 0} (f : State → X) (s : State) (who : ℕ) (b : OpenBehaviour) (row request : ℕ) → f (with_stage s who b (Recorded row (phases.Leaving request))) ≡ f s
+    → f (with_behaviour s who None) ≡ f s → f (leaving_on s who b row request) ≡ f s
+leaving_same f s who b row request on gone = by_test (nat_lt request (length b.cowns))
   where
-    by_test : (t : Bool) → (cond t (with_stage s who b (Recorded row (phases.Leaving request))) (with_behaviour s who None)).steps ≡ s.steps
-    by_test true = refl
-    by_test false = refl
+    by_test : (t : Bool) → f (cond t (with_stage s who b (Recorded row (phases.Leaving request))) (with_behaviour s who None)) ≡ f s
+    by_test true = on
+    by_test false = gone
 
 module _ (e : Parts) (slot row request homes room : ℕ) (r : IsReleased slot row request e homes room) where
   pub step_fits : e.steps + 1 < 2 ^ 64
   step_fits =
       let h = r.released in
       let fits = steps_fit r.before.program (stepped (leaving_on (state e) r.this.number (open_of r.this) row (suc request))) h.sound in
-      let same = steps_leaving (state e) r.this.number (open_of r.this) row (suc request) in
+      let same = leaving_same (λ z. z.steps) (state e) r.this.number (open_of r.this) row (suc request) refl refl in
       omega (arith, fits, same)
 
   module _ (p p' : Option Live) (reads : p ≡ get_or e.live slot p) (released : p' ≡ option_map (in_phase row (phases.Leaving (suc request))) p) where

@@ -55,6 +55,13 @@ module _ (d : Parts) (slot : ℕ) (l : Live) (e : Parts) (f : IsFree d slot l) (
   quiet : enqueues_at l.stage ≡ true → ⊥
   quiet h = let g : false ≡ true = sym f.over ∙ ap (λ b. b || waits_at l.stage) h in cc
 
+  -- no ready slot is its own
+  unready : (i s : ℕ) → slice_get d.ready i ≡ Some s → s ≢ slot
+  unready i s h g =
+      let q = f.tied.ready_there i s h in
+      let same : q.0 ≡ l = (let j : Some q.0 ≡ Some l = sym q.2 ∙ ap (live_at d.live) g ∙ f.is in cc) in
+      f.not_ready q.1 (ap (λ z. z.stage) (sym same) ∙ q.3)
+
   tied_gone : Tied gone
   tied_gone =
       let k = f.tied in
@@ -96,12 +103,6 @@ module _ (d : Parts) (slot : ℕ) (l : Live) (e : Parts) (f : IsFree d slot l) (
             (q.0, q.1, stays s (Some q.0) (unready i s h) q.2, q.3);
         left = let t = taken_removed d.live d.opened slot l k.numbered f.is in let h = k.left in omega arith;
       }
-    where
-      unready : (i s : ℕ) → slice_get d.ready i ≡ Some s → s ≢ slot
-      unready i s h g =
-          let q = f.tied.ready_there i s h in
-          let same : q.0 ≡ l = (let j : Some q.0 ≡ Some l = sym q.2 ∙ ap (live_at d.live) g ∙ f.is in cc) in
-          f.not_ready q.1 (ap (λ z. z.stage) (sym same) ∙ q.3)
 
   pub tied_removed : Tied e
   tied_removed = subst Tied (sym r.parts_are) tied_gone
@@ -116,12 +117,6 @@ module _ (d : Parts) (slot : ℕ) (l : Live) (e : Parts) (f : IsFree d slot l) (
         ready = rows_same d.live live' d.ready (λ j s h. live_other d.live slot None s (unready j s h)) i;
         steps = d.steps;
       })
-    where
-      unready : (i s : ℕ) → slice_get d.ready i ≡ Some s → s ≢ slot
-      unready i s h g =
-          let q = f.tied.ready_there i s h in
-          let same : q.0 ≡ l = (let j : Some q.0 ≡ Some l = sym q.2 ∙ ap (live_at d.live) g ∙ f.is in cc) in
-          f.not_ready q.1 (ap (λ z. z.stage) (sym same) ∙ q.3)
 
   pub counted_removed : AreCounted (state d) d.live → AreCounted (state e) e.live
   counted_removed counted =

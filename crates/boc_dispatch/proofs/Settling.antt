@@ -1,5 +1,5 @@
 -- What is kept where a request is settled: its behaviour asks on, or its spawn is recorded.
-use Rattle.std.proofs.Common.{◌≡◌, ◌≢◌, ℕ, zero, suc, ◌+◌, ◌-◌, ◌<◌, ◌≤◌, ◌⊎◌, inl, inr, Bool, true, false, cond, ◌||◌, eqb, ltb, List, [], ◌∷◌, ◌++◌, length, set, take, refl, sym, ◌∙◌, ap, subst, arith}
+use Rattle.std.proofs.Common.{◌≡◌, ◌≢◌, ℕ, zero, suc, ◌+◌, ◌-◌, ◌<◌, ◌≤◌, ◌⊎◌, inl, inr, Bool, true, false, cond, ◌||◌, eqb, ltb, List, [], ◌∷◌, ◌++◌, length, set, take, refl, sym, ◌∙◌, ap, subst, arith, rules}
 use Rattle.std.specs.Prelude.{nat_lt, slice_index_or, Option, Some, None}
 use Rattle.std.proofs.lemmas.Bool.{lt-ltb, le-ltb, eqb-true, eqb-false}
 use Rattle.std.proofs.lemmas.List.{set-get_or}
@@ -78,17 +78,21 @@ module _ (d : Parts) (k : IsKept d) (slot : ℕ) (l : Live) (request : ℕ) (it 
       state_on d k slot l it.is asking awaited lists place (ap ready_row_at it.stage_is) s.queues
       (settled_queues d k slot l request it awaited out.free lists place lists_are places_are)
 
+  -- it settles this request, whatever state that gives
+  settles_so : (t : State) → t ≡ stepped (steps.asking_on d.program s l.number (open_of l) (suc request)) → Settles d.program s l.number request t
+  settles_so t gives = record {
+    this = open_of l;
+    c = slice_index_or cs request 0;
+    due = due d k slot l request it;
+    free = free_before d k slot l request it out.free;
+    gives = gives;
+  }
+
   -- ---- it wasn't the last
 
   module _ (more : suc request < length cs) where
     pub settles_on : Settles d.program s l.number request (state mid)
-    settles_on = record {
-      this = open_of l;
-      c = slice_index_or cs request 0;
-      due = due d k slot l request it;
-      free = free_before d k slot l request it out.free;
-      gives = mid_state ∙ ap (λ b. stepped (cond b (with_stage s l.number (open_of l) asking) (steps.with_spawn d.program s l.number (open_of l)))) (sym (lt-ltb (suc request) (length cs) more));
-    }
+    settles_on = settles_so (state mid) (mid_state ∙ ap (λ b. stepped (cond b (with_stage s l.number (open_of l) asking) (steps.with_spawn d.program s l.number (open_of l)))) (sym (lt-ltb (suc request) (length cs) more)))
 
     pub settled_on_kept : IsKept mid
     settled_on_kept =
@@ -159,13 +163,7 @@ module _ (d : Parts) (k : IsKept d) (slot : ℕ) (l : Live) (request : ℕ) (it 
         })
 
     pub settles_last : Settles d.program s l.number request (state end)
-    settles_last = record {
-      this = open_of l;
-      c = slice_index_or cs request 0;
-      due = due d k slot l request it;
-      free = free_before d k slot l request it out.free;
-      gives = end_state ∙ ap (λ b. stepped (cond b (with_stage s l.number (open_of l) asking) (steps.with_spawn d.program s l.number (open_of l)))) (sym (le-ltb (suc request) (length cs) (omega (arith, last))));
-    }
+    settles_last = settles_so (state end) (end_state ∙ ap (λ b. stepped (cond b (with_stage s l.number (open_of l) asking) (steps.with_spawn d.program s l.number (open_of l)))) (sym (le-ltb (suc request) (length cs) (omega (arith, last)))))
 
     sound_end : IsSound d.program (state end)
     sound_end = keeps_settles d.program s l.number request (state end) k.sound settles_last
@@ -219,18 +217,7 @@ module _ (d : Parts) (k : IsKept d) (slot : ℕ) (l : Live) (request : ℕ) (it 
     pub may_settle_so : (homes ready : ℕ) → HasRooms d homes ready → MayRecord (changed_parts d lists place slot new) homes parent slot
     may_settle_so homes ready h =
         let m = may_settle d k slot l request it granted out lists place lists_are places_are last parent held homes ready h in
-        subst (λ (o : Option Live). MayRecord (changed_parts d lists place slot o) homes parent slot) new_is (record {
-          recorder = m.recorder;
-          this = m.this;
-          recorder_is = m.recorder_is;
-          this_is = m.this_is;
-          apart = m.apart;
-          few = m.few;
-          row_fits = m.row_fits;
-          allowed = m.allowed;
-          room = m.room;
-          home = m.home;
-        })
+        subst (λ (o : Option Live). MayRecord (changed_parts d lists place slot o) homes parent slot) new_is (search rules)
 
     pub last_parts : (e : Parts) → Records (counted (changed_parts d lists place slot new)) parent slot e → e ≡ end d k slot l request it granted out lists place lists_are places_are last parent held
     last_parts e h =

@@ -1,5 +1,5 @@
 -- The first of the ready list starts: the state that follows, and what is kept.
-use Rattle.std.proofs.Common.{◌≡◌, ◌≢◌, ℕ, zero, suc, ◌+◌, ◌<◌, ◌≤◌, ◌⊎◌, inl, inr, Bool, true, false, ◌||◌, List, [], ◌∷◌, ◌++◌, length, map, set, refl, sym, ◌∙◌, ap, subst, arith, length-set}
+use Rattle.std.proofs.Common.{◌≡◌, ◌≢◌, ℕ, zero, suc, ◌+◌, ◌<◌, ◌≤◌, ◌⊎◌, inl, inr, Bool, true, false, ◌||◌, List, [], ◌∷◌, ◌++◌, length, map, set, get_or, refl, sym, ◌∙◌, ap, subst, arith, length-set}
 use Rattle.std.specs.Prelude.{slice_get, slice_set, slice_index_or, nat_lt, ℤ, Option, Some, None}
 use Rattle.std.specs.Option.{option_map, option_map_or}
 use Rattle.std.specs.List.{count_by}
@@ -24,12 +24,12 @@ use Rattle.boc_chain.specs.declared.request.Request.{Request}
 use Rattle.boc_chain.specs.Chain.{Place}
 use Rattle.boc_rules.specs.Log.{Log, grown}
 use Rattle.boc_dispatch.specs.declared.live.Live.{Live}
-use Rattle.boc_dispatch.specs.Places.{begun}
+use Rattle.boc_dispatch.specs.Places.{Has, begun}
 use Rattle.boc_dispatch.specs.Inside.{Parts, state, live_at, open_of, behaviour_of, place_of, exchanged_at, number_at, queues_of, rows_at, row_or_0, IsKept, HasRooms, IsOfRow, AreInHand, AreChained, AreCounted, AreOfRun, IsMember, IsWished, awaits}
-use Rattle.boc_dispatch.proofs.Tables.{live_there, live_here, live_other, live_new, at_slot, behaviours_length, numbered_changed, behaviours_changed, number_changed, taken_changed}
+use Rattle.boc_dispatch.proofs.Tables.{read_place, live_there, live_here, live_other, live_new, at_slot, behaviours_length, numbered_changed, behaviours_changed, number_changed, taken_changed}
 use Rattle.boc_dispatch.proofs.Standing.{open_is, ready_distinct}
 use Rattle.boc_dispatch.proofs.Going.{awaits_same, granted_same}
-use Rattle.boc_dispatch.proofs.Onward.{Follows, follows_set}
+use Rattle.boc_dispatch.proofs.Onward.{Follows, follows_set, in_hand_by, request_by}
 use Rattle.boc_dispatch.proofs.Fits.{allowed_last}
 use Rattle.boc_dispatch.proofs.Homes.{IsRowAt, row_at_slot}
 
@@ -48,29 +48,7 @@ like_self : (x : Live) → Like x x
 like_self x = record { number = refl; parent = refl; child = refl; row = refl; enqueues = refl; settles = refl; flags = refl; place = refl }
 
 in_hand_like : (live live' : List (Option Live)) → Follows Like live live' → AreInHand live → AreInHand live'
-in_hand_like live live' fs k = record {
-  children = λ home slot l a e.
-      let x = fs.before home l a in
-      let q = k.children home slot x.0 x.1 (sym x.2.child ∙ e) in
-      let y = fs.after slot q.child q.is in
-      record {
-        child = y.0;
-        is = y.1;
-        enqueued = y.2.enqueues ∙ q.enqueued;
-        parent_is = x.2.row ∙ q.parent_is ∙ ap (λ z. Some z) (sym y.2.parent);
-      };
-  parents = λ slot l a e.
-      let x = fs.before slot l a in
-      let q = k.parents slot x.0 x.1 (sym x.2.enqueues ∙ e) in
-      let y = fs.after q.home q.parent q.is in
-      record {
-        home = q.home;
-        parent = y.0;
-        is = y.1;
-        row_is = y.2.row ∙ q.row_is ∙ ap (λ z. Some z) (sym x.2.parent);
-        knows = y.2.child ∙ q.knows;
-      };
-}
+in_hand_like live live' fs k = in_hand_by Like (λ l m r. r.child) (λ l m r. r.row) (λ l m r. r.parent) (λ l m r. r.enqueues) live live' fs k
 
 -- who asks has an open enqueue
 enqueues_if_asks : (stage : Stage) → asks_at stage ≡ true → enqueues_at stage ≡ true
@@ -90,6 +68,27 @@ read_stands (x ∷ xs) (suc i) s e =
       | inl h ↦ subst (λ (n : ℕ). 0 < times n (x ∷ xs)) h (let one = times-here x xs in omega arith)
       | inr n ↦ (let same = times-other s x xs n in omega arith)
     ]
+
+-- the first of the ready list, as a call read it
+pub record FirstReady (d : Parts) (slot row : ℕ) (p : Option Live) : Type 0 where
+  pub this : Live
+  pub is : live_at d.live slot ≡ Some this
+  pub stage_is : this.stage ≡ Recorded row phases.Ready
+  pub read : p ≡ Some this
+
+pub first_ready : (d : Parts) → IsKept d → (slot : ℕ) (rest : List ℕ) → d.ready ≡ slot ∷ rest → (p : Option Live) → p ≡ get_or d.live slot p → (row : ℕ) × FirstReady d slot row p
+first_ready d k slot rest head p reads =
+    let first = k.ready_there 0 slot (ap (λ (xs : List ℕ). slice_get xs 0) head) in
+    (first.1, record { this = first.0; is = first.2; stage_is = first.3; read = read_place d.live slot first.0 p first.2 reads })
+
+-- under the row that the call told
+pub first_told : (d : Parts) → IsKept d → (slot : ℕ) (rest : List ℕ) → d.ready ≡ slot ∷ rest → (p : Option Live) → p ≡ get_or d.live slot p
+    → (row : ℕ) → Has p (λ l. row_at l.stage ≡ Some row) → FirstReady d slot row p
+first_told d k slot rest head p reads row told =
+    let f = first_ready d k slot rest head p reads in
+    let row_is : row_at f.1.this.stage ≡ Some row = subst (λ (o : Option Live). Has o (λ l. row_at l.stage ≡ Some row)) f.1.read told in
+    let same : f.0 ≡ row = (let e : Some f.0 ≡ Some row = sym (ap row_at f.1.stage_is) ∙ row_is in cc) in
+    subst (λ (r : ℕ). FirstReady d slot r p) same f.1
 
 -- what a dispatcher has in hand once the first of its ready list started
 abbrev pub started_parts : Parts → ℕ → Option Live → List ℕ → Log → Parts
@@ -273,15 +272,7 @@ module _ (d : Parts) (k : IsKept d) (slot : ℕ) (rest : List ℕ) (head : d.rea
     at_home = λ s r x a b. (let y = follows.before s x a in k.at_home s r y.0 y.1 (sym y.2.row ∙ b));
     in_hand = in_hand_like d.live table follows k.in_hand;
     chained = record {
-      requests = λ c j r a.
-          (let q = k.chained.requests c j r a in
-          let y = follows.after r.slot q.this q.is in
-          record {
-            this = y.0;
-            is = y.1;
-            settled_is = q.settled_is ∙ ap (λ cs. nat_lt 0 (times c cs)) (sym y.2.settles);
-            flagged_is = q.flagged_is ∙ ap (λ cs. nat_lt 0 (times c cs)) (sym y.2.flags);
-          });
+      requests = λ c j r a. request_by Like (λ x y h. h.settles) (λ x y h. h.flags) d.live table follows c r (k.chained.requests c j r a);
       places = λ s. k.chained.places s ∙ sym (places_then s);
     };
     of_run = record { recorded = recorded_then; asking = asking_then };

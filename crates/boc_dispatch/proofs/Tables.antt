@@ -176,6 +176,10 @@ read_place [] slot l place is e = absurd (let f : None ≡ Some l = is in cc)
 read_place (p ∷ live) zero l place is e = e ∙ is
 read_place (p ∷ live) (suc slot) l place is e = read_place live slot l place is e
 
+-- whom it is matched as
+pub read_some : (live : List (Option Live)) (slot : ℕ) (l m : Live) (place : Option Live) → live_at live slot ≡ Some l → place ≡ get_or live slot place → place ≡ Some m → m ≡ l
+read_some live slot l m place is e was = let f : Some m ≡ Some l = sym was ∙ read_place live slot l place is e in cc
+
 -- and what it holds once it is changed
 pub read_changed : (change : Live → Live) (live : List (Option Live)) (slot : ℕ) (l : Live) (place new : Option Live) → live_at live slot ≡ Some l
     → place ≡ get_or live slot place → new ≡ option_map change place → Some (change l) ≡ new

@@ -12,6 +12,7 @@ use Rattle.boc_types.specs.machine.Stages.{OpenBehaviour, ready_row}
 use Rattle.boc_types.specs.machine.Steps.{State, at, Makes, Advances, Leaves, IsQuiet}
 use Rattle.boc_types.specs.machine.Turns.{TakesTurn, Begins as BeginsTurn, Advanced as AdvancedTurn, WaitsToSettle, Opened, Finished, Left as LeftTurn, WaitsToLeave, unless_gone}
 use Rattle.boc_eval.specs.Frames.{UnderWay as Framed, Ran}
+use Rattle.boc_machine.proofs.OneTurn.{advance_makes, leave_makes}
 use Rattle.boc_dispatch.specs.declared.answers.Advanced.TheVariants as advanced
 use Rattle.boc_dispatch.specs.declared.answers.Child.{Child}
 use Rattle.boc_dispatch.specs.declared.answers.Job.{Job}
@@ -38,29 +39,6 @@ pub opens : (u v : Underway) (row : ℕ) (f : Framed) (child : Child) → OpensW
 opens u v row f child o =
     made u v (hands.Framed row f dues.Wishing) (hands.Framed row f (dues.Enqueuing child)) steps.Open o.3 o.5
     (subst (λ (r : ℕ). TakesTurn u.program u.state (Some row) o.3 (Some r)) (sym o.2) (Opened row o.3 o.4)) (row, o.4)
-
--- what advances makes that step
-advance_makes : (p : Program) (s : State) (who : ℕ) (step : Step) (t : State) → Advances p s who step t → Makes p s step t
-advance_makes p s who (steps.Swap request) t a = (who, a)
-advance_makes p s who (steps.Settle request) t a = (who, a)
-advance_makes p s who (steps.Flag request) t a = (who, a)
-advance_makes p s who steps.Own t a = (who, a)
-advance_makes p s who steps.Open t a = absurd a
-advance_makes p s who steps.Start t a = absurd a
-advance_makes p s who steps.Finish t a = absurd a
-advance_makes p s who (steps.Unhook request) t a = absurd a
-advance_makes p s who (steps.Pass request) t a = absurd a
-
-leave_makes : (p : Program) (s : State) (who row : ℕ) (step : Step) (t : State) → Leaves s who row step t → Makes p s step t
-leave_makes p s who row (steps.Unhook request) t a = (who, row, a)
-leave_makes p s who row (steps.Pass request) t a = (who, row, a)
-leave_makes p s who row (steps.Swap request) t a = absurd a
-leave_makes p s who row (steps.Settle request) t a = absurd a
-leave_makes p s who row (steps.Flag request) t a = absurd a
-leave_makes p s who row steps.Own t a = absurd a
-leave_makes p s who row steps.Open t a = absurd a
-leave_makes p s who row steps.Start t a = absurd a
-leave_makes p s who row steps.Finish t a = absurd a
 
 pub advances : (u v : Underway) (row : ℕ) (f : Framed) (child : Child) (step : Step) → AdvancesChild u child (advanced.Moved step) v
     → Works u (hands.Framed row f (dues.Enqueuing child)) (turns.Moved step) v (hands.Framed row f (dues.Enqueuing child))

@@ -1,5 +1,5 @@
 -- Swap and Settle keep what every state keeps.
-use Rattle.std.proofs.Common.{◌≡◌, ◌≢◌, ℕ, zero, suc, ◌+◌, ◌<◌, ◌≤◌, Bool, true, false, cond, List, [], ◌∷◌, ◌++◌, length, take, refl, sym, ◌∙◌, ap, subst, arith, length-append, get_or-set_other, get_or-set_same, length-set}
+use Rattle.std.proofs.Common.{◌≡◌, ◌≢◌, ℕ, zero, suc, ◌+◌, ◌<◌, ◌≤◌, Bool, true, false, cond, List, [], ◌∷◌, ◌++◌, length, take, refl, sym, ◌∙◌, ap, subst, arith, rules, length-append, get_or-set_other, get_or-set_same, length-set}
 use Rattle.std.specs.Prelude.{slice_get, Option, Some, None}
 use Rattle.boc_types.specs.declared.program.Program.{Program}
 use Rattle.boc_types.specs.declared.event.Event.{Event}
@@ -21,8 +21,8 @@ use Rattle.boc_types.proofs.ChangedItems.{place_below, length-changed}
 use Rattle.boc_machine.proofs.Lists.{times-here, times-other, times-append}
 use Rattle.boc_machine.proofs.Lawful.{nobody, OthersStay, exchange, relabel, ordered_kept, ordered_recorded, waits_on, waits_exchange, standing_le}
 use Rattle.boc_machine.proofs.Rows.{config_more, run_more, after_spawn, may_spawn, with_one_more}
-use Rattle.boc_machine.proofs.Fitting.{fits_on, fits_recorded, with_child, asks_enqueues}
-use Rattle.boc_machine.proofs.Core.{Core, put_here, put_others, range_kept, once_kept, only_kept, opened_kept, asks_sum, unrecorded_kept, one_if}
+use Rattle.boc_machine.proofs.Fitting.{goes_on_at, fits_on, fits_recorded, with_child, asks_enqueues}
+use Rattle.boc_machine.proofs.Core.{Core, put_here, put_others, range_kept, once_kept, only_kept, opened_kept, asks_sum, core_on, one_if}
 
 -- ---- the first cowns of a list
 
@@ -100,46 +100,27 @@ module _ (p : Program) (s : State) (k : Core p s nobody) (who : ℕ) (b : OpenBe
       let elsewhere : (d : ℕ) → d ≢ c → queue t d ≡ queue s d =
       λ d n. get_or-set_other s.queues c d (queue s c ++ (who ∷ [])) [] n in
       let long : length t.queues ≡ length s.queues = length-set s.queues c (queue s c ++ (who ∷ [])) in
-      record {
-        run = k.run;
-        laws = exchange (at s) (at t) (queue s) (queue t) who c k.laws (record {
+      core_on p s nobody k who b (Some b') due.is t.queues nobody long asks_same ready_same (λ d h. h)
+      (exchange (at s) (at t) (queue s) (queue t) who c k.laws (record {
+        longer = longer;
+        here = ap (times c) stand' ∙ taken_here b.cowns i c due.cown ∙ ap (λ z. times c z + 1) (sym stand);
+        moves = record {
           other = other;
-          longer = longer;
           elsewhere = elsewhere;
-          here = ap (times c) stand' ∙ taken_here b.cowns i c due.cown ∙ ap (λ z. times c z + 1) (sym stand);
           there = λ d n. ap (times d) stand' ∙ taken_there b.cowns i c d due.cown n ∙ ap (times d) (sym stand);
           cowns = cowns;
           settled_same = ap settled is' ∙ sym set;
-          not_settled = ap (times c) set ∙ fresh_at b.cowns i c due.cown once;
           flagged_same = ap flagged is' ∙ sym (ap flagged due.is ∙ ap (λ z. flagged_at z b.cowns) due.stage_is);
-          no_row = no_row;
-          still_none = no_row';
-          holds_not = ap holds is';
-        });
-        waiting = waits_exchange (at s) (at t) (queue s) (queue t) who c nobody k.waiting other longer elsewhere
-            (ap waits is');
-        fits = fits_on p (members p s) (at s) (at t) who k.fits other (record {
-          row = no_row' ∙ sym no_row;
-          life_same = ap life is' ∙ sym (ap life due.is ∙ ap life_at due.stage_is);
-          cowns = cowns;
-          parent = ap parent_of is' ∙ sym (ap parent_of due.is);
-          offset = ap offset_of is' ∙ sym (ap offset_of due.is);
-          asks_less = λ h. ap asks due.is ∙ ap asks_at due.stage_is;
-          enqueues_less = λ h. ap enqueues due.is ∙ ap enqueues_at due.stage_is;
-        });
-        queues_are = long ∙ k.queues_are;
-        in_range = λ w d h. omega (arith, long, range_kept p s nobody k who b (Some b') due.is (λ e f. f) w d h);
-        ready_once = once_kept p s nobody k who b (Some b') due.is ready_same;
-        ready_only = only_kept p s nobody k who b (Some b') due.is ready_same;
-        some = k.some;
-        counted = omega (
-          arith,
-          k.counted,
-          opened_kept p s nobody k who b (Some b') due.is,
-          unrecorded_kept p s nobody k who b (Some b') due.is asks_same,
-        );
-        few = omega (arith, k.few, opened_kept p s nobody k who b (Some b') due.is);
-      }
+          row_same = no_row' ∙ sym no_row;
+        };
+        not_settled = ap (times c) set ∙ fresh_at b.cowns i c due.cown once;
+        no_row = no_row;
+        holds_not = ap holds is';
+      }))
+      (waits_exchange (at s) (at t) (queue s) (queue t) who c nobody k.waiting other longer elsewhere
+      (ap waits is'))
+      (fits_on p (members p s) (at s) (at t) who k.fits other (goes_on_at b (Asking i false) (Asking i true) (at s who)
+      (at t who) due.is due.stage_is is' refl refl (λ h. h) (λ h. h)))
 
 -- ---- settled, with more to ask for
 
@@ -166,25 +147,24 @@ pub record AsksOn (s : State) (who : ℕ) (b : OpenBehaviour) (n : ℕ) : Type 0
       → 0 < times d (take n b.cowns) → 0 < times d (flagged (at s x))
 
 -- what a stage says of one that asks
+asks_stage : (st : Stage) → asks_at st ≡ true → (i : ℕ) × (e : Bool) × (st ≡ Asking i e)
+asks_stage (Asking i e) h = (i, e, refl)
+asks_stage (Recorded r ph) h = absurd (let f : false ≡ true = h in cc)
+
 asks_row : (st : Stage) → asks_at st ≡ true → row_at st ≡ None
-asks_row (Asking i e) h = refl
-asks_row (Recorded r ph) h = absurd (let f : false ≡ true = h in cc)
+asks_row st h = ap row_at (asks_stage st h).2
 
 asks_life : (st : Stage) → asks_at st ≡ true → life_at st ≡ Pending
-asks_life (Asking i e) h = refl
-asks_life (Recorded r ph) h = absurd (let f : false ≡ true = h in cc)
+asks_life st h = ap life_at (asks_stage st h).2
 
 asks_enqueued : (st : Stage) → asks_at st ≡ true → enqueues_at st ≡ true
-asks_enqueued (Asking i e) h = refl
-asks_enqueued (Recorded r ph) h = absurd (let f : false ≡ true = h in cc)
+asks_enqueued st h = ap enqueues_at (asks_stage st h).2
 
 asks_ready : (st : Stage) → asks_at st ≡ true → ready_row_at st ≡ None
-asks_ready (Asking i e) h = refl
-asks_ready (Recorded r ph) h = absurd (let f : false ≡ true = h in cc)
+asks_ready st h = ap ready_row_at (asks_stage st h).2
 
 asks_flagged : (st : Stage) (cs : List ℕ) → asks_at st ≡ true → flagged_at st cs ≡ []
-asks_flagged (Asking i e) cs h = refl
-asks_flagged (Recorded r ph) cs h = absurd (let f : false ≡ true = h in cc)
+asks_flagged st cs h = ap (λ z. flagged_at z cs) (asks_stage st h).2
 
 module _ (p : Program) (s : State) (k : Core p s nobody) (who : ℕ) (b : OpenBehaviour) (n : ℕ)
     (a : AsksOn s who b n) where
@@ -203,39 +183,19 @@ module _ (p : Program) (s : State) (k : Core p s nobody) (who : ℕ) (b : OpenBe
       let cowns : cowns_of (at t who) ≡ cowns_of (at s who) = ap cowns_of is' ∙ sym (ap cowns_of a.is) in
       let asks_same : asks (Some b') ≡ asks (Some b) = sym a.asks_is in
       let ready_same : ready_row (Some b') ≡ ready_row (Some b) = sym (asks_ready b.stage a.asks_is) in
-      record {
-        run = k.run;
-        laws = relabel (at s) (at t) (queue s) who k.laws other
-            (λ d. ap (times d) (ap standing is' ∙ sym (ap standing a.is ∙ a.stands)))
-            cowns
-            (λ d ahead behind x e h. a.free d ahead behind x e
-            (subst (λ (cs : List ℕ). 0 < times d cs) (ap settled is') h))
-            (λ d h. absurd (let f = unflagged d in omega arith))
-            (ordered_kept (at s) (at t) (queue s) who k.laws other rows_same)
-            (λ d h. absurd (let f : false ≡ true = sym (ap holds is') ∙ h in cc));
-        waiting = waits_on (at s) (at t) (queue s) who nobody k.waiting other (ap waits is');
-        fits = fits_on p (members p s) (at s) (at t) who k.fits other (record {
-          row = rows_same;
-          life_same = ap life is' ∙ sym (ap life a.is ∙ asks_life b.stage a.asks_is);
-          cowns = cowns;
-          parent = ap parent_of is' ∙ sym (ap parent_of a.is);
-          offset = ap offset_of is' ∙ sym (ap offset_of a.is);
-          asks_less = λ h. ap asks a.is ∙ a.asks_is;
-          enqueues_less = λ h. ap enqueues a.is ∙ asks_enqueued b.stage a.asks_is;
-        });
-        queues_are = k.queues_are;
-        in_range = range_kept p s nobody k who b (Some b') a.is (λ e f. f);
-        ready_once = once_kept p s nobody k who b (Some b') a.is ready_same;
-        ready_only = only_kept p s nobody k who b (Some b') a.is ready_same;
-        some = k.some;
-        counted = omega (
-          arith,
-          k.counted,
-          opened_kept p s nobody k who b (Some b') a.is,
-          unrecorded_kept p s nobody k who b (Some b') a.is asks_same,
-        );
-        few = omega (arith, k.few, opened_kept p s nobody k who b (Some b') a.is);
-      }
+      core_on p s nobody k who b (Some b') a.is s.queues nobody refl asks_same ready_same (λ d h. h)
+      (relabel (at s) (at t) (queue s) who k.laws other
+      (λ d. ap (times d) (ap standing is' ∙ sym (ap standing a.is ∙ a.stands)))
+      cowns
+      (λ d ahead behind x e h. a.free d ahead behind x e
+      (subst (λ (cs : List ℕ). 0 < times d cs) (ap settled is') h))
+      (λ d h. absurd (let f = unflagged d in omega arith))
+      (ordered_kept (at s) (at t) (queue s) who k.laws other rows_same)
+      (λ d h. absurd (let f : false ≡ true = sym (ap holds is') ∙ h in cc)))
+      (waits_on (at s) (at t) (queue s) who nobody k.waiting other (ap waits is'))
+      (fits_on p (members p s) (at s) (at t) who k.fits other (goes_on_at b b.stage (Asking n false) (at s who)
+      (at t who) a.is refl is' (sym (asks_row b.stage a.asks_is)) (sym (asks_life b.stage a.asks_is)) (λ h. a.asks_is)
+      (λ h. asks_enqueued b.stage a.asks_is)))
 
 -- ---- the spawn is recorded
 
@@ -249,26 +209,10 @@ pub record IsEnqueuing (ph : Phase) : Type 0 where
   pub enqueued : (r : ℕ) → enqueues_at (Recorded r ph) ≡ true
 
 flags_enqueuing : (i : ℕ) → IsEnqueuing (Flagging i)
-flags_enqueuing i = record {
-  stand = λ r cs. refl;
-  life_is = λ r. refl;
-  holds_not = λ r. refl;
-  waits_not =
-      λ r. refl;
-  ready_not = λ r. refl;
-  enqueued = λ r. refl;
-}
+flags_enqueuing i = search rules
 
 owns_enqueuing : IsEnqueuing Owning
-owns_enqueuing = record {
-  stand = λ r cs. refl;
-  life_is = λ r. refl;
-  holds_not = λ r. refl;
-  waits_not =
-      λ r. refl;
-  ready_not = λ r. refl;
-  enqueued = λ r. refl;
-}
+owns_enqueuing = search rules
 
 either_enqueuing : (b : Bool) (i : ℕ) → IsEnqueuing (cond b (Flagging i) Owning)
 either_enqueuing true i = flags_enqueuing i

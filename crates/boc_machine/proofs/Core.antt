@@ -1,10 +1,11 @@
 -- What the steps keep, but for how many were made; and what of it stays where one behaviour goes on.
-use Rattle.std.proofs.Common.{◌≡◌, ℕ, ◌+◌, ◌<◌, ◌≤◌, Bool, cond, length, set, sym, ◌∙◌, ap, subst, arith, get_or-set_other, get_or-set_same, length-set}
+use Rattle.std.proofs.Common.{◌≡◌, ℕ, ◌+◌, ◌<◌, ◌≤◌, Bool, cond, List, length, set, refl, sym, ◌∙◌, ap, subst, arith, rules, get_or-set_other, get_or-set_same, length-set}
 use Rattle.std.specs.Prelude.{Option, Some, None}
 use Rattle.std.specs.List.{sum_by}
 use Rattle.std.proofs.lemmas.List.Sums.{sum_by-set}
 use Rattle.boc_types.specs.declared.limits.TheConstants.{MOST_ROWS}
 use Rattle.boc_types.specs.declared.program.Program.{Program}
+use Rattle.boc_types.specs.declared.event.Event.{Event}
 use Rattle.boc_types.specs.program.Programs.{cown_count}
 use Rattle.boc_types.specs.runs.Run.{IsRun}
 use Rattle.boc_types.specs.machine.Stages.{OpenBehaviour, cowns_of, ready_row, asks}
@@ -30,19 +31,7 @@ pub record Core (p : Program) (s : State) (but : ℕ → Type 0) : Type 0 where
   pub few : opened s ≤ MOST_ROWS
 
 pub core_of : (p : Program) (s : State) → IsSound p s → Core p s nobody
-core_of p s k = record {
-  run = k.run;
-  laws = laws_of (at s) (queue s) k.lawful;
-  waiting = waits_of (at s) (queue s) k.lawful;
-  fits = k.fits;
-  queues_are = k.queues_are;
-  in_range = k.in_range;
-  ready_once = k.ready_once;
-  ready_only = k.ready_only;
-  some = k.some;
-  counted = k.counted;
-  few = k.few;
-}
+core_of p s k = search (rules, laws_of (at s) (queue s) k.lawful, waits_of (at s) (queue s) k.lawful)
 
 -- each next request is there
 abbrev pub HasRequests : State → Type 0
@@ -54,53 +43,21 @@ HasSteps s = s.steps + 2 + sum_by owed s.behaviours
     ≡ sum_by (λ cowns. steps_of (length cowns)) (cowns_of_rows s.log) + sum_by made s.behaviours
 
 pub sound_of : (p : Program) (s : State) → Core p s nobody → HasRequests s → HasSteps s → IsSound p s
-sound_of p s k r n = record {
-  run = k.run;
-  lawful = lawful_of (at s) (queue s) k.laws k.waiting;
-  fits = k.fits;
-  requests = r;
-  queues_are = k.queues_are;
-  in_range = k.in_range;
-  ready_once = k.ready_once;
-  ready_only = k.ready_only;
-  some = k.some;
-  counted = k.counted;
-  few = k.few;
-  steps_are = n;
-}
+sound_of p s k r n = search (rules, lawful_of (at s) (queue s) k.laws k.waiting)
+
+-- after any number of steps, and where the law of who waits is known otherwise
+core_after : (p : Program) (s : State) (but other : ℕ → Type 0) (steps : ℕ) → Core p s but
+    → WaitsBut (at s) (queue s) other → Core p (record s { steps = steps }) other
+core_after p s but other steps k w = search rules
 
 -- one step more changes nothing of it
 pub core_stepped : (p : Program) (s : State) (but : ℕ → Type 0) → Core p s but → Core p (stepped s) but
-core_stepped p s but k = record {
-  run = k.run;
-  laws = k.laws;
-  waiting = k.waiting;
-  fits = k.fits;
-  queues_are = k.queues_are;
-  in_range = k.in_range;
-  ready_once = k.ready_once;
-  ready_only = k.ready_only;
-  some = k.some;
-  counted = k.counted;
-  few = k.few;
-}
+core_stepped p s but k = core_after p s but but (s.steps + 1) k k.waiting
 
 -- the law of who waits may be known otherwise
 pub core_with : (p : Program) (s : State) (but : ℕ → Type 0) → Core p s but → WaitsBut (at s) (queue s) nobody
     → Core p s nobody
-core_with p s but k w = record {
-  run = k.run;
-  laws = k.laws;
-  waiting = w;
-  fits = k.fits;
-  queues_are = k.queues_are;
-  in_range = k.in_range;
-  ready_once = k.ready_once;
-  ready_only = k.ready_only;
-  some = k.some;
-  counted = k.counted;
-  few = k.few;
-}
+core_with p s but k w = core_after p s but nobody s.steps k w
 
 -- ---- one behaviour put in place of another
 
@@ -170,3 +127,39 @@ module _ (p : Program) (s : State) (but : ℕ → Type 0) (k : Core p s but) (wh
   pub unrecorded_kept : asks b' ≡ asks (Some b) → unrecorded t ≡ unrecorded s
   unrecorded_kept same = let a = asks_sum in let e : one_if (asks b') ≡ one_if (asks (Some b)) = ap one_if same in
       omega arith
+
+  -- the state with it put there, and with this log, these lists and these ready rows
+  abbrev pub put : List Event → List (List ℕ) → List ℕ → State
+  put log queues ready = record t { log = log; queues = queues; ready = ready }
+
+  pub core_put : (log : List Event) (queues : List (List ℕ)) (ready : List ℕ) (now : ℕ → Type 0) → IsRun p log
+      → recorded p (put log queues ready) ≡ recorded p s → length queues ≡ length s.queues
+      → asks b' ≡ asks (Some b) → ((c : ℕ) → 0 < times c (cowns_of b') → 0 < times c b.cowns)
+      → Laws (at t) (queue (put log queues ready)) → WaitsBut (at t) (queue (put log queues ready)) now
+      → Fits p (members p (put log queues ready)) (at t)
+      → ((w row : ℕ) → ready_row (at t w) ≡ Some row → times row ready ≡ 1)
+      → ((row : ℕ) → 0 < times row ready → (w : ℕ) × (ready_row (at t w) ≡ Some row))
+      → Core p (put log queues ready) now
+  core_put log queues ready now run rows long asks_same less laws waiting fits once only = record {
+    run = run;
+    laws = laws;
+    waiting = waiting;
+    fits = fits;
+    queues_are = long ∙ k.queues_are;
+    in_range = λ w c h. omega (arith, long, range_kept less w c h);
+    ready_once = once;
+    ready_only = only;
+    some = omega (arith, k.some, rows);
+    counted = omega (arith, k.counted, rows, opened_kept, unrecorded_kept asks_same);
+    few = omega (arith, k.few, opened_kept);
+  }
+
+  -- with no event, and ready as before
+  pub core_on : (queues : List (List ℕ)) (now : ℕ → Type 0) → length queues ≡ length s.queues
+      → asks b' ≡ asks (Some b) → ready_row b' ≡ ready_row (Some b)
+      → ((c : ℕ) → 0 < times c (cowns_of b') → 0 < times c b.cowns)
+      → Laws (at t) (queue (put s.log queues s.ready)) → WaitsBut (at t) (queue (put s.log queues s.ready)) now
+      → Fits p (members p s) (at t) → Core p (put s.log queues s.ready) now
+  core_on queues now long asks_same ready_same less laws waiting fits =
+      core_put s.log queues s.ready now k.run refl long asks_same less laws waiting fits (once_kept ready_same)
+      (only_kept ready_same)

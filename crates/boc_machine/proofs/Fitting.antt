@@ -9,7 +9,7 @@ use Rattle.boc_types.specs.program.Rising.{rising}
 use Rattle.boc_types.specs.runs.Serial.{behaviour_of}
 use Rattle.boc_types.specs.runs.Lives.{Pending, Running, Ended, changed}
 use Rattle.boc_types.specs.runs.Run.{Member, waiting, next_wish, state_of}
-use Rattle.boc_types.specs.machine.Stages.{OpenBehaviour, row_at, asks_at, enqueues_at, row_of, cowns_of, life, asks, enqueues, parent_of, offset_of}
+use Rattle.boc_types.specs.machine.Stages.{OpenBehaviour, row_at, life_at, asks_at, enqueues_at, row_of, cowns_of, life, asks, enqueues, parent_of, offset_of}
 use Rattle.boc_types.specs.machine.Sound.{Fits, HasRow, AsksForWish}
 use Rattle.boc_types.proofs.ChangedItems.{place_below, last_item, front_item, length-changed}
 use Rattle.boc_machine.proofs.Lists.{same_or_not}
@@ -45,6 +45,20 @@ pub record GoesOn (b b' : Option OpenBehaviour) : Type 0 where
   pub offset : offset_of b' ≡ offset_of b
   pub asks_less : asks b' ≡ true → asks b ≡ true
   pub enqueues_less : enqueues b' ≡ true → enqueues b ≡ true
+
+-- one that goes on from a stage to another
+pub goes_on_at : (b : OpenBehaviour) (st st' : Stage) (o o' : Option OpenBehaviour) → o ≡ Some b → b.stage ≡ st
+    → o' ≡ Some (record b { stage = st' }) → row_at st' ≡ row_at st → life_at st' ≡ life_at st
+    → (asks_at st' ≡ true → asks_at st ≡ true) → (enqueues_at st' ≡ true → enqueues_at st ≡ true) → GoesOn o o'
+goes_on_at b st st' o o' is stage is' row life_same asks_less enqueues_less = record {
+  row = ap row_of is' ∙ row ∙ sym (ap row_of is ∙ ap row_at stage);
+  life_same = ap life is' ∙ life_same ∙ sym (ap life is ∙ ap life_at stage);
+  cowns = ap cowns_of is' ∙ sym (ap cowns_of is);
+  parent = ap parent_of is' ∙ sym (ap parent_of is);
+  offset = ap offset_of is' ∙ sym (ap offset_of is);
+  asks_less = λ h. ap asks is ∙ ap asks_at stage ∙ asks_less (sym (ap asks is') ∙ h);
+  enqueues_less = λ h. ap enqueues is ∙ ap enqueues_at stage ∙ enqueues_less (sym (ap enqueues is') ∙ h);
+}
 
 goes_on_same : (b : Option OpenBehaviour) → GoesOn b b
 goes_on_same b = record {

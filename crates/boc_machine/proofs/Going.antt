@@ -11,7 +11,7 @@ use Rattle.boc_types.specs.declared.stage.Phase.TheVariants.{Flagging, Owning, W
 use Rattle.boc_types.specs.declared.stage.Stage.{Stage}
 use Rattle.boc_types.specs.declared.stage.Stage.TheVariants.{Asking, Recorded}
 use Rattle.boc_types.specs.runs.Lives.{Pending, Running, Ended, changed}
-use Rattle.boc_types.specs.runs.Run.{Member, Config, config_of, opening, started_on, state_of, CanEnd, MayHappen}
+use Rattle.boc_types.specs.runs.Run.{Member, Config, config_of, config_after, opening, started_on, state_of, CanEnd, MayHappen}
 use Rattle.boc_types.specs.machine.Stages.{OpenBehaviour, standing, standing_at, settled, settled_at, flagged, flagged_at, row_of, row_at, ready_row, ready_row_at, holds, holds_at, cowns_of, life, life_at, asks, asks_at, enqueues, enqueues_at, waits, waits_at, parent_of, offset_of}
 use Rattle.boc_types.specs.machine.Queues.{times, is_first, all_granted}
 use Rattle.boc_types.specs.machine.Steps.{State, at, queue, members, values, noted, with_behaviour, with_stage, with_queue, with_ready, flagging, made_ready, HasNoEnqueue, IsDue}
@@ -20,10 +20,10 @@ use Rattle.boc_types.proofs.ChangedItems.{length-changed}
 use Rattle.boc_machine.proofs.Lists.{same_or_not, no_less, times-here, times-other, times-append}
 use Rattle.boc_machine.proofs.Lawful.{nobody, OthersStay, at_each, release, nowhere, relabel, ordered_kept, waits_on, waits_kept, waits_release, granted_first, times-take-le, regranted}
 use Rattle.boc_machine.proofs.Rows.{config_more, run_more}
-use Rattle.boc_machine.proofs.Fitting.{fits_on, fits_row, fits_gone}
+use Rattle.boc_machine.proofs.Fitting.{goes_on_at, fits_on, fits_row, fits_gone}
 use Rattle.boc_machine.proofs.Starts.{may_start, stands_for_all}
 use Rattle.boc_machine.proofs.Asking.{taken_more, among, flagging_enqueuing}
-use Rattle.boc_machine.proofs.Core.{Core, put_here, put_others, range_kept, once_kept, only_kept, opened_kept, unrecorded_kept}
+use Rattle.boc_machine.proofs.Core.{Core, put_here, put_others, once_kept, only_kept, core_put, core_on}
 
 -- ---- the ready list
 
@@ -75,47 +75,26 @@ module _ (p : Program) (s : State) (k : Core p s nobody) (who : ℕ) (b : OpenBe
       let cowns : cowns_of (at t who) ≡ cowns_of (at s who) = ap cowns_of is' ∙ sym (ap cowns_of is) in
       let asks_same : asks (Some b') ≡ asks (Some b) = sym (ap asks_at stage) in
       let ready_same : ready_row (Some b') ≡ ready_row (Some b) = m.ready_same ∙ sym (ap ready_row_at stage) in
-      record {
-        run = k.run;
-        laws = relabel (at s) (at t) (queue s) who k.laws other
-            (λ d. ap (times d) (ap standing is' ∙ m.stand
-            ∙ sym (ap standing is ∙ ap (λ z. standing_at z b.cowns) stage)))
-            cowns
-            (λ d ahead behind x f h. k.laws.linked d ahead behind x who f
-            (subst (λ (cs : List ℕ). 0 < times d cs)
-            (ap settled is' ∙ sym (ap settled is ∙ ap (λ z. settled_at z b.cowns) stage)) h))
-            (λ d h. omega (
-              arith,
-              m.flags d,
-              ap (times d) (ap flagged is ∙ ap (λ z. flagged_at z b.cowns) stage),
-              ap (times d) (ap flagged is'),
-            ))
-            (ordered_kept (at s) (at t) (queue s) who k.laws other (ap row_of is' ∙ sym row))
-            (λ d h. absurd (let f : false ≡ true = sym (ap holds is' ∙ m.holds_not) ∙ h in cc));
-        waiting = waits_kept (at s) (at t) (queue s) (queue s) who nobody nobody k.waiting other (λ v f. f)
-            (λ v c n f. refl) (λ h. ungranted (sym (ap waits is') ∙ h));
-        fits = fits_on p (members p s) (at s) (at t) who k.fits other (record {
-          row = ap row_of is' ∙ sym row;
-          life_same = ap life is' ∙ m.life_same ∙ sym (ap life is ∙ ap life_at stage);
-          cowns = cowns;
-          parent = ap parent_of is' ∙ sym (ap parent_of is);
-          offset = ap offset_of is' ∙ sym (ap offset_of is);
-          asks_less = λ h. absurd (let f : false ≡ true = sym (ap asks is') ∙ h in cc);
-          enqueues_less = λ h. ap enqueues is ∙ ap enqueues_at stage ∙ m.enqueues_less (sym (ap enqueues is') ∙ h);
-        });
-        queues_are = k.queues_are;
-        in_range = range_kept p s nobody k who b (Some b') is (λ e f. f);
-        ready_once = once_kept p s nobody k who b (Some b') is ready_same;
-        ready_only = only_kept p s nobody k who b (Some b') is ready_same;
-        some = k.some;
-        counted = omega (
-          arith,
-          k.counted,
-          opened_kept p s nobody k who b (Some b') is,
-          unrecorded_kept p s nobody k who b (Some b') is asks_same,
-        );
-        few = omega (arith, k.few, opened_kept p s nobody k who b (Some b') is);
-      }
+      core_on p s nobody k who b (Some b') is s.queues nobody refl asks_same ready_same (λ c h. h)
+      (relabel (at s) (at t) (queue s) who k.laws other
+      (λ d. ap (times d) (ap standing is' ∙ m.stand
+      ∙ sym (ap standing is ∙ ap (λ z. standing_at z b.cowns) stage)))
+      cowns
+      (λ d ahead behind x f h. k.laws.linked d ahead behind x who f
+      (subst (λ (cs : List ℕ). 0 < times d cs)
+      (ap settled is' ∙ sym (ap settled is ∙ ap (λ z. settled_at z b.cowns) stage)) h))
+      (λ d h. omega (
+        arith,
+        m.flags d,
+        ap (times d) (ap flagged is ∙ ap (λ z. flagged_at z b.cowns) stage),
+        ap (times d) (ap flagged is'),
+      ))
+      (ordered_kept (at s) (at t) (queue s) who k.laws other (ap row_of is' ∙ sym row))
+      (λ d h. absurd (let f : false ≡ true = sym (ap holds is' ∙ m.holds_not) ∙ h in cc)))
+      (waits_kept (at s) (at t) (queue s) (queue s) who nobody nobody k.waiting other (λ v f. f)
+      (λ v c n f. refl) (λ h. ungranted (sym (ap waits is') ∙ h)))
+      (fits_on p (members p s) (at s) (at t) who k.fits other (goes_on_at b (Recorded r phase) (Recorded r next)
+      (at s who) (at t who) is stage is' refl m.life_same (λ h. h) m.enqueues_less))
 
 -- Flag
 flag_moves_at : (r i : ℕ) (cs : List ℕ) (more : Bool) → Moves r (Flagging i) (cond more (Flagging (suc i)) Owning) cs
@@ -184,68 +163,107 @@ module _ (p : Program) (s : State) (but : ℕ → Type 0) (k : Core p s but) (wh
       stands_for_all (at s who) r row (λ e. let f : Pending ≡ Ended = sym was_pending ∙ e in cc) ∙ ap cowns_of is in
       let was_not : ready_row (at s who) ≡ None = ap ready_row is ∙ ap ready_row_at stage ∙ not_ready in
       let absent : times r s.ready ≡ 0 = none_ready p s but k who r row was_not in
-      record {
-        run = k.run;
-        laws = relabel (at s) (at t) (queue s) who k.laws other
-            (λ d. ap (times d) (ap standing is' ∙ sym stood_all))
-            cowns
-            (λ d ahead behind x f h. k.laws.linked d ahead behind x who f
-            (subst (λ (cs : List ℕ). 0 < times d cs)
-            (ap settled is' ∙ sym (ap settled is ∙ ap (λ z. settled_at z b.cowns) stage)) h))
-            (λ d h. subst (λ (cs : List ℕ). 0 < times d cs)
-            (ap flagged is ∙ ap (λ z. flagged_at z b.cowns) stage ∙ all_flagged b.cowns ∙ sym (ap flagged is')) h)
-            (ordered_kept (at s) (at t) (queue s) who k.laws other (ap row_of is' ∙ sym row))
-            (λ d h f. granted_first (at s) (queue s) who granted d
-            (subst (λ (cs : List ℕ). 0 < times d cs) (stood_all ∙ sym (ap cowns_of is)) f));
-        waiting = λ v h n. elim (same_or_not v who) [
-          | inl e ↦ absurd (let f : false ≡ true = sym (ap waits is') ∙ sym (ap (λ z. waits (at t z)) e) ∙ h in cc)
-          | inr ne ↦ waits_kept (at s) (at t) (queue s) (queue s) who but but k.waiting other (λ u f. f)
-              (λ u c m f. refl) (λ g. absurd (let f : false ≡ true = sym (ap waits is') ∙ g in cc)) v h
-              (λ f. ne (only v f))
-        ];
-        fits = fits_on p (members p s) (at s) (at t) who k.fits other (record {
-          row = ap row_of is' ∙ sym row;
-          life_same = ap life is' ∙ sym was_pending;
-          cowns = cowns;
-          parent = ap parent_of is' ∙ sym (ap parent_of is);
-          offset = ap offset_of is' ∙ sym (ap offset_of is);
-          asks_less = λ h. absurd (let f : false ≡ true = sym (ap asks is') ∙ h in cc);
-          enqueues_less = λ h. absurd (let f : false ≡ true = sym (ap enqueues is') ∙ h in cc);
-        });
-        queues_are = k.queues_are;
-        in_range = range_kept p s but k who b (Some b') is (λ e f. f);
-        ready_once = λ v. at_each (λ u z. (row : ℕ) → ready_row z ≡ Some row → times row (s.ready ++ (r ∷ [])) ≡ 1)
-            (at s) (at t) who other
-            (λ q h.
-            let same : r ≡ q = (let f : Some r ≡ Some q = sym (ap ready_row is') ∙ h in cc) in
-            omega (
-              arith,
-              ap (λ z. times z (s.ready ++ (r ∷ []))) (sym same),
-              times-append r s.ready (r ∷ []),
-              times-here r [],
-              absent,
-            ))
-            (λ u n q h.
-            let differ : r ≢ q = λ e. n (k.fits.one_row u who q (ready_has_row (at s u) q h)
-            (row ∙ ap (λ z. Some z) e)) in
-            omega (arith, times-append q s.ready (r ∷ []), times-other q r [] differ, k.ready_once u q h)) v;
-        ready_only = λ q h. elim (same_or_not r q) [
-          | inl e ↦ (who, ap ready_row is' ∙ ap (λ z. Some z) e)
-          | inr n ↦
-              let o = k.ready_only q (omega (arith, h, times-append q s.ready (r ∷ []), times-other q r [] n)) in
-              let differ : o.0 ≢ who = λ e. let f : None ≡ Some q = sym was_not ∙ ap (λ z. ready_row (at s z)) (sym e)
-              ∙ o.1 in cc in
-              (o.0, ap ready_row (other o.0 differ) ∙ o.1)
-        ];
-        some = k.some;
-        counted = omega (
-          arith,
-          k.counted,
-          opened_kept p s but k who b (Some b') is,
-          unrecorded_kept p s but k who b (Some b') is asks_same,
-        );
-        few = omega (arith, k.few, opened_kept p s but k who b (Some b') is);
-      }
+      core_put p s but k who b (Some b') is s.log s.queues t.ready nobody k.run refl refl asks_same (λ c h. h)
+      (relabel (at s) (at t) (queue s) who k.laws other
+      (λ d. ap (times d) (ap standing is' ∙ sym stood_all))
+      cowns
+      (λ d ahead behind x f h. k.laws.linked d ahead behind x who f
+      (subst (λ (cs : List ℕ). 0 < times d cs)
+      (ap settled is' ∙ sym (ap settled is ∙ ap (λ z. settled_at z b.cowns) stage)) h))
+      (λ d h. subst (λ (cs : List ℕ). 0 < times d cs)
+      (ap flagged is ∙ ap (λ z. flagged_at z b.cowns) stage ∙ all_flagged b.cowns ∙ sym (ap flagged is')) h)
+      (ordered_kept (at s) (at t) (queue s) who k.laws other (ap row_of is' ∙ sym row))
+      (λ d h f. granted_first (at s) (queue s) who granted d
+      (subst (λ (cs : List ℕ). 0 < times d cs) (stood_all ∙ sym (ap cowns_of is)) f)))
+      (λ v h n. elim (same_or_not v who) [
+        | inl e ↦ absurd (let f : false ≡ true = sym (ap waits is') ∙ sym (ap (λ z. waits (at t z)) e) ∙ h in cc)
+        | inr ne ↦ waits_kept (at s) (at t) (queue s) (queue s) who but but k.waiting other (λ u f. f)
+            (λ u c m f. refl) (λ g. absurd (let f : false ≡ true = sym (ap waits is') ∙ g in cc)) v h
+            (λ f. ne (only v f))
+      ])
+      (fits_on p (members p s) (at s) (at t) who k.fits other (goes_on_at b (Recorded r phase) (Recorded r Ready)
+      (at s who) (at t who) is stage is' refl (sym pending) (λ h. h)
+      (λ h. absurd (let f : false ≡ true = h in cc))))
+      (λ v. at_each (λ u z. (row : ℕ) → ready_row z ≡ Some row → times row (s.ready ++ (r ∷ [])) ≡ 1)
+      (at s) (at t) who other
+      (λ q h.
+      let same : r ≡ q = (let f : Some r ≡ Some q = sym (ap ready_row is') ∙ h in cc) in
+      omega (
+        arith,
+        ap (λ z. times z (s.ready ++ (r ∷ []))) (sym same),
+        times-append r s.ready (r ∷ []),
+        times-here r [],
+        absent,
+      ))
+      (λ u n q h.
+      let differ : r ≢ q = λ e. n (k.fits.one_row u who q (ready_has_row (at s u) q h)
+      (row ∙ ap (λ z. Some z) e)) in
+      omega (arith, times-append q s.ready (r ∷ []), times-other q r [] differ, k.ready_once u q h)) v)
+      (λ q h. elim (same_or_not r q) [
+        | inl e ↦ (who, ap ready_row is' ∙ ap (λ z. Some z) e)
+        | inr n ↦
+            let o = k.ready_only q (omega (arith, h, times-append q s.ready (r ∷ []), times-other q r [] n)) in
+            let differ : o.0 ≢ who = λ e. let f : None ≡ Some q = sym was_not ∙ ap (λ z. ready_row (at s z)) (sym e)
+            ∙ o.1 in cc in
+            (o.0, ap ready_row (other o.0 differ) ∙ o.1)
+      ])
+
+-- ---- Start and Finish: the row changes beside it
+
+module _ (p : Program) (s : State) (k : Core p s nobody) (who : ℕ) (b : OpenBehaviour) (r : ℕ) (phase next : Phase)
+    (is : at s who ≡ Some b) (stage : b.stage ≡ Recorded r phase) (event : Event) (g : Member → Member) where
+  abbrev held_on : List ℕ → State
+  held_on ready = with_ready (noted (with_stage s who b (Recorded r next)) event) ready
+
+  -- one that holds its cowns goes on to a phase in which they are its own as before, and its row changes with it
+  keeps_held : (ready : List ℕ) → MayHappen p (config_of p s.log) event
+      → (config_after p (config_of p s.log) event).members ≡ changed (members p s) r g (slice_get (members p s) r)
+      → HasNoEnqueue s r
+      → standing_at (Recorded r next) b.cowns ≡ standing_at (Recorded r phase) b.cowns
+      → settled_at (Recorded r next) b.cowns ≡ settled_at (Recorded r phase) b.cowns
+      → flagged_at (Recorded r phase) b.cowns ≡ flagged_at (Recorded r next) b.cowns
+      → holds_at (Recorded r phase) ≡ true → waits_at (Recorded r next) ≡ false
+      → enqueues_at (Recorded r next) ≡ enqueues_at (Recorded r phase)
+      → ((m : Member) → (g m).life ≡ life_at (Recorded r next)) → ((m : Member) → (g m).behaviour ≡ m.behaviour)
+      → ((w row : ℕ) → ready_row (at (held_on ready) w) ≡ Some row → times row ready ≡ 1)
+      → ((row : ℕ) → 0 < times row ready → (w : ℕ) × (ready_row (at (held_on ready) w) ≡ Some row))
+      → Core p (held_on ready) nobody
+  keeps_held ready may rows childless stand settle flag holding waits_not enqueues_same life_is behaviour_kept once only =
+      let t = held_on ready in
+      let b' : OpenBehaviour = record b { stage = Recorded r next } in
+      let other : OthersStay (at s) (at t) who = put_others s who (Some b') in
+      let is' : at t who ≡ Some b' = put_here s who b (Some b') is in
+      let row : row_of (at s who) ≡ Some r = ap row_of is ∙ ap row_at stage in
+      let cowns : cowns_of (at t who) ≡ cowns_of (at s who) = ap cowns_of is' ∙ sym (ap cowns_of is) in
+      let rows_now : members p t ≡ changed (members p s) r g (slice_get (members p s) r) =
+      ap (λ (c : Config). c.members) (config_more p (opening p) s.log event) ∙ rows in
+      core_put p s nobody k who b (Some b') is t.log s.queues ready nobody
+      (run_more p (opening p) s.log event k.run may)
+      (ap length rows_now ∙ length-changed (members p s) r g (slice_get (members p s) r)) refl
+      (sym (ap asks_at stage)) (λ c h. h)
+      (relabel (at s) (at t) (queue s) who k.laws other
+      (λ d. ap (times d) (ap standing is' ∙ stand ∙ sym (ap standing is ∙ ap (λ z. standing_at z b.cowns) stage)))
+      cowns
+      (λ d ahead behind x f h. k.laws.linked d ahead behind x who f
+      (subst (λ (cs : List ℕ). 0 < times d cs)
+      (ap settled is' ∙ settle ∙ sym (ap settled is ∙ ap (λ z. settled_at z b.cowns) stage)) h))
+      (λ d h. subst (λ (cs : List ℕ). 0 < times d cs)
+      (ap flagged is ∙ ap (λ z. flagged_at z b.cowns) stage ∙ flag ∙ sym (ap flagged is')) h)
+      (ordered_kept (at s) (at t) (queue s) who k.laws other (ap row_of is' ∙ sym row))
+      (λ d h. k.laws.first who d (ap holds is ∙ ap holds_at stage ∙ holding)))
+      (waits_on (at s) (at t) (queue s) who nobody k.waiting other (ap waits is' ∙ waits_not))
+      (subst (λ (rows : List Member). Fits p rows (at t)) (sym rows_now)
+      (fits_row p (members p s) (at s) (at t) who r g k.fits other row (record {
+        row = ap row_of is' ∙ sym row;
+        cowns = cowns;
+        parent = ap parent_of is' ∙ sym (ap parent_of is);
+        offset = ap offset_of is' ∙ sym (ap offset_of is);
+        asks_same = ap asks is' ∙ sym (ap asks is ∙ ap asks_at stage);
+        enqueues_same = ap enqueues is' ∙ enqueues_same ∙ sym (ap enqueues is ∙ ap enqueues_at stage);
+        life_is = λ m. life_is m ∙ sym (ap life is');
+        behaviour_kept = behaviour_kept;
+      }) childless))
+      once only
 
 -- ---- Start
 
@@ -270,69 +288,27 @@ module _ (p : Program) (s : State) (k : Core p s nobody) (who : ℕ) (b : OpenBe
       let b' : OpenBehaviour = record b { stage = Recorded r phases.Running } in
       let other : OthersStay (at s) (at t) who = put_others s who (Some b') in
       let is' : at t who ≡ Some b' = put_here s who b (Some b') is in
-      let held : holds (at s who) ≡ true = ap holds is ∙ ap holds_at stage in
-      let cowns : cowns_of (at t who) ≡ cowns_of (at s who) = ap cowns_of is' ∙ sym (ap cowns_of is) in
-      let asks_same : asks (Some b') ≡ asks (Some b) = sym (ap asks_at stage) in
-      let g : Member → Member = started_on (values p s) in
-      let rows_now : members p t ≡ changed (members p s) r g (slice_get (members p s) r) =
-      ap (λ (c : Config). c.members) (config_more p (opening p) s.log (events.Start r)) in
-      let stand : standing (at t who) ≡ standing (at s who) = ap standing is'
-      ∙ sym (ap standing is ∙ ap (λ z. standing_at z b.cowns) stage) in
       let once : times r s.ready ≡ 1 = k.ready_once who r (ap ready_row is ∙ ap ready_row_at stage) in
       let none_left : times r rest ≡ 0 = omega (arith, once, ap (times r) head, times-here r rest) in
-      record {
-        run = run_more p (opening p) s.log (events.Start r) k.run start_may;
-        laws = relabel (at s) (at t) (queue s) who k.laws other
-            (λ d. ap (times d) stand)
-            cowns
-            (λ d ahead behind x f h. k.laws.linked d ahead behind x who f
-            (subst (λ (cs : List ℕ). 0 < times d cs)
-            (ap settled is' ∙ sym (ap settled is ∙ ap (λ z. settled_at z b.cowns) stage)) h))
-            (λ d h. subst (λ (cs : List ℕ). 0 < times d cs)
-            (ap flagged is ∙ ap (λ z. flagged_at z b.cowns) stage ∙ sym (ap flagged is')) h)
-            (ordered_kept (at s) (at t) (queue s) who k.laws other (ap row_of is' ∙ sym row_is))
-            (λ d h. k.laws.first who d held);
-        waiting = waits_on (at s) (at t) (queue s) who nobody k.waiting other (ap waits is');
-        fits = subst (λ (rows : List Member). Fits p rows (at t)) (sym rows_now)
-            (fits_row p (members p s) (at s) (at t) who r g k.fits other row_is (record {
-              row = ap row_of is' ∙ sym row_is;
-              cowns = cowns;
-              parent = ap parent_of is' ∙ sym (ap parent_of is);
-              offset = ap offset_of is' ∙ sym (ap offset_of is);
-              asks_same = ap asks is' ∙ asks_same ∙ sym (ap asks is);
-              enqueues_same = ap enqueues is' ∙ sym (ap enqueues is ∙ ap enqueues_at stage);
-              life_is = λ x. sym (ap life is');
-              behaviour_kept = λ x. refl;
-            })
-            -- its row is pending, and parents run
-            (λ v h q. let f : Some Running ≡ Some Pending = sym (k.fits.parents v h) ∙ ap (state_of (members p s)) q
-            ∙ start_may.waits in cc));
-        queues_are = k.queues_are;
-        in_range = range_kept p s nobody k who b (Some b') is (λ e f. f);
-        ready_once = λ v. at_each (λ u z. (q : ℕ) → ready_row z ≡ Some q → times q rest ≡ 1) (at s) (at t) who other
-            (λ q h. absurd (let f : None ≡ Some q = sym (ap ready_row is') ∙ h in cc))
-            (λ u n q h.
-            let differ : r ≢ q = λ e. n (k.fits.one_row u who q (ready_has_row (at s u) q h)
-            (row_is ∙ ap (λ z. Some z) e)) in
-            omega (arith, sym (times-other q r rest differ), ap (times q) head, k.ready_once u q h)) v;
-        ready_only = λ q h.
-            let differ : r ≢ q = λ e. let f : times q rest ≡ 0 = ap (λ z. times z rest) (sym e)
-            ∙ none_left in omega arith in
-            let o = k.ready_only q (omega (arith, h, times-other q r rest differ, ap (times q) head)) in
-            let apart : o.0 ≢ who = λ e. let f : Some r ≡ Some q = sym (ap ready_row is ∙ ap ready_row_at stage)
-            ∙ ap (λ z. ready_row (at s z)) (sym e) ∙ o.1 in differ (let g : r ≡ q = cc in g) in
-            (o.0, ap ready_row (other o.0 apart) ∙ o.1);
-        some = omega (arith, k.some, ap length rows_now, length-changed (members p s) r g (slice_get (members p s) r));
-        counted = omega (
-          arith,
-          k.counted,
-          ap length rows_now,
-          length-changed (members p s) r g (slice_get (members p s) r),
-          opened_kept p s nobody k who b (Some b') is,
-          unrecorded_kept p s nobody k who b (Some b') is asks_same,
-        );
-        few = omega (arith, k.few, opened_kept p s nobody k who b (Some b') is);
-      }
+      keeps_held p s k who b r Ready phases.Running is stage (events.Start r) (started_on (values p s)) rest start_may
+      refl
+      -- its row is pending, and parents run
+      (λ v h q. let f : Some Running ≡ Some Pending = sym (k.fits.parents v h) ∙ ap (state_of (members p s)) q
+      ∙ start_may.waits in cc)
+      refl refl refl refl refl refl (λ m. refl) (λ m. refl)
+      (λ v. at_each (λ u z. (q : ℕ) → ready_row z ≡ Some q → times q rest ≡ 1) (at s) (at t) who other
+      (λ q h. absurd (let f : None ≡ Some q = sym (ap ready_row is') ∙ h in cc))
+      (λ u n q h.
+      let differ : r ≢ q = λ e. n (k.fits.one_row u who q (ready_has_row (at s u) q h)
+      (row_is ∙ ap (λ z. Some z) e)) in
+      omega (arith, sym (times-other q r rest differ), ap (times q) head, k.ready_once u q h)) v)
+      (λ q h.
+      let differ : r ≢ q = λ e. let f : times q rest ≡ 0 = ap (λ z. times z rest) (sym e)
+      ∙ none_left in omega arith in
+      let o = k.ready_only q (omega (arith, h, times-other q r rest differ, ap (times q) head)) in
+      let apart : o.0 ≢ who = λ e. let f : Some r ≡ Some q = sym (ap ready_row is ∙ ap ready_row_at stage)
+      ∙ ap (λ z. ready_row (at s z)) (sym e) ∙ o.1 in differ (let g : r ≡ q = cc in g) in
+      (o.0, ap ready_row (other o.0 apart) ∙ o.1))
 
 -- ---- Finish
 
@@ -349,59 +325,11 @@ module _ (p : Program) (s : State) (k : Core p s nobody) (who : ℕ) (b : OpenBe
 
   pub keeps_end : Core p after_end nobody
   keeps_end =
-      let t = after_end in
       let b' : OpenBehaviour = record b { stage = Recorded r (Leaving 0) } in
-      let other : OthersStay (at s) (at t) who = put_others s who (Some b') in
-      let is' : at t who ≡ Some b' = put_here s who b (Some b') is in
-      let row : row_of (at s who) ≡ Some r = ap row_of is ∙ ap row_at stage in
-      let held : holds (at s who) ≡ true = ap holds is ∙ ap holds_at stage in
-      let cowns : cowns_of (at t who) ≡ cowns_of (at s who) = ap cowns_of is' ∙ sym (ap cowns_of is) in
-      let asks_same : asks (Some b') ≡ asks (Some b) = sym (ap asks_at stage) in
       let ready_same : ready_row (Some b') ≡ ready_row (Some b) = sym (ap ready_row_at stage) in
-      let g : Member → Member = λ m. record m { life = Ended } in
-      let rows_now : members p t ≡ changed (members p s) r g (slice_get (members p s) r) =
-      ap (λ (c : Config). c.members) (config_more p (opening p) s.log the_end) in
-      let stand : standing (at t who) ≡ standing (at s who) = ap standing is'
-      ∙ sym (ap standing is ∙ ap (λ z. standing_at z b.cowns) stage) in
-      record {
-        run = run_more p (opening p) s.log the_end k.run may;
-        laws = relabel (at s) (at t) (queue s) who k.laws other
-            (λ d. ap (times d) stand)
-            cowns
-            (λ d ahead behind x f h. k.laws.linked d ahead behind x who f
-            (subst (λ (cs : List ℕ). 0 < times d cs)
-            (ap settled is' ∙ sym (ap settled is ∙ ap (λ z. settled_at z b.cowns) stage)) h))
-            (λ d h. subst (λ (cs : List ℕ). 0 < times d cs)
-            (ap flagged is ∙ ap (λ z. flagged_at z b.cowns) stage ∙ sym (ap flagged is')) h)
-            (ordered_kept (at s) (at t) (queue s) who k.laws other (ap row_of is' ∙ sym row))
-            (λ d h. k.laws.first who d held);
-        waiting = waits_on (at s) (at t) (queue s) who nobody k.waiting other (ap waits is');
-        fits = subst (λ (rows : List Member). Fits p rows (at t)) (sym rows_now)
-            (fits_row p (members p s) (at s) (at t) who r g k.fits other row (record {
-              row = ap row_of is' ∙ sym row;
-              cowns = cowns;
-              parent = ap parent_of is' ∙ sym (ap parent_of is);
-              offset = ap offset_of is' ∙ sym (ap offset_of is);
-              asks_same = ap asks is' ∙ asks_same ∙ sym (ap asks is);
-              enqueues_same = ap enqueues is' ∙ sym (ap enqueues is ∙ ap enqueues_at stage);
-              life_is = λ x. sym (ap life is');
-              behaviour_kept = λ x. refl;
-            }) none_open);
-        queues_are = k.queues_are;
-        in_range = range_kept p s nobody k who b (Some b') is (λ e f. f);
-        ready_once = once_kept p s nobody k who b (Some b') is ready_same;
-        ready_only = only_kept p s nobody k who b (Some b') is ready_same;
-        some = omega (arith, k.some, ap length rows_now, length-changed (members p s) r g (slice_get (members p s) r));
-        counted = omega (
-          arith,
-          k.counted,
-          ap length rows_now,
-          length-changed (members p s) r g (slice_get (members p s) r),
-          opened_kept p s nobody k who b (Some b') is,
-          unrecorded_kept p s nobody k who b (Some b') is asks_same,
-        );
-        few = omega (arith, k.few, opened_kept p s nobody k who b (Some b') is);
-      }
+      keeps_held p s k who b r phases.Running (Leaving 0) is stage the_end (λ m. record m { life = Ended }) s.ready may
+      refl none_open refl refl refl refl refl refl (λ m. refl) (λ m. refl)
+      (once_kept p s nobody k who b (Some b') is ready_same) (only_kept p s nobody k who b (Some b') is ready_same)
 
 -- ---- releases
 
@@ -451,44 +379,26 @@ module _ (p : Program) (s : State) (k : Core p s nobody) (who : ℕ) (b : OpenBe
       let shorter : queue s c ≡ who ∷ queue t c = front ∙ ap (λ zs. who ∷ zs) (sym set_here) in
       let elsewhere : (d : ℕ) → d ≢ c → queue t d ≡ queue s d = λ d n. get_or-set_other s.queues c d rest [] n in
       let long : length t.queues ≡ length s.queues = length-set s.queues c rest in
-      record {
-        run = k.run;
-        laws = release (at s) (at t) (queue s) (queue t) who c k.laws (record {
+      core_on p s nobody k who b (Some b') due.is t.queues (λ v. is_first v rest ≡ true) long asks_same ready_same
+      (λ d h. h)
+      (release (at s) (at t) (queue s) (queue t) who c k.laws (record {
+        shorter = shorter;
+        here = ap (λ cs. times c cs + 1) stand' ∙ dropped_here b.cowns i c due.cown ∙ ap (times c) (sym stand);
+        moves = record {
           other = other;
-          shorter = shorter;
           elsewhere = elsewhere;
-          here = ap (λ cs. times c cs + 1) stand' ∙ dropped_here b.cowns i c due.cown ∙ ap (times c) (sym stand);
           there = λ d n. ap (times d) stand' ∙ dropped_there b.cowns i c d due.cown n ∙ ap (times d) (sym stand);
           cowns = cowns;
           settled_same = ap settled is' ∙ sym (ap settled due.is ∙ ap (λ z. settled_at z b.cowns) due.stage_is);
           flagged_same = ap flagged is' ∙ sym (ap flagged due.is ∙ ap (λ z. flagged_at z b.cowns) due.stage_is);
           row_same = ap row_of is' ∙ sym row;
-          held = ap holds due.is ∙ ap holds_at due.stage_is;
-        });
-        waiting = λ v h n. waits_release (at s) (at t) (queue s) (queue t) who c k.waiting other shorter elsewhere
-            (ap waits is') v h (λ f. n (ap (is_first v) (sym set_here) ∙ f));
-        fits = fits_on p (members p s) (at s) (at t) who k.fits other (record {
-          row = ap row_of is' ∙ sym row;
-          life_same = ap life is' ∙ sym (ap life due.is ∙ ap life_at due.stage_is);
-          cowns = cowns;
-          parent = ap parent_of is' ∙ sym (ap parent_of due.is);
-          offset = ap offset_of is' ∙ sym (ap offset_of due.is);
-          asks_less = λ h. absurd (let f : false ≡ true = sym (ap asks is') ∙ h in cc);
-          enqueues_less = λ h. absurd (let f : false ≡ true = sym (ap enqueues is') ∙ h in cc);
-        });
-        queues_are = long ∙ k.queues_are;
-        in_range = λ w d h. omega (arith, long, range_kept p s nobody k who b (Some b') due.is (λ e f. f) w d h);
-        ready_once = once_kept p s nobody k who b (Some b') due.is ready_same;
-        ready_only = only_kept p s nobody k who b (Some b') due.is ready_same;
-        some = k.some;
-        counted = omega (
-          arith,
-          k.counted,
-          opened_kept p s nobody k who b (Some b') due.is,
-          unrecorded_kept p s nobody k who b (Some b') due.is asks_same,
-        );
-        few = omega (arith, k.few, opened_kept p s nobody k who b (Some b') due.is);
-      }
+        };
+        held = ap holds due.is ∙ ap holds_at due.stage_is;
+      }))
+      (λ v h n. waits_release (at s) (at t) (queue s) (queue t) who c k.waiting other shorter elsewhere
+      (ap waits is') v h (λ f. n (ap (is_first v) (sym set_here) ∙ f)))
+      (fits_on p (members p s) (at s) (at t) who k.fits other (goes_on_at b (Recorded r (Leaving i))
+      (Recorded r (Leaving (suc i))) (at s who) (at t who) due.is due.stage_is is' refl refl (λ h. h) (λ h. h)))
 
 -- who has released all goes
 module _ (p : Program) (s : State) (but : ℕ → Type 0) (k : Core p s but) (who : ℕ) (b : OpenBehaviour) (r i : ℕ)
@@ -502,26 +412,12 @@ module _ (p : Program) (s : State) (but : ℕ → Type 0) (k : Core p s but) (wh
       ∙ dropped_whole b.cowns i all in
       let asks_same : asks None ≡ asks (Some b) = sym (ap asks_at stage) in
       let ready_same : ready_row None ≡ ready_row (Some b) = sym (ap ready_row_at stage) in
-      record {
-        run = k.run;
-        laws = nowhere (at s) (at t) (queue s) who k.laws other (λ c. ap (times c) nothing)
-            (λ c. ap (λ z. times c (standing z)) none) (λ c. omega (arith, ap (λ z. times c (cowns_of z)) none));
-        waiting = waits_on (at s) (at t) (queue s) who but k.waiting other (ap waits none);
-        fits = fits_gone p (members p s) (at s) (at t) who r k.fits other (ap row_of is ∙ ap row_at stage)
-            (ap life is ∙ ap life_at stage) none;
-        queues_are = k.queues_are;
-        in_range = range_kept p s but k who b None is (λ c h. absurd (omega (arith, h)));
-        ready_once = once_kept p s but k who b None is ready_same;
-        ready_only = only_kept p s but k who b None is ready_same;
-        some = k.some;
-        counted = omega (
-          arith,
-          k.counted,
-          opened_kept p s but k who b None is,
-          unrecorded_kept p s but k who b None is asks_same,
-        );
-        few = omega (arith, k.few, opened_kept p s but k who b None is);
-      }
+      core_on p s but k who b None is s.queues but refl asks_same ready_same (λ c h. absurd (omega (arith, h)))
+      (nowhere (at s) (at t) (queue s) who k.laws other (λ c. ap (times c) nothing)
+      (λ c. ap (λ z. times c (standing z)) none) (λ c. omega (arith, ap (λ z. times c (cowns_of z)) none)))
+      (waits_on (at s) (at t) (queue s) who but k.waiting other (ap waits none))
+      (fits_gone p (members p s) (at s) (at t) who r k.fits other (ap row_of is ∙ ap row_at stage)
+      (ap life is ∙ ap life_at stage) none)
 
 -- ---- who leaves is first
 

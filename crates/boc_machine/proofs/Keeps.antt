@@ -1,5 +1,5 @@
 -- Each kind of step leads from a sound state to a sound one.
-use Rattle.std.proofs.Common.{◌≡◌, ℕ, suc, ◌+◌, ◌*◌, ◌<◌, ◌≤◌, inl, inr, true, false, List, [], ◌∷◌, ◌++◌, length, drop, refl, sym, ◌∙◌, ap, subst, arith, set-set}
+use Rattle.std.proofs.Common.{◌≡◌, ℕ, suc, ◌+◌, ◌*◌, ◌<◌, ◌≤◌, inl, inr, true, false, List, [], ◌∷◌, ◌++◌, length, drop, refl, sym, ◌∙◌, ap, subst, arith, set, set-set}
 use Rattle.std.specs.Prelude.{nat_lt, Option, Some, None}
 use Rattle.std.specs.List.{sum_by}
 use Rattle.std.proofs.lemmas.Bool.{ltb-false, ltb-true}
@@ -17,6 +17,7 @@ use Rattle.boc_types.specs.declared.step.Step.TheVariants as steps
 use Rattle.boc_types.specs.machine.Stages.{OpenBehaviour, standing_at, settled, settled_at, flagged, asks_at, waits, waits_at}
 use Rattle.boc_types.specs.machine.Queues.{times, is_first, all_granted}
 use Rattle.boc_types.specs.machine.Steps.{State, at, queue, recorded, opened, stepped, noted, with_behaviour, with_stage, with_new, with_ready, with_queue, with_spawn, asking_on, leaving_on, made_ready, owned, flagging, woken, woken_if, woken_at, child, Opens, Swaps, Settles, Flags, Owns, Starts, Finishes, Unhooks, Passes, Makes}
+use Rattle.boc_types.specs.machine.AlongRows.{steps_of}
 use Rattle.boc_types.specs.machine.Sound.{IsSound, HasNextRequest, made, made_at, owed, owed_at}
 use Rattle.boc_machine.proofs.Lists.{same_or_not, read_front}
 use Rattle.boc_machine.proofs.Lawful.{nobody, is_first_of}
@@ -53,21 +54,31 @@ module _ (p : Program) (s : State) (k : Core p s nobody) (who : ℕ) (r : Others
     (count : s.steps + paid + 2 + sum_by owed s.behaviours ≡ steps_of_log s.log + sum_by made s.behaviours)
     (b : OpenBehaviour) (n : ℕ) (a : AsksOn s who b n)
     (few : n ≤ length b.cowns) (already : made (Some b) + more ≡ 1 + 2 * n) (nothing : owed (Some b) ≡ 0) where
+  -- the steps, with another in its place and so many more of the log's rows
+  steps_on : (b' : OpenBehaviour) (log' also : ℕ) → log' ≡ steps_of_log s.log + also
+      → 1 + 2 * n + owed (Some b') ≡ also + made (Some b')
+      → s.steps + 1 + 2 + sum_by owed (set s.behaviours who (Some b'))
+      ≡ log' + sum_by made (set s.behaviours who (Some b'))
+  steps_on b' log' also l e =
+      omega (
+        arith,
+        put_sum owed s who b (Some b') a.is,
+        put_sum made s who b (Some b') a.is,
+        count,
+        one,
+        already,
+        nothing,
+        l,
+        e,
+      )
+
   goes_on : n < length b.cowns → Nearly p (with_stage s who b (Asking n false)) nobody
   goes_on l =
       let b' : OpenBehaviour = record b { stage = Asking n false } in
       record {
         core = keeps_asking p s k who b n a;
         requests = requests_put s who r b (Some b') a.is (stage_next b (Asking n false) l);
-        steps = omega (
-          arith,
-          put_sum owed s who b (Some b') a.is,
-          put_sum made s who b (Some b') a.is,
-          count,
-          one,
-          already,
-          nothing,
-        );
+        steps = steps_on b' (steps_of_log s.log) 0 (omega arith) (omega arith);
       }
 
   goes_recorded : length b.cowns ≤ n → Nearly p (with_spawn p s who b) nobody
@@ -78,19 +89,8 @@ module _ (p : Program) (s : State) (k : Core p s nobody) (who : ℕ) (r : Others
       record {
         core = keeps_recording p s k who b n a l;
         requests = requests_put s who r b (Some b') a.is (stage_next b st (next_flagging (recorded p s) b.cowns 0));
-        steps = omega (
-          arith,
-          put_sum owed s who b (Some b') a.is,
-          put_sum made s who b (Some b') a.is,
-          count,
-          one,
-          already,
-          nothing,
-          o,
-          few,
-          l,
-          steps_spawned s.log (recorded p s) b.parent b.offset (record { items = b.cowns }),
-        );
+        steps = steps_on b' (steps_of_log (with_spawn p s who b).log) (steps_of (length b.cowns))
+            (steps_spawned s.log (recorded p s) b.parent b.offset (record { items = b.cowns })) (omega (arith, o, few, l));
       }
 
   pub goes_asking : Nearly p (asking_on p s who b n) nobody

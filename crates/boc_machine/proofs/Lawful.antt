@@ -1,6 +1,6 @@
 -- What the queues keep under each kind of change.
 use Rattle.std.proofs.lemmas.Bool.Decides.{Decides-eqb}
-use Rattle.std.proofs.Common.{◌≡◌, ℕ, zero, suc, ◌+◌, ◌<◌, ◌≤◌, ◌≢◌, Bool, true, false, List, [], ◌∷◌, ◌++◌, take, drop, refl, sym, ◌∙◌, ap, subst, inl, inr, arith, append_assoc}
+use Rattle.std.proofs.Common.{◌≡◌, ℕ, zero, suc, ◌+◌, ◌<◌, ◌≤◌, ◌≢◌, Bool, true, false, List, [], ◌∷◌, ◌++◌, take, drop, refl, sym, ◌∙◌, ap, subst, inl, inr, arith, rules, append_assoc}
 use Rattle.std.specs.Prelude.{slice_get, nat_lt, ◌&&◌, Option, Some, None}
 use Rattle.std.specs.List.{list_all}
 use Rattle.boc_types.specs.declared.stage.Phase.TheVariants.{Flagging, Owning, Waiting, Ready, Running, Leaving}
@@ -29,14 +29,7 @@ abbrev pub nobody : ℕ → Type 0
 nobody who = ⊥
 
 pub laws_of : (at : ℕ → Option OpenBehaviour) (queue : ℕ → List ℕ) → Lawful at queue → Laws at queue
-laws_of at queue l = record {
-  stands = l.stands;
-  once = l.once;
-  linked = l.linked;
-  ordered = l.ordered;
-  first =
-      l.first;
-}
+laws_of at queue l = search rules
 
 pub waits_of : (at : ℕ → Option OpenBehaviour) (queue : ℕ → List ℕ) → Lawful at queue → WaitsBut at queue nobody
 waits_of at queue l who h none = l.waiting who h
@@ -248,138 +241,139 @@ by_cown P queue queue' c0 elsewhere here there c =
       | inr n ↦ subst (λ (q : List ℕ). P c q) (sym (elsewhere c n)) (there c n)
     ]
 
-pub record Exchanges (at at' : ℕ → Option OpenBehaviour) (queue queue' : ℕ → List ℕ) (who c0 : ℕ) : Type 0 where
+-- one behaviour goes on, and one list changes
+pub record OneMoves (at at' : ℕ → Option OpenBehaviour) (queue queue' : ℕ → List ℕ) (who c0 : ℕ) : Type 0 where
   pub other : OthersStay at at' who
-  pub longer : queue' c0 ≡ queue c0 ++ (who ∷ [])
   pub elsewhere : (c : ℕ) → c ≢ c0 → queue' c ≡ queue c
-  pub here : times c0 (standing (at' who)) ≡ times c0 (standing (at who)) + 1
   pub there : (c : ℕ) → c ≢ c0 → times c (standing (at' who)) ≡ times c (standing (at who))
   pub cowns : cowns_of (at' who) ≡ cowns_of (at who)
   pub settled_same : settled (at' who) ≡ settled (at who)
-  pub not_settled : times c0 (settled (at who)) ≡ 0
   pub flagged_same : flagged (at' who) ≡ flagged (at who)
+  pub row_same : row_of (at' who) ≡ row_of (at who)
+
+-- then each law holds of all lists if it holds of that one
+module _ (at at' : ℕ → Option OpenBehaviour) (queue queue' : ℕ → List ℕ) (who c0 : ℕ) (l : Laws at queue)
+    (m : OneMoves at at' queue queue' who c0) where
+  stands_then : ((w : ℕ) → times w (queue' c0) ≡ times c0 (standing (at' w))) → (w c : ℕ)
+      → times w (queue' c) ≡ times c (standing (at' w))
+  stands_then here w c =
+      by_cown (λ d q. times w q ≡ times d (standing (at' w))) queue queue' c0 m.elsewhere (here w)
+      (λ d n. at_each (λ v b. times v (queue d) ≡ times d (standing b)) at at' who m.other
+      (l.stands who d ∙ sym (m.there d n)) (λ v k. l.stands v d) w)
+      c
+
+  once_then : (w c : ℕ) → times c (cowns_of (at' w)) ≤ 1
+  once_then w c = subst (λ (cs : List ℕ). times c cs ≤ 1) (sym (kept cowns_of at at' who m.other m.cowns w))
+      (l.once w c)
+
+  linked_then : ((ahead behind : List ℕ) (x y : ℕ) → queue' c0 ≡ ahead ++ (x ∷ (y ∷ behind))
+      → 0 < times c0 (settled (at y)) → 0 < times c0 (flagged (at x)))
+      → (c : ℕ) (ahead behind : List ℕ) (x y : ℕ) → queue' c ≡ ahead ++ (x ∷ (y ∷ behind))
+      → 0 < times c (settled (at' y)) → 0 < times c (flagged (at' x))
+  linked_then here c ahead behind x y e s =
+      let s' : 0 < times c (settled (at y)) = subst (λ (cs : List ℕ). 0 < times c cs)
+      (kept settled at at' who m.other m.settled_same y) s in
+      subst (λ (cs : List ℕ). 0 < times c cs) (sym (kept flagged at at' who m.other m.flagged_same x))
+      (by_cown (λ d q. q ≡ ahead ++ (x ∷ (y ∷ behind)) → 0 < times d (settled (at y))
+      → 0 < times d (flagged (at x))) queue queue' c0 m.elsewhere (here ahead behind x y)
+      (λ d n f t. l.linked d ahead behind x y f t) c e s')
+
+  ordered_then : ((ahead mid behind : List ℕ) (x y : ℕ) → queue' c0 ≡ ahead ++ (x ∷ (mid ++ (y ∷ behind)))
+      → InOrder (row_of (at x)) (row_of (at y)))
+      → (c : ℕ) (ahead mid behind : List ℕ) (x y : ℕ) → queue' c ≡ ahead ++ (x ∷ (mid ++ (y ∷ behind)))
+      → InOrder (row_of (at' x)) (row_of (at' y))
+  ordered_then here c ahead mid behind x y e =
+      in_order_at (row_of (at x)) (row_of (at' x)) (row_of (at y)) (row_of (at' y))
+      (kept row_of at at' who m.other m.row_same x) (kept row_of at at' who m.other m.row_same y)
+      (by_cown (λ d q. q ≡ ahead ++ (x ∷ (mid ++ (y ∷ behind))) → InOrder (row_of (at x)) (row_of (at y)))
+      queue queue' c0 m.elsewhere (here ahead mid behind x y) (λ d n f. l.ordered d ahead mid behind x y f) c e)
+
+  laws_then : ((w : ℕ) → times w (queue' c0) ≡ times c0 (standing (at' w)))
+      → ((ahead behind : List ℕ) (x y : ℕ) → queue' c0 ≡ ahead ++ (x ∷ (y ∷ behind))
+      → 0 < times c0 (settled (at y)) → 0 < times c0 (flagged (at x)))
+      → ((ahead mid behind : List ℕ) (x y : ℕ) → queue' c0 ≡ ahead ++ (x ∷ (mid ++ (y ∷ behind)))
+      → InOrder (row_of (at x)) (row_of (at y)))
+      → ((w c : ℕ) → holds (at' w) ≡ true → 0 < times c (standing (at' w)) → slice_get (queue' c) 0 ≡ Some w)
+      → Laws at' queue'
+  laws_then stands linked ordered first = record {
+    stands = stands_then stands;
+    once = once_then;
+    linked = linked_then linked;
+    ordered = ordered_then ordered;
+    first = first;
+  }
+
+pub record Exchanges (at at' : ℕ → Option OpenBehaviour) (queue queue' : ℕ → List ℕ) (who c0 : ℕ) : Type 0 where
+  pub longer : queue' c0 ≡ queue c0 ++ (who ∷ [])
+  pub here : times c0 (standing (at' who)) ≡ times c0 (standing (at who)) + 1
+  pub moves : OneMoves at at' queue queue' who c0
+  pub not_settled : times c0 (settled (at who)) ≡ 0
   pub no_row : row_of (at who) ≡ None
-  pub still_none : row_of (at' who) ≡ None
   pub holds_not : holds (at' who) ≡ false
 
 -- a request goes last in its cown's list
 pub exchange : (at at' : ℕ → Option OpenBehaviour) (queue queue' : ℕ → List ℕ) (who c0 : ℕ) → Laws at queue
     → Exchanges at at' queue queue' who c0 → Laws at' queue'
 exchange at at' queue queue' who c0 l h =
-    let set : (w : ℕ) → settled (at' w) ≡ settled (at w) = kept settled at at' who h.other h.settled_same in
-    let flag : (w : ℕ) → flagged (at' w) ≡ flagged (at w) = kept flagged at at' who h.other h.flagged_same in
-    let rows : (w : ℕ) → row_of (at' w) ≡ row_of (at w) =
-    kept row_of at at' who h.other (h.still_none ∙ sym h.no_row) in
-    record {
-      stands = λ w c.
-          by_cown (λ d q. times w q ≡ times d (standing (at' w))) queue queue' c0 h.elsewhere
-          (at_each (λ v b. times v (queue' c0) ≡ times c0 (standing b)) at at' who h.other
-          (ap (times who) h.longer ∙ times-append who (queue c0) (who ∷ [])
-          ∙ omega (arith, times-here who [], l.stands who c0, h.here))
-          (λ v n. ap (times v) h.longer ∙ times-append v (queue c0) (who ∷ [])
-          ∙ omega (arith, times-other v who [] (λ e. n (sym e)), l.stands v c0)) w)
-          (λ d n. at_each (λ v b. times v (queue d) ≡ times d (standing b)) at at' who h.other
-          (l.stands who d ∙ sym (h.there d n)) (λ v m. l.stands v d) w)
-          c;
-      once = λ w c. subst (λ (cs : List ℕ). times c cs ≤ 1) (sym (kept cowns_of at at' who h.other h.cowns w))
-          (l.once w c);
-      linked = λ c ahead behind x y e s.
-          let s' : 0 < times c (settled (at y)) = subst (λ (cs : List ℕ). 0 < times c cs) (set y) s in
-          subst (λ (cs : List ℕ). 0 < times c cs) (sym (flag x))
-          (by_cown (λ d q. q ≡ ahead ++ (x ∷ (y ∷ behind)) → 0 < times d (settled (at y))
-          → 0 < times d (flagged (at x))) queue queue' c0 h.elsewhere
-          (λ f t. elim (place_in_longer (queue c0) (ahead ++ (x ∷ [])) behind who y
-          (sym h.longer ∙ f ∙ sym (append_assoc ahead (x ∷ []) (y ∷ behind)))) [
-            | inl p ↦ absurd (let k : times c0 (settled (at y)) ≡ 0 = ap (λ v. times c0 (settled (at v))) p.1
-                ∙ h.not_settled in omega arith)
-            | inr p ↦ l.linked c0 ahead p.0 x y (p.2 ∙ append_assoc ahead (x ∷ []) (y ∷ p.0)) t
-          ])
-          (λ d n f t. l.linked d ahead behind x y f t)
-          c e s');
-      ordered = λ c ahead mid behind x y e.
-          in_order_at (row_of (at x)) (row_of (at' x)) (row_of (at y)) (row_of (at' y)) (rows x) (rows y)
-          (by_cown (λ d q. q ≡ ahead ++ (x ∷ (mid ++ (y ∷ behind)))
-          → InOrder (row_of (at x)) (row_of (at y))) queue queue' c0 h.elsewhere
-          (λ f. elim (place_in_longer (queue c0) (ahead ++ (x ∷ mid)) behind who y
-          (sym h.longer ∙ f ∙ sym (append_assoc ahead (x ∷ mid) (y ∷ behind)))) [
-            | inl p ↦ in_order_at (row_of (at x)) (row_of (at x)) None (row_of (at y)) refl
-                (ap (λ v. row_of (at v)) p.1 ∙ h.no_row) (before_unrecorded (row_of (at x)))
-            | inr p ↦ l.ordered c0 ahead mid p.0 x y (p.2 ∙ append_assoc ahead (x ∷ mid) (y ∷ p.0))
-          ])
-          (λ d n f. l.ordered d ahead mid behind x y f)
-          c e);
-      first = λ w c. at_each (λ v b. holds b ≡ true → 0 < times c (standing b)
-          → slice_get (queue' c) 0 ≡ Some v) at at' who h.other
-          (λ t s. absurd (let f : false ≡ true = sym h.holds_not ∙ t in cc))
-          (λ v n t s. by_cown (λ d q. 0 < times d (standing (at v))
-          → slice_get q 0 ≡ Some v) queue queue' c0 h.elsewhere
-          (λ z. subst (λ (q : List ℕ). slice_get q 0 ≡ Some v) (sym h.longer)
-          (head_stays (queue c0) who v (l.first v c0 t z)))
-          (λ d m z. l.first v d t z) c s) w;
-    }
+    laws_then at at' queue queue' who c0 l h.moves
+    (at_each (λ v b. times v (queue' c0) ≡ times c0 (standing b)) at at' who h.moves.other
+    (ap (times who) h.longer ∙ times-append who (queue c0) (who ∷ [])
+    ∙ omega (arith, times-here who [], l.stands who c0, h.here))
+    (λ v n. ap (times v) h.longer ∙ times-append v (queue c0) (who ∷ [])
+    ∙ omega (arith, times-other v who [] (λ e. n (sym e)), l.stands v c0)))
+    (λ ahead behind x y f t. elim (place_in_longer (queue c0) (ahead ++ (x ∷ [])) behind who y
+    (sym h.longer ∙ f ∙ sym (append_assoc ahead (x ∷ []) (y ∷ behind)))) [
+      | inl p ↦ absurd (let k : times c0 (settled (at y)) ≡ 0 = ap (λ v. times c0 (settled (at v))) p.1
+          ∙ h.not_settled in omega arith)
+      | inr p ↦ l.linked c0 ahead p.0 x y (p.2 ∙ append_assoc ahead (x ∷ []) (y ∷ p.0)) t
+    ])
+    (λ ahead mid behind x y f. elim (place_in_longer (queue c0) (ahead ++ (x ∷ mid)) behind who y
+    (sym h.longer ∙ f ∙ sym (append_assoc ahead (x ∷ mid) (y ∷ behind)))) [
+      | inl p ↦ in_order_at (row_of (at x)) (row_of (at x)) None (row_of (at y)) refl
+          (ap (λ v. row_of (at v)) p.1 ∙ h.no_row) (before_unrecorded (row_of (at x)))
+      | inr p ↦ l.ordered c0 ahead mid p.0 x y (p.2 ∙ append_assoc ahead (x ∷ mid) (y ∷ p.0))
+    ])
+    (λ w c. at_each (λ v b. holds b ≡ true → 0 < times c (standing b)
+    → slice_get (queue' c) 0 ≡ Some v) at at' who h.moves.other
+    (λ t s. absurd (let f : false ≡ true = sym h.holds_not ∙ t in cc))
+    (λ v n t s. by_cown (λ d q. 0 < times d (standing (at v))
+    → slice_get q 0 ≡ Some v) queue queue' c0 h.moves.elsewhere
+    (λ z. subst (λ (q : List ℕ). slice_get q 0 ≡ Some v) (sym h.longer)
+    (head_stays (queue c0) who v (l.first v c0 t z)))
+    (λ d m z. l.first v d t z) c s) w)
 
 pub record Releases (at at' : ℕ → Option OpenBehaviour) (queue queue' : ℕ → List ℕ) (who c0 : ℕ) : Type 0 where
-  pub other : OthersStay at at' who
   pub shorter : queue c0 ≡ who ∷ queue' c0
-  pub elsewhere : (c : ℕ) → c ≢ c0 → queue' c ≡ queue c
   pub here : times c0 (standing (at' who)) + 1 ≡ times c0 (standing (at who))
-  pub there : (c : ℕ) → c ≢ c0 → times c (standing (at' who)) ≡ times c (standing (at who))
-  pub cowns : cowns_of (at' who) ≡ cowns_of (at who)
-  pub settled_same : settled (at' who) ≡ settled (at who)
-  pub flagged_same : flagged (at' who) ≡ flagged (at who)
-  pub row_same : row_of (at' who) ≡ row_of (at who)
+  pub moves : OneMoves at at' queue queue' who c0
   pub held : holds (at who) ≡ true
 
 -- a request comes off the front of its cown's list
 pub release : (at at' : ℕ → Option OpenBehaviour) (queue queue' : ℕ → List ℕ) (who c0 : ℕ) → Laws at queue
     → Releases at at' queue queue' who c0 → Laws at' queue'
 release at at' queue queue' who c0 l h =
-    let set : (w : ℕ) → settled (at' w) ≡ settled (at w) = kept settled at at' who h.other h.settled_same in
-    let flag : (w : ℕ) → flagged (at' w) ≡ flagged (at w) = kept flagged at at' who h.other h.flagged_same in
-    let rows : (w : ℕ) → row_of (at' w) ≡ row_of (at w) = kept row_of at at' who h.other h.row_same in
-    record {
-      stands = λ w c.
-          by_cown (λ d q. times w q ≡ times d (standing (at' w))) queue queue' c0 h.elsewhere
-          (at_each (λ v b. times v (queue' c0) ≡ times c0 (standing b)) at at' who h.other
-          (omega (arith, ap (times who) h.shorter, times-here who (queue' c0), l.stands who c0, h.here))
-          (λ v n. omega (
-            arith,
-            ap (times v) h.shorter,
-            times-other v who (queue' c0) (λ e. n (sym e)),
-            l.stands v c0,
-          )) w)
-          (λ d n. at_each (λ v b. times v (queue d) ≡ times d (standing b)) at at' who h.other
-          (l.stands who d ∙ sym (h.there d n)) (λ v m. l.stands v d) w)
-          c;
-      once = λ w c. subst (λ (cs : List ℕ). times c cs ≤ 1) (sym (kept cowns_of at at' who h.other h.cowns w))
-          (l.once w c);
-      linked = λ c ahead behind x y e s.
-          let s' : 0 < times c (settled (at y)) = subst (λ (cs : List ℕ). 0 < times c cs) (set y) s in
-          subst (λ (cs : List ℕ). 0 < times c cs) (sym (flag x))
-          (by_cown (λ d q. q ≡ ahead ++ (x ∷ (y ∷ behind)) → 0 < times d (settled (at y))
-          → 0 < times d (flagged (at x))) queue queue' c0 h.elsewhere
-          (λ f t. l.linked c0 (who ∷ ahead) behind x y (h.shorter ∙ ap (λ zs. who ∷ zs) f) t)
-          (λ d n f t. l.linked d ahead behind x y f t)
-          c e s');
-      ordered = λ c ahead mid behind x y e.
-          in_order_at (row_of (at x)) (row_of (at' x)) (row_of (at y)) (row_of (at' y)) (rows x) (rows y)
-          (by_cown (λ d q. q ≡ ahead ++ (x ∷ (mid ++ (y ∷ behind)))
-          → InOrder (row_of (at x)) (row_of (at y))) queue queue' c0 h.elsewhere
-          (λ f. l.ordered c0 (who ∷ ahead) mid behind x y (h.shorter ∙ ap (λ zs. who ∷ zs) f))
-          (λ d n f. l.ordered d ahead mid behind x y f)
-          c e);
-      first = λ w c. at_each (λ v b. holds b ≡ true → 0 < times c (standing b)
-          → slice_get (queue' c) 0 ≡ Some v) at at' who h.other
-          (λ t s. by_cown (λ d q. 0 < times d (standing (at' who))
-          → slice_get q 0 ≡ Some who) queue queue' c0 h.elsewhere
-          (λ z. absurd (omega (arith, h.here, standing_le c0 (at who), l.once who c0)))
-          (λ d m z. l.first who d h.held (subst (λ (k : ℕ). 0 < k) (h.there d m) z)) c s)
-          (λ v n t s. by_cown (λ d q. 0 < times d (standing (at v))
-          → slice_get q 0 ≡ Some v) queue queue' c0 h.elsewhere
-          (λ z. absurd (n (let f : Some who ≡ Some v = ap (λ zs. slice_get zs 0) (sym h.shorter)
-          ∙ l.first v c0 t z in cc)))
-          (λ d m z. l.first v d t z) c s) w;
-    }
+    laws_then at at' queue queue' who c0 l h.moves
+    (at_each (λ v b. times v (queue' c0) ≡ times c0 (standing b)) at at' who h.moves.other
+    (omega (arith, ap (times who) h.shorter, times-here who (queue' c0), l.stands who c0, h.here))
+    (λ v n. omega (
+      arith,
+      ap (times v) h.shorter,
+      times-other v who (queue' c0) (λ e. n (sym e)),
+      l.stands v c0,
+    )))
+    (λ ahead behind x y f t. l.linked c0 (who ∷ ahead) behind x y (h.shorter ∙ ap (λ zs. who ∷ zs) f) t)
+    (λ ahead mid behind x y f. l.ordered c0 (who ∷ ahead) mid behind x y (h.shorter ∙ ap (λ zs. who ∷ zs) f))
+    (λ w c. at_each (λ v b. holds b ≡ true → 0 < times c (standing b)
+    → slice_get (queue' c) 0 ≡ Some v) at at' who h.moves.other
+    (λ t s. by_cown (λ d q. 0 < times d (standing (at' who))
+    → slice_get q 0 ≡ Some who) queue queue' c0 h.moves.elsewhere
+    (λ z. absurd (omega (arith, h.here, standing_le c0 (at who), l.once who c0)))
+    (λ d n z. l.first who d h.held (subst (λ (k : ℕ). 0 < k) (h.moves.there d n) z)) c s)
+    (λ v n t s. by_cown (λ d q. 0 < times d (standing (at v))
+    → slice_get q 0 ≡ Some v) queue queue' c0 h.moves.elsewhere
+    (λ z. absurd (n (let f : Some who ≡ Some v = ap (λ zs. slice_get zs 0) (sym h.shorter)
+    ∙ l.first v c0 t z in cc)))
+    (λ d m z. l.first v d t z) c s) w)
 
 -- a behaviour that stands nowhere comes or goes
 pub nowhere : (at at' : ℕ → Option OpenBehaviour) (queue : ℕ → List ℕ) (who : ℕ) → Laws at queue → OthersStay at at' who

@@ -1,16 +1,13 @@
 -- Lists of numbers: how often one stands there, and where.
 use Rattle.std.proofs.Common.{zero, suc, ◌≡◌, ℕ, ◌+◌, ◌<◌, ◌≤◌, ◌≢◌, ◌⊎◌, Bool, true, false, cond, ◌&&◌, eqb, List, [], ◌∷◌, ◌++◌, length, get_or, refl, sym, ◌∙◌, ap, subst, inl, inr, arith, append_assoc}
 use Rattle.std.specs.Prelude.{Option, Some, None}
+use Rattle.std.proofs.lemmas.Bool.{cases_eq}
 use Rattle.std.proofs.lemmas.Bool.Decides.{Decides-eqb}
 use Rattle.boc_types.specs.machine.Queues.{times}
 
 -- two numbers are one or not
 pub same_or_not : (x y : ℕ) → (x ≡ y) ⊎ (x ≢ y)
-same_or_not x y =
-    elim (eqb x y) as (λ b. (b ≡ true → x ≡ y) → (x ≡ y → b ≡ true) → (x ≡ y) ⊎ (x ≢ y)) [
-      | true ↦ λ h k. inl (h refl)
-      | false ↦ λ h k. inr (λ e. let f : false ≡ true = k e in cc)
-    ] (Decides-eqb x y).0 (Decides-eqb x y).1
+same_or_not x y = cases_eq x y
 
 pub times-append : (x : ℕ) (xs ys : List ℕ) → times x (xs ++ ys) ≡ times x xs + times x ys
 times-append x [] ys = omega arith

@@ -15,7 +15,7 @@ use Rattle.boc_types.specs.runs.Lives.{Life, Running, Ended}
 use Rattle.boc_types.specs.runs.Run.{meaning_of, next_wish, wish_at, state_of}
 use Rattle.boc_types.specs.machine.Stages.{OpenBehaviour, row_of, row_at, life, life_at, flagged, settled}
 use Rattle.boc_types.specs.machine.Queues.{times}
-use Rattle.boc_types.specs.machine.Steps.{HasNoEnqueue, State, at, queue, members, recorded, unrecorded, opened, stepped, noted, with_stage, with_queue, with_new, with_ready, asking_on, leaving_on, owned, flagging, woken, child, IsDue, IsBlockedAsking, IsBlockedLeaving, Opens, Settles, Starts, Finishes, Advances, Leaves, Makes}
+use Rattle.boc_types.specs.machine.Steps.{HasNoEnqueue, State, at, queue, members, recorded, unrecorded, opened, stepped, noted, with_stage, with_queue, with_new, with_ready, asking_on, leaving_on, owned, flagging, woken, child, IsDue, IsBlockedAsking, IsBlockedLeaving, Opens, Settles, Starts, Finishes, Unhooks, Passes, Advances, Leaves, Makes}
 use Rattle.boc_types.specs.machine.Turns.{IsEnqueueOf, unless_gone, TakesTurn, Begins, NoneReady, Advanced, WaitsToSettle, Opened, Finished, Left, WaitsToLeave, Driven, Turn, Turns}
 use Rattle.boc_types.specs.machine.Schedules.{Reaches, Here, Then}
 use Rattle.boc_types.specs.machine.Movers.{CanLeave}
@@ -96,17 +96,23 @@ leave_due s who b row i c q due e =
     ∙ ap (leave_at s who b (Recorded row (Leaving i))) due.cown
     ∙ ap (leave_list s who b row i c) e
 
+-- a release is an Unhook or a Pass
+leaves_either : (X : Type 0) (s : State) (who row : ℕ) (step : Step) (t : State) → Leaves s who row step t
+    → ((i : ℕ) → Unhooks s who row i t → X) → ((i : ℕ) → Passes s who row i t → X) → X
+leaves_either X s who row (steps.Unhook i) t m unhooks passes = unhooks i m
+leaves_either X s who row (steps.Pass i) t m unhooks passes = passes i m
+leaves_either X s who row steps.Open t m unhooks passes = absurd m
+leaves_either X s who row (steps.Swap i) t m unhooks passes = absurd m
+leaves_either X s who row (steps.Settle i) t m unhooks passes = absurd m
+leaves_either X s who row (steps.Flag i) t m unhooks passes = absurd m
+leaves_either X s who row steps.Own t m unhooks passes = absurd m
+leaves_either X s who row steps.Start t m unhooks passes = absurd m
+leaves_either X s who row steps.Finish t m unhooks passes = absurd m
+
 leave_is : (s : State) (who row : ℕ) (step : Step) (t : State) → Leaves s who row step t → t ≡ leave_of s who (at s who)
-leave_is s who row (steps.Unhook i) t m = m.gives ∙ sym (leave_due s who m.this row i m.c (who ∷ []) m.due m.alone)
-leave_is s who row (steps.Pass i) t m = m.gives
-    ∙ sym (leave_due s who m.this row i m.c (who ∷ (m.next ∷ m.rest)) m.due m.front)
-leave_is s who row steps.Open t m = absurd m
-leave_is s who row (steps.Swap i) t m = absurd m
-leave_is s who row (steps.Settle i) t m = absurd m
-leave_is s who row (steps.Flag i) t m = absurd m
-leave_is s who row steps.Own t m = absurd m
-leave_is s who row steps.Start t m = absurd m
-leave_is s who row steps.Finish t m = absurd m
+leave_is s who row step t m = leaves_either (t ≡ leave_of s who (at s who)) s who row step t m
+    (λ i n. n.gives ∙ sym (leave_due s who n.this row i n.c (who ∷ []) n.due n.alone))
+    (λ i n. n.gives ∙ sym (leave_due s who n.this row i n.c (who ∷ (n.next ∷ n.rest)) n.due n.front))
 
 -- ---- what is blocked has no step
 
@@ -235,17 +241,9 @@ pub record IsLeaving (s : State) (who row : ℕ) : Type 0 where
   pub stage_is : this.stage ≡ Recorded row (Leaving request)
 
 pub leaves_leaving : (s : State) (who row : ℕ) (step : Step) (t : State) → Leaves s who row step t → IsLeaving s who row
-leaves_leaving s who row (steps.Unhook i) t m =
-    record { this = m.this; request = i; is = m.due.is; stage_is = m.due.stage_is }
-leaves_leaving s who row (steps.Pass i) t m =
-    record { this = m.this; request = i; is = m.due.is; stage_is = m.due.stage_is }
-leaves_leaving s who row steps.Open t m = absurd m
-leaves_leaving s who row (steps.Swap i) t m = absurd m
-leaves_leaving s who row (steps.Settle i) t m = absurd m
-leaves_leaving s who row (steps.Flag i) t m = absurd m
-leaves_leaving s who row steps.Own t m = absurd m
-leaves_leaving s who row steps.Start t m = absurd m
-leaves_leaving s who row steps.Finish t m = absurd m
+leaves_leaving s who row step t m = leaves_either (IsLeaving s who row) s who row step t m
+    (λ i n. record { this = n.this; request = i; is = n.due.is; stage_is = n.due.stage_is })
+    (λ i n. record { this = n.this; request = i; is = n.due.is; stage_is = n.due.stage_is })
 
 pub blocked_is_leaving : (s : State) (who row : ℕ) → IsBlockedLeaving s who row → IsLeaving s who row
 blocked_is_leaving s who row m = record { this = m.this; request = m.request; is = m.due.is; stage_is = m.due.stage_is }

@@ -16,7 +16,7 @@ use Rattle.boc_types.proofs.Behaviours.{length-after_outputs}
 use Rattle.boc_machine.proofs.Lists.{same_or_not, no_less}
 use Rattle.boc_machine.proofs.Rows.{changed_same, changed_other}
 use Rattle.boc_machine.proofs.Outputs.{outputs_elsewhere, outputs_alike, take_all_of}
-use Rattle.boc_machine.proofs.Twins.{before_row, before_length, Twin, EndedBefore, OpenAfter, Follows, ended_not_pending, running_not_pending, read_changed}
+use Rattle.boc_machine.proofs.Twins.{before_row, before_length, Twin, EndedBefore, OpenAfter, Follows, ended_not_pending, running_not_pending, twin_lives, twins_changed, read_changed}
 
 -- what a behaviour means, that has its inputs
 meant_if : (o : Option Body) (args : List ℤ) (inputs : List Input) (means : Meaning)
@@ -90,29 +90,25 @@ module _ (p : Program) (c : Config) (ps : List ℕ) (f : Follows p c ps) (r tick
         ]
       ]
 
+  -- a row over a cown that this one lacks is another, and stays
+  still_there : (d : ℕ) → times d cs ≡ 0 → (k : ℕ) (m : Member) → slice_get ms k ≡ Some m
+      → 0 < times d m.behaviour.cowns → slice_get new k ≡ Some m
+  still_there d none k m e h =
+      let other : k ≢ r = λ q. omega (
+        arith,
+        h,
+        none,
+        ap (λ (z : Member). times d z.behaviour.cowns) (is_member m (ap (slice_get ms) (sym q) ∙ e)),
+      ) in
+      changed_other ms r k g (slice_get ms r) other ∙ e
+
   end_values : (d n : ℕ) → EndedBefore new d n → OpenAfter new d n
       → slice_get values' d ≡ slice_get (before_row p ps n) d
   end_values d n over not_over =
       ap (λ vs. slice_get vs d) written_now ∙ elim (same_or_not (times d cs) 0) [
         | inl none ↦ outputs_elsewhere c.values cs can.means.outputs d none ∙ f.values_are d n
-            (λ k m e h lt. elim (same_or_not k r) [
-              | inl q ↦ absurd (omega (
-                arith,
-                h,
-                none,
-                ap (λ (z : Member). times d z.behaviour.cowns) (is_member m (ap (slice_get ms) (sym q) ∙ e)),
-              ))
-              | inr ne ↦ over k m (changed_other ms r k g (slice_get ms r) ne ∙ e) h lt
-            ])
-            (λ k m e h le. elim (same_or_not k r) [
-              | inl q ↦ absurd (omega (
-                arith,
-                h,
-                none,
-                ap (λ (z : Member). times d z.behaviour.cowns) (is_member m (ap (slice_get ms) (sym q) ∙ e)),
-              ))
-              | inr ne ↦ not_over k m (changed_other ms r k g (slice_get ms r) ne ∙ e) h le
-            ])
+            (λ k m e h lt. over k m (still_there d none k m e h) h lt)
+            (λ k m e h le. not_over k m (still_there d none k m e h) h le)
         | inr some ↦
             let h : 0 < times d cs = omega (arith, some) in
             let here : slice_get new r ≡ Some (g can.member) = changed_same ms r g ∙ ap (option_map g) can.is in
@@ -141,25 +137,13 @@ module _ (p : Program) (c : Config) (ps : List ℕ) (f : Follows p c ps) (r tick
   ended_twin : (m : Member) → slice_get ms r ≡ Some m → Twin p ps r (g m)
   ended_twin m e =
       let t = f.twins r m e in
-      record {
-        row = t.row;
-        is = t.is;
-        behaviour_is = t.behaviour_is;
-        inputs_are = t.inputs_are;
-        means_are = t.means_are;
-        writes = t.writes;
-        begun = λ n. t.begun (subst (λ (z : Member). z.life ≢ Pending) (is_member m e) under_way);
-        spawned_is = t.spawned_is;
-      }
+      twin_lives p ps r m m.inputs Ended t
+      (λ n. t.begun (subst (λ (z : Member). z.life ≢ Pending) (is_member m e) under_way))
 
   pub follows_end : Follows p (record { members = new; values = values' }) ps
   follows_end = record {
     same = f.same ∙ sym (length-changed ms r g (slice_get ms r));
-    twins = λ k m' e. elim (read_changed ms r g k m' e) [
-      | inl q ↦ subst (λ (z : Member). Twin p ps k z) q.1.2
-          (subst (λ (z : ℕ). Twin p ps z (g q.1.0)) (sym q.0) (ended_twin q.1.0 q.1.1))
-      | inr q ↦ f.twins k m' q.1
-    ];
+    twins = twins_changed p ps ms r g f.twins ended_twin;
     childless = f.childless;
     ordered = λ a b m n at_a at_b lt d ha hb np. elim (read_changed ms r g a m at_a) [
       | inl w ↦ ap (λ (z : Member). z.life) (sym w.1.2)

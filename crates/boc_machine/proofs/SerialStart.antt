@@ -10,7 +10,7 @@ use Rattle.boc_types.proofs.ChangedItems.{length-changed}
 use Rattle.boc_machine.proofs.Lists.{same_or_not}
 use Rattle.boc_machine.proofs.Rows.{changed_same, changed_other, life_there}
 use Rattle.boc_machine.proofs.Outputs.{inputs_alike}
-use Rattle.boc_machine.proofs.Twins.{before_row, Twin, EndedBefore, OpenAfter, Follows, over_if, ended_not_pending, read_changed, has_cown}
+use Rattle.boc_machine.proofs.Twins.{before_row, Twin, EndedBefore, OpenAfter, Follows, over_if, ended_not_pending, twin_lives, twins_changed, read_changed, has_cown}
 
 module _ (p : Program) (c : Config) (ps : List ℕ) (f : Follows p c ps) (r : ℕ)
     (may : MayStart (state_of c.members) (member_cowns c.members) r) where
@@ -51,25 +51,12 @@ module _ (p : Program) (c : Config) (ps : List ℕ) (f : Follows p c ps) (r : �
   start_twin : (m : Member) → slice_get ms r ≡ Some m → Twin p ps r (g m)
   start_twin m e =
       let t = f.twins r m e in
-      record {
-        row = t.row;
-        is = t.is;
-        behaviour_is = t.behaviour_is;
-        inputs_are = t.inputs_are;
-        means_are = t.means_are;
-        writes = t.writes;
-        begun = λ n. inputs_now m e ∙ sym t.inputs_are;
-        spawned_is = t.spawned_is;
-      }
+      twin_lives p ps r m (inputs_of m.behaviour.cowns c.values) Running t (λ n. inputs_now m e ∙ sym t.inputs_are)
 
   pub follows_start : Follows p (record c { members = new }) ps
   follows_start = record {
     same = f.same ∙ sym (length-changed ms r g (slice_get ms r));
-    twins = λ k m' e. elim (read_changed ms r g k m' e) [
-      | inl q ↦ subst (λ (z : Member). Twin p ps k z) q.1.2
-          (subst (λ (z : ℕ). Twin p ps z (g q.1.0)) (sym q.0) (start_twin q.1.0 q.1.1))
-      | inr q ↦ f.twins k m' q.1
-    ];
+    twins = twins_changed p ps ms r g f.twins start_twin;
     childless = f.childless;
     ordered = λ a b m n at_a at_b lt d ha hb np. elim (read_changed ms r g b n at_b) [
       | inl q ↦ elim (read_changed ms r g a m at_a) [

@@ -1,10 +1,11 @@
 -- A run beside the serial run along the rows of its log: each row that has started has the inputs that it has there, and
 -- the value of a cown is the one there after the rows that wrote it so far.
-use Rattle.std.proofs.Common.{◌≡◌, ◌≢◌, ℕ, suc, ◌<◌, ◌≤◌, ◌⊎◌, inl, inr, List, [], ◌∷◌, ◌++◌, length, take, refl, sym, ◌∙◌, ap, subst, arith, ℤ, length-append}
+use Rattle.std.proofs.Common.{◌≡◌, ◌≢◌, ℕ, suc, ◌<◌, ◌≤◌, ◌⊎◌, inl, inr, List, [], ◌∷◌, ◌++◌, length, take, refl, sym, ◌∙◌, ap, subst, arith, ℤ, length-append, rules}
 use Rattle.std.specs.Prelude.{slice_get, Option, Some, None, option_map}
 use Rattle.std.specs.Option.{option_map_or}
 use Rattle.std.specs.List.{Contains}
 use Rattle.std.proofs.lemmas.Bool.{cases_lt}
+use Rattle.boc_types.specs.declared.short.Input.{Input}
 use Rattle.boc_types.specs.declared.program.Program.{Program}
 use Rattle.boc_types.specs.program.Programs.{initial_values}
 use Rattle.boc_types.specs.runs.Serial.{inputs_of, after_outputs, SerialRow, Serial, meaning_if, children, next_behaviour, run_at_once, after_turn, after_turns, serial_along}
@@ -52,6 +53,12 @@ pub record Twin (p : Program) (ps : List ℕ) (r : ℕ) (m : Member) : Type 0 wh
   pub writes : before_row p ps (suc r) ≡ after_outputs (before_row p ps r) m.behaviour.cowns row.means.outputs
   pub begun : m.life ≢ Pending → m.inputs ≡ row.inputs
   pub spawned_is : m.spawned ≡ children r (later (rows_along p ps))
+
+-- one that lives on stays beside its row, if it has the inputs of the row once it has started
+pub twin_lives : (p : Program) (ps : List ℕ) (r : ℕ) (m : Member) (inputs : List Input) (life : Life)
+    (t : Twin p ps r m) → (life ≢ Pending → inputs ≡ t.row.inputs)
+    → Twin p ps r (record m { inputs = inputs; life = life })
+twin_lives p ps r m inputs life t begun = search rules
 
 -- of the rows over a cown those before this one have ended, and the others not
 abbrev pub EndedBefore : List Member → ℕ → ℕ → Type 0
@@ -125,3 +132,15 @@ pub has_cown : (ms : List Member) (r : ℕ) (m : Member) (d : ℕ) → slice_get
     → 0 < times d m.behaviour.cowns → Contains (member_cowns ms r) d
 has_cown ms r m d e h = subst (λ (cs : List ℕ). Contains cs d)
     (sym (ap (λ o. option_map_or (λ (x : Member). x.behaviour.cowns) o []) e)) (contains_times d m.behaviour.cowns h)
+
+-- where one behaviour changes and stays beside its row, all do
+pub twins_changed : (p : Program) (ps : List ℕ) (ms : List Member) (r : ℕ) (g : Member → Member)
+    → ((k : ℕ) (m : Member) → slice_get ms k ≡ Some m → Twin p ps k m)
+    → ((m : Member) → slice_get ms r ≡ Some m → Twin p ps r (g m))
+    → (k : ℕ) (m' : Member) → slice_get (changed ms r g (slice_get ms r)) k ≡ Some m' → Twin p ps k m'
+twins_changed p ps ms r g twins here k m' e =
+    elim (read_changed ms r g k m' e) [
+      | inl q ↦ subst (λ (z : Member). Twin p ps k z) q.1.2
+          (subst (λ (z : ℕ). Twin p ps z (g q.1.0)) (sym q.0) (here q.1.0 q.1.1))
+      | inr q ↦ twins k m' q.1
+    ]

@@ -1,6 +1,7 @@
 -- The machine tried on a program whose rows may come in two orders: the program, and the states that one list of choices leads to.
-use Rattle.std.proofs.Common.{ℕ, List, [], ◌∷◌, Some, None, true, false, refl, codes, pos, lit≤, take}
+use Rattle.std.proofs.Common.{ℕ, ◌≤◌, List, [], ◌∷◌, Some, None, true, false, refl, codes, pos, lit≤, take, arith, IsTrue}
 use Rattle.std.specs.Prelude.{Option}
+use Rattle.boc_types.specs.declared.limits.TheConstants.{MOST_HELD, MOST_NODES, MOST_SLOTS}
 use Rattle.boc_types.specs.declared.body.Operator.TheVariants.{Add, Multiply}
 use Rattle.boc_types.specs.declared.body.Body.{Body}
 use Rattle.boc_types.specs.declared.body.EndStatus.TheVariants as statuses
@@ -11,7 +12,8 @@ use Rattle.boc_types.specs.declared.event.Event.TheVariants.{Spawn, Start, End}
 use Rattle.boc_types.specs.declared.stage.Phase.TheVariants.{Flagging, Owning, Waiting, Ready, Running, Leaving}
 use Rattle.boc_types.specs.declared.stage.Stage.{Stage}
 use Rattle.boc_types.specs.declared.stage.Stage.TheVariants.{Asking, Recorded}
-use Rattle.boc_types.specs.program.Syntax.{Number, Slot, Binary, Single, Done, Assign, When}
+use Rattle.boc_types.specs.program.Resolved.{nodes, fits}
+use Rattle.boc_types.specs.program.Syntax.{Code, Number, Slot, Binary, Single, Done, Assign, When}
 use Rattle.boc_types.specs.machine.Stages.{OpenBehaviour}
 use Rattle.boc_types.specs.machine.Steps.{State}
 
@@ -21,53 +23,38 @@ use Rattle.boc_types.specs.machine.Steps.{State}
 -- def left(; g) { when one(; a, b); }
 -- def right(; g) { when two(; a); }
 -- main { when left(; p); when right(; q); }
-abbrev pub main_body : Body
-main_body = record {
+
+-- a body of a definition over so many cowns, with no parameters and no variables
+abbrev over_cowns : (cowns : ℕ) (block : Code) → cowns ≤ MOST_HELD → cowns ≤ MOST_SLOTS → nodes block ≤ MOST_NODES
+    → IsTrue (fits (record { slots = cowns; cowns = cowns }) block) → Body
+over_cowns cowns block few_cowns few_slots few_nodes resolved = record {
   params = 0;
-  cown_params = 0;
-  slots = 0;
-  block = When 3 [] (Single 2 ∷ []) (When 4 [] (Single 3 ∷ []) Done);
-  few_params = lit≤ tt;
-  few_cowns = lit≤ tt;
-  few_slots = lit≤ tt;
-  parameters_are_slots = lit≤ tt;
-  few_nodes = lit≤ tt;
-  resolved = refl;
+  cown_params = cowns;
+  slots = cowns;
+  block = block;
+  few_params = omega arith;
+  few_cowns = few_cowns;
+  few_slots = few_slots;
+  parameters_are_slots = omega arith;
+  few_nodes = few_nodes;
+  resolved = resolved;
 }
+
+abbrev pub main_body : Body
+main_body = over_cowns 0 (When 3 [] (Single 2 ∷ []) (When 4 [] (Single 3 ∷ []) Done)) (lit≤ tt) (lit≤ tt) (lit≤ tt) refl
 
 abbrev pub one_body : Body
-one_body = record {
-  params = 0;
-  cown_params = 2;
-  slots = 2;
-  block = Assign 0 (Binary Add (Slot 0) (Number (pos 1))) (Assign 1 (Binary Add (Slot 1) (Number (pos 1))) Done);
-  few_params = lit≤ tt;
-  few_cowns = lit≤ tt;
-  few_slots = lit≤ tt;
-  parameters_are_slots = lit≤ tt;
-  few_nodes = lit≤ tt;
-  resolved = refl;
-}
+one_body = over_cowns 2 (Assign 0 (Binary Add (Slot 0) (Number (pos 1))) (Assign 1 (Binary Add (Slot 1) (Number (pos 1))) Done))
+    (lit≤ tt) (lit≤ tt) (lit≤ tt) refl
 
 abbrev pub two_body : Body
-two_body = record {
-  params = 0;
-  cown_params = 1;
-  slots = 1;
-  block = Assign 0 (Binary Multiply (Slot 0) (Number (pos 10))) Done;
-  few_params = lit≤ tt;
-  few_cowns = lit≤ tt;
-  few_slots = lit≤ tt;
-  parameters_are_slots = lit≤ tt;
-  few_nodes = lit≤ tt;
-  resolved = refl;
-}
+two_body = over_cowns 1 (Assign 0 (Binary Multiply (Slot 0) (Number (pos 10))) Done) (lit≤ tt) (lit≤ tt) (lit≤ tt) refl
 
 abbrev pub left_body : Body
-left_body = record two_body { block = When 1 [] (Single 0 ∷ Single 1 ∷ []) Done; few_nodes = lit≤ tt; resolved = refl }
+left_body = over_cowns 1 (When 1 [] (Single 0 ∷ Single 1 ∷ []) Done) (lit≤ tt) (lit≤ tt) (lit≤ tt) refl
 
 abbrev pub right_body : Body
-right_body = record two_body { block = When 2 [] (Single 0 ∷ []) Done; few_nodes = lit≤ tt; resolved = refl }
+right_body = over_cowns 1 (When 2 [] (Single 0 ∷ []) Done) (lit≤ tt) (lit≤ tt) (lit≤ tt) refl
 
 abbrev cown : List ℕ → Cown
 cown name = record { name = name; size = None; initial = pos 0 }
@@ -138,6 +125,12 @@ here events behaviours queues ready steps = record {
   ready = ready;
   steps = steps;
 }
+
+-- where left and right run and have asked for cown a: the stages of what they enqueue, and the list of cown b
+abbrev both_run : ℕ → Stage → Stage → List ℕ → List ℕ → ℕ → State
+both_run events first second on_b ready steps = here events
+    (None ∷ left (Recorded 1 Running) ∷ right (Recorded 2 Running) ∷ one first ∷ two second ∷ [])
+    ((3 ∷ 4 ∷ []) ∷ on_b ∷ (1 ∷ []) ∷ (2 ∷ []) ∷ []) ready steps
 
 -- ---- the states, after so many choices
 
@@ -251,75 +244,47 @@ state_17 = here 7
 
 -- 18 by worker 1: Swap 0 of two
 abbrev pub state_18 : State
-state_18 = here 7
-    (None ∷ left (Recorded 1 Running) ∷ right (Recorded 2 Running) ∷ one (Asking 0 true) ∷ two (Asking 0 true) ∷ [])
-    ((3 ∷ 4 ∷ []) ∷ [] ∷ (1 ∷ []) ∷ (2 ∷ []) ∷ []) [] 18
+state_18 = both_run 7 (Asking 0 true) (Asking 0 true) [] [] 18
 
--- 19 by worker 1: blocked at Settle 0 of two
-abbrev pub state_19 : State
-state_19 = here 7
-    (None ∷ left (Recorded 1 Running) ∷ right (Recorded 2 Running) ∷ one (Asking 0 true) ∷ two (Asking 0 true) ∷ [])
-    ((3 ∷ 4 ∷ []) ∷ [] ∷ (1 ∷ []) ∷ (2 ∷ []) ∷ []) [] 18
+-- 19 by worker 1: blocked at Settle 0 of two, which changes nothing
 
 -- 20 by worker 0: Settle 0 of one
 abbrev pub state_20 : State
-state_20 = here 7
-    (None ∷ left (Recorded 1 Running) ∷ right (Recorded 2 Running) ∷ one (Asking 1 false) ∷ two (Asking 0 true) ∷ [])
-    ((3 ∷ 4 ∷ []) ∷ [] ∷ (1 ∷ []) ∷ (2 ∷ []) ∷ []) [] 19
+state_20 = both_run 7 (Asking 1 false) (Asking 0 true) [] [] 19
 
 -- 21 by worker 0: Swap 1 of one
 abbrev pub state_21 : State
-state_21 = here 7
-    (None ∷ left (Recorded 1 Running) ∷ right (Recorded 2 Running) ∷ one (Asking 1 true) ∷ two (Asking 0 true) ∷ [])
-    ((3 ∷ 4 ∷ []) ∷ (3 ∷ []) ∷ (1 ∷ []) ∷ (2 ∷ []) ∷ []) [] 20
+state_21 = both_run 7 (Asking 1 true) (Asking 0 true) (3 ∷ []) [] 20
 
 -- 22 by worker 0: Settle 1 of one
 abbrev pub state_22 : State
-state_22 = here 8
-    (None ∷ left (Recorded 1 Running) ∷ right (Recorded 2 Running) ∷ one (Recorded 3 (Flagging 0)) ∷ two (Asking 0 true) ∷ [])
-    ((3 ∷ 4 ∷ []) ∷ (3 ∷ []) ∷ (1 ∷ []) ∷ (2 ∷ []) ∷ []) [] 21
+state_22 = both_run 8 (Recorded 3 (Flagging 0)) (Asking 0 true) (3 ∷ []) [] 21
 
--- 23 by worker 1: blocked at Settle 0 of two
-abbrev pub state_23 : State
-state_23 = here 8
-    (None ∷ left (Recorded 1 Running) ∷ right (Recorded 2 Running) ∷ one (Recorded 3 (Flagging 0)) ∷ two (Asking 0 true) ∷ [])
-    ((3 ∷ 4 ∷ []) ∷ (3 ∷ []) ∷ (1 ∷ []) ∷ (2 ∷ []) ∷ []) [] 21
+-- 23 by worker 1: blocked at Settle 0 of two, which changes nothing
 
 -- 24 by worker 0: Flag 0 of one
 abbrev pub state_24 : State
-state_24 = here 8
-    (None ∷ left (Recorded 1 Running) ∷ right (Recorded 2 Running) ∷ one (Recorded 3 (Flagging 1)) ∷ two (Asking 0 true) ∷ [])
-    ((3 ∷ 4 ∷ []) ∷ (3 ∷ []) ∷ (1 ∷ []) ∷ (2 ∷ []) ∷ []) [] 22
+state_24 = both_run 8 (Recorded 3 (Flagging 1)) (Asking 0 true) (3 ∷ []) [] 22
 
 -- 25 by worker 1: Settle 0 of two
 abbrev pub state_25 : State
-state_25 = here 9
-    (None ∷ left (Recorded 1 Running) ∷ right (Recorded 2 Running) ∷ one (Recorded 3 (Flagging 1)) ∷ two (Recorded 4 (Flagging 0)) ∷ [])
-    ((3 ∷ 4 ∷ []) ∷ (3 ∷ []) ∷ (1 ∷ []) ∷ (2 ∷ []) ∷ []) [] 23
+state_25 = both_run 9 (Recorded 3 (Flagging 1)) (Recorded 4 (Flagging 0)) (3 ∷ []) [] 23
 
 -- 26 by worker 1: Flag 0 of two
 abbrev pub state_26 : State
-state_26 = here 9
-    (None ∷ left (Recorded 1 Running) ∷ right (Recorded 2 Running) ∷ one (Recorded 3 (Flagging 1)) ∷ two (Recorded 4 Owning) ∷ [])
-    ((3 ∷ 4 ∷ []) ∷ (3 ∷ []) ∷ (1 ∷ []) ∷ (2 ∷ []) ∷ []) [] 24
+state_26 = both_run 9 (Recorded 3 (Flagging 1)) (Recorded 4 Owning) (3 ∷ []) [] 24
 
 -- 27 by worker 1: Own of two, which is waiting
 abbrev pub state_27 : State
-state_27 = here 9
-    (None ∷ left (Recorded 1 Running) ∷ right (Recorded 2 Running) ∷ one (Recorded 3 (Flagging 1)) ∷ two (Recorded 4 Waiting) ∷ [])
-    ((3 ∷ 4 ∷ []) ∷ (3 ∷ []) ∷ (1 ∷ []) ∷ (2 ∷ []) ∷ []) [] 25
+state_27 = both_run 9 (Recorded 3 (Flagging 1)) (Recorded 4 Waiting) (3 ∷ []) [] 25
 
 -- 28 by worker 0: Flag 1 of one
 abbrev pub state_28 : State
-state_28 = here 9
-    (None ∷ left (Recorded 1 Running) ∷ right (Recorded 2 Running) ∷ one (Recorded 3 Owning) ∷ two (Recorded 4 Waiting) ∷ [])
-    ((3 ∷ 4 ∷ []) ∷ (3 ∷ []) ∷ (1 ∷ []) ∷ (2 ∷ []) ∷ []) [] 26
+state_28 = both_run 9 (Recorded 3 Owning) (Recorded 4 Waiting) (3 ∷ []) [] 26
 
 -- 29 by worker 0: Own of one, which is ready
 abbrev pub state_29 : State
-state_29 = here 9
-    (None ∷ left (Recorded 1 Running) ∷ right (Recorded 2 Running) ∷ one (Recorded 3 Ready) ∷ two (Recorded 4 Waiting) ∷ [])
-    ((3 ∷ 4 ∷ []) ∷ (3 ∷ []) ∷ (1 ∷ []) ∷ (2 ∷ []) ∷ []) (3 ∷ []) 27
+state_29 = both_run 9 (Recorded 3 Ready) (Recorded 4 Waiting) (3 ∷ []) (3 ∷ []) 27
 
 -- 30 by worker 0: Finish of left
 abbrev pub state_30 : State

@@ -14,7 +14,7 @@ use Rattle.boc_types.specs.machine.Steps.{State, at, queue, with_stage, IsBlocke
 use Rattle.boc_types.specs.machine.Turns.{TakesTurn, WaitsToSettle}
 use Rattle.boc_machine.proofs.OneTurn.{takes_one, blocked_settle, same_one}
 use Rattle.boc_machine.proofs.TwoOrders.{program, main_body, left_at, one_at, two_at, state_2, state_3, state_6, state_11, state_18, state_24, state_33, state_34}
-use Rattle.boc_machine.proofs.TwoOrdersTurns.{sound_18}
+use Rattle.boc_machine.proofs.TwoOrdersTurns.{sound_18, blocked_at}
 
 -- the stage of the behaviour of a number is the one that is there
 stage_there : (s : State) (who : ℕ) (b b' : OpenBehaviour) (st : Stage) → at s who ≡ Some b → at s who ≡ Some b'
@@ -32,20 +32,8 @@ one_or_two n one two = omega (arith, one, two)
 
 -- ---- one blocked Settle
 
--- the second behaviour on cown a waits for the first to be flagged
 blocked_then : IsBlockedAsking state_18 4
-blocked_then = record {
-  this = two_at (Asking 0 true);
-  request = 0;
-  c = 0;
-  due =
-      record { is = refl; stage_is = refl; cown = refl };
-  ahead = [];
-  before = 3;
-  behind = [];
-  stands = refl;
-  unflagged = refl;
-}
+blocked_then = blocked_at state_18 refl refl refl
 
 cannot_settle : (t : State) → Settles program state_18 4 0 t → ⊥
 cannot_settle t m = blocked_settle program state_18 4 0 t m blocked_then

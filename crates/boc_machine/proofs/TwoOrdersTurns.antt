@@ -1,26 +1,31 @@
 -- The machine tried on a program whose rows may come in two orders: the turns of one list of choices, what they lead to, and
 -- what isn't allowed.
-use Rattle.std.proofs.Common.{◌≡◌, ◌≢◌, ℕ, zero, suc, ◌<◌, List, [], ◌∷◌, ◌++◌, Some, None, Bool, true, false, not, cond, get_or, refl, sym, ◌∙◌, ap, subst, pos, lit≤, take, IsTrue}
-use Rattle.std.specs.Prelude.{Option, ◌&&◌, nat_eq, nat_lt}
+use Rattle.std.proofs.Common.{◌≡◌, ◌≢◌, ℕ, zero, suc, ◌+◌, ◌<◌, List, [], ◌∷◌, ◌++◌, Some, None, Bool, true, false, not, cond, get_or, length, refl, sym, ◌∙◌, ap, subst, pos, lit≤, take, IsTrue}
+use Rattle.std.specs.Prelude.{Option, ◌&&◌, nat_eq, nat_lt, slice_get, slice_set}
+use Rattle.boc_types.specs.declared.limits.TheConstants.{MOST_ROWS}
+use Rattle.boc_types.specs.declared.body.Body.{Body}
 use Rattle.boc_types.specs.declared.body.EndStatus.TheVariants.{Done}
+use Rattle.boc_types.specs.declared.event.Event.TheVariants.{Start, End}
 use Rattle.boc_types.specs.declared.short.Input.{Input}
 use Rattle.boc_types.specs.declared.stage.Phase.TheVariants.{Flagging, Owning, Ready, Running, Leaving}
+use Rattle.boc_types.specs.declared.stage.Stage.{Stage}
 use Rattle.boc_types.specs.declared.stage.Stage.TheVariants.{Asking, Recorded}
+use Rattle.boc_types.specs.declared.step.Step.{Step}
 use Rattle.boc_types.specs.declared.step.Step.TheVariants as steps
 use Rattle.boc_types.specs.program.Meaning.{Wish, meaning}
 use Rattle.boc_types.specs.runs.Lives as lives
-use Rattle.boc_types.specs.runs.Run.{Member, IsWholeRun}
-use Rattle.boc_types.specs.machine.Stages.{OpenBehaviour, flagged, enqueues, parent_of}
+use Rattle.boc_types.specs.runs.Run.{Member, IsWholeRun, meaning_of, next_wish, state_of}
+use Rattle.boc_types.specs.machine.Stages.{OpenBehaviour, flagged, settled, enqueues, enqueues_at, parent_of}
 use Rattle.boc_types.specs.machine.Queues.{times}
-use Rattle.boc_types.specs.machine.Steps.{State, at, queue, values, IsQuiet, HasNoEnqueue, IsFlaggedBefore}
+use Rattle.boc_types.specs.machine.Steps.{State, at, queue, values, members, recorded, unrecorded, opened, stepped, noted, with_stage, with_queue, with_new, with_ready, asking_on, leaving_on, flagging, owned, woken, child, Advances, IsDue, IsBlockedAsking, IsQuiet, HasNoEnqueue, IsFlaggedBefore}
 use Rattle.boc_types.specs.machine.AlongRows.{cowns_of_rows, steps_of_rows, serial_of_log}
-use Rattle.boc_types.specs.machine.Turns.{Begins, Advanced, WaitsToSettle, Opened, Finished, Left, Driven, opening_driven, Turn, Turns}
+use Rattle.boc_types.specs.machine.Turns.{Begins, Advanced, WaitsToSettle, Opened, Finished, Left, Driven, opening_driven, unless_gone, TakesTurn, Turn, Turns}
 use Rattle.boc_types.specs.machine.Sound.{IsSound}
 use Rattle.std.proofs.lemmas.Bool.{ltb-true}
 use Rattle.boc_machine.proofs.Lists.{and_true, same_numbers}
 use Rattle.boc_machine.proofs.Every.{opening_sound, whole_run}
 use Rattle.boc_machine.proofs.OneTurn.{turns_keep}
-use Rattle.boc_machine.proofs.TwoOrders.{program, log, main_body, one_body, two_body, left_body, right_body, main_at, left_at, right_at, one_at, two_at, state_0, state_1, state_2, state_3, state_4, state_5, state_6, state_7, state_8, state_9, state_10, state_11, state_12, state_13, state_14, state_15, state_16, state_17, state_18, state_19, state_20, state_21, state_22, state_23, state_24, state_25, state_26, state_27, state_28, state_29, state_30, state_31, state_32, state_33, state_34, state_35, state_36, state_37, state_38, state_39, state_40}
+use Rattle.boc_machine.proofs.TwoOrders.{program, log, main_body, one_body, two_body, left_body, right_body, main_at, left_at, right_at, one_at, two_at, state_0, state_1, state_2, state_3, state_4, state_5, state_6, state_7, state_8, state_9, state_10, state_11, state_12, state_13, state_14, state_15, state_16, state_17, state_18, state_20, state_21, state_22, state_24, state_25, state_26, state_27, state_28, state_29, state_30, state_31, state_32, state_33, state_34, state_35, state_36, state_37, state_38, state_39, state_40}
 
 -- ---- tests by which conditions over all numbers are shown
 
@@ -106,841 +111,192 @@ ran kind inputs cowns wishes = record {
   life = lives.Running;
 }
 
-abbrev pub driven_0 : Driven
+abbrev driven_0 : Driven
 driven_0 = record { state = state_0; serves = None ∷ None ∷ [] }
 
-abbrev pub driven_1 : Driven
-driven_1 = record { state = state_1; serves = Some 0 ∷ None ∷ [] }
-
-abbrev pub driven_2 : Driven
-driven_2 = record { state = state_2; serves = Some 0 ∷ None ∷ [] }
-
-abbrev pub driven_3 : Driven
-driven_3 = record { state = state_3; serves = Some 0 ∷ None ∷ [] }
-
-abbrev pub driven_4 : Driven
-driven_4 = record { state = state_4; serves = Some 0 ∷ None ∷ [] }
-
-abbrev pub driven_5 : Driven
-driven_5 = record { state = state_5; serves = Some 0 ∷ None ∷ [] }
-
-abbrev pub driven_6 : Driven
-driven_6 = record { state = state_6; serves = Some 0 ∷ None ∷ [] }
-
-abbrev pub driven_7 : Driven
-driven_7 = record { state = state_7; serves = Some 0 ∷ None ∷ [] }
-
-abbrev pub driven_8 : Driven
-driven_8 = record { state = state_8; serves = Some 0 ∷ None ∷ [] }
-
-abbrev pub driven_9 : Driven
-driven_9 = record { state = state_9; serves = Some 0 ∷ None ∷ [] }
-
-abbrev pub driven_10 : Driven
-driven_10 = record { state = state_10; serves = Some 0 ∷ None ∷ [] }
-
-abbrev pub driven_11 : Driven
-driven_11 = record { state = state_11; serves = Some 0 ∷ None ∷ [] }
-
-abbrev pub driven_12 : Driven
-driven_12 = record { state = state_12; serves = None ∷ None ∷ [] }
-
-abbrev pub driven_13 : Driven
-driven_13 = record { state = state_13; serves = Some 1 ∷ None ∷ [] }
-
-abbrev pub driven_14 : Driven
-driven_14 = record { state = state_14; serves = Some 1 ∷ Some 2 ∷ [] }
-
-abbrev pub driven_15 : Driven
-driven_15 = record { state = state_15; serves = Some 1 ∷ Some 2 ∷ [] }
-
-abbrev pub driven_16 : Driven
-driven_16 = record { state = state_16; serves = Some 1 ∷ Some 2 ∷ [] }
-
-abbrev pub driven_17 : Driven
-driven_17 = record { state = state_17; serves = Some 1 ∷ Some 2 ∷ [] }
-
-abbrev pub driven_18 : Driven
+abbrev driven_18 : Driven
 driven_18 = record { state = state_18; serves = Some 1 ∷ Some 2 ∷ [] }
 
-abbrev pub driven_19 : Driven
-driven_19 = record { state = state_19; serves = Some 1 ∷ Some 2 ∷ [] }
-
-abbrev pub driven_20 : Driven
-driven_20 = record { state = state_20; serves = Some 1 ∷ Some 2 ∷ [] }
-
-abbrev pub driven_21 : Driven
-driven_21 = record { state = state_21; serves = Some 1 ∷ Some 2 ∷ [] }
-
-abbrev pub driven_22 : Driven
-driven_22 = record { state = state_22; serves = Some 1 ∷ Some 2 ∷ [] }
-
-abbrev pub driven_23 : Driven
-driven_23 = record { state = state_23; serves = Some 1 ∷ Some 2 ∷ [] }
-
-abbrev pub driven_24 : Driven
-driven_24 = record { state = state_24; serves = Some 1 ∷ Some 2 ∷ [] }
-
-abbrev pub driven_25 : Driven
+abbrev driven_25 : Driven
 driven_25 = record { state = state_25; serves = Some 1 ∷ Some 2 ∷ [] }
 
-abbrev pub driven_26 : Driven
-driven_26 = record { state = state_26; serves = Some 1 ∷ Some 2 ∷ [] }
-
-abbrev pub driven_27 : Driven
-driven_27 = record { state = state_27; serves = Some 1 ∷ Some 2 ∷ [] }
-
-abbrev pub driven_28 : Driven
-driven_28 = record { state = state_28; serves = Some 1 ∷ Some 2 ∷ [] }
-
-abbrev pub driven_29 : Driven
-driven_29 = record { state = state_29; serves = Some 1 ∷ Some 2 ∷ [] }
-
-abbrev pub driven_30 : Driven
-driven_30 = record { state = state_30; serves = Some 1 ∷ Some 2 ∷ [] }
-
-abbrev pub driven_31 : Driven
-driven_31 = record { state = state_31; serves = None ∷ Some 2 ∷ [] }
-
-abbrev pub driven_32 : Driven
-driven_32 = record { state = state_32; serves = Some 3 ∷ Some 2 ∷ [] }
-
-abbrev pub driven_33 : Driven
-driven_33 = record { state = state_33; serves = Some 3 ∷ Some 2 ∷ [] }
-
-abbrev pub driven_34 : Driven
-driven_34 = record { state = state_34; serves = Some 3 ∷ Some 2 ∷ [] }
-
-abbrev pub driven_35 : Driven
-driven_35 = record { state = state_35; serves = None ∷ Some 2 ∷ [] }
-
-abbrev pub driven_36 : Driven
-driven_36 = record { state = state_36; serves = None ∷ Some 2 ∷ [] }
-
-abbrev pub driven_37 : Driven
-driven_37 = record { state = state_37; serves = None ∷ None ∷ [] }
-
-abbrev pub driven_38 : Driven
-driven_38 = record { state = state_38; serves = None ∷ Some 4 ∷ [] }
-
-abbrev pub driven_39 : Driven
-driven_39 = record { state = state_39; serves = None ∷ Some 4 ∷ [] }
-
-abbrev pub driven_40 : Driven
+abbrev driven_40 : Driven
 driven_40 = record { state = state_40; serves = None ∷ None ∷ [] }
 
-turn_1 : Turn program driven_0 0 driven_1
-turn_1 = record {
-  before = None;
-  after = Some 0;
-  is = refl;
-  takes =
-      Begins 0 0 state_1 (record { this = main_at (Recorded 0 Ready); rest = []; is = refl; stage_is = refl; head = refl; gives = refl });
-  serves_are = refl;
-}
+-- ---- the kinds of turns
 
-turn_2 : Turn program driven_1 0 driven_2
-turn_2 = record {
-  before = Some 0;
-  after = Some 0;
-  is = refl;
-  takes =
-      Opened 0 state_2 (record {
-        wish = left_wish;
-        may =
-            record { runs = refl; none_open = none_open state_1 0 refl; next = refl; room = lit≤ tt };
-        gives =
-            refl;
-      });
-  serves_are = refl;
-}
+-- turns, one after the other
+data Played : Driven → List ℕ → Driven → Type 0 where
+  Over : {d : Driven} → Played d [] d
+  Then : {d f : Driven} {worker : ℕ} {workers : List ℕ} (e : Driven) → Turn program d worker e → Played e workers f
+      → Played d (worker ∷ workers) f
 
-turn_3 : Turn program driven_2 0 driven_3
-turn_3 = record {
-  before = Some 0;
-  after = Some 0;
-  is = refl;
-  takes =
-      Advanced 0 1 (steps.Swap 0) state_3 (record { is_open = refl; parent = refl })
-      (record {
-        this = left_at (Asking 0 false);
-        c = 2;
-        due =
-            (record { is = refl; stage_is = refl; cown = refl });
-        gives = refl;
-      });
-  serves_are = refl;
-}
+turns_of : {d e : Driven} {workers : List ℕ} → Played d workers e → Turns program d workers e
+turns_of Over = refl
+turns_of (Then e turn others) = (e, turn, turns_of others)
 
-turn_4 : Turn program driven_3 0 driven_4
-turn_4 = record {
-  before = Some 0;
-  after = Some 0;
-  is = refl;
-  takes =
-      Advanced 0 1 (steps.Settle 0) state_4 (record { is_open = refl; parent = refl })
-      (record {
-        this = left_at (Asking 0 true);
-        c = 2;
-        due =
-            (record { is = refl; stage_is = refl; cown = refl });
-        free = free_in state_3 2 1 refl;
-        gives =
-            refl;
-      });
-  serves_are = refl;
-}
+joined : (d e f : Driven) (xs ys : List ℕ) → Turns program d xs e → Turns program e ys f → Turns program d (xs ++ ys) f
+joined d e f [] ys is others = subst (λ (z : Driven). Turns program z ys f) is others
+joined d e f (x ∷ xs) ys turns others = (turns.0, turns.1, joined turns.0 e f xs ys turns.2 others)
 
-turn_5 : Turn program driven_4 0 driven_5
-turn_5 = record {
-  before = Some 0;
-  after = Some 0;
-  is = refl;
-  takes =
-      Advanced 0 1 (steps.Flag 0) state_5 (record { is_open = refl; parent = refl })
-      (record {
-        this = left_at (Recorded 1 (Flagging 0));
-        row = 1;
-        c = 2;
-        due =
-            (record { is = refl; stage_is = refl; cown = refl });
-        gives = refl;
-      });
-  serves_are = refl;
-}
+-- where a turn leads to
+abbrev then_at : Driven → State → ℕ → Option ℕ → Driven
+then_at d t worker after = record { state = t; serves = slice_set d.serves worker after }
 
-turn_6 : Turn program driven_5 0 driven_6
-turn_6 = record {
-  before = Some 0;
-  after = Some 0;
-  is = refl;
-  takes =
-      Advanced 0 1 steps.Own state_6 (record { is_open = refl; parent = refl })
-      (record { this = left_at (Recorded 1 Owning); row = 1; is = refl; stage_is = refl; gives = refl });
-  serves_are =
-      refl;
-}
+module _ {d : Driven} {worker : ℕ} where
+  -- a worker that serves no row begins the first that is ready
+  begins : (t : State) (who row : ℕ) (this : OpenBehaviour) (rest : List ℕ)
+      → at d.state who ≡ Some this → this.stage ≡ Recorded row Ready → d.state.ready ≡ row ∷ rest
+      → t ≡ stepped (with_ready (noted (with_stage d.state who this (Recorded row Running)) (Start row)) rest)
+      → slice_get d.serves worker ≡ Some None → Turn program d worker (then_at d t worker (Some row))
+  begins t who row this rest is stage head gives serving = record {
+    before = None;
+    after = Some row;
+    is = serving;
+    takes = Begins who row t (record { this = this; rest = rest; is = is; stage_is = stage; head = head; gives = gives });
+    serves_are = refl;
+  }
 
-turn_7 : Turn program driven_6 0 driven_7
-turn_7 = record {
-  before = Some 0;
-  after = Some 0;
-  is = refl;
-  takes =
-      Opened 0 state_7 (record {
-        wish = right_wish;
-        may =
-            record { runs = refl; none_open = none_open state_6 0 refl; next = refl; room = lit≤ tt };
-        gives =
-            refl;
-      });
-  serves_are = refl;
-}
+  -- one that serves a row takes what is due to it
+  serves_on : (t : State) (row : ℕ) (after : Option ℕ) → TakesTurn program d.state (Some row) t after
+      → slice_get d.serves worker ≡ Some (Some row) → Turn program d worker (then_at d t worker after)
+  serves_on t row after takes serving =
+      record { before = Some row; after = after; is = serving; takes = takes; serves_are = refl }
 
-turn_8 : Turn program driven_7 0 driven_8
-turn_8 = record {
-  before = Some 0;
-  after = Some 0;
-  is = refl;
-  takes =
-      Advanced 0 2 (steps.Swap 0) state_8 (record { is_open = refl; parent = refl })
-      (record {
-        this = right_at (Asking 0 false);
-        c = 3;
-        due =
-            (record { is = refl; stage_is = refl; cown = refl });
-        gives = refl;
-      });
-  serves_are = refl;
-}
+  opens_next : (t : State) (row : ℕ) (wish : Wish) → state_of (members program d.state) row ≡ Some lives.Running
+      → IsTrue (is_none_open d.state.behaviours row)
+      → next_wish program (slice_get (members program d.state) row) ≡ Some wish
+      → recorded program d.state + unrecorded d.state < MOST_ROWS
+      → t ≡ stepped (asking_on program (with_new d.state (child row wish)) (opened d.state) (child row wish) 0)
+      → slice_get d.serves worker ≡ Some (Some row) → Turn program d worker (then_at d t worker (Some row))
+  opens_next t row wish runs none next room gives = serves_on t row (Some row) (Opened row t (record {
+    wish = wish;
+    may = record { runs = runs; none_open = none_open d.state row none; next = next; room = room };
+    gives = gives;
+  }))
 
-turn_9 : Turn program driven_8 0 driven_9
-turn_9 = record {
-  before = Some 0;
-  after = Some 0;
-  is = refl;
-  takes =
-      Advanced 0 2 (steps.Settle 0) state_9 (record { is_open = refl; parent = refl })
-      (record {
-        this = right_at (Asking 0 true);
-        c = 3;
-        due =
-            (record { is = refl; stage_is = refl; cown = refl });
-        free = free_in state_8 3 2 refl;
-        gives =
-            refl;
-      });
-  serves_are = refl;
-}
+  -- the next step of an enqueue
+  advances : (t : State) (who : ℕ) (this : OpenBehaviour) (stage : Stage) (step : Step) → at d.state who ≡ Some this
+      → this.stage ≡ stage → enqueues_at stage ≡ true → Advances program d.state who step t
+      → slice_get d.serves worker ≡ Some (Some this.parent)
+      → Turn program d worker (then_at d t worker (Some this.parent))
+  advances t who this stage step is stage_is enqueued makes = serves_on t this.parent (Some this.parent)
+      (Advanced this.parent who step t
+      (record { is_open = ap enqueues is ∙ ap enqueues_at stage_is ∙ enqueued; parent = ap parent_of is }) makes)
 
-turn_10 : Turn program driven_9 0 driven_10
-turn_10 = record {
-  before = Some 0;
-  after = Some 0;
-  is = refl;
-  takes =
-      Advanced 0 2 (steps.Flag 0) state_10 (record { is_open = refl; parent = refl })
-      (record {
-        this = right_at (Recorded 2 (Flagging 0));
-        row = 2;
-        c = 3;
-        due =
-            (record { is = refl; stage_is = refl; cown = refl });
-        gives = refl;
-      });
-  serves_are = refl;
-}
+  swaps : (t : State) (who i c : ℕ) (this : OpenBehaviour) → at d.state who ≡ Some this → this.stage ≡ Asking i false
+      → slice_get this.cowns i ≡ Some c
+      → t ≡ stepped (with_queue (with_stage d.state who this (Asking i true)) c (queue d.state c ++ who ∷ []))
+      → slice_get d.serves worker ≡ Some (Some this.parent)
+      → Turn program d worker (then_at d t worker (Some this.parent))
+  swaps t who i c this is stage cown gives = advances t who this (Asking i false) (steps.Swap i) is stage refl
+      (record { this = this; c = c; due = record { is = is; stage_is = stage; cown = cown }; gives = gives })
 
-turn_11 : Turn program driven_10 0 driven_11
-turn_11 = record {
-  before = Some 0;
-  after = Some 0;
-  is = refl;
-  takes =
-      Advanced 0 2 steps.Own state_11 (record { is_open = refl; parent = refl })
-      (record { this = right_at (Recorded 2 Owning); row = 2; is = refl; stage_is = refl; gives = refl });
-  serves_are =
-      refl;
-}
+  settles : (t : State) (who i c : ℕ) (this : OpenBehaviour) → at d.state who ≡ Some this → this.stage ≡ Asking i true
+      → slice_get this.cowns i ≡ Some c
+      → IsTrue (passes_before (λ x. nat_lt 0 (times c (flagged (at d.state x)))) (queue d.state c) who)
+      → t ≡ stepped (asking_on program d.state who this (suc i)) → slice_get d.serves worker ≡ Some (Some this.parent)
+      → Turn program d worker (then_at d t worker (Some this.parent))
+  settles t who i c this is stage cown free gives =
+      let due : IsDue d.state who this (Asking i true) i c = record { is = is; stage_is = stage; cown = cown } in
+      advances t who this (Asking i true) (steps.Settle i) is stage refl
+      (record { this = this; c = c; due = due; free = free_in d.state c who free; gives = gives })
 
-turn_12 : Turn program driven_11 0 driven_12
-turn_12 = record {
-  before = Some 0;
-  after = None;
-  is = refl;
-  takes =
-      Finished 0 0 state_12 (record {
-        this = main_at (Recorded 0 Running);
-        ticks = 3;
+  waits : (who : ℕ) (this : OpenBehaviour) → at d.state who ≡ Some this → enqueues_at this.stage ≡ true
+      → IsBlockedAsking d.state who → slice_get d.serves worker ≡ Some (Some this.parent)
+      → Turn program d worker (then_at d d.state worker (Some this.parent))
+  waits who this is enqueued blocked = serves_on d.state this.parent (Some this.parent)
+      (WaitsToSettle this.parent who (record { is_open = ap enqueues is ∙ enqueued; parent = ap parent_of is }) blocked)
+
+  flags : (t : State) (who row i c : ℕ) (this : OpenBehaviour) → at d.state who ≡ Some this
+      → this.stage ≡ Recorded row (Flagging i) → slice_get this.cowns i ≡ Some c
+      → t ≡ stepped (with_stage d.state who this (Recorded row (flagging this.cowns (suc i))))
+      → slice_get d.serves worker ≡ Some (Some this.parent)
+      → Turn program d worker (then_at d t worker (Some this.parent))
+  flags t who row i c this is stage cown gives =
+      advances t who this (Recorded row (Flagging i)) (steps.Flag i) is stage refl
+      (record { this = this; row = row; c = c; due = record { is = is; stage_is = stage; cown = cown }; gives = gives })
+
+  owns : (t : State) (who row : ℕ) (this : OpenBehaviour) → at d.state who ≡ Some this
+      → this.stage ≡ Recorded row Owning → t ≡ stepped (owned d.state who this row)
+      → slice_get d.serves worker ≡ Some (Some this.parent)
+      → Turn program d worker (then_at d t worker (Some this.parent))
+  owns t who row this is stage gives = advances t who this (Recorded row Owning) steps.Own is stage refl
+      (record { this = this; row = row; is = is; stage_is = stage; gives = gives })
+
+  finishes : (t : State) (who row ticks : ℕ) (written : List ℕ) (this : OpenBehaviour) (member : Member) (body : Body)
+      → at d.state who ≡ Some this → this.stage ≡ Recorded row Running → IsTrue (is_none_open d.state.behaviours row)
+      → slice_get (members program d.state) row ≡ Some member → member.life ≡ lives.Running
+      → meaning_of program member ≡ Some (meaning body [] member.inputs)
+      → member.spawned ≡ length (meaning body [] member.inputs).wishes → ticks ≡ (meaning body [] member.inputs).ticks
+      → Done ≡ (meaning body [] member.inputs).status → written ≡ (meaning body [] member.inputs).written
+      → t ≡ stepped (leaving_on (noted d.state (End row ticks Done (record { items = written }))) who this row 0)
+      → slice_get d.serves worker ≡ Some (Some row)
+      → Turn program d worker (then_at d t worker (unless_gone row (at t who)))
+  finishes t who row ticks written this member body is stage none there runs meant spawned ticks_are status writes gives =
+      serves_on t row (unless_gone row (at t who)) (Finished row who t (record {
+        this = this;
+        ticks = ticks;
         status = Done;
-        written = [];
-        is = refl;
-        stage_is = refl;
-        none_open = none_open state_11 0 refl;
-        may =
-            record { member = ran 0 ([]) ([]) 2; is = refl; runs = refl; means = meaning main_body [] ([]); meant = refl; all_spawned = refl; ticks_are = refl; status_is = refl; written_is = refl };
-        gives = refl;
-      });
-  serves_are =
-      refl;
-}
+        written = written;
+        is = is;
+        stage_is = stage;
+        none_open = none_open d.state row none;
+        may = record {
+          member = member;
+          is = there;
+          runs = runs;
+          means = meaning body [] member.inputs;
+          meant = meant;
+          all_spawned = spawned;
+          ticks_are = ticks_are;
+          status_is = status;
+          written_is = writes;
+        };
+        gives = gives;
+      }))
 
-turn_13 : Turn program driven_12 0 driven_13
-turn_13 = record {
-  before = None;
-  after = Some 1;
-  is = refl;
-  takes =
-      Begins 1 1 state_13 (record { this = left_at (Recorded 1 Ready); rest = 2 ∷ []; is = refl; stage_is = refl; head = refl; gives = refl });
-  serves_are = refl;
-}
+  unhooks : (t : State) (who row i c : ℕ) (this : OpenBehaviour) → at d.state who ≡ Some this
+      → this.stage ≡ Recorded row (Leaving i) → slice_get this.cowns i ≡ Some c → queue d.state c ≡ who ∷ []
+      → t ≡ stepped (leaving_on (with_queue d.state c []) who this row (suc i))
+      → slice_get d.serves worker ≡ Some (Some row)
+      → Turn program d worker (then_at d t worker (unless_gone row (at t who)))
+  unhooks t who row i c this is stage cown alone gives =
+      let due : IsDue d.state who this (Recorded row (Leaving i)) i c = record { is = is; stage_is = stage; cown = cown } in
+      serves_on t row (unless_gone row (at t who))
+      (Left row who (steps.Unhook i) t (record { this = this; c = c; due = due; alone = alone; gives = gives }))
 
-turn_14 : Turn program driven_13 1 driven_14
-turn_14 = record {
-  before = None;
-  after = Some 2;
-  is = refl;
-  takes =
-      Begins 2 2 state_14 (record { this = right_at (Recorded 2 Ready); rest = []; is = refl; stage_is = refl; head = refl; gives = refl });
-  serves_are = refl;
-}
+  passes : (t : State) (who row i c next : ℕ) (rest : List ℕ) (this : OpenBehaviour) → at d.state who ≡ Some this
+      → this.stage ≡ Recorded row (Leaving i) → slice_get this.cowns i ≡ Some c
+      → queue d.state c ≡ who ∷ (next ∷ rest) → 0 < times c (settled (at d.state next))
+      → t ≡ stepped (woken (leaving_on (with_queue d.state c (next ∷ rest)) who this row (suc i)) next)
+      → slice_get d.serves worker ≡ Some (Some row)
+      → Turn program d worker (then_at d t worker (unless_gone row (at t who)))
+  passes t who row i c next rest this is stage cown front settled_next gives =
+      serves_on t row (unless_gone row (at t who)) (Left row who (steps.Pass i) t (record {
+        this = this;
+        c = c;
+        next = next;
+        rest = rest;
+        due = record { is = is; stage_is = stage; cown = cown };
+        front = front;
+        settled_next = settled_next;
+        gives = gives;
+      }))
 
-turn_15 : Turn program driven_14 0 driven_15
-turn_15 = record {
-  before = Some 1;
-  after = Some 1;
-  is = refl;
-  takes =
-      Opened 1 state_15 (record {
-        wish = one_wish;
-        may =
-            record { runs = refl; none_open = none_open state_14 1 refl; next = refl; room = lit≤ tt };
-        gives =
-            refl;
-      });
-  serves_are = refl;
-}
-
-turn_16 : Turn program driven_15 0 driven_16
-turn_16 = record {
-  before = Some 1;
-  after = Some 1;
-  is = refl;
-  takes =
-      Advanced 1 3 (steps.Swap 0) state_16 (record { is_open = refl; parent = refl })
-      (record {
-        this = one_at (Asking 0 false);
-        c = 0;
-        due =
-            (record { is = refl; stage_is = refl; cown = refl });
-        gives = refl;
-      });
-  serves_are = refl;
-}
-
-turn_17 : Turn program driven_16 1 driven_17
-turn_17 = record {
-  before = Some 2;
-  after = Some 2;
-  is = refl;
-  takes =
-      Opened 2 state_17 (record {
-        wish = two_wish;
-        may =
-            record { runs = refl; none_open = none_open state_16 2 refl; next = refl; room = lit≤ tt };
-        gives =
-            refl;
-      });
-  serves_are = refl;
-}
-
-turn_18 : Turn program driven_17 1 driven_18
-turn_18 = record {
-  before = Some 2;
-  after = Some 2;
-  is = refl;
-  takes =
-      Advanced 2 4 (steps.Swap 0) state_18 (record { is_open = refl; parent = refl })
-      (record {
-        this = two_at (Asking 0 false);
-        c = 0;
-        due =
-            (record { is = refl; stage_is = refl; cown = refl });
-        gives = refl;
-      });
-  serves_are = refl;
-}
-
-turn_19 : Turn program driven_18 1 driven_19
-turn_19 = record {
-  before = Some 2;
-  after = Some 2;
-  is = refl;
-  takes =
-      WaitsToSettle 2 4 (record { is_open = refl; parent = refl })
-      (record {
-        this = two_at (Asking 0 true);
-        request = 0;
-        c = 0;
-        due =
-            (record { is = refl; stage_is = refl; cown = refl });
-        ahead = [];
-        before = 3;
-        behind = [];
-        stands = refl;
-        unflagged = refl;
-      });
-  serves_are = refl;
-}
-
-turn_20 : Turn program driven_19 0 driven_20
-turn_20 = record {
-  before = Some 1;
-  after = Some 1;
-  is = refl;
-  takes =
-      Advanced 1 3 (steps.Settle 0) state_20 (record { is_open = refl; parent = refl })
-      (record {
-        this = one_at (Asking 0 true);
-        c = 0;
-        due = (record { is = refl; stage_is = refl; cown = refl });
-        free =
-            free_in state_19 0 3 refl;
-        gives = refl;
-      });
-  serves_are = refl;
-}
-
-turn_21 : Turn program driven_20 0 driven_21
-turn_21 = record {
-  before = Some 1;
-  after = Some 1;
-  is = refl;
-  takes =
-      Advanced 1 3 (steps.Swap 1) state_21 (record { is_open = refl; parent = refl })
-      (record {
-        this = one_at (Asking 1 false);
-        c = 1;
-        due =
-            (record { is = refl; stage_is = refl; cown = refl });
-        gives = refl;
-      });
-  serves_are = refl;
-}
-
-turn_22 : Turn program driven_21 0 driven_22
-turn_22 = record {
-  before = Some 1;
-  after = Some 1;
-  is = refl;
-  takes =
-      Advanced 1 3 (steps.Settle 1) state_22 (record { is_open = refl; parent = refl })
-      (record {
-        this = one_at (Asking 1 true);
-        c = 1;
-        due = (record { is = refl; stage_is = refl; cown = refl });
-        free =
-            free_in state_21 1 3 refl;
-        gives = refl;
-      });
-  serves_are = refl;
-}
-
-turn_23 : Turn program driven_22 1 driven_23
-turn_23 = record {
-  before = Some 2;
-  after = Some 2;
-  is = refl;
-  takes =
-      WaitsToSettle 2 4 (record { is_open = refl; parent = refl })
-      (record {
-        this = two_at (Asking 0 true);
-        request = 0;
-        c = 0;
-        due =
-            (record { is = refl; stage_is = refl; cown = refl });
-        ahead = [];
-        before = 3;
-        behind = [];
-        stands = refl;
-        unflagged = refl;
-      });
-  serves_are = refl;
-}
-
-turn_24 : Turn program driven_23 0 driven_24
-turn_24 = record {
-  before = Some 1;
-  after = Some 1;
-  is = refl;
-  takes =
-      Advanced 1 3 (steps.Flag 0) state_24 (record { is_open = refl; parent = refl })
-      (record {
-        this = one_at (Recorded 3 (Flagging 0));
-        row = 3;
-        c = 0;
-        due =
-            (record { is = refl; stage_is = refl; cown = refl });
-        gives = refl;
-      });
-  serves_are = refl;
-}
-
-turn_25 : Turn program driven_24 1 driven_25
-turn_25 = record {
-  before = Some 2;
-  after = Some 2;
-  is = refl;
-  takes =
-      Advanced 2 4 (steps.Settle 0) state_25 (record { is_open = refl; parent = refl })
-      (record {
-        this = two_at (Asking 0 true);
-        c = 0;
-        due = (record { is = refl; stage_is = refl; cown = refl });
-        free =
-            free_in state_24 0 4 refl;
-        gives = refl;
-      });
-  serves_are = refl;
-}
-
-turn_26 : Turn program driven_25 1 driven_26
-turn_26 = record {
-  before = Some 2;
-  after = Some 2;
-  is = refl;
-  takes =
-      Advanced 2 4 (steps.Flag 0) state_26 (record { is_open = refl; parent = refl })
-      (record {
-        this = two_at (Recorded 4 (Flagging 0));
-        row = 4;
-        c = 0;
-        due =
-            (record { is = refl; stage_is = refl; cown = refl });
-        gives = refl;
-      });
-  serves_are = refl;
-}
-
-turn_27 : Turn program driven_26 1 driven_27
-turn_27 = record {
-  before = Some 2;
-  after = Some 2;
-  is = refl;
-  takes =
-      Advanced 2 4 steps.Own state_27 (record { is_open = refl; parent = refl })
-      (record { this = two_at (Recorded 4 Owning); row = 4; is = refl; stage_is = refl; gives = refl });
-  serves_are =
-      refl;
-}
-
-turn_28 : Turn program driven_27 0 driven_28
-turn_28 = record {
-  before = Some 1;
-  after = Some 1;
-  is = refl;
-  takes =
-      Advanced 1 3 (steps.Flag 1) state_28 (record { is_open = refl; parent = refl })
-      (record {
-        this = one_at (Recorded 3 (Flagging 1));
-        row = 3;
-        c = 1;
-        due =
-            (record { is = refl; stage_is = refl; cown = refl });
-        gives = refl;
-      });
-  serves_are = refl;
-}
-
-turn_29 : Turn program driven_28 0 driven_29
-turn_29 = record {
-  before = Some 1;
-  after = Some 1;
-  is = refl;
-  takes =
-      Advanced 1 3 steps.Own state_29 (record { is_open = refl; parent = refl })
-      (record { this = one_at (Recorded 3 Owning); row = 3; is = refl; stage_is = refl; gives = refl });
-  serves_are =
-      refl;
-}
-
-turn_30 : Turn program driven_29 0 driven_30
-turn_30 = record {
-  before = Some 1;
-  after = Some 1;
-  is = refl;
-  takes =
-      Finished 1 1 state_30 (record {
-        this = left_at (Recorded 1 Running);
-        ticks = 2;
-        status = Done;
-        written = [];
-        is = refl;
-        stage_is = refl;
-        none_open = none_open state_29 1 refl;
-        may =
-            record {
-              member = ran 3 (input 2 0 ∷ []) (2 ∷ []) 1;
-              is = refl;
-              runs = refl;
-              means =
-                  meaning left_body [] (input 2 0 ∷ []);
-              meant = refl;
-              all_spawned = refl;
-              ticks_are = refl;
-              status_is = refl;
-              written_is = refl;
-            };
-        gives = refl;
-      });
-  serves_are = refl;
-}
-
-turn_31 : Turn program driven_30 0 driven_31
-turn_31 = record {
-  before = Some 1;
-  after = None;
-  is = refl;
-  takes =
-      Left 1 1 (steps.Unhook 0) state_31 (record {
-        this = left_at (Recorded 1 (Leaving 0));
-        c = 2;
-        due =
-            (record { is = refl; stage_is = refl; cown = refl });
-        alone = refl;
-        gives = refl;
-      });
-  serves_are = refl;
-}
-
-turn_32 : Turn program driven_31 0 driven_32
-turn_32 = record {
-  before = None;
-  after = Some 3;
-  is = refl;
-  takes =
-      Begins 3 3 state_32 (record { this = one_at (Recorded 3 Ready); rest = []; is = refl; stage_is = refl; head = refl; gives = refl });
-  serves_are = refl;
-}
-
-turn_33 : Turn program driven_32 0 driven_33
-turn_33 = record {
-  before = Some 3;
-  after = Some 3;
-  is = refl;
-  takes =
-      Finished 3 3 state_33 (record {
-        this = one_at (Recorded 3 Running);
-        ticks = 3;
-        status = Done;
-        written =
-            0 ∷ 1 ∷ [];
-        is = refl;
-        stage_is = refl;
-        none_open = none_open state_32 3 refl;
-        may =
-            record {
-              member = ran 1 (input 0 0 ∷ input 1 0 ∷ []) (0 ∷ 1 ∷ []) 0;
-              is = refl;
-              runs = refl;
-              means =
-                  meaning one_body [] (input 0 0 ∷ input 1 0 ∷ []);
-              meant = refl;
-              all_spawned = refl;
-              ticks_are = refl;
-              status_is = refl;
-              written_is = refl;
-            };
-        gives = refl;
-      });
-  serves_are = refl;
-}
-
-turn_34 : Turn program driven_33 0 driven_34
-turn_34 = record {
-  before = Some 3;
-  after = Some 3;
-  is = refl;
-  takes =
-      Left 3 3 (steps.Pass 0) state_34 (record {
-        this = one_at (Recorded 3 (Leaving 0));
-        c = 0;
-        next = 4;
-        rest =
-            [];
-        due = (record { is = refl; stage_is = refl; cown = refl });
-        front = refl;
-        settled_next = lit≤ tt;
-        gives =
-            refl;
-      });
-  serves_are = refl;
-}
-
-turn_35 : Turn program driven_34 0 driven_35
-turn_35 = record {
-  before = Some 3;
-  after = None;
-  is = refl;
-  takes =
-      Left 3 3 (steps.Unhook 1) state_35 (record {
-        this = one_at (Recorded 3 (Leaving 1));
-        c = 1;
-        due =
-            (record { is = refl; stage_is = refl; cown = refl });
-        alone = refl;
-        gives = refl;
-      });
-  serves_are = refl;
-}
-
-turn_36 : Turn program driven_35 1 driven_36
-turn_36 = record {
-  before = Some 2;
-  after = Some 2;
-  is = refl;
-  takes =
-      Finished 2 2 state_36 (record {
-        this = right_at (Recorded 2 Running);
-        ticks = 2;
-        status = Done;
-        written = [];
-        is = refl;
-        stage_is = refl;
-        none_open = none_open state_35 2 refl;
-        may =
-            record {
-              member = ran 4 (input 3 0 ∷ []) (3 ∷ []) 1;
-              is = refl;
-              runs = refl;
-              means =
-                  meaning right_body [] (input 3 0 ∷ []);
-              meant = refl;
-              all_spawned = refl;
-              ticks_are = refl;
-              status_is = refl;
-              written_is = refl;
-            };
-        gives = refl;
-      });
-  serves_are = refl;
-}
-
-turn_37 : Turn program driven_36 1 driven_37
-turn_37 = record {
-  before = Some 2;
-  after = None;
-  is = refl;
-  takes =
-      Left 2 2 (steps.Unhook 0) state_37 (record {
-        this = right_at (Recorded 2 (Leaving 0));
-        c = 3;
-        due =
-            (record { is = refl; stage_is = refl; cown = refl });
-        alone = refl;
-        gives = refl;
-      });
-  serves_are = refl;
-}
-
-turn_38 : Turn program driven_37 1 driven_38
-turn_38 = record {
-  before = None;
-  after = Some 4;
-  is = refl;
-  takes =
-      Begins 4 4 state_38 (record { this = two_at (Recorded 4 Ready); rest = []; is = refl; stage_is = refl; head = refl; gives = refl });
-  serves_are = refl;
-}
-
-turn_39 : Turn program driven_38 1 driven_39
-turn_39 = record {
-  before = Some 4;
-  after = Some 4;
-  is = refl;
-  takes =
-      Finished 4 4 state_39 (record {
-        this = two_at (Recorded 4 Running);
-        ticks = 2;
-        status = Done;
-        written =
-            0 ∷ [];
-        is = refl;
-        stage_is = refl;
-        none_open = none_open state_38 4 refl;
-        may =
-            record {
-              member = ran 2 (input 0 1 ∷ []) (0 ∷ []) 0;
-              is = refl;
-              runs = refl;
-              means =
-                  meaning two_body [] (input 0 1 ∷ []);
-              meant = refl;
-              all_spawned = refl;
-              ticks_are = refl;
-              status_is = refl;
-              written_is = refl;
-            };
-        gives = refl;
-      });
-  serves_are = refl;
-}
-
-turn_40 : Turn program driven_39 1 driven_40
-turn_40 = record {
-  before = Some 4;
-  after = None;
-  is = refl;
-  takes =
-      Left 4 4 (steps.Unhook 0) state_40 (record {
-        this = two_at (Recorded 4 (Leaving 0));
-        c = 0;
-        due =
-            (record { is = refl; stage_is = refl; cown = refl });
-        alone = refl;
-        gives = refl;
-      });
-  serves_are = refl;
+-- the second behaviour on cown a waits for the first to be flagged
+pub blocked_at : (s : State) → at s 4 ≡ Some (two_at (Asking 0 true)) → queue s 0 ≡ 3 ∷ (4 ∷ [])
+    → times 0 (flagged (at s 3)) ≡ 0 → IsBlockedAsking s 4
+blocked_at s is stands unflagged = record {
+  this = two_at (Asking 0 true);
+  request = 0;
+  c = 0;
+  due = record { is = is; stage_is = refl; cown = refl };
+  ahead = [];
+  before = 3;
+  behind = [];
+  stands = stands;
+  unflagged = unflagged;
 }
 
 -- ---- what they lead to
@@ -952,93 +308,42 @@ first_choices = 0 ∷ 0 ∷ 0 ∷ 0 ∷ 0 ∷ 0 ∷ 0 ∷ 0 ∷ 0 ∷ 0 ∷ 0 �
 opens : driven_0 ≡ opening_driven program 2
 opens = refl
 
+-- eighteen choices
+turns_to_18 : Turns program driven_0 (take 18 first_choices) driven_18
+turns_to_18 = turns_of {d = driven_0} {e = driven_18} {workers = take 18 first_choices}
+    (Then _ (begins state_1 0 0 (main_at (Recorded 0 Ready)) [] refl refl refl refl refl)
+    (Then _ (opens_next state_2 0 left_wish refl refl refl (lit≤ tt) refl refl)
+    (Then _ (swaps state_3 1 0 2 (left_at (Asking 0 false)) refl refl refl refl refl)
+    (Then _ (settles state_4 1 0 2 (left_at (Asking 0 true)) refl refl refl refl refl refl)
+    (Then _ (flags state_5 1 1 0 2 (left_at (Recorded 1 (Flagging 0))) refl refl refl refl refl)
+    (Then _ (owns state_6 1 1 (left_at (Recorded 1 Owning)) refl refl refl refl)
+    (Then _ (opens_next state_7 0 right_wish refl refl refl (lit≤ tt) refl refl)
+    (Then _ (swaps state_8 2 0 3 (right_at (Asking 0 false)) refl refl refl refl refl)
+    (Then _ (settles state_9 2 0 3 (right_at (Asking 0 true)) refl refl refl refl refl refl)
+    (Then _ (flags state_10 2 2 0 3 (right_at (Recorded 2 (Flagging 0))) refl refl refl refl refl)
+    (Then _ (owns state_11 2 2 (right_at (Recorded 2 Owning)) refl refl refl refl)
+    (Then _ (finishes state_12 0 0 3 [] (main_at (Recorded 0 Running)) (ran 0 [] [] 2) main_body refl refl refl refl refl refl refl refl refl refl refl refl)
+    (Then _ (begins state_13 1 1 (left_at (Recorded 1 Ready)) (2 ∷ []) refl refl refl refl refl)
+    (Then _ (begins state_14 2 2 (right_at (Recorded 2 Ready)) [] refl refl refl refl refl)
+    (Then _ (opens_next state_15 1 one_wish refl refl refl (lit≤ tt) refl refl)
+    (Then _ (swaps state_16 3 0 0 (one_at (Asking 0 false)) refl refl refl refl refl)
+    (Then _ (opens_next state_17 2 two_wish refl refl refl (lit≤ tt) refl refl)
+    (Then _ (swaps state_18 4 0 0 (two_at (Asking 0 false)) refl refl refl refl refl) Over))))))))))))))))))
+
 -- twenty-five choices, of which two are blocked: so many steps, and so many events
+turns_from_18 : Turns program driven_18 (1 ∷ 0 ∷ 0 ∷ 0 ∷ 1 ∷ 0 ∷ 1 ∷ []) driven_25
+turns_from_18 = turns_of {d = driven_18} {e = driven_25} {workers = 1 ∷ 0 ∷ 0 ∷ 0 ∷ 1 ∷ 0 ∷ 1 ∷ []}
+    (Then _ (waits 4 (two_at (Asking 0 true)) refl refl (blocked_at state_18 refl refl refl) refl)
+    (Then _ (settles state_20 3 0 0 (one_at (Asking 0 true)) refl refl refl refl refl refl)
+    (Then _ (swaps state_21 3 1 1 (one_at (Asking 1 false)) refl refl refl refl refl)
+    (Then _ (settles state_22 3 1 1 (one_at (Asking 1 true)) refl refl refl refl refl refl)
+    (Then _ (waits 4 (two_at (Asking 0 true)) refl refl (blocked_at state_22 refl refl refl) refl)
+    (Then _ (flags state_24 3 3 0 0 (one_at (Recorded 3 (Flagging 0))) refl refl refl refl refl)
+    (Then _ (settles state_25 4 0 0 (two_at (Asking 0 true)) refl refl refl refl refl refl) Over)))))))
+
 pub turns_to_25 : Turns program driven_0 first_choices driven_25
-turns_to_25 = (
-  driven_1,
-  turn_1,
-  (
-    driven_2,
-    turn_2,
-    (
-      driven_3,
-      turn_3,
-      (
-        driven_4,
-        turn_4,
-        (
-          driven_5,
-          turn_5,
-          (
-            driven_6,
-            turn_6,
-            (
-              driven_7,
-              turn_7,
-              (
-                driven_8,
-                turn_8,
-                (
-                  driven_9,
-                  turn_9,
-                  (
-                    driven_10,
-                    turn_10,
-                    (
-                      driven_11,
-                      turn_11,
-                      (
-                        driven_12,
-                        turn_12,
-                        (
-                          driven_13,
-                          turn_13,
-                          (
-                            driven_14,
-                            turn_14,
-                            (
-                              driven_15,
-                              turn_15,
-                              (
-                                driven_16,
-                                turn_16,
-                                (
-                                  driven_17,
-                                  turn_17,
-                                  (
-                                    driven_18,
-                                    turn_18,
-                                    (
-                                      driven_19,
-                                      turn_19,
-                                      (
-                                        driven_20,
-                                        turn_20,
-                                        (
-                                          driven_21,
-                                          turn_21,
-                                          (driven_22, turn_22, (driven_23, turn_23, (driven_24, turn_24, (driven_25, turn_25, refl)))),
-                                        ),
-                                      ),
-                                    ),
-                                  ),
-                                ),
-                              ),
-                            ),
-                          ),
-                        ),
-                      ),
-                    ),
-                  ),
-                ),
-              ),
-            ),
-          ),
-        ),
-      ),
-    ),
-  ),
-)
+turns_to_25 = joined driven_0 driven_18 driven_25 (take 18 first_choices) (1 ∷ 0 ∷ 0 ∷ 0 ∷ 1 ∷ 0 ∷ 1 ∷ []) turns_to_18
+    turns_from_18
 
 pub steps_then : state_25.steps ≡ 23
 steps_then = refl
@@ -1047,119 +352,26 @@ pub log_then : state_25.log ≡ take 9 log
 log_then = refl
 
 -- and to the end
-pub turns_to_40 : Turns program driven_25 (1 ∷ 1 ∷ 0 ∷ 0 ∷ 0 ∷ 0 ∷ 0 ∷ 0 ∷ 0 ∷ 0 ∷ 1 ∷ 1 ∷ 1 ∷ 1 ∷ 1 ∷ []) driven_40
-turns_to_40 = (
-  driven_26,
-  turn_26,
-  (
-    driven_27,
-    turn_27,
-    (
-      driven_28,
-      turn_28,
-      (
-        driven_29,
-        turn_29,
-        (
-          driven_30,
-          turn_30,
-          (
-            driven_31,
-            turn_31,
-            (
-              driven_32,
-              turn_32,
-              (
-                driven_33,
-                turn_33,
-                (
-                  driven_34,
-                  turn_34,
-                  (
-                    driven_35,
-                    turn_35,
-                    (
-                      driven_36,
-                      turn_36,
-                      (
-                        driven_37,
-                        turn_37,
-                        (driven_38, turn_38, (driven_39, turn_39, (driven_40, turn_40, refl))),
-                      ),
-                    ),
-                  ),
-                ),
-              ),
-            ),
-          ),
-        ),
-      ),
-    ),
-  ),
-)
+abbrev last_choices : List ℕ
+last_choices = 1 ∷ 1 ∷ 0 ∷ 0 ∷ 0 ∷ 0 ∷ 0 ∷ 0 ∷ 0 ∷ 0 ∷ 1 ∷ 1 ∷ 1 ∷ 1 ∷ 1 ∷ []
 
-pub turns_to_18 : Turns program driven_0 (take 18 first_choices) driven_18
-turns_to_18 = (
-  driven_1,
-  turn_1,
-  (
-    driven_2,
-    turn_2,
-    (
-      driven_3,
-      turn_3,
-      (
-        driven_4,
-        turn_4,
-        (
-          driven_5,
-          turn_5,
-          (
-            driven_6,
-            turn_6,
-            (
-              driven_7,
-              turn_7,
-              (
-                driven_8,
-                turn_8,
-                (
-                  driven_9,
-                  turn_9,
-                  (
-                    driven_10,
-                    turn_10,
-                    (
-                      driven_11,
-                      turn_11,
-                      (
-                        driven_12,
-                        turn_12,
-                        (
-                          driven_13,
-                          turn_13,
-                          (
-                            driven_14,
-                            turn_14,
-                            (
-                              driven_15,
-                              turn_15,
-                              (driven_16, turn_16, (driven_17, turn_17, (driven_18, turn_18, refl))),
-                            ),
-                          ),
-                        ),
-                      ),
-                    ),
-                  ),
-                ),
-              ),
-            ),
-          ),
-        ),
-      ),
-    ),
-  ),
-)
+pub turns_to_40 : Turns program driven_25 last_choices driven_40
+turns_to_40 = turns_of {d = driven_25} {e = driven_40} {workers = last_choices}
+    (Then _ (flags state_26 4 4 0 0 (two_at (Recorded 4 (Flagging 0))) refl refl refl refl refl)
+    (Then _ (owns state_27 4 4 (two_at (Recorded 4 Owning)) refl refl refl refl)
+    (Then _ (flags state_28 3 3 1 1 (one_at (Recorded 3 (Flagging 1))) refl refl refl refl refl)
+    (Then _ (owns state_29 3 3 (one_at (Recorded 3 Owning)) refl refl refl refl)
+    (Then _ (finishes state_30 1 1 2 [] (left_at (Recorded 1 Running)) (ran 3 (input 2 0 ∷ []) (2 ∷ []) 1) left_body refl refl refl refl refl refl refl refl refl refl refl refl)
+    (Then _ (unhooks state_31 1 1 0 2 (left_at (Recorded 1 (Leaving 0))) refl refl refl refl refl refl)
+    (Then _ (begins state_32 3 3 (one_at (Recorded 3 Ready)) [] refl refl refl refl refl)
+    (Then _ (finishes state_33 3 3 3 (0 ∷ 1 ∷ []) (one_at (Recorded 3 Running)) (ran 1 (input 0 0 ∷ input 1 0 ∷ []) (0 ∷ 1 ∷ []) 0) one_body refl refl refl refl refl refl refl refl refl refl refl refl)
+    (Then _ (passes state_34 3 3 0 0 4 [] (one_at (Recorded 3 (Leaving 0))) refl refl refl refl (lit≤ tt) refl refl)
+    (Then _ (unhooks state_35 3 3 1 1 (one_at (Recorded 3 (Leaving 1))) refl refl refl refl refl refl)
+    (Then _ (finishes state_36 2 2 2 [] (right_at (Recorded 2 Running)) (ran 4 (input 3 0 ∷ []) (3 ∷ []) 1) right_body refl refl refl refl refl refl refl refl refl refl refl refl)
+    (Then _ (unhooks state_37 2 2 0 3 (right_at (Recorded 2 (Leaving 0))) refl refl refl refl refl refl)
+    (Then _ (begins state_38 4 4 (two_at (Recorded 4 Ready)) [] refl refl refl refl refl)
+    (Then _ (finishes state_39 4 4 2 (0 ∷ []) (two_at (Recorded 4 Running)) (ran 2 (input 0 1 ∷ []) (0 ∷ []) 0) two_body refl refl refl refl refl refl refl refl refl refl refl refl)
+    (Then _ (unhooks state_40 4 4 0 0 (two_at (Recorded 4 (Leaving 0))) refl refl refl refl refl refl) Over)))))))))))))))
 
 pub sound_18 : IsSound program state_18
 sound_18 = turns_keep program driven_0 driven_18 (take 18 first_choices) (opening_sound program) turns_to_18
@@ -1168,8 +380,7 @@ pub sound_25 : IsSound program state_25
 sound_25 = turns_keep program driven_0 driven_25 first_choices (opening_sound program) turns_to_25
 
 pub sound_40 : IsSound program state_40
-sound_40 = turns_keep program driven_25 driven_40
-    (1 ∷ 1 ∷ 0 ∷ 0 ∷ 0 ∷ 0 ∷ 0 ∷ 0 ∷ 0 ∷ 0 ∷ 1 ∷ 1 ∷ 1 ∷ 1 ∷ 1 ∷ []) sound_25 turns_to_40
+sound_40 = turns_keep program driven_25 driven_40 last_choices sound_25 turns_to_40
 
 all_gone : IsQuiet state_40
 all_gone zero = refl

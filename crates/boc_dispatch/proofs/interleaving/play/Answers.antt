@@ -8,6 +8,8 @@ use Rattle.boc_dispatch.specs.declared.worker.Worker.{Worker}
 use Rattle.boc_dispatch.specs.Underway.{Underway}
 use Rattle.boc_dispatch.specs.Driving.{IsAt, HasPlayed}
 use Rattle.boc_dispatch.proofs.Driven.{at_first, at_sound, at_fits, at_next, at_stranger, at_full, ends_by}
+use Rattle.boc_dispatch.proofs.interleaving.play.Given.{Over}
+use Rattle.boc_dispatch.proofs.interleaving.play.Goals.{After-index_mut}
 use Rattle.boc_dispatch.proofs.interleaving.play.Goals as goal
 
 pub loop-place-init : goal.loop-place-init
@@ -25,43 +27,35 @@ pub take_turn-requires-clause-sound : goal.take_turn-requires-clause-sound
 take_turn-requires-clause-sound g c =
     at_sound c.args.program.now c.args.workers c.args.choices.now c.loop-place.place c.loop-place.core c.loop-place.crew.items c.loop-place.invariant
 
-pub take_turn-requires-clause-fits : goal.take_turn-requires-clause-fits
-take_turn-requires-clause-fits g c =
+-- the worker that is chosen
+chosen_read : (g : Over) (c : After-index_mut g) → slice_get c.loop-place.crew.items (get_or c.args.choices.now c.loop-place.place 0) ≡ Some c.index_mut.result.now
+chosen_read g c =
     let choice : ℕ = get_or c.args.choices.now c.loop-place.place 0 in
     let crew : List Worker = c.loop-place.crew.items in
     let low : choice < length crew = omega (arith, c.if-chosen-len.false, c.len.ensures, c.loop-place.crew.ok.0) in
-    at_fits c.args.program.now c.args.workers c.args.choices.now c.loop-place.place c.loop-place.core crew c.loop-place.invariant choice c.index_mut.result.now
-    (slice_get_read crew (length crew) choice c.index_mut.result.now refl low c.index_mut.ensures.value)
+    slice_get_read crew (length crew) choice c.index_mut.result.now refl low c.index_mut.ensures.value
+
+pub take_turn-requires-clause-fits : goal.take_turn-requires-clause-fits
+take_turn-requires-clause-fits g c =
+    at_fits c.args.program.now c.args.workers c.args.choices.now c.loop-place.place c.loop-place.core c.loop-place.crew.items c.loop-place.invariant (get_or c.args.choices.now c.loop-place.place 0) c.index_mut.result.now
+    (chosen_read g (goal.at.take_turn-requires-clause-fits g c).After-index_mut)
 
 pub returns-in_err-take_turn : goal.returns-in_err-take_turn
 returns-in_err-take_turn g c =
-    let p : Program = c.args.program.now in
-    let u : Underway = c.loop-place.core in
     let choices : List ℕ = c.args.choices.now in
-    let choice : ℕ = get_or choices c.loop-place.place 0 in
-    let crew : List Worker = c.loop-place.crew.items in
-    let old : Worker = c.index_mut.result.now in
-    let chosen : slice_get choices c.loop-place.place ≡ Some choice = slice_get-get_or choices c.loop-place.place 0 c.loop-place-test.true in
-    let low : choice < length crew = omega (arith, c.if-chosen-len.false, c.len.ensures, c.loop-place.crew.ok.0) in
-    let is : slice_get crew choice ≡ Some old = slice_get_read crew (length crew) choice old refl low c.index_mut.ensures.value in
+    let chosen = slice_get-get_or choices c.loop-place.place 0 c.loop-place-test.true in
+    let is = chosen_read g (goal.at.returns-in_err-take_turn g c).After-index_mut in
     let passed_on = err_from_is_err_and c.from_residual-in_err-take_turn.result c.from_residual-in_err-take_turn.ensures.1 in
     let fault : DriveFault = passed_on.0 in
-    subst (HasPlayed p c.args.workers choices) (sym passed_on.1)
-    (ends_by p c.args.workers choices fault
-    (λ e. at_full p c.args.workers choices c.loop-place.place u crew c.loop-place.invariant choice chosen old is (c.in_err-take_turn.ensures.full (ap (λ (f : DriveFault). Err f) (sym passed_on.2 ∙ e))))
+    subst (HasPlayed c.args.program.now c.args.workers choices) (sym passed_on.1)
+    (ends_by c.args.program.now c.args.workers choices fault
+    (λ e. at_full c.args.program.now c.args.workers choices c.loop-place.place c.loop-place.core c.loop-place.crew.items c.loop-place.invariant (get_or choices c.loop-place.place 0) chosen c.index_mut.result.now is (c.in_err-take_turn.ensures.full (ap (λ (f : DriveFault). Err f) (sym passed_on.2 ∙ e))))
     (λ place e. c.in_err-take_turn.ensures.served place (ap (λ (f : DriveFault). Err f) (sym passed_on.2 ∙ e))))
 
 pub loop-place-preserved : goal.loop-place-preserved
 loop-place-preserved g c =
-    let p : Program = c.args.program.now in
-    let u : Underway = c.loop-place.core in
     let choices : List ℕ = c.args.choices.now in
-    let choice : ℕ = get_or choices c.loop-place.place 0 in
-    let crew : List Worker = c.loop-place.crew.items in
-    let old : Worker = c.index_mut.result.now in
-    let chosen : slice_get choices c.loop-place.place ≡ Some choice = slice_get-get_or choices c.loop-place.place 0 c.loop-place-test.true in
-    let low : choice < length crew = omega (arith, c.if-chosen-len.false, c.len.ensures, c.loop-place.crew.ok.0) in
-    let is : slice_get crew choice ≡ Some old = slice_get_read crew (length crew) choice old refl low c.index_mut.ensures.value in
-    let t = c.in_ok-take_turn.ensures in
-    subst (λ n. IsAt p c.args.workers choices n c.take_turn.new.core (slice_set crew choice c.take_turn.new.worker)) (sym (add-one c.loop-place.place))
-    (at_next p c.args.workers choices c.loop-place.place u crew c.loop-place.invariant choice chosen c.take_turn.new.core old c.take_turn.new.worker is t.turn t.program t.fits)
+    let chosen = slice_get-get_or choices c.loop-place.place 0 c.loop-place-test.true in
+    let is = chosen_read g (goal.at.loop-place-preserved g c).After-index_mut in
+    subst (λ n. IsAt c.args.program.now c.args.workers choices n c.take_turn.new.core (slice_set c.loop-place.crew.items (get_or choices c.loop-place.place 0) c.take_turn.new.worker)) (sym (add-one c.loop-place.place))
+    (at_next c.args.program.now c.args.workers choices c.loop-place.place c.loop-place.core c.loop-place.crew.items c.loop-place.invariant (get_or choices c.loop-place.place 0) chosen c.take_turn.new.core c.index_mut.result.now c.take_turn.new.worker is c.in_ok-take_turn.ensures.turn c.in_ok-take_turn.ensures.program c.in_ok-take_turn.ensures.fits)

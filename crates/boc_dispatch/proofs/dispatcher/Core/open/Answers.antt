@@ -1,14 +1,14 @@
 use Rattle.std.proofs.Common.{◌≡◌, subst, ℕ, refl, sym}
 use Rattle.std.specs.Prelude.{Result, Ok, Err}
 use Rattle.boc_dispatch.specs.Underway.{Underway}
-use Rattle.boc_dispatch.specs.Calls.{OpensWish, IsHandedOut, MayAsk}
+use Rattle.boc_dispatch.specs.Calls.{OpensWish}
 use Rattle.boc_dispatch.specs.Inside.{parts_of, underway}
 use Rattle.boc_dispatch.specs.Moves.{OpensChild}
 use Rattle.boc_dispatch.specs.declared.answers.Child.{Child}
 use Rattle.boc_dispatch.specs.declared.answers.OpenFault.{OpenFault}
 use Rattle.boc_dispatch.specs.declared.answers.OpenFault.TheVariants as open_faults
 use Rattle.std.specs.declared.alloc.AllocError.{AllocError}
-use Rattle.boc_dispatch.proofs.Answered.{handed_as, full, opens, no_memory, new_is}
+use Rattle.boc_dispatch.proofs.Answered.{may_ask, full, opens, no_memory, new_is}
 use Rattle.boc_dispatch.proofs.dispatcher.Core.open.Goals.{in-Ok-open, in-Err}
 use Rattle.boc_dispatch.proofs.dispatcher.Core.open.Goals as goal
 
@@ -16,54 +16,38 @@ pub returns-then-self-ge-MOST_ROWS : goal.returns-then-self-ge-MOST_ROWS
 returns-then-self-ge-MOST_ROWS g c =
     let d = parts_of g.C.Chains.lists g.C.Chains.place c.self.inside.machine in
     let f = c.args.frame.now in
-    let row = c.args.row in
-    let may : MayAsk (underway d) f row = record {
-      handed = handed_as (underway d) row c.body.result.now f.body c.args-2.result.now f.args c.inputs.result.now f.inputs c.body.ensures c.args-2.ensures c.inputs.ensures c.in-Some.ensures.0;
-      next = c.in-Some-next_wish.ensures.0;
-    } in
-    subst (λ (u : Underway). OpensWish u f row (Err open_faults.Behaviours) u) c.self.view_is
-    (full d c.self.invariant.kept f row may c.if-self-ge-MOST_ROWS.true)
+    let may = may_ask (underway d) f c.args.row c.body.result.now c.args-2.result.now c.inputs.result.now c.body.ensures c.args-2.ensures c.inputs.ensures c.in-Some.ensures.0 c.in-Some-next_wish.ensures.0 in
+    subst (λ (u : Underway). OpensWish u f c.args.row (Err open_faults.Behaviours) u) c.self.view_is
+    (full d c.self.invariant.kept f c.args.row may c.if-self-ge-MOST_ROWS.true)
 
 pub open-requires-clause-new : goal.open-requires-clause-new
 open-requires-clause-new g c =
     let d = parts_of g.C.Chains.lists g.C.Chains.place c.self.inside.machine in
     let f = c.args.frame.now in
-    let row = c.args.row in
-    let may : MayAsk (underway d) f row = record {
-      handed = handed_as (underway d) row c.body.result.now f.body c.args-2.result.now f.args c.inputs.result.now f.inputs c.body.ensures c.args-2.ensures c.inputs.ensures c.in-Some.ensures.0;
-      next = c.in-Some-next_wish.ensures.0;
-    } in
+    let may = may_ask (underway d) f c.args.row c.body.result.now c.args-2.result.now c.inputs.result.now c.body.ensures c.args-2.ensures c.inputs.ensures c.in-Some.ensures.0 c.in-Some-next_wish.ensures.0 in
     let made = c.in-Ok.ensures in
-    new_is d f row c.in-Some-next_wish.wish.now c.in-Ok.child may c.in-Some-next_wish.ensures.2 made.behaviour made.state made.number made.awaited made.fresh
+    new_is d f c.args.row c.in-Some-next_wish.wish.now c.in-Ok.child may c.in-Some-next_wish.ensures.2 made.behaviour made.state made.number made.awaited made.fresh
 
 pub returns : goal.returns
 returns g c =
     let d = parts_of g.C.Chains.lists g.C.Chains.place c.self.inside.machine in
     let e = parts_of g.C.Chains.lists g.C.Chains.place c.open.new.self in
     let f = c.args.frame.now in
-    let row = c.args.row in
-    let may : MayAsk (underway d) f row = record {
-      handed = handed_as (underway d) row c.body.result.now f.body c.args-2.result.now f.args c.inputs.result.now f.inputs c.body.ensures c.args-2.ensures c.inputs.ensures c.in-Some.ensures.0;
-      next = c.in-Some-next_wish.ensures.0;
-    } in
+    let may = may_ask (underway d) f c.args.row c.body.result.now c.args-2.result.now c.inputs.result.now c.body.ensures c.args-2.ensures c.inputs.ensures c.in-Some.ensures.0 c.in-Some-next_wish.ensures.0 in
     let opened = c.open.ensures.opens in
-    subst (λ (u : Underway). OpensWish u f row c.match-open.result (underway e)) c.self.view_is
+    subst (λ (u : Underway). OpensWish u f c.args.row c.match-open.result (underway e)) c.self.view_is
     (elim c.match-open.branch [
-      | in-Ok-open w ↦ subst (λ (r : Result Child OpenFault). OpensWish (underway d) f row r (underway e)) (sym w.result-is)
-          (opens d c.self.invariant.kept e f row w.in-Ok-open.child may (subst (λ (r : Result Child AllocError). OpensChild d row r e) w.in-Ok-open.is opened))
-      | in-Err w ↦ subst (λ (r : Result Child OpenFault). OpensWish (underway d) f row r (underway e)) (sym w.result-is)
-          (no_memory d c.self.invariant.kept e f row may c.if-self-ge-MOST_ROWS.false (subst (λ (r : Result Child AllocError). OpensChild d row r e) w.in-Err.is opened))
+      | in-Ok-open w ↦ subst (λ (r : Result Child OpenFault). OpensWish (underway d) f c.args.row r (underway e)) (sym w.result-is)
+          (opens d c.self.invariant.kept e f c.args.row w.in-Ok-open.child may (subst (λ (r : Result Child AllocError). OpensChild d c.args.row r e) w.in-Ok-open.is opened))
+      | in-Err w ↦ subst (λ (r : Result Child OpenFault). OpensWish (underway d) f c.args.row r (underway e)) (sym w.result-is)
+          (no_memory d c.self.invariant.kept e f c.args.row may c.if-self-ge-MOST_ROWS.false (subst (λ (r : Result Child AllocError). OpensChild d c.args.row r e) w.in-Err.is opened))
     ])
 
 pub returns-in_default-wished_behaviour : goal.returns-in_default-wished_behaviour
 returns-in_default-wished_behaviour g c =
     let d = parts_of g.C.Chains.lists g.C.Chains.place c.self.inside.machine in
     let f = c.args.frame.now in
-    let row = c.args.row in
-    let may : MayAsk (underway d) f row = record {
-      handed = handed_as (underway d) row c.body.result.now f.body c.args-2.result.now f.args c.inputs.result.now f.inputs c.body.ensures c.args-2.ensures c.inputs.ensures c.in-Some.ensures.0;
-      next = c.in-Some-next_wish.ensures.0;
-    } in
-    let refused : OpensChild d row (Err c.in_default-wished_behaviour.field-0) d = refl in
-    subst (λ (u : Underway). OpensWish u f row (Err open_faults.Memory) u) c.self.view_is
-    (no_memory d c.self.invariant.kept d f row may c.if-self-ge-MOST_ROWS.false refused)
+    let may = may_ask (underway d) f c.args.row c.body.result.now c.args-2.result.now c.inputs.result.now c.body.ensures c.args-2.ensures c.inputs.ensures c.in-Some.ensures.0 c.in-Some-next_wish.ensures.0 in
+    let refused : OpensChild d c.args.row (Err c.in_default-wished_behaviour.field-0) d = refl in
+    subst (λ (u : Underway). OpensWish u f c.args.row (Err open_faults.Memory) u) c.self.view_is
+    (no_memory d c.self.invariant.kept d f c.args.row may c.if-self-ge-MOST_ROWS.false refused)

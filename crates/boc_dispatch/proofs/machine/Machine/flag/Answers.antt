@@ -11,15 +11,13 @@ use Rattle.boc_dispatch.proofs.Going.{placed}
 use Rattle.boc_dispatch.proofs.Tables.{read_place, read_changed}
 use Rattle.boc_dispatch.proofs.machine.Machine.flag.Goals as goal
 
-pub flag-requires-clause-there : goal.flag-requires-clause-there
-flag-requires-clause-there g c =
+pub flag-requires : goal.flag-requires
+flag-requires g c =
     let d = parts_of g.C.Chains.lists g.C.Chains.place c.args.self.now in
-    flag_there d c.requires.sound.kept c.args.slot c.requires.due.0 c.args.row c.args.request c.requires.due.1
-
-pub flag-requires-clause-exchanged : goal.flag-requires-clause-exchanged
-flag-requires-clause-exchanged g c =
-    let d = parts_of g.C.Chains.lists g.C.Chains.place c.args.self.now in
-    flag_stands d c.requires.sound.kept c.args.slot c.requires.due.0 c.args.row c.args.request c.requires.due.1
+    record {
+      there = flag_there d c.requires.sound.kept c.args.slot c.requires.due.0 c.args.row c.args.request c.requires.due.1;
+      exchanged = flag_stands d c.requires.sound.kept c.args.slot c.requires.due.0 c.args.row c.args.request c.requires.due.1;
+    }
 
 pub flag_next-requires : goal.flag_next-requires
 flag_next-requires g c =
@@ -30,38 +28,30 @@ flag_next-requires g c =
     (flag_next d c.requires.sound.kept c.args.slot l c.args.row c.args.request c.requires.due.1)
 
 pub overflow_add-self : goal.overflow_add-self
-overflow_add-self g c =
-    let d = parts_of g.C.Chains.lists g.C.Chains.place c.args.self.now in
-    omega (arith, steps_fit d.program (state d) c.requires.sound.kept.sound)
+overflow_add-self g c = omega (arith, steps_fit c.args.self.now.program.now (state (parts_of g.C.Chains.lists g.C.Chains.place c.args.self.now)) c.requires.sound.kept.sound)
 
 pub returns-clause-sound : goal.returns-clause-sound
 returns-clause-sound g c =
     let d = parts_of g.C.Chains.lists g.C.Chains.place c.args.self.now in
-    let k = c.requires.sound.kept in
-    let l = c.requires.due.0 in
-    let it = c.requires.due.1 in
-    let lists = g.C.Chains.lists c.flag.new.self in
-    let place = g.C.Chains.place c.flag.new.self in
     let change : Live → Live = λ x. in_phase c.args.row (flagging x.cowns.items (suc c.args.request)) x in
-    let new_is = read_changed change d.live c.args.slot l c.index_mut.result.now c.flag_next.new.place it.is c.index_mut.ensures.value c.flag_next.ensures in
+    let new_is = read_changed change d.live c.args.slot c.requires.due.0 c.index_mut.result.now c.flag_next.new.place c.requires.due.1.is c.index_mut.ensures.value c.flag_next.ensures in
     let homes = vec_capacity c.args.self.now.homes in
     let ready = deque_capacity c.args.self.now.ready in
     record {
-      kept = subst (λ (o : Option Live). IsKept (placed d lists place c.args.slot o)) new_is
-          (flag_keeps d k c.args.slot l c.args.row c.args.request it lists place c.flag.ensures.lists c.flag.ensures.places);
-      rooms = subst (λ (o : Option Live). HasRooms (placed d lists place c.args.slot o) homes ready) new_is
-          (flag_rooms d k c.args.slot l c.args.row c.args.request it lists place c.flag.ensures.lists c.flag.ensures.places homes ready c.requires.sound.rooms);
+      kept = subst (λ (o : Option Live). IsKept (placed d (g.C.Chains.lists c.flag.new.self) (g.C.Chains.place c.flag.new.self) c.args.slot o)) new_is
+          (flag_keeps d c.requires.sound.kept c.args.slot c.requires.due.0 c.args.row c.args.request c.requires.due.1 (g.C.Chains.lists c.flag.new.self) (g.C.Chains.place c.flag.new.self) c.flag.ensures.lists c.flag.ensures.places);
+      rooms = subst (λ (o : Option Live). HasRooms (placed d (g.C.Chains.lists c.flag.new.self) (g.C.Chains.place c.flag.new.self) c.args.slot o) homes ready) new_is
+          (flag_rooms d c.requires.sound.kept c.args.slot c.requires.due.0 c.args.row c.args.request c.requires.due.1 (g.C.Chains.lists c.flag.new.self) (g.C.Chains.place c.flag.new.self) c.flag.ensures.lists c.flag.ensures.places homes ready c.requires.sound.rooms);
     }
 
 pub returns-clause-flags : goal.returns-clause-flags
 returns-clause-flags g c l it =
     let d = parts_of g.C.Chains.lists g.C.Chains.place c.args.self.now in
-    let k = c.requires.sound.kept in
     let lists = g.C.Chains.lists c.flag.new.self in
     let place = g.C.Chains.place c.flag.new.self in
     let change : Live → Live = λ x. in_phase c.args.row (flagging x.cowns.items (suc c.args.request)) x in
     let new_is = read_changed change d.live c.args.slot l c.index_mut.result.now c.flag_next.new.place it.is c.index_mut.ensures.value c.flag_next.ensures in (
       subst (λ (o : Option Live). Flags (state d) l.number c.args.request (state (placed d lists place c.args.slot o))) new_is
-          (flag_steps d k c.args.slot l c.args.row c.args.request it lists place c.flag.ensures.lists c.flag.ensures.places),
+          (flag_steps d c.requires.sound.kept c.args.slot l c.args.row c.args.request it lists place c.flag.ensures.lists c.flag.ensures.places),
       refl,
     )

@@ -13,19 +13,15 @@ none_there : (o : Option ℕ) → is_some o ≡ false → o ≡ None
 none_there None e = refl
 none_there (Some x) e = absurd (let f : true ≡ false = e in cc)
 
-pub can_settle-requires-clause-there : goal.can_settle-requires-clause-there
-can_settle-requires-clause-there g c =
+pub can_settle-requires : goal.can_settle-requires
+can_settle-requires g c =
     let d = parts_of g.C.Chains.lists g.C.Chains.place c.args.self.now in
     let at_stage : IsAtStage d c.args.slot c.args.live.now (Asking c.in-Asking.request true) =
     record { is = c.requires.is; stage_is = sym c.stage.ensures ∙ c.in-Asking.is ∙ ap (Asking c.in-Asking.request) c.if-exchanged.true } in
-    settle_there d c.requires.sound.kept c.args.slot c.args.live.now c.in-Asking.request at_stage
-
-pub can_settle-requires-clause-exchanged : goal.can_settle-requires-clause-exchanged
-can_settle-requires-clause-exchanged g c =
-    let d = parts_of g.C.Chains.lists g.C.Chains.place c.args.self.now in
-    let at_stage : IsAtStage d c.args.slot c.args.live.now (Asking c.in-Asking.request true) =
-    record { is = c.requires.is; stage_is = sym c.stage.ensures ∙ c.in-Asking.is ∙ ap (Asking c.in-Asking.request) c.if-exchanged.true } in
-    settle_stands d c.requires.sound.kept c.args.slot c.args.live.now c.in-Asking.request at_stage
+    record {
+      there = settle_there d c.requires.sound.kept c.args.slot c.args.live.now c.in-Asking.request at_stage;
+      exchanged = settle_stands d c.requires.sound.kept c.args.slot c.args.live.now c.in-Asking.request at_stage;
+    }
 
 pub returns-then-not-can_settle : goal.returns-then-not-can_settle
 returns-then-not-can_settle g c =
@@ -81,19 +77,15 @@ returns-else-is_none g c =
     waits_for_child d c.requires.sound.kept c.args.slot c.args.live.now c.requires.is c.in-Recorded.row
     (sym c.stage.ensures ∙ c.in-Recorded.is ∙ ap (Recorded c.in-Recorded.row) c.in-Running.is) (λ e. let f : false ≡ true = sym (ap is_some e) ∙ c.is_none.ensures ∙ ap not c.if-is_none.false in cc)
 
-pub can_leave-requires-clause-there : goal.can_leave-requires-clause-there
-can_leave-requires-clause-there g c =
+pub can_leave-requires : goal.can_leave-requires
+can_leave-requires g c =
     let d = parts_of g.C.Chains.lists g.C.Chains.place c.args.self.now in
     let f : Front d c.args.slot c.in-Recorded.row c.in-Leaving.request c.args.live.now =
     record { kept = c.requires.sound.kept; is = c.requires.is; stage_is = sym c.stage.ensures ∙ c.in-Recorded.is ∙ ap (Recorded c.in-Recorded.row) c.in-Leaving.is } in
-    low_place d c.args.slot c.in-Recorded.row c.in-Leaving.request c.args.live.now f
-
-pub can_leave-requires-clause-granted : goal.can_leave-requires-clause-granted
-can_leave-requires-clause-granted g c =
-    let d = parts_of g.C.Chains.lists g.C.Chains.place c.args.self.now in
-    let f : Front d c.args.slot c.in-Recorded.row c.in-Leaving.request c.args.live.now =
-    record { kept = c.requires.sound.kept; is = c.requires.is; stage_is = sym c.stage.ensures ∙ c.in-Recorded.is ∙ ap (Recorded c.in-Recorded.row) c.in-Leaving.is } in
-    may_leave d c.args.slot c.in-Recorded.row c.in-Leaving.request c.args.live.now f
+    record {
+      there = low_place d c.args.slot c.in-Recorded.row c.in-Leaving.request c.args.live.now f;
+      granted = may_leave d c.args.slot c.in-Recorded.row c.in-Leaving.request c.args.live.now f;
+    }
 
 pub returns-then-can_leave : goal.returns-then-can_leave
 returns-then-can_leave g c =

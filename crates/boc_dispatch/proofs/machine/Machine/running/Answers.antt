@@ -11,7 +11,7 @@ use Rattle.boc_dispatch.specs.declared.live.Live.{Live}
 use Rattle.boc_dispatch.specs.Calls.{IsHandedOut, IsLeaving}
 use Rattle.boc_dispatch.specs.Inside.{parts_of, state, underway, live_at, IsOfRow, IsStageAt, HasInHand}
 use Rattle.boc_dispatch.specs.Moves.{IsFoundEnqueue, IsFoundLeaving}
-use Rattle.boc_dispatch.proofs.Tables.{read_place, live_there}
+use Rattle.boc_dispatch.proofs.Tables.{read_some}
 use Rattle.boc_dispatch.proofs.Homes.{handed_slot, handed_means, hands_out, kind_there, params_below}
 use Rattle.boc_dispatch.proofs.machine.Machine.running.Goals as goal
 
@@ -26,35 +26,26 @@ returns-in_err-slot g c =
 pub runs_on-requires-clause-kind : goal.runs_on-requires-clause-kind
 runs_on-requires-clause-kind g c =
     let d = parts_of g.C.Chains.lists g.C.Chains.place c.args.self.now in
-    let row : ℕ = c.args.row in
-    let slot : ℕ = c.in_ok-slot.slot in
     let x = c.in_ok-slot.ensures in
-    let read : c.index.result.now ≡ Some x.this = read_place c.args.self.now.live.items slot x.this c.index.result.now x.is c.index.ensures in
-    let same : c.in-Some.live ≡ x.this = (let e : Some c.in-Some.live ≡ Some x.this = sym c.in-Some.is ∙ read in cc) in
-    subst (λ (l : Live). l.kind < length d.program.bodies) (sym same) (kind_there d c.requires.kept slot row x)
+    let same = read_some c.args.self.now.live.items c.in_ok-slot.slot x.this c.in-Some.live c.index.result.now x.is c.index.ensures c.in-Some.is in
+    subst (λ (l : Live). l.kind < length d.program.bodies) (sym same) (kind_there d c.requires.kept c.in_ok-slot.slot c.args.row x)
 
 pub runs_on-requires-clause-below : goal.runs_on-requires-clause-below
 runs_on-requires-clause-below g c =
     let d = parts_of g.C.Chains.lists g.C.Chains.place c.args.self.now in
-    let row : ℕ = c.args.row in
-    let slot : ℕ = c.in_ok-slot.slot in
     let x = c.in_ok-slot.ensures in
-    let read : c.index.result.now ≡ Some x.this = read_place c.args.self.now.live.items slot x.this c.index.result.now x.is c.index.ensures in
-    let same : c.in-Some.live ≡ x.this = (let e : Some c.in-Some.live ≡ Some x.this = sym c.in-Some.is ∙ read in cc) in
+    let same = read_some c.args.self.now.live.items c.in_ok-slot.slot x.this c.in-Some.live c.index.result.now x.is c.index.ensures c.in-Some.is in
     subst (λ (l : Live). AllBelow (length c.deref.result.now) l.params.items) (sym same)
-    (subst (λ (n : ℕ). AllBelow n x.this.params.items) (ap length (sym c.deref.ensures.value)) (params_below d c.requires.kept slot row x))
+    (subst (λ (n : ℕ). AllBelow n x.this.params.items) (ap length (sym c.deref.ensures.value)) (params_below d c.requires.kept c.in_ok-slot.slot c.args.row x))
 
 pub returns-in-Some : goal.returns-in-Some
 returns-in-Some g c =
     let d = parts_of g.C.Chains.lists g.C.Chains.place c.args.self.now in
-    let row : ℕ = c.args.row in
-    let slot : ℕ = c.in_ok-slot.slot in
     let x = c.in_ok-slot.ensures in
-    let read : c.index.result.now ≡ Some x.this = read_place c.args.self.now.live.items slot x.this c.index.result.now x.is c.index.ensures in
-    let same : c.in-Some.live ≡ x.this = (let e : Some c.in-Some.live ≡ Some x.this = sym c.in-Some.is ∙ read in cc) in
+    let same = read_some c.args.self.now.live.items c.in_ok-slot.slot x.this c.in-Some.live c.index.result.now x.is c.index.ensures c.in-Some.is in
     let runs = c.runs_on.ensures.0 c.if-runs_on.true in
     let stage = ap (λ (l : Live). l.stage) (sym same) ∙ runs.0 in (
-      hands_out d c.requires.kept slot row x c.args.body.now c.args.args.now c.args.inputs.now stage
+      hands_out d c.requires.kept c.in_ok-slot.slot c.args.row x c.args.body.now c.args.args.now c.args.inputs.now stage
           (ap (λ (l : Live). slice_get d.program.bodies l.kind) (sym same) ∙ runs.1)
           (runs.2 ∙ ap (λ (l : Live). l.args.items) same) (runs.3 ∙ (λ i. inputs_of (same i).params.items (c.deref.ensures.value i))),
       (x.this, record { is = x.is; stage_is = stage }),
@@ -63,13 +54,10 @@ returns-in-Some g c =
 pub returns-in_default : goal.returns-in_default
 returns-in_default g c =
     let d = parts_of g.C.Chains.lists g.C.Chains.place c.args.self.now in
-    let row : ℕ = c.args.row in
-    let slot : ℕ = c.in_ok-slot.slot in
     let x = c.in_ok-slot.ensures in
-    let read : c.index.result.now ≡ Some x.this = read_place c.args.self.now.live.items slot x.this c.index.result.now x.is c.index.ensures in
-    let same : c.in-Some.live ≡ x.this = (let e : Some c.in-Some.live ≡ Some x.this = sym c.in-Some.is ∙ read in cc) in
+    let same = read_some c.args.self.now.live.items c.in_ok-slot.slot x.this c.in-Some.live c.index.result.now x.is c.index.ensures c.in-Some.is in
     λ h.
-    (let means = handed_means d c.requires.kept slot row x c.args.body.now c.args.args.now c.args.inputs.now h in
+    (let means = handed_means d c.requires.kept c.in_ok-slot.slot c.args.row x c.args.body.now c.args.args.now c.args.inputs.now h in
     let yes = c.runs_on.ensures.1 (
       ap (λ (l : Live). l.stage) same ∙ means.0,
       ap (λ (l : Live). slice_get d.program.bodies l.kind) same ∙ means.1,

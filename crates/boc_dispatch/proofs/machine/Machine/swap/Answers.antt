@@ -11,15 +11,13 @@ use Rattle.boc_dispatch.proofs.Going.{placed}
 use Rattle.boc_dispatch.proofs.Tables.{read_place, read_changed}
 use Rattle.boc_dispatch.proofs.machine.Machine.swap.Goals as goal
 
-pub swap-requires-clause-next : goal.swap-requires-clause-next
-swap-requires-clause-next g c =
+pub swap-requires : goal.swap-requires
+swap-requires g c =
     let d = parts_of g.C.Chains.lists g.C.Chains.place c.args.self.now in
-    swap_due d c.requires.sound.kept c.args.slot c.requires.due.0 c.args.request c.requires.due.1
-
-pub swap-requires-clause-there : goal.swap-requires-clause-there
-swap-requires-clause-there g c =
-    let d = parts_of g.C.Chains.lists g.C.Chains.place c.args.self.now in
-    swap_there d c.requires.sound.kept c.args.slot c.requires.due.0 c.args.request c.requires.due.1
+    record {
+      next = swap_due d c.requires.sound.kept c.args.slot c.requires.due.0 c.args.request c.requires.due.1;
+      there = swap_there d c.requires.sound.kept c.args.slot c.requires.due.0 c.args.request c.requires.due.1;
+    }
 
 pub ask-requires : goal.ask-requires
 ask-requires g c =
@@ -29,36 +27,28 @@ ask-requires g c =
     (swap_next d c.requires.sound.kept c.args.slot c.requires.due.0 c.args.request c.requires.due.1)
 
 pub overflow_add-self : goal.overflow_add-self
-overflow_add-self g c =
-    let d = parts_of g.C.Chains.lists g.C.Chains.place c.args.self.now in
-    omega (arith, steps_fit d.program (state d) c.requires.sound.kept.sound)
+overflow_add-self g c = omega (arith, steps_fit c.args.self.now.program.now (state (parts_of g.C.Chains.lists g.C.Chains.place c.args.self.now)) c.requires.sound.kept.sound)
 
 pub returns-clause-sound : goal.returns-clause-sound
 returns-clause-sound g c =
     let d = parts_of g.C.Chains.lists g.C.Chains.place c.args.self.now in
-    let k = c.requires.sound.kept in
-    let l = c.requires.due.0 in
-    let it = c.requires.due.1 in
-    let lists = g.C.Chains.lists c.swap.new.self in
-    let place = g.C.Chains.place c.swap.new.self in
-    let new_is = read_changed (exchanged c.args.request) d.live c.args.slot l c.index_mut.result.now c.ask.new.place it.is c.index_mut.ensures.value c.ask.ensures in
+    let new_is = read_changed (exchanged c.args.request) d.live c.args.slot c.requires.due.0 c.index_mut.result.now c.ask.new.place c.requires.due.1.is c.index_mut.ensures.value c.ask.ensures in
     let homes = vec_capacity c.args.self.now.homes in
     let ready = deque_capacity c.args.self.now.ready in
     record {
-      kept = subst (λ (o : Option Live). IsKept (placed d lists place c.args.slot o)) new_is
-          (swap_keeps d k c.args.slot l c.args.request it lists place c.swap.ensures.lists c.swap.ensures.place c.swap.ensures.other_places);
-      rooms = subst (λ (o : Option Live). HasRooms (placed d lists place c.args.slot o) homes ready) new_is
-          (swap_rooms d k c.args.slot l c.args.request it lists place c.swap.ensures.lists c.swap.ensures.place c.swap.ensures.other_places homes ready c.requires.sound.rooms);
+      kept = subst (λ (o : Option Live). IsKept (placed d (g.C.Chains.lists c.swap.new.self) (g.C.Chains.place c.swap.new.self) c.args.slot o)) new_is
+          (swap_keeps d c.requires.sound.kept c.args.slot c.requires.due.0 c.args.request c.requires.due.1 (g.C.Chains.lists c.swap.new.self) (g.C.Chains.place c.swap.new.self) c.swap.ensures.lists c.swap.ensures.place c.swap.ensures.other_places);
+      rooms = subst (λ (o : Option Live). HasRooms (placed d (g.C.Chains.lists c.swap.new.self) (g.C.Chains.place c.swap.new.self) c.args.slot o) homes ready) new_is
+          (swap_rooms d c.requires.sound.kept c.args.slot c.requires.due.0 c.args.request c.requires.due.1 (g.C.Chains.lists c.swap.new.self) (g.C.Chains.place c.swap.new.self) c.swap.ensures.lists c.swap.ensures.place c.swap.ensures.other_places homes ready c.requires.sound.rooms);
     }
 
 pub returns-clause-swaps : goal.returns-clause-swaps
 returns-clause-swaps g c l it =
     let d = parts_of g.C.Chains.lists g.C.Chains.place c.args.self.now in
-    let k = c.requires.sound.kept in
     let lists = g.C.Chains.lists c.swap.new.self in
     let place = g.C.Chains.place c.swap.new.self in
     let new_is = read_changed (exchanged c.args.request) d.live c.args.slot l c.index_mut.result.now c.ask.new.place it.is c.index_mut.ensures.value c.ask.ensures in (
       subst (λ (o : Option Live). Swaps (state d) l.number c.args.request (state (placed d lists place c.args.slot o))) new_is
-          (swap_steps d k c.args.slot l c.args.request it lists place c.swap.ensures.lists c.swap.ensures.place c.swap.ensures.other_places),
+          (swap_steps d c.requires.sound.kept c.args.slot l c.args.request it lists place c.swap.ensures.lists c.swap.ensures.place c.swap.ensures.other_places),
       refl,
     )

@@ -1,5 +1,5 @@
 -- What linked chains keep at each call, and the lists after it.
-use Rattle.std.proofs.Common.{◌≡◌, ◌≢◌, ℕ, zero, suc, ◌+◌, ◌-◌, ◌^◌, ◌<◌, ◌≤◌, Bool, true, false, cond, List, [], ◌∷◌, ◌++◌, length, drop, set, get_or, refl, sym, ◌∙◌, ap, subst, inl, inr, arith, length-set, get_or-set_same, get_or-set_other}
+use Rattle.std.proofs.Common.{◌≡◌, ◌≢◌, ◌↔◌, ℕ, zero, suc, ◌+◌, ◌-◌, ◌^◌, ◌<◌, ◌≤◌, Bool, true, false, cond, List, [], ◌∷◌, ◌++◌, length, drop, set, get_or, refl, sym, ◌∙◌, ap, subst, inl, inr, arith, length-set, get_or-set_same, get_or-set_other}
 use Rattle.std.specs.Prelude.{Option, Some, None, slice_get, slice_index_or, position, ◌==◌, replicate, is_some, IsSome, count_by}
 use Rattle.std.specs.Option.{option_map, option_and_then}
 use Rattle.slab.specs.Slab.{Slab, get, slab_len, Updates}
@@ -8,33 +8,37 @@ use Rattle.boc_chain.specs.declared.request.Released.TheVariants.{Unhooked, Pass
 use Rattle.boc_chain.specs.declared.linked.Node.{Node}
 use Rattle.boc_chain.specs.declared.linked.Link.{Link}
 use Rattle.boc_chain.specs.KeptLinks.{Linked}
-use Rattle.boc_chain.specs.Chain.{Place, IsGranted, times, slots, list, cowns_of, exchanged_of, cown, one_more, fresh, slot_of, last_slot, before, with_flagged, settled_behind, leave_answer, after_leave}
+use Rattle.boc_chain.specs.Chain.{Place, IsGranted, StandsIn, times, slots, list, list_for, with_change, cowns_of, exchanged_of, cown, one_more, fresh, with_fresh, slot_of, last_slot, before, with_flagged, after_settle, leave_answer, after_leave}
 use Rattle.boc_chain.specs.Links.{Tie, Spells, end_of, next_of}
 use Rattle.boc_chain.specs.Linked.{stored_in, stored, seen, links, IsAt, IsPlaced, Holds, Leads, last_at, place_in, place_at, slot_at, IsSpelled, IsList, IsLinked, last_of, line, from, lists_of, passed}
 use Rattle.boc_chain.proofs.Lines.{same_or_not}
 use Rattle.boc_chain.proofs.Fuel.{read}
 use Rattle.boc_chain.proofs.Spelled.{has_link, slots_flagged, slots_append, times_append, times_other}
-use Rattle.boc_chain.proofs.Placed.{at_kept, placed_put, own_at, no_cown}
+use Rattle.boc_chain.proofs.Placed.{at_kept, placed_put, own_at, no_cown, has_stored, holds_it}
 use Rattle.boc_chain.proofs.Places.{no_link, stands}
 use Rattle.boc_chain.proofs.Steps.{swapped, flagged, left_none, left_last, end_after_settle, end_passed}
 use Rattle.boc_chain.proofs.Listed.{from_same, lists_length, list_is, one_changed, none_changed}
 
-pub any_default : {X : Type 0} (xs : List X) (i : ℕ) (d e : X) → i < length xs → slice_index_or xs i d ≡ slice_index_or xs i e
+any_default : {X : Type 0} (xs : List X) (i : ℕ) (d e : X) → i < length xs → slice_index_or xs i d ≡ slice_index_or xs i e
 any_default [] i d e h = absurd (omega arith)
 any_default (x ∷ xs) zero d e h = refl
 any_default (x ∷ xs) (suc i) d e h = any_default xs i d e (omega arith)
 
-pub below_too : (c k n : ℕ) → c ≡ k → k < n → c < n
+below_too : (c k n : ℕ) → c ≡ k → k < n → c < n
 below_too c k n e h = omega arith
 
-pub line_is : (last : List (Option Node)) (held : Slab Linked) (c k : ℕ) → c ≡ k → k < length last → list (lists_of last held) k ≡ line last held c
+-- the node that was read as the last of a cown
+last_read : (last : List (Option Node)) (c k : ℕ) (b : Option Node) → c ≡ k → k < length last → b ≡ slice_index_or last c b → b ≡ last_at last c
+last_read last c k b e h is = is ∙ any_default last c b None (below_too c k (length last) e h)
+
+line_is : (last : List (Option Node)) (held : Slab Linked) (c k : ℕ) → c ≡ k → k < length last → list (lists_of last held) k ≡ line last held c
 line_is last held c k e h = list_is last held k h ∙ ap (line last held) (sym e)
 
 -- the request that a call is for is at its place
-pub at_now : (last : List (Option Node)) (held : Slab Linked) (peak c : ℕ) (own : Node) → IsLinked last held peak → c ≡ cown (place_at held own.slot) own.place → own.place < length (cowns_of (place_at held own.slot)) → IsAt held own c
+at_now : (last : List (Option Node)) (held : Slab Linked) (peak c : ℕ) (own : Node) → IsLinked last held peak → c ≡ cown (place_at held own.slot) own.place → own.place < length (cowns_of (place_at held own.slot)) → IsAt held own c
 at_now last held peak c own h e there = subst (λ x. IsAt held own x) (sym e) (own_at held own (h.distinct own.slot) there)
 
-pub in_now : (last : List (Option Node)) (held : Slab Linked) (peak c k : ℕ) (own : Node) → IsLinked last held peak → c ≡ k → k < length last → IsAt held own c → 0 < times own.slot (slots (list (lists_of last held) k)) → Holds held c own (line last held c)
+in_now : (last : List (Option Node)) (held : Slab Linked) (peak c k : ℕ) (own : Node) → IsLinked last held peak → c ≡ k → k < length last → IsAt held own c → 0 < times own.slot (slots (list (lists_of last held) k)) → Holds held c own (line last held c)
 in_now last held peak c k own h e b at m = record {
   inside = record {
     spelled = (h.spelled c (below_too c k (length last) e b)).spelled;
@@ -44,7 +48,7 @@ in_now last held peak c k own h e b at m = record {
   placed = h.placed c (below_too c k (length last) e b);
 }
 
-pub front_now : (last : List (Option Node)) (held : Slab Linked) (peak c k : ℕ) (own : Node) → IsLinked last held peak → c ≡ k → k < length last → IsAt held own c → IsGranted own.slot (list (lists_of last held) k) → Leads held c own (line last held c)
+front_now : (last : List (Option Node)) (held : Slab Linked) (peak c k : ℕ) (own : Node) → IsLinked last held peak → c ≡ k → k < length last → IsAt held own c → IsGranted own.slot (list (lists_of last held) k) → Leads held c own (line last held c)
 front_now last held peak c k own h e b at g = record {
   front = record {
     spelled = (h.spelled c (below_too c k (length last) e b)).spelled;
@@ -54,33 +58,72 @@ front_now last held peak c k own h e b at g = record {
   placed = h.placed c (below_too c k (length last) e b);
 }
 
-pub flag_call : (last : List (Option Node)) (held held' : Slab Linked) (peak c : ℕ) (own : Node) (l : Link) → IsLinked last held peak → c < length last → Holds held c own (line last held c) → stored held own.slot c ≡ Some l
-    → stored held' own.slot c ≡ Some (record l { scheduled = true }) → ((s d : ℕ) → s ≢ own.slot → stored held' s d ≡ stored held s d) → ((s d : ℕ) → d ≢ c → stored held' s d ≡ stored held s d)
-    → ((s : ℕ) → place_at held' s ≡ place_at held s) → slab_len held' ≡ slab_len held
-    → IsLinked last held' peak × (lists_of last held' ≡ set (lists_of last held) c (with_flagged own.slot (list (lists_of last held) c)))
-flag_call last held held' peak c own l h inside it got here slots_same cowns_same places len =
-    let names = it.placed own.slot l it.inside.there got in
-    one_changed last last held held' peak c c (λ q. with_flagged own.slot q) h refl inside refl (λ d n. refl) cowns_same (λ s. ap cowns_of (places s)) len
-    (flagged (links held) (links held') c own.slot (last_of last c) (line last held c) (seen l) (h.spelled c inside) (ap (option_map seen) got) (ap (option_map seen) here) (λ t n. ap (option_map seen) (slots_same t c n)))
-    (placed_put held held' c own.slot (line last held c) (with_flagged own.slot (line last held c)) (record l { scheduled = true }) it.placed
-    (λ t m n. subst (λ ys. 0 < times t ys) (slots_flagged own.slot (line last held c)) m)
-    (λ s. ap cowns_of (places s)) here (record { before = names.before; next = names.next }) (λ t n. slots_same t c n))
-    (λ n q. at_kept held held' n c (ap cowns_of (places n.slot)) (h.ended c n inside q))
+-- the node of request i of a slot
+abbrev pub node_at : ℕ → ℕ → Node
+node_at slot i = record { slot = slot; place = i }
 
-pub settle_call : (last : List (Option Node)) (held held' : Slab Linked) (peak c : ℕ) (own : Node) → IsLinked last held peak → c < length last → Holds held c own (line last held c)
-    → ((d : ℕ) (xs : List Request) → Holds held d own xs → IsSpelled (links held') d (settled_behind (before own.slot xs) own.slot xs))
-    → ((d : ℕ) (xs : List Request) → Holds held d own xs → IsPlaced held' d (settled_behind (before own.slot xs) own.slot xs))
-    → ((e s d : ℕ) (xs : List Request) → Holds held e own xs → d ≢ e → stored held' s d ≡ stored held s d)
-    → ((s : ℕ) → place_at held' s ≡ place_at held s) → slab_len held' ≡ slab_len held
-    → IsLinked last held' peak × (lists_of last held' ≡ set (lists_of last held) c (settled_behind (before own.slot (list (lists_of last held) c)) own.slot (list (lists_of last held) c)))
-settle_call last held held' peak c own h inside it spelled placed cowns_same places len =
-    one_changed last last held held' peak c c (λ q. settled_behind (before own.slot q) own.slot q) h refl inside refl (λ d n. refl) (λ s d n. cowns_same c s d (line last held c) it n) (λ s. ap cowns_of (places s)) len
-    (record {
-      spelled = spelled c (line last held c) it;
-      ends = end_after_settle (before own.slot (line last held c)) own.slot (line last held c) ∙ (h.spelled c inside).ends;
-    })
-    (placed c (line last held c) it)
-    (λ n q. at_kept held held' n c (ap cowns_of (places n.slot)) (h.ended c n inside q))
+-- such a request, as a call finds it
+module _ {last : List (Option Node)} {held : Slab Linked} {peak : ℕ} (h : IsLinked last held peak) (slot i : ℕ) (there : i < length (cowns_of (place_at held slot))) where
+  own_at_now : IsAt held (node_at slot i) (cown (place_at held slot) i)
+  own_at_now = at_now last held peak (cown (place_at held slot) i) (node_at slot i) h refl there
+
+  -- it is in the list of its cown
+  own_holds : StandsIn (list_for (lists_of last held) (place_at held slot) i) slot
+      → Holds held (cown (place_at held slot) i) (node_at slot i) (line last held (cown (place_at held slot) i))
+  own_holds m = in_now last held peak (cown (place_at held slot) i) (cown (place_at held slot) i) (node_at slot i) h refl (h.in_range slot i there) own_at_now m
+
+  -- some list has it
+  pub some_holds : StandsIn (list_for (lists_of last held) (place_at held slot) i) slot → (c : ℕ) × ((xs : List Request) × Holds held c (node_at slot i) xs)
+  some_holds m = (_, (_, own_holds m))
+
+  -- its link is kept
+  pub own_exchanged : StandsIn (list_for (lists_of last held) (place_at held slot) i) slot → i < exchanged_of (place_at held slot)
+  own_exchanged m = (holds_it held (cown (place_at held slot) i) (node_at slot i) (line last held (cown (place_at held slot) i)) (own_holds m)).exchanged
+
+  -- some list has it in front
+  pub some_leads : IsGranted slot (list_for (lists_of last held) (place_at held slot) i) → (c : ℕ) × ((xs : List Request) × Leads held c (node_at slot i) xs)
+  some_leads g = (_, (_, front_now last held peak (cown (place_at held slot) i) (cown (place_at held slot) i) (node_at slot i) h refl (h.in_range slot i there) own_at_now g))
+
+  -- what is said of each list that has it is so of the list of its cown
+  pub said_of : (P : List Request → Type 0) → ((c : ℕ) (xs : List Request) → Holds held c (node_at slot i) xs → P xs)
+      → StandsIn (list_for (lists_of last held) (place_at held slot) i) slot → P (list_for (lists_of last held) (place_at held slot) i)
+  said_of P told m = subst P (sym (line_is last held (cown (place_at held slot) i) (cown (place_at held slot) i) refl (h.in_range slot i there))) (told _ _ (own_holds m))
+
+  pub flag_call : (held' : Slab Linked) → StandsIn (list_for (lists_of last held) (place_at held slot) i) slot
+      → ((c : ℕ) (l : Link) → IsAt held (node_at slot i) c → stored held slot c ≡ Some l → stored held' slot c ≡ Some (record l { scheduled = true }))
+      → ((s d : ℕ) → s ≢ slot → stored held' s d ≡ stored held s d) → ((c s d : ℕ) → IsAt held (node_at slot i) c → d ≢ c → stored held' s d ≡ stored held s d)
+      → ((s : ℕ) → place_at held' s ≡ place_at held s) → slab_len held' ≡ slab_len held
+      → IsLinked last held' peak × (lists_of last held' ≡ with_change (with_flagged slot) (lists_of last held) (place_at held slot) i)
+  flag_call held' m here slots_same cowns_same places len =
+      let c = cown (place_at held slot) i in
+      let it = own_holds m in
+      let l = has_stored held c slot (line last held c) it.inside.spelled it.inside.there in
+      let put = here c l.0 own_at_now l.1 in
+      let names = it.placed slot l.0 it.inside.there l.1 in
+      one_changed last last held held' peak c c (λ q. with_flagged slot q) h refl (h.in_range slot i there) refl (λ d n. refl) (λ s d n. cowns_same c s d own_at_now n) (λ s. ap cowns_of (places s)) len
+      (flagged (links held) (links held') c slot (last_of last c) (line last held c) (seen l.0) (h.spelled c (h.in_range slot i there)) (ap (option_map seen) l.1) (ap (option_map seen) put) (λ t n. ap (option_map seen) (slots_same t c n)))
+      (placed_put held held' c slot (line last held c) (with_flagged slot (line last held c)) (record l.0 { scheduled = true }) it.placed
+      (λ t b n. subst (λ ys. 0 < times t ys) (slots_flagged slot (line last held c)) b)
+      (λ s. ap cowns_of (places s)) put (record { before = names.before; next = names.next }) (λ t n. slots_same t c n))
+      (λ n q. at_kept held held' n c (ap cowns_of (places n.slot)) (h.ended c n (h.in_range slot i there) q))
+
+  pub settle_call : (held' : Slab Linked) → StandsIn (list_for (lists_of last held) (place_at held slot) i) slot
+      → ((c : ℕ) (xs : List Request) → Holds held c (node_at slot i) xs → IsSpelled (links held') c (after_settle slot xs))
+      → ((c : ℕ) (xs : List Request) → Holds held c (node_at slot i) xs → IsPlaced held' c (after_settle slot xs))
+      → ((c s d : ℕ) (xs : List Request) → Holds held c (node_at slot i) xs → d ≢ c → stored held' s d ≡ stored held s d)
+      → ((s : ℕ) → place_at held' s ≡ place_at held s) → slab_len held' ≡ slab_len held
+      → IsLinked last held' peak × (lists_of last held' ≡ with_change (after_settle slot) (lists_of last held) (place_at held slot) i)
+  settle_call held' m spelled placed cowns_same places len =
+      let c = cown (place_at held slot) i in
+      let inside = h.in_range slot i there in
+      let it = own_holds m in
+      one_changed last last held held' peak c c (λ q. after_settle slot q) h refl inside refl (λ d n. refl) (λ s d n. cowns_same c s d (line last held c) it n) (λ s. ap cowns_of (places s)) len
+      (record {
+        spelled = spelled c (line last held c) it;
+        ends = end_after_settle (before slot (line last held c)) slot (line last held c) ∙ (h.spelled c inside).ends;
+      })
+      (placed c (line last held c) it)
+      (λ n q. at_kept held held' n c (ap cowns_of (places n.slot)) (h.ended c n inside q))
 
 -- swap
 
@@ -97,44 +140,6 @@ in_pushed xs s t m n =
     let a : times t (slots (xs ++ (fresh s ∷ []))) ≡ times t (slots xs) + times t (s ∷ []) = ap (times t) (slots_append xs (fresh s ∷ [])) ∙ times_append t (slots xs) (s ∷ []) in
     let b = times_other t s [] (λ z. n (sym z)) in omega arith
 
-pub swap_call : (last : List (Option Node)) (held held' : Slab Linked) (peak c : ℕ) (own : Node) (b : Option Node) → IsLinked last held peak
-    → c ≡ cown (place_at held own.slot) own.place → own.place ≡ exchanged_of (place_at held own.slot) → own.place < length (cowns_of (place_at held own.slot)) → b ≡ last_at last c
-    → (((d : ℕ) → times d (cowns_of (place_at held own.slot)) ≤ 1) → stored held' own.slot (cown (place_at held own.slot) (exchanged_of (place_at held own.slot))) ≡ Some (record { settled = false; scheduled = false; before = b; next = None }))
-    → ((s d : ℕ) → s ≢ own.slot → stored held' s d ≡ stored held s d)
-    → ((s d : ℕ) → d ≢ cown (place_at held own.slot) (exchanged_of (place_at held own.slot)) → stored held' s d ≡ stored held s d)
-    → place_at held' own.slot ≡ one_more (place_at held own.slot) → ((s : ℕ) → s ≢ own.slot → place_at held' s ≡ place_at held s) → slab_len held' ≡ slab_len held
-    → IsLinked (set last c (Some own)) held' peak
-    × (lists_of (set last c (Some own)) held' ≡ set (lists_of last held) (cown (place_at held own.slot) own.place) (list (lists_of last held) (cown (place_at held own.slot) own.place) ++ (fresh own.slot ∷ [])))
-swap_call last held held' peak c own b h e next there read here slots_same cowns_same place places len =
-    let below = h.in_range own.slot own.place there in
-    let inside : c < length last = below_too c (cown (place_at held own.slot) own.place) (length last) e below in
-    let same : cown (place_at held own.slot) (exchanged_of (place_at held own.slot)) ≡ c = ap (cown (place_at held own.slot)) (sym next) ∙ sym e in
-    let cowns = λ (s : ℕ). elim (same_or_not s own.slot) as (λ _. cowns_of (place_at held' s) ≡ cowns_of (place_at held s)) [
-      | inl f ↦ ap (λ t. cowns_of (place_at held' t)) f ∙ ap cowns_of place ∙ cowns_more (place_at held own.slot) ∙ ap (λ t. cowns_of (place_at held t)) (sym f)
-      | inr f ↦ ap cowns_of (places s f)
-    ] in
-    let link : stored held' own.slot c ≡ Some (record { settled = false; scheduled = false; before = b; next = None }) = ap (stored held' own.slot) (sym same) ∙ here (h.distinct own.slot) in
-    one_changed last (set last c (Some own)) held held' peak c (cown (place_at held own.slot) own.place) (λ q. q ++ (fresh own.slot ∷ [])) h e below
-    (length-set last c (Some own))
-    (λ d n. get_or-set_other last c d (Some own) None n)
-    (λ s d n. cowns_same s d (λ z. n (z ∙ same)))
-    cowns
-    len
-    (subst (λ o. IsList (links held') c o (line last held c ++ (fresh own.slot ∷ []))) (sym (ap (option_map (λ (n : Node). n.slot)) (get_or-set_same last c (Some own) None inside)))
-    (swapped (links held) (links held') c own.slot (last_of last c) (line last held c) (h.spelled c inside)
-    (ap (links held own.slot) e ∙ ap (option_map seen) (fresh_in (get held own.slot) own.place (h.distinct own.slot) there next))
-    (ap (option_map seen) link ∙ ap (λ (o : Option Node). Some (seen (record { settled = false; scheduled = false; before = o; next = None }))) read)
-    (λ t n. ap (option_map seen) (slots_same t c n))))
-    (placed_put held held' c own.slot (line last held c) (line last held c ++ (fresh own.slot ∷ [])) (record { settled = false; scheduled = false; before = b; next = None }) (h.placed c inside)
-    (λ t m n. in_pushed (line last held c) own.slot t m n)
-    cowns link
-    (record { before = λ n q. h.ended c n inside (sym read ∙ q); next = λ n q. absurd (let f : None ≡ Some n = q in cc) })
-    (λ t n. slots_same t c n))
-    (λ n q.
-    let f : Some own ≡ Some n = sym (get_or-set_same last c (Some own) None inside) ∙ q in
-    let g : own ≡ n = cc in
-    subst (λ z. IsAt held' z c) g (at_kept held held' own c (cowns own.slot) (at_now last held peak c own h e there)))
-
 end_get : (r : Request) (xs : List Request) → option_map slot_of (slice_get (r ∷ xs) (length xs)) ≡ option_map slot_at (end_of (Some r.slot) xs)
 end_get r [] = refl
 end_get r (x ∷ xs) = end_get x xs
@@ -143,9 +148,53 @@ last_is : (xs : List Request) → last_slot xs ≡ option_map slot_at (end_of No
 last_is [] = refl
 last_is (r ∷ xs) = ap (λ n. option_map slot_of (slice_get (r ∷ xs) n)) (let e : suc (length xs) - 1 ≡ length xs = omega arith in e) ∙ end_get r xs
 
-pub swap_answer : (last : List (Option Node)) (held : Slab Linked) (peak c k : ℕ) (b : Option Node) → IsLinked last held peak → c ≡ k → k < length last → b ≡ last_at last c → option_map slot_at (option_map (λ (n : Node). n.slot) b) ≡ last_slot (list (lists_of last held) k)
-swap_answer last held peak c k b h e below read =
-    ap (option_map slot_at) (ap (option_map (λ (n : Node). n.slot)) read ∙ sym (h.spelled c (below_too c k (length last) e below)).ends) ∙ sym (last_is (line last held c)) ∙ ap last_slot (sym (line_is last held c k e below))
+-- its cown was read
+module _ {last : List (Option Node)} {held : Slab Linked} {peak : ℕ} (h : IsLinked last held peak) (slot i : ℕ) (there : i < length (cowns_of (place_at held slot)))
+    (c : ℕ) (e : c ≡ cown (place_at held slot) i) (b : Option Node) (is : b ≡ slice_index_or last c b) where
+  pub swap_call : (held' : Slab Linked) → i ≡ exchanged_of (place_at held slot)
+      → (((d : ℕ) → times d (cowns_of (place_at held slot)) ≤ 1) → stored held' slot (cown (place_at held slot) (exchanged_of (place_at held slot))) ≡ Some (record { settled = false; scheduled = false; before = b; next = None }))
+      → ((s d : ℕ) → s ≢ slot → stored held' s d ≡ stored held s d)
+      → ((s d : ℕ) → d ≢ cown (place_at held slot) (exchanged_of (place_at held slot)) → stored held' s d ≡ stored held s d)
+      → place_at held' slot ≡ one_more (place_at held slot) → ((s : ℕ) → s ≢ slot → place_at held' s ≡ place_at held s) → slab_len held' ≡ slab_len held
+      → IsLinked (set last c (Some (node_at slot i))) held' peak
+      × (lists_of (set last c (Some (node_at slot i))) held' ≡ with_change (with_fresh slot) (lists_of last held) (place_at held slot) i)
+  swap_call held' next here slots_same cowns_same place places len =
+      let own = node_at slot i in
+      let below = h.in_range slot i there in
+      let read = last_read last c (cown (place_at held slot) i) b e below is in
+      let inside : c < length last = below_too c (cown (place_at held slot) i) (length last) e below in
+      let same : cown (place_at held slot) (exchanged_of (place_at held slot)) ≡ c = ap (cown (place_at held slot)) (sym next) ∙ sym e in
+      let cowns = λ (s : ℕ). elim (same_or_not s slot) as (λ _. cowns_of (place_at held' s) ≡ cowns_of (place_at held s)) [
+        | inl f ↦ ap (λ t. cowns_of (place_at held' t)) f ∙ ap cowns_of place ∙ cowns_more (place_at held slot) ∙ ap (λ t. cowns_of (place_at held t)) (sym f)
+        | inr f ↦ ap cowns_of (places s f)
+      ] in
+      let link : stored held' slot c ≡ Some (record { settled = false; scheduled = false; before = b; next = None }) = ap (stored held' slot) (sym same) ∙ here (h.distinct slot) in
+      one_changed last (set last c (Some own)) held held' peak c (cown (place_at held slot) i) (λ q. q ++ (fresh slot ∷ [])) h e below
+      (length-set last c (Some own))
+      (λ d n. get_or-set_other last c d (Some own) None n)
+      (λ s d n. cowns_same s d (λ z. n (z ∙ same)))
+      cowns
+      len
+      (subst (λ o. IsList (links held') c o (line last held c ++ (fresh slot ∷ []))) (sym (ap (option_map (λ (n : Node). n.slot)) (get_or-set_same last c (Some own) None inside)))
+      (swapped (links held) (links held') c slot (last_of last c) (line last held c) (h.spelled c inside)
+      (ap (links held slot) e ∙ ap (option_map seen) (fresh_in (get held slot) i (h.distinct slot) there next))
+      (ap (option_map seen) link ∙ ap (λ (o : Option Node). Some (seen (record { settled = false; scheduled = false; before = o; next = None }))) read)
+      (λ t n. ap (option_map seen) (slots_same t c n))))
+      (placed_put held held' c slot (line last held c) (line last held c ++ (fresh slot ∷ [])) (record { settled = false; scheduled = false; before = b; next = None }) (h.placed c inside)
+      (λ t m n. in_pushed (line last held c) slot t m n)
+      cowns link
+      (record { before = λ n q. h.ended c n inside (sym read ∙ q); next = λ n q. absurd (let f : None ≡ Some n = q in cc) })
+      (λ t n. slots_same t c n))
+      (λ n q.
+      let f : Some own ≡ Some n = sym (get_or-set_same last c (Some own) None inside) ∙ q in
+      let g : own ≡ n = cc in
+      subst (λ z. IsAt held' z c) g (at_kept held held' own c (cowns slot) (at_now last held peak c own h e there)))
+
+  pub swap_answer : option_map slot_at (option_map (λ (n : Node). n.slot) b) ≡ last_slot (list_for (lists_of last held) (place_at held slot) i)
+  swap_answer =
+      let below = h.in_range slot i there in
+      ap (option_map slot_at) (ap (option_map (λ (n : Node). n.slot)) (last_read last c (cown (place_at held slot) i) b e below is) ∙ sym (h.spelled c (below_too c (cown (place_at held slot) i) (length last) e below)).ends)
+      ∙ sym (last_is (line last held c)) ∙ ap last_slot (sym (line_is last held c (cown (place_at held slot) i) e below))
 
 -- leave
 
@@ -179,92 +228,110 @@ answer_alone (r ∷ []) e = (refl, refl)
 answer_alone (r ∷ (x ∷ xs)) e = absurd (let f : x ∷ xs ≡ [] = e in cc)
 
 -- what is known of the front, of which `next` says who follows
-pub record Fronts (last : List (Option Node)) (held : Slab Linked) (peak c k : ℕ) (own : Node) (next : Option ℕ) : Type 0 where
+pub record Fronts (last : List (Option Node)) (held : Slab Linked) (peak slot i c : ℕ) (next : Option ℕ) : Type 0 where
   pub linked : IsLinked last held peak
-  pub same : c ≡ k
-  pub below : k < length last
-  pub at : IsAt held own c
-  pub granted : IsGranted own.slot (list (lists_of last held) k)
-  pub answer : (xs : List Request) → Leads held c own xs → next ≡ next_of (drop 1 xs)
+  pub there : i < length (cowns_of (place_at held slot))
+  pub same : c ≡ cown (place_at held slot) i
+  pub granted : IsGranted slot (list_for (lists_of last held) (place_at held slot) i)
+  pub answer : (d : ℕ) (xs : List Request) → Leads held d (node_at slot i) xs → next ≡ next_of (drop 1 xs)
 
-module _ (last : List (Option Node)) (held : Slab Linked) (peak c k : ℕ) (own : Node) (next : Option ℕ) (w : Fronts last held peak c k own next) where
-  front : Leads held c own (line last held c)
-  front = front_now last held peak c k own w.linked w.same w.below w.at w.granted
+module _ {last : List (Option Node)} {held : Slab Linked} {peak slot i c : ℕ} {next : Option ℕ} (w : Fronts last held peak slot i c next) where
+  below : cown (place_at held slot) i < length last
+  below = w.linked.in_range slot i w.there
+
+  inside : c < length last
+  inside = below_too c (cown (place_at held slot) i) (length last) w.same below
+
+  line_is_its : list_for (lists_of last held) (place_at held slot) i ≡ line last held c
+  line_is_its = line_is last held c (cown (place_at held slot) i) w.same below
+
+  front : Leads held c (node_at slot i) (line last held c)
+  front = front_now last held peak c (cown (place_at held slot) i) (node_at slot i) w.linked w.same below (at_now last held peak c (node_at slot i) w.linked w.same w.there) w.granted
 
   its_list : IsList (links held) c (last_of last c) (line last held c)
-  its_list = w.linked.spelled c (below_too c k (length last) w.same w.below)
+  its_list = w.linked.spelled c inside
 
-  pub leave_some_answer : (n : ℕ) → next ≡ Some n → Passed (slot_at n) ≡ leave_answer (list (lists_of last held) k)
-  leave_some_answer n e = answer_some (line last held c) n (sym (w.answer (line last held c) front) ∙ e) ∙ ap leave_answer (sym (line_is last held c k w.same w.below))
+  -- whether the node that was read as the last is at the slot
+  pub is_last : {b : Option Node} {r : Bool} → b ≡ slice_index_or last c b → (r ≡ true) ↔ (option_map (λ (n : Node). n.slot) b ≡ Some slot) → (r ≡ true) ↔ (last_of last c ≡ Some slot)
+  is_last {b} is at =
+      let read : option_map (λ (n : Node). n.slot) b ≡ last_of last c = ap (option_map (λ (n : Node). n.slot)) (last_read last c (cown (place_at held slot) i) b w.same below is) in
+      (λ e. sym read ∙ at.0 e, λ e. at.1 (read ∙ e))
 
-  only_last : ¬ (last_of last c ≡ Some own.slot) → (r : Request) → line last held c ≡ r ∷ [] → ⊥
-  only_last n r e = n (left_last (links held) c own.slot (last_of last c) r (subst (λ ys. IsList (links held) c (last_of last c) ys) e its_list)
-      (let g : IsGranted own.slot (r ∷ []) = subst (λ ys. IsGranted own.slot ys) e front.front.granted in g.0))
+  -- it isn't
+  pub not_last : {b : Option Node} {r : Bool} → b ≡ slice_index_or last c b → (r ≡ true) ↔ (option_map (λ (n : Node). n.slot) b ≡ Some slot) → r ≡ false → ¬ (last_of last c ≡ Some slot)
+  not_last {b} {r} is at off = λ e. absurd (let on : r ≡ true = (is_last is at).1 e in cc)
 
-  pub leave_blocked_answer : next ≡ None → ¬ (last_of last c ≡ Some own.slot) → Blocked ≡ leave_answer (list (lists_of last held) k)
-  leave_blocked_answer e n = answer_none (line last held c) own.slot front.front.granted (sym (w.answer (line last held c) front) ∙ e) (only_last n) ∙ ap leave_answer (sym (line_is last held c k w.same w.below))
+  pub leave_some_answer : {n : ℕ} → next ≡ Some n → Passed (slot_at n) ≡ leave_answer (list_for (lists_of last held) (place_at held slot) i)
+  leave_some_answer e = answer_some (line last held c) _ (sym (w.answer c (line last held c) front) ∙ e) ∙ ap leave_answer (sym line_is_its)
 
-  alone : last_of last c ≡ Some own.slot → (Unhooked ≡ leave_answer (line last held c)) × (after_leave (line last held c) ≡ [])
-  alone e = answer_alone (line last held c) (left_none (links held) c own.slot (last_of last c) (line last held c) its_list front.front.granted e)
+  only_last : ¬ (last_of last c ≡ Some slot) → (r : Request) → line last held c ≡ r ∷ [] → ⊥
+  only_last n r e = n (left_last (links held) c slot (last_of last c) r (subst (λ ys. IsList (links held) c (last_of last c) ys) e its_list)
+      (let g : IsGranted slot (r ∷ []) = subst (λ ys. IsGranted slot ys) e front.front.granted in g.0))
 
-  pub leave_alone_answer : last_of last c ≡ Some own.slot → Unhooked ≡ leave_answer (list (lists_of last held) k)
-  leave_alone_answer e = (alone e).0 ∙ ap leave_answer (sym (line_is last held c k w.same w.below))
+  pub leave_blocked_answer : next ≡ None → ¬ (last_of last c ≡ Some slot) → Blocked ≡ leave_answer (list_for (lists_of last held) (place_at held slot) i)
+  leave_blocked_answer e n = answer_none (line last held c) slot front.front.granted (sym (w.answer c (line last held c) front) ∙ e) (only_last n) ∙ ap leave_answer (sym line_is_its)
+
+  alone : last_of last c ≡ Some slot → (Unhooked ≡ leave_answer (line last held c)) × (after_leave (line last held c) ≡ [])
+  alone e = answer_alone (line last held c) (left_none (links held) c slot (last_of last c) (line last held c) its_list front.front.granted e)
+
+  pub leave_alone_answer : last_of last c ≡ Some slot → Unhooked ≡ leave_answer (list_for (lists_of last held) (place_at held slot) i)
+  leave_alone_answer e = (alone e).0 ∙ ap leave_answer (sym line_is_its)
 
   -- whether it can leave
-  pub leave_on : is_some next ≡ true → leave_answer (list (lists_of last held) k) ≡ Blocked → ⊥
+  leave_on : is_some next ≡ true → leave_answer (list_for (lists_of last held) (place_at held slot) i) ≡ Blocked → ⊥
   leave_on h e = elim next as (λ o. is_some o ≡ true → next ≡ o → ⊥) [
-    | Some n ↦ λ q f. (let g : Passed (slot_at n) ≡ Blocked = leave_some_answer n f ∙ e in absurd cc)
+    | Some n ↦ λ q f. (let g : Passed (slot_at n) ≡ Blocked = leave_some_answer f ∙ e in absurd cc)
     | None ↦ λ q f. absurd (let g : false ≡ true = q in cc)
   ] h refl
 
-  pub leave_off : is_some next ≡ false → ¬ (last_of last c ≡ Some own.slot) → leave_answer (list (lists_of last held) k) ≡ Blocked
-  leave_off h far = elim next as (λ o. is_some o ≡ false → next ≡ o → leave_answer (list (lists_of last held) k) ≡ Blocked) [
+  leave_off : is_some next ≡ false → ¬ (last_of last c ≡ Some slot) → leave_answer (list_for (lists_of last held) (place_at held slot) i) ≡ Blocked
+  leave_off h far = elim next as (λ o. is_some o ≡ false → next ≡ o → leave_answer (list_for (lists_of last held) (place_at held slot) i) ≡ Blocked) [
     | Some n ↦ λ q f. absurd (let g : true ≡ false = q in cc)
     | None ↦ λ q f. sym (leave_blocked_answer f far)
   ] h refl
 
-  pub leave_last : last_of last c ≡ Some own.slot → leave_answer (list (lists_of last held) k) ≡ Blocked → ⊥
+  leave_last : last_of last c ≡ Some slot → leave_answer (list_for (lists_of last held) (place_at held slot) i) ≡ Blocked → ⊥
   leave_last h e = (let g : Unhooked ≡ Blocked = leave_alone_answer h ∙ e in absurd cc)
 
   -- an answer of `can_leave`
-  pub leave_told_next : (r : Bool) → r ≡ true → r ≡ is_some next → (r ≡ false → leave_answer (list (lists_of last held) k) ≡ Blocked) × (leave_answer (list (lists_of last held) k) ≡ Blocked → r ≡ false)
+  pub leave_told_next : (r : Bool) → r ≡ true → r ≡ is_some next → (r ≡ false) ↔ (leave_answer (list_for (lists_of last held) (place_at held slot) i) ≡ Blocked)
   leave_told_next r on is = (λ f. absurd (let g : true ≡ false = sym on ∙ f in cc), λ f. absurd (leave_on (sym is ∙ on) f))
 
-  pub leave_told_last : (r : Bool) → is_some next ≡ false → (r ≡ true → last_of last c ≡ Some own.slot) × (last_of last c ≡ Some own.slot → r ≡ true)
-      → (r ≡ false → leave_answer (list (lists_of last held) k) ≡ Blocked) × (leave_answer (list (lists_of last held) k) ≡ Blocked → r ≡ false)
+  pub leave_told_last : (r : Bool) → is_some next ≡ false → (r ≡ true) ↔ (last_of last c ≡ Some slot)
+      → (r ≡ false) ↔ (leave_answer (list_for (lists_of last held) (place_at held slot) i) ≡ Blocked)
   leave_told_last true off is = (λ f. absurd (let g : true ≡ false = f in cc), λ f. absurd (leave_last (is.0 refl) f))
   leave_told_last false off is = (λ f. leave_off off (λ e. absurd (let g : false ≡ true = is.1 e in cc)), λ f. refl)
 
 -- what is known as it leaves
-pub record Leaves (last : List (Option Node)) (held held' : Slab Linked) (peak c k : ℕ) (own : Node) (next : Option ℕ) : Type 0 where
-  pub fronts : Fronts last held peak c k own next
-  pub spelled : (d : ℕ) (xs : List Request) → Leads held d own xs → IsSpelled (links held') d (passed xs)
-  pub placed : (d : ℕ) (xs : List Request) → Leads held d own xs → IsPlaced held' d (passed xs)
-  pub cowns_same : (e s d : ℕ) (xs : List Request) → Leads held e own xs → d ≢ e → stored held' s d ≡ stored held s d
+pub record Leaves (last : List (Option Node)) (held held' : Slab Linked) (peak slot i c : ℕ) (next : Option ℕ) : Type 0 where
+  pub fronts : Fronts last held peak slot i c next
+  pub spelled : (d : ℕ) (xs : List Request) → Leads held d (node_at slot i) xs → IsSpelled (links held') d (passed xs)
+  pub placed : (d : ℕ) (xs : List Request) → Leads held d (node_at slot i) xs → IsPlaced held' d (passed xs)
+  pub cowns_same : (e s d : ℕ) (xs : List Request) → Leads held e (node_at slot i) xs → d ≢ e → stored held' s d ≡ stored held s d
   pub places : (s : ℕ) → place_at held' s ≡ place_at held s
   pub len : slab_len held' ≡ slab_len held
 
-module _ (last : List (Option Node)) (held held' : Slab Linked) (peak c k : ℕ) (own : Node) (next : Option ℕ) (w : Leaves last held held' peak c k own next) where
+module _ {last : List (Option Node)} {held held' : Slab Linked} {peak slot i c : ℕ} {next : Option ℕ} (w : Leaves last held held' peak slot i c next) where
   -- not the only one
-  passes : ((r : Request) → line last held c ≡ r ∷ [] → ⊥) → IsLinked last held' peak × (lists_of last held' ≡ set (lists_of last held) k (after_leave (list (lists_of last held) k)))
-  passes h = one_changed last last held held' peak c k after_leave w.fronts.linked w.fronts.same w.fronts.below refl (λ d n. refl) (λ s d n. w.cowns_same c s d (line last held c) (front last held peak c k own next w.fronts) n) (λ s. ap cowns_of (w.places s)) w.len
+  passes : ((r : Request) → line last held c ≡ r ∷ [] → ⊥) → IsLinked last held' peak × (lists_of last held' ≡ with_change after_leave (lists_of last held) (place_at held slot) i)
+  passes h = one_changed last last held held' peak c (cown (place_at held slot) i) after_leave w.fronts.linked w.fronts.same (below w.fronts) refl (λ d n. refl) (λ s d n. w.cowns_same c s d (line last held c) (front w.fronts) n) (λ s. ap cowns_of (w.places s)) w.len
       (subst (λ ys. IsList (links held') c (last_of last c) ys) (passed_is (line last held c) h)
-      (record { spelled = w.spelled c (line last held c) (front last held peak c k own next w.fronts); ends = end_passed (line last held c) ∙ (its_list last held peak c k own next w.fronts).ends }))
-      (subst (λ ys. IsPlaced held' c ys) (passed_is (line last held c) h) (w.placed c (line last held c) (front last held peak c k own next w.fronts)))
-      (λ n q. at_kept held held' n c (ap cowns_of (w.places n.slot)) (w.fronts.linked.ended c n (below_too c k (length last) w.fronts.same w.fronts.below) q))
+      (record { spelled = w.spelled c (line last held c) (front w.fronts); ends = end_passed (line last held c) ∙ (its_list w.fronts).ends }))
+      (subst (λ ys. IsPlaced held' c ys) (passed_is (line last held c) h) (w.placed c (line last held c) (front w.fronts)))
+      (λ n q. at_kept held held' n c (ap cowns_of (w.places n.slot)) (w.fronts.linked.ended c n (inside w.fronts) q))
 
-  pub leave_some : (n : ℕ) → next ≡ Some n → IsLinked last held' peak × (lists_of last held' ≡ set (lists_of last held) k (after_leave (list (lists_of last held) k)))
-  leave_some n e = passes (not_one (line last held c) n (sym (w.fronts.answer (line last held c) (front last held peak c k own next w.fronts)) ∙ e))
+  pub leave_some : {n : ℕ} → next ≡ Some n → IsLinked last held' peak × (lists_of last held' ≡ with_change after_leave (lists_of last held) (place_at held slot) i)
+  leave_some e = passes (not_one (line last held c) _ (sym (w.fronts.answer c (line last held c) (front w.fronts)) ∙ e))
 
-  pub leave_blocked : ¬ (last_of last c ≡ Some own.slot) → IsLinked last held' peak × (lists_of last held' ≡ set (lists_of last held) k (after_leave (list (lists_of last held) k)))
-  leave_blocked n = passes (only_last last held peak c k own next w.fronts n)
+  pub leave_blocked : ¬ (last_of last c ≡ Some slot) → IsLinked last held' peak × (lists_of last held' ≡ with_change after_leave (lists_of last held) (place_at held slot) i)
+  leave_blocked n = passes (only_last w.fronts n)
 
-  pub leave_alone : last_of last c ≡ Some own.slot → IsLinked (set last c None) held' peak × (lists_of (set last c None) held' ≡ set (lists_of last held) k (after_leave (list (lists_of last held) k)))
-  leave_alone e = one_changed last (set last c None) held held' peak c k after_leave w.fronts.linked w.fronts.same w.fronts.below (length-set last c None) (λ d n. get_or-set_other last c d None None n) (λ s d n. w.cowns_same c s d (line last held c) (front last held peak c k own next w.fronts) n) (λ s. ap cowns_of (w.places s)) w.len
-      (subst (λ ys. IsList (links held') c (last_of (set last c None) c) ys) (sym (alone last held peak c k own next w.fronts e).1)
-      (record { spelled = record { spells = tt; once = λ s. omega arith }; ends = sym (ap (option_map (λ (n : Node). n.slot)) (get_or-set_same last c None None (below_too c k (length last) w.fronts.same w.fronts.below))) }))
-      (subst (λ ys. IsPlaced held' c ys) (sym (alone last held peak c k own next w.fronts e).1) (λ t l m q. absurd (omega arith)))
-      (λ n q. absurd (let f : None ≡ Some n = sym (get_or-set_same last c None None (below_too c k (length last) w.fronts.same w.fronts.below)) ∙ q in cc))
+  pub leave_alone : last_of last c ≡ Some slot → IsLinked (set last c None) held' peak × (lists_of (set last c None) held' ≡ with_change after_leave (lists_of last held) (place_at held slot) i)
+  leave_alone e = one_changed last (set last c None) held held' peak c (cown (place_at held slot) i) after_leave w.fronts.linked w.fronts.same (below w.fronts) (length-set last c None) (λ d n. get_or-set_other last c d None None n) (λ s d n. w.cowns_same c s d (line last held c) (front w.fronts) n) (λ s. ap cowns_of (w.places s)) w.len
+      (subst (λ ys. IsList (links held') c (last_of (set last c None) c) ys) (sym (alone w.fronts e).1)
+      (record { spelled = record { spells = tt; once = λ s. omega arith }; ends = sym (ap (option_map (λ (n : Node). n.slot)) (get_or-set_same last c None None (inside w.fronts))) }))
+      (subst (λ ys. IsPlaced held' c ys) (sym (alone w.fronts e).1) (λ t l m q. absurd (omega arith)))
+      (λ n q. absurd (let f : None ≡ Some n = sym (get_or-set_same last c None None (inside w.fronts)) ∙ q in cc))
 
 -- admit and dismiss
 
@@ -395,18 +462,3 @@ pub said_held : (last : List (Option Node)) (held : Slab Linked) (peak c s : ℕ
 said_held last held peak c s h b m =
     let l = has_link (links held) c None (list (lists_of last held) c) s (said_links last held peak c h b) m in
     place_there (get held s) c l.0 l.1
-
--- request i of a slot, as a call finds it
-pub own_holds : (last : List (Option Node)) (held : Slab Linked) (peak : ℕ) (own : Node) → IsLinked last held peak → own.place < length (cowns_of (place_at held own.slot))
-    → 0 < times own.slot (slots (list (lists_of last held) (cown (place_at held own.slot) own.place)))
-    → Holds held (cown (place_at held own.slot) own.place) own (line last held (cown (place_at held own.slot) own.place))
-own_holds last held peak own h there m =
-    let k = cown (place_at held own.slot) own.place in
-    in_now last held peak k k own h refl (h.in_range own.slot own.place there) (at_now last held peak k own h refl there) m
-
-pub own_leads : (last : List (Option Node)) (held : Slab Linked) (peak : ℕ) (own : Node) → IsLinked last held peak → own.place < length (cowns_of (place_at held own.slot))
-    → IsGranted own.slot (list (lists_of last held) (cown (place_at held own.slot) own.place))
-    → Leads held (cown (place_at held own.slot) own.place) own (line last held (cown (place_at held own.slot) own.place))
-own_leads last held peak own h there g =
-    let k = cown (place_at held own.slot) own.place in
-    front_now last held peak k k own h refl (h.in_range own.slot own.place there) (at_now last held peak k own h refl there) g

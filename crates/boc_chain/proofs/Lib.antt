@@ -10,6 +10,7 @@ pub mod Placed
 pub mod Settles
 pub mod Fuel
 pub mod Steps
+pub mod Behind
 pub mod Listed
 pub mod Calls
 pub mod Keeping

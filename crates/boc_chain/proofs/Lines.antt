@@ -11,7 +11,8 @@ use Rattle.boc_chain.specs.declared.request.Request.{Request}
 use Rattle.boc_chain.specs.declared.held.Held.{Held}
 use Rattle.boc_chain.specs.Chain.{Place, times, list, cowns_of, cown, one_more}
 use Rattle.boc_chain.specs.Kept.{place_at, awaits, IsKept}
-use Rattle.boc_chain.proofs.Got.{got, got_changed, got_other}
+use Rattle.boc_types.proofs.ChangedItems.{set_same, set_other}
+use Rattle.boc_chain.proofs.Got.{got}
 
 map_changed : (lines : List (Vec Request Global)) (c : ℕ) (v : Vec Request Global) → map (λ u. u.items) (set lines c v) ≡ set (map (λ u. u.items) lines) c v.items
 map_changed [] c v = refl
@@ -71,12 +72,12 @@ kept_exchange lines places places' c v w k h is len cap cowns less no_more = rec
   room = λ d u e.
       elim (same_or_not d c) [
         | inl q ↦
-            let one : v ≡ u = (let f : Some v ≡ Some u = sym (got_changed lines c v h) ∙ ap (slice_get (set lines c v)) (sym q) ∙ e in cc) in
+            let one : v ≡ u = (let f : Some v ≡ Some u = sym (set_same lines c v h) ∙ ap (slice_get (set lines c v)) (sym q) ∙ e in cc) in
             let r = k.room c w (got lines c w h ∙ ap (λ z. Some z) (sym is)) in
             subst (λ (z : Vec Request Global). vec_len z + sum_by (awaits d) places' ≤ vec_capacity z) one
             (subst (λ (n : ℕ). vec_len v + sum_by (awaits n) places' ≤ vec_capacity v) (sym q) (omega arith))
         | inr n ↦
-            let r = k.room d u (sym (got_other lines c d v n) ∙ e) in
+            let r = k.room d u (sym (set_other lines c d v n) ∙ e) in
             let m = no_more d in omega arith
       ];
 }

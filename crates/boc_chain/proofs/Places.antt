@@ -8,7 +8,8 @@ use Rattle.boc_chain.specs.declared.linked.Link.{Link}
 use Rattle.boc_chain.specs.Chain.{times}
 use Rattle.boc_chain.proofs.Spelled.{times_same, times_more, eqb_same, eqb_other}
 use Rattle.boc_chain.proofs.Settles.{position_step}
-use Rattle.boc_chain.proofs.Got.{got_other, got_last, got_push, none_past}
+use Rattle.boc_types.proofs.ChangedItems.{none_past, set_other, last_item}
+use Rattle.boc_chain.proofs.Got.{got_push}
 
 -- what stands at the place that was found
 pub found_is : (cs : List ℕ) (c i : ℕ) → position (λ x. x == c) cs ≡ Some i → get_or cs i 0 ≡ c
@@ -16,7 +17,7 @@ found_is cs c i e = (Decides-eqb (get_or cs i 0) c).0 (position-Some (λ x. x ==
 
 at_place : (ls : List Link) (i : ℕ) (l : Link) (o : Option ℕ) → ((k : ℕ) → o ≡ Some k → k ≢ i) → option_and_then (λ k. slice_get (set ls i l) k) o ≡ option_and_then (λ k. slice_get ls k) o
 at_place ls i l None h = refl
-at_place ls i l (Some k) h = got_other ls i k l (h k refl)
+at_place ls i l (Some k) h = set_other ls i k l (h k refl)
 
 -- the link of another cown stays
 pub other_place : (cs : List ℕ) (ls ls' : List Link) (c d i : ℕ) (l : Link) → ls' ≡ set ls i l → position (λ x. x == c) cs ≡ Some i → d ≢ c
@@ -44,7 +45,7 @@ here_place (c ∷ cs) (suc k) one h =
 
 pub push_here : (cs : List ℕ) (ls ls' : List Link) (l : Link) → ls' ≡ ls ++ (l ∷ []) → length ls < length cs → ((d : ℕ) → times d cs ≤ 1) → option_and_then (λ k. slice_get ls' k) (position (λ x. x == get_or cs (length ls) 0) cs) ≡ Some l
 push_here cs ls ls' l is h one =
-    ap (λ o. option_and_then (λ k. slice_get ls' k) o) (here_place cs (length ls) one h) ∙ ap (λ (xs : List Link). slice_get xs (length ls)) is ∙ got_last ls l
+    ap (λ o. option_and_then (λ k. slice_get ls' k) o) (here_place cs (length ls) one h) ∙ ap (λ (xs : List Link). slice_get xs (length ls)) is ∙ last_item ls l
 
 at_push : (ls : List Link) (l : Link) (o : Option ℕ) → ((k : ℕ) → o ≡ Some k → k ≢ length ls) → option_and_then (λ k. slice_get (ls ++ (l ∷ [])) k) o ≡ option_and_then (λ k. slice_get ls k) o
 at_push ls l None h = refl

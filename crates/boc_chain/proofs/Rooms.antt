@@ -11,7 +11,8 @@ use Rattle.boc_chain.specs.declared.request.Request.{Request}
 use Rattle.boc_chain.specs.declared.held.Held.{Held}
 use Rattle.boc_chain.specs.Chain.{Place, times, cowns_of, cown}
 use Rattle.boc_chain.specs.Kept.{place_at, place_in, awaits, HasRoom, IsKept}
-use Rattle.boc_chain.proofs.Got.{got, got_changed, got_other}
+use Rattle.boc_chain.proofs.Got.{got}
+use Rattle.boc_types.proofs.ChangedItems.{set_same, set_other}
 use Rattle.boc_chain.proofs.Places.{stands}
 use Rattle.boc_chain.proofs.Counted.{awaited_less_where_gone, times_take, times_next_other}
 use Rattle.boc_chain.proofs.Lines.{same_or_not}
@@ -22,10 +23,10 @@ pub room_changed : (lines : List (Vec Request Global)) (k : ℕ) (v w : Vec Requ
 room_changed lines k v w more more' h inside is here others = λ c u e.
     elim (same_or_not c k) [
       | inl q ↦
-          let one : v ≡ u = (let f : Some v ≡ Some u = sym (got_changed lines k v inside) ∙ ap (slice_get (set lines k v)) (sym q) ∙ e in cc) in
+          let one : v ≡ u = (let f : Some v ≡ Some u = sym (set_same lines k v inside) ∙ ap (slice_get (set lines k v)) (sym q) ∙ e in cc) in
           subst (λ (z : Vec Request Global). vec_len z + more' c ≤ vec_capacity z) one
           (subst (λ (n : ℕ). vec_len v + more' n ≤ vec_capacity v) (sym q) (here (h k w (got lines k w inside ∙ ap (λ z. Some z) (sym is)))))
-      | inr n ↦ (let r = h c u (sym (got_other lines k c v n) ∙ e) in let m = others c n in omega arith)
+      | inr n ↦ (let r = h c u (sym (set_other lines k c v n) ∙ e) in let m = others c n in omega arith)
     ]
 
 pub room_less : (lines : List (Vec Request Global)) (more more' : ℕ → ℕ) → HasRoom lines more → ((c : ℕ) → more' c ≤ more c) → HasRoom lines more'
@@ -92,7 +93,7 @@ kept_gone lines places slot k inside = record {
         | inl q ↦ absurd (let e : cowns_of (place_at (set places slot None) s) ≡ [] = ap (λ n. cowns_of (place_at (set places slot None) n)) q ∙ ap cowns_of (gone_here places slot) in
             let z : i < 0 = subst (λ (ds : List ℕ). i < length ds) e below in omega arith)
         | inr n ↦
-            let is : place_at (set places slot None) s ≡ place_at places s = ap place_in (got_other places slot s None n) in
+            let is : place_at (set places slot None) s ≡ place_at places s = ap place_in (set_other places slot s None n) in
             let r = k.in_range s i (subst (λ (p : Option Place). i < length (cowns_of p)) is below) in
             let c : cown (place_at (set places slot None) s) i ≡ cown (place_at places s) i = ap (λ p. cown p i) is in
             omega arith

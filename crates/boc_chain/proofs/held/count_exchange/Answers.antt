@@ -5,7 +5,7 @@ use Rattle.boc_chain.specs.declared.held.Held.{Held}
 use Rattle.boc_chain.specs.Chain.{one_more, exchanged_of, cowns_of, cown}
 use Rattle.boc_chain.specs.Kept.{place_at, place_in, awaits}
 use Rattle.boc_chain.proofs.Lines.{found_at, read_at, awaits_one_less, awaits_no_more}
-use Rattle.boc_chain.proofs.Got.{got_changed, got_other}
+use Rattle.boc_types.proofs.ChangedItems.{set_same, set_other}
 use Rattle.boc_chain.proofs.held.count_exchange.Goals as goal
 
 -- what stands at the slot, and what the code found there, are one
@@ -22,13 +22,13 @@ returns-clause-here c =
     let h = c.in-Some.held in
     let s = same c.args.places.now.items c.args.slot h c.index_mut.result.now c.requires (sym c.index_mut.ensures.value ∙ c.in-Some.is) in
     let v : Option Held = Some (record { cowns = h.cowns; exchanged = h.exchanged + 1 }) in
-    ap place_in (got_changed c.args.places.now.items c.args.slot v s.1) ∙ ap (λ o. one_more (place_in o)) (sym s.0)
+    ap place_in (set_same c.args.places.now.items c.args.slot v s.1) ∙ ap (λ o. one_more (place_in o)) (sym s.0)
 
 pub returns-clause-others : goal.returns-clause-others
 returns-clause-others c s n =
     let h = c.in-Some.held in
     let v : Option Held = Some (record { cowns = h.cowns; exchanged = h.exchanged + 1 }) in
-    ap place_in (got_other c.args.places.now.items c.args.slot s v n)
+    ap place_in (set_other c.args.places.now.items c.args.slot s v n)
 
 pub returns-clause-awaited : goal.returns-clause-awaited
 returns-clause-awaited c =

@@ -4,8 +4,9 @@ use Rattle.boc_chain.specs.declared.linked.Node.{Node}
 use Rattle.boc_chain.specs.declared.request.Settled.TheVariants.{Lone, Linked, Blocked}
 use Rattle.boc_chain.specs.Chain.{answer_behind}
 use Rattle.boc_chain.specs.Linked.{links, seen}
-use Rattle.boc_chain.proofs.Steps.{lone_before, behind_answer}
+use Rattle.boc_chain.proofs.Steps.{lone_before}
 use Rattle.boc_chain.proofs.Placed.{holds_it, before_it}
+use Rattle.boc_chain.proofs.Behind.{answered_behind}
 use Rattle.boc_chain.proofs.linked.can_settle_at.Goals as goal
 
 blocked_where : (b : Bool) → (b ≡ false → cond b Linked Blocked ≡ Blocked) × (cond b Linked Blocked ≡ Blocked → b ≡ false)
@@ -25,10 +26,6 @@ returns-in-None c = λ d xs h.
 
 pub returns-in-Some : goal.returns-in-Some
 returns-in-Some c = λ d xs h.
-    let got = c.link_at.ensures d h.at in
-    let at = (before_it c.args.slots.now d c.args.node c.in-Some.before xs c.link_at.result h got c.in-Some.is).at in
-    let q = behind_answer (links c.args.slots.now) d c.args.node.slot xs (seen c.link_at.result) (seen c.link_at-in-Some.result) c.in-Some.before.slot c.link_at-in-Some.result.scheduled h.inside
-    (ap (option_map seen) got) (ap (option_map (λ (n : Node). n.slot)) c.in-Some.is) (ap (option_map seen) (c.link_at-in-Some.ensures d at)) refl in
-    let is = ap (λ b. cond b Linked Blocked) (sym q.2) ∙ ap answer_behind (sym q.1) in
+    let is = answered_behind h (c.link_at.ensures d h.at) c.in-Some.is (c.link_at-in-Some.ensures d) c.link_at-in-Some.result.scheduled refl in
     let w = blocked_where c.link_at-in-Some.result.scheduled in
     (λ f. sym is ∙ w.0 f, λ f. w.1 (is ∙ f))

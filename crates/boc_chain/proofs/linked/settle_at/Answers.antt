@@ -1,11 +1,11 @@
-use Rattle.std.proofs.Common.{◌∙◌, ◌<◌, ap, sym, subst, refl, cond, true, false, arith}
+use Rattle.std.proofs.Common.{◌∙◌, ◌<◌, ap, sym, subst, refl, true, false, arith}
 use Rattle.std.specs.Option.{option_map}
 use Rattle.boc_chain.specs.declared.linked.Node.{Node}
-use Rattle.boc_chain.specs.declared.request.Settled.TheVariants.{Linked, Blocked}
 use Rattle.boc_chain.specs.Chain.{before, answer_behind, times, cowns_of, exchanged_of}
 use Rattle.boc_chain.specs.Linked.{links, seen}
-use Rattle.boc_chain.proofs.Steps.{lone_before, lone_spelled, behind_answer, linked_spelled, blocked_spelled, far_before}
-use Rattle.boc_chain.proofs.Placed.{at_kept, placed_kept, slots_settled_behind, holds_it, before_it, lone_placed, linked_placed}
+use Rattle.boc_chain.proofs.Steps.{lone_before, lone_spelled}
+use Rattle.boc_chain.proofs.Placed.{at_kept, placed_kept, slots_settled_behind, holds_it, before_it, lone_placed}
+use Rattle.boc_chain.proofs.Behind.{answered_behind, blocked_behind, linked_behind}
 use Rattle.boc_chain.proofs.linked.settle_at.Goals as goal
 
 pub link_at-link-requires : goal.link_at-link-requires
@@ -40,34 +40,17 @@ returns-in-None-clause-placed c = λ d xs h.
     (c.change_link.ensures.here d c.link_at-link.result h.at (c.link_at-link.ensures d h.at)) (λ t n. c.change_link.ensures.other_slots t d n) c.change_link.ensures.places
 
 pub returns-then-ahead-clause-answer : goal.returns-then-ahead-clause-answer
-returns-then-ahead-clause-answer c = λ d xs h.
-    let got = c.link_at-link.ensures d h.at in
-    let it = before_it c.args.slots.now d c.args.node c.in-Some.before xs c.link_at-link.result h got c.in-Some.is in
-    let q = behind_answer (links c.args.slots.now) d c.args.node.slot xs (seen c.link_at-link.result) (seen c.link_at-ahead.result) c.in-Some.before.slot true h.inside
-    (ap (option_map seen) got) (ap (option_map (λ (n : Node). n.slot)) c.in-Some.is) (ap (option_map seen) (c.link_at-ahead.ensures d it.at)) c.if-ahead.true in
-    ap (λ b. cond b Linked Blocked) (sym q.2) ∙ ap answer_behind (sym q.1)
+returns-then-ahead-clause-answer c = λ d xs h. answered_behind h (c.link_at-link.ensures d h.at) c.in-Some.is (c.link_at-ahead.ensures d) true c.if-ahead.true
 
 pub returns-then-ahead-clause-spelled : goal.returns-then-ahead-clause-spelled
 returns-then-ahead-clause-spelled c = λ d xs h.
-    let got = c.link_at-link.ensures d h.at in
-    let it = before_it c.args.slots.now d c.args.node c.in-Some.before xs c.link_at-link.result h got c.in-Some.is in
-    let at = at_kept c.args.slots.now c.change_link-then-ahead.new.slots c.args.node d (ap cowns_of (c.change_link-then-ahead.ensures.places c.args.node.slot)) h.at in
-    let far = far_before (links c.args.slots.now) d c.args.node.slot c.in-Some.before.slot xs (seen c.link_at-link.result) h.inside (ap (option_map seen) got) (ap (option_map (λ (n : Node). n.slot)) c.in-Some.is) in
-    linked_spelled (links c.args.slots.now) (links c.change_link-then-ahead.new.slots) (links c.change_link-then-ahead-2.new.slots) d c.args.node.slot c.in-Some.before.slot xs (seen c.link_at-link.result) (seen c.link_at-ahead.result) h.inside
-    (ap (option_map seen) got) (ap (option_map (λ (n : Node). n.slot)) c.in-Some.is) (ap (option_map seen) (c.link_at-ahead.ensures d it.at)) c.if-ahead.true
-    (ap (option_map seen) (c.change_link-then-ahead.ensures.here d c.link_at-ahead.result it.at (c.link_at-ahead.ensures d it.at))) (λ t n. ap (option_map seen) (c.change_link-then-ahead.ensures.other_slots t d n))
-    (ap (option_map seen) (c.change_link-then-ahead-2.ensures.here d c.link_at-link.result at (c.change_link-then-ahead.ensures.other_slots c.args.node.slot d far ∙ got))) (λ t n. ap (option_map seen) (c.change_link-then-ahead-2.ensures.other_slots t d n))
+    (linked_behind h (c.link_at-link.ensures d h.at) c.in-Some.is (c.link_at-ahead.ensures d) c.change_link-then-ahead.new.slots c.change_link-then-ahead-2.new.slots c.if-ahead.true
+    c.change_link-then-ahead.ensures.here c.change_link-then-ahead.ensures.other_slots c.change_link-then-ahead.ensures.places c.change_link-then-ahead-2.ensures.here c.change_link-then-ahead-2.ensures.other_slots c.change_link-then-ahead-2.ensures.places).0
 
 pub returns-then-ahead-clause-placed : goal.returns-then-ahead-clause-placed
 returns-then-ahead-clause-placed c = λ d xs h.
-    let got = c.link_at-link.ensures d h.at in
-    let it = before_it c.args.slots.now d c.args.node c.in-Some.before xs c.link_at-link.result h got c.in-Some.is in
-    let at = at_kept c.args.slots.now c.change_link-then-ahead.new.slots c.args.node d (ap cowns_of (c.change_link-then-ahead.ensures.places c.args.node.slot)) h.at in
-    let far = far_before (links c.args.slots.now) d c.args.node.slot c.in-Some.before.slot xs (seen c.link_at-link.result) h.inside (ap (option_map seen) got) (ap (option_map (λ (n : Node). n.slot)) c.in-Some.is) in
-    linked_placed c.args.slots.now c.change_link-then-ahead.new.slots c.change_link-then-ahead-2.new.slots d c.args.node c.in-Some.before xs (before c.args.node.slot xs) c.link_at-link.result c.link_at-ahead.result h got
-    (c.link_at-ahead.ensures d it.at) it.there
-    (c.change_link-then-ahead.ensures.here d c.link_at-ahead.result it.at (c.link_at-ahead.ensures d it.at)) (λ t n. c.change_link-then-ahead.ensures.other_slots t d n) c.change_link-then-ahead.ensures.places
-    (c.change_link-then-ahead-2.ensures.here d c.link_at-link.result at (c.change_link-then-ahead.ensures.other_slots c.args.node.slot d far ∙ got)) (λ t n. c.change_link-then-ahead-2.ensures.other_slots t d n) c.change_link-then-ahead-2.ensures.places
+    (linked_behind h (c.link_at-link.ensures d h.at) c.in-Some.is (c.link_at-ahead.ensures d) c.change_link-then-ahead.new.slots c.change_link-then-ahead-2.new.slots c.if-ahead.true
+    c.change_link-then-ahead.ensures.here c.change_link-then-ahead.ensures.other_slots c.change_link-then-ahead.ensures.places c.change_link-then-ahead-2.ensures.here c.change_link-then-ahead-2.ensures.other_slots c.change_link-then-ahead-2.ensures.places).1
 
 pub returns-then-ahead-clause-other_cowns : goal.returns-then-ahead-clause-other_cowns
 returns-then-ahead-clause-other_cowns c = λ d s e xs h n.
@@ -76,19 +59,10 @@ returns-then-ahead-clause-other_cowns c = λ d s e xs h n.
     c.change_link-then-ahead-2.ensures.other_cowns d s e at n ∙ c.change_link-then-ahead.ensures.other_cowns d s e it.at n
 
 pub returns-else-ahead-clause-answer : goal.returns-else-ahead-clause-answer
-returns-else-ahead-clause-answer c = λ d xs h.
-    let got = c.link_at-link.ensures d h.at in
-    let it = before_it c.args.slots.now d c.args.node c.in-Some.before xs c.link_at-link.result h got c.in-Some.is in
-    let q = behind_answer (links c.args.slots.now) d c.args.node.slot xs (seen c.link_at-link.result) (seen c.link_at-ahead.result) c.in-Some.before.slot false h.inside
-    (ap (option_map seen) got) (ap (option_map (λ (n : Node). n.slot)) c.in-Some.is) (ap (option_map seen) (c.link_at-ahead.ensures d it.at)) c.if-ahead.false in
-    ap (λ b. cond b Linked Blocked) (sym q.2) ∙ ap answer_behind (sym q.1)
+returns-else-ahead-clause-answer c = λ d xs h. answered_behind h (c.link_at-link.ensures d h.at) c.in-Some.is (c.link_at-ahead.ensures d) false c.if-ahead.false
 
 pub returns-else-ahead-clause-spelled : goal.returns-else-ahead-clause-spelled
-returns-else-ahead-clause-spelled c = λ d xs h.
-    let got = c.link_at-link.ensures d h.at in
-    let it = before_it c.args.slots.now d c.args.node c.in-Some.before xs c.link_at-link.result h got c.in-Some.is in
-    blocked_spelled (links c.args.slots.now) d c.args.node.slot c.in-Some.before.slot xs (seen c.link_at-link.result) (seen c.link_at-ahead.result) h.inside
-    (ap (option_map seen) got) (ap (option_map (λ (n : Node). n.slot)) c.in-Some.is) (ap (option_map seen) (c.link_at-ahead.ensures d it.at)) c.if-ahead.false
+returns-else-ahead-clause-spelled c = λ d xs h. blocked_behind h (c.link_at-link.ensures d h.at) c.in-Some.is (c.link_at-ahead.ensures d) c.if-ahead.false
 
 pub returns-else-ahead-clause-placed : goal.returns-else-ahead-clause-placed
 returns-else-ahead-clause-placed c = λ d xs h.

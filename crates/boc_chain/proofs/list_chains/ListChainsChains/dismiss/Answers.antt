@@ -2,7 +2,7 @@ use Rattle.std.proofs.Common.{ap}
 use Rattle.std.specs.Prelude.{None}
 use Rattle.boc_chain.specs.Kept.{place_in}
 use Rattle.boc_chain.proofs.Rooms.{within, gone_here, kept_gone}
-use Rattle.boc_chain.proofs.Got.{got_other}
+use Rattle.boc_types.proofs.ChangedItems.{set_other}
 use Rattle.boc_chain.proofs.list_chains.ListChainsChains.dismiss.Goals as goal
 
 pub invariant_of-self : goal.invariant_of-self
@@ -14,4 +14,4 @@ pub returns-clause-gone : goal.returns-clause-gone
 returns-clause-gone c = gone_here c.args.self.now.places.items c.args.slot.index
 
 pub returns-clause-other_places : goal.returns-clause-other_places
-returns-clause-other_places c = λ s n. ap place_in (got_other c.args.self.now.places.items c.args.slot.index s None n)
+returns-clause-other_places c = λ s n. ap place_in (set_other c.args.self.now.places.items c.args.slot.index s None n)

@@ -1,23 +1,13 @@
 -- One more row, and the rows that are there.
-use Rattle.std.proofs.Common.{◌≡◌, ℕ, zero, suc, ◌+◌, ◌-◌, ◌<◌, ◌≤◌, List, [], ◌∷◌, ◌++◌, map, length, take, drop, refl, sym, ap, ◌∙◌, arith, ℤ, length-append, length-drop}
+use Rattle.std.proofs.Common.{◌≡◌, ℕ, zero, suc, ◌+◌, ◌-◌, ◌<◌, ◌≤◌, List, [], ◌∷◌, ◌++◌, map, length, refl, sym, ap, ◌∙◌, arith, ℤ, length-append}
 use Rattle.std.specs.Prelude.{slice_range, slice_index_or}
-use Rattle.std.proofs.lemmas.List.{take-append-le, drop-append-le, drop_at, take_all, map-append, get_or-map, length-map}
+use Rattle.std.proofs.lemmas.List.{map-append, get_or-map, length-map}
 use Rattle.boc_types.specs.program.Meaning.{Wish}
 use Rattle.boc_types.specs.runs.Serial.{Behaviour, main_behaviour, behaviour_of}
+use Rattle.boc_types.proofs.ChangedItems.{range_stays, range_behind}
 use Rattle.boc_eval.specs.declared.rows.Row.{Row}
 use Rattle.boc_eval.specs.declared.rows.Rows.{Rows}
 use Rattle.boc_eval.specs.Behaviours.{behaviour_in, behaviours_of, behaviour_at, IsWithin, RowsFit, IsConsistent}
-
--- a part that is there stays as it is where a list grows
-range_stays : {X : Type 0} (xs ys : List X) (i j : ℕ) → i ≤ j → j ≤ length xs → slice_range (xs ++ ys) i j ≡ slice_range xs i j
-range_stays xs ys i j h k =
-    ap (λ zs. take (j - i) zs) (drop-append-le i xs ys (omega arith))
-    ∙ take-append-le (j - i) (drop i xs) ys (omega (arith, length-drop i xs))
-
--- the part behind a list is what it grew by
-range_behind : {X : Type 0} (xs ys : List X) (i j : ℕ) → i ≡ length xs → j ≡ length xs + length ys → slice_range (xs ++ ys) i j ≡ ys
-range_behind xs ys i j h k =
-    ap (λ zs. take (j - i) zs) (drop_at xs ys i (sym h)) ∙ take_all (j - i) ys (omega arith)
 
 behaviour_stays : (args more : List ℤ) (cowns others : List ℕ) (r : Row) → IsWithin r.args (length args) → IsWithin r.cowns (length cowns) → behaviour_in (args ++ more) (cowns ++ others) r ≡ behaviour_in args cowns r
 behaviour_stays args more cowns others r h k =

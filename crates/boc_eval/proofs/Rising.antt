@@ -1,46 +1,22 @@
 -- Numbers that rise strictly, so that none stands twice.
-use Rattle.std.proofs.Common.{◌≡◌, ℕ, ◌<◌, ◌≤◌, ◌&&◌, Bool, true, false, List, [], ◌∷◌, refl, arith}
-use Rattle.std.specs.Prelude.{nat_eq, nat_lt}
-use Rattle.std.specs.List.{list_any}
+use Rattle.std.proofs.Common.{◌≡◌, ℕ, suc, ◌<◌, Bool, false, List, [], ◌∷◌, refl, arith}
+use Rattle.std.specs.Prelude.{nat_eq}
+use Rattle.std.specs.List.{All, AllPairs}
+use Rattle.std.specs.List.Sorted.{IsStrictlyIncreasing}
 use Rattle.std.proofs.lemmas.Bool.Decides.{nat_tests}
+use Rattle.std.proofs.lemmas.List.Folds.{list_any_none}
+use Rattle.std.proofs.lemmas.List.Kept.{AllPairs-from_increasing}
 use Rattle.boc_types.specs.program.Meaning.{has_same_twice}
-use Rattle.boc_eval.specs.Lists.{rises}
 
--- each of these is above a number
-abbrev AllAbove : ℕ → List ℕ → Type 0
-AllAbove c [] = Unit {0}
-AllAbove c (d ∷ ds) = (c < d) × AllAbove c ds
+differs : (c d : ℕ) → c < d → nat_eq d c ≡ false
+differs c d h = grind (arith, nat_tests)
 
-above_less : (c d : ℕ) (ds : List ℕ) → c ≤ d → AllAbove d ds → AllAbove c ds
-above_less c d [] h all = tt
-above_less c d (e ∷ ds) h all = (omega (arith, h, all.0), above_less c d ds h all.1)
-
-both : (a b : Bool) → (a && b) ≡ true → (a ≡ true) × (b ≡ true)
-both true b e = (refl, e)
-both false b e = absurd cc
-
-less : (c d : ℕ) → nat_lt c d ≡ true → c < d
-less c d e = grind (arith, nat_tests)
-
-all_above : (c : ℕ) (cs : List ℕ) → rises (c ∷ cs) ≡ true → AllAbove c cs
-all_above c [] e = tt
-all_above c (d ∷ ds) e =
-    let h = both (nat_lt c d) (rises (d ∷ ds)) e in
-    let below : c < d = less c d h.0 in
-    (below, above_less c d ds (omega (arith, below)) (all_above d ds h.1))
-
-not_there : (c : ℕ) (ds : List ℕ) → AllAbove c ds → list_any (λ d. nat_eq d c) ds ≡ false
-not_there c [] all = refl
-not_there c (d ∷ ds) all =
-    let above : c < d = all.0 in
-    let e : nat_eq d c ≡ false = grind (arith, nat_tests) in
-    rw e (not_there c ds all.1)
-
-tail_rises : (c : ℕ) (cs : List ℕ) → rises (c ∷ cs) ≡ true → rises cs ≡ true
-tail_rises c [] e = refl
-tail_rises c (d ∷ ds) e = (both (nat_lt c d) (rises (d ∷ ds)) e).1
+all_differ : (cs : List ℕ) → AllPairs (λ c d. c < d) cs → has_same_twice cs ≡ false
+all_differ [] rise = refl
+all_differ (c ∷ cs) rise =
+    rw (list_any_none (λ d. nat_eq d c) cs (λ k d h. differs c _ (rise 0 (suc k) d (omega arith) (omega (arith, h)))))
+    (all_differ cs (λ i j d less h. rise (suc i) (suc j) d (omega (arith, less)) (omega (arith, h))))
 
 -- of numbers that rise none stands twice
-pub none_twice : (cs : List ℕ) → rises cs ≡ true → has_same_twice cs ≡ false
-none_twice [] e = refl
-none_twice (c ∷ cs) e = rw (not_there c cs (all_above c cs e)) (none_twice cs (tail_rises c cs e))
+pub none_twice : (cs : List ℕ) → IsStrictlyIncreasing cs → has_same_twice cs ≡ false
+none_twice cs rise = all_differ cs (AllPairs-from_increasing cs rise)

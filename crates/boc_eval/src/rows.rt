@@ -1,8 +1,8 @@
 // The behaviours of a serial run, in the order in which they were spawned.
 
-ghost use Rattle.std.specs.Prelude.{◌≡◌, ◌<◌, ◌≤◌, [], ◌∷◌, ◌++◌, length, OnOk};
+ghost use Rattle.std.specs.Prelude.{◌≡◌, ◌<◌, ◌≤◌, [], ◌∷◌, ◌++◌, length, slice_range, OnOk};
 ghost use Rattle.boc_types.specs.runs.Serial.{Behaviour};
-ghost use Rattle.boc_eval.specs.Behaviours.{IsConsistent, behaviour_at, behaviours_of};
+ghost use Rattle.boc_eval.specs.Behaviours.{IsConsistent, IsWithin, behaviour_at, behaviours_of};
 
 use crate::lists::push_each;
 use boc_types::short::CownNo;
@@ -21,6 +21,15 @@ pub struct Row {
     pub kind: usize,
     pub args: Extent,
     pub cowns: Extent,
+}
+
+// The part of a list.
+#[inline(always)]
+fn part<T>(items: &[T], extent: Extent) -> &[T]
+    requires { IsWithin extent (length items.now) }
+    ensures { result.now ≡ slice_range items.now extent.from extent.to }
+{
+    &items[extent.from as usize..extent.to as usize]
 }
 
 /// A row for each behaviour of a run, in the order in which they were spawned.
@@ -95,8 +104,7 @@ impl Rows {
         requires there { row < length self.now.rows.items }
         ensures { result.now ≡ (behaviour_at self.now row).args }
     {
-        let Extent { from, to } = self.rows[row].args;
-        &self.args[from as usize..to as usize]
+        part(&self.args, self.rows[row].args)
     }
 
     /// The cowns of a behaviour.
@@ -105,7 +113,6 @@ impl Rows {
         requires there { row < length self.now.rows.items }
         ensures { result.now ≡ (behaviour_at self.now row).cowns }
     {
-        let Extent { from, to } = self.rows[row].cowns;
-        &self.cowns[from as usize..to as usize]
+        part(&self.cowns, self.rows[row].cowns)
     }
 }

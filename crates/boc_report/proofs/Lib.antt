@@ -1,1 +1,2 @@
+pub mod ByLines
 pub mod Lines

@@ -5,6 +5,7 @@ use Rattle.std.proofs.Math.Seq.{take-suc}
 use Rattle.boc_types.specs.declared.chain.ChainStep.{ChainStep}
 use Rattle.boc_types.specs.declared.chain.Via.TheVariants.{Last}
 use Rattle.boc_text.proofs.Sending.{GrowsBy}
+use Rattle.boc_report.proofs.ByLines.{IsOfLines}
 use Rattle.boc_types.specs.answers.Texts.{bound_line, number_line, plan_line, plan_lines, report_head, served_line, served_lines, step_line, step_lines, sweep_line, sweep_lines, via_word}
 
 -- nothing stands behind a room
@@ -58,12 +59,15 @@ step_at steps none i = step_line (get_or steps i none)
 abbrev pub no_step : ChainStep
 no_step = record { row = 0; weight = 0; via = Last }
 
-pub steps_grow : (steps : List ChainStep) (none : ChainStep) → GrowsBy (steps_to steps) (step_at steps none) (length steps)
+steps_grow : (steps : List ChainStep) (none : ChainStep) → GrowsBy (steps_to steps) (step_at steps none) (length steps)
 steps_grow steps none i h =
     ap step_lines (ap (λ n. take n steps) (add_one i) ∙ take-suc steps i none h) ∙ steps_more (take i steps) (get_or steps i none)
 
-pub steps_all : (steps : List ChainStep) (i : ℕ) → length steps ≤ i → steps_to steps i ≡ step_lines steps
+steps_all : (steps : List ChainStep) (i : ℕ) → length steps ≤ i → steps_to steps i ≡ step_lines steps
 steps_all steps i end = ap step_lines (take_all i steps end)
+
+pub steps_by_line : (steps : List ChainStep) (none : ChainStep) → IsOfLines (step_lines steps) (steps_to steps) (step_at steps none) (length steps)
+steps_by_line steps none = record { grows = steps_grow steps none; all = steps_all steps }
 
 -- the lines of the first rows of a plan, and that of the next one
 rows_more : (r i : ℕ) (starts ends : List ℕ) → i < length starts → length starts ≡ length ends
@@ -85,14 +89,17 @@ plan_to starts ends i = plan_lines 0 (take i starts) (take i ends)
 abbrev pub plan_at : List ℕ → List ℕ → ℕ → List ℕ
 plan_at starts ends i = plan_line i (get_or starts i 0) (get_or ends i 0)
 
-pub plan_grows : (starts ends : List ℕ) → length starts ≡ length ends → GrowsBy (plan_to starts ends) (plan_at starts ends) (length starts)
+plan_grows : (starts ends : List ℕ) → length starts ≡ length ends → GrowsBy (plan_to starts ends) (plan_at starts ends) (length starts)
 plan_grows starts ends same i h =
     ap (plan_to starts ends) (add_one i) ∙ rows_more 0 i starts ends h same
     ∙ ap (λ n. plan_to starts ends i ++ plan_line n (get_or starts i 0) (get_or ends i 0)) (sym (zero_more i))
 
-pub plan_all : (starts ends : List ℕ) (i : ℕ) → length starts ≡ length ends → length starts ≤ i → plan_to starts ends i ≡ plan_lines 0 starts ends
+plan_all : (starts ends : List ℕ) (i : ℕ) → length starts ≡ length ends → length starts ≤ i → plan_to starts ends i ≡ plan_lines 0 starts ends
 plan_all starts ends i same end = ap (λ xs. plan_lines 0 xs (take i ends)) (take_all i starts end)
     ∙ ap (plan_lines 0 starts) (take_all i ends (omega (arith, same, end)))
+
+pub plan_by_line : (starts ends : List ℕ) → length starts ≡ length ends → IsOfLines (plan_lines 0 starts ends) (plan_to starts ends) (plan_at starts ends) (length starts)
+plan_by_line starts ends same = record { grows = plan_grows starts ends same; all = λ i end. plan_all starts ends i same end }
 
 -- the lines of the first rows of a greedy plan, and that of the next one
 served_more : (r i : ℕ) (starts ends workers : List ℕ) → i < length starts → length starts ≡ length ends → length starts ≡ length workers
@@ -117,18 +124,25 @@ served_to starts ends workers i = served_lines 0 (take i starts) (take i ends) (
 abbrev pub served_at : List ℕ → List ℕ → List ℕ → ℕ → List ℕ
 served_at starts ends workers i = served_line i (get_or starts i 0) (get_or ends i 0) (get_or workers i 0)
 
-pub served_grow : (starts ends workers : List ℕ) → length starts ≡ length ends → length starts ≡ length workers
+served_grow : (starts ends workers : List ℕ) → length starts ≡ length ends → length starts ≡ length workers
     → GrowsBy (served_to starts ends workers) (served_at starts ends workers) (length starts)
 served_grow starts ends workers ends_too workers_too i h =
     ap (served_to starts ends workers) (add_one i) ∙ served_more 0 i starts ends workers h ends_too workers_too
     ∙ ap (λ n. served_to starts ends workers i ++ served_line n (get_or starts i 0) (get_or ends i 0) (get_or workers i 0)) (sym (zero_more i))
 
-pub served_all : (starts ends workers : List ℕ) (i : ℕ) → length starts ≡ length ends → length starts ≡ length workers → length starts ≤ i
+served_all : (starts ends workers : List ℕ) (i : ℕ) → length starts ≡ length ends → length starts ≡ length workers → length starts ≤ i
     → served_to starts ends workers i ≡ served_lines 0 starts ends workers
 served_all starts ends workers i ends_too workers_too end =
     ap (λ xs. served_lines 0 xs (take i ends) (take i workers)) (take_all i starts end)
     ∙ ap (λ xs. served_lines 0 starts xs (take i workers)) (take_all i ends (omega (arith, ends_too, end)))
     ∙ ap (served_lines 0 starts ends) (take_all i workers (omega (arith, workers_too, end)))
+
+pub served_by_line : (starts ends workers : List ℕ) → length starts ≡ length ends → length starts ≡ length workers
+    → IsOfLines (served_lines 0 starts ends workers) (served_to starts ends workers) (served_at starts ends workers) (length starts)
+served_by_line starts ends workers ends_too workers_too = record {
+  grows = served_grow starts ends workers ends_too workers_too;
+  all = λ i end. served_all starts ends workers i ends_too workers_too end;
+}
 
 -- the lines of the first rows of a sweep, and that of the next one
 swept_more : (r i : ℕ) (spans : List ℕ) → i < length spans
@@ -148,9 +162,12 @@ swept_to spans i = sweep_lines 0 (take i spans)
 abbrev pub swept_at : List ℕ → ℕ → List ℕ
 swept_at spans i = sweep_line i (get_or spans i 0)
 
-pub sweep_grows : (spans : List ℕ) → GrowsBy (swept_to spans) (swept_at spans) (length spans)
+sweep_grows : (spans : List ℕ) → GrowsBy (swept_to spans) (swept_at spans) (length spans)
 sweep_grows spans i h =
     ap (swept_to spans) (add_one i) ∙ swept_more 0 i spans h ∙ ap (λ n. swept_to spans i ++ sweep_line n (get_or spans i 0)) (sym (zero_more i))
 
-pub sweep_all : (spans : List ℕ) (i : ℕ) → length spans ≤ i → swept_to spans i ≡ sweep_lines 0 spans
+sweep_all : (spans : List ℕ) (i : ℕ) → length spans ≤ i → swept_to spans i ≡ sweep_lines 0 spans
 sweep_all spans i end = ap (sweep_lines 0) (take_all i spans end)
+
+pub sweep_by_line : (spans : List ℕ) → IsOfLines (sweep_lines 0 spans) (swept_to spans) (swept_at spans) (length spans)
+sweep_by_line spans = record { grows = sweep_grows spans; all = sweep_all spans }

@@ -14,11 +14,12 @@ use Rattle.boc_types.specs.runs.Lives as lives
 use Rattle.boc_types.specs.runs.Lives.{changed, MayStart}
 use Rattle.boc_types.specs.runs.Legal.{Entry, pending, after, life_of, entry_cowns, MayEnd, MayNeed, IsParent, IsAllowed}
 use Rattle.boc_types.specs.runs.Records.{IsRowOf, AreRowsOf}
+use Rattle.boc_rules.specs.declared.stage.Life.{Life}
 use Rattle.boc_rules.specs.declared.stage.Life.TheVariants.{Pending, Running, Ended}
 use Rattle.boc_rules.specs.declared.stage.Stage.{Stage}
 use Rattle.boc_rules.specs.Before.{noted}
 use Rattle.boc_rules.specs.Course.{AreLegal}
-use Rattle.boc_rules.specs.SoFar.{IsStageOf, AreStagesOf, AreFound, AreLatest, over_one, over, entry_of, entries_of, AreParts, new_row}
+use Rattle.boc_rules.specs.SoFar.{IsStageOf, AreStagesOf, AreFound, AreLatest, over_one, over, entry_of, entries_of, AreParts, new_row, meant}
 use Rattle.boc_rules.proofs.Lists.{got_in}
 use Rattle.boc_rules.proofs.Next.{living, after_more, legal_more}
 use Rattle.boc_rules.proofs.KeptRows.{rows_go_on}
@@ -85,45 +86,26 @@ goes cowns run event rows stages found latest ended l a are t =
     } in
     record { kept = subst (λ (r : List Entry). AreParts cowns r rows stages found latest ended) e k; rows_are = sym e }
 
-that_start : (run : List Entry) (cowns : ℕ) (stages : List Stage) (found latest : List (Option ℕ)) (ended row : ℕ) → IsThatOf run cowns stages found latest ended → MayStart (life_of run) (entry_cowns run) row
-    → IsThatOf (changed run row (λ x. record x { life = lives.Running }) (slice_get run row)) cowns (changed stages row (λ s. record s { life = Running }) (slice_get stages row)) found latest ended
-that_start run cowns stages found latest ended row t may =
-    let e = living run row lives.Pending may.waits in
-    let v : Entry = record e.0 { life = lives.Running } in
-    let h : IsSet run row e.0 v = record { is = e.1; cowns = refl } in
+-- the row of a life goes on to another, with its cowns and its children as before
+that_goes_on : (run : List Entry) (cowns : ℕ) (stages : List Stage) (found latest : List (Option ℕ)) (ended later row : ℕ) (from : lives.Life) (f : Entry → Entry) (now : Life) → IsThatOf run cowns stages found latest ended → life_of run row ≡ Some from
+    → ((e : Entry) → (f e).cowns ≡ e.cowns) → ((e : Entry) → (f e).last ≡ e.last) → ((e : Entry) → (f e).life ≡ meant now) → later + over_one from ≡ ended + over_one (meant now)
+    → IsThatOf (changed run row f (slice_get run row)) cowns (changed stages row (λ s. record s { life = now }) (slice_get stages row)) found latest later
+that_goes_on run cowns stages found latest ended later row from f now t at cowns_stay last_stays lives counts =
+    let e = living run row from at in
+    let v : Entry = f e.0 in
+    let h : IsSet run row e.0 v = record { is = e.1; cowns = cowns_stay e.0 } in
     let inside : row < length stages = omega (arith, t.stages_are.all, slice_get_within run row e.0 e.1) in
     let x = got_in stages row inside in
-    let y : Stage = record x.0 { life = Running } in
+    let y : Stage = record x.0 { life = now } in
     let was = t.stages_are.each row e.0 x.0 e.1 x.1 in
     let counted = over_set run row e.0 v e.1 in
-    subst (λ (r : List Entry). IsThatOf r cowns (changed stages row (λ s. record s { life = Running }) (slice_get stages row)) found latest ended) (sym (ap (changed run row (λ z. record z { life = lives.Running })) e.1))
-    (subst (λ (s : List Stage). IsThatOf (slice_set run row v) cowns s found latest ended) (sym (ap (changed stages row (λ s. record s { life = Running })) x.1))
+    subst (λ (r : List Entry). IsThatOf r cowns (changed stages row (λ s. record s { life = now }) (slice_get stages row)) found latest later) (sym (ap (changed run row f) e.1))
+    (subst (λ (s : List Stage). IsThatOf (slice_set run row v) cowns s found latest later) (sym (ap (changed stages row (λ s. record s { life = now })) x.1))
     (record {
-      stages_are = stages_set run stages row e.0 v x.0 y t.stages_are h x.1 (record { life = refl; last = was.last });
+      stages_are = stages_set run stages row e.0 v x.0 y t.stages_are h x.1 (record { life = sym (lives e.0); last = was.last ∙ sym (last_stays e.0) });
       found_are = found_set run stages found row e.0 v x.0 y t.found_are h x.1 refl refl;
       latest_are = latest_set run row e.0 v cowns latest t.latest_are h;
-      ended_is = omega (arith, counted, ap over_one e.2, t.ended_is);
-    }))
-
-that_end : (run : List Entry) (cowns : ℕ) (stages : List Stage) (found latest : List (Option ℕ)) (ended row ticks : ℕ) (status : EndStatus) (written : ArrayVec ℕ) → IsThatOf run cowns stages found latest ended → MayEnd run row ticks written.items
-    → IsThatOf (changed run row (λ x. record x { life = lives.Ended; ticks = ticks; status = status; written = written.items }) (slice_get run row)) cowns (changed stages row (λ s. record s { life = Ended }) (slice_get stages row)) found latest (ended + 1)
-that_end run cowns stages found latest ended row ticks status written t may =
-    let e = living run row lives.Running may.runs in
-    let v : Entry = record e.0 { life = lives.Ended; ticks = ticks; status = status; written = written.items } in
-    let h : IsSet run row e.0 v = record { is = e.1; cowns = refl } in
-    let inside : row < length stages = omega (arith, t.stages_are.all, slice_get_within run row e.0 e.1) in
-    let x = got_in stages row inside in
-    let y : Stage = record x.0 { life = Ended } in
-    let was = t.stages_are.each row e.0 x.0 e.1 x.1 in
-    let counted = over_set run row e.0 v e.1 in
-    subst (λ (r : List Entry). IsThatOf r cowns (changed stages row (λ s. record s { life = Ended }) (slice_get stages row)) found latest (ended + 1))
-    (sym (ap (changed run row (λ z. record z { life = lives.Ended; ticks = ticks; status = status; written = written.items })) e.1))
-    (subst (λ (s : List Stage). IsThatOf (slice_set run row v) cowns s found latest (ended + 1)) (sym (ap (changed stages row (λ s. record s { life = Ended })) x.1))
-    (record {
-      stages_are = stages_set run stages row e.0 v x.0 y t.stages_are h x.1 (record { life = refl; last = was.last });
-      found_are = found_set run stages found row e.0 v x.0 y t.found_are h x.1 refl refl;
-      latest_are = latest_set run row e.0 v cowns latest t.latest_are h;
-      ended_is = omega (arith, counted, ap over_one e.2, t.ended_is);
+      ended_is = omega (arith, counted, ap over_one e.2, ap over_one (lives e.0), counts, t.ended_is);
     }))
 
 -- the parent has a further child
@@ -181,17 +163,25 @@ that_spawn (main ∷ others) count stages found latest ended row parent offset c
     (that_push (slice_set run parent v) count (slice_set stages parent y) found latest ended row parent offset cowns
     (that_child run count stages found latest ended parent offset e.0 x.0 t e.1 x.1) (next ∙ sym (length-set run parent v)) m.below held))
 
+may_start : (run : List Entry) (row : ℕ) → MayStart (life_of run) (entry_cowns run) row → life_of run row ≡ Some lives.Pending
+may_start run row may = may.waits
+
+may_end : (run : List Entry) (row ticks : ℕ) (written : List ℕ) → MayEnd run row ticks written → life_of run row ≡ Some lives.Running
+may_end run row ticks written may = may.runs
+
 pub keeps_start : (cowns : ℕ) (run : List Entry) (rows : List Row) (stages : List Stage) (found latest : List (Option ℕ)) (ended row : ℕ) → AreParts cowns run rows stages found latest ended → IsAllowed cowns run (Start row)
     → Goes cowns (after run (Start row)) rows (changed stages row (λ s. record s { life = Running }) (slice_get stages row)) found latest ended
 keeps_start cowns run rows stages found latest ended row k a =
     goes cowns run (Start row) rows (changed stages row (λ s. record s { life = Running }) (slice_get stages row)) found latest ended k.legal a (rows_go_on run rows (Start row) k.rows_are)
-    (that_start run cowns stages found latest ended row (that cowns run rows stages found latest ended k) (a.keeps rules.StartNotAllowed))
+    (that_goes_on run cowns stages found latest ended ended row lives.Pending (λ x. record x { life = lives.Running }) Running (that cowns run rows stages found latest ended k)
+    (may_start run row (a.keeps rules.StartNotAllowed)) (λ e. refl) (λ e. refl) (λ e. refl) refl)
 
 pub keeps_end : (cowns : ℕ) (run : List Entry) (rows : List Row) (stages : List Stage) (found latest : List (Option ℕ)) (ended row ticks : ℕ) (status : EndStatus) (written : ArrayVec ℕ) → AreParts cowns run rows stages found latest ended → IsAllowed cowns run (End row ticks status written)
     → Goes cowns (after run (End row ticks status written)) (changed rows row (λ x. record x { ticks = ticks; status = status; written = written }) (slice_get rows row)) (changed stages row (λ s. record s { life = Ended }) (slice_get stages row)) found latest (ended + 1)
 keeps_end cowns run rows stages found latest ended row ticks status written k a =
     goes cowns run (End row ticks status written) (changed rows row (λ x. record x { ticks = ticks; status = status; written = written }) (slice_get rows row)) (changed stages row (λ s. record s { life = Ended }) (slice_get stages row)) found latest (ended + 1) k.legal a (rows_go_on run rows (End row ticks status written) k.rows_are)
-    (that_end run cowns stages found latest ended row ticks status written (that cowns run rows stages found latest ended k) (a.keeps rules.EndNotAllowed))
+    (that_goes_on run cowns stages found latest ended (ended + 1) row lives.Running (λ x. record x { life = lives.Ended; ticks = ticks; status = status; written = written.items }) Ended
+    (that cowns run rows stages found latest ended k) (may_end run row ticks written.items (a.keeps rules.EndNotAllowed)) (λ e. refl) (λ e. refl) (λ e. refl) (omega arith))
 
 pub keeps_spawn : (count : ℕ) (run : List Entry) (rows : List Row) (stages : List Stage) (found latest : List (Option ℕ)) (ended row parent offset : ℕ) (cowns : ArrayVec ℕ) → AreParts count run rows stages found latest ended → IsAllowed count run (Spawn row parent offset cowns)
     → Goes count (after run (Spawn row parent offset cowns)) (rows ++ (new_row parent offset cowns ∷ [])) (changed stages parent (λ s. record s { last = offset }) (slice_get stages parent) ++ (new_stage found cowns ∷ [])) (found ++ map (λ c. get_or latest c None) cowns.items) (noted latest cowns.items row) ended

@@ -6,6 +6,7 @@ use Rattle.std.specs.Option.{option_map_or}
 use Rattle.std.proofs.lemmas.Option.{slice_get_read, slice_get_past, slice_get_within}
 use Rattle.arrayvec.specs.ArrayVec.{ArrayVec}
 use Rattle.boc_types.specs.declared.body.EndStatus.{EndStatus}
+use Rattle.boc_types.specs.declared.event.Event.{Event}
 use Rattle.boc_types.specs.declared.event.Event.TheVariants.{Spawn, Start, End}
 use Rattle.boc_types.specs.declared.event.BrokenRule.TheVariants as rules
 use Rattle.boc_types.specs.declared.rows.Row.{Row}
@@ -105,8 +106,8 @@ pub record IsSpawnable (run : RunSoFar) (row : ℕ) (cowns : ArrayVec ℕ) : Typ
   pub next : row < MOST_ROWS
   pub few : length run.found.items ≤ MOST_HELD * MOST_ROWS
 
-pub spawn_finds : (run : RunSoFar) (row parent offset : ℕ) (cowns : ArrayVec ℕ) → IsRunSoFar run → IsAllowed run.cowns (so_far run) (Spawn row parent offset cowns) → IsSpawnable run row cowns
-spawn_finds run row parent offset cowns k a = record {
+pub spawn_finds : (run : RunSoFar) {event : Event} {row parent offset : ℕ} {cowns : ArrayVec ℕ} → event ≡ Spawn row parent offset cowns → IsRunSoFar run → IsAllowed run.cowns (so_far run) event → IsSpawnable run row cowns
+spawn_finds run {row = row} {parent = parent} {offset = offset} {cowns = cowns} is k allowed = let a = subst (IsAllowed run.cowns (so_far run)) is allowed in record {
   there = subst (λ (n : ℕ). All (λ c. c < n) cowns.items) (sym k.latest_are.all) (need_below run.cowns (so_far run) cowns.items (a.keeps rules.Cowns));
   small = spawn_small run.cowns (so_far run) row parent offset cowns k.legal.few a;
   next = a.keeps rules.TooMany;
@@ -116,8 +117,9 @@ spawn_finds run row parent offset cowns k a = record {
 pub there : (rows : List Entry) (r : ℕ) (l : lives.Life) → life_of rows r ≡ Some l → r < length rows
 there rows r l h = let e = living rows r l h in slice_get_within rows r e.0 e.1
 
-pub start_finds : (run : RunSoFar) (row : ℕ) → IsRunSoFar run → IsAllowed run.cowns (so_far run) (Start row) → row < length run.stages.items
-start_finds run row k a =
+pub start_finds : (run : RunSoFar) {event : Event} {row : ℕ} → event ≡ Start row → IsRunSoFar run → IsAllowed run.cowns (so_far run) event → row < length run.stages.items
+start_finds run {row = row} is k allowed =
+    let a = subst (IsAllowed run.cowns (so_far run)) is allowed in
     let may : MayStart (life_of (so_far run)) (entry_cowns (so_far run)) row = a.keeps rules.StartNotAllowed in
     omega (arith, k.stages_are.all, there (so_far run) row lives.Pending may.waits)
 
@@ -128,8 +130,9 @@ pub record IsEndable (run : RunSoFar) (row : ℕ) (written : ArrayVec ℕ) : Typ
   pub small : All (λ c. c < MOST_COWNS) written.items
   pub few : run.ended < MOST_ROWS
 
-pub end_finds : (run : RunSoFar) (row ticks : ℕ) (status : EndStatus) (written : ArrayVec ℕ) → IsRunSoFar run → IsAllowed run.cowns (so_far run) (End row ticks status written) → IsEndable run row written
-end_finds run row ticks status written k a =
+pub end_finds : (run : RunSoFar) {event : Event} {row ticks : ℕ} {status : EndStatus} {written : ArrayVec ℕ} → event ≡ End row ticks status written → IsRunSoFar run → IsAllowed run.cowns (so_far run) event → IsEndable run row written
+end_finds run {row = row} {ticks = ticks} {status = status} {written = written} is k allowed =
+    let a = subst (IsAllowed run.cowns (so_far run)) is allowed in
     let rows = so_far run in
     let may : MayEnd rows row ticks written.items = a.keeps rules.EndNotAllowed in
     let e = living rows row lives.Running may.runs in
@@ -146,33 +149,40 @@ end_finds run row ticks status written k a =
 abbrev pub HasGone : RunSoFar → List Entry → Type 0
 HasGone run later = Goes run.cowns later run.rows.items run.stages.items run.found.items run.latest.items run.ended
 
-goes_as : (cowns cowns' : ℕ) (later : List Entry) (rows rows' : List Row) (stages stages' : List Stage) (found found' latest latest' : List (Option ℕ)) (ended ended' : ℕ) → Goes cowns later rows stages found latest ended
-    → cowns' ≡ cowns → rows' ≡ rows → stages' ≡ stages → found' ≡ found → latest' ≡ latest → ended' ≡ ended → Goes cowns' later rows' stages' found' latest' ended'
-goes_as cowns cowns' later rows rows' stages stages' found found' latest latest' ended ended' k a c d g e f =
-    subst (λ (x : ℕ). Goes x later rows' stages' found' latest' ended') (sym a)
-    (subst (λ (x : List Row). Goes cowns later x stages' found' latest' ended') (sym c)
-    (subst (λ (x : List Stage). Goes cowns later rows x found' latest' ended') (sym d)
-    (subst (λ (x : List (Option ℕ)). Goes cowns later rows stages x latest' ended') (sym g)
-    (subst (λ (x : List (Option ℕ)). Goes cowns later rows stages found x ended') (sym e)
-    (subst (λ (x : ℕ). Goes cowns later rows stages found latest x) (sym f) k)))))
+-- so it is after an event, where these rows are kept
+gone_as : (old new : RunSoFar) {event given : Event} {rows : List Row} {stages : List Stage} {found latest : List (Option ℕ)} {ended : ℕ} → event ≡ given
+    → IsAllowed old.cowns (so_far old) event → (IsAllowed old.cowns (so_far old) given → Goes old.cowns (after (so_far old) given) rows stages found latest ended)
+    → new.cowns ≡ old.cowns → new.rows.items ≡ rows → new.stages.items ≡ stages → new.found.items ≡ found → new.latest.items ≡ latest → new.ended ≡ ended
+    → HasGone new (after (so_far old) event)
+gone_as old new {given = given} {rows = rows} {stages = stages} {found = found} {latest = latest} {ended = ended} is allowed goes a c d g e f =
+    let later = after (so_far old) given in
+    let k = goes (subst (IsAllowed old.cowns (so_far old)) is allowed) in
+    subst (λ (x : Event). HasGone new (after (so_far old) x)) (sym is)
+    (subst (λ (x : ℕ). Goes x later new.rows.items new.stages.items new.found.items new.latest.items new.ended) (sym a)
+    (subst (λ (x : List Row). Goes old.cowns later x new.stages.items new.found.items new.latest.items new.ended) (sym c)
+    (subst (λ (x : List Stage). Goes old.cowns later rows x new.found.items new.latest.items new.ended) (sym d)
+    (subst (λ (x : List (Option ℕ)). Goes old.cowns later rows stages x new.latest.items new.ended) (sym g)
+    (subst (λ (x : List (Option ℕ)). Goes old.cowns later rows stages found x new.ended) (sym e)
+    (subst (λ (x : ℕ). Goes old.cowns later rows stages found latest x) (sym f) k))))))
 
 -- The run is kept after an event.
-pub kept_spawn : (old new : RunSoFar) (row parent offset : ℕ) (cowns : ArrayVec ℕ) → IsRunSoFar old → IsAllowed old.cowns (so_far old) (Spawn row parent offset cowns) → IsSpawned old new row parent offset cowns → HasGone new (after (so_far old) (Spawn row parent offset cowns))
-kept_spawn old new row parent offset cowns k a h =
-    goes_as _ new.cowns _ _ new.rows.items _ new.stages.items _ new.found.items _ new.latest.items _ new.ended
-    (keeps_spawn old.cowns (so_far old) old.rows.items old.stages.items old.found.items old.latest.items old.ended row parent offset cowns k a)
+pub kept_spawn : {old new : RunSoFar} {event : Event} {row parent offset : ℕ} {cowns given : ArrayVec ℕ} → event ≡ Spawn row parent offset cowns → IsRunSoFar old → IsAllowed old.cowns (so_far old) event
+    → given ≡ cowns → IsSpawned old new row parent offset given → HasGone new (after (so_far old) event)
+kept_spawn {old = old} {new = new} {row = row} {parent = parent} {offset = offset} {cowns = cowns} is k allowed same spawned =
+    let h = subst (IsSpawned old new row parent offset) same spawned in
+    gone_as old new is allowed (keeps_spawn old.cowns (so_far old) old.rows.items old.stages.items old.found.items old.latest.items old.ended row parent offset cowns k)
     h.cowns_stay h.rows h.stages h.found h.latest h.ended
 
-pub kept_start : (old new : RunSoFar) (row : ℕ) → IsRunSoFar old → IsAllowed old.cowns (so_far old) (Start row) → IsStarted old new row → HasGone new (after (so_far old) (Start row))
-kept_start old new row k a h =
-    goes_as _ new.cowns _ _ new.rows.items _ new.stages.items _ new.found.items _ new.latest.items _ new.ended
-    (keeps_start old.cowns (so_far old) old.rows.items old.stages.items old.found.items old.latest.items old.ended row k a)
+pub kept_start : {old new : RunSoFar} {event : Event} {row : ℕ} → event ≡ Start row → IsRunSoFar old → IsAllowed old.cowns (so_far old) event → IsStarted old new row → HasGone new (after (so_far old) event)
+kept_start {old = old} {new = new} {row = row} is k allowed h =
+    gone_as old new is allowed (keeps_start old.cowns (so_far old) old.rows.items old.stages.items old.found.items old.latest.items old.ended row k)
     h.cowns_stay h.rows_stay h.stages h.found_stays h.latest_stay h.ended
 
-pub kept_end : (old new : RunSoFar) (row ticks : ℕ) (status : EndStatus) (written : ArrayVec ℕ) → IsRunSoFar old → IsAllowed old.cowns (so_far old) (End row ticks status written) → IsEnded old new row ticks status written → HasGone new (after (so_far old) (End row ticks status written))
-kept_end old new row ticks status written k a h =
-    goes_as _ new.cowns _ _ new.rows.items _ new.stages.items _ new.found.items _ new.latest.items _ new.ended
-    (keeps_end old.cowns (so_far old) old.rows.items old.stages.items old.found.items old.latest.items old.ended row ticks status written k a)
+pub kept_end : {old new : RunSoFar} {event : Event} {row ticks : ℕ} {status : EndStatus} {written given : ArrayVec ℕ} → event ≡ End row ticks status written → IsRunSoFar old → IsAllowed old.cowns (so_far old) event
+    → given ≡ written → IsEnded old new row ticks status given → HasGone new (after (so_far old) event)
+kept_end {old = old} {new = new} {row = row} {ticks = ticks} {status = status} {written = written} is k allowed same ended =
+    let h = subst (IsEnded old new row ticks status) same ended in
+    gone_as old new is allowed (keeps_end old.cowns (so_far old) old.rows.items old.stages.items old.found.items old.latest.items old.ended row ticks status written k)
     h.cowns_stay h.rows h.stages h.found_stays h.latest_stay h.ended
 
 -- A run is over where all of its rows are.

@@ -1,10 +1,10 @@
 -- What is kept of a run stays that of its log as a row is changed, or put behind the others.
-use Rattle.std.proofs.Common.{◌≡◌, ℕ, zero, suc, ◌+◌, ◌-◌, ◌*◌, ◌<◌, ◌≤◌, ◌≢◌, ◌⊎◌, List, [], ◌∷◌, ◌++◌, length, map, get_or, take, drop, refl, sym, ◌∙◌, ap, subst, inl, inr, arith, length-append, length-drop, get_or-set_same, get_or-set_other}
+use Rattle.std.proofs.Common.{◌≡◌, ℕ, zero, suc, ◌+◌, ◌-◌, ◌*◌, ◌<◌, ◌≤◌, ◌≢◌, ◌⊎◌, List, [], ◌∷◌, ◌++◌, length, map, get_or, refl, sym, ◌∙◌, ap, subst, inl, inr, arith, length-append, get_or-set_same, get_or-set_other}
 use Rattle.std.proofs.Math.ListN.{length-set}
 use Rattle.std.specs.Prelude.{slice_get, slice_set, slice_range, Option, Some, None, All}
 use Rattle.std.specs.Option.{option_map_or}
 use Rattle.std.specs.List.{Contains}
-use Rattle.std.proofs.lemmas.List.{get_or-map, length-map, take-append-le, drop-append-le, drop_at, take_all}
+use Rattle.std.proofs.lemmas.List.{get_or-map, length-map}
 use Rattle.std.proofs.lemmas.Option.{slice_get_within}
 use Rattle.std.proofs.lemmas.Bool.{cases_eq, cases_order}
 use Rattle.boc_types.specs.declared.limits.TheConstants.{MOST_HELD}
@@ -12,7 +12,8 @@ use Rattle.boc_types.specs.runs.Legal.{Entry, entry_cowns}
 use Rattle.boc_rules.specs.declared.stage.Stage.{Stage}
 use Rattle.boc_rules.specs.Before.{IsLatest, AreBefore, noted}
 use Rattle.boc_rules.specs.SoFar.{IsStageOf, AreStagesOf, AreFound, AreLatest, over_one, over}
-use Rattle.boc_rules.proofs.Lists.{got_set, set_same, set_other, got_push, push_below, push_last, got_at}
+use Rattle.boc_types.proofs.ChangedItems.{set_other, range_stays, range_behind}
+use Rattle.boc_rules.proofs.Lists.{got_set, set_same, got_push, push_below, push_last, got_at}
 use Rattle.boc_rules.proofs.Next.{cowns_at}
 
 -- two runs have the same cowns at the rows below a number
@@ -158,17 +159,6 @@ stages_push run stages v y are is = record {
   all = omega (arith, length-append stages (y ∷ []), length-append run (v ∷ []), are.all);
   each = λ k f z g i. stage_push_case run stages v y are is k f z (got_push run k v f g) (got_push stages k y z i);
 }
-
--- a part that is there stays as it is where a list grows
-range_stays : {X : Type 0} (xs ys : List X) (i j : ℕ) → i ≤ j → j ≤ length xs → slice_range (xs ++ ys) i j ≡ slice_range xs i j
-range_stays xs ys i j h k =
-    ap (λ zs. take (j - i) zs) (drop-append-le i xs ys (omega arith))
-    ∙ take-append-le (j - i) (drop i xs) ys (omega (arith, length-drop i xs))
-
--- the part behind a list is what it grew by
-range_behind : {X : Type 0} (xs ys : List X) (i j : ℕ) → i ≡ length xs → j ≡ length xs + length ys → slice_range (xs ++ ys) i j ≡ ys
-range_behind xs ys i j h k =
-    ap (λ zs. take (j - i) zs) (drop_at xs ys i (sym h)) ∙ take_all (j - i) ys (omega arith)
 
 pub found_push : (run : List Entry) (stages : List Stage) (found : List (Option ℕ)) (v : Entry) (y : Stage) (cowns : ℕ) (latest : List (Option ℕ)) → AreStagesOf run stages → AreFound run stages found → AreLatest run cowns latest → All (λ c. c < cowns) v.cowns → length v.cowns ≤ MOST_HELD
     → y.from ≡ length found → y.to ≡ length found + length v.cowns → AreFound (run ++ (v ∷ [])) (stages ++ (y ∷ [])) (found ++ map (λ c. get_or latest c None) v.cowns)

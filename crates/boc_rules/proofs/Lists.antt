@@ -18,13 +18,6 @@ set_same [] r v x e = absurd (let f : None ≡ Some x = e in cc)
 set_same (y ∷ xs) zero v x e = refl
 set_same (y ∷ xs) (suc r) v x e = set_same xs r v x e
 
-pub set_other : {A : Type 0} (xs : List A) (r k : ℕ) (v : A) → k ≢ r → slice_get (slice_set xs r v) k ≡ slice_get xs k
-set_other [] r k v n = refl
-set_other (y ∷ xs) zero zero v n = absurd (n refl)
-set_other (y ∷ xs) zero (suc k) v n = refl
-set_other (y ∷ xs) (suc r) zero v n = refl
-set_other (y ∷ xs) (suc r) (suc k) v n = set_other xs r k v (λ e. n (ap suc e))
-
 pub got_push : {A : Type 0} (xs : List A) (k : ℕ) (v x : A) → slice_get (xs ++ (v ∷ [])) k ≡ Some x → (slice_get xs k ≡ Some x) ⊎ ((k ≡ length xs) × (v ≡ x))
 got_push [] zero v x e = inr (refl, (let f : Some v ≡ Some x = e in cc))
 got_push [] (suc k) v x e = absurd (let f : None ≡ Some x = e in cc)

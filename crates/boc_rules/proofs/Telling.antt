@@ -18,7 +18,8 @@ use Rattle.boc_types.specs.runs.Lives.{Life, Pending, Running, Ended, changed, M
 use Rattle.boc_types.specs.runs.Legal.{Entry, pending, after, life_of, entry_cowns, MayEnd, IsAllowed}
 use Rattle.boc_types.specs.runs.Records.{AreRowsOf}
 use Rattle.boc_rules.specs.Logged.{row_of, told_of, HasHappened}
-use Rattle.boc_rules.proofs.Lists.{set_same, set_other, push_below, push_last, got_in, one_got, got_at}
+use Rattle.boc_types.proofs.ChangedItems.{set_other}
+use Rattle.boc_rules.proofs.Lists.{set_same, push_below, push_last, got_in, one_got, got_at}
 use Rattle.boc_rules.proofs.Next.{living, life_at, not_pending_ended, not_running_ended}
 use Rattle.boc_rules.proofs.KeptRows.{at_entry, rows_of_run}
 

@@ -9,7 +9,8 @@ use Rattle.boc_types.specs.declared.limits.TheConstants.{MOST_ROWS, MOST_TICKS}
 use Rattle.boc_types.specs.runs.Cowns.{AreCowns, AreAmong}
 use Rattle.boc_types.specs.runs.Lives.{Pending, Ended}
 use Rattle.boc_types.specs.runs.Legal.{Entry, pending}
-use Rattle.boc_rules.proofs.Lists.{got_set, set_same, set_other, got_push, push_below, one_got, got_at}
+use Rattle.boc_types.proofs.ChangedItems.{set_other}
+use Rattle.boc_rules.proofs.Lists.{got_set, set_same, got_push, push_below, one_got, got_at}
 
 -- main has parent 0, offset 0 and no cowns
 pub record IsMain (e : Entry) : Type 0 where

@@ -1,41 +1,22 @@
-use Rattle.std.proofs.Common.{List, ℕ, length, ◌∙◌, subst, arith}
-use Rattle.boc_text.proofs.Sending.{HasPut, StopsIn, line_more, line_stops, puts_stopped, room_end, stops_put}
+use Rattle.std.proofs.Common.{◌∙◌, arith}
 use Rattle.boc_report.specs.declared.greedy_lines.TheConstants.{MOST_SERVED}
-use Rattle.boc_report.proofs.Lines.{served_to, served_at, served_grow, served_all}
+use Rattle.boc_report.proofs.ByLines.{line_put, lines_stopped, lines_put}
+use Rattle.boc_report.proofs.Lines.{served_by_line}
 use Rattle.boc_report.proofs.greedy_lines.put_served.Goals as goal
 
 pub returns-in_err-put-clause-goes_on : goal.returns-in_err-put-clause-goes_on
 returns-in_err-put-clause-goes_on g c =
-    let gone = c.in_err-put.field-0.0.gone in
-    let from = g.W.Sink.written c.args.sink.now in
-    let to = g.W.Sink.written c.put.new.sink in
-    puts_stopped _ c.from_residual.result _ c.args.out.now _ from to c.from_residual.ensures.1
-    (subst (λ (bytes : List ℕ). StopsIn bytes gone c.args.out.now from to)
-    (served_all c.args.starts.now c.args.ends.now c.args.workers.now _ c.requires.ends c.requires.workers (omega arith))
-    (line_stops (served_to c.args.starts.now c.args.ends.now c.args.workers.now) (served_at c.args.starts.now c.args.ends.now c.args.workers.now)
-    (length c.args.starts.now) c.loop-row.row gone c.args.out.now c.loop-row.out from _ to
-    (served_grow c.args.starts.now c.args.ends.now c.args.workers.now c.requires.ends c.requires.workers) c.loop-row-test.true
-    c.loop-row.invariant.came
-    (stops_put _ gone c.loop-row.out (g.W.Sink.written c.loop-row.sink) to c.in_err-put.ensures.goes_on)))
+    lines_stopped (served_by_line c.args.starts.now c.args.ends.now c.args.workers.now c.requires.ends c.requires.workers) c.loop-row.row c.from_residual.result _ c.args.out.now c.loop-row.out _
+    (g.W.Sink.written c.args.sink.now) (g.W.Sink.written c.loop-row.sink) (g.W.Sink.written c.put.new.sink)
+    c.loop-row-test.true c.loop-row.invariant.came c.in_err-put.ensures.goes_on c.from_residual.ensures.1
 
 pub loop-row-preserved : goal.loop-row-preserved
-loop-row-preserved g c =
-    let line = room_end c.served_before-begin.new.room _ MOST_SERVED c.served_before-begin.result
-    (omega arith) c.served_before-begin.ensures.written in
-    record {
-      came = line_more (served_to c.args.starts.now c.args.ends.now c.args.workers.now)
-          (served_at c.args.starts.now c.args.ends.now c.args.workers.now)
-          (length c.args.starts.now) c.loop-row.row c.args.out.now c.loop-row.out c.put.new.self _ _ _
-          (served_grow c.args.starts.now c.args.ends.now c.args.workers.now c.requires.ends c.requires.workers) c.loop-row-test.true
-          c.loop-row.invariant.came
-          (subst (λ (bytes : List ℕ). HasPut bytes c.loop-row.out c.put.new.self (g.W.Sink.written c.loop-row.sink)
-          (g.W.Sink.written c.put.new.sink)) line c.in_ok-put.ensures.goes_on);
-      size = omega (arith, c.in_ok-put.ensures.size);
-      failures = c.in_ok-put.ensures.failures ∙ c.loop-row.invariant.failures;
-    }
+loop-row-preserved g c = record {
+  came = line_put (served_by_line c.args.starts.now c.args.ends.now c.args.workers.now c.requires.ends c.requires.workers) c.loop-row.row c.served_before-begin.new.room MOST_SERVED c.served_before-begin.result c.args.out.now c.loop-row.out c.put.new.self
+      _ _ _ c.loop-row-test.true c.loop-row.invariant.came (omega arith) c.served_before-begin.ensures.written c.in_ok-put.ensures.goes_on;
+  size = omega (arith, c.in_ok-put.ensures.size);
+  failures = c.in_ok-put.ensures.failures ∙ c.loop-row.invariant.failures;
+}
 
 pub returns-clause-goes_on : goal.returns-clause-goes_on
-returns-clause-goes_on g c =
-    subst (λ (bytes : List ℕ). HasPut bytes c.args.out.now c.loop-row.out (g.W.Sink.written c.args.sink.now) (g.W.Sink.written c.loop-row.sink))
-    (served_all c.args.starts.now c.args.ends.now c.args.workers.now c.loop-row.row c.requires.ends c.requires.workers
-    (omega arith)) c.loop-row.invariant.came
+returns-clause-goes_on g c = lines_put (served_by_line c.args.starts.now c.args.ends.now c.args.workers.now c.requires.ends c.requires.workers) c.loop-row.row _ _ _ _ (omega arith) c.loop-row.invariant.came

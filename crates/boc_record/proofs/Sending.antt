@@ -36,3 +36,12 @@ pub first_out : (before now : Option (List ℕ)) (cowns : ℕ) (room : List ℕ)
     → IsOut before now (take (long - begin) (drop begin room)) o → IsOut before now (line (header Second cowns)) o
 first_out before now cowns room long begin o all is out =
     subst (λ (text : List ℕ). IsOut before now text o) (take_all (long - begin) (drop begin room) (omega (arith, all, length-drop begin room)) ∙ is) out
+
+-- so did the lines of the events behind it
+pub lines_out : (before between to : Option (List ℕ)) (cowns given : ℕ) (events passed : List Event) (room : List ℕ) (long begin : ℕ) (middle text : Outgoing) → given ≡ cowns → passed ≡ events
+    → length room ≤ long → drop begin room ≡ line (header Second given) → IsOut before between (take (long - begin) (drop begin room)) middle
+    → ((old : Option (List ℕ)) (sent : List ℕ) → IsOut old between sent middle → IsOut old to (sent ++ event_lines Second passed) text)
+    → IsOut before to (line (header Second cowns) ++ event_lines Second events) text
+lines_out before between to cowns given events passed room long begin middle text same told all is out goes_on =
+    subst (λ (es : List Event). IsOut before to (line (header Second cowns) ++ event_lines Second es) text) told
+    (goes_on before (line (header Second cowns)) (first_out before between cowns room long begin middle all (is ∙ ap (λ (n : ℕ). line (header Second n)) same) out))

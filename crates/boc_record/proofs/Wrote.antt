@@ -13,7 +13,8 @@ use Rattle.boc_types.specs.runs.Legal.{Entry, pending, entries, after, after_all
 use Rattle.boc_types.specs.runs.Records.{Recorded, IsRecord}
 use Rattle.boc_types.specs.runs.Rows.{cowns_of, written_of}
 use Rattle.boc_types.specs.text.RecordTexts.{First, Second, IsSpelt, AreSpelt}
-use Rattle.boc_rules.proofs.Lists.{got_set, set_same, set_other, got_push, push_below, got_in, one_got, got_at}
+use Rattle.boc_types.proofs.ChangedItems.{set_other}
+use Rattle.boc_rules.proofs.Lists.{got_set, set_same, got_push, push_below, got_in, one_got, got_at}
 use Rattle.boc_rules.proofs.Next.{living, life_at, cowns_at, not_pending_ended, not_running_ended}
 use Rattle.boc_record.specs.Laws.{HasWrittenAll}
 

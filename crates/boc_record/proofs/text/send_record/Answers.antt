@@ -5,7 +5,7 @@ use Rattle.boc_text.specs.Streams.{StopsAt}
 use Rattle.boc_text.specs.Outgoing.{IsOut}
 use Rattle.boc_record.specs.declared.text.TheConstants.{MOST_BYTES}
 use Rattle.boc_text.proofs.Sending.{stops_before, stopped_so}
-use Rattle.boc_record.proofs.Sending.{few_events, first_out}
+use Rattle.boc_record.proofs.Sending.{few_events, first_out, lines_out}
 use Rattle.boc_record.proofs.text.send_record.Goals as goal
 
 pub returns-in_err-put-clause-sent : goal.returns-in_err-put-clause-sent
@@ -38,14 +38,10 @@ pub returns-in_err-put-2-clause-sent : goal.returns-in_err-put-2-clause-sent
 returns-in_err-put-2-clause-sent g c =
     let r = c.args.record.now in
     let before = g.W.Sink.written c.args.sink.now in
-    let head = line (header Second r.cowns) in
-    let first : IsOut before (g.W.Sink.written c.put.new.sink) head c.put.new.self =
-    first_out before _ r.cowns c.header_before-begin.new.room MOST_BYTES c.header_before-begin.result c.put.new.self (search rules) (c.header_before-begin.ensures.written ∙ ap (λ (n : ℕ). line (header Second n)) c.cowns.ensures.value)
-    (c.in_ok-put.ensures.goes_on before [] (c.requires.unused before)) in
-    let lines : IsOut before (g.W.Sink.written c.send_events.new.sink) (head ++ event_lines Second r.events) c.send_events.new.text =
-    subst (λ (events : List Event). IsOut before (g.W.Sink.written c.send_events.new.sink) (head ++ event_lines Second events) c.send_events.new.text) c.events.ensures.value (c.in_ok-send_events.ensures.goes_on before head first) in
     stopped_so _ (λ s. StopsAt s.gone (record_text Second r.cowns r.events) before (g.W.Sink.written c.put-2.new.sink)) c.from_residual-in_err-put-2.result _ c.from_residual-in_err-put-2.ensures.1
-    (stops_before _ (head ++ event_lines Second r.events) (line (codes ".")) before _ (c.in_err-put-2.ensures.goes_on before (head ++ event_lines Second r.events) lines))
+    (stops_before _ (line (header Second r.cowns) ++ event_lines Second r.events) (line (codes ".")) before _ (c.in_err-put-2.ensures.goes_on before _
+    (lines_out before _ _ r.cowns _ r.events _ c.header_before-begin.new.room MOST_BYTES c.header_before-begin.result c.put.new.self c.send_events.new.text c.cowns.ensures.value c.events.ensures.value
+    (search rules) c.header_before-begin.ensures.written (c.in_ok-put.ensures.goes_on before [] (c.requires.unused before)) c.in_ok-send_events.ensures.goes_on)))
 
 pub send-requires-clause-bound : goal.send-requires-clause-bound
 send-requires-clause-bound g c =
@@ -55,10 +51,6 @@ pub returns-clause-sent : goal.returns-clause-sent
 returns-clause-sent g c =
     let r = c.args.record.now in
     let before = g.W.Sink.written c.args.sink.now in
-    let head = line (header Second r.cowns) in
-    let first : IsOut before (g.W.Sink.written c.put.new.sink) head c.put.new.self =
-    first_out before _ r.cowns c.header_before-begin.new.room MOST_BYTES c.header_before-begin.result c.put.new.self (search rules) (c.header_before-begin.ensures.written ∙ ap (λ (n : ℕ). line (header Second n)) c.cowns.ensures.value)
-    (c.in_ok-put.ensures.goes_on before [] (c.requires.unused before)) in
-    let lines : IsOut before (g.W.Sink.written c.send_events.new.sink) (head ++ event_lines Second r.events) c.send_events.new.text =
-    subst (λ (events : List Event). IsOut before (g.W.Sink.written c.send_events.new.sink) (head ++ event_lines Second events) c.send_events.new.text) c.events.ensures.value (c.in_ok-send_events.ensures.goes_on before head first) in
-    c.send.ensures.sent before (record_text Second r.cowns r.events) (c.in_ok-put-2.ensures.goes_on before (head ++ event_lines Second r.events) lines)
+    c.send.ensures.sent before (record_text Second r.cowns r.events) (c.in_ok-put-2.ensures.goes_on before _
+    (lines_out before _ _ r.cowns _ r.events _ c.header_before-begin.new.room MOST_BYTES c.header_before-begin.result c.put.new.self c.send_events.new.text c.cowns.ensures.value c.events.ensures.value
+    (search rules) c.header_before-begin.ensures.written (c.in_ok-put.ensures.goes_on before [] (c.requires.unused before)) c.in_ok-send_events.ensures.goes_on))

@@ -8,8 +8,8 @@ use Rattle.boc_types.specs.text.Shape.{Cown, Def, Tree, Block, def_tokens, each_
 use Rattle.boc_reader.specs.Phrases.{Ahead, Stands, NoneStands}
 use Rattle.boc_reader.specs.Grammar.{NoKeyword, EndsSize, name_phrase, list_phrase, size_phrase, initial_phrase, cown_phrase, cowns_phrase, signature_phrase, body_phrase, def_phrase, defs_phrase, main_phrase}
 use Rattle.boc_reader.proofs.Refused.{OneReading}
-use Rattle.boc_reader.proofs.Each.{AllEnd, ReadEach}
-use Rattle.boc_reader.proofs.Ended.{Stops, no_next, one_each}
+use Rattle.boc_reader.proofs.Each.{ReadEach}
+use Rattle.boc_reader.proofs.Ended.{one_keyword, no_next_keyword}
 use Rattle.boc_reader.proofs.Listed.{one_list}
 use Rattle.boc_reader.proofs.Items.{names_readable}
 use Rattle.boc_reader.proofs.Blocks.{names_nodes, length-list}
@@ -55,19 +55,12 @@ one_cown x y r s p q e =
     let by_value = ap (λ (n : ℕ). let c : Cown = record { name = y.name; size = y.size; negative = y.negative; value = n } in c) v.1 in
     (by_name ∙ by_size ∙ by_sign ∙ by_value, v.2)
 
-cowns_stop : (r : List Token) → NoKeyword CownKeyword r → Stops cown_phrase r
-cowns_stop r h = record { ends = λ x. tt; none = λ x w e. h _ e }
-
-cowns_end : (xs : List Cown) (w : List Token) → AllEnd cown_phrase xs w
-cowns_end [] w = tt
-cowns_end (x ∷ xs) w = (tt, cowns_end xs w)
-
 one_cowns : OneReading cowns_phrase
-one_cowns xs ys r s p q e = one_each cown_phrase one_cown (λ _ _ _. tt) xs ys r s (cowns_end xs r) (cowns_stop r p) (cowns_stop s q) e
+one_cowns = one_keyword cown_phrase CownKeyword one_cown (λ _ _. tt) (λ _ _. (_, refl))
 
 pub no_next_cown : (old mid : Ahead) (xs : List Cown) (after : List Token) → ReadEach cown_phrase old mid xs → mid.tokens ≡ keyword CownKeyword ∷ after → NoneStands cown_phrase mid → NoneStands cowns_phrase old
 no_next_cown old mid xs after so_far e none ys r st =
-    no_next cown_phrase one_cown (λ _ _ _. tt) old mid xs ys r so_far none (cowns_stop r st.ends) (λ same. st.ends after (sym same ∙ e)) st.tokens st.fits st.small
+    no_next_keyword cown_phrase CownKeyword one_cown (λ _ _. tt) (λ _ _. (_, refl)) old mid xs ys after r so_far e none st.ends st.tokens st.fits st.small
 
 -- defs
 
@@ -119,19 +112,12 @@ one_def x y r s p q e =
       v.1,
     )
 
-defs_stop : (r : List Token) → NoKeyword DefKeyword r → Stops def_phrase r
-defs_stop r h = record { ends = λ x. tt; none = λ x w e. h _ e }
-
-defs_end : (xs : List Def) (w : List Token) → AllEnd def_phrase xs w
-defs_end [] w = tt
-defs_end (x ∷ xs) w = (tt, defs_end xs w)
-
 one_defs : OneReading defs_phrase
-one_defs xs ys r s p q e = one_each def_phrase one_def (λ _ _ _. tt) xs ys r s (defs_end xs r) (defs_stop r p) (defs_stop s q) e
+one_defs = one_keyword def_phrase DefKeyword one_def (λ _ _. tt) (λ _ _. (_, refl))
 
 pub no_next_def : (old mid : Ahead) (xs : List Def) (after : List Token) → ReadEach def_phrase old mid xs → mid.tokens ≡ keyword DefKeyword ∷ after → NoneStands def_phrase mid → NoneStands defs_phrase old
 no_next_def old mid xs after so_far e none ys r st =
-    no_next def_phrase one_def (λ _ _ _. tt) old mid xs ys r so_far none (defs_stop r st.ends) (λ same. st.ends after (sym same ∙ e)) st.tokens (omega (arith, length-list ys, st.fits)) st.small
+    no_next_keyword def_phrase DefKeyword one_def (λ _ _. tt) (λ _ _. (_, refl)) old mid xs ys after r so_far e none st.ends st.tokens (omega (arith, length-list ys, st.fits)) st.small
 
 -- whole texts
 

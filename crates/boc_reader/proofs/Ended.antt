@@ -1,9 +1,11 @@
 -- Where phrases one after another can't go on, there are no more.
 use Rattle.std.proofs.Common.{◌≡◌, ◌≢◌, ◌≤◌, List, [], ◌∷◌, ◌++◌, refl, sym, ap, ◌∙◌, subst, arith}
 use Rattle.std.proofs.lemmas.List.{append-nil}
-use Rattle.boc_types.specs.text.Tokens.{Token}
+use Rattle.boc_types.specs.declared.token.Keyword.{Keyword}
+use Rattle.boc_types.specs.text.Tokens.{Token, keyword}
 use Rattle.boc_types.specs.text.Shape.{each_tokens, list_nodes}
 use Rattle.boc_reader.specs.Phrases.{Ahead, Phrase, NoneStands}
+use Rattle.boc_reader.specs.Grammar.{NoKeyword}
 use Rattle.boc_reader.proofs.Refused.{OneReading}
 use Rattle.boc_reader.proofs.Each.{AllSmall, AllEnd, ReadEach, list_nodes-append}
 
@@ -52,3 +54,22 @@ module _ {X : Type 0} (kind : Phrase X) (one : OneReading kind) (next : (x y : X
       let l = left xs ys w r all at_r e in
       let n = no_left l.0 w r at_w l.2 in
       (sym (l.1 ∙ ap (λ zs. xs ++ zs) n.0 ∙ append-nil xs), n.1)
+
+-- phrases that a keyword begins, and that may stand before anything
+module _ {X : Type 0} (kind : Phrase X) (word : Keyword) (one : OneReading kind) (free : (x : X) (w : List Token) → kind.Ends x w)
+    (begins : (x : X) (w : List Token) → (r : List Token) × (kind.tokens x w ≡ keyword word ∷ r)) where
+  stop : (r : List Token) → NoKeyword word r → Stops kind r
+  stop r h = record { ends = λ x. free x r; none = λ x w e. h _ (e ∙ (begins x w).1) }
+
+  all_end : (xs : List X) (w : List Token) → AllEnd kind xs w
+  all_end [] w = tt
+  all_end (x ∷ xs) w = (free x _, all_end xs w)
+
+  -- one after another, up to where the keyword isn't next: their tokens are those of one list only
+  pub one_keyword : (xs ys : List X) (r s : List Token) → NoKeyword word r → NoKeyword word s → each_tokens kind.tokens xs r ≡ each_tokens kind.tokens ys s → (xs ≡ ys) × (r ≡ s)
+  one_keyword xs ys r s p q e = one_each kind one (λ x _ _. free x _) xs ys r s (all_end xs r) (stop r p) (stop s q) e
+
+  -- some were read, and the keyword is next, but no further one
+  pub no_next_keyword : (old mid : Ahead) (xs ys : List X) (after r : List Token) → ReadEach kind old mid xs → mid.tokens ≡ keyword word ∷ after → NoneStands kind mid → NoKeyword word r
+      → old.tokens ≡ each_tokens kind.tokens ys r → list_nodes kind.nodes ys ≤ old.room → AllSmall kind ys → ⊥
+  no_next_keyword old mid xs ys after r so_far e none ends = no_next kind one (λ x _ _. free x _) old mid xs ys r so_far none (stop r ends) (λ same. ends after (sym same ∙ e))

@@ -52,12 +52,7 @@ module _ {X : Type 0} (kind : Phrase X) (close : Sign) (can : Readable kind clos
   one_list [] [] r s e = (refl, cc)
   one_list [] (y ∷ ys) r s e = absurd (can.begins y _ r (sym e))
   one_list (x ∷ xs) [] r s e = absurd (can.begins x _ s e)
-  one_list (x ∷ xs) (y ∷ ys) r s e =
-      let u = can.one x y (behind_commas kind.tokens xs (sign close ∷ r)) (behind_commas kind.tokens ys (sign close ∷ s)) (behind_ends x xs r) (behind_ends y ys s) e in
-      let h = u.0 in
-      let v = one_behind xs ys r s u.1 in
-      let t = v.0 in
-      (cc, v.1)
+  one_list (x ∷ xs) (y ∷ ys) r s e = one_behind (x ∷ xs) (y ∷ ys) r s (ap (λ w. sign Comma ∷ w) e)
 
   -- what is left of the list, where some of it was read and a comma came
   left : (old : Ahead) (front : List X) (w : List Token) → old.tokens ≡ before kind.tokens front w → NoSign close old.tokens → (xs : List X) (r : List Token) → Stands (list_phrase kind close) old xs r → (y : X) × (ys : List X) × (xs ≡ front ++ y ∷ ys) × (w ≡ kind.tokens y (behind_commas kind.tokens ys (sign close ∷ r)))

@@ -79,85 +79,52 @@ pub keeps_done : (test : Test) (held k : ℕ) → CodeKeeps test held k 0 Done
 keeps_done test held k = record { few = omega arith; deep = omega arith; within = λ n a b. refl; passes = refl }
 
 pub keeps_let : (test : Test) (held k j m : ℕ) (e : SlotExpr) (rest : Code) → ExprKeeps k j e → CodeKeeps test held (k + 1) m rest → CodeKeeps test held k (1 + j + m) (Assign k e rest)
-keeps_let test held k j m e rest x r =
-    let few_e = x.few in
-    let few_r = r.few in
-    let deep_r = r.deep in
-    record {
-      few = omega arith;
-      deep = omega arith;
-      within = λ n a b. both _ _ (both _ _ (below k n (omega arith)) (x.within n a)) (r.within n (omega arith) (omega arith));
-      passes = r.passes;
-    }
+keeps_let test held k j m e rest x r = record {
+  few = omega arith;
+  deep = omega arith;
+  within = λ n a b. both _ _ (both _ _ (below k n (omega arith)) (x.within n a)) (r.within n (omega arith) (omega arith));
+  passes = r.passes;
+}
 
 pub keeps_assign : (test : Test) (held k j m slot : ℕ) (e : SlotExpr) (rest : Code) → slot < k → ExprKeeps k j e → CodeKeeps test held k m rest → CodeKeeps test held k (1 + j + m) (Assign slot e rest)
-keeps_assign test held k j m slot e rest h x r =
-    let few_e = x.few in
-    let few_r = r.few in
-    let deep_r = r.deep in
-    record {
-      few = omega arith;
-      deep = omega arith;
-      within = λ n a b. both _ _ (both _ _ (below slot n (omega arith)) (x.within n a)) (r.within n a (omega arith));
-      passes = r.passes;
-    }
+keeps_assign test held k j m slot e rest h x r = record {
+  few = omega arith;
+  deep = omega arith;
+  within = λ n a b. both _ _ (both _ _ (below slot n (omega arith)) (x.within n a)) (r.within n a (omega arith));
+  passes = r.passes;
+}
 
 pub keeps_work : (test : Test) (held k j m : ℕ) (e : SlotExpr) (rest : Code) → ExprKeeps k j e → CodeKeeps test held k m rest → CodeKeeps test held k (1 + j + m) (Work e rest)
-keeps_work test held k j m e rest x r =
-    let few_e = x.few in
-    let few_r = r.few in
-    let deep_r = r.deep in
-    record {
-      few = omega arith;
-      deep = omega arith;
-      within = λ n a b. both _ _ (x.within n a) (r.within n a b);
-      passes = r.passes;
-    }
+keeps_work test held k j m e rest x r = record {
+  few = omega arith;
+  deep = omega arith;
+  within = λ n a b. both _ _ (x.within n a) (r.within n a b);
+  passes = r.passes;
+}
 
 pub keeps_if : (test : Test) (held k j i o m : ℕ) (e : SlotExpr) (a b rest : Code) → ExprKeeps k j e → CodeKeeps test held k i a → CodeKeeps test held k o b → CodeKeeps test held k m rest → CodeKeeps test held k (1 + (j + (i + o)) + m) (If e a b rest)
-keeps_if test held k j i o m e a b rest x p q r =
-    let few_e = x.few in
-    let few_a = p.few in
-    let few_b = q.few in
-    let few_r = r.few in
-    let deep_a = p.deep in
-    let deep_b = q.deep in
-    let deep_r = r.deep in
-    record {
-      few = omega arith;
-      deep = omega arith;
-      within = λ n g h. both _ _ (both _ _ (x.within n g) (both _ _ (p.within n g (omega arith)) (q.within n g (omega arith)))) (r.within n g (omega arith));
-      passes = both _ _ (both _ _ p.passes q.passes) r.passes;
-    }
+keeps_if test held k j i o m e a b rest x p q r = record {
+  few = omega arith;
+  deep = omega arith;
+  within = λ n g h. both _ _ (both _ _ (x.within n g) (both _ _ (p.within n g (omega arith)) (q.within n g (omega arith)))) (r.within n g (omega arith));
+  passes = both _ _ (both _ _ p.passes q.passes) r.passes;
+}
 
 pub keeps_repeat : (test : Test) (held k j i m : ℕ) (e : SlotExpr) (a rest : Code) → ExprKeeps k j e → CodeKeeps test held k i a → CodeKeeps test held k m rest → CodeKeeps test held k (1 + (j + i) + m) (Repeat e a rest)
-keeps_repeat test held k j i m e a rest x p r =
-    let few_e = x.few in
-    let few_a = p.few in
-    let few_r = r.few in
-    let deep_a = p.deep in
-    let deep_r = r.deep in
-    record {
-      few = omega arith;
-      deep = omega arith;
-      within = λ n g h. both _ _ (both _ _ (x.within n g) (p.within n g (omega arith))) (r.within n g (omega arith));
-      passes = both _ _ p.passes r.passes;
-    }
+keeps_repeat test held k j i m e a rest x p r = record {
+  few = omega arith;
+  deep = omega arith;
+  within = λ n g h. both _ _ (both _ _ (x.within n g) (p.within n g (omega arith))) (r.within n g (omega arith));
+  passes = both _ _ p.passes r.passes;
+}
 
 pub keeps_when : (test : Test) (held k l l' j i m kind : ℕ) (es : List SlotExpr) (ps : List CownRef) (rest : Code) → l ≤ 8 → l' ≤ 8 → ExprsKeep k l j es → CownRefsKeep held k l' i ps → IsTrue (test kind es ps) → CodeKeeps test held k m rest → CodeKeeps test held k (1 + (j + i) + m) (When kind es ps rest)
-keeps_when test held k l l' j i m kind es ps rest f g x p t r =
-    let few_e = x.few in
-    let few_p = p.few in
-    let few_r = r.few in
-    let many_e = x.many in
-    let many_p = p.many in
-    let deep_r = r.deep in
-    record {
-      few = omega arith;
-      deep = omega arith;
-      within = λ n a b. both _ _ (both _ _ (both _ _ (at_most (length es) 8 (omega arith)) (at_most (length ps) 8 (omega arith))) (both _ _ (x.within n a) (p.within n a))) (r.within n a b);
-      passes = both _ _ t r.passes;
-    }
+keeps_when test held k l l' j i m kind es ps rest f g x p t r = record {
+  few = omega arith;
+  deep = omega arith;
+  within = λ n a b. both _ _ (both _ _ (both _ _ (at_most (length es) 8 (omega arith)) (at_most (length ps) 8 (omega arith))) (both _ _ (x.within n a) (p.within n a))) (r.within n a b);
+  passes = both _ _ t r.passes;
+}
 
 -- the deepest slot, and n at the least
 pub deepest-max : (n : ℕ) (c : Code) → deepest n c ≡ max n (deepest 0 c)

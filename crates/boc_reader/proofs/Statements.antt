@@ -4,7 +4,7 @@ use Rattle.boc_types.specs.declared.token.Sign.{Sign}
 use Rattle.boc_types.specs.declared.token.Sign.TheVariants.{Semicolon, Close, OpenBlock, CloseBlock}
 use Rattle.boc_types.specs.declared.token.Keyword.TheVariants.{Let, Work, If, Else, Repeat, When}
 use Rattle.boc_types.specs.text.Tokens.{Token, name, sign, keyword}
-use Rattle.boc_types.specs.text.Shape.{Expr, Stmt, declare, assign, work, if_only, if_else, repeat, when, Block, done, next, stmt_tokens, block_tokens, braced_tokens, stmt_nodes, block_nodes, IsSmallBlock, each_tokens, list_tokens, list_nodes, ref_tokens}
+use Rattle.boc_types.specs.text.Shape.{Expr, Stmt, declare, assign, work, if_only, if_else, repeat, when, Block, done, next, stmt_tokens, block_tokens, braced_tokens, stmt_nodes, block_nodes, IsSmallBlock, expr_tokens, each_tokens, list_tokens, list_nodes, ref_tokens}
 use Rattle.boc_reader.specs.Phrases.{Ahead, NoneStands}
 use Rattle.boc_reader.specs.Grammar.{NoSign, NoKeyword, EndsStmt, expr_phrase, closed_phrase, let_phrase, call_phrase, if_phrase, else_phrase, repeat_phrase, stmt_phrase, block_phrase, braced_phrase}
 use Rattle.boc_reader.proofs.Refused.{OneReading}
@@ -48,47 +48,43 @@ block_ends x (next y b) r = next_stmt x y _
 pub brace_ends : (x : Expr) (b : Block) (r : List Token) → expr_phrase.Ends x (braced_tokens b r)
 brace_ends x b r = sign_ends OpenBlock refl x _
 
+-- an expression, and the semicolon behind it
+one_ended : (e f : Expr) (r s : List Token) → expr_tokens e (sign Semicolon ∷ r) ≡ expr_tokens f (sign Semicolon ∷ s) → (e ≡ f) × (r ≡ s)
+one_ended e f r s h =
+    let u = one_expr e f (sign Semicolon ∷ r) (sign Semicolon ∷ s) (sign_ends Semicolon refl e r) (sign_ends Semicolon refl f s) h in
+    let t = u.1 in
+    (u.0, cc)
+
+-- an expression, and what stands in the block behind it
+one_guard : (e f : Expr) (b c : Block) (r s : List Token) → expr_tokens e (braced_tokens b r) ≡ expr_tokens f (braced_tokens c s) → (e ≡ f) × (block_tokens b (sign CloseBlock ∷ r) ≡ block_tokens c (sign CloseBlock ∷ s))
+one_guard e f b c r s h =
+    let u = one_expr e f (braced_tokens b r) (braced_tokens c s) (brace_ends e b r) (brace_ends f c s) h in
+    let t = u.1 in
+    (u.0, cc)
+
 mutual
   pub one_stmt : (x y : Stmt) (r s : List Token) → EndsStmt x r → EndsStmt y s → stmt_tokens x r ≡ stmt_tokens y s → (x ≡ y) × (r ≡ s)
-  one_stmt (declare x e) (declare y f) r s p q h =
-      let u = one_expr e f (sign Semicolon ∷ r) (sign Semicolon ∷ s) (sign_ends Semicolon refl e r) (sign_ends Semicolon refl f s) cc in
-      let v = u.0 in let t = u.1 in
-      (cc, cc)
-  one_stmt (assign x e) (assign y f) r s p q h =
-      let u = one_expr e f (sign Semicolon ∷ r) (sign Semicolon ∷ s) (sign_ends Semicolon refl e r) (sign_ends Semicolon refl f s) cc in
-      let v = u.0 in let t = u.1 in
-      (cc, cc)
-  one_stmt (work e) (work f) r s p q h =
-      let u = one_expr e f (sign Semicolon ∷ r) (sign Semicolon ∷ s) (sign_ends Semicolon refl e r) (sign_ends Semicolon refl f s) cc in
-      let v = u.0 in let t = u.1 in
-      (cc, cc)
+  one_stmt (declare x e) (declare y f) r s p q h = let u = one_ended e f r s cc in let v = u.0 in (cc, u.1)
+  one_stmt (assign x e) (assign y f) r s p q h = let u = one_ended e f r s cc in let v = u.0 in (cc, u.1)
+  one_stmt (work e) (work f) r s p q h = let u = one_ended e f r s cc in (ap work u.0, u.1)
   one_stmt (if_only e b) (if_only f c) r s p q h =
-      let u = one_expr e f (braced_tokens b r) (braced_tokens c s) (brace_ends e b r) (brace_ends f c s) cc in
-      let v = u.0 in let t = u.1 in
-      let k = one_block b c r s cc in
-      let l = k.0 in
+      let u = one_guard e f b c r s cc in
+      let v = u.0 in let k = one_block b c r s u.1 in let l = k.0 in
       (cc, k.1)
   one_stmt (if_only e b) (if_else f c d) r s p q h =
-      let u = one_expr e f (braced_tokens b r) (braced_tokens c (keyword Else ∷ braced_tokens d s)) (brace_ends e b r) (brace_ends f c _) cc in
-      let t = u.1 in
-      absurd (p _ (one_block b c r (keyword Else ∷ braced_tokens d s) cc).1)
+      absurd (p _ (one_block b c r (keyword Else ∷ braced_tokens d s) (one_guard e f b c r (keyword Else ∷ braced_tokens d s) cc).1).1)
   one_stmt (if_else e b d) (if_only f c) r s p q h =
-      let u = one_expr e f (braced_tokens b (keyword Else ∷ braced_tokens d r)) (braced_tokens c s) (brace_ends e b _) (brace_ends f c s) cc in
-      let t = u.1 in
-      absurd (q _ (sym (one_block b c (keyword Else ∷ braced_tokens d r) s cc).1))
+      absurd (q _ (sym (one_block b c (keyword Else ∷ braced_tokens d r) s (one_guard e f b c (keyword Else ∷ braced_tokens d r) s cc).1).1))
   one_stmt (if_else e b d) (if_else f c g) r s p q h =
-      let u = one_expr e f (braced_tokens b (keyword Else ∷ braced_tokens d r)) (braced_tokens c (keyword Else ∷ braced_tokens g s)) (brace_ends e b _) (brace_ends f c _) cc in
-      let v = u.0 in let t = u.1 in
-      let k = one_block b c (keyword Else ∷ braced_tokens d r) (keyword Else ∷ braced_tokens g s) cc in
+      let u = one_guard e f b c (keyword Else ∷ braced_tokens d r) (keyword Else ∷ braced_tokens g s) cc in
+      let v = u.0 in let k = one_block b c (keyword Else ∷ braced_tokens d r) (keyword Else ∷ braced_tokens g s) u.1 in
       let l = k.0 in let m = k.1 in
       let n = one_block d g r s cc in
       let o = n.0 in
       (cc, n.1)
   one_stmt (repeat e b) (repeat f c) r s p q h =
-      let u = one_expr e f (braced_tokens b r) (braced_tokens c s) (brace_ends e b r) (brace_ends f c s) cc in
-      let v = u.0 in let t = u.1 in
-      let k = one_block b c r s cc in
-      let l = k.0 in
+      let u = one_guard e f b c r s cc in
+      let v = u.0 in let k = one_block b c r s u.1 in let l = k.0 in
       (cc, k.1)
   one_stmt (when f es rs) (when g fs ss) r s p q h =
       let u = one_exprs es fs (list_tokens ref_tokens rs (sign Close ∷ sign Semicolon ∷ r)) (list_tokens ref_tokens ss (sign Close ∷ sign Semicolon ∷ s)) tt tt cc in

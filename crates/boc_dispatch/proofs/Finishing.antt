@@ -1,5 +1,5 @@
 -- Finish: a running behaviour ends as its body did.
-use Rattle.std.proofs.Common.{◌≡◌, ℕ, zero, suc, ◌+◌, ◌<◌, ◌≤◌, inl, inr, Bool, true, false, cond, List, [], ◌∷◌, ◌++◌, length, set, get_or, refl, sym, ◌∙◌, ap, subst, arith, ℤ}
+use Rattle.std.proofs.Common.{◌≡◌, ℕ, zero, suc, ◌+◌, ◌<◌, ◌≤◌, inl, inr, Bool, true, false, List, [], ◌∷◌, ◌++◌, length, set, get_or, refl, sym, ◌∙◌, ap, subst, arith, ℤ}
 use Rattle.std.specs.Prelude.{slice_get, nat_lt, Option, Some, None}
 use Rattle.std.specs.Option.{option_map}
 use Rattle.std.specs.Vec.{vec_len, with_items}
@@ -21,9 +21,9 @@ use Rattle.boc_types.specs.runs.Lives.{Pending, Running, Ended, changed}
 use Rattle.boc_types.specs.runs.Legal.{entries, IsAllowed}
 use Rattle.boc_types.specs.runs.Serial.{Behaviour, after_outputs}
 use Rattle.boc_types.specs.runs.Run.{Member, config_of, opening, meaning_of, next_wish, values_after_end, values_written, CanEnd, IsRun}
-use Rattle.boc_types.specs.machine.Stages.{OpenBehaviour, row_at, life_at}
+use Rattle.boc_types.specs.machine.Stages.{row_at, life_at}
 use Rattle.boc_types.specs.machine.Sound.{IsSound}
-use Rattle.boc_types.specs.machine.Steps.{State, at, members, stepped, with_stage, with_behaviour, leaving_on, Finishes}
+use Rattle.boc_types.specs.machine.Steps.{State, at, members, stepped, leaving_on, Finishes}
 use Rattle.boc_types.proofs.Behaviours.{length-after_outputs}
 use Rattle.boc_types.proofs.ChangedItems.{length-changed}
 use Rattle.boc_machine.proofs.Lists.{same_or_not}

@@ -1,11 +1,10 @@
 -- What the calls answer, by what the machine does.
-use Rattle.std.proofs.Common.{◌≡◌, ◌≢◌, ℕ, suc, ◌+◌, ◌<◌, ◌≤◌, Bool, true, false, List, [], ◌∷◌, length, refl, sym, ◌∙◌, ap, subst, arith, add-one}
-use Rattle.std.specs.Prelude.{slice_get, ℤ, Option, Some, None, Result, Ok, Err}
+use Rattle.std.proofs.Common.{◌≡◌, ◌≢◌, ℕ, suc, ◌+◌, ◌<◌, ◌≤◌, Bool, true, false, List, [], length, refl, sym, ◌∙◌, ap, subst, arith, add-one}
+use Rattle.std.specs.Prelude.{slice_get, ℤ, Option, Some, None, Ok, Err}
 use Rattle.std.specs.Option.{option_map}
 use Rattle.boc_types.specs.declared.limits.TheConstants.{MOST_ROWS}
 use Rattle.boc_types.specs.declared.body.Body.{Body}
 use Rattle.boc_types.specs.declared.short.Input.{Input}
-use Rattle.boc_types.specs.declared.program.Program.{Program}
 use Rattle.boc_types.specs.declared.stage.Phase.{Phase}
 use Rattle.boc_types.specs.declared.stage.Phase.TheVariants as phases
 use Rattle.boc_types.specs.declared.stage.Stage.{Stage}
@@ -17,7 +16,7 @@ use Rattle.boc_types.specs.program.Rising.{rising}
 use Rattle.boc_types.specs.runs.Serial.{Behaviour}
 use Rattle.boc_types.specs.runs.Run.{Member, next_wish, meaning_of, wish_at}
 use Rattle.boc_types.specs.machine.Stages.{OpenBehaviour, enqueues, enqueues_at, parent_of}
-use Rattle.boc_types.specs.machine.Steps.{State, at, members, opened, recorded, unrecorded, IsQuiet, Opens, Advances, Owns, Settles, Finishes, IsBlockedAsking}
+use Rattle.boc_types.specs.machine.Steps.{at, members, opened, IsQuiet, Opens, Advances, Owns, IsBlockedAsking}
 use Rattle.boc_types.specs.machine.Turns.{IsEnqueueOf}
 use Rattle.boc_eval.specs.Frames.{UnderWay as Framed, Ran, last_of, last_wish_of, wishes_of}
 use Rattle.boc_eval.specs.Wishes.{wish_of}
@@ -33,9 +32,9 @@ use Rattle.boc_dispatch.specs.declared.answers.Started.TheVariants as started
 use Rattle.boc_dispatch.specs.declared.live.Live.{Live}
 use Rattle.boc_dispatch.specs.declared.machine.Enqueue.{Enqueue}
 use Rattle.boc_dispatch.specs.Underway.{Underway}
-use Rattle.boc_dispatch.specs.Calls.{in_state, IsHandedOut, Begins, IsNextWish, MayAsk, OpensWish, AdvancesChild, EndsRow, FinishesRow, LeavesCown}
-use Rattle.boc_dispatch.specs.Inside.{Parts, state, underway, live_at, open_of, behaviour_of, IsKept, IsAtStage, IsNew, Stays}
-use Rattle.boc_dispatch.specs.Moves.{OpensChild, IsFoundEnqueue, SettlesNext, EndsBehaviour, ReleasesNext}
+use Rattle.boc_dispatch.specs.Calls.{in_state, IsHandedOut, Begins, IsNextWish, MayAsk, OpensWish, AdvancesChild, FinishesRow, LeavesCown}
+use Rattle.boc_dispatch.specs.Inside.{Parts, state, underway, open_of, behaviour_of, IsKept, IsAtStage, IsNew, Stays}
+use Rattle.boc_dispatch.specs.Moves.{IsFoundEnqueue, SettlesNext, EndsBehaviour, ReleasesNext}
 use Rattle.boc_dispatch.proofs.Tables.{at_slot, behaviours_length}
 
 -- another state of the same program

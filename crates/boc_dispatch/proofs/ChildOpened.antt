@@ -1,6 +1,6 @@
 -- A child is opened.
-use Rattle.std.proofs.Common.{◌≡◌, ◌≢◌, ℕ, zero, suc, ◌+◌, ◌-◌, ◌^◌, ◌<◌, ◌≤◌, ◌⊎◌, inl, inr, Bool, true, false, cond, ◌&&◌, ◌||◌, eqb, ltb, List, [], ◌∷◌, ◌++◌, length, map, set, take, get_or, refl, sym, ◌∙◌, ap, subst, arith, length-set, get_or-set_same, get_or-set_other, length-append}
-use Rattle.std.specs.Prelude.{slice_get, slice_index_or, nat_lt, Option, Some, None}
+use Rattle.std.proofs.Common.{◌≡◌, ◌≢◌, ℕ, ◌+◌, ◌^◌, ◌<◌, ◌≤◌, ◌⊎◌, inl, inr, Bool, true, false, cond, ◌&&◌, ◌||◌, eqb, ltb, List, [], ◌∷◌, ◌++◌, length, set, get_or, refl, sym, ◌∙◌, ap, subst, arith, length-set, get_or-set_same, get_or-set_other, length-append}
+use Rattle.std.specs.Prelude.{slice_get, nat_lt, Option, Some, None}
 use Rattle.std.specs.Option.{option_map, option_map_or}
 use Rattle.std.specs.List.{count_by}
 use Rattle.std.proofs.lemmas.Bool.{lt-ltb, le-ltb}
@@ -8,14 +8,12 @@ use Rattle.std.proofs.lemmas.List.{set-get_or}
 use Rattle.std.proofs.lemmas.List.Sums.{sum_by-append, sum_by-cons}
 use Rattle.std.proofs.Math.Seq.{set-append_seam}
 use Rattle.boc_types.specs.declared.limits.TheConstants.{MOST_ROWS}
-use Rattle.boc_types.specs.declared.program.Program.{Program}
 use Rattle.boc_types.specs.declared.stage.Phase.TheVariants as phases
-use Rattle.boc_types.specs.declared.stage.Stage.{Stage}
 use Rattle.boc_types.specs.declared.stage.Stage.TheVariants.{Asking, Recorded}
 use Rattle.boc_types.specs.program.Meaning.{Wish}
 use Rattle.boc_types.specs.program.Rising.{rising}
 use Rattle.boc_types.specs.runs.Lives.{Running}
-use Rattle.boc_types.specs.runs.Run.{Member, state_of, next_wish}
+use Rattle.boc_types.specs.runs.Run.{state_of, next_wish}
 use Rattle.boc_types.specs.machine.Stages.{OpenBehaviour, parent_of, cowns_of, row_of, settled_at, flagged_at, row_at, asks_at, enqueues_at, waits_at, life, life_at, settled, enqueues, asks}
 use Rattle.boc_types.specs.machine.Queues.{times, is_granted, is_first}
 use Rattle.boc_types.specs.machine.Steps.{State, at, queue, members, opened, unrecorded, stepped, with_stage, asking_on, HasNoEnqueue, MayOpen, Opens}
@@ -29,14 +27,14 @@ use Rattle.boc_chain.specs.declared.request.Request.{Request}
 use Rattle.boc_chain.specs.Chain.{Place}
 use Rattle.boc_chain.specs.Chain.{times as times_in}
 use Rattle.boc_dispatch.specs.declared.live.Live.{Live}
-use Rattle.boc_dispatch.specs.Inside.{live_at, open_of, behaviour_of, place_of, exchanged_at, number_at, behaviours_of, queues_of, rows_at, row_or_0, is_taken, Parts, IsKept, HasRooms, state, IsAtStage, IsNew, AreNumbered, AreAtHome, AreInHand, IsChildOf, IsParentOf, AreOfRun, IsMember, IsWished, AreChained, IsRequestOf, AreCounted, awaits}
+use Rattle.boc_dispatch.specs.Inside.{live_at, open_of, place_of, exchanged_at, number_at, behaviours_of, row_or_0, is_taken, Parts, IsKept, HasRooms, state, IsAtStage, IsNew, AreNumbered, AreInHand, IsChildOf, IsParentOf, AreOfRun, IsMember, IsWished, IsRequestOf, AreCounted, awaits}
 use Rattle.boc_dispatch.specs.Moves.{recorded, with_new_child, MayRecord}
-use Rattle.boc_dispatch.specs.Places.{with_child, with_spawn, with_row}
+use Rattle.boc_dispatch.specs.Places.{with_child, with_row}
 use Rattle.boc_dispatch.proofs.Counts.{failing}
 use Rattle.boc_dispatch.proofs.Flagged.{flagging_each, place_with}
 use Rattle.boc_dispatch.proofs.Going.{awaits_same, granted_same}
 use Rattle.boc_dispatch.proofs.Granting.{Tied, AreReady, kept_of}
-use Rattle.boc_dispatch.proofs.Recording.{asks_no_row, asks_enqueue, tied_after, state_after, may_record, rooms_after, e_is}
+use Rattle.boc_dispatch.proofs.Recording.{asks_no_row, tied_after, state_after, may_record, rooms_after, e_is}
 use Rattle.boc_dispatch.proofs.Standing.{open_is}
 use Rattle.boc_dispatch.proofs.Tables.{SamePlaces, live_there, live_here, live_other, live_new, slot_of_open, behaviours_length, behaviours_placed, numbered_changed, numbered_added, behaviours_changed, behaviours_added, taken_changed, taken_added, taken_placed, at_slot, queues_same, queues_length, rows_alike}
 

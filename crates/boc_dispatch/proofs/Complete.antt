@@ -1,7 +1,6 @@
 -- A whole run is a complete log.
-use Rattle.std.proofs.Common.{◌≡◌, ℕ, zero, suc, ◌+◌, ◌<◌, List, [], ◌∷◌, ◌++◌, length, map, refl, sym, ◌∙◌, ap, subst, arith}
-use Rattle.std.specs.Prelude.{slice_get, slice_set, Option, Some, None}
-use Rattle.std.specs.Option.{option_map}
+use Rattle.std.proofs.Common.{◌≡◌, ℕ, zero, suc, ◌+◌, List, [], ◌∷◌, ◌++◌, length, map, refl, sym, ◌∙◌, ap, arith}
+use Rattle.std.specs.Prelude.{slice_get, Option, Some, None}
 use Rattle.std.proofs.lemmas.List.{map-append, length-map}
 use Rattle.std.proofs.lemmas.Option.{slice_get-map}
 use Rattle.boc_types.specs.declared.program.Program.{Program}
@@ -10,7 +9,7 @@ use Rattle.boc_types.specs.declared.event.Event.TheVariants.{Spawn, Start, End}
 use Rattle.boc_types.specs.runs.Lives.{Life, Pending, Running, Ended, changed}
 use Rattle.boc_types.specs.runs.Serial.{behaviour_of}
 use Rattle.boc_types.specs.runs.Legal.{Entry, pending, after, after_all, entries, IsComplete}
-use Rattle.boc_types.specs.runs.Run.{Member, Config, config_after, config_after_all, config_of, opening, next_wish, waiting, spawned_by, started_on, members_after_spawn, MaySpawn, MayHappen, IsRunFrom, IsRun, IsWholeRun}
+use Rattle.boc_types.specs.runs.Run.{Member, Config, config_after, config_after_all, config_of, opening, waiting, spawned_by, started_on, members_after_spawn, MaySpawn, MayHappen, IsRunFrom, IsRun, IsWholeRun}
 
 -- what has become of each row
 abbrev lives_of : List Member → List Life

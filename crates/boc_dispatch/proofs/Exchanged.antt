@@ -1,5 +1,5 @@
 -- A request is exchanged.
-use Rattle.std.proofs.Common.{◌≡◌, ◌≢◌, ℕ, zero, suc, ◌+◌, ◌<◌, ◌≤◌, ◌⊎◌, inl, inr, Bool, true, false, cond, ◌&&◌, ◌||◌, eqb, List, [], ◌∷◌, ◌++◌, length, map, set, take, get_or, refl, sym, ◌∙◌, ap, subst, arith, length-set, get_or-set_same, get_or-set_other}
+use Rattle.std.proofs.Common.{◌≡◌, ◌≢◌, ℕ, zero, suc, ◌+◌, ◌<◌, ◌⊎◌, inl, inr, true, false, cond, ◌&&◌, ◌||◌, List, [], ◌∷◌, ◌++◌, length, set, take, get_or, refl, sym, ◌∙◌, ap, subst, arith, get_or-set_same, get_or-set_other}
 use Rattle.std.specs.Prelude.{slice_get, slice_index_or, nat_lt, Option, Some, None}
 use Rattle.std.specs.Option.{option_map, option_map_or}
 use Rattle.std.specs.List.{count_by}
@@ -8,18 +8,18 @@ use Rattle.boc_types.specs.declared.stage.Stage.{Stage}
 use Rattle.boc_types.specs.declared.stage.Stage.TheVariants.{Asking}
 use Rattle.boc_types.specs.machine.Stages.{settled_at, flagged_at, row_at, ready_row_at, asks_at, enqueues_at, waits_at, settled}
 use Rattle.boc_types.specs.machine.Queues.{times, is_granted, is_first}
-use Rattle.boc_types.specs.machine.Steps.{State, at, queue, unrecorded, stepped, with_stage, with_queue, IsDue, Swaps}
-use Rattle.boc_types.specs.machine.Sound.{IsSound, HasNextRequest}
-use Rattle.boc_machine.proofs.Lists.{same_or_not, not_eq, times-here}
+use Rattle.boc_types.specs.machine.Steps.{State, at, queue, stepped, with_stage, with_queue, Swaps}
+use Rattle.boc_types.specs.machine.Sound.{HasNextRequest}
+use Rattle.boc_machine.proofs.Lists.{same_or_not, not_eq}
 use Rattle.boc_machine.proofs.Asking.{fresh_at, among}
 use Rattle.boc_machine.proofs.Core.{put_here, put_others}
 use Rattle.boc_machine.proofs.Keeps.{keeps_swaps}
 use Rattle.boc_chain.specs.declared.request.Request.{Request}
-use Rattle.boc_chain.specs.Chain.{Place, cown, cowns_of, exchanged_of, list_for, with_change, with_fresh, fresh, one_more}
+use Rattle.boc_chain.specs.Chain.{Place, cowns_of, exchanged_of, with_change, with_fresh, fresh, one_more}
 use Rattle.boc_dispatch.specs.declared.live.Live.{Live}
-use Rattle.boc_dispatch.specs.Inside.{live_at, open_of, place_of, number_at, Parts, IsKept, HasRooms, state, IsAtStage, GoesOn, AreCounted, AreChained, IsRequestOf, awaits, queues_of, exchanged_at}
-use Rattle.boc_dispatch.proofs.Standing.{open_is, place_is, stands_in, cown_there, cown_once}
-use Rattle.boc_dispatch.proofs.Going.{granted_same, awaits_same, gone_on, table_on, here_on, counted_on, same_marks, parts_on, state_on, unrecorded_on, rooms_on, kept_on}
+use Rattle.boc_dispatch.specs.Inside.{live_at, open_of, place_of, number_at, Parts, IsKept, HasRooms, state, IsAtStage, AreCounted, AreChained, IsRequestOf, queues_of, exchanged_at}
+use Rattle.boc_dispatch.proofs.Standing.{open_is, place_is, cown_there, cown_once}
+use Rattle.boc_dispatch.proofs.Going.{granted_same, awaits_same, gone_on, table_on, here_on, counted_on, same_marks, parts_on, state_on, rooms_on, kept_on}
 use Rattle.boc_dispatch.proofs.Flagged.{got_there}
 use Rattle.boc_dispatch.proofs.Tables.{live_other, queue_at, queues_put, queues_length}
 

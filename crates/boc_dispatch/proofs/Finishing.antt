@@ -1,5 +1,5 @@
 -- Finish: a running behaviour ends as its body did.
-use Rattle.std.proofs.Common.{◌≡◌, ℕ, zero, suc, ◌+◌, ◌<◌, ◌≤◌, inl, inr, Bool, true, false, cond, List, [], ◌∷◌, ◌++◌, length, set, get_or, refl, sym, ◌∙◌, ap, subst, arith, ℤ}
+use Rattle.std.proofs.Common.{◌≡◌, ℕ, zero, suc, ◌+◌, ◌<◌, ◌≤◌, inl, inr, Bool, true, false, List, [], ◌∷◌, ◌++◌, length, set, get_or, refl, sym, ◌∙◌, ap, subst, arith, ℤ}
 use Rattle.std.specs.Prelude.{slice_get, nat_lt, Option, Some, None}
 use Rattle.std.specs.Option.{option_map}
 use Rattle.std.specs.Vec.{vec_len, with_items}
@@ -21,9 +21,9 @@ use Rattle.boc_types.specs.runs.Lives.{Pending, Running, Ended, changed}
 use Rattle.boc_types.specs.runs.Legal.{entries, IsAllowed}
 use Rattle.boc_types.specs.runs.Serial.{Behaviour, after_outputs}
 use Rattle.boc_types.specs.runs.Run.{Member, config_of, opening, meaning_of, next_wish, values_after_end, values_written, CanEnd, IsRun}
-use Rattle.boc_types.specs.machine.Stages.{OpenBehaviour, row_at, life_at}
+use Rattle.boc_types.specs.machine.Stages.{row_at, life_at}
 use Rattle.boc_types.specs.machine.Sound.{IsSound}
-use Rattle.boc_types.specs.machine.Steps.{State, at, members, stepped, with_stage, with_behaviour, leaving_on, Finishes}
+use Rattle.boc_types.specs.machine.Steps.{State, at, members, stepped, leaving_on, Finishes}
 use Rattle.boc_types.proofs.Behaviours.{length-after_outputs}
 use Rattle.boc_types.proofs.ChangedItems.{length-changed}
 use Rattle.boc_machine.proofs.Lists.{same_or_not}
@@ -328,12 +328,12 @@ ending d slot row l o kept it means handed spawned = record {
 }
 
 -- what its calls read and leave, where they were handed the values and the outputs as these
-pub finish_calls : (d : Parts) (slot row : ℕ) (l : Live) (o : Ran) (f : Ending d slot row l o (record { items = o.written })) (p p' : Option Live) (held outputs wrote : List ℤ) (values : Vec ℤ Global) (event : Event) (log : Log) (has_cowns : Bool)
+pub finish_calls : (d : Parts) (slot row : ℕ) (l : Live) (o : Ran) (f : Ending d slot row l o (record { items = o.written })) (p p' : Option Live) (held outputs wrote : List ℤ) (values : Vec ℤ Global) (said : Event) (log : Log) (has_cowns : Bool)
     → p ≡ get_or d.live slot p → p' ≡ option_map (in_phase row (phases.Leaving 0)) p → outputs ≡ o.outputs → held ≡ d.values → length held ≡ vec_len values
-    → Has p (λ x. wrote ≡ after_outputs held x.params.items outputs) → event ≡ End row o.ticks o.status (record { items = o.written }) → log ≡ grown d.log event
+    → Has p (λ x. wrote ≡ after_outputs held x.params.items outputs) → said ≡ End row o.ticks o.status (record { items = o.written }) → log ≡ grown d.log said
     → Has p (λ x. has_cowns ≡ nat_lt 0 (length x.cowns.items))
     → FinishCalls d slot row o (record { items = o.written }) p p' (with_items values wrote).items log has_cowns
-finish_calls d slot row l o f p p' held outputs wrote values event log has_cowns reads ends outputs_are held_is long writes event_is notes tells =
+finish_calls d slot row l o f p p' held outputs wrote values said log has_cowns reads ends outputs_are held_is long writes said_is notes tells =
     let written : Has p (λ x. wrote ≡ after_outputs d.values x.params.items o.outputs) = subst (λ (os : List ℤ). Has p (λ x. wrote ≡ after_outputs d.values x.params.items os)) outputs_are
     (subst (λ (vs : List ℤ). Has p (λ x. wrote ≡ after_outputs vs x.params.items outputs)) held_is writes) in
     let same : (with_items values wrote).items ≡ wrote = with_items_is values wrote
@@ -342,6 +342,6 @@ finish_calls d slot row l o f p p' held outputs wrote values event log has_cowns
       reads = reads;
       ends = ends;
       writes = subst (λ (vs : List ℤ). Has p (λ x. vs ≡ after_outputs d.values x.params.items o.outputs)) (sym same) written;
-      notes = notes ∙ ap (grown d.log) event_is;
+      notes = notes ∙ ap (grown d.log) said_is;
       tells = tells;
     }

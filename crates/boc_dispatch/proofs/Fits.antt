@@ -1,17 +1,14 @@
 -- The counts of a sound state fit their types, and there is room in the ready list.
-use Rattle.std.proofs.Common.{◌≡◌, ◌≢◌, ℕ, zero, suc, ◌+◌, ◌*◌, ◌^◌, ◌<◌, ◌≤◌, ◌⊎◌, inl, inr, Bool, true, false, cond, ◌||◌, eqb, List, [], ◌∷◌, ◌++◌, length, map, take, get_or, refl, sym, ◌∙◌, ap, subst, arith}
-use Rattle.std.specs.Prelude.{slice_get, slice_index_or, Option, Some, None}
-use Rattle.std.specs.Option.{option_map, option_map_or}
+use Rattle.std.proofs.Common.{◌≡◌, ℕ, zero, suc, ◌+◌, ◌*◌, ◌^◌, ◌<◌, ◌≤◌, inl, inr, true, false, ◌||◌, eqb, List, [], ◌∷◌, ◌++◌, length, map, get_or, refl, sym, ◌∙◌, ap, subst, arith}
+use Rattle.std.specs.Prelude.{slice_get, Option, Some, None}
 use Rattle.std.specs.List.{sum_by, list_any, AllByRecursion, IsDistinct}
 use Rattle.std.proofs.Math.ListN.{length-append}
-use Rattle.std.proofs.lemmas.List.{length-map}
 use Rattle.std.proofs.lemmas.List.Sums.{sum_by-append, sum_by-cons, sum_by-le}
 use Rattle.std.proofs.lemmas.Map.Steps.{length-le_from_distinct_below}
-use Rattle.boc_types.specs.declared.limits.TheConstants.{MOST_ROWS, MOST_HELD, MOST_COWNS}
+use Rattle.boc_types.specs.declared.limits.TheConstants.{MOST_ROWS}
 use Rattle.boc_types.specs.declared.program.Program.{Program}
 use Rattle.boc_types.specs.declared.event.Event.{Event}
 use Rattle.boc_types.specs.declared.event.Event.TheVariants.{Spawn, Start, End}
-use Rattle.boc_types.specs.declared.stage.Phase.TheVariants as phases
 use Rattle.boc_types.specs.declared.stage.Stage.{Stage}
 use Rattle.boc_types.specs.declared.stage.Stage.TheVariants.{Asking, Recorded}
 use Rattle.boc_types.specs.program.Programs.{cown_count}
@@ -19,15 +16,15 @@ use Rattle.boc_types.specs.declared.event.BrokenRule.TheVariants as rules
 use Rattle.boc_types.specs.runs.Lives as lives
 use Rattle.boc_types.specs.runs.Lives.{changed}
 use Rattle.boc_types.proofs.ChangedItems.{length-changed}
-use Rattle.boc_types.specs.runs.Legal.{pending, Entry, after, after_all, entries, IsAllowed, IsLegalFrom, IsLegal}
-use Rattle.boc_types.specs.runs.Run.{Member, Config, config_of, config_after_all, opening, IsRun, IsRunFrom}
+use Rattle.boc_types.specs.runs.Legal.{pending, Entry, after, after_all, entries, IsAllowed, IsLegalFrom}
+use Rattle.boc_types.specs.runs.Run.{IsRun}
 use Rattle.boc_types.proofs.RunsAreLegal.{run_is_legal}
 use Rattle.boc_types.specs.machine.Stages.{OpenBehaviour, cowns_of}
 use Rattle.boc_types.specs.machine.Queues.{times}
-use Rattle.boc_types.specs.machine.Steps.{State, at, members, recorded}
-use Rattle.boc_types.specs.machine.AlongRows.{cowns_of_rows, steps_of}
+use Rattle.boc_types.specs.machine.Steps.{State, at}
+use Rattle.boc_types.specs.machine.AlongRows.{steps_of}
 use Rattle.boc_machine.proofs.Lists.{same_or_not, not_eq, times-here, times-other}
-use Rattle.boc_types.specs.machine.Sound.{IsSound, HasNextRequest, made, made_at, owed}
+use Rattle.boc_types.specs.machine.Sound.{IsSound, HasNextRequest, made, made_at}
 
 -- ---- events of runs are allowed
 

@@ -1,5 +1,5 @@
 -- A request is flagged.
-use Rattle.std.proofs.Common.{◌≡◌, ◌≢◌, ℕ, zero, suc, ◌+◌, ◌<◌, ◌≤◌, ◌⊎◌, inl, inr, Bool, true, false, cond, ◌||◌, eqb, ltb, List, [], ◌∷◌, length, map, set, take, get_or, refl, sym, ◌∙◌, ap, subst, arith, length-set}
+use Rattle.std.proofs.Common.{◌≡◌, ℕ, zero, suc, ◌+◌, ◌<◌, ◌≤◌, inl, inr, Bool, true, false, cond, ◌||◌, ltb, List, [], ◌∷◌, length, map, set, take, get_or, refl, sym, ◌∙◌, ap, subst, arith}
 use Rattle.std.specs.Prelude.{slice_get, slice_index_or, nat_lt, Option, Some, None}
 use Rattle.std.specs.Option.{option_map}
 use Rattle.std.specs.List.{count_by}
@@ -11,17 +11,17 @@ use Rattle.boc_types.specs.declared.stage.Stage.{Stage}
 use Rattle.boc_types.specs.declared.stage.Stage.TheVariants.{Recorded}
 use Rattle.boc_types.specs.machine.Stages.{standing_at, settled_at, flagged_at, row_at, ready_row_at, asks_at, enqueues_at, waits_at, settled}
 use Rattle.boc_types.specs.machine.Queues.{times, is_granted}
-use Rattle.boc_types.specs.machine.Steps.{State, at, queue, unrecorded, stepped, with_stage, flagging, IsDue, Flags}
-use Rattle.boc_types.specs.machine.Sound.{IsSound, HasNextRequest}
+use Rattle.boc_types.specs.machine.Steps.{State, at, queue, stepped, with_stage, flagging, Flags}
+use Rattle.boc_types.specs.machine.Sound.{HasNextRequest}
 use Rattle.boc_machine.proofs.Lists.{same_or_not, not_eq, times-here}
 use Rattle.boc_machine.proofs.Asking.{taken_there, take_whole, among}
 use Rattle.boc_machine.proofs.Counting.{by_test}
 use Rattle.boc_machine.proofs.Core.{put_here, put_others}
 use Rattle.boc_machine.proofs.Keeps.{keeps_flags}
 use Rattle.boc_chain.specs.declared.request.Request.{Request}
-use Rattle.boc_chain.specs.Chain.{Place, cown, cowns_of, list_for, with_change, with_flagged, flag_one, slots, StandsIn}
+use Rattle.boc_chain.specs.Chain.{Place, cowns_of, list_for, with_change, with_flagged, flag_one, StandsIn}
 use Rattle.boc_dispatch.specs.declared.live.Live.{Live}
-use Rattle.boc_dispatch.specs.Inside.{live_at, open_of, place_of, Parts, IsKept, HasRooms, state, IsAtStage, GoesOn, AreCounted, AreChained, IsRequestOf, awaits, queues_of, exchanged_at}
+use Rattle.boc_dispatch.specs.Inside.{live_at, open_of, place_of, Parts, IsKept, HasRooms, state, IsAtStage, AreCounted, AreChained, IsRequestOf, queues_of, exchanged_at}
 use Rattle.boc_dispatch.proofs.Standing.{open_is, place_is, stands_in, cown_there}
 use Rattle.boc_dispatch.proofs.Going.{granted_same, awaits_same, queues_mapped, gone_on, table_on, here_on, counted_on, requests_on, parts_on, state_on, rooms_on, kept_on}
 use Rattle.boc_dispatch.proofs.Tables.{live_other}

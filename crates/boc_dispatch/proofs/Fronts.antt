@@ -100,8 +100,9 @@ pub record Front (d : Parts) (slot row request : ℕ) (l : Live) : Type 0 where
   pub is : live_at d.live slot ≡ Some l
   pub stage_is : l.stage ≡ Recorded row (phases.Leaving request)
 
-pub front_of : (d : Parts) (slot row request : ℕ) (l : Live) → IsKept d → IsAtStage d slot l (Recorded row (phases.Leaving request)) → Front d slot row request l
-front_of d slot row request l kept it = record { kept = kept; is = it.is; stage_is = it.stage_is }
+-- a behaviour at that stage
+pub due_front : (d : Parts) (slot row request : ℕ) (l : Live) → IsKept d → IsAtStage d slot l (Recorded row (phases.Leaving request)) → Front d slot row request l
+due_front d slot row request l kept it = record { kept = kept; is = it.is; stage_is = it.stage_is }
 
 module _ (d : Parts) (slot row request : ℕ) (l : Live) (f : Front d slot row request l) where
   -- its cown

@@ -1,10 +1,8 @@
 -- What is kept where one behaviour goes on: its stage changes, and how much it awaits.
-use Rattle.std.proofs.Common.{◌≡◌, ◌≢◌, ℕ, zero, suc, ◌+◌, ◌<◌, ◌≤◌, ◌⊎◌, inl, inr, Bool, true, false, cond, ◌&&◌, ◌||◌, eqb, List, [], ◌∷◌, ◌++◌, length, map, set, get_or, refl, sym, ◌∙◌, ap, subst, arith, get_or-set_other, get_or-set_same, length-set}
-use Rattle.std.specs.Prelude.{slice_get, slice_index_or, slice_set, nat_lt, Option, Some, None}
-use Rattle.std.specs.Option.{option_map, option_map_or}
+use Rattle.std.proofs.Common.{◌≡◌, ◌≢◌, ℕ, zero, suc, ◌+◌, ◌<◌, ◌⊎◌, inl, inr, Bool, true, false, cond, ◌&&◌, ◌||◌, List, [], ◌∷◌, length, map, set, get_or, refl, sym, ◌∙◌, ap, subst, arith, get_or-set_other, get_or-set_same, length-set}
+use Rattle.std.specs.Prelude.{slice_get, slice_index_or, nat_lt, Option, Some, None}
 use Rattle.std.specs.List.{count_by}
 use Rattle.std.proofs.lemmas.List.{set-get_or}
-use Rattle.boc_types.specs.declared.program.Program.{Program}
 use Rattle.boc_types.specs.declared.stage.Phase.TheVariants.{Ready}
 use Rattle.boc_types.specs.declared.stage.Stage.{Stage}
 use Rattle.boc_types.specs.declared.stage.Stage.TheVariants.{Recorded}
@@ -13,12 +11,11 @@ use Rattle.boc_types.specs.machine.Queues.{times, is_granted, is_first}
 use Rattle.boc_types.specs.machine.Steps.{State, at, queue, members, unrecorded, stepped, with_stage}
 use Rattle.boc_types.specs.machine.Sound.{IsSound}
 use Rattle.boc_machine.proofs.Core.{put_sum}
-use Rattle.boc_types.specs.runs.Run.{Member}
-use Rattle.boc_machine.proofs.Lists.{same_or_not, not_eq}
+use Rattle.boc_machine.proofs.Lists.{same_or_not}
 use Rattle.boc_chain.specs.declared.request.Request.{Request}
 use Rattle.boc_chain.specs.Chain.{Place}
 use Rattle.boc_dispatch.specs.declared.live.Live.{Live}
-use Rattle.boc_dispatch.specs.Inside.{live_at, open_of, number_at, HasRooms, queues_of, Parts, IsKept, state, AreAtHome, AreInHand, IsChildOf, IsParentOf, AreOfRun, IsMember, IsWished, AreCounted, awaits, AreChained, IsRequestOf, place_of}
+use Rattle.boc_dispatch.specs.Inside.{live_at, open_of, number_at, HasRooms, queues_of, Parts, IsKept, state, AreAtHome, AreInHand, IsChildOf, IsParentOf, AreOfRun, IsMember, IsWished, AreCounted, awaits, AreChained, IsRequestOf}
 use Rattle.boc_dispatch.proofs.Tables.{live_there, live_here, live_other, live_new, queue_at, queues_put, queues_same, number_changed, numbered_changed, behaviours_changed, taken_changed}
 use Rattle.boc_dispatch.proofs.Standing.{open_is, unready_rows}
 

@@ -8,7 +8,7 @@ use Rattle.std.proofs.lemmas.Bool.Decides.{Decides-eqb}
 use Rattle.boc_types.specs.declared.stage.Phase.TheVariants as phases
 use Rattle.boc_types.specs.declared.stage.Stage.{Stage}
 use Rattle.boc_types.specs.declared.stage.Stage.TheVariants.{Asking, Recorded}
-use Rattle.boc_types.specs.machine.Stages.{OpenBehaviour, settled, settled_at, row_at, enqueues_at, waits_at, asks_at, flagged_at}
+use Rattle.boc_types.specs.machine.Stages.{OpenBehaviour, settled, row_at, enqueues_at, waits_at}
 use Rattle.boc_types.specs.machine.Queues.{is_first, all_granted}
 use Rattle.boc_types.specs.machine.Sound.{IsSound}
 use Rattle.boc_types.specs.machine.Steps.{State, at, queue, members, unrecorded, with_behaviour, made_ready, woken, woken_at, woken_if}
@@ -18,7 +18,7 @@ use Rattle.boc_chain.specs.declared.request.Request.{Request}
 use Rattle.boc_dispatch.specs.declared.live.Live.{Live}
 use Rattle.boc_dispatch.specs.Grants.{granted_if, with_granted, SameRows}
 pub use Rattle.boc_dispatch.specs.Grants.{AreReady, Tied}
-use Rattle.boc_dispatch.specs.Inside.{Parts, state, live_at, open_of, behaviours_of, rows_at, row_or_0, exchanged_at, ungranted, awaits, is_taken, AreNumbered, AreInHand, AreChained, AreCounted, IsKept, HasRooms}
+use Rattle.boc_dispatch.specs.Inside.{Parts, state, live_at, open_of, behaviours_of, rows_at, row_or_0, ungranted, awaits, is_taken, AreNumbered, AreInHand, AreChained, AreCounted, IsKept, HasRooms}
 use Rattle.boc_dispatch.specs.Places.{granted}
 use Rattle.boc_dispatch.proofs.Counts.{waited_same, all_are_granted}
 use Rattle.boc_dispatch.proofs.Onward.{Onward, Steady, Follows, follows_set, follows_on, stays, steady, onward_at, numbered_on, home_on, queues_on, rows_on, chained_on, of_run_on, in_hand_on}

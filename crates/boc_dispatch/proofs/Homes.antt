@@ -1,5 +1,5 @@
 -- Rows, and the slots of their behaviours.
-use Rattle.std.proofs.Common.{◌≡◌, ◌≢◌, ℕ, zero, suc, ◌+◌, ◌<◌, ◌≤◌, Bool, true, false, eqb, List, [], ◌∷◌, length, map, get_or, add-one, refl, sym, ◌∙◌, ap, subst, arith}
+use Rattle.std.proofs.Common.{◌≡◌, ◌≢◌, ℕ, zero, suc, ◌+◌, ◌<◌, ◌≤◌, true, false, eqb, List, [], ◌∷◌, length, map, get_or, add-one, refl, sym, ◌∙◌, ap, subst, arith}
 use Rattle.std.specs.Prelude.{slice_get, ℤ, Option, Some, None}
 use Rattle.std.specs.Option.{option_eq}
 use Rattle.std.proofs.lemmas.Bool.Decides.{Decides-eqb}
@@ -17,12 +17,12 @@ use Rattle.boc_dispatch.specs.Calls.{IsHandedOut, IsNextWish, IsLeaving}
 use Rattle.boc_types.specs.declared.stage.Phase.TheVariants as phases
 use Rattle.boc_types.specs.declared.stage.Stage.{Stage}
 use Rattle.boc_types.specs.declared.stage.Stage.TheVariants.{Asking, Recorded}
-use Rattle.boc_types.specs.runs.Lives.{Life, Pending, Running, Ended}
+use Rattle.boc_types.specs.runs.Lives.{Pending, Running, Ended}
 use Rattle.boc_types.specs.runs.Run.{Member}
 use Rattle.boc_types.specs.machine.Stages.{OpenBehaviour, row_at, row_of, life_at, life, enqueues, enqueues_at, parent_of}
-use Rattle.boc_types.specs.machine.Steps.{State, at, members, HasNoEnqueue}
+use Rattle.boc_types.specs.machine.Steps.{at, members, HasNoEnqueue}
 use Rattle.boc_dispatch.specs.declared.live.Live.{Live}
-use Rattle.boc_dispatch.specs.Inside.{Parts, state, underway, live_at, open_of, behaviour_of, IsKept, IsOfRow, IsAtStage}
+use Rattle.boc_dispatch.specs.Inside.{Parts, state, underway, live_at, open_of, behaviour_of, IsKept, IsOfRow}
 use Rattle.boc_dispatch.proofs.Tables.{live_there, at_slot, slot_of_open}
 
 -- the row of a behaviour, as the run has it

@@ -1,20 +1,20 @@
 -- The behaviours of a run fit their program.
-use Rattle.std.proofs.Common.{◌≡◌, ℕ, zero, suc, ◌+◌, ◌<◌, List, [], ◌∷◌, ◌++◌, length, map, refl, sym, ◌∙◌, ap, subst, arith, IsTrue}
-use Rattle.std.specs.Prelude.{slice_get, slice_set, ℤ, Option, Some, None}
+use Rattle.std.proofs.Common.{◌≡◌, ℕ, zero, suc, ◌+◌, List, [], ◌∷◌, ◌++◌, length, map, refl, sym, ◌∙◌, ap, subst}
+use Rattle.std.specs.Prelude.{slice_get, ℤ, Option, Some, None}
 use Rattle.std.specs.Option.{option_map}
 use Rattle.boc_types.specs.declared.body.EndStatus.TheVariants as statuses
 use Rattle.boc_types.specs.declared.program.Program.{Program}
 use Rattle.boc_types.specs.declared.event.Event.{Event}
 use Rattle.boc_types.specs.declared.event.Event.TheVariants.{Spawn, Start, End}
-use Rattle.boc_types.specs.program.Meaning.{Wish, Meaning, meaning, cowns_held}
-use Rattle.boc_types.specs.program.Programs.{cown_count, has_main, program_fits}
+use Rattle.boc_types.specs.program.Meaning.{Wish, Meaning, cowns_held}
+use Rattle.boc_types.specs.program.Programs.{cown_count}
 use Rattle.boc_types.specs.program.Rising.{rising}
-use Rattle.boc_types.specs.program.Signatures.{Signature, signature_of, calls_fit, AllBelow, CountsAre, WishFits, WishesFit}
+use Rattle.boc_types.specs.program.Signatures.{Signature, signature_of, AllBelow, CountsAre, WishFits, WishesFit}
 use Rattle.boc_types.specs.runs.Lives.{Life, Pending, Running, Ended, changed}
-use Rattle.boc_types.specs.runs.Serial.{Behaviour, behaviour_of, main_behaviour, inputs_of, after_outputs}
+use Rattle.boc_types.specs.runs.Serial.{Behaviour, behaviour_of, main_behaviour}
 use Rattle.boc_types.specs.runs.Legal.{Entry}
 use Rattle.boc_types.specs.runs.Run.{Member, Config, config_after, config_after_all, config_of, opening, next_wish, wish_at, meaning_of, waiting, spawned_by, started_on, members_after_spawn, values_after_end, values_written, state_of, MaySpawn, MayHappen, IsRunFrom, IsRun}
-use Rattle.boc_types.proofs.Behaviours.{Named, named, cowns_of_inputs, main_fits, length-after_outputs, initial-length}
+use Rattle.boc_types.proofs.Behaviours.{cowns_of_inputs, main_fits, length-after_outputs, initial-length}
 use Rattle.boc_types.proofs.RunsAreLegal.{Twins, last_offset, whole_meaning, is_meant, meant_fits}
 use Rattle.boc_dispatch.proofs.Complete.{head_kept}
 

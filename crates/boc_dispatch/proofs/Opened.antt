@@ -1,25 +1,24 @@
 -- What a dispatcher has in hand at first.
-use Rattle.std.proofs.Common.{◌≡◌, ◌≢◌, ℕ, zero, suc, ◌+◌, ◌^◌, ◌<◌, ◌≤◌, ◌⊎◌, inl, inr, Bool, true, false, ◌||◌, List, [], ◌∷◌, length, map, set, get_or, replicate, refl, sym, ◌∙◌, ap, subst, arith, length-set, count_by}
-use Rattle.std.specs.Prelude.{slice_get, slice_index_or, ℤ, Option, Some, None}
+use Rattle.std.proofs.Common.{◌≡◌, ◌≢◌, ℕ, zero, suc, ◌^◌, ◌<◌, ◌≤◌, inl, inr, true, false, ◌||◌, List, [], ◌∷◌, length, map, set, replicate, refl, sym, ◌∙◌, ap, subst, arith, length-set}
+use Rattle.std.specs.Prelude.{slice_get, slice_index_or, Option, Some, None}
 use Rattle.std.specs.Option.{option_map, option_map_or}
-use Rattle.boc_types.specs.declared.event.Event.{Event}
 use Rattle.boc_types.specs.declared.event.Event.TheVariants.{Spawn}
 use Rattle.boc_types.specs.declared.program.Program.{Program}
 use Rattle.boc_types.specs.declared.stage.Phase.TheVariants as phases
 use Rattle.boc_types.specs.declared.stage.Stage.TheVariants.{Recorded}
 use Rattle.boc_types.specs.program.Programs.{cown_count, initial_values}
-use Rattle.boc_types.specs.runs.Serial.{Behaviour, main_behaviour}
-use Rattle.boc_types.specs.runs.Run.{Member, waiting}
+use Rattle.boc_types.specs.runs.Serial.{main_behaviour}
+use Rattle.boc_types.specs.runs.Run.{waiting}
 use Rattle.boc_types.specs.machine.Stages.{OpenBehaviour, row_at, asks_at, enqueues_at, waits_at}
-use Rattle.boc_types.specs.machine.Steps.{State, unrecorded, opening_state}
+use Rattle.boc_types.specs.machine.Steps.{unrecorded, opening_state}
 use Rattle.boc_types.specs.machine.Sound.{IsSound}
 use Rattle.boc_machine.proofs.Every.{opening_sound}
 use Rattle.boc_machine.proofs.Lists.{same_or_not}
 use Rattle.boc_chain.specs.declared.request.Request.{Request}
 use Rattle.boc_chain.specs.Chain.{Place}
 use Rattle.boc_dispatch.specs.declared.live.Live.{Live}
-use Rattle.boc_dispatch.specs.Inside.{Parts, state, live_at, find_live, open_of, behaviour_of, place_of, exchanged_at, number_at, row_or_0, is_taken, IsKept, HasRooms, AreNumbered, IsChildOf, IsParentOf, IsRequestOf, IsMember, IsWished}
-use Rattle.boc_dispatch.proofs.Tables.{live_there, live_here, live_other, live_new, find_here, find_none, numbered_added, taken_added}
+use Rattle.boc_dispatch.specs.Inside.{Parts, state, live_at, find_live, open_of, behaviour_of, place_of, exchanged_at, number_at, row_or_0, IsKept, HasRooms, AreNumbered, IsMember}
+use Rattle.boc_dispatch.proofs.Tables.{live_here, live_other, live_new, find_here, taken_added}
 use Rattle.boc_dispatch.proofs.Quiet.{none_taken}
 
 -- main, as it is opened

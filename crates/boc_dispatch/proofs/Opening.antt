@@ -1,12 +1,12 @@
 -- A child is opened, as the code does it: with all memory that it needs, or not at all.
-use Rattle.std.proofs.Common.{◌≡◌, ◌≢◌, ℕ, zero, suc, ◌+◌, ◌-◌, ◌^◌, ◌<◌, ◌≤◌, ◌⊎◌, inl, inr, Bool, true, false, cond, List, [], ◌∷◌, length, set, refl, sym, ◌∙◌, ap, subst, arith}
-use Rattle.std.specs.Prelude.{slice_get, slice_index_or, Option, Some, None, Result, Ok, Err, OnOk, is_err}
-use Rattle.std.specs.Option.{option_map, option_map_or}
+use Rattle.std.proofs.Common.{◌≡◌, ◌≢◌, ℕ, zero, suc, ◌+◌, ◌^◌, ◌<◌, ◌≤◌, inl, inr, true, false, List, [], ◌∷◌, length, refl, sym, ◌∙◌, ap, subst, arith}
+use Rattle.std.specs.Prelude.{slice_index_or, Option, Some, None, Result, Ok, Err, OnOk, is_err}
+use Rattle.std.specs.Option.{option_map}
 use Rattle.std.proofs.lemmas.Bool.{cases_lt}
 use Rattle.boc_types.specs.declared.limits.TheConstants.{MOST_ROWS}
 use Rattle.boc_types.specs.declared.stage.Phase.TheVariants as phases
 use Rattle.boc_types.specs.declared.stage.Stage.TheVariants.{Recorded}
-use Rattle.boc_types.specs.machine.Steps.{State, unrecorded, opened, Opens}
+use Rattle.boc_types.specs.machine.Steps.{State, unrecorded, Opens}
 use Rattle.boc_types.specs.machine.Sound.{IsSound}
 use Rattle.boc_rules.specs.Log.{Log}
 use Rattle.boc_machine.proofs.Lists.{same_or_not}
@@ -15,11 +15,11 @@ use Rattle.boc_chain.specs.Chain.{Place, slots}
 use Rattle.boc_chain.specs.Chain.{times as times_in}
 use Rattle.boc_chain.proofs.Spelled.{times_other}
 use Rattle.boc_dispatch.specs.declared.live.Live.{Live}
-use Rattle.boc_dispatch.specs.Inside.{live_at, place_of, Parts, IsKept, HasRooms, state, underway, IsAtStage, HasInHand, IsNew, AreCounted, IsRequestOf, IsChildOf, IsParentOf}
-use Rattle.boc_dispatch.specs.Moves.{with_table, MayPut, Puts, Records}
+use Rattle.boc_dispatch.specs.Inside.{live_at, place_of, Parts, IsKept, HasRooms, state, underway, IsAtStage, HasInHand, IsNew, AreCounted}
+use Rattle.boc_dispatch.specs.Moves.{with_table, MayPut, Puts}
 use Rattle.boc_dispatch.specs.Places.{with_child}
 use Rattle.boc_dispatch.proofs.Fits.{steps_fit}
-use Rattle.boc_dispatch.proofs.ChildOpened.{ready_parts, E, end, apart, p2_is, e_own, e_slot, opened_rooms, may_put, asking_kept, recorded_kept, end_rooms, opens_asking, opens_recorded}
+use Rattle.boc_dispatch.proofs.ChildOpened.{E, end, apart, p2_is, e_own, e_slot, opened_rooms, may_put, asking_kept, recorded_kept, end_rooms, opens_asking, opens_recorded}
 use Rattle.boc_dispatch.proofs.Standing.{AreLive, lists_live}
 use Rattle.boc_dispatch.proofs.Tables.{SamePlaces, behaviours_length, behaviours_placed, queues_placed, rows_placed, taken_placed}
 

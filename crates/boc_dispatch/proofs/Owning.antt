@@ -10,7 +10,7 @@ use Rattle.boc_types.specs.declared.stage.Stage.{Stage}
 use Rattle.boc_types.specs.declared.stage.Stage.TheVariants.{Asking, Recorded}
 use Rattle.boc_types.specs.runs.Lives.{Pending, Running, Ended}
 use Rattle.boc_types.specs.runs.Run.{state_of as state_of_run}
-use Rattle.boc_types.specs.machine.Stages.{OpenBehaviour, cowns_of, settled, settled_at, flagged_at, row_of, row_at, life, life_at, enqueues, enqueues_at, waits_at, parent_of, asks_at, ready_row_at}
+use Rattle.boc_types.specs.machine.Stages.{OpenBehaviour, cowns_of, settled, settled_at, row_of, row_at, life, life_at, enqueues, enqueues_at, waits_at, parent_of, ready_row_at}
 use Rattle.boc_types.specs.machine.Queues.{all_granted}
 use Rattle.boc_types.specs.machine.Sound.{IsSound}
 use Rattle.boc_types.specs.machine.Steps.{State, at, queue, members, recorded, stepped, with_stage, made_ready, owned, woken, woken_if, Owns}
@@ -21,7 +21,7 @@ use Rattle.boc_machine.proofs.Rows.{life_there}
 use Rattle.boc_machine.proofs.Keeps.{keeps_owns}
 use Rattle.boc_dispatch.specs.declared.live.Live.{Live}
 use Rattle.boc_dispatch.specs.Grants.{with_granted, MayBeGranted, Tied, AreReady}
-use Rattle.boc_dispatch.specs.Inside.{Parts, state, live_at, open_of, behaviours_of, exchanged_at, ungranted, awaits, is_taken, AreNumbered, AreInHand, IsChildOf, IsParentOf, IsKept, HasRooms, GoesOn}
+use Rattle.boc_dispatch.specs.Inside.{Parts, state, live_at, open_of, behaviours_of, ungranted, awaits, is_taken, AreNumbered, AreInHand, IsChildOf, IsParentOf, IsKept, HasRooms, GoesOn}
 use Rattle.boc_dispatch.specs.Places.{in_phase, with_child}
 use Rattle.boc_dispatch.proofs.Counts.{waited_same}
 use Rattle.boc_dispatch.proofs.Onward.{Onward, onward_at, Follows, follows_set, follows_then, stays}

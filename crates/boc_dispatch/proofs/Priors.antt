@@ -1,9 +1,8 @@
 -- Who stands right before a behaviour in a list.
-use Rattle.std.proofs.Common.{◌≡◌, ◌≢◌, ℕ, zero, suc, ◌+◌, ◌<◌, ◌≤◌, ◌⊎◌, inl, inr, Bool, true, false, cond, eqb, List, [], ◌∷◌, ◌++◌, length, map, refl, sym, ◌∙◌, ap, subst, arith}
-use Rattle.std.specs.Prelude.{slice_get, Option, Some, None}
-use Rattle.boc_machine.proofs.Lists.{same_or_not, not_eq}
+use Rattle.std.proofs.Common.{◌≡◌, ◌≢◌, ℕ, ◌<◌, ◌≤◌, ◌⊎◌, inl, inr, true, false, cond, eqb, List, [], ◌∷◌, ◌++◌, refl, sym, ◌∙◌, ap, subst, arith}
+use Rattle.std.specs.Prelude.{Option, Some, None}
+use Rattle.boc_machine.proofs.Lists.{same_or_not}
 use Rattle.boc_chain.specs.declared.request.Request.{Request}
-use Rattle.boc_chain.specs.declared.request.Settled.{Settled}
 use Rattle.boc_chain.specs.declared.request.Settled.TheVariants.{Lone, Linked, Blocked}
 use Rattle.boc_chain.specs.Chain.{times, slots, before, answer_behind, settled_behind, with_settled}
 use Rattle.boc_chain.proofs.Settles.{prior, before_is}

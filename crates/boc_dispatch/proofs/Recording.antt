@@ -1,24 +1,22 @@
 -- A spawn is recorded.
-use Rattle.std.proofs.Common.{◌≡◌, ◌≢◌, ℕ, zero, suc, ◌+◌, ◌-◌, ◌^◌, ◌<◌, ◌≤◌, ◌⊎◌, inl, inr, Bool, true, false, cond, ◌&&◌, ◌||◌, eqb, List, [], ◌∷◌, ◌++◌, length, map, set, take, get_or, refl, sym, ◌∙◌, ap, subst, arith, length-set, get_or-set_same, get_or-set_other, length-append}
-use Rattle.std.specs.Prelude.{slice_get, slice_index_or, nat_lt, Option, Some, None}
+use Rattle.std.proofs.Common.{◌≡◌, ◌≢◌, ℕ, zero, suc, ◌+◌, ◌^◌, ◌<◌, ◌⊎◌, inl, inr, true, false, cond, List, [], ◌∷◌, ◌++◌, length, set, refl, sym, ◌∙◌, ap, subst, arith, length-set, length-append}
+use Rattle.std.specs.Prelude.{slice_get, nat_lt, Option, Some, None}
 use Rattle.std.specs.Option.{option_map, option_map_or}
 use Rattle.std.specs.List.{count_by}
 use Rattle.std.proofs.lemmas.List.{set-get_or}
 use Rattle.std.proofs.lemmas.List.Sums.{get_or-le-sum_by}
-use Rattle.boc_types.specs.declared.event.Event.{Event}
 use Rattle.boc_types.specs.declared.program.Program.{Program}
-use Rattle.boc_types.specs.declared.stage.Phase.TheVariants as phases
 use Rattle.boc_types.specs.declared.stage.Stage.{Stage}
 use Rattle.boc_types.specs.declared.stage.Stage.TheVariants.{Asking, Recorded}
 use Rattle.boc_types.specs.declared.body.Body.{Body}
-use Rattle.boc_types.specs.program.Meaning.{Wish, Meaning, meaning}
+use Rattle.boc_types.specs.program.Meaning.{Wish, meaning}
 use Rattle.boc_types.specs.program.Offsets.{RisesFrom}
 use Rattle.boc_types.proofs.Rising.{meaning_rises}
 use Rattle.boc_types.proofs.Truth.{all_pass}
 use Rattle.boc_types.proofs.RunsAreLegal.{rises_through}
 use Rattle.boc_types.specs.runs.Legal.{IsAllowed, entries}
 use Rattle.boc_types.specs.runs.Lives.{changed}
-use Rattle.boc_types.specs.runs.Run.{Member, config_of, opening, next_wish, wish_at, waiting, IsRun}
+use Rattle.boc_types.specs.runs.Run.{Member, opening, next_wish, wish_at, waiting, IsRun}
 use Rattle.boc_types.specs.runs.Serial as serial
 use Rattle.boc_types.specs.machine.Stages.{OpenBehaviour, settled_at, flagged_at, row_at, asks_at, enqueues_at, asks}
 use Rattle.boc_types.specs.machine.Queues.{times}
@@ -31,9 +29,8 @@ use Rattle.boc_machine.proofs.Asking.{take_whole}
 use Rattle.boc_machine.proofs.Rows.{after_spawn, config_more, with_one_more}
 use Rattle.boc_machine.proofs.Core.{put_sum}
 use Rattle.boc_chain.specs.declared.request.Request.{Request}
-use Rattle.boc_chain.specs.Chain.{Place}
 use Rattle.boc_dispatch.specs.declared.live.Live.{Live}
-use Rattle.boc_dispatch.specs.Inside.{HasRooms, live_at, open_of, behaviour_of, place_of, exchanged_at, number_at, behaviours_of, queues_of, rows_at, row_or_0, is_taken, Parts, state, AreNumbered, AreAtHome, AreInHand, IsChildOf, IsParentOf, AreOfRun, IsMember, IsWished, AreChained, IsRequestOf}
+use Rattle.boc_dispatch.specs.Inside.{HasRooms, live_at, open_of, place_of, exchanged_at, number_at, behaviours_of, rows_at, row_or_0, is_taken, Parts, state, AreNumbered, AreAtHome, AreInHand, IsChildOf, IsParentOf, AreOfRun, IsMember, IsWished, IsRequestOf}
 use Rattle.boc_dispatch.specs.Moves.{recorded, MayRecord}
 use Rattle.boc_dispatch.specs.Places.{with_spawn, with_row, spawn_of}
 use Rattle.boc_dispatch.proofs.Flagged.{flagging_each, place_with}

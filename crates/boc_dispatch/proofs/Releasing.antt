@@ -11,7 +11,7 @@ use Rattle.boc_types.specs.declared.stage.Phase.TheVariants as phases
 use Rattle.boc_types.specs.declared.stage.Stage.{Stage}
 use Rattle.boc_types.specs.declared.stage.Stage.TheVariants.{Asking, Recorded}
 use Rattle.boc_types.specs.declared.limits.TheConstants.{MOST_ROWS}
-use Rattle.boc_types.specs.machine.Stages.{OpenBehaviour, standing, settled_at, flagged_at, row_at, asks_at, enqueues_at, waits_at}
+use Rattle.boc_types.specs.machine.Stages.{OpenBehaviour, standing, flagged_at, row_at, enqueues_at, waits_at}
 use Rattle.boc_types.specs.machine.Queues.{times}
 use Rattle.boc_types.specs.machine.Sound.{IsSound}
 use Rattle.boc_types.specs.machine.Steps.{State, at, queue, recorded, stepped, with_behaviour, with_stage, leaving_on}
@@ -24,7 +24,7 @@ use Rattle.boc_types.specs.declared.step.Step.{Step}
 use Rattle.boc_dispatch.specs.declared.answers.Left.TheVariants as lefts
 use Rattle.boc_dispatch.specs.declared.live.Live.{Live}
 use Rattle.boc_dispatch.specs.Grants.{IsRemoved, IsStarted, IsReleased, LeftAs, Tied, SameRows, Released}
-use Rattle.boc_dispatch.specs.Inside.{Parts, state, live_at, open_of, behaviours_of, number_at, place_of, exchanged_at, is_taken, AreCounted, IsKept, HasRooms}
+use Rattle.boc_dispatch.specs.Inside.{Parts, state, live_at, open_of, behaviours_of, number_at, place_of, is_taken, AreCounted, IsKept, HasRooms}
 use Rattle.boc_dispatch.specs.Places.{Has, in_phase}
 use Rattle.boc_dispatch.proofs.Onward.{Steady, onward_at}
 use Rattle.boc_dispatch.proofs.Tables.{live_there, live_here, at_slot, queue_at, behaviours_length, read_place}

@@ -1,32 +1,31 @@
 -- A request is settled.
-use Rattle.std.proofs.Common.{◌≡◌, ◌≢◌, ℕ, zero, suc, ◌+◌, ◌-◌, ◌<◌, ◌≤◌, ◌⊎◌, inl, inr, Bool, true, false, cond, ◌&&◌, ◌||◌, eqb, List, [], ◌∷◌, ◌++◌, length, map, set, take, get_or, refl, sym, ◌∙◌, ap, subst, arith, length-set, get_or-set_same, get_or-set_other}
+use Rattle.std.proofs.Common.{◌≡◌, ◌≢◌, ℕ, suc, ◌+◌, ◌-◌, ◌<◌, ◌≤◌, inl, inr, Bool, true, false, cond, ◌&&◌, ◌||◌, eqb, List, [], ◌∷◌, ◌++◌, length, map, set, take, get_or, refl, sym, ◌∙◌, ap, subst, arith}
 use Rattle.std.specs.Prelude.{slice_get, slice_index_or, nat_lt, Option, Some, None}
 use Rattle.std.specs.Option.{option_map, option_map_or}
-use Rattle.std.specs.List.{count_by}
 use Rattle.std.proofs.lemmas.Bool.Decides.{Decides-eqb, Decides-ltb}
-use Rattle.std.proofs.lemmas.List.{map-append, set-get_or}
+use Rattle.std.proofs.lemmas.List.{map-append}
 use Rattle.boc_types.specs.declared.stage.Stage.{Stage}
 use Rattle.boc_types.specs.declared.stage.Stage.TheVariants.{Asking}
-use Rattle.boc_types.specs.machine.Stages.{standing_at, settled_at, flagged_at, row_at, ready_row_at, asks_at, enqueues_at, waits_at, settled, flagged}
+use Rattle.boc_types.specs.machine.Stages.{standing_at, settled_at, flagged_at, enqueues_at, waits_at, settled, flagged}
 use Rattle.boc_types.specs.machine.Queues.{times, is_granted, is_first}
 use Rattle.boc_types.specs.machine.Steps.{State, at, queue, stepped, with_stage, IsDue, IsFlaggedBefore, IsBlockedAsking}
-use Rattle.boc_types.specs.machine.Sound.{IsSound, HasNextRequest}
+use Rattle.boc_types.specs.machine.Sound.{HasNextRequest}
 use Rattle.boc_machine.proofs.Lists.{same_or_not, not_eq, no_less}
 use Rattle.boc_machine.proofs.Asking.{fresh_at, among, taken_there}
 use Rattle.boc_machine.proofs.Core.{put_here, put_others}
 use Rattle.boc_machine.proofs.Lawful.{times-take-le}
 use Rattle.boc_chain.proofs.Spelled.{times_same}
 use Rattle.boc_chain.specs.declared.request.Request.{Request}
-use Rattle.boc_chain.specs.Chain.{Place, cown, cowns_of, list_for, with_change, after_settle, with_settled, settle_one, settle_answer, before, slots, StandsIn}
+use Rattle.boc_chain.specs.Chain.{Place, cowns_of, list_for, with_change, after_settle, settle_one, before, slots, StandsIn}
 use Rattle.boc_chain.specs.Chain.{times as times_in}
 use Rattle.boc_dispatch.specs.declared.live.Live.{Live}
-use Rattle.boc_dispatch.specs.Inside.{live_at, open_of, place_of, number_at, Parts, IsKept, state, IsAtStage, AreCounted, AreChained, IsRequestOf, awaits, queues_of, exchanged_at}
+use Rattle.boc_dispatch.specs.Inside.{live_at, open_of, place_of, number_at, Parts, IsKept, state, IsAtStage, AreCounted, AreChained, IsRequestOf, queues_of, exchanged_at}
 use Rattle.boc_dispatch.proofs.Counts.{failing, fails_less}
 use Rattle.boc_dispatch.proofs.Flagged.{place_with, got_there, taken_has, has_some, or_none, or_all}
-use Rattle.boc_dispatch.proofs.Going.{granted_same, awaits_same, queues_mapped, gone_on, table_on, here_on, counted_on, requests_on}
-use Rattle.boc_dispatch.proofs.Priors.{IsFront, IsBehind, IsFree, none_before, one_before, before_split, free_list, stands_behind}
-use Rattle.boc_dispatch.proofs.Standing.{AreLive, open_is, place_is, stands_in, lists_live, cown_there, cown_once}
-use Rattle.boc_dispatch.proofs.Tables.{live_other, queue_at, at_slot}
+use Rattle.boc_dispatch.proofs.Going.{granted_same, queues_mapped, gone_on, table_on, here_on, counted_on, requests_on}
+use Rattle.boc_dispatch.proofs.Priors.{IsFree, none_before, one_before, before_split, free_list, stands_behind}
+use Rattle.boc_dispatch.proofs.Standing.{open_is, place_is, stands_in, lists_live, cown_there, cown_once}
+use Rattle.boc_dispatch.proofs.Tables.{live_other, queue_at}
 
 -- ---- a split of a mapped list
 

@@ -1,16 +1,15 @@
 -- What is kept where a request is settled: its behaviour asks on, or its spawn is recorded.
-use Rattle.std.proofs.Common.{◌≡◌, ◌≢◌, ℕ, zero, suc, ◌+◌, ◌-◌, ◌<◌, ◌≤◌, ◌⊎◌, inl, inr, Bool, true, false, cond, ◌||◌, eqb, ltb, List, [], ◌∷◌, ◌++◌, length, set, take, refl, sym, ◌∙◌, ap, subst, arith, rules}
-use Rattle.std.specs.Prelude.{nat_lt, slice_index_or, Option, Some, None}
+use Rattle.std.proofs.Common.{◌≡◌, ◌≢◌, ℕ, zero, suc, ◌+◌, ◌-◌, ◌<◌, inl, inr, Bool, true, false, cond, ◌||◌, eqb, List, [], ◌∷◌, ◌++◌, length, set, refl, sym, ◌∙◌, ap, subst, arith, rules}
+use Rattle.std.specs.Prelude.{slice_index_or, Option, Some}
 use Rattle.std.proofs.lemmas.Bool.{lt-ltb, le-ltb, eqb-true, eqb-false}
 use Rattle.std.proofs.lemmas.List.{set-get_or}
 use Rattle.boc_types.specs.declared.event.Event.TheVariants as events
 use Rattle.boc_types.specs.declared.stage.Stage.{Stage}
 use Rattle.boc_types.specs.declared.stage.Stage.TheVariants.{Asking, Recorded}
-use Rattle.boc_types.specs.machine.Stages.{row_at, ready_row_at, asks_at, enqueues_at, waits_at, flagged_at, settled_at}
+use Rattle.boc_types.specs.machine.Stages.{row_at, ready_row_at, asks_at, enqueues_at, waits_at}
 use Rattle.boc_types.specs.machine.Steps.{State, stepped, noted, with_stage, flagging, members, asking_on, Settles, IsBlockedAsking}
 use Rattle.boc_types.specs.machine.Steps as steps
 use Rattle.boc_types.specs.machine.Sound.{IsSound}
-use Rattle.boc_types.specs.runs.Run.{IsRun}
 use Rattle.boc_machine.proofs.Asking.{take_whole}
 use Rattle.boc_machine.proofs.Keeps.{keeps_settles}
 use Rattle.boc_chain.specs.declared.request.Request.{Request}
@@ -19,10 +18,10 @@ use Rattle.boc_chain.specs.Chain.{Place, list_for, with_change, after_settle, se
 use Rattle.boc_dispatch.specs.declared.live.Live.{Live}
 use Rattle.boc_dispatch.specs.Inside.{live_at, open_of, Parts, IsKept, HasRooms, state, IsAtStage, HasInHand, AreCounted, awaits}
 use Rattle.boc_dispatch.specs.Moves.{recorded, counted, MayRecord, Records}
-use Rattle.boc_dispatch.specs.Places.{settled, with_row, spawn_of, with_spawn}
+use Rattle.boc_dispatch.specs.Places.{settled, with_row}
 use Rattle.boc_dispatch.proofs.Flagged.{flagging_each}
 use Rattle.boc_dispatch.proofs.Granting.{Tied, kept_of}
-use Rattle.boc_dispatch.proofs.Going.{gone_on, table_on, here_on, new_on, at_home_on, in_hand_on, of_run_on, ready_on, parts_on, state_on, rooms_on, kept_on}
+use Rattle.boc_dispatch.proofs.Going.{gone_on, table_on, here_on, at_home_on, in_hand_on, of_run_on, ready_on, parts_on, state_on, rooms_on, kept_on}
 use Rattle.boc_dispatch.proofs.Priors.{IsFree, lone_none, linked_some, blocked_some, blocked_list}
 use Rattle.boc_dispatch.proofs.Recording.{asks_no_row, tied_after, state_after, may_record, rooms_after, e_is}
 use Rattle.boc_dispatch.proofs.Settled.{requests, first, due, list_is, free_before, first_alone, first_not, blocked, settle_next, settled_counts, settled_queues, settled_chained}

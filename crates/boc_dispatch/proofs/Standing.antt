@@ -1,6 +1,6 @@
 -- Whose requests stand in the lists: by slots, and by numbers.
-use Rattle.std.proofs.Common.{◌≡◌, ◌≢◌, ℕ, zero, suc, ◌+◌, ◌<◌, ◌≤◌, ◌⊎◌, inl, inr, Bool, true, false, cond, eqb, List, [], ◌∷◌, ◌++◌, length, map, set, get_or, refl, sym, ◌∙◌, ap, subst, arith}
-use Rattle.std.specs.Prelude.{slice_get, slice_index_or, slice_set, Option, Some, None}
+use Rattle.std.proofs.Common.{◌≡◌, ◌≢◌, ℕ, zero, suc, ◌+◌, ◌<◌, ◌≤◌, inl, inr, cond, List, [], ◌∷◌, length, map, set, refl, sym, ◌∙◌, ap, subst, arith}
+use Rattle.std.specs.Prelude.{slice_get, slice_index_or, Option, Some, None}
 use Rattle.std.specs.Option.{option_map, option_map_or}
 use Rattle.std.proofs.lemmas.Bool.{cases_lt}
 use Rattle.std.proofs.lemmas.Bool.Decides.{Decides-eqb}
@@ -8,14 +8,13 @@ use Rattle.boc_types.specs.declared.stage.Phase.TheVariants as phases
 use Rattle.boc_types.specs.declared.stage.Stage.TheVariants.{Recorded}
 use Rattle.boc_types.specs.machine.Stages.{OpenBehaviour, cowns_of, standing, standing_at, ready_row, ready_row_at}
 use Rattle.boc_types.specs.machine.Queues.{times}
-use Rattle.boc_types.specs.machine.Steps.{State, at, queue}
-use Rattle.boc_machine.proofs.Lists.{same_or_not, not_eq, times-here, times-other, read_past}
-use Rattle.boc_machine.proofs.Asking.{among}
+use Rattle.boc_types.specs.machine.Steps.{at}
+use Rattle.boc_machine.proofs.Lists.{same_or_not, not_eq, times-here, times-other}
 use Rattle.boc_chain.specs.declared.request.Request.{Request}
-use Rattle.boc_chain.specs.Chain.{Place, cown, list, list_for, with_change, slots, StandsIn}
+use Rattle.boc_chain.specs.Chain.{slots}
 use Rattle.boc_chain.specs.Chain.{times as times_in}
 use Rattle.boc_dispatch.specs.declared.live.Live.{Live}
-use Rattle.boc_dispatch.specs.Inside.{live_at, open_of, number_at, row_or_0, rows_at, place_of, Parts, IsKept, state, AreNumbered, IsRequestOf}
+use Rattle.boc_dispatch.specs.Inside.{live_at, open_of, number_at, row_or_0, rows_at, place_of, Parts, IsKept, state, AreNumbered}
 use Rattle.boc_dispatch.proofs.Tables.{at_slot, queue_at, queues_length, live_there, live_other, rows_same}
 use Rattle.boc_dispatch.proofs.Fits.{no_more_than}
 

@@ -1,31 +1,26 @@
 -- The first of the ready list starts: the state that follows, and what is kept.
-use Rattle.std.proofs.Common.{◌≡◌, ◌≢◌, ℕ, zero, suc, ◌+◌, ◌<◌, ◌≤◌, ◌⊎◌, inl, inr, Bool, true, false, ◌||◌, List, [], ◌∷◌, ◌++◌, length, map, set, get_or, refl, sym, ◌∙◌, ap, subst, arith, length-set}
-use Rattle.std.specs.Prelude.{slice_get, slice_set, slice_index_or, nat_lt, ℤ, Option, Some, None}
+use Rattle.std.proofs.Common.{◌≡◌, ◌≢◌, ℕ, zero, suc, ◌+◌, ◌<◌, ◌≤◌, ◌⊎◌, inl, inr, true, false, ◌||◌, List, [], ◌∷◌, ◌++◌, length, map, set, get_or, refl, sym, ◌∙◌, ap, subst, arith, length-set}
+use Rattle.std.specs.Prelude.{slice_get, slice_index_or, Option, Some, None}
 use Rattle.std.specs.Option.{option_map, option_map_or}
-use Rattle.std.specs.List.{count_by}
-use Rattle.boc_types.specs.declared.event.Event.{Event}
 use Rattle.boc_types.specs.declared.event.Event.TheVariants.{Start}
 use Rattle.boc_types.specs.declared.stage.Phase.TheVariants as phases
 use Rattle.boc_types.specs.declared.stage.Stage.{Stage}
 use Rattle.boc_types.specs.declared.stage.Stage.TheVariants.{Asking, Recorded}
-use Rattle.boc_types.specs.runs.Lives.{Life, Pending, Running, Ended, changed}
+use Rattle.boc_types.specs.runs.Lives.{Pending, Running, changed}
 use Rattle.boc_types.specs.runs.Legal.{IsAllowed, entries}
 use Rattle.boc_types.specs.runs.Run.{Member, Config, config_of, opening, next_wish, started_on, state_of}
-use Rattle.boc_types.specs.machine.Stages.{settled_at, flagged_at, row_at, ready_row_at, life_at, asks_at, enqueues_at, waits_at, settled, enqueues, parent_of}
+use Rattle.boc_types.specs.machine.Stages.{settled_at, flagged_at, row_at, life_at, asks_at, enqueues_at, waits_at, settled, enqueues, parent_of}
 use Rattle.boc_types.specs.machine.Queues.{times}
-use Rattle.boc_types.specs.machine.Steps.{State, at, queue, members, unrecorded, stepped, noted, with_stage, Starts}
+use Rattle.boc_types.specs.machine.Steps.{State, at, members, stepped, noted, with_stage, Starts}
 use Rattle.boc_types.specs.machine.Sound.{IsSound}
-use Rattle.boc_types.specs.program.Programs.{cown_count}
 use Rattle.boc_types.proofs.ChangedItems.{changed_there, set_same, set_other, place_below, length-changed}
 use Rattle.boc_machine.proofs.Lists.{same_or_not, times-here, times-other}
 use Rattle.boc_machine.proofs.Rows.{config_more}
 use Rattle.boc_machine.proofs.Keeps.{keeps_starts}
-use Rattle.boc_chain.specs.declared.request.Request.{Request}
-use Rattle.boc_chain.specs.Chain.{Place}
 use Rattle.boc_rules.specs.Log.{Log, grown}
 use Rattle.boc_dispatch.specs.declared.live.Live.{Live}
 use Rattle.boc_dispatch.specs.Places.{Has, begun}
-use Rattle.boc_dispatch.specs.Inside.{Parts, state, live_at, open_of, behaviour_of, place_of, exchanged_at, number_at, queues_of, rows_at, row_or_0, IsKept, HasRooms, IsOfRow, AreInHand, AreChained, AreCounted, AreOfRun, IsMember, IsWished, awaits}
+use Rattle.boc_dispatch.specs.Inside.{Parts, state, live_at, open_of, place_of, exchanged_at, queues_of, rows_at, row_or_0, IsKept, HasRooms, AreInHand, AreCounted, IsMember, IsWished}
 use Rattle.boc_dispatch.proofs.Tables.{read_place, live_there, live_here, live_other, live_new, at_slot, behaviours_length, numbered_changed, behaviours_changed, number_changed, taken_changed}
 use Rattle.boc_dispatch.proofs.Standing.{open_is, ready_distinct}
 use Rattle.boc_dispatch.proofs.Going.{awaits_same, granted_same}

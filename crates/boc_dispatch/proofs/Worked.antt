@@ -9,7 +9,7 @@ use Rattle.boc_types.specs.declared.program.Program.{Program}
 use Rattle.boc_types.specs.declared.step.Step.{Step}
 use Rattle.boc_types.specs.declared.step.Step.TheVariants as steps
 use Rattle.boc_types.specs.machine.Stages.{OpenBehaviour, ready_row}
-use Rattle.boc_types.specs.machine.Steps.{State, at, Makes, Advances, Leaves, IsQuiet}
+use Rattle.boc_types.specs.machine.Steps.{State, at, Makes, IsQuiet}
 use Rattle.boc_types.specs.machine.Turns.{TakesTurn, Begins as BeginsTurn, Advanced as AdvancedTurn, WaitsToSettle, Opened, Finished, Left as LeftTurn, WaitsToLeave, unless_gone}
 use Rattle.boc_eval.specs.Frames.{UnderWay as Framed, Ran}
 use Rattle.boc_machine.proofs.OneTurn.{advance_makes, leave_makes}

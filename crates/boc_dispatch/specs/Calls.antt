@@ -5,7 +5,6 @@ use Rattle.boc_types.specs.declared.body.Body.{Body}
 use Rattle.boc_types.specs.declared.short.Input.{Input}
 use Rattle.boc_types.specs.declared.stage.Phase.TheVariants.{Leaving as LeavingPhase}
 use Rattle.boc_types.specs.declared.stage.Stage.TheVariants.{Recorded}
-use Rattle.boc_types.specs.declared.step.Step.{Step}
 use Rattle.boc_types.specs.declared.step.Step.TheVariants.{Own}
 use Rattle.boc_types.specs.runs.Lives.{Running}
 use Rattle.boc_types.specs.runs.Run.{Member}

@@ -1,5 +1,5 @@
 -- How arguments are kept.
-use Rattle.std.specs.Prelude.{[], ◌∷◌, ℤ}
+use Rattle.std.specs.Prelude.{[], ℤ}
 use Rattle.arrayvec.specs.ArrayVec.{ArrayVec}
 use Rattle.boc_dispatch.specs.declared.kept_args.List.{List}
 use Rattle.boc_dispatch.specs.declared.kept_args.List.TheVariants.{None, One, More}

@@ -1,11 +1,10 @@
 -- What a step does to the behaviour at a slot.
-use Rattle.std.specs.Prelude.{◌≡◌, ℕ, suc, ◌+◌, ◌-◌, ◌<◌, Bool, true, false, if◌then◌else◌, nat_eq, length, Option, Some, None}
+use Rattle.std.specs.Prelude.{ℕ, suc, ◌+◌, ◌-◌, true, false, if◌then◌else◌, nat_eq, Option, Some, None}
 use Rattle.boc_types.specs.declared.event.Event.{Event}
 use Rattle.boc_types.specs.declared.event.Event.TheVariants.{Spawn}
 use Rattle.boc_types.specs.declared.stage.Phase.{Phase}
 use Rattle.boc_types.specs.declared.stage.Phase.TheVariants as phases
 use Rattle.boc_types.specs.declared.stage.Stage.TheVariants.{Asking, Recorded}
-use Rattle.boc_types.specs.machine.Stages.{row_at}
 use Rattle.boc_types.specs.machine.Steps.{flagging}
 use Rattle.boc_dispatch.specs.declared.live.Live.{Live}
 

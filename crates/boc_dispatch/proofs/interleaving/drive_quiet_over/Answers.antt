@@ -1,5 +1,5 @@
-use Rattle.std.proofs.Common.{◌≡◌, ◌∙◌, ℕ, List, ◌++◌, length, arith, ap, refl, sym, subst}
-use Rattle.std.specs.Prelude.{slice_get, slice_set, Some, None, Err}
+use Rattle.std.proofs.Common.{◌≡◌, ◌∙◌, ℕ, List, ◌++◌, length, arith, ap, sym, subst}
+use Rattle.std.specs.Prelude.{slice_set, Some, None, Err}
 use Rattle.std.proofs.lemmas.Result.{err_from_is_err_and}
 use Rattle.boc_types.specs.declared.program.Program.{Program}
 use Rattle.boc_types.proofs.ChangedItems.{place_below}

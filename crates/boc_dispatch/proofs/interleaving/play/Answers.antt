@@ -2,10 +2,8 @@ use Rattle.std.proofs.Common.{◌≡◌, ℕ, ◌<◌, List, length, get_or, ari
 use Rattle.std.specs.Prelude.{slice_get, slice_set, Some, Err}
 use Rattle.std.proofs.lemmas.Option.{slice_get-get_or, slice_get_read}
 use Rattle.std.proofs.lemmas.Result.{err_from_is_err_and}
-use Rattle.boc_types.specs.declared.program.Program.{Program}
 use Rattle.boc_dispatch.specs.declared.interleaving.DriveFault.{DriveFault}
 use Rattle.boc_dispatch.specs.declared.worker.Worker.{Worker}
-use Rattle.boc_dispatch.specs.Underway.{Underway}
 use Rattle.boc_dispatch.specs.Driving.{IsAt, HasPlayed}
 use Rattle.boc_dispatch.proofs.Driven.{at_first, at_sound, at_fits, at_next, at_stranger, at_full, ends_by}
 use Rattle.boc_dispatch.proofs.interleaving.play.Given.{Over}

@@ -1,4 +1,4 @@
-use Rattle.std.proofs.Common.{◌≡◌, ℕ, zero, suc, ◌∷◌, [], ◌++◌, ◌≤◌, ◌+◌, ◌∙◌, ap, arith, length, length-append, List, max, refl}
+use Rattle.std.proofs.Common.{◌≡◌, ℕ, zero, suc, ◌∷◌, [], ◌++◌, ◌∙◌, ap, arith, length, length-append, List, refl}
 use Rattle.std.specs.Prelude.{Option, None}
 use Rattle.boc_dispatch.specs.declared.live.Live.{Live}
 use Rattle.boc_dispatch.specs.Inside.{live_at}

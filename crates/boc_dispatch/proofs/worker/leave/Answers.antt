@@ -1,8 +1,7 @@
-use Rattle.boc_dispatch.proofs.InPlace.{works_in_place, works_from, fits_in_place, fits_from}
+use Rattle.boc_dispatch.proofs.InPlace.{works_in_place, works_from, fits_in_place}
 use Rattle.boc_dispatch.proofs.OwnTurns.{leaves_fits, stays_fits}
 use Rattle.boc_dispatch.specs.declared.worker.Hand.TheVariants as hands
 use Rattle.boc_dispatch.specs.declared.worker.Turn.TheVariants as turns
-use Rattle.boc_dispatch.specs.declared.worker.Refusal.TheVariants as refusals
 use Rattle.boc_dispatch.proofs.Worked.{leaves_on, leaves_last, waits_to_leave}
 use Rattle.boc_dispatch.proofs.worker.leave.Goals as goal
 

@@ -1,5 +1,4 @@
-use Rattle.std.proofs.Common.{◌≡◌, ◌∙◌, ap, subst, ℕ, sym, true, false}
-use Rattle.boc_types.specs.declared.stage.Phase.{Phase}
+use Rattle.std.proofs.Common.{◌≡◌, ◌∙◌, ap, subst, true, false}
 use Rattle.boc_types.specs.declared.stage.Phase.TheVariants as phases
 use Rattle.boc_types.specs.machine.Stages.{enqueues_at}
 use Rattle.boc_types.specs.declared.stage.Stage.{Stage}

@@ -1,5 +1,5 @@
-use Rattle.std.proofs.Common.{◌≡◌, Bool, true, false, subst, sym, ℕ}
-use Rattle.std.specs.Prelude.{Option, Some, None, Result, Ok}
+use Rattle.std.proofs.Common.{Bool, subst, sym, ℕ}
+use Rattle.std.specs.Prelude.{Option, Result}
 use Rattle.boc_dispatch.specs.Underway.{Underway}
 use Rattle.boc_dispatch.specs.declared.answers.Leaving.{Leaving}
 use Rattle.boc_dispatch.specs.declared.answers.FinishFault.{FinishFault}

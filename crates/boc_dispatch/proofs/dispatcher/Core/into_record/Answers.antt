@@ -1,10 +1,10 @@
-use Rattle.std.proofs.Common.{◌≡◌, ◌∙◌, ap, subst, sym, ℕ}
+use Rattle.std.proofs.Common.{◌∙◌, ap, subst, sym}
 use Rattle.boc_types.specs.machine.Steps.{IsQuiet}
 use Rattle.boc_types.specs.runs.Run.{IsWholeRun}
 use Rattle.boc_types.specs.runs.Records.{IsRecordOf}
 use Rattle.boc_machine.proofs.Every.{whole_run}
 use Rattle.boc_dispatch.specs.Underway.{Underway}
-use Rattle.boc_dispatch.specs.Inside.{parts_of, underway, state}
+use Rattle.boc_dispatch.specs.Inside.{parts_of, state}
 use Rattle.boc_dispatch.proofs.Complete.{whole_is_complete}
 use Rattle.boc_dispatch.proofs.dispatcher.Core.into_record.Goals as goal
 

@@ -1,4 +1,4 @@
-use Rattle.std.proofs.Common.{◌≡◌, ◌↔◌, IsTrue, nat_eq, subst}
+use Rattle.std.proofs.Common.{◌↔◌, IsTrue, nat_eq, subst}
 use Rattle.std.proofs.lemmas.Bool.Decides.{Decides-eqb}
 use Rattle.boc_types.specs.machine.Steps.{IsQuiet}
 use Rattle.boc_dispatch.specs.Underway.{Underway}

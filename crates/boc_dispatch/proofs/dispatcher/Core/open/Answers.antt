@@ -1,5 +1,5 @@
-use Rattle.std.proofs.Common.{◌≡◌, subst, ℕ, refl, sym}
-use Rattle.std.specs.Prelude.{Result, Ok, Err}
+use Rattle.std.proofs.Common.{subst, refl, sym}
+use Rattle.std.specs.Prelude.{Result, Err}
 use Rattle.boc_dispatch.specs.Underway.{Underway}
 use Rattle.boc_dispatch.specs.Calls.{OpensWish}
 use Rattle.boc_dispatch.specs.Inside.{parts_of, underway}

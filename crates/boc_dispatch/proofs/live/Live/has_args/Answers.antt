@@ -1,4 +1,4 @@
-use Rattle.std.proofs.Common.{◌≡◌, ℤ, List, Bool, subst, Decides}
+use Rattle.std.proofs.Common.{◌≡◌, ℤ, List, subst, Decides}
 use Rattle.std.proofs.lemmas.Bool.Decides.{Decides-int_eq}
 use Rattle.std.proofs.lemmas.Slice.Eq.{slice_eq-Decides}
 use Rattle.boc_dispatch.proofs.live.Live.has_args.Goals as goal

@@ -1,4 +1,4 @@
-use Rattle.std.proofs.Common.{◌≡◌, ℕ, true, List, length, sym, ap, subst, arith, ℤ}
+use Rattle.std.proofs.Common.{◌≡◌, true, List, length, sym, ap, subst, arith, ℤ}
 use Rattle.std.specs.Prelude.{Option, vec_capacity}
 use Rattle.std.specs.VecDeque.{deque_capacity}
 use Rattle.boc_types.specs.declared.event.Event.{Event}

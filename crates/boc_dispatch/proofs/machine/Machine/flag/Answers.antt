@@ -1,5 +1,5 @@
-use Rattle.std.proofs.Common.{◌<◌, ℕ, suc, sym, subst, refl, length, arith}
-use Rattle.std.specs.Prelude.{Option, Some, vec_capacity}
+use Rattle.std.proofs.Common.{◌<◌, suc, sym, subst, refl, length, arith}
+use Rattle.std.specs.Prelude.{Option, vec_capacity}
 use Rattle.std.specs.VecDeque.{deque_capacity}
 use Rattle.boc_types.specs.machine.Steps.{flagging, Flags}
 use Rattle.boc_dispatch.specs.declared.live.Live.{Live}

@@ -3,7 +3,7 @@ use Rattle.std.specs.Prelude.{vec_capacity}
 use Rattle.std.specs.VecDeque.{deque_capacity}
 use Rattle.boc_types.specs.declared.step.Step.TheVariants as steps
 use Rattle.boc_dispatch.specs.Inside.{Parts, parts_of, underway, IsKept, HasRooms}
-use Rattle.boc_dispatch.proofs.Fronts.{front_of, low, low_place, may_leave}
+use Rattle.boc_dispatch.proofs.Fronts.{due_front, low, low_place, may_leave}
 use Rattle.boc_dispatch.proofs.Departing.{LetGo, releases_of, unhooked_released, unhooked_makes, passed_may, passed_released, passed_makes, passed_program, blocked_parts, blocked_is}
 use Rattle.boc_dispatch.proofs.Tables.{live_there}
 use Rattle.boc_dispatch.proofs.machine.Machine.leave.Given.{Over}
@@ -13,7 +13,7 @@ use Rattle.boc_dispatch.proofs.machine.Machine.leave.Goals as goal
 pub leave-requires : goal.leave-requires
 leave-requires g c =
     let d = parts_of g.C.Chains.lists g.C.Chains.place c.args.self.now in
-    let f = front_of d c.args.slot c.args.row c.args.request c.requires.due.0 c.requires.sound.kept c.requires.due.1 in
+    let f = due_front d c.args.slot c.args.row c.args.request c.requires.due.0 c.requires.sound.kept c.requires.due.1 in
     record {
       there = low_place d c.args.slot c.args.row c.args.request c.requires.due.0 f;
       granted = may_leave d c.args.slot c.args.row c.args.request c.requires.due.0 f;
@@ -29,7 +29,7 @@ let_go g c = record { lists_are = c.leave.ensures.lists; places = c.leave.ensure
 pub returns-in-Blocked-clause-sound : goal.returns-in-Blocked-clause-sound
 returns-in-Blocked-clause-sound g c =
     let d = parts_of g.C.Chains.lists g.C.Chains.place c.args.self.now in
-    let f = front_of d c.args.slot c.args.row c.args.request c.requires.due.0 c.requires.sound.kept c.requires.due.1 in
+    let f = due_front d c.args.slot c.args.row c.args.request c.requires.due.0 c.requires.sound.kept c.requires.due.1 in
     let s = (goal.at.returns-in-Blocked-clause-sound g c).After-leave in
     let same = blocked_parts d c.args.slot c.args.row c.args.request c.requires.due.0 f (let_gone g s) (let_go g s) c.in-Blocked.ensures.answer in
     record {
@@ -40,14 +40,14 @@ returns-in-Blocked-clause-sound g c =
 pub returns-in-Blocked-clause-releases : goal.returns-in-Blocked-clause-releases
 returns-in-Blocked-clause-releases g c l at_stage =
     let d = parts_of g.C.Chains.lists g.C.Chains.place c.args.self.now in
-    let f = front_of d c.args.slot c.args.row c.args.request l c.requires.sound.kept at_stage in
+    let f = due_front d c.args.slot c.args.row c.args.request l c.requires.sound.kept at_stage in
     let s = (goal.at.returns-in-Blocked-clause-releases g c).After-leave in
     (ap underway (blocked_parts d c.args.slot c.args.row c.args.request l f (let_gone g s) (let_go g s) c.in-Blocked.ensures.answer), blocked_is d c.args.slot c.args.row c.args.request l f (let_gone g s) (let_go g s) c.in-Blocked.ensures.answer)
 
 pub leave_on-requires : goal.leave_on-requires
 leave_on-requires g c =
     let d = parts_of g.C.Chains.lists g.C.Chains.place c.args.self.now in
-    let f = front_of d c.args.slot c.args.row c.args.request c.requires.due.0 c.requires.sound.kept c.requires.due.1 in
+    let f = due_front d c.args.slot c.args.row c.args.request c.requires.due.0 c.requires.sound.kept c.requires.due.1 in
     let s = (goal.at.leave_on-requires g c).After-leave in
     record {
       before = d;
@@ -60,7 +60,7 @@ leave_on-requires g c =
 pub returns-in-Unhooked-clause-releases : goal.returns-in-Unhooked-clause-releases
 returns-in-Unhooked-clause-releases g c l at_stage =
     let d = parts_of g.C.Chains.lists g.C.Chains.place c.args.self.now in
-    let f = front_of d c.args.slot c.args.row c.args.request l c.requires.sound.kept at_stage in
+    let f = due_front d c.args.slot c.args.row c.args.request l c.requires.sound.kept at_stage in
     let s = (goal.at.returns-in-Unhooked-clause-releases g c).After-leave in
     releases_of d (let_gone g s) (parts_of g.C.Chains.lists g.C.Chains.place c.leave_on.new.self) c.args.row l (suc c.args.request) (steps.Unhook c.args.request) c.leave_on.result refl
     (unhooked_makes d c.args.slot c.args.row c.args.request l f (let_gone g s) (let_go g s) c.in-Unhooked.ensures.answer)
@@ -69,7 +69,7 @@ returns-in-Unhooked-clause-releases g c l at_stage =
 pub grant-requires : goal.grant-requires
 grant-requires g c =
     let d = parts_of g.C.Chains.lists g.C.Chains.place c.args.self.now in
-    let f = front_of d c.args.slot c.args.row c.args.request c.requires.due.0 c.requires.sound.kept c.requires.due.1 in
+    let f = due_front d c.args.slot c.args.row c.args.request c.requires.due.0 c.requires.sound.kept c.requires.due.1 in
     let s = (goal.at.grant-requires g c).After-leave in
     passed_may d c.args.slot c.args.row c.args.request c.requires.due.0 f (let_gone g s) (let_go g s) c.in-Passed.next c.in-Passed.ensures.answer (deque_capacity c.args.self.now.ready) c.requires.sound.rooms.ready
 
@@ -77,7 +77,7 @@ grant-requires g c =
 pub overflow_cast-next : goal.overflow_cast-next
 overflow_cast-next g c =
     let d = parts_of g.C.Chains.lists g.C.Chains.place c.args.self.now in
-    let f = front_of d c.args.slot c.args.row c.args.request c.requires.due.0 c.requires.sound.kept c.requires.due.1 in
+    let f = due_front d c.args.slot c.args.row c.args.request c.requires.due.0 c.requires.sound.kept c.requires.due.1 in
     let s = (goal.at.overflow_cast-next g c).After-leave in
     let rooms = c.requires.sound.rooms in
     let may = passed_may d c.args.slot c.args.row c.args.request c.requires.due.0 f (let_gone g s) (let_go g s) c.in-Passed.next c.in-Passed.ensures.answer (deque_capacity c.args.self.now.ready) rooms.ready in
@@ -86,7 +86,7 @@ overflow_cast-next g c =
 pub leave_on-requires-in-Passed : goal.leave_on-requires-in-Passed
 leave_on-requires-in-Passed g c =
     let d = parts_of g.C.Chains.lists g.C.Chains.place c.args.self.now in
-    let f = front_of d c.args.slot c.args.row c.args.request c.requires.due.0 c.requires.sound.kept c.requires.due.1 in
+    let f = due_front d c.args.slot c.args.row c.args.request c.requires.due.0 c.requires.sound.kept c.requires.due.1 in
     let s = (goal.at.leave_on-requires-in-Passed g c).After-leave in
     let rooms = c.requires.sound.rooms in
     record {
@@ -105,7 +105,7 @@ leave_on-requires-in-Passed g c =
 pub returns-in-Passed-clause-releases : goal.returns-in-Passed-clause-releases
 returns-in-Passed-clause-releases g c l at_stage =
     let d = parts_of g.C.Chains.lists g.C.Chains.place c.args.self.now in
-    let f = front_of d c.args.slot c.args.row c.args.request l c.requires.sound.kept at_stage in
+    let f = due_front d c.args.slot c.args.row c.args.request l c.requires.sound.kept at_stage in
     let s = (goal.at.returns-in-Passed-clause-releases g c).After-leave in
     let after = parts_of g.C.Chains.lists g.C.Chains.place c.grant.new.self in
     let answer = c.in-Passed.ensures.answer in

@@ -1,14 +1,9 @@
-use Rattle.std.proofs.Common.{◌≡◌, ◌∙◌, ℕ, ◌+◌, ◌<◌, ◌≤◌, length, ap, subst, sym, false, true, IsTrue, MatchOption, arith, refl}
-use Rattle.std.specs.Prelude.{slice_get, Option, Some, None}
-use Rattle.boc_types.specs.declared.stage.Phase.TheVariants as phases
-use Rattle.boc_types.specs.declared.stage.Stage.{Stage}
-use Rattle.boc_types.specs.declared.stage.Stage.TheVariants.{Asking, Recorded}
-use Rattle.boc_types.specs.machine.Stages.{row_at}
-use Rattle.boc_types.specs.machine.Turns.{IsEnqueueOf}
+use Rattle.std.proofs.Common.{◌≡◌, ◌∙◌, ℕ, ap, subst, sym, MatchOption}
+use Rattle.std.specs.Prelude.{Option, Some, None}
 use Rattle.boc_dispatch.specs.declared.live.Live.{Live}
-use Rattle.boc_dispatch.specs.Calls.{IsHandedOut, IsLeaving}
-use Rattle.boc_dispatch.specs.Inside.{parts_of, state, underway, live_at, IsOfRow, HasInHand}
-use Rattle.boc_dispatch.specs.Moves.{IsFoundEnqueue, IsFoundLeaving}
+use Rattle.boc_dispatch.specs.Calls.{IsLeaving}
+use Rattle.boc_dispatch.specs.Inside.{parts_of, state}
+use Rattle.boc_dispatch.specs.Moves.{IsFoundLeaving}
 use Rattle.boc_dispatch.proofs.Tables.{read_some}
 use Rattle.boc_dispatch.proofs.Homes.{leaving_slot, one_behaviour}
 use Rattle.boc_dispatch.proofs.machine.Machine.leaving.Goals as goal

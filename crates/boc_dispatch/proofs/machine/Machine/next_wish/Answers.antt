@@ -1,4 +1,4 @@
-use Rattle.std.proofs.Common.{◌≡◌, ◌∙◌, ℕ, ◌+◌, ◌≤◌, length, ap, subst, sym, false, true, IsTrue, MatchOption}
+use Rattle.std.proofs.Common.{◌≡◌, ◌∙◌, ℕ, ◌+◌, ◌≤◌, length, ap, subst, sym, false, true, MatchOption}
 use Rattle.std.specs.Prelude.{Option, Some, None}
 use Rattle.std.specs.Borrow.{Bor}
 use Rattle.std.specs.Option.{option_map, option_copied}
@@ -8,7 +8,7 @@ use Rattle.boc_eval.specs.Wishes.{wish_of}
 use Rattle.boc_eval.specs.declared.wish.SpawnWish.{SpawnWish}
 use Rattle.boc_dispatch.specs.declared.live.Live.{Live}
 use Rattle.boc_dispatch.specs.Calls.{IsNextWish}
-use Rattle.boc_dispatch.specs.Inside.{parts_of, underway, live_at, IsOfRow, HasInHand}
+use Rattle.boc_dispatch.specs.Inside.{parts_of, underway, IsOfRow, HasInHand}
 use Rattle.boc_dispatch.proofs.Tables.{read_place, read_some}
 use Rattle.boc_dispatch.proofs.Homes.{has_next_wish, next_wish_means, last_there}
 use Rattle.boc_dispatch.proofs.machine.Machine.next_wish.Goals.{in_default-via-in-Some+else-opens_next, in_default-via-in_default}

@@ -1,5 +1,5 @@
 use Rattle.std.proofs.Common.{◌≡◌, ◌∙◌, ◌+◌, ◌<◌, ◌≤◌, ℕ, List, [], length, sym, ap, subst, arith}
-use Rattle.std.specs.Prelude.{Option, Some, None, slice_index_or, vec_capacity}
+use Rattle.std.specs.Prelude.{Some, None, slice_index_or, vec_capacity}
 use Rattle.std.specs.VecDeque.{deque_capacity}
 use Rattle.arrayvec.specs.ArrayVec.{ArrayVec}
 use Rattle.boc_types.specs.machine.Steps.{unrecorded}

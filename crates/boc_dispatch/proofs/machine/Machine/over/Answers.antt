@@ -1,4 +1,4 @@
-use Rattle.std.proofs.Common.{◌≡◌, ◌≢◌, ◌∷◌, ◌++◌, [], ◌∙◌, ◌+◌, ◌^◌, ◌<◌, ◌≤◌, ℕ, set, List, ap, refl, subst, sym, arith, length, replicate}
+use Rattle.std.proofs.Common.{◌≡◌, ◌≢◌, ◌∷◌, ◌++◌, [], ◌∙◌, ◌+◌, ◌^◌, ◌≤◌, ℕ, set, List, ap, subst, sym, arith, length, replicate}
 use Rattle.std.specs.Prelude.{Option, Some, None, vec_capacity}
 use Rattle.std.specs.VecDeque.{deque_capacity, deque_len}
 use Rattle.boc_types.specs.program.Programs.{cown_count, initial_values}
@@ -8,7 +8,7 @@ use Rattle.boc_types.specs.declared.event.Event.TheVariants.{Spawn}
 use Rattle.boc_chain.specs.Chain.{Place}
 use Rattle.boc_rules.specs.Log.{Log, grown}
 use Rattle.boc_dispatch.specs.declared.live.Live.{Live}
-use Rattle.boc_dispatch.specs.Inside.{Parts, parts_of, state, live_at, IsKept, HasRooms}
+use Rattle.boc_dispatch.specs.Inside.{Parts, state, live_at, IsKept, HasRooms}
 use Rattle.boc_dispatch.proofs.Opened.{IsMain, opened_parts, opened_state, opened_keeps, opened_rooms, nothing_at}
 use Rattle.boc_dispatch.proofs.machine.Machine.over.Given.{Over}
 use Rattle.boc_dispatch.proofs.machine.Machine.over.Goals.{After-len, After-put}

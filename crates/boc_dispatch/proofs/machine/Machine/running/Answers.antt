@@ -1,16 +1,12 @@
-use Rattle.std.proofs.Common.{◌≡◌, ◌∙◌, ℕ, ◌+◌, ◌<◌, ◌≤◌, length, ap, subst, sym, false, true, IsTrue, MatchOption, arith, refl}
-use Rattle.std.specs.Prelude.{slice_get, Option, Some, None}
+use Rattle.std.proofs.Common.{◌≡◌, ◌∙◌, ℕ, ◌<◌, length, ap, subst, sym, false, true, MatchOption}
+use Rattle.std.specs.Prelude.{slice_get, Option}
 use Rattle.boc_types.specs.declared.stage.Phase.TheVariants as phases
-use Rattle.boc_types.specs.declared.stage.Stage.{Stage}
-use Rattle.boc_types.specs.declared.stage.Stage.TheVariants.{Asking, Recorded}
-use Rattle.boc_types.specs.machine.Stages.{row_at}
-use Rattle.boc_types.specs.machine.Turns.{IsEnqueueOf}
+use Rattle.boc_types.specs.declared.stage.Stage.TheVariants.{Recorded}
 use Rattle.boc_types.specs.program.Signatures.{AllBelow}
 use Rattle.boc_types.specs.runs.Serial.{inputs_of}
 use Rattle.boc_dispatch.specs.declared.live.Live.{Live}
-use Rattle.boc_dispatch.specs.Calls.{IsHandedOut, IsLeaving}
-use Rattle.boc_dispatch.specs.Inside.{parts_of, state, underway, live_at, IsOfRow, IsStageAt, HasInHand}
-use Rattle.boc_dispatch.specs.Moves.{IsFoundEnqueue, IsFoundLeaving}
+use Rattle.boc_dispatch.specs.Calls.{IsHandedOut}
+use Rattle.boc_dispatch.specs.Inside.{parts_of, underway, IsStageAt}
 use Rattle.boc_dispatch.proofs.Tables.{read_some}
 use Rattle.boc_dispatch.proofs.Homes.{handed_slot, handed_means, hands_out, kind_there, params_below}
 use Rattle.boc_dispatch.proofs.machine.Machine.running.Goals as goal

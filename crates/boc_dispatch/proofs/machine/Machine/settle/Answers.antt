@@ -1,9 +1,8 @@
-use Rattle.std.proofs.Common.{◌≡◌, ◌∙◌, ◌<◌, ◌≤◌, ℕ, suc, eqb, Bool, true, false, sym, ap, subst, refl, length, arith}
+use Rattle.std.proofs.Common.{◌≡◌, ◌∙◌, ◌<◌, ◌≤◌, suc, eqb, true, false, sym, ap, subst, refl, length}
 use Rattle.std.specs.Prelude.{Option, Some, vec_capacity}
 use Rattle.std.specs.VecDeque.{deque_capacity}
-use Rattle.std.proofs.lemmas.Bool.{eqb-true, eqb-false}
+use Rattle.std.proofs.lemmas.Bool.{eqb-true}
 use Rattle.boc_types.specs.declared.stage.Stage.TheVariants.{Asking}
-use Rattle.boc_types.specs.machine.Steps.{Settles}
 use Rattle.boc_dispatch.specs.declared.live.Live.{Live}
 use Rattle.boc_dispatch.specs.Inside.{Parts, parts_of, state, underway, IsKept, HasRooms, IsAtStage}
 use Rattle.boc_dispatch.specs.Places.{Has, settled}

@@ -1,5 +1,7 @@
 -- What the parser is told, step by step.
 use Rattle.std.proofs.Common.{◌≡◌, ◌∙◌, ◌||◌, ap, ap₂, false}
+use Rattle.std.specs.Prelude.{IfOk, Result}
+use Rattle.std.proofs.lemmas.Result.{IfOk-weaker}
 use Rattle.boc_words.specs.Words.{Told}
 use Rattle.clap.specs.Simple.{app_of_fields}
 use Rattle.clap.specs.Words.{AddsArg, AddsSubcommand, App, Rule, rule_of, with_rule, with_subcommand}
@@ -9,12 +11,17 @@ use Rattle.clap.specs.declared.builder.command.Command.TheOpen.{Command-F}
 use Rattle.clap.specs.declared.builder.command.Command.TheViews.{out-Command}
 
 -- one more argument
-pub told_arg : (old new : Command) (arg : Arg) (app : App) (rule : Rule) → AddsArg old arg new → arg.global ≡ false → rule_of arg ≡ rule → Told old app
+pub told_arg : {old new : Command} {arg : Arg} {app : App} {rule : Rule} → AddsArg old arg new → arg.global ≡ false → rule_of arg ≡ rule → Told old app
     → Told new (with_rule app rule)
-told_arg old new arg app rule added local is told = record {
+told_arg added local is told = record {
   app_is = added.shape local ∙ ap₂ with_rule told.app_is is;
   local = added.globals ∙ ap₂ ◌||◌ told.local local;
 }
+
+-- and the last one, where there is memory for it
+pub told_last : {old : Command} {app : App} {rule : Rule} {E : Type 0} (made : Result Command E) (arg : Arg) → IfOk made (λ new. AddsArg old arg new) → arg.global ≡ false → rule_of arg ≡ rule → Told old app
+    → IfOk made (λ new. Told new (with_rule app rule))
+told_last made arg added local is told = IfOk-weaker made _ _ (λ new one. told_arg one local is told) added
 
 -- one more subcommand
 pub told_subcommand : (old sub new : Command) (app below : App) → AddsSubcommand old sub new → Told old app → Told sub below

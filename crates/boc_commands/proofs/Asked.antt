@@ -19,11 +19,14 @@ use Rattle.boc_types.specs.declared.sharing.Sharing.{Sharing}
 use Rattle.boc_types.specs.runs.Seen.{seen}
 use Rattle.boc_order.specs.declared.report.Profile.{Profile}
 use Rattle.boc_order.specs.Profiles.{IsProfileOf}
+use Rattle.boc_greedy.specs.declared.report.Greedy.{Greedy}
+use Rattle.boc_report.specs.Parts.{part_of}
 use Rattle.boc_types.specs.answers.Answers.{IsAskedPart, IsCheckAnswer, IsReport, IsProfileAnswer, IsWhatIfAnswer, IsSweepAnswer}
 use Rattle.boc_types.specs.plans.Edits.{AllFit, IsFirstUnfit, IsSweep, all_edited}
 use Rattle.boc_types.specs.answers.Texts.{check_text, report_text, sweep_lines}
 use Rattle.boc_types.specs.runs.Records.{Recorded}
 use Rattle.boc_types.specs.text.RecordTexts.{IsTextOf}
+use Rattle.boc_record.specs.Reading.{TakesRecord}
 
 -- the answer, from the rows that were asked about and those after the edits
 pub answered : (edits : List Edit) (sharing kept : Sharing) (asked : Option ℕ) (text : List ℕ) (r : Recorded) (before after : List Row) (made output : List ℕ) → IsTextOf text r
@@ -91,10 +94,10 @@ refused_edits faults.Memory edits rows r before h same spells = absurd h
 refused_edits faults.Source edits rows r before h same spells = absurd h
 refused_edits (faults.Sink gone) edits rows r before h same spells = absurd h
 
--- the report on a profile and its greedy part
-pub is_report : (rows : List Row) (asked : Option ℕ) (profile : Profile) (part : List ℕ) → IsProfileOf rows profile → IsAskedPart rows asked part
-    → IsReport rows asked (report_text profile.work profile.span profile.chain.steps.items profile.starts.items profile.ends.items ++ part)
-is_report rows asked profile part is part_is = record {
+-- the report on a profile and the greedy plan that was made, as it is passed on to be written
+pub is_report : (rows : List Row) (asked : Option ℕ) (profile : Profile) (made plan : Option Greedy) → IsProfileOf rows profile → IsAskedPart rows asked (part_of made) → plan ≡ made
+    → IsReport rows asked (report_text profile.work profile.span profile.chain.steps.items profile.starts.items profile.ends.items ++ part_of plan)
+is_report rows asked profile made plan is part_is same = record {
   starts = profile.starts.items;
   earliest = is.earliest;
   ends = profile.ends.items;
@@ -103,9 +106,9 @@ is_report rows asked profile part is part_is = record {
   span_is = is.span;
   steps = profile.chain.steps.items;
   picked = is.picked;
-  part = part;
-  part_is = part_is;
-  text = ap (λ work. report_text work profile.span profile.chain.steps.items profile.starts.items profile.ends.items ++ part) is.work;
+  part = part_of plan;
+  part_is = subst (λ p. IsAskedPart rows asked (part_of p)) (sym same) part_is;
+  text = ap (λ work. report_text work profile.span profile.chain.steps.items profile.starts.items profile.ends.items ++ part_of plan) is.work;
 }
 
 -- the report on the rows of a record that was read
@@ -140,3 +143,9 @@ leaves_as IsText IsOther (Err fault) old new other left = after (gone_of fault) 
     after : (gone : Option ℕ) → LeavesAfter IsText gone old new → LeavesAfter IsOther gone old new
     after None kept = kept
     after (Some gone) left = (left.0, other left.0 left.1, left.2)
+
+-- what goes out of a record that was read to the end answers it
+pub leaves_read : (IsText : List ℕ → Type 0) (IsAnswer : List ℕ → List ℕ → Type 0) (r : Result (Unit {0}) Fault) (before after old new : Option (List ℕ)) {recorded : Recorded} (read : TakesRecord recorded before after)
+    → ((made : List ℕ) → IsText made → IsAnswer read.text made) → Leaves IsText r old new → Leaves (AnswersInput IsAnswer before after) r old new
+leaves_read IsText IsAnswer r before after old new read answers =
+    leaves_as IsText (AnswersInput IsAnswer before after) r old new (λ made is. record { input = read.text; taken = read.taken; whole = read.over; answers = answers made is })

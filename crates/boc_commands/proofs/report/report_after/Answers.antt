@@ -1,28 +1,13 @@
-use Rattle.std.proofs.Common.{Option, subst, sym}
 use Rattle.std.specs.Prelude.{option_map}
-use Rattle.boc_greedy.specs.declared.report.Greedy.{Greedy}
 use Rattle.boc_types.specs.runs.Seen.{seen}
-use Rattle.boc_types.specs.answers.Answers.{IsAskedPart}
-use Rattle.boc_report.specs.Parts.{part_of}
 use Rattle.boc_commands.proofs.Asked.{is_report, unwritten}
 use Rattle.boc_commands.proofs.report.report_after.Goals as goal
 
 pub returns-clause-written : goal.returns-clause-written
 returns-clause-written g c =
-    let rows = seen c.args.question.now.sharing c.args.question.now.rows in
-    let part = subst (λ (plan : Option Greedy). IsAskedPart rows c.args.workers (part_of plan))
-    (sym c.as_ref.ensures.value) c.in_ok-greedy.ensures.part in (
-      _,
-      is_report rows c.args.workers c.in_ok-profile.profile (part_of
-          (option_map (λ r. r.now) c.as_ref.result)) c.in_ok-profile.ensures part,
-      c.in_ok-write_report.ensures.written,
-    )
+    (_, is_report (seen c.args.question.now.sharing c.args.question.now.rows) c.args.workers c.in_ok-profile.profile _ (option_map (λ r. r.now) c.as_ref.result) c.in_ok-profile.ensures c.in_ok-greedy.ensures.part c.as_ref.ensures.value, c.in_ok-write_report.ensures.written)
 
 pub returns-in_err-write_report-clause-written : goal.returns-in_err-write_report-clause-written
 returns-in_err-write_report-clause-written g c =
-    let rows = seen c.args.question.now.sharing c.args.question.now.rows in
-    let part = subst (λ (plan : Option Greedy). IsAskedPart rows c.args.workers (part_of plan))
-    (sym c.as_ref.ensures.value) c.in_ok-greedy.ensures.part in
     unwritten _ _ c.in_err-write_report.field-0.0 _ _ _ c.from_residual-in_err-write_report.ensures.1
-    (is_report rows c.args.workers c.in_ok-profile.profile (part_of
-    (option_map (λ r. r.now) c.as_ref.result)) c.in_ok-profile.ensures part) c.in_err-write_report.ensures.written
+    (is_report (seen c.args.question.now.sharing c.args.question.now.rows) c.args.workers c.in_ok-profile.profile _ (option_map (λ r. r.now) c.as_ref.result) c.in_ok-profile.ensures c.in_ok-greedy.ensures.part c.as_ref.ensures.value) c.in_err-write_report.ensures.written

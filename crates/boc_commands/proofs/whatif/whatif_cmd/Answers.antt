@@ -1,7 +1,7 @@
 use Rattle.std.proofs.Common.{ℕ, ◌∙◌, refl, subst}
 use Rattle.boc_types.specs.text.RecordTexts.{IsTextOf}
 use Rattle.boc_commands.specs.Commands.{CountsSource}
-use Rattle.boc_commands.proofs.Asked.{answered, leaves_as, told, refused_edits, refuses_as}
+use Rattle.boc_commands.proofs.Asked.{answered, leaves_read, told, refused_edits, refuses_as}
 use Rattle.boc_commands.proofs.Passed.{wants_edits}
 use Rattle.boc_commands.proofs.whatif.whatif_cmd.Goals as goal
 
@@ -17,16 +17,10 @@ returns-in_err-edit_all-clause-refused g c =
 pub returns-clause-written : goal.returns-clause-written
 returns-clause-written g c =
     let asked = c.in_ok-rows.ensures.rows_or_fault in
-    let read = asked.1 in
-    leaves_as _ _ c.report_after.result _ _ (λ text report. record {
-      input = read.text;
-      taken = read.taken;
-      whole = read.over;
-      answers = answered c.args.edits.now c.args.sharing c.edit_all.new.question.sharing c.args.workers read.text asked.0
-          c.in_ok-question.question.rows c.edit_all.new.question.rows text text
-          read.text_of (c.in_ok-question.ensures.rows ∙ asked.2) c.in_ok-edit_all.ensures.fit c.in_ok-edit_all.ensures.rows
-          (c.in_ok-edit_all.ensures.sharing ∙ c.in_ok-question.ensures.sharing) report refl;
-    }) c.report_after.ensures.written
+    leaves_read _ _ c.report_after.result _ _ _ _ asked.1 (λ text report. answered c.args.edits.now c.args.sharing c.edit_all.new.question.sharing c.args.workers asked.1.text asked.0
+    c.in_ok-question.question.rows c.edit_all.new.question.rows text text
+    asked.1.text_of (c.in_ok-question.ensures.rows ∙ asked.2) c.in_ok-edit_all.ensures.fit c.in_ok-edit_all.ensures.rows
+    (c.in_ok-edit_all.ensures.sharing ∙ c.in_ok-question.ensures.sharing) report refl) c.report_after.ensures.written
 
 pub returns-clause-refused : goal.returns-clause-refused
 returns-clause-refused g c = wants_edits c.args.edits.now c.report_after.result _ c.report_after.ensures.refused

@@ -15,13 +15,13 @@ returns-in_err-answer-clause-refused g c =
 pub returns-clause-written : goal.returns-clause-written
 returns-clause-written g c =
     let run = c.in_ok-answer.ensures in
-    leaves_as (IsTrueReport (seen c.args.sharing c.rows.result.now) c.args.workers) _ c.true_report.result _ _ (λ text report.
+    leaves_as (IsTrueReport (seen c.args.sharing c.into_rows.result) c.args.workers) _ c.true_report.result _ _ (λ text report.
     answers_text (IsTimeAnswer c.args.sharing c.args.workers) _ _ c.in_ok-text.text.items c.deref.result.now text text c.in_ok-text.ensures.text
     c.deref.ensures.value refl
     (record {
       recorded = c.in_ok-answer.answer.record;
       run = run.0;
-      report = subst (λ (rows : List Row). IsTrueReport (seen c.args.sharing rows) c.args.workers text) c.rows.ensures.value report;
+      report = subst (λ (rows : List Row). IsTrueReport (seen c.args.sharing rows) c.args.workers text) c.into_rows.ensures.value report;
     }) run.1) c.true_report.ensures.written
 
 pub returns-clause-refused : goal.returns-clause-refused

@@ -13,13 +13,13 @@ use Rattle.boc_greedy.specs.Stages.{IsAt}
 use Rattle.boc_greedy.specs.Queues.{Entry, IsIn}
 use Rattle.boc_greedy.specs.Simulating.{IsOn, IsBusy, Kept}
 use Rattle.boc_greedy.proofs.Puts.{Restages, other_stage, stage_stays, not_same, left_same}
-use Rattle.boc_greedy.proofs.Queued.{Popped}
+use Rattle.boc_greedy.proofs.Queued.{Taken}
 use Rattle.boc_greedy.proofs.Standing.{there}
 
 module _ (rows : List Row) (hr : IsRows rows) (p end : ℕ) (starts workers : List ℕ) (stages : List Stage) (first : List ℕ) (queue : List Entry) (idle t : ℕ)
     (k : Kept rows p end starts workers stages first queue idle t)
     (r : ℕ) (stages' : List Stage) (rest : List Entry) (idle' : ℕ) (due : IsIn queue t r) (none_left : length rows ≤ slice_index first r)
-    (sg : Restages stages stages' r Over) (po : Popped queue rest r) (is_set : bit_at idle' (worker_of workers r) ≡ 1)
+    (sg : Restages stages stages' r Over) (po : Taken queue rest r) (is_set : bit_at idle' (worker_of workers r) ≡ 1)
     (others : (v : ℕ) → v ≢ worker_of workers r → bit_at idle' v ≡ bit_at idle v) where
   is_busy : IsBusy rows starts stages t r (slice_index first r) t
   is_busy = k.busy t r due

@@ -9,17 +9,16 @@ use Rattle.boc_greedy.specs.declared.frontier.Stage.{Stage}
 use Rattle.boc_greedy.specs.declared.frontier.Stage.TheVariants.{Unspawned, Waiting, UnderWay, Over}
 use Rattle.boc_greedy.specs.Stages.{IsAt}
 use Rattle.boc_greedy.specs.Families.{IsNextChild}
-use Rattle.boc_greedy.specs.Queues.{Entry, IsIn}
+use Rattle.boc_greedy.specs.Queues.{Entry, IsIn, IsPutOff}
 use Rattle.boc_greedy.specs.Simulating.{IsOn, IsBusy, AreLeft, Kept}
 use Rattle.boc_greedy.proofs.Puts.{Puts, Restages, other_stage, stage_stays, not_same, left_same}
-use Rattle.boc_greedy.proofs.Queued.{Popped, Pushed}
 use Rattle.boc_greedy.proofs.Standing.{there, offset_low}
 
 module _ (rows : List Row) (hr : IsRows rows) (p end : ℕ) (starts workers : List ℕ) (stages : List Stage) (first : List ℕ) (queue : List Entry) (idle t : ℕ)
     (k : Kept rows p end starts workers stages first queue idle t)
-    (r c child change : ℕ) (stages' : List Stage) (first' : List ℕ) (rest queue' : List Entry)
+    (r c child change : ℕ) (stages' : List Stage) (first' : List ℕ) (queue' : List Entry)
     (due : IsIn queue t r) (c_is : slice_index first r ≡ c) (c_there : c < length rows) (sg : Restages stages stages' c Waiting) (pf : Puts first first' r child)
-    (po : Popped queue rest r) (pq : Pushed rest queue' change r) (next : IsNextChild rows (parent_of rows c) (c + 1) child)
+    (po : IsPutOff queue r change queue') (next : IsNextChild rows (parent_of rows c) (c + 1) child)
     (spawns : child < length rows → change ≡ start_of starts r + offset_of rows child) (ends : length rows ≤ child → change ≡ start_of starts r + ticks_of rows r) where
   is_busy : IsBusy rows starts stages t r c t
   is_busy = rw c_is at (k.busy t r due)
@@ -74,15 +73,14 @@ module _ (rows : List Row) (hr : IsRows rows) (p end : ℕ) (starts workers : Li
 
   on_after : (a : ℕ) → IsOn p starts workers queue idle t a → IsOn p starts workers queue' idle t a
   on_after a o = elim (cases_eq a r) [
-    | inl same ↦ record { begun = o.begun; below = o.below; taken = o.taken; change = change; queued = rw same pq.here }
-    | inr ne ↦ record { begun = o.begun; below = o.below; taken = o.taken; change = o.change; queued = pq.stays o.change a (po.stays o.change a ne o.queued) }
+    | inl same ↦ record { begun = o.begun; below = o.below; taken = o.taken; change = change; queued = rw same po.here }
+    | inr ne ↦ record { begun = o.begun; below = o.below; taken = o.taken; change = o.change; queued = po.stays o.change a ne o.queued }
   ]
 
   busy_after : (at q : ℕ) → IsIn queue' at q → IsBusy rows starts stages' t q (slice_index first' q) at
-  busy_after at q i = elim (pq.was at q i) [
+  busy_after at q i = elim (po.was at q i) [
     | inl e ↦ rw (e.0, e.1, pf.at) (record { under_way = runs_on r is_busy.under_way; ahead = change_from; spawns = spawns; ends = ends })
-    | inr old ↦ (
-        let m = po.was at q old in
+    | inr m ↦ (
         let y = k.busy at q m.0 in
         rw (pf.others q m.1) (record { under_way = runs_on q y.under_way; ahead = y.ahead; spawns = y.spawns; ends = y.ends }))
   ]

@@ -1,5 +1,5 @@
 -- The queue of what changes next for the rows that are under way.
-use Rattle.std.specs.Prelude.{◌≡◌, ℕ, ◌≤◌, List, Some, slice_get, nat_eq}
+use Rattle.std.specs.Prelude.{◌≡◌, ◌≢◌, ℕ, ◌≤◌, ◌⊎◌, List, Some, slice_get, nat_eq}
 use Rattle.std.specs.List.{Contains, count_by}
 use Rattle.std.specs.declared.cmp.Ordering.{Ordering}
 use Rattle.std.specs.declared.cmp.Reverse.{Reverse}
@@ -30,3 +30,10 @@ IsOnTop queue tick r = slice_get queue 0 ≡ Some (record { 0 = (tick, r) })
 pub record IsQueue (queue : List Entry) : Type 0 where
   pub ordered : IsHeap entry_order queue
   pub once : (r : ℕ) → entries_of r queue ≤ 1
+
+-- row r stands in the later queue with this tick, and each other row as before
+pub record IsPutOff (queue : List Entry) (r tick : ℕ) (later : List Entry) : Type 0 where
+  pub is_queue : IsQueue later
+  pub here : IsIn later tick r
+  pub was : (at q : ℕ) → IsIn later at q → ((at ≡ tick) × (q ≡ r)) ⊎ (IsIn queue at q × (q ≢ r))
+  pub stays : (at q : ℕ) → q ≢ r → IsIn queue at q → IsIn later at q

@@ -52,8 +52,8 @@ pub fn greedy_over(
     let mut simulation = Simulation::new(alloc, rows, waits, &followers, p)?;
     simulation.give_all(rows)?;
     while let Some((tick, row)) = simulation.next_change() {
-        simulation.advance(rows, tick, row)?;
-        simulation.change_all(rows)?;
+        simulation.advance(rows, tick, row);
+        simulation.change_all(rows);
         simulation.give_all(rows)?;
     }
     let ends = ends_of(alloc, rows, &simulation.starts)?;

@@ -4,7 +4,7 @@ ghost use Rattle.std.specs.Prelude.{◌≡◌, ℕ, ◌+◌, ◌<◌, ◌≤◌,
 ghost use Rattle.std.specs.BinaryHeap.{heap_items};
 ghost use Rattle.boc_types.specs.runs.Rows.{IsRows, offset_of, ticks_of};
 ghost use Rattle.boc_order.specs.Waits.{AreWaits, AreFollowers};
-ghost use Rattle.boc_greedy.specs.Queues.{IsQueue, IsIn, IsOnTop};
+ghost use Rattle.boc_greedy.specs.Queues.{IsQueue, IsIn, IsOnTop, IsPutOff};
 ghost use Rattle.boc_greedy.specs.Simulating.{later, IsLeastIdle, steps_of_all};
 ghost use Rattle.boc_greedy.specs.Stepping.{IsStepping, IsGiving, IsSettled, IsLow};
 
@@ -33,6 +33,16 @@ fn change_of(rows: &SeenRows, start: u64, row: u32, child: u32) -> u64
         start + u64::from(rows.offset(child as usize))
     } else {
         start + u64::from(rows.ticks(row as usize))
+    }
+}
+
+// Has the row on top of the queue change next at this tick.
+fn put_off(queue: &mut BinaryHeap<Reverse<(u64, u32)>>, tick: u64)
+    ensures { (before row : ℕ) → IsQueue (heap_items queue.old) → IsOnTop (heap_items queue.old) before row → IsPutOff (heap_items queue.old) row tick (heap_items queue.new) }
+{
+    if let Some(mut top) = queue.peek_mut() {
+        let Reverse((_, row)) = *top;
+        *top = Reverse((tick, row));
     }
 }
 
@@ -136,28 +146,26 @@ impl<'a> Simulation<'a> {
     }
 
     // What changes next for the row on top: it spawns its next child, or ends.
-    fn change(&mut self, rows: &SeenRows, row: u32) -> Result<(), AllocError>
+    fn change(&mut self, rows: &SeenRows, row: u32)
         requires shape { IsRows rows.now }
         requires stepping { IsStepping rows.now self.old }
         requires top { IsOnTop (heap_items self.old.queue) self.old.tick row }
         ensures workers { self.new.p ≡ self.old.p }
         ensures tick { self.new.tick ≡ self.old.tick }
-        ensures stepping { OnOk result (IsStepping rows.now self.new) }
-        ensures fewer { OnOk result (steps_of_all self.new.frontier.stages.items < steps_of_all self.old.frontier.stages.items) }
+        ensures stepping { IsStepping rows.now self.new }
+        ensures fewer { steps_of_all self.new.frontier.stages.items < steps_of_all self.old.frontier.stages.items }
     {
         let child = self.family.first[row as usize];
-        self.queue.pop();
         if (child as usize) < rows.len() {
             self.frontier.spawn(rows, child);
             let next = self.family.next[child as usize];
             self.family.first[row as usize] = next;
             let change = change_of(rows, self.starts[row as usize], row, next);
-            self.queue.push(Reverse((change, row)))?;
-            Ok(())
+            put_off(&mut self.queue, change);
         } else {
+            self.queue.pop();
             self.frontier.end(rows, row);
             self.idle = with_bit(self.idle, self.workers[row as usize]);
-            Ok(())
         }
     }
 
@@ -173,36 +181,35 @@ impl<'a> Simulation<'a> {
     }
 
     /// All that changes at this tick.
-    pub fn change_all(&mut self, rows: &SeenRows) -> Result<(), AllocError>
+    pub fn change_all(&mut self, rows: &SeenRows)
         requires shape { IsRows rows.now }
         requires stepping { IsStepping rows.now self.old }
         requires low { IsLow rows.now self.old }
         ensures workers { self.new.p ≡ self.old.p }
-        ensures giving { OnOk result (IsGiving rows.now self.new) }
-        ensures no_more { OnOk result (steps_of_all self.new.frontier.stages.items ≤ steps_of_all self.old.frontier.stages.items) }
+        ensures giving { IsGiving rows.now self.new }
+        ensures no_more { steps_of_all self.new.frontier.stages.items ≤ steps_of_all self.old.frontier.stages.items }
     {
         while let Some((tick, row)) = self.next_change() {
             if tick != self.tick {
-                return Ok(());
+                return;
             }
-            self.change(rows, row)?;
+            self.change(rows, row);
         }
-        Ok(())
     }
 
     /// Goes to the tick at which something changes next, and makes the change for this row.
-    pub fn advance(&mut self, rows: &SeenRows, tick: u64, row: u32) -> Result<(), AllocError>
+    pub fn advance(&mut self, rows: &SeenRows, tick: u64, row: u32)
         requires shape { IsRows rows.now }
         requires settled { IsSettled rows.now self.old }
         requires top { IsOnTop (heap_items self.old.queue) tick row }
         requires least { (other r : ℕ) → IsIn (heap_items self.old.queue) other r → tick ≤ other }
         ensures workers { self.new.p ≡ self.old.p }
-        ensures stepping { OnOk result (IsStepping rows.now self.new) }
-        ensures low { OnOk result (IsLow rows.now self.new) }
-        ensures fewer { OnOk result (steps_of_all self.new.frontier.stages.items < steps_of_all self.old.frontier.stages.items) }
+        ensures stepping { IsStepping rows.now self.new }
+        ensures low { IsLow rows.now self.new }
+        ensures fewer { steps_of_all self.new.frontier.stages.items < steps_of_all self.old.frontier.stages.items }
     {
         self.tick = tick;
         self.moments += 1;
-        self.change(rows, row)
+        self.change(rows, row);
     }
 }

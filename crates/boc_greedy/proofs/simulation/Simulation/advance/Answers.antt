@@ -1,5 +1,4 @@
 use Rattle.std.proofs.Common.{◌+◌, ◌<◌, arith}
-use Rattle.std.proofs.lemmas.Result.{on_ok_weaker}
 use Rattle.boc_types.specs.declared.limits.TheConstants.{MOST_TICKS}
 use Rattle.boc_greedy.specs.Simulating.{later}
 use Rattle.boc_greedy.proofs.Queued.{on_top}
@@ -32,5 +31,4 @@ change-requires-clause-stepping c =
 pub returns-clause-low : goal.returns-clause-low
 returns-clause-low c =
     let g = c.requires.settled.giving in
-    on_ok_weaker c.change.result
-    (λ d. omega (arith, c.change.ensures.tick, d, change_soon _ c.requires.shape _ _ _ _ _ _ _ _ _ g.kept c.args.tick c.args.row (on_top _ _ _ c.requires.top), g.low)) c.change.ensures.fewer
+    omega (arith, change_soon _ c.requires.shape _ _ _ _ _ _ _ _ _ g.kept c.args.tick c.args.row (on_top _ _ _ c.requires.top), g.low)

@@ -7,7 +7,7 @@ use Rattle.boc_greedy.specs.Simulating.{later}
 use Rattle.boc_greedy.proofs.Puts.{puts, restages, weight_set}
 use Rattle.boc_greedy.proofs.Reading.{read_at}
 use Rattle.boc_greedy.proofs.Changing.{is_due}
-use Rattle.boc_greedy.proofs.Queued.{popped, pushed}
+use Rattle.boc_greedy.proofs.Queued.{popped}
 use Rattle.boc_greedy.proofs.Spawning as spawning
 use Rattle.boc_greedy.proofs.Ending as ending
 use Rattle.boc_greedy.proofs.simulation.Simulation.change.Goals as goal
@@ -56,8 +56,8 @@ with_bit-self-requires c =
     let worker = read_at c.args.self.now.workers.items c.args.row c.index-else-child-len.result.now (omega (arith, d.there, k.staged.workers_whole)) c.index-else-child-len.ensures in
     omega (arith, worker, (k.under_way c.args.row d.under_way).below, k.staged.few)
 
-pub returns-in_ok-push-clause-stepping : goal.returns-in_ok-push-clause-stepping
-returns-in_ok-push-clause-stepping c =
+pub returns-then-child-len-clause-stepping : goal.returns-then-child-len-clause-stepping
+returns-then-child-len-clause-stepping c =
     let shape = c.requires.shape in
     let s = c.args.self.now in
     let i = c.requires.stepping in
@@ -73,20 +73,19 @@ returns-in_ok-push-clause-stepping c =
     let next : IsNextChild c.args.rows.now (parent_of c.args.rows.now kid) (kid + 1) c.index-next.result.now = rw next_at at (i.are_next.child kid pos kid_there) in
     let sg = restages s.frontier.stages.items c.spawn.new.self.stages.items kid Waiting (omega (arith, kid_there, k.staged.stages_whole)) c.spawn.ensures.stages in
     let pf = puts s.family.first.items r c.index-next.result.now (omega (arith, d.there, k.staged.first_whole)) in
-    let po = popped _ _ c.pop.result _ s.tick r i.queue c.requires.top s.queue.data.ok.0 c.pop.ensures.top c.pop.ensures.permutation c.pop.ensures.heap_order c.pop.ensures.none in
-    let pq = pushed _ _ c.change_of-change.result r po.is_queue po.gone (c.in_ok-push.ensures.heap_order po.is_queue.ordered) c.in_ok-push.ensures.permutation in
+    let po = c.put_off.ensures s.tick r i.queue c.requires.top in
     record {
       frontier = c.spawn.ensures.kept;
-      kept = spawning.kept_after _ shape _ later _ _ _ _ _ _ _ k r kid _ _ _ _ _ _ d.due child kid_there sg pf po pq next
+      kept = spawning.kept_after _ shape _ later _ _ _ _ _ _ _ k r kid _ _ _ _ _ d.due child kid_there sg pf po next
           (λ l. omega (arith, c.change_of-change.ensures.spawns l, start)) (λ ge. omega (arith, c.change_of-change.ensures.ends ge, start));
       fresh = i.fresh;
       are_next = i.are_next;
-      queue = pq.is_queue;
+      queue = po.is_queue;
       counted = i.counted;
     }
 
-pub returns-in_ok-push-clause-fewer : goal.returns-in_ok-push-clause-fewer
-returns-in_ok-push-clause-fewer c =
+pub returns-then-child-len-clause-fewer : goal.returns-then-child-len-clause-fewer
+returns-then-child-len-clause-fewer c =
     let s = c.args.self.now in
     let d = is_due _ c.requires.shape s _ c.requires.stepping c.requires.top in
     let child = read_at s.family.first.items c.args.row c.index-child.result.now (omega (arith, d.there, c.requires.stepping.kept.staged.first_whole)) c.index-child.ensures in
@@ -110,7 +109,7 @@ returns-else-child-len-clause-stepping c =
     let po = popped _ _ c.pop.result _ s.tick r i.queue c.requires.top s.queue.data.ok.0 c.pop.ensures.top c.pop.ensures.permutation c.pop.ensures.heap_order c.pop.ensures.none in
     record {
       frontier = c.end.ensures.kept;
-      kept = ending.kept_after _ shape _ later _ _ _ _ _ _ _ k r _ _ _ d.due (omega (arith, child, c.if-child-len.false, c.len.ensures.count)) sg po
+      kept = ending.kept_after _ shape _ later _ _ _ _ _ _ _ k r _ _ _ d.due (omega (arith, child, c.if-child-len.false, c.len.ensures.count)) sg po.taken
           (rw (sym worker) at c.with_bit-self.ensures.set) (rw (sym worker) at c.with_bit-self.ensures.others);
       fresh = i.fresh;
       are_next = i.are_next;

@@ -11,6 +11,7 @@ pub mod Spawning
 pub mod Ending
 pub mod Advancing
 pub mod Counting
+pub mod Counted
 pub mod Beginning
 pub mod Reading
 pub mod Following

@@ -48,34 +48,21 @@ first_or_later x xs r h = by_place x xs r h.0 h.1 h.2
     by_place x xs r zero l e = inl (sym e)
     by_place x xs r (suc k) l e = inr (k, omega (arith, l), e)
 
--- the set has what it had, and this row where it is to be in it
-abbrev pub IsWoken : Type 0 → ℕ → RowSet → RowSet → Type 0
-IsWoken IsIt x ready ready' = (r : ℕ) → Has ready' r ↔ (Has ready r ⊎ ((r ≡ x) × IsIt))
-
-pub woken_in : (IsIt : Type 0) (x : ℕ) (ready ready' : RowSet) → IsIt → ((r : ℕ) → Has ready' r ↔ (Has ready r ⊎ (r ≡ x))) → IsWoken IsIt x ready ready'
-woken_in IsIt x ready ready' is rows r = (
-  λ h. elim ((rows r).0 h) [ inl was ↦ inl was | inr e ↦ inr (e, is) ],
-  λ h. (rows r).1 (elim h [ inl was ↦ inl was | inr p ↦ inr p.0 ]),
-)
-
-pub woken_out : (IsIt : Type 0) (x : ℕ) (ready ready' : RowSet) → ready' ≡ ready → (IsIt → ⊥) → IsWoken IsIt x ready ready'
-woken_out IsIt x ready ready' same lacks r = (
-  λ h. inl (subst (λ (s : RowSet). Has s r) same h),
-  λ h. elim h [ inl was ↦ subst (λ (s : RowSet). Has s r) (sym same) was | inr p ↦ absurd (lacks p.1) ],
-)
-
--- a row that was left was looked at
-pub queued_woken : (Is : ℕ → Type 0) (x : ℕ) (left : List ℕ) (ready ready' : RowSet) → AreQueuedBut (x ∷ left) Is ready → IsRowSet ready' →
-    IsWoken (Is x) x ready ready' → AreQueuedBut left Is ready'
-queued_woken Is x left ready ready' q set rows = queued left Is ready' set
+-- a row that was left was looked at: it comes into the set only where it is to be there, and where it is, it comes in or is left still
+pub queued_woken : (Is : ℕ → Type 0) (Comes : Type 0) (x : ℕ) (left : List ℕ) (ready ready' : RowSet) → AreQueuedBut (x ∷ left) Is ready → IsRowSet ready' →
+    ((r : ℕ) → Has ready' r ↔ (Has ready r ⊎ ((r ≡ x) × Comes))) → (Comes → Is x) → (Is x → Comes ⊎ Contains left x) → AreQueuedBut left Is ready'
+queued_woken Is Comes x left ready ready' q set rows only all = queued left Is ready' set
     (λ r h. elim ((rows r).0 h) [
       | inl was ↦ queued_only (x ∷ left) Is ready q r was
-      | inr p ↦ subst Is (sym p.0) p.1
+      | inr p ↦ subst Is (sym p.0) (only p.1)
     ])
     (λ r m. elim (queued_all (x ∷ left) Is ready q r m) [
       | inl h ↦ inl ((rows r).1 (inl h))
       | inr l ↦ elim (first_or_later x left r l) [
-        | inl e ↦ inl ((rows r).1 (inr (e, subst Is e m)))
+        | inl e ↦ elim (all (subst Is e m)) [
+          | inl comes ↦ inl ((rows r).1 (inr (e, comes)))
+          | inr still ↦ inr (subst (λ (y : ℕ). Contains left y) (sym e) still)
+        ]
         | inr later ↦ inr later
       ]
     ])

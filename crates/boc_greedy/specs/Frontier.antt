@@ -1,11 +1,11 @@
 -- What is kept to find the rows that can start.
-use Rattle.std.specs.Prelude.{◌≡◌, ℕ, ◌<◌, ◌≤◌, ◌⊎◌, List, [], length, slice_index, All}
-use Rattle.std.specs.List.{Contains}
+use Rattle.std.specs.Prelude.{◌≡◌, ℕ, ◌+◌, ◌<◌, ◌⊎◌, List, [], length, slice_get, slice_index, Option, Some, None}
+use Rattle.std.specs.List.{Contains, sum_by}
 use Rattle.boc_types.specs.declared.rows.Row.{Row}
 use Rattle.boc_types.specs.plans.Plans.{Ordered}
-use Rattle.boc_order.specs.Waits.{links_of, AreWaits, AreFollowers}
+use Rattle.boc_order.specs.Waits.{links_of, times, AreWaits, AreFollowers}
 use Rattle.boc_greedy.specs.declared.frontier.Stage.{Stage}
-use Rattle.boc_greedy.specs.declared.frontier.Stage.TheVariants.{Waiting, UnderWay, Over}
+use Rattle.boc_greedy.specs.declared.frontier.Stage.TheVariants.{Unspawned, Waiting, UnderWay, Over}
 use Rattle.boc_greedy.specs.declared.frontier.Frontier.{Frontier}
 use Rattle.boc_greedy.specs.declared.row_set.RowSet.{RowSet}
 use Rattle.boc_greedy.specs.RowSets.{IsRowSet, Has}
@@ -24,13 +24,28 @@ pub record AwaitsWorker (waits : List (List ℕ)) (stages : List Stage) (r : ℕ
 unfoldable pub AreQueuedBut : List ℕ → (ℕ → Type 0) → RowSet → Type 0
 AreQueuedBut left Is ready = IsRowSet ready × ((r : ℕ) → Has ready r → Is r) × ((r : ℕ) → Is r → Has ready r ⊎ Contains left r)
 
--- of the rows that each row waits for the first are over, at least so many
-pub record AreReached (waits : List (List ℕ)) (stages : List Stage) (reached : List ℕ) : Type 0 where
-  pub whole : length reached ≡ length stages
+-- 1 for a row that is not over, and 0 for one that is
+abbrev pub not_over : Option Stage → ℕ
+not_over (Some Over) = 0
+not_over (Some UnderWay) = 1
+not_over (Some Waiting) = 1
+not_over (Some Unspawned) = 1
+not_over None = 1
+
+-- how many of some rows are not over
+abbrev pub unmet_of : List Stage → List ℕ → ℕ
+unmet_of stages rows = sum_by (λ a. not_over (slice_get stages a)) rows
+
+-- of each row it is kept how many of those that it waits for are not over, and one more for each time that it stands among those that are left
+pub record AreCountedBut (left : List ℕ) (waits : List (List ℕ)) (stages : List Stage) (unmet : List ℕ) : Type 0 where
+  pub whole : length unmet ≡ length stages
   pub waits_whole : length waits ≡ length stages
-  pub there : (r : ℕ) → All (λ a. a < length stages) (links_of waits r)
-  pub within : (r : ℕ) → slice_index reached r ≤ length (links_of waits r)
-  pub over : (r k : ℕ) → k < slice_index reached r → IsAt stages (slice_index (links_of waits r) k) Over
+  pub count : (r : ℕ) → r < length stages → slice_index unmet r ≡ unmet_of stages (links_of waits r) + times r left
+
+-- row r is spawned, and by its count all that it waits for is over
+pub record CountsReady (stages : List Stage) (unmet : List ℕ) (r : ℕ) : Type 0 where
+  pub waiting : IsAt stages r Waiting
+  pub none_unmet : slice_index unmet r ≡ 0
 
 -- all rows that are ordered before one that is under way or over are over
 pub record AreInTurn (rows : List Row) (stages : List Stage) : Type 0 where
@@ -38,17 +53,17 @@ pub record AreInTurn (rows : List Row) (stages : List Stage) : Type 0 where
   pub turns : (r : ℕ) → IsAt stages r UnderWay → (a : ℕ) → Ordered rows a r → IsAt stages a Over
   pub past : (r : ℕ) → IsAt stages r Over → (a : ℕ) → Ordered rows a r → IsAt stages a Over
 
--- what is kept is that of the rows at their stages, but that of some rows, which are left, it isn't known whether they wait for nothing but a worker
-pub record IsKeptBut (rows : List Row) (left : List ℕ) (waits followers : List (List ℕ)) (stages : List Stage) (reached : List ℕ) (ready : RowSet) : Type 0 where
+-- what is kept is that of the rows at their stages, but that of some rows, which are left, it isn't known yet that one more of those that they wait for is over
+pub record IsKeptBut (rows : List Row) (left : List ℕ) (waits followers : List (List ℕ)) (stages : List Stage) (unmet : List ℕ) (ready : RowSet) : Type 0 where
   pub in_turn : AreInTurn rows stages
   pub are_waits : AreWaits rows waits
   pub are_followers : AreFollowers waits followers
-  pub are_reached : AreReached waits stages reached
+  pub are_counted : AreCountedBut left waits stages unmet
   pub are_ready : AreQueuedBut left (AwaitsWorker waits stages) ready
 
 -- the frontier is that of the rows at their stages, but for these rows, which are left
 abbrev pub IsFrontierBut : List Row → List ℕ → Frontier → Type 0
-IsFrontierBut rows left f = IsKeptBut rows left f.waits.now f.followers.now f.stages.items f.reached.items f.ready
+IsFrontierBut rows left f = (waits : List (List ℕ)) × IsKeptBut rows left waits f.followers.now f.stages.items f.unmet.items f.ready
 
 -- the frontier is that of the rows at their stages
 abbrev pub IsFrontier : List Row → Frontier → Type 0

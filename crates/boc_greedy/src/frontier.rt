@@ -1,13 +1,13 @@
 // Which rows can start, as rows are spawned, start and end.
 
-ghost use Rattle.std.specs.Prelude.{◌≡◌, ℕ, ◌≤◌, ◌<◌, ◌↔◌, ◌⊎◌, ◌∷◌, length, pred, replicate, slice_index, slice_set, All, IfOk, IfSome, IfNone};
+ghost use Rattle.std.specs.Prelude.{◌≡◌, ℕ, ◌≤◌, ◌<◌, ◌↔◌, ◌⊎◌, ◌∷◌, length, pred, replicate, slice_index, slice_set, IfOk, IfSome, IfNone};
 ghost use Rattle.boc_types.specs.declared.limits.TheConstants.{MOST_ROWS};
 ghost use Rattle.boc_types.specs.runs.Rows.{IsRows};
 ghost use Rattle.boc_order.specs.Waits.{AreWaits, AreFollowers};
 ghost use Rattle.boc_greedy.specs.declared.frontier.Stage.TheVariants.{Unspawned, Waiting, UnderWay, Over};
 ghost use Rattle.boc_greedy.specs.RowSets.{IsRowSet, Has};
 ghost use Rattle.boc_greedy.specs.Stages.{IsAt, CanStart};
-ghost use Rattle.boc_greedy.specs.Frontier.{IsFrontier, AreReached, AwaitsWorker};
+ghost use Rattle.boc_greedy.specs.Frontier.{IsFrontier, CountsReady};
 
 use crate::row_set::RowSet;
 use boc_order::Links;
@@ -30,32 +30,14 @@ pub enum Stage {
 /// The stages of the rows, and the rows that can start.
 #[derive(Drop)]
 pub struct Frontier<'a> {
-    /// The rows that each row waits for.
-    waits: &'a Links,
     /// The rows that wait for each row.
     followers: &'a Links,
     /// How far each row is.
     pub stages: Vec<Stage>,
-    /// How many of the first rows that a row waits for were found to be over. These are not looked at again.
-    reached: Vec<u32>,
+    /// How many of the rows that a row waits for are not over, each as often as it waits for it.
+    unmet: Vec<u32>,
     /// The rows that are spawned, and wait for nothing but a worker.
     ready: RowSet,
-}
-
-// How many of these rows, from a place on, are over before the first that is not.
-fn over_from(waits: &[u32], stages: &[Stage], from: usize) -> usize
-    requires there { All (λ r. r < length stages.now) waits.now }
-    requires within { from ≤ length waits.now }
-    ensures from { from ≤ result }
-    ensures within { result ≤ length waits.now }
-    ensures over { (k : ℕ) → from ≤ k → k < result → IsAt stages.now (slice_index waits.now k) Over }
-    ensures stopped { result < length waits.now → IsAt stages.now (slice_index waits.now result) Over → ⊥ }
-{
-    let mut reached = from;
-    while reached < waits.len() && stages[waits[reached] as usize] == Stage::Over {
-        reached += 1;
-    }
-    reached
 }
 
 impl<'a> Frontier<'a> {
@@ -63,7 +45,7 @@ impl<'a> Frontier<'a> {
     pub fn new(
         alloc: Global,
         rows: &SeenRows,
-        waits: &'a Links,
+        waits: &Links,
         followers: &'a Links,
     ) -> Result<Frontier<'a>, AllocError>
         requires shape { IsRows rows.now }
@@ -78,14 +60,16 @@ impl<'a> Frontier<'a> {
         for _ in 1..count {
             stages.push(Stage::Unspawned)?;
         }
-        let reached = vec![in alloc; 0; count]?;
+        let mut unmet = Vec::with_capacity(alloc, count)?;
+        for row in 0..count {
+            unmet.push(waits.count(row))?;
+        }
         let mut ready = RowSet::new(alloc)?;
         ready.insert(0);
         Ok(Frontier {
-            waits,
             followers,
             stages,
-            reached,
+            unmet,
             ready,
         })
     }
@@ -129,32 +113,24 @@ impl<'a> Frontier<'a> {
         self.stages[row as usize] = Stage::Over;
         let followers = self.followers;
         for follower in followers.of(row as usize) {
+            self.unmet[*follower as usize] -= 1;
             self.wake(*follower);
         }
     }
 
-    // A row that is spawned is ready, if all that it waits for is over. It looks from where it stopped before.
+    // A row that is spawned is ready, if all that it waits for is over.
     fn wake(&mut self, row: u32)
         requires there { row < length self.old.stages.items }
         requires few { length self.old.stages.items ≤ MOST_ROWS }
-        requires reached { AreReached self.old.waits.now self.old.stages.items self.old.reached.items }
+        requires whole { length self.old.unmet.items ≡ length self.old.stages.items }
         requires set { IsRowSet self.old.ready }
-        ensures reached { AreReached self.old.waits.now self.old.stages.items self.new.reached.items }
         ensures set { IsRowSet self.new.ready }
-        ensures rows { (r : ℕ) → Has self.new.ready r ↔ (Has self.old.ready r ⊎ ((r ≡ row) × AwaitsWorker self.old.waits.now self.old.stages.items row)) }
+        ensures rows { (r : ℕ) → Has self.new.ready r ↔ (Has self.old.ready r ⊎ ((r ≡ row) × CountsReady self.old.stages.items self.old.unmet.items row)) }
         ensures stages { self.new.stages.items ≡ self.old.stages.items }
-        ensures waits { self.new.waits.now ≡ self.old.waits.now }
+        ensures unmet { self.new.unmet.items ≡ self.old.unmet.items }
         ensures followers { self.new.followers.now ≡ self.old.followers.now }
     {
-        let Stage::Waiting = self.stages[row as usize] else {
-            return;
-        };
-        let links = self.waits;
-        let waits = links.of(row as usize);
-        let reached = over_from(waits, &self.stages, self.reached[row as usize] as usize);
-        // It may look again at some that are over, so a number that is too great for its place is cut.
-        self.reached[row as usize] = u32::try_from(reached).unwrap_or(u32::MAX);
-        if reached == waits.len() {
+        if self.unmet[row as usize] == 0 && self.stages[row as usize] == Stage::Waiting {
             self.ready.insert(row);
         }
     }

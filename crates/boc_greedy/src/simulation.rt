@@ -74,7 +74,7 @@ impl<'a> Simulation<'a> {
     pub fn new(
         alloc: Global,
         rows: &SeenRows,
-        waits: &'a Links,
+        waits: &Links,
         followers: &'a Links,
         p: u32,
     ) -> Result<Simulation<'a>, AllocError>

@@ -60,6 +60,14 @@ impl Links {
         self.first.as_slice().len() - 1
     }
 
+    /// How many links a row has.
+    pub fn count(&self, row: usize) -> u32
+        requires { row < length self.now }
+        ensures { result ≡ length (links_of self.now row) }
+    {
+        self.first[row + 1] - self.first[row]
+    }
+
     /// The links of a row.
     pub fn of(&self, row: usize) -> &[u32]
         requires { row < length self.now }

@@ -1,18 +1,15 @@
-use Rattle.std.proofs.Common.{[]}
-use Rattle.std.specs.Prelude.{slice_set}
-use Rattle.boc_greedy.specs.declared.frontier.Stage.TheVariants.{Waiting}
+use Rattle.std.proofs.Common.{arith}
 use Rattle.boc_greedy.proofs.Queueing.{queued_set}
-use Rattle.boc_greedy.proofs.Waking.{spawned, woken}
+use Rattle.boc_greedy.proofs.Waking.{spawned}
 use Rattle.boc_greedy.proofs.frontier.Frontier.spawn.Goals as goal
 
 pub wake-requires-clause-set : goal.wake-requires-clause-set
-wake-requires-clause-set c = queued_set _ _ _ c.requires.frontier.are_ready
+wake-requires-clause-set c = queued_set _ _ _ c.requires.frontier.1.are_ready
 
 pub returns-clause-kept : goal.returns-clause-kept
 returns-clause-kept c =
     let f = c.args.self.now in
     let w = c.wake.ensures in
-    rw (w.stages, w.waits, w.followers)
-    (woken c.args.rows.now f.waits.now f.followers.now (slice_set f.stages.items c.args.row Waiting) f.reached.items f.ready c.args.row [] _ _
-    (spawned c.args.rows.now f.waits.now f.followers.now f.stages.items f.reached.items f.ready c.args.row c.requires.frontier c.requires.unspawned)
-    w.reached w.set w.rows)
+    let (waits, is) = c.requires.frontier in
+    rw (w.stages, w.unmet, w.followers)
+    (waits, spawned c.args.rows.now waits f.followers.now f.stages.items f.unmet.items f.ready c.args.row _ is c.requires.unspawned w.set w.rows)

@@ -31,9 +31,9 @@ given_fresh rows p starts workers stages idle t fresh = record {
 }
 
 module _ (rows : List Row) (hr : IsRows rows) (p end : ℕ) (few : p ≤ 64) (early : MOST_TICKS < end) (starts workers : List ℕ) (stages : List Stage)
-    (first next : List ℕ) (queue : List Entry) (idle : ℕ)
+    (first times next next_times : List ℕ) (queue : List Entry) (idle : ℕ)
     (starts_is : starts ≡ replicate (length rows) end) (workers_is : workers ≡ replicate (length rows) 0)
-    (stages_is : stages ≡ Waiting ∷ replicate (pred (length rows)) Unspawned) (family : IsFamily rows first next) (queue_is : queue ≡ [])
+    (stages_is : stages ≡ Waiting ∷ replicate (pred (length rows)) Unspawned) (family : IsFamily rows first times next next_times) (queue_is : queue ≡ [])
     (set : (w : ℕ) → w < p → bit_at idle w ≡ 1) (clear : (w : ℕ) → p ≤ w → bit_at idle w ≡ 0) where
   stages_whole : length stages ≡ length rows
   stages_whole = rw stages_is (omega (arith, length-replicate (pred (length rows)) Unspawned, one_less (length rows) hr.not_empty))

@@ -1,18 +1,22 @@
 -- The row on top of the queue, for which something changes at this tick.
-use Rattle.std.proofs.Common.{ℕ, ◌+◌, ◌<◌, List, length, arith}
+use Rattle.std.proofs.Common.{◌≡◌, ℕ, ◌+◌, ◌<◌, ◌≤◌, List, length, get_or, arith}
 use Rattle.std.specs.Prelude.{slice_index}
 use Rattle.std.specs.BinaryHeap.{heap_items}
+use Rattle.std.proofs.lemmas.List.{length-map}
 use Rattle.boc_types.specs.declared.limits.TheConstants.{MOST_TICKS}
 use Rattle.boc_types.specs.declared.rows.Row.{Row}
-use Rattle.boc_types.specs.runs.Rows.{IsRows}
-use Rattle.boc_types.specs.plans.Plans.{start_of}
+use Rattle.boc_types.specs.runs.Rows.{IsRows, parent_of}
+use Rattle.boc_types.specs.plans.Plans.{start_of, IsChild}
 use Rattle.boc_greedy.specs.declared.simulation.Simulation.{Simulation}
 use Rattle.boc_greedy.specs.declared.frontier.Stage.TheVariants.{Unspawned, UnderWay}
 use Rattle.boc_greedy.specs.Stages.{IsAt}
+use Rattle.boc_greedy.specs.declared.children.Change.{Change}
+use Rattle.boc_greedy.specs.Families.{IsNextChild, IsTimed, children_of, times_of}
 use Rattle.boc_greedy.specs.Queues.{IsIn, IsOnTop}
 use Rattle.boc_greedy.specs.Simulating.{later}
 use Rattle.boc_greedy.specs.Stepping.{IsStepping}
 use Rattle.boc_greedy.proofs.Queued.{on_top}
+use Rattle.boc_greedy.proofs.Timing.{child_at, time_at, timed_rise}
 use Rattle.boc_greedy.proofs.Standing.{there}
 
 -- what is known of that row and its next child
@@ -21,7 +25,8 @@ pub record IsDue (rows : List Row) (s : Simulation) (r : ℕ) : Type 0 where
   pub there : r < length rows
   pub under_way : IsAt s.frontier.stages.items r UnderWay
   pub early : start_of s.starts.items r + MOST_TICKS < later
-  pub unspawned : slice_index s.family.first.items r < length rows → IsAt s.frontier.stages.items (slice_index s.family.first.items r) Unspawned
+  pub listed : r < length s.family.first.items
+  pub unspawned : slice_index (children_of s.family.first.items) r < length rows → IsAt s.frontier.stages.items (slice_index (children_of s.family.first.items) r) Unspawned
 
 pub is_due : (rows : List Row) → IsRows rows → (s : Simulation) (r : ℕ) → IsStepping rows s → IsOnTop (heap_items s.queue) s.tick r → IsDue rows s r
 is_due rows hr s r i top =
@@ -34,5 +39,51 @@ is_due rows hr s r i top =
       there = h;
       under_way = on;
       early = omega (arith, (k.under_way r on).begun, k.early);
+      listed = omega (arith, h, simp length-map at k.staged.first_whole);
       unspawned = λ l. (k.staged.left r h).after _ ((k.staged.left r h).child_is l) (omega arith);
     }
+
+-- where that row spawns a child, what comes after that
+pub record IsSpawning (rows : List Row) (s : Simulation) (r : ℕ) (change next : Change) : Type 0 where
+  pub child : slice_index (children_of s.family.first.items) r ≡ change.child
+  pub is_child : IsChild rows r change.child
+  pub next_child : IsNextChild rows (parent_of rows change.child) (change.child + 1) next.child
+  pub timed : IsTimed rows r next.child next.after
+  pub rises : change.after ≤ next.after
+  pub now : s.tick ≡ start_of s.starts.items r + change.after
+
+module _ (rows : List Row) (hr : IsRows rows) (s : Simulation) (r : ℕ) (i : IsStepping rows s) (top : IsOnTop (heap_items s.queue) s.tick r) (change next : Change)
+    (read : change ≡ get_or s.family.first.items r change) (there : change.child < length rows) (next_read : next ≡ get_or s.family.next.items change.child next) where
+  d : IsDue rows s r
+  d = is_due rows hr s r i top
+
+  child_is : slice_index (children_of s.family.first.items) r ≡ change.child
+  child_is = child_at s.family.first.items r change d.listed read
+
+  was : IsTimed rows r change.child change.after
+  was = rw (child_is, time_at s.family.first.items r change d.listed read) at (i.are_timed r d.there)
+
+  is : IsChild rows r change.child
+  is = rw child_is at (i.kept.staged.left r d.there).child_is there
+
+  next_there : change.child < length s.family.next.items
+  next_there = omega (arith, there, simp length-map at i.are_next.whole)
+
+  next_is : slice_index (children_of s.family.next.items) change.child ≡ next.child
+  next_is = child_at s.family.next.items change.child next next_there next_read
+
+  follows : IsNextChild rows (parent_of rows change.child) (change.child + 1) next.child
+  follows = rw next_is at (i.are_next.child change.child is.not_main there)
+
+  comes : IsTimed rows r next.child next.after
+  comes = rw (next_is, time_at s.family.next.items change.child next next_there next_read, is.parent) at (i.are_next.timed change.child is.not_main there)
+
+  pub is_spawning : IsSpawning rows s r change next
+  is_spawning = record {
+    child = child_is;
+    is_child = is;
+    next_child = follows;
+    timed = comes;
+    rises = timed_rise rows hr r change.child next.child change.after next.after is (rw is.parent at follows) was comes;
+    now = omega (arith, (rw child_is at (i.kept.busy s.tick r d.due).spawns) there, was.spawns there);
+  }

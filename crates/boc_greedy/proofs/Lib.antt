@@ -14,6 +14,7 @@ pub mod Counting
 pub mod Counted
 pub mod Beginning
 pub mod Reading
+pub mod Timing
 pub mod Following
 pub mod Finishing
 pub mod Queued

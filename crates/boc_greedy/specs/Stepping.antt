@@ -6,13 +6,13 @@ use Rattle.boc_types.specs.plans.Greedy.{CountsAll}
 use Rattle.boc_greedy.specs.declared.simulation.Simulation.{Simulation}
 use Rattle.boc_greedy.specs.Frontier.{IsFrontier}
 use Rattle.std.specs.BinaryHeap.{heap_items}
-use Rattle.boc_greedy.specs.Families.{AreNext}
+use Rattle.boc_greedy.specs.Families.{AreNext, AreTimed, children_of, times_of}
 use Rattle.boc_greedy.specs.Queues.{IsQueue}
 use Rattle.boc_greedy.specs.Simulating.{later, Kept, Given, IsFresh, HasPassed, IsFull, IsPast, steps_of_all}
 
 -- the simulation keeps what it has to keep
 abbrev pub IsSimulated : List Row → Simulation → Type 0
-IsSimulated rows s = Kept rows s.p later s.starts.items s.workers.items s.frontier.stages.items s.family.first.items (heap_items s.queue) s.idle s.tick
+IsSimulated rows s = Kept rows s.p later s.starts.items s.workers.items s.frontier.stages.items (children_of s.family.first.items) (heap_items s.queue) s.idle s.tick
 
 -- the moments so far are counted
 pub record IsCounted (rows : List Row) (starts : List ℕ) (tick moments : ℕ) : Type 0 where
@@ -28,7 +28,8 @@ pub record IsStepping (rows : List Row) (s : Simulation) : Type 0 where
   pub frontier : IsFrontier rows s.frontier
   pub kept : IsSimulated rows s
   pub fresh : IsFresh rows s.starts.items s.tick
-  pub are_next : AreNext rows s.family.next.items
+  pub are_timed : AreTimed rows (children_of s.family.first.items) (times_of s.family.first.items)
+  pub are_next : AreNext rows (children_of s.family.next.items) (times_of s.family.next.items)
   pub queue : IsQueue (heap_items s.queue)
   pub counted : IsCounted rows s.starts.items s.tick s.moments
 
@@ -38,7 +39,8 @@ pub record IsGiving (rows : List Row) (s : Simulation) : Type 0 where
   pub kept : IsSimulated rows s
   pub given : Given rows s.p s.starts.items s.workers.items s.frontier.stages.items s.idle s.tick
   pub passed : HasPassed (heap_items s.queue) s.tick
-  pub are_next : AreNext rows s.family.next.items
+  pub are_timed : AreTimed rows (children_of s.family.first.items) (times_of s.family.first.items)
+  pub are_next : AreNext rows (children_of s.family.next.items) (times_of s.family.next.items)
   pub queue : IsQueue (heap_items s.queue)
   pub counted : IsCounted rows s.starts.items s.tick s.moments
   pub low : IsLow rows s

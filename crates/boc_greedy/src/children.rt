@@ -1,35 +1,55 @@
-// Who comes next among the children of one parent.
+// What rows that are under way come to, one after the other: the spawns of their children, and their ends.
 
 ghost use Rattle.std.specs.Prelude.{IfOk};
 ghost use Rattle.boc_types.specs.runs.Rows.{IsRows};
-ghost use Rattle.boc_greedy.specs.Families.{IsFamily};
+ghost use Rattle.boc_greedy.specs.Families.{IsFamily, children_of, times_of};
 
 use boc_types::sharing::SeenRows;
 use std::alloc::{AllocError, Global};
 
-/// For each row a child, and the next child of its parent. Where there is none, the number of rows stands.
-#[derive(Drop)]
-pub struct Family {
-    /// The first child of each row, of those that are left.
-    pub first: Vec<u32>,
-    /// The next child of each row's parent.
-    pub next: Vec<u32>,
+/// What a row comes to next: it spawns a child or, where the child isn't there, ends.
+#[derive(Clone, Copy)]
+pub struct Change {
+    /// The child, or the number of rows.
+    pub child: u32,
+    /// How many ticks after the start of the row this is.
+    pub after: u32,
 }
 
-/// The children of the rows, with all of them left. `AllocError` says that memory was refused.
+/// What each row comes to next, and what its parent comes to behind its spawn. So rows are not looked up while they are under way.
+#[derive(Drop)]
+pub struct Family {
+    /// What each row comes to first, of all that is left.
+    pub first: Vec<Change>,
+    /// What each row's parent comes to next, after it has spawned the row.
+    pub next: Vec<Change>,
+}
+
+/// What the rows come to, with all of it left. `AllocError` says that memory was refused.
 pub fn family_of(alloc: Global, rows: &SeenRows) -> Result<Family, AllocError>
     requires { IsRows rows.now }
-    ensures { IfOk result (λ f. IsFamily rows.now f.first.items f.next.items) }
+    ensures { IfOk result (λ f. IsFamily rows.now (children_of f.first.items) (times_of f.first.items) (children_of f.next.items) (times_of f.next.items)) }
 {
     let none = rows.len() as u32;
-    let mut first = vec![in alloc; none; rows.len()]?;
-    let mut next = vec![in alloc; none; rows.len()]?;
+    let mut first = Vec::with_capacity(alloc, rows.len())?;
+    let mut next = Vec::with_capacity(alloc, rows.len())?;
+    for row in 0..rows.len() {
+        let end = Change {
+            child: none,
+            after: rows.ticks(row),
+        };
+        first.push(end)?;
+        next.push(end)?;
+    }
     let mut row = rows.len();
     while row > 1 {
         row -= 1;
         let parent = rows.parent(row) as usize;
         next[row] = first[parent];
-        first[parent] = row as u32;
+        first[parent] = Change {
+            child: row as u32,
+            after: rows.offset(row),
+        };
     }
     Ok(Family { first, next })
 }

@@ -2,7 +2,7 @@
 
 ghost use Rattle.std.specs.Prelude.{◌≡◌, ℕ, ◌+◌, ◌<◌, ◌≤◌, [], length, IfOk, IfSome, IfNone, OnOk, true, false};
 ghost use Rattle.std.specs.BinaryHeap.{heap_items};
-ghost use Rattle.boc_types.specs.runs.Rows.{IsRows, offset_of, ticks_of};
+ghost use Rattle.boc_types.specs.runs.Rows.{IsRows};
 ghost use Rattle.boc_order.specs.Waits.{AreWaits, AreFollowers};
 ghost use Rattle.boc_greedy.specs.Queues.{IsQueue, IsIn, IsOnTop, IsPutOff};
 ghost use Rattle.boc_greedy.specs.Simulating.{later, IsLeastIdle, steps_of_all};
@@ -12,7 +12,6 @@ use crate::bits::{with_bit, without_bit};
 use crate::children::{Family, family_of};
 use crate::frontier::Frontier;
 use boc_order::Links;
-use boc_types::limits::MOST_TICKS;
 use boc_types::sharing::SeenRows;
 use std::alloc::{AllocError, Global};
 use std::cmp::Reverse;
@@ -20,21 +19,6 @@ use std::collections::BinaryHeap;
 
 // A tick after every tick of a plan, at which rows stand that haven't started.
 const LATER: u64 = u64::MAX;
-
-// The tick at which a row that started then spawns this child or, where the child isn't there, ends.
-fn change_of(rows: &SeenRows, start: u64, row: u32, child: u32) -> u64
-    requires shape { IsRows rows.now }
-    requires there { row < length rows.now }
-    requires early { start + MOST_TICKS < later }
-    ensures spawns { child < length rows.now → result ≡ start + offset_of rows.now child }
-    ensures ends { length rows.now ≤ child → result ≡ start + ticks_of rows.now row }
-{
-    if (child as usize) < rows.len() {
-        start + u64::from(rows.offset(child as usize))
-    } else {
-        start + u64::from(rows.ticks(row as usize))
-    }
-}
 
 // Has the row on top of the queue change next at this tick.
 fn put_off(queue: &mut BinaryHeap<Reverse<(u64, u32)>>, tick: u64)
@@ -57,7 +41,7 @@ pub struct Simulation<'a> {
     pub workers: Vec<u32>,
     /// How far the rows are.
     pub frontier: Frontier<'a>,
-    /// The children that are not spawned yet.
+    /// What rows come to next.
     pub family: Family,
     /// For each row that is under way the tick at which it next spawns a child or ends. The earliest is on top.
     pub queue: BinaryHeap<Reverse<(u64, u32)>>,
@@ -116,9 +100,9 @@ impl<'a> Simulation<'a> {
     {
         match self.frontier.start_least(rows) {
             Some(row) => {
-                let child = self.family.first[row as usize];
-                let change = change_of(rows, self.tick, row, child);
-                self.queue.push(Reverse((change, row)))?;
+                let change = self.family.first[row as usize];
+                let tick = self.tick + u64::from(change.after);
+                self.queue.push(Reverse((tick, row)))?;
                 self.starts[row as usize] = self.tick;
                 self.workers[row as usize] = worker;
                 self.idle = without_bit(self.idle, worker);
@@ -155,13 +139,13 @@ impl<'a> Simulation<'a> {
         ensures stepping { IsStepping rows.now self.new }
         ensures fewer { steps_of_all self.new.frontier.stages.items < steps_of_all self.old.frontier.stages.items }
     {
-        let child = self.family.first[row as usize];
-        if (child as usize) < rows.len() {
-            self.frontier.spawn(rows, child);
-            let next = self.family.next[child as usize];
+        let change = self.family.first[row as usize];
+        if (change.child as usize) < rows.len() {
+            self.frontier.spawn(rows, change.child);
+            let next = self.family.next[change.child as usize];
             self.family.first[row as usize] = next;
-            let change = change_of(rows, self.starts[row as usize], row, next);
-            put_off(&mut self.queue, change);
+            let tick = self.tick + u64::from(next.after - change.after);
+            put_off(&mut self.queue, tick);
         } else {
             self.queue.pop();
             self.frontier.end(rows, row);

@@ -19,6 +19,7 @@ change-requires-clause-stepping c =
       frontier = g.frontier;
       kept = kept_next _ c.requires.shape _ _ _ _ _ _ _ _ _ k g.given g.passed full c.args.row c.args.tick top c.requires.least early;
       fresh = fresh_next _ c.requires.shape _ _ _ _ _ _ _ _ _ k g.given g.passed full c.args.row c.args.tick top c.requires.least early;
+      are_timed = g.are_timed;
       are_next = g.are_next;
       queue = g.queue;
       counted = record {

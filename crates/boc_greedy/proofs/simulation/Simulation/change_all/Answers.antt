@@ -15,6 +15,7 @@ gives rows s i low passed = record {
   kept = i.kept;
   given = given_fresh rows s.p _ _ _ s.idle s.tick i.fresh;
   passed = passed;
+  are_timed = i.are_timed;
   are_next = i.are_next;
   queue = i.queue;
   counted = i.counted;

@@ -1,17 +1,29 @@
-use Rattle.std.proofs.Common.{◌≡◌, ◌≢◌, ℕ, ◌<◌, length, sym, arith}
+use Rattle.std.proofs.Common.{◌≡◌, ◌≢◌, ℕ, ◌+◌, ◌<◌, ◌≤◌, length, sym, arith}
 use Rattle.std.specs.Prelude.{slice_index}
 use Rattle.std.specs.BinaryHeap.{heap_items}
+use Rattle.std.proofs.lemmas.List.{length-map}
+use Rattle.boc_types.specs.runs.Rows.{offset_of, ticks_of}
 use Rattle.boc_greedy.specs.declared.frontier.Stage.TheVariants.{Waiting, UnderWay}
+use Rattle.boc_greedy.specs.Families.{children_of}
 use Rattle.boc_greedy.specs.Stages.{CanStart}
 use Rattle.boc_greedy.specs.Queues.{IsIn}
 use Rattle.boc_greedy.specs.Simulating.{later}
 use Rattle.boc_greedy.proofs.Puts.{puts, restages, weight_set, not_same}
-use Rattle.boc_greedy.proofs.Reading.{read_at}
+use Rattle.boc_greedy.proofs.Timing.{time_at, timed_low}
 use Rattle.boc_greedy.proofs.Queued.{none_counts, pushed}
 use Rattle.boc_greedy.proofs.Standing.{there}
 use Rattle.boc_greedy.proofs.Giving.{agree, kept_after, passed_after, given_after}
 use Rattle.boc_greedy.proofs.Counting.{counts_given}
 use Rattle.boc_greedy.proofs.simulation.Simulation.give.Goals as goal
+
+pub overflow_add-tick : goal.overflow_add-tick
+overflow_add-tick c =
+    let g = c.requires.giving in
+    let s = c.args.self.now in
+    let x : ℕ = c.in-Some.row in
+    let h : x < length c.args.rows.now = there _ c.requires.shape _ _ _ _ _ _ _ _ _ g.kept x Waiting c.in-Some.ensures.can.waits in
+    let time = time_at s.family.first.items x c.index-change.result.now (omega (arith, h, simp length-map at g.kept.staged.first_whole)) c.index-change.ensures in
+    omega (arith, time, timed_low _ c.requires.shape x _ _ h (g.are_timed x h), g.kept.early, c.from.ensures)
 
 pub returns-in_ok-push-in-Some-clause-giving : goal.returns-in_ok-push-in-Some-clause-giving
 returns-in_ok-push-in-Some-clause-giving c =
@@ -23,21 +35,25 @@ returns-in_ok-push-in-Some-clause-giving c =
     let w : ℕ = c.args.worker in
     let can : CanStart c.args.rows.now s.frontier.stages.items x = c.in-Some.ensures.can in
     let h : x < length c.args.rows.now = there _ shape _ _ _ _ _ _ _ _ _ k x Waiting can.waits in
-    let child : slice_index s.family.first.items x ≡ c.index-child.result.now = read_at s.family.first.items x c.index-child.result.now (omega (arith, h, k.staged.first_whole)) c.index-child.ensures in
+    let listed : x < length s.family.first.items = omega (arith, h, simp length-map at k.staged.first_whole) in
+    let time = time_at s.family.first.items x c.index-change.result.now listed c.index-change.ensures in
+    let timed = g.are_timed x h in
     let ps = puts s.starts.items x s.tick (omega (arith, h, k.staged.starts_whole)) in
     let pw = puts s.workers.items x w (omega (arith, h, k.staged.workers_whole)) in
     let sg = restages s.frontier.stages.items c.start_least.new.self.stages.items x UnderWay (omega (arith, h, k.staged.stages_whole)) c.in-Some.ensures.stages in
     let none : (change q : ℕ) → IsIn (heap_items s.queue) change q → q ≢ x = λ change q i. not_same _ x Waiting can.waits q UnderWay (λ d. (cc)) (k.busy change q i).under_way in
-    let pq = pushed _ _ c.change_of-change.result x g.queue.once (none_counts _ x none) (c.in_ok-push-in-Some.ensures.heap_order g.queue.ordered) c.in_ok-push-in-Some.ensures.permutation in
+    let pq = pushed _ _ (s.tick + c.from.result) x g.queue.once (none_counts _ x none) (c.in_ok-push-in-Some.ensures.heap_order g.queue.ordered) c.in_ok-push-in-Some.ensures.permutation in
     let idle = c.requires.idle in
-    let spawns = rw (sym child) at c.change_of-change.ensures.spawns in
-    let ends = rw (sym child) at c.change_of-change.ensures.ends in
+    let child : ℕ = slice_index (children_of s.family.first.items) x in
+    let spawns : child < length c.args.rows.now → s.tick + c.from.result ≡ s.tick + offset_of c.args.rows.now child = λ l. omega (arith, timed.spawns l, time, c.from.ensures) in
+    let ends : length c.args.rows.now ≤ child → s.tick + c.from.result ≡ s.tick + ticks_of c.args.rows.now x = λ ge. omega (arith, timed.ends ge, time, c.from.ensures) in
     record {
       frontier = c.in-Some.ensures.kept;
       kept = kept_after _ shape _ later _ _ _ _ _ _ _ k x w _ _ _ _ _ _ ps pw sg pq can idle.set c.without_bit-self.ensures.cleared c.without_bit-self.ensures.others spawns ends;
       given = given_after _ shape _ later _ _ _ _ _ _ _ k x w _ _ _ _ _ _ ps pw sg pq can idle.set c.without_bit-self.ensures.cleared c.without_bit-self.ensures.others spawns ends
           g.given c.in-Some.ensures.least idle.least;
       passed = passed_after _ shape _ later _ _ _ _ _ _ _ k x w _ _ _ _ _ _ ps pw sg pq can idle.set c.without_bit-self.ensures.cleared c.without_bit-self.ensures.others spawns ends g.passed;
+      are_timed = g.are_timed;
       are_next = g.are_next;
       queue = pq.is_queue;
       counted = record {

@@ -54,7 +54,7 @@ pub(crate) fn report_on<W: Sink>(
         Some(_) => {
             // What each row waits for is found once for both parts.
             let question = WhatIf::of(alloc, rows, sharing)?;
-            report_after(alloc, workers, &question, sink)
+            report_after(alloc, workers, question, sink)
         }
     }
 }
@@ -63,17 +63,17 @@ pub(crate) fn report_on<W: Sink>(
 pub(crate) fn report_after<W: Sink>(
     alloc: Global,
     workers: Option<Workers>,
-    question: &WhatIf,
+    question: WhatIf,
     sink: &mut W,
 ) -> Result<(), Fault>
     requires { W.failures sink.old < u64.MAX }
-    ensures written { Leaves (IsReport (seen question.now.sharing question.now.rows) workers) result (W.written sink.old) (W.written sink.new) }
+    ensures written { Leaves (IsReport (seen question.sharing question.rows) workers) result (W.written sink.old) (W.written sink.new) }
     ensures refused { RefusesNothing result }
     ensures source { (count : ℕ) → CountsSource result count count }
     ensures sink { CountsSink result (W.failures sink.old) (W.failures sink.new) }
 {
-    let profile = question.profile(alloc)?;
-    let greedy = greedy_for(alloc, workers, question)?;
+    let greedy = greedy_for(alloc, workers, &question)?;
+    let profile = question.into_profile(alloc)?;
     write_report(alloc, &profile, greedy.as_ref(), sink)?;
     Ok(())
 }

@@ -39,7 +39,7 @@ pub fn whatif_cmd<S: Source, W: Sink>(
     let rows = read_rows(alloc, source)?;
     let mut question = WhatIf::of(alloc, rows, sharing)?;
     edit_all(&mut question, edits)?;
-    report_after(alloc, workers, &question, sink)
+    report_after(alloc, workers, question, sink)
 }
 
 // Makes all edits, one after the other, up to the first that the rows can't take.

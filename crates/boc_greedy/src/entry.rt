@@ -56,6 +56,8 @@ pub fn greedy_over(
         simulation.change_all(rows);
         simulation.give_all(rows)?;
     }
+    // What is needed no more makes room for the ends.
+    drop(simulation.family);
     let ends = ends_of(alloc, rows, &simulation.starts)?;
     let ends_at = last_end(&ends);
     Ok(Greedy {

@@ -143,15 +143,7 @@ pub fn profile(alloc: Global, rows: &Rows, sharing: Sharing) -> Result<Profile, 
     ensures { IfOk result (λ profile. IsProfileOf (seen sharing rows.now) profile) }
 {
     let rows = SeenRows::new(rows, sharing);
-    let plan = plan_of(alloc, &rows)?;
-    let (chain, span) = costliest(alloc, &rows, &plan)?;
-    Ok(Profile {
-        work: work_between(&plan.starts, &plan.ends),
-        span,
-        starts: plan.starts,
-        ends: plan.ends,
-        chain,
-    })
+    plan_of(alloc, &rows)?.into_profile(alloc, &rows)
 }
 
 impl Earliest {
@@ -169,6 +161,22 @@ impl Earliest {
             span,
             starts: Vec::from_slice(alloc, &self.starts)?,
             ends: Vec::from_slice(alloc, &self.ends)?,
+            chain,
+        })
+    }
+
+    /// The same profile, which takes over the starts and ends of the plan, for a caller who needs it no more.
+    pub fn into_profile(self, alloc: Global, rows: &SeenRows) -> Result<Profile, AllocError>
+        requires shape { IsRows rows.now }
+        requires placed { IsPlanOf rows.now self }
+        ensures { IfOk result (λ profile. IsProfileOf rows.now profile) }
+    {
+        let (chain, span) = costliest(alloc, rows, &self)?;
+        Ok(Profile {
+            work: work_between(&self.starts, &self.ends),
+            span,
+            starts: self.starts,
+            ends: self.ends,
             chain,
         })
     }

@@ -163,6 +163,14 @@ impl WhatIf {
             .profile(alloc, &SeenRows::new(&self.rows, self.sharing))
     }
 
+    /// The same profile, for a caller who asks no more: the plan's starts and ends are taken over, and not copied.
+    pub fn into_profile(self, alloc: Global) -> Result<Profile, AllocError>
+        ensures { IfOk result (λ profile. IsProfileOf (seen self.sharing self.rows) profile) }
+    {
+        self.plan
+            .into_profile(alloc, &SeenRows::new(&self.rows, self.sharing))
+    }
+
     /// The greedy plan of the rows for so many workers, as `boc_greedy::greedy` has it. `AllocError` says that
     /// memory was refused.
     pub fn greedy(&self, alloc: Global, workers: Workers) -> Result<Greedy, AllocError>

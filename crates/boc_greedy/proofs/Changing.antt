@@ -11,7 +11,7 @@ use Rattle.boc_greedy.specs.declared.simulation.Simulation.{Simulation}
 use Rattle.boc_greedy.specs.declared.frontier.Stage.TheVariants.{Unspawned, UnderWay}
 use Rattle.boc_greedy.specs.Stages.{IsAt}
 use Rattle.boc_greedy.specs.declared.children.Change.{Change}
-use Rattle.boc_greedy.specs.Families.{IsNextChild, IsTimed, children_of, times_of}
+use Rattle.boc_greedy.specs.Families.{IsNextChild, IsTimed, children_of}
 use Rattle.boc_greedy.specs.Queues.{IsIn, IsOnTop}
 use Rattle.boc_greedy.specs.Simulating.{later}
 use Rattle.boc_greedy.specs.Stepping.{IsStepping}

@@ -56,8 +56,14 @@ unmet_same stages row from to was still goes_on (x ∷ xs) =
 pub unmet_ended : (stages : List Stage) (row : ℕ) → IsAt stages row UnderWay → (xs : List ℕ) → unmet_of (slice_set stages row Over) xs + times row xs ≡ unmet_of stages xs
 unmet_ended stages row was [] = refl
 unmet_ended stages row was (x ∷ xs) =
-    omega (arith, here, unmet_ended stages row was xs, sum_by-cons (λ a. not_over (slice_get (slice_set stages row Over) a)) x xs, sum_by-cons (λ a. not_over (slice_get stages a)) x xs,
-      sum_by-cons (λ a. cond (nat_eq a row) 1 0) x xs)
+    omega (
+      arith,
+      here,
+      unmet_ended stages row was xs,
+      sum_by-cons (λ a. not_over (slice_get (slice_set stages row Over) a)) x xs,
+      sum_by-cons (λ a. not_over (slice_get stages a)) x xs,
+      sum_by-cons (λ a. cond (nat_eq a row) 1 0) x xs,
+    )
   where
     here : not_over (slice_get (slice_set stages row Over) x) + cond (nat_eq x row) 1 0 ≡ not_over (slice_get stages x)
     here = elim (cases_eq x row) [

@@ -1,9 +1,9 @@
 -- The frontier as a row is spawned, starts or ends, and at the beginning.
-use Rattle.std.proofs.Common.{◌≡◌, ◌≢◌, ℕ, zero, suc, ◌+◌, ◌-◌, ◌++◌, ◌<◌, ◌≤◌, ◌⊎◌, List, [], ◌∷◌, length, get_or, refl, sym, ◌∙◌, ap, subst, inl, inr, arith, replicate, length-set, get_or-set_same, get_or-set_other}
-use Rattle.std.specs.Prelude.{slice_index, slice_set, Some, None, ◌↔◌}
+use Rattle.std.proofs.Common.{◌≡◌, ◌≢◌, ℕ, zero, suc, ◌+◌, ◌-◌, ◌<◌, ◌⊎◌, List, [], ◌∷◌, length, refl, sym, subst, inl, inr, arith, replicate, length-set, get_or-set_same, get_or-set_other}
+use Rattle.std.specs.Prelude.{slice_index, slice_set, pred, Some, None, ◌↔◌}
 use Rattle.std.specs.List.{Contains}
 use Rattle.std.proofs.lemmas.Bool.{cases_eq, cases_lt}
-use Rattle.std.proofs.lemmas.List.{length-replicate, replicate-append-replicate}
+use Rattle.std.proofs.lemmas.List.{length-replicate}
 use Rattle.std.proofs.lemmas.Option.{slice_get_within}
 use Rattle.boc_types.specs.declared.rows.Row.{Row}
 use Rattle.boc_order.specs.Waits.{links_of, times, AreWaits, AreFollowers}
@@ -106,7 +106,7 @@ module _ (rows : List Row) (waits followers : List (List ℕ)) (stages : List St
       whole = simp length-set is.are_counted.whole;
       waits_whole = simp length-set is.are_counted.waits_whole;
       count = λ r h. (let h' : r < length stages = omega (arith, h, length-set stages row Over) in
-      omega (arith, is.are_counted.count r h', unmet_ended stages row was (links_of waits r), is.are_followers.same row r (there row is was)));
+          omega (arith, is.are_counted.count r h', unmet_ended stages row was (links_of waits r), is.are_followers.same row r (there row is was)));
     };
     are_ready = queued_more (AwaitsWorker waits stages) (AwaitsWorker waits (slice_set stages row Over)) (links_of followers row) ready is.are_ready
         (λ r m. ready_stays rows stages row UnderWay Over was (λ e. (cc)) waits r (not_same stages row UnderWay was r Waiting (λ e. (cc)) m.waiting) m)
@@ -204,9 +204,7 @@ begun rows waits followers stages unmet none ready m es all are follow whole cou
     main_awaits : AwaitsWorker waits first 0
     main_awaits = record { waiting = refl; over = λ a has. absurd (omega (arith, (wait_there rows waits are 0 a has).0)) }
 
--- one more row that isn't spawned
-pub one_more : (stages stages' : List Stage) (n : ℕ) → 0 < n → stages ≡ Waiting ∷ replicate (n - 1) Unspawned → stages' ≡ stages ++ Unspawned ∷ [] →
-    stages' ≡ Waiting ∷ replicate (n + 1 - 1) Unspawned
-one_more stages stages' n low is more =
-    let count : n - 1 + 1 ≡ n + 1 - 1 = omega arith in
-    more ∙ ap (λ (xs : List Stage). xs ++ Unspawned ∷ []) is ∙ ap (λ (xs : List Stage). Waiting ∷ xs) (replicate-append-replicate (n - 1) 1 Unspawned ∙ ap (λ (k : ℕ). replicate k Unspawned) count)
+-- main is the first of the rows
+pub main_waits : (n : ℕ) → 0 < n → (slice_set (replicate n Unspawned) 0 Waiting ≡ Waiting ∷ replicate (pred n) Unspawned) × (pred n + 1 ≡ n)
+main_waits zero some = absurd (omega (arith, some))
+main_waits (suc n) some = (refl, omega arith)

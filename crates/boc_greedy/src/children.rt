@@ -30,18 +30,15 @@ pub fn family_of(alloc: Global, rows: &SeenRows) -> Result<Family, AllocError>
     requires { IsRows rows.now }
     ensures { IfOk result (λ f. IsFamily rows.now (children_of f.first.items) (times_of f.first.items) (children_of f.next.items) (times_of f.next.items)) }
 {
-    let none = rows.len() as u32;
-    let mut first = Vec::with_capacity(alloc, rows.len())?;
-    let mut next = Vec::with_capacity(alloc, rows.len())?;
-    for row in 0..rows.len() {
-        let end = Change {
-            child: none,
-            after: rows.ticks(row),
-        };
-        first.push(end)?;
-        next.push(end)?;
+    let count = rows.len();
+    let child = count as u32;
+    let mut first = Vec::with_capacity(alloc, count)?;
+    for row in 0..count {
+        let after = rows.ticks(row);
+        first.push_reserved(Change { child, after });
     }
-    let mut row = rows.len();
+    let mut next = vec![in alloc; Change { child, after: 0 }; count]?;
+    let mut row = count;
     while row > 1 {
         row -= 1;
         let parent = rows.parent(row) as usize;

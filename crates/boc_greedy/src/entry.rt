@@ -24,7 +24,7 @@ fn ends_of(alloc: Global, rows: &SeenRows, starts: &[u64]) -> Result<Vec<u64>, A
 {
     let mut ends = Vec::with_capacity(alloc, starts.len())?;
     for (row, start) in starts.iter().enumerate() {
-        ends.push(start + u64::from(rows.ticks(row)))?;
+        ends.push_reserved(start + u64::from(rows.ticks(row)));
     }
     Ok(ends)
 }

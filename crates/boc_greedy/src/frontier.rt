@@ -55,14 +55,11 @@ impl<'a> Frontier<'a> {
         ensures stages { IfOk result (λ f. f.stages.items ≡ Waiting ∷ replicate (pred (length rows.now)) Unspawned) }
     {
         let count = rows.len();
-        let mut stages = Vec::with_capacity(alloc, count)?;
-        stages.push(Stage::Waiting)?;
-        for _ in 1..count {
-            stages.push(Stage::Unspawned)?;
-        }
+        let mut stages = vec![in alloc; Stage::Unspawned; count]?;
+        stages[0] = Stage::Waiting;
         let mut unmet = Vec::with_capacity(alloc, count)?;
         for row in 0..count {
-            unmet.push(waits.count(row))?;
+            unmet.push_reserved(waits.count(row));
         }
         let mut ready = RowSet::new(alloc)?;
         ready.insert(0);

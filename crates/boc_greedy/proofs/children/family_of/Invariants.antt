@@ -1,5 +1,5 @@
-use Rattle.std.proofs.Common.{◌≡◌, ℕ, ◌<◌, length}
-use Rattle.std.specs.Prelude.{slice_index}
+use Rattle.std.proofs.Common.{◌≡◌, ℕ, ◌<◌, ◌≤◌, length}
+use Rattle.std.specs.Prelude.{slice_index, vec_capacity}
 use Rattle.boc_types.specs.runs.Rows.{ticks_of}
 use Rattle.boc_greedy.specs.Families.{children_of, times_of}
 use Rattle.boc_greedy.proofs.Following.{Found}
@@ -8,9 +8,9 @@ use Rattle.boc_greedy.proofs.children.family_of.Given as goal
 -- so far each row only ends
 abbrev pub invariant-loop-row : goal.invariant-loop-row
 invariant-loop-row l = record {
+  room : l.count ≤ vec_capacity l.first;
   whole : length l.first.items ≡ l.row;
-  next_whole : length l.next.items ≡ l.row;
-  childless : (a : ℕ) → a < l.row → slice_index (children_of l.first.items) a ≡ l.none;
+  childless : (a : ℕ) → a < l.row → slice_index (children_of l.first.items) a ≡ l.child;
   ends : (a : ℕ) → a < l.row → slice_index (times_of l.first.items) a ≡ ticks_of l.rows a;
 }
 

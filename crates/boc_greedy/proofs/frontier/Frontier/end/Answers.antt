@@ -1,4 +1,4 @@
-use Rattle.std.proofs.Common.{◌≡◌, ℕ, ◌+◌, ◌-◌, ◌<◌, List, [], ◌∷◌, drop, length, refl, sym, ap, ◌∙◌, arith, length-set}
+use Rattle.std.proofs.Common.{◌≡◌, ℕ, ◌+◌, ◌-◌, ◌<◌, List, [], drop, length, refl, sym, ap, ◌∙◌, arith, length-set}
 use Rattle.std.specs.Prelude.{slice_index, slice_set}
 use Rattle.std.proofs.lemmas.List.{drop_more, drop_all}
 use Rattle.std.proofs.lemmas.List.Elements.{Contains-get_or}
@@ -68,9 +68,11 @@ loop-follower-preserved c =
     let read = read_at f.unmet.items (slice_index items n) c.index_mut-in-loop-follower.result.now (omega (arith, t.0, t.1)) c.index_mut-in-loop-follower.ensures.value in
     let (waits, is) = i.kept in
     record {
-      kept = rw (w.stages, w.unmet, w.followers)
-          (waits, woken c.args.rows.now waits f.followers.now f.stages.items f.unmet.items f.ready (slice_index items n) (drop (n + 1) items) _ _
-          (rw (sym (drop_more items n 0 c.loop-follower-test.true)) is) t.0 (ap (λ (x : ℕ). slice_set f.unmet.items (slice_index items n) (x - 1)) (sym read)) w.set w.rows);
+      kept = rw (w.stages, w.unmet, w.followers) (
+        waits,
+        woken c.args.rows.now waits f.followers.now f.stages.items f.unmet.items f.ready (slice_index items n) (drop (n + 1) items) _ _
+            (rw (sym (drop_more items n 0 c.loop-follower-test.true)) is) t.0 (ap (λ (x : ℕ). slice_set f.unmet.items (slice_index items n) (x - 1)) (sym read)) w.set w.rows,
+      );
       stages = w.stages ∙ i.stages;
       followers = w.followers ∙ i.followers;
     }

@@ -1,4 +1,3 @@
-use Rattle.std.proofs.Common.{arith}
 use Rattle.boc_greedy.proofs.Queueing.{queued_set}
 use Rattle.boc_greedy.proofs.Waking.{spawned}
 use Rattle.boc_greedy.proofs.frontier.Frontier.spawn.Goals as goal

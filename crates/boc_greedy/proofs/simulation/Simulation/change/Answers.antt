@@ -1,4 +1,4 @@
-use Rattle.std.proofs.Common.{◌≡◌, ℕ, ◌<◌, length, sym, arith}
+use Rattle.std.proofs.Common.{ℕ, ◌<◌, length, sym, arith}
 use Rattle.boc_greedy.specs.declared.children.Change.{Change}
 use Rattle.boc_greedy.specs.declared.frontier.Stage.TheVariants.{Unspawned, Waiting, UnderWay, Over}
 use Rattle.boc_greedy.specs.Simulating.{later}

@@ -31,13 +31,20 @@ pub fn family_of(alloc: Global, rows: &SeenRows) -> Result<Family, AllocError>
     ensures { IfOk result (λ f. IsFamily rows.now (children_of f.first.items) (times_of f.first.items) (children_of f.next.items) (times_of f.next.items)) }
 {
     let count = rows.len();
-    let child = count as u32;
+    let none = count as u32;
     let mut first = Vec::with_capacity(alloc, count)?;
     for row in 0..count {
-        let after = rows.ticks(row);
-        first.push_reserved(Change { child, after });
+        // So far no child is found.
+        first.push_reserved(Change {
+            child: none,
+            after: rows.ticks(row),
+        });
     }
-    let mut next = vec![in alloc; Change { child, after: 0 }; count]?;
+    let no_change = Change {
+        child: none,
+        after: 0,
+    };
+    let mut next = vec![in alloc; no_change; count]?;
     let mut row = count;
     while row > 1 {
         row -= 1;

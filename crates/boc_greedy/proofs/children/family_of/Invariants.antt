@@ -10,7 +10,7 @@ abbrev pub invariant-loop-row : goal.invariant-loop-row
 invariant-loop-row l = record {
   room : l.count ≤ vec_capacity l.first;
   whole : length l.first.items ≡ l.row;
-  childless : (a : ℕ) → a < l.row → slice_index (children_of l.first.items) a ≡ l.child;
+  childless : (a : ℕ) → a < l.row → slice_index (children_of l.first.items) a ≡ l.none;
   ends : (a : ℕ) → a < l.row → slice_index (times_of l.first.items) a ≡ ticks_of l.rows a;
 }
 

@@ -59,7 +59,7 @@ pub(crate) fn report_on<W: Sink>(
     }
 }
 
-// Writes the same report on the rows that a question has.
+// Writes the same report on the rows that a question has, and uses the question up.
 pub(crate) fn report_after<W: Sink>(
     alloc: Global,
     workers: Option<Workers>,

@@ -1,15 +1,15 @@
--- The children of rows, one after another, and when they are spawned.
+-- The children of rows, one after another, and when rows spawn them and end.
 use Rattle.std.specs.Prelude.{◌≡◌, ℕ, ◌+◌, ◌<◌, ◌≤◌, List, length, map, slice_index}
 use Rattle.boc_types.specs.declared.rows.Row.{Row}
 use Rattle.boc_types.specs.runs.Rows.{parent_of, offset_of, ticks_of}
 use Rattle.boc_types.specs.plans.Plans.{IsChild}
 use Rattle.boc_greedy.specs.declared.children.Change.{Change}
 
--- the children in some changes
+-- the children in some changes; where there is none, the number of rows
 abbrev pub children_of : List Change → List ℕ
 children_of changes = map (λ c. c.child) changes
 
--- how many ticks after the start of the row each of them is
+-- how many ticks after the start of its row each change comes
 abbrev pub times_of : List Change → List ℕ
 times_of changes = map (λ c. c.after) changes
 
@@ -25,11 +25,11 @@ pub record IsTimed (rows : List Row) (a child after : ℕ) : Type 0 where
   pub spawns : child < length rows → after ≡ offset_of rows child
   pub ends : length rows ≤ child → after ≡ ticks_of rows a
 
--- for each row a child, and its time
+-- each row comes to its child, or to its end, at its time
 abbrev pub AreTimed : List Row → List ℕ → List ℕ → Type 0
 AreTimed rows first times = (a : ℕ) → a < length rows → IsTimed rows a (slice_index first a) (slice_index times a)
 
--- the next child of each row's parent, and its time
+-- for each row but main the next child of its parent, and its time
 pub record AreNext (rows : List Row) (next times : List ℕ) : Type 0 where
   pub whole : length next ≡ length rows
   pub child : (b : ℕ) → 0 < b → b < length rows → IsNextChild rows (parent_of rows b) (b + 1) (slice_index next b)

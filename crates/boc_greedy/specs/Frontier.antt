@@ -24,7 +24,7 @@ pub record AwaitsWorker (waits : List (List ℕ)) (stages : List Stage) (r : ℕ
 unfoldable pub AreQueuedBut : List ℕ → (ℕ → Type 0) → RowSet → Type 0
 AreQueuedBut left Is ready = IsRowSet ready × ((r : ℕ) → Has ready r → Is r) × ((r : ℕ) → Is r → Has ready r ⊎ Contains left r)
 
--- 1 for a row that is not over, and 0 for one that is
+-- 1 for a row that is not over or not there, and 0 for one that is over
 abbrev pub not_over : Option Stage → ℕ
 not_over (Some Over) = 0
 not_over (Some UnderWay) = 1
@@ -32,17 +32,17 @@ not_over (Some Waiting) = 1
 not_over (Some Unspawned) = 1
 not_over None = 1
 
--- how many of some rows are not over
+-- how many of some rows are not over, each as often as it stands there
 abbrev pub unmet_of : List Stage → List ℕ → ℕ
 unmet_of stages rows = sum_by (λ a. not_over (slice_get stages a)) rows
 
--- of each row it is kept how many of those that it waits for are not over, and one more for each time that it stands among those that are left
+-- each row has a count: how many of those that it waits for are not over, and one more for each time that it stands among those that are left
 pub record AreCountedBut (left : List ℕ) (waits : List (List ℕ)) (stages : List Stage) (unmet : List ℕ) : Type 0 where
   pub whole : length unmet ≡ length stages
   pub waits_whole : length waits ≡ length stages
   pub count : (r : ℕ) → r < length stages → slice_index unmet r ≡ unmet_of stages (links_of waits r) + times r left
 
--- row r is spawned, and by its count all that it waits for is over
+-- row r is spawned and has not started, and its count is 0
 pub record CountsReady (stages : List Stage) (unmet : List ℕ) (r : ℕ) : Type 0 where
   pub waiting : IsAt stages r Waiting
   pub none_unmet : slice_index unmet r ≡ 0
@@ -53,7 +53,8 @@ pub record AreInTurn (rows : List Row) (stages : List Stage) : Type 0 where
   pub turns : (r : ℕ) → IsAt stages r UnderWay → (a : ℕ) → Ordered rows a r → IsAt stages a Over
   pub past : (r : ℕ) → IsAt stages r Over → (a : ℕ) → Ordered rows a r → IsAt stages a Over
 
--- what is kept is that of the rows at their stages, but that of some rows, which are left, it isn't known yet that one more of those that they wait for is over
+-- What is kept is that of the rows at their stages, except that for each time a row stands among those left, one that it waits for has ended and its count
+-- has not fallen yet; until it has, the ready set may lack the row.
 pub record IsKeptBut (rows : List Row) (left : List ℕ) (waits followers : List (List ℕ)) (stages : List Stage) (unmet : List ℕ) (ready : RowSet) : Type 0 where
   pub in_turn : AreInTurn rows stages
   pub are_waits : AreWaits rows waits
@@ -61,7 +62,7 @@ pub record IsKeptBut (rows : List Row) (left : List ℕ) (waits followers : List
   pub are_counted : AreCountedBut left waits stages unmet
   pub are_ready : AreQueuedBut left (AwaitsWorker waits stages) ready
 
--- the frontier is that of the rows at their stages, but for these rows, which are left
+-- with some lists of waits the frontier is that of the rows at their stages, but for these rows, which are left
 abbrev pub IsFrontierBut : List Row → List ℕ → Frontier → Type 0
 IsFrontierBut rows left f = (waits : List (List ℕ)) × IsKeptBut rows left waits f.followers.now f.stages.items f.unmet.items f.ready
 

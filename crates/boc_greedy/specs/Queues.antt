@@ -31,7 +31,7 @@ pub record IsQueue (queue : List Entry) : Type 0 where
   pub ordered : IsHeap entry_order queue
   pub once : (r : ℕ) → entries_of r queue ≤ 1
 
--- row r stands in the later queue with this tick, and each other row as before
+-- the later queue is a queue too: row r stands in it with this tick, the other rows as before, and no others
 pub record IsPutOff (queue : List Entry) (r tick : ℕ) (later : List Entry) : Type 0 where
   pub is_queue : IsQueue later
   pub here : IsIn later tick r

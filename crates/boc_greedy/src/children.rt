@@ -16,16 +16,17 @@ pub struct Change {
     pub after: u32,
 }
 
-/// What each row comes to next, and what its parent comes to behind its spawn. So rows are not looked up while they are under way.
+/// For each row its first change, of those that are left, and the change that its parent comes to after spawning it. So a simulation
+/// reads no row.
 #[derive(Drop)]
 pub struct Family {
-    /// What each row comes to first, of all that is left.
+    /// The first change of each row, of those that are left.
     pub first: Vec<Change>,
-    /// What each row's parent comes to next, after it has spawned the row.
+    /// The change of each row's parent that follows the spawn of the row. That of main is not read.
     pub next: Vec<Change>,
 }
 
-/// What the rows come to, with all of it left. `AllocError` says that memory was refused.
+/// The changes of the rows, with all of them left. `AllocError` says that memory was refused.
 pub fn family_of(alloc: Global, rows: &SeenRows) -> Result<Family, AllocError>
     requires { IsRows rows.now }
     ensures { IfOk result (λ f. IsFamily rows.now (children_of f.first.items) (times_of f.first.items) (children_of f.next.items) (times_of f.next.items)) }

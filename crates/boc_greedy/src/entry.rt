@@ -56,7 +56,7 @@ pub fn greedy_over(
         simulation.change_all(rows);
         simulation.give_all(rows)?;
     }
-    // What is needed no more makes room for the ends.
+    // The changes are needed no more, and make room for the ends.
     drop(simulation.family);
     let ends = ends_of(alloc, rows, &simulation.starts)?;
     let ends_at = last_end(&ends);
@@ -76,7 +76,7 @@ pub fn greedy_over(
 /// All times are ticks. At each tick the rows that end free their workers first. Then, while a worker is free and
 /// a row is ready, the least-numbered ready row goes to the least-numbered free worker. A row is ready when its
 /// parent started at least its offset ago, and all earlier rows that share a cown with it have ended. With exclusive
-/// cowns these are all that have a cown in common with it; with shared reads those of which one of both wrote it.
+/// cowns these are all that have a cown in common with it; with shared reads those where one of the two wrote it.
 ///
 /// The plan has ended by the tick `bound`, and ends at most twice as late as any plan for p workers in which no row
 /// starts before its spawn, nor before the end of such an earlier row. `AllocError` says that memory was refused.

@@ -34,14 +34,14 @@ pub struct Frontier<'a> {
     followers: &'a Links,
     /// How far each row is.
     pub stages: Vec<Stage>,
-    /// How many of the rows that a row waits for are not over, each as often as it waits for it.
+    /// For each row how many links in its list of waits lead to rows that are not over.
     unmet: Vec<u32>,
     /// The rows that are spawned, and wait for nothing but a worker.
     ready: RowSet,
 }
 
 impl<'a> Frontier<'a> {
-    /// Main waits for a worker, and no other row is spawned.
+    /// Main waits for a worker, and no other row is spawned. `AllocError` says that memory was refused.
     pub fn new(
         alloc: Global,
         rows: &SeenRows,
@@ -115,7 +115,7 @@ impl<'a> Frontier<'a> {
         }
     }
 
-    // A row that is spawned is ready, if all that it waits for is over.
+    // Puts the row into the ready set where it is spawned and has not started, and its count is 0.
     fn wake(&mut self, row: u32)
         requires there { row < length self.old.stages.items }
         requires few { length self.old.stages.items ≤ MOST_ROWS }

@@ -165,7 +165,8 @@ impl Earliest {
         })
     }
 
-    /// The same profile, which takes over the starts and ends of the plan, for a caller who needs it no more.
+    /// The profile as `Earliest::profile` has it, for a caller who needs the plan no more: its starts and ends are taken over, and not copied.
+    /// `AllocError` says that memory was refused, and then the plan is gone.
     pub fn into_profile(self, alloc: Global, rows: &SeenRows) -> Result<Profile, AllocError>
         requires shape { IsRows rows.now }
         requires placed { IsPlanOf rows.now self }

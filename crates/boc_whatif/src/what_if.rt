@@ -163,7 +163,8 @@ impl WhatIf {
             .profile(alloc, &SeenRows::new(&self.rows, self.sharing))
     }
 
-    /// The same profile, for a caller who asks no more: the plan's starts and ends are taken over, and not copied.
+    /// The profile as `WhatIf::profile` has it, for a caller who asks no more: the plan's starts and ends are taken over, and not copied.
+    /// `AllocError` says that memory was refused, and then the question is gone.
     pub fn into_profile(self, alloc: Global) -> Result<Profile, AllocError>
         ensures { IfOk result (λ profile. IsProfileOf (seen self.sharing self.rows) profile) }
     {

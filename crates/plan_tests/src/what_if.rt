@@ -2,6 +2,7 @@
 
 use crate::figures::are;
 use crate::worked_rows::{peek_and_set, transfer};
+use boc_order::Profile;
 use boc_types::edit::EditFault;
 use boc_types::sharing::Sharing;
 use boc_types::workers::Workers;
@@ -35,16 +36,8 @@ fn edits(
     is_at(rt, question, figures);
 }
 
-// The profile has these starts and ends, and this work and span.
-fn has_profile(
-    rt: &impl Abort,
-    alloc: Global,
-    question: &WhatIf,
-    starts: &[u64],
-    ends: &[u64],
-    figures: [u64; 2],
-) {
-    let profile = question.profile(alloc).expect(rt, "memory");
+// A profile has these starts and ends, and this work and span.
+fn shows(rt: &impl Abort, profile: &Profile, starts: &[u64], ends: &[u64], figures: [u64; 2]) {
     are(rt, &profile.starts, starts);
     are(rt, &profile.ends, ends);
     are(rt, &[profile.work, profile.span], &figures);
@@ -57,7 +50,8 @@ fn cheaper_row_shortens_the_run(rt: HostRuntime) {
     let mut question = WhatIf::new(alloc, &rows, Sharing::Exclusive).expect(&rt, "memory");
     is_at(&rt, &question, [0, 11, 9]);
     edits(&rt, &mut question, (2, 1), Ok(()), [2, 9, 7]);
-    has_profile(&rt, alloc, &question, &[0, 2, 4, 5], &[4, 4, 5, 7], [9, 7]);
+    let profile = question.profile(alloc).expect(&rt, "memory");
+    shows(&rt, &profile, &[0, 2, 4, 5], &[4, 4, 5, 7], [9, 7]);
     edits(&rt, &mut question, (2, 1), Ok(()), [2, 9, 7]);
     assert_eq!(rt; question.rows().as_slice()[0].ticks, 4);
 }
@@ -68,9 +62,11 @@ fn rows_are_taken_over(rt: HostRuntime) {
     let mut question = of_transfer(&rt, alloc);
     is_at(&rt, &question, [0, 11, 9]);
     assert_eq!(rt; question.rows().as_slice().len(), 4);
-    has_profile(&rt, alloc, &question, &[0, 2, 4, 7], &[4, 4, 7, 9], [11, 9]);
+    let profile = question.profile(alloc).expect(&rt, "memory");
+    shows(&rt, &profile, &[0, 2, 4, 7], &[4, 4, 7, 9], [11, 9]);
     edits(&rt, &mut question, (2, 1), Ok(()), [2, 9, 7]);
-    has_profile(&rt, alloc, &question, &[0, 2, 4, 5], &[4, 4, 5, 7], [9, 7]);
+    let profile = question.into_profile(alloc).expect(&rt, "memory");
+    shows(&rt, &profile, &[0, 2, 4, 5], &[4, 4, 5, 7], [9, 7]);
 }
 
 #[test]

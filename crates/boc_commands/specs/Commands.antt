@@ -3,6 +3,7 @@ use Rattle.std.specs.Prelude.{◌≡◌, ℕ, ◌+◌, Bool, true, false, List, 
 use Rattle.std.specs.Io.KnownBytes.{Consumes, IsAtEnd, Appends, Keeps}
 use Rattle.boc_commands.specs.declared.fault.Fault.{Fault}
 use Rattle.boc_commands.specs.declared.fault.Fault.TheVariants as faults
+use Rattle.boc_words.specs.declared.version.TheConstants.{VERSION}
 use Rattle.boc_words.specs.declared.words.Command.{Command}
 use Rattle.boc_words.specs.declared.words.Command.TheVariants as commands
 use Rattle.boc_commands.specs.Faults.{matter_of, IsWant, is_source, gone_of}
@@ -168,7 +169,8 @@ IsOfEdits rows edits _ = ⊥
 
 -- ---- every command
 
--- what goes out for a command: the answer to its input, or for a call for help the parser's text, for which nothing is taken
+-- what goes out for a command: the answer to its input; or, for a call for help, the parser's text, and for one for the version that
+-- version, for which nothing is taken
 abbrev pub AnswersCommand : Command → Option (List ℕ) → Option (List ℕ) → List ℕ → Type 0
 AnswersCommand commands.Values before after text = AnswersInput IsValuesAnswer before after text
 AnswersCommand commands.Check before after text = AnswersInput IsCheckAnswer before after text
@@ -178,8 +180,9 @@ AnswersCommand (commands.Time runners workers sharing) before after text = Answe
 AnswersCommand (commands.WhatIf edits workers sharing) before after text = AnswersInput (IsWhatIfAnswer edits.items sharing workers) before after text
 AnswersCommand (commands.Sweep sharing) before after text = AnswersInput (IsSweepAnswer sharing) before after text
 AnswersCommand (commands.Help help) before after text = (text ≡ string_bytes help) × Keeps before after
+AnswersCommand commands.Version before after text = (text ≡ VERSION.now) × Keeps before after
 
--- what a command refuses; a call for help refuses nothing
+-- what a command refuses; a call for help or for the version refuses nothing
 abbrev pub RefusesCommand : {A : Type 0} → Type 0 → Command → Result A Fault → Option (List ℕ) → Option (List ℕ) → Type 0
 RefusesCommand always_on commands.Values result before after = RefusesProgram result before after
 RefusesCommand always_on commands.Check result before after = RefusesRecord result before
@@ -189,3 +192,4 @@ RefusesCommand always_on (commands.Time runners workers sharing) result before a
 RefusesCommand always_on (commands.WhatIf edits workers sharing) result before after = RefusesEdits edits.items result before
 RefusesCommand always_on (commands.Sweep sharing) result before after = RefusesRecord result before
 RefusesCommand always_on (commands.Help help) result before after = RefusesNothing result
+RefusesCommand always_on commands.Version result before after = RefusesNothing result

@@ -12,13 +12,14 @@ use crate::time::time_cmd;
 use crate::values::values_cmd;
 use crate::whatif::whatif_cmd;
 use boc_text::{Sink, Source, put_out};
-use boc_words::Command;
+use boc_words::{Command, VERSION};
 use boc_workers::Gate;
 use std::alloc::Global;
 use std::sync::Wait;
 use std::thread::Threads;
 
-/// Does what a command asks for: the answer to its input goes out, and nothing else. A call for help takes no input.
+/// Does what a command asks for: the answer to its input goes out, and nothing else. A call for help or for the version takes no
+/// input.
 ///
 /// What runs in several threads is started by way of `rt`, and the gate sees the threads of a run between their steps.
 /// Nothing is written unless the whole answer stands. After a failing write a beginning of it went out.
@@ -55,12 +56,13 @@ pub fn run_command<R: Threads + Wait + Sync, G: Gate, S: Source, W: Sink>(
             sharing,
         } => whatif_cmd(alloc, edits, *workers, *sharing, source, sink),
         Command::Sweep(sharing) => sweep_cmd(alloc, *sharing, source, sink),
-        Command::Help(text) => help(text, sink),
+        Command::Help(text) => tell(text, sink),
+        Command::Version => tell(VERSION, sink),
     }
 }
 
-// Writes the parser's text.
-fn help<W: Sink>(text: &str, sink: &mut W) -> Result<(), Fault>
+// Writes a text that answers no input: the parser's, or the version.
+fn tell<W: Sink>(text: &str, sink: &mut W) -> Result<(), Fault>
     requires { W.failures sink.old < u64.MAX }
     ensures written { Leaves (λ out. out ≡ text.now) result (W.written sink.old) (W.written sink.new) }
     ensures refused { RefusesNothing result }

@@ -89,6 +89,10 @@ pub word_too_many : fault_of command_line (codes "boc" ∷ codes "values" ∷ co
 unfolding clap_on_literals
 word_too_many = refl
 
+pub version_asked : fault_of command_line (codes "boc" ∷ codes "--version" ∷ []) ≡ kinds.DisplayVersion ∷ []
+unfolding clap_on_literals
+version_asked = refl
+
 pub help_asked : fault_of command_line (codes "boc" ∷ codes "--help" ∷ []) ≡ kinds.DisplayHelp ∷ []
 unfolding clap_on_literals
 help_asked = refl

@@ -9,6 +9,7 @@ use Rattle.clap.specs.Words.{App, Row, Rule, app_of, all_of, fault_of, kind_of, 
 use Rattle.clap.specs.declared.builder.command.Command.{Command as Parser}
 use Rattle.clap.specs.declared.builder.command.Command.TheViews.{out-Command}
 use Rattle.clap.specs.declared.error.Error.{Error}
+use Rattle.clap.specs.declared.error.kind.ErrorKind.{ErrorKind}
 use Rattle.clap.specs.declared.error.kind.ErrorKind.TheVariants as kinds
 use Rattle.clap.specs.declared.builder.action.ArgAction.TheVariants as actions
 use Rattle.clap.specs.declared.builder.value_parser.ValueParser.TheVariants as parsers
@@ -74,9 +75,10 @@ whatif_command = with_rule (with_rule (with_rule (new_app (codes "whatif")) work
 abbrev pub sweep_command : App
 sweep_command = with_rule (new_app (codes "sweep")) sharing_flag
 
--- `boc`, which wants one of its commands
+-- `boc`, which has a version and wants one of its commands
 abbrev pub without_commands : App
 without_commands = on_top (λ shape. record shape {
+  has_version = true;
   subcommand_required = true;
   arg_required_else_help = true;
 }) (new_app (codes "boc"))
@@ -192,6 +194,7 @@ IsNamed named (commands.WhatIf edits workers sharing) =
     Names named (codes "whatif") (λ rows. AreEdits rows edits.items × AreWorkers rows workers × AreShared rows sharing)
 IsNamed named (commands.Sweep sharing) = Names named (codes "sweep") (λ rows. AreShared rows sharing)
 IsNamed named (commands.Help text) = ⊥
+IsNamed named commands.Version = ⊥
 
 -- what was named is none of the commands
 abbrev pub IsUnknown : Option (List ℕ × List Row) → Type 0
@@ -212,14 +215,19 @@ IsMisnamed named faults.Memory = Unit {0}
 
 -- ---- what a refusal of the parser comes to
 
--- the answer is a text of the parser's
-abbrev pub IsHelp : Command → Type 0
-IsHelp (commands.Help text) = Unit {0}
-IsHelp _ = ⊥
+-- a refusal of this kind is a call for the text that the command answers: for help, or for the version
+abbrev pub IsTextOfKind : ErrorKind → Command → Type 0
+IsTextOfKind kind (commands.Help text) = kind ≡ kinds.DisplayHelp
+IsTextOfKind kind commands.Version = kind ≡ kinds.DisplayVersion
+IsTextOfKind kind _ = ⊥
 
--- the fault has this error of the parser, which is neither help nor want of memory, or memory was refused
+-- a refusal of this kind is a call for no text
+abbrev pub IsNoCall : ErrorKind → Type 0
+IsNoCall kind = (kind ≢ kinds.DisplayHelp) × (kind ≢ kinds.DisplayVersion)
+
+-- the fault has this error of the parser, which is neither a call for a text nor want of memory, or memory was refused
 abbrev pub IsOfError : Error → WordsFault → Type 0
-IsOfError error (faults.Parser e) = (e ≡ error) × (kind_of error ≢ kinds.OutOfMemory) × (kind_of error ≢ kinds.DisplayHelp)
+IsOfError error (faults.Parser e) = (e ≡ error) × (kind_of error ≢ kinds.OutOfMemory) × IsNoCall (kind_of error)
 IsOfError error faults.Memory = Unit {0}
 IsOfError error _ = ⊥
 
@@ -235,14 +243,16 @@ IsOfNoText _ = ⊥
 abbrev pub AreTaken : List (List ℕ) → Type 0
 AreTaken words = fault_of command_line words ≡ []
 
--- the words ask for this: for help where the parser answers with it, and else for the command that they name
+-- the words ask for this: for help or for the version where the parser answers with it, and else for the command that they name
 abbrev pub IsAsked : List (List ℕ) → Command → Type 0
 IsAsked words (commands.Help text) = IsAmong kinds.DisplayHelp (fault_of command_line words)
+IsAsked words commands.Version = IsAmong kinds.DisplayVersion (fault_of command_line words)
 IsAsked words command = AreTaken words × IsNamed (subcommand_of command_line words) command
 
--- the words are refused with this fault: the parser's, where it is not help that it answers, or of edits the first that is misspelt
+-- the words are refused with this fault: the parser's, where it is not help or the version that it answers, or of edits the first that is
+-- misspelt
 abbrev pub IsRefused : List (List ℕ) → WordsFault → Type 0
-IsRefused words (faults.Parser e) = IsAmong (kind_of e) (fault_of command_line words) × (kind_of e ≢ kinds.DisplayHelp)
+IsRefused words (faults.Parser e) = IsAmong (kind_of e) (fault_of command_line words) × IsNoCall (kind_of e)
 IsRefused words (faults.EditWord number) = AreTaken words
     × Names (subcommand_of command_line words) (codes "whatif") (λ rows. IsFirstMisspelt (values_at rows (codes "edits")) number)
 IsRefused words faults.Memory = Unit {0}

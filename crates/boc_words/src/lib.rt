@@ -4,8 +4,10 @@
 mod edit_word;
 mod fault;
 mod runners;
+mod version;
 mod words;
 
 pub use fault::WordsFault;
 pub use runners::Runners;
+pub use version::VERSION;
 pub use words::{Command, not_text, read_words};

@@ -1,6 +1,6 @@
 // The words of the command line.
 
-ghost use Rattle.boc_words.specs.Words.{AreEdits, AreRunners, AreShared, AreTaken, AreWorkers, IsAsked, IsGiven, IsHelp, IsMisnamed, IsNamed, IsOfEditWords, IsOfError, IsOfNoText, IsOfNumber, IsRefused, Told, command_line, edits_operand, profile_command as profile_as_told, run_command as run_as_told, runners_option, sharing_flag, sweep_command as sweep_as_told, time_command as time_as_told, values_at, whatif_command as whatif_as_told, without_commands, workers_option};
+ghost use Rattle.boc_words.specs.Words.{AreEdits, AreRunners, AreShared, AreTaken, AreWorkers, IsAsked, IsGiven, IsMisnamed, IsNamed, IsOfEditWords, IsOfError, IsOfNoText, IsOfNumber, IsRefused, IsTextOfKind, Told, command_line, edits_operand, profile_command as profile_as_told, run_command as run_as_told, runners_option, sharing_flag, sweep_command as sweep_as_told, time_command as time_as_told, values_at, whatif_command as whatif_as_told, without_commands, workers_option};
 ghost use Rattle.clap.specs.Kinds.{HasKind};
 ghost use Rattle.clap.specs.Words.{app_of, fault_of, found_of, kind_of, new_app, rows_of, rule_of, subcommand_of, subcommand_rows_of};
 ghost use Rattle.std.specs.Prelude.{◌≡◌, ◌<◌, ◌≤◌, ◌^◌, ◌∷◌, ◌↔◌, [], ℕ, IfErr, IfOk, IsTrue, MatchOption, codes, false, map, string_bytes};
@@ -8,6 +8,7 @@ ghost use Rattle.std.specs.Prelude.{◌≡◌, ◌<◌, ◌≤◌, ◌^◌, ◌�
 use crate::edit_word::edit_of;
 use crate::fault::WordsFault;
 use crate::runners::Runners;
+use crate::version::VERSION;
 use boc_types::edit::Edit;
 use boc_types::limits::{MOST_RUNNERS, MOST_WORKERS};
 use boc_types::sharing::Sharing;
@@ -49,6 +50,8 @@ pub enum Command {
     Sweep(Sharing),
     /// The parser's own text, for standard output.
     Help(String),
+    /// The version of the program, which is [`VERSION`].
+    Version,
 }
 
 /// What the words of a command line ask for, the program's own name first.
@@ -108,6 +111,7 @@ fn boc_command<'a>(alloc: Global) -> clap::Command<'a>
 {
     clap::Command::new(alloc, "boc")
         .about("Runs and profiles programs under behaviour-oriented concurrency")
+        .version(VERSION)
         .subcommand_required(true)
         .arg_required_else_help(true)
 }
@@ -397,14 +401,15 @@ fn number_of(texts: &[&str]) -> Option<u32>
     text.parse::<u32>().ok()
 }
 
-// What becomes of words that have no matches: a call for help is answered.
+// What becomes of words that have no matches: a call for help or for the version is answered.
 fn refused(alloc: Global, error: clap::Error) -> Result<Command, WordsFault>
-    ensures help { IfOk result (λ command. IsHelp command × (kind_of error ≡ ErrorKind.DisplayHelp)) }
+    ensures told { IfOk result (IsTextOfKind (kind_of error)) }
     ensures refused { IfErr result (IsOfError error) }
 {
     match error.kind() {
         ErrorKind::OutOfMemory => Err(WordsFault::Memory),
         ErrorKind::DisplayHelp => Ok(Command::Help(error.to_string(alloc)?)),
+        ErrorKind::DisplayVersion => Ok(Command::Version),
         _ => Err(WordsFault::Parser(error)),
     }
 }

@@ -1,0 +1,63 @@
+# What bin/boc and bin/install know of the tree: whether it is the one that a manifest tells of. It is read by a POSIX shell
+# and takes the coreutils alone.
+#
+# A manifest has five lines of words, each behind a `#`, then a line of sha256sum for the program and for each file that it is
+# proved and built from, and a last line `# end`. bin/lib/tree.py writes it.
+
+MANIFEST=dist/MANIFEST
+SHIPPED=dist/boc-x86_64-linux
+BUILT_MANIFEST=crates/boc/out/MANIFEST
+BUILT=crates/boc/out/boc
+
+# The files that a manifest names, one a line.
+files_of() {
+    head -n -1 "$1" | tail -n +6 | cut -c67-
+}
+
+# What a manifest says behind a word, as `kit` or `version`.
+said_of() {
+    head -n 5 "$1" | while read -r mark word rest; do
+        if [ "$mark $word" = "# $2:" ]; then
+            echo "$rest"
+        fi
+    done
+}
+
+# Whether a manifest is there and whole. What is wrong with it is left in `fault`.
+is_whole() {
+    if ! [ -f "$1" ] || ! [ -r "$1" ]; then
+        fault="$1 is missing"
+    elif [ "$(tail -n 1 "$1")" != "# end" ] || [ "$(tail -n 1 "$1" | wc -l)" -ne 1 ]; then
+        fault="$1 is cut off: its last line is not \`# end\`"
+    elif [ "$(said_of "$1" files)" != "$(files_of "$1" | wc -l | tr -d ' ')" ]; then
+        fault="$1 is cut off: it names fewer files than it says, or more"
+    else
+        fault=
+    fi
+    [ -z "$fault" ]
+}
+
+# Whether every file that a whole manifest names has the bytes that it says. The first one that has not is left in
+# `differing`, with ` is missing` behind it where it isn't there.
+is_tree_of() {
+    differing=$(LC_ALL=C sha256sum -c --quiet --strict "$1" 2> /dev/null | head -n 1)
+    case $differing in
+    '') return 0 ;;
+    *': FAILED open or read') differing="${differing%: FAILED open or read} is missing" ;;
+    *) differing=${differing%: FAILED} ;;
+    esac
+    return 1
+}
+
+# Whether the processor, the system and its C library run the program. Where they don't, what is wanted is left in `fault`.
+runs_here() {
+    fault=
+    case $(uname -sm) in
+    'Linux x86_64') "./$1" --version > /dev/null 2>&1 || fault="it does not start here" ;;
+    *) fault="this is $(uname -sm)" ;;
+    esac
+    if [ -n "$fault" ]; then
+        fault="$1 is for x86-64 Linux with the GNU C library, version 2.34 or later, and $fault"
+        return 1
+    fi
+}

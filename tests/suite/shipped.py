@@ -1,0 +1,251 @@
+"""The shipped program and the scripts around it: what `bin/boc` answers from, and when it refuses to answer.
+
+Each case has a copy of the tree as git would check it out, without anything that was built. On its PATH are a shell and the
+coreutils alone, unless it says otherwise.
+"""
+import contextlib
+import os
+import shutil
+import subprocess
+import sys
+import tempfile
+
+from .running import Answer, done, fault_of
+from .worked import VALUES
+
+TOP = os.path.dirname(os.path.dirname(os.path.dirname(os.path.abspath(__file__))))
+sys.path.insert(0, os.path.join(TOP, "bin", "lib"))
+
+import tree
+
+# What the scripts may use.
+COREUTILS = ["cat", "chmod", "cp", "cut", "dirname", "head", "mkdir", "mv", "readlink", "rm", "sha256sum", "sleep", "stat", "tail", "tr",
+             "uname", "wc"]
+
+# A first answer compares a thousand files; what takes longer than this proves or hangs.
+SECONDS = 20
+
+# Whoever may not write to a folder of ours.
+NOBODY = 65534
+
+SOURCE = "crates/boc/src/main.rt"
+DEFINITION = "crates/boc_types/specs/program/Meaning.antt"
+PROOF = "crates/boc_order/proofs/Lib.antt"
+
+
+class Copy:
+    """A copy of the tree, and folders of programs for its PATH."""
+
+    def __init__(self, room):
+        self.room = room
+        self.top = os.path.join(room, "tree")
+        self.note = os.path.join(room, "note")
+        self.tools = os.path.join(room, "tools")
+        self.kit = os.path.join(room, "kit")
+        for part in ["bin", "crates", "dist"]:
+            shutil.copytree(os.path.join(TOP, part), os.path.join(self.top, part), ignore=shutil.ignore_patterns("out", "build.log", "__pycache__"))
+        for part in ["crates.txt", "HANDLES"]:
+            shutil.copy(os.path.join(TOP, part), self.top)
+        os.mkdir(self.tools)
+        os.mkdir(self.kit)
+        for name in ["sh", "env", *COREUTILS]:
+            os.symlink(shutil.which(name), os.path.join(self.tools, name))
+        os.symlink(sys.executable, os.path.join(self.kit, "python3"))
+        # It stands for the kit's command: it notes that it was called, and proves nothing.
+        with open(os.path.join(self.kit, "rt"), "w") as file:
+            file.write(f"#!/bin/sh\necho called >> {self.note}\nexit 1\n")
+        os.chmod(os.path.join(self.kit, "rt"), 0o755)
+        os.chmod(room, 0o777)
+
+    def path(self, name):
+        return os.path.join(self.top, name)
+
+    def run(self, *words, command="bin/boc", kit=False, source=b"", **options):
+        """The answer of a script, of bin/boc if none is named."""
+        found = f"{self.kit}:{self.tools}" if kit else self.tools
+        options.setdefault("cwd", self.room)
+        options.setdefault("env", {"PATH": found, "HOME": self.room})
+        path = command if os.path.isabs(command) else self.path(command)
+        try:
+            run = subprocess.run([path, *words], input=source, capture_output=True, timeout=SECONDS, **options)
+        except subprocess.TimeoutExpired:
+            return None
+        return Answer(run.returncode, run.stdout, run.stderr)
+
+    def transfer(self, **options):
+        """The answer to the values of the transfer program."""
+        with open(os.path.join(TOP, "examples", "transfer.boc"), "rb") as file:
+            return self.run("values", source=file.read(), **options)
+
+    def was_called(self):
+        return os.path.exists(self.note)
+
+
+ANSWER = done(VALUES["transfer.boc"].encode())
+
+
+@contextlib.contextmanager
+def copied():
+    with tempfile.TemporaryDirectory(prefix="boc-tree-") as room:
+        yield Copy(room)
+
+
+def change(copy, name, keep_date=False, at=2):
+    """Changes one byte of a file, which keeps its size; each text has a word of a comment there."""
+    path = copy.path(name)
+    was = os.stat(path)
+    with open(path, "r+b") as file:
+        data = bytearray(file.read())
+        data[at] ^= 1
+        file.seek(0)
+        file.write(data)
+    if keep_date:
+        os.utime(path, ns=(was.st_atime_ns, was.st_mtime_ns))
+
+
+def refusal(answer, status, *words):
+    """What is wrong with a refusal: it has this status and tells these words on standard error, and nothing goes out."""
+    if answer is None:
+        return "it did not end in time"
+    if (answer.status, answer.output) != (status, b""):
+        return f"the status {answer.status} and {answer.output!r} in place of the status {status} and nothing"
+    missing = [it for it in words if it.encode() not in answer.errors]
+    return f"{answer.errors!r} says nothing of {missing}" if missing else None
+
+
+def cases(program):
+    yield "the manifest is that of the tree", fault_of_manifest()
+    yield "--version", fault_of(done(("\n".join(tree.version()) + "\n").encode()), program.run(["--version"]))
+    yield from answers()
+    yield from changed_trees()
+    yield from broken_shipments()
+    yield from built_here()
+    yield from installs()
+
+
+def fault_of_manifest():
+    """The manifest tells of the tree, whatever kit it names; that kit is the one that the sources name."""
+    with open(os.path.join(TOP, tree.MANIFEST)) as file:
+        told = file.read()
+    kit = tree.said(told, "kit")
+    if told != tree.manifest(tree.MANIFEST, tree.SHIPPED, kit, tree.sums(tree.sources())):
+        return "it is another one: bin/ship makes it anew"
+    return None if kit == tree.version()[1] else f"it names the kit {kit}, and {tree.VERSION} another"
+
+
+def answers():
+    with copied() as copy:
+        yield "a first answer", fault_of(ANSWER, copy.transfer())
+        yield "a later answer", fault_of(ANSWER, copy.transfer())
+        yield "from another folder", fault_of(ANSWER, copy.transfer(cwd="/"))
+        link = os.path.join(copy.room, "link")
+        os.symlink(copy.path("bin/boc"), link)
+        yield "through a link", fault_of(ANSWER, copy.transfer(command=link))
+        os.utime(copy.path(SOURCE))
+        yield "after a touch", fault_of(ANSWER, copy.transfer(kit=True))
+        yield "no proof is begun", "rt was called" if copy.was_called() else None
+    with copied() as copy:
+        begun = [subprocess.Popen([copy.path("bin/boc"), "--version"], stdout=subprocess.PIPE, env={"PATH": copy.tools}) for _ in range(4)]
+        told = {run.communicate(timeout=SECONDS)[0] for run in begun}
+        yield "four first answers at once", None if told == {("\n".join(tree.version()) + "\n").encode()} else f"they answer {told}"
+        yield "an answer after them", fault_of(ANSWER, copy.transfer())
+    if os.geteuid() == 0:
+        with copied() as copy:
+            yield "a tree that can't be written to", fault_of(ANSWER, copy.transfer(user=NOBODY, group=NOBODY, extra_groups=[]))
+            yield "nothing is noted there", "a note was left" if os.path.exists(copy.path(".boc-checked")) else None
+
+
+def changed_trees():
+    """A tree that isn't the manifest's is proved and built before it answers, whether or not it was looked at before."""
+    for name in [SOURCE, DEFINITION, PROOF, "crates.txt", "HANDLES"]:
+        for is_noted in [False, True]:
+            with copied() as copy:
+                if is_noted:
+                    copy.transfer()
+                change(copy, name, keep_date=True)
+                answer = copy.transfer(kit=True)
+                yield f"a changed byte of {name}", refusal(answer, 70, f"first {name}", "proving and building")
+                yield "it is proved first", None if copy.was_called() else "rt was not called"
+    with copied() as copy:
+        change(copy, SOURCE)
+        yield "a changed byte, without the kit", refusal(copy.transfer(), 127, f"first {SOURCE}", "rt is not on the PATH")
+        change(copy, SOURCE)
+        yield "and changed back", fault_of(ANSWER, copy.transfer())
+
+
+def broken_shipments():
+    with copied() as copy:
+        change(copy, tree.SHIPPED)
+        yield "a flipped byte of the program", refusal(copy.transfer(kit=True), 70, tree.SHIPPED, "git checkout dist")
+    with copied() as copy:
+        copy.transfer()
+        change(copy, tree.SHIPPED, keep_date=True)
+        yield "a flipped byte of a program that was run before", refusal(copy.transfer(kit=True), 70, tree.SHIPPED, "git checkout dist")
+    with copied() as copy:
+        os.chmod(copy.path(tree.SHIPPED), 0o644)
+        yield "a program without its run bit", refusal(copy.transfer(kit=True), 70, tree.SHIPPED, "chmod +x")
+    with copied() as copy:
+        os.remove(copy.path(tree.SHIPPED))
+        yield "a program that is missing", refusal(copy.transfer(kit=True), 70, tree.SHIPPED, "git checkout dist")
+    with copied() as copy:
+        shutil.rmtree(copy.path("dist"))
+        yield "no dist", refusal(copy.transfer(kit=True), 70, tree.MANIFEST, "missing", "git checkout dist")
+    with copied() as copy:
+        with open(copy.path(tree.MANIFEST), "r+b") as file:
+            data = file.read()
+            for size in (0, 10, len(data) // 2, len(data) - 7, len(data) - 1):
+                file.truncate(size)
+                yield f"a manifest cut to {size} bytes", refusal(copy.transfer(kit=True), 70, "cut off", "git checkout dist")
+                file.seek(0)
+                file.write(data)
+                file.flush()
+            lines = data.splitlines(keepends=True)
+            file.truncate(0)
+            file.seek(0)
+            file.writelines(lines[:20] + lines[21:])
+            file.flush()
+            yield "a manifest without a line in its middle", refusal(copy.transfer(kit=True), 70, "cut off", "git checkout dist")
+    with copied() as copy:
+        os.remove(copy.path(SOURCE))
+        yield "a manifest that names a file that isn't there", refusal(copy.transfer(kit=True), 70, tree.MANIFEST, SOURCE, "git checkout")
+        yield "nothing is built then", "rt was called" if copy.was_called() else None
+
+
+def built_here():
+    """What was built here answers where its manifest is that of the tree, and not where it is half-written."""
+    with copied() as copy:
+        change(copy, DEFINITION)
+        os.makedirs(copy.path("crates/boc/out"))
+        with open(copy.path(tree.BUILT), "w") as file:
+            file.write("#!/bin/sh\necho built here\n")
+        os.chmod(copy.path(tree.BUILT), 0o755)
+        text = tree.manifest(tree.BUILT_MANIFEST, tree.BUILT, "a kit", tree.sums(tree.sources(copy.top), copy.top), copy.top)
+        tree.write_whole(copy.path(tree.BUILT_MANIFEST), text.encode())
+        for _ in range(2):
+            yield "the program that was built here", fault_of(done(b"built here\n"), copy.transfer())
+        with open(copy.path(tree.BUILT), "a") as file:
+            file.write("echo half\n")
+        yield "a build that is half-written", refusal(copy.transfer(kit=True), 70, "proving and building")
+        yield "it is built first", None if copy.was_called() else "rt was not called"
+
+
+def installs():
+    with copied() as copy:
+        prefix = os.path.join(copy.room, "prefix")
+        answer = copy.run(prefix, command="bin/install")
+        fault = None if answer and answer.status == 0 and f"{prefix}/bin/boc".encode() in answer.output else f"it answered {answer}"
+        yield "install", fault
+        yield "the installed program", fault_of(ANSWER, copy.transfer(command=f"{prefix}/bin/boc"))
+        answer = copy.run(command="bin/install")
+        found = os.access(os.path.join(copy.room, ".local/bin/boc"), os.X_OK)
+        yield "install into the home folder", None if found and answer.status == 0 else f"it answered {answer}"
+        yield "install into two folders", refusal(copy.run("a", "b", command="bin/install"), 2, "one folder")
+        with open(os.path.join(copy.room, "file"), "w"):
+            pass
+        yield "install below a file", refusal(copy.run(os.path.join(copy.room, "file"), command="bin/install"), 73, "can't be written to")
+        if os.geteuid() == 0:
+            os.makedirs(os.path.join(copy.room, "closed", "bin"))
+            answer = copy.run(os.path.join(copy.room, "closed"), command="bin/install", user=NOBODY, group=NOBODY, extra_groups=[])
+            yield "install where nothing may be written", refusal(answer, 73, "can't be written to")
+        change(copy, tree.SHIPPED)
+        yield "install of a flipped byte", refusal(copy.run(prefix, command="bin/install"), 70, tree.SHIPPED)

@@ -1,7 +1,8 @@
 /*
  * Preloaded to a program, this refuses one of its requests for memory: the one whose number stands in the environment
  * as REFUSED_REQUEST, counted from 1. As it does so, it writes a byte to the file whose number is REFUSAL_NOTE, so that
- * a test can tell whether the program made so many requests. The start of a thread is a request too, since a thread has
+ * a test can tell whether the program made so many requests, and of what kind this one was: `t` for the start of a thread, `w` for a
+ * request of a thread that was started, and `m` for one of the first thread. The start of a thread is a request too, since a thread has
  * memory of its own, which the C library takes from the system.
  *
  * The count begins with the constructors of libraries, where main is about to begin: what the loader and the C library
@@ -13,6 +14,7 @@
 #include <pthread.h>
 #include <stddef.h>
 #include <stdlib.h>
+#include <sys/syscall.h>
 #include <unistd.h>
 
 void *__libc_malloc(size_t size);
@@ -38,12 +40,13 @@ __attribute__((constructor)) static void begin_to_count(void)
     }
 }
 
-static int is_refused(void)
+static int is_refused(int is_start)
 {
     if (refused_request == 0 || __atomic_add_fetch(&requests, 1, __ATOMIC_SEQ_CST) != refused_request) {
         return 0;
     }
-    if (write(note, "x", 1) != 1) {
+    const char *kind = is_start ? "t" : syscall(SYS_gettid) == getpid() ? "m" : "w";
+    if (write(note, kind, 1) != 1) {
         _exit(99);
     }
     errno = ENOMEM;
@@ -52,27 +55,27 @@ static int is_refused(void)
 
 void *malloc(size_t size)
 {
-    return is_refused() ? NULL : __libc_malloc(size);
+    return is_refused(0) ? NULL : __libc_malloc(size);
 }
 
 void *calloc(size_t count, size_t size)
 {
-    return is_refused() ? NULL : __libc_calloc(count, size);
+    return is_refused(0) ? NULL : __libc_calloc(count, size);
 }
 
 void *realloc(void *block, size_t size)
 {
-    return is_refused() ? NULL : __libc_realloc(block, size);
+    return is_refused(0) ? NULL : __libc_realloc(block, size);
 }
 
 void *aligned_alloc(size_t alignment, size_t size)
 {
-    return is_refused() ? NULL : __libc_memalign(alignment, size);
+    return is_refused(0) ? NULL : __libc_memalign(alignment, size);
 }
 
 int posix_memalign(void **block, size_t alignment, size_t size)
 {
-    void *made = is_refused() ? NULL : __libc_memalign(alignment, size);
+    void *made = is_refused(0) ? NULL : __libc_memalign(alignment, size);
     if (made == NULL) {
         return ENOMEM;
     }
@@ -82,5 +85,5 @@ int posix_memalign(void **block, size_t alignment, size_t size)
 
 int pthread_create(pthread_t *thread, const pthread_attr_t *attributes, void *(*body)(void *), void *argument)
 {
-    return is_refused() ? EAGAIN : start(thread, attributes, body, argument);
+    return is_refused(1) ? EAGAIN : start(thread, attributes, body, argument);
 }

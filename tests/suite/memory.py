@@ -11,7 +11,7 @@ from .worked import GREEDY, PROFILE, SHORTER, SHORTER_GREEDY, VALUES
 
 REFUSE = os.path.join(os.path.dirname(os.path.dirname(os.path.abspath(__file__))), "refuse.c")
 
-# What may be told where the request was a thread's own.
+# What may be told where the request belonged to the start of a thread.
 NO_THREAD = refused(4, "boc: run: 4 NoThread")
 
 # A run that makes more requests than this never ends, and one that takes longer hangs.
@@ -20,6 +20,17 @@ SECONDS = 30
 
 # Rows enough that a sweep takes several threads, each of which needs memory of its own.
 MANY = fan(400, lambda number: (number % 3,), lambda number: 1 + number % 4)
+
+# A behaviour with as many arguments and cowns as there may be, and behind it 300 that wait at once for a cown that the first one has.
+FULL = b"""cown c[8] = 1; cown d = 0;
+def all(a, b, e, f, g, h, i, j; k, l, m, n, o, p, q, r) { k = a + b + e + f + g + h + i + j; l = k; m = n; r = 8; }
+def one(k; x) { x = x + k; }
+def many(; x) { repeat 300 { when one(1; x); } }
+main { when all(1, 2, 3, 4, 5, 6, 7, 8; c[7], c[6], c[5], c[4], c[3], c[2], c[1], c[0]); when many(; d); }
+"""
+
+# More behaviours than a run may have.
+FOREVER = b"def f(;) { when f(;); } main { when f(;); }"
 
 
 def runs(program):
@@ -32,6 +43,7 @@ def runs(program):
     yield ["whatif"], record, done(PROFILE.encode())
     yield ["run"], text, done(record)
     yield ["time", "--workers", "3", "--p", "2"], text, done((PROFILE + GREEDY).encode())
+    yield ["time", "--workers", "2"], FULL, program.run(["time"], FULL)
     yield ["run", "--workers", "2"], b"main { x = 1; }", refused(3, "boc: line 1: 5 UnknownName")
     yield ["whatif", "--p", "2", "2=1"], record, done((SHORTER + SHORTER_GREEDY).encode())
     yield ["sweep"], record, done(b"0 9\n1 8\n2 7\n3 8\n")
@@ -54,6 +66,7 @@ def cases(program):
             for words, source, expected in runs(program):
                 name = f"{' '.join(words)} of {len(source)} bytes"
                 yield name, fault_of_refusals(program, library, words, source, expected)
+            yield "a second thread that can't be started is told before what comes later", fault_of_late_start(program, library)
 
 
 def build(library):
@@ -71,11 +84,11 @@ def fault_of_refusals(program, library, words, source, expected):
     in_threads = words[0] in ("run", "time")
     told = []
     for request in range(1, MOST_REQUESTS):
-        answer, was_made = run_with_refusal(program, library, words, source, request)
-        if not was_made:
+        answer, note = run_with_refusal(program, library, words, source, request)
+        if not note:
             fault = fault_of(expected, answer)
             return f"with no request refused: {fault}" if fault else fault_of_told(told, in_threads and expected.status == 0)
-        if answer == MEMORY or answer == NO_THREAD and in_threads:
+        if answer == MEMORY or answer == NO_THREAD and in_threads and note != b"w":
             told.append(answer)
         elif fault_of(expected, answer) is not None:
             return f"with request {request} refused: {fault_of(MEMORY, answer)}"
@@ -89,8 +102,24 @@ def fault_of_told(told, has_run):
     return "no thread was told as not started" if has_run and NO_THREAD not in told else None
 
 
+def fault_of_late_start(program, library):
+    """Where the second thread can't be started, the first one ends, and what it would come to later is told by nobody."""
+    starts = 0
+    for request in range(1, MOST_REQUESTS):
+        answer, note = run_with_refusal(program, library, ["run", "--workers", "2"], FOREVER, request)
+        if note == b"t":
+            starts += 1
+            if fault_of(NO_THREAD, answer) is not None:
+                return f"with request {request} refused: {fault_of(NO_THREAD, answer)}"
+            if starts == 2:
+                return None
+        if not note:
+            return "no second thread was started"
+    return f"it makes more than {MOST_REQUESTS} requests"
+
+
 def run_with_refusal(program, library, words, source, request):
-    """The answer where this request is refused, and whether it was made."""
+    """The answer where this request is refused, and of which kind it was, which is nothing where it was not made."""
     reading, writing = os.pipe()
     environment = dict(os.environ, LD_PRELOAD=library, REFUSED_REQUEST=str(request), REFUSAL_NOTE=str(writing))
     try:
@@ -98,4 +127,4 @@ def run_with_refusal(program, library, words, source, request):
     finally:
         os.close(writing)
     with os.fdopen(reading, "rb") as note:
-        return answer, note.read() != b""
+        return answer, note.read()

@@ -1,0 +1,134 @@
+"""Greedy plans beside ones that are made tick by tick, and the sweep over a wide fan."""
+import random
+
+from . import model
+from .records import fan, fan_text, lines_text, spawn_line
+from .running import done, fault_of
+
+# Records of random rows, from this seed.
+SEED = 20240229
+RECORDS = 500
+
+# Two children that share nothing, and one that waits for both; its rows as they are run, one after the other.
+TWO_AND_ONE = [model.Row(0, 0, (), 4), model.Row(0, 2, (0,), 3), model.Row(0, 3, (1,), 2), model.Row(0, 4, (0, 1), 1)]
+
+
+def ticked(rows, workers):
+    """The starts and workers of the greedy plan, looked for at every tick: ended rows free their workers, and then the least
+    rows that are ready go to the least free workers."""
+    starts, places = [None] * len(rows), [None] * len(rows)
+    before = [[other for other in range(number) if set(rows[other].cowns) & set(rows[number].cowns)] for number in range(len(rows))]
+    tick = 0
+    while None in starts:
+        busy = {places[number] for number, start in enumerate(starts) if start is not None and start + rows[number].ticks > tick}
+        for number, row in enumerate(rows):
+            if starts[number] is not None or len(busy) == workers:
+                continue
+            is_spawned = number == 0 or starts[row.parent] is not None and starts[row.parent] + row.offset <= tick
+            if is_spawned and all(starts[it] is not None and starts[it] + rows[it].ticks <= tick for it in before[number]):
+                starts[number] = tick
+                places[number] = min(set(range(workers)) - busy)
+                busy.add(places[number])
+        tick += 1
+    return starts, places
+
+
+def ticked_report(rows, workers):
+    """The report on rows whose greedy plan is made tick by tick."""
+    starts, places = ticked(rows, workers)
+    ends = model.ends_of(rows, starts)
+    lines = [f"greedy {workers}"] + [f"{number} {starts[number]} {ends[number]} {places[number]}" for number in range(len(rows))]
+    bound = sum(row.ticks for row in rows) // workers + model.span(rows)
+    return model.report(rows) + model.text(lines + [f"end {max(ends)} bound {bound}"])
+
+
+def random_rows(chance):
+    """Up to 14 rows that spawn one another, over up to 4 cowns."""
+    rows, last = [model.Row(0, 0, (), 1)], [0]
+    for number in range(1, chance.randint(1, 14)):
+        parent = chance.randrange(number)
+        offset = last[parent] + chance.randint(1, 4)
+        last[parent] = offset
+        last.append(0)
+        cowns = tuple(sorted(chance.sample(range(4), chance.choice([0, 1, 1, 1, 2, 2, 3]))))
+        rows.append(model.Row(parent, offset, cowns, 1))
+    return [row._replace(ticks=max(1, last[number] + chance.choice([0, 0, 1, 2, 5, 9]))) for number, row in enumerate(rows)]
+
+
+def record_of(rows):
+    """The text of a record of these rows, in which every row that spawns stays under way until its last child is spawned; or None
+    where two rows that share a cown would have to be under way at once."""
+    last_child = [max([number] + [child for child, row in enumerate(rows) if child and row.parent == number]) for number in range(len(rows))]
+    lines, started, ended = ["boc 1 4"], set(), set()
+
+    def start(number):
+        shared = set(rows[number].cowns)
+        for other in range(number):
+            if other not in ended and shared & set(rows[other].cowns):
+                if other not in started and not start(other):
+                    return False
+                if last_child[other] > spawned[0]:
+                    return False
+                end(other)
+        started.add(number)
+        lines.append(f"> {number}")
+        return True
+
+    def end(number):
+        ended.add(number)
+        lines.append(f"< {number} {rows[number].ticks} 0")
+
+    spawned = [0]
+    lines.append("+ 0 0 0")
+    for number in range(1, len(rows)):
+        parent = rows[number].parent
+        if parent not in started and not start(parent):
+            return None
+        if parent in ended:
+            return None
+        lines.append(spawn_line(number, rows[number]).rstrip("\n"))
+        spawned[0] = number
+    spawned[0] = len(rows)
+    for number in range(len(rows)):
+        if number not in started:
+            start(number)
+        if number not in ended:
+            end(number)
+    return lines_text(lines + ["."])
+
+
+def cases(program):
+    yield from greedy_plans(program)
+    yield "a sweep over 2,500 rows", fault_of_wide_sweep(program)
+
+
+def greedy_plans(program):
+    """The rows of worked examples, and random ones."""
+    for name, rows in [
+        ("two and one", TWO_AND_ONE),
+        ("four squares", fan(5, lambda number: (number - 1,), lambda number: 8, 5)[:1]
+         + [model.Row(0, number + 1, (number - 1,), 8) for number in range(1, 5)]),
+        ("no cowns", [model.Row(0, 0, (), 3), model.Row(0, 2, (), 4), model.Row(0, 3, (), 4)]),
+    ]:
+        yield from plans_of(program, name, rows, range(1, 9))
+    chance, made = random.Random(SEED), 0
+    while made < RECORDS:
+        rows = random_rows(chance)
+        if record_of(rows) is not None:
+            made += 1
+            yield from plans_of(program, f"random rows {made}", rows, [chance.randint(1, 8)])
+
+
+def plans_of(program, name, rows, workers):
+    source = record_of(rows)
+    for number in workers:
+        expected = done(ticked_report(rows, number))
+        yield f"{name}, {number} workers", fault_of(expected, program.run(["profile", "--p", str(number)], source))
+
+
+def fault_of_wide_sweep(program):
+    """Main spawns row R at its tick R + 1, and the last row takes 5 ticks in place of one."""
+    rows = [model.Row(0, 0, (), 2500)] + [model.Row(0, number + 1, (), 5 if number == 2499 else 1) for number in range(1, 2500)]
+    assert model.span(rows) == 2505
+    expected = model.text(f"{number} {2501 if number == 2499 else 2505}" for number in range(2500))
+    return fault_of(done(expected), program.run(["sweep"], fan_text(0, rows)))

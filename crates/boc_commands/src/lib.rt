@@ -25,4 +25,4 @@ pub use values::values_cmd;
 pub use whatif::whatif_cmd;
 
 // What the words of a command line ask for.
-pub use boc_words::{Command, Runners, WordsFault, not_text, read_words};
+pub use boc_words::{Command, Runners, VERSION, WordsFault, not_text, read_words};

@@ -180,6 +180,24 @@ fn frame_after<'a>(alloc: Global, job: &Job<'a>, wishes: u32) -> Result<Frame<'a
     Ok(frame)
 }
 
+// What a dispatcher shows: the lines of its log, its steps, and the values of its cowns.
+#[derive(Drop, PartialEq, Eq, Debug)]
+struct Shown {
+    log: String,
+    steps: u64,
+    values: (Option<i64>, Option<i64>),
+}
+
+fn shown(alloc: Global, core: &Dispatcher<'_>) -> Result<Shown, Fail> {
+    let mut lines = Vec::new(alloc);
+    put_events(&mut lines, &core.log())?;
+    Ok(Shown {
+        log: String::from_utf8(lines)?,
+        steps: core.steps(),
+        values: (core.value(0), core.value(1)),
+    })
+}
+
 #[test]
 fn outcomes_of_strangers_end_nothing(rt: HostRuntime) -> Result<(), Fail> {
     let alloc = rt.alloc();
@@ -192,8 +210,10 @@ fn outcomes_of_strangers_end_nothing(rt: HostRuntime) -> Result<(), Fail> {
         (0, 0, &[], &[], FinishFault::Busy, 4),
     ];
     for (row, kind, args, inputs, fault, ticks) in cases {
+        let before = shown(alloc, &core)?;
         let outcome = outcome(alloc, &program, kind, args, inputs)?;
         assert_eq!(rt; refused(&mut core, row, outcome), Some((fault, ticks)));
+        assert_eq!(rt; shown(alloc, &core)?, before);
     }
     assert_eq!(rt; (core.steps(), core.log().len()), (1, 2));
     Ok(())
@@ -209,8 +229,10 @@ fn frames_of_strangers_open_nothing(rt: HostRuntime) -> Result<(), Fail> {
         (2, 0, OpenFault::OutOfTurn),
         (1, 1, OpenFault::Stranger),
     ] {
+        let before = shown(alloc, &core)?;
         let frame = frame_after(alloc, &job, wishes)?;
         assert_eq!(rt; core.open(&frame, row), Err(fault));
+        assert_eq!(rt; shown(alloc, &core)?, before);
     }
     assert_eq!(rt; (core.steps(), core.log().len()), (1, 2));
     Ok(())
@@ -231,10 +253,12 @@ fn spent_token_is_unknown(rt: HostRuntime) -> Result<(), Fail> {
         Advanced::Moved(Step::Settle(0)),
         Advanced::Moved(Step::Flag(0)),
         Advanced::Enqueued,
-        Advanced::Unknown,
     ] {
         assert_eq!(rt; core.advance(&child), wanted);
     }
+    let before = shown(alloc, &core)?;
+    assert_eq!(rt; core.advance(&child), Advanced::Unknown);
+    assert_eq!(rt; shown(alloc, &core)?, before);
     assert_eq!(rt; (core.steps(), core.log().len()), (6, 3));
     assert_eq!(rt; (core.value(0), core.value(1)), (Some(10), Some(0)));
     Ok(())

@@ -27,18 +27,66 @@ impl Gate for StopsAtSwap {
     }
 }
 
-/// Stops each worker that is about to run a body other than main's.
-#[derive(Clone, Copy)]
-pub(crate) struct StopsAtSecondBody;
+/// Stops the worker that comes second to a body.
+#[derive(Drop)]
+pub(crate) struct StopsAtSecondBody<'r, R> {
+    rt: &'r R,
+    // How many have come to a body.
+    bodies: Mutex<u64>,
+}
 
-impl Gate for StopsAtSecondBody {
+impl<'r, R: Wait> StopsAtSecondBody<'r, R> {
+    pub(crate) fn new(rt: &'r R) -> StopsAtSecondBody<'r, R> {
+        let bodies = Mutex::new(0);
+        StopsAtSecondBody { rt, bodies }
+    }
+}
+
+impl<'r, R: Wait + Sync> Gate for StopsAtSecondBody<'r, R> {
     ghost always_on = { ⊥ };
 
-    fn at_body(&self, _worker: u32, row: u32) -> Go {
-        if row == 0 { Go::On } else { Go::Stop }
+    fn at_body(&self, _worker: u32, _row: u32) -> Go {
+        let mut bodies = self.bodies.lock(self.rt);
+        *bodies = bodies.saturating_add(1);
+        if *bodies == 2 { Go::Stop } else { Go::On }
     }
 
     fn between_steps(&self, _worker: u32, _row: u32, _step: Step) -> Go {
+        Go::On
+    }
+}
+
+/// Counts for each worker the steps after which it asked.
+#[derive(Drop)]
+pub(crate) struct Counting<'r, R> {
+    rt: &'r R,
+    steps: Mutex<[u64; 16]>,
+}
+
+impl<'r, R: Wait> Counting<'r, R> {
+    pub(crate) fn new(rt: &'r R) -> Counting<'r, R> {
+        let steps = Mutex::new([0; 16]);
+        Counting { rt, steps }
+    }
+
+    /// After how many steps each worker asked.
+    pub(crate) fn counts(&self) -> [u64; 16] {
+        *self.steps.lock(self.rt)
+    }
+}
+
+impl<'r, R: Wait + Sync> Gate for Counting<'r, R> {
+    ghost always_on = { ⊥ };
+
+    fn at_body(&self, _worker: u32, _row: u32) -> Go {
+        Go::On
+    }
+
+    fn between_steps(&self, worker: u32, _row: u32, _step: Step) -> Go {
+        let mut steps = self.steps.lock(self.rt);
+        if let Some(count) = steps.get_mut(worker as usize) {
+            *count = count.saturating_add(1);
+        }
         Go::On
     }
 }

@@ -41,7 +41,7 @@ plan
 ";
 
 // Its greedy part for two workers.
-const GREEDY: &str = "greedy 2
+pub(crate) const GREEDY: &str = "greedy 2
 0 0 4 0
 1 2 4 1
 2 4 7 0
@@ -91,6 +91,14 @@ const TWO_BODIES_REPORT: &str =
 pub(crate) const PEEK_AND_SET: &str = "cown a = 1;
 def peek(; x) { let y = x; work 5; } def set(; x) { x = x; }
 main { when peek(; a); when peek(; a); when set(; a); }";
+
+// Two behaviours, each of which asks for another: the one over a and b, the other over a alone.
+const TWO_ORDERS: &str = "cown a = 0; cown b = 0; cown p = 0; cown q = 0;
+def one(; x, y) { x = x + 1; y = y + 1; }
+def two(; x) { x = x * 10; }
+def left(; g) { when one(; a, b); }
+def right(; g) { when two(; a); }
+main { when left(; p); when right(; q); }";
 
 // Behaviours without cowns.
 pub(crate) const NO_COWNS: &str = "def f(;) { work 3; } main { when f(;); when f(;); }";
@@ -297,14 +305,17 @@ fn as_many_threads_as_asked_for(rt: HostRuntime) -> Result<(), Fail> {
 #[test]
 fn gate_that_stops(rt: HostRuntime) -> Result<(), Fail> {
     let alloc = rt.alloc();
-    for runners in [1, 2, 16] {
-        for answer in [
-            run_of(&rt, alloc, TRANSFER, runners, &StopsAtSwap)?,
-            run_of(&rt, alloc, TRANSFER, runners, &StopsAtSecondBody)?,
-        ] {
-            assert_eq!(rt; answer.line.as_str(), "boc: run: 3 Held");
-            assert_eq!(rt; answer.status, 4);
-            assert_eq!(rt; answer.output.as_str(), "");
+    for text in [TRANSFER, TWO_ORDERS] {
+        for runners in [1, 2, 16] {
+            let second = StopsAtSecondBody::new(&rt);
+            for answer in [
+                run_of(&rt, alloc, text, runners, &StopsAtSwap)?,
+                run_of(&rt, alloc, text, runners, &second)?,
+            ] {
+                assert_eq!(rt; answer.line.as_str(), "boc: run: 3 Held");
+                assert_eq!(rt; answer.status, 4);
+                assert_eq!(rt; answer.output.as_str(), "");
+            }
         }
     }
     Ok(())

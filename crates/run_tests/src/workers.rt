@@ -1,6 +1,6 @@
 //! Whole runs by one worker and by several: the steps that they make, and where the lock is free.
 
-use crate::gates::{Meeting, Overtaking, Place};
+use crate::gates::{Counting, Meeting, Overtaking, Place};
 use crate::runs::{NO_COWNS, PEEK_AND_SET, TRANSFER};
 use boc_eval::{Frame, Stop};
 use boc_reader::read_program;
@@ -100,6 +100,22 @@ fn workers_make_all_steps(rt: HostRuntime) -> Result<(), Fail> {
             assert_eq!(rt; answer.record.events().len(), events);
             assert_eq!(rt; answer.made.len(), workers as usize);
             assert_eq!(rt; all_made(&answer), steps);
+        }
+    }
+    Ok(())
+}
+
+#[test]
+fn each_worker_is_told_to_the_gate(rt: HostRuntime) -> Result<(), Fail> {
+    for text in [TRANSFER, NO_COWNS, PEEK_AND_SET] {
+        let program = program(rt.alloc(), text)?;
+        for workers in [1, 2, 16] {
+            let gate = Counting::new(&rt);
+            let answer = run(&rt, rt.alloc(), &program, workers, &gate)?;
+            let counts = gate.counts();
+            let (asked, others) = counts.split_at(workers as usize);
+            assert_eq!(rt; answer.made.as_slice(), asked);
+            assert!(rt; others.iter().all(|count| *count == 0));
         }
     }
     Ok(())

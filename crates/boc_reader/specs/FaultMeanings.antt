@@ -1,9 +1,11 @@
 -- What each fault says of a text.
-use Rattle.std.specs.Prelude.{◌≡◌, ℕ, ◌<◌, ◌≤◌, List, length, Some, None}
+use Rattle.std.specs.Prelude.{◌≡◌, ℕ, ◌<◌, ◌≤◌, List, length, take, Some, None}
 use Rattle.boc_types.specs.text.Tokens.{Token, tokens_of_text}
 use Rattle.boc_types.specs.text.Shape.{Tree, HasShape}
 use Rattle.boc_types.specs.text.Names.{tree_names}
 use Rattle.boc_reader.specs.Grammar.{NoShape}
+use Rattle.boc_reader.specs.Lines.{line_after}
+use Rattle.boc_reader.specs.declared.fault.ReadFault.{ReadFault}
 use Rattle.boc_reader.specs.declared.fault.ReadFaultKind.{ReadFaultKind}
 use Rattle.boc_reader.specs.declared.fault.ReadFaultKind.TheVariants as kinds
 
@@ -40,3 +42,20 @@ SaysOf kinds.NameTaken text = HasNoNames text
 SaysOf kinds.WrongCount text = HasNoNames text
 SaysOf kinds.TooLong text = 65536 < length text
 SaysOf kinds.Memory text = Unit {0}
+
+-- a line of a text: that of one of its bytes, or of its end
+pub record IsLineIn (line : ℕ) (text : List ℕ) : Type 0 where
+  pub at : ℕ
+  pub within : at ≤ length text
+  pub line_is : line ≡ line_after (take at text)
+
+-- The line that is told with a kind of fault: that of the first byte too many where the text is too long, none where memory was refused, and otherwise one of the
+-- text.
+abbrev pub TellsLine : ReadFaultKind → ℕ → List ℕ → Type 0
+TellsLine kinds.TooLong line text = line ≡ line_after (take 65536 text)
+TellsLine kinds.Memory line text = line ≡ 0
+TellsLine kind line text = IsLineIn line text
+
+-- what a fault says of the text that is refused for it: what is wrong with it, and where
+abbrev pub IsRefusalOf : ReadFault → List ℕ → Type 0
+IsRefusalOf fault text = SaysOf fault.kind text × TellsLine fault.kind fault.line text

@@ -6,3 +6,4 @@ pub mod Lines
 pub mod Resolving
 pub mod Resolves
 pub mod FaultMeanings
+pub mod FaultTexts

@@ -56,40 +56,54 @@ pub enum NameFault {
     WrongCount,
 }
 
-/// Why a text was refused.
+/// What is wrong with a text.
 #[derive(Clone, Copy, PartialEq, Eq, Debug, Error)]
+#[error("{}", self.text())]
 pub enum ReadFaultKind {
     /// A byte from 128 on.
-    #[error("1 NotAscii")]
     NotAscii,
     /// Bytes that form no token.
-    #[error("2 BadToken")]
     BadToken,
     /// A token, or the end of the text, that the grammar doesn't allow there, or an array of size 0.
-    #[error("3 Unexpected")]
     Unexpected,
     /// A number above 9,223,372,036,854,775,807.
-    #[error("4 NumberTooLarge")]
     NumberTooLarge,
     /// A name that isn't in scope in that use.
-    #[error("5 UnknownName")]
     UnknownName,
     /// A declaration of a name that is in scope already.
-    #[error("6 NameTaken")]
     NameTaken,
     /// A `when` with another number of arguments or cowns than its def takes, an array without an
     /// index, or an index on what is no array.
-    #[error("7 WrongCount")]
     WrongCount,
     /// More cowns, defs, nodes, parameters or arguments than are allowed.
-    #[error("8 TooMany")]
     TooMany,
-    /// More than 65,536 bytes.
-    #[error("9 TooLong")]
+    /// More than 65,536 bytes. The line is that of the first byte too many.
     TooLong,
     /// Memory was refused. The line is 0.
-    #[error("10 Memory")]
     Memory,
+}
+
+impl ReadFaultKind {
+    ghost use Rattle.std.specs.Prelude.{◌≡◌};
+    ghost use Rattle.boc_reader.specs.FaultTexts.{kind_text};
+
+    /// Its number and its name, as they are displayed.
+    pub fn text(&self) -> &'static str
+        ensures { result.now ≡ kind_text self.now }
+    {
+        match self {
+            ReadFaultKind::NotAscii => "1 NotAscii",
+            ReadFaultKind::BadToken => "2 BadToken",
+            ReadFaultKind::Unexpected => "3 Unexpected",
+            ReadFaultKind::NumberTooLarge => "4 NumberTooLarge",
+            ReadFaultKind::UnknownName => "5 UnknownName",
+            ReadFaultKind::NameTaken => "6 NameTaken",
+            ReadFaultKind::WrongCount => "7 WrongCount",
+            ReadFaultKind::TooMany => "8 TooMany",
+            ReadFaultKind::TooLong => "9 TooLong",
+            ReadFaultKind::Memory => "10 Memory",
+        }
+    }
 }
 
 /// Why a text was refused, and in which line, counted from 1.

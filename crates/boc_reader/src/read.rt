@@ -4,7 +4,7 @@ ghost use Rattle.std.specs.Prelude.{◌≡◌, ◌≢◌, ◌≤◌, ℕ, List, 
 ghost use Rattle.boc_types.specs.text.Spells.{Spells, plain_program};
 ghost use Rattle.boc_types.specs.declared.program.Program.{Program};
 ghost use Rattle.boc_reader.specs.Placed.{Refusal};
-ghost use Rattle.boc_reader.specs.FaultMeanings.{HasNoTokens, HasNoShape, HasNoNames, SaysOf};
+ghost use Rattle.boc_reader.specs.FaultMeanings.{HasNoTokens, HasNoShape, HasNoNames, SaysOf, IsLineIn, IsRefusalOf};
 ghost use Rattle.boc_reader.specs.declared.fault.ReadFaultKind.{ReadFaultKind};
 ghost use Rattle.boc_reader.specs.Lines.{line_after};
 
@@ -23,9 +23,9 @@ const NO_MEMORY: ReadFault = ReadFault {
 
 /// The program that a text spells. A text that is too long is refused for that. Any other goes
 /// through three passes, for its tokens, its shape and its names: the first pass that finds a fault
-/// tells the first one in the text.
+/// tells the first one in the text. The line is that of the fault, that of the first byte too many, or 0 for want of memory.
 pub fn read_program(alloc: Global, text: &[u8]) -> Result<Program, ReadFault>
-    ensures { MatchResult result (Spells text.now) (λ f. SaysOf f.kind text.now) }
+    ensures { MatchResult result (Spells text.now) (λ f. IsRefusalOf f text.now) }
 {
     if text.len() > LONGEST {
         return Err(ReadFault {
@@ -51,7 +51,7 @@ pub fn read_program(alloc: Global, text: &[u8]) -> Result<Program, ReadFault>
 fn no_tokens(text: &[u8], fault: Fault<TokenFault>) -> ReadFault
     requires short { length text.now ≤ 65536 }
     requires none { Refusal fault (HasNoTokens text.now) }
-    ensures { SaysOf result.kind text.now }
+    ensures { IsRefusalOf result text.now }
 {
     let (kind, at) = match fault {
         Fault::Memory => return NO_MEMORY,
@@ -69,7 +69,7 @@ fn no_tokens(text: &[u8], fault: Fault<TokenFault>) -> ReadFault
 fn no_shape(text: &[u8], fault: Fault<ShapeFault>) -> ReadFault
     requires short { length text.now ≤ 65536 }
     requires none { Refusal fault (HasNoShape text.now) }
-    ensures { SaysOf result.kind text.now }
+    ensures { IsRefusalOf result text.now }
 {
     let (kind, at) = match fault {
         Fault::Memory => return NO_MEMORY,
@@ -86,7 +86,7 @@ fn no_shape(text: &[u8], fault: Fault<ShapeFault>) -> ReadFault
 fn no_names(text: &[u8], fault: Fault<NameFault>) -> ReadFault
     requires short { length text.now ≤ 65536 }
     requires none { Refusal fault (HasNoNames text.now) }
-    ensures { SaysOf result.kind text.now }
+    ensures { IsRefusalOf result text.now }
 {
     let (kind, at) = match fault {
         Fault::Memory => return NO_MEMORY,
@@ -103,7 +103,8 @@ fn no_names(text: &[u8], fault: Fault<NameFault>) -> ReadFault
 // The number of the line in which a byte stands, or the last one at the end of the text.
 fn line_at(text: &[u8], at: usize) -> u32
     requires { length text.now ≤ 65536 }
-    ensures { result ≡ line_after (take at text.now) }
+    ensures value { result ≡ line_after (take at text.now) }
+    ensures within { IsLineIn result text.now }
 {
     line_after(&text[..at.min(text.len())])
 }

@@ -10,7 +10,7 @@ use Rattle.boc_types.specs.declared.verdict.RecordFaultKind.TheVariants as kinds
 use Rattle.boc_types.specs.declared.event.Event.{Event}
 use Rattle.boc_types.specs.declared.event.BrokenRule.{BrokenRule}
 use Rattle.boc_types.specs.declared.event.BrokenRule.TheVariants as rules
-use Rattle.boc_types.specs.declared.limits.TheConstants.{MOST_ROWS}
+use Rattle.boc_types.specs.declared.limits.TheConstants.{MOST_LINE, MOST_ROWS}
 use Rattle.boc_types.specs.runs.Legal.{Entry, entries, IsComplete, IsFirstBroken}
 use Rattle.boc_types.specs.declared.rows.Row.{Row}
 use Rattle.boc_types.specs.runs.Records.{Recorded, IsRecord, AreRowsOf}
@@ -24,7 +24,7 @@ use Rattle.boc_text.specs.declared.lines.TheConstants.{CAPACITY}
 use Rattle.boc_text.specs.Lines as lines
 use Rattle.boc_record.specs.declared.fault.RecordFault.{RecordFault}
 use Rattle.boc_record.specs.Sinks.{Hands}
-use Rattle.boc_record.specs.Reading.{ItemIs, HeaderIs, TakesRecord, TakesRun, TakesHeader, TakesEvent, TakesItem, GivesPart, StopsFor, FailsAt, AreGoodLines, WantsMemoryAt, IsFault, EndIs, kind_of_fault, line_feeds}
+use Rattle.boc_record.specs.Reading.{ItemIs, HeaderIs, TakesRecord, TakesRun, TakesHeader, TakesEvent, TakesItem, GivesPart, StopsFor, FailsAt, AreGoodLines, WantsRoom, WantsMemoryAt, IsFault, EndIs, kind_of_fault, line_feeds}
 use Rattle.boc_record.proofs.Put.{lines_more}
 use Rattle.boc_record.proofs.Lines.{one_stop, feeds_both, no_feeds, begun_feeds, text_feeds, begun_more}
 
@@ -51,10 +51,10 @@ long_header None h = tt
 long_header (Some text) h = inl (begins_long text h)
 
 -- what a source gave that failed, where what is taken in and not given is the beginning of a line
-pub gives_part : (known rest : Option (List ℕ)) (held : List ℕ) → Keeps known (prepend_known held rest) → IsOneLine held → GivesPart known rest
-gives_part None rest held kept one = record { left = held; unended = one; taken = tt }
-gives_part (Some text) None held kept one = absurd kept
-gives_part (Some text) (Some left) held kept one = record { left = held; unended = one; taken = sym kept }
+pub gives_part : (known rest : Option (List ℕ)) (held : List ℕ) → Keeps known (prepend_known held rest) → IsOneLine held × (length held ≤ MOST_LINE) → GivesPart known rest
+gives_part None rest held kept part = record { left = held; unended = part.0; short = part.1; taken = tt }
+gives_part (Some text) None held kept part = absurd kept
+gives_part (Some text) (Some left) held kept part = record { left = held; unended = part.0; short = part.1; taken = sym kept }
 
 -- at the end nothing was to come
 pub nothing_left : (known rest : Option (List ℕ)) (held : List ℕ) → IsAtEnd known → Keeps known (prepend_known held rest) → IsAtEnd rest → Consumes known rest []
@@ -105,6 +105,7 @@ fails whole now after done number c n good p = record {
   good = good;
   left = p.left;
   unended = p.unended;
+  short = p.short;
   split = refl;
 }
 
@@ -208,15 +209,16 @@ rule_faults rule v (Some text) None next cowns events event b c t first = absurd
 rule_faults rule v (Some text) (Some rest) next cowns events event b c t first =
     rule_fault rule v cowns events text rest b c (record { event = event; stands = begins_event v cowns events rest next event t; spelt = t.spelt; first = first })
 
-wants : (v : Version) (whole after : Option (List ℕ)) (held : List ℕ) (cowns : ℕ) (events : List Event) (number : ℕ) → HasBegun v cowns events → number ≡ length events + 1 → length held ≤ CAPACITY
+wants : (v : Version) (whole after : Option (List ℕ)) (held : List ℕ) (cowns : ℕ) (events : List Event) (number : ℕ) → HasBegun v cowns events → WantsRoom events → number ≡ length events + 1 → length held ≤ CAPACITY
     → Consumes whole (prepend_known held after) (begun v cowns events) → WantsMemoryAt number whole after
-wants v whole after held cowns events number b n few c = record {
+wants v whole after held cowns events number b room n few c = record {
   given = begun v cowns events ++ held;
   taken = with_ahead whole after (begun v cowns events) held c;
   version = v;
   cowns = cowns;
   events = events;
   begins = b;
+  wanted = room;
   number_is = n;
   ahead = held;
   few = few;
@@ -233,7 +235,7 @@ refused_event : (refused : RuleFault) (v : Version) (whole now after : Option (L
 refused_event (Broken rule) v whole now after held cowns events taken event b few c t a =
     fault (kind_of_rule rule) (length events + 2) whole after (rule_faults rule v whole now (prepend_known held after) cowns events event b c t a) (no_failure rule (length events + 2) whole after)
 refused_event Memory v whole now after held cowns events taken event b few c t a =
-    wants v whole after held cowns (events ++ event ∷ []) (length events + 2) (begun_more v cowns events event b a t.spelt) (omega (arith, one_more events event)) few
+    wants v whole after held cowns (events ++ event ∷ []) (length events + 2) (begun_more v cowns events event b a.0 t.spelt) (inr (events, event, a.1, refl)) (omega (arith, one_more events event)) few
     (taken_more v whole now (prepend_known held after) cowns events event c t.taken)
 
 -- an event's line was taken
@@ -323,7 +325,7 @@ nothing_yet v cowns taken whole now h has = record {
 -- memory was refused behind the first line
 pub header_wants : (v : Version) (cowns : ℕ) (whole after : Option (List ℕ)) (held : List ℕ) → TakesHeader v cowns whole (prepend_known held after) → length held ≤ CAPACITY → IsFault kinds.Memory 1 whole after
 header_wants v cowns whole after held h few =
-    wants v whole after held cowns [] 1 (record { few = h.few; legal = tt; spelt = tt }) refl few (subst (Consumes whole (prepend_known held after)) (sym (append-nil (line (header v cowns)))) h.taken)
+    wants v whole after held cowns [] 1 (record { few = h.few; legal = tt; spelt = tt }) (inl refl) refl few (subst (Consumes whole (prepend_known held after)) (sym (append-nil (line (header v cowns)))) h.taken)
 
 -- a log that keeps the rules has few events
 pub few_lines : (v : Version) (cowns : ℕ) (taken : List Event → Type 0) (number : ℕ) (whole now : Option (List ℕ)) → IsReading v cowns taken number whole now → number ≤ 3 * MOST_ROWS + 2

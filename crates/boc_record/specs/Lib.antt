@@ -4,4 +4,5 @@ pub mod Ahead
 pub mod Fields
 pub mod Sinks
 pub mod Reading
+pub mod Writing
 pub mod Laws

@@ -1,5 +1,5 @@
 -- What was found of the text of a record.
-use Rattle.std.specs.Prelude.{◌≡◌, ◌==◌, ℕ, ◌+◌, ◌≤◌, ◌<◌, ◌⊎◌, List, [], ◌++◌, length, count_by, codes, Option, Some, None, IfSome, Result, Ok, Err}
+use Rattle.std.specs.Prelude.{◌≡◌, ◌==◌, ℕ, ◌+◌, ◌≤◌, ◌<◌, ◌⊎◌, List, [], ◌∷◌, ◌++◌, length, count_by, codes, Option, Some, None, IfSome, Result, Ok, Err}
 use Rattle.std.specs.Io.KnownBytes.{Consumes, IsAtEnd}
 use Rattle.boc_types.specs.declared.limits.TheConstants.{MOST_COWNS, MOST_LINE}
 use Rattle.boc_types.specs.declared.event.Event.{Event}
@@ -16,6 +16,7 @@ use Rattle.boc_rules.specs.declared.fault.RuleFault.TheVariants.{Broken, Memory}
 use Rattle.boc_record.specs.declared.fault.RecordFault.{RecordFault}
 use Rattle.boc_record.specs.declared.version.Version.{Version as Named}
 use Rattle.boc_record.specs.Versions.{spelling}
+use Rattle.boc_record.specs.Sinks.{IsSpawn}
 
 -- ---- what reading answers
 
@@ -37,7 +38,7 @@ AreGoodLines done =
     ⊎ ((version : Version) × (cowns : ℕ) × (events : List Event) × HasBegun version cowns events × (done ≡ begun version cowns events))
     ⊎ ((version : Version) × (cowns : ℕ) × (events : List Event) × HasBegun version cowns events × IsComplete events × (done ≡ record_text version cowns events))
 
--- The source failed at a line: it gave good lines before, and a beginning of this one at most.
+-- The source failed at a line: it gave good lines before, and a beginning of this one at most, which is not too long so far.
 pub record FailsAt (number : ℕ) (before after : Option (List ℕ)) : Type 0 where
   pub given : List ℕ
   pub taken : Consumes before after given
@@ -46,9 +47,15 @@ pub record FailsAt (number : ℕ) (before after : Option (List ℕ)) : Type 0 wh
   pub good : AreGoodLines done
   pub left : List ℕ
   pub unended : IsOneLine left
+  pub short : length left ≤ MOST_LINE
   pub split : given ≡ done ++ left
 
--- Memory was refused at a line: up to and with this one, the source gave a first line and the lines of events that keep the rules. Behind it the source gave no more than is taken in ahead.
+-- memory is wanted before the first event, and for a spawn as the last
+abbrev pub WantsRoom : List Event → Type 0
+WantsRoom events = (events ≡ []) ⊎ ((before : List Event) × (spawn : Event) × IsSpawn spawn × (events ≡ before ++ spawn ∷ []))
+
+-- Memory was refused at a line: up to and with this one, the source gave a first line and the lines of events that keep the rules, the last of them a spawn's
+-- where there are any. Behind it the source gave no more than is taken in ahead.
 pub record WantsMemoryAt (number : ℕ) (before after : Option (List ℕ)) : Type 0 where
   pub given : List ℕ
   pub taken : Consumes before after given
@@ -56,6 +63,7 @@ pub record WantsMemoryAt (number : ℕ) (before after : Option (List ℕ)) : Typ
   pub cowns : ℕ
   pub events : List Event
   pub begins : HasBegun version cowns events
+  pub wanted : WantsRoom events
   pub number_is : number ≡ length events + 1
   pub ahead : List ℕ
   pub few : length ahead ≤ CAPACITY
@@ -114,10 +122,11 @@ abbrev pub kind_of_fault : RuleFault → RecordFaultKind
 kind_of_fault (Broken rule) = kind_of_rule rule
 kind_of_fault Memory = kinds.Memory
 
--- the source gave the beginning of a line at most
+-- the source gave the beginning of a line at most, which is not too long so far
 pub record GivesPart (before after : Option (List ℕ)) : Type 0 where
   pub left : List ℕ
   pub unended : IsOneLine left
+  pub short : length left ≤ MOST_LINE
   pub taken : Consumes before after left
 
 -- what the source gave where it failed

@@ -13,9 +13,10 @@ pub fn text_is_of_one_record()
     ensures never_both { (text : List ℕ) (r : Recorded) (n : ℕ) (k : RecordFaultKind) → IsTextOf text r → IsFirstFault text n k → ⊥ }
 {}
 
-/// A record has one text of each version at most. It has one of the second, and one of the first exactly where each
-/// of its rows wrote all of its cowns.
+/// A text is that of a record exactly where it is its text in one of the versions, and a record has one text of each version at
+/// most. It has one of the second, and one of the first exactly where each of its rows wrote all of its cowns.
 pub fn record_has_one_text()
+    ensures either { (text : List ℕ) (r : Recorded) → IsTextOf text r ↔ ((v : Version) × IsTextIn v text r) }
     ensures one { (v : Version) (text other : List ℕ) (r : Recorded) → IsTextIn v text r → IsTextIn v other r → text ≡ other }
     ensures first { (r : Recorded) → IsRecord r → IsTextIn First (record_text First r.cowns r.events) r ↔ HasWrittenAll r.rows }
     ensures second { (r : Recorded) → IsRecord r → IsTextIn Second (record_text Second r.cowns r.events) r }

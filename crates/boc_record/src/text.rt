@@ -1,11 +1,12 @@
 // From a record to its text.
 
-ghost use Rattle.std.specs.Prelude.{◌≡◌, ◌<◌, ◌≤◌, ◌+◌, ◌*◌, [], ◌∷◌, ◌++◌, ℕ, List, Option, suc, codes, length, drop, OnOk, MatchResult};
+ghost use Rattle.std.specs.Prelude.{◌≡◌, ◌<◌, ◌≤◌, ◌+◌, ◌*◌, [], ◌∷◌, ◌++◌, ℕ, List, Option, suc, codes, length, drop, OnOk, OnErr, MatchResult};
 ghost use Rattle.boc_types.specs.text.RecordTexts.{Second, field, fields, line, header, event_line, event_lines, record_text, status_number};
 ghost use Rattle.std.specs.Io.KnownBytes.{Appends};
 ghost use Rattle.boc_text.specs.Streams.{StopsAt};
 ghost use Rattle.boc_text.specs.Outgoing.{IsOut, IsUnused, size};
 ghost use Rattle.boc_text.specs.Writing.{Writes, CountsWrite};
+ghost use Rattle.boc_record.specs.Writing.{PutsFirst};
 ghost use Rattle.boc_record.specs.declared.text.TheConstants.{MOST_BYTES, MOST_EVENTS, MOST_FIELD};
 
 use boc_text::{MOST_DIGITS, Outgoing, Sink, Stopped, WriteFault, write_before};
@@ -84,9 +85,10 @@ fn send_events<W: Sink>(
 }
 
 /// Puts the lines of events behind a text, as the second version of records has them. `AllocError` says that memory was refused;
-/// then a beginning of them may stand there.
+/// then whole lines stand there, those of the first events and not of all.
 pub fn put_events(text: &mut Vec<u8>, events: &Events<'_>) -> Result<(), AllocError>
-    ensures { OnOk result (text.new.items ≡ text.old.items ++ event_lines Second events.now) }
+    ensures ok { OnOk result (text.new.items ≡ text.old.items ++ event_lines Second events.now) }
+    ensures err { OnErr result (PutsFirst Second events.now text.old.items text.new.items) }
 {
     let mut room = [b'\n'; MOST_BYTES];
     for place in 0..events.len() {
@@ -95,10 +97,12 @@ pub fn put_events(text: &mut Vec<u8>, events: &Events<'_>) -> Result<(), AllocEr
     Ok(())
 }
 
-// Puts the line of an event behind a text. It is formed in a room that all lines share.
+// Puts the line of an event behind a text. It is formed in a room that all lines share. Nothing of it is put where memory is
+// refused.
 fn put_event(text: &mut Vec<u8>, room: &mut [u8], event: &Event) -> Result<(), AllocError>
     requires { length room.old ≡ MOST_BYTES }
-    ensures { OnOk result (text.new.items ≡ text.old.items ++ line (event_line Second event.now)) }
+    ensures ok { OnOk result (text.new.items ≡ text.old.items ++ line (event_line Second event.now)) }
+    ensures err { OnErr result (text.new.items ≡ text.old.items) }
 {
     let begin = line_before(room, event);
     text.extend_from_slice(&room[begin..])

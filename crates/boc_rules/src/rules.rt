@@ -90,9 +90,9 @@ impl Rules {
         self.judge.rooms()
     }
 
-    // Puts an event that keeps the rules behind the others. For a spawn there must be room, which it takes. It takes
-    // no memory, and judges nothing.
-    fn put(&mut self, event: Event)
+    /// Puts an event that keeps the rules behind the others. For a spawn there must be room, which it takes. It takes
+    /// no memory, and judges nothing.
+    pub fn put(&mut self, event: Event)
         requires allowed { IsAllowed self.old.cowns (entries self.old.events) event }
         requires room { HasRoomFor self.old.rooms event }
         ensures { self.new ≡ grown self.old event }

@@ -76,9 +76,9 @@ Exhausts founds.Cut rest = IsAtEnd rest
 Exhausts founds.TooLong rest = Unit {0}
 Exhausts founds.Device rest = Unit {0}
 
--- where the source failed, what is taken in and not given is the beginning of a line
+-- where the source failed, what is taken in and not given is the beginning of a line, which is not too long so far
 abbrev pub LeavesOpen : Found → List ℕ → Type 0
-LeavesOpen founds.Device ahead = HasNoLineFeed ahead
+LeavesOpen founds.Device ahead = HasNoLineFeed ahead × (length ahead ≤ MOST_LINE)
 LeavesOpen _ ahead = Unit {0}
 
 -- the lines are over after each answer but a line

@@ -10,10 +10,10 @@ use thiserror::Error;
 #[derive(Clone, Copy, PartialEq, Eq, Debug, Error)]
 pub enum WriteFault {
     /// Memory was refused, and nothing went out.
-    #[error("memory")]
+    #[error("out of memory")]
     Memory,
     /// The sink failed, after the first `gone` bytes of the text.
-    #[error("device")]
+    #[error("the sink failed after {gone} bytes")]
     Device { gone: usize },
 }
 

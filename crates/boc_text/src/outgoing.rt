@@ -1,6 +1,6 @@
 //! A text that goes out while it is formed.
 
-ghost use Rattle.std.specs.Prelude.{◌≡◌, ◌+◌, ◌<◌, ◌≤◌, ◌^◌, ◌++◌, List, ℕ, Option, length, IfOk, OnOk, MatchResult, vec_capacity};
+ghost use Rattle.std.specs.Prelude.{◌≡◌, ◌+◌, ◌<◌, ◌≤◌, ◌^◌, ◌++◌, List, ℕ, Option, length, IfOk, OnOk, OnErr, MatchResult, vec_capacity};
 ghost use Rattle.std.specs.Io.KnownBytes.{Appends};
 ghost use Rattle.boc_text.specs.Streams.{StopsAt, CountsFailure};
 ghost use Rattle.boc_text.specs.declared.outgoing.TheConstants.{ROOM};
@@ -36,7 +36,8 @@ impl Outgoing {
         })
     }
 
-    /// Puts bytes behind the text. Where there is no room for them, what hasn't gone out yet goes out first.
+    /// Puts bytes behind the text. Where there is no room for them, what hasn't gone out yet goes out first. Where the sink
+    /// fails, the bytes are not put, and the text stays as it was, with all that it held back.
     pub fn put<W: Sink>(&mut self, bytes: &[u8], sink: &mut W) -> Result<(), Stopped>
         requires few { length bytes.now ≤ ROOM }
         requires bound { size self.old + length bytes.now < 2 ^ 64 }
@@ -45,6 +46,7 @@ impl Outgoing {
             (λ _. IsOut before (W.written sink.new) (text ++ bytes.now) self.new)
             (λ s. StopsAt s.gone text before (W.written sink.new)) }
         ensures size { OnOk result (size self.new ≡ size self.old + length bytes.now) }
+        ensures stays { OnErr result (self.new ≡ self.old) }
         ensures failures { CountsFailure result (W.failures sink.old) (W.failures sink.new) }
     {
         if self.part.capacity() - self.part.len() < bytes.len() {

@@ -6,13 +6,16 @@ ghost use Rattle.boc_text.specs.Streams.{ReadsWhole, StopsAt, CountsDevice};
 
 use crate::stream::{Failed, Sink, Source};
 use std::alloc::{AllocError, AllocFailed, Global};
+use thiserror::Error;
 
 /// Why an input could not be taken in.
-#[derive(Clone, Copy, PartialEq, Eq, Debug)]
+#[derive(Clone, Copy, PartialEq, Eq, Debug, Error)]
 pub enum TextFault {
     /// Memory was refused.
+    #[error("out of memory")]
     Memory,
     /// The source failed.
+    #[error("the source failed")]
     Device,
 }
 

@@ -4,6 +4,10 @@ use Rattle.boc_record.proofs.laws.record_has_one_text.Goals as goal
 
 pub returns : goal.returns
 returns c = record {
+  either = λ text r. (
+    λ t. (t.version, record { record_is = t.record_is; spelt = t.spelt; is = t.is }),
+    λ (v, t). record { record_is = t.record_is; version = v; spelt = t.spelt; is = t.is },
+  );
   one = λ v text other r t u. t.is ∙ sym u.is;
   first = λ r is. (
     λ t. (first_spells r is).0 t.spelt,

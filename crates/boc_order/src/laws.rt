@@ -1,4 +1,4 @@
-// Laws of plans and chains: of some rows there is one of each.
+// Laws of plans and chains: of some rows there is one of each. And that links are counted as requests are.
 
 ghost use Rattle.std.specs.Prelude.{◌≡◌, ℕ, List};
 ghost use Rattle.boc_types.specs.declared.chain.ChainStep.{ChainStep};
@@ -8,6 +8,8 @@ ghost use Rattle.boc_types.specs.plans.Plans.{HasEnds, IsEarliest, IsEnd};
 ghost use Rattle.boc_types.specs.plans.Chains.{IsPicked, weight_of};
 ghost use Rattle.boc_types.specs.plans.Greedy.{IsBound, IsSpan};
 ghost use Rattle.boc_types.specs.plans.Edits.{IsSweep};
+ghost use Rattle.boc_types.specs.machine.Queues.{times as times_in};
+ghost use Rattle.boc_order.specs.Waits.{times};
 
 /// Rows have one earliest plan at most. A plan has one end at most, its rows have one list of ends, and one chain is picked in it.
 pub fn rows_have_one_plan()
@@ -28,4 +30,9 @@ pub fn rows_have_one_span()
 pub fn chain_weighs_the_span()
     ensures { (rows : List Row) (plan : List ℕ) (span : ℕ) (steps : List ChainStep) → IsRows rows → IsEarliest rows plan → IsEnd rows plan span
         → IsPicked rows plan steps → weight_of steps ≡ span }
+{}
+
+/// How often a row stands among links is how often its number stands in a list of the machine's: plans and machine count in one way.
+pub fn links_are_counted_as_requests()
+    ensures { (row : ℕ) (links : List ℕ) → times row links ≡ times_in row links }
 {}

@@ -23,3 +23,4 @@ pub mod Totals
 pub mod Busy
 pub mod Bound
 pub mod FewMoments
+pub mod Alone

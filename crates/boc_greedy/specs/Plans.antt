@@ -1,5 +1,6 @@
 -- The greedy plan of some rows, as it is answered.
 use Rattle.std.specs.Prelude.{◌≡◌, ℕ, ◌+◌, ◌-◌, ◌*◌, ◌≤◌, List, length}
+use Rattle.boc_types.specs.declared.limits.TheConstants.{MOST_ROWS}
 use Rattle.boc_types.specs.declared.rows.Row.{Row}
 use Rattle.boc_types.specs.plans.Plans.{HasEnds, IsEnd, Keeps, work_of}
 use Rattle.boc_types.specs.plans.Greedy.{IsBound, IsForWorkers, IsGreedy, IsMoment, IsSpan, CountsAll}
@@ -14,7 +15,7 @@ abbrev pub IsAtMostTwice : List Row → ℕ → ℕ → Type 0
 IsAtMostTwice rows p tick = (plan workers : List ℕ) (last : ℕ) → Keeps rows plan → IsForWorkers rows p plan workers → IsEnd rows plan last →
     p * tick ≤ (2 * p - 1) * last
 
--- The plan is the greedy one of the rows for p workers, with the ends of its rows, its own end, the bound, and the number of ticks at which something can change, which are at most twice as many as the rows. So it keeps, is for p workers, ends by the bound, and ends at most twice as late as any plan for p workers.
+-- The plan is the greedy one of the rows for p workers, with the ends of its rows, its own end, the bound, and the number of ticks at which something can change, which are at most twice as many as the rows. There are no more rows than there may be. So it keeps, is for p workers, ends by the bound, and ends at most twice as late as any plan for p workers.
 pub record IsGreedyPlanOf (rows : List Row) (p : ℕ) (plan : Greedy) : Type 0 where
   pub asked : plan.p ≡ p
   pub greedy : IsGreedy rows p plan.starts.items plan.workers.items
@@ -28,3 +29,4 @@ pub record IsGreedyPlanOf (rows : List Row) (p : ℕ) (plan : Greedy) : Type 0 w
   pub close : IsClose rows p plan.ends_at
   pub within : plan.ends_at ≤ plan.bound
   pub twice : IsAtMostTwice rows p plan.ends_at
+  pub few : length plan.starts.items ≤ MOST_ROWS

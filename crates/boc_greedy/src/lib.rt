@@ -8,6 +8,7 @@ mod bits;
 mod children;
 mod entry;
 mod frontier;
+pub mod laws;
 mod report;
 mod row_set;
 mod simulation;

@@ -1,5 +1,5 @@
 -- The steps of a chain, one by one.
-use Rattle.std.proofs.Common.{◌≡◌, ℕ, suc, ◌+◌, ◌*◌, ◌<◌, ◌≤◌, List, length, take, Option, Some, None, get_or, add-one, below_more, sym, ap, subst, arith}
+use Rattle.std.proofs.Common.{◌≡◌, ℕ, suc, ◌+◌, ◌*◌, ◌<◌, ◌≤◌, List, [], ◌∷◌, length, take, Option, Some, None, get_or, add-one, below_more, refl, sym, ap, subst, arith}
 use Rattle.boc_types.specs.declared.limits.TheConstants.{MOST_TICKS}
 use Rattle.std.specs.Prelude.{slice_get}
 use Rattle.std.proofs.lemmas.List.Sums.{sum_by_more}
@@ -10,6 +10,7 @@ use Rattle.boc_types.specs.declared.chain.Via.{Via}
 use Rattle.boc_types.specs.declared.chain.Via.TheVariants.{Spawn, Order, Last}
 use Rattle.boc_types.specs.runs.Rows.{IsRows, parent_of, ticks_of}
 use Rattle.boc_types.specs.plans.Chains.{weight_of, LinkVia, IsLink, StepHolds, IsChain}
+use Rattle.boc_order.proofs.Chaining.{Links}
 
 module _ (rows : List Row) (steps : List ChainStep) (k : ℕ) (d : ChainStep) (there : k < length steps) (next : Option ChainStep) (is_next : next ≡ slice_get steps (k + 1)) where
   here : slice_get steps k ≡ Some (get_or steps k d)
@@ -44,6 +45,16 @@ link_small rows hr Spawn a weight (Some next) h l =
     omega (arith, l.1, hr.ticks_cover next.row l.0.not_main l.0.there, hr.ticks_high a h)
 link_small rows hr Order a weight (Some next) h l = omega (arith, l.1, hr.ticks_high a h)
 link_small rows hr Last a weight (Some next) h l = absurd l
+
+-- so a chain has no more steps than there are rows
+chain_rises : (rows : List Row) → IsRows rows → (s : ChainStep) (rest : List ChainStep) → Links rows (s ∷ rest) → s.row + length (s ∷ rest) ≤ length rows
+chain_rises rows hr s [] links = omega (arith, (links 0 s refl).0)
+chain_rises rows hr s (next ∷ rest) links =
+    omega (arith, link_rises rows hr s.via s.row s.weight next (links 0 s refl).1, chain_rises rows hr next rest (λ k t e. links (suc k) t e))
+
+pub chain_short : (rows : List Row) → IsRows rows → (steps : List ChainStep) → IsChain rows steps → length steps ≤ length rows
+chain_short rows hr [] c = omega (arith, c.not_empty)
+chain_short rows hr (s ∷ rest) c = omega (arith, chain_rises rows hr s rest (λ k t e. (c.holds k t e).1))
 
 pub chain_made : (rows : List Row) (steps : List ChainStep) (n : ℕ) → length steps ≤ n → 0 < length steps → ((j : ℕ) → j < n → StepHolds rows steps j) → IsChain rows steps
 chain_made rows steps n h some hold = record {

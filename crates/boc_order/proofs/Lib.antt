@@ -8,3 +8,5 @@ pub mod Chaining
 pub mod Checking
 pub mod Working
 pub mod Replacing
+pub mod Alone
+pub mod Weighing

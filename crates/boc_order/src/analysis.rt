@@ -121,6 +121,7 @@ fn costliest(alloc: Global, rows: &SeenRows, plan: &Earliest) -> Result<(Chain, 
     ensures weight { IfOk result (λ c. weight_of c.0.steps.items ≡ c.1) }
     ensures span { IfOk result (λ c. IsEnd rows.now plan.now.starts.items c.1) }
     ensures no_sooner { IfOk result (λ c. NoneEndsBefore rows.now c.1) }
+    ensures short { IfOk result (λ c. length c.0.steps.items ≤ length rows.now) }
 {
     let last = last_row(&plan.ends);
     let chain = chain_back(alloc, rows, plan, last as u32)?;

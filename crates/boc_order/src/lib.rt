@@ -6,6 +6,7 @@ mod check;
 mod following;
 mod gathering;
 mod latest;
+pub mod laws;
 mod links;
 mod plan;
 mod report;

@@ -58,4 +58,5 @@ returns c = rw (sym c.number-p.ensures.value) (record {
   close = close c;
   within = rw (bound_is c) (end_within _ _ _ _ (rw c.number-p.ensures.value c.number-p.ensures.some) (close c c.args.span c.requires.span));
   twice = greedy_twice _ c.requires.shape _ (rw c.number-p.ensures.value c.number-p.ensures.some) _ _ (all_done c).greedy _ (is_end c);
+  few = omega (arith, (all_done c).greedy.whole, c.requires.shape.not_many);
 })

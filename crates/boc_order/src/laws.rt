@@ -1,0 +1,38 @@
+// Laws of plans and chains: of some rows there is one of each. And that links are counted as requests are.
+
+ghost use Rattle.std.specs.Prelude.{◌≡◌, ℕ, List};
+ghost use Rattle.boc_types.specs.declared.chain.ChainStep.{ChainStep};
+ghost use Rattle.boc_types.specs.declared.rows.Row.{Row};
+ghost use Rattle.boc_types.specs.runs.Rows.{IsRows};
+ghost use Rattle.boc_types.specs.plans.Plans.{HasEnds, IsEarliest, IsEnd};
+ghost use Rattle.boc_types.specs.plans.Chains.{IsPicked, weight_of};
+ghost use Rattle.boc_types.specs.plans.Greedy.{IsBound, IsSpan};
+ghost use Rattle.boc_types.specs.plans.Edits.{IsSweep};
+ghost use Rattle.boc_types.specs.machine.Queues.{times as times_in};
+ghost use Rattle.boc_order.specs.Waits.{times};
+
+/// Rows have one earliest plan at most. A plan has one end at most, its rows have one list of ends, and one chain is picked in it.
+pub fn rows_have_one_plan()
+    ensures plan { (rows : List Row) (plan other : List ℕ) → IsEarliest rows plan → IsEarliest rows other → plan ≡ other }
+    ensures ends { (rows : List Row) (plan ends others : List ℕ) → HasEnds rows plan ends → HasEnds rows plan others → ends ≡ others }
+    ensures last { (rows : List Row) (plan : List ℕ) (last other : ℕ) → IsEnd rows plan last → IsEnd rows plan other → last ≡ other }
+    ensures chain { (rows : List Row) (plan : List ℕ) (steps others : List ChainStep) → IsPicked rows plan steps → IsPicked rows plan others → steps ≡ others }
+{}
+
+/// Rows have one span at most, one bound for each number of workers, and one sweep.
+pub fn rows_have_one_span()
+    ensures span { (rows : List Row) (span other : ℕ) → IsSpan rows span → IsSpan rows other → span ≡ other }
+    ensures bound { (rows : List Row) (p bound other : ℕ) → IsBound rows p bound → IsBound rows p other → bound ≡ other }
+    ensures sweep { (rows : List Row) (spans others : List ℕ) → IsSweep rows spans → IsSweep rows others → spans ≡ others }
+{}
+
+/// The chain that is picked in the earliest plan of rows weighs as many ticks as the plan takes.
+pub fn chain_weighs_the_span()
+    ensures { (rows : List Row) (plan : List ℕ) (span : ℕ) (steps : List ChainStep) → IsRows rows → IsEarliest rows plan → IsEnd rows plan span
+        → IsPicked rows plan steps → weight_of steps ≡ span }
+{}
+
+/// How often a row stands among links is how often its number stands in a list of the machine's: plans and machine count in one way.
+pub fn links_are_counted_as_requests()
+    ensures { (row : ℕ) (links : List ℕ) → times row links ≡ times_in row links }
+{}

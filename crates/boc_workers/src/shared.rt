@@ -99,8 +99,12 @@ impl<'a, 'g, L: Ledger, G: Gate> Shared<'a, 'g, L, G> {
         }
     }
 
-    // The answer of a run whose workers have ended, and made so many steps each.
-    pub(crate) fn close(
+    /// The answer of a run of a program whose workers have ended, with how many steps each of them made and the whole ledger; or
+    /// with why they were not all started.
+    ///
+    /// A dispatcher of another program is told as a stranger, whatever was noted. Else the fault that was noted is answered, then
+    /// that of the workers; and where there is none and some behaviour isn't gone yet, that the run is unfinished.
+    pub fn close(
         self,
         program: &Program,
         crew: Result<(Vec<u64>, Share<L>), RunFault>,

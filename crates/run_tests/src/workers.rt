@@ -14,7 +14,7 @@ use std::process::Abort;
 use std::test::*;
 
 // The program that a text spells.
-fn program(alloc: Global, text: &str) -> Result<Program, Fail> {
+pub(crate) fn program(alloc: Global, text: &str) -> Result<Program, Fail> {
     match read_program(alloc, text.as_bytes()) {
         Ok(program) => Ok(program),
         Err(_) => Err("the text spells a program".into()),

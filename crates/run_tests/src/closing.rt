@@ -1,0 +1,58 @@
+//! What a run answers whose dispatcher is of another program, whose workers end before it is over, or in which a fault was noted.
+
+ghost use Rattle.std.specs.Prelude.{◌≡◌};
+
+use crate::runs::{NO_COWNS, TRANSFER};
+use crate::workers::program;
+use boc_types::program::Program;
+use boc_workers::{OpenGate, RunAnswer, RunFault, Shared};
+use std::alloc::Global;
+use std::marker::Brand;
+use std::sync::ledger::{Blank, Ledger};
+use std::test::*;
+
+// What a run of a dispatcher's program answers to another program, where its one worker ends at once and a fault was noted, if any.
+fn closed<L: Ledger + Send + Sync>(
+    alloc: Global,
+    blank: Blank,
+    own: &Program,
+    asked: &Program,
+    noted: bool,
+) -> Result<RunAnswer, RunFault>
+    requires name { blank.name ≡ L.name }
+    requires parts { (blank.parts ≡ L.parts) × (blank.parts ≡ 1) }
+{
+    let (book, rest) = blank.open::<L>();
+    let mut made = Vec::new(alloc);
+    if made.push(0).is_err() {
+        return Err(RunFault::Memory);
+    }
+    let Ok(mut shared) = Shared::<L, OpenGate>::new(alloc, own, book) else {
+        return Err(RunFault::Memory);
+    };
+    if noted {
+        shared.note(RunFault::NoThread);
+    }
+    shared.close(asked, Ok((made, rest)))
+}
+
+// The fault of a run that is closed so.
+fn fault_of(alloc: Global, own: &Program, asked: &Program, noted: bool) -> Option<RunFault> {
+    closed::<Brand>(alloc, Blank::new(1), own, asked, noted).err()
+}
+
+#[test]
+fn strangers_come_first_and_unfinished_runs_last(rt: HostRuntime) -> Result<(), Fail> {
+    let alloc = rt.alloc();
+    let own = program(alloc, TRANSFER)?;
+    let other = program(alloc, NO_COWNS)?;
+    for (asked, noted, fault) in [
+        (&other, false, RunFault::Stranger),
+        (&other, true, RunFault::Stranger),
+        (&own, true, RunFault::NoThread),
+        (&own, false, RunFault::Unfinished),
+    ] {
+        assert_eq!(rt; fault_of(alloc, &own, asked, noted), Some(fault));
+    }
+    Ok(())
+}

@@ -238,6 +238,66 @@ impl Write for Broken {
     }
 }
 
+/// Fails at its k-th call alone, and gives and takes one byte at each other.
+#[derive(Drop)]
+struct BrokenAt {
+    k: u32,
+    calls: u32,
+}
+
+impl BrokenAt {
+    fn call(&mut self) -> io::Result<usize> {
+        self.calls = self.calls.saturating_add(1);
+        if self.calls == self.k {
+            return Err(io::Error::from(io::ErrorKind::Other));
+        }
+        Ok(1)
+    }
+}
+
+impl Read for BrokenAt {
+    fn read(&mut self, buf: &mut [u8]) -> io::Result<usize> {
+        let count = self.call()?;
+        Ok(count.min(buf.len()))
+    }
+}
+
+impl Write for BrokenAt {
+    fn write(&mut self, buf: &[u8]) -> io::Result<usize> {
+        let count = self.call()?;
+        Ok(count.min(buf.len()))
+    }
+
+    fn flush(&mut self) -> io::Result<()> {
+        Ok(())
+    }
+}
+
+#[test]
+fn failed_call_is_not_made_again(rt: HostRuntime) {
+    let mut buffer = [0; 4];
+    for k in 1..=3 {
+        let mut reader = Counted::new(BrokenAt { k, calls: 0 });
+        let read = [
+            reader.read(&mut buffer),
+            reader.read(&mut buffer),
+            reader.read(&mut buffer),
+        ];
+        let mut writer = Counted::new(BrokenAt { k, calls: 0 });
+        let written = [
+            writer.write(b"bc"),
+            writer.write(b"bc"),
+            writer.write(b"bc"),
+        ];
+        for (call, answers) in (1..).zip(read.iter().zip(&written)) {
+            let wanted = if call == k { Err(Failed) } else { Ok(1) };
+            assert_eq!(rt; (*answers.0, *answers.1), (wanted, wanted));
+        }
+        assert_eq!(rt; (reader.failures, reader.inner.calls), (1, 3));
+        assert_eq!(rt; (writer.failures, writer.inner.calls), (1, 3));
+    }
+}
+
 #[test]
 fn failures_are_counted(rt: HostRuntime) {
     let mut buffer = [0; 4];

@@ -1,4 +1,5 @@
 """Each request for memory refused in turn: the answer is the want of memory, or the whole right one."""
+import functools
 import os
 import shutil
 import subprocess
@@ -34,7 +35,7 @@ FOREVER = b"def f(;) { when f(;); } main { when f(;); }"
 
 
 def runs(program):
-    """Words, what stands on standard input, and the answer with ample memory."""
+    """Words, what stands on standard input, and the answer with ample memory; none where it may be any record of a run of the transfer."""
     text, record = program.example("transfer.boc"), program.example("transfer.record")
     yield ["values"], text, done(VALUES["transfer.boc"].encode())
     yield ["check"], record, done(b"ok 4\n")
@@ -42,6 +43,7 @@ def runs(program):
     yield ["profile", "--p", "2"], record, done((PROFILE + GREEDY).encode())
     yield ["whatif"], record, done(PROFILE.encode())
     yield ["run"], text, done(record)
+    yield ["run", "--workers", "2"], text, None
     yield ["time", "--workers", "3", "--p", "2"], text, done((PROFILE + GREEDY).encode())
     yield ["time", "--workers", "2"], FULL, program.run(["time"], FULL)
     yield ["run", "--workers", "2"], b"main { x = 1; }", refused(3, "boc: line 1: 5 UnknownName")
@@ -82,17 +84,25 @@ def build(library):
 def fault_of_refusals(program, library, words, source, expected):
     """Goes on to the number of the first request that the program doesn't make."""
     in_threads = words[0] in ("run", "time")
+    fault_of_whole = functools.partial(fault_of, expected) if expected else functools.partial(fault_of_transfer, program)
     told = []
     for request in range(1, MOST_REQUESTS):
         answer, note = run_with_refusal(program, library, words, source, request)
         if not note:
-            fault = fault_of(expected, answer)
-            return f"with no request refused: {fault}" if fault else fault_of_told(told, in_threads and expected.status == 0)
+            fault = fault_of_whole(answer)
+            return f"with no request refused: {fault}" if fault else fault_of_told(told, in_threads and answer.status == 0)
         if answer == MEMORY or answer == NO_THREAD and in_threads and note != b"w":
             told.append(answer)
-        elif fault_of(expected, answer) is not None:
+        elif fault_of_whole(answer) is not None:
             return f"with request {request} refused: {fault_of(MEMORY, answer)}"
     return f"it makes more than {MOST_REQUESTS} requests"
+
+
+def fault_of_transfer(program, answer):
+    """What is wrong with an answer that is to be the record of a run of the transfer, by whichever threads."""
+    if answer is None or answer.status != 0:
+        return f"it answered {answer}"
+    return fault_of(done(PROFILE.encode()), program.run(["profile"], answer.output))
 
 
 def fault_of_told(told, has_run):

@@ -62,14 +62,14 @@ build() {
 note() {
     files=$(files_of "$1")
     # shellcheck disable=SC2086
-    seen=$(stat -c '%i%s%.Z' "$1" $files 2>&1)
+    seen=$(stat -c '%.Z' "$1" $files 2>&1)
     sleep 0.02
     is_tree_of "$1" || return
     new=.boc-checked.$$
     {
         echo "program=$program"
         # shellcheck disable=SC2086
-        echo look\(\) { stat -c \'%i%s%.Z\' "$1" $files\; }
+        echo look\(\) { stat -c \'%.Z\' "$1" $files\; }
         echo "seen='$seen'"
     } 2> /dev/null > "$new" && mv -f "$new" .boc-checked 2> /dev/null || rm -f "$new" 2> /dev/null
 }

@@ -111,7 +111,7 @@ RefusesProgram (Err fault) before after = IsWant (matter_of fault)
 abbrev pub IsProgram : List ℕ → Type 0
 IsProgram text = (program : Program) × Spells text program
 
--- the text spells a program that can come to as many behaviours as there may be
+-- the text spells a program that can come to as many behaviours as there may be, with one more due
 pub record CanRunOver (text : List ℕ) : Type 0 where
   pub program : Program
   pub spells : Spells text program

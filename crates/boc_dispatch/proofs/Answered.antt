@@ -14,10 +14,12 @@ use Rattle.boc_types.specs.declared.step.Step.TheVariants.{Own, Settle}
 use Rattle.boc_types.specs.program.Meaning.{Wish, meaning}
 use Rattle.boc_types.specs.program.Rising.{rising}
 use Rattle.boc_types.specs.runs.Serial.{Behaviour}
-use Rattle.boc_types.specs.runs.Run.{Member, next_wish, meaning_of, wish_at}
+use Rattle.boc_types.specs.runs.Lives.{Running}
+use Rattle.boc_types.specs.runs.Run.{Member, next_wish, state_of, meaning_of, wish_at}
 use Rattle.boc_types.specs.machine.Stages.{OpenBehaviour, enqueues, enqueues_at, parent_of}
 use Rattle.boc_types.specs.machine.Steps.{at, members, opened, IsQuiet, Opens, Advances, Owns, IsBlockedAsking}
 use Rattle.boc_types.specs.machine.Turns.{IsEnqueueOf}
+use Rattle.boc_machine.proofs.Rows.{life_there}
 use Rattle.boc_eval.specs.Frames.{UnderWay as Framed, Ran, last_of, last_wish_of, wishes_of}
 use Rattle.boc_eval.specs.Wishes.{wish_of}
 use Rattle.boc_eval.specs.declared.wish.SpawnWish.{SpawnWish}
@@ -105,24 +107,53 @@ module _ (d : Parts) (k : IsKept d) where
   pub opened_is : opened (state d) ≡ d.opened
   opened_is = behaviours_length d.live d.opened
 
-  pub full : (f : Framed) (row : ℕ) → MayAsk (underway d) f row → MOST_ROWS ≤ d.opened → OpensWish (underway d) f row (Err open_faults.Behaviours) (underway d)
-  full f row may many =
+  -- the row of a frame that may ask runs
+  runs : (f : Framed) (row : ℕ) → MayAsk (underway d) f row → state_of (members d.program (state d)) row ≡ Some Running
+  runs f row may =
+      let h = may.handed in
+      life_there (members d.program (state d)) row h.member h.is ∙ ap (λ z. Some z) h.runs
+
+  pub full : (f : Framed) (row : ℕ) (w : Wish) → MayAsk (underway d) f row → Some w ≡ last_wish_of f → MOST_ROWS ≤ d.opened
+      → OpensWish (underway d) f row (Err open_faults.Behaviours) (underway d)
+  full f row w may last many =
       let counted = k.sound.counted in
       let few = k.sound.few in
-      let o = opened_is in
-      (refl, may, omega arith)
+      let o = opened_is in (
+        refl,
+        may,
+        record {
+          served = row;
+          serves = refl;
+          runs = runs f row may;
+          none_open = may.next.none_open;
+          wish = w;
+          next = next_is (underway d) f row w may last;
+          full = omega arith;
+        },
+      )
 
   pub opens : (e : Parts) (f : Framed) (row : ℕ) (child : Child) → MayAsk (underway d) f row
       → Opens d.program (state d) row (state e) × (e.program ≡ d.program) × (child.number ≡ d.opened) × (child.row ≡ row)
       → OpensWish (underway d) f row (Ok child) (underway e)
-  opens e f row child may o = (may.handed, o.2 ∙ sym opened_is, o.3, state e, o.0, moved d e o.1)
+  opens e f row child may o = (may, o.2 ∙ sym opened_is, o.3, state e, o.0, moved d e o.1)
 
-  pub no_memory : (e : Parts) (f : Framed) (row : ℕ) → MayAsk (underway d) f row → d.opened < MOST_ROWS → Stays d e
-      → OpensWish (underway d) f row (Err open_faults.Memory) (underway e)
-  no_memory e f row may room stays =
+  pub no_memory : (e : Parts) (f : Framed) (row : ℕ) (w : Wish) → MayAsk (underway d) f row → Some w ≡ last_wish_of f → d.opened < MOST_ROWS
+      → Stays d e → OpensWish (underway d) f row (Err open_faults.Memory) (underway e)
+  no_memory e f row w may last room stays =
       let counted = k.sound.counted in
-      let o = opened_is in
-      (stays, may, omega arith)
+      let o = opened_is in (
+        stays,
+        may,
+        (
+          w,
+          record {
+            runs = runs f row may;
+            none_open = may.next.none_open;
+            next = next_is (underway d) f row w may last;
+            room = omega arith;
+          },
+        ),
+      )
 
   -- ---- advance
 

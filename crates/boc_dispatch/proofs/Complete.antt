@@ -9,6 +9,7 @@ use Rattle.boc_types.specs.declared.event.Event.TheVariants.{Spawn, Start, End}
 use Rattle.boc_types.specs.runs.Lives.{Life, Pending, Running, Ended, changed}
 use Rattle.boc_types.specs.runs.Serial.{behaviour_of}
 use Rattle.boc_types.specs.runs.Legal.{Entry, pending, after, after_all, entries, IsComplete}
+use Rattle.boc_machine.proofs.Rows.{changed_later}
 use Rattle.boc_types.specs.runs.Run.{Member, Config, config_after, config_after_all, config_of, opening, waiting, spawned_by, started_on, members_after_spawn, MaySpawn, MayHappen, IsRunFrom, IsRun, IsWholeRun}
 
 -- what has become of each row
@@ -18,18 +19,14 @@ lives_of ms = map (λ m. m.life) ms
 abbrev lives_in : List Entry → List Life
 lives_in es = map (λ e. e.life) es
 
-pub head_kept : {A : Type 0} (x : A) (xs : List A) (i : ℕ) (f : A → A) (o : Option A) → changed (x ∷ xs) (suc i) f o ≡ x ∷ changed xs i f o
-head_kept x xs i f None = refl
-head_kept x xs i f (Some y) = refl
-
 -- a change of one item seen through a map
 changed_map : {A : Type 0} (g : A → Life) (f : A → A) (h : Life → Life) → ((x : A) → g (f x) ≡ h (g x)) → (xs : List A) (i : ℕ)
     → map g (changed xs i f (slice_get xs i)) ≡ changed (map g xs) i h (slice_get (map g xs) i)
 changed_map g f h same [] i = refl
 changed_map g f h same (x ∷ xs) zero = ap (λ y. y ∷ map g xs) (same x)
 changed_map g f h same (x ∷ xs) (suc i) =
-    ap (map g) (head_kept x xs i f (slice_get xs i)) ∙ ap (λ ys. g x ∷ ys) (changed_map g f h same xs i)
-    ∙ sym (head_kept (g x) (map g xs) i h (slice_get (map g xs) i))
+    ap (map g) (changed_later x xs i f (slice_get xs i)) ∙ ap (λ ys. g x ∷ ys) (changed_map g f h same xs i)
+    ∙ sym (changed_later (g x) (map g xs) i h (slice_get (map g xs) i))
 
 abbrev kept : Life → Life
 kept life = life

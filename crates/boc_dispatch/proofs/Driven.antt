@@ -18,8 +18,8 @@ use Rattle.boc_dispatch.specs.declared.worker.Hand.{Hand}
 use Rattle.boc_dispatch.specs.declared.worker.Hand.TheVariants as hands
 use Rattle.boc_dispatch.specs.declared.worker.Worker.{Worker}
 use Rattle.boc_dispatch.specs.Underway.{Underway}
-use Rattle.boc_dispatch.specs.Calls.{in_state}
-use Rattle.boc_dispatch.specs.Working.{row_in, HasNoRoom}
+use Rattle.boc_dispatch.specs.Calls.{in_state, HasNoRoom}
+use Rattle.boc_dispatch.specs.Working.{row_in}
 use Rattle.boc_dispatch.specs.Driving.{HandFits, IsCrew, IsAt, rows_of, of_program, IsDriven, HasNoWorker, RunsOutOfRows, Drives}
 use Rattle.boc_dispatch.proofs.Crews.{crew_on}
 use Rattle.boc_dispatch.proofs.Turned.{turns_more}

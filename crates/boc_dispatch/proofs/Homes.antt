@@ -9,7 +9,7 @@ use Rattle.boc_types.specs.runs.Serial.{Behaviour, inputs_of}
 use Rattle.boc_types.specs.machine.Turns.{IsEnqueueOf}
 use Rattle.boc_types.specs.program.Programs.{cown_count}
 use Rattle.boc_types.specs.program.Signatures.{signature_of, AllBelow, CountsAre}
-use Rattle.boc_dispatch.proofs.Members.{MemberFits, all_fit, values_length}
+use Rattle.boc_machine.proofs.Members.{MemberFits, all_fit, values_length}
 use Rattle.boc_dispatch.proofs.Present.{inputs_present}
 use Rattle.boc_types.proofs.ChangedItems.{item_at, place_below}
 use Rattle.boc_eval.specs.Frames.{UnderWay as Framed, last_of, last_wish_of, wishes_of}

@@ -3,7 +3,6 @@ pub mod Tables
 pub mod Fits
 pub mod Standing
 pub mod Complete
-pub mod Members
 pub mod Present
 pub mod Homes
 pub mod Counts

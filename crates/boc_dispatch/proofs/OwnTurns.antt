@@ -43,7 +43,7 @@ use Rattle.boc_dispatch.specs.Calls.{in_state, Begins, OpensWish, AdvancesChild,
 use Rattle.boc_dispatch.specs.Driving.{IsFrameOf, IsWishing, IsEnqueuing, HandFits}
 use Rattle.boc_dispatch.proofs.Elsewhere.{logged, same_woken}
 use Rattle.boc_dispatch.proofs.Hands.{same_member, starting_waits, releases_on}
-use Rattle.boc_dispatch.proofs.Members.{all_fit}
+use Rattle.boc_machine.proofs.Members.{all_fit}
 
 -- ---- a start
 

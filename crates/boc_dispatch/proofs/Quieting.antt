@@ -31,8 +31,8 @@ use Rattle.boc_dispatch.specs.declared.worker.Hand.{Hand}
 use Rattle.boc_dispatch.specs.declared.worker.Hand.TheVariants as hands
 use Rattle.boc_dispatch.specs.declared.worker.Worker.{Worker}
 use Rattle.boc_dispatch.specs.Underway.{Underway}
-use Rattle.boc_dispatch.specs.Calls.{CanMove}
-use Rattle.boc_dispatch.specs.Working.{row_in, HasNoRoom}
+use Rattle.boc_dispatch.specs.Calls.{CanMove, HasNoRoom}
+use Rattle.boc_dispatch.specs.Working.{row_in}
 use Rattle.boc_dispatch.specs.Driving.{HandFits, IsAt, rows_of, row_for, IsDriven, HasNoWorker, RunsOutOfRows, Drives, DrivesQuiet}
 use Rattle.boc_dispatch.proofs.Driven.{at_sound, at_next, at_stranger, at_full, at_end}
 

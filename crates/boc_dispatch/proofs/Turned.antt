@@ -3,9 +3,7 @@ use Rattle.std.proofs.Common.{◌≡◌, ℕ, ◌⊎◌, inl, inr, List, [], ◌
 use Rattle.std.specs.Prelude.{Some, None, Ok, Err}
 use Rattle.boc_types.specs.declared.program.Program.{Program}
 use Rattle.boc_types.specs.declared.step.Step.{Step}
-use Rattle.boc_types.specs.machine.Steps.{members}
 use Rattle.boc_types.specs.machine.Turns.{TakesTurn, NoneReady, Driven, Turn, Turns}
-use Rattle.boc_machine.proofs.Rows.{life_there}
 use Rattle.boc_eval.specs.Frames.{UnderWay as Framed, Ran}
 use Rattle.boc_dispatch.specs.declared.answers.FinishFault.{FinishFault}
 use Rattle.boc_dispatch.specs.declared.answers.FinishFault.TheVariants as finish_faults
@@ -21,8 +19,8 @@ use Rattle.boc_dispatch.specs.declared.worker.Refusal.TheVariants as refusals
 use Rattle.boc_dispatch.specs.declared.worker.Turn.{Turn as Answer}
 use Rattle.boc_dispatch.specs.declared.worker.Turn.TheVariants as turns
 use Rattle.boc_dispatch.specs.Underway.{Underway}
-use Rattle.boc_dispatch.specs.Calls.{OpensWish, FinishesRow}
-use Rattle.boc_dispatch.specs.Working.{row_in, IsRefused, Works, HasThought, HasNoRoom}
+use Rattle.boc_dispatch.specs.Calls.{HasNoRoom, OpensWish, FinishesRow}
+use Rattle.boc_dispatch.specs.Working.{row_in, IsRefused, Works, HasThought}
 use Rattle.boc_dispatch.specs.Driving.{IsWishing, IsOutcomeOf, EndsFor, HandFits}
 use Rattle.boc_dispatch.proofs.Worked.{thinks_row, has_thought}
 use Rattle.boc_dispatch.proofs.Hands.{thought_fits}
@@ -53,8 +51,8 @@ moved u v h was k step same w = record { takes = subst (λ r. TakesTurn u.progra
 blocked : (u v : Underway) (h was k : Hand) → row_in h ≡ row_in was → Works u h turns.Blocked v k → HasTurn u was v k
 blocked u v h was k same w = record {
   takes = subst (λ (x : Underway). TakesTurn u.program u.state (row_in was) x.state (row_in k)) (sym w.0)
-      (subst (λ r. TakesTurn u.program u.state (row_in was) u.state r) (ap row_in (sym w.1))
-      (subst (λ r. TakesTurn u.program u.state r u.state (row_in h)) same w.2));
+      (subst (λ r. TakesTurn u.program u.state (row_in was) u.state r) (sym w.2.serves ∙ ap row_in (sym w.1))
+      (subst (λ r. TakesTurn u.program u.state r u.state (Some w.2.row)) (sym w.2.serves ∙ same) w.2.takes));
   same = ap (λ (x : Underway). x.program) w.0;
 }
 
@@ -70,20 +68,6 @@ none_ready u v h was k same is hand nothing none =
       same = ap (λ (x : Underway). x.program) is;
     }
 
--- a wish without room
-no_room : (u v : Underway) (row : ℕ) (f : Framed) → IsWishing u row f → OpensWish u f row (Err open_faults.Behaviours) v → HasNoRoom u (Some row)
-no_room u v row f h o =
-    let m = h.may.handed in
-    record {
-      served = row;
-      serves = refl;
-      runs = life_there (members u.program u.state) row m.member m.is ∙ ap (λ z. Some z) m.runs;
-      none_open = h.may.next.none_open;
-      wish = h.wish;
-      next = h.next;
-      full = o.2;
-    }
-
 open_stops : (u v : Underway) (row : ℕ) (f : Framed) (was : Hand) (fault : OpenFault) → Some row ≡ row_in was → IsWishing u row f → OpensWish u f row (Err fault) v
     → IsStopped u was (refusals.Open fault)
 open_stops u v row f was open_faults.Stranger same h o = absurd (o.1 h.may.handed)
@@ -91,7 +75,7 @@ open_stops u v row f was open_faults.OutOfTurn same h o = absurd (o.2 h.may.next
 open_stops u v row f was open_faults.Behaviours same h o = record {
   fault = drive_faults.Behaviours;
   ends = refl;
-  full = λ e. subst (HasNoRoom u) same (no_room u v row f h o);
+  full = λ e. subst (HasNoRoom u) same o.2;
 }
 open_stops u v row f was open_faults.Memory same h o = record {
   fault = drive_faults.Memory;

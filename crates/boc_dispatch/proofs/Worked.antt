@@ -46,7 +46,8 @@ advances u v row f child step a =
     made u v (hands.Framed row f (dues.Enqueuing child)) (hands.Framed row f (dues.Enqueuing child)) step a.2 a.4 (AdvancedTurn child.row child.number step a.2 a.0 a.3) (advance_makes u.program u.state child.number step a.2 a.3)
 
 pub waits_to_settle : (u v : Underway) (row : ℕ) (f : Framed) (child : Child) → AdvancesChild u child advanced.Blocked v → Works u (hands.Framed row f (dues.Enqueuing child)) turns.Blocked v (hands.Framed row f (dues.Enqueuing child))
-waits_to_settle u v row f child a = (a.0, refl, WaitsToSettle child.row child.number a.1 a.2)
+waits_to_settle u v row f child a =
+    (a.0, refl, record { row = child.row; serves = refl; takes = WaitsToSettle child.row child.number a.1 a.2 })
 
 pub owns : (u v : Underway) (row : ℕ) (f : Framed) (child : Child) → AdvancesChild u child advanced.Enqueued v → Works u (hands.Framed row f (dues.Enqueuing child)) (turns.Moved steps.Own) v (hands.Framed child.row f dues.Going)
 owns u v row f child a =
@@ -85,7 +86,7 @@ leaves_last u v l step a =
     (leave_makes u.program u.state a.0 l.row step a.1 a.2)
 
 pub waits_to_leave : (u v : Underway) (l : Leaving) → LeavesCown u l left.Blocked v → Works u (hands.Leaving l) turns.Blocked v (hands.Leaving l)
-waits_to_leave u v l a = (a.0, refl, WaitsToLeave l.row a.1.0 a.1.1)
+waits_to_leave u v l a = (a.0, refl, record { row = l.row; serves = refl; takes = WaitsToLeave l.row a.1.0 a.1.1 })
 
 -- nothing is ready where all is quiet
 none_ready : (p : Program) (s : State) → IsSound p s → IsQuiet s → (ready : List ℕ) → s.ready ≡ ready → ready ≡ []

@@ -1,5 +1,5 @@
 -- What the calls of the dispatcher answer and do.
-use Rattle.std.specs.Prelude.{◌≡◌, ◌≢◌, ℕ, ◌+◌, ◌<◌, List, [], ℤ, Option, Some, None, Result, Ok, Err, slice_get}
+use Rattle.std.specs.Prelude.{◌≡◌, ◌≢◌, ℕ, ◌+◌, List, [], ℤ, Option, Some, None, Result, Ok, Err, slice_get}
 use Rattle.boc_types.specs.declared.limits.TheConstants.{MOST_ROWS}
 use Rattle.boc_types.specs.declared.body.Body.{Body}
 use Rattle.boc_types.specs.declared.short.Input.{Input}
@@ -7,9 +7,10 @@ use Rattle.boc_types.specs.declared.stage.Phase.TheVariants.{Leaving as LeavingP
 use Rattle.boc_types.specs.declared.stage.Stage.TheVariants.{Recorded}
 use Rattle.boc_types.specs.declared.step.Step.TheVariants.{Own}
 use Rattle.boc_types.specs.runs.Lives.{Running}
-use Rattle.boc_types.specs.runs.Run.{Member}
+use Rattle.boc_types.specs.program.Meaning.{Wish}
+use Rattle.boc_types.specs.runs.Run.{Member, next_wish, state_of}
 use Rattle.boc_types.specs.runs.Records.{Recorded as RecordOf, IsRecordOf}
-use Rattle.boc_types.specs.machine.Steps.{State, at, members, opened, recorded, unrecorded, IsQuiet, HasNoEnqueue, Opens, Advances, Starts, Owns, Finishes, Leaves, IsBlockedAsking, IsBlockedLeaving}
+use Rattle.boc_types.specs.machine.Steps.{State, at, members, opened, recorded, unrecorded, IsQuiet, HasNoEnqueue, MayOpen, Opens, Advances, Starts, Owns, Finishes, Leaves, IsBlockedAsking, IsBlockedLeaving}
 use Rattle.boc_types.specs.machine.Turns.{IsEnqueueOf}
 use Rattle.boc_types.specs.machine.Movers.{CanAdvance, CanGoOn, CanLeave, CanStart}
 use Rattle.boc_eval.specs.Frames.{UnderWay as Framed, Ran}
@@ -65,14 +66,24 @@ pub record MayAsk (u : Underway) (f : Framed) (row : ℕ) : Type 0 where
   pub handed : IsHandedOut u row f.body f.args f.inputs
   pub next : IsNextWish u row f.made
 
--- the next wish of the row is opened, under this token; or nothing changed, for the first of these reasons
+-- a row's next wish is due, and there is no room for it
+pub record HasNoRoom (u : Underway) (row : Option ℕ) : Type 0 where
+  pub served : ℕ
+  pub serves : row ≡ Some served
+  pub runs : state_of (members u.program u.state) served ≡ Some Running
+  pub none_open : HasNoEnqueue u.state served
+  pub wish : Wish
+  pub next : next_wish u.program (slice_get (members u.program u.state) served) ≡ Some wish
+  pub full : recorded u.program u.state + unrecorded u.state ≡ MOST_ROWS
+
+-- the frame's last wish is the next of the row, and is opened, under this token; or nothing changed, for the first of these reasons
 abbrev pub OpensWish : Underway → Framed → ℕ → Result Child OpenFault → Underway → Type 0
 OpensWish u f row (Ok child) v =
-    IsHandedOut u row f.body f.args f.inputs × (child.number ≡ opened u.state) × (child.row ≡ row) × (t : State) × Opens u.program u.state row t × (v ≡ in_state u t)
+    MayAsk u f row × (child.number ≡ opened u.state) × (child.row ≡ row) × (t : State) × Opens u.program u.state row t × (v ≡ in_state u t)
 OpensWish u f row (Err open_faults.Stranger) v = (v ≡ u) × (IsHandedOut u row f.body f.args f.inputs → ⊥)
 OpensWish u f row (Err open_faults.OutOfTurn) v = (v ≡ u) × IsHandedOut u row f.body f.args f.inputs × (IsNextWish u row f.made → ⊥)
-OpensWish u f row (Err open_faults.Behaviours) v = (v ≡ u) × MayAsk u f row × (recorded u.program u.state + unrecorded u.state ≡ MOST_ROWS)
-OpensWish u f row (Err open_faults.Memory) v = (v ≡ u) × MayAsk u f row × (recorded u.program u.state + unrecorded u.state < MOST_ROWS)
+OpensWish u f row (Err open_faults.Behaviours) v = (v ≡ u) × MayAsk u f row × HasNoRoom u (Some row)
+OpensWish u f row (Err open_faults.Memory) v = (v ≡ u) × MayAsk u f row × ((wish : Wish) × MayOpen u.program u.state row wish)
 
 -- ---- advance
 

@@ -22,8 +22,8 @@ use Rattle.boc_dispatch.specs.declared.worker.Refusal.{Refusal}
 use Rattle.boc_dispatch.specs.declared.worker.Refusal.TheVariants as refusals
 use Rattle.boc_dispatch.specs.declared.worker.Worker.{Worker}
 use Rattle.boc_dispatch.specs.Underway.{Underway}
-use Rattle.boc_dispatch.specs.Calls.{IsHandedOut, HasSpawnedAll, MayAsk, IsLeaving}
-use Rattle.boc_dispatch.specs.Working.{row_in, frame_of, HasNoRoom}
+use Rattle.boc_dispatch.specs.Calls.{IsHandedOut, HasNoRoom, HasSpawnedAll, MayAsk, IsLeaving}
+use Rattle.boc_dispatch.specs.Working.{row_in, frame_of}
 
 -- ---- what a worker has in hand fits the dispatcher
 

@@ -1,12 +1,9 @@
 -- What a worker has in hand, and what its turns and its thinking do.
-use Rattle.std.specs.Prelude.{◌≡◌, ℕ, ◌+◌, [], Option, Some, None, Result, Ok, Err, false, true, slice_get}
+use Rattle.std.specs.Prelude.{◌≡◌, ℕ, [], Option, Some, None, Result, Ok, Err, false, true}
 use Rattle.std.specs.declared.alloc.AllocError.{AllocError}
 use Rattle.boc_types.specs.declared.step.Step.{Step}
 use Rattle.boc_types.specs.program.Meaning.{Wish}
-use Rattle.boc_types.specs.declared.limits.TheConstants.{MOST_ROWS}
-use Rattle.boc_types.specs.runs.Lives.{Running}
-use Rattle.boc_types.specs.runs.Run.{next_wish, state_of}
-use Rattle.boc_types.specs.machine.Steps.{IsQuiet, Makes, HasNoEnqueue, members, recorded, unrecorded}
+use Rattle.boc_types.specs.machine.Steps.{IsQuiet, Makes}
 use Rattle.boc_types.specs.machine.Turns.{TakesTurn}
 use Rattle.boc_eval.specs.Frames.{UnderWay as Framed, Ran, Means}
 use Rattle.boc_eval.specs.Stops.{WishComes, BodyEnds}
@@ -42,6 +39,12 @@ pub record MakesTurn (u : Underway) (before : Hand) (step : Step) (v : Underway)
   pub makes : Makes u.program u.state step v.state
   pub same : v.program ≡ u.program
 
+-- the worker serves a row, and what is due of that is blocked: its turn changes nothing
+pub record WaitsInTurn (u : Underway) (h : Hand) : Type 0 where
+  pub row : ℕ
+  pub serves : row_in h ≡ Some row
+  pub takes : TakesTurn u.program u.state (Some row) u.state (Some row)
+
 -- the worker is to think first
 abbrev pub IsToThink : Hand → Type 0
 IsToThink (hands.Started job) = Unit {0}
@@ -59,7 +62,7 @@ IsRefused u _ _ = ⊥
 -- the one call that is due was made; or nothing changed, for this reason
 abbrev pub Works : Underway → Hand → Turn → Underway → Hand → Type 0
 Works u h (turns.Moved step) v k = MakesTurn u h step v k
-Works u h turns.Blocked v k = (v ≡ u) × (k ≡ h) × TakesTurn u.program u.state (row_in h) u.state (row_in h)
+Works u h turns.Blocked v k = (v ≡ u) × (k ≡ h) × WaitsInTurn u h
 Works u h turns.NoneReady v k = (v ≡ u) × (k ≡ h) × (h ≡ hands.Nothing) × (u.state.ready ≡ []) × (IsQuiet u.state → ⊥)
 Works u h turns.Quiet v k = (v ≡ u) × (k ≡ h) × (h ≡ hands.Nothing) × (u.state.ready ≡ []) × IsQuiet u.state
 Works u h turns.Thinks v k = (v ≡ u) × (k ≡ h) × IsToThink h
@@ -124,13 +127,3 @@ HasThought (hands.Started job) (Err refused) k = k ≡ hands.Started job
 HasThought (hands.Framed row f dues.Going) (Ok _) k = HasGoneOn row f k
 HasThought h (Ok _) k = k ≡ h
 HasThought h (Err refused) k = ⊥
-
--- a row's next wish is due, and there is no room for it
-pub record HasNoRoom (u : Underway) (row : Option ℕ) : Type 0 where
-  pub served : ℕ
-  pub serves : row ≡ Some served
-  pub runs : state_of (members u.program u.state) served ≡ Some Running
-  pub none_open : HasNoEnqueue u.state served
-  pub wish : Wish
-  pub next : next_wish u.program (slice_get (members u.program u.state) served) ≡ Some wish
-  pub full : recorded u.program u.state + unrecorded u.state ≡ MOST_ROWS

@@ -37,7 +37,8 @@ ghost use Rattle.boc_types.specs.machine.Turns.{TakesTurn};
 ghost use Rattle.boc_types.specs.program.Programs.{cown_count as cowns_of};
 ghost use Rattle.boc_dispatch.specs.declared.interleaving.DriveFault.{DriveFault};
 ghost use Rattle.boc_dispatch.specs.declared.worker.Hand.TheVariants as hands;
-ghost use Rattle.boc_dispatch.specs.Working.{row_in, HasNoRoom};
+ghost use Rattle.boc_dispatch.specs.Calls.{HasNoRoom};
+ghost use Rattle.boc_dispatch.specs.Working.{row_in};
 
 /// Drives a program with so many workers, of which none serves a row at first. Each choice is the number of a worker, which
 /// thinks where that is due, and then makes one turn.

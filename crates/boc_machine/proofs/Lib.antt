@@ -1,6 +1,7 @@
 pub mod Lists
 pub mod Lawful
 pub mod Rows
+pub mod Members
 pub mod Fitting
 pub mod Starts
 pub mod Core
@@ -19,6 +20,7 @@ pub mod SerialSpawn
 pub mod Serially
 pub mod OneTurn
 pub mod Moving
+mod Allowing
 pub mod Serving
 pub mod Bounds
 pub mod Records

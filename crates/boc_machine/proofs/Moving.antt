@@ -31,7 +31,7 @@ use Rattle.boc_machine.proofs.Going.{front_of_leaving}
 -- ---- lists
 
 -- an item that is there
-item_there : (xs : List ℕ) (i : ℕ) → i < length xs → (x : ℕ) × (slice_get xs i ≡ Some x)
+pub item_there : (xs : List ℕ) (i : ℕ) → i < length xs → (x : ℕ) × (slice_get xs i ≡ Some x)
 item_there xs i h =
     elim (some_or_none xs i) [
       | inl l ↦ absurd (omega arith)
@@ -39,8 +39,7 @@ item_there xs i h =
     ]
 
 -- what stands once in a list stands at one place
-one_place : (x : ℕ) (xs us ys vs : List ℕ) → xs ++ (x ∷ ys) ≡ us ++ (x ∷ vs) → times x (xs ++ (x ∷ ys)) ≤ 1
-    → length xs ≡ length us
+pub one_place : (x : ℕ) (xs us ys vs : List ℕ) → xs ++ (x ∷ ys) ≡ us ++ (x ∷ vs) → times x (xs ++ (x ∷ ys)) ≤ 1 → xs ≡ us
 one_place x [] [] ys vs e h = refl
 one_place x [] (u ∷ us) ys vs e h =
     let f : x ∷ ys ≡ u ∷ (us ++ (x ∷ vs)) = e in
@@ -55,7 +54,8 @@ one_place x (a ∷ xs) [] ys vs e h =
 one_place x (a ∷ xs) (u ∷ us) ys vs e h =
     let f : a ∷ (xs ++ (x ∷ ys)) ≡ u ∷ (us ++ (x ∷ vs)) = e in
     let g : xs ++ (x ∷ ys) ≡ us ++ (x ∷ vs) = cc in
-    ap suc (one_place x xs us ys vs g (omega arith))
+    let i : a ≡ u = cc in
+    ap (λ z. z ∷ xs) i ∙ ap (λ zs. u ∷ zs) (one_place x xs us ys vs g (omega arith))
 
 -- where not all are so, one isn't
 one_not : (f : ℕ → Bool) (cs : List ℕ) → list_all f cs ≡ false → (c : ℕ) × (0 < times c cs) × (f c ≡ false)
@@ -67,7 +67,7 @@ one_not f (c ∷ cs) h =
     ] refl h
 
 -- a behaviour stands where it is in a list
-inside : (x : ℕ) (ahead behind : List ℕ) → 0 < times x (ahead ++ (x ∷ behind))
+pub inside : (x : ℕ) (ahead behind : List ℕ) → 0 < times x (ahead ++ (x ∷ behind))
 inside x ahead behind = omega (arith, times-append x ahead (x ∷ behind), times-here x behind)
 
 both_true : (a b : Bool) → a ≡ true → b ≡ true → (a && b) ≡ true
@@ -75,14 +75,14 @@ both_true true b e h = h
 both_true false b e h = absurd (let f : false ≡ true = e in cc)
 
 -- the behaviour of a number is gone, or open
-gone_or_open : (o : Option OpenBehaviour) → (o ≡ None) ⊎ ((b : OpenBehaviour) × (o ≡ Some b))
+pub gone_or_open : (o : Option OpenBehaviour) → (o ≡ None) ⊎ ((b : OpenBehaviour) × (o ≡ Some b))
 gone_or_open None = inl refl
 gone_or_open (Some b) = inr (b, refl)
 
 -- ---- where no open enqueue has a step, there is none
 
 -- this one is due to settle its request at a cown
-record AsksAt (s : State) (who c : ℕ) : Type 0 where
+pub record AsksAt (s : State) (who c : ℕ) : Type 0 where
   pub this : OpenBehaviour
   pub request : ℕ
   pub due : IsDue s who this (Asking request true) request c
@@ -148,8 +148,15 @@ module _ (p : Program) (s : State) (k : IsSound p s) where
       (subst (λ (cs : List ℕ). 0 < times c (take i cs)) cowns h)
 
   -- how often it stands in the list of a cown that its stage has it stand in
-  stands_once : (who c : ℕ) → times who (queue s c) ≤ 1
+  pub stands_once : (who c : ℕ) → times who (queue s c) ≤ 1
   stands_once who c = omega (arith, k.lawful.stands who c, standing_le c (at s who), k.lawful.once who c)
+
+  -- who is due to settle stands in the list
+  pub asks_inside : (who c : ℕ) → AsksAt s who c → 0 < times who (queue s c)
+  asks_inside who c asks =
+      let stands : standing (at s who) ≡ take (suc asks.request) asks.this.cowns =
+      ap standing asks.due.is ∙ ap (λ z. standing_at z asks.this.cowns) asks.due.stage_is in
+      omega (arith, k.lawful.stands who c, ap (times c) stands, taken_here asks.this.cowns asks.request c asks.due.cown)
 
   module _ (stuck : (who row : ℕ) → CanAdvance p s who row → ⊥) where
     -- one that stands ahead is flagged, unless it is due to settle at this cown or a later one
@@ -197,15 +204,8 @@ module _ (p : Program) (s : State) (k : IsSound p s) where
         let place = one_place who ahead (before_ahead ++ (before ∷ [])) behind before_behind longer one in
         flagged_ahead c before (λ d h q. later d before h q)
         (λ q. none_ahead c later n before before_ahead (who ∷ before_behind) f
-        (omega (arith, l, place, length-append before_ahead (before ∷ []))) q)
+        (omega (arith, l, ap length place, length-append before_ahead (before ∷ []))) q)
         (subst (λ (ws : List ℕ). 0 < times before ws) (sym f) (inside before before_ahead (who ∷ before_behind)))))
-
-    -- who is due to settle stands in the list
-    asks_inside : (who c : ℕ) → AsksAt s who c → 0 < times who (queue s c)
-    asks_inside who c asks =
-        let stands : standing (at s who) ≡ take (suc asks.request) asks.this.cowns =
-        ap standing asks.due.is ∙ ap (λ z. standing_at z asks.this.cowns) asks.due.stage_is in
-        omega (arith, k.lawful.stands who c, ap (times c) stands, taken_here asks.this.cowns asks.request c asks.due.cown)
 
     none_asks : (m c who : ℕ) → length s.queues ≤ c + m → AsksAt s who c → ⊥
     none_asks zero c who l asks =
@@ -399,7 +399,7 @@ module _ (p : Program) (s : State) (k : IsSound p s) where
 
   -- ---- where nobody can step, nobody works
 
-  runs_there : (who row : ℕ) (b : OpenBehaviour) → at s who ≡ Some b → b.stage ≡ Recorded row Running
+  pub runs_there : (who row : ℕ) (b : OpenBehaviour) → at s who ≡ Some b → b.stage ≡ Recorded row Running
       → state_of (members p s) row ≡ Some RunningLife
   runs_there who row b is st =
       let x = k.fits.has_row who row (ap row_of is ∙ ap row_at st) in

@@ -10,7 +10,7 @@ use Rattle.boc_types.specs.runs.Run.{Member, Config, waiting, next_wish, spawned
 
 -- ---- one item changed
 
-changed_later : {A : Type 0} (x : A) (xs : List A) (i : ℕ) (f : A → A) (o : Option A)
+pub changed_later : {A : Type 0} (x : A) (xs : List A) (i : ℕ) (f : A → A) (o : Option A)
     → changed (x ∷ xs) (suc i) f o ≡ x ∷ changed xs i f o
 changed_later x xs i f None = refl
 changed_later x xs i f (Some y) = refl

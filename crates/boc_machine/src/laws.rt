@@ -2,7 +2,7 @@
 
 ghost use Rattle.boc_types.specs.declared.program.Program.{Program};
 ghost use Rattle.boc_types.specs.declared.step.Step.{Step};
-ghost use Rattle.std.specs.Prelude.{◌≡◌, ℕ, ◌+◌, ◌*◌, ◌≤◌, List, map, Option, Some, slice_get};
+ghost use Rattle.std.specs.Prelude.{◌≡◌, ℕ, ◌+◌, ◌*◌, ◌≤◌, ◌⊎◌, List, map, Option, Some, slice_get};
 ghost use Rattle.boc_types.specs.declared.event.Event.{Event};
 ghost use Rattle.boc_types.specs.declared.limits.TheConstants.{MOST_ROWS};
 ghost use Rattle.boc_types.specs.program.Meaning.{Wish};
@@ -17,6 +17,7 @@ ghost use Rattle.boc_types.specs.machine.AlongRows.{cowns_of_rows, parents_of_ro
 ghost use Rattle.boc_types.specs.machine.Sound.{IsSound};
 ghost use Rattle.boc_types.specs.machine.Turns.{Driven, TakesTurn, Turn, Turns};
 ghost use Rattle.boc_types.specs.machine.Movers.{SomebodyCanStep};
+ghost use Rattle.boc_machine.specs.Allowed.{AllowsStep, IsFull};
 
 /// Each step leads from a sound state to a sound one.
 pub fn steps_keep()
@@ -82,6 +83,12 @@ pub fn full_has_no_turn()
 /// Where nobody can step, all is over: no sound state is stuck.
 pub fn none_is_stuck()
     ensures { (p : Program) (s : State) → IsSound p s → (SomebodyCanStep p s → ⊥) → IsQuiet s }
+{}
+
+/// Where not all is over, some step is allowed; or a row's next wish is due, and there is no room for it, as there are as many
+/// rows and unrecorded enqueues as rows may be.
+pub fn some_step_is_allowed()
+    ensures { (p : Program) (s : State) → IsSound p s → (IsQuiet s → ⊥) → AllowsStep p s ⊎ IsFull p s }
 {}
 
 /// There are never more steps than 36 for each row that there may be.

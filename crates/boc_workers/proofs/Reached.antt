@@ -9,7 +9,7 @@ use Rattle.boc_dispatch.specs.declared.worker.Turn.{Turn}
 use Rattle.boc_dispatch.specs.declared.worker.Turn.TheVariants as turns
 use Rattle.boc_dispatch.specs.Underway.{Underway}
 use Rattle.boc_dispatch.specs.Working.{Works}
-use Rattle.boc_workers.specs.Noting.{IsReached}
+use Rattle.boc_workers.specs.Noting.{CanReachLimit, IsAtLimit, IsReached}
 
 -- no step leads to the opening state
 pub reached_first : (u : Underway) (p : Program) → u ≡ record { program = p; state = opening_state p } → IsReached u
@@ -25,3 +25,7 @@ reached_on u v h k turns.NoneReady w is = subst IsReached (sym w.0) is
 reached_on u v h k turns.Quiet w is = subst IsReached (sym w.0) is
 reached_on u v h k turns.Thinks w is = subst IsReached (sym w.0) is
 reached_on u v h k (turns.Refused refusal) w is = subst IsReached (sym w.0) is
+
+-- a program can reach the limit that a dispatcher of it has come to
+pub can_reach : (u : Underway) (p : Program) → u.program ≡ p → IsReached u → IsAtLimit u → CanReachLimit p
+can_reach u p same reached full = subst CanReachLimit same (record { state = u.state; reached = reached; full = full })

@@ -1,15 +1,16 @@
 -- What a turn counts, and which faults are noted.
 use Rattle.std.specs.Prelude.{◌≡◌, ℕ, ◌+◌, Option, Some, None}
-use Rattle.boc_types.specs.declared.limits.TheConstants.{MOST_ROWS}
 use Rattle.boc_types.specs.declared.program.Program.{Program}
 use Rattle.boc_types.specs.machine.Schedules.{Reaches}
-use Rattle.boc_types.specs.machine.Steps.{State, opening_state, recorded, unrecorded}
+use Rattle.boc_types.specs.machine.Steps.{State, opening_state}
 use Rattle.boc_dispatch.specs.declared.answers.OpenFault.TheVariants as open_faults
 use Rattle.boc_dispatch.specs.declared.worker.Refusal.{Refusal}
 use Rattle.boc_dispatch.specs.declared.worker.Refusal.TheVariants as refusals
 use Rattle.boc_dispatch.specs.declared.worker.Turn.{Turn}
 use Rattle.boc_dispatch.specs.declared.worker.Turn.TheVariants as turns
 use Rattle.boc_dispatch.specs.Underway.{Underway}
+use Rattle.boc_dispatch.specs.Calls.{HasNoRoom}
+use Rattle.boc_dispatch.specs.Driving.{of_program}
 use Rattle.boc_workers.specs.declared.fault.RunFault.{RunFault}
 use Rattle.boc_workers.specs.declared.fault.RunFault.TheVariants as faults
 
@@ -37,16 +38,16 @@ MayNote always_on faults.NoThread = Unit {0}
 MayNote always_on faults.Held = always_on → ⊥
 MayNote always_on _ = ⊥
 
--- rows and unrecorded enqueues are together as many as rows may be
+-- some row's next wish is due, and there is no room for it
 abbrev pub IsAtLimit : Underway → Type 0
-IsAtLimit u = recorded u.program u.state + unrecorded u.state ≡ MOST_ROWS
+IsAtLimit u = ∥ ((row : ℕ) × HasNoRoom u (Some row)) ∥₁
 
 -- some steps lead from the opening state of the dispatcher's program to where it stands
 abbrev pub IsReached : Underway → Type 0
 IsReached u = ∥ Reaches u.program (opening_state u.program) u.state ∥₁
 
--- some steps lead from the opening state of the program to one in which rows and unrecorded enqueues are together as many as rows may be
+-- some steps lead from the opening state of the program to one in which some row's next wish is due, and there is no room for it
 pub record CanReachLimit (p : Program) : Type 0 where
   pub state : State
   pub reached : ∥ Reaches p (opening_state p) state ∥₁
-  pub full : recorded p state + unrecorded state ≡ MOST_ROWS
+  pub full : IsAtLimit (of_program p state)

@@ -1,5 +1,5 @@
 -- The behaviours of a run fit their program.
-use Rattle.std.proofs.Common.{◌≡◌, ℕ, zero, suc, ◌+◌, List, [], ◌∷◌, ◌++◌, length, map, refl, sym, ◌∙◌, ap, subst}
+use Rattle.std.proofs.Common.{◌≡◌, ℕ, zero, suc, ◌+◌, ◌≤◌, List, [], ◌∷◌, ◌++◌, length, map, refl, sym, ◌∙◌, ap, subst, arith}
 use Rattle.std.specs.Prelude.{slice_get, ℤ, Option, Some, None}
 use Rattle.std.specs.Option.{option_map}
 use Rattle.boc_types.specs.declared.body.EndStatus.TheVariants as statuses
@@ -16,14 +16,16 @@ use Rattle.boc_types.specs.runs.Legal.{Entry}
 use Rattle.boc_types.specs.runs.Run.{Member, Config, config_after, config_after_all, config_of, opening, next_wish, wish_at, meaning_of, waiting, spawned_by, started_on, members_after_spawn, values_after_end, values_written, state_of, MaySpawn, MayHappen, IsRunFrom, IsRun}
 use Rattle.boc_types.proofs.Behaviours.{cowns_of_inputs, main_fits, length-after_outputs, initial-length}
 use Rattle.boc_types.proofs.RunsAreLegal.{Twins, last_offset, whole_meaning, is_meant, meant_fits}
-use Rattle.boc_dispatch.proofs.Complete.{head_kept}
+use Rattle.boc_types.proofs.ChangedItems.{place_below}
+use Rattle.boc_machine.proofs.Rows.{changed_later}
 
--- a behaviour fits the program, and runs on its own cowns
+-- a behaviour fits the program, runs on its own cowns, and has spawned no more than its wishes
 pub record MemberFits (p : Program) (m : Member) : Type 0 where
   pub counts : CountsAre (slice_get (map signature_of p.bodies) m.behaviour.kind) (length m.behaviour.args) (length m.behaviour.cowns)
   pub below : AllBelow (cown_count p.cowns) m.behaviour.cowns
   pub holds : m.life ≡ Running → cowns_held m.inputs ≡ m.behaviour.cowns
   pub fresh : m.life ≡ Pending → m.spawned ≡ 0
+  pub spent : (means : Meaning) → meaning_of p m ≡ Some means → m.spawned ≤ length means.wishes
 
 abbrev pub AllFit : Program → List Member → Type 0
 AllFit p ms = (r : ℕ) (m : Member) → slice_get ms r ≡ Some m → MemberFits p m
@@ -38,9 +40,9 @@ all_changed p (x ∷ ms) zero f all keeps zero m e =
     subst (MemberFits p) same (keeps x refl (all zero x refl))
 all_changed p (x ∷ ms) zero f all keeps (suc r) m e = all (suc r) m e
 all_changed p (x ∷ ms) (suc i) f all keeps zero m e =
-    all zero m (ap (λ ys. slice_get ys zero) (sym (head_kept x ms i f (slice_get ms i))) ∙ e)
+    all zero m (ap (λ ys. slice_get ys zero) (sym (changed_later x ms i f (slice_get ms i))) ∙ e)
 all_changed p (x ∷ ms) (suc i) f all keeps (suc r) m e =
-    all_changed p ms i f (λ q n is. all (suc q) n is) keeps r m (ap (λ ys. slice_get ys (suc r)) (sym (head_kept x ms i f (slice_get ms i))) ∙ e)
+    all_changed p ms i f (λ q n is. all (suc q) n is) keeps r m (ap (λ ys. slice_get ys (suc r)) (sym (changed_later x ms i f (slice_get ms i))) ∙ e)
 
 all_more : (p : Program) (ms : List Member) (x : Member) → AllFit p ms → MemberFits p x → AllFit p (ms ++ x ∷ [])
 all_more p [] x all fits zero m e = (let same : x ≡ m = (let h : Some x ≡ Some m = e in cc) in subst (MemberFits p) same fits)
@@ -88,6 +90,17 @@ next_fits p m w fits runs next =
     wish_fits (map signature_of p.bodies) (cown_count p.cowns) means.wishes m.spawned w (meant_fits p m (entry_of p m) t runs)
     (ap (λ o. wish_at o m.spawned) (sym (is_meant p m (entry_of p m) t)) ∙ next)
 
+-- what a behaviour means that fits
+pub means_there : (p : Program) (m : Member) → MemberFits p m → (means : Meaning) × (meaning_of p m ≡ Some means)
+means_there p m fits = let t = twins p m fits in (whole_meaning p m (entry_of p m) t, is_meant p m (entry_of p m) t)
+
+-- one whose wish was next has spawned one more of its wishes then
+one_spent : (p : Program) (m : Member) (w : Wish) (means : Meaning) → next_wish p (Some m) ≡ Some w → meaning_of p m ≡ Some means
+    → m.spawned + 1 ≤ length means.wishes
+one_spent p m w means next meant =
+    let below = place_below means.wishes m.spawned w (ap (λ o. wish_at o m.spawned) (sym meant) ∙ next) in
+    omega (arith, below)
+
 -- ---- along a run
 
 waiting_fits : (p : Program) (b : Behaviour) → CountsAre (slice_get (map signature_of p.bodies) b.kind) (length b.args) (length b.cowns) → AllBelow (cown_count p.cowns) b.cowns → MemberFits p (waiting b)
@@ -96,6 +109,7 @@ waiting_fits p b counts below = record {
   below = below;
   holds = λ q. absurd (let h : Pending ≡ Running = q in cc);
   fresh = λ q. refl;
+  spent = λ means is. omega arith;
 }
 
 running_is : (ms : List Member) (r : ℕ) (m : Member) (life : Life) → slice_get ms r ≡ Some m → state_of ms r ≡ Some life → m.life ≡ life
@@ -119,6 +133,7 @@ spawn_fits p (m ∷ ms) parent offset cowns may all =
       below = fits.below;
       holds = fits.holds;
       fresh = λ q. absurd (let h : Running ≡ Pending = sym (running_is rows parent x Running is may.runs) ∙ q in cc);
+      spent = λ means meant. one_spent p x may.wish means (ap (next_wish p) (sym is) ∙ may.next) meant;
     }))
     (waiting_fits p (behaviour_of may.wish) w.counts w.below))
 
@@ -129,12 +144,14 @@ event_fits p c (Start row) may all = all_changed p c.members row (started_on c.v
   below = fits.below;
   holds = λ q. cowns_of_inputs x.behaviour.cowns c.values;
   fresh = λ q. fits.fresh (running_is c.members row x Pending is may.waits);
+  spent = λ means meant. let none = fits.fresh (running_is c.members row x Pending is may.waits) in omega (arith, none);
 })
 event_fits p c (End row ticks status written) may all = all_changed p c.members row (λ m. record m { life = Ended }) all (λ x is fits. record {
   counts = fits.counts;
   below = fits.below;
   holds = λ q. absurd (let h : Ended ≡ Running = q in cc);
   fresh = λ q. absurd (let h : Ended ≡ Pending = q in cc);
+  spent = λ means meant. fits.spent means meant;
 })
 
 all_fit_from : (p : Program) (c : Config) (log : List Event) → IsRunFrom p c log → AllFit p c.members → AllFit p (config_after_all p c log).members

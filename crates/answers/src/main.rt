@@ -11,7 +11,7 @@
 //! made over linked chains and over plain ones, and what the plain ones give is written too, should it be something else.
 #![tactic(auto)]
 
-ghost use Rattle.std.specs.Prelude.{◌<◌, length, IfOk, IfSome};
+ghost use Rattle.std.specs.Prelude.{◌<◌, ◌≤◌, length, IfOk, IfSome};
 ghost use Rattle.boc_report.specs.Parts.{IsWhole};
 
 use boc_chain::{Chains, ListChains};
@@ -22,7 +22,7 @@ use boc_greedy::{Greedy, greedy};
 use boc_order::profile;
 use boc_reader::read_program;
 use boc_record::{RecordFault, WriteFault, put_events, read_record, write_record};
-use boc_report::{profile_text, sweep_text};
+use boc_report::{MOST_LINES, profile_text, sweep_text};
 use boc_text::{Bytes, put_number, put_signed};
 use boc_types::limits::MOST_COWNS;
 use boc_types::program::Program;
@@ -189,7 +189,8 @@ fn greedy_for(
     workers: Option<Workers>,
     sharing: Sharing,
 ) -> Result<Option<Greedy>, AllocError>
-    ensures { IfOk result (λ plan. IfSome plan IsWhole) }
+    ensures whole { IfOk result (λ plan. IfSome plan IsWhole) }
+    ensures few { IfOk result (λ plan. IfSome plan (λ p. length p.starts.items ≤ MOST_LINES)) }
 {
     match workers {
         Some(workers) => Ok(Some(greedy(alloc, rows, workers, sharing)?)),
@@ -244,7 +245,7 @@ fn tell_sweep(rt: HostRuntime, text: &[u8], sharing: Sharing) -> io::Result<()> 
         Err(fault) => return println!(rt; "{fault}"),
     };
     let question = WhatIf::new(rt.alloc(), record.rows(), sharing)?;
-    let spans = question.sweep(rt.alloc())?;
+    let spans = question.sweep(&rt, rt.alloc())?;
     let lines = sweep_text(rt.alloc(), &spans)?;
     rt.stdout().write_all(&lines)
 }

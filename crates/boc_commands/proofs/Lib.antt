@@ -2,3 +2,5 @@ pub mod Unfit
 pub mod Asked
 pub mod Promised
 pub mod Passed
+pub mod OneProgram
+pub mod OneAnswer

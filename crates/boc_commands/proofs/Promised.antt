@@ -1,23 +1,27 @@
 -- Why reports are true.
-use Rattle.std.proofs.Common.{◌<◌, ℕ, List, slice_index, refl, Option, Some, None, arith}
+use Rattle.std.proofs.Common.{◌≡◌, ◌<◌, ℕ, List, slice_index, refl, Option, Some, None, arith}
 use Rattle.boc_types.specs.declared.chain.ChainStep.{ChainStep}
 use Rattle.boc_types.specs.declared.rows.Row.{Row}
 use Rattle.boc_types.specs.runs.Rows.{IsRows}
 use Rattle.boc_types.specs.plans.Plans.{IsEarliest, IsEnd, work_of}
-use Rattle.boc_types.specs.plans.Chains.{IsChain}
+use Rattle.boc_types.specs.plans.Chains.{IsChain, weight_of}
 use Rattle.boc_types.specs.plans.Greedy.{IsGreedy}
 use Rattle.boc_types.specs.answers.Answers.{IsAskedPart, IsReport}
 use Rattle.boc_greedy.proofs.Bound.{end_within, greedy_close, greedy_for_workers, greedy_keeps}
-use Rattle.boc_order.proofs.Chaining.{weight_le_end}
+use Rattle.boc_order.proofs.Chaining.{earliest_le_end}
+use Rattle.boc_order.proofs.Weighing.{weight_is_end}
 use Rattle.boc_commands.specs.Promises.{IsBest, IsTrueReport, IsWithinBound, PartIsWithinBound}
 
--- the earliest plan is the best, with any chain
-pub best : (rows : List Row) (plan : List ℕ) (chain : List ChainStep) → IsEarliest rows plan → IsChain rows chain → IsBest rows plan chain
-best rows plan chain earliest is = record {
+-- the earliest plan is the best, with its end, and a chain that weighs as much
+pub best : (rows : List Row) (plan : List ℕ) (chain : List ChainStep) (span : ℕ) → IsEarliest rows plan → IsEnd rows plan span → IsChain rows chain →
+    weight_of chain ≡ span → IsBest rows plan chain span
+best rows plan chain span earliest ends is weight = record {
   keeps = earliest.keeps;
   no_earlier = earliest.least;
+  ends = ends;
   is_chain = is;
-  no_sooner = λ other last keeps end. weight_le_end rows other keeps last end chain is;
+  weight = weight;
+  no_sooner = earliest_le_end rows plan span earliest ends;
 }
 
 -- there is a worker, since there is a row
@@ -47,6 +51,7 @@ part_within rows (Some p) part hr is = within_bound rows p is.starts is.workers 
 pub true_report : (rows : List Row) (asked : Option ℕ) (text : List ℕ) → IsRows rows → IsReport rows asked text → IsTrueReport rows asked text
 true_report rows asked text hr report = record {
   report = report;
-  best = best rows report.starts report.steps report.earliest report.picked.chain;
+  best = best rows report.starts report.steps report.span report.earliest report.span_is report.picked.chain
+      (weight_is_end rows hr report.starts report.span report.steps report.earliest report.span_is report.picked);
   greedy = part_within rows asked report.part hr report.part_is;
 }

@@ -9,7 +9,7 @@ use Rattle.boc_types.specs.text.Spells.{Spells}
 use Rattle.boc_types.specs.text.RecordTexts.{Second, record_text}
 use Rattle.boc_types.specs.runs.Records.{Recorded, IsRecord, IsRecordOf}
 use Rattle.boc_types.specs.machine.AlongRows.{EndsSerially}
-use Rattle.boc_types.specs.plans.Plans.{Keeps, IsEnd, start_of, work_of}
+use Rattle.boc_types.specs.plans.Plans.{Keeps, IsEnd, NoneEndsBefore, start_of, work_of}
 use Rattle.boc_types.specs.plans.Chains.{IsChain, weight_of}
 use Rattle.boc_types.specs.plans.Greedy.{IsForWorkers, IsSpan}
 use Rattle.boc_types.specs.answers.Answers.{IsReport, IsAskedPart}
@@ -36,13 +36,15 @@ pub record IsRunAnswer (input output : List ℕ) : Type 0 where
 
 -- ---- the plans of its rows
 
--- The plan keeps the spawn points and the cown orders of the rows; of all plans that keep them none starts a row earlier, and none
--- ends before the ticks of the chain.
-pub record IsBest (rows : List Row) (plan : List ℕ) (chain : List ChainStep) : Type 0 where
+-- The plan keeps the spawn points and the cown orders of the rows, and of all plans that keep them none starts a row earlier. Its end, which
+-- is the span, is what the chain weighs; none that keeps them ends sooner.
+pub record IsBest (rows : List Row) (plan : List ℕ) (chain : List ChainStep) (span : ℕ) : Type 0 where
   pub keeps : Keeps rows plan
   pub no_earlier : (other : List ℕ) → Keeps rows other → (r : ℕ) → r < length rows → start_of plan r ≤ start_of other r
+  pub ends : IsEnd rows plan span
   pub is_chain : IsChain rows chain
-  pub no_sooner : (other : List ℕ) (last : ℕ) → Keeps rows other → IsEnd rows other last → weight_of chain ≤ last
+  pub weight : weight_of chain ≡ span
+  pub no_sooner : NoneEndsBefore rows span
 
 -- The plan for p workers keeps them too, no worker has two rows at one tick, and it has ended by the work divided by p, and the span.
 pub record IsWithinBound (rows : List Row) (p : ℕ) (plan workers : List ℕ) (last : ℕ) : Type 0 where
@@ -56,19 +58,18 @@ abbrev pub PartIsWithinBound : (rows : List Row) (asked : Option ℕ) (part : Li
 PartIsWithinBound rows None part none = Unit {0}
 PartIsWithinBound rows (Some p) part greedy = IsWithinBound rows p greedy.starts greedy.workers greedy.last
 
--- the report on some rows: its plan and its chain are the best, and its greedy plan ends within its bound
+-- the report on some rows: its plan, its chain and its span are the best, and its greedy plan ends within its bound
 pub record IsTrueReport (rows : List Row) (asked : Option ℕ) (output : List ℕ) : Type 0 where
   pub report : IsReport rows asked output
-  pub best : IsBest rows report.starts report.steps
+  pub best : IsBest rows report.starts report.steps report.span
   pub greedy : PartIsWithinBound rows asked report.part report.part_is
 
 -- ---- both
 
 -- The input spells a program; the recorded run, in whatever order its threads made their steps, is a run of it by the rule of runs, in which
 -- cowns are exclusive; and the output is the report on its rows, as they share cowns in the way that was asked for. The plan that is reported
--- keeps the run's spawn points and cown orders, every plan that keeps
--- them starts no row earlier and ends no sooner than the reported chain's ticks, and the greedy plan for p workers ends within the work
--- divided by p, and the span.
+-- keeps the run's spawn points and cown orders, and every plan that keeps them starts no row earlier and ends no sooner; its end, the span that is
+-- reported and the reported chain's ticks are one number; and the greedy plan for p workers ends within the work divided by p, and the span.
 pub record IsTimeAnswer (sharing : Sharing) (asked : Option ℕ) (input output : List ℕ) : Type 0 where
   pub recorded : Recorded
   pub run : IsRunOfText input recorded

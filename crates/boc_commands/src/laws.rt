@@ -1,22 +1,25 @@
-//! What is promised of every run and of the plans of its rows.
+//! What is promised of every run and of the plans of its rows, and that an input has one answer.
 
 ghost use Rattle.std.specs.Prelude.{◌≡◌, ℕ, List, Option};
+ghost use Rattle.boc_types.specs.declared.edit.Edit.{Edit};
+ghost use Rattle.boc_types.specs.declared.program.Program.{Program};
 ghost use Rattle.boc_types.specs.declared.rows.Row.{Row};
 ghost use Rattle.boc_types.specs.declared.sharing.Sharing.{Sharing};
 ghost use Rattle.boc_types.specs.runs.Rows.{IsRows};
 ghost use Rattle.boc_types.specs.runs.Seen.{seen};
-ghost use Rattle.boc_types.specs.answers.Answers.{IsReport};
+ghost use Rattle.boc_types.specs.text.Spells.{Spells};
+ghost use Rattle.boc_types.specs.answers.Answers.{IsReport, IsValuesAnswer, IsCheckAnswer, IsProfileAnswer, IsWhatIfAnswer, IsSweepAnswer};
 ghost use Rattle.boc_order.specs.declared.report.Profile.{Profile};
 ghost use Rattle.boc_order.specs.Profiles.{IsProfileOf};
 ghost use Rattle.boc_greedy.specs.declared.report.Greedy.{Greedy};
 ghost use Rattle.boc_greedy.specs.Plans.{IsGreedyPlanOf};
 ghost use Rattle.boc_commands.specs.Promises.{IsBest, IsTrueReport, IsWithinBound};
 
-/// The plan and the chain that `profile` answers are the best, and the greedy plan that `greedy` answers ends within its
-/// bound, for the rows of every run, however they share cowns.
+/// The plan, the chain and the span that `profile` answers are the best, and the greedy plan that `greedy` answers ends within
+/// its bound, for the rows of every run, however they share cowns.
 pub fn answers_are_true()
     ensures best { (rows : List Row) (sharing : Sharing) (profile : Profile) → IsProfileOf (seen sharing rows) profile
-        → IsBest (seen sharing rows) profile.starts.items profile.chain.steps.items }
+        → IsBest (seen sharing rows) profile.starts.items profile.chain.steps.items profile.span }
     ensures greedy { (rows : List Row) (sharing : Sharing) (p : ℕ) (plan : Greedy) → IsRows rows → IsGreedyPlanOf (seen sharing rows) p plan
         → IsWithinBound (seen sharing rows) p plan.starts.items plan.workers.items plan.ends_at }
 {}
@@ -25,4 +28,28 @@ pub fn answers_are_true()
 pub fn reports_are_true()
     ensures { (rows : List Row) (sharing : Sharing) (asked : Option ℕ) (text : List ℕ) → IsRows rows → IsReport (seen sharing rows) asked text
         → IsTrueReport (seen sharing rows) asked text }
+{}
+
+/// Rows have one report at most, however many workers are asked for.
+pub fn rows_have_one_report()
+    ensures { (rows : List Row) (asked : Option ℕ) (output other : List ℕ) → IsRows rows → IsReport rows asked output → IsReport rows asked other
+        → output ≡ other }
+{}
+
+/// An input has one answer at most, of each command that makes no run: of a text that spells a program one output of `values`, and of the text of
+/// a record one of `check`, and for what was asked one of `profile`, `whatif` and `sweep`.
+pub fn input_has_one_answer()
+    ensures values { (input output other : List ℕ) → IsValuesAnswer input output → IsValuesAnswer input other → output ≡ other }
+    ensures check { (input output other : List ℕ) → IsCheckAnswer input output → IsCheckAnswer input other → output ≡ other }
+    ensures profile { (sharing : Sharing) (asked : Option ℕ) (input output other : List ℕ) → IsProfileAnswer sharing asked input output
+        → IsProfileAnswer sharing asked input other → output ≡ other }
+    ensures whatif { (edits : List Edit) (sharing : Sharing) (asked : Option ℕ) (input output other : List ℕ)
+        → IsWhatIfAnswer edits sharing asked input output → IsWhatIfAnswer edits sharing asked input other → output ≡ other }
+    ensures sweep { (sharing : Sharing) (input output other : List ℕ) → IsSweepAnswer sharing input output → IsSweepAnswer sharing input other
+        → output ≡ other }
+{}
+
+/// A text spells one program at most.
+pub fn text_spells_one_program()
+    ensures { (text : List ℕ) (p q : Program) → Spells text p → Spells text q → p ≡ q }
 {}

@@ -1,6 +1,6 @@
 // The report on some rows.
 
-ghost use Rattle.std.specs.Prelude.{◌≡◌, ◌<◌, ℕ, None, IfOk, IfSome};
+ghost use Rattle.std.specs.Prelude.{◌≡◌, ◌<◌, ◌≤◌, ℕ, None, length, IfOk, IfSome};
 ghost use Rattle.boc_report.specs.Parts.{IsWhole, part_of};
 ghost use Rattle.boc_types.specs.answers.Answers.{IsAskedPart, IsReport};
 ghost use Rattle.boc_types.specs.runs.Seen.{seen};
@@ -9,7 +9,7 @@ ghost use Rattle.boc_commands.specs.Commands.{Leaves, CountsSource, CountsSink, 
 use crate::fault::Fault;
 use boc_greedy::Greedy;
 use boc_order::profile;
-use boc_report::write_report;
+use boc_report::{MOST_LINES, write_report};
 use boc_text::Sink;
 use boc_types::rows::Rows;
 use boc_types::sharing::Sharing;
@@ -86,6 +86,7 @@ fn greedy_for(
 ) -> Result<Option<Greedy>, AllocError>
     ensures part { IfOk result (λ greedy. IsAskedPart (seen question.now.sharing question.now.rows) workers (part_of greedy)) }
     ensures whole { IfOk result (λ greedy. IfSome greedy IsWhole) }
+    ensures few { IfOk result (λ greedy. IfSome greedy (λ g. length g.starts.items ≤ MOST_LINES)) }
 {
     match workers {
         Some(workers) => Ok(Some(question.greedy(alloc, workers)?)),

@@ -11,13 +11,16 @@ use boc_text::{Sink, Source};
 use boc_types::sharing::Sharing;
 use boc_whatif::WhatIf;
 use std::alloc::Global;
+use std::thread::Threads;
 
 /// Reads the text of a record, and writes for each row the span that the rows would have if that row alone took the
 /// least ticks that it can. Plans see the rows as they share cowns in this way.
 ///
 /// A text is refused at its first faulty line, and only where it is no record's. Nothing is written unless
-/// the whole answer stands. After a failing write a beginning of it went out.
-pub fn sweep_cmd<S: Source, W: Sink>(
+/// the whole answer stands. After a failing write a beginning of it went out. The spans are found in threads, where there
+/// are rows enough to be worth them.
+pub fn sweep_cmd<R: Threads + Sync, S: Source, W: Sink>(
+    rt: &R,
     alloc: Global,
     sharing: Sharing,
     source: &mut S,
@@ -32,7 +35,7 @@ pub fn sweep_cmd<S: Source, W: Sink>(
 {
     let rows = read_rows(alloc, source)?;
     let question = WhatIf::of(alloc, rows, sharing)?;
-    let spans = question.sweep(alloc)?;
+    let spans = question.sweep(rt, alloc)?;
     write_sweep(alloc, &spans, sink)?;
     Ok(())
 }

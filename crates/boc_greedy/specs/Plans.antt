@@ -15,7 +15,9 @@ abbrev pub IsAtMostTwice : List Row → ℕ → ℕ → Type 0
 IsAtMostTwice rows p tick = (plan workers : List ℕ) (last : ℕ) → Keeps rows plan → IsForWorkers rows p plan workers → IsEnd rows plan last →
     p * tick ≤ (2 * p - 1) * last
 
--- The plan is the greedy one of the rows for p workers, with the ends of its rows, its own end, the bound, and the number of ticks at which something can change, which are at most twice as many as the rows. There are no more rows than there may be. So it keeps, is for p workers, ends by the bound, and ends at most twice as late as any plan for p workers.
+-- The plan is the greedy one of the rows for p workers, with the ends of its rows, its own end, the bound, and the number of ticks at which
+-- something can change, which are at most twice as many as the rows. So it keeps, is for p workers, ends by the bound, and ends at most twice as
+-- late as any plan for p workers. There are no more rows than there may be.
 pub record IsGreedyPlanOf (rows : List Row) (p : ℕ) (plan : Greedy) : Type 0 where
   pub asked : plan.p ≡ p
   pub greedy : IsGreedy rows p plan.starts.items plan.workers.items

@@ -6,7 +6,9 @@ use Rattle.boc_types.specs.plans.Plans.{IsEarliest, IsEnd, HasEnds, NoneEndsBefo
 use Rattle.boc_types.specs.plans.Chains.{IsPicked, weight_of}
 use Rattle.boc_order.specs.declared.report.Profile.{Profile}
 
--- The profile is that of the rows: it has their work, the starts and ends of their earliest plan, the end of that plan, and the chain that is picked in it, whose weights add up to that end. No plan that keeps ends sooner. There are no more rows than there may be, and the chain has no more steps than there are rows.
+-- The profile is that of the rows: it has their work, the starts and ends of their earliest plan, the end of that plan, and the chain that is
+-- picked in it, whose weights add up to that end. No plan that keeps ends sooner. There are no more rows than there may be, and the chain has no
+-- more steps than there are rows.
 pub record IsProfileOf (rows : List Row) (profile : Profile) : Type 0 where
   pub work : profile.work ≡ work_of rows
   pub earliest : IsEarliest rows profile.starts.items

@@ -6,5 +6,6 @@ mod number_line;
 mod profile_lines;
 mod sweep_lines;
 
+pub use number_line::MOST_LINES;
 pub use profile_lines::{profile_text, write_report};
 pub use sweep_lines::{sweep_text, write_sweep};

@@ -9,8 +9,8 @@ use boc_text::{MOST_DIGITS, write_before};
 /// The most bytes of a number, and one behind it.
 pub(crate) const MOST_FIELD: usize = MOST_DIGITS + 1;
 
-/// The most lines of one kind in a report. Rows have numbers of 32 bits.
-pub(crate) const MOST_LINES: usize = 1 << 32;
+/// The most lines of one kind that a report or a sweep can have. The bytes of so many can be counted.
+pub const MOST_LINES: usize = 1 << 32;
 
 /// The most bytes of a report without its greedy part, of a greedy part, and of a sweep.
 pub(crate) const MOST_PART: usize = 1 << 40;

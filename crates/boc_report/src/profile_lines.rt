@@ -1,7 +1,6 @@
 // The report on the rows of a record.
 
 ghost use Rattle.std.specs.Prelude.{◌≡◌, ◌∷◌, ◌++◌, ◌+◌, ◌*◌, ◌<◌, ◌≤◌, ◌^◌, codes, drop, length, option_map, OnOk, IfOk, IfSome, MatchResult};
-ghost use Rattle.std.specs.Bool.{OnFalse};
 ghost use Rattle.std.specs.Io.KnownBytes.{Appends};
 ghost use Rattle.boc_types.specs.answers.Texts.{report_head, report_text, step_line, step_lines, plan_line, plan_lines, via_word};
 ghost use Rattle.boc_text.specs.Outgoing.{IsUnused, Puts, size};
@@ -12,7 +11,7 @@ ghost use Rattle.boc_report.specs.declared.number_line.TheConstants.{MOST_LINES,
 ghost use Rattle.boc_report.specs.declared.profile_lines.TheConstants.{MOST_HEAD, MOST_STEP, MOST_ROW};
 
 use crate::greedy_lines::put_greedy;
-use crate::number_line::{MOST_FIELD, MOST_LINES, number_before, word_before};
+use crate::number_line::{MOST_FIELD, number_before, word_before};
 use boc_greedy::Greedy;
 use boc_order::Profile;
 use boc_text::{Bytes, Outgoing, Sink, Stopped, WriteFault, write_before};
@@ -30,8 +29,7 @@ const MOST_ROW: usize = 3 * MOST_FIELD;
 
 /// Writes the report on a profile: how many rows, their work and the span, the chain, and the plan with each row's start and end, a
 /// line each. Where there is a greedy plan, its part follows. The text goes out in parts while it is formed; after a failing write a
-/// beginning of it went out. All memory is taken before the first part goes out. A report on more rows than there are numbers is
-/// refused as one for which there is no memory.
+/// beginning of it went out. All memory is taken before the first part goes out.
 pub fn write_report<W: Sink>(
     alloc: Global,
     profile: &Profile,
@@ -40,15 +38,15 @@ pub fn write_report<W: Sink>(
 ) -> Result<(), WriteFault>
     requires plan { length profile.now.starts.items ≡ length profile.now.ends.items }
     requires greedy { IfSome greedy (λ g. IsWhole g.now) }
+    requires few_steps { length profile.now.chain.steps.items ≤ MOST_LINES }
+    requires few_rows { length profile.now.starts.items ≤ MOST_LINES }
+    requires few_served { IfSome greedy (λ g. length g.now.starts.items ≤ MOST_LINES) }
     requires failures { W.failures sink.old < u64.MAX }
     ensures written { Writes
         (report_text profile.now.work profile.now.span profile.now.chain.steps.items profile.now.starts.items profile.now.ends.items
         ++ part_of (option_map (λ g. g.now) greedy.entry)) result (W.written sink.old) (W.written sink.new) }
     ensures failures { CountsWrite result (W.failures sink.old) (W.failures sink.new) }
 {
-    if has_too_many(profile, greedy) {
-        return Err(WriteFault::Memory);
-    }
     let mut out = Outgoing::new(alloc)?;
     send_report(&mut out, profile, greedy, sink)?;
     Ok(())
@@ -62,6 +60,9 @@ pub fn profile_text(
 ) -> Result<Vec<u8>, AllocError>
     requires plan { length profile.now.starts.items ≡ length profile.now.ends.items }
     requires greedy { IfSome greedy (λ g. IsWhole g.now) }
+    requires few_steps { length profile.now.chain.steps.items ≤ MOST_LINES }
+    requires few_rows { length profile.now.starts.items ≤ MOST_LINES }
+    requires few_served { IfSome greedy (λ g. length g.now.starts.items ≤ MOST_LINES) }
     ensures { IfOk result (λ text. text.items
         ≡ report_text profile.now.work profile.now.span profile.now.chain.steps.items profile.now.starts.items profile.now.ends.items
         ++ part_of (option_map (λ g. g.now) greedy.entry)) }
@@ -71,21 +72,6 @@ pub fn profile_text(
         Ok(()) => Ok(text.bytes),
         Err(_) => Err(AllocError),
     }
-}
-
-// More lines of one kind come than there are numbers for rows.
-fn has_too_many(profile: &Profile, greedy: Option<&Greedy>) -> bool
-    ensures steps { OnFalse result (length profile.now.chain.steps.items ≤ MOST_LINES) }
-    ensures plan { OnFalse result (length profile.now.starts.items ≤ MOST_LINES) }
-    ensures greedy { OnFalse result (IfSome greedy.entry (λ g. length g.now.starts.items ≤ MOST_LINES)) }
-{
-    let served = match greedy {
-        Some(greedy) => greedy.starts.len(),
-        None => 0,
-    };
-    profile.chain.steps.len() > MOST_LINES
-        || profile.starts.len() > MOST_LINES
-        || served > MOST_LINES
 }
 
 // Sends the report on a profile, of which nothing was formed yet.

@@ -9,7 +9,7 @@ ghost use Rattle.boc_text.specs.Writing.{CountsWrite, Writes};
 ghost use Rattle.boc_report.specs.declared.number_line.TheConstants.{MOST_LINES, MOST_PART};
 ghost use Rattle.boc_report.specs.declared.sweep_lines.TheConstants.{MOST_SWEPT};
 
-use crate::number_line::{MOST_FIELD, MOST_LINES};
+use crate::number_line::MOST_FIELD;
 use boc_text::{Bytes, Outgoing, Sink, Stopped, WriteFault, write_before};
 use std::alloc::{AllocError, Global};
 
@@ -17,16 +17,13 @@ use std::alloc::{AllocError, Global};
 const MOST_SWEPT: usize = 2 * MOST_FIELD;
 
 /// Writes the text of a sweep: a line for each row, with its number and the span that goes with it. It goes out in parts while it is
-/// formed; after a failing write a beginning of it went out. All memory is taken before the first part goes out. A sweep of more rows
-/// than there are numbers is refused as one for which there is no memory.
+/// formed; after a failing write a beginning of it went out. All memory is taken before the first part goes out.
 pub fn write_sweep<W: Sink>(alloc: Global, spans: &[u64], sink: &mut W) -> Result<(), WriteFault>
-    requires { W.failures sink.old < u64.MAX }
+    requires few { length spans.now ≤ MOST_LINES }
+    requires failures { W.failures sink.old < u64.MAX }
     ensures written { Writes (sweep_lines 0 spans.now) result (W.written sink.old) (W.written sink.new) }
     ensures failures { CountsWrite result (W.failures sink.old) (W.failures sink.new) }
 {
-    if spans.len() > MOST_LINES {
-        return Err(WriteFault::Memory);
-    }
     let mut out = Outgoing::new(alloc)?;
     send_sweep(&mut out, spans, sink)?;
     Ok(())
@@ -34,6 +31,7 @@ pub fn write_sweep<W: Sink>(alloc: Global, spans: &[u64], sink: &mut W) -> Resul
 
 /// The text of the same sweep, in memory.
 pub fn sweep_text(alloc: Global, spans: &[u64]) -> Result<Vec<u8>, AllocError>
+    requires { length spans.now ≤ MOST_LINES }
     ensures { IfOk result (λ text. text.items ≡ sweep_lines 0 spans.now) }
 {
     let mut text = Bytes::new(Vec::new(alloc));

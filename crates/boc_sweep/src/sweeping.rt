@@ -1,13 +1,12 @@
 // The spans that a run would have with one row after another at its least ticks.
 
-ghost use Rattle.std.specs.Prelude.{◌≡◌, ℕ, ◌<◌, ◌≤◌, ◌+◌, ◌*◌, List, Contains, length, IfOk, slice_index};
+ghost use Rattle.std.specs.Prelude.{◌≡◌, ℕ, ◌<◌, ◌≤◌, ◌+◌, ◌*◌, Contains, length, IfOk, slice_index};
 ghost use Rattle.boc_types.specs.runs.Rows.{IsRows};
-ghost use Rattle.boc_types.specs.plans.Edits.{IsSweep};
+ghost use Rattle.boc_types.specs.plans.Edits.{IsSweep, IsLeastSpan};
 ghost use Rattle.boc_order.specs.Standing.{IsPlanOf};
 ghost use Rattle.boc_order.specs.Waits.{AreWaits, HasWaits};
 ghost use Rattle.boc_sweep.specs.Cuts.{HasTails};
-ghost use Rattle.boc_sweep.specs.Tops.{AreTops};
-ghost use Rattle.boc_sweep.specs.declared.windows.Stretch.{Stretch};
+ghost use Rattle.boc_sweep.specs.Parts.{AreParts, HasLatestEnds};
 ghost use Rattle.boc_sweep.specs.Crossing.{AreCrossing, ArePushed};
 ghost use Rattle.boc_sweep.specs.Lasts.{HasLasts};
 
@@ -17,7 +16,12 @@ use crate::windows::{Stretch, all_tops};
 use boc_order::{Earliest, Links};
 use boc_types::limits::{MOST_ROWS, MOST_TICKS};
 use boc_types::sharing::SeenRows;
+use rayon::prelude::*;
 use std::alloc::{AllocError, Global};
+use std::thread::Threads;
+
+// The fewest rows that are worth a thread. A row's span is found so fast that even as many rows as there can be stay with one.
+const LEAST_PIECE: usize = MOST_ROWS + 1;
 
 // The waits of a row with this tail, as stretches.
 fn push_waits(
@@ -91,37 +95,71 @@ fn all_stretches(
     Ok(stretches)
 }
 
-// The spans, one row after another.
+// For each row the latest end among the rows before it.
+fn latest_ends(alloc: Global, rows: &SeenRows, plan: &Earliest) -> Result<Vec<u64>, AllocError>
+    requires { IsPlanOf rows.now plan.now }
+    ensures { IfOk result (λ latest. HasLatestEnds rows.now plan.now.starts.items latest.items) }
+{
+    let mut list = Vec::with_capacity(alloc, rows.len())?;
+    let mut latest = 0;
+    for row in 0..rows.len() {
+        list.push_reserved(latest);
+        latest = plan.ends[row].max(latest);
+    }
+    Ok(list)
+}
+
+// The span with one row at its least ticks.
+fn span_of(
+    rows: &SeenRows,
+    plan: &Earliest,
+    tails: &Tails,
+    lasts: &[u32],
+    tops: &[u64],
+    latest: &[u64],
+    row: usize,
+) -> u64
+    requires there { row < length rows.now }
+    requires parts { AreParts rows.now plan.now tails.now lasts.now tops.now latest.now }
+    ensures { IsLeastSpan rows.now row result }
+{
+    let own = plan.starts[row] + u64::from(least_ticks(lasts[row])) + tails.ends[row];
+    own.max(tops[row]).max(latest[row])
+}
+
+// The spans. Threads share out the rows where there are enough for more than one piece.
 fn spans(
+    rt: &(impl Threads + Sync),
     alloc: Global,
     rows: &SeenRows,
     plan: &Earliest,
     tails: &Tails,
     lasts: &[u32],
     tops: &[u64],
+    latest: &[u64],
 ) -> Result<Vec<u64>, AllocError>
-    requires shape { IsRows rows.now }
-    requires placed { IsPlanOf rows.now plan.now }
-    requires tails { HasTails rows.now tails.now.starts.items tails.now.ends.items }
-    requires lasts { HasLasts rows.now lasts.now }
-    requires tops { (stretches : List Stretch) × AreCrossing rows.now plan.now.starts.items tails.now.starts.items (length rows.now) stretches × AreTops stretches (length rows.now) tops.now }
+    requires { AreParts rows.now plan.now tails.now lasts.now tops.now latest.now }
     ensures { IfOk result (λ s. IsSweep rows.now s.items) }
 {
-    let mut spans = Vec::with_capacity(alloc, rows.len())?;
-    let mut ended = 0;
-    for row in 0..rows.len() {
-        let own = plan.starts[row] + u64::from(least_ticks(lasts[row])) + tails.ends[row];
-        spans.push_reserved(own.max(tops[row]).max(ended));
-        ended = plan.ends[row].max(ended);
-    }
-    Ok(spans)
+    (0..rows.len())
+        .into_par_iter()
+        .with_min_len(LEAST_PIECE)
+        .map(
+            |row: usize| -> u64
+                requires { (row < length rows.now) × AreParts rows.now plan.now tails.now lasts.now tops.now latest.now }
+                ensures { IsLeastSpan rows.entry.now row result }
+            { span_of(rows, plan, tails, lasts, tops, latest, row) },
+        )
+        .collect(rt, alloc)
 }
 
 /// For each row the span that the rows would have if that row alone took the least ticks that it can, from the earliest
 /// plan of the rows and the offsets of their last children. `AllocError` says that memory was refused.
 ///
-/// It takes memory that grows with the number of rows and their cowns, and that much time with its logarithm beside.
+/// It takes memory that grows with the number of rows and their cowns, and that much time with its logarithm beside. The spans
+/// are found in threads, where there are rows enough to be worth them; what is answered is the same.
 pub fn sweep(
+    rt: &(impl Threads + Sync),
     alloc: Global,
     rows: &SeenRows,
     waits: &Links,
@@ -137,5 +175,6 @@ pub fn sweep(
     let tails = all_tails(alloc, rows, waits)?;
     let stretches = all_stretches(alloc, rows, waits, plan, &tails)?;
     let tops = all_tops(alloc, &stretches, rows.len())?;
-    spans(alloc, rows, plan, &tails, lasts, &tops)
+    let latest = latest_ends(alloc, rows, plan)?;
+    spans(rt, alloc, rows, plan, &tails, lasts, &tops, &latest)
 }

@@ -1,6 +1,6 @@
 // Rows that are edited one after another.
 
-ghost use Rattle.std.specs.Prelude.{◌≡◌, ◌+◌, length, IfOk, IfErr, OnOk, OnErr, MatchResult};
+ghost use Rattle.std.specs.Prelude.{◌≡◌, ◌≤◌, ◌+◌, length, IfOk, IfErr, OnOk, OnErr, MatchResult};
 ghost use Rattle.boc_types.specs.plans.Plans.{work_of};
 ghost use Rattle.boc_types.specs.plans.Greedy.{IsSpan};
 ghost use Rattle.boc_types.specs.plans.Edits.{Fits, IsEditFault, IsSweep, edited};
@@ -13,12 +13,13 @@ use boc_greedy::{Greedy, greedy_over};
 use boc_order::{Earliest, Links, Profile, waits_and_plan};
 use boc_sweep::{last_children, least_ticks, sweep};
 use boc_types::edit::EditFault;
-use boc_types::limits::MOST_TICKS;
+use boc_types::limits::{MOST_ROWS, MOST_TICKS};
 use boc_types::rows::{Row, Rows};
 use boc_types::sharing::{SeenRows, Sharing};
 use boc_types::workers::Workers;
 use std::alloc::{AllocError, Global};
 use std::marker::Model;
+use std::thread::Threads;
 
 /// The rows of a finished run, of which a caller asks what they would be worth with other ticks.
 ///
@@ -185,11 +186,12 @@ impl WhatIf {
     /// of its last child, and 1 at least. `AllocError` says that memory was refused.
     ///
     /// No row is placed again: it takes memory that grows with the number of rows and their cowns, and that much time
-    /// with its logarithm beside.
-    pub fn sweep(&self, alloc: Global) -> Result<Vec<u64>, AllocError>
-        ensures { IfOk result (λ spans. IsSweep (seen self.now.sharing self.now.rows) spans.items) }
+    /// with its logarithm beside. Threads are started where there are rows enough to be worth them; the answer is the same.
+    pub fn sweep(&self, rt: &(impl Threads + Sync), alloc: Global) -> Result<Vec<u64>, AllocError>
+        ensures sweep { IfOk result (λ spans. IsSweep (seen self.now.sharing self.now.rows) spans.items) }
+        ensures few { IfOk result (λ spans. length spans.items ≤ MOST_ROWS) }
     {
         let rows = SeenRows::new(&self.rows, self.sharing);
-        sweep(alloc, &rows, &self.waits, &self.plan, &self.lasts)
+        sweep(rt, alloc, &rows, &self.waits, &self.plan, &self.lasts)
     }
 }

@@ -12,6 +12,7 @@ use boc_types::sharing::Sharing;
 use boc_whatif::WhatIf;
 use std::alloc::{AllocError, Global};
 use std::process::Abort;
+use std::thread::Threads;
 
 // The row of this number in a tree, which needs this cown, or the next greater one too. Some rows only read the lower
 // of these, or both.
@@ -53,8 +54,13 @@ fn tree(alloc: Global, count: u32, cowns: u32, mut seed: u32) -> Result<Vec<Row>
     Ok(list)
 }
 
-fn sweep_of(alloc: Global, rows: &Rows, sharing: Sharing) -> Result<Vec<u64>, AllocError> {
-    WhatIf::new(alloc, rows, sharing)?.sweep(alloc)
+fn sweep_of(
+    rt: &(impl Threads + Sync),
+    alloc: Global,
+    rows: &Rows,
+    sharing: Sharing,
+) -> Result<Vec<u64>, AllocError> {
+    WhatIf::new(alloc, rows, sharing)?.sweep(rt, alloc)
 }
 
 // The rows, of which one takes the least ticks that it can.
@@ -86,8 +92,8 @@ fn is_span(
 }
 
 // A sweep of all rows finds the span for each.
-fn are_swept(rt: &impl Abort, alloc: Global, rows: &Rows, sharing: Sharing) {
-    let spans = sweep_of(alloc, rows, sharing).expect(rt, "memory");
+fn are_swept(rt: &(impl Abort + Threads + Sync), alloc: Global, rows: &Rows, sharing: Sharing) {
+    let spans = sweep_of(rt, alloc, rows, sharing).expect(rt, "memory");
     for (number, found) in spans.iter().enumerate() {
         is_span(rt, alloc, rows, number, sharing, *found);
     }
@@ -105,8 +111,13 @@ fn sweep_is_as_if_each_row_were_lowered(rt: HostRuntime) {
 }
 
 // A sweep of as many rows as there can be has the spans for some of them.
-fn some_are_swept(rt: &impl Abort, alloc: Global, rows: &Rows, sharing: Sharing) {
-    let spans = sweep_of(alloc, rows, sharing).expect(rt, "memory");
+fn some_are_swept(
+    rt: &(impl Abort + Threads + Sync),
+    alloc: Global,
+    rows: &Rows,
+    sharing: Sharing,
+) {
+    let spans = sweep_of(rt, alloc, rows, sharing).expect(rt, "memory");
     assert_eq!(rt; spans.len(), 65_535);
     for number in [0, 1, 255, 32_768, 65_534] {
         let found = spans.get(number).copied().expect(rt, "a span");

@@ -4,7 +4,8 @@ use Rattle.boc_commands.proofs.Promised.{best, within_bound}
 use Rattle.boc_commands.proofs.laws.answers_are_true.Goals as goal
 
 pub returns-clause-best : goal.returns-clause-best
-returns-clause-best c = λ rows sharing profile is. best (seen sharing rows) profile.starts.items profile.chain.steps.items is.earliest is.picked.chain
+returns-clause-best c = λ rows sharing profile is.
+    best (seen sharing rows) profile.starts.items profile.chain.steps.items profile.span is.earliest is.span is.picked.chain is.weight
 
 pub returns-clause-greedy : goal.returns-clause-greedy
 returns-clause-greedy c = λ rows sharing p plan hr is.

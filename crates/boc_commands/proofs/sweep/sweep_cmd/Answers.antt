@@ -16,7 +16,7 @@ returns-clause-written g c =
         answers = swept c.args.sharing c.in_ok-question.question.sharing read.text asked.0 c.in_ok-question.question.rows
             c.in_ok-spans.spans.items c.deref.result.now text text
             read.text_of (c.in_ok-question.ensures.rows
-            ∙ asked.2) c.in_ok-question.ensures.sharing c.in_ok-spans.ensures c.deref.ensures.value refl refl;
+            ∙ asked.2) c.in_ok-question.ensures.sharing c.in_ok-spans.ensures.sweep c.deref.ensures.value refl refl;
       },
       c.in_ok-write_sweep.ensures.written,
     )
@@ -33,5 +33,5 @@ returns-in_err-write_sweep-clause-written g c =
       answers = swept c.args.sharing c.in_ok-question.question.sharing read.text asked.0 c.in_ok-question.question.rows c.in_ok-spans.spans.items
           c.deref.result.now text text
           read.text_of (c.in_ok-question.ensures.rows
-          ∙ asked.2) c.in_ok-question.ensures.sharing c.in_ok-spans.ensures c.deref.ensures.value refl refl;
+          ∙ asked.2) c.in_ok-question.ensures.sharing c.in_ok-spans.ensures.sweep c.deref.ensures.value refl refl;
     }) c.in_err-write_sweep.ensures.written

@@ -1,0 +1,94 @@
+-- An input has one answer.
+use Rattle.std.proofs.Common.{◌≡◌, ℕ, List, [], ◌∷◌, ◌++◌, length, Option, Some, None, sym, ◌∙◌, ap, subst}
+use Rattle.boc_types.specs.declared.edit.Edit.{Edit}
+use Rattle.boc_types.specs.declared.program.Program.{Program}
+use Rattle.boc_types.specs.declared.rows.Row.{Row}
+use Rattle.boc_types.specs.declared.sharing.Sharing.{Sharing}
+use Rattle.boc_types.specs.runs.OwnOrder.{EndsWith}
+use Rattle.boc_types.specs.runs.Records.{Recorded, IsRecord}
+use Rattle.boc_types.specs.runs.Rows.{IsRows}
+use Rattle.boc_types.specs.runs.Seen.{seen}
+use Rattle.boc_types.specs.plans.Plans.{work_of, HasEnds, IsEnd}
+use Rattle.boc_types.specs.plans.Chains.{IsPicked}
+use Rattle.boc_types.specs.plans.Edits.{AllFit, all_edited, edited, IsSweep}
+use Rattle.boc_types.specs.answers.Answers.{IsAskedPart, IsGreedyPart, IsReport, IsValuesAnswer, IsCheckAnswer, IsProfileAnswer, IsWhatIfAnswer, IsSweepAnswer}
+use Rattle.boc_types.specs.answers.Texts.{values_text, check_text, report_text, greedy_text, sweep_lines}
+use Rattle.boc_types.proofs.Editing.{rows_edited}
+use Rattle.boc_types.proofs.OwnOrders.{ends_once}
+use Rattle.boc_types.proofs.Seeing.{rows_seen}
+use Rattle.boc_rules.proofs.Finished.{is_rows}
+use Rattle.boc_rules.proofs.Next.{well_log}
+use Rattle.boc_record.proofs.OneFault.{one_record}
+use Rattle.boc_order.proofs.Alone.{one_bound, one_chain, one_end, one_list_of_ends, one_plan, one_sweep}
+use Rattle.boc_greedy.proofs.Alone.{one_greedy_plan}
+use Rattle.boc_reader.proofs.Spellings.{one_program}
+use Rattle.boc_commands.proofs.OneProgram.{same_program}
+
+one_greedy_part : (rows : List Row) → IsRows rows → (p : ℕ) (part other : List ℕ) → IsGreedyPart rows p part → IsGreedyPart rows p other → part ≡ other
+one_greedy_part rows hr p part other g h =
+    let same = one_greedy_plan rows hr p g.starts g.workers h.starts h.workers g.greedy h.greedy in
+    let ends : g.ends ≡ h.ends = one_list_of_ends rows h.starts g.ends h.ends (subst (λ (plan : List ℕ). HasEnds rows plan g.ends) same.0 g.ends_are) h.ends_are in
+    let last : g.last ≡ h.last = one_end rows h.starts g.last h.last (subst (λ (plan : List ℕ). IsEnd rows plan g.last) same.0 g.last_is) h.last_is in
+    let bound : g.bound ≡ h.bound = one_bound rows p g.bound h.bound g.bound_is h.bound_is in
+    let text : greedy_text p g.starts g.ends g.workers g.last g.bound ≡ greedy_text p h.starts h.ends h.workers h.last h.bound =
+    λ i. greedy_text p (same.0 i) (ends i) (same.1 i) (last i) (bound i) in
+    g.text ∙ text ∙ sym h.text
+
+one_part : (rows : List Row) → IsRows rows → (asked : Option ℕ) (part other : List ℕ) → IsAskedPart rows asked part → IsAskedPart rows asked other → part ≡ other
+one_part rows hr None part other g h = g ∙ sym h
+one_part rows hr (Some p) part other g h = one_greedy_part rows hr p part other g h
+
+pub one_report : (rows : List Row) → IsRows rows → (asked : Option ℕ) (output other : List ℕ) → IsReport rows asked output → IsReport rows asked other →
+    output ≡ other
+one_report rows hr asked output other r s =
+    let starts : r.starts ≡ s.starts = one_plan rows r.starts s.starts r.earliest s.earliest in
+    let ends : r.ends ≡ s.ends = one_list_of_ends rows s.starts r.ends s.ends (subst (λ (plan : List ℕ). HasEnds rows plan r.ends) starts r.ends_are) s.ends_are in
+    let span : r.span ≡ s.span = one_end rows s.starts r.span s.span (subst (λ (plan : List ℕ). IsEnd rows plan r.span) starts r.span_is) s.span_is in
+    let steps : r.steps ≡ s.steps = one_chain rows s.starts r.steps s.steps (subst (λ (plan : List ℕ). IsPicked rows plan r.steps) starts r.picked) s.picked in
+    let part : r.part ≡ s.part = one_part rows hr asked r.part s.part r.part_is s.part_is in
+    let text : report_text (work_of rows) r.span r.steps r.starts r.ends ++ r.part ≡ report_text (work_of rows) s.span s.steps s.starts s.ends ++ s.part =
+    λ i. report_text (work_of rows) (span i) (steps i) (starts i) (ends i) ++ part i in
+    r.text ∙ text ∙ sym s.text
+
+-- the rows of a record
+rows_are : (r : Recorded) → IsRecord r → IsRows r.rows
+rows_are r is = is_rows r.cowns _ r.rows is.few (well_log r.cowns r.events is.legal) is.complete is.rows_are
+
+-- the rows after edits that fit
+rows_after : (rows : List Row) → IsRows rows → (edits : List Edit) → AllFit rows edits → IsRows (all_edited rows edits)
+rows_after rows hr [] fit = hr
+rows_after rows hr (edit ∷ edits) fit = rows_after (edited rows edit.row edit.ticks) (rows_edited rows hr edit.row edit.ticks fit.0) edits fit.1
+
+pub one_values_answer : (input output other : List ℕ) → IsValuesAnswer input output → IsValuesAnswer input other → output ≡ other
+one_values_answer input output other a b =
+    let program : a.program ≡ b.program = same_program a.program b.program (one_program input a.program b.program a.spells b.spells) in
+    let values : a.values ≡ b.values = ends_once b.program a.values b.values (subst (λ (p : Program). EndsWith p a.values) program a.ends) b.ends in
+    let text : values_text a.program.cowns a.values ≡ values_text b.program.cowns b.values = λ i. values_text (program i).cowns (values i) in
+    a.text ∙ text ∙ sym b.text
+
+pub one_check_answer : (input output other : List ℕ) → IsCheckAnswer input output → IsCheckAnswer input other → output ≡ other
+one_check_answer input output other a b =
+    let same : a.recorded ≡ b.recorded = one_record input a.recorded b.recorded a.spells b.spells in
+    a.text ∙ ap (λ (r : Recorded). check_text (length r.rows)) same ∙ sym b.text
+
+pub one_profile_answer : (sharing : Sharing) (asked : Option ℕ) (input output other : List ℕ) → IsProfileAnswer sharing asked input output →
+    IsProfileAnswer sharing asked input other → output ≡ other
+one_profile_answer sharing asked input output other a b =
+    let same : a.recorded ≡ b.recorded = one_record input a.recorded b.recorded a.spells b.spells in
+    one_report (seen sharing b.recorded.rows) (rows_seen sharing b.recorded.rows (rows_are b.recorded b.spells.record_is)) asked output other
+    (subst (λ (r : Recorded). IsReport (seen sharing r.rows) asked output) same a.report) b.report
+
+pub one_whatif_answer : (edits : List Edit) (sharing : Sharing) (asked : Option ℕ) (input output other : List ℕ) →
+    IsWhatIfAnswer edits sharing asked input output → IsWhatIfAnswer edits sharing asked input other → output ≡ other
+one_whatif_answer edits sharing asked input output other a b =
+    let same : a.recorded ≡ b.recorded = one_record input a.recorded b.recorded a.spells b.spells in
+    let rows : IsRows (all_edited b.recorded.rows edits) = rows_after b.recorded.rows (rows_are b.recorded b.spells.record_is) edits b.fit in
+    one_report (seen sharing (all_edited b.recorded.rows edits)) (rows_seen sharing (all_edited b.recorded.rows edits) rows) asked output other
+    (subst (λ (r : Recorded). IsReport (seen sharing (all_edited r.rows edits)) asked output) same a.report) b.report
+
+pub one_sweep_answer : (sharing : Sharing) (input output other : List ℕ) → IsSweepAnswer sharing input output → IsSweepAnswer sharing input other → output ≡ other
+one_sweep_answer sharing input output other a b =
+    let same : a.recorded ≡ b.recorded = one_record input a.recorded b.recorded a.spells b.spells in
+    let spans : a.spans ≡ b.spans =
+    one_sweep (seen sharing b.recorded.rows) a.spans b.spans (subst (λ (r : Recorded). IsSweep (seen sharing r.rows) a.spans) same a.sweep) b.sweep in
+    a.text ∙ ap (sweep_lines 0) spans ∙ sym b.text

@@ -1,7 +1,7 @@
 -- How often a cown stands in a list, and how many of its requests are still to come.
-use Rattle.std.proofs.Common.{◌≡◌, ◌≢◌, ℕ, zero, suc, ◌+◌, ◌<◌, ◌≤◌, cond, eqb, List, [], ◌∷◌, length, take, drop, set, get_or, refl, ◌∙◌, ap, arith, add-one}
+use Rattle.std.proofs.Common.{◌≡◌, ◌≢◌, ℕ, zero, suc, ◌+◌, ◌<◌, ◌≤◌, Bool, cond, eqb, List, [], ◌∷◌, length, take, drop, set, get_or, refl, sym, ◌∙◌, ap, subst, arith, add-one}
 use Rattle.std.specs.Prelude.{slice_get, Option, Some, None}
-use Rattle.std.specs.List.{sum_by}
+use Rattle.std.specs.List.{All, sum_by}
 use Rattle.std.proofs.lemmas.List.Sums.{sum_by-set}
 use Rattle.std.proofs.lemmas.Option.{slice_get_within, get_or_from_slice_get}
 use Rattle.boc_chain.specs.declared.held.Held.{Held}
@@ -29,6 +29,14 @@ times_take c [] zero = omega arith
 times_take c [] (suc i) = omega arith
 times_take c (d ∷ cs) zero = omega arith
 times_take c (d ∷ cs) (suc i) = let e = times_take c cs i in omega arith
+
+-- what stands in a list is below a bound of each that stands there
+pub all_below : (n : ℕ) (cs : List ℕ) → ((c : ℕ) → 0 < times c cs → c < n) → All (λ c. c < n) cs
+all_below n [] low k d l = absurd (omega arith)
+all_below n (x ∷ cs) low zero d l =
+    let IsThere : Bool → Type 0 = λ b. 0 < cond b 1 0 + times x cs in
+    low x (subst IsThere (sym (eqb_same x x refl)) (omega arith))
+all_below n (x ∷ cs) low (suc k) d l = all_below n cs (λ c stands. low c (omega (arith, stands))) k d (omega (arith, l))
 
 -- what is held at a vacant slot is awaited, whole
 pub awaited_held : (places : List (Option Held)) (slot : ℕ) (h : Held) (c : ℕ) → slice_get places slot ≡ Some None → h.exchanged ≡ 0 → sum_by (awaits c) (set places slot (Some h)) ≡ sum_by (awaits c) places + times c h.cowns.items

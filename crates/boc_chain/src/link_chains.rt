@@ -1,6 +1,7 @@
 //! Request chains kept as links.
 
-ghost use Rattle.std.specs.Prelude.{◌≡◌, ℕ, ◌↔◌, IsTrue, Some, None, IfOk, replicate, ◌≤◌};
+ghost use Rattle.std.specs.Prelude.{◌≡◌, ℕ, ◌↔◌, IsTrue, Some, None, IfOk, replicate, length, ◌≤◌};
+ghost use Rattle.boc_types.specs.declared.limits.TheConstants.{MOST_COWNS};
 ghost use Rattle.slab.specs.Slab.{slab_len};
 ghost use Rattle.std.specs.Option.{option_map};
 ghost use Rattle.boc_chain.specs.Linked.{IsLinked, slot_at};
@@ -25,6 +26,7 @@ pub struct LinkChains {
     last: Vec<Option<Node>>,
     slots: Slab<Linked>,
     peak: usize,
+    ghost few: { length last.items ≤ MOST_COWNS },
     ghost linked: { IsLinked last.items slots peak } by { Prim.hlevel (props, Spells-prop) },
 }
 
@@ -55,14 +57,15 @@ fn slot_in(node: Option<Node>) -> Option<Slot>
 }
 
 impl LinkChains {
-    ghost use Rattle.std.specs.Prelude.{IsSome, [], length, ◌<◌};
+    ghost use Rattle.std.specs.Prelude.{IsSome, [], ◌<◌};
     ghost use Rattle.boc_chain.specs.Chain.{list, times, slots as slots_in};
     ghost use Rattle.boc_chain.specs.Links.{Spells, end_of};
     ghost use Rattle.boc_chain.specs.Linked.{links, last_of};
     ghost use Rattle.boc_chain.specs.LinkViews.{lists as link_lists, place as link_place, held, peak as link_peak};
 
-    /// Chains of so many cowns, with no request.
+    /// Chains of so many cowns, with no request. `AllocError` says that memory was refused.
     pub fn new(alloc: Global, cowns: usize) -> Result<LinkChains, AllocError>
+        requires { cowns ≤ MOST_COWNS }
         ensures lists { IfOk result (λ chains. link_lists chains ≡ replicate cowns []) }
         ensures places { IfOk result (λ chains. (s : ℕ) → link_place chains s ≡ None) }
         ensures held { IfOk result (λ chains. held chains ≡ 0) }
@@ -97,7 +100,7 @@ impl LinkChains {
 }
 
 impl Chains for LinkChains {
-    ghost use Rattle.std.specs.Prelude.{◌≢◌, ◌<◌, OnOk, OnErr, IsSome, length};
+    ghost use Rattle.std.specs.Prelude.{◌≢◌, ◌<◌, OnOk, OnErr, IsSome};
     ghost use Rattle.boc_chain.specs.Chain.{IsGranted, StandsIn, times, slots as slots_in, cowns_of, exchanged_of, one_more, list, list_for};
     ghost use Rattle.boc_chain.specs.Chain.{with_change, with_fresh, last_slot, settle_answer, after_settle, with_flagged, leave_answer, after_leave};
     ghost use Rattle.boc_chain.specs.LinkViews.{HoldsOneMore, HoldsAsMany, HoldsOneLess};
@@ -120,14 +123,11 @@ impl Chains for LinkChains {
     {
         let count = cowns.len();
         prove!(count <= MOST_HELD);
-        // Nodes name slots in 16 bits, which is enough for as many behaviours as a run may have, and cowns are kept in bytes.
+        // Nodes name slots in 16 bits, which is enough for as many behaviours as a run may have.
         if self.slots.vacant_key() > u16::MAX as usize {
             return Err(AllocError);
         }
-        let Some(cowns) = HeldCowns::try_of(&cowns) else {
-            return Err(AllocError);
-        };
-        let linked = Linked::new(*self.last.allocator(), cowns)?;
+        let linked = Linked::new(*self.last.allocator(), HeldCowns::of(&cowns))?;
         self.slots.reserve(1)?;
         let index = self.slots.insert_reserved(linked);
         self.peak = self.peak.max(self.slots.len());

@@ -1,8 +1,9 @@
 -- What the calls answer, by what the machine does.
-use Rattle.std.proofs.Common.{◌≡◌, ◌≢◌, ℕ, suc, ◌+◌, ◌<◌, ◌≤◌, Bool, true, false, List, [], length, refl, sym, ◌∙◌, ap, subst, arith, add-one}
+use Rattle.std.proofs.Common.{◌≡◌, ◌≢◌, ℕ, zero, suc, ◌+◌, ◌^◌, ◌<◌, ◌≤◌, Bool, true, false, List, [], ◌∷◌, length, map, refl, sym, ◌∙◌, ap, subst, arith, add-one}
 use Rattle.std.specs.Prelude.{slice_get, ℤ, Option, Some, None, Ok, Err}
+use Rattle.std.specs.List.{All}
 use Rattle.std.specs.Option.{option_map}
-use Rattle.boc_types.specs.declared.limits.TheConstants.{MOST_ROWS}
+use Rattle.boc_types.specs.declared.limits.TheConstants.{MOST_COWNS, MOST_ROWS}
 use Rattle.boc_types.specs.declared.body.Body.{Body}
 use Rattle.boc_types.specs.declared.short.Input.{Input}
 use Rattle.boc_types.specs.declared.stage.Phase.{Phase}
@@ -19,6 +20,10 @@ use Rattle.boc_types.specs.runs.Run.{Member, next_wish, state_of, meaning_of, wi
 use Rattle.boc_types.specs.machine.Stages.{OpenBehaviour, enqueues, enqueues_at, parent_of}
 use Rattle.boc_types.specs.machine.Steps.{at, members, opened, IsQuiet, Opens, Advances, Owns, IsBlockedAsking}
 use Rattle.boc_types.specs.machine.Turns.{IsEnqueueOf}
+use Rattle.boc_types.specs.machine.Sound.{IsSound}
+use Rattle.boc_types.specs.program.Programs.{cown_count}
+use Rattle.boc_types.specs.program.Signatures.{AllBelow, WishFits, signature_of}
+use Rattle.boc_machine.proofs.Members.{all_fit, next_fits}
 use Rattle.boc_machine.proofs.Rows.{life_there}
 use Rattle.boc_eval.specs.Frames.{UnderWay as Framed, Ran, last_of, last_wish_of, wishes_of}
 use Rattle.boc_eval.specs.Wishes.{wish_of}
@@ -37,6 +42,7 @@ use Rattle.boc_dispatch.specs.Underway.{Underway}
 use Rattle.boc_dispatch.specs.Calls.{in_state, IsHandedOut, Begins, IsNextWish, MayAsk, OpensWish, AdvancesChild, FinishesRow, LeavesCown}
 use Rattle.boc_dispatch.specs.Inside.{Parts, state, underway, open_of, behaviour_of, IsKept, IsAtStage, IsNew, Stays}
 use Rattle.boc_dispatch.specs.Moves.{IsFoundEnqueue, SettlesNext, EndsBehaviour, ReleasesNext}
+use Rattle.boc_dispatch.proofs.Homes.{counts_there}
 use Rattle.boc_dispatch.proofs.Tables.{at_slot, behaviours_length}
 
 -- another state of the same program
@@ -49,6 +55,12 @@ pub none_ready : (d e : Parts) → Stays d e → (state d).ready ≡ [] → (IsQ
 none_ready d e stays none busy = (stays, none, λ quiet. busy (subst (λ (u : Underway). IsQuiet u.state) (sym stays) quiet))
 
 -- ---- open
+
+-- numbers below a bound are below a greater one
+below_all : (n m : ℕ) (cs : List ℕ) → m ≤ n → AllBelow m cs → All (λ c. c < n) cs
+below_all n m [] le h k d l = absurd (omega arith)
+below_all n m (c ∷ cs) le h zero d l = omega (arith, le, h.0)
+below_all n m (c ∷ cs) le h (suc k) d l = below_all n m cs le h.1 k d (omega (arith, l))
 
 -- it was handed out with what equals this
 pub handed_as : (u : Underway) (row : ℕ) (b c : Body) (xs ys : List ℤ) (i j : List Input) → b ≡ c → xs ≡ ys → i ≡ j → IsHandedOut u row b xs i → IsHandedOut u row c ys j
@@ -76,6 +88,24 @@ next_is u f row w may last =
     ∙ ap (λ xs. Some (meaning f.body xs h.member.inputs)) (sym h.args_are) ∙ ap (λ xs. Some (meaning f.body f.args xs)) (sym h.inputs_are) in
     let made : f.made ≡ suc h.member.spawned = n.next ∙ ap (λ (m : Member). m.spawned + 1) same ∙ add-one h.member.spawned in
     ap (next_wish u.program) h.is ∙ ap (λ o. wish_at o h.member.spawned) meant ∙ sym (last ∙ ap (λ k. last_of k (wishes_of f)) made)
+
+-- that wish fits the program, so its kind and its cowns are small
+pub wish_fits : (u : Underway) (f : Framed) (row : ℕ) (w : Wish) → IsSound u.program u.state → MayAsk u f row → Some w ≡ last_wish_of f
+    → WishFits (map signature_of u.program.bodies) (cown_count u.program.cowns) w
+wish_fits u f row w sound may last =
+    let h = may.handed in
+    next_fits u.program h.member w (all_fit u.program u.state.log sound.run row h.member h.is) h.runs
+    (ap (next_wish u.program) (sym h.is) ∙ next_is u f row w may last)
+
+pub kind_small : (u : Underway) (f : Framed) (row : ℕ) (w : Wish) → IsSound u.program u.state → MayAsk u f row → Some w ≡ last_wish_of f → w.kind < 2 ^ 32
+kind_small u f row w sound may last =
+    let below = counts_there u.program.bodies w.kind (length w.args) (length w.cowns) (wish_fits u f row w sound may last).counts in
+    omega (arith, below, u.program.few_defs)
+
+pub cowns_small : (u : Underway) (f : Framed) (row : ℕ) (w : Wish) → IsSound u.program u.state → MayAsk u f row → Some w ≡ last_wish_of f
+    → All (λ c. c < MOST_COWNS) w.cowns
+cowns_small u f row w sound may last =
+    below_all MOST_COWNS (cown_count u.program.cowns) w.cowns u.program.few_cowns (wish_fits u f row w sound may last).below
 
 -- what is opened for the next wish of a row is new
 pub new_is : (d : Parts) (f : Framed) (row : ℕ) (wish : SpawnWish) (l : Live) → MayAsk (underway d) f row → Some (wish_of wish) ≡ last_wish_of f

@@ -1,6 +1,6 @@
 -- A drive from its opening to its end.
 use Rattle.std.proofs.Common.{◌≡◌, ℕ, zero, suc, ◌<◌, ◌≤◌, List, [], ◌∷◌, ◌++◌, length, map, take, replicate, refl, sym, ◌∙◌, ap, subst, arith}
-use Rattle.std.specs.Prelude.{slice_get, slice_set, Some, None, Err}
+use Rattle.std.specs.Prelude.{slice_get, slice_set, Option, Some, None, Err}
 use Rattle.std.specs.Option.{option_map}
 use Rattle.std.proofs.Math.Seq.{take-length}
 use Rattle.std.proofs.lemmas.List.{length-map, length-replicate, length-set, map-set}
@@ -73,6 +73,10 @@ module _ (workers : ℕ) (crew : List Worker) (idle : map (λ (w : Worker). w.ha
 
 -- ---- from one choice to the next
 
+-- where a dispatcher and its workers stand
+abbrev pub stands_at : Underway → List Worker → Driven
+stands_at u crew = record { state = u.state; serves = rows_of crew }
+
 module _ (p : Program) (workers : ℕ) (choices : List ℕ) (place : ℕ) (u : Underway) (crew : List Worker) (h : IsAt p workers choices place u crew) where
   pub at_sound : IsSound u.program u.state
   at_sound = subst (λ q. IsSound q u.state) (sym h.program)
@@ -85,29 +89,43 @@ module _ (p : Program) (workers : ℕ) (choices : List ℕ) (place : ℕ) (u : U
   pub at_fits : (choice : ℕ) (w : Worker) → slice_get crew choice ≡ Some w → HandFits u w.hand
   at_fits choice w is = h.fits.fits choice w is
 
+  -- the turn of a worker
+  pub at_turn : (choice : ℕ) (v : Underway) (old new : Worker) → slice_get crew choice ≡ Some old
+      → TakesTurn u.program u.state (row_in old.hand) v.state (row_in new.hand) → Turn p (stands_at u crew) choice (stands_at v (slice_set crew choice new))
+  at_turn choice v old new is turn = record {
+    before = row_in old.hand;
+    after = row_in new.hand;
+    is = got_map (λ (w : Worker). row_in w.hand) crew choice old is;
+    takes = subst (λ q. TakesTurn q u.state (row_in old.hand) v.state (row_in new.hand)) h.program turn;
+    serves_are = map-set (λ (w : Worker). row_in w.hand) crew choice new;
+  }
+
+  -- where there is no room for the next wish of the row of a worker, that has no turn
+  pub none_where_full : (choice : ℕ) (w : Worker) → slice_get crew choice ≡ Some w → HasNoRoom (of_program p u.state) (row_in w.hand)
+      → (after : Driven) → Turn p (stands_at u crew) choice after → ⊥
+  none_where_full choice w is full after turn =
+      let before : turn.before ≡ Some full.served = (let f : Some turn.before ≡ Some (row_in w.hand) = sym turn.is ∙ got_map (λ (x : Worker). row_in x.hand) crew choice w is in
+      let g : turn.before ≡ row_in w.hand = cc in g ∙ full.serves) in
+      no_turn p u.state after.state full.served full.wish turn.after (subst (λ q. IsSound q u.state) h.program at_sound) full.runs full.none_open full.next
+      (omega (arith, full.full)) (subst (λ o. TakesTurn p u.state o after.state turn.after) before turn.takes)
+
+  pub of_own : (row : Option ℕ) → HasNoRoom u row → HasNoRoom (of_program p u.state) row
+  of_own row = subst (λ (x : Underway). HasNoRoom x row) (λ i. record { program = h.program i; state = u.state })
+
   module _ (choice : ℕ) (chosen : slice_get choices place ≡ Some choice) where
     pub at_next : (v : Underway) (old new : Worker) → slice_get crew choice ≡ Some old → TakesTurn u.program u.state (row_in old.hand) v.state (row_in new.hand)
         → v.program ≡ u.program → HandFits v new.hand → IsAt p workers choices (suc place) v (slice_set crew choice new)
     at_next v old new is turn same fits =
         let there : v ≡ in_state u v.state = (λ i. record { program = same i; state = v.state }) in
-        let takes : TakesTurn p u.state (row_in old.hand) v.state (row_in new.hand) =
-        subst (λ q. TakesTurn q u.state (row_in old.hand) v.state (row_in new.hand)) h.program turn in
-        let one : Turn p (record { state = u.state; serves = rows_of crew }) choice (record { state = v.state; serves = rows_of (slice_set crew choice new) }) = record {
-          before = row_in old.hand;
-          after = row_in new.hand;
-          is = got_map (λ (w : Worker). row_in w.hand) crew choice old is;
-          takes = takes;
-          serves_are = map-set (λ (w : Worker). row_in w.hand) crew choice new;
-        } in
         record {
           program = same ∙ h.program;
           count = length-set crew choice new ∙ h.count;
           fits = subst (λ (x : Underway). IsCrew x (slice_set crew choice new)) (sym there)
               (crew_on u v.state crew choice old new at_sound h.fits is turn (subst (λ (x : Underway). HandFits x new.hand) there fits));
-          turns = subst (λ cs. Turns p (opening_driven p workers) cs (record { state = v.state; serves = rows_of (slice_set crew choice new) }))
+          turns = subst (λ cs. Turns p (opening_driven p workers) cs (stands_at v (slice_set crew choice new)))
               (sym (take_one_more choices place choice chosen))
-              (turns_more p (opening_driven p workers) (take place choices) choice (record { state = u.state; serves = rows_of crew })
-              (record { state = v.state; serves = rows_of (slice_set crew choice new) }) h.turns one);
+              (turns_more p (opening_driven p workers) (take place choices) choice (stands_at u crew) (stands_at v (slice_set crew choice new)) h.turns
+              (at_turn choice v old new is turn));
         }
 
     pub at_stranger : length crew ≤ choice → HasNoWorker p workers choices place
@@ -119,17 +137,9 @@ module _ (p : Program) (workers : ℕ) (choices : List ℕ) (place : ℕ) (u : U
       past = omega (arith, past, h.count);
     }
 
-    none_where_full : (w : Worker) → slice_get crew choice ≡ Some w → HasNoRoom (of_program p u.state) (row_in w.hand) → (after : Driven)
-        → Turn p (record { state = u.state; serves = rows_of crew }) choice after → ⊥
-    none_where_full w is full after turn =
-        let before : turn.before ≡ Some full.served = (let f : Some turn.before ≡ Some (row_in w.hand) = sym turn.is ∙ got_map (λ (x : Worker). row_in x.hand) crew choice w is in
-        let g : turn.before ≡ row_in w.hand = cc in g ∙ full.serves) in
-        no_turn p u.state after.state full.served full.wish turn.after (subst (λ q. IsSound q u.state) h.program at_sound) full.runs full.none_open full.next
-        (omega (arith, full.full)) (subst (λ o. TakesTurn p u.state o after.state turn.after) before turn.takes)
-
     pub at_full : (w : Worker) → slice_get crew choice ≡ Some w → HasNoRoom u (row_in w.hand) → RunsOutOfRows p workers choices
     at_full w is full =
-        let no_room = subst (λ (x : Underway). HasNoRoom x (row_in w.hand)) (λ i. record { program = h.program i; state = u.state }) full in
+        let no_room = of_own (row_in w.hand) full in
         record {
           place = place;
           before = record { state = u.state; serves = rows_of crew };
@@ -140,7 +150,7 @@ module _ (p : Program) (workers : ℕ) (choices : List ℕ) (place : ℕ) (u : U
           row = row_in w.hand;
           serves = got_map (λ (x : Worker). row_in x.hand) crew choice w is;
           full = no_room;
-          none = none_where_full w is no_room;
+          none = none_where_full choice w is no_room;
         }
 
 -- all choices have had their turns

@@ -58,7 +58,7 @@ open_enqueuing None e = absurd (let h : false ≡ true = e in cc)
 open_enqueuing (Some b) e = (b, refl, e)
 
 -- a body of which the counts are known is there
-counts_there : (bodies : List Body) (kind args cowns : ℕ) → CountsAre (slice_get (map signature_of bodies) kind) args cowns → kind < length bodies
+pub counts_there : (bodies : List Body) (kind args cowns : ℕ) → CountsAre (slice_get (map signature_of bodies) kind) args cowns → kind < length bodies
 counts_there [] kind args cowns h = absurd h
 counts_there (b ∷ bodies) zero args cowns h = omega arith
 counts_there (b ∷ bodies) (suc kind) args cowns h = let below = counts_there bodies kind args cowns h in omega arith

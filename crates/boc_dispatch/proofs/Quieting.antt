@@ -1,6 +1,7 @@
 -- A drive that goes on until it is quiet.
-use Rattle.std.proofs.Common.{◌≡◌, ◌≢◌, ℕ, zero, suc, ◌+◌, ◌*◌, ◌-◌, ◌<◌, true, false, List, [], ◌∷◌, ◌++◌, length, take, get_or, refl, sym, ◌∙◌, ap, subst, arith, length-append}
-use Rattle.std.specs.Prelude.{slice_get, slice_set, Option, Some, None, Err, MatchOption}
+use Rattle.std.proofs.Common.{◌≡◌, ◌≢◌, ℕ, zero, suc, ◌+◌, ◌*◌, ◌-◌, ◌<◌, inl, inr, true, false, List, [], ◌∷◌, ◌++◌, length, take, get_or, refl, sym, ◌∙◌, ap, subst, arith, length-append}
+use Rattle.std.specs.Prelude.{slice_get, slice_set, Option, Some, None, Ok, Err, MatchOption}
+use Rattle.std.proofs.Math.Seq.{take-length}
 use Rattle.std.proofs.lemmas.List.{append-nil, append_assoc, take-append-le}
 use Rattle.std.proofs.lemmas.Option.{slice_get-map}
 use Rattle.boc_types.specs.declared.limits.TheConstants.{MOST_ROWS}
@@ -11,9 +12,9 @@ use Rattle.boc_types.specs.declared.stage.Stage.TheVariants.{Asking, Recorded}
 use Rattle.boc_types.specs.runs.Lives.{Pending, Running, Ended}
 use Rattle.boc_types.specs.runs.Run.{Member, state_of}
 use Rattle.boc_types.specs.machine.Stages.{OpenBehaviour, row_of, life, life_at}
-use Rattle.boc_types.specs.machine.Steps.{State, at, members}
+use Rattle.boc_types.specs.machine.Steps.{State, at, members, IsQuiet}
 use Rattle.boc_types.specs.machine.Sound.{IsSound}
-use Rattle.boc_types.specs.machine.Turns.{TakesTurn, Turns, opening_driven}
+use Rattle.boc_types.specs.machine.Turns.{TakesTurn, Driven, Turn, Turns, opening_driven}
 use Rattle.boc_types.specs.machine.Movers.{works, works_at, NobodyWorks}
 use Rattle.std.proofs.lemmas.Option.{slice_get_read}
 use Rattle.boc_types.proofs.ChangedItems.{place_below, item_at, front_item}
@@ -33,8 +34,8 @@ use Rattle.boc_dispatch.specs.declared.worker.Worker.{Worker}
 use Rattle.boc_dispatch.specs.Underway.{Underway}
 use Rattle.boc_dispatch.specs.Calls.{CanMove, HasNoRoom}
 use Rattle.boc_dispatch.specs.Working.{row_in}
-use Rattle.boc_dispatch.specs.Driving.{HandFits, IsAt, rows_of, row_for, IsDriven, HasNoWorker, RunsOutOfRows, Drives, DrivesQuiet}
-use Rattle.boc_dispatch.proofs.Driven.{at_sound, at_next, at_stranger, at_full, at_end}
+use Rattle.boc_dispatch.specs.Driving.{HandFits, IsAt, rows_of, row_for, IsFirst, TurnsOn, IsDrivenOn, HasNoWorker, RunsOutLater, Drives, DrivesQuiet}
+use Rattle.boc_dispatch.proofs.Driven.{got_map, stands_at, at_sound, at_turn, at_next, at_stranger, none_where_full, of_own}
 
 -- ---- one choice more
 
@@ -52,14 +53,57 @@ at_longer p workers xs x u crew h = record {
       (sym (take-append-le (length xs) xs (x ∷ []) (omega arith))) h.turns;
 }
 
+-- the worker that is found is the first that serves who can step, or none does
+abbrev pub FindsServer : List Worker → Mover → Option ℕ → Type 0
+FindsServer crew mover result =
+    MatchOption result ((k : ℕ) (w : Worker) → slice_get crew k ≡ Some w → row_in w.hand ≢ row_for mover)
+    (λ k. (w : Worker) × (slice_get crew k ≡ Some w) × (row_in w.hand ≡ row_for mover)
+    × ((j : ℕ) → j < k → (v : Worker) → slice_get crew j ≡ Some v → row_in v.hand ≢ row_for mover))
+
+first_there : (u : Underway) (crew : List Worker) (mover : Mover) (chosen : ℕ) → FindsServer crew mover (Some chosen) → IsFirst (stands_at u crew) chosen
+first_there u crew mover chosen found k low same =
+    let here = got_map (λ (x : Worker). row_in x.hand) crew chosen found.0 found.1 ∙ ap (λ r. Some r) found.2 in
+    let v = mapped (λ (x : Worker). row_in x.hand) (slice_get crew k) (row_for mover)
+    (sym (slice_get-map (λ (x : Worker). row_in x.hand) crew k) ∙ same ∙ here) in
+    found.3 k low v.0 v.1 v.2
+
+-- the turn of who can step is a step
+turn_steps : (u : Underway) (t : State) (after : Option ℕ) → IsSound u.program u.state → (mover : Mover) → CanMove u mover → TakesTurn u.program u.state (row_for mover) t after
+    → t.steps ≡ u.state.steps + 1
+turn_steps u t after k (movers.Ready row) can turn = start_steps u.program u.state k t after row can turn
+turn_steps u t after k (movers.Running row) can turn = body_steps u.program u.state k t after row can turn
+turn_steps u t after k (movers.Enqueuing child) can turn = enqueue_steps u.program u.state k t after child.number child.row can turn
+turn_steps u t after k (movers.Leaving leaving) can turn = release_steps u.program u.state k t after leaving.row can turn
+
+-- one further turn more
+turns_on_more : (p : Program) (d : Driven) (xs : List ℕ) (x : ℕ) (e f : Driven) → TurnsOn p d xs e → Turn p e x f → IsFirst e x
+    → f.state.steps ≡ e.state.steps + 1 → TurnsOn p d (xs ++ x ∷ []) f
+turns_on_more p d [] x e f is turn first steps = (
+  f,
+  subst (λ (m : Driven). Turn p m x f) is turn,
+  subst (λ (m : Driven). IsFirst m x) is first,
+  steps ∙ ap (λ (m : Driven). m.state.steps + 1) is,
+  refl,
+)
+turns_on_more p d (y ∷ xs) x e f t turn first steps = (t.0, t.1, t.2, t.3, turns_on_more p t.0 xs x e f t.4 turn first steps)
+
 -- the choices and some more have had their turns
 pub record GoesOn (p : Program) (workers : ℕ) (choices : List ℕ) (u : Underway) (crew : List Worker) : Type 0 where
   pub more : List ℕ
   pub at : IsAt p workers (choices ++ more) (length (choices ++ more)) u crew
+  pub played : Driven
+  pub turns : Turns p (opening_driven p workers) choices played
+  pub on : TurnsOn p played more (stands_at u crew)
 
 pub goes_on_first : (p : Program) (workers : ℕ) (choices : List ℕ) (u : Underway) (crew : List Worker) → IsAt p workers choices (length choices) u crew
     → GoesOn p workers choices u crew
-goes_on_first p workers choices u crew h = record { more = []; at = subst (λ xs. IsAt p workers xs (length xs) u crew) (sym (append-nil choices)) h }
+goes_on_first p workers choices u crew h = record {
+  more = [];
+  at = subst (λ xs. IsAt p workers xs (length xs) u crew) (sym (append-nil choices)) h;
+  played = stands_at u crew;
+  turns = subst (λ cs. Turns p (opening_driven p workers) cs (stands_at u crew)) (take-length choices) h.turns;
+  on = refl;
+}
 
 module _ (p : Program) (workers : ℕ) (choices : List ℕ) (u : Underway) (crew : List Worker) (g : GoesOn p workers choices u crew) where
   abbrev xs : List ℕ
@@ -68,30 +112,50 @@ module _ (p : Program) (workers : ℕ) (choices : List ℕ) (u : Underway) (crew
   pub sound_there : IsSound u.program u.state
   sound_there = at_sound p workers xs (length xs) u crew g.at
 
+  driven_on : IsDrivenOn p workers choices (stands_at u crew)
+  driven_on = record { played = g.played; turns = g.turns; more = g.more; on = g.on }
+
   module _ (chosen : ℕ) where
     longer : xs ++ chosen ∷ [] ≡ choices ++ (g.more ++ chosen ∷ [])
     longer = append_assoc choices g.more (chosen ∷ [])
 
-    pub goes_on_next : (v : Underway) (old new : Worker) → slice_get crew chosen ≡ Some old → TakesTurn u.program u.state (row_in old.hand) v.state (row_in new.hand)
+    pub goes_on_next : (v : Underway) (old new : Worker) (mover : Mover) → CanMove u mover → FindsServer crew mover (Some chosen)
+        → slice_get crew chosen ≡ Some old → TakesTurn u.program u.state (row_in old.hand) v.state (row_in new.hand)
         → v.program ≡ u.program → HandFits v new.hand → GoesOn p workers choices v (slice_set crew chosen new)
-    goes_on_next v old new is turn same fits =
+    goes_on_next v old new mover can found is turn same fits =
+        let own : found.0 ≡ old = (let e : Some found.0 ≡ Some old = sym found.1 ∙ is in cc) in
+        let serves : row_in old.hand ≡ row_for mover = ap (λ (w : Worker). row_in w.hand) (sym own) ∙ found.2 in
         let next = at_next p workers (xs ++ chosen ∷ []) (length xs) u crew (at_longer p workers xs chosen u crew g.at) chosen (last_chosen xs chosen) v old new is turn same fits in
         let count : suc (length xs) ≡ length (xs ++ chosen ∷ []) = omega (arith, length-append xs (chosen ∷ [])) in
         record {
           more = g.more ++ chosen ∷ [];
           at = subst (λ cs. IsAt p workers cs (length cs) v (slice_set crew chosen new)) longer
               (subst (λ n. IsAt p workers (xs ++ chosen ∷ []) n v (slice_set crew chosen new)) count next);
+          played = g.played;
+          turns = g.turns;
+          on = turns_on_more p g.played g.more chosen (stands_at u crew) (stands_at v (slice_set crew chosen new)) g.on
+              (at_turn p workers xs (length xs) u crew g.at chosen v old new is turn) (first_there u crew mover chosen found)
+              (turn_steps u v.state (row_in new.hand) sound_there mover can
+              (subst (λ o. TakesTurn u.program u.state o v.state (row_in new.hand)) serves turn));
         }
 
-    pub no_room : (w : Worker) → slice_get crew chosen ≡ Some w → HasNoRoom u (row_in w.hand) → (more : List ℕ) × RunsOutOfRows p workers (choices ++ more)
-    no_room w is full = (
-      g.more ++ chosen ∷ [],
-      subst (RunsOutOfRows p workers) longer
-          (at_full p workers (xs ++ chosen ∷ []) (length xs) u crew (at_longer p workers xs chosen u crew g.at) chosen (last_chosen xs chosen) w is full),
-    )
+    pub no_room : (w : Worker) (mover : Mover) → FindsServer crew mover (Some chosen) → slice_get crew chosen ≡ Some w → HasNoRoom u (row_in w.hand)
+        → RunsOutLater p workers choices
+    no_room w mover found is full =
+        let own = of_own p workers xs (length xs) u crew g.at (row_in w.hand) full in
+        record {
+          before = stands_at u crew;
+          on = driven_on;
+          worker = chosen;
+          first = first_there u crew mover chosen found;
+          row = row_in w.hand;
+          serves = got_map (λ (x : Worker). row_in x.hand) crew chosen w is;
+          full = own;
+          none = none_where_full p workers xs (length xs) u crew g.at chosen w is own;
+        }
 
-  pub driven_there : (more : List ℕ) × IsDriven p workers (choices ++ more) u
-  driven_there = (g.more, at_end p workers xs (length xs) u crew refl g.at)
+  pub driven_there : IsQuiet u.state → DrivesQuiet p workers choices (Ok u)
+  driven_there quiet = (stands_at u crew, driven_on, λ i. record { program = g.at.program i; state = u.state }, quiet)
 
 -- a fault that came before the last choice
 pub fault_before : (p : Program) (workers : ℕ) (choices : List ℕ) (fault : DriveFault) → Drives p workers choices (Err fault) → DrivesQuiet p workers choices (Err fault)
@@ -104,14 +168,14 @@ fault_before p workers choices (drive_faults.NoSuchWorker place) h =
       is = front_item choices 0 place low ∙ h.is;
       past = h.past;
     }
-fault_before p workers choices drive_faults.Behaviours h = ([], subst (RunsOutOfRows p workers) (sym (append-nil choices)) h)
+fault_before p workers choices drive_faults.Behaviours h = inl h
 fault_before p workers choices drive_faults.Memory h = tt
 
 -- a fault of a further choice
-pub fault_after : (p : Program) (workers : ℕ) (choices : List ℕ) (fault : DriveFault) → (fault ≡ drive_faults.Behaviours → (more : List ℕ) × RunsOutOfRows p workers (choices ++ more))
+pub fault_after : (p : Program) (workers : ℕ) (choices : List ℕ) (fault : DriveFault) → (fault ≡ drive_faults.Behaviours → RunsOutLater p workers choices)
     → ((place : ℕ) → fault ≡ drive_faults.NoSuchWorker place → ⊥) → DrivesQuiet p workers choices (Err fault)
 fault_after p workers choices (drive_faults.NoSuchWorker place) full never = absurd (never place refl)
-fault_after p workers choices drive_faults.Behaviours full never = full refl
+fault_after p workers choices drive_faults.Behaviours full never = inr (full refl)
 fault_after p workers choices drive_faults.Memory full never = tt
 
 -- with no workers there is no worker 0
@@ -207,12 +271,6 @@ module _ (p : Program) (workers : ℕ) (choices : List ℕ) (place : ℕ) (u : U
   no_workers mover can none =
       none_or_more workers refl (λ some. let s = mover_served mover can some in none s.0 s.1 s.2 s.3)
 
--- the worker that is found serves who can step, or none does
-abbrev pub FindsServer : List Worker → Mover → Option ℕ → Type 0
-FindsServer crew mover result =
-    MatchOption result ((k : ℕ) (w : Worker) → slice_get crew k ≡ Some w → row_in w.hand ≢ row_for mover)
-    (λ k. (w : Worker) × (slice_get crew k ≡ Some w) × (row_in w.hand ≡ row_for mover))
-
 -- as a call found it in the same crew
 pub finds_in : (crew ws : List Worker) (mover : Mover) (result : Option ℕ) → ws ≡ crew → FindsServer ws mover result → FindsServer crew mover result
 finds_in crew ws mover result same = subst (λ (xs : List Worker). FindsServer xs mover result) same
@@ -221,14 +279,7 @@ finds_in crew ws mover result same = subst (λ (xs : List Worker). FindsServer x
 pub server_read : (crew : List Worker) (mover : Mover) (chosen : ℕ) (w : Worker) → FindsServer crew mover (Some chosen) → w ≡ get_or crew chosen w → slice_get crew chosen ≡ Some w
 server_read crew mover chosen w found reads = slice_get_read crew (length crew) chosen w refl (place_below crew chosen found.0 found.1) reads
 
--- ---- each further turn is a step
-
-turn_steps : (u : Underway) (t : State) (after : Option ℕ) → IsSound u.program u.state → (mover : Mover) → CanMove u mover → TakesTurn u.program u.state (row_for mover) t after
-    → t.steps ≡ u.state.steps + 1
-turn_steps u t after k (movers.Ready row) can turn = start_steps u.program u.state k t after row can turn
-turn_steps u t after k (movers.Running row) can turn = body_steps u.program u.state k t after row can turn
-turn_steps u t after k (movers.Enqueuing child) can turn = enqueue_steps u.program u.state k t after child.number child.row can turn
-turn_steps u t after k (movers.Leaving leaving) can turn = release_steps u.program u.state k t after leaving.row can turn
+-- ---- there are ever fewer steps to make
 
 pub fewer_left : (u v : Underway) (before after : Option ℕ) → IsSound u.program u.state → IsSound v.program v.state → (mover : Mover) → CanMove u mover → before ≡ row_for mover
     → TakesTurn u.program u.state before v.state after → 36 * MOST_ROWS - v.state.steps < 36 * MOST_ROWS - u.state.steps

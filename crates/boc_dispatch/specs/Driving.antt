@@ -1,5 +1,5 @@
 -- What the workers of a drive have in hand, and how a drive ends.
-use Rattle.std.specs.Prelude.{◌≡◌, ℕ, ◌+◌, ◌<◌, ◌≤◌, if◌then◌else◌, List, [], ◌∷◌, ◌++◌, length, map, take, Option, Some, None, Result, Ok, Err, slice_get}
+use Rattle.std.specs.Prelude.{◌≡◌, ◌≢◌, ℕ, ◌+◌, ◌<◌, ◌≤◌, ◌⊎◌, if◌then◌else◌, List, [], ◌∷◌, ◌++◌, length, map, take, Option, Some, None, Result, Ok, Err, slice_get}
 use Rattle.std.specs.declared.vec.Vec.{Vec}
 use Rattle.std.specs.declared.alloc.Global.{Global}
 use Rattle.boc_types.specs.declared.program.Program.{Program}
@@ -141,10 +141,39 @@ row_for (movers.Running row) = Some row
 row_for (movers.Enqueuing child) = Some child.row
 row_for (movers.Leaving leaving) = Some leaving.row
 
--- The turns of the choices and of some further ones, folded, and it is quiet there; or the fault of a drive by these. With no
--- workers the first further choice, of worker 0, is no worker.
+-- of the workers that serve what this one does, which may be nothing, it is the first
+abbrev pub IsFirst : Driven → ℕ → Type 0
+IsFirst d worker = (k : ℕ) → k < worker → slice_get d.serves k ≢ slice_get d.serves worker
+
+-- further turns, one after the other: each makes a step, and is that of the first worker that serves what it serves
+abbrev pub TurnsOn : Program → Driven → List ℕ → Driven → Type 0
+TurnsOn p d [] e = e ≡ d
+TurnsOn p d (worker ∷ workers) e =
+    (next : Driven) × Turn p d worker next × IsFirst d worker × (next.state.steps ≡ d.state.steps + 1) × TurnsOn p next workers e
+
+-- the turns of all choices, and some further ones, lead there
+pub record IsDrivenOn (p : Program) (workers : ℕ) (choices : List ℕ) (end : Driven) : Type 0 where
+  pub played : Driven
+  pub turns : Turns p (opening_driven p workers) choices played
+  pub more : List ℕ
+  pub on : TurnsOn p played more end
+
+-- they lead to where the worker of the next further turn has none, since its row's next wish is due and there is no room for it
+pub record RunsOutLater (p : Program) (workers : ℕ) (choices : List ℕ) : Type 0 where
+  pub before : Driven
+  pub on : IsDrivenOn p workers choices before
+  pub worker : ℕ
+  pub first : IsFirst before worker
+  pub row : Option ℕ
+  pub serves : slice_get before.serves worker ≡ Some row
+  pub full : HasNoRoom (of_program p before.state) row
+  pub none : (after : Driven) → Turn p before worker after → ⊥
+
+-- The turns of the choices and some further ones, and it is quiet there; or the fault of a drive by these. With no workers
+-- the first further choice, of worker 0, is no worker.
 abbrev pub DrivesQuiet : Program → ℕ → List ℕ → Result Underway DriveFault → Type 0
-DrivesQuiet p workers choices (Ok u) = ((more : List ℕ) × IsDriven p workers (choices ++ more) u) × IsQuiet u.state
+DrivesQuiet p workers choices (Ok u) =
+    (end : Driven) × IsDrivenOn p workers choices end × (u ≡ of_program p end.state) × IsQuiet u.state
 DrivesQuiet p workers choices (Err (drive_faults.NoSuchWorker place)) = HasNoWorker p workers (choices ++ 0 ∷ []) place
-DrivesQuiet p workers choices (Err drive_faults.Behaviours) = (more : List ℕ) × RunsOutOfRows p workers (choices ++ more)
+DrivesQuiet p workers choices (Err drive_faults.Behaviours) = RunsOutOfRows p workers choices ⊎ RunsOutLater p workers choices
 DrivesQuiet p workers choices (Err drive_faults.Memory) = Unit {0}

@@ -1,6 +1,6 @@
 //! A program driven by a list of choices: any interleaving of its steps, made on one thread.
 
-ghost use Rattle.std.specs.Prelude.{◌≡◌, ◌≢◌, ◌↔◌, ℕ, [], None, Some, Err, IfOk, OnOk, IsTrue, MatchOption, map, replicate, slice_get};
+ghost use Rattle.std.specs.Prelude.{◌≡◌, ◌≢◌, ◌↔◌, ℕ, ◌<◌, [], None, Some, Err, IfOk, OnOk, IsTrue, MatchOption, map, replicate, slice_get};
 ghost use Rattle.boc_dispatch.specs.declared.worker.Worker.{Worker};
 ghost use Rattle.boc_dispatch.specs.Driving.{Drives, DrivesQuiet, EndsFor, HandFits, HasPlayed, row_for};
 
@@ -73,7 +73,7 @@ pub fn drive_over<'a, C: Chains + Drop>(
 }
 
 /// Drives a program by the choices as `drive` does, and then on until it is quiet. Each further choice is the worker that
-/// serves whom `movable` names; a row that is to start is served by the first worker.
+/// serves whom `movable` names, and makes a step; a row that is to start is started by the first worker that serves none.
 pub fn drive_quiet<'a>(
     alloc: Global,
     program: &'a Program,
@@ -141,7 +141,8 @@ fn play<'a, C: Chains + Drop>(
 fn server_of(crew: &[Worker<'_>], mover: Mover) -> Option<usize>
     ensures { MatchOption result
         ((k : ℕ) (w : Worker) → slice_get crew.now k ≡ Some w → row_in w.hand ≢ row_for mover)
-        (λ k. (w : Worker) × (slice_get crew.now k ≡ Some w) × (row_in w.hand ≡ row_for mover)) }
+        (λ k. (w : Worker) × (slice_get crew.now k ≡ Some w) × (row_in w.hand ≡ row_for mover)
+        × ((j : ℕ) → j < k → (v : Worker) → slice_get crew.now j ≡ Some v → row_in v.hand ≢ row_for mover)) }
 {
     for (number, worker) in crew.iter().enumerate() {
         if serves(worker, mover) {

@@ -1,7 +1,7 @@
 //! Behaviours that are not gone yet.
 
-ghost use Rattle.std.specs.Prelude.{◌≡◌, ◌+◌, ◌==◌, ◌≤◌, ◌<◌, ◌^◌, ◌↔◌, ℕ, suc, None, Some, Option, IsTrue, IfOk, IfSome, length, slice_get, false, []};
-ghost use Rattle.boc_types.specs.declared.limits.TheConstants.{MOST_HELD};
+ghost use Rattle.std.specs.Prelude.{◌≡◌, ◌+◌, ◌==◌, ◌≤◌, ◌<◌, ◌^◌, ◌↔◌, ℕ, suc, None, Some, Option, All, IsTrue, IfOk, length, slice_get, false, []};
+ghost use Rattle.boc_types.specs.declared.limits.TheConstants.{MOST_COWNS, MOST_HELD};
 ghost use Rattle.boc_types.specs.declared.stage.Phase.TheVariants as phases;
 ghost use Rattle.boc_types.specs.declared.stage.Stage.TheVariants.{Asking, Recorded};
 ghost use Rattle.boc_types.specs.machine.Stages.{row_at};
@@ -76,46 +76,44 @@ pub fn main_behaviour() -> Live
     }
 }
 
-// Some cowns in their order and in rising order, unless one of them has no byte. Mostly they rise as they stand.
+// Some cowns in their order and in rising order. Mostly they rise as they stand.
 #[tactic(auto, using(boc_types::proofs::RisingNumbers::rising_is))]
-fn held_cowns(cowns: &Cowns) -> Option<(HeldCowns, HeldCowns)>
-    ensures same { IfSome result (λ held. held.0 ≡ cowns.now) }
-    ensures rising { IfSome result (λ held. held.1.items ≡ rising cowns.now.items) }
+fn held_cowns(cowns: &Cowns) -> (HeldCowns, HeldCowns)
+    requires { All (λ c. c < MOST_COWNS) cowns.now.items }
+    ensures same { result.0 ≡ cowns.now }
+    ensures rising { result.1.items ≡ rising cowns.now.items }
 {
-    if are_cowns(cowns, MOST_COWNS as u32) {
-        let held = HeldCowns::of(cowns);
-        return Some((held.duplicate(), held));
-    }
-    let rising = HeldCowns::try_of(&rising_cowns(cowns))?;
-    Some((HeldCowns::try_of(cowns)?, rising))
+    let held = HeldCowns::of(cowns);
+    let rising = if are_cowns(cowns, MOST_COWNS as u32) {
+        held.duplicate()
+    } else {
+        HeldCowns::of(&rising_cowns(cowns))
+    };
+    (held, rising)
 }
 
-/// The behaviour of a row's wish as it is opened, under a number of its own. `AllocError` says that memory was refused; a cown
-/// that has no byte would be refused so too.
+/// The behaviour of a row's wish as it is opened, under a number of its own. `AllocError` says that memory was refused.
 pub fn wished_behaviour(
     alloc: Global,
     number: u32,
     row: u32,
     wish: &SpawnWish,
 ) -> Result<Live, AllocError>
+    requires cowns { All (λ c. c < MOST_COWNS) wish.now.cowns.items }
+    requires kind { wish.now.kind < 2 ^ 32 }
     ensures behaviour { IfOk result (λ l. behaviour_of l ≡ record { kind = wish.now.kind; args = wish.now.args.items; cowns = wish.now.cowns.items }) }
     ensures state { IfOk result (λ l. open_of l ≡ record { parent = row; offset = wish.now.offset; cowns = rising wish.now.cowns.items; stage = Asking 0 false }) }
     ensures number { IfOk result (λ l. l.number ≡ number) }
     ensures awaited { IfOk result (λ l. l.awaited ≡ length l.cowns.items + 1) }
     ensures fresh { IfOk result (λ l. (l.spawned ≡ 0) × (l.child ≡ None)) }
 {
-    let Some((params, cowns)) = held_cowns(&wish.cowns) else {
-        return Err(AllocError);
-    };
+    let (params, cowns) = held_cowns(&wish.cowns);
     let awaited = cowns.as_slice().len() as u8 + 1;
-    let Ok(kind) = u32::try_from(wish.kind) else {
-        return Err(AllocError);
-    };
     Ok(Live {
         number,
         parent: row,
         offset: wish.offset,
-        kind,
+        kind: wish.kind as u32,
         args: KeptArgs::of(alloc, &wish.args)?,
         params,
         cowns,

@@ -28,6 +28,8 @@ use std::thread::{Builder, Scope, Threads};
 #[derive(Drop)]
 pub struct RunAnswer {
     pub record: Record,
+    /// The steps of each worker at the place of its number, by which the gate is asked. Clauses say how many workers there
+    /// are, and what their steps come to together; which of them made which step nothing else tells.
     pub made: Vec<u64>,
 }
 

@@ -1,4 +1,5 @@
-use Rattle.std.proofs.Common.{arith}
+use Rattle.std.proofs.Common.{arith, length-set}
+use Rattle.std.specs.Prelude.{None}
 use Rattle.boc_chain.proofs.Calls.{some_leads, is_last, not_last, Leaves, leave_some, leave_some_answer, leave_blocked, leave_blocked_answer, leave_alone, leave_alone_answer}
 use Rattle.boc_chain.proofs.link_chains.LinkChainsChains.leave.Goals as goal
 use Rattle.boc_chain.proofs.link_chains.LinkChainsChains.leave.Goals.{After-pass_at}
@@ -18,17 +19,20 @@ leaves c = record {
 }
 
 pub invariant_of-self : goal.invariant_of-self
-invariant_of-self c = record { linked = (leave_some (leaves (goal.at.invariant_of-self c).After-pass_at) c.in-Some.is).0 }
+invariant_of-self c = record { few = c.args.self.now.few; linked = (leave_some (leaves (goal.at.invariant_of-self c).After-pass_at) c.in-Some.is).0 }
 
 pub invariant_of-self-then-is_slot : goal.invariant_of-self-then-is_slot
 invariant_of-self-then-is_slot c =
     let w = leaves (goal.at.invariant_of-self-then-is_slot c).After-pass_at in
-    record { linked = (leave_alone w ((is_last w.fronts c.index.ensures c.is_slot.ensures).0 c.if-is_slot.true)).0 }
+    record {
+      few = omega (arith, c.args.self.now.few, length-set c.args.self.now.last.items c.cown_at-c.result None);
+      linked = (leave_alone w ((is_last w.fronts c.index.ensures c.is_slot.ensures).0 c.if-is_slot.true)).0;
+    }
 
 pub invariant_of-self-else-is_slot : goal.invariant_of-self-else-is_slot
 invariant_of-self-else-is_slot c =
     let w = leaves (goal.at.invariant_of-self-else-is_slot c).After-pass_at in
-    record { linked = (leave_blocked w (not_last w.fronts c.index.ensures c.is_slot.ensures c.if-is_slot.false)).0 }
+    record { few = c.args.self.now.few; linked = (leave_blocked w (not_last w.fronts c.index.ensures c.is_slot.ensures c.if-is_slot.false)).0 }
 
 pub returns-in-Some-clause-answer : goal.returns-in-Some-clause-answer
 returns-in-Some-clause-answer c = leave_some_answer (leaves (goal.at.returns-in-Some-clause-answer c).After-pass_at).fronts c.in-Some.is

@@ -9,7 +9,7 @@ use Rattle.boc_dispatch.specs.declared.answers.Child.{Child}
 use Rattle.boc_dispatch.specs.declared.answers.OpenFault.{OpenFault}
 use Rattle.boc_dispatch.specs.declared.answers.OpenFault.TheVariants as open_faults
 use Rattle.std.specs.declared.alloc.AllocError.{AllocError}
-use Rattle.boc_dispatch.proofs.Answered.{may_ask, full, opens, no_memory, new_is}
+use Rattle.boc_dispatch.proofs.Answered.{may_ask, cowns_small, kind_small, full, opens, no_memory, new_is}
 use Rattle.boc_dispatch.proofs.dispatcher.Core.open.Goals.{in-Ok-open, in-Err}
 use Rattle.boc_dispatch.proofs.dispatcher.Core.open.Goals as goal
 
@@ -23,6 +23,22 @@ returns-then-self-ge-MOST_ROWS g c =
     let last = c.in-Some-next_wish.ensures.2 in
     subst (λ (u : Underway). OpensWish u f c.args.row (Err open_faults.Behaviours) u) c.self.view_is
     (full d c.self.invariant.kept f c.args.row next may last c.if-self-ge-MOST_ROWS.true)
+
+pub wished_behaviour-requires-clause-cowns : goal.wished_behaviour-requires-clause-cowns
+wished_behaviour-requires-clause-cowns g c =
+    let d = parts_of g.C.Chains.lists g.C.Chains.place c.self.inside.machine in
+    let f = c.args.frame.now in
+    let may = may_ask (underway d) f c.args.row c.body.result.now c.args-2.result.now c.inputs.result.now
+    c.body.ensures c.args-2.ensures c.inputs.ensures c.in-Some.ensures.0 c.in-Some-next_wish.ensures.0 in
+    cowns_small (underway d) f c.args.row (wish_of c.in-Some-next_wish.wish.now) c.self.invariant.kept.sound may c.in-Some-next_wish.ensures.2
+
+pub wished_behaviour-requires-clause-kind : goal.wished_behaviour-requires-clause-kind
+wished_behaviour-requires-clause-kind g c =
+    let d = parts_of g.C.Chains.lists g.C.Chains.place c.self.inside.machine in
+    let f = c.args.frame.now in
+    let may = may_ask (underway d) f c.args.row c.body.result.now c.args-2.result.now c.inputs.result.now
+    c.body.ensures c.args-2.ensures c.inputs.ensures c.in-Some.ensures.0 c.in-Some-next_wish.ensures.0 in
+    kind_small (underway d) f c.args.row (wish_of c.in-Some-next_wish.wish.now) c.self.invariant.kept.sound may c.in-Some-next_wish.ensures.2
 
 pub open-requires-clause-new : goal.open-requires-clause-new
 open-requires-clause-new g c =

@@ -33,6 +33,7 @@ use boc_types::workers::Workers;
 use boc_whatif::WhatIf;
 use std::alloc::{AllocError, Global};
 use std::io::{self, Read, Write};
+use std::thread::Threads;
 
 /// What a text of the table is meant to be.
 #[derive(Clone, Copy)]
@@ -238,24 +239,35 @@ fn tell_edit(
     }
 }
 
-// Writes the sweep of a record.
-fn tell_sweep(rt: HostRuntime, text: &[u8], sharing: Sharing) -> io::Result<()> {
+// Writes the sweep of a record, which may start threads.
+fn tell_sweep(
+    rt: HostRuntime,
+    threads: &(impl Threads + Sync),
+    text: &[u8],
+    sharing: Sharing,
+) -> io::Result<()> {
     let record = match record_of(rt, text)? {
         Ok(record) => record,
         Err(fault) => return println!(rt; "{fault}"),
     };
     let question = WhatIf::new(rt.alloc(), record.rows(), sharing)?;
-    let spans = question.sweep(&rt, rt.alloc())?;
+    let spans = question.sweep(threads, rt.alloc())?;
     let lines = sweep_text(rt.alloc(), &spans)?;
     rt.stdout().write_all(&lines)
 }
 
 // Writes what is asked of the plans of a record's rows.
-fn tell_plan(rt: HostRuntime, text: &[u8], asked: Asked, sharing: Sharing) -> io::Result<()> {
+fn tell_plan(
+    rt: HostRuntime,
+    threads: &(impl Threads + Sync),
+    text: &[u8],
+    asked: Asked,
+    sharing: Sharing,
+) -> io::Result<()> {
     match asked {
         Asked::Report { workers } => tell_report(rt, text, workers, sharing),
         Asked::Edit { row, ticks } => tell_edit(rt, text, row, ticks, sharing),
-        Asked::Sweep => tell_sweep(rt, text, sharing),
+        Asked::Sweep => tell_sweep(rt, threads, text, sharing),
     }
 }
 
@@ -410,7 +422,7 @@ fn main(rt: HostRuntime) -> io::Result<()> {
         match kind {
             Kind::Program => tell_program(rt, text)?,
             Kind::Record => tell_record(rt, text)?,
-            Kind::Plan { asked, sharing } => tell_plan(rt, text, asked, sharing)?,
+            Kind::Plan { asked, sharing } => tell_plan(rt, &rt, text, asked, sharing)?,
             Kind::Drive { workers } => tell_driven(rt, text, workers, false)?,
             Kind::Quiet { workers } => tell_driven(rt, text, workers, true)?,
         }

@@ -2,4 +2,4 @@ use Rattle.std.proofs.Common.{length}
 use Rattle.answers.proofs.main.Given as goal
 
 abbrev pub decreases-loop-kind : goal.decreases-loop-kind
-decreases-loop-kind l = length l.rest
+decreases-loop-kind g l = length l.rest

@@ -1,7 +1,7 @@
 //! The program `boc`: commands over programs of behaviours, from standard input to standard output.
 #![tactic(auto)]
 
-use boc_commands::{Fault, WordsFault, not_text, read_words, run_command};
+use boc_commands::{Fault, not_text, read_words, run_command};
 use boc_text::Counted;
 use boc_workers::OpenGate;
 use std::process::ExitCode;
@@ -52,9 +52,9 @@ fn words_given(rt: HostRuntime) -> Result<Vec<String>, Fault> {
 
 // Writes the fault's line to standard error. There is nobody to tell that this failed.
 fn tell(rt: HostRuntime, fault: &Fault) {
-    let _ = match fault {
+    let _ = match fault.own_line() {
+        Some(line) => eprintln!(rt; "{line}"),
         // The parser's text ends its own lines.
-        Fault::Words(WordsFault::Parser(error)) => eprint!(rt; "{error}"),
-        _ => eprintln!(rt; "{fault}"),
+        None => eprint!(rt; "{fault}"),
     };
 }

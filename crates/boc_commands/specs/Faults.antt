@@ -1,5 +1,5 @@
 -- What faults say.
-use Rattle.std.specs.Prelude.{ℕ, Bool, true, false, List, Option, Some, None, codes}
+use Rattle.std.specs.Prelude.{◌≡◌, ℕ, Bool, true, false, List, ◌++◌, Option, Some, None, codes, decimal}
 use Rattle.boc_commands.specs.declared.fault.Fault.{Fault}
 use Rattle.boc_commands.specs.declared.fault.Fault.TheVariants as faults
 use Rattle.boc_types.specs.declared.edit.EditFault.{EditFault}
@@ -20,6 +20,8 @@ use Rattle.boc_types.specs.declared.verdict.RecordFaultKind.TheVariants as recor
 use Rattle.boc_reader.specs.declared.fault.ReadFault.{ReadFault}
 use Rattle.boc_reader.specs.declared.fault.ReadFaultKind.{ReadFaultKind}
 use Rattle.boc_reader.specs.declared.fault.ReadFaultKind.TheVariants as kinds
+use Rattle.boc_reader.specs.FaultTexts.{kind_text}
+use Rattle.boc_record.specs.Faults.{kind_line}
 
 -- what was refused: the words, the input or the run; or what was wanting: memory, or a device that works
 pub data Matter : Type 0 where
@@ -114,3 +116,39 @@ abbrev pub edit_line : EditFault → List ℕ
 edit_line edits.NoRow = codes "1 NoRow"
 edit_line edits.BelowSpawn = codes "2 BelowSpawn"
 edit_line edits.TooManyTicks = codes "3 TooManyTicks"
+
+-- ---- the lines of standard error
+
+-- a line that tells a number, and what is said of it
+abbrev pub numbered : List ℕ → ℕ → List ℕ → List ℕ
+numbered front number said = front ++ decimal number ++ codes ": " ++ said
+
+-- the line of refused words, where it is the program's own: the parser has a text of its own
+abbrev pub words_line : WordsFault → Option (List ℕ)
+words_line (asked.Parser error) = None
+words_line (asked.EditWord number) = Some (numbered (codes "boc: edit ") number (codes "not ROW=TICKS"))
+words_line asked.Memory = Some (codes "boc: memory")
+
+-- the line of a fault without its line feed, where it is the program's own
+abbrev pub fault_line : Fault → Option (List ℕ)
+fault_line (faults.Words w) = words_line w
+fault_line (faults.Program r) = Some (numbered (codes "boc: line ") r.line (kind_text r.kind))
+fault_line (faults.Record r) = Some (numbered (codes "boc: line ") r.line (kind_line r.kind))
+fault_line (faults.Edit number fault) = Some (numbered (codes "boc: edit ") number (edit_line fault))
+fault_line faults.Behaviours = Some (codes "boc: run: 2 Behaviours")
+fault_line faults.Held = Some (codes "boc: run: 3 Held")
+fault_line faults.NoThread = Some (codes "boc: run: 4 NoThread")
+fault_line faults.Stranger = Some (codes "boc: run: 5 Stranger")
+fault_line faults.Unfinished = Some (codes "boc: run: 6 Unfinished")
+fault_line faults.Memory = Some (codes "boc: memory")
+fault_line faults.Source = Some (codes "boc: device")
+fault_line (faults.Sink gone) = Some (codes "boc: device")
+
+-- a text is the line, where there is one
+abbrev pub IsLine : Option (List ℕ) → List ℕ → Type 0
+IsLine None text = Unit {0}
+IsLine (Some line) text = text ≡ line
+
+-- a text is that of a fault; of the parser's nothing is said
+abbrev pub IsLineOf : Fault → List ℕ → Type 0
+IsLineOf fault text = IsLine (fault_line fault) text

@@ -1,8 +1,12 @@
 // Why a command did not do what it was asked for.
 
-ghost use Rattle.std.specs.Prelude.{◌≡◌};
+ghost use Rattle.std.specs.Prelude.{◌≡◌, ◌+◌, ◌≤◌, ◌++◌, IfOk, codes, decimal, length, string_bytes};
+ghost use Rattle.std.specs.Option.{option_map};
+ghost use Rattle.boc_text.specs.declared.decimal.TheConstants.{MOST_DIGITS};
+ghost use Rattle.boc_commands.specs.declared.fault.TheConstants.{MOST_FAULT_LINE};
 ghost use Rattle.boc_commands.specs.Faults.{edit_line};
 
+use arrayvec::ArrayString;
 use boc_eval::SerialFault;
 use boc_reader::{ReadFault, ReadFaultKind};
 use boc_record::{RecordFault, WriteFault};
@@ -11,53 +15,50 @@ use boc_types::edit::EditFault;
 use boc_types::verdict::RecordFaultKind;
 use boc_words::WordsFault;
 use boc_workers::RunFault;
+use itoa::Buffer;
 use std::alloc::{AllocError, AllocFailed, Global};
 use thiserror::Error;
 
+/// The most bytes of a line that is the program's own.
+pub const MOST_FAULT_LINE: usize = 64;
+
+/// A line that is the program's own, without its line feed.
+pub type Line = ArrayString<MOST_FAULT_LINE>;
+
 /// Why a command was refused or failed. Its text is the line for standard error.
 #[derive(Debug, Drop, Error)]
+#[error("{}", self.own_line().unwrap_or_default())]
 pub enum Fault {
     /// The words of the command line.
     #[error("{0}")]
     Words(WordsFault),
     /// The program text.
-    #[error("boc: {0}")]
     Program(ReadFault),
     /// The text of a record.
-    #[error("boc: {0}")]
     Record(RecordFault),
     /// An edit that the rows can't take, counted from 1.
-    #[error("boc: edit {number}: {}", edit_fault_text(*.fault))]
     Edit { number: usize, fault: EditFault },
     /// The run would need more behaviours than a run may have.
-    #[error("boc: run: 2 Behaviours")]
     Behaviours,
     /// A gate stopped a thread of the run.
-    #[error("boc: run: 3 Held")]
     Held,
     /// A thread of the run could not be started.
-    #[error("boc: run: 4 NoThread")]
     NoThread,
     /// The dispatcher of the run doesn't know what a worker came with.
-    #[error("boc: run: 5 Stranger")]
     Stranger,
     /// All threads of the run have ended, and some behaviour isn't gone yet.
-    #[error("boc: run: 6 Unfinished")]
     Unfinished,
     /// Memory was refused.
-    #[error("boc: memory")]
     Memory,
     /// The source failed.
-    #[error("boc: device")]
     Source,
     /// The sink failed, after the first `gone` bytes of the output.
-    #[error("boc: device")]
     Sink { gone: usize },
 }
 
 impl Fault {
     ghost use Rattle.std.specs.Prelude.{◌≡◌};
-    ghost use Rattle.boc_commands.specs.Faults.{status_of, gone_of};
+    ghost use Rattle.boc_commands.specs.Faults.{status_of, gone_of, fault_line, IsLineOf};
 
     /// The status of the program: 2 where the words were refused, 3 where the input was, 4 where the
     /// run was, 5 where memory was or a device failed.
@@ -86,10 +87,72 @@ impl Fault {
         }
     }
 
-    /// The line for standard error, without its line feed. For refused words it is the parser's text.
-    pub fn line(&self, alloc: Global) -> Result<String, AllocError> {
-        self.to_string(alloc)
+    /// The line for standard error where it is the program's own, without its line feed; none where the parser refuses
+    /// the words, which has a text of its own. It takes no memory.
+    pub fn own_line(&self) -> Option<Line>
+        ensures { option_map (λ line. line.bytes) result ≡ fault_line self.now }
+    {
+        match self {
+            Fault::Words(WordsFault::Parser(_)) => None,
+            Fault::Words(WordsFault::EditWord { number }) => Some(numbered(
+                "boc: edit ",
+                *number as u64,
+                "not ROW=TICKS",
+            )),
+            Fault::Words(WordsFault::Memory) => Some(plain("boc: memory")),
+            Fault::Program(fault) => Some(numbered(
+                "boc: line ",
+                u64::from(fault.line),
+                fault.kind.text(),
+            )),
+            Fault::Record(fault) => Some(numbered("boc: line ", fault.line, fault.kind_text())),
+            Fault::Edit { number, fault } => Some(numbered(
+                "boc: edit ",
+                *number as u64,
+                edit_fault_text(*fault),
+            )),
+            Fault::Behaviours => Some(plain("boc: run: 2 Behaviours")),
+            Fault::Held => Some(plain("boc: run: 3 Held")),
+            Fault::NoThread => Some(plain("boc: run: 4 NoThread")),
+            Fault::Stranger => Some(plain("boc: run: 5 Stranger")),
+            Fault::Unfinished => Some(plain("boc: run: 6 Unfinished")),
+            Fault::Memory => Some(plain("boc: memory")),
+            Fault::Source | Fault::Sink { .. } => Some(plain("boc: device")),
+        }
     }
+
+    /// The text for standard error: the program's own line without its line feed, or the parser's text.
+    pub fn line(&self, alloc: Global) -> Result<String, AllocError>
+        ensures { IfOk result (λ text. IsLineOf self.now (string_bytes text)) }
+    {
+        match self.own_line() {
+            Some(line) => String::from_str(alloc, line.as_str()),
+            None => self.to_string(alloc),
+        }
+    }
+}
+
+// A line without a number.
+fn plain(text: &str) -> Line
+    requires { length text.now ≤ MOST_FAULT_LINE }
+    ensures { result.bytes ≡ text.now }
+{
+    let mut line = Line::new();
+    line.push_str(text);
+    line
+}
+
+// A line that tells a number, and what is said of it.
+fn numbered(front: &str, number: u64, said: &str) -> Line
+    requires { length front.now + MOST_DIGITS + 2 + length said.now ≤ MOST_FAULT_LINE }
+    ensures { result.bytes ≡ front.now ++ decimal number ++ codes ": " ++ said.now }
+{
+    let mut line = Line::new();
+    line.push_str(front);
+    line.push_str(Buffer::new().format(number));
+    line.push_str(": ");
+    line.push_str(said);
+    line
 }
 
 // The number and the name of what is wrong with an edit.

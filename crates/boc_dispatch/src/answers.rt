@@ -5,6 +5,7 @@ ghost use Rattle.std.specs.Prelude.{◌≡◌, length};
 use boc_types::body::Body;
 use boc_types::short::{Args, Inputs};
 use boc_types::step::Step;
+use thiserror::Error;
 
 /// A behaviour that was started, for its body to be run.
 #[derive(Drop)]
@@ -43,15 +44,19 @@ pub struct Leaving {
 }
 
 /// Why `open` refuses. Nothing has changed.
-#[derive(Clone, Copy, PartialEq, Eq, Debug)]
+#[derive(Clone, Copy, PartialEq, Eq, Debug, Error)]
 pub enum OpenFault {
     /// No behaviour of that number runs, or it was handed out with another body, arguments or inputs.
+    #[error("no such behaviour runs")]
     Stranger,
     /// An enqueue of that row is open, or the frame's last wish isn't the next one to spawn, or it has none.
+    #[error("this wish isn't the next to be spawned")]
     OutOfTurn,
     /// The run has as many behaviours as it may have.
+    #[error("more than 65,535 behaviours")]
     Behaviours,
     /// Memory was refused.
+    #[error("out of memory")]
     Memory,
 }
 
@@ -69,11 +74,13 @@ pub enum Advanced {
 }
 
 /// Why `finish` refuses. Nothing has changed.
-#[derive(Clone, Copy, PartialEq, Eq, Debug)]
+#[derive(Clone, Copy, PartialEq, Eq, Debug, Error)]
 pub enum FinishFault {
     /// No behaviour of that number runs, or it was handed out with another body, arguments or inputs.
+    #[error("no such behaviour runs")]
     Stranger,
     /// An enqueue is open, or a wish wasn't spawned.
+    #[error("not all wishes of this behaviour are spawned")]
     Busy,
 }
 

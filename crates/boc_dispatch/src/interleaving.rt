@@ -10,15 +10,19 @@ use crate::worker::{Refusal, Turn, Worker};
 use boc_chain::{Chains, LinkChains};
 use boc_types::program::Program;
 use std::alloc::{AllocError, Global};
+use thiserror::Error;
 
 /// Why a drive ends before its last choice.
-#[derive(Clone, Copy, PartialEq, Eq, Debug)]
+#[derive(Clone, Copy, PartialEq, Eq, Debug, Error)]
 pub enum DriveFault {
     /// The choice at this place is no worker's number.
+    #[error("the choice at place {place} is no worker's number")]
     NoSuchWorker { place: usize },
     /// The run has as many behaviours as it may have, and one more was wished for.
+    #[error("more than 65,535 behaviours")]
     Behaviours,
     /// Memory was refused.
+    #[error("out of memory")]
     Memory,
 }
 

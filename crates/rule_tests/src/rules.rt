@@ -232,6 +232,20 @@ fn rooms_are_counted(rt: HostRuntime) {
     assert!(rt; rules.is_complete());
 }
 
+#[test]
+fn rules_put_what_is_allowed(rt: HostRuntime) {
+    let mut rules = two_cowns(&rt, rt.alloc());
+    rules.make_room().expect(&rt, "memory");
+    let main = spawn(0, 0, 0, &[]);
+    let judge = rules.judge();
+    if judge.judge(&main).is_ok() && judge.has_room_for(&main) {
+        rules.put(main);
+    }
+    assert_eq!(rt; rules.rooms(), 0);
+    assert_eq!(rt; rules.events().len(), 1);
+    rules.take(start(0)).expect(&rt, "the start of main");
+}
+
 // A fault is told so, and no other way.
 fn tells(rt: &impl Abort, alloc: Global, fault: &RuleFault, text: &str) {
     let told = format!(in alloc; "{fault}").expect(rt, "memory");

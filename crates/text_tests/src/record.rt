@@ -117,3 +117,35 @@ fn source_that_fails(rt: HostRuntime) -> Result<(), Fail> {
     }
     Ok(())
 }
+
+// The fault of a source that gives some bytes in its first read, and fails in the next.
+fn fault_behind(alloc: Global, front: &str, behind: &[u8]) -> Result<String, Fail> {
+    let mut text = Vec::from_slice(alloc, front.as_bytes())?;
+    text.extend_from_slice(behind)?;
+    let most = text.len().max(1);
+    let mut source = FailAt::new(bytes(alloc, &text)?, 2, most);
+    match read_record(alloc, &mut source) {
+        Ok(_) => Ok(String::new(alloc)),
+        Err(fault) => Ok(fault.to_string(alloc)?),
+    }
+}
+
+#[test]
+fn whole_lines_are_judged_before_a_source_fails(rt: HostRuntime) -> Result<(), Fail> {
+    let long = [b'x'; 81];
+    let cases: [(&str, &[u8], &str); 8] = [
+        ("", &long[..80], "line 1: 14 Device"),
+        ("", &long, "line 1: 1 Header"),
+        ("boc 2 2\n", &long[..80], "line 2: 14 Device"),
+        ("boc 2 2\n", &long, "line 2: 2 Form"),
+        (TRANSFER, b"x", "line 15: 14 Device"),
+        (TRANSFER, &long[..80], "line 15: 14 Device"),
+        (TRANSFER, b"x\n", "line 15: 12 After"),
+        (TRANSFER, &long, "line 15: 12 After"),
+    ];
+    for (front, behind, told) in cases {
+        let fault = fault_behind(rt.alloc(), front, behind)?;
+        assert_eq!(rt; fault.as_str(), told);
+    }
+    Ok(())
+}

@@ -188,7 +188,7 @@ struct Shown {
     values: (Option<i64>, Option<i64>),
 }
 
-fn shown(alloc: Global, core: &Dispatcher<'_>) -> Result<Shown, Fail> {
+fn what_is_shown(alloc: Global, core: &Dispatcher<'_>) -> Result<Shown, Fail> {
     let mut lines = Vec::new(alloc);
     put_events(&mut lines, &core.log())?;
     Ok(Shown {
@@ -210,10 +210,10 @@ fn outcomes_of_strangers_end_nothing(rt: HostRuntime) -> Result<(), Fail> {
         (0, 0, &[], &[], FinishFault::Busy, 4),
     ];
     for (row, kind, args, inputs, fault, ticks) in cases {
-        let before = shown(alloc, &core)?;
+        let before = what_is_shown(alloc, &core)?;
         let outcome = outcome(alloc, &program, kind, args, inputs)?;
         assert_eq!(rt; refused(&mut core, row, outcome), Some((fault, ticks)));
-        assert_eq!(rt; shown(alloc, &core)?, before);
+        assert_eq!(rt; what_is_shown(alloc, &core)?, before);
     }
     assert_eq!(rt; (core.steps(), core.log().len()), (1, 2));
     Ok(())
@@ -229,10 +229,10 @@ fn frames_of_strangers_open_nothing(rt: HostRuntime) -> Result<(), Fail> {
         (2, 0, OpenFault::OutOfTurn),
         (1, 1, OpenFault::Stranger),
     ] {
-        let before = shown(alloc, &core)?;
+        let before = what_is_shown(alloc, &core)?;
         let frame = frame_after(alloc, &job, wishes)?;
         assert_eq!(rt; core.open(&frame, row), Err(fault));
-        assert_eq!(rt; shown(alloc, &core)?, before);
+        assert_eq!(rt; what_is_shown(alloc, &core)?, before);
     }
     assert_eq!(rt; (core.steps(), core.log().len()), (1, 2));
     Ok(())
@@ -256,9 +256,9 @@ fn spent_token_is_unknown(rt: HostRuntime) -> Result<(), Fail> {
     ] {
         assert_eq!(rt; core.advance(&child), wanted);
     }
-    let before = shown(alloc, &core)?;
+    let before = what_is_shown(alloc, &core)?;
     assert_eq!(rt; core.advance(&child), Advanced::Unknown);
-    assert_eq!(rt; shown(alloc, &core)?, before);
+    assert_eq!(rt; what_is_shown(alloc, &core)?, before);
     assert_eq!(rt; (core.steps(), core.log().len()), (6, 3));
     assert_eq!(rt; (core.value(0), core.value(1)), (Some(10), Some(0)));
     Ok(())

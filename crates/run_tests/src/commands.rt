@@ -8,10 +8,7 @@ use boc_types::sharing::Sharing;
 use boc_types::workers::Workers;
 use boc_workers::OpenGate;
 use std::alloc::{AllocError, Global};
-use std::process::Abort;
-use std::sync::Wait;
 use std::test::*;
-use std::thread::Threads;
 
 // A command with an input and its answer to that.
 #[derive(Drop)]
@@ -116,29 +113,49 @@ fn of_nothing(alloc: Global) -> Result<[Case; 2], AllocError> {
     ])
 }
 
-// Each read fails in turn.
-fn try_reads<R: Abort + Threads + Wait + Sync>(
-    rt: &R,
-    alloc: Global,
-    case: &Case,
-) -> Result<(), Fail> {
-    for most in [1, 5] {
-        // One more call finds the end.
-        let reads = case.input.len().div_ceil(most) as u64 + 1;
-        for k in 1..=reads + 1 {
-            let mut source = FailAt::new(bytes(alloc, case.input)?, k, most);
-            let mut sink = bytes(alloc, "")?;
-            match run_command(rt, alloc, &OpenGate, &case.command, &mut source, &mut sink) {
-                Ok(()) => {
-                    assert_eq!(rt; k, reads + 1);
-                    assert_eq!(rt; sink.bytes.as_slice(), case.answer.as_bytes());
-                }
-                Err(fault) => {
-                    assert!(rt; k <= reads);
-                    assert!(rt; matches!(fault, Fault::Source), "{k}");
-                    assert_eq!(rt; fault.line(alloc)?.as_str(), "boc: device");
-                    assert_eq!(rt; fault.status(), 5);
-                    assert_eq!(rt; sink.bytes.len(), 0);
+// The commands that read something.
+fn of_inputs(alloc: Global) -> Result<Vec<Case>, AllocError> {
+    let mut cases = Vec::new(alloc);
+    for case in of_programs(alloc)? {
+        cases.push(case)?;
+    }
+    for case in of_records(alloc)? {
+        cases.push(case)?;
+    }
+    Ok(cases)
+}
+
+// All commands.
+fn of_all(alloc: Global) -> Result<Vec<Case>, AllocError> {
+    let mut cases = of_inputs(alloc)?;
+    for case in of_nothing(alloc)? {
+        cases.push(case)?;
+    }
+    Ok(cases)
+}
+
+#[test]
+fn one_read_fails(rt: HostRuntime) -> Result<(), Fail> {
+    let alloc = rt.alloc();
+    for case in &of_inputs(alloc)? {
+        for most in [1, 5] {
+            // One more call finds the end.
+            let reads = case.input.len().div_ceil(most) as u64 + 1;
+            for k in 1..=reads + 1 {
+                let mut source = FailAt::new(bytes(alloc, case.input)?, k, most);
+                let mut sink = bytes(alloc, "")?;
+                match run_command(&rt, alloc, &OpenGate, &case.command, &mut source, &mut sink) {
+                    Ok(()) => {
+                        assert_eq!(rt; k, reads + 1);
+                        assert_eq!(rt; sink.bytes.as_slice(), case.answer.as_bytes());
+                    }
+                    Err(fault) => {
+                        assert!(rt; k <= reads);
+                        assert!(rt; matches!(fault, Fault::Source), "{k}");
+                        assert_eq!(rt; fault.line(alloc)?.as_str(), "boc: device");
+                        assert_eq!(rt; fault.status(), 5);
+                        assert_eq!(rt; sink.bytes.len(), 0);
+                    }
                 }
             }
         }
@@ -146,58 +163,32 @@ fn try_reads<R: Abort + Threads + Wait + Sync>(
     Ok(())
 }
 
-// Each write of 7 bytes fails in turn.
-fn try_writes<R: Abort + Threads + Wait + Sync>(
-    rt: &R,
-    alloc: Global,
-    case: &Case,
-) -> Result<(), Fail> {
-    let answer = case.answer.as_bytes();
-    let writes = answer.len().div_ceil(7);
-    for k in 1..=writes + 1 {
-        let mut source = bytes(alloc, case.input)?;
-        let mut sink = FailAt::new(bytes(alloc, "")?, k as u64, 7);
-        let result = run_command(rt, alloc, &OpenGate, &case.command, &mut source, &mut sink);
-        let went_out = match result {
-            Ok(()) => {
-                assert_eq!(rt; k, writes + 1);
-                answer.len()
-            }
-            Err(fault) => {
-                assert!(rt; k <= writes);
-                assert!(rt; matches!(fault, Fault::Sink { .. }), "{k}");
-                assert_eq!(rt; fault.line(alloc)?.as_str(), "boc: device");
-                assert_eq!(rt; fault.status(), 5);
-                assert_eq!(rt; fault.gone(), Some(7 * (k - 1)));
-                7 * (k - 1)
-            }
-        };
-        assert_eq!(rt; Some(sink.inner.bytes.as_slice()), answer.get(..went_out));
-    }
-    Ok(())
-}
-
-#[test]
-fn one_read_fails(rt: HostRuntime) -> Result<(), Fail> {
-    for case in &of_programs(rt.alloc())? {
-        try_reads(&rt, rt.alloc(), case)?;
-    }
-    for case in &of_records(rt.alloc())? {
-        try_reads(&rt, rt.alloc(), case)?;
-    }
-    Ok(())
-}
-
 #[test]
 fn one_write_fails(rt: HostRuntime) -> Result<(), Fail> {
-    for case in &of_programs(rt.alloc())? {
-        try_writes(&rt, rt.alloc(), case)?;
-    }
-    for case in &of_records(rt.alloc())? {
-        try_writes(&rt, rt.alloc(), case)?;
-    }
-    for case in &of_nothing(rt.alloc())? {
-        try_writes(&rt, rt.alloc(), case)?;
+    let alloc = rt.alloc();
+    for case in &of_all(alloc)? {
+        let answer = case.answer.as_bytes();
+        let writes = answer.len().div_ceil(7);
+        for k in 1..=writes + 1 {
+            let mut source = bytes(alloc, case.input)?;
+            let mut sink = FailAt::new(bytes(alloc, "")?, k as u64, 7);
+            let result = run_command(&rt, alloc, &OpenGate, &case.command, &mut source, &mut sink);
+            let went_out = match result {
+                Ok(()) => {
+                    assert_eq!(rt; k, writes + 1);
+                    answer.len()
+                }
+                Err(fault) => {
+                    assert!(rt; k <= writes);
+                    assert!(rt; matches!(fault, Fault::Sink { .. }), "{k}");
+                    assert_eq!(rt; fault.line(alloc)?.as_str(), "boc: device");
+                    assert_eq!(rt; fault.status(), 5);
+                    assert_eq!(rt; fault.gone(), Some(7 * (k - 1)));
+                    7 * (k - 1)
+                }
+            };
+            assert_eq!(rt; Some(sink.inner.bytes.as_slice()), answer.get(..went_out));
+        }
     }
     Ok(())
 }

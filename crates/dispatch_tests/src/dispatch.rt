@@ -181,21 +181,13 @@ fn frame_after<'a>(alloc: Global, job: &Job<'a>, wishes: u32) -> Result<Frame<'a
 }
 
 // What a dispatcher shows: the lines of its log, its steps, and the values of its cowns.
-#[derive(Drop, PartialEq, Eq, Debug)]
-struct Shown {
-    log: String,
-    steps: u64,
-    values: (Option<i64>, Option<i64>),
-}
-
-fn what_is_shown(alloc: Global, core: &Dispatcher<'_>) -> Result<Shown, Fail> {
+fn what_is_shown(alloc: Global, core: &Dispatcher<'_>) -> Result<String, Fail> {
     let mut lines = Vec::new(alloc);
     put_events(&mut lines, &core.log())?;
-    Ok(Shown {
-        log: String::from_utf8(lines)?,
-        steps: core.steps(),
-        values: (core.value(0), core.value(1)),
-    })
+    let log = String::from_utf8(lines)?;
+    let (steps, first, second) = (core.steps(), core.value(0), core.value(1));
+    let text = format!(in alloc; "{log}{steps} {first:?} {second:?}")?;
+    Ok(text)
 }
 
 #[test]
@@ -213,7 +205,8 @@ fn outcomes_of_strangers_end_nothing(rt: HostRuntime) -> Result<(), Fail> {
         let before = what_is_shown(alloc, &core)?;
         let outcome = outcome(alloc, &program, kind, args, inputs)?;
         assert_eq!(rt; refused(&mut core, row, outcome), Some((fault, ticks)));
-        assert_eq!(rt; what_is_shown(alloc, &core)?, before);
+        let after = what_is_shown(alloc, &core)?;
+        assert_eq!(rt; after.as_str(), before.as_str());
     }
     assert_eq!(rt; (core.steps(), core.log().len()), (1, 2));
     Ok(())
@@ -232,7 +225,8 @@ fn frames_of_strangers_open_nothing(rt: HostRuntime) -> Result<(), Fail> {
         let before = what_is_shown(alloc, &core)?;
         let frame = frame_after(alloc, &job, wishes)?;
         assert_eq!(rt; core.open(&frame, row), Err(fault));
-        assert_eq!(rt; what_is_shown(alloc, &core)?, before);
+        let after = what_is_shown(alloc, &core)?;
+        assert_eq!(rt; after.as_str(), before.as_str());
     }
     assert_eq!(rt; (core.steps(), core.log().len()), (1, 2));
     Ok(())
@@ -258,7 +252,8 @@ fn spent_token_is_unknown(rt: HostRuntime) -> Result<(), Fail> {
     }
     let before = what_is_shown(alloc, &core)?;
     assert_eq!(rt; core.advance(&child), Advanced::Unknown);
-    assert_eq!(rt; what_is_shown(alloc, &core)?, before);
+    let after = what_is_shown(alloc, &core)?;
+    assert_eq!(rt; after.as_str(), before.as_str());
     assert_eq!(rt; (core.steps(), core.log().len()), (6, 3));
     assert_eq!(rt; (core.value(0), core.value(1)), (Some(10), Some(0)));
     Ok(())

@@ -14,62 +14,65 @@ refuse() {
 
 # Finds the program that is of the tree's sources, builds it where there is none, and leaves its place in `program`.
 check() {
-    is_whole "$MANIFEST" || refuse 70 "$fault" "\`git checkout dist\` brings it back; bin/build and then bin/ship make it anew"
+    is_whole "$MANIFEST" "$SHIPPED" || refuse 70 "$fault" "$REMEDY"
     if is_tree_of "$MANIFEST"; then
+        [ -x "$SHIPPED" ] || refuse 70 "$SHIPPED may not be run" "\`chmod +x $SHIPPED\` lets it run"
+        runs_here "$SHIPPED" || refuse 70 "$fault" "where the Rattle kit is, bin/build makes one for it: $BUILT"
         program=$SHIPPED
-        [ -x "$program" ] || refuse 70 "$program may not be run" "\`chmod +x $program\` lets it run"
-        runs_here "$program" || refuse 70 "$fault" "where the Rattle kit is, bin/build makes one for it: $BUILT"
+        [ "$(readlink "$NAMED")" != "${SHIPPED##*/}" ] || program=$NAMED
         note "$MANIFEST"
         return
     fi
-    case $differing in
-    "$SHIPPED"*) refuse 70 "$differing: not the program that $MANIFEST tells of" \
-        "\`git checkout dist\` brings it back; bin/build and then bin/ship make it anew" ;;
+    is_comparable
+    case $differing$lacking in
+    "$SHIPPED") refuse 70 "$SHIPPED is not the program that $MANIFEST tells of, or can't be read" "$REMEDY" ;;
     esac
+    changed=$differing
+    gone=$lacking
     program=$BUILT
-    if is_built; then
-        note "$BUILT_MANIFEST"
-        return
+    if ! is_built; then
+        build
+        is_built || refuse 70 "the sources have changed while they were proved and built; call it again"
     fi
-    # The built manifest was asked last, so what differs is asked once more.
-    is_tree_of "$MANIFEST"
-    build
-    is_built || refuse 70 "the sources have changed while they were proved and built; call it again"
     note "$BUILT_MANIFEST"
+}
+
+# Refuses where sha256sum found no file that differs, and doesn't say that none does.
+is_comparable() {
+    [ -n "$differing$lacking" ] || refuse 70 "sha256sum can't compare what $MANIFEST names: it isn't there, or a line of the manifest is none of its lines" "$REMEDY"
 }
 
 # Whether what was built here is of the tree's sources.
 is_built() {
-    is_whole "$BUILT_MANIFEST" && is_tree_of "$BUILT_MANIFEST" && [ -x "$BUILT" ]
+    is_whole "$BUILT_MANIFEST" "$BUILT" && is_tree_of "$BUILT_MANIFEST" && [ -x "$BUILT" ]
 }
 
-# Proves and builds the program from the sources as they are.
+# Proves and builds the program from the sources as they are, of which `changed` differs from the manifest, or `gone` isn't there.
 build() {
-    case $differing in
-    *' is missing') refuse 70 "$MANIFEST names a file that isn't there: ${differing% is missing}" \
-        "\`git checkout .\` brings it back; where it is to be gone, bin/build and then bin/ship make dist anew" ;;
-    esac
-    echo "bin/boc: the sources are not those of $MANIFEST, first $differing; proving and building them, which takes a while" >&2
+    [ -z "$gone" ] || refuse 70 "$MANIFEST names a file that isn't there, or can't be read: $gone" \
+        "\`git checkout -- $gone\` brings it back; where it is to be gone, bin/build and then bin/ship make dist anew"
     for tool in rt python3; do
-        command -v "$tool" > /dev/null || refuse 127 "$tool is not on the PATH, and proving and building takes the Rattle kit and python3" \
-            "\`git stash\` or \`git checkout .\` brings the sources back that dist/ was built from"
+        command -v "$tool" > /dev/null || refuse 127 \
+            "the sources are not those of $MANIFEST, first $changed, so they have to be proved and built, and $tool is not on the PATH" \
+            "that takes the Rattle kit and python3; or bring $changed back, as by \`git checkout -- $changed\` where its change isn't committed"
     done
+    echo "bin/boc: the sources are not those of $MANIFEST, first $changed; proving and building them, which takes a while" >&2
     bin/build boc || refuse 70 "the build failed"
 }
 
-# Notes what the system knows of each file of a manifest, if it can: later calls compare with that. Nothing is noted of a tree
-# that changes meanwhile, or where the clock is too coarse to tell a change from the last look.
+# Notes when each file of a manifest was last changed, if it can: later calls compare with that. Nothing is noted of a tree that
+# changes meanwhile; the pause is longer than a tick of the clock that these times come from.
 note() {
-    files=$(files_of "$1")
+    files="$program $1 $(files_of "$1" | tr '\n' ' ')"
     # shellcheck disable=SC2086
-    seen=$(stat -c '%.Z' "$1" $files 2>&1)
+    seen=$(stat -Lc %.Z $files 2>&1)
     sleep 0.02
     is_tree_of "$1" || return
     new=.boc-checked.$$
     {
+        echo '# the tree as it was compared'
         echo "program=$program"
-        # shellcheck disable=SC2086
-        echo look\(\) { stat -c \'%.Z\' "$1" $files\; }
+        echo "look() { stat -Lc %.Z $files; }"
         echo "seen='$seen'"
     } 2> /dev/null > "$new" && mv -f "$new" .boc-checked 2> /dev/null || rm -f "$new" 2> /dev/null
 }

@@ -10,13 +10,14 @@ TOP = os.path.dirname(os.path.dirname(os.path.dirname(os.path.abspath(__file__))
 
 MANIFEST = "dist/MANIFEST"
 SHIPPED = "dist/boc-x86_64-linux"
+NAMED = "dist/boc"
 BUILT_MANIFEST = "crates/boc/out/MANIFEST"
 BUILT = "crates/boc/out/boc"
 VERSION = "crates/boc_words/src/version.rt"
 
 HEAD = """\
 # The program boc, as it was proved and built, and each file that it is proved and built from.
-# At the top of the repository `sha256sum -c {place}` compares them all.
+# At the top of the repository `sha256sum -c --quiet --strict {place}` compares them all.
 # version: {version}
 # kit: {kit}
 # files: {count}

@@ -6,8 +6,11 @@
 
 MANIFEST=dist/MANIFEST
 SHIPPED=dist/boc-x86_64-linux
+# A link to the shipped program, by whose name it calls itself.
+NAMED=dist/boc
 BUILT_MANIFEST=crates/boc/out/MANIFEST
 BUILT=crates/boc/out/boc
+REMEDY='`git checkout dist` brings it back; bin/build and then bin/ship make it anew'
 
 # The files that a manifest names, one a line.
 files_of() {
@@ -23,28 +26,34 @@ said_of() {
     done
 }
 
-# Whether a manifest is there and whole. What is wrong with it is left in `fault`.
+# Whether a manifest of a program is there and whole. What is wrong with it is left in `fault`.
 is_whole() {
+    fault=
     if ! [ -f "$1" ] || ! [ -r "$1" ]; then
         fault="$1 is missing"
     elif [ "$(tail -n 1 "$1")" != "# end" ] || [ "$(tail -n 1 "$1" | wc -l)" -ne 1 ]; then
         fault="$1 is cut off: its last line is not \`# end\`"
-    elif [ "$(said_of "$1" files)" != "$(files_of "$1" | wc -l | tr -d ' ')" ]; then
+    elif [ "$(said_of "$1" files)" != "$(files_of "$1" | sort -u | wc -l | tr -d ' ')" ] ||
+        [ "$(said_of "$1" files)" != "$(files_of "$1" | wc -l | tr -d ' ')" ]; then
         fault="$1 is cut off: it names fewer files than it says, or more"
-    else
-        fault=
+    elif [ "$(files_of "$1" | head -n 1)" != "$2" ]; then
+        fault="$1 does not begin with $2"
     fi
     [ -z "$fault" ]
 }
 
 # Whether every file that a whole manifest names has the bytes that it says. The first one that has not is left in
-# `differing`, with ` is missing` behind it where it isn't there.
+# `differing`, and in `lacking` where it isn't there or can't be read. Neither has it where nothing could be compared.
 is_tree_of() {
-    differing=$(LC_ALL=C sha256sum -c --quiet --strict "$1" 2> /dev/null | head -n 1)
-    case $differing in
-    '') return 0 ;;
-    *': FAILED open or read') differing="${differing%: FAILED open or read} is missing" ;;
-    *) differing=${differing%: FAILED} ;;
+    differing=
+    lacking=
+    if compared=$(LC_ALL=C sha256sum -c --quiet --strict "$1" 2> /dev/null); then
+        return 0
+    fi
+    first=$(printf '%s\n' "$compared" | head -n 1)
+    case $first in
+    *': FAILED open or read') lacking=${first%: FAILED open or read} ;;
+    *': FAILED') differing=${first%: FAILED} ;;
     esac
     return 1
 }

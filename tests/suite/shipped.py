@@ -19,8 +19,8 @@ sys.path.insert(0, os.path.join(TOP, "bin", "lib"))
 import tree
 
 # What the scripts may use.
-COREUTILS = ["cat", "chmod", "cp", "cut", "dirname", "head", "mkdir", "mv", "readlink", "rm", "sha256sum", "sleep", "stat", "tail", "tr",
-             "uname", "wc"]
+COREUTILS = ["cat", "chmod", "cp", "cut", "dirname", "head", "mkdir", "mv", "readlink", "rm", "sha256sum", "sleep", "sort", "stat", "tail",
+             "tr", "uname", "wc"]
 
 # A first answer compares a thousand files; what takes longer than this proves or hangs.
 SECONDS = 20
@@ -43,7 +43,7 @@ class Copy:
         self.tools = os.path.join(room, "tools")
         self.kit = os.path.join(room, "kit")
         for part in ["bin", "crates", "dist"]:
-            shutil.copytree(os.path.join(TOP, part), os.path.join(self.top, part), ignore=shutil.ignore_patterns("out", "build.log", "__pycache__"))
+            shutil.copytree(os.path.join(TOP, part), os.path.join(self.top, part), symlinks=True, ignore=shutil.ignore_patterns("out", "build.log", "__pycache__"))
         for part in ["crates.txt", "HANDLES"]:
             shutil.copy(os.path.join(TOP, part), self.top)
         os.mkdir(self.tools)
@@ -169,8 +169,18 @@ def changed_trees():
     with copied() as copy:
         change(copy, SOURCE)
         yield "a changed byte, without the kit", refusal(copy.transfer(), 127, f"first {SOURCE}", "rt is not on the PATH")
+        yield "and the shipped program", None if copy.transfer().output == b"" else "it answered"
         change(copy, SOURCE)
         yield "and changed back", fault_of(ANSWER, copy.transfer())
+        os.rename(copy.path(SOURCE), os.path.join(copy.room, "main.rt"))
+        os.symlink(os.path.join(copy.room, "main.rt"), copy.path(SOURCE))
+        yield "a source that is a link", fault_of(ANSWER, copy.transfer())
+        change(copy, "../main.rt", keep_date=True)
+        yield "a changed byte behind a link", refusal(copy.transfer(), 127, f"first {SOURCE}")
+    with copied() as copy, copied() as other:
+        change(copy, SOURCE)
+        answer = copy.transfer(env={"PATH": copy.tools, "CDPATH": other.top}, cwd=copy.top, command="bin/boc")
+        yield "another tree on the way of cd", refusal(answer, 127, f"first {SOURCE}")
 
 
 def broken_shipments():
@@ -206,6 +216,23 @@ def broken_shipments():
             file.flush()
             yield "a manifest without a line in its middle", refusal(copy.transfer(kit=True), 70, "cut off", "git checkout dist")
     with copied() as copy:
+        with open(copy.path(tree.MANIFEST)) as file:
+            lines = file.readlines()
+        for name, line in [("is none of its lines", "z" + lines[20]), ("stands there twice", lines[19])]:
+            with open(copy.path(tree.MANIFEST), "w") as file:
+                file.writelines(lines[:20] + [line] + lines[21:])
+            yield f"a manifest of which a line {name}", refusal(copy.transfer(kit=True), 70, tree.MANIFEST, "git checkout dist")
+        with open(copy.path(tree.MANIFEST), "w") as file:
+            file.writelines(lines)
+        os.remove(os.path.join(copy.tools, "sha256sum"))
+        change(copy, SOURCE)
+        yield "no sha256sum", refusal(copy.transfer(kit=True), 70, "sha256sum")
+    for note in [b"", b"garbage(", b"# the tree as it was compared?\n"]:
+        with copied() as copy:
+            with open(copy.path(".boc-checked"), "wb") as file:
+                file.write(note)
+            yield f"a note that is {note}", fault_of(ANSWER, copy.transfer())
+    with copied() as copy:
         os.remove(copy.path(SOURCE))
         yield "a manifest that names a file that isn't there", refusal(copy.transfer(kit=True), 70, tree.MANIFEST, SOURCE, "git checkout")
         yield "nothing is built then", "rt was called" if copy.was_called() else None
@@ -240,6 +267,9 @@ def installs():
         found = os.access(os.path.join(copy.room, ".local/bin/boc"), os.X_OK)
         yield "install into the home folder", None if found and answer.status == 0 else f"it answered {answer}"
         yield "install into two folders", refusal(copy.run("a", "b", command="bin/install"), 2, "one folder")
+        yield "install into no folder", refusal(copy.run("-p", command="bin/install"), 2, "bin/install [PREFIX]")
+        answer = copy.run("--help", command="bin/install")
+        yield "help of install", None if answer.status == 0 and b"usage" in answer.output and not os.path.exists(copy.path("--help")) else f"it answered {answer}"
         with open(os.path.join(copy.room, "file"), "w"):
             pass
         yield "install below a file", refusal(copy.run(os.path.join(copy.room, "file"), command="bin/install"), 73, "can't be written to")
@@ -247,5 +277,11 @@ def installs():
             os.makedirs(os.path.join(copy.room, "closed", "bin"))
             answer = copy.run(os.path.join(copy.room, "closed"), command="bin/install", user=NOBODY, group=NOBODY, extra_groups=[])
             yield "install where nothing may be written", refusal(answer, 73, "can't be written to")
+        os.chmod(copy.path(tree.SHIPPED), 0o644)
+        yield "install without the run bit", refusal(copy.run(prefix, command="bin/install"), 70, "chmod +x")
+        os.chmod(copy.path(tree.SHIPPED), 0o755)
         change(copy, tree.SHIPPED)
-        yield "install of a flipped byte", refusal(copy.run(prefix, command="bin/install"), 70, tree.SHIPPED)
+        yield "install of a flipped byte", refusal(copy.run(prefix, command="bin/install"), 70, tree.SHIPPED, "git checkout dist")
+    with copied() as copy:
+        change(copy, SOURCE)
+        yield "install of another tree", refusal(copy.run(copy.room, command="bin/install"), 70, SOURCE)

@@ -79,7 +79,8 @@ def cases(program):
                 source = b"drive 2 %d\n%s\n" % (len(given), given)
                 yield name, fault_of_refusals(answers, library, source, left, [b"Memory\n"])
             source = b"record %d\n%s\n" % (len(RECORD), RECORD)
-            wants = [b"line %d: 13 Memory\n" % line for line in SPAWN_LINES] + [b"Memory\n"]
+            # The sink stands in memory, and fails where it can't grow.
+            wants = [b"line %d: 13 Memory\n" % line for line in SPAWN_LINES] + [b"out of memory\n", b"the sink failed after 0 bytes\n"]
             yield "a record that is read and written", fault_of_refusals(answers, library, source, answers.run([], source).output, wants)
 
 

@@ -60,10 +60,17 @@ build() {
     bin/build boc || refuse 70 "the build failed"
 }
 
-# Notes when each file of a manifest was last changed, if it can: later calls compare with that. Nothing is noted of a tree that
-# changes meanwhile; the pause is longer than a tick of the clock that these times come from.
+# Notes when each source and definition of a manifest was last changed, and the program, if it can: later calls compare with that.
+# A changed proof changes neither the program nor what is promised of it, so only a first call looks at those. Nothing is noted of a
+# tree that changes meanwhile; the pause is longer than a tick of the clock that these times come from.
 note() {
-    files="$program $1 $(files_of "$1" | tr '\n' ' ')"
+    files="$program $1"
+    for file in $(files_of "$1"); do
+        case $file in
+        */proofs/*) ;;
+        *) files="$files $file" ;;
+        esac
+    done
     # shellcheck disable=SC2086
     seen=$(stat -Lc %.Z $files 2>&1)
     sleep 0.02

@@ -19,7 +19,6 @@ check() {
         [ -x "$SHIPPED" ] || refuse 70 "$SHIPPED may not be run" "\`chmod +x $SHIPPED\` lets it run"
         runs_here "$SHIPPED" || refuse 70 "$fault" "where the Rattle kit is, bin/build makes one for it: $BUILT"
         program=$SHIPPED
-        [ "$(readlink "$NAMED")" != "${SHIPPED##*/}" ] || program=$NAMED
         note "$MANIFEST"
         return
     fi
@@ -64,7 +63,7 @@ build() {
 # A changed proof changes neither the program nor what is promised of it, so only a first call looks at those. Nothing is noted of a
 # tree that changes meanwhile; the pause is longer than a tick of the clock that these times come from.
 note() {
-    files="$program $1"
+    files=$1
     for file in $(files_of "$1"); do
         case $file in
         */proofs/*) ;;

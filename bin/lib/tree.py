@@ -10,7 +10,6 @@ TOP = os.path.dirname(os.path.dirname(os.path.dirname(os.path.abspath(__file__))
 
 MANIFEST = "dist/MANIFEST"
 SHIPPED = "dist/boc-x86_64-linux"
-NAMED = "dist/boc"
 BUILT_MANIFEST = "crates/boc/out/MANIFEST"
 BUILT = "crates/boc/out/boc"
 VERSION = "crates/boc_words/src/version.rt"

@@ -6,8 +6,6 @@
 
 MANIFEST=dist/MANIFEST
 SHIPPED=dist/boc-x86_64-linux
-# A link to the shipped program, by whose name it calls itself.
-NAMED=dist/boc
 BUILT_MANIFEST=crates/boc/out/MANIFEST
 BUILT=crates/boc/out/boc
 REMEDY='`git checkout dist` brings it back; bin/build and then bin/ship make it anew'

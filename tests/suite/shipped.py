@@ -29,7 +29,7 @@ SECONDS = 20
 NOBODY = 65534
 
 SOURCE = "crates/boc/src/main.rt"
-DEFINITION = "crates/boc_types/specs/program/Meaning.antt"
+DEFINITION = "crates/boc_program/specs/Meaning.antt"
 PROOF = "crates/boc_order/proofs/Lib.antt"
 
 

@@ -3,13 +3,13 @@
 #![tactic(auto)]
 
 use boc_dispatch::{Dispatcher, OpenFault, Refusal, Turn, Worker};
+use boc_plans::sharing::Sharing;
+use boc_program::program::Program;
 use boc_reader::read_program;
 use boc_record::put_events;
 use boc_rules::{RuleFault, Rules};
-use boc_types::event::Event;
-use boc_types::program::Program;
-use boc_types::rows::Rows;
-use boc_types::sharing::Sharing;
+use boc_runs::event::Event;
+use boc_runs::rows::Rows;
 use boc_whatif::WhatIf;
 use std::alloc::Global;
 use std::io;

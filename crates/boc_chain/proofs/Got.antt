@@ -1,7 +1,7 @@
 -- What stands at a place of a list that was written or grew.
 use Rattle.std.proofs.Common.{◌≡◌, ◌≢◌, ℕ, zero, suc, ◌<◌, List, [], ◌∷◌, ◌++◌, length, get_or, refl, sym, ◌∙◌, ap, arith}
 use Rattle.std.specs.Prelude.{slice_get, Some}
-use Rattle.boc_types.proofs.ChangedItems.{last_item}
+use Rattle.boc_program.proofs.ChangedItems.{last_item}
 
 pub got : {X : Type 0} (xs : List X) (i : ℕ) (d : X) → i < length xs → slice_get xs i ≡ Some (get_or xs i d)
 got [] i d h = absurd (omega arith)

@@ -11,7 +11,7 @@ use Rattle.boc_chain.specs.declared.request.Request.{Request}
 use Rattle.boc_chain.specs.declared.held.Held.{Held}
 use Rattle.boc_chain.specs.Chain.{Place, times, list, cowns_of, cown, one_more}
 use Rattle.boc_chain.specs.Kept.{place_at, awaits, IsKept}
-use Rattle.boc_types.proofs.ChangedItems.{set_same, set_other}
+use Rattle.boc_program.proofs.ChangedItems.{set_same, set_other}
 use Rattle.boc_chain.proofs.Got.{got}
 
 map_changed : (lines : List (Vec Request Global)) (c : ℕ) (v : Vec Request Global) → map (λ u. u.items) (set lines c v) ≡ set (map (λ u. u.items) lines) c v.items

@@ -8,7 +8,7 @@ use Rattle.boc_chain.specs.declared.linked.Link.{Link}
 use Rattle.boc_chain.specs.Chain.{times}
 use Rattle.boc_chain.proofs.Spelled.{times_same, times_more, eqb_same, eqb_other}
 use Rattle.boc_chain.proofs.Settles.{position_step}
-use Rattle.boc_types.proofs.ChangedItems.{none_past, set_other, last_item}
+use Rattle.boc_program.proofs.ChangedItems.{none_past, set_other, last_item}
 use Rattle.boc_chain.proofs.Got.{got_push}
 
 -- what stands at the place that was found

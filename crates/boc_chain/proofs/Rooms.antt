@@ -12,7 +12,7 @@ use Rattle.boc_chain.specs.declared.held.Held.{Held}
 use Rattle.boc_chain.specs.Chain.{Place, times, cowns_of, cown}
 use Rattle.boc_chain.specs.Kept.{place_at, place_in, awaits, HasRoom, IsKept}
 use Rattle.boc_chain.proofs.Got.{got}
-use Rattle.boc_types.proofs.ChangedItems.{set_same, set_other}
+use Rattle.boc_program.proofs.ChangedItems.{set_same, set_other}
 use Rattle.boc_chain.proofs.Places.{stands}
 use Rattle.boc_chain.proofs.Counted.{awaited_less_where_gone, times_take, times_next_other}
 use Rattle.boc_chain.proofs.Lines.{same_or_not}

@@ -1,7 +1,7 @@
 -- What a slot keeps of one behaviour.
 use Rattle.std.specs.Prelude.{◌≡◌, ℕ, ◌≤◌, ◌++◌, List, length, take}
 use Rattle.arrayvec.specs.ArrayVec.{ArrayVec}
-use Rattle.boc_types.specs.declared.limits.TheConstants.{MOST_HELD}
+use Rattle.boc_program.specs.declared.limits.TheConstants.{MOST_HELD}
 use Rattle.boc_chain.specs.declared.linked.Link.{Link}
 use Rattle.boc_chain.specs.declared.kept_links.Head.{Head}
 use Rattle.boc_chain.specs.declared.kept_links.Kept.{Kept}

@@ -1,7 +1,7 @@
 //! What each kind of request chains does.
 
 use crate::request::{Released, Settled, Slot};
-use boc_types::short::Cowns;
+use boc_program::short::Cowns;
 use std::alloc::AllocError;
 
 /// Request chains.

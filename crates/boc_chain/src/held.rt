@@ -6,7 +6,7 @@ ghost use Rattle.boc_chain.specs.Kept.{place_at, place_of, awaits};
 ghost use Rattle.std.specs.List.{sum_by};
 ghost use Rattle.std.specs.Vec.{vec_len, vec_capacity};
 
-use boc_types::short::{CownNo, Cowns};
+use boc_program::short::{CownNo, Cowns};
 
 /// What was admitted: the cowns, and how many of the requests were exchanged.
 #[derive(Drop)]

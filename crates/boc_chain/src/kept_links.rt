@@ -4,12 +4,12 @@ ghost use Rattle.std.specs.Prelude.{◌≡◌, ◌<◌, ◌+◌, [], ◌∷◌, 
 ghost use Rattle.boc_chain.specs.KeptLinks.{HasPlaces, head_of, places_of, room_of};
 ghost use Rattle.boc_chain.specs.ShortLinks.{changed};
 ghost use Rattle.boc_chain.specs.declared.linked.Link.{Link};
-ghost use Rattle.boc_types.specs.declared.limits.TheConstants.{MOST_HELD};
+ghost use Rattle.boc_program.specs.declared.limits.TheConstants.{MOST_HELD};
 
 use crate::linked::{Change, Link};
 use crate::short_link::ShortLink;
-use boc_types::held::HeldCowns;
-use boc_types::limits::MOST_HELD;
+use boc_program::held::HeldCowns;
+use boc_program::limits::MOST_HELD;
 use std::alloc::{AllocError, Global};
 use std::marker::Model;
 

@@ -1,7 +1,7 @@
 //! Request chains kept as links.
 
 ghost use Rattle.std.specs.Prelude.{◌≡◌, ℕ, ◌↔◌, IsTrue, Some, None, IfOk, replicate, length, ◌≤◌};
-ghost use Rattle.boc_types.specs.declared.limits.TheConstants.{MOST_COWNS};
+ghost use Rattle.boc_program.specs.declared.limits.TheConstants.{MOST_COWNS};
 ghost use Rattle.slab.specs.Slab.{slab_len};
 ghost use Rattle.std.specs.Option.{option_map};
 ghost use Rattle.boc_chain.specs.Linked.{IsLinked, slot_at};
@@ -14,9 +14,9 @@ use crate::linked::{
     Change, Link, Node, can_settle_at, change_link, cown_at, next_at, pass_at, push_link, settle_at,
 };
 use crate::request::{Released, Settled, Slot};
-use boc_types::held::HeldCowns;
-use boc_types::limits::MOST_HELD;
-use boc_types::short::{CownNo, Cowns};
+use boc_program::held::HeldCowns;
+use boc_program::limits::MOST_HELD;
+use boc_program::short::{CownNo, Cowns};
 use slab::Slab;
 use std::alloc::{AllocError, Global};
 

@@ -12,7 +12,7 @@ ghost use Rattle.boc_chain.specs.declared.request.Settled.TheVariants.{Blocked a
 
 use crate::kept_links::Linked;
 use crate::request::Settled;
-use boc_types::short::CownNo;
+use boc_program::short::CownNo;
 use slab::Slab;
 
 /// Names a request: the slot that it is at, and its place among those of the slot. It is kept small, since there are two for

@@ -10,7 +10,7 @@ use crate::chains::Chains;
 use crate::held::{Held, count_awaited, count_exchange, cown_at, hold};
 use crate::request::{Released, Request, Settled, Slot};
 use crate::requests::{can_leave_in, can_settle_in, end_of, flag_in, leave_in, settle_in};
-use boc_types::short::{CownNo, Cowns};
+use boc_program::short::{CownNo, Cowns};
 use std::alloc::{AllocError, Global};
 
 /// For each cown a plain list of requests.

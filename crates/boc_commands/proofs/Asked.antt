@@ -3,7 +3,7 @@ use Rattle.std.proofs.Common.{◌≡◌, ℕ, ◌+◌, ◌≤◌, List, ◌++◌
 use Rattle.std.specs.Result.{IsErrAnd}
 use Rattle.std.proofs.lemmas.List.{append-nil}
 use Rattle.boc_text.specs.Streams.{ReadsWhole, StopsAt}
-use Rattle.boc_types.specs.declared.limits.TheConstants.{MOST_TEXT}
+use Rattle.boc_program.specs.declared.limits.TheConstants.{MOST_TEXT}
 use Rattle.boc_commands.specs.declared.fault.Fault.{Fault}
 use Rattle.boc_commands.specs.declared.fault.Fault.TheVariants as faults
 use Rattle.boc_commands.specs.Faults.{gone_of, of_write}
@@ -13,19 +13,20 @@ use Rattle.boc_text.specs.declared.fault.WriteFault.TheVariants as writes
 use Rattle.std.specs.Prelude.{IfSome, Some, None}
 use Rattle.std.specs.Io.KnownBytes.{Consumes, IsAtEnd}
 use Rattle.boc_commands.specs.Commands.{AnswersInput, Leaves, LeavesAfter, IsOfEdits, RefusesEdits}
-use Rattle.boc_types.specs.declared.rows.Row.{Row}
-use Rattle.boc_types.specs.declared.edit.Edit.{Edit}
-use Rattle.boc_types.specs.declared.sharing.Sharing.{Sharing}
-use Rattle.boc_types.specs.runs.Seen.{seen}
+use Rattle.boc_runs.specs.declared.rows.Row.{Row}
+use Rattle.boc_plans.specs.declared.edit.Edit.{Edit}
+use Rattle.boc_plans.specs.declared.sharing.Sharing.{Sharing}
+use Rattle.boc_plans.specs.Seen.{seen}
 use Rattle.boc_order.specs.declared.report.Profile.{Profile}
 use Rattle.boc_order.specs.Profiles.{IsProfileOf}
 use Rattle.boc_greedy.specs.declared.report.Greedy.{Greedy}
 use Rattle.boc_report.specs.Parts.{part_of}
-use Rattle.boc_types.specs.answers.Answers.{IsAskedPart, IsCheckAnswer, IsReport, IsProfileAnswer, IsWhatIfAnswer, IsSweepAnswer}
-use Rattle.boc_types.specs.plans.Edits.{AllFit, IsFirstUnfit, IsSweep, all_edited}
-use Rattle.boc_types.specs.answers.Texts.{check_text, report_text, sweep_lines}
-use Rattle.boc_types.specs.runs.Records.{Recorded}
-use Rattle.boc_types.specs.text.RecordTexts.{IsTextOf}
+use Rattle.boc_commands.specs.Answers.{IsAskedPart, IsCheckAnswer, IsReport, IsProfileAnswer, IsWhatIfAnswer, IsSweepAnswer}
+use Rattle.boc_plans.specs.Edits.{AllFit, IsFirstUnfit, IsSweep, all_edited}
+use Rattle.boc_commands.specs.ValueTexts.{check_text}
+use Rattle.boc_report.specs.Texts.{report_text, sweep_lines}
+use Rattle.boc_runs.specs.Records.{Recorded}
+use Rattle.boc_record.specs.RecordTexts.{IsTextOf}
 use Rattle.boc_record.specs.Reading.{TakesRecord}
 
 -- the answer, from the rows that were asked about and those after the edits

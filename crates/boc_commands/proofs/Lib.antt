@@ -4,3 +4,4 @@ pub mod Promised
 pub mod Passed
 pub mod OneProgram
 pub mod OneAnswer
+pub mod TransferValues

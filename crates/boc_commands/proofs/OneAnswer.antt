@@ -1,21 +1,22 @@
 -- An input has one answer.
 use Rattle.std.proofs.Common.{◌≡◌, ℕ, List, [], ◌∷◌, ◌++◌, length, Option, Some, None, sym, ◌∙◌, ap, subst}
-use Rattle.boc_types.specs.declared.edit.Edit.{Edit}
-use Rattle.boc_types.specs.declared.program.Program.{Program}
-use Rattle.boc_types.specs.declared.rows.Row.{Row}
-use Rattle.boc_types.specs.declared.sharing.Sharing.{Sharing}
-use Rattle.boc_types.specs.runs.OwnOrder.{EndsWith}
-use Rattle.boc_types.specs.runs.Records.{Recorded, IsRecord}
-use Rattle.boc_types.specs.runs.Rows.{IsRows}
-use Rattle.boc_types.specs.runs.Seen.{seen}
-use Rattle.boc_types.specs.plans.Plans.{work_of, HasEnds, IsEnd}
-use Rattle.boc_types.specs.plans.Chains.{IsPicked}
-use Rattle.boc_types.specs.plans.Edits.{AllFit, all_edited, edited, IsSweep}
-use Rattle.boc_types.specs.answers.Answers.{IsAskedPart, IsGreedyPart, IsReport, IsValuesAnswer, IsCheckAnswer, IsProfileAnswer, IsWhatIfAnswer, IsSweepAnswer}
-use Rattle.boc_types.specs.answers.Texts.{values_text, check_text, report_text, greedy_text, sweep_lines}
-use Rattle.boc_types.proofs.Editing.{rows_edited}
-use Rattle.boc_types.proofs.OwnOrders.{ends_once}
-use Rattle.boc_types.proofs.Seeing.{rows_seen}
+use Rattle.boc_plans.specs.declared.edit.Edit.{Edit}
+use Rattle.boc_program.specs.declared.program.Program.{Program}
+use Rattle.boc_runs.specs.declared.rows.Row.{Row}
+use Rattle.boc_plans.specs.declared.sharing.Sharing.{Sharing}
+use Rattle.boc_runs.specs.OwnOrder.{EndsWith}
+use Rattle.boc_runs.specs.Records.{Recorded, IsRecord}
+use Rattle.boc_runs.specs.Rows.{IsRows, edited}
+use Rattle.boc_plans.specs.Seen.{seen}
+use Rattle.boc_plans.specs.Plans.{work_of, HasEnds, IsEnd}
+use Rattle.boc_plans.specs.Chains.{IsPicked}
+use Rattle.boc_plans.specs.Edits.{AllFit, all_edited, IsSweep}
+use Rattle.boc_commands.specs.Answers.{IsAskedPart, IsGreedyPart, IsReport, IsValuesAnswer, IsCheckAnswer, IsProfileAnswer, IsWhatIfAnswer, IsSweepAnswer}
+use Rattle.boc_commands.specs.ValueTexts.{values_text, check_text}
+use Rattle.boc_report.specs.Texts.{report_text, greedy_text, sweep_lines}
+use Rattle.boc_plans.proofs.Editing.{rows_edited}
+use Rattle.boc_runs.proofs.OwnOrders.{ends_once}
+use Rattle.boc_plans.proofs.Seeing.{rows_seen}
 use Rattle.boc_rules.proofs.Finished.{is_rows}
 use Rattle.boc_rules.proofs.Next.{well_log}
 use Rattle.boc_record.proofs.OneFault.{one_record}

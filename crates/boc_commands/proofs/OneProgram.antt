@@ -3,13 +3,13 @@ use Rattle.std.proofs.Common.{◌≡◌, ◌≤◌, ◌+◌, List, [], ◌∷◌
 use Rattle.std.proofs.Math.Bridge.{le_prop}
 use Rattle.std.proofs.Props.{props}
 use Rattle.std.proofs.Math.Path.{PathP, to_path_p}
-use Rattle.boc_types.specs.declared.body.Body.{Body}
-use Rattle.boc_types.specs.declared.cown.Cown.{Cown}
-use Rattle.boc_types.specs.declared.program.Program.{Program}
-use Rattle.boc_types.specs.declared.limits.TheConstants.{MOST_ARGUMENTS, MOST_BODIES, MOST_COWNS, MOST_HELD, MOST_NODES, MOST_SLOTS}
-use Rattle.boc_types.specs.program.Programs.{cown_count, have_members, program_fits, has_main}
-use Rattle.boc_types.specs.program.Resolved.{nodes, fits}
-use Rattle.boc_types.specs.text.Spells.{plain_body, plain_declared, plain_program}
+use Rattle.boc_program.specs.declared.body.Body.{Body}
+use Rattle.boc_program.specs.declared.cown.Cown.{Cown}
+use Rattle.boc_program.specs.declared.program.Program.{Program}
+use Rattle.boc_program.specs.declared.limits.TheConstants.{MOST_ARGUMENTS, MOST_BODIES, MOST_COWNS, MOST_HELD, MOST_NODES, MOST_SLOTS}
+use Rattle.boc_program.specs.Programs.{cown_count, have_members, program_fits, has_main}
+use Rattle.boc_program.specs.Resolved.{nodes, fits}
+use Rattle.boc_reader.specs.Spells.{plain_body, plain_declared, plain_program}
 
 -- two proofs of a fact that has one at most, over two values that are the same
 over : (A : 𝕀 → Type 0) → IsProp (A 1) → (a : A 0) (b : A 1) → PathP A a b

@@ -2,10 +2,10 @@
 use Rattle.std.proofs.Common.{◌≡◌, ◌+◌, ℕ, List, Option, Result, Ok, Err, MatchResult, sym, subst}
 use Rattle.std.specs.Result.{IsErrAnd}
 use Rattle.boc_text.specs.Streams.{ReadsWhole}
-use Rattle.boc_types.specs.declared.limits.TheConstants.{MOST_TEXT}
+use Rattle.boc_program.specs.declared.limits.TheConstants.{MOST_TEXT}
 use Rattle.boc_commands.specs.declared.fault.Fault.{Fault}
 use Rattle.boc_commands.specs.declared.fault.Fault.TheVariants as faults
-use Rattle.boc_types.specs.declared.edit.Edit.{Edit}
+use Rattle.boc_plans.specs.declared.edit.Edit.{Edit}
 use Rattle.boc_commands.specs.Commands.{IsOfRun, RefusesNothing, RefusesRecord, RefusesEdits, RefusesRun}
 
 -- where a result is a fault, what holds of that fault holds of it

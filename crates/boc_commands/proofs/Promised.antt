@@ -1,12 +1,12 @@
 -- Why reports are true.
 use Rattle.std.proofs.Common.{◌≡◌, ◌<◌, ℕ, List, slice_index, refl, Option, Some, None, arith}
-use Rattle.boc_types.specs.declared.chain.ChainStep.{ChainStep}
-use Rattle.boc_types.specs.declared.rows.Row.{Row}
-use Rattle.boc_types.specs.runs.Rows.{IsRows}
-use Rattle.boc_types.specs.plans.Plans.{IsEarliest, IsEnd, work_of}
-use Rattle.boc_types.specs.plans.Chains.{IsChain, weight_of}
-use Rattle.boc_types.specs.plans.Greedy.{IsGreedy}
-use Rattle.boc_types.specs.answers.Answers.{IsAskedPart, IsReport}
+use Rattle.boc_plans.specs.declared.chain.ChainStep.{ChainStep}
+use Rattle.boc_runs.specs.declared.rows.Row.{Row}
+use Rattle.boc_runs.specs.Rows.{IsRows}
+use Rattle.boc_plans.specs.Plans.{IsEarliest, IsEnd, work_of}
+use Rattle.boc_plans.specs.Chains.{IsChain, weight_of}
+use Rattle.boc_plans.specs.Greedy.{IsGreedy}
+use Rattle.boc_commands.specs.Answers.{IsAskedPart, IsReport}
 use Rattle.boc_greedy.proofs.Bound.{end_within, greedy_close, greedy_for_workers, greedy_keeps}
 use Rattle.boc_order.proofs.Chaining.{earliest_le_end}
 use Rattle.boc_order.proofs.Weighing.{weight_is_end}

@@ -1,9 +1,10 @@
 -- Edits made one after the other.
 use Rattle.std.proofs.Common.{zero, suc, get_or, length, take, drop, ◌≡◌, ℕ, ◌+◌, ◌<◌, ◌∷◌, List, [], ◌++◌, refl, sym, ap, subst, ◌∙◌, arith}
-use Rattle.boc_types.specs.declared.rows.Row.{Row}
-use Rattle.boc_types.specs.declared.edit.Edit.{Edit}
-use Rattle.boc_types.specs.declared.edit.EditFault.{EditFault}
-use Rattle.boc_types.specs.plans.Edits.{AllFit, Fits, IsEditFault, IsFirstUnfit, all_edited, edited}
+use Rattle.boc_runs.specs.declared.rows.Row.{Row}
+use Rattle.boc_plans.specs.declared.edit.Edit.{Edit}
+use Rattle.boc_plans.specs.declared.edit.EditFault.{EditFault}
+use Rattle.boc_runs.specs.Rows.{edited}
+use Rattle.boc_plans.specs.Edits.{AllFit, Fits, IsEditFault, IsFirstUnfit, all_edited}
 
 -- one edit more fits
 pub fit_more : (rows : List Row) (edits : List Edit) (i : ℕ) (d : Edit) → i < length edits → AllFit rows (take i edits)

@@ -11,19 +11,19 @@ use Rattle.boc_reader.specs.FaultMeanings.{SaysOf}
 use Rattle.boc_reader.specs.declared.fault.ReadFaultKind.{ReadFaultKind}
 use Rattle.boc_reader.specs.declared.fault.ReadFaultKind.TheVariants as read_kinds
 use Rattle.boc_record.specs.declared.fault.RecordFault.{RecordFault}
-use Rattle.boc_types.specs.declared.limits.TheConstants.{MOST_TEXT}
-use Rattle.boc_types.specs.declared.program.Program.{Program}
-use Rattle.boc_types.specs.declared.rows.Row.{Row}
-use Rattle.boc_types.specs.declared.edit.Edit.{Edit}
-use Rattle.boc_types.specs.declared.edit.EditFault.{EditFault}
-use Rattle.boc_types.specs.declared.verdict.RecordFaultKind.{RecordFaultKind}
-use Rattle.boc_types.specs.declared.verdict.RecordFaultKind.TheVariants as record_kinds
-use Rattle.boc_types.specs.text.Spells.{Spells}
-use Rattle.boc_types.specs.text.RecordTexts.{IsTextOf, IsFirstFault}
-use Rattle.boc_types.specs.runs.OwnOrder.{HasTooMany}
-use Rattle.boc_types.specs.runs.Records.{Recorded}
-use Rattle.boc_types.specs.plans.Edits.{IsFirstUnfit}
-use Rattle.boc_types.specs.answers.Answers.{IsValuesAnswer, IsCheckAnswer, IsProfileAnswer, IsWhatIfAnswer, IsSweepAnswer}
+use Rattle.boc_program.specs.declared.limits.TheConstants.{MOST_TEXT}
+use Rattle.boc_program.specs.declared.program.Program.{Program}
+use Rattle.boc_runs.specs.declared.rows.Row.{Row}
+use Rattle.boc_plans.specs.declared.edit.Edit.{Edit}
+use Rattle.boc_plans.specs.declared.edit.EditFault.{EditFault}
+use Rattle.boc_record.specs.declared.verdict.RecordFaultKind.{RecordFaultKind}
+use Rattle.boc_record.specs.declared.verdict.RecordFaultKind.TheVariants as record_kinds
+use Rattle.boc_reader.specs.Spells.{Spells}
+use Rattle.boc_record.specs.RecordTexts.{IsTextOf, IsFirstFault}
+use Rattle.boc_runs.specs.OwnOrder.{HasTooMany}
+use Rattle.boc_runs.specs.Records.{Recorded}
+use Rattle.boc_plans.specs.Edits.{IsFirstUnfit}
+use Rattle.boc_commands.specs.Answers.{IsValuesAnswer, IsCheckAnswer, IsProfileAnswer, IsWhatIfAnswer, IsSweepAnswer}
 use Rattle.boc_commands.specs.Promises.{IsRunAnswer, IsTimeAnswer}
 use Rattle.boc_workers.specs.Noting.{CanReachLimit}
 use Rattle.boc_text.specs.Streams.{StopsAt, ReadsWhole}

@@ -2,8 +2,8 @@
 use Rattle.std.specs.Prelude.{◌≡◌, ℕ, Bool, true, false, List, ◌++◌, Option, Some, None, codes, decimal}
 use Rattle.boc_commands.specs.declared.fault.Fault.{Fault}
 use Rattle.boc_commands.specs.declared.fault.Fault.TheVariants as faults
-use Rattle.boc_types.specs.declared.edit.EditFault.{EditFault}
-use Rattle.boc_types.specs.declared.edit.EditFault.TheVariants as edits
+use Rattle.boc_plans.specs.declared.edit.EditFault.{EditFault}
+use Rattle.boc_plans.specs.declared.edit.EditFault.TheVariants as edits
 use Rattle.boc_text.specs.declared.whole.TextFault.{TextFault}
 use Rattle.boc_text.specs.declared.whole.TextFault.TheVariants as texts
 use Rattle.boc_eval.specs.declared.serial.SerialFault.{SerialFault}
@@ -15,8 +15,8 @@ use Rattle.boc_words.specs.declared.fault.WordsFault.{WordsFault}
 use Rattle.boc_words.specs.declared.fault.WordsFault.TheVariants as asked
 use Rattle.boc_workers.specs.declared.fault.RunFault.{RunFault}
 use Rattle.boc_workers.specs.declared.fault.RunFault.TheVariants as runs
-use Rattle.boc_types.specs.declared.verdict.RecordFaultKind.{RecordFaultKind}
-use Rattle.boc_types.specs.declared.verdict.RecordFaultKind.TheVariants as records
+use Rattle.boc_record.specs.declared.verdict.RecordFaultKind.{RecordFaultKind}
+use Rattle.boc_record.specs.declared.verdict.RecordFaultKind.TheVariants as records
 use Rattle.boc_reader.specs.declared.fault.ReadFault.{ReadFault}
 use Rattle.boc_reader.specs.declared.fault.ReadFaultKind.{ReadFaultKind}
 use Rattle.boc_reader.specs.declared.fault.ReadFaultKind.TheVariants as kinds

@@ -1,3 +1,5 @@
+pub mod ValueTexts
+pub mod Answers
 pub mod Faults
 pub mod Promises
 pub mod Commands

@@ -1,18 +1,18 @@
 -- What is promised of a run of a program, and of the plans of its rows.
 use Rattle.std.specs.Prelude.{◌≡◌, ℕ, ◌+◌, ◌/◌, ◌<◌, ◌≤◌, List, length, Option, Some, None}
-use Rattle.boc_types.specs.declared.chain.ChainStep.{ChainStep}
-use Rattle.boc_types.specs.declared.program.Program.{Program}
-use Rattle.boc_types.specs.declared.rows.Row.{Row}
-use Rattle.boc_types.specs.declared.sharing.Sharing.{Sharing}
-use Rattle.boc_types.specs.runs.Seen.{seen}
-use Rattle.boc_types.specs.text.Spells.{Spells}
-use Rattle.boc_types.specs.text.RecordTexts.{Second, record_text}
-use Rattle.boc_types.specs.runs.Records.{Recorded, IsRecord, IsRecordOf}
-use Rattle.boc_types.specs.machine.AlongRows.{EndsSerially}
-use Rattle.boc_types.specs.plans.Plans.{Keeps, IsEnd, NoneEndsBefore, start_of, work_of}
-use Rattle.boc_types.specs.plans.Chains.{IsChain, weight_of}
-use Rattle.boc_types.specs.plans.Greedy.{IsForWorkers, IsSpan}
-use Rattle.boc_types.specs.answers.Answers.{IsReport, IsAskedPart}
+use Rattle.boc_plans.specs.declared.chain.ChainStep.{ChainStep}
+use Rattle.boc_program.specs.declared.program.Program.{Program}
+use Rattle.boc_runs.specs.declared.rows.Row.{Row}
+use Rattle.boc_plans.specs.declared.sharing.Sharing.{Sharing}
+use Rattle.boc_plans.specs.Seen.{seen}
+use Rattle.boc_reader.specs.Spells.{Spells}
+use Rattle.boc_record.specs.RecordTexts.{Second, record_text}
+use Rattle.boc_runs.specs.Records.{Recorded, IsRecord, IsRecordOf}
+use Rattle.boc_runs.specs.machine.AlongRows.{EndsSerially}
+use Rattle.boc_plans.specs.Plans.{Keeps, IsEnd, NoneEndsBefore, start_of, work_of}
+use Rattle.boc_plans.specs.Chains.{IsChain, weight_of}
+use Rattle.boc_plans.specs.Greedy.{IsForWorkers, IsSpan}
+use Rattle.boc_commands.specs.Answers.{IsReport, IsAskedPart}
 
 -- ---- the run
 

@@ -1,14 +1,14 @@
 // The command `check`.
 
 ghost use Rattle.std.specs.Prelude.{◌≡◌, ◌<◌, length, IfOk};
-ghost use Rattle.boc_types.specs.answers.Answers.{IsCheckAnswer};
-ghost use Rattle.boc_types.specs.answers.Texts.{check_text as check_text_spec};
+ghost use Rattle.boc_commands.specs.Answers.{IsCheckAnswer};
+ghost use Rattle.boc_commands.specs.ValueTexts.{check_text as check_text_spec};
 ghost use Rattle.boc_commands.specs.Commands.{AnswersInput, Leaves, CountsSource, CountsSink, RefusesRecord};
 
 use crate::fault::Fault;
 use boc_record::read_rows;
+use boc_runs::rows::Rows;
 use boc_text::{Sink, Source, put_number, put_out};
-use boc_types::rows::Rows;
 use std::alloc::{AllocError, Global};
 
 /// Reads the text of a record, and writes how many rows it has.

@@ -8,11 +8,10 @@ ghost use Rattle.boc_commands.specs.Faults.{edit_line};
 
 use arrayvec::ArrayString;
 use boc_eval::SerialFault;
+use boc_plans::edit::EditFault;
 use boc_reader::{ReadFault, ReadFaultKind};
-use boc_record::{RecordFault, WriteFault};
+use boc_record::{RecordFault, RecordFaultKind, WriteFault};
 use boc_text::{Stopped, TextFault};
-use boc_types::edit::EditFault;
-use boc_types::verdict::RecordFaultKind;
 use boc_words::WordsFault;
 use boc_workers::RunFault;
 use itoa::Buffer;

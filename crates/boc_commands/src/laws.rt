@@ -1,14 +1,14 @@
 //! What is promised of every run and of the plans of its rows, and that an input has one answer.
 
 ghost use Rattle.std.specs.Prelude.{◌≡◌, ℕ, List, Option};
-ghost use Rattle.boc_types.specs.declared.edit.Edit.{Edit};
-ghost use Rattle.boc_types.specs.declared.program.Program.{Program};
-ghost use Rattle.boc_types.specs.declared.rows.Row.{Row};
-ghost use Rattle.boc_types.specs.declared.sharing.Sharing.{Sharing};
-ghost use Rattle.boc_types.specs.runs.Rows.{IsRows};
-ghost use Rattle.boc_types.specs.runs.Seen.{seen};
-ghost use Rattle.boc_types.specs.text.Spells.{Spells};
-ghost use Rattle.boc_types.specs.answers.Answers.{IsReport, IsValuesAnswer, IsCheckAnswer, IsProfileAnswer, IsWhatIfAnswer, IsSweepAnswer};
+ghost use Rattle.boc_plans.specs.declared.edit.Edit.{Edit};
+ghost use Rattle.boc_program.specs.declared.program.Program.{Program};
+ghost use Rattle.boc_runs.specs.declared.rows.Row.{Row};
+ghost use Rattle.boc_plans.specs.declared.sharing.Sharing.{Sharing};
+ghost use Rattle.boc_runs.specs.Rows.{IsRows};
+ghost use Rattle.boc_plans.specs.Seen.{seen};
+ghost use Rattle.boc_reader.specs.Spells.{Spells};
+ghost use Rattle.boc_commands.specs.Answers.{IsReport, IsValuesAnswer, IsCheckAnswer, IsProfileAnswer, IsWhatIfAnswer, IsSweepAnswer};
 ghost use Rattle.boc_order.specs.declared.report.Profile.{Profile};
 ghost use Rattle.boc_order.specs.Profiles.{IsProfileOf};
 ghost use Rattle.boc_greedy.specs.declared.report.Greedy.{Greedy};

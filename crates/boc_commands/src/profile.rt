@@ -1,15 +1,15 @@
 // The command `profile`.
 
 ghost use Rattle.std.specs.Prelude.{◌<◌};
-ghost use Rattle.boc_types.specs.answers.Answers.{IsProfileAnswer};
+ghost use Rattle.boc_commands.specs.Answers.{IsProfileAnswer};
 ghost use Rattle.boc_commands.specs.Commands.{AnswersInput, Leaves, CountsSource, CountsSink, RefusesRecord};
 
 use crate::fault::Fault;
 use crate::report::report_on;
+use boc_plans::sharing::Sharing;
+use boc_plans::workers::Workers;
 use boc_record::read_rows;
 use boc_text::{Sink, Source};
-use boc_types::sharing::Sharing;
-use boc_types::workers::Workers;
 use std::alloc::Global;
 
 /// Reads the text of a record, and writes the report on its rows: their work, the span, the chain of rows that holds

@@ -2,18 +2,18 @@
 
 ghost use Rattle.std.specs.Prelude.{◌≡◌, ◌<◌, ◌≤◌, ℕ, None, length, IfOk, IfSome};
 ghost use Rattle.boc_report.specs.Parts.{IsWhole, part_of};
-ghost use Rattle.boc_types.specs.answers.Answers.{IsAskedPart, IsReport};
-ghost use Rattle.boc_types.specs.runs.Seen.{seen};
+ghost use Rattle.boc_commands.specs.Answers.{IsAskedPart, IsReport};
+ghost use Rattle.boc_plans.specs.Seen.{seen};
 ghost use Rattle.boc_commands.specs.Commands.{Leaves, CountsSource, CountsSink, RefusesNothing};
 
 use crate::fault::Fault;
 use boc_greedy::Greedy;
 use boc_order::profile;
+use boc_plans::sharing::Sharing;
+use boc_plans::workers::Workers;
 use boc_report::{MOST_LINES, write_report};
+use boc_runs::rows::Rows;
 use boc_text::Sink;
-use boc_types::rows::Rows;
-use boc_types::sharing::Sharing;
-use boc_types::workers::Workers;
 use boc_whatif::WhatIf;
 use std::alloc::{AllocError, Global};
 

@@ -1,7 +1,7 @@
 // The command `run`.
 
 ghost use Rattle.std.specs.Prelude.{◌≡◌, ◌<◌, ◌≤◌, length, vec_len, MatchResult};
-ghost use Rattle.boc_types.specs.declared.limits.TheConstants.{MOST_TEXT};
+ghost use Rattle.boc_program.specs.declared.limits.TheConstants.{MOST_TEXT};
 ghost use Rattle.boc_commands.specs.Commands.{AnswersInput, Leaves, CountsSource, CountsSink, IsOfRun, RefusesRun};
 ghost use Rattle.boc_commands.specs.Promises.{IsRunAnswer, IsRunOfText};
 

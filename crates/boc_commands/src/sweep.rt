@@ -1,14 +1,14 @@
 // The command `sweep`.
 
 ghost use Rattle.std.specs.Prelude.{◌<◌};
-ghost use Rattle.boc_types.specs.answers.Answers.{IsSweepAnswer};
+ghost use Rattle.boc_commands.specs.Answers.{IsSweepAnswer};
 ghost use Rattle.boc_commands.specs.Commands.{AnswersInput, Leaves, CountsSource, CountsSink, RefusesRecord};
 
 use crate::fault::Fault;
+use boc_plans::sharing::Sharing;
 use boc_record::read_rows;
 use boc_report::write_sweep;
 use boc_text::{Sink, Source};
-use boc_types::sharing::Sharing;
 use boc_whatif::WhatIf;
 use std::alloc::Global;
 use std::thread::Threads;

@@ -2,17 +2,17 @@
 
 ghost use Rattle.std.specs.Prelude.{◌≡◌, ◌<◌, ℕ};
 ghost use Rattle.boc_commands.specs.Commands.{AnswersInput, Leaves, CountsSource, CountsSink, RefusesNothing, RefusesRun};
-ghost use Rattle.boc_types.specs.runs.Seen.{seen};
+ghost use Rattle.boc_plans.specs.Seen.{seen};
 ghost use Rattle.boc_commands.specs.Promises.{IsTimeAnswer, IsTrueReport};
 
 use crate::fault::Fault;
 use crate::report::report_on;
 use crate::run::run_text;
 use crate::values::MOST_TAKEN;
+use boc_plans::sharing::Sharing;
+use boc_plans::workers::Workers;
+use boc_runs::rows::Rows;
 use boc_text::{Sink, Source, read_all};
-use boc_types::rows::Rows;
-use boc_types::sharing::Sharing;
-use boc_types::workers::Workers;
 use boc_words::Runners;
 use boc_workers::Gate;
 use std::alloc::Global;

@@ -1,15 +1,15 @@
 // The command `values`.
 
 ghost use Rattle.std.specs.Prelude.{◌≡◌, ◌<◌, ◌≤◌, length, MatchResult};
-ghost use Rattle.boc_types.specs.answers.Answers.{IsValuesAnswer};
+ghost use Rattle.boc_commands.specs.Answers.{IsValuesAnswer};
 ghost use Rattle.boc_commands.specs.Commands.{AnswersInput, Leaves, CountsSource, CountsSink, IsOfText, RefusesProgram};
 
 use crate::fault::Fault;
 use crate::values_text::values_text;
 use boc_eval::serial_values;
+use boc_program::limits::MOST_TEXT;
 use boc_reader::read_program;
 use boc_text::{Sink, Source, put_out, read_all};
-use boc_types::limits::MOST_TEXT;
 use std::alloc::Global;
 
 // The most that is taken of a program text: one byte more than it may have.

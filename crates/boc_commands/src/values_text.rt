@@ -1,11 +1,11 @@
 // The text of the cowns' values.
 
 ghost use Rattle.std.specs.Prelude.{◌≡◌, ◌++◌, [], ◌+◌, ◌^◌, ◌<◌, length, OnOk, IfOk};
-ghost use Rattle.boc_types.specs.program.Programs.{cown_count, members};
-ghost use Rattle.boc_types.specs.answers.Texts.{values_text as values_text_spec, value_line, member_lines, cown_lines};
+ghost use Rattle.boc_program.specs.Programs.{cown_count, members};
+ghost use Rattle.boc_commands.specs.ValueTexts.{values_text as values_text_spec, value_line, member_lines, cown_lines};
 
+use boc_program::cown::Cown;
 use boc_text::{put_number, put_signed};
-use boc_types::cown::Cown;
 use std::alloc::{AllocError, Global};
 
 // A line for each cown, in the order of their numbers.

@@ -1,17 +1,17 @@
 // The command `whatif`.
 
 ghost use Rattle.std.specs.Prelude.{◌≡◌, ◌<◌, IfErr, OnOk};
-ghost use Rattle.boc_types.specs.answers.Answers.{IsWhatIfAnswer};
-ghost use Rattle.boc_types.specs.plans.Edits.{AllFit, all_edited};
+ghost use Rattle.boc_commands.specs.Answers.{IsWhatIfAnswer};
+ghost use Rattle.boc_plans.specs.Edits.{AllFit, all_edited};
 ghost use Rattle.boc_commands.specs.Commands.{AnswersInput, Leaves, CountsSource, CountsSink, IsOfEdits, RefusesEdits};
 
 use crate::fault::Fault;
 use crate::report::report_after;
+use boc_plans::edit::Edit;
+use boc_plans::sharing::Sharing;
+use boc_plans::workers::Workers;
 use boc_record::read_rows;
 use boc_text::{Sink, Source};
-use boc_types::edit::Edit;
-use boc_types::sharing::Sharing;
-use boc_types::workers::Workers;
 use boc_whatif::WhatIf;
 use std::alloc::Global;
 

@@ -3,26 +3,26 @@ use Rattle.std.proofs.Common.{◌≡◌, ◌≢◌, ℕ, zero, suc, ◌+◌, ◌
 use Rattle.std.specs.Prelude.{slice_get, ℤ, Option, Some, None, Ok, Err}
 use Rattle.std.specs.List.{All}
 use Rattle.std.specs.Option.{option_map}
-use Rattle.boc_types.specs.declared.limits.TheConstants.{MOST_COWNS, MOST_ROWS}
-use Rattle.boc_types.specs.declared.body.Body.{Body}
-use Rattle.boc_types.specs.declared.short.Input.{Input}
-use Rattle.boc_types.specs.declared.stage.Phase.{Phase}
-use Rattle.boc_types.specs.declared.stage.Phase.TheVariants as phases
-use Rattle.boc_types.specs.declared.stage.Stage.{Stage}
-use Rattle.boc_types.specs.declared.stage.Stage.TheVariants.{Asking, Recorded}
-use Rattle.boc_types.specs.declared.step.Step.{Step}
-use Rattle.boc_types.specs.declared.step.Step.TheVariants.{Own, Settle}
-use Rattle.boc_types.specs.program.Meaning.{Wish, meaning}
-use Rattle.boc_types.specs.program.Rising.{rising}
-use Rattle.boc_types.specs.runs.Serial.{Behaviour}
-use Rattle.boc_types.specs.runs.Lives.{Running}
-use Rattle.boc_types.specs.runs.Run.{Member, next_wish, state_of, meaning_of, wish_at}
-use Rattle.boc_types.specs.machine.Stages.{OpenBehaviour, enqueues, enqueues_at, parent_of}
-use Rattle.boc_types.specs.machine.Steps.{at, members, opened, IsQuiet, Opens, Advances, Owns, IsBlockedAsking}
-use Rattle.boc_types.specs.machine.Turns.{IsEnqueueOf}
-use Rattle.boc_types.specs.machine.Sound.{IsSound}
-use Rattle.boc_types.specs.program.Programs.{cown_count}
-use Rattle.boc_types.specs.program.Signatures.{AllBelow, WishFits, signature_of}
+use Rattle.boc_program.specs.declared.limits.TheConstants.{MOST_COWNS, MOST_ROWS}
+use Rattle.boc_program.specs.declared.body.Body.{Body}
+use Rattle.boc_program.specs.declared.short.Input.{Input}
+use Rattle.boc_runs.specs.declared.stage.Phase.{Phase}
+use Rattle.boc_runs.specs.declared.stage.Phase.TheVariants as phases
+use Rattle.boc_runs.specs.declared.stage.Stage.{Stage}
+use Rattle.boc_runs.specs.declared.stage.Stage.TheVariants.{Asking, Recorded}
+use Rattle.boc_runs.specs.declared.step.Step.{Step}
+use Rattle.boc_runs.specs.declared.step.Step.TheVariants.{Own, Settle}
+use Rattle.boc_program.specs.Meaning.{Wish, meaning}
+use Rattle.boc_program.specs.Rising.{rising}
+use Rattle.boc_runs.specs.Serial.{Behaviour}
+use Rattle.boc_runs.specs.Lives.{Running}
+use Rattle.boc_runs.specs.Run.{Member, next_wish, state_of, meaning_of, wish_at}
+use Rattle.boc_runs.specs.machine.Stages.{OpenBehaviour, enqueues, enqueues_at, parent_of}
+use Rattle.boc_runs.specs.machine.Steps.{at, members, opened, IsQuiet, Opens, Advances, Owns, IsBlockedAsking}
+use Rattle.boc_runs.specs.machine.Turns.{IsEnqueueOf}
+use Rattle.boc_runs.specs.machine.Sound.{IsSound}
+use Rattle.boc_program.specs.Programs.{cown_count}
+use Rattle.boc_program.specs.Signatures.{AllBelow, WishFits, signature_of}
 use Rattle.boc_machine.proofs.Members.{all_fit, next_fits}
 use Rattle.boc_machine.proofs.Rows.{life_there}
 use Rattle.boc_eval.specs.Frames.{UnderWay as Framed, Ran, last_of, last_wish_of, wishes_of}

@@ -7,18 +7,18 @@ use Rattle.std.proofs.lemmas.Bool.{lt-ltb, le-ltb}
 use Rattle.std.proofs.lemmas.List.{set-get_or}
 use Rattle.std.proofs.lemmas.List.Sums.{sum_by-append, sum_by-cons}
 use Rattle.std.proofs.Math.Seq.{set-append_seam}
-use Rattle.boc_types.specs.declared.limits.TheConstants.{MOST_ROWS}
-use Rattle.boc_types.specs.declared.stage.Phase.TheVariants as phases
-use Rattle.boc_types.specs.declared.stage.Stage.TheVariants.{Asking, Recorded}
-use Rattle.boc_types.specs.program.Meaning.{Wish}
-use Rattle.boc_types.specs.program.Rising.{rising}
-use Rattle.boc_types.specs.runs.Lives.{Running}
-use Rattle.boc_types.specs.runs.Run.{state_of, next_wish}
-use Rattle.boc_types.specs.machine.Stages.{OpenBehaviour, parent_of, cowns_of, row_of, settled_at, flagged_at, row_at, asks_at, enqueues_at, waits_at, life, life_at, settled, enqueues, asks}
-use Rattle.boc_types.specs.machine.Queues.{times, is_granted, is_first}
-use Rattle.boc_types.specs.machine.Steps.{State, at, queue, members, opened, unrecorded, stepped, with_stage, asking_on, HasNoEnqueue, MayOpen, Opens}
-use Rattle.boc_types.specs.machine.Steps as steps
-use Rattle.boc_types.specs.machine.Sound.{IsSound}
+use Rattle.boc_program.specs.declared.limits.TheConstants.{MOST_ROWS}
+use Rattle.boc_runs.specs.declared.stage.Phase.TheVariants as phases
+use Rattle.boc_runs.specs.declared.stage.Stage.TheVariants.{Asking, Recorded}
+use Rattle.boc_program.specs.Meaning.{Wish}
+use Rattle.boc_program.specs.Rising.{rising}
+use Rattle.boc_runs.specs.Lives.{Running}
+use Rattle.boc_runs.specs.Run.{state_of, next_wish}
+use Rattle.boc_runs.specs.machine.Stages.{OpenBehaviour, parent_of, cowns_of, row_of, settled_at, flagged_at, row_at, asks_at, enqueues_at, waits_at, life, life_at, settled, enqueues, asks}
+use Rattle.boc_runs.specs.machine.Queues.{times, is_granted, is_first}
+use Rattle.boc_runs.specs.machine.Steps.{State, at, queue, members, opened, unrecorded, stepped, with_stage, asking_on, HasNoEnqueue, MayOpen, Opens}
+use Rattle.boc_runs.specs.machine.Steps as steps
+use Rattle.boc_runs.specs.machine.Sound.{IsSound}
 use Rattle.boc_machine.proofs.Lists.{same_or_not, read_pushed, read_front}
 use Rattle.boc_machine.proofs.Counting.{by_test}
 use Rattle.boc_machine.proofs.Keeps.{keeps_opens}

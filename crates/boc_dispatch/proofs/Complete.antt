@@ -3,14 +3,15 @@ use Rattle.std.proofs.Common.{◌≡◌, ℕ, zero, suc, ◌+◌, List, [], ◌�
 use Rattle.std.specs.Prelude.{slice_get}
 use Rattle.std.proofs.lemmas.List.{map-append, length-map}
 use Rattle.std.proofs.lemmas.Option.{slice_get-map}
-use Rattle.boc_types.specs.declared.program.Program.{Program}
-use Rattle.boc_types.specs.declared.event.Event.{Event}
-use Rattle.boc_types.specs.declared.event.Event.TheVariants.{Spawn, Start, End}
-use Rattle.boc_types.specs.runs.Lives.{Life, Pending, Running, Ended, changed}
-use Rattle.boc_types.specs.runs.Serial.{behaviour_of}
-use Rattle.boc_types.specs.runs.Legal.{Entry, pending, after, after_all, entries, IsComplete}
+use Rattle.boc_program.specs.declared.program.Program.{Program}
+use Rattle.boc_runs.specs.declared.event.Event.{Event}
+use Rattle.boc_runs.specs.declared.event.Event.TheVariants.{Spawn, Start, End}
+use Rattle.boc_program.specs.Changed.{changed}
+use Rattle.boc_runs.specs.Lives.{Life, Pending, Running, Ended}
+use Rattle.boc_runs.specs.Serial.{behaviour_of}
+use Rattle.boc_runs.specs.Legal.{Entry, pending, after, after_all, entries, IsComplete}
 use Rattle.boc_machine.proofs.Rows.{changed_later}
-use Rattle.boc_types.specs.runs.Run.{Member, Config, config_after, config_after_all, config_of, opening, waiting, spawned_by, started_on, members_after_spawn, MaySpawn, MayHappen, IsRunFrom, IsRun, IsWholeRun}
+use Rattle.boc_runs.specs.Run.{Member, Config, config_after, config_after_all, config_of, opening, waiting, spawned_by, started_on, members_after_spawn, MaySpawn, MayHappen, IsRunFrom, IsRun, IsWholeRun}
 
 -- what has become of each row
 abbrev lives_of : List Member → List Life

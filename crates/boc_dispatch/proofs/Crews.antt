@@ -1,13 +1,13 @@
 -- A crew, of which one worker has a turn.
 use Rattle.std.proofs.Common.{◌≡◌, ◌≢◌, ℕ, ◌⊎◌, inl, inr, List, sym, ◌∙◌, ap, subst}
 use Rattle.std.specs.Prelude.{slice_get, slice_set, Option, Some, None}
-use Rattle.boc_types.specs.declared.program.Program.{Program}
-use Rattle.boc_types.specs.runs.Run.{Member}
-use Rattle.boc_types.specs.machine.Steps.{State, Starts}
-use Rattle.boc_types.specs.machine.Sound.{IsSound}
-use Rattle.boc_types.specs.machine.Turns.{TakesTurn, NoneReady, Begins, Advanced, WaitsToSettle, Opened, Finished, Left, WaitsToLeave, unless_gone}
-use Rattle.boc_types.specs.machine.Stages.{OpenBehaviour}
-use Rattle.boc_types.proofs.ChangedItems.{place_below, set_same, set_other}
+use Rattle.boc_program.specs.declared.program.Program.{Program}
+use Rattle.boc_runs.specs.Run.{Member}
+use Rattle.boc_runs.specs.machine.Steps.{State, Starts}
+use Rattle.boc_runs.specs.machine.Sound.{IsSound}
+use Rattle.boc_runs.specs.machine.Turns.{TakesTurn, NoneReady, Begins, Advanced, WaitsToSettle, Opened, Finished, Left, WaitsToLeave, unless_gone}
+use Rattle.boc_runs.specs.machine.Stages.{OpenBehaviour}
+use Rattle.boc_program.proofs.ChangedItems.{place_below, set_same, set_other}
 use Rattle.boc_machine.proofs.Lists.{same_or_not}
 use Rattle.boc_dispatch.specs.declared.worker.Hand.{Hand}
 use Rattle.boc_dispatch.specs.declared.worker.Worker.{Worker}

@@ -2,9 +2,9 @@
 use Rattle.std.proofs.Common.{◌≡◌, ℕ, suc, ◌≤◌, true, false, List, [], ◌∷◌, length, set, sym, ◌∙◌, ap, subst}
 use Rattle.std.specs.Prelude.{slice_get, slice_index_or, Some}
 use Rattle.std.proofs.lemmas.List.{set-get_or}
-use Rattle.boc_types.specs.declared.step.Step.{Step}
-use Rattle.boc_types.specs.declared.step.Step.TheVariants as steps
-use Rattle.boc_types.specs.machine.Steps.{State, stepped, leaving_on, Leaves, IsBlockedLeaving}
+use Rattle.boc_runs.specs.declared.step.Step.{Step}
+use Rattle.boc_runs.specs.declared.step.Step.TheVariants as steps
+use Rattle.boc_runs.specs.machine.Steps.{State, stepped, leaving_on, Leaves, IsBlockedLeaving}
 use Rattle.boc_chain.specs.declared.request.Request.{Request}
 use Rattle.boc_chain.specs.declared.request.Slot.{Slot}
 use Rattle.boc_chain.specs.declared.request.Released.TheVariants as answers

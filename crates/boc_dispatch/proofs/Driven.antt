@@ -5,11 +5,11 @@ use Rattle.std.specs.Option.{option_map}
 use Rattle.std.proofs.Math.Seq.{take-length}
 use Rattle.std.proofs.lemmas.List.{length-map, length-replicate, length-set, map-set}
 use Rattle.std.proofs.lemmas.Option.{slice_get-map}
-use Rattle.boc_types.specs.declared.program.Program.{Program}
-use Rattle.boc_types.specs.machine.Steps.{opening_state}
-use Rattle.boc_types.specs.machine.Sound.{IsSound}
-use Rattle.boc_types.specs.machine.Turns.{TakesTurn, Driven, Turn, Turns, opening_driven}
-use Rattle.boc_types.proofs.ChangedItems.{place_below, item_at}
+use Rattle.boc_program.specs.declared.program.Program.{Program}
+use Rattle.boc_runs.specs.machine.Steps.{opening_state}
+use Rattle.boc_runs.specs.machine.Sound.{IsSound}
+use Rattle.boc_runs.specs.machine.Turns.{TakesTurn, Driven, Turn, Turns, opening_driven}
+use Rattle.boc_program.proofs.ChangedItems.{place_below, item_at}
 use Rattle.boc_machine.proofs.Every.{opening_sound}
 use Rattle.boc_machine.proofs.OneTurn.{turns_keep, no_turn}
 use Rattle.boc_dispatch.specs.declared.interleaving.DriveFault.{DriveFault}

@@ -1,24 +1,25 @@
 -- What a turn leaves as it is: the members, the open enqueues and the releases of every other row.
 use Rattle.std.proofs.Common.{◌≡◌, ◌≢◌, ℕ, suc, ◌<◌, ◌⊎◌, inl, inr, true, false, List, [], ◌∷◌, length, refl, sym, ◌∙◌, ap, subst, arith}
 use Rattle.std.specs.Prelude.{nat_lt, slice_get, Option, Some, None}
-use Rattle.boc_types.specs.declared.program.Program.{Program}
-use Rattle.boc_types.specs.declared.event.Event.{Event}
-use Rattle.boc_types.specs.declared.event.Event.TheVariants as events
-use Rattle.boc_types.specs.declared.stage.Phase.TheVariants as phases
-use Rattle.boc_types.specs.declared.stage.Phase.TheVariants.{Flagging, Owning, Waiting, Ready, Leaving}
-use Rattle.boc_types.specs.declared.stage.Stage.{Stage}
-use Rattle.boc_types.specs.declared.stage.Stage.TheVariants.{Asking, Recorded}
-use Rattle.boc_types.specs.declared.step.Step.{Step}
-use Rattle.boc_types.specs.declared.step.Step.TheVariants as steps
-use Rattle.boc_types.specs.program.Meaning.{Wish}
-use Rattle.boc_types.specs.runs.Lives.{Life, Pending, Ended, changed}
-use Rattle.boc_types.specs.runs.Serial.{behaviour_of}
-use Rattle.boc_types.specs.runs.Run.{Member, opening, config_of, next_wish, waiting, spawned_by, members_after_spawn, config_after}
-use Rattle.boc_types.specs.machine.Stages.{OpenBehaviour, parent_of, enqueues, enqueues_at, life, life_at, row_of, row_at}
-use Rattle.boc_types.specs.machine.Queues.{all_granted}
-use Rattle.boc_types.specs.machine.Steps.{State, at, queue, members, opened, noted, with_behaviour, with_stage, with_queue, with_new, with_spawn, asking_on, leaving_on, flagging, made_ready, owned, woken, woken_if, woken_at, child, Advances, Leaves, Opens, Starts, Finishes}
-use Rattle.boc_types.specs.machine.Turns.{IsEnqueueOf, TakesTurn, NoneReady, Begins, Advanced, WaitsToSettle, Opened, Finished, Left, WaitsToLeave}
-use Rattle.boc_types.proofs.ChangedItems.{front_item, place_below, length-changed}
+use Rattle.boc_program.specs.declared.program.Program.{Program}
+use Rattle.boc_runs.specs.declared.event.Event.{Event}
+use Rattle.boc_runs.specs.declared.event.Event.TheVariants as events
+use Rattle.boc_runs.specs.declared.stage.Phase.TheVariants as phases
+use Rattle.boc_runs.specs.declared.stage.Phase.TheVariants.{Flagging, Owning, Waiting, Ready, Leaving}
+use Rattle.boc_runs.specs.declared.stage.Stage.{Stage}
+use Rattle.boc_runs.specs.declared.stage.Stage.TheVariants.{Asking, Recorded}
+use Rattle.boc_runs.specs.declared.step.Step.{Step}
+use Rattle.boc_runs.specs.declared.step.Step.TheVariants as steps
+use Rattle.boc_program.specs.Meaning.{Wish}
+use Rattle.boc_program.specs.Changed.{changed}
+use Rattle.boc_runs.specs.Lives.{Life, Pending, Ended}
+use Rattle.boc_runs.specs.Serial.{behaviour_of}
+use Rattle.boc_runs.specs.Run.{Member, opening, config_of, next_wish, waiting, spawned_by, members_after_spawn, config_after}
+use Rattle.boc_runs.specs.machine.Stages.{OpenBehaviour, parent_of, enqueues, enqueues_at, life, life_at, row_of, row_at}
+use Rattle.boc_runs.specs.machine.Queues.{all_granted}
+use Rattle.boc_runs.specs.machine.Steps.{State, at, queue, members, opened, noted, with_behaviour, with_stage, with_queue, with_new, with_spawn, asking_on, leaving_on, flagging, made_ready, owned, woken, woken_if, woken_at, child, Advances, Leaves, Opens, Starts, Finishes}
+use Rattle.boc_runs.specs.machine.Turns.{IsEnqueueOf, TakesTurn, NoneReady, Begins, Advanced, WaitsToSettle, Opened, Finished, Left, WaitsToLeave}
+use Rattle.boc_program.proofs.ChangedItems.{front_item, place_below, length-changed}
 use Rattle.boc_machine.proofs.Lists.{same_or_not, read_past, read_pushed, read_front}
 use Rattle.boc_machine.proofs.Rows.{changed_other, config_more, with_one_more}
 use Rattle.boc_machine.proofs.Core.{put_here, put_others}

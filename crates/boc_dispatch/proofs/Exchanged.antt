@@ -4,12 +4,12 @@ use Rattle.std.specs.Prelude.{slice_get, slice_index_or, nat_lt, Option, Some, N
 use Rattle.std.specs.Option.{option_map, option_map_or}
 use Rattle.std.specs.List.{count_by}
 use Rattle.std.proofs.lemmas.List.{map-append}
-use Rattle.boc_types.specs.declared.stage.Stage.{Stage}
-use Rattle.boc_types.specs.declared.stage.Stage.TheVariants.{Asking}
-use Rattle.boc_types.specs.machine.Stages.{settled_at, flagged_at, row_at, ready_row_at, asks_at, enqueues_at, waits_at, settled}
-use Rattle.boc_types.specs.machine.Queues.{times, is_granted, is_first}
-use Rattle.boc_types.specs.machine.Steps.{State, at, queue, stepped, with_stage, with_queue, Swaps}
-use Rattle.boc_types.specs.machine.Sound.{HasNextRequest}
+use Rattle.boc_runs.specs.declared.stage.Stage.{Stage}
+use Rattle.boc_runs.specs.declared.stage.Stage.TheVariants.{Asking}
+use Rattle.boc_runs.specs.machine.Stages.{settled_at, flagged_at, row_at, ready_row_at, asks_at, enqueues_at, waits_at, settled}
+use Rattle.boc_runs.specs.machine.Queues.{times, is_granted, is_first}
+use Rattle.boc_runs.specs.machine.Steps.{State, at, queue, stepped, with_stage, with_queue, Swaps}
+use Rattle.boc_runs.specs.machine.Sound.{HasNextRequest}
 use Rattle.boc_machine.proofs.Lists.{same_or_not, not_eq}
 use Rattle.boc_machine.proofs.Asking.{fresh_at, among}
 use Rattle.boc_machine.proofs.Core.{put_here, put_others}

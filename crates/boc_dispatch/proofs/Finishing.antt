@@ -8,24 +8,25 @@ use Rattle.std.specs.declared.alloc.Global.{Global}
 use Rattle.std.proofs.lemmas.List.{length-map, with_items_is}
 use Rattle.std.proofs.lemmas.Bool.Decides.{Decides-ltb}
 use Rattle.arrayvec.specs.ArrayVec.{ArrayVec}
-use Rattle.boc_types.specs.declared.body.Body.{Body}
-use Rattle.boc_types.specs.declared.short.Input.{Input}
-use Rattle.boc_types.specs.declared.program.Program.{Program}
-use Rattle.boc_types.specs.declared.event.Event.{Event}
-use Rattle.boc_types.specs.declared.event.Event.TheVariants.{End}
-use Rattle.boc_types.specs.declared.stage.Phase.TheVariants as phases
-use Rattle.boc_types.specs.declared.stage.Stage.TheVariants.{Recorded}
-use Rattle.boc_types.specs.program.Meaning.{Meaning, meaning}
-use Rattle.boc_types.specs.program.Signatures.{AllBelow}
-use Rattle.boc_types.specs.runs.Lives.{Pending, Running, Ended, changed}
-use Rattle.boc_types.specs.runs.Legal.{entries, IsAllowed}
-use Rattle.boc_types.specs.runs.Serial.{Behaviour, after_outputs}
-use Rattle.boc_types.specs.runs.Run.{Member, config_of, opening, meaning_of, next_wish, values_after_end, values_written, CanEnd, IsRun}
-use Rattle.boc_types.specs.machine.Stages.{row_at, life_at}
-use Rattle.boc_types.specs.machine.Sound.{IsSound}
-use Rattle.boc_types.specs.machine.Steps.{State, at, members, stepped, leaving_on, Finishes}
-use Rattle.boc_types.proofs.Behaviours.{length-after_outputs}
-use Rattle.boc_types.proofs.ChangedItems.{length-changed}
+use Rattle.boc_program.specs.declared.body.Body.{Body}
+use Rattle.boc_program.specs.declared.short.Input.{Input}
+use Rattle.boc_program.specs.declared.program.Program.{Program}
+use Rattle.boc_runs.specs.declared.event.Event.{Event}
+use Rattle.boc_runs.specs.declared.event.Event.TheVariants.{End}
+use Rattle.boc_runs.specs.declared.stage.Phase.TheVariants as phases
+use Rattle.boc_runs.specs.declared.stage.Stage.TheVariants.{Recorded}
+use Rattle.boc_program.specs.Meaning.{Meaning, meaning}
+use Rattle.boc_program.specs.Signatures.{AllBelow}
+use Rattle.boc_program.specs.Changed.{changed}
+use Rattle.boc_runs.specs.Lives.{Pending, Running, Ended}
+use Rattle.boc_runs.specs.Legal.{entries, IsAllowed}
+use Rattle.boc_runs.specs.Serial.{Behaviour, after_outputs}
+use Rattle.boc_runs.specs.Run.{Member, config_of, opening, meaning_of, next_wish, values_after_end, values_written, CanEnd, IsRun}
+use Rattle.boc_runs.specs.machine.Stages.{row_at, life_at}
+use Rattle.boc_runs.specs.machine.Sound.{IsSound}
+use Rattle.boc_runs.specs.machine.Steps.{State, at, members, stepped, leaving_on, Finishes}
+use Rattle.boc_runs.proofs.Behaviours.{length-after_outputs}
+use Rattle.boc_program.proofs.ChangedItems.{length-changed}
 use Rattle.boc_machine.proofs.Lists.{same_or_not}
 use Rattle.boc_machine.proofs.Rows.{changed_same, changed_other, config_more}
 use Rattle.boc_machine.proofs.Keeps.{keeps_finishes}

@@ -5,26 +5,26 @@ use Rattle.std.specs.List.{sum_by, list_any, AllByRecursion, IsDistinct}
 use Rattle.std.proofs.Math.ListN.{length-append}
 use Rattle.std.proofs.lemmas.List.Sums.{sum_by-append, sum_by-cons, sum_by-le}
 use Rattle.std.proofs.lemmas.Map.Steps.{length-le_from_distinct_below}
-use Rattle.boc_types.specs.declared.limits.TheConstants.{MOST_ROWS}
-use Rattle.boc_types.specs.declared.program.Program.{Program}
-use Rattle.boc_types.specs.declared.event.Event.{Event}
-use Rattle.boc_types.specs.declared.event.Event.TheVariants.{Spawn, Start, End}
-use Rattle.boc_types.specs.declared.stage.Stage.{Stage}
-use Rattle.boc_types.specs.declared.stage.Stage.TheVariants.{Asking, Recorded}
-use Rattle.boc_types.specs.program.Programs.{cown_count}
-use Rattle.boc_types.specs.declared.event.BrokenRule.TheVariants as rules
-use Rattle.boc_types.specs.runs.Lives as lives
-use Rattle.boc_types.specs.runs.Lives.{changed}
-use Rattle.boc_types.proofs.ChangedItems.{length-changed}
-use Rattle.boc_types.specs.runs.Legal.{pending, Entry, after, after_all, entries, IsAllowed, IsLegalFrom}
-use Rattle.boc_types.specs.runs.Run.{IsRun}
-use Rattle.boc_types.proofs.RunsAreLegal.{run_is_legal}
-use Rattle.boc_types.specs.machine.Stages.{OpenBehaviour, cowns_of}
-use Rattle.boc_types.specs.machine.Queues.{times}
-use Rattle.boc_types.specs.machine.Steps.{State, at}
-use Rattle.boc_types.specs.machine.AlongRows.{steps_of}
+use Rattle.boc_program.specs.declared.limits.TheConstants.{MOST_ROWS}
+use Rattle.boc_program.specs.declared.program.Program.{Program}
+use Rattle.boc_runs.specs.declared.event.Event.{Event}
+use Rattle.boc_runs.specs.declared.event.Event.TheVariants.{Spawn, Start, End}
+use Rattle.boc_runs.specs.declared.stage.Stage.{Stage}
+use Rattle.boc_runs.specs.declared.stage.Stage.TheVariants.{Asking, Recorded}
+use Rattle.boc_program.specs.Programs.{cown_count}
+use Rattle.boc_runs.specs.declared.event.BrokenRule.TheVariants as rules
+use Rattle.boc_runs.specs.Lives as lives
+use Rattle.boc_program.specs.Changed.{changed}
+use Rattle.boc_program.proofs.ChangedItems.{length-changed}
+use Rattle.boc_runs.specs.Legal.{pending, Entry, after, after_all, entries, IsAllowed, IsLegalFrom}
+use Rattle.boc_runs.specs.Run.{IsRun}
+use Rattle.boc_runs.proofs.RunsAreLegal.{run_is_legal}
+use Rattle.boc_runs.specs.machine.Stages.{OpenBehaviour, cowns_of}
+use Rattle.boc_runs.specs.machine.Queues.{times}
+use Rattle.boc_runs.specs.machine.Steps.{State, at}
+use Rattle.boc_runs.specs.machine.AlongRows.{steps_of}
 use Rattle.boc_machine.proofs.Lists.{same_or_not, not_eq, times-here, times-other}
-use Rattle.boc_types.specs.machine.Sound.{IsSound, HasNextRequest, made, made_at}
+use Rattle.boc_runs.specs.machine.Sound.{IsSound, HasNextRequest, made, made_at}
 
 -- ---- events of runs are allowed
 

@@ -5,14 +5,14 @@ use Rattle.std.specs.Option.{option_map}
 use Rattle.std.specs.List.{count_by}
 use Rattle.std.proofs.lemmas.Bool.{ltb-false, ltb-true}
 use Rattle.std.proofs.lemmas.Bool.Decides.{Decides-eqb, Decides-ltb}
-use Rattle.boc_types.specs.declared.stage.Phase.{Phase}
-use Rattle.boc_types.specs.declared.stage.Phase.TheVariants.{Flagging, Owning}
-use Rattle.boc_types.specs.declared.stage.Stage.{Stage}
-use Rattle.boc_types.specs.declared.stage.Stage.TheVariants.{Recorded}
-use Rattle.boc_types.specs.machine.Stages.{standing_at, settled_at, flagged_at, row_at, ready_row_at, asks_at, enqueues_at, waits_at, settled}
-use Rattle.boc_types.specs.machine.Queues.{times, is_granted}
-use Rattle.boc_types.specs.machine.Steps.{State, at, queue, stepped, with_stage, flagging, Flags}
-use Rattle.boc_types.specs.machine.Sound.{HasNextRequest}
+use Rattle.boc_runs.specs.declared.stage.Phase.{Phase}
+use Rattle.boc_runs.specs.declared.stage.Phase.TheVariants.{Flagging, Owning}
+use Rattle.boc_runs.specs.declared.stage.Stage.{Stage}
+use Rattle.boc_runs.specs.declared.stage.Stage.TheVariants.{Recorded}
+use Rattle.boc_runs.specs.machine.Stages.{standing_at, settled_at, flagged_at, row_at, ready_row_at, asks_at, enqueues_at, waits_at, settled}
+use Rattle.boc_runs.specs.machine.Queues.{times, is_granted}
+use Rattle.boc_runs.specs.machine.Steps.{State, at, queue, stepped, with_stage, flagging, Flags}
+use Rattle.boc_runs.specs.machine.Sound.{HasNextRequest}
 use Rattle.boc_machine.proofs.Lists.{same_or_not, not_eq, times-here}
 use Rattle.boc_machine.proofs.Asking.{taken_there, take_whole, among}
 use Rattle.boc_machine.proofs.Counting.{by_test}

@@ -3,14 +3,14 @@ use Rattle.std.proofs.Common.{◌≡◌, ◌≢◌, ℕ, zero, suc, ◌+◌, ◌
 use Rattle.std.specs.Prelude.{slice_get, slice_index_or, nat_lt, ◌||◌, Option, Some, None}
 use Rattle.std.specs.Option.{option_map_or}
 use Rattle.std.proofs.lemmas.Bool.Decides.{Decides-ltb}
-use Rattle.boc_types.specs.declared.stage.Phase.TheVariants as phases
-use Rattle.boc_types.specs.declared.stage.Stage.{Stage}
-use Rattle.boc_types.specs.declared.stage.Stage.TheVariants.{Asking, Recorded}
-use Rattle.boc_types.specs.runs.Lives.{Pending, Running, Ended}
-use Rattle.boc_types.specs.machine.Stages.{standing, standing_at, settled, settled_at, flagged_at, row_at, ready_row_at, life_at, holds, holds_at, enqueues_at, waits_at, cowns_of}
-use Rattle.boc_types.specs.machine.Queues.{times}
-use Rattle.boc_types.specs.machine.Sound.{IsSound, HasNextRequest}
-use Rattle.boc_types.specs.machine.Steps.{State, at, queue, recorded, stepped, with_queue, leaving_on, woken, IsDue, Unhooks, Passes, IsBlockedLeaving}
+use Rattle.boc_runs.specs.declared.stage.Phase.TheVariants as phases
+use Rattle.boc_runs.specs.declared.stage.Stage.{Stage}
+use Rattle.boc_runs.specs.declared.stage.Stage.TheVariants.{Asking, Recorded}
+use Rattle.boc_runs.specs.Lives.{Pending, Running, Ended}
+use Rattle.boc_runs.specs.machine.Stages.{standing, standing_at, settled, settled_at, flagged_at, row_at, ready_row_at, life_at, holds, holds_at, enqueues_at, waits_at, cowns_of}
+use Rattle.boc_runs.specs.machine.Queues.{times}
+use Rattle.boc_runs.specs.machine.Sound.{IsSound, HasNextRequest}
+use Rattle.boc_runs.specs.machine.Steps.{State, at, queue, recorded, stepped, with_queue, leaving_on, woken, IsDue, Unhooks, Passes, IsBlockedLeaving}
 use Rattle.boc_machine.proofs.Lists.{same_or_not, times-here, times-other, no_less, not_true, not_eq}
 use Rattle.boc_machine.proofs.Asking.{among}
 use Rattle.boc_machine.proofs.Lawful.{laws_of, not_twice, times-take-le}

@@ -3,13 +3,13 @@ use Rattle.std.proofs.Common.{◌≡◌, ◌≢◌, ℕ, zero, suc, ◌+◌, ◌
 use Rattle.std.specs.Prelude.{slice_get, slice_index_or, nat_lt, Option, Some, None}
 use Rattle.std.specs.List.{count_by}
 use Rattle.std.proofs.lemmas.List.{set-get_or}
-use Rattle.boc_types.specs.declared.stage.Phase.TheVariants.{Ready}
-use Rattle.boc_types.specs.declared.stage.Stage.{Stage}
-use Rattle.boc_types.specs.declared.stage.Stage.TheVariants.{Recorded}
-use Rattle.boc_types.specs.machine.Stages.{settled_at, flagged_at, row_at, ready_row_at, asks_at, enqueues_at, waits_at, settled, asks}
-use Rattle.boc_types.specs.machine.Queues.{times, is_granted, is_first}
-use Rattle.boc_types.specs.machine.Steps.{State, at, queue, members, unrecorded, stepped, with_stage}
-use Rattle.boc_types.specs.machine.Sound.{IsSound}
+use Rattle.boc_runs.specs.declared.stage.Phase.TheVariants.{Ready}
+use Rattle.boc_runs.specs.declared.stage.Stage.{Stage}
+use Rattle.boc_runs.specs.declared.stage.Stage.TheVariants.{Recorded}
+use Rattle.boc_runs.specs.machine.Stages.{settled_at, flagged_at, row_at, ready_row_at, asks_at, enqueues_at, waits_at, settled, asks}
+use Rattle.boc_runs.specs.machine.Queues.{times, is_granted, is_first}
+use Rattle.boc_runs.specs.machine.Steps.{State, at, queue, members, unrecorded, stepped, with_stage}
+use Rattle.boc_runs.specs.machine.Sound.{IsSound}
 use Rattle.boc_machine.proofs.Core.{put_sum}
 use Rattle.boc_machine.proofs.Lists.{same_or_not}
 use Rattle.boc_chain.specs.declared.request.Request.{Request}

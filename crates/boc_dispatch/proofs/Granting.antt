@@ -5,13 +5,13 @@ use Rattle.std.specs.Option.{option_map_or}
 use Rattle.std.specs.List.{count_by}
 use Rattle.std.proofs.lemmas.List.{set-get_or, map-append}
 use Rattle.std.proofs.lemmas.Bool.Decides.{Decides-eqb}
-use Rattle.boc_types.specs.declared.stage.Phase.TheVariants as phases
-use Rattle.boc_types.specs.declared.stage.Stage.{Stage}
-use Rattle.boc_types.specs.declared.stage.Stage.TheVariants.{Asking, Recorded}
-use Rattle.boc_types.specs.machine.Stages.{OpenBehaviour, settled, row_at, enqueues_at, waits_at}
-use Rattle.boc_types.specs.machine.Queues.{is_first, all_granted}
-use Rattle.boc_types.specs.machine.Sound.{IsSound}
-use Rattle.boc_types.specs.machine.Steps.{State, at, queue, members, unrecorded, with_behaviour, made_ready, woken, woken_at, woken_if}
+use Rattle.boc_runs.specs.declared.stage.Phase.TheVariants as phases
+use Rattle.boc_runs.specs.declared.stage.Stage.{Stage}
+use Rattle.boc_runs.specs.declared.stage.Stage.TheVariants.{Asking, Recorded}
+use Rattle.boc_runs.specs.machine.Stages.{OpenBehaviour, settled, row_at, enqueues_at, waits_at}
+use Rattle.boc_runs.specs.machine.Queues.{is_first, all_granted}
+use Rattle.boc_runs.specs.machine.Sound.{IsSound}
+use Rattle.boc_runs.specs.machine.Steps.{State, at, queue, members, unrecorded, with_behaviour, made_ready, woken, woken_at, woken_if}
 use Rattle.boc_machine.proofs.Lists.{same_or_not, not_eq}
 use Rattle.boc_machine.proofs.Core.{one_if}
 use Rattle.boc_chain.specs.declared.request.Request.{Request}

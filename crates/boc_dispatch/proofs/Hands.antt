@@ -3,15 +3,15 @@ use Rattle.std.proofs.Common.{◌≡◌, ◌≢◌, ℕ, ◌+◌, inl, inr, cond
 use Rattle.std.specs.Prelude.{slice_get, Some, None, Result, Ok, Err}
 use Rattle.std.specs.Option.{option_map}
 use Rattle.std.specs.declared.alloc.AllocError.{AllocError}
-use Rattle.boc_types.specs.declared.body.Body.{Body}
-use Rattle.boc_types.specs.declared.short.Input.{Input}
-use Rattle.boc_types.specs.declared.program.Program.{Program}
-use Rattle.boc_types.specs.program.Meaning.{Wish, meaning}
-use Rattle.boc_types.specs.runs.Lives.{Pending, Running, Ended}
-use Rattle.boc_types.specs.runs.Run.{Member, meaning_of, wish_at, next_wish}
-use Rattle.boc_types.specs.machine.Stages.{parent_of, enqueues, asks, life, life_at, row_of, row_at}
-use Rattle.boc_types.specs.machine.Steps.{State, members, HasNoEnqueue, Starts}
-use Rattle.boc_types.specs.machine.Sound.{IsSound}
+use Rattle.boc_program.specs.declared.body.Body.{Body}
+use Rattle.boc_program.specs.declared.short.Input.{Input}
+use Rattle.boc_program.specs.declared.program.Program.{Program}
+use Rattle.boc_program.specs.Meaning.{Wish, meaning}
+use Rattle.boc_runs.specs.Lives.{Pending, Running, Ended}
+use Rattle.boc_runs.specs.Run.{Member, meaning_of, wish_at, next_wish}
+use Rattle.boc_runs.specs.machine.Stages.{parent_of, enqueues, asks, life, life_at, row_of, row_at}
+use Rattle.boc_runs.specs.machine.Steps.{State, members, HasNoEnqueue, Starts}
+use Rattle.boc_runs.specs.machine.Sound.{IsSound}
 use Rattle.boc_eval.specs.Frames.{UnderWay as Framed, Ran, wishes_of}
 use Rattle.boc_eval.specs.Stops.{WishComes}
 use Rattle.boc_dispatch.specs.declared.worker.Hand.{Hand}

@@ -3,24 +3,24 @@ use Rattle.std.proofs.Common.{◌≡◌, ◌≢◌, ℕ, zero, suc, ◌+◌, ◌
 use Rattle.std.specs.Prelude.{slice_get, ℤ, Option, Some, None}
 use Rattle.std.specs.Option.{option_eq}
 use Rattle.std.proofs.lemmas.Bool.Decides.{Decides-eqb}
-use Rattle.boc_types.specs.declared.body.Body.{Body}
-use Rattle.boc_types.specs.declared.short.Input.{Input}
-use Rattle.boc_types.specs.runs.Serial.{Behaviour, inputs_of}
-use Rattle.boc_types.specs.machine.Turns.{IsEnqueueOf}
-use Rattle.boc_types.specs.program.Programs.{cown_count}
-use Rattle.boc_types.specs.program.Signatures.{signature_of, AllBelow, CountsAre}
+use Rattle.boc_program.specs.declared.body.Body.{Body}
+use Rattle.boc_program.specs.declared.short.Input.{Input}
+use Rattle.boc_runs.specs.Serial.{Behaviour, inputs_of}
+use Rattle.boc_runs.specs.machine.Turns.{IsEnqueueOf}
+use Rattle.boc_program.specs.Programs.{cown_count}
+use Rattle.boc_program.specs.Signatures.{signature_of, AllBelow, CountsAre}
 use Rattle.boc_machine.proofs.Members.{MemberFits, all_fit, values_length}
 use Rattle.boc_dispatch.proofs.Present.{inputs_present}
-use Rattle.boc_types.proofs.ChangedItems.{item_at, place_below}
+use Rattle.boc_program.proofs.ChangedItems.{item_at, place_below}
 use Rattle.boc_eval.specs.Frames.{UnderWay as Framed, last_of, last_wish_of, wishes_of}
 use Rattle.boc_dispatch.specs.Calls.{IsHandedOut, IsNextWish, IsLeaving}
-use Rattle.boc_types.specs.declared.stage.Phase.TheVariants as phases
-use Rattle.boc_types.specs.declared.stage.Stage.{Stage}
-use Rattle.boc_types.specs.declared.stage.Stage.TheVariants.{Asking, Recorded}
-use Rattle.boc_types.specs.runs.Lives.{Pending, Running, Ended}
-use Rattle.boc_types.specs.runs.Run.{Member}
-use Rattle.boc_types.specs.machine.Stages.{OpenBehaviour, row_at, row_of, life_at, life, enqueues, enqueues_at, parent_of}
-use Rattle.boc_types.specs.machine.Steps.{at, members, HasNoEnqueue}
+use Rattle.boc_runs.specs.declared.stage.Phase.TheVariants as phases
+use Rattle.boc_runs.specs.declared.stage.Stage.{Stage}
+use Rattle.boc_runs.specs.declared.stage.Stage.TheVariants.{Asking, Recorded}
+use Rattle.boc_runs.specs.Lives.{Pending, Running, Ended}
+use Rattle.boc_runs.specs.Run.{Member}
+use Rattle.boc_runs.specs.machine.Stages.{OpenBehaviour, row_at, row_of, life_at, life, enqueues, enqueues_at, parent_of}
+use Rattle.boc_runs.specs.machine.Steps.{at, members, HasNoEnqueue}
 use Rattle.boc_dispatch.specs.declared.live.Live.{Live}
 use Rattle.boc_dispatch.specs.Inside.{Parts, state, underway, live_at, open_of, behaviour_of, IsKept, IsOfRow}
 use Rattle.boc_dispatch.proofs.Tables.{live_there, at_slot, slot_of_open}

@@ -2,14 +2,14 @@
 use Rattle.std.proofs.Common.{◌≡◌, ◌≢◌, ◌↔◌, ℕ, suc, Bool, true, false, cond, List, [], ◌∷◌, refl, sym, ◌∙◌, ap, subst}
 use Rattle.std.specs.Prelude.{slice_get, slice_index_or, Option, Some, None}
 use Rattle.std.specs.Option.{option_map_or}
-use Rattle.boc_types.specs.declared.stage.Phase.TheVariants as phases
-use Rattle.boc_types.specs.declared.stage.Stage.TheVariants.{Asking, Recorded}
-use Rattle.boc_types.specs.declared.step.Step.TheVariants as steps
-use Rattle.boc_types.specs.runs.Lives.{Pending, Running, Ended}
-use Rattle.boc_types.specs.runs.Run.{Member}
-use Rattle.boc_types.specs.machine.Stages.{OpenBehaviour, parent_of, row_at, enqueues, enqueues_at, life_at}
-use Rattle.boc_types.specs.machine.Steps.{State, at, members, stepped, with_queue, leaving_on, IsQuiet}
-use Rattle.boc_types.specs.machine.Movers.{NobodyWorks, CanAdvance, CanGoOn, CanLeave, CanStart}
+use Rattle.boc_runs.specs.declared.stage.Phase.TheVariants as phases
+use Rattle.boc_runs.specs.declared.stage.Stage.TheVariants.{Asking, Recorded}
+use Rattle.boc_runs.specs.declared.step.Step.TheVariants as steps
+use Rattle.boc_runs.specs.Lives.{Pending, Running, Ended}
+use Rattle.boc_runs.specs.Run.{Member}
+use Rattle.boc_runs.specs.machine.Stages.{OpenBehaviour, parent_of, row_at, enqueues, enqueues_at, life_at}
+use Rattle.boc_runs.specs.machine.Steps.{State, at, members, stepped, with_queue, leaving_on, IsQuiet}
+use Rattle.boc_runs.specs.machine.Movers.{NobodyWorks, CanAdvance, CanGoOn, CanLeave, CanStart}
 use Rattle.boc_machine.proofs.Rows.{life_there, with_life}
 use Rattle.boc_machine.proofs.OneTurn.{blocked_asking, blocked_stays, who_leaves}
 use Rattle.boc_machine.proofs.Moving as moving

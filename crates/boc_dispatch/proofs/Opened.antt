@@ -2,16 +2,16 @@
 use Rattle.std.proofs.Common.{◌≡◌, ◌≢◌, ℕ, zero, suc, ◌^◌, ◌<◌, ◌≤◌, inl, inr, true, false, ◌||◌, List, [], ◌∷◌, length, map, set, replicate, refl, sym, ◌∙◌, ap, subst, arith, length-set}
 use Rattle.std.specs.Prelude.{slice_get, slice_index_or, Option, Some, None}
 use Rattle.std.specs.Option.{option_map, option_map_or}
-use Rattle.boc_types.specs.declared.event.Event.TheVariants.{Spawn}
-use Rattle.boc_types.specs.declared.program.Program.{Program}
-use Rattle.boc_types.specs.declared.stage.Phase.TheVariants as phases
-use Rattle.boc_types.specs.declared.stage.Stage.TheVariants.{Recorded}
-use Rattle.boc_types.specs.program.Programs.{cown_count, initial_values}
-use Rattle.boc_types.specs.runs.Serial.{main_behaviour}
-use Rattle.boc_types.specs.runs.Run.{waiting}
-use Rattle.boc_types.specs.machine.Stages.{OpenBehaviour, row_at, asks_at, enqueues_at, waits_at}
-use Rattle.boc_types.specs.machine.Steps.{unrecorded, opening_state}
-use Rattle.boc_types.specs.machine.Sound.{IsSound}
+use Rattle.boc_runs.specs.declared.event.Event.TheVariants.{Spawn}
+use Rattle.boc_program.specs.declared.program.Program.{Program}
+use Rattle.boc_runs.specs.declared.stage.Phase.TheVariants as phases
+use Rattle.boc_runs.specs.declared.stage.Stage.TheVariants.{Recorded}
+use Rattle.boc_program.specs.Programs.{cown_count, initial_values}
+use Rattle.boc_runs.specs.Serial.{main_behaviour}
+use Rattle.boc_runs.specs.Run.{waiting}
+use Rattle.boc_runs.specs.machine.Stages.{OpenBehaviour, row_at, asks_at, enqueues_at, waits_at}
+use Rattle.boc_runs.specs.machine.Steps.{unrecorded, opening_state}
+use Rattle.boc_runs.specs.machine.Sound.{IsSound}
 use Rattle.boc_machine.proofs.Every.{opening_sound}
 use Rattle.boc_machine.proofs.Lists.{same_or_not}
 use Rattle.boc_chain.specs.declared.request.Request.{Request}

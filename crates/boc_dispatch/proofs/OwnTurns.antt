@@ -2,24 +2,25 @@
 use Rattle.std.proofs.Common.{◌≡◌, ◌≢◌, ℕ, suc, ◌+◌, inl, inr, true, false, cond, List, [], ◌∷◌, ◌++◌, length, refl, sym, ◌∙◌, ap, subst, arith, rules}
 use Rattle.std.specs.Prelude.{nat_lt, slice_get, Option, Some, None, Ok, Err}
 use Rattle.std.specs.Option.{option_map}
-use Rattle.boc_types.specs.declared.program.Program.{Program}
-use Rattle.boc_types.specs.declared.event.Event.TheVariants as events
-use Rattle.boc_types.specs.declared.stage.Phase.TheVariants as phases
-use Rattle.boc_types.specs.declared.stage.Phase.TheVariants.{Flagging, Owning, Waiting, Ready, Leaving}
-use Rattle.boc_types.specs.declared.stage.Stage.{Stage}
-use Rattle.boc_types.specs.declared.stage.Stage.TheVariants.{Asking, Recorded}
-use Rattle.boc_types.specs.declared.step.Step.{Step}
-use Rattle.boc_types.specs.declared.step.Step.TheVariants as steps
-use Rattle.boc_types.specs.program.Meaning.{Wish}
-use Rattle.boc_types.specs.runs.Lives.{Pending, Running, changed}
-use Rattle.boc_types.specs.runs.Serial.{Behaviour, behaviour_of}
-use Rattle.boc_types.specs.runs.Run.{Member, config_of, next_wish, started_on, state_of, waiting, members_after_spawn}
-use Rattle.boc_types.specs.machine.Stages.{OpenBehaviour, parent_of, enqueues, enqueues_at, asks, asks_at}
-use Rattle.boc_types.specs.machine.Queues.{all_granted}
-use Rattle.boc_types.specs.machine.Steps.{State, at, queue, members, values, opened, noted, with_behaviour, with_stage, with_queue, with_new, with_spawn, asking_on, leaving_on, flagging, made_ready, owned, woken, woken_if, woken_at, child, stepped, HasNoEnqueue, Advances, Opens, Owns, Leaves, Starts}
-use Rattle.boc_types.specs.machine.Sound.{IsSound}
-use Rattle.boc_types.specs.machine.Turns.{IsEnqueueOf}
-use Rattle.boc_types.proofs.ChangedItems.{front_item, place_below, length-changed}
+use Rattle.boc_program.specs.declared.program.Program.{Program}
+use Rattle.boc_runs.specs.declared.event.Event.TheVariants as events
+use Rattle.boc_runs.specs.declared.stage.Phase.TheVariants as phases
+use Rattle.boc_runs.specs.declared.stage.Phase.TheVariants.{Flagging, Owning, Waiting, Ready, Leaving}
+use Rattle.boc_runs.specs.declared.stage.Stage.{Stage}
+use Rattle.boc_runs.specs.declared.stage.Stage.TheVariants.{Asking, Recorded}
+use Rattle.boc_runs.specs.declared.step.Step.{Step}
+use Rattle.boc_runs.specs.declared.step.Step.TheVariants as steps
+use Rattle.boc_program.specs.Meaning.{Wish}
+use Rattle.boc_program.specs.Changed.{changed}
+use Rattle.boc_runs.specs.Lives.{Pending, Running}
+use Rattle.boc_runs.specs.Serial.{Behaviour, behaviour_of}
+use Rattle.boc_runs.specs.Run.{Member, config_of, next_wish, started_on, state_of, waiting, members_after_spawn}
+use Rattle.boc_runs.specs.machine.Stages.{OpenBehaviour, parent_of, enqueues, enqueues_at, asks, asks_at}
+use Rattle.boc_runs.specs.machine.Queues.{all_granted}
+use Rattle.boc_runs.specs.machine.Steps.{State, at, queue, members, values, opened, noted, with_behaviour, with_stage, with_queue, with_new, with_spawn, asking_on, leaving_on, flagging, made_ready, owned, woken, woken_if, woken_at, child, stepped, HasNoEnqueue, Advances, Opens, Owns, Leaves, Starts}
+use Rattle.boc_runs.specs.machine.Sound.{IsSound}
+use Rattle.boc_runs.specs.machine.Turns.{IsEnqueueOf}
+use Rattle.boc_program.proofs.ChangedItems.{front_item, place_below, length-changed}
 use Rattle.boc_eval.specs.Frames.{UnderWay as Framed, Ran}
 use Rattle.boc_machine.proofs.Lists.{same_or_not, read_pushed}
 use Rattle.boc_machine.proofs.Rows.{after_spawn, changed_same, life_there, with_one_more}

@@ -4,16 +4,16 @@ use Rattle.std.specs.Prelude.{slice_get, ◌||◌, Option, Some, None}
 use Rattle.std.specs.List.{count_by}
 use Rattle.std.specs.Option.{option_map}
 use Rattle.std.proofs.lemmas.List.{set-set}
-use Rattle.boc_types.specs.declared.program.Program.{Program}
-use Rattle.boc_types.specs.declared.stage.Phase.TheVariants as phases
-use Rattle.boc_types.specs.declared.stage.Stage.{Stage}
-use Rattle.boc_types.specs.declared.stage.Stage.TheVariants.{Asking, Recorded}
-use Rattle.boc_types.specs.runs.Lives.{Pending, Running, Ended}
-use Rattle.boc_types.specs.runs.Run.{state_of as state_of_run}
-use Rattle.boc_types.specs.machine.Stages.{OpenBehaviour, cowns_of, settled, settled_at, row_of, row_at, life, life_at, enqueues, enqueues_at, waits_at, parent_of, ready_row_at}
-use Rattle.boc_types.specs.machine.Queues.{all_granted}
-use Rattle.boc_types.specs.machine.Sound.{IsSound}
-use Rattle.boc_types.specs.machine.Steps.{State, at, queue, members, recorded, stepped, with_stage, made_ready, owned, woken, woken_if, Owns}
+use Rattle.boc_program.specs.declared.program.Program.{Program}
+use Rattle.boc_runs.specs.declared.stage.Phase.TheVariants as phases
+use Rattle.boc_runs.specs.declared.stage.Stage.{Stage}
+use Rattle.boc_runs.specs.declared.stage.Stage.TheVariants.{Asking, Recorded}
+use Rattle.boc_runs.specs.Lives.{Pending, Running, Ended}
+use Rattle.boc_runs.specs.Run.{state_of as state_of_run}
+use Rattle.boc_runs.specs.machine.Stages.{OpenBehaviour, cowns_of, settled, settled_at, row_of, row_at, life, life_at, enqueues, enqueues_at, waits_at, parent_of, ready_row_at}
+use Rattle.boc_runs.specs.machine.Queues.{all_granted}
+use Rattle.boc_runs.specs.machine.Sound.{IsSound}
+use Rattle.boc_runs.specs.machine.Steps.{State, at, queue, members, recorded, stepped, with_stage, made_ready, owned, woken, woken_if, Owns}
 use Rattle.boc_machine.proofs.Lists.{same_or_not}
 use Rattle.boc_machine.proofs.Lawful.{regranted}
 use Rattle.boc_machine.proofs.Core.{put_here, one_if}

@@ -4,14 +4,15 @@ use Rattle.std.specs.Prelude.{slice_get, ℤ, Option, Some, None}
 use Rattle.std.specs.Option.{option_map, option_map_or}
 use Rattle.std.specs.List.{Contains}
 use Rattle.std.proofs.lemmas.Bool.{cases_lt}
-use Rattle.boc_types.specs.declared.program.Program.{Program}
-use Rattle.boc_types.specs.declared.event.Event.{Event}
-use Rattle.boc_types.specs.declared.event.Event.TheVariants.{Spawn, Start, End}
-use Rattle.boc_types.specs.program.Meaning.{Wish}
-use Rattle.boc_types.specs.runs.Lives.{Life, Pending, Running, Ended, changed, MayStart, Overlap}
-use Rattle.boc_types.specs.runs.Serial.{behaviour_of, main_behaviour, inputs_of, after_outputs}
-use Rattle.boc_types.specs.runs.Run.{Member, Config, config_after, config_after_all, config_of, opening, next_wish, waiting, spawned_by, started_on, members_after_spawn, values_after_end, values_written, state_of, member_cowns, MayHappen, IsRunFrom, IsRun}
-use Rattle.boc_types.specs.machine.Queues.{times}
+use Rattle.boc_program.specs.declared.program.Program.{Program}
+use Rattle.boc_runs.specs.declared.event.Event.{Event}
+use Rattle.boc_runs.specs.declared.event.Event.TheVariants.{Spawn, Start, End}
+use Rattle.boc_program.specs.Meaning.{Wish}
+use Rattle.boc_program.specs.Changed.{changed}
+use Rattle.boc_runs.specs.Lives.{Life, Pending, Running, Ended, MayStart, Overlap}
+use Rattle.boc_runs.specs.Serial.{behaviour_of, main_behaviour, inputs_of, after_outputs}
+use Rattle.boc_runs.specs.Run.{Member, Config, config_after, config_after_all, config_of, opening, next_wish, waiting, spawned_by, started_on, members_after_spawn, values_after_end, values_written, state_of, member_cowns, MayHappen, IsRunFrom, IsRun}
+use Rattle.boc_runs.specs.machine.Queues.{times}
 use Rattle.boc_machine.proofs.Twins.{read_changed, read_more}
 use Rattle.boc_machine.proofs.Outputs.{contains_times, outputs_elsewhere, inputs_alike}
 

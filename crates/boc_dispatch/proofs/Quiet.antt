@@ -3,7 +3,7 @@ use Rattle.std.proofs.Common.{◌≡◌, ℕ, zero, suc, cond, List, [], ◌∷�
 use Rattle.std.specs.Prelude.{Option, Some, None}
 use Rattle.std.specs.Option.{option_map}
 use Rattle.std.proofs.lemmas.List.Sums.{sum_by-cons}
-use Rattle.boc_types.specs.machine.Steps.{IsQuiet}
+use Rattle.boc_runs.specs.machine.Steps.{IsQuiet}
 use Rattle.boc_dispatch.specs.declared.live.Live.{Live}
 use Rattle.boc_dispatch.specs.Inside.{Parts, state, live_at, open_of, is_taken, IsKept}
 use Rattle.boc_dispatch.proofs.Tables.{find_none, at_found, at_slot}

@@ -4,20 +4,20 @@ use Rattle.std.specs.Prelude.{slice_get, slice_set, Option, Some, None, Ok, Err,
 use Rattle.std.proofs.Math.Seq.{take-length}
 use Rattle.std.proofs.lemmas.List.{append-nil, append_assoc, take-append-le}
 use Rattle.std.proofs.lemmas.Option.{slice_get-map}
-use Rattle.boc_types.specs.declared.limits.TheConstants.{MOST_ROWS}
-use Rattle.boc_types.specs.declared.program.Program.{Program}
-use Rattle.boc_types.specs.declared.stage.Phase.TheVariants as phases
-use Rattle.boc_types.specs.declared.stage.Stage.{Stage}
-use Rattle.boc_types.specs.declared.stage.Stage.TheVariants.{Asking, Recorded}
-use Rattle.boc_types.specs.runs.Lives.{Pending, Running, Ended}
-use Rattle.boc_types.specs.runs.Run.{Member, state_of}
-use Rattle.boc_types.specs.machine.Stages.{OpenBehaviour, row_of, life, life_at}
-use Rattle.boc_types.specs.machine.Steps.{State, at, members, IsQuiet}
-use Rattle.boc_types.specs.machine.Sound.{IsSound}
-use Rattle.boc_types.specs.machine.Turns.{TakesTurn, Driven, Turn, Turns, opening_driven}
-use Rattle.boc_types.specs.machine.Movers.{works, works_at, NobodyWorks}
+use Rattle.boc_program.specs.declared.limits.TheConstants.{MOST_ROWS}
+use Rattle.boc_program.specs.declared.program.Program.{Program}
+use Rattle.boc_runs.specs.declared.stage.Phase.TheVariants as phases
+use Rattle.boc_runs.specs.declared.stage.Stage.{Stage}
+use Rattle.boc_runs.specs.declared.stage.Stage.TheVariants.{Asking, Recorded}
+use Rattle.boc_runs.specs.Lives.{Pending, Running, Ended}
+use Rattle.boc_runs.specs.Run.{Member, state_of}
+use Rattle.boc_runs.specs.machine.Stages.{OpenBehaviour, row_of, life, life_at}
+use Rattle.boc_runs.specs.machine.Steps.{State, at, members, IsQuiet}
+use Rattle.boc_runs.specs.machine.Sound.{IsSound}
+use Rattle.boc_runs.specs.machine.Turns.{TakesTurn, Driven, Turn, Turns, opening_driven}
+use Rattle.boc_runs.specs.machine.Movers.{works, works_at, NobodyWorks}
 use Rattle.std.proofs.lemmas.Option.{slice_get_read}
-use Rattle.boc_types.proofs.ChangedItems.{place_below, item_at, front_item}
+use Rattle.boc_program.proofs.ChangedItems.{place_below, item_at, front_item}
 use Rattle.boc_machine.proofs.Bounds.{few_steps}
 use Rattle.boc_machine.proofs.OneTurn.{enqueue_running, leaving_row, who_leaves}
 use Rattle.boc_machine.proofs.Rows.{with_life}

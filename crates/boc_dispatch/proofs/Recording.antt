@@ -5,25 +5,25 @@ use Rattle.std.specs.Option.{option_map, option_map_or}
 use Rattle.std.specs.List.{count_by}
 use Rattle.std.proofs.lemmas.List.{set-get_or}
 use Rattle.std.proofs.lemmas.List.Sums.{get_or-le-sum_by}
-use Rattle.boc_types.specs.declared.program.Program.{Program}
-use Rattle.boc_types.specs.declared.stage.Stage.{Stage}
-use Rattle.boc_types.specs.declared.stage.Stage.TheVariants.{Asking, Recorded}
-use Rattle.boc_types.specs.declared.body.Body.{Body}
-use Rattle.boc_types.specs.program.Meaning.{Wish, meaning}
-use Rattle.boc_types.specs.program.Offsets.{RisesFrom}
-use Rattle.boc_types.proofs.Rising.{meaning_rises}
-use Rattle.boc_types.proofs.Truth.{all_pass}
-use Rattle.boc_types.proofs.RunsAreLegal.{rises_through}
-use Rattle.boc_types.specs.runs.Legal.{IsAllowed, entries}
-use Rattle.boc_types.specs.runs.Lives.{changed}
-use Rattle.boc_types.specs.runs.Run.{Member, opening, next_wish, wish_at, waiting, IsRun}
-use Rattle.boc_types.specs.runs.Serial as serial
-use Rattle.boc_types.specs.machine.Stages.{OpenBehaviour, settled_at, flagged_at, row_at, asks_at, enqueues_at, asks}
-use Rattle.boc_types.specs.machine.Queues.{times}
-use Rattle.boc_types.specs.machine.Steps.{State, at, members, unrecorded, flagging}
-use Rattle.boc_types.specs.machine.Steps.{recorded as recorded_rows}
-use Rattle.boc_types.specs.machine.Steps as steps
-use Rattle.boc_types.proofs.ChangedItems.{last_item, front_item, length-changed, set_same, set_other, place_below, changed_there}
+use Rattle.boc_program.specs.declared.program.Program.{Program}
+use Rattle.boc_runs.specs.declared.stage.Stage.{Stage}
+use Rattle.boc_runs.specs.declared.stage.Stage.TheVariants.{Asking, Recorded}
+use Rattle.boc_program.specs.declared.body.Body.{Body}
+use Rattle.boc_program.specs.Meaning.{Wish, meaning}
+use Rattle.boc_program.specs.Offsets.{RisesFrom}
+use Rattle.boc_program.proofs.Rising.{meaning_rises}
+use Rattle.boc_program.proofs.Truth.{all_pass}
+use Rattle.boc_runs.proofs.RunsAreLegal.{rises_through}
+use Rattle.boc_runs.specs.Legal.{IsAllowed, entries}
+use Rattle.boc_program.specs.Changed.{changed}
+use Rattle.boc_runs.specs.Run.{Member, opening, next_wish, wish_at, waiting, IsRun}
+use Rattle.boc_runs.specs.Serial as serial
+use Rattle.boc_runs.specs.machine.Stages.{OpenBehaviour, settled_at, flagged_at, row_at, asks_at, enqueues_at, asks}
+use Rattle.boc_runs.specs.machine.Queues.{times}
+use Rattle.boc_runs.specs.machine.Steps.{State, at, members, unrecorded, flagging}
+use Rattle.boc_runs.specs.machine.Steps.{recorded as recorded_rows}
+use Rattle.boc_runs.specs.machine.Steps as steps
+use Rattle.boc_program.proofs.ChangedItems.{last_item, front_item, length-changed, set_same, set_other, place_below, changed_there}
 use Rattle.boc_machine.proofs.Lists.{same_or_not, read_there}
 use Rattle.boc_machine.proofs.Asking.{take_whole}
 use Rattle.boc_machine.proofs.Rows.{after_spawn, config_more, with_one_more}

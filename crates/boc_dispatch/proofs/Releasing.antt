@@ -5,22 +5,22 @@ use Rattle.std.specs.Option.{option_map, option_map_or}
 use Rattle.std.specs.List.{count_by}
 use Rattle.std.proofs.lemmas.List.{set-set}
 use Rattle.std.proofs.lemmas.Bool.Decides.{Decides-ltb, Decides-eqb}
-use Rattle.boc_types.specs.declared.program.Program.{Program}
-use Rattle.boc_types.specs.declared.stage.Phase.{Phase}
-use Rattle.boc_types.specs.declared.stage.Phase.TheVariants as phases
-use Rattle.boc_types.specs.declared.stage.Stage.{Stage}
-use Rattle.boc_types.specs.declared.stage.Stage.TheVariants.{Asking, Recorded}
-use Rattle.boc_types.specs.declared.limits.TheConstants.{MOST_ROWS}
-use Rattle.boc_types.specs.machine.Stages.{OpenBehaviour, standing, flagged_at, row_at, enqueues_at, waits_at}
-use Rattle.boc_types.specs.machine.Queues.{times}
-use Rattle.boc_types.specs.machine.Sound.{IsSound}
-use Rattle.boc_types.specs.machine.Steps.{State, at, queue, recorded, stepped, with_behaviour, with_stage, leaving_on}
+use Rattle.boc_program.specs.declared.program.Program.{Program}
+use Rattle.boc_runs.specs.declared.stage.Phase.{Phase}
+use Rattle.boc_runs.specs.declared.stage.Phase.TheVariants as phases
+use Rattle.boc_runs.specs.declared.stage.Stage.{Stage}
+use Rattle.boc_runs.specs.declared.stage.Stage.TheVariants.{Asking, Recorded}
+use Rattle.boc_program.specs.declared.limits.TheConstants.{MOST_ROWS}
+use Rattle.boc_runs.specs.machine.Stages.{OpenBehaviour, standing, flagged_at, row_at, enqueues_at, waits_at}
+use Rattle.boc_runs.specs.machine.Queues.{times}
+use Rattle.boc_runs.specs.machine.Sound.{IsSound}
+use Rattle.boc_runs.specs.machine.Steps.{State, at, queue, recorded, stepped, with_behaviour, with_stage, leaving_on}
 use Rattle.boc_machine.proofs.Lists.{not_true, times-here}
 use Rattle.boc_machine.proofs.Core.{put_here}
 use Rattle.boc_chain.specs.declared.request.Request.{Request}
 use Rattle.boc_chain.specs.Chain.{Place, slots}
 use Rattle.boc_chain.specs.Chain.{times as times_in}
-use Rattle.boc_types.specs.declared.step.Step.{Step}
+use Rattle.boc_runs.specs.declared.step.Step.{Step}
 use Rattle.boc_dispatch.specs.declared.answers.Left.TheVariants as lefts
 use Rattle.boc_dispatch.specs.declared.live.Live.{Live}
 use Rattle.boc_dispatch.specs.Grants.{IsRemoved, IsStarted, IsReleased, LeftAs, Tied, SameRows, Released}

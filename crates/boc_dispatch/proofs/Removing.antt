@@ -2,11 +2,11 @@
 use Rattle.std.proofs.Common.{◌≡◌, ◌≢◌, ℕ, ◌+◌, inl, inr, true, false, List, [], set, refl, sym, ◌∙◌, ap, subst, arith, get_or-set_other}
 use Rattle.std.specs.Prelude.{slice_get, slice_index_or, ◌||◌, Option, Some, None}
 use Rattle.std.specs.Option.{option_map, option_map_or}
-use Rattle.boc_types.specs.declared.stage.Phase.TheVariants as phases
-use Rattle.boc_types.specs.declared.stage.Stage.TheVariants.{Recorded}
-use Rattle.boc_types.specs.machine.Stages.{enqueues_at, waits_at}
-use Rattle.boc_types.specs.machine.Queues.{is_first}
-use Rattle.boc_types.specs.machine.Steps.{State, at, queue, with_behaviour}
+use Rattle.boc_runs.specs.declared.stage.Phase.TheVariants as phases
+use Rattle.boc_runs.specs.declared.stage.Stage.TheVariants.{Recorded}
+use Rattle.boc_runs.specs.machine.Stages.{enqueues_at, waits_at}
+use Rattle.boc_runs.specs.machine.Queues.{is_first}
+use Rattle.boc_runs.specs.machine.Steps.{State, at, queue, with_behaviour}
 use Rattle.boc_machine.proofs.Lists.{same_or_not}
 use Rattle.boc_chain.specs.declared.request.Request.{Request}
 use Rattle.boc_dispatch.specs.declared.live.Live.{Live}

@@ -4,12 +4,12 @@ use Rattle.std.specs.Prelude.{slice_get, slice_index_or, nat_lt, Option, Some, N
 use Rattle.std.specs.Option.{option_map, option_map_or}
 use Rattle.std.proofs.lemmas.Bool.Decides.{Decides-eqb, Decides-ltb}
 use Rattle.std.proofs.lemmas.List.{map-append}
-use Rattle.boc_types.specs.declared.stage.Stage.{Stage}
-use Rattle.boc_types.specs.declared.stage.Stage.TheVariants.{Asking}
-use Rattle.boc_types.specs.machine.Stages.{standing_at, settled_at, flagged_at, enqueues_at, waits_at, settled, flagged}
-use Rattle.boc_types.specs.machine.Queues.{times, is_granted, is_first}
-use Rattle.boc_types.specs.machine.Steps.{State, at, queue, stepped, with_stage, IsDue, IsFlaggedBefore, IsBlockedAsking}
-use Rattle.boc_types.specs.machine.Sound.{HasNextRequest}
+use Rattle.boc_runs.specs.declared.stage.Stage.{Stage}
+use Rattle.boc_runs.specs.declared.stage.Stage.TheVariants.{Asking}
+use Rattle.boc_runs.specs.machine.Stages.{standing_at, settled_at, flagged_at, enqueues_at, waits_at, settled, flagged}
+use Rattle.boc_runs.specs.machine.Queues.{times, is_granted, is_first}
+use Rattle.boc_runs.specs.machine.Steps.{State, at, queue, stepped, with_stage, IsDue, IsFlaggedBefore, IsBlockedAsking}
+use Rattle.boc_runs.specs.machine.Sound.{HasNextRequest}
 use Rattle.boc_machine.proofs.Lists.{same_or_not, not_eq, no_less}
 use Rattle.boc_machine.proofs.Asking.{fresh_at, among, taken_there}
 use Rattle.boc_machine.proofs.Core.{put_here, put_others}

@@ -3,13 +3,13 @@ use Rattle.std.proofs.Common.{◌≡◌, ◌≢◌, ℕ, zero, suc, ◌+◌, ◌
 use Rattle.std.specs.Prelude.{slice_index_or, Option, Some}
 use Rattle.std.proofs.lemmas.Bool.{lt-ltb, le-ltb, eqb-true, eqb-false}
 use Rattle.std.proofs.lemmas.List.{set-get_or}
-use Rattle.boc_types.specs.declared.event.Event.TheVariants as events
-use Rattle.boc_types.specs.declared.stage.Stage.{Stage}
-use Rattle.boc_types.specs.declared.stage.Stage.TheVariants.{Asking, Recorded}
-use Rattle.boc_types.specs.machine.Stages.{row_at, ready_row_at, asks_at, enqueues_at, waits_at}
-use Rattle.boc_types.specs.machine.Steps.{State, stepped, noted, with_stage, flagging, members, asking_on, Settles, IsBlockedAsking}
-use Rattle.boc_types.specs.machine.Steps as steps
-use Rattle.boc_types.specs.machine.Sound.{IsSound}
+use Rattle.boc_runs.specs.declared.event.Event.TheVariants as events
+use Rattle.boc_runs.specs.declared.stage.Stage.{Stage}
+use Rattle.boc_runs.specs.declared.stage.Stage.TheVariants.{Asking, Recorded}
+use Rattle.boc_runs.specs.machine.Stages.{row_at, ready_row_at, asks_at, enqueues_at, waits_at}
+use Rattle.boc_runs.specs.machine.Steps.{State, stepped, noted, with_stage, flagging, members, asking_on, Settles, IsBlockedAsking}
+use Rattle.boc_runs.specs.machine.Steps as steps
+use Rattle.boc_runs.specs.machine.Sound.{IsSound}
 use Rattle.boc_machine.proofs.Asking.{take_whole}
 use Rattle.boc_machine.proofs.Keeps.{keeps_settles}
 use Rattle.boc_chain.specs.declared.request.Request.{Request}

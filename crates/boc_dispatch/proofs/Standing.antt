@@ -4,11 +4,11 @@ use Rattle.std.specs.Prelude.{slice_get, slice_index_or, Option, Some, None}
 use Rattle.std.specs.Option.{option_map, option_map_or}
 use Rattle.std.proofs.lemmas.Bool.{cases_lt}
 use Rattle.std.proofs.lemmas.Bool.Decides.{Decides-eqb}
-use Rattle.boc_types.specs.declared.stage.Phase.TheVariants as phases
-use Rattle.boc_types.specs.declared.stage.Stage.TheVariants.{Recorded}
-use Rattle.boc_types.specs.machine.Stages.{OpenBehaviour, cowns_of, standing, standing_at, ready_row, ready_row_at}
-use Rattle.boc_types.specs.machine.Queues.{times}
-use Rattle.boc_types.specs.machine.Steps.{at}
+use Rattle.boc_runs.specs.declared.stage.Phase.TheVariants as phases
+use Rattle.boc_runs.specs.declared.stage.Stage.TheVariants.{Recorded}
+use Rattle.boc_runs.specs.machine.Stages.{OpenBehaviour, cowns_of, standing, standing_at, ready_row, ready_row_at}
+use Rattle.boc_runs.specs.machine.Queues.{times}
+use Rattle.boc_runs.specs.machine.Steps.{at}
 use Rattle.boc_machine.proofs.Lists.{same_or_not, not_eq, times-here, times-other}
 use Rattle.boc_chain.specs.declared.request.Request.{Request}
 use Rattle.boc_chain.specs.Chain.{slots}

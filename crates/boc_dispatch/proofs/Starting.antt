@@ -2,18 +2,19 @@
 use Rattle.std.proofs.Common.{◌≡◌, ◌≢◌, ℕ, zero, suc, ◌+◌, ◌<◌, ◌≤◌, ◌⊎◌, inl, inr, true, false, ◌||◌, List, [], ◌∷◌, ◌++◌, length, map, set, get_or, refl, sym, ◌∙◌, ap, subst, arith, length-set}
 use Rattle.std.specs.Prelude.{slice_get, slice_index_or, Option, Some, None}
 use Rattle.std.specs.Option.{option_map, option_map_or}
-use Rattle.boc_types.specs.declared.event.Event.TheVariants.{Start}
-use Rattle.boc_types.specs.declared.stage.Phase.TheVariants as phases
-use Rattle.boc_types.specs.declared.stage.Stage.{Stage}
-use Rattle.boc_types.specs.declared.stage.Stage.TheVariants.{Asking, Recorded}
-use Rattle.boc_types.specs.runs.Lives.{Pending, Running, changed}
-use Rattle.boc_types.specs.runs.Legal.{IsAllowed, entries}
-use Rattle.boc_types.specs.runs.Run.{Member, Config, config_of, opening, next_wish, started_on, state_of}
-use Rattle.boc_types.specs.machine.Stages.{settled_at, flagged_at, row_at, life_at, asks_at, enqueues_at, waits_at, settled, enqueues, parent_of}
-use Rattle.boc_types.specs.machine.Queues.{times}
-use Rattle.boc_types.specs.machine.Steps.{State, at, members, stepped, noted, with_stage, Starts}
-use Rattle.boc_types.specs.machine.Sound.{IsSound}
-use Rattle.boc_types.proofs.ChangedItems.{changed_there, set_same, set_other, place_below, length-changed}
+use Rattle.boc_runs.specs.declared.event.Event.TheVariants.{Start}
+use Rattle.boc_runs.specs.declared.stage.Phase.TheVariants as phases
+use Rattle.boc_runs.specs.declared.stage.Stage.{Stage}
+use Rattle.boc_runs.specs.declared.stage.Stage.TheVariants.{Asking, Recorded}
+use Rattle.boc_program.specs.Changed.{changed}
+use Rattle.boc_runs.specs.Lives.{Pending, Running}
+use Rattle.boc_runs.specs.Legal.{IsAllowed, entries}
+use Rattle.boc_runs.specs.Run.{Member, Config, config_of, opening, next_wish, started_on, state_of}
+use Rattle.boc_runs.specs.machine.Stages.{settled_at, flagged_at, row_at, life_at, asks_at, enqueues_at, waits_at, settled, enqueues, parent_of}
+use Rattle.boc_runs.specs.machine.Queues.{times}
+use Rattle.boc_runs.specs.machine.Steps.{State, at, members, stepped, noted, with_stage, Starts}
+use Rattle.boc_runs.specs.machine.Sound.{IsSound}
+use Rattle.boc_program.proofs.ChangedItems.{changed_there, set_same, set_other, place_below, length-changed}
 use Rattle.boc_machine.proofs.Lists.{same_or_not, times-here, times-other}
 use Rattle.boc_machine.proofs.Rows.{config_more}
 use Rattle.boc_machine.proofs.Keeps.{keeps_starts}

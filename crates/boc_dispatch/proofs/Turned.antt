@@ -1,9 +1,9 @@
 -- What a turn is to a worker whose hand fits, and that has thought.
 use Rattle.std.proofs.Common.{◌≡◌, ℕ, ◌⊎◌, inl, inr, List, [], ◌∷◌, ◌++◌, refl, sym, ◌∙◌, ap, subst}
 use Rattle.std.specs.Prelude.{Some, None, Ok, Err}
-use Rattle.boc_types.specs.declared.program.Program.{Program}
-use Rattle.boc_types.specs.declared.step.Step.{Step}
-use Rattle.boc_types.specs.machine.Turns.{TakesTurn, NoneReady, Driven, Turn, Turns}
+use Rattle.boc_program.specs.declared.program.Program.{Program}
+use Rattle.boc_runs.specs.declared.step.Step.{Step}
+use Rattle.boc_runs.specs.machine.Turns.{TakesTurn, NoneReady, Driven, Turn, Turns}
 use Rattle.boc_eval.specs.Frames.{UnderWay as Framed, Ran}
 use Rattle.boc_dispatch.specs.declared.answers.FinishFault.{FinishFault}
 use Rattle.boc_dispatch.specs.declared.answers.FinishFault.TheVariants as finish_faults

@@ -2,12 +2,12 @@
 use Rattle.std.proofs.Common.{◌≡◌, ◌≢◌, ℕ, Bool, true, false, cond, length, refl, sym, ◌∙◌, ap, get_or-set_other}
 use Rattle.std.specs.Prelude.{nat_lt, Option, Some, None}
 use Rattle.std.proofs.lemmas.List.{set_comm}
-use Rattle.boc_types.specs.declared.stage.Phase.TheVariants as phases
-use Rattle.boc_types.specs.declared.stage.Stage.{Stage}
-use Rattle.boc_types.specs.declared.stage.Stage.TheVariants.{Asking, Recorded}
-use Rattle.boc_types.specs.machine.Stages.{OpenBehaviour, settled, cowns_of}
-use Rattle.boc_types.specs.machine.Queues.{all_granted}
-use Rattle.boc_types.specs.machine.Steps.{State, at, queue, with_behaviour, with_stage, made_ready, leaving_on, woken, woken_at, woken_if}
+use Rattle.boc_runs.specs.declared.stage.Phase.TheVariants as phases
+use Rattle.boc_runs.specs.declared.stage.Stage.{Stage}
+use Rattle.boc_runs.specs.declared.stage.Stage.TheVariants.{Asking, Recorded}
+use Rattle.boc_runs.specs.machine.Stages.{OpenBehaviour, settled, cowns_of}
+use Rattle.boc_runs.specs.machine.Queues.{all_granted}
+use Rattle.boc_runs.specs.machine.Steps.{State, at, queue, with_behaviour, with_stage, made_ready, leaving_on, woken, woken_at, woken_if}
 use Rattle.boc_machine.proofs.Lawful.{regranted}
 use Rattle.boc_dispatch.proofs.Granting.{with_behaviours}
 

@@ -1,18 +1,18 @@
 -- What the calls of the dispatcher answer and do.
 use Rattle.std.specs.Prelude.{◌≡◌, ◌≢◌, ℕ, ◌+◌, List, [], ℤ, Option, Some, None, Result, Ok, Err, slice_get}
-use Rattle.boc_types.specs.declared.limits.TheConstants.{MOST_ROWS}
-use Rattle.boc_types.specs.declared.body.Body.{Body}
-use Rattle.boc_types.specs.declared.short.Input.{Input}
-use Rattle.boc_types.specs.declared.stage.Phase.TheVariants.{Leaving as LeavingPhase}
-use Rattle.boc_types.specs.declared.stage.Stage.TheVariants.{Recorded}
-use Rattle.boc_types.specs.declared.step.Step.TheVariants.{Own}
-use Rattle.boc_types.specs.runs.Lives.{Running}
-use Rattle.boc_types.specs.program.Meaning.{Wish}
-use Rattle.boc_types.specs.runs.Run.{Member, next_wish, state_of}
-use Rattle.boc_types.specs.runs.Records.{Recorded as RecordOf, IsRecordOf}
-use Rattle.boc_types.specs.machine.Steps.{State, at, members, opened, recorded, unrecorded, IsQuiet, HasNoEnqueue, MayOpen, Opens, Advances, Starts, Owns, Finishes, Leaves, IsBlockedAsking, IsBlockedLeaving}
-use Rattle.boc_types.specs.machine.Turns.{IsEnqueueOf}
-use Rattle.boc_types.specs.machine.Movers.{CanAdvance, CanGoOn, CanLeave, CanStart}
+use Rattle.boc_program.specs.declared.limits.TheConstants.{MOST_ROWS}
+use Rattle.boc_program.specs.declared.body.Body.{Body}
+use Rattle.boc_program.specs.declared.short.Input.{Input}
+use Rattle.boc_runs.specs.declared.stage.Phase.TheVariants.{Leaving as LeavingPhase}
+use Rattle.boc_runs.specs.declared.stage.Stage.TheVariants.{Recorded}
+use Rattle.boc_runs.specs.declared.step.Step.TheVariants.{Own}
+use Rattle.boc_runs.specs.Lives.{Running}
+use Rattle.boc_program.specs.Meaning.{Wish}
+use Rattle.boc_runs.specs.Run.{Member, next_wish, state_of}
+use Rattle.boc_runs.specs.Records.{Recorded as RecordOf, IsRecordOf}
+use Rattle.boc_runs.specs.machine.Steps.{State, at, members, opened, recorded, unrecorded, IsQuiet, HasNoEnqueue, MayOpen, Opens, Advances, Starts, Owns, Finishes, Leaves, IsBlockedAsking, IsBlockedLeaving}
+use Rattle.boc_runs.specs.machine.Turns.{IsEnqueueOf}
+use Rattle.boc_runs.specs.machine.Movers.{CanAdvance, CanGoOn, CanLeave, CanStart}
 use Rattle.boc_eval.specs.Frames.{UnderWay as Framed, Ran}
 use Rattle.boc_dispatch.specs.declared.answers.Advanced.{Advanced}
 use Rattle.boc_dispatch.specs.declared.answers.Advanced.TheVariants as advanced

@@ -1,14 +1,14 @@
 -- The codes of programs under way, by which proofs tell them apart.
 use Rattle.std.specs.Prelude.{ℕ, List, Option, refl}
 use Rattle.std.specs.Coded.{Coded, code_by, coded×, coded_ℕ, coded_list, coded_option}
-use Rattle.boc_types.specs.declared.event.Event.{Event}
-use Rattle.boc_types.specs.contracts.event.Event as event
-use Rattle.boc_types.specs.declared.program.Program.{Program}
-use Rattle.boc_types.specs.contracts.program.Program as program
-use Rattle.boc_types.specs.declared.stage.Stage.{Stage}
-use Rattle.boc_types.specs.contracts.stage.Stage as stage
-use Rattle.boc_types.specs.machine.Stages.{OpenBehaviour}
-use Rattle.boc_types.specs.machine.Steps.{State}
+use Rattle.boc_runs.specs.declared.event.Event.{Event}
+use Rattle.boc_runs.specs.contracts.event.Event as event
+use Rattle.boc_program.specs.declared.program.Program.{Program}
+use Rattle.boc_program.specs.contracts.program.Program as program
+use Rattle.boc_runs.specs.declared.stage.Stage.{Stage}
+use Rattle.boc_runs.specs.contracts.stage.Stage as stage
+use Rattle.boc_runs.specs.machine.Stages.{OpenBehaviour}
+use Rattle.boc_runs.specs.machine.Steps.{State}
 use Rattle.boc_dispatch.specs.Underway.{Underway}
 
 -- the code of an open behaviour

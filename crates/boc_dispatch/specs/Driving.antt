@@ -2,13 +2,13 @@
 use Rattle.std.specs.Prelude.{◌≡◌, ◌≢◌, ℕ, ◌+◌, ◌<◌, ◌≤◌, ◌⊎◌, if◌then◌else◌, List, [], ◌∷◌, ◌++◌, length, map, take, Option, Some, None, Result, Ok, Err, slice_get}
 use Rattle.std.specs.declared.vec.Vec.{Vec}
 use Rattle.std.specs.declared.alloc.Global.{Global}
-use Rattle.boc_types.specs.declared.program.Program.{Program}
-use Rattle.boc_types.specs.program.Meaning.{Wish}
-use Rattle.boc_types.specs.runs.Run.{next_wish}
-use Rattle.boc_types.specs.machine.Stages.{asks}
-use Rattle.boc_types.specs.machine.Steps.{State, at, members, IsQuiet}
-use Rattle.boc_types.specs.machine.Sound.{IsSound}
-use Rattle.boc_types.specs.machine.Turns.{IsEnqueueOf, Driven, Turn, Turns, opening_driven}
+use Rattle.boc_program.specs.declared.program.Program.{Program}
+use Rattle.boc_program.specs.Meaning.{Wish}
+use Rattle.boc_runs.specs.Run.{next_wish}
+use Rattle.boc_runs.specs.machine.Stages.{asks}
+use Rattle.boc_runs.specs.machine.Steps.{State, at, members, IsQuiet}
+use Rattle.boc_runs.specs.machine.Sound.{IsSound}
+use Rattle.boc_runs.specs.machine.Turns.{IsEnqueueOf, Driven, Turn, Turns, opening_driven}
 use Rattle.boc_eval.specs.Frames.{UnderWay as Framed, Ran}
 use Rattle.boc_dispatch.specs.declared.answers.Mover.{Mover}
 use Rattle.boc_dispatch.specs.declared.answers.Mover.TheVariants as movers

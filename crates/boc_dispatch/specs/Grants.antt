@@ -1,16 +1,16 @@
 -- What a granted request, a release and a removal do to what a dispatcher has in hand.
 use Rattle.std.specs.Prelude.{◌≡◌, ◌≢◌, ℕ, suc, ◌+◌, ◌<◌, if◌then◌else◌, nat_eq, List, [], ◌∷◌, ◌++◌, length, Option, Some, None, slice_get, slice_set}
 use Rattle.std.specs.List.{count_by}
-use Rattle.boc_types.specs.declared.stage.Phase.TheVariants as phases
-use Rattle.boc_types.specs.declared.stage.Stage.{Stage}
-use Rattle.boc_types.specs.declared.stage.Stage.TheVariants.{Recorded}
-use Rattle.boc_types.specs.declared.step.Step.{Step}
-use Rattle.boc_types.specs.program.Programs.{cown_count}
-use Rattle.boc_types.specs.runs.Lives.{Pending}
-use Rattle.boc_types.specs.runs.Run.{config_of}
-use Rattle.boc_types.specs.machine.Stages.{row_at, life_at}
-use Rattle.boc_types.specs.machine.Sound.{IsSound}
-use Rattle.boc_types.specs.machine.Steps.{at, members, recorded, stepped, leaving_on}
+use Rattle.boc_runs.specs.declared.stage.Phase.TheVariants as phases
+use Rattle.boc_runs.specs.declared.stage.Stage.{Stage}
+use Rattle.boc_runs.specs.declared.stage.Stage.TheVariants.{Recorded}
+use Rattle.boc_runs.specs.declared.step.Step.{Step}
+use Rattle.boc_program.specs.Programs.{cown_count}
+use Rattle.boc_runs.specs.Lives.{Pending}
+use Rattle.boc_runs.specs.Run.{config_of}
+use Rattle.boc_runs.specs.machine.Stages.{row_at, life_at}
+use Rattle.boc_runs.specs.machine.Sound.{IsSound}
+use Rattle.boc_runs.specs.machine.Steps.{at, members, recorded, stepped, leaving_on}
 use Rattle.boc_dispatch.specs.declared.answers.Left.{Left}
 use Rattle.boc_dispatch.specs.declared.answers.Left.TheVariants as left
 use Rattle.boc_dispatch.specs.declared.live.Live.{Live}

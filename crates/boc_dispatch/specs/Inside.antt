@@ -3,20 +3,20 @@ use Rattle.std.specs.Prelude.{◌≡◌, ℕ, zero, suc, ◌+◌, ◌^◌, ◌<�
 use Rattle.std.specs.Option.{option_map, option_map_or}
 use Rattle.std.specs.List.{count_by}
 use Rattle.std.specs.VecDeque.{deque_capacity}
-use Rattle.boc_types.specs.declared.event.Event.{Event}
-use Rattle.boc_types.specs.declared.program.Program.{Program}
-use Rattle.boc_types.specs.declared.stage.Phase.TheVariants as phases
-use Rattle.boc_types.specs.declared.stage.Stage.{Stage}
-use Rattle.boc_types.specs.declared.stage.Stage.TheVariants.{Asking, Recorded}
-use Rattle.boc_types.specs.program.Meaning.{Wish}
-use Rattle.boc_types.specs.program.Rising.{rising}
-use Rattle.boc_types.specs.program.Programs.{cown_count}
-use Rattle.boc_types.specs.runs.Serial.{Behaviour}
-use Rattle.boc_types.specs.runs.Run.{Member, config_of, next_wish}
-use Rattle.boc_types.specs.machine.Stages.{OpenBehaviour, settled_at, flagged_at, row_at, asks_at, enqueues_at, waits_at}
-use Rattle.boc_types.specs.machine.Queues.{times, is_granted}
-use Rattle.boc_types.specs.machine.Steps.{State, at, queue, members, unrecorded}
-use Rattle.boc_types.specs.machine.Sound.{IsSound}
+use Rattle.boc_runs.specs.declared.event.Event.{Event}
+use Rattle.boc_program.specs.declared.program.Program.{Program}
+use Rattle.boc_runs.specs.declared.stage.Phase.TheVariants as phases
+use Rattle.boc_runs.specs.declared.stage.Stage.{Stage}
+use Rattle.boc_runs.specs.declared.stage.Stage.TheVariants.{Asking, Recorded}
+use Rattle.boc_program.specs.Meaning.{Wish}
+use Rattle.boc_program.specs.Rising.{rising}
+use Rattle.boc_program.specs.Programs.{cown_count}
+use Rattle.boc_runs.specs.Serial.{Behaviour}
+use Rattle.boc_runs.specs.Run.{Member, config_of, next_wish}
+use Rattle.boc_runs.specs.machine.Stages.{OpenBehaviour, settled_at, flagged_at, row_at, asks_at, enqueues_at, waits_at}
+use Rattle.boc_runs.specs.machine.Queues.{times, is_granted}
+use Rattle.boc_runs.specs.machine.Steps.{State, at, queue, members, unrecorded}
+use Rattle.boc_runs.specs.machine.Sound.{IsSound}
 use Rattle.boc_chain.specs.declared.request.Request.{Request}
 use Rattle.boc_chain.specs.Chain.{Place}
 use Rattle.boc_rules.specs.Log.{Log}

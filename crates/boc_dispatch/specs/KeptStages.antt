@@ -1,9 +1,9 @@
 -- How far a behaviour is, as it is kept.
 use Rattle.std.specs.Prelude.{ℕ, true, false}
-use Rattle.boc_types.specs.declared.stage.Phase.{Phase}
-use Rattle.boc_types.specs.declared.stage.Phase.TheVariants as phases
-use Rattle.boc_types.specs.declared.stage.Stage.{Stage}
-use Rattle.boc_types.specs.declared.stage.Stage.TheVariants.{Asking as AsksFor, Recorded}
+use Rattle.boc_runs.specs.declared.stage.Phase.{Phase}
+use Rattle.boc_runs.specs.declared.stage.Phase.TheVariants as phases
+use Rattle.boc_runs.specs.declared.stage.Stage.{Stage}
+use Rattle.boc_runs.specs.declared.stage.Stage.TheVariants.{Asking as AsksFor, Recorded}
 use Rattle.boc_dispatch.specs.declared.kept_stage.Place.{Place}
 use Rattle.boc_dispatch.specs.declared.kept_stage.Place.TheVariants.{Asking, Exchanged, Flagging, Owning, Waiting, Ready, Running, Leaving}
 

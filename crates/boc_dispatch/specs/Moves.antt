@@ -1,11 +1,11 @@
 -- What the functions of the machine do to what it has in hand.
 use Rattle.std.specs.Prelude.{◌≡◌, ◌≢◌, ℕ, ◌+◌, ◌^◌, ◌<◌, Bool, true, false, List, [], ◌∷◌, ◌++◌, length, slice_set, Option, Some, None, Result, Ok, Err}
-use Rattle.boc_types.specs.declared.stage.Phase.TheVariants.{Leaving as LeavingPhase, Running as RunningPhase}
-use Rattle.boc_types.specs.declared.stage.Stage.TheVariants.{Recorded}
-use Rattle.boc_types.specs.declared.step.Step.TheVariants.{Settle}
-use Rattle.boc_types.specs.machine.Stages.{enqueues_at}
-use Rattle.boc_types.specs.machine.Steps.{at, HasNoEnqueue, Opens, Starts, Settles, Finishes, Leaves, IsBlockedAsking, IsBlockedLeaving}
-use Rattle.boc_types.specs.machine.Movers.{NobodyWorks, CanAdvance, CanLeave}
+use Rattle.boc_runs.specs.declared.stage.Phase.TheVariants.{Leaving as LeavingPhase, Running as RunningPhase}
+use Rattle.boc_runs.specs.declared.stage.Stage.TheVariants.{Recorded}
+use Rattle.boc_runs.specs.declared.step.Step.TheVariants.{Settle}
+use Rattle.boc_runs.specs.machine.Stages.{enqueues_at}
+use Rattle.boc_runs.specs.machine.Steps.{at, HasNoEnqueue, Opens, Starts, Settles, Finishes, Leaves, IsBlockedAsking, IsBlockedLeaving}
+use Rattle.boc_runs.specs.machine.Movers.{NobodyWorks, CanAdvance, CanLeave}
 use Rattle.boc_dispatch.specs.declared.answers.Advanced.{Advanced}
 use Rattle.boc_dispatch.specs.declared.answers.Advanced.TheVariants as advanced
 use Rattle.boc_dispatch.specs.declared.answers.Child.{Child}
@@ -16,7 +16,7 @@ use Rattle.boc_dispatch.specs.declared.answers.Mover.{Mover}
 use Rattle.boc_dispatch.specs.declared.live.Live.{Live}
 use Rattle.boc_dispatch.specs.declared.machine.Enqueue.{Enqueue}
 use Rattle.boc_dispatch.specs.Calls.{IsHandedOut, CanMove}
-use Rattle.boc_types.specs.runs.Legal.{IsAllowed, entries}
+use Rattle.boc_runs.specs.Legal.{IsAllowed, entries}
 use Rattle.boc_rules.specs.Log.{grown}
 use Rattle.boc_dispatch.specs.Places.{with_child, with_spawn, with_row, spawn_of}
 use Rattle.boc_dispatch.specs.Inside.{Parts, state, underway, live_at, HasInHand, IsAtStage, Stays}

@@ -1,11 +1,11 @@
 -- What a step does to the behaviour at a slot.
 use Rattle.std.specs.Prelude.{ℕ, suc, ◌+◌, ◌-◌, true, false, if◌then◌else◌, nat_eq, Option, Some, None}
-use Rattle.boc_types.specs.declared.event.Event.{Event}
-use Rattle.boc_types.specs.declared.event.Event.TheVariants.{Spawn}
-use Rattle.boc_types.specs.declared.stage.Phase.{Phase}
-use Rattle.boc_types.specs.declared.stage.Phase.TheVariants as phases
-use Rattle.boc_types.specs.declared.stage.Stage.TheVariants.{Asking, Recorded}
-use Rattle.boc_types.specs.machine.Steps.{flagging}
+use Rattle.boc_runs.specs.declared.event.Event.{Event}
+use Rattle.boc_runs.specs.declared.event.Event.TheVariants.{Spawn}
+use Rattle.boc_runs.specs.declared.stage.Phase.{Phase}
+use Rattle.boc_runs.specs.declared.stage.Phase.TheVariants as phases
+use Rattle.boc_runs.specs.declared.stage.Stage.TheVariants.{Asking, Recorded}
+use Rattle.boc_runs.specs.machine.Steps.{flagging}
 use Rattle.boc_dispatch.specs.declared.live.Live.{Live}
 
 -- there is a behaviour, and it is so

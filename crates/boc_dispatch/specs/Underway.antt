@@ -1,6 +1,6 @@
 -- What a dispatcher is: a program, and where its machine stands.
-use Rattle.boc_types.specs.declared.program.Program.{Program}
-use Rattle.boc_types.specs.machine.Steps.{State}
+use Rattle.boc_program.specs.declared.program.Program.{Program}
+use Rattle.boc_runs.specs.machine.Steps.{State}
 
 -- a program under way
 pub record Underway : Type 0 where

@@ -1,10 +1,10 @@
 -- What a worker has in hand, and what its turns and its thinking do.
 use Rattle.std.specs.Prelude.{◌≡◌, ℕ, [], Option, Some, None, Result, Ok, Err, false, true}
 use Rattle.std.specs.declared.alloc.AllocError.{AllocError}
-use Rattle.boc_types.specs.declared.step.Step.{Step}
-use Rattle.boc_types.specs.program.Meaning.{Wish}
-use Rattle.boc_types.specs.machine.Steps.{IsQuiet, Makes}
-use Rattle.boc_types.specs.machine.Turns.{TakesTurn}
+use Rattle.boc_runs.specs.declared.step.Step.{Step}
+use Rattle.boc_program.specs.Meaning.{Wish}
+use Rattle.boc_runs.specs.machine.Steps.{IsQuiet, Makes}
+use Rattle.boc_runs.specs.machine.Turns.{TakesTurn}
 use Rattle.boc_eval.specs.Frames.{UnderWay as Framed, Ran, Means}
 use Rattle.boc_eval.specs.Stops.{WishComes, BodyEnds}
 use Rattle.boc_dispatch.specs.declared.answers.Advanced.TheVariants as advanced

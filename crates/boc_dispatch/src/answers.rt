@@ -2,9 +2,9 @@
 
 ghost use Rattle.std.specs.Prelude.{◌≡◌, length};
 
-use boc_types::body::Body;
-use boc_types::short::{Args, Inputs};
-use boc_types::step::Step;
+use boc_program::body::Body;
+use boc_program::short::{Args, Inputs};
+use boc_runs::step::Step;
 use thiserror::Error;
 
 /// A behaviour that was started, for its body to be run.

@@ -1,6 +1,6 @@
 //! The dispatcher: each call makes one step of the machine.
 
-ghost use Rattle.boc_types.specs.program.Programs.{cown_count as cowns_of};
+ghost use Rattle.boc_program.specs.Programs.{cown_count as cowns_of};
 ghost use Rattle.std.specs.Prelude.{◌≡◌, ◌↔◌, ◌+◌, ◌^◌, ◌<◌, ℕ, [], None, IfOk, IsTrue, false, map, replicate, slice_get};
 
 use crate::answers::{Advanced, Child, FinishFault, Leaving, Left, Mover, OpenFault, Started};
@@ -8,11 +8,11 @@ use crate::live::wished_behaviour;
 use crate::machine::{Enqueue, Machine};
 use boc_chain::{Chains, LinkChains};
 use boc_eval::{Frame, Outcome};
-use boc_types::events::Events;
-use boc_types::limits::MOST_ROWS;
-use boc_types::program::Program;
-use boc_types::record::Record;
-use boc_types::stage::{Phase, Stage};
+use boc_program::limits::MOST_ROWS;
+use boc_program::program::Program;
+use boc_runs::events::Events;
+use boc_runs::record::Record;
+use boc_runs::stage::{Phase, Stage};
 use std::alloc::{AllocError, Global};
 use std::marker::Model;
 
@@ -38,7 +38,7 @@ pub fn cown_count(program: &Program) -> usize
 }
 
 impl<'a> Core<'a, LinkChains> {
-    ghost use Rattle.boc_types.specs.machine.Steps.{opening_state};
+    ghost use Rattle.boc_runs.specs.machine.Steps.{opening_state};
 
     /// The opening state of a program: main is opened, its spawn is recorded, and it is ready.
     pub fn new(alloc: Global, program: &'a Program) -> Result<Dispatcher<'a>, AllocError>
@@ -66,9 +66,9 @@ impl<'a, C: Chains + Drop> Model for Core<'a, C> {
 }
 
 impl<'a, C: Chains + Drop> Core<'a, C> {
-    ghost use Rattle.boc_types.specs.program.Programs.{cown_count};
-    ghost use Rattle.boc_types.specs.machine.Steps.{IsQuiet, opening_state, values};
-    ghost use Rattle.boc_types.specs.machine.Sound.{IsSound};
+    ghost use Rattle.boc_program.specs.Programs.{cown_count};
+    ghost use Rattle.boc_runs.specs.machine.Steps.{IsQuiet, opening_state, values};
+    ghost use Rattle.boc_runs.specs.machine.Sound.{IsSound};
     ghost use Rattle.boc_dispatch.specs.Calls.{Begins, OpensWish, AdvancesChild, FinishesRow, with_outcome, LeavesCown, NamesMover, EndsAsRecord};
 
     /// The opening state over chains with no request: main is opened, its spawn is recorded, and it is ready.

@@ -8,7 +8,7 @@ use crate::answers::{Mover, OpenFault};
 use crate::dispatcher::{Core, Dispatcher, cown_count};
 use crate::worker::{Refusal, Turn, Worker};
 use boc_chain::{Chains, LinkChains};
-use boc_types::program::Program;
+use boc_program::program::Program;
 use std::alloc::{AllocError, Global};
 use thiserror::Error;
 
@@ -36,9 +36,9 @@ impl From<AllocError> for DriveFault {
     }
 }
 
-ghost use Rattle.boc_types.specs.machine.Sound.{IsSound};
-ghost use Rattle.boc_types.specs.machine.Turns.{TakesTurn};
-ghost use Rattle.boc_types.specs.program.Programs.{cown_count as cowns_of};
+ghost use Rattle.boc_runs.specs.machine.Sound.{IsSound};
+ghost use Rattle.boc_runs.specs.machine.Turns.{TakesTurn};
+ghost use Rattle.boc_program.specs.Programs.{cown_count as cowns_of};
 ghost use Rattle.boc_dispatch.specs.declared.interleaving.DriveFault.{DriveFault};
 ghost use Rattle.boc_dispatch.specs.declared.worker.Hand.TheVariants as hands;
 ghost use Rattle.boc_dispatch.specs.Calls.{HasNoRoom};

@@ -1,9 +1,9 @@
 // The arguments of a behaviour, as they are kept until it starts.
 
 ghost use Rattle.std.specs.Prelude.{◌≡◌, ◌≤◌, [], length, IfOk};
-ghost use Rattle.boc_types.specs.declared.limits.TheConstants.{MOST_ARGUMENTS};
+ghost use Rattle.boc_program.specs.declared.limits.TheConstants.{MOST_ARGUMENTS};
 
-use boc_types::short::Args;
+use boc_program::short::Args;
 use std::alloc::{AllocError, Global};
 use std::marker::Model;
 

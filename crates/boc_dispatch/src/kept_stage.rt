@@ -1,10 +1,10 @@
 // How far a behaviour is, as it is kept.
 
 ghost use Rattle.std.specs.Prelude.{◌≡◌, ◌<◌, ◌^◌};
-ghost use Rattle.boc_types.specs.declared.stage.Stage.TheVariants.{Asking, Recorded};
+ghost use Rattle.boc_runs.specs.declared.stage.Stage.TheVariants.{Asking, Recorded};
 ghost use Rattle.boc_dispatch.specs.KeptStages.{request_of};
 
-use boc_types::stage::{Phase, Stage};
+use boc_runs::stage::{Phase, Stage};
 use std::marker::Model;
 
 /// How far a behaviour is, in 8 bytes, since many behaviours wait at once. Contracts see the stage.
@@ -32,7 +32,7 @@ enum Place {
 }
 
 impl Model for KeptStage {
-    ghost use Rattle.boc_types.specs.declared.stage.Stage.{Stage};
+    ghost use Rattle.boc_runs.specs.declared.stage.Stage.{Stage};
     ghost use Rattle.boc_dispatch.specs.KeptStages.{kept_stage};
 
     ghost Value = { Stage };

@@ -13,7 +13,7 @@ mod moves;
 mod worker;
 
 pub use answers::{Advanced, Child, FinishFault, Job, Leaving, Left, Mover, OpenFault, Started};
-pub use boc_types::step::Step;
+pub use boc_runs::step::Step;
 pub use dispatcher::{Core, Dispatcher, cown_count};
 pub use interleaving::{DriveFault, drive, drive_over, drive_quiet, drive_quiet_over};
 pub use worker::{Refusal, Turn, Worker};

@@ -1,14 +1,14 @@
 //! Behaviours that are not gone yet.
 
 ghost use Rattle.std.specs.Prelude.{◌≡◌, ◌+◌, ◌==◌, ◌≤◌, ◌<◌, ◌^◌, ◌↔◌, ℕ, suc, None, Some, Option, All, IsTrue, IfOk, length, slice_get, false, []};
-ghost use Rattle.boc_types.specs.declared.limits.TheConstants.{MOST_COWNS, MOST_HELD};
-ghost use Rattle.boc_types.specs.declared.stage.Phase.TheVariants as phases;
-ghost use Rattle.boc_types.specs.declared.stage.Stage.TheVariants.{Asking, Recorded};
-ghost use Rattle.boc_types.specs.machine.Stages.{row_at};
-ghost use Rattle.boc_types.specs.machine.Steps.{flagging};
-ghost use Rattle.boc_types.specs.program.Rising.{rising};
-ghost use Rattle.boc_types.specs.program.Signatures.{AllBelow};
-ghost use Rattle.boc_types.specs.runs.Serial.{Behaviour, inputs_of as inputs_at};
+ghost use Rattle.boc_program.specs.declared.limits.TheConstants.{MOST_COWNS, MOST_HELD};
+ghost use Rattle.boc_runs.specs.declared.stage.Phase.TheVariants as phases;
+ghost use Rattle.boc_runs.specs.declared.stage.Stage.TheVariants.{Asking, Recorded};
+ghost use Rattle.boc_runs.specs.machine.Stages.{row_at};
+ghost use Rattle.boc_runs.specs.machine.Steps.{flagging};
+ghost use Rattle.boc_program.specs.Rising.{rising};
+ghost use Rattle.boc_program.specs.Signatures.{AllBelow};
+ghost use Rattle.boc_runs.specs.Serial.{Behaviour, inputs_of as inputs_at};
 ghost use Rattle.boc_dispatch.specs.Inside.{behaviour_of, open_of};
 ghost use Rattle.boc_dispatch.specs.KeptStages.{request_of};
 ghost use Rattle.boc_dispatch.specs.Places.{in_phase};
@@ -16,13 +16,13 @@ ghost use Rattle.boc_dispatch.specs.Places.{in_phase};
 use crate::kept_args::KeptArgs;
 use crate::kept_stage::KeptStage;
 use boc_eval::SpawnWish;
-use boc_types::body::Body;
-use boc_types::cowns::{are_cowns, rising_cowns};
-use boc_types::held::HeldCowns;
-use boc_types::limits::MOST_COWNS;
-use boc_types::program::Program;
-use boc_types::short::{Cowns, Input};
-use boc_types::stage::{Phase, Stage};
+use boc_program::body::Body;
+use boc_program::cowns::{are_cowns, rising_cowns};
+use boc_program::held::HeldCowns;
+use boc_program::limits::MOST_COWNS;
+use boc_program::program::Program;
+use boc_program::short::{Cowns, Input};
+use boc_runs::stage::{Phase, Stage};
 use std::alloc::{AllocError, Global};
 
 /// A behaviour from its Open until its last request is released.
@@ -77,7 +77,7 @@ pub fn main_behaviour() -> Live
 }
 
 // Some cowns in their order and in rising order. Mostly they rise as they stand.
-#[tactic(auto, using(boc_types::proofs::RisingNumbers::rising_is))]
+#[tactic(auto, using(boc_program::proofs::RisingNumbers::rising_is))]
 fn held_cowns(cowns: &Cowns) -> (HeldCowns, HeldCowns)
     requires { All (λ c. c < MOST_COWNS) cowns.now.items }
     ensures same { result.0 ≡ cowns.now }

@@ -12,14 +12,14 @@ use crate::moves::{
 };
 use boc_chain::{Chains, Released, Settled, Slot};
 use boc_eval::{Frame, Outcome, SpawnWish};
+use boc_program::body::Body;
+use boc_program::program::Program;
+use boc_program::short::{Cowns, Input};
 use boc_rules::RunLog;
-use boc_types::body::Body;
-use boc_types::event::Event;
-use boc_types::program::Program;
-use boc_types::short::{Cowns, Input};
-use boc_types::stage::{Phase, Stage};
-use boc_types::step::Step;
-use boc_types::values::initial_values;
+use boc_runs::event::Event;
+use boc_runs::stage::{Phase, Stage};
+use boc_runs::step::Step;
+use boc_runs::values::initial_values;
 use std::alloc::{AllocError, Global};
 use std::collections::VecDeque;
 
@@ -76,7 +76,7 @@ fn put(live: &mut Vec<Option<Live>>, slot: usize, child: Live)
     live[slot] = Some(child);
 }
 
-ghost use Rattle.boc_types.specs.declared.event.Event.TheVariants.{End as EndEvent};
+ghost use Rattle.boc_runs.specs.declared.event.Event.TheVariants.{End as EndEvent};
 
 // The end of a row, as its body ended.
 fn end_event(row: u32, outcome: &Outcome) -> Event
@@ -91,13 +91,13 @@ fn end_event(row: u32, outcome: &Outcome) -> Event
 }
 
 impl<'a, C: Chains + Drop> Machine<'a, C> {
-    ghost use Rattle.boc_types.specs.declared.limits.TheConstants.{MOST_ROWS};
-    ghost use Rattle.boc_types.specs.declared.stage.Phase.TheVariants as phases;
-    ghost use Rattle.boc_types.specs.declared.stage.Stage.TheVariants.{Asking, Recorded};
-    ghost use Rattle.boc_types.specs.declared.step.Step.TheVariants as steps;
-    ghost use Rattle.boc_types.specs.program.Programs.{cown_count};
-    ghost use Rattle.boc_types.specs.machine.Steps.{opening_state, Swaps, Flags, Owns};
-    ghost use Rattle.boc_types.specs.machine.Turns.{IsEnqueueOf};
+    ghost use Rattle.boc_program.specs.declared.limits.TheConstants.{MOST_ROWS};
+    ghost use Rattle.boc_runs.specs.declared.stage.Phase.TheVariants as phases;
+    ghost use Rattle.boc_runs.specs.declared.stage.Stage.TheVariants.{Asking, Recorded};
+    ghost use Rattle.boc_runs.specs.declared.step.Step.TheVariants as steps;
+    ghost use Rattle.boc_program.specs.Programs.{cown_count};
+    ghost use Rattle.boc_runs.specs.machine.Steps.{opening_state, Swaps, Flags, Owns};
+    ghost use Rattle.boc_runs.specs.machine.Turns.{IsEnqueueOf};
     ghost use Rattle.boc_eval.specs.Frames.{last_wish_of};
     ghost use Rattle.boc_eval.specs.Wishes.{wish_of};
     ghost use Rattle.boc_dispatch.specs.declared.answers.Advanced.TheVariants as advanced;

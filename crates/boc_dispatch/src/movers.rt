@@ -1,7 +1,7 @@
 //! Who can step.
 
 ghost use Rattle.std.specs.Prelude.{◌≡◌, ◌<◌, Some, length};
-ghost use Rattle.boc_types.specs.machine.Movers.{NobodyWorks};
+ghost use Rattle.boc_runs.specs.machine.Movers.{NobodyWorks};
 ghost use Rattle.boc_dispatch.specs.Calls.{NamesMover};
 ghost use Rattle.boc_dispatch.specs.Inside.{parts_of, underway, live_at, state, IsSoundMachine};
 ghost use Rattle.boc_dispatch.specs.Moves.{MovesOrNot, MovesAtOrNot, NamesWorker};
@@ -11,7 +11,7 @@ use crate::live::Live;
 use crate::machine::Machine;
 use crate::moves::recorded_row;
 use boc_chain::{Chains, Slot};
-use boc_types::stage::{Phase, Stage};
+use boc_runs::stage::{Phase, Stage};
 
 impl<'a, C: Chains + Drop> Machine<'a, C> {
     /// Somebody who can step, unless all is over.

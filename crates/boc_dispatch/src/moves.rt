@@ -2,22 +2,22 @@
 
 ghost use Rattle.std.specs.Prelude.{◌≡◌, ◌==◌, ◌+◌, ◌^◌, ◌<◌, ◌≤◌, nat_lt, suc, None, Some, Option, ℕ, length, map, slice_get};
 ghost use Rattle.std.specs.Option.{option_map};
-ghost use Rattle.boc_types.specs.declared.stage.Phase.TheVariants as phases;
-ghost use Rattle.boc_types.specs.declared.stage.Stage.TheVariants.{Recorded};
-ghost use Rattle.boc_types.specs.machine.Stages.{row_at};
-ghost use Rattle.boc_types.specs.machine.Steps.{flagging};
-ghost use Rattle.boc_types.specs.program.Signatures.{AllBelow, CountsAre, signature_of};
-ghost use Rattle.boc_types.specs.runs.Serial.{after_outputs, inputs_of as inputs};
+ghost use Rattle.boc_runs.specs.declared.stage.Phase.TheVariants as phases;
+ghost use Rattle.boc_runs.specs.declared.stage.Stage.TheVariants.{Recorded};
+ghost use Rattle.boc_runs.specs.machine.Stages.{row_at};
+ghost use Rattle.boc_runs.specs.machine.Steps.{flagging};
+ghost use Rattle.boc_program.specs.Signatures.{AllBelow, CountsAre, signature_of};
+ghost use Rattle.boc_runs.specs.Serial.{after_outputs, inputs_of as inputs};
 ghost use Rattle.boc_dispatch.specs.Places.{Has, in_phase, begun, with_child, with_spawn, exchanged, settled, with_row, spawn_of, granted as with_grant};
 
 use crate::answers::Job;
 use crate::kept_stage::KeptStage;
 use crate::live::Live;
-use boc_types::event::Event;
-use boc_types::program::Program;
-use boc_types::short::Args;
-use boc_types::stage::{Phase, Stage};
-use boc_types::values::{inputs_of, write_outputs};
+use boc_program::program::Program;
+use boc_program::short::Args;
+use boc_runs::event::Event;
+use boc_runs::stage::{Phase, Stage};
+use boc_runs::values::{inputs_of, write_outputs};
 
 /// It starts on the current values. Answers what its body is to be run on.
 pub fn begin<'a>(place: &mut Option<Live>, program: &'a Program, values: &[i64]) -> Job<'a>

@@ -6,7 +6,7 @@ use crate::answers::{Advanced, Child, FinishFault, Job, Leaving, Left, OpenFault
 use crate::dispatcher::Core;
 use boc_chain::Chains;
 use boc_eval::{Frame, Outcome, Spare};
-use boc_types::step::Step;
+use boc_runs::step::Step;
 use std::alloc::{AllocError, Global};
 
 /// What is due of a row's frame.

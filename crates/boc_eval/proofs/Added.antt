@@ -2,9 +2,9 @@
 use Rattle.std.proofs.Common.{◌≡◌, ℕ, zero, suc, ◌+◌, ◌-◌, ◌<◌, ◌≤◌, List, [], ◌∷◌, ◌++◌, map, length, refl, sym, ap, ◌∙◌, arith, ℤ, length-append}
 use Rattle.std.specs.Prelude.{slice_range, slice_index_or}
 use Rattle.std.proofs.lemmas.List.{map-append, get_or-map, length-map}
-use Rattle.boc_types.specs.program.Meaning.{Wish}
-use Rattle.boc_types.specs.runs.Serial.{Behaviour, main_behaviour, behaviour_of}
-use Rattle.boc_types.proofs.ChangedItems.{range_stays, range_behind}
+use Rattle.boc_program.specs.Meaning.{Wish}
+use Rattle.boc_runs.specs.Serial.{Behaviour, main_behaviour, behaviour_of}
+use Rattle.boc_program.proofs.ChangedItems.{range_stays, range_behind}
 use Rattle.boc_eval.specs.declared.rows.Row.{Row}
 use Rattle.boc_eval.specs.declared.rows.Rows.{Rows}
 use Rattle.boc_eval.specs.Behaviours.{behaviour_in, behaviours_of, behaviour_at, IsWithin, RowsFit, IsConsistent}

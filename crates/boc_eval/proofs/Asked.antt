@@ -4,11 +4,11 @@ use Rattle.std.specs.Prelude.{slice_get, nat_eq, replicate, count_by, option_map
 use Rattle.std.proofs.lemmas.Bool.Decides.{eqb_tells}
 use Rattle.std.proofs.lemmas.List.Sums.{sum_by-cons}
 use Rattle.std.proofs.lemmas.List.{map-append, length-map, length-replicate}
-use Rattle.boc_types.specs.declared.program.Program.{Program}
-use Rattle.boc_types.specs.program.Meaning.{Wish}
-use Rattle.boc_types.specs.runs.Serial.{Serial, SerialRow, Behaviour, main_behaviour, behaviour_of, wish_of_row, children, next_behaviour, run_at_once, after_turns, after_turn, serial_along}
-use Rattle.boc_types.specs.runs.OwnOrder.{IsOwnOrder, spawners}
-use Rattle.boc_types.proofs.OwnOrders.{next_row, rows_done}
+use Rattle.boc_program.specs.declared.program.Program.{Program}
+use Rattle.boc_program.specs.Meaning.{Wish}
+use Rattle.boc_runs.specs.Serial.{Serial, SerialRow, Behaviour, main_behaviour, behaviour_of, wish_of_row, children, next_behaviour, run_at_once, after_turns, after_turn, serial_along}
+use Rattle.boc_runs.specs.OwnOrder.{IsOwnOrder, spawners}
+use Rattle.boc_runs.proofs.OwnOrders.{next_row, rows_done}
 use Rattle.boc_eval.specs.Queue.{all_wishes, behaviours_after}
 
 -- how often a number stands in a list

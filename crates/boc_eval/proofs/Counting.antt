@@ -1,11 +1,11 @@
 -- A turn that is counted where it stands on the stack.
 use Rattle.std.proofs.Common.{◌≡◌, subst, add-one, ℕ, zero, suc, ◌+◌, ◌-◌, ◌<◌, ◌≤◌, List, [], ◌∷◌, ◌++◌, Some, refl, sym, ap, ◌∙◌, arith, IsTrue, Bor, length, length-append}
 use Rattle.std.specs.Prelude.{vec_capacity, slice_get, slice_set}
-use Rattle.boc_types.specs.declared.body.Stmt.{Stmt}
-use Rattle.boc_types.specs.program.Syntax.{Code}
-use Rattle.boc_types.specs.memory.View.{code_of}
-use Rattle.boc_types.specs.program.Meaning.{State, Next, does, turns, ends}
-use Rattle.boc_types.specs.program.Resolved.{Scope, fits as block_fits}
+use Rattle.boc_program.specs.declared.body.Stmt.{Stmt}
+use Rattle.boc_program.specs.Syntax.{Code}
+use Rattle.boc_program.specs.memory.View.{code_of}
+use Rattle.boc_program.specs.Meaning.{State, Next, does, turns, ends}
+use Rattle.boc_program.specs.Resolved.{Scope, fits as block_fits}
 use Rattle.boc_eval.specs.declared.machine.Task.{Task}
 use Rattle.boc_eval.specs.declared.machine.Task.TheVariants.{Turns}
 use Rattle.boc_eval.specs.declared.machine.Machine.{Machine}

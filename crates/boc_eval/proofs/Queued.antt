@@ -2,16 +2,16 @@
 use Rattle.std.proofs.Common.{◌≡◌, ℕ, zero, suc, ◌+◌, ◌<◌, ◌≤◌, List, [], ◌∷◌, ◌++◌, map, length, drop, take, refl, sym, ap, ◌∙◌, arith, IsTrue, ℤ, Some, subst, length-append, length-drop}
 use Rattle.std.specs.Prelude.{slice_get, replicate}
 use Rattle.std.proofs.lemmas.List.{length-map, length-replicate, drop-append-le}
-use Rattle.boc_types.specs.declared.body.Body.{Body}
-use Rattle.boc_types.specs.declared.program.Program.{Program}
-use Rattle.boc_types.specs.program.Meaning.{Wish, meaning}
-use Rattle.boc_types.specs.program.Programs.{cown_count, initial_values}
-use Rattle.boc_types.specs.program.Signatures.{signature_of, calls_fit, AllBelow, WishesFit}
-use Rattle.boc_types.specs.runs.Serial.{Behaviour, Serial, SerialRow, main_behaviour, behaviour_of, inputs_of, after_outputs, meaning_if, run_at_once, with_row, serial_along}
-use Rattle.boc_types.specs.runs.OwnOrder.{IsOwnOrder, EndsWith, HasTooMany}
-use Rattle.boc_types.proofs.Fitting.{meaning_fits}
-use Rattle.boc_types.proofs.Behaviours.{named, cowns_of_inputs, length-after_outputs, initial-length, main_fits}
-use Rattle.boc_types.proofs.OwnOrders.{next_row, next_wishes, next_own, along_more}
+use Rattle.boc_program.specs.declared.body.Body.{Body}
+use Rattle.boc_program.specs.declared.program.Program.{Program}
+use Rattle.boc_program.specs.Meaning.{Wish, meaning}
+use Rattle.boc_program.specs.Programs.{cown_count, initial_values}
+use Rattle.boc_program.specs.Signatures.{signature_of, calls_fit, AllBelow, WishesFit}
+use Rattle.boc_runs.specs.Serial.{Behaviour, Serial, SerialRow, main_behaviour, behaviour_of, inputs_of, after_outputs, meaning_if, run_at_once, with_row, serial_along}
+use Rattle.boc_runs.specs.OwnOrder.{IsOwnOrder, EndsWith, HasTooMany}
+use Rattle.boc_program.proofs.Fitting.{meaning_fits}
+use Rattle.boc_runs.proofs.Behaviours.{named, cowns_of_inputs, length-after_outputs, initial-length, main_fits}
+use Rattle.boc_runs.proofs.OwnOrders.{next_row, next_wishes, next_own, along_more}
 use Rattle.boc_eval.specs.Queue.{BehaviourFits, QueueFits, Turned, wishes_by, turn_wishes, behaviours_after, HasReached}
 use Rattle.boc_eval.proofs.Asked.{next_is, behaviours_more, length-behaviours}
 

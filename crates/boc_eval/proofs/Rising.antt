@@ -6,7 +6,7 @@ use Rattle.std.specs.List.Sorted.{IsStrictlyIncreasing}
 use Rattle.std.proofs.lemmas.Bool.Decides.{nat_tests}
 use Rattle.std.proofs.lemmas.List.Folds.{list_any_none}
 use Rattle.std.proofs.lemmas.List.Kept.{AllPairs-from_increasing}
-use Rattle.boc_types.specs.program.Meaning.{has_same_twice}
+use Rattle.boc_program.specs.Meaning.{has_same_twice}
 
 differs : (c d : ℕ) → c < d → nat_eq d c ≡ false
 differs c d h = grind (arith, nat_tests)

@@ -2,11 +2,11 @@
 use Rattle.std.proofs.Common.{◌≡◌, ℕ, Some, ◌+◌, ◌<◌, ◌≤◌, List, [], ◌∷◌, ◌++◌, map, length, drop, ap, ◌∙◌, subst, arith, ℤ, length-drop}
 use Rattle.std.specs.Prelude.{slice_index_or}
 use Rattle.std.proofs.lemmas.List.{drop_more, drop_all, get_or_append_left, length-map}
-use Rattle.boc_types.specs.declared.body.Body.{Body}
-use Rattle.boc_types.specs.declared.program.Program.{Program}
-use Rattle.boc_types.specs.program.Programs.{initial_values}
-use Rattle.boc_types.specs.runs.Serial.{Behaviour, main_behaviour}
-use Rattle.boc_types.specs.runs.OwnOrder.{EndsWith}
+use Rattle.boc_program.specs.declared.body.Body.{Body}
+use Rattle.boc_program.specs.declared.program.Program.{Program}
+use Rattle.boc_program.specs.Programs.{initial_values}
+use Rattle.boc_runs.specs.Serial.{Behaviour, main_behaviour}
+use Rattle.boc_runs.specs.OwnOrder.{EndsWith}
 use Rattle.boc_eval.specs.Queue.{HasReached, Turned}
 use Rattle.boc_eval.proofs.Queued.{reached_first, reached_next, reached_end}
 use Rattle.boc_eval.specs.declared.rows.Rows.{Rows}

@@ -1,6 +1,6 @@
 -- The behaviours of a serial run, as its rows tell them.
 use Rattle.std.specs.Prelude.{ℕ, ◌*◌, ◌≤◌, List, [], ◌∷◌, map, length, ℤ, slice_range, slice_index_or}
-use Rattle.boc_types.specs.runs.Serial.{Behaviour, main_behaviour}
+use Rattle.boc_runs.specs.Serial.{Behaviour, main_behaviour}
 use Rattle.boc_eval.specs.declared.rows.Extent.{Extent}
 use Rattle.boc_eval.specs.declared.rows.Row.{Row}
 use Rattle.boc_eval.specs.declared.rows.Rows.{Rows}

@@ -1,11 +1,11 @@
 -- The slots and cown parameters that a body's parts name are there.
 use Rattle.std.specs.Prelude.{ℕ, IsTrue, List, map, length, ℤ}
-use Rattle.boc_types.specs.declared.body.Expr.{Expr}
-use Rattle.boc_types.specs.declared.body.Expr.TheVariants as expr
-use Rattle.boc_types.specs.declared.body.CownRef.{CownRef}
-use Rattle.boc_types.specs.program.Meaning.{State}
-use Rattle.boc_types.specs.program.Resolved.{Scope, expr_fits, ref_fits, every}
-use Rattle.boc_types.specs.memory.View.{slot_expr_of, cown_ref_of}
+use Rattle.boc_program.specs.declared.body.Expr.{Expr}
+use Rattle.boc_program.specs.declared.body.Expr.TheVariants as expr
+use Rattle.boc_program.specs.declared.body.CownRef.{CownRef}
+use Rattle.boc_program.specs.Meaning.{State}
+use Rattle.boc_program.specs.Resolved.{Scope, expr_fits, ref_fits, every}
+use Rattle.boc_program.specs.memory.View.{slot_expr_of, cown_ref_of}
 
 -- every slot of an expression is there
 abbrev pub ExprFits : List ℤ → Expr → Type 0

@@ -1,11 +1,11 @@
 // The behaviours of a serial run, in the order in which they were spawned.
 
 ghost use Rattle.std.specs.Prelude.{◌≡◌, ◌<◌, ◌≤◌, [], ◌∷◌, ◌++◌, length, slice_range, OnOk};
-ghost use Rattle.boc_types.specs.runs.Serial.{Behaviour};
+ghost use Rattle.boc_runs.specs.Serial.{Behaviour};
 ghost use Rattle.boc_eval.specs.Behaviours.{IsConsistent, IsWithin, behaviour_at, behaviours_of};
 
 use crate::lists::push_each;
-use boc_types::short::CownNo;
+use boc_program::short::CownNo;
 use std::alloc::{AllocError, Global};
 
 /// A part of a list, from one place up to another.

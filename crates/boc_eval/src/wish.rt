@@ -3,7 +3,7 @@
 ghost use Rattle.std.specs.Prelude.{◌≡◌};
 ghost use Rattle.boc_eval.specs.Wishes.{wish_of};
 
-use boc_types::short::{Args, Cowns};
+use boc_program::short::{Args, Cowns};
 
 /// A wish for a behaviour, made by a `when`.
 #[derive(Drop, Debug)]

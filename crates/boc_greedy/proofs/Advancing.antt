@@ -1,12 +1,12 @@
 -- The simulation goes to the next tick at which something changes, or has come to its end.
 use Rattle.std.proofs.Common.{◌≡◌, ℕ, zero, suc, ◌+◌, ◌<◌, ◌≤◌, List, length, refl, sym, subst, inl, inr, arith}
-use Rattle.boc_types.specs.declared.limits.TheConstants.{MOST_TICKS}
+use Rattle.boc_program.specs.declared.limits.TheConstants.{MOST_TICKS}
 use Rattle.std.specs.Prelude.{slice_index}
 use Rattle.std.proofs.lemmas.Bool.{cases_lt, cases_eq}
-use Rattle.boc_types.specs.declared.rows.Row.{Row}
-use Rattle.boc_types.specs.runs.Rows.{IsRows, parent_of, offset_of}
-use Rattle.boc_types.specs.plans.Plans.{start_of, end_of, IsChild}
-use Rattle.boc_types.specs.plans.Greedy.{IsGreedyAt, IsGreedy, IsMoment}
+use Rattle.boc_runs.specs.declared.rows.Row.{Row}
+use Rattle.boc_runs.specs.Rows.{IsRows, parent_of, offset_of}
+use Rattle.boc_plans.specs.Plans.{start_of, end_of, IsChild}
+use Rattle.boc_plans.specs.Greedy.{IsGreedyAt, IsGreedy, IsMoment}
 use Rattle.boc_greedy.specs.declared.frontier.Stage.{Stage}
 use Rattle.boc_greedy.specs.declared.frontier.Stage.TheVariants.{Unspawned, UnderWay, Over}
 use Rattle.boc_greedy.specs.Stages.{IsAt}

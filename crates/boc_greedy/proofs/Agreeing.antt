@@ -1,10 +1,10 @@
 -- Two plans that agree before a tick are greedy alike at every tick before it.
 use Rattle.std.proofs.Common.{◌≡◌, ℕ, ◌<◌, ◌≤◌, List, sym, inl, inr, arith}
 use Rattle.std.proofs.lemmas.Bool.{cases_lt}
-use Rattle.boc_types.specs.declared.rows.Row.{Row}
-use Rattle.boc_types.specs.runs.Rows.{IsRows}
-use Rattle.boc_types.specs.plans.Plans.{start_of}
-use Rattle.boc_types.specs.plans.Greedy.{worker_of, IsReady, IsFree, IsTaken, IsGreedyAt}
+use Rattle.boc_runs.specs.declared.rows.Row.{Row}
+use Rattle.boc_runs.specs.Rows.{IsRows}
+use Rattle.boc_plans.specs.Plans.{start_of}
+use Rattle.boc_plans.specs.Greedy.{worker_of, IsReady, IsFree, IsTaken, IsGreedyAt}
 
 -- the plans have the same rows that start before tick t, on the same workers
 pub record Agree (t : ℕ) (plan plan' workers workers' : List ℕ) : Type 0 where

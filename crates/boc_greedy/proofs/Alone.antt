@@ -2,10 +2,10 @@
 use Rattle.std.proofs.Common.{◌≡◌, ℕ, zero, suc, ◌<◌, ◌≤◌, List, length, sym, ◌∙◌, ap, inl, inr, arith}
 use Rattle.std.proofs.lemmas.Bool.{cases_lt, cases_eq}
 use Rattle.std.proofs.lemmas.List.{ext_get_or}
-use Rattle.boc_types.specs.declared.rows.Row.{Row}
-use Rattle.boc_types.specs.runs.Rows.{IsRows, parent_of}
-use Rattle.boc_types.specs.plans.Plans.{start_of}
-use Rattle.boc_types.specs.plans.Greedy.{worker_of, IsReady, IsFree, IsGreedyAt, IsGreedy}
+use Rattle.boc_runs.specs.declared.rows.Row.{Row}
+use Rattle.boc_runs.specs.Rows.{IsRows, parent_of}
+use Rattle.boc_plans.specs.Plans.{start_of}
+use Rattle.boc_plans.specs.Greedy.{worker_of, IsReady, IsFree, IsGreedyAt, IsGreedy}
 
 -- the rows that start before tick t in the first plan start at the same ticks in the other one, on the same workers
 abbrev AreSameBefore : (rows : List Row) (plan workers other others : List ℕ) (t : ℕ) → Type 0

@@ -1,14 +1,14 @@
 -- The greedy plan keeps, is for p workers, and ends within the bound.
 use Rattle.std.proofs.Common.{◌≡◌, ℕ, zero, suc, ◌+◌, ◌-◌, ◌*◌, ◌/◌, ◌<◌, ◌≤◌, ◌⊎◌, List, length, refl, sym, ap, subst, inl, inr, arith, ltb}
-use Rattle.boc_types.specs.declared.limits.TheConstants.{MOST_TICKS}
+use Rattle.boc_program.specs.declared.limits.TheConstants.{MOST_TICKS}
 use Rattle.std.proofs.Math.Nat.{mul-le-mul_left}
 use Rattle.std.specs.Prelude.{slice_index}
 use Rattle.std.proofs.lemmas.Bool.{cases_lt, cases_eq}
 use Rattle.std.proofs.lemmas.Bool.Decides.{nat_tests}
-use Rattle.boc_types.specs.declared.rows.Row.{Row}
-use Rattle.boc_types.specs.runs.Rows.{IsRows, parent_of, offset_of, ticks_of}
-use Rattle.boc_types.specs.plans.Plans.{start_of, end_of, work_of, IsEnd, Keeps, HasEnds}
-use Rattle.boc_types.specs.plans.Greedy.{worker_of, RunsAt, IsForWorkers, IsReady, IsFree, IsGreedy, IsSpan}
+use Rattle.boc_runs.specs.declared.rows.Row.{Row}
+use Rattle.boc_runs.specs.Rows.{IsRows, parent_of, offset_of, ticks_of}
+use Rattle.boc_plans.specs.Plans.{start_of, end_of, work_of, IsEnd, Keeps, HasEnds}
+use Rattle.boc_plans.specs.Greedy.{worker_of, RunsAt, IsForWorkers, IsReady, IsFree, IsGreedy, IsSpan}
 use Rattle.boc_greedy.proofs.Totals.{total, total-most, total-least, total-plus, total-times, at-le-total, one_if, inside_cases, inside_yes}
 use Rattle.boc_greedy.proofs.Busy.{runs, busy, busy-work, work-total, on, on_yes, busy_all, busy_few}
 

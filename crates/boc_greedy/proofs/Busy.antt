@@ -7,10 +7,10 @@ use Rattle.std.proofs.lemmas.Bool.Decides.{nat_tests}
 use Rattle.std.proofs.lemmas.List.{take_all}
 use Rattle.std.proofs.lemmas.List.Sums.{sum_by_more}
 use Rattle.std.proofs.lemmas.Option.{slice_get-get_or}
-use Rattle.boc_types.specs.declared.rows.Row.{Row}
-use Rattle.boc_types.specs.runs.Rows.{ticks_of}
-use Rattle.boc_types.specs.plans.Plans.{start_of, end_of, work_of, IsEnd}
-use Rattle.boc_types.specs.plans.Greedy.{worker_of, RunsAt, IsForWorkers}
+use Rattle.boc_runs.specs.declared.rows.Row.{Row}
+use Rattle.boc_runs.specs.Rows.{ticks_of}
+use Rattle.boc_plans.specs.Plans.{start_of, end_of, work_of, IsEnd}
+use Rattle.boc_plans.specs.Greedy.{worker_of, RunsAt, IsForWorkers}
 use Rattle.boc_greedy.proofs.Totals.{total, total-le, total-same, total-most, total-least, total-swap, at-le-total, total-at_most_one, one_if, inside, inside_cases, inside_yes, total-inside}
 
 -- 1 where row r is under way at tick t

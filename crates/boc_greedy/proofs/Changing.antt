@@ -3,10 +3,10 @@ use Rattle.std.proofs.Common.{◌≡◌, ℕ, ◌+◌, ◌<◌, ◌≤◌, List,
 use Rattle.std.specs.Prelude.{slice_index}
 use Rattle.std.specs.BinaryHeap.{heap_items}
 use Rattle.std.proofs.lemmas.List.{length-map}
-use Rattle.boc_types.specs.declared.limits.TheConstants.{MOST_TICKS}
-use Rattle.boc_types.specs.declared.rows.Row.{Row}
-use Rattle.boc_types.specs.runs.Rows.{IsRows, parent_of}
-use Rattle.boc_types.specs.plans.Plans.{start_of, IsChild}
+use Rattle.boc_program.specs.declared.limits.TheConstants.{MOST_TICKS}
+use Rattle.boc_runs.specs.declared.rows.Row.{Row}
+use Rattle.boc_runs.specs.Rows.{IsRows, parent_of}
+use Rattle.boc_plans.specs.Plans.{start_of, IsChild}
 use Rattle.boc_greedy.specs.declared.simulation.Simulation.{Simulation}
 use Rattle.boc_greedy.specs.declared.frontier.Stage.TheVariants.{Unspawned, UnderWay}
 use Rattle.boc_greedy.specs.Stages.{IsAt}

@@ -5,9 +5,9 @@ use Rattle.std.specs.List.{Contains}
 use Rattle.std.proofs.lemmas.Bool.{cases_lt}
 use Rattle.std.proofs.lemmas.List.{get_or_append_left, get_or_push, length_push}
 use Rattle.std.proofs.lemmas.List.Elements.{Contains-push, Contains-append_left}
-use Rattle.boc_types.specs.declared.rows.Row.{Row}
-use Rattle.boc_types.specs.runs.Rows.{IsRows}
-use Rattle.boc_types.specs.plans.Greedy.{IsMoment, CountsAll}
+use Rattle.boc_runs.specs.declared.rows.Row.{Row}
+use Rattle.boc_runs.specs.Rows.{IsRows}
+use Rattle.boc_plans.specs.Greedy.{IsMoment, CountsAll}
 use Rattle.boc_greedy.specs.Simulating.{IsPast}
 use Rattle.boc_greedy.proofs.Agreeing.{Agree, turned}
 

@@ -12,10 +12,10 @@ use Rattle.std.proofs.lemmas.List.Elements.{Contains-append_left, Contains-appen
 use Rattle.std.proofs.lemmas.Map.Keys.{IsDistinct-from_apart}
 use Rattle.std.proofs.lemmas.Map.Made.{length-le_from_is_member}
 use Rattle.std.proofs.lemmas.Map.Views.{list_any-from_Contains, Contains-from_any}
-use Rattle.boc_types.specs.declared.rows.Row.{Row}
-use Rattle.boc_types.specs.runs.Rows.{parent_of, offset_of}
-use Rattle.boc_types.specs.plans.Plans.{start_of, end_of}
-use Rattle.boc_types.specs.plans.Greedy.{IsMoment, CountsAll}
+use Rattle.boc_runs.specs.declared.rows.Row.{Row}
+use Rattle.boc_runs.specs.Rows.{parent_of, offset_of}
+use Rattle.boc_plans.specs.Plans.{start_of, end_of}
+use Rattle.boc_plans.specs.Greedy.{IsMoment, CountsAll}
 
 -- what a function gives at each number below n
 abbrev at_each : (ℕ → ℕ) → ℕ → List ℕ

@@ -2,9 +2,9 @@
 use Rattle.std.proofs.Common.{◌≡◌, ℕ, ◌<◌, ◌^◌, List, [], length, sym, ap, arith}
 use Rattle.std.specs.Prelude.{slice_index}
 use Rattle.std.specs.BinaryHeap.{heap_items}
-use Rattle.boc_types.specs.declared.rows.Row.{Row}
-use Rattle.boc_types.specs.runs.Rows.{IsRows}
-use Rattle.boc_types.specs.plans.Greedy.{IsGreedy, IsMoment, CountsAll}
+use Rattle.boc_runs.specs.declared.rows.Row.{Row}
+use Rattle.boc_runs.specs.Rows.{IsRows}
+use Rattle.boc_plans.specs.Greedy.{IsGreedy, IsMoment, CountsAll}
 use Rattle.boc_greedy.specs.declared.simulation.Simulation.{Simulation}
 use Rattle.boc_greedy.specs.Simulating.{later, IsPast}
 use Rattle.boc_greedy.specs.Queues.{IsIn}

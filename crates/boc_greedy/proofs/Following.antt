@@ -2,9 +2,9 @@
 use Rattle.std.proofs.Common.{◌≡◌, ◌≢◌, ℕ, ◌+◌, ◌<◌, ◌≤◌, List, length, refl, sym, ap, subst, inl, inr, arith}
 use Rattle.std.specs.Prelude.{slice_index}
 use Rattle.std.proofs.lemmas.Bool.{cases_eq}
-use Rattle.boc_types.specs.declared.rows.Row.{Row}
-use Rattle.boc_types.specs.runs.Rows.{IsRows, parent_of, offset_of}
-use Rattle.boc_types.specs.plans.Plans.{IsChild}
+use Rattle.boc_runs.specs.declared.rows.Row.{Row}
+use Rattle.boc_runs.specs.Rows.{IsRows, parent_of, offset_of}
+use Rattle.boc_plans.specs.Plans.{IsChild}
 use Rattle.boc_greedy.specs.Families.{IsNextChild, IsTimed, AreTimed}
 use Rattle.boc_greedy.proofs.Puts.{Puts}
 use Rattle.boc_greedy.proofs.Timing.{timed_after}

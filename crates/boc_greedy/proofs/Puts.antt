@@ -3,9 +3,9 @@ use Rattle.std.proofs.Common.{◌≡◌, ◌≢◌, ℕ, ◌+◌, ◌<◌, ◌�
 use Rattle.std.specs.Prelude.{slice_index, slice_set, slice_get}
 use Rattle.std.proofs.lemmas.Option.{slice_get_within, get_or_from_slice_get}
 use Rattle.std.proofs.lemmas.List.Sums.{sum_by-set}
-use Rattle.boc_types.specs.declared.rows.Row.{Row}
-use Rattle.boc_types.specs.plans.Plans.{IsChild}
-use Rattle.boc_types.proofs.ChangedItems.{item_at, set_same, set_other}
+use Rattle.boc_runs.specs.declared.rows.Row.{Row}
+use Rattle.boc_plans.specs.Plans.{IsChild}
+use Rattle.boc_program.proofs.ChangedItems.{item_at, set_same, set_other}
 use Rattle.boc_greedy.specs.declared.frontier.Stage.{Stage}
 use Rattle.boc_greedy.specs.declared.frontier.Stage.TheVariants.{Unspawned, Waiting, UnderWay, Over}
 use Rattle.boc_greedy.specs.Stages.{IsAt}

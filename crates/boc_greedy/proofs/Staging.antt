@@ -3,9 +3,9 @@ use Rattle.std.proofs.Common.{◌≡◌, ◌≢◌, ℕ, zero, suc, ◌+◌, ◌
 use Rattle.std.specs.Prelude.{slice_set, Some}
 use Rattle.std.specs.List.{Contains}
 use Rattle.std.proofs.lemmas.Bool.{cases_eq}
-use Rattle.boc_types.proofs.ChangedItems.{place_below, set_same, set_other}
-use Rattle.boc_types.specs.declared.rows.Row.{Row}
-use Rattle.boc_types.specs.plans.Plans.{Ordered}
+use Rattle.boc_program.proofs.ChangedItems.{place_below, set_same, set_other}
+use Rattle.boc_runs.specs.declared.rows.Row.{Row}
+use Rattle.boc_plans.specs.Plans.{Ordered}
 use Rattle.boc_order.specs.Waits.{links_of, AreWaits}
 use Rattle.boc_order.proofs.Near.{near_complete, near_ordered}
 use Rattle.boc_greedy.specs.declared.frontier.Stage.{Stage}

@@ -1,14 +1,14 @@
 -- What holds of a simulation that stands at a tick.
 use Rattle.std.proofs.Common.{◌≡◌, ◌≢◌, ℕ, ◌+◌, ◌<◌, ◌≤◌, ◌⊎◌, List, length, refl, sym, ◌∙◌, ap, subst, inl, inr, arith}
-use Rattle.boc_types.specs.declared.limits.TheConstants.{MOST_TICKS}
+use Rattle.boc_program.specs.declared.limits.TheConstants.{MOST_TICKS}
 use Rattle.std.specs.Prelude.{slice_index}
 use Rattle.std.specs.Int.{bit_at}
 use Rattle.std.proofs.lemmas.Option.{slice_get_within}
 use Rattle.std.proofs.lemmas.Bool.{cases_lt, cases_eq}
-use Rattle.boc_types.specs.declared.rows.Row.{Row}
-use Rattle.boc_types.specs.runs.Rows.{IsRows, parent_of, offset_of, ticks_of}
-use Rattle.boc_types.specs.plans.Plans.{start_of, end_of, IsChild}
-use Rattle.boc_types.specs.plans.Greedy.{IsReady, IsFree, IsTaken, IsGreedyAt}
+use Rattle.boc_runs.specs.declared.rows.Row.{Row}
+use Rattle.boc_runs.specs.Rows.{IsRows, parent_of, offset_of, ticks_of}
+use Rattle.boc_plans.specs.Plans.{start_of, end_of, IsChild}
+use Rattle.boc_plans.specs.Greedy.{IsReady, IsFree, IsTaken, IsGreedyAt}
 use Rattle.boc_greedy.specs.declared.frontier.Stage.{Stage}
 use Rattle.boc_greedy.specs.declared.frontier.Stage.TheVariants.{Unspawned, UnderWay, Over}
 use Rattle.boc_greedy.specs.Stages.{IsAt, CanStart}

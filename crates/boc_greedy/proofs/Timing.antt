@@ -3,10 +3,10 @@ use Rattle.std.proofs.Common.{◌≡◌, ℕ, ◌+◌, ◌<◌, ◌≤◌, List,
 use Rattle.std.specs.Prelude.{slice_index, slice_set}
 use Rattle.std.proofs.lemmas.Bool.{cases_eq, cases_lt}
 use Rattle.std.proofs.lemmas.List.{get_or-map, length-map, map-set}
-use Rattle.boc_types.specs.declared.limits.TheConstants.{MOST_TICKS}
-use Rattle.boc_types.specs.declared.rows.Row.{Row}
-use Rattle.boc_types.specs.runs.Rows.{IsRows, parent_of, offset_of}
-use Rattle.boc_types.specs.plans.Plans.{IsChild}
+use Rattle.boc_program.specs.declared.limits.TheConstants.{MOST_TICKS}
+use Rattle.boc_runs.specs.declared.rows.Row.{Row}
+use Rattle.boc_runs.specs.Rows.{IsRows, parent_of, offset_of}
+use Rattle.boc_plans.specs.Plans.{IsChild}
 use Rattle.boc_greedy.specs.declared.children.Change.{Change}
 use Rattle.boc_greedy.specs.Families.{IsNextChild, IsTimed, AreTimed, children_of, times_of}
 use Rattle.boc_greedy.proofs.Puts.{Puts, puts}

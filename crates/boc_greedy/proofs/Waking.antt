@@ -5,7 +5,7 @@ use Rattle.std.specs.List.{Contains}
 use Rattle.std.proofs.lemmas.Bool.{cases_eq, cases_lt}
 use Rattle.std.proofs.lemmas.List.{length-replicate}
 use Rattle.std.proofs.lemmas.Option.{slice_get_within}
-use Rattle.boc_types.specs.declared.rows.Row.{Row}
+use Rattle.boc_runs.specs.declared.rows.Row.{Row}
 use Rattle.boc_order.specs.Waits.{links_of, times, AreWaits, AreFollowers}
 use Rattle.boc_order.proofs.Near.{has}
 use Rattle.boc_greedy.specs.declared.frontier.Stage.{Stage}

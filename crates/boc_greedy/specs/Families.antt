@@ -1,8 +1,8 @@
 -- The children of rows, one after another, and when rows spawn them and end.
 use Rattle.std.specs.Prelude.{◌≡◌, ℕ, ◌+◌, ◌<◌, ◌≤◌, List, length, map, slice_index}
-use Rattle.boc_types.specs.declared.rows.Row.{Row}
-use Rattle.boc_types.specs.runs.Rows.{parent_of, offset_of, ticks_of}
-use Rattle.boc_types.specs.plans.Plans.{IsChild}
+use Rattle.boc_runs.specs.declared.rows.Row.{Row}
+use Rattle.boc_runs.specs.Rows.{parent_of, offset_of, ticks_of}
+use Rattle.boc_plans.specs.Plans.{IsChild}
 use Rattle.boc_greedy.specs.declared.children.Change.{Change}
 
 -- the children in some changes; where there is none, the number of rows

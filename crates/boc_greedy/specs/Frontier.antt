@@ -1,8 +1,8 @@
 -- What is kept to find the rows that can start.
 use Rattle.std.specs.Prelude.{◌≡◌, ℕ, ◌+◌, ◌<◌, ◌⊎◌, List, [], length, slice_get, slice_index, Option, Some, None}
 use Rattle.std.specs.List.{Contains, sum_by}
-use Rattle.boc_types.specs.declared.rows.Row.{Row}
-use Rattle.boc_types.specs.plans.Plans.{Ordered}
+use Rattle.boc_runs.specs.declared.rows.Row.{Row}
+use Rattle.boc_plans.specs.Plans.{Ordered}
 use Rattle.boc_order.specs.Waits.{links_of, times, AreWaits, AreFollowers}
 use Rattle.boc_greedy.specs.declared.frontier.Stage.{Stage}
 use Rattle.boc_greedy.specs.declared.frontier.Stage.TheVariants.{Unspawned, Waiting, UnderWay, Over}

@@ -1,9 +1,9 @@
 -- The greedy plan of some rows, as it is answered.
 use Rattle.std.specs.Prelude.{◌≡◌, ℕ, ◌+◌, ◌-◌, ◌*◌, ◌≤◌, List, length}
-use Rattle.boc_types.specs.declared.limits.TheConstants.{MOST_ROWS}
-use Rattle.boc_types.specs.declared.rows.Row.{Row}
-use Rattle.boc_types.specs.plans.Plans.{HasEnds, IsEnd, Keeps, work_of}
-use Rattle.boc_types.specs.plans.Greedy.{IsBound, IsForWorkers, IsGreedy, IsMoment, IsSpan, CountsAll}
+use Rattle.boc_program.specs.declared.limits.TheConstants.{MOST_ROWS}
+use Rattle.boc_runs.specs.declared.rows.Row.{Row}
+use Rattle.boc_plans.specs.Plans.{HasEnds, IsEnd, Keeps, work_of}
+use Rattle.boc_plans.specs.Greedy.{IsBound, IsForWorkers, IsGreedy, IsMoment, IsSpan, CountsAll}
 use Rattle.boc_greedy.specs.declared.report.Greedy.{Greedy}
 
 -- p times a tick is at most the work, and the span p - 1 times

@@ -1,12 +1,12 @@
 -- What a simulation keeps, from one step to the next.
 use Rattle.std.specs.Prelude.{◌≡◌, ◌≢◌, ℕ, ◌+◌, ◌<◌, ◌≤◌, List, length, slice_index}
-use Rattle.boc_types.specs.declared.limits.TheConstants.{MOST_TICKS}
+use Rattle.boc_program.specs.declared.limits.TheConstants.{MOST_TICKS}
 use Rattle.std.specs.Int.{bit_at}
 use Rattle.std.specs.List.{sum_by}
-use Rattle.boc_types.specs.declared.rows.Row.{Row}
-use Rattle.boc_types.specs.runs.Rows.{offset_of}
-use Rattle.boc_types.specs.plans.Plans.{start_of, end_of, IsChild}
-use Rattle.boc_types.specs.plans.Greedy.{worker_of, IsReady, IsFree, IsGreedyAt, IsMoment}
+use Rattle.boc_runs.specs.declared.rows.Row.{Row}
+use Rattle.boc_runs.specs.Rows.{offset_of}
+use Rattle.boc_plans.specs.Plans.{start_of, end_of, IsChild}
+use Rattle.boc_plans.specs.Greedy.{worker_of, IsReady, IsFree, IsGreedyAt, IsMoment}
 use Rattle.boc_greedy.specs.declared.frontier.Stage.{Stage}
 use Rattle.boc_greedy.specs.declared.frontier.Stage.TheVariants.{Unspawned, Waiting, UnderWay, Over}
 use Rattle.boc_greedy.specs.Stages.{IsAt, CanStart}

@@ -1,8 +1,8 @@
 -- A simulation as a whole.
 use Rattle.std.specs.Prelude.{ℕ, ◌+◌, ◌*◌, ◌≤◌, List, length}
-use Rattle.boc_types.specs.declared.limits.TheConstants.{MOST_TICKS}
-use Rattle.boc_types.specs.declared.rows.Row.{Row}
-use Rattle.boc_types.specs.plans.Greedy.{CountsAll}
+use Rattle.boc_program.specs.declared.limits.TheConstants.{MOST_TICKS}
+use Rattle.boc_runs.specs.declared.rows.Row.{Row}
+use Rattle.boc_plans.specs.Greedy.{CountsAll}
 use Rattle.boc_greedy.specs.declared.simulation.Simulation.{Simulation}
 use Rattle.boc_greedy.specs.Frontier.{IsFrontier}
 use Rattle.std.specs.BinaryHeap.{heap_items}

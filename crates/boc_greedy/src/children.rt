@@ -1,10 +1,10 @@
 // What rows that are under way come to, one after the other: the spawns of their children, and their ends.
 
 ghost use Rattle.std.specs.Prelude.{IfOk};
-ghost use Rattle.boc_types.specs.runs.Rows.{IsRows};
+ghost use Rattle.boc_runs.specs.Rows.{IsRows};
 ghost use Rattle.boc_greedy.specs.Families.{IsFamily, children_of, times_of};
 
-use boc_types::sharing::SeenRows;
+use boc_plans::sharing::SeenRows;
 use std::alloc::{AllocError, Global};
 
 /// What a row comes to next: it spawns a child or, where the child isn't there, ends.

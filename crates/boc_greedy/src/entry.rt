@@ -1,19 +1,19 @@
 // The greedy plan as a whole.
 
 ghost use Rattle.std.specs.Prelude.{◌≡◌, ℕ, ◌^◌, ◌<◌, length, IfOk};
-ghost use Rattle.boc_types.specs.runs.Rows.{IsRows};
-ghost use Rattle.boc_types.specs.runs.Seen.{seen};
-ghost use Rattle.boc_types.specs.plans.Plans.{HasEnds, end_of, work_of};
-ghost use Rattle.boc_types.specs.plans.Greedy.{IsSpan};
+ghost use Rattle.boc_runs.specs.Rows.{IsRows};
+ghost use Rattle.boc_plans.specs.Seen.{seen};
+ghost use Rattle.boc_plans.specs.Plans.{HasEnds, end_of, work_of};
+ghost use Rattle.boc_plans.specs.Greedy.{IsSpan};
 ghost use Rattle.boc_order.specs.Waits.{AreWaits};
 ghost use Rattle.boc_greedy.specs.Plans.{IsGreedyPlanOf};
 
 use crate::report::Greedy;
 use crate::simulation::Simulation;
 use boc_order::{Links, followers, last_end, waits_and_plan};
-use boc_types::rows::Rows;
-use boc_types::sharing::{SeenRows, Sharing};
-use boc_types::workers::Workers;
+use boc_plans::sharing::{SeenRows, Sharing};
+use boc_plans::workers::Workers;
+use boc_runs::rows::Rows;
 use std::alloc::{AllocError, Global};
 
 // The tick at which each row ends in a plan.

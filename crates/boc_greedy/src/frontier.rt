@@ -1,8 +1,8 @@
 // Which rows can start, as rows are spawned, start and end.
 
 ghost use Rattle.std.specs.Prelude.{◌≡◌, ℕ, ◌≤◌, ◌<◌, ◌↔◌, ◌⊎◌, ◌∷◌, length, pred, replicate, slice_index, slice_set, IfOk, IfSome, IfNone};
-ghost use Rattle.boc_types.specs.declared.limits.TheConstants.{MOST_ROWS};
-ghost use Rattle.boc_types.specs.runs.Rows.{IsRows};
+ghost use Rattle.boc_program.specs.declared.limits.TheConstants.{MOST_ROWS};
+ghost use Rattle.boc_runs.specs.Rows.{IsRows};
 ghost use Rattle.boc_order.specs.Waits.{AreWaits, AreFollowers};
 ghost use Rattle.boc_greedy.specs.declared.frontier.Stage.TheVariants.{Unspawned, Waiting, UnderWay, Over};
 ghost use Rattle.boc_greedy.specs.RowSets.{IsRowSet, Has};
@@ -11,7 +11,7 @@ ghost use Rattle.boc_greedy.specs.Frontier.{IsFrontier, CountsReady};
 
 use crate::row_set::RowSet;
 use boc_order::Links;
-use boc_types::sharing::SeenRows;
+use boc_plans::sharing::SeenRows;
 use std::alloc::{AllocError, Global};
 
 /// How far a row is.

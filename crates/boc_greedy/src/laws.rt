@@ -1,9 +1,9 @@
 // A law of greedy plans: of some rows there is one.
 
 ghost use Rattle.std.specs.Prelude.{◌≡◌, ℕ, List};
-ghost use Rattle.boc_types.specs.declared.rows.Row.{Row};
-ghost use Rattle.boc_types.specs.runs.Rows.{IsRows};
-ghost use Rattle.boc_types.specs.plans.Greedy.{IsGreedy};
+ghost use Rattle.boc_runs.specs.declared.rows.Row.{Row};
+ghost use Rattle.boc_runs.specs.Rows.{IsRows};
+ghost use Rattle.boc_plans.specs.Greedy.{IsGreedy};
 
 /// Rows have one greedy plan at most for each number of workers: one list of starts, and one list of the workers that rows stand on.
 pub fn rows_have_one_greedy_plan()

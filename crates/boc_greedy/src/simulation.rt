@@ -2,7 +2,7 @@
 
 ghost use Rattle.std.specs.Prelude.{◌≡◌, ℕ, ◌+◌, ◌<◌, ◌≤◌, [], length, IfOk, IfSome, IfNone, OnOk, true, false};
 ghost use Rattle.std.specs.BinaryHeap.{heap_items};
-ghost use Rattle.boc_types.specs.runs.Rows.{IsRows};
+ghost use Rattle.boc_runs.specs.Rows.{IsRows};
 ghost use Rattle.boc_order.specs.Waits.{AreWaits, AreFollowers};
 ghost use Rattle.boc_greedy.specs.Queues.{IsQueue, IsIn, IsOnTop, IsPutOff};
 ghost use Rattle.boc_greedy.specs.Simulating.{later, IsLeastIdle, steps_of_all};
@@ -12,7 +12,7 @@ use crate::bits::{with_bit, without_bit};
 use crate::children::{Family, family_of};
 use crate::frontier::Frontier;
 use boc_order::Links;
-use boc_types::sharing::SeenRows;
+use boc_plans::sharing::SeenRows;
 use std::alloc::{AllocError, Global};
 use std::cmp::Reverse;
 use std::collections::BinaryHeap;

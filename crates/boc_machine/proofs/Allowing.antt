@@ -2,21 +2,21 @@
 use Rattle.std.proofs.Common.{◌≡◌, ℕ, zero, suc, ◌+◌, ◌<◌, ◌≤◌, ◌⊎◌, inl, inr, Bool, true, false, List, [], ◌∷◌, ◌++◌, length, refl, sym, ◌∙◌, ap, subst, arith, append_assoc, length-append}
 use Rattle.std.specs.Prelude.{slice_get, Some, None}
 use Rattle.std.proofs.lemmas.Bool.{cases_lt}
-use Rattle.boc_types.specs.declared.limits.TheConstants.{MOST_ROWS}
-use Rattle.boc_types.specs.declared.program.Program.{Program}
-use Rattle.boc_types.specs.declared.event.Event.TheVariants as events
-use Rattle.boc_types.specs.declared.stage.Phase.TheVariants.{Flagging, Owning, Waiting, Ready, Running, Leaving}
-use Rattle.boc_types.specs.declared.stage.Stage.{Stage}
-use Rattle.boc_types.specs.declared.stage.Stage.TheVariants.{Asking, Recorded}
-use Rattle.boc_types.specs.declared.step.Step.TheVariants as steps
-use Rattle.boc_types.specs.program.Meaning.{Meaning}
-use Rattle.boc_types.specs.runs.Lives.{Pending, Running as RunningLife, Ended}
-use Rattle.boc_types.specs.runs.Run.{Member, meaning_of, next_wish, wish_at}
-use Rattle.boc_types.specs.machine.Stages.{OpenBehaviour, row_of, row_at, life, life_at, flagged, enqueues, enqueues_at}
-use Rattle.boc_types.specs.machine.Queues.{times}
-use Rattle.boc_types.specs.machine.Steps.{State, at, queue, members, recorded, unrecorded, opened, stepped, noted, with_new, asking_on, leaving_on, child, IsQuiet, IsDue, IsBlockedAsking}
-use Rattle.boc_types.specs.machine.Sound.{IsSound, HasNextRequest}
-use Rattle.boc_types.specs.machine.Movers.{works, works_at, NobodyWorks, CanAdvance, CanGoOn, SomebodyCanStep, Enqueue, Body, Release, First}
+use Rattle.boc_program.specs.declared.limits.TheConstants.{MOST_ROWS}
+use Rattle.boc_program.specs.declared.program.Program.{Program}
+use Rattle.boc_runs.specs.declared.event.Event.TheVariants as events
+use Rattle.boc_runs.specs.declared.stage.Phase.TheVariants.{Flagging, Owning, Waiting, Ready, Running, Leaving}
+use Rattle.boc_runs.specs.declared.stage.Stage.{Stage}
+use Rattle.boc_runs.specs.declared.stage.Stage.TheVariants.{Asking, Recorded}
+use Rattle.boc_runs.specs.declared.step.Step.TheVariants as steps
+use Rattle.boc_program.specs.Meaning.{Meaning}
+use Rattle.boc_runs.specs.Lives.{Pending, Running as RunningLife, Ended}
+use Rattle.boc_runs.specs.Run.{Member, meaning_of, next_wish, wish_at}
+use Rattle.boc_runs.specs.machine.Stages.{OpenBehaviour, row_of, row_at, life, life_at, flagged, enqueues, enqueues_at}
+use Rattle.boc_runs.specs.machine.Queues.{times}
+use Rattle.boc_runs.specs.machine.Steps.{State, at, queue, members, recorded, unrecorded, opened, stepped, noted, with_new, asking_on, leaving_on, child, IsQuiet, IsDue, IsBlockedAsking}
+use Rattle.boc_runs.specs.machine.Sound.{IsSound, HasNextRequest}
+use Rattle.boc_runs.specs.machine.Movers.{works, works_at, NobodyWorks, CanAdvance, CanGoOn, SomebodyCanStep, Enqueue, Body, Release, First}
 use Rattle.boc_machine.specs.Allowed.{AllowsStep, IsFull}
 use Rattle.boc_machine.proofs.Lists.{same_or_not, found, last_of, end_injective, read_there}
 use Rattle.boc_machine.proofs.Rows.{some_or_none, with_life}

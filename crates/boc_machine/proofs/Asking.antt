@@ -1,23 +1,24 @@
 -- Swap and Settle keep what every state keeps.
 use Rattle.std.proofs.Common.{◌≡◌, ◌≢◌, ℕ, zero, suc, ◌+◌, ◌<◌, ◌≤◌, Bool, true, false, cond, List, [], ◌∷◌, ◌++◌, length, take, refl, sym, ◌∙◌, ap, subst, arith, rules, length-append, get_or-set_other, get_or-set_same, length-set}
 use Rattle.std.specs.Prelude.{slice_get, Option, Some, None}
-use Rattle.boc_types.specs.declared.program.Program.{Program}
-use Rattle.boc_types.specs.declared.event.Event.{Event}
-use Rattle.boc_types.specs.declared.event.Event.TheVariants as events
-use Rattle.boc_types.specs.declared.stage.Phase.{Phase}
-use Rattle.boc_types.specs.declared.stage.Phase.TheVariants.{Flagging, Owning}
-use Rattle.boc_types.specs.declared.stage.Stage.{Stage}
-use Rattle.boc_types.specs.declared.stage.Stage.TheVariants.{Asking, Recorded}
-use Rattle.boc_types.specs.program.Meaning.{Wish}
-use Rattle.boc_types.specs.program.Rising.{rising}
-use Rattle.boc_types.specs.runs.Lives.{Pending, Running, changed}
-use Rattle.boc_types.specs.runs.Serial.{behaviour_of}
-use Rattle.boc_types.specs.runs.Run.{Member, Config, config_of, opening, waiting, next_wish, state_of, MayHappen}
-use Rattle.boc_types.specs.machine.Stages.{OpenBehaviour, standing, standing_at, settled, settled_at, flagged, flagged_at, row_of, row_at, ready_row, ready_row_at, holds, holds_at, cowns_of, life, life_at, asks, asks_at, enqueues, enqueues_at, waits, waits_at, parent_of, offset_of}
-use Rattle.boc_types.specs.machine.Queues.{times}
-use Rattle.boc_types.specs.machine.Steps.{State, at, queue, members, recorded, unrecorded, with_stage, with_queue, with_spawn, flagging, IsDue}
-use Rattle.boc_types.specs.machine.Sound.{Fits}
-use Rattle.boc_types.proofs.ChangedItems.{place_below, length-changed}
+use Rattle.boc_program.specs.declared.program.Program.{Program}
+use Rattle.boc_runs.specs.declared.event.Event.{Event}
+use Rattle.boc_runs.specs.declared.event.Event.TheVariants as events
+use Rattle.boc_runs.specs.declared.stage.Phase.{Phase}
+use Rattle.boc_runs.specs.declared.stage.Phase.TheVariants.{Flagging, Owning}
+use Rattle.boc_runs.specs.declared.stage.Stage.{Stage}
+use Rattle.boc_runs.specs.declared.stage.Stage.TheVariants.{Asking, Recorded}
+use Rattle.boc_program.specs.Meaning.{Wish}
+use Rattle.boc_program.specs.Rising.{rising}
+use Rattle.boc_program.specs.Changed.{changed}
+use Rattle.boc_runs.specs.Lives.{Pending, Running}
+use Rattle.boc_runs.specs.Serial.{behaviour_of}
+use Rattle.boc_runs.specs.Run.{Member, Config, config_of, opening, waiting, next_wish, state_of, MayHappen}
+use Rattle.boc_runs.specs.machine.Stages.{OpenBehaviour, standing, standing_at, settled, settled_at, flagged, flagged_at, row_of, row_at, ready_row, ready_row_at, holds, holds_at, cowns_of, life, life_at, asks, asks_at, enqueues, enqueues_at, waits, waits_at, parent_of, offset_of}
+use Rattle.boc_runs.specs.machine.Queues.{times}
+use Rattle.boc_runs.specs.machine.Steps.{State, at, queue, members, recorded, unrecorded, with_stage, with_queue, with_spawn, flagging, IsDue}
+use Rattle.boc_runs.specs.machine.Sound.{Fits}
+use Rattle.boc_program.proofs.ChangedItems.{place_below, length-changed}
 use Rattle.boc_machine.proofs.Lists.{times-here, times-other, times-append}
 use Rattle.boc_machine.proofs.Lawful.{nobody, OthersStay, exchange, relabel, ordered_kept, ordered_recorded, waits_on, waits_exchange, standing_le}
 use Rattle.boc_machine.proofs.Rows.{config_more, run_more, after_spawn, may_spawn, with_one_more}

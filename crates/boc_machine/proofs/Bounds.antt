@@ -4,21 +4,21 @@ use Rattle.std.specs.Prelude.{slice_get, Option, Some, None}
 use Rattle.std.specs.List.{sum_by}
 use Rattle.std.proofs.lemmas.List.{map-append, length-map}
 use Rattle.std.proofs.lemmas.List.Sums.{sum_by-cons, sum_by-append}
-use Rattle.boc_types.specs.declared.limits.TheConstants.{MOST_ROWS, MOST_HELD}
-use Rattle.boc_types.specs.declared.program.Program.{Program}
-use Rattle.boc_types.specs.declared.event.Event.{Event}
-use Rattle.boc_types.specs.declared.event.Event.TheVariants.{Spawn, Start, End}
-use Rattle.boc_types.specs.declared.stage.Stage.{Stage}
-use Rattle.boc_types.specs.declared.stage.Stage.TheVariants.{Asking, Recorded}
-use Rattle.boc_types.specs.program.Programs.{cown_count}
-use Rattle.boc_types.specs.runs.Run.{config_of, IsRun}
-use Rattle.boc_types.specs.runs.Lives as lives
-use Rattle.boc_types.specs.runs.Legal.{Entry, entries, after, after_all, pending, IsLegalFrom}
-use Rattle.boc_types.specs.machine.Stages.{OpenBehaviour, asks, asks_at, cowns_of, parent_of}
-use Rattle.boc_types.specs.machine.Steps.{State, at, recorded, unrecorded}
-use Rattle.boc_types.specs.machine.AlongRows.{cowns_of_rows, steps_of}
-use Rattle.boc_types.specs.machine.Sound.{IsSound, HasNextRequest, made, made_at}
-use Rattle.boc_types.proofs.RunsAreLegal.{run_is_legal}
+use Rattle.boc_program.specs.declared.limits.TheConstants.{MOST_ROWS, MOST_HELD}
+use Rattle.boc_program.specs.declared.program.Program.{Program}
+use Rattle.boc_runs.specs.declared.event.Event.{Event}
+use Rattle.boc_runs.specs.declared.event.Event.TheVariants.{Spawn, Start, End}
+use Rattle.boc_runs.specs.declared.stage.Stage.{Stage}
+use Rattle.boc_runs.specs.declared.stage.Stage.TheVariants.{Asking, Recorded}
+use Rattle.boc_program.specs.Programs.{cown_count}
+use Rattle.boc_runs.specs.Run.{config_of, IsRun}
+use Rattle.boc_runs.specs.Lives as lives
+use Rattle.boc_runs.specs.Legal.{Entry, entries, after, after_all, pending, IsLegalFrom}
+use Rattle.boc_runs.specs.machine.Stages.{OpenBehaviour, asks, asks_at, cowns_of, parent_of}
+use Rattle.boc_runs.specs.machine.Steps.{State, at, recorded, unrecorded}
+use Rattle.boc_runs.specs.machine.AlongRows.{cowns_of_rows, steps_of}
+use Rattle.boc_runs.specs.machine.Sound.{IsSound, HasNextRequest, made, made_at}
+use Rattle.boc_runs.proofs.RunsAreLegal.{run_is_legal}
 use Rattle.boc_machine.proofs.Core.{one_if, put_sum}
 use Rattle.boc_machine.proofs.Fitting.{asks_enqueues}
 use Rattle.boc_machine.proofs.Serially.{rows_are_members}

@@ -3,16 +3,16 @@ use Rattle.std.proofs.Common.{◌≡◌, ℕ, ◌+◌, ◌<◌, ◌≤◌, Bool,
 use Rattle.std.specs.Prelude.{Option, Some, None}
 use Rattle.std.specs.List.{sum_by}
 use Rattle.std.proofs.lemmas.List.Sums.{sum_by-set}
-use Rattle.boc_types.specs.declared.limits.TheConstants.{MOST_ROWS}
-use Rattle.boc_types.specs.declared.program.Program.{Program}
-use Rattle.boc_types.specs.declared.event.Event.{Event}
-use Rattle.boc_types.specs.program.Programs.{cown_count}
-use Rattle.boc_types.specs.runs.Run.{IsRun}
-use Rattle.boc_types.specs.machine.Stages.{OpenBehaviour, cowns_of, ready_row, asks}
-use Rattle.boc_types.specs.machine.Queues.{times}
-use Rattle.boc_types.specs.machine.Steps.{State, at, queue, members, recorded, unrecorded, opened, stepped, with_behaviour}
-use Rattle.boc_types.specs.machine.AlongRows.{cowns_of_rows, steps_of}
-use Rattle.boc_types.specs.machine.Sound.{Fits, IsSound, HasNextRequest, made, owed}
+use Rattle.boc_program.specs.declared.limits.TheConstants.{MOST_ROWS}
+use Rattle.boc_program.specs.declared.program.Program.{Program}
+use Rattle.boc_runs.specs.declared.event.Event.{Event}
+use Rattle.boc_program.specs.Programs.{cown_count}
+use Rattle.boc_runs.specs.Run.{IsRun}
+use Rattle.boc_runs.specs.machine.Stages.{OpenBehaviour, cowns_of, ready_row, asks}
+use Rattle.boc_runs.specs.machine.Queues.{times}
+use Rattle.boc_runs.specs.machine.Steps.{State, at, queue, members, recorded, unrecorded, opened, stepped, with_behaviour}
+use Rattle.boc_runs.specs.machine.AlongRows.{cowns_of_rows, steps_of}
+use Rattle.boc_runs.specs.machine.Sound.{Fits, IsSound, HasNextRequest, made, owed}
 use Rattle.boc_machine.proofs.Lists.{read_there}
 use Rattle.boc_machine.proofs.Lawful.{Laws, WaitsBut, nobody, laws_of, waits_of, lawful_of, OthersStay, kept, at_each}
 

@@ -6,18 +6,18 @@ use Rattle.std.proofs.lemmas.Bool.{ltb-false, ltb-true}
 use Rattle.std.proofs.lemmas.List.{map-append}
 use Rattle.std.proofs.lemmas.List.Sums.{sum_by-append}
 use Rattle.arrayvec.specs.ArrayVec.{ArrayVec}
-use Rattle.boc_types.specs.declared.body.EndStatus.{EndStatus}
-use Rattle.boc_types.specs.declared.event.Event.{Event}
-use Rattle.boc_types.specs.declared.event.Event.TheVariants.{Spawn, Start, End}
-use Rattle.boc_types.specs.declared.stage.Phase.TheVariants.{Flagging, Owning}
-use Rattle.boc_types.specs.declared.stage.Stage.TheVariants.{Recorded}
-use Rattle.boc_types.specs.runs.Lives.{changed}
-use Rattle.boc_types.specs.runs.Lives as lives
-use Rattle.boc_types.specs.runs.Legal.{Entry, entries, after, after_all, pending}
-use Rattle.boc_types.specs.machine.Stages.{OpenBehaviour}
-use Rattle.boc_types.specs.machine.Steps.{State, at, with_behaviour, flagging}
-use Rattle.boc_types.specs.machine.AlongRows.{cowns_of_rows, parents_of_rows, steps_of}
-use Rattle.boc_types.specs.machine.Sound.{made, owed, owed_at, HasNextRequest}
+use Rattle.boc_program.specs.declared.body.EndStatus.{EndStatus}
+use Rattle.boc_runs.specs.declared.event.Event.{Event}
+use Rattle.boc_runs.specs.declared.event.Event.TheVariants.{Spawn, Start, End}
+use Rattle.boc_runs.specs.declared.stage.Phase.TheVariants.{Flagging, Owning}
+use Rattle.boc_runs.specs.declared.stage.Stage.TheVariants.{Recorded}
+use Rattle.boc_program.specs.Changed.{changed}
+use Rattle.boc_runs.specs.Lives as lives
+use Rattle.boc_runs.specs.Legal.{Entry, entries, after, after_all, pending}
+use Rattle.boc_runs.specs.machine.Stages.{OpenBehaviour}
+use Rattle.boc_runs.specs.machine.Steps.{State, at, with_behaviour, flagging}
+use Rattle.boc_runs.specs.machine.AlongRows.{cowns_of_rows, parents_of_rows, steps_of}
+use Rattle.boc_runs.specs.machine.Sound.{made, owed, owed_at, HasNextRequest}
 use Rattle.boc_machine.proofs.Lawful.{at_each}
 use Rattle.boc_machine.proofs.Core.{HasSteps, HasRequests, put_sum, put_here, put_others}
 

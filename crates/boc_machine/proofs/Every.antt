@@ -4,20 +4,20 @@ use Rattle.std.specs.Prelude.{slice_get, Option, Some, None}
 use Rattle.std.specs.List.{sum_by}
 use Rattle.std.proofs.lemmas.List.{length-replicate}
 use Rattle.std.proofs.lemmas.List.Sums.{sum_by-cons}
-use Rattle.boc_types.specs.declared.program.Program.{Program}
-use Rattle.boc_types.specs.declared.stage.Phase.TheVariants.{Ready}
-use Rattle.boc_types.specs.declared.stage.Stage.TheVariants.{Recorded}
-use Rattle.boc_types.specs.program.Programs.{cown_count}
-use Rattle.boc_types.specs.runs.Serial.{main_behaviour}
-use Rattle.boc_types.specs.runs.Lives.{Life, Pending, Running, Ended}
-use Rattle.boc_types.specs.runs.Run.{Member, waiting, IsRun, IsWholeRun}
-use Rattle.boc_types.specs.machine.Stages.{OpenBehaviour, standing, cowns_of, ready_row, row_of, asks, enqueues, waits, holds}
-use Rattle.boc_types.specs.machine.Queues.{times, all_granted, Lawful}
-use Rattle.boc_types.specs.machine.Steps.{State, at, queue, members, IsQuiet, opening_state}
-use Rattle.boc_types.specs.machine.Schedules.{Reaches, Here, Then}
-use Rattle.boc_types.specs.machine.AlongRows.{cowns_of_rows, steps_of_rows}
-use Rattle.boc_types.specs.machine.Sound.{Fits, HasRow, HasNextRequest, IsSound, made, owed}
-use Rattle.boc_types.proofs.ChangedItems.{item_at}
+use Rattle.boc_program.specs.declared.program.Program.{Program}
+use Rattle.boc_runs.specs.declared.stage.Phase.TheVariants.{Ready}
+use Rattle.boc_runs.specs.declared.stage.Stage.TheVariants.{Recorded}
+use Rattle.boc_program.specs.Programs.{cown_count}
+use Rattle.boc_runs.specs.Serial.{main_behaviour}
+use Rattle.boc_runs.specs.Lives.{Life, Pending, Running, Ended}
+use Rattle.boc_runs.specs.Run.{Member, waiting, IsRun, IsWholeRun}
+use Rattle.boc_runs.specs.machine.Stages.{OpenBehaviour, standing, cowns_of, ready_row, row_of, asks, enqueues, waits, holds}
+use Rattle.boc_runs.specs.machine.Queues.{times, all_granted, Lawful}
+use Rattle.boc_runs.specs.machine.Steps.{State, at, queue, members, IsQuiet, opening_state}
+use Rattle.boc_runs.specs.machine.Schedules.{Reaches, Here, Then}
+use Rattle.boc_runs.specs.machine.AlongRows.{cowns_of_rows, steps_of_rows}
+use Rattle.boc_runs.specs.machine.Sound.{Fits, HasRow, HasNextRequest, IsSound, made, owed}
+use Rattle.boc_program.proofs.ChangedItems.{item_at}
 use Rattle.boc_machine.proofs.Lists.{times-other}
 use Rattle.boc_machine.proofs.Rows.{life_there}
 use Rattle.boc_machine.proofs.Keeps.{keeps_step}

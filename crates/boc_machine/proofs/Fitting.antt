@@ -1,17 +1,18 @@
 -- The open behaviours stay those of the rows of the run.
 use Rattle.std.proofs.Common.{◌≡◌, ◌≢◌, ℕ, ◌<◌, ◌⊎◌, inl, inr, true, false, List, [], ◌∷◌, ◌++◌, length, refl, sym, ◌∙◌, ap, arith, length-append}
 use Rattle.std.specs.Prelude.{slice_get, Option, Some, None, option_map}
-use Rattle.boc_types.specs.declared.program.Program.{Program}
-use Rattle.boc_types.specs.declared.stage.Stage.{Stage}
-use Rattle.boc_types.specs.declared.stage.Stage.TheVariants.{Asking, Recorded}
-use Rattle.boc_types.specs.program.Meaning.{Wish}
-use Rattle.boc_types.specs.program.Rising.{rising}
-use Rattle.boc_types.specs.runs.Serial.{behaviour_of}
-use Rattle.boc_types.specs.runs.Lives.{Pending, Running, Ended, changed}
-use Rattle.boc_types.specs.runs.Run.{Member, waiting, next_wish, state_of}
-use Rattle.boc_types.specs.machine.Stages.{OpenBehaviour, row_at, life_at, asks_at, enqueues_at, row_of, cowns_of, life, asks, enqueues, parent_of, offset_of}
-use Rattle.boc_types.specs.machine.Sound.{Fits, HasRow, AsksForWish}
-use Rattle.boc_types.proofs.ChangedItems.{place_below, last_item, front_item, length-changed}
+use Rattle.boc_program.specs.declared.program.Program.{Program}
+use Rattle.boc_runs.specs.declared.stage.Stage.{Stage}
+use Rattle.boc_runs.specs.declared.stage.Stage.TheVariants.{Asking, Recorded}
+use Rattle.boc_program.specs.Meaning.{Wish}
+use Rattle.boc_program.specs.Rising.{rising}
+use Rattle.boc_runs.specs.Serial.{behaviour_of}
+use Rattle.boc_program.specs.Changed.{changed}
+use Rattle.boc_runs.specs.Lives.{Pending, Running, Ended}
+use Rattle.boc_runs.specs.Run.{Member, waiting, next_wish, state_of}
+use Rattle.boc_runs.specs.machine.Stages.{OpenBehaviour, row_at, life_at, asks_at, enqueues_at, row_of, cowns_of, life, asks, enqueues, parent_of, offset_of}
+use Rattle.boc_runs.specs.machine.Sound.{Fits, HasRow, AsksForWish}
+use Rattle.boc_program.proofs.ChangedItems.{place_below, last_item, front_item, length-changed}
 use Rattle.boc_machine.proofs.Lists.{same_or_not}
 use Rattle.boc_machine.proofs.Lawful.{OthersStay, kept, at_each}
 use Rattle.boc_machine.proofs.Rows.{changed_same, changed_other, some_or_none, with_life, life_there, with_one_more}

@@ -1,22 +1,23 @@
 -- Flag, Own, Start and Finish keep what every state keeps, and so do the releases.
 use Rattle.std.proofs.Common.{◌≡◌, ◌≢◌, ℕ, zero, suc, ◌+◌, ◌<◌, ◌≤◌, inl, inr, Bool, true, false, cond, List, [], ◌∷◌, ◌++◌, length, drop, refl, sym, ◌∙◌, ap, subst, arith, get_or-set_other, get_or-set_same, length-set}
 use Rattle.std.specs.Prelude.{slice_get, Option, Some, None}
-use Rattle.boc_types.specs.declared.program.Program.{Program}
-use Rattle.boc_types.specs.declared.body.EndStatus.{EndStatus}
-use Rattle.boc_types.specs.declared.event.Event.{Event}
-use Rattle.boc_types.specs.declared.event.Event.TheVariants as events
-use Rattle.boc_types.specs.declared.stage.Phase.{Phase}
-use Rattle.boc_types.specs.declared.stage.Phase.TheVariants as phases
-use Rattle.boc_types.specs.declared.stage.Phase.TheVariants.{Flagging, Owning, Waiting, Ready, Leaving}
-use Rattle.boc_types.specs.declared.stage.Stage.{Stage}
-use Rattle.boc_types.specs.declared.stage.Stage.TheVariants.{Asking, Recorded}
-use Rattle.boc_types.specs.runs.Lives.{Pending, Running, Ended, changed}
-use Rattle.boc_types.specs.runs.Run.{Member, Config, config_of, config_after, opening, started_on, state_of, CanEnd, MayHappen}
-use Rattle.boc_types.specs.machine.Stages.{OpenBehaviour, standing, standing_at, settled, settled_at, flagged, flagged_at, row_of, row_at, ready_row, ready_row_at, holds, holds_at, cowns_of, life, life_at, asks, asks_at, enqueues, enqueues_at, waits, waits_at, parent_of, offset_of}
-use Rattle.boc_types.specs.machine.Queues.{times, is_first, all_granted}
-use Rattle.boc_types.specs.machine.Steps.{State, at, queue, members, values, noted, with_behaviour, with_stage, with_queue, with_ready, flagging, made_ready, HasNoEnqueue, IsDue}
-use Rattle.boc_types.specs.machine.Sound.{Fits}
-use Rattle.boc_types.proofs.ChangedItems.{length-changed}
+use Rattle.boc_program.specs.declared.program.Program.{Program}
+use Rattle.boc_program.specs.declared.body.EndStatus.{EndStatus}
+use Rattle.boc_runs.specs.declared.event.Event.{Event}
+use Rattle.boc_runs.specs.declared.event.Event.TheVariants as events
+use Rattle.boc_runs.specs.declared.stage.Phase.{Phase}
+use Rattle.boc_runs.specs.declared.stage.Phase.TheVariants as phases
+use Rattle.boc_runs.specs.declared.stage.Phase.TheVariants.{Flagging, Owning, Waiting, Ready, Leaving}
+use Rattle.boc_runs.specs.declared.stage.Stage.{Stage}
+use Rattle.boc_runs.specs.declared.stage.Stage.TheVariants.{Asking, Recorded}
+use Rattle.boc_program.specs.Changed.{changed}
+use Rattle.boc_runs.specs.Lives.{Pending, Running, Ended}
+use Rattle.boc_runs.specs.Run.{Member, Config, config_of, config_after, opening, started_on, state_of, CanEnd, MayHappen}
+use Rattle.boc_runs.specs.machine.Stages.{OpenBehaviour, standing, standing_at, settled, settled_at, flagged, flagged_at, row_of, row_at, ready_row, ready_row_at, holds, holds_at, cowns_of, life, life_at, asks, asks_at, enqueues, enqueues_at, waits, waits_at, parent_of, offset_of}
+use Rattle.boc_runs.specs.machine.Queues.{times, is_first, all_granted}
+use Rattle.boc_runs.specs.machine.Steps.{State, at, queue, members, values, noted, with_behaviour, with_stage, with_queue, with_ready, flagging, made_ready, HasNoEnqueue, IsDue}
+use Rattle.boc_runs.specs.machine.Sound.{Fits}
+use Rattle.boc_program.proofs.ChangedItems.{length-changed}
 use Rattle.boc_machine.proofs.Lists.{same_or_not, no_less, times-here, times-other, times-append}
 use Rattle.boc_machine.proofs.Lawful.{nobody, OthersStay, at_each, release, nowhere, relabel, ordered_kept, waits_on, waits_kept, waits_release, granted_first, times-take-le, regranted}
 use Rattle.boc_machine.proofs.Rows.{config_more, run_more}

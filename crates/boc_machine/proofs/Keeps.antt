@@ -5,20 +5,20 @@ use Rattle.std.specs.List.{sum_by}
 use Rattle.std.proofs.lemmas.Bool.{ltb-false, ltb-true}
 use Rattle.std.proofs.lemmas.List.Sums.{sum_by-append}
 use Rattle.std.proofs.lemmas.Option.{slice_get_within}
-use Rattle.boc_types.specs.declared.program.Program.{Program}
-use Rattle.boc_types.specs.declared.event.Event.{Event}
-use Rattle.boc_types.specs.declared.event.Event.TheVariants as events
-use Rattle.boc_types.specs.declared.stage.Phase.TheVariants as phases
-use Rattle.boc_types.specs.declared.stage.Phase.TheVariants.{Flagging, Owning, Waiting, Ready, Leaving}
-use Rattle.boc_types.specs.declared.stage.Stage.{Stage}
-use Rattle.boc_types.specs.declared.stage.Stage.TheVariants.{Asking, Recorded}
-use Rattle.boc_types.specs.declared.step.Step.{Step}
-use Rattle.boc_types.specs.declared.step.Step.TheVariants as steps
-use Rattle.boc_types.specs.machine.Stages.{OpenBehaviour, standing_at, settled, settled_at, flagged, asks_at, waits, waits_at}
-use Rattle.boc_types.specs.machine.Queues.{times, is_first, all_granted}
-use Rattle.boc_types.specs.machine.Steps.{State, at, queue, recorded, opened, stepped, noted, with_behaviour, with_stage, with_new, with_ready, with_queue, with_spawn, asking_on, leaving_on, made_ready, owned, flagging, woken, woken_if, woken_at, child, Opens, Swaps, Settles, Flags, Owns, Starts, Finishes, Unhooks, Passes, Makes}
-use Rattle.boc_types.specs.machine.AlongRows.{steps_of}
-use Rattle.boc_types.specs.machine.Sound.{IsSound, HasNextRequest, made, made_at, owed, owed_at}
+use Rattle.boc_program.specs.declared.program.Program.{Program}
+use Rattle.boc_runs.specs.declared.event.Event.{Event}
+use Rattle.boc_runs.specs.declared.event.Event.TheVariants as events
+use Rattle.boc_runs.specs.declared.stage.Phase.TheVariants as phases
+use Rattle.boc_runs.specs.declared.stage.Phase.TheVariants.{Flagging, Owning, Waiting, Ready, Leaving}
+use Rattle.boc_runs.specs.declared.stage.Stage.{Stage}
+use Rattle.boc_runs.specs.declared.stage.Stage.TheVariants.{Asking, Recorded}
+use Rattle.boc_runs.specs.declared.step.Step.{Step}
+use Rattle.boc_runs.specs.declared.step.Step.TheVariants as steps
+use Rattle.boc_runs.specs.machine.Stages.{OpenBehaviour, standing_at, settled, settled_at, flagged, asks_at, waits, waits_at}
+use Rattle.boc_runs.specs.machine.Queues.{times, is_first, all_granted}
+use Rattle.boc_runs.specs.machine.Steps.{State, at, queue, recorded, opened, stepped, noted, with_behaviour, with_stage, with_new, with_ready, with_queue, with_spawn, asking_on, leaving_on, made_ready, owned, flagging, woken, woken_if, woken_at, child, Opens, Swaps, Settles, Flags, Owns, Starts, Finishes, Unhooks, Passes, Makes}
+use Rattle.boc_runs.specs.machine.AlongRows.{steps_of}
+use Rattle.boc_runs.specs.machine.Sound.{IsSound, HasNextRequest, made, made_at, owed, owed_at}
 use Rattle.boc_machine.proofs.Lists.{same_or_not, read_front}
 use Rattle.boc_machine.proofs.Lawful.{nobody, is_first_of}
 use Rattle.boc_machine.proofs.Core.{Core, HasRequests, HasSteps, core_of, core_with, sound_of, core_stepped, put_here, put_sum}

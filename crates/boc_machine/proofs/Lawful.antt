@@ -3,11 +3,11 @@ use Rattle.std.proofs.lemmas.Bool.Decides.{Decides-eqb}
 use Rattle.std.proofs.Common.{◌≡◌, ℕ, zero, suc, ◌+◌, ◌<◌, ◌≤◌, ◌≢◌, Bool, true, false, List, [], ◌∷◌, ◌++◌, take, drop, refl, sym, ◌∙◌, ap, subst, inl, inr, arith, rules, append_assoc}
 use Rattle.std.specs.Prelude.{slice_get, nat_lt, ◌&&◌, Option, Some, None}
 use Rattle.std.specs.List.{list_all}
-use Rattle.boc_types.specs.declared.stage.Phase.TheVariants.{Flagging, Owning, Waiting, Ready, Running, Leaving}
-use Rattle.boc_types.specs.declared.stage.Stage.{Stage}
-use Rattle.boc_types.specs.declared.stage.Stage.TheVariants.{Asking, Recorded}
-use Rattle.boc_types.specs.machine.Queues.{times, is_first, is_granted, all_granted, InOrder, Lawful}
-use Rattle.boc_types.specs.machine.Stages.{OpenBehaviour, standing, standing_at, settled, flagged, flagged_at, row_of, row_at, waits, holds, cowns_of}
+use Rattle.boc_runs.specs.declared.stage.Phase.TheVariants.{Flagging, Owning, Waiting, Ready, Running, Leaving}
+use Rattle.boc_runs.specs.declared.stage.Stage.{Stage}
+use Rattle.boc_runs.specs.declared.stage.Stage.TheVariants.{Asking, Recorded}
+use Rattle.boc_runs.specs.machine.Queues.{times, is_first, is_granted, all_granted, InOrder, Lawful}
+use Rattle.boc_runs.specs.machine.Stages.{OpenBehaviour, standing, standing_at, settled, flagged, flagged_at, row_of, row_at, waits, holds, cowns_of}
 use Rattle.boc_machine.proofs.Lists.{same_or_not, not_eq, not_true, and_true, times-append, times-here, times-other, last_of, place_in_longer}
 
 -- the laws of the lists but that of who waits

@@ -3,7 +3,7 @@ use Rattle.std.proofs.Common.{zero, suc, ◌≡◌, ℕ, ◌+◌, ◌<◌, ◌�
 use Rattle.std.specs.Prelude.{Option, Some, None}
 use Rattle.std.proofs.lemmas.Bool.{cases_eq}
 use Rattle.std.proofs.lemmas.Bool.Decides.{Decides-eqb}
-use Rattle.boc_types.specs.machine.Queues.{times}
+use Rattle.boc_runs.specs.machine.Queues.{times}
 
 -- two numbers are one or not
 pub same_or_not : (x y : ℕ) → (x ≡ y) ⊎ (x ≢ y)

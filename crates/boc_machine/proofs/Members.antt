@@ -2,21 +2,22 @@
 use Rattle.std.proofs.Common.{◌≡◌, ℕ, zero, suc, ◌+◌, ◌≤◌, List, [], ◌∷◌, ◌++◌, length, map, refl, sym, ◌∙◌, ap, subst, arith}
 use Rattle.std.specs.Prelude.{slice_get, ℤ, Option, Some, None}
 use Rattle.std.specs.Option.{option_map}
-use Rattle.boc_types.specs.declared.body.EndStatus.TheVariants as statuses
-use Rattle.boc_types.specs.declared.program.Program.{Program}
-use Rattle.boc_types.specs.declared.event.Event.{Event}
-use Rattle.boc_types.specs.declared.event.Event.TheVariants.{Spawn, Start, End}
-use Rattle.boc_types.specs.program.Meaning.{Wish, Meaning, cowns_held}
-use Rattle.boc_types.specs.program.Programs.{cown_count}
-use Rattle.boc_types.specs.program.Rising.{rising}
-use Rattle.boc_types.specs.program.Signatures.{Signature, signature_of, AllBelow, CountsAre, WishFits, WishesFit}
-use Rattle.boc_types.specs.runs.Lives.{Life, Pending, Running, Ended, changed}
-use Rattle.boc_types.specs.runs.Serial.{Behaviour, behaviour_of, main_behaviour}
-use Rattle.boc_types.specs.runs.Legal.{Entry}
-use Rattle.boc_types.specs.runs.Run.{Member, Config, config_after, config_after_all, config_of, opening, next_wish, wish_at, meaning_of, waiting, spawned_by, started_on, members_after_spawn, values_after_end, values_written, state_of, MaySpawn, MayHappen, IsRunFrom, IsRun}
-use Rattle.boc_types.proofs.Behaviours.{cowns_of_inputs, main_fits, length-after_outputs, initial-length}
-use Rattle.boc_types.proofs.RunsAreLegal.{Twins, last_offset, whole_meaning, is_meant, meant_fits}
-use Rattle.boc_types.proofs.ChangedItems.{place_below}
+use Rattle.boc_program.specs.declared.body.EndStatus.TheVariants as statuses
+use Rattle.boc_program.specs.declared.program.Program.{Program}
+use Rattle.boc_runs.specs.declared.event.Event.{Event}
+use Rattle.boc_runs.specs.declared.event.Event.TheVariants.{Spawn, Start, End}
+use Rattle.boc_program.specs.Meaning.{Wish, Meaning, cowns_held}
+use Rattle.boc_program.specs.Programs.{cown_count}
+use Rattle.boc_program.specs.Rising.{rising}
+use Rattle.boc_program.specs.Signatures.{Signature, signature_of, AllBelow, CountsAre, WishFits, WishesFit}
+use Rattle.boc_program.specs.Changed.{changed}
+use Rattle.boc_runs.specs.Lives.{Life, Pending, Running, Ended}
+use Rattle.boc_runs.specs.Serial.{Behaviour, behaviour_of, main_behaviour}
+use Rattle.boc_runs.specs.Legal.{Entry}
+use Rattle.boc_runs.specs.Run.{Member, Config, config_after, config_after_all, config_of, opening, next_wish, wish_at, meaning_of, waiting, spawned_by, started_on, members_after_spawn, values_after_end, values_written, state_of, MaySpawn, MayHappen, IsRunFrom, IsRun}
+use Rattle.boc_runs.proofs.Behaviours.{cowns_of_inputs, main_fits, length-after_outputs, initial-length}
+use Rattle.boc_runs.proofs.RunsAreLegal.{Twins, last_offset, whole_meaning, is_meant, meant_fits}
+use Rattle.boc_program.proofs.ChangedItems.{place_below}
 use Rattle.boc_machine.proofs.Rows.{changed_later}
 
 -- a behaviour fits the program, runs on its own cowns, and has spawned no more than its wishes

@@ -3,22 +3,22 @@ use Rattle.std.proofs.Common.{◌≡◌, ℕ, zero, suc, ◌+◌, ◌<◌, ◌�
 use Rattle.std.specs.Prelude.{slice_get, nat_lt, ◌&&◌, Option, Some, None}
 use Rattle.std.specs.List.{list_all}
 use Rattle.std.proofs.lemmas.Bool.{lt-ltb}
-use Rattle.boc_types.specs.declared.program.Program.{Program}
-use Rattle.boc_types.specs.declared.stage.Phase.TheVariants.{Flagging, Owning, Waiting, Ready, Running, Leaving}
-use Rattle.boc_types.specs.declared.stage.Stage.{Stage}
-use Rattle.boc_types.specs.declared.stage.Stage.TheVariants.{Asking, Recorded}
-use Rattle.boc_types.specs.declared.step.Step.TheVariants as steps
-use Rattle.boc_types.specs.declared.event.Event.TheVariants as events
-use Rattle.boc_types.specs.program.Rising.{rising}
-use Rattle.boc_types.specs.runs.Lives.{Running as RunningLife, Ended as EndedLife}
-use Rattle.boc_types.specs.runs.Run.{state_of}
-use Rattle.boc_types.proofs.RisingNumbers.{rising_rises}
-use Rattle.boc_types.specs.machine.Stages.{OpenBehaviour, parent_of, cowns_of, row_of, row_at, ready_row, ready_row_at, standing, standing_at, settled, settled_at, flagged, flagged_at, asks, asks_at, enqueues, enqueues_at, waits, waits_at, life, life_at}
-use Rattle.boc_types.specs.machine.Queues.{times, is_first, is_granted, InOrder}
-use Rattle.boc_types.specs.machine.Steps.{State, at, queue, members, stepped, with_queue, with_stage, asking_on, owned, flagging, noted, with_ready, woken, leaving_on, IsQuiet, IsDue, IsFlaggedBefore}
-use Rattle.boc_types.specs.machine.Turns.{IsEnqueueOf}
-use Rattle.boc_types.specs.machine.Sound.{IsSound, HasNextRequest}
-use Rattle.boc_types.specs.machine.Movers.{works, works_at, NobodyWorks, CanAdvance, CanGoOn, CanLeave, CanStart, SomebodyCanStep, Enqueue, Body, Release, First}
+use Rattle.boc_program.specs.declared.program.Program.{Program}
+use Rattle.boc_runs.specs.declared.stage.Phase.TheVariants.{Flagging, Owning, Waiting, Ready, Running, Leaving}
+use Rattle.boc_runs.specs.declared.stage.Stage.{Stage}
+use Rattle.boc_runs.specs.declared.stage.Stage.TheVariants.{Asking, Recorded}
+use Rattle.boc_runs.specs.declared.step.Step.TheVariants as steps
+use Rattle.boc_runs.specs.declared.event.Event.TheVariants as events
+use Rattle.boc_program.specs.Rising.{rising}
+use Rattle.boc_runs.specs.Lives.{Running as RunningLife, Ended as EndedLife}
+use Rattle.boc_runs.specs.Run.{state_of}
+use Rattle.boc_program.proofs.RisingNumbers.{rising_rises}
+use Rattle.boc_runs.specs.machine.Stages.{OpenBehaviour, parent_of, cowns_of, row_of, row_at, ready_row, ready_row_at, standing, standing_at, settled, settled_at, flagged, flagged_at, asks, asks_at, enqueues, enqueues_at, waits, waits_at, life, life_at}
+use Rattle.boc_runs.specs.machine.Queues.{times, is_first, is_granted, InOrder}
+use Rattle.boc_runs.specs.machine.Steps.{State, at, queue, members, stepped, with_queue, with_stage, asking_on, owned, flagging, noted, with_ready, woken, leaving_on, IsQuiet, IsDue, IsFlaggedBefore}
+use Rattle.boc_runs.specs.machine.Turns.{IsEnqueueOf}
+use Rattle.boc_runs.specs.machine.Sound.{IsSound, HasNextRequest}
+use Rattle.boc_runs.specs.machine.Movers.{works, works_at, NobodyWorks, CanAdvance, CanGoOn, CanLeave, CanStart, SomebodyCanStep, Enqueue, Body, Release, First}
 use Rattle.boc_machine.proofs.Lists.{same_or_not, not_true, times-append, times-here, found, same_numbers}
 use Rattle.boc_machine.proofs.Rows.{some_or_none, life_there, with_life}
 use Rattle.boc_machine.proofs.OneTurn.{who_leaves}

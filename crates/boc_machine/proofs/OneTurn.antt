@@ -1,26 +1,26 @@
 -- A worker has at most one turn, and a turn keeps the state sound.
 use Rattle.std.proofs.Common.{◌+◌, ◌≤◌, ◌≡◌, ℕ, suc, ◌<◌, Bool, true, false, List, [], ◌∷◌, ◌++◌, refl, sym, ◌∙◌, ap, subst, arith}
 use Rattle.std.specs.Prelude.{slice_get, slice_set, Option, Some, None}
-use Rattle.boc_types.specs.declared.limits.TheConstants.{MOST_ROWS}
-use Rattle.boc_types.specs.declared.program.Program.{Program}
-use Rattle.boc_types.specs.declared.event.Event.TheVariants as events
-use Rattle.boc_types.specs.declared.stage.Phase.{Phase}
-use Rattle.boc_types.specs.declared.stage.Phase.TheVariants.{Flagging, Owning, Running as RunningPhase, Leaving}
-use Rattle.boc_types.specs.declared.stage.Stage.{Stage}
-use Rattle.boc_types.specs.declared.stage.Stage.TheVariants.{Asking, Recorded}
-use Rattle.boc_types.specs.declared.step.Step.{Step}
-use Rattle.boc_types.specs.declared.step.Step.TheVariants as steps
-use Rattle.boc_types.specs.program.Meaning.{Wish, Meaning}
-use Rattle.boc_types.specs.runs.Lives.{Life, Running, Ended}
-use Rattle.boc_types.specs.runs.Run.{meaning_of, next_wish, wish_at, state_of}
-use Rattle.boc_types.specs.machine.Stages.{OpenBehaviour, row_of, row_at, life, life_at, flagged, settled}
-use Rattle.boc_types.specs.machine.Queues.{times}
-use Rattle.boc_types.specs.machine.Steps.{HasNoEnqueue, State, at, queue, members, recorded, unrecorded, opened, stepped, noted, with_stage, with_queue, with_new, with_ready, asking_on, leaving_on, owned, flagging, woken, child, IsDue, IsBlockedAsking, IsBlockedLeaving, Opens, Settles, Starts, Finishes, Unhooks, Passes, Advances, Leaves, Makes}
-use Rattle.boc_types.specs.machine.Turns.{IsEnqueueOf, unless_gone, TakesTurn, Begins, NoneReady, Advanced, WaitsToSettle, Opened, Finished, Left, WaitsToLeave, Driven, Turn, Turns}
-use Rattle.boc_types.specs.machine.Schedules.{Reaches, Here, Then}
-use Rattle.boc_types.specs.machine.Movers.{CanLeave}
-use Rattle.boc_types.specs.machine.Sound.{IsSound}
-use Rattle.boc_types.proofs.ChangedItems.{none_past}
+use Rattle.boc_program.specs.declared.limits.TheConstants.{MOST_ROWS}
+use Rattle.boc_program.specs.declared.program.Program.{Program}
+use Rattle.boc_runs.specs.declared.event.Event.TheVariants as events
+use Rattle.boc_runs.specs.declared.stage.Phase.{Phase}
+use Rattle.boc_runs.specs.declared.stage.Phase.TheVariants.{Flagging, Owning, Running as RunningPhase, Leaving}
+use Rattle.boc_runs.specs.declared.stage.Stage.{Stage}
+use Rattle.boc_runs.specs.declared.stage.Stage.TheVariants.{Asking, Recorded}
+use Rattle.boc_runs.specs.declared.step.Step.{Step}
+use Rattle.boc_runs.specs.declared.step.Step.TheVariants as steps
+use Rattle.boc_program.specs.Meaning.{Wish, Meaning}
+use Rattle.boc_runs.specs.Lives.{Life, Running, Ended}
+use Rattle.boc_runs.specs.Run.{meaning_of, next_wish, wish_at, state_of}
+use Rattle.boc_runs.specs.machine.Stages.{OpenBehaviour, row_of, row_at, life, life_at, flagged, settled}
+use Rattle.boc_runs.specs.machine.Queues.{times}
+use Rattle.boc_runs.specs.machine.Steps.{HasNoEnqueue, State, at, queue, members, recorded, unrecorded, opened, stepped, noted, with_stage, with_queue, with_new, with_ready, asking_on, leaving_on, owned, flagging, woken, child, IsDue, IsBlockedAsking, IsBlockedLeaving, Opens, Settles, Starts, Finishes, Unhooks, Passes, Advances, Leaves, Makes}
+use Rattle.boc_runs.specs.machine.Turns.{IsEnqueueOf, unless_gone, TakesTurn, Begins, NoneReady, Advanced, WaitsToSettle, Opened, Finished, Left, WaitsToLeave, Driven, Turn, Turns}
+use Rattle.boc_runs.specs.machine.Schedules.{Reaches, Here, Then}
+use Rattle.boc_runs.specs.machine.Movers.{CanLeave}
+use Rattle.boc_runs.specs.machine.Sound.{IsSound}
+use Rattle.boc_program.proofs.ChangedItems.{none_past}
 use Rattle.boc_machine.proofs.Rows.{life_there}
 use Rattle.boc_machine.proofs.Every.{reaches_keeps}
 

@@ -2,15 +2,15 @@
 use Rattle.std.proofs.Common.{◌≡◌, ℕ, ◌+◌, ◌<◌, [], ◌∷◌, length, sym, ◌∙◌, ap, subst, arith, length-append}
 use Rattle.std.specs.Prelude.{slice_get, Option, Some, None}
 use Rattle.std.proofs.lemmas.List.Sums.{sum_by-append}
-use Rattle.boc_types.specs.declared.program.Program.{Program}
-use Rattle.boc_types.specs.program.Meaning.{Wish}
-use Rattle.boc_types.specs.program.Rising.{rising}
-use Rattle.boc_types.specs.program.Programs.{cown_count}
-use Rattle.boc_types.specs.runs.Lives.{Life}
-use Rattle.boc_types.specs.runs.Run.{next_wish, state_of}
-use Rattle.boc_types.specs.machine.Stages.{OpenBehaviour, standing, row_of, ready_row, cowns_of, asks, waits, parent_of, offset_of}
-use Rattle.boc_types.specs.machine.Queues.{times}
-use Rattle.boc_types.specs.machine.Steps.{State, at, queue, members, unrecorded, opened, with_new, MayOpen, child}
+use Rattle.boc_program.specs.declared.program.Program.{Program}
+use Rattle.boc_program.specs.Meaning.{Wish}
+use Rattle.boc_program.specs.Rising.{rising}
+use Rattle.boc_program.specs.Programs.{cown_count}
+use Rattle.boc_runs.specs.Lives.{Life}
+use Rattle.boc_runs.specs.Run.{next_wish, state_of}
+use Rattle.boc_runs.specs.machine.Stages.{OpenBehaviour, standing, row_of, ready_row, cowns_of, asks, waits, parent_of, offset_of}
+use Rattle.boc_runs.specs.machine.Queues.{times}
+use Rattle.boc_runs.specs.machine.Steps.{State, at, queue, members, unrecorded, opened, with_new, MayOpen, child}
 use Rattle.boc_machine.proofs.Lists.{read_past, read_pushed, read_front}
 use Rattle.boc_machine.proofs.Lawful.{nobody, OthersStay, kept, at_each, nowhere, waits_on}
 use Rattle.boc_machine.proofs.Fitting.{fits_opened}

@@ -3,11 +3,11 @@ use Rattle.std.proofs.Common.{◌≡◌, ◌≢◌, ℕ, zero, suc, ◌<◌, ◌
 use Rattle.std.specs.Prelude.{slice_get, slice_set, slice_index_or, Some, None}
 use Rattle.std.specs.List.{Contains}
 use Rattle.std.proofs.lemmas.Bool.{cases_lt}
-use Rattle.boc_types.specs.declared.short.Input.{Input}
-use Rattle.boc_types.specs.runs.Serial.{inputs_of, after_outputs}
-use Rattle.boc_types.specs.machine.Queues.{times}
-use Rattle.boc_types.proofs.ChangedItems.{set_same, set_other, none_past}
-use Rattle.boc_types.proofs.RisingNumbers.{has_first, has_later}
+use Rattle.boc_program.specs.declared.short.Input.{Input}
+use Rattle.boc_runs.specs.Serial.{inputs_of, after_outputs}
+use Rattle.boc_runs.specs.machine.Queues.{times}
+use Rattle.boc_program.proofs.ChangedItems.{set_same, set_other, none_past}
+use Rattle.boc_program.proofs.RisingNumbers.{has_first, has_later}
 use Rattle.boc_machine.proofs.Lists.{same_or_not, times-here, times-other}
 
 -- a number that stands in a list is contained in it

@@ -2,18 +2,19 @@
 use Rattle.std.proofs.Common.{◌≡◌, ℕ, zero, suc, List, [], ◌∷◌, ◌++◌, length, map, refl, sym, ◌∙◌, ap, arith}
 use Rattle.std.specs.Prelude.{slice_get, slice_set, Option, Some, None, option_map}
 use Rattle.std.proofs.lemmas.List.{map-append, length-map}
-use Rattle.boc_types.specs.declared.program.Program.{Program}
-use Rattle.boc_types.specs.declared.rows.Row.{Row}
-use Rattle.boc_types.specs.declared.event.Event.{Event}
-use Rattle.boc_types.specs.declared.event.Event.TheVariants.{Spawn, Start, End}
-use Rattle.boc_types.specs.program.Programs.{cown_count}
-use Rattle.boc_types.specs.runs.Serial.{behaviour_of}
-use Rattle.boc_types.specs.runs.Lives.{Life, Pending, Running, Ended, changed}
-use Rattle.boc_types.specs.runs.Legal.{Entry, entries, after, after_all, pending, IsAllowed, IsComplete}
-use Rattle.boc_types.specs.runs.Records.{AreRowsOf}
-use Rattle.boc_types.specs.runs.Run.{Member, Config, waiting, config_of, config_after, config_after_all, opening, members_after_spawn, started_on, MaySpawn, MayHappen, IsRunFrom, IsRun, IsWholeRun}
-use Rattle.boc_types.specs.machine.AlongRows.{cowns_of_rows, parents_of_rows}
-use Rattle.boc_types.proofs.RunsAreLegal.{run_is_legal}
+use Rattle.boc_program.specs.declared.program.Program.{Program}
+use Rattle.boc_runs.specs.declared.rows.Row.{Row}
+use Rattle.boc_runs.specs.declared.event.Event.{Event}
+use Rattle.boc_runs.specs.declared.event.Event.TheVariants.{Spawn, Start, End}
+use Rattle.boc_program.specs.Programs.{cown_count}
+use Rattle.boc_runs.specs.Serial.{behaviour_of}
+use Rattle.boc_program.specs.Changed.{changed}
+use Rattle.boc_runs.specs.Lives.{Life, Pending, Running, Ended}
+use Rattle.boc_runs.specs.Legal.{Entry, entries, after, after_all, pending, IsAllowed, IsComplete}
+use Rattle.boc_runs.specs.Records.{AreRowsOf}
+use Rattle.boc_runs.specs.Run.{Member, Config, waiting, config_of, config_after, config_after_all, opening, members_after_spawn, started_on, MaySpawn, MayHappen, IsRunFrom, IsRun, IsWholeRun}
+use Rattle.boc_runs.specs.machine.AlongRows.{cowns_of_rows, parents_of_rows}
+use Rattle.boc_runs.proofs.RunsAreLegal.{run_is_legal}
 use Rattle.boc_machine.proofs.Rows.{run_more, after_spawn, with_one_more}
 use Rattle.boc_machine.proofs.Wishes.{last_allowed}
 use Rattle.boc_machine.proofs.Counting.{map_changed}

@@ -1,12 +1,13 @@
 -- Rows of a run: one changed, one more; and runs with one event more.
 use Rattle.std.proofs.Common.{◌≡◌, ◌≢◌, ℕ, zero, suc, ◌+◌, ◌<◌, ◌≤◌, ◌⊎◌, inl, inr, List, [], ◌∷◌, ◌++◌, length, refl, ◌∙◌, ap, arith}
 use Rattle.std.specs.Prelude.{slice_get, slice_set, Option, Some, None, option_map}
-use Rattle.boc_types.specs.declared.program.Program.{Program}
-use Rattle.boc_types.specs.declared.event.Event.{Event}
-use Rattle.boc_types.specs.program.Meaning.{Wish}
-use Rattle.boc_types.specs.runs.Serial.{behaviour_of}
-use Rattle.boc_types.specs.runs.Lives.{Life, changed}
-use Rattle.boc_types.specs.runs.Run.{Member, Config, waiting, next_wish, spawned_by, members_after_spawn, config_after, config_after_all, state_of, MaySpawn, SpawnsWish, MayHappen, IsRunFrom}
+use Rattle.boc_program.specs.declared.program.Program.{Program}
+use Rattle.boc_runs.specs.declared.event.Event.{Event}
+use Rattle.boc_program.specs.Meaning.{Wish}
+use Rattle.boc_runs.specs.Serial.{behaviour_of}
+use Rattle.boc_program.specs.Changed.{changed}
+use Rattle.boc_runs.specs.Lives.{Life}
+use Rattle.boc_runs.specs.Run.{Member, Config, waiting, next_wish, spawned_by, members_after_spawn, config_after, config_after_all, state_of, MaySpawn, SpawnsWish, MayHappen, IsRunFrom}
 
 -- ---- one item changed
 

@@ -2,17 +2,18 @@
 use Rattle.std.proofs.Common.{◌≡◌, ◌≢◌, ℕ, zero, suc, ◌<◌, ◌≤◌, inl, inr, List, length, refl, sym, ◌∙◌, ap, subst, arith, ℤ}
 use Rattle.std.specs.Prelude.{slice_get, Option, Some, None, option_map}
 use Rattle.std.proofs.lemmas.Bool.{cases_lt}
-use Rattle.boc_types.specs.declared.body.Body.{Body}
-use Rattle.boc_types.specs.declared.body.EndStatus.{EndStatus}
-use Rattle.boc_types.specs.declared.short.Input.{Input}
-use Rattle.boc_types.specs.declared.program.Program.{Program}
-use Rattle.boc_types.specs.program.Meaning.{Meaning, meaning}
-use Rattle.boc_types.specs.runs.Serial.{after_outputs, meaning_if, serial_along}
-use Rattle.boc_types.specs.runs.Lives.{Pending, Running, Ended, changed}
-use Rattle.boc_types.specs.runs.Run.{Member, Config, meaning_of, values_written, values_after_end, CanEnd}
-use Rattle.boc_types.specs.machine.Queues.{times}
-use Rattle.boc_types.proofs.ChangedItems.{item_at, length-changed}
-use Rattle.boc_types.proofs.Behaviours.{length-after_outputs}
+use Rattle.boc_program.specs.declared.body.Body.{Body}
+use Rattle.boc_program.specs.declared.body.EndStatus.{EndStatus}
+use Rattle.boc_program.specs.declared.short.Input.{Input}
+use Rattle.boc_program.specs.declared.program.Program.{Program}
+use Rattle.boc_program.specs.Meaning.{Meaning, meaning}
+use Rattle.boc_runs.specs.Serial.{after_outputs, meaning_if, serial_along}
+use Rattle.boc_program.specs.Changed.{changed}
+use Rattle.boc_runs.specs.Lives.{Pending, Running, Ended}
+use Rattle.boc_runs.specs.Run.{Member, Config, meaning_of, values_written, values_after_end, CanEnd}
+use Rattle.boc_runs.specs.machine.Queues.{times}
+use Rattle.boc_program.proofs.ChangedItems.{item_at, length-changed}
+use Rattle.boc_runs.proofs.Behaviours.{length-after_outputs}
 use Rattle.boc_machine.proofs.Lists.{same_or_not, no_less}
 use Rattle.boc_machine.proofs.Rows.{changed_same, changed_other}
 use Rattle.boc_machine.proofs.Outputs.{outputs_elsewhere, outputs_alike, take_all_of}

@@ -3,14 +3,15 @@ use Rattle.std.proofs.Common.{◌≡◌, ◌≢◌, ℕ, suc, ◌+◌, ◌<◌, 
 use Rattle.std.specs.Prelude.{slice_get, nat_eq, Option, Some, None, option_map}
 use Rattle.std.proofs.lemmas.Bool.{cases_lt}
 use Rattle.std.proofs.lemmas.List.Sums.{sum_by-append}
-use Rattle.boc_types.specs.declared.program.Program.{Program}
-use Rattle.boc_types.specs.program.Meaning.{Wish, Meaning}
-use Rattle.boc_types.specs.runs.Serial.{Behaviour, behaviour_of, main_behaviour, inputs_of, after_outputs, SerialRow, Serial, meaning_if, wish_of_row, children, next_behaviour, run_at_once, with_row, serial_along}
-use Rattle.boc_types.specs.runs.Lives.{Pending, Ended, changed}
-use Rattle.boc_types.specs.runs.Run.{Member, Config, waiting, wish_at}
-use Rattle.boc_types.specs.machine.Queues.{times}
-use Rattle.boc_types.proofs.ChangedItems.{place_below, last_item, front_item, length-changed}
-use Rattle.boc_types.proofs.OwnOrders.{along_more, rows_done}
+use Rattle.boc_program.specs.declared.program.Program.{Program}
+use Rattle.boc_program.specs.Meaning.{Wish, Meaning}
+use Rattle.boc_runs.specs.Serial.{Behaviour, behaviour_of, main_behaviour, inputs_of, after_outputs, SerialRow, Serial, meaning_if, wish_of_row, children, next_behaviour, run_at_once, with_row, serial_along}
+use Rattle.boc_program.specs.Changed.{changed}
+use Rattle.boc_runs.specs.Lives.{Pending, Ended}
+use Rattle.boc_runs.specs.Run.{Member, Config, waiting, wish_at}
+use Rattle.boc_runs.specs.machine.Queues.{times}
+use Rattle.boc_program.proofs.ChangedItems.{place_below, last_item, front_item, length-changed}
+use Rattle.boc_runs.proofs.OwnOrders.{along_more, rows_done}
 use Rattle.boc_machine.proofs.Lists.{same_or_not, no_less, not_eq, same_numbers}
 use Rattle.boc_machine.proofs.Rows.{changed_same, changed_other, with_one_more}
 use Rattle.boc_machine.proofs.Core.{one_if}

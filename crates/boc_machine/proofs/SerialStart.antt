@@ -1,12 +1,13 @@
 -- A start keeps a run beside the serial run.
 use Rattle.std.proofs.Common.{◌≡◌, ℕ, ◌<◌, inl, inr, List, sym, ◌∙◌, ap, subst, arith}
 use Rattle.std.specs.Prelude.{slice_get, Some, option_map}
-use Rattle.boc_types.specs.declared.program.Program.{Program}
-use Rattle.boc_types.specs.runs.Serial.{inputs_of}
-use Rattle.boc_types.specs.runs.Lives.{Pending, Running, Ended, changed, MayStart, Overlap}
-use Rattle.boc_types.specs.runs.Run.{Member, Config, started_on, state_of, member_cowns}
-use Rattle.boc_types.specs.machine.Queues.{times}
-use Rattle.boc_types.proofs.ChangedItems.{length-changed}
+use Rattle.boc_program.specs.declared.program.Program.{Program}
+use Rattle.boc_runs.specs.Serial.{inputs_of}
+use Rattle.boc_program.specs.Changed.{changed}
+use Rattle.boc_runs.specs.Lives.{Pending, Running, Ended, MayStart, Overlap}
+use Rattle.boc_runs.specs.Run.{Member, Config, started_on, state_of, member_cowns}
+use Rattle.boc_runs.specs.machine.Queues.{times}
+use Rattle.boc_program.proofs.ChangedItems.{length-changed}
 use Rattle.boc_machine.proofs.Lists.{same_or_not}
 use Rattle.boc_machine.proofs.Rows.{changed_same, changed_other, life_there}
 use Rattle.boc_machine.proofs.Outputs.{inputs_alike}

@@ -4,21 +4,22 @@ use Rattle.std.proofs.Common.{◌≡◌, ℕ, ◌<◌, List, [], ◌∷◌, ◌+
 use Rattle.std.specs.Prelude.{slice_get, Some, None}
 use Rattle.std.proofs.lemmas.List.{length-map}
 use Rattle.arrayvec.specs.ArrayVec.{ArrayVec}
-use Rattle.boc_types.specs.declared.body.EndStatus.{EndStatus}
-use Rattle.boc_types.specs.declared.program.Program.{Program}
-use Rattle.boc_types.specs.declared.event.Event.{Event}
-use Rattle.boc_types.specs.declared.event.Event.TheVariants.{Spawn, Start, End}
-use Rattle.boc_types.specs.program.Meaning.{Meaning}
-use Rattle.boc_types.specs.runs.Serial.{behaviour_of, main_behaviour, SerialRow, Serial, children, next_behaviour, run_at_once, serial_along}
-use Rattle.boc_types.specs.runs.Lives.{Running, Ended, changed}
-use Rattle.boc_types.specs.runs.Run.{Member, Config, waiting, meaning_of, wish_at, next_wish, members_after_spawn, config_after, config_after_all, config_of, opening, MaySpawn, SpawnsWish, MayHappen, IsRunFrom, IsRun, IsWholeRun}
-use Rattle.boc_types.proofs.ChangedItems.{place_below, front_item, length-changed}
-use Rattle.boc_types.proofs.OwnOrders.{along_more, rows_done}
+use Rattle.boc_program.specs.declared.body.EndStatus.{EndStatus}
+use Rattle.boc_program.specs.declared.program.Program.{Program}
+use Rattle.boc_runs.specs.declared.event.Event.{Event}
+use Rattle.boc_runs.specs.declared.event.Event.TheVariants.{Spawn, Start, End}
+use Rattle.boc_program.specs.Meaning.{Meaning}
+use Rattle.boc_runs.specs.Serial.{behaviour_of, main_behaviour, SerialRow, Serial, children, next_behaviour, run_at_once, serial_along}
+use Rattle.boc_program.specs.Changed.{changed}
+use Rattle.boc_runs.specs.Lives.{Running, Ended}
+use Rattle.boc_runs.specs.Run.{Member, Config, waiting, meaning_of, wish_at, next_wish, members_after_spawn, config_after, config_after_all, config_of, opening, MaySpawn, SpawnsWish, MayHappen, IsRunFrom, IsRun, IsWholeRun}
+use Rattle.boc_program.proofs.ChangedItems.{place_below, front_item, length-changed}
+use Rattle.boc_runs.proofs.OwnOrders.{along_more, rows_done}
 use Rattle.boc_machine.proofs.Rows.{with_life, life_there, with_one_more, after_spawn}
 use Rattle.boc_machine.proofs.Outputs.{same_items, take_all_of}
 use Rattle.boc_machine.proofs.Twins.{rows_along, later, before_length, Follows, running_not_pending}
-use Rattle.boc_types.specs.runs.Legal.{entries, after}
-use Rattle.boc_types.specs.machine.AlongRows.{parents_of_rows, serial_of_log, EndedSo, EndsSerially}
+use Rattle.boc_runs.specs.Legal.{entries, after}
+use Rattle.boc_runs.specs.machine.AlongRows.{parents_of_rows, serial_of_log, EndedSo, EndsSerially}
 use Rattle.boc_machine.proofs.SerialStart.{follows_start}
 use Rattle.boc_machine.proofs.SerialEnd.{means_same, follows_end, mine, meant}
 use Rattle.boc_machine.proofs.SerialSpawn.{follows_spawn, next_of_row, next_of_none, wish_means}

@@ -1,22 +1,22 @@
 -- In a drive each row that runs or leaves is served by a worker; and the turn of who can step is a step.
 use Rattle.std.proofs.Common.{◌≡◌, ◌≢◌, ℕ, zero, suc, ◌+◌, ◌⊎◌, inl, inr, true, false, List, [], ◌∷◌, length, refl, sym, ◌∙◌, ap, subst}
 use Rattle.std.specs.Prelude.{nat_lt, slice_get, Option, Some, None}
-use Rattle.boc_types.specs.declared.program.Program.{Program}
-use Rattle.boc_types.specs.declared.event.Event.TheVariants as events
-use Rattle.boc_types.specs.declared.stage.Phase.TheVariants.{Flagging, Owning, Waiting, Ready, Running, Leaving}
-use Rattle.boc_types.specs.declared.stage.Stage.{Stage}
-use Rattle.boc_types.specs.declared.stage.Stage.TheVariants.{Asking, Recorded}
-use Rattle.boc_types.specs.declared.step.Step.{Step}
-use Rattle.boc_types.specs.declared.step.Step.TheVariants as steps
-use Rattle.boc_types.specs.runs.Lives.{Pending}
-use Rattle.boc_types.specs.runs.Run.{state_of}
-use Rattle.boc_types.specs.machine.Stages.{OpenBehaviour, row_of, row_at, life, life_at}
-use Rattle.boc_types.specs.machine.Queues.{all_granted}
-use Rattle.boc_types.specs.machine.Steps.{State, at, queue, members, opened, noted, with_behaviour, with_stage, with_queue, with_new, with_spawn, asking_on, leaving_on, flagging, made_ready, owned, woken, woken_if, woken_at, child, opening_state, Advances, Leaves, Opens, Finishes, Makes}
-use Rattle.boc_types.specs.machine.Turns.{TakesTurn, Driven, Turn, Turns, opening_driven, unless_gone, NoneReady, Begins, Advanced, WaitsToSettle, Opened, Finished, Left, WaitsToLeave}
-use Rattle.boc_types.specs.machine.Sound.{IsSound}
-use Rattle.boc_types.specs.machine.Movers.{CanAdvance, CanGoOn, CanLeave, CanStart}
-use Rattle.boc_types.proofs.ChangedItems.{place_below, set_same, set_other}
+use Rattle.boc_program.specs.declared.program.Program.{Program}
+use Rattle.boc_runs.specs.declared.event.Event.TheVariants as events
+use Rattle.boc_runs.specs.declared.stage.Phase.TheVariants.{Flagging, Owning, Waiting, Ready, Running, Leaving}
+use Rattle.boc_runs.specs.declared.stage.Stage.{Stage}
+use Rattle.boc_runs.specs.declared.stage.Stage.TheVariants.{Asking, Recorded}
+use Rattle.boc_runs.specs.declared.step.Step.{Step}
+use Rattle.boc_runs.specs.declared.step.Step.TheVariants as steps
+use Rattle.boc_runs.specs.Lives.{Pending}
+use Rattle.boc_runs.specs.Run.{state_of}
+use Rattle.boc_runs.specs.machine.Stages.{OpenBehaviour, row_of, row_at, life, life_at}
+use Rattle.boc_runs.specs.machine.Queues.{all_granted}
+use Rattle.boc_runs.specs.machine.Steps.{State, at, queue, members, opened, noted, with_behaviour, with_stage, with_queue, with_new, with_spawn, asking_on, leaving_on, flagging, made_ready, owned, woken, woken_if, woken_at, child, opening_state, Advances, Leaves, Opens, Finishes, Makes}
+use Rattle.boc_runs.specs.machine.Turns.{TakesTurn, Driven, Turn, Turns, opening_driven, unless_gone, NoneReady, Begins, Advanced, WaitsToSettle, Opened, Finished, Left, WaitsToLeave}
+use Rattle.boc_runs.specs.machine.Sound.{IsSound}
+use Rattle.boc_runs.specs.machine.Movers.{CanAdvance, CanGoOn, CanLeave, CanStart}
+use Rattle.boc_program.proofs.ChangedItems.{place_below, set_same, set_other}
 use Rattle.boc_machine.proofs.Lists.{same_or_not, read_pushed, read_front}
 use Rattle.boc_machine.proofs.Core.{put_here, put_others}
 use Rattle.boc_machine.proofs.Counting.{by_test}

@@ -3,17 +3,17 @@ use Rattle.std.proofs.Common.{◌≡◌, ◌≢◌, ℕ, zero, suc, ◌<◌, tru
 use Rattle.std.specs.Prelude.{slice_get, Option, Some, None}
 use Rattle.std.specs.Option.{option_map_or}
 use Rattle.std.specs.List.{Contains}
-use Rattle.boc_types.specs.declared.program.Program.{Program}
-use Rattle.boc_types.specs.declared.stage.Phase.TheVariants.{Flagging, Owning, Waiting, Ready, Running as RunningPhase, Leaving}
-use Rattle.boc_types.specs.declared.stage.Stage.{Stage}
-use Rattle.boc_types.specs.declared.stage.Stage.TheVariants.{Asking, Recorded}
-use Rattle.boc_types.specs.program.Rising.{rising}
-use Rattle.boc_types.specs.runs.Lives.{Pending, Running, Ended, MayStart}
-use Rattle.boc_types.specs.runs.Run.{Member, state_of, member_cowns}
-use Rattle.boc_types.specs.machine.Stages.{OpenBehaviour, standing, standing_at, row_of, row_at, holds, holds_at, cowns_of, life, life_at}
-use Rattle.boc_types.specs.machine.Queues.{times, InOrder}
-use Rattle.boc_types.specs.machine.Sound.{Fits}
-use Rattle.boc_types.proofs.RisingNumbers.{rising_has}
+use Rattle.boc_program.specs.declared.program.Program.{Program}
+use Rattle.boc_runs.specs.declared.stage.Phase.TheVariants.{Flagging, Owning, Waiting, Ready, Running as RunningPhase, Leaving}
+use Rattle.boc_runs.specs.declared.stage.Stage.{Stage}
+use Rattle.boc_runs.specs.declared.stage.Stage.TheVariants.{Asking, Recorded}
+use Rattle.boc_program.specs.Rising.{rising}
+use Rattle.boc_runs.specs.Lives.{Pending, Running, Ended, MayStart}
+use Rattle.boc_runs.specs.Run.{Member, state_of, member_cowns}
+use Rattle.boc_runs.specs.machine.Stages.{OpenBehaviour, standing, standing_at, row_of, row_at, holds, holds_at, cowns_of, life, life_at}
+use Rattle.boc_runs.specs.machine.Queues.{times, InOrder}
+use Rattle.boc_runs.specs.machine.Sound.{Fits}
+use Rattle.boc_program.proofs.RisingNumbers.{rising_has}
 use Rattle.boc_machine.proofs.Lists.{times-here, times-other, found}
 use Rattle.boc_machine.proofs.Lawful.{Laws}
 use Rattle.boc_machine.proofs.Rows.{with_life, life_there}

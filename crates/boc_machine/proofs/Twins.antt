@@ -5,15 +5,16 @@ use Rattle.std.specs.Prelude.{slice_get, Option, Some, None, option_map}
 use Rattle.std.specs.Option.{option_map_or}
 use Rattle.std.specs.List.{Contains}
 use Rattle.std.proofs.lemmas.Bool.{cases_lt}
-use Rattle.boc_types.specs.declared.short.Input.{Input}
-use Rattle.boc_types.specs.declared.program.Program.{Program}
-use Rattle.boc_types.specs.program.Programs.{initial_values}
-use Rattle.boc_types.specs.runs.Serial.{inputs_of, after_outputs, SerialRow, Serial, meaning_if, children, next_behaviour, run_at_once, after_turn, after_turns, serial_along}
-use Rattle.boc_types.specs.runs.Lives.{Life, Pending, Running, Ended, changed}
-use Rattle.boc_types.specs.runs.Run.{Member, Config, member_cowns}
-use Rattle.boc_types.specs.machine.Queues.{times}
-use Rattle.boc_types.proofs.ChangedItems.{place_below, last_item, front_item}
-use Rattle.boc_types.proofs.Behaviours.{length-after_outputs}
+use Rattle.boc_program.specs.declared.short.Input.{Input}
+use Rattle.boc_program.specs.declared.program.Program.{Program}
+use Rattle.boc_program.specs.Programs.{initial_values}
+use Rattle.boc_runs.specs.Serial.{inputs_of, after_outputs, SerialRow, Serial, meaning_if, children, next_behaviour, run_at_once, after_turn, after_turns, serial_along}
+use Rattle.boc_program.specs.Changed.{changed}
+use Rattle.boc_runs.specs.Lives.{Life, Pending, Running, Ended}
+use Rattle.boc_runs.specs.Run.{Member, Config, member_cowns}
+use Rattle.boc_runs.specs.machine.Queues.{times}
+use Rattle.boc_program.proofs.ChangedItems.{place_below, last_item, front_item}
+use Rattle.boc_runs.proofs.Behaviours.{length-after_outputs}
 use Rattle.boc_machine.proofs.Lists.{same_or_not}
 use Rattle.boc_machine.proofs.Rows.{changed_same, changed_other}
 use Rattle.boc_machine.proofs.Outputs.{contains_times}

@@ -1,21 +1,21 @@
 -- The machine tried on a program whose rows may come in two orders: the program, and the states that one list of choices leads to.
 use Rattle.std.proofs.Common.{ℕ, ◌≤◌, List, [], ◌∷◌, Some, None, true, false, refl, codes, pos, lit≤, take, arith, IsTrue}
 use Rattle.std.specs.Prelude.{Option}
-use Rattle.boc_types.specs.declared.limits.TheConstants.{MOST_HELD, MOST_NODES, MOST_SLOTS}
-use Rattle.boc_types.specs.declared.body.Operator.TheVariants.{Add, Multiply}
-use Rattle.boc_types.specs.declared.body.Body.{Body}
-use Rattle.boc_types.specs.declared.body.EndStatus.TheVariants as statuses
-use Rattle.boc_types.specs.declared.cown.Cown.{Cown}
-use Rattle.boc_types.specs.declared.program.Program.{Program}
-use Rattle.boc_types.specs.declared.event.Event.{Event}
-use Rattle.boc_types.specs.declared.event.Event.TheVariants.{Spawn, Start, End}
-use Rattle.boc_types.specs.declared.stage.Phase.TheVariants.{Flagging, Owning, Waiting, Ready, Running, Leaving}
-use Rattle.boc_types.specs.declared.stage.Stage.{Stage}
-use Rattle.boc_types.specs.declared.stage.Stage.TheVariants.{Asking, Recorded}
-use Rattle.boc_types.specs.program.Resolved.{nodes, fits}
-use Rattle.boc_types.specs.program.Syntax.{Code, Number, Slot, Binary, Single, Done, Assign, When}
-use Rattle.boc_types.specs.machine.Stages.{OpenBehaviour}
-use Rattle.boc_types.specs.machine.Steps.{State}
+use Rattle.boc_program.specs.declared.limits.TheConstants.{MOST_HELD, MOST_NODES, MOST_SLOTS}
+use Rattle.boc_program.specs.declared.body.Operator.TheVariants.{Add, Multiply}
+use Rattle.boc_program.specs.declared.body.Body.{Body}
+use Rattle.boc_program.specs.declared.body.EndStatus.TheVariants as statuses
+use Rattle.boc_program.specs.declared.cown.Cown.{Cown}
+use Rattle.boc_program.specs.declared.program.Program.{Program}
+use Rattle.boc_runs.specs.declared.event.Event.{Event}
+use Rattle.boc_runs.specs.declared.event.Event.TheVariants.{Spawn, Start, End}
+use Rattle.boc_runs.specs.declared.stage.Phase.TheVariants.{Flagging, Owning, Waiting, Ready, Running, Leaving}
+use Rattle.boc_runs.specs.declared.stage.Stage.{Stage}
+use Rattle.boc_runs.specs.declared.stage.Stage.TheVariants.{Asking, Recorded}
+use Rattle.boc_program.specs.Resolved.{nodes, fits}
+use Rattle.boc_program.specs.Syntax.{Code, Number, Slot, Binary, Single, Done, Assign, When}
+use Rattle.boc_runs.specs.machine.Stages.{OpenBehaviour}
+use Rattle.boc_runs.specs.machine.Steps.{State}
 
 -- cown a = 0; cown b = 0; cown p = 0; cown q = 0;
 -- def one(; x, y) { x = x + 1; y = y + 1; }

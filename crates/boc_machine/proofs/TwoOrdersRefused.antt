@@ -2,16 +2,16 @@
 -- lists that aren't lawful.
 use Rattle.std.proofs.Common.{◌≡◌, ℕ, ◌<◌, [], ◌∷◌, length, Some, true, false, refl, sym, ◌∙◌, ap, subst, lit≤, arith}
 use Rattle.std.specs.Prelude.{Option, slice_get}
-use Rattle.boc_types.specs.declared.stage.Phase.TheVariants.{Flagging, Owning, Waiting, Ready, Running, Leaving}
-use Rattle.boc_types.specs.declared.stage.Stage.{Stage}
-use Rattle.boc_types.specs.declared.stage.Stage.TheVariants.{Asking, Recorded}
-use Rattle.boc_types.specs.program.Meaning.{Wish, Meaning, meaning}
-use Rattle.boc_types.specs.runs.Lives as lives
-use Rattle.boc_types.specs.runs.Run.{Member, meaning_of}
-use Rattle.boc_types.specs.machine.Stages.{OpenBehaviour, flagged_at, settled}
-use Rattle.boc_types.specs.machine.Queues.{times, Lawful}
-use Rattle.boc_types.specs.machine.Steps.{State, at, queue, with_stage, IsBlockedAsking, IsBlockedLeaving, MayOpen, Settles, Swaps, Owns, Starts, Finishes, Unhooks, Passes}
-use Rattle.boc_types.specs.machine.Turns.{TakesTurn, WaitsToSettle}
+use Rattle.boc_runs.specs.declared.stage.Phase.TheVariants.{Flagging, Owning, Waiting, Ready, Running, Leaving}
+use Rattle.boc_runs.specs.declared.stage.Stage.{Stage}
+use Rattle.boc_runs.specs.declared.stage.Stage.TheVariants.{Asking, Recorded}
+use Rattle.boc_program.specs.Meaning.{Wish, Meaning, meaning}
+use Rattle.boc_runs.specs.Lives as lives
+use Rattle.boc_runs.specs.Run.{Member, meaning_of}
+use Rattle.boc_runs.specs.machine.Stages.{OpenBehaviour, flagged_at, settled}
+use Rattle.boc_runs.specs.machine.Queues.{times, Lawful}
+use Rattle.boc_runs.specs.machine.Steps.{State, at, queue, with_stage, IsBlockedAsking, IsBlockedLeaving, MayOpen, Settles, Swaps, Owns, Starts, Finishes, Unhooks, Passes}
+use Rattle.boc_runs.specs.machine.Turns.{TakesTurn, WaitsToSettle}
 use Rattle.boc_machine.proofs.OneTurn.{takes_one, blocked_settle, same_one}
 use Rattle.boc_machine.proofs.TwoOrders.{program, main_body, left_at, one_at, two_at, state_2, state_3, state_6, state_11, state_18, state_24, state_33, state_34}
 use Rattle.boc_machine.proofs.TwoOrdersTurns.{sound_18, blocked_at}

@@ -2,25 +2,25 @@
 -- what isn't allowed.
 use Rattle.std.proofs.Common.{◌≡◌, ◌≢◌, ℕ, zero, suc, ◌+◌, ◌<◌, List, [], ◌∷◌, ◌++◌, Some, None, Bool, true, false, not, cond, get_or, length, refl, sym, ◌∙◌, ap, subst, pos, lit≤, take, IsTrue}
 use Rattle.std.specs.Prelude.{Option, ◌&&◌, nat_eq, nat_lt, slice_get, slice_set}
-use Rattle.boc_types.specs.declared.limits.TheConstants.{MOST_ROWS}
-use Rattle.boc_types.specs.declared.body.Body.{Body}
-use Rattle.boc_types.specs.declared.body.EndStatus.TheVariants.{Done}
-use Rattle.boc_types.specs.declared.event.Event.TheVariants.{Start, End}
-use Rattle.boc_types.specs.declared.short.Input.{Input}
-use Rattle.boc_types.specs.declared.stage.Phase.TheVariants.{Flagging, Owning, Ready, Running, Leaving}
-use Rattle.boc_types.specs.declared.stage.Stage.{Stage}
-use Rattle.boc_types.specs.declared.stage.Stage.TheVariants.{Asking, Recorded}
-use Rattle.boc_types.specs.declared.step.Step.{Step}
-use Rattle.boc_types.specs.declared.step.Step.TheVariants as steps
-use Rattle.boc_types.specs.program.Meaning.{Wish, meaning}
-use Rattle.boc_types.specs.runs.Lives as lives
-use Rattle.boc_types.specs.runs.Run.{Member, IsWholeRun, meaning_of, next_wish, state_of}
-use Rattle.boc_types.specs.machine.Stages.{OpenBehaviour, flagged, settled, enqueues, enqueues_at, parent_of}
-use Rattle.boc_types.specs.machine.Queues.{times}
-use Rattle.boc_types.specs.machine.Steps.{State, at, queue, values, members, recorded, unrecorded, opened, stepped, noted, with_stage, with_queue, with_new, with_ready, asking_on, leaving_on, flagging, owned, woken, child, Advances, IsDue, IsBlockedAsking, IsQuiet, HasNoEnqueue, IsFlaggedBefore}
-use Rattle.boc_types.specs.machine.AlongRows.{cowns_of_rows, steps_of_rows, serial_of_log}
-use Rattle.boc_types.specs.machine.Turns.{Begins, Advanced, WaitsToSettle, Opened, Finished, Left, Driven, opening_driven, unless_gone, TakesTurn, Turn, Turns}
-use Rattle.boc_types.specs.machine.Sound.{IsSound}
+use Rattle.boc_program.specs.declared.limits.TheConstants.{MOST_ROWS}
+use Rattle.boc_program.specs.declared.body.Body.{Body}
+use Rattle.boc_program.specs.declared.body.EndStatus.TheVariants.{Done}
+use Rattle.boc_runs.specs.declared.event.Event.TheVariants.{Start, End}
+use Rattle.boc_program.specs.declared.short.Input.{Input}
+use Rattle.boc_runs.specs.declared.stage.Phase.TheVariants.{Flagging, Owning, Ready, Running, Leaving}
+use Rattle.boc_runs.specs.declared.stage.Stage.{Stage}
+use Rattle.boc_runs.specs.declared.stage.Stage.TheVariants.{Asking, Recorded}
+use Rattle.boc_runs.specs.declared.step.Step.{Step}
+use Rattle.boc_runs.specs.declared.step.Step.TheVariants as steps
+use Rattle.boc_program.specs.Meaning.{Wish, meaning}
+use Rattle.boc_runs.specs.Lives as lives
+use Rattle.boc_runs.specs.Run.{Member, IsWholeRun, meaning_of, next_wish, state_of}
+use Rattle.boc_runs.specs.machine.Stages.{OpenBehaviour, flagged, settled, enqueues, enqueues_at, parent_of}
+use Rattle.boc_runs.specs.machine.Queues.{times}
+use Rattle.boc_runs.specs.machine.Steps.{State, at, queue, values, members, recorded, unrecorded, opened, stepped, noted, with_stage, with_queue, with_new, with_ready, asking_on, leaving_on, flagging, owned, woken, child, Advances, IsDue, IsBlockedAsking, IsQuiet, HasNoEnqueue, IsFlaggedBefore}
+use Rattle.boc_runs.specs.machine.AlongRows.{cowns_of_rows, steps_of_rows, serial_of_log}
+use Rattle.boc_runs.specs.machine.Turns.{Begins, Advanced, WaitsToSettle, Opened, Finished, Left, Driven, opening_driven, unless_gone, TakesTurn, Turn, Turns}
+use Rattle.boc_runs.specs.machine.Sound.{IsSound}
 use Rattle.std.proofs.lemmas.Bool.{ltb-true}
 use Rattle.boc_machine.proofs.Lists.{and_true, same_numbers}
 use Rattle.boc_machine.proofs.Every.{opening_sound, whole_run}

@@ -3,20 +3,20 @@ use Rattle.std.proofs.Common.{◌≡◌, ℕ, zero, suc, ◌+◌, ◌<◌, ◌�
 use Rattle.std.specs.Prelude.{slice_get, Some, None}
 use Rattle.std.specs.List.{All}
 use Rattle.std.specs.List.Sorted.{IsStrictlyIncreasing}
-use Rattle.boc_types.specs.declared.limits.TheConstants.{MOST_ROWS, MOST_HELD}
-use Rattle.boc_types.specs.declared.program.Program.{Program}
-use Rattle.boc_types.specs.declared.event.Event.{Event}
-use Rattle.boc_types.specs.declared.event.Event.TheVariants.{Spawn}
-use Rattle.boc_types.specs.declared.event.BrokenRule.TheVariants as rules
-use Rattle.boc_types.specs.program.Meaning.{Wish}
-use Rattle.boc_types.specs.program.Rising.{rising}
-use Rattle.boc_types.specs.program.Programs.{cown_count}
-use Rattle.boc_types.specs.runs.Lives.{Running}
-use Rattle.boc_types.specs.runs.Cowns.{AreCowns}
-use Rattle.boc_types.specs.runs.Legal.{Entry, entries, after, after_all, MayNeed, IsAllowed, IsLegalFrom}
-use Rattle.boc_types.specs.runs.Run.{config_of, opening, next_wish, state_of, IsRun}
-use Rattle.boc_types.specs.machine.Queues.{times}
-use Rattle.boc_types.proofs.RunsAreLegal.{run_is_legal}
+use Rattle.boc_program.specs.declared.limits.TheConstants.{MOST_ROWS, MOST_HELD}
+use Rattle.boc_program.specs.declared.program.Program.{Program}
+use Rattle.boc_runs.specs.declared.event.Event.{Event}
+use Rattle.boc_runs.specs.declared.event.Event.TheVariants.{Spawn}
+use Rattle.boc_runs.specs.declared.event.BrokenRule.TheVariants as rules
+use Rattle.boc_program.specs.Meaning.{Wish}
+use Rattle.boc_program.specs.Rising.{rising}
+use Rattle.boc_program.specs.Programs.{cown_count}
+use Rattle.boc_runs.specs.Lives.{Running}
+use Rattle.boc_program.specs.Cowns.{AreCowns}
+use Rattle.boc_runs.specs.Legal.{Entry, entries, after, after_all, MayNeed, IsAllowed, IsLegalFrom}
+use Rattle.boc_runs.specs.Run.{config_of, opening, next_wish, state_of, IsRun}
+use Rattle.boc_runs.specs.machine.Queues.{times}
+use Rattle.boc_runs.proofs.RunsAreLegal.{run_is_legal}
 use Rattle.boc_machine.proofs.Lists.{same_or_not, times-here, times-other}
 use Rattle.boc_machine.proofs.Rows.{run_more, may_spawn}
 

@@ -1,12 +1,12 @@
 -- Whether the machine can go on.
 use Rattle.std.specs.Prelude.{◌≡◌, ℕ, ◌+◌, Some, slice_get}
-use Rattle.boc_types.specs.declared.limits.TheConstants.{MOST_ROWS}
-use Rattle.boc_types.specs.declared.program.Program.{Program}
-use Rattle.boc_types.specs.declared.step.Step.{Step}
-use Rattle.boc_types.specs.program.Meaning.{Wish}
-use Rattle.boc_types.specs.runs.Lives.{Running}
-use Rattle.boc_types.specs.runs.Run.{next_wish, state_of}
-use Rattle.boc_types.specs.machine.Steps.{State, Makes, HasNoEnqueue, members, recorded, unrecorded}
+use Rattle.boc_program.specs.declared.limits.TheConstants.{MOST_ROWS}
+use Rattle.boc_program.specs.declared.program.Program.{Program}
+use Rattle.boc_runs.specs.declared.step.Step.{Step}
+use Rattle.boc_program.specs.Meaning.{Wish}
+use Rattle.boc_runs.specs.Lives.{Running}
+use Rattle.boc_runs.specs.Run.{next_wish, state_of}
+use Rattle.boc_runs.specs.machine.Steps.{State, Makes, HasNoEnqueue, members, recorded, unrecorded}
 
 -- some step is allowed
 pub record AllowsStep (p : Program) (s : State) : Type 0 where

@@ -1,22 +1,22 @@
 // Laws of the dispatcher's machine.
 
-ghost use Rattle.boc_types.specs.declared.program.Program.{Program};
-ghost use Rattle.boc_types.specs.declared.step.Step.{Step};
+ghost use Rattle.boc_program.specs.declared.program.Program.{Program};
+ghost use Rattle.boc_runs.specs.declared.step.Step.{Step};
 ghost use Rattle.std.specs.Prelude.{◌≡◌, ℕ, ◌+◌, ◌*◌, ◌≤◌, ◌⊎◌, List, map, Option, Some, slice_get};
-ghost use Rattle.boc_types.specs.declared.event.Event.{Event};
-ghost use Rattle.boc_types.specs.declared.limits.TheConstants.{MOST_ROWS};
-ghost use Rattle.boc_types.specs.program.Meaning.{Wish};
-ghost use Rattle.boc_types.specs.runs.Lives.{Running};
-ghost use Rattle.boc_types.specs.declared.rows.Row.{Row};
-ghost use Rattle.boc_types.specs.runs.Legal.{entries, IsComplete};
-ghost use Rattle.boc_types.specs.runs.Records.{AreRowsOf};
-ghost use Rattle.boc_types.specs.runs.Run.{config_of, state_of, next_wish, IsRun, IsWholeRun};
-ghost use Rattle.boc_types.specs.machine.Steps.{State, Makes, IsQuiet, HasNoEnqueue, members, recorded, unrecorded, opening_state};
-ghost use Rattle.boc_types.specs.machine.Schedules.{Reaches};
-ghost use Rattle.boc_types.specs.machine.AlongRows.{cowns_of_rows, parents_of_rows, steps_of_rows, serial_of_log, EndsSerially};
-ghost use Rattle.boc_types.specs.machine.Sound.{IsSound};
-ghost use Rattle.boc_types.specs.machine.Turns.{Driven, TakesTurn, Turn, Turns};
-ghost use Rattle.boc_types.specs.machine.Movers.{SomebodyCanStep};
+ghost use Rattle.boc_runs.specs.declared.event.Event.{Event};
+ghost use Rattle.boc_program.specs.declared.limits.TheConstants.{MOST_ROWS};
+ghost use Rattle.boc_program.specs.Meaning.{Wish};
+ghost use Rattle.boc_runs.specs.Lives.{Running};
+ghost use Rattle.boc_runs.specs.declared.rows.Row.{Row};
+ghost use Rattle.boc_runs.specs.Legal.{entries, IsComplete};
+ghost use Rattle.boc_runs.specs.Records.{AreRowsOf};
+ghost use Rattle.boc_runs.specs.Run.{config_of, state_of, next_wish, IsRun, IsWholeRun};
+ghost use Rattle.boc_runs.specs.machine.Steps.{State, Makes, IsQuiet, HasNoEnqueue, members, recorded, unrecorded, opening_state};
+ghost use Rattle.boc_runs.specs.machine.Schedules.{Reaches};
+ghost use Rattle.boc_runs.specs.machine.AlongRows.{cowns_of_rows, parents_of_rows, steps_of_rows, serial_of_log, EndsSerially};
+ghost use Rattle.boc_runs.specs.machine.Sound.{IsSound};
+ghost use Rattle.boc_runs.specs.machine.Turns.{Driven, TakesTurn, Turn, Turns};
+ghost use Rattle.boc_runs.specs.machine.Movers.{SomebodyCanStep};
 ghost use Rattle.boc_machine.specs.Allowed.{AllowsStep, IsFull};
 
 /// Each step leads from a sound state to a sound one.

@@ -4,16 +4,16 @@ use Rattle.std.specs.Prelude.{slice_get}
 use Rattle.std.proofs.lemmas.Bool.{cases_lt}
 use Rattle.std.proofs.lemmas.List.{ext_get_or}
 use Rattle.std.proofs.lemmas.Option.{get_or_from_slice_get, slice_get_past}
-use Rattle.boc_types.specs.declared.rows.Row.{Row}
-use Rattle.boc_types.specs.declared.chain.ChainStep.{ChainStep}
-use Rattle.boc_types.specs.declared.chain.Via.{Via}
-use Rattle.boc_types.specs.declared.chain.Via.TheVariants.{Spawn, Order, Last}
-use Rattle.boc_types.specs.runs.Rows.{ticks_of}
-use Rattle.boc_types.specs.plans.Plans.{work_of, IsEnd, IsEarliest, HasEnds}
-use Rattle.boc_types.specs.plans.Chains.{LinkVia, IsLink, PickedVia, IsPicked}
-use Rattle.boc_types.specs.plans.Greedy.{IsSpan, IsBound}
-use Rattle.boc_types.specs.plans.Edits.{edited, IsLeastSpan, IsSweep}
-use Rattle.boc_types.proofs.Editing.{one_last}
+use Rattle.boc_runs.specs.declared.rows.Row.{Row}
+use Rattle.boc_plans.specs.declared.chain.ChainStep.{ChainStep}
+use Rattle.boc_plans.specs.declared.chain.Via.{Via}
+use Rattle.boc_plans.specs.declared.chain.Via.TheVariants.{Spawn, Order, Last}
+use Rattle.boc_runs.specs.Rows.{ticks_of, edited}
+use Rattle.boc_plans.specs.Plans.{work_of, IsEnd, IsEarliest, HasEnds}
+use Rattle.boc_plans.specs.Chains.{LinkVia, IsLink, PickedVia, IsPicked}
+use Rattle.boc_plans.specs.Greedy.{IsSpan, IsBound}
+use Rattle.boc_plans.specs.Edits.{IsLeastSpan, IsSweep}
+use Rattle.boc_plans.proofs.Editing.{one_last}
 
 -- no plan of the earliest starts a row before another
 pub one_plan : (rows : List Row) (plan other : List ℕ) → IsEarliest rows plan → IsEarliest rows other → plan ≡ other

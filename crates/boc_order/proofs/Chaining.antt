@@ -3,13 +3,13 @@ use Rattle.std.proofs.Common.{◌≡◌, ℕ, zero, suc, ◌+◌, ◌<◌, ◌�
 use Rattle.std.specs.Prelude.{slice_get, slice_index, slice_index_or}
 use Rattle.std.proofs.lemmas.List.Sums.{sum_by-cons}
 use Rattle.std.proofs.lemmas.Bool.{cases_eq}
-use Rattle.boc_types.specs.declared.rows.Row.{Row}
-use Rattle.boc_types.specs.declared.chain.ChainStep.{ChainStep}
-use Rattle.boc_types.specs.declared.chain.Via.{Via}
-use Rattle.boc_types.specs.declared.chain.Via.TheVariants.{Spawn, Order, Last}
-use Rattle.boc_types.specs.runs.Rows.{IsRows, parent_of, ticks_of}
-use Rattle.boc_types.specs.plans.Plans.{start_of, end_of, Keeps, IsEnd, IsEarliest}
-use Rattle.boc_types.specs.plans.Chains.{weight_of, LinkVia, IsLink, PickedVia, IsChain, IsPicked}
+use Rattle.boc_runs.specs.declared.rows.Row.{Row}
+use Rattle.boc_plans.specs.declared.chain.ChainStep.{ChainStep}
+use Rattle.boc_plans.specs.declared.chain.Via.{Via}
+use Rattle.boc_plans.specs.declared.chain.Via.TheVariants.{Spawn, Order, Last}
+use Rattle.boc_runs.specs.Rows.{IsRows, parent_of, ticks_of}
+use Rattle.boc_plans.specs.Plans.{start_of, end_of, Keeps, IsEnd, IsEarliest}
+use Rattle.boc_plans.specs.Chains.{weight_of, LinkVia, IsLink, PickedVia, IsChain, IsPicked}
 use Rattle.boc_order.specs.Placed.{IsTight, ArePlaced}
 use Rattle.boc_order.specs.Back.{IsStepBefore, ArePicked, LeadsTo, IsFirstLatest}
 use Rattle.std.proofs.lemmas.List.{reverse-append, get_or_read}

@@ -1,15 +1,15 @@
 -- The steps of a chain, one by one.
 use Rattle.std.proofs.Common.{◌≡◌, ℕ, suc, ◌+◌, ◌*◌, ◌<◌, ◌≤◌, List, [], ◌∷◌, length, take, Option, Some, None, get_or, add-one, below_more, refl, sym, ap, subst, arith}
-use Rattle.boc_types.specs.declared.limits.TheConstants.{MOST_TICKS}
+use Rattle.boc_program.specs.declared.limits.TheConstants.{MOST_TICKS}
 use Rattle.std.specs.Prelude.{slice_get}
 use Rattle.std.proofs.lemmas.List.Sums.{sum_by_more}
 use Rattle.std.proofs.lemmas.Option.{slice_get_within, slice_get-get_or}
-use Rattle.boc_types.specs.declared.rows.Row.{Row}
-use Rattle.boc_types.specs.declared.chain.ChainStep.{ChainStep}
-use Rattle.boc_types.specs.declared.chain.Via.{Via}
-use Rattle.boc_types.specs.declared.chain.Via.TheVariants.{Spawn, Order, Last}
-use Rattle.boc_types.specs.runs.Rows.{IsRows, parent_of, ticks_of}
-use Rattle.boc_types.specs.plans.Chains.{weight_of, LinkVia, IsLink, StepHolds, IsChain}
+use Rattle.boc_runs.specs.declared.rows.Row.{Row}
+use Rattle.boc_plans.specs.declared.chain.ChainStep.{ChainStep}
+use Rattle.boc_plans.specs.declared.chain.Via.{Via}
+use Rattle.boc_plans.specs.declared.chain.Via.TheVariants.{Spawn, Order, Last}
+use Rattle.boc_runs.specs.Rows.{IsRows, parent_of, ticks_of}
+use Rattle.boc_plans.specs.Chains.{weight_of, LinkVia, IsLink, StepHolds, IsChain}
 use Rattle.boc_order.proofs.Chaining.{Links}
 
 module _ (rows : List Row) (steps : List ChainStep) (k : ℕ) (d : ChainStep) (there : k < length steps) (next : Option ChainStep) (is_next : next ≡ slice_get steps (k + 1)) where

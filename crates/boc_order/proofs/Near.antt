@@ -5,9 +5,9 @@ use Rattle.std.specs.List.{Contains}
 use Rattle.std.proofs.lemmas.Bool.{cases_lt, cases_eq}
 use Rattle.std.proofs.lemmas.List.{get_or_default, append-nil}
 use Rattle.std.proofs.lemmas.List.Elements.{Contains-append_left, Contains-push, Contains-push_cases}
-use Rattle.boc_types.specs.declared.rows.Row.{Row}
-use Rattle.boc_types.specs.runs.Rows.{IsRows, cowns_of, written_of}
-use Rattle.boc_types.specs.plans.Plans.{ConflictOn, Ordered}
+use Rattle.boc_runs.specs.declared.rows.Row.{Row}
+use Rattle.boc_runs.specs.Rows.{IsRows, cowns_of, written_of}
+use Rattle.boc_plans.specs.Plans.{ConflictOn, Ordered}
 use Rattle.boc_order.specs.declared.gathering.Use.{Use}
 use Rattle.boc_order.specs.Waits.{IsNearOn, IsNear}
 use Rattle.boc_order.specs.Uses.{NoneWrites, IsWriter, IsReader, IsUse, AddsNearOn}

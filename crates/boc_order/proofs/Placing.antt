@@ -1,14 +1,14 @@
 -- One more row gets its place.
 use Rattle.std.proofs.Common.{◌≡◌, ℕ, zero, suc, ◌+◌, ◌*◌, ◌<◌, ◌≤◌, ◌⊎◌, Bool, true, false, List, [], ◌∷◌, ◌++◌, length, Option, Some, None, refl, sym, ap, ◌∙◌, subst, inl, inr, arith}
-use Rattle.boc_types.specs.declared.limits.TheConstants.{MOST_TICKS}
+use Rattle.boc_program.specs.declared.limits.TheConstants.{MOST_TICKS}
 use Rattle.std.specs.Prelude.{slice_index, slice_index_or, nat_lt, MatchOption}
 use Rattle.std.specs.List.{Contains}
 use Rattle.std.proofs.lemmas.Bool.{cases_lt, cases_eq}
 use Rattle.std.proofs.lemmas.List.{get_or_append_left, get_or_push, length_push}
-use Rattle.boc_types.specs.declared.rows.Row.{Row}
-use Rattle.boc_types.specs.runs.Rows.{IsRows, parent_of, offset_of, ticks_of, cowns_of, written_of}
-use Rattle.boc_types.specs.plans.Plans.{start_of, end_of, IsChild, ConflictOn, Ordered}
-use Rattle.boc_types.specs.plans.Chains.{IsSpawnTight, IsOrderTight}
+use Rattle.boc_runs.specs.declared.rows.Row.{Row}
+use Rattle.boc_runs.specs.Rows.{IsRows, parent_of, offset_of, ticks_of, cowns_of, written_of}
+use Rattle.boc_plans.specs.Plans.{start_of, end_of, IsChild, ConflictOn, Ordered}
+use Rattle.boc_plans.specs.Chains.{IsSpawnTight, IsOrderTight}
 use Rattle.boc_order.specs.declared.latest.Latest.{Latest}
 use Rattle.boc_order.specs.Latest.{IsLatestOf}
 use Rattle.boc_order.specs.Placed.{placement, IsTight, Placed, ArePlaced}

@@ -2,11 +2,10 @@
 use Rattle.std.proofs.Common.{◌≡◌, ◌≢◌, ℕ, ◌<◌, ◌≤◌, List, length, take, Option, None, sym, ◌∙◌, arith}
 use Rattle.std.specs.Prelude.{slice_index, slice_index_or}
 use Rattle.std.proofs.lemmas.List.{get_or-take, length-take}
-use Rattle.boc_types.specs.declared.rows.Row.{Row}
-use Rattle.boc_types.specs.runs.Rows.{IsRows}
-use Rattle.boc_types.specs.plans.Edits.{edited}
-use Rattle.boc_types.specs.plans.Greedy.{IsSpan}
-use Rattle.boc_types.proofs.Editing.{length-edited, parent_of-edited, offset_of-edited, cowns_of-edited, written_of-edited, ticks_of-edited_other}
+use Rattle.boc_runs.specs.declared.rows.Row.{Row}
+use Rattle.boc_runs.specs.Rows.{IsRows, edited}
+use Rattle.boc_plans.specs.Greedy.{IsSpan}
+use Rattle.boc_plans.proofs.Editing.{length-edited, parent_of-edited, offset_of-edited, cowns_of-edited, written_of-edited, ticks_of-edited_other}
 use Rattle.boc_order.specs.Placed.{ArePlaced}
 use Rattle.boc_order.specs.Waits.{IsNear}
 use Rattle.boc_order.proofs.Placing.{AreSameBefore, same_back, conflict_same, still_placed}

@@ -7,10 +7,10 @@ use Rattle.std.proofs.lemmas.Option.{slice_get-get_or, slice_get_within, get_or_
 use Rattle.std.proofs.lemmas.List.{length-set, get_or_default, append-nil, get_or_append_left, get_or_push, length_push, length-append}
 use Rattle.std.proofs.lemmas.List.Kept.{AllPairs-from_increasing}
 use Rattle.std.proofs.lemmas.List.Elements.{Contains-append_left, Contains-append_right, Contains-append_cases}
-use Rattle.boc_types.specs.declared.limits.TheConstants.{MOST_COWNS}
-use Rattle.boc_types.specs.declared.rows.Row.{Row}
-use Rattle.boc_types.proofs.ChangedItems.{set_same, set_other}
-use Rattle.boc_types.specs.runs.Rows.{IsRows, cowns_of, written_of}
+use Rattle.boc_program.specs.declared.limits.TheConstants.{MOST_COWNS}
+use Rattle.boc_runs.specs.declared.rows.Row.{Row}
+use Rattle.boc_program.proofs.ChangedItems.{set_same, set_other}
+use Rattle.boc_runs.specs.Rows.{IsRows, cowns_of, written_of}
 use Rattle.boc_order.specs.declared.gathering.Use.{Use}
 use Rattle.boc_order.specs.Waits.{IsNearOn, IsNear, HasWaits, AreFirstWaits, links_of, lists_between, AreBounds}
 use Rattle.boc_order.specs.Uses.{IsUse, AreUses, AddsNearOn, AddsNear}

@@ -3,13 +3,13 @@ use Rattle.std.proofs.Common.{◌≡◌, ℕ, zero, suc, ◌+◌, ◌-◌, ◌<�
 use Rattle.std.specs.Prelude.{slice_get}
 use Rattle.std.proofs.lemmas.List.Sums.{sum_by-cons}
 use Rattle.std.proofs.lemmas.Bool.{cases_eq}
-use Rattle.boc_types.specs.declared.rows.Row.{Row}
-use Rattle.boc_types.specs.declared.chain.ChainStep.{ChainStep}
-use Rattle.boc_types.specs.declared.chain.Via.{Via}
-use Rattle.boc_types.specs.declared.chain.Via.TheVariants.{Spawn, Order, Last}
-use Rattle.boc_types.specs.runs.Rows.{IsRows, parent_of}
-use Rattle.boc_types.specs.plans.Plans.{start_of, Keeps, IsChild, IsEnd, IsEarliest}
-use Rattle.boc_types.specs.plans.Chains.{weight_of, LinkVia, IsLink, PickedVia, IsPicked}
+use Rattle.boc_runs.specs.declared.rows.Row.{Row}
+use Rattle.boc_plans.specs.declared.chain.ChainStep.{ChainStep}
+use Rattle.boc_plans.specs.declared.chain.Via.{Via}
+use Rattle.boc_plans.specs.declared.chain.Via.TheVariants.{Spawn, Order, Last}
+use Rattle.boc_runs.specs.Rows.{IsRows, parent_of}
+use Rattle.boc_plans.specs.Plans.{start_of, Keeps, IsChild, IsEnd, IsEarliest}
+use Rattle.boc_plans.specs.Chains.{weight_of, LinkVia, IsLink, PickedVia, IsPicked}
 use Rattle.boc_order.proofs.Alone.{one_end}
 
 -- a plan in which each row starts so many ticks earlier

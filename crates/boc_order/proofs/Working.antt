@@ -4,9 +4,9 @@ use Rattle.std.specs.Prelude.{slice_index, slice_get, Some}
 use Rattle.std.specs.List.{sum_by}
 use Rattle.std.proofs.lemmas.List.Sums.{sum_by_more}
 use Rattle.std.proofs.lemmas.Option.{slice_get-get_or}
-use Rattle.boc_types.specs.declared.rows.Row.{Row}
-use Rattle.boc_types.specs.runs.Rows.{ticks_of}
-use Rattle.boc_types.specs.plans.Plans.{HasEnds}
+use Rattle.boc_runs.specs.declared.rows.Row.{Row}
+use Rattle.boc_runs.specs.Rows.{ticks_of}
+use Rattle.boc_plans.specs.Plans.{HasEnds}
 
 -- one more row adds what lies between its start and its end
 pub work_more : (rows : List Row) (starts ends : List ℕ) (n total : ℕ) → HasEnds rows starts ends → n < length ends →

@@ -1,11 +1,11 @@
 -- The links that were waited for, from a last row back to main.
 use Rattle.std.specs.Prelude.{◌≡◌, ℕ, ◌+◌, ◌<◌, ◌≤◌, List, [], ◌∷◌, length, Option, Some, None, slice_get, ⊤}
-use Rattle.boc_types.specs.declared.rows.Row.{Row}
-use Rattle.boc_types.specs.declared.chain.ChainStep.{ChainStep}
-use Rattle.boc_types.specs.declared.chain.Via.TheVariants.{Spawn, Order}
-use Rattle.boc_types.specs.runs.Rows.{parent_of, offset_of, ticks_of}
-use Rattle.boc_types.specs.plans.Plans.{start_of, end_of, IsEnd}
-use Rattle.boc_types.specs.plans.Chains.{weight_of, IsLink, PickedVia}
+use Rattle.boc_runs.specs.declared.rows.Row.{Row}
+use Rattle.boc_plans.specs.declared.chain.ChainStep.{ChainStep}
+use Rattle.boc_plans.specs.declared.chain.Via.TheVariants.{Spawn, Order}
+use Rattle.boc_runs.specs.Rows.{parent_of, offset_of, ticks_of}
+use Rattle.boc_plans.specs.Plans.{start_of, end_of, IsEnd}
+use Rattle.boc_plans.specs.Chains.{weight_of, IsLink, PickedVia}
 
 -- the step before row b: its parent's, or that of the row it waited for
 abbrev pub IsStepBefore : List Row → Option ℕ → ℕ → ChainStep → Type 0

@@ -1,6 +1,6 @@
 -- The waits of the rows so far.
 use Rattle.std.specs.Prelude.{◌≡◌, ℕ, ◌+◌, ◌≤◌, List, length, vec_len, vec_capacity}
-use Rattle.boc_types.specs.declared.rows.Row.{Row}
+use Rattle.boc_runs.specs.declared.rows.Row.{Row}
 use Rattle.boc_order.specs.declared.gathering.Gathering.{Gathering}
 use Rattle.boc_order.specs.Uses.{AreUses}
 use Rattle.boc_order.specs.Waits.{AreBounds, AreFirstWaits, lists_between}

@@ -1,10 +1,10 @@
 -- What is known of the rows that have their place in the earliest plan.
 use Rattle.std.specs.Prelude.{◌≡◌, ℕ, ◌+◌, ◌*◌, ◌<◌, ◌≤◌, nat_lt, if◌then◌else◌, List, length, Option, Some, None, MatchOption, slice_index, slice_index_or}
-use Rattle.boc_types.specs.declared.limits.TheConstants.{MOST_TICKS}
-use Rattle.boc_types.specs.declared.rows.Row.{Row}
-use Rattle.boc_types.specs.runs.Rows.{offset_of}
-use Rattle.boc_types.specs.plans.Plans.{start_of, end_of, IsChild, Ordered}
-use Rattle.boc_types.specs.plans.Chains.{IsSpawnTight, IsOrderTight}
+use Rattle.boc_program.specs.declared.limits.TheConstants.{MOST_TICKS}
+use Rattle.boc_runs.specs.declared.rows.Row.{Row}
+use Rattle.boc_runs.specs.Rows.{offset_of}
+use Rattle.boc_plans.specs.Plans.{start_of, end_of, IsChild, Ordered}
+use Rattle.boc_plans.specs.Chains.{IsSpawnTight, IsOrderTight}
 use Rattle.boc_order.specs.declared.latest.Latest.{Latest}
 
 -- the start of a row that is spawned at a tick, and the row that it waits for, given the latest of those before it

@@ -1,9 +1,9 @@
 -- The profile of some rows.
 use Rattle.std.specs.Prelude.{◌≡◌, ◌≤◌, List, length}
-use Rattle.boc_types.specs.declared.limits.TheConstants.{MOST_ROWS}
-use Rattle.boc_types.specs.declared.rows.Row.{Row}
-use Rattle.boc_types.specs.plans.Plans.{IsEarliest, IsEnd, HasEnds, NoneEndsBefore, work_of}
-use Rattle.boc_types.specs.plans.Chains.{IsPicked, weight_of}
+use Rattle.boc_program.specs.declared.limits.TheConstants.{MOST_ROWS}
+use Rattle.boc_runs.specs.declared.rows.Row.{Row}
+use Rattle.boc_plans.specs.Plans.{IsEarliest, IsEnd, HasEnds, NoneEndsBefore, work_of}
+use Rattle.boc_plans.specs.Chains.{IsPicked, weight_of}
 use Rattle.boc_order.specs.declared.report.Profile.{Profile}
 
 -- The profile is that of the rows: it has their work, the starts and ends of their earliest plan, the end of that plan, and the chain that is

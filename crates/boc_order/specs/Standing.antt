@@ -1,6 +1,6 @@
 -- What a plan has of some rows.
 use Rattle.std.specs.Prelude.{ℕ, List, length, take}
-use Rattle.boc_types.specs.declared.rows.Row.{Row}
+use Rattle.boc_runs.specs.declared.rows.Row.{Row}
 use Rattle.boc_order.specs.declared.plan.Earliest.{Earliest}
 use Rattle.boc_order.specs.Placed.{ArePlaced}
 

@@ -1,8 +1,8 @@
 -- Which rows a row waits for, as far as the others need not be named, and the rows that wait for a row.
 use Rattle.std.specs.Prelude.{◌≡◌, ℕ, ◌-◌, ◌<◌, ◌≤◌, ◌⊎◌, List, [], ◌∷◌, length, take, drop, slice_index_or, nat_eq}
 use Rattle.std.specs.List.{Contains, count_by}
-use Rattle.boc_types.specs.declared.rows.Row.{Row}
-use Rattle.boc_types.specs.plans.Plans.{ConflictOn, Ordered}
+use Rattle.boc_runs.specs.declared.rows.Row.{Row}
+use Rattle.boc_plans.specs.Plans.{ConflictOn, Ordered}
 
 -- row a comes before row b, they conflict on cown c, and no row between them conflicts on it with both
 pub record IsNearOn (rows : List Row) (c a b : ℕ) : Type 0 where

@@ -1,21 +1,21 @@
 // The profile of some rows.
 
 ghost use Rattle.std.specs.Prelude.{◌≡◌, ℕ, ◌+◌, ◌<◌, ◌≤◌, None, List, length, IfOk, slice_index, slice_index_or, slice_get};
-ghost use Rattle.boc_types.specs.declared.rows.Row.{Row};
-ghost use Rattle.boc_types.specs.runs.Rows.{IsRows};
-ghost use Rattle.boc_types.specs.runs.Seen.{seen};
-ghost use Rattle.boc_types.specs.plans.Plans.{work_of, end_of, HasEnds, IsEnd, IsEarliest, NoneEndsBefore};
-ghost use Rattle.boc_types.specs.plans.Chains.{IsPicked, weight_of};
+ghost use Rattle.boc_runs.specs.declared.rows.Row.{Row};
+ghost use Rattle.boc_runs.specs.Rows.{IsRows};
+ghost use Rattle.boc_plans.specs.Seen.{seen};
+ghost use Rattle.boc_plans.specs.Plans.{work_of, end_of, HasEnds, IsEnd, IsEarliest, NoneEndsBefore};
+ghost use Rattle.boc_plans.specs.Chains.{IsPicked, weight_of};
 ghost use Rattle.boc_order.specs.Back.{IsStepBefore, IsFirstLatest};
 ghost use Rattle.boc_order.specs.Profiles.{IsProfileOf};
 ghost use Rattle.boc_order.specs.Standing.{IsPlanOf};
 
 use crate::plan::{Earliest, plan_of};
 use crate::report::Profile;
-use boc_types::chain::{Chain, ChainStep, Via};
-use boc_types::limits::{MOST_ROWS, MOST_TICKS};
-use boc_types::rows::{Row, Rows};
-use boc_types::sharing::{SeenRows, Sharing};
+use boc_plans::chain::{Chain, ChainStep, Via};
+use boc_plans::sharing::{SeenRows, Sharing};
+use boc_program::limits::{MOST_ROWS, MOST_TICKS};
+use boc_runs::rows::{Row, Rows};
 use std::alloc::{AllocError, Global};
 
 // The number of the row that ends last; of several, the least.

@@ -1,14 +1,14 @@
 // The test of a chain.
 
 ghost use Rattle.std.specs.Prelude.{◌≡◌, ℕ, ◌<◌, ◌↔◌, length, IfOk, IfErr, IsTrue, Contains, ◌+◌, slice_get};
-ghost use Rattle.boc_types.specs.runs.Rows.{IsRows, cowns_of};
-ghost use Rattle.boc_types.specs.runs.Seen.{seen};
-ghost use Rattle.boc_types.specs.plans.Plans.{IsChild, ConflictOn, Ordered, NoneEndsBefore};
-ghost use Rattle.boc_types.specs.plans.Chains.{IsLink, IsChain, IsFirstFalse, weight_of};
+ghost use Rattle.boc_runs.specs.Rows.{IsRows, cowns_of};
+ghost use Rattle.boc_plans.specs.Seen.{seen};
+ghost use Rattle.boc_plans.specs.Plans.{IsChild, ConflictOn, Ordered, NoneEndsBefore};
+ghost use Rattle.boc_plans.specs.Chains.{IsLink, IsChain, IsFirstFalse, weight_of};
 
-use boc_types::chain::{Chain, ChainStep, Via};
-use boc_types::rows::Rows;
-use boc_types::sharing::{SeenRows, Sharing};
+use boc_plans::chain::{Chain, ChainStep, Via};
+use boc_plans::sharing::{SeenRows, Sharing};
+use boc_runs::rows::Rows;
 
 // Whether two rows conflict on a cown of the first.
 fn conflict_on(rows: &SeenRows, cown: u8, a: usize, b: usize) -> bool

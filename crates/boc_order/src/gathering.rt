@@ -1,15 +1,15 @@
 // The rows for which each row waits, by what was used of each cown before it.
 
 ghost use Rattle.std.specs.Prelude.{◌≡◌, ◌<◌, ◌≤◌, ◌+◌, length, List, Contains, IfOk};
-ghost use Rattle.boc_types.specs.declared.rows.Row.{Row};
-ghost use Rattle.boc_types.specs.runs.Rows.{IsRows, cowns_of};
+ghost use Rattle.boc_runs.specs.declared.rows.Row.{Row};
+ghost use Rattle.boc_runs.specs.Rows.{IsRows, cowns_of};
 ghost use Rattle.boc_order.specs.Waits.{AreBounds, links_of, lists_between};
 ghost use Rattle.boc_order.specs.Gathered.{AreGathered};
 ghost use Rattle.boc_order.specs.Uses.{IsUse, AreUses, AddsNearOn, AddsNear};
 
 use crate::links::{Links, end_of};
-use boc_types::limits::{MOST_COWNS, MOST_HELD, MOST_ROWS};
-use boc_types::sharing::SeenRows;
+use boc_plans::sharing::SeenRows;
+use boc_program::limits::{MOST_COWNS, MOST_HELD, MOST_ROWS};
 use std::alloc::{AllocError, Global};
 
 /// The last row that wrote a cown, and the rows that have only read it since.

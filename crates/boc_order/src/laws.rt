@@ -1,14 +1,14 @@
 // Laws of plans and chains: of some rows there is one of each. And that links are counted as requests are.
 
 ghost use Rattle.std.specs.Prelude.{◌≡◌, ℕ, List};
-ghost use Rattle.boc_types.specs.declared.chain.ChainStep.{ChainStep};
-ghost use Rattle.boc_types.specs.declared.rows.Row.{Row};
-ghost use Rattle.boc_types.specs.runs.Rows.{IsRows};
-ghost use Rattle.boc_types.specs.plans.Plans.{HasEnds, IsEarliest, IsEnd};
-ghost use Rattle.boc_types.specs.plans.Chains.{IsPicked, weight_of};
-ghost use Rattle.boc_types.specs.plans.Greedy.{IsBound, IsSpan};
-ghost use Rattle.boc_types.specs.plans.Edits.{IsSweep};
-ghost use Rattle.boc_types.specs.machine.Queues.{times as times_in};
+ghost use Rattle.boc_plans.specs.declared.chain.ChainStep.{ChainStep};
+ghost use Rattle.boc_runs.specs.declared.rows.Row.{Row};
+ghost use Rattle.boc_runs.specs.Rows.{IsRows};
+ghost use Rattle.boc_plans.specs.Plans.{HasEnds, IsEarliest, IsEnd};
+ghost use Rattle.boc_plans.specs.Chains.{IsPicked, weight_of};
+ghost use Rattle.boc_plans.specs.Greedy.{IsBound, IsSpan};
+ghost use Rattle.boc_plans.specs.Edits.{IsSweep};
+ghost use Rattle.boc_runs.specs.machine.Queues.{times as times_in};
 ghost use Rattle.boc_order.specs.Waits.{times};
 
 /// Rows have one earliest plan at most. A plan has one end at most, its rows have one list of ends, and one chain is picked in it.

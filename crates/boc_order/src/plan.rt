@@ -1,9 +1,9 @@
 // The earliest plan of some rows, with the link that each row waits for.
 
 ghost use Rattle.std.specs.Prelude.{◌≡◌, ℕ, ◌<◌, ◌≤◌, ◌+◌, ◌^◌, List, [], length, take, IfOk, slice_index};
-ghost use Rattle.boc_types.specs.declared.rows.Row.{Row};
-ghost use Rattle.boc_types.specs.runs.Rows.{IsRows, parent_of, offset_of};
-ghost use Rattle.boc_types.specs.plans.Greedy.{IsSpan};
+ghost use Rattle.boc_runs.specs.declared.rows.Row.{Row};
+ghost use Rattle.boc_runs.specs.Rows.{IsRows, parent_of, offset_of};
+ghost use Rattle.boc_plans.specs.Greedy.{IsSpan};
 ghost use Rattle.boc_order.specs.Placed.{placement, ArePlaced};
 ghost use Rattle.boc_order.specs.Room.{HasRoom};
 ghost use Rattle.boc_order.specs.Standing.{IsPlanOf};
@@ -12,7 +12,7 @@ ghost use Rattle.boc_order.specs.Waits.{AreWaits, HasWaits};
 use crate::gathering::{Gathering, gather, unused};
 use crate::latest::{Latest, latest_of};
 use crate::links::Links;
-use boc_types::sharing::SeenRows;
+use boc_plans::sharing::SeenRows;
 use std::alloc::{AllocError, Global};
 
 /// The earliest plan.

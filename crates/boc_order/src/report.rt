@@ -1,6 +1,6 @@
 // What the analysis of some rows answers.
 
-use boc_types::chain::Chain;
+use boc_plans::chain::Chain;
 
 /// The earliest plan of some rows with a chain that costs as much, and their work. All numbers are ticks.
 #[derive(Drop, Debug)]

@@ -1,8 +1,8 @@
 -- What stands behind `when`.
 use Rattle.std.proofs.Common.{◌≡◌, ℕ, List, ◌∷◌, sym, ◌∙◌}
-use Rattle.boc_types.specs.declared.token.Sign.TheVariants.{Semicolon, Open, Close}
-use Rattle.boc_types.specs.text.Tokens.{name, sign}
-use Rattle.boc_types.specs.text.Shape.{Expr, NamedCown}
+use Rattle.boc_reader.specs.declared.terminal.Sign.TheVariants.{Semicolon, Open, Close}
+use Rattle.boc_reader.specs.Tokens.{name, sign}
+use Rattle.boc_reader.specs.Shape.{Expr, NamedCown}
 use Rattle.boc_reader.specs.Phrases.{Ahead, Stands, NoneStands}
 use Rattle.boc_reader.specs.Grammar.{NoSign, expr_phrase, ref_phrase, list_phrase, arguments_phrase, call_phrase}
 use Rattle.boc_reader.proofs.Refused.{OneReading, one_pair}

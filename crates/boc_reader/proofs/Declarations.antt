@@ -1,10 +1,10 @@
 -- Cowns, defs and whole texts: their tokens are those of one only, and where a part isn't there, the whole isn't.
 use Rattle.std.proofs.Common.{◌≡◌, ◌≢◌, ℕ, Bool, true, false, List, [], ◌∷◌, Option, Some, None, refl, sym, ap, ◌∙◌, arith}
-use Rattle.boc_types.specs.declared.token.Sign.{Sign}
-use Rattle.boc_types.specs.declared.token.Sign.TheVariants.{Assign, Open, Close, Comma, Semicolon}
-use Rattle.boc_types.specs.declared.token.Keyword.TheVariants.{Cown as CownKeyword, Def as DefKeyword, Main}
-use Rattle.boc_types.specs.text.Tokens.{Token, name, number, sign, keyword}
-use Rattle.boc_types.specs.text.Shape.{Cown, Def, Tree, Block, def_tokens, each_tokens, braced_tokens, list_tokens, name_tokens, size_tokens, minus_tokens, tree_tokens, HasShape}
+use Rattle.boc_reader.specs.declared.terminal.Sign.{Sign}
+use Rattle.boc_reader.specs.declared.terminal.Sign.TheVariants.{Assign, Open, Close, Comma, Semicolon}
+use Rattle.boc_reader.specs.declared.terminal.Keyword.TheVariants.{Cown as CownKeyword, Def as DefKeyword, Main}
+use Rattle.boc_reader.specs.Tokens.{Token, name, number, sign, keyword}
+use Rattle.boc_reader.specs.Shape.{Cown, Def, Tree, Block, def_tokens, each_tokens, braced_tokens, list_tokens, name_tokens, size_tokens, minus_tokens, tree_tokens, HasShape}
 use Rattle.boc_reader.specs.Phrases.{Ahead, Stands, NoneStands}
 use Rattle.boc_reader.specs.Grammar.{NoKeyword, EndsSize, name_phrase, list_phrase, size_phrase, initial_phrase, cown_phrase, cowns_phrase, signature_phrase, body_phrase, def_phrase, defs_phrase, main_phrase}
 use Rattle.boc_reader.proofs.Refused.{OneReading}

@@ -1,7 +1,7 @@
 -- Phrases of a kind, one after another.
 use Rattle.std.proofs.Common.{◌≡◌, ℕ, ◌+◌, ◌<◌, ◌≤◌, List, [], ◌∷◌, ◌++◌, length, sym, ap, ◌∙◌, refl, subst, arith}
-use Rattle.boc_types.specs.text.Tokens.{Token}
-use Rattle.boc_types.specs.text.Shape.{each_tokens, list_nodes}
+use Rattle.boc_reader.specs.Tokens.{Token}
+use Rattle.boc_reader.specs.Shape.{each_tokens, list_nodes}
 use Rattle.boc_reader.specs.Phrases.{Ahead, Phrase, Stands}
 
 abbrev pub AllSmall : {X : Type 0} → Phrase X → List X → Type 0

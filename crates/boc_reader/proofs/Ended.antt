@@ -1,9 +1,9 @@
 -- Where phrases one after another can't go on, there are no more.
 use Rattle.std.proofs.Common.{◌≡◌, ◌≢◌, ◌≤◌, List, [], ◌∷◌, ◌++◌, refl, sym, ap, ◌∙◌, subst, arith}
 use Rattle.std.proofs.lemmas.List.{append-nil}
-use Rattle.boc_types.specs.declared.token.Keyword.{Keyword}
-use Rattle.boc_types.specs.text.Tokens.{Token, keyword}
-use Rattle.boc_types.specs.text.Shape.{each_tokens, list_nodes}
+use Rattle.boc_reader.specs.declared.terminal.Keyword.{Keyword}
+use Rattle.boc_reader.specs.Tokens.{Token, keyword}
+use Rattle.boc_reader.specs.Shape.{each_tokens, list_nodes}
 use Rattle.boc_reader.specs.Phrases.{Ahead, Phrase, NoneStands}
 use Rattle.boc_reader.specs.Grammar.{NoKeyword}
 use Rattle.boc_reader.proofs.Refused.{OneReading}

@@ -1,8 +1,8 @@
 -- Expressions: their tokens are those of one only, and where a part isn't there, the whole isn't.
 use Rattle.std.proofs.Common.{◌≡◌, ◌≢◌, ℕ, ◌+◌, ◌≤◌, List, ◌∷◌, Some, None, refl, sym, ap, ◌∙◌, arith}
-use Rattle.boc_types.specs.declared.token.Sign.TheVariants.{Open, Close, Minus}
-use Rattle.boc_types.specs.text.Tokens.{Token, name, number, sign}
-use Rattle.boc_types.specs.text.Shape.{comparison_sign, sum_sign, term_sign, Expr, plain, compared, expr_tokens, Sum, one_term, more_terms, sum_tokens, sum_nodes, Term, one_factor, more_factors, term_tokens, term_nodes, Unary, negated, unsigned, unary_tokens, unary_nodes, Atom, literal, variable, parens, atom_tokens, atom_nodes}
+use Rattle.boc_reader.specs.declared.terminal.Sign.TheVariants.{Open, Close, Minus}
+use Rattle.boc_reader.specs.Tokens.{Token, name, number, sign}
+use Rattle.boc_reader.specs.Shape.{comparison_sign, sum_sign, term_sign, Expr, plain, compared, expr_tokens, Sum, one_term, more_terms, sum_tokens, sum_nodes, Term, one_factor, more_factors, term_tokens, term_nodes, Unary, negated, unsigned, unary_tokens, unary_nodes, Atom, literal, variable, parens, atom_tokens, atom_nodes}
 use Rattle.boc_reader.specs.Phrases.{Ahead, Stands, NoneStands}
 use Rattle.boc_reader.specs.Grammar.{NoSign, NoOperator, EndsSum, EndsExpr, expr_phrase, compared_phrase, sum_phrase, more_terms_phrase, term_phrase, more_factors_phrase, unary_phrase, atom_phrase, closed_phrase}
 use Rattle.boc_reader.proofs.Operators.{same_comparison, same_sum, same_term, sign_ends, comparison_ends, sum_ends}

@@ -1,9 +1,9 @@
 -- Expressions, references and names can be read from lists.
 use Rattle.std.proofs.Common.{◌≡◌, ◌≢◌, List, ◌∷◌, refl}
-use Rattle.boc_types.specs.declared.token.Sign.{Sign}
-use Rattle.boc_types.specs.declared.token.Sign.TheVariants.{Semicolon, Close, Comma, OpenIndex, CloseIndex}
-use Rattle.boc_types.specs.text.Tokens.{Token, sign}
-use Rattle.boc_types.specs.text.Shape.{Expr, plain, compared, Sum, one_term, more_terms, Term, one_factor, more_factors, Unary, negated, unsigned, Atom, literal, variable, parens, expr_tokens, sum_tokens, term_tokens, unary_tokens, atom_tokens, NamedCown, alone, member, ref_tokens}
+use Rattle.boc_reader.specs.declared.terminal.Sign.{Sign}
+use Rattle.boc_reader.specs.declared.terminal.Sign.TheVariants.{Semicolon, Close, Comma, OpenIndex, CloseIndex}
+use Rattle.boc_reader.specs.Tokens.{Token, sign}
+use Rattle.boc_reader.specs.Shape.{Expr, plain, compared, Sum, one_term, more_terms, Term, one_factor, more_factors, Unary, negated, unsigned, Atom, literal, variable, parens, expr_tokens, sum_tokens, term_tokens, unary_tokens, atom_tokens, NamedCown, alone, member, ref_tokens}
 use Rattle.boc_reader.specs.Grammar.{EndsRef, expr_phrase, ref_phrase, name_phrase}
 use Rattle.boc_reader.proofs.Refused.{OneReading}
 use Rattle.boc_reader.proofs.Operators.{sign_ends}

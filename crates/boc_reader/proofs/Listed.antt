@@ -1,9 +1,9 @@
 -- Where a list with commas can't go on, there is none.
 use Rattle.std.proofs.Common.{◌≡◌, ◌≢◌, List, [], ◌∷◌, ◌++◌, length, refl, sym, ap, ◌∙◌, arith, length-append}
-use Rattle.boc_types.specs.declared.token.Sign.{Sign}
-use Rattle.boc_types.specs.declared.token.Sign.TheVariants.{Comma}
-use Rattle.boc_types.specs.text.Tokens.{Token, sign}
-use Rattle.boc_types.specs.text.Shape.{behind_commas, list_tokens, list_nodes}
+use Rattle.boc_reader.specs.declared.terminal.Sign.{Sign}
+use Rattle.boc_reader.specs.declared.terminal.Sign.TheVariants.{Comma}
+use Rattle.boc_reader.specs.Tokens.{Token, sign}
+use Rattle.boc_reader.specs.Shape.{behind_commas, list_tokens, list_nodes}
 use Rattle.boc_reader.specs.Phrases.{Ahead, Phrase, Stands, NoneStands}
 use Rattle.boc_reader.specs.Grammar.{NoSign, list_phrase}
 use Rattle.boc_reader.proofs.Refused.{OneReading}

@@ -1,14 +1,14 @@
 -- What follows an expression.
 use Rattle.std.proofs.Common.{◌≡◌, ◌≢◌, List, ◌∷◌, refl, ap, ◌∙◌, arith}
-use Rattle.boc_types.specs.declared.token.Sign.{Sign}
-use Rattle.boc_types.specs.declared.level.Comparison.{Comparison}
-use Rattle.boc_types.specs.declared.level.Comparison.TheVariants as comparisons
-use Rattle.boc_types.specs.declared.level.SumOperator.{SumOperator}
-use Rattle.boc_types.specs.declared.level.SumOperator.TheVariants as sums
-use Rattle.boc_types.specs.declared.level.TermOperator.{TermOperator}
-use Rattle.boc_types.specs.declared.level.TermOperator.TheVariants as terms
-use Rattle.boc_types.specs.text.Tokens.{Token, sign}
-use Rattle.boc_types.specs.text.Shape.{comparison_sign, sum_sign, term_sign, Expr, plain, compared}
+use Rattle.boc_reader.specs.declared.terminal.Sign.{Sign}
+use Rattle.boc_reader.specs.declared.level.Comparison.{Comparison}
+use Rattle.boc_reader.specs.declared.level.Comparison.TheVariants as comparisons
+use Rattle.boc_reader.specs.declared.level.SumOperator.{SumOperator}
+use Rattle.boc_reader.specs.declared.level.SumOperator.TheVariants as sums
+use Rattle.boc_reader.specs.declared.level.TermOperator.{TermOperator}
+use Rattle.boc_reader.specs.declared.level.TermOperator.TheVariants as terms
+use Rattle.boc_reader.specs.Tokens.{Token, sign}
+use Rattle.boc_reader.specs.Shape.{comparison_sign, sum_sign, term_sign, Expr, plain, compared}
 use Rattle.boc_reader.specs.Grammar.{tightness, NoOperator, EndsSum, EndsExpr}
 
 tightness_comparison : (op : Comparison) → tightness (comparison_sign op) ≡ 1

@@ -1,12 +1,12 @@
 -- Resolved blocks keep what their trees keep, and bodies fit.
 use Rattle.std.proofs.Common.{◌≡◌, ℕ, ◌+◌, ◌≤◌, true, List, [], ◌∷◌, ◌++◌, length, Some, IsTrue, refl, sym, ap, ◌∙◌, subst, arith, length-append}
-use Rattle.boc_types.specs.program.Syntax.{Code, Done, Assign, Work, If, Repeat, When}
-use Rattle.boc_types.specs.program.Syntax as resolved
-use Rattle.boc_types.specs.text.Shape.{Expr, NamedCown, Stmt, declare, assign, work, if_only, if_else, repeat, when, Block, done, next, list_nodes, IsSmallStmt, IsSmallBlock, IsSmallBody}
-use Rattle.boc_types.specs.text.Shape as shape
-use Rattle.boc_types.specs.program.Signatures.{Test}
-use Rattle.boc_types.specs.program.Parts.{MakesBody}
-use Rattle.boc_types.specs.text.Names.{Named, Top, Outside, ResolvedStmt, Spawn, then_code, slot_of, expr_names, all_names, ref_names, kind_of, callee, takes, call_names, is_free, stmt_names, block_names, deepest, PlainBody, are_free, body_names}
+use Rattle.boc_program.specs.Syntax.{Code, Done, Assign, Work, If, Repeat, When}
+use Rattle.boc_program.specs.Syntax as resolved
+use Rattle.boc_reader.specs.Shape.{Expr, NamedCown, Stmt, declare, assign, work, if_only, if_else, repeat, when, Block, done, next, list_nodes, IsSmallStmt, IsSmallBlock, IsSmallBody}
+use Rattle.boc_reader.specs.Shape as shape
+use Rattle.boc_program.specs.Signatures.{Test}
+use Rattle.boc_program.specs.Parts.{MakesBody}
+use Rattle.boc_reader.specs.Names.{Named, Top, Outside, ResolvedStmt, Spawn, then_code, slot_of, expr_names, all_names, ref_names, kind_of, callee, takes, call_names, is_free, stmt_names, block_names, deepest, PlainBody, are_free, body_names}
 use Rattle.boc_reader.specs.Resolving.{EndWithin}
 use Rattle.boc_reader.proofs.ResolvingKeeps.{then_made, map_made, test_made, CodeKeeps, keeps_done, keeps_let, keeps_assign, keeps_work, keeps_if, keeps_repeat, keeps_when, deepest-max}
 use Rattle.boc_reader.proofs.ResolvingExprs.{slot_below, expr_keeps, exprs_keep, Allows, refs_keep}

@@ -4,14 +4,14 @@ use Rattle.std.specs.Prelude.{find, is_some, if◌then◌else◌, pos}
 use Rattle.std.specs.Str.{bytes_eq}
 use Rattle.std.specs.Option.{option_map}
 use Rattle.std.proofs.lemmas.List.Quantifiers.{position-Some}
-use Rattle.boc_types.specs.program.Syntax.{CownRef, Held, Single, Member, Negate, Binary, Slot, Number}
-use Rattle.boc_types.specs.program.Syntax as resolved
-use Rattle.boc_types.specs.program.Sizes.{members}
-use Rattle.boc_types.specs.text.Shape.{Expr, plain, compared, Sum, one_term, more_terms, Term, one_factor, more_factors, Unary, negated, unsigned, Atom, literal, variable, parens, NamedCown, alone, member, list_nodes}
-use Rattle.boc_types.specs.text.Shape as shape
-use Rattle.boc_types.specs.program.Resolved.{every, ref_fits, ref_nodes}
-use Rattle.boc_types.specs.program.Signatures.{ref_below}
-use Rattle.boc_types.specs.text.Names.{Named, Left, Global, Outside, joined, slot_of, adds, multiplies, compares, expr_names, sum_names, term_names, unary_names, atom_names, all_names, ref_names, global, single, member_of, held_or_single}
+use Rattle.boc_program.specs.Syntax.{CownRef, Held, Single, Member, Negate, Binary, Slot, Number}
+use Rattle.boc_program.specs.Syntax as resolved
+use Rattle.boc_program.specs.Sizes.{members}
+use Rattle.boc_reader.specs.Shape.{Expr, plain, compared, Sum, one_term, more_terms, Term, one_factor, more_factors, Unary, negated, unsigned, Atom, literal, variable, parens, NamedCown, alone, member, list_nodes}
+use Rattle.boc_reader.specs.Shape as shape
+use Rattle.boc_program.specs.Resolved.{every, ref_fits, ref_nodes}
+use Rattle.boc_program.specs.Signatures.{ref_below}
+use Rattle.boc_reader.specs.Names.{Named, Left, Global, Outside, joined, slot_of, adds, multiplies, compares, expr_names, sum_names, term_names, unary_names, atom_names, all_names, ref_names, global, single, member_of, held_or_single}
 use Rattle.boc_reader.specs.Resolving.{EndWithin}
 use Rattle.boc_reader.proofs.ResolvingKeeps.{then_made, map_made, both, below, at_most, ExprKeeps, ExprsKeep, CownRefsKeep, left_nodes, left_fits}
 

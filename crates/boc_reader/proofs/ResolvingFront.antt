@@ -5,7 +5,7 @@ use Rattle.std.specs.Option.{option_map, option_and_then}
 use Rattle.std.proofs.Math.Seq.{append_snoc}
 use Rattle.std.proofs.lemmas.List.{map_push}
 use Rattle.boc_reader.specs.declared.shape.DefShape.{DefShape}
-use Rattle.boc_types.specs.text.Names.{Named, Top, PlainBody, among, all_names}
+use Rattle.boc_reader.specs.Names.{Named, Top, PlainBody, among, all_names}
 use Rattle.boc_reader.specs.Views.{def_of}
 use Rattle.boc_reader.specs.Resolving.{def_names, bodies_behind}
 use Rattle.boc_reader.proofs.ResolvingLists.{with_front}

@@ -3,10 +3,10 @@ use Rattle.std.proofs.Common.{◌≡◌, ℕ, ◌+◌, ◌<◌, ◌≤◌, Bool,
 use Rattle.std.specs.Prelude.{◌&&◌, nat_lt, nat_le, max, if◌then◌else◌}
 use Rattle.std.specs.Option.{option_map, option_and_then}
 use Rattle.std.proofs.lemmas.Bool.Decides.{nat_tests}
-use Rattle.boc_types.specs.program.Syntax.{SlotExpr, CownRef, Code, Done, Assign, Work, If, Repeat, When}
-use Rattle.boc_types.specs.program.Resolved.{every, expr_fits, ref_fits, fits, expr_nodes, ref_nodes, nodes, total}
-use Rattle.boc_types.specs.program.Signatures.{Test, whens_pass}
-use Rattle.boc_types.specs.text.Names.{Left, deepest}
+use Rattle.boc_program.specs.Syntax.{SlotExpr, CownRef, Code, Done, Assign, Work, If, Repeat, When}
+use Rattle.boc_program.specs.Resolved.{every, expr_fits, ref_fits, fits, expr_nodes, ref_nodes, nodes, total}
+use Rattle.boc_program.specs.Signatures.{Test, whens_pass}
+use Rattle.boc_reader.specs.Names.{Left, deepest}
 
 -- what an option was made from
 

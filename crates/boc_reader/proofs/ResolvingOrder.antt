@@ -7,9 +7,9 @@ use Rattle.std.proofs.lemmas.List.{append-nil, map-append}
 use Rattle.std.proofs.lemmas.List.Folds.{list_any-append}
 use Rattle.std.proofs.lemmas.Slice.Eq.{bytes_eq-Decides}
 use Rattle.std.proofs.lemmas.Bool.Decides.{same_from_decides, Decides-like}
-use Rattle.boc_types.specs.program.Sizes.{members}
-use Rattle.boc_types.specs.text.Shape.{Cown, Def, Tree, cowns_declared}
-use Rattle.boc_types.specs.text.Names.{Named, Global, Callee, Top, PlainBody, PlainProgram, among, top_names, are_distinct, globals, callees, top_of, all_names, body_names, plain_cown, tree_names}
+use Rattle.boc_program.specs.Sizes.{members}
+use Rattle.boc_reader.specs.Shape.{Cown, Def, Tree, cowns_declared}
+use Rattle.boc_reader.specs.Names.{Named, Global, Callee, Top, PlainBody, PlainProgram, among, top_names, are_distinct, globals, callees, top_of, all_names, body_names, plain_cown, tree_names}
 use Rattle.boc_reader.specs.Resolving.{EndWithin, cown_names, global_at, callee_for, cowns_behind, defs_behind, def_names, bodies_behind, program_in_order}
 
 -- names of which none is among those before it

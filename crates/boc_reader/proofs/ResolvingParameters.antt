@@ -4,11 +4,11 @@ use Rattle.std.specs.Prelude.{◌&&◌, if◌then◌else◌}
 use Rattle.std.specs.Option.{option_and_then}
 use Rattle.std.specs.Result.{IsErrAnd}
 use Rattle.std.proofs.lemmas.List.{append-nil, length-map}
-use Rattle.boc_types.specs.declared.program.Program.{Program}
-use Rattle.boc_types.specs.program.Syntax.{Code}
-use Rattle.boc_types.specs.text.Shape.{Block, IsSmallBody}
-use Rattle.boc_types.specs.program.Parts.{MakesBody}
-use Rattle.boc_types.specs.text.Names.{Named, Top, PlainProgram, is_free, are_free, block_names, deepest}
+use Rattle.boc_program.specs.declared.program.Program.{Program}
+use Rattle.boc_program.specs.Syntax.{Code}
+use Rattle.boc_reader.specs.Shape.{Block, IsSmallBody}
+use Rattle.boc_program.specs.Parts.{MakesBody}
+use Rattle.boc_reader.specs.Names.{Named, Top, PlainProgram, is_free, are_free, block_names, deepest}
 use Rattle.boc_reader.specs.declared.fault.Fault.{Fault}
 use Rattle.boc_reader.specs.declared.fault.Fault.TheVariants.{Memory, At}
 use Rattle.boc_reader.specs.declared.fault.NameFault.{NameFault}

@@ -6,15 +6,15 @@ use Rattle.std.specs.Option.{option_map, option_and_then}
 use Rattle.std.proofs.lemmas.List.{length-map}
 use Rattle.std.proofs.lemmas.Option.{slice_get-map}
 use Rattle.std.proofs.lemmas.Bool.Decides.{nat_tests}
-use Rattle.boc_types.specs.declared.body.Body.{Body}
-use Rattle.boc_types.specs.declared.cown.Cown.{Cown as Cown'}
-use Rattle.boc_types.specs.text.Shape.{Block, Cown, Def, Tree, HasMembers, HaveMembers, cowns_declared, IsSmallBlock, AreSmallDefs, IsWithinLimits}
-use Rattle.boc_types.specs.program.Resolved.{every}
-use Rattle.boc_types.specs.program.Signatures.{Signature, signature_of, whens_pass, counts_fit, call_fits, calls_fit}
-use Rattle.boc_types.specs.program.Programs.{members, cown_count, have_members, has_main}
-use Rattle.boc_types.specs.program.Parts.{MakesProgram}
-use Rattle.boc_types.specs.text.Names.{Named, Callee, Top, Outside, kind_of, callee, takes, PlainBody, PlainCown, PlainProgram, body_names, callees, top_of, top_names, are_distinct, all_names, plain_cown, tree_names}
-use Rattle.boc_types.specs.text.Spells.{plain_body, plain_declared}
+use Rattle.boc_program.specs.declared.body.Body.{Body}
+use Rattle.boc_program.specs.declared.cown.Cown.{Cown as Cown'}
+use Rattle.boc_reader.specs.Shape.{Block, Cown, Def, Tree, HasMembers, HaveMembers, cowns_declared, IsSmallBlock, AreSmallDefs, IsWithinLimits}
+use Rattle.boc_program.specs.Resolved.{every}
+use Rattle.boc_program.specs.Signatures.{Signature, signature_of, whens_pass, counts_fit, call_fits, calls_fit}
+use Rattle.boc_program.specs.Programs.{members, cown_count, have_members, has_main}
+use Rattle.boc_program.specs.Parts.{MakesProgram}
+use Rattle.boc_reader.specs.Names.{Named, Callee, Top, Outside, kind_of, callee, takes, PlainBody, PlainCown, PlainProgram, body_names, callees, top_of, top_names, are_distinct, all_names, plain_cown, tree_names}
+use Rattle.boc_reader.specs.Spells.{plain_body, plain_declared}
 use Rattle.boc_reader.specs.Resolving.{EndWithin, def_names, callee_for}
 use Rattle.boc_reader.proofs.ResolvingLists.{find-position}
 use Rattle.boc_reader.proofs.ResolvingKeeps.{then_made, map_made, test_made, both, below}

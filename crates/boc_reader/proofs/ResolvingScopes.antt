@@ -3,13 +3,13 @@ use Rattle.std.proofs.Common.{◌≡◌, ℕ, zero, suc, ◌+◌, ◌≤◌, ◌
 use Rattle.std.proofs.lemmas.List.{take-take, length-take, drop_all}
 use Rattle.std.specs.Option.{option_map, option_and_then}
 use Rattle.boc_reader.specs.declared.shape.Stmt.{Stmt as Stmt'}
-use Rattle.boc_types.specs.text.Shape.{done, next, stmt_nodes, block_nodes}
+use Rattle.boc_reader.specs.Shape.{done, next, stmt_nodes, block_nodes}
 use Rattle.boc_reader.specs.Views.{stmt_of, block_of}
-use Rattle.boc_types.specs.declared.body.Stmt.{Stmt}
-use Rattle.boc_types.specs.declared.body.Stmt.TheVariants as stmts
-use Rattle.boc_types.specs.program.Syntax.{Code, Done}
-use Rattle.boc_types.specs.memory.View.{before, code_of}
-use Rattle.boc_types.specs.text.Names.{Named, Outside, then_code, stmt_names, block_names}
+use Rattle.boc_program.specs.declared.body.Stmt.{Stmt}
+use Rattle.boc_program.specs.declared.body.Stmt.TheVariants as stmts
+use Rattle.boc_program.specs.Syntax.{Code, Done}
+use Rattle.boc_program.specs.memory.View.{before, code_of}
+use Rattle.boc_reader.specs.Names.{Named, Outside, then_code, stmt_names, block_names}
 use Rattle.boc_reader.specs.Resolving.{resolved_stmt_of}
 
 abbrev pub code_onto : List Stmt → Code → Code

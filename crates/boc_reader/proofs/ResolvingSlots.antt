@@ -2,12 +2,12 @@
 use Rattle.std.proofs.Common.{◌≡◌, ℕ, ◌-◌, ◌≤◌, List, [], ◌∷◌, length, take, drop, get_or, sym, ap, ◌∙◌, arith}
 use Rattle.std.proofs.lemmas.List.{take_rest}
 use Rattle.std.specs.Prelude.{max}
-use Rattle.boc_types.specs.declared.body.Expr.{Expr}
-use Rattle.boc_types.specs.declared.body.Stmt.{Stmt}
-use Rattle.boc_types.specs.declared.body.Stmt.TheVariants as stmts
-use Rattle.boc_types.specs.program.Syntax.{Code, Done}
-use Rattle.boc_types.specs.memory.View.{before, code_of}
-use Rattle.boc_types.specs.text.Names.{deepest}
+use Rattle.boc_program.specs.declared.body.Expr.{Expr}
+use Rattle.boc_program.specs.declared.body.Stmt.{Stmt}
+use Rattle.boc_program.specs.declared.body.Stmt.TheVariants as stmts
+use Rattle.boc_program.specs.Syntax.{Code, Done}
+use Rattle.boc_program.specs.memory.View.{before, code_of}
+use Rattle.boc_reader.specs.Names.{deepest}
 use Rattle.boc_reader.proofs.ResolvingKeeps.{deepest-max}
 
 pub deepest_before : (n : ℕ) (s : Stmt) (rest : Code) → deepest n (before s rest) ≡ max (deepest n (before s Done)) (deepest n rest)

@@ -7,7 +7,7 @@ use Rattle.std.specs.Str.{bytes_eq}
 use Rattle.std.proofs.lemmas.List.Folds.{list_any-append}
 use Rattle.std.proofs.lemmas.List.Quantifiers.{position-Some}
 use Rattle.std.proofs.lemmas.Option.{slice_get_read}
-use Rattle.boc_types.specs.text.Names.{Named, Top, among, top_names, is_free, global, callee, kind_of}
+use Rattle.boc_reader.specs.Names.{Named, Top, among, top_names, is_free, global, callee, kind_of}
 use Rattle.boc_reader.specs.declared.names.top.Global.{Global as Global'}
 use Rattle.boc_reader.specs.declared.names.top.Callee.{Callee as Callee'}
 use Rattle.boc_reader.specs.Resolving.{names_of, cown_names, global_of, callee_of}

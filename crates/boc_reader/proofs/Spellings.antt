@@ -1,10 +1,10 @@
 -- A text spells one program at most, and none where a fault is told.
 use Rattle.std.proofs.Common.{◌≡◌, ◌≢◌, ℕ, List, Some, refl, sym, ap, ◌∙◌, subst, arith}
-use Rattle.boc_types.specs.declared.program.Program.{Program}
-use Rattle.boc_types.specs.text.Tokens.{Token, tokens_of_text}
-use Rattle.boc_types.specs.text.Shape.{Tree, HasShape}
-use Rattle.boc_types.specs.text.Names.{tree_names}
-use Rattle.boc_types.specs.text.Spells.{Spells, plain_program}
+use Rattle.boc_program.specs.declared.program.Program.{Program}
+use Rattle.boc_reader.specs.Tokens.{Token, tokens_of_text}
+use Rattle.boc_reader.specs.Shape.{Tree, HasShape}
+use Rattle.boc_reader.specs.Names.{tree_names}
+use Rattle.boc_reader.specs.Spells.{Spells, plain_program}
 use Rattle.boc_reader.specs.FaultMeanings.{HasNoTokens, HasNoShape, HasNoNames, SaysOf}
 use Rattle.boc_reader.specs.declared.fault.ReadFaultKind.{ReadFaultKind}
 use Rattle.boc_reader.specs.declared.fault.ReadFaultKind.TheVariants as kinds

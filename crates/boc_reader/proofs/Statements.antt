@@ -1,10 +1,10 @@
 -- Statements and blocks: their tokens are those of one only, and where a part isn't there, the whole isn't.
 use Rattle.std.proofs.Common.{◌≡◌, ◌≢◌, ℕ, ◌+◌, ◌≤◌, List, [], ◌∷◌, Some, None, refl, sym, ap, ◌∙◌, arith}
-use Rattle.boc_types.specs.declared.token.Sign.{Sign}
-use Rattle.boc_types.specs.declared.token.Sign.TheVariants.{Semicolon, Close, OpenBlock, CloseBlock}
-use Rattle.boc_types.specs.declared.token.Keyword.TheVariants.{Let, Work, If, Else, Repeat, When}
-use Rattle.boc_types.specs.text.Tokens.{Token, name, sign, keyword}
-use Rattle.boc_types.specs.text.Shape.{Expr, Stmt, declare, assign, work, if_only, if_else, repeat, when, Block, done, next, stmt_tokens, block_tokens, braced_tokens, stmt_nodes, block_nodes, IsSmallBlock, expr_tokens, each_tokens, list_tokens, list_nodes, ref_tokens}
+use Rattle.boc_reader.specs.declared.terminal.Sign.{Sign}
+use Rattle.boc_reader.specs.declared.terminal.Sign.TheVariants.{Semicolon, Close, OpenBlock, CloseBlock}
+use Rattle.boc_reader.specs.declared.terminal.Keyword.TheVariants.{Let, Work, If, Else, Repeat, When}
+use Rattle.boc_reader.specs.Tokens.{Token, name, sign, keyword}
+use Rattle.boc_reader.specs.Shape.{Expr, Stmt, declare, assign, work, if_only, if_else, repeat, when, Block, done, next, stmt_tokens, block_tokens, braced_tokens, stmt_nodes, block_nodes, IsSmallBlock, expr_tokens, each_tokens, list_tokens, list_nodes, ref_tokens}
 use Rattle.boc_reader.specs.Phrases.{Ahead, NoneStands}
 use Rattle.boc_reader.specs.Grammar.{NoSign, NoKeyword, EndsStmt, expr_phrase, closed_phrase, let_phrase, call_phrase, if_phrase, else_phrase, repeat_phrase, stmt_phrase, block_phrase, braced_phrase}
 use Rattle.boc_reader.proofs.Refused.{OneReading}

@@ -8,12 +8,12 @@ use Rattle.std.proofs.lemmas.List.{take-append-drop, append-nil}
 use Rattle.std.specs.Prelude.{fold, nat_lt}
 use Rattle.std.specs.Str.{IsAscii}
 use Rattle.std.proofs.lemmas.Str.{IsAscii-append}
-use Rattle.boc_types.specs.declared.token.Sign.{Sign}
+use Rattle.boc_reader.specs.declared.terminal.Sign.{Sign}
 use Rattle.std.proofs.lemmas.List.Folds.{length-prefix_len}
 use Rattle.std.proofs.Math.Seq.{take-append_seam, drop-append_seam}
 use Rattle.std.specs.List.{AllByRecursion, prefix_len, take_while}
 use Rattle.std.specs.Option.{option_map}
-use Rattle.boc_types.specs.text.Tokens.{Token, sign, is_name_byte, is_blank, without_comments, Piece, run, pair, single, join, in_front, begins_pair, cut, token_of_run, pair_sign, single_sign, put, tokens_of_pieces, tokens_of_text, IsApart, value_of}
+use Rattle.boc_reader.specs.Tokens.{Token, sign, is_name_byte, is_blank, without_comments, Piece, run, pair, single, join, in_front, begins_pair, cut, token_of_run, pair_sign, single_sign, put, tokens_of_pieces, tokens_of_text, IsApart, value_of}
 
 -- a byte that begins no pair
 pub cut_front : (b : ℕ) (bs : List ℕ) → begins_pair b ≡ false → cut (b ∷ bs) ≡ in_front b (cut bs)

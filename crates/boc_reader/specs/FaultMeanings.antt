@@ -1,8 +1,8 @@
 -- What each fault says of a text.
 use Rattle.std.specs.Prelude.{◌≡◌, ℕ, ◌<◌, ◌≤◌, List, length, take, Some, None}
-use Rattle.boc_types.specs.text.Tokens.{Token, tokens_of_text}
-use Rattle.boc_types.specs.text.Shape.{Tree, HasShape}
-use Rattle.boc_types.specs.text.Names.{tree_names}
+use Rattle.boc_reader.specs.Tokens.{Token, tokens_of_text}
+use Rattle.boc_reader.specs.Shape.{Tree, HasShape}
+use Rattle.boc_reader.specs.Names.{tree_names}
 use Rattle.boc_reader.specs.Grammar.{NoShape}
 use Rattle.boc_reader.specs.Lines.{line_after}
 use Rattle.boc_reader.specs.declared.fault.ReadFault.{ReadFault}

@@ -1,16 +1,16 @@
 -- The kinds of phrases.
 use Rattle.std.specs.Prelude.{◌≡◌, ◌≢◌, [], ℕ, ◌+◌, ◌≤◌, Bool, List, ◌∷◌, length, Option, Some, None}
-use Rattle.boc_types.specs.declared.token.Sign.{Sign}
-use Rattle.boc_types.specs.declared.token.Sign.TheVariants.{Open, Close, OpenIndex, CloseBlock, Semicolon, Assign}
-use Rattle.boc_types.specs.declared.token.Sign.TheVariants as signs
-use Rattle.boc_types.specs.declared.token.Keyword.{Keyword}
-use Rattle.boc_types.specs.declared.token.Keyword.TheVariants.{Else, Cown as CownKeyword, Def as DefKeyword, Main}
-use Rattle.boc_types.specs.declared.level.Comparison.{Comparison}
-use Rattle.boc_types.specs.declared.level.SumOperator.{SumOperator}
-use Rattle.boc_types.specs.declared.level.TermOperator.{TermOperator}
-use Rattle.boc_types.specs.text.Tokens.{Token, name, number, keyword, sign}
-use Rattle.boc_types.specs.program.Sizes.{members}
-use Rattle.boc_types.specs.text.Shape.{comparison_sign, sum_sign, term_sign, Expr, plain, compared, expr_tokens, expr_nodes, Sum, sum_tokens, sum_nodes, Term, term_tokens, term_nodes, Unary, unary_tokens, unary_nodes, Atom, atom_tokens, atom_nodes, NamedCown, alone, member, ref_tokens, ref_nodes, Stmt, declare, assign, work, if_only, if_else, repeat, when, stmt_tokens, stmt_nodes, IsSmallStmt, Block, block_tokens, block_nodes, IsSmallBlock, IsSmallBody, braced_tokens, list_tokens, list_nodes, each_tokens, name_tokens, written_tokens, Cown, cown_tokens, cowns_declared, HasMembers, HaveMembers, size_tokens, minus_tokens, Def, def_tokens, IsSmallDef, AreSmallDefs, Tree, HasShape}
+use Rattle.boc_reader.specs.declared.terminal.Sign.{Sign}
+use Rattle.boc_reader.specs.declared.terminal.Sign.TheVariants.{Open, Close, OpenIndex, CloseBlock, Semicolon, Assign}
+use Rattle.boc_reader.specs.declared.terminal.Sign.TheVariants as signs
+use Rattle.boc_reader.specs.declared.terminal.Keyword.{Keyword}
+use Rattle.boc_reader.specs.declared.terminal.Keyword.TheVariants.{Else, Cown as CownKeyword, Def as DefKeyword, Main}
+use Rattle.boc_reader.specs.declared.level.Comparison.{Comparison}
+use Rattle.boc_reader.specs.declared.level.SumOperator.{SumOperator}
+use Rattle.boc_reader.specs.declared.level.TermOperator.{TermOperator}
+use Rattle.boc_reader.specs.Tokens.{Token, name, number, keyword, sign}
+use Rattle.boc_program.specs.Sizes.{members}
+use Rattle.boc_reader.specs.Shape.{comparison_sign, sum_sign, term_sign, Expr, plain, compared, expr_tokens, expr_nodes, Sum, sum_tokens, sum_nodes, Term, term_tokens, term_nodes, Unary, unary_tokens, unary_nodes, Atom, atom_tokens, atom_nodes, NamedCown, alone, member, ref_tokens, ref_nodes, Stmt, declare, assign, work, if_only, if_else, repeat, when, stmt_tokens, stmt_nodes, IsSmallStmt, Block, block_tokens, block_nodes, IsSmallBlock, IsSmallBody, braced_tokens, list_tokens, list_nodes, each_tokens, name_tokens, written_tokens, Cown, cown_tokens, cowns_declared, HasMembers, HaveMembers, size_tokens, minus_tokens, Def, def_tokens, IsSmallDef, AreSmallDefs, Tree, HasShape}
 use Rattle.boc_reader.specs.Phrases.{Phrase}
 
 -- the sign isn't next

@@ -1,3 +1,7 @@
+pub mod Tokens
+pub mod Shape
+pub mod Names
+pub mod Spells
 pub mod Views
 pub mod Placed
 pub mod Phrases

@@ -1,6 +1,6 @@
 -- What it means that a phrase was read, or refused.
 use Rattle.std.specs.Prelude.{◌≡◌, ℕ, ◌+◌, ◌≤◌, List, Result, Ok, Err}
-use Rattle.boc_types.specs.text.Tokens.{Token}
+use Rattle.boc_reader.specs.Tokens.{Token}
 use Rattle.boc_reader.specs.declared.fault.Fault.{Fault}
 use Rattle.boc_reader.specs.declared.fault.ShapeFault.{ShapeFault}
 use Rattle.boc_reader.specs.Placed.{Refusal}

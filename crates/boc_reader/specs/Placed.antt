@@ -1,6 +1,6 @@
 -- Tokens without where they stand, where the first of them stands, and what a fault says.
 use Rattle.std.specs.Prelude.{ℕ, List, [], ◌∷◌, map}
-use Rattle.boc_types.specs.text.Tokens as the
+use Rattle.boc_reader.specs.Tokens as the
 use Rattle.boc_reader.specs.declared.token.Token.{Token}
 use Rattle.boc_reader.specs.declared.token.Token.TheVariants as tokens
 use Rattle.boc_reader.specs.declared.token.Placed.{Placed}

@@ -1,8 +1,8 @@
 -- What the pass over the names of a text answers.
 use Rattle.std.specs.Prelude.{◌≡◌, Option, Some, None, Result, Ok, Err}
-use Rattle.boc_types.specs.declared.program.Program.{Program}
-use Rattle.boc_types.specs.text.Names.{PlainProgram}
-use Rattle.boc_types.specs.text.Spells.{plain_program}
+use Rattle.boc_program.specs.declared.program.Program.{Program}
+use Rattle.boc_reader.specs.Names.{PlainProgram}
+use Rattle.boc_reader.specs.Spells.{plain_program}
 use Rattle.boc_reader.specs.declared.fault.Fault.{Fault}
 use Rattle.boc_reader.specs.declared.fault.Fault.TheVariants.{Memory, At}
 use Rattle.boc_reader.specs.declared.fault.NameFault.{NameFault}

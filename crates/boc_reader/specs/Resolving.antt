@@ -2,15 +2,15 @@
 use Rattle.std.specs.Prelude.{◌≡◌, ℕ, ◌+◌, ◌≤◌, List, [], ◌∷◌, ◌++◌, map, length, Option, Some, None, Result, Ok, Err, if◌then◌else◌}
 use Rattle.std.proofs.Common.{Bor}
 use Rattle.std.specs.Option.{option_map, option_and_then}
-use Rattle.boc_types.specs.declared.body.Operator.{Operator}
-use Rattle.boc_types.specs.declared.body.Expr.{Expr}
-use Rattle.boc_types.specs.declared.body.Stmt.{Stmt}
-use Rattle.boc_types.specs.declared.body.Stmt.TheVariants as stmts
-use Rattle.boc_types.specs.memory.View.{slot_expr_of, cown_ref_of}
-use Rattle.boc_types.specs.program.Sizes.{members}
-use Rattle.boc_types.specs.text.Shape as shape
-use Rattle.boc_types.specs.text.Shape.{Block, Cown, Def, Tree}
-use Rattle.boc_types.specs.text.Names.{Named, Left, ResolvedStmt, Set, Spend, Choose, Loop, Spawn, Global, Callee, Top, Outside, PlainBody, PlainProgram, among, top_names, are_free, block_names, body_names, expr_names, plain_cown, slot_of}
+use Rattle.boc_program.specs.declared.body.Operator.{Operator}
+use Rattle.boc_program.specs.declared.body.Expr.{Expr}
+use Rattle.boc_program.specs.declared.body.Stmt.{Stmt}
+use Rattle.boc_program.specs.declared.body.Stmt.TheVariants as stmts
+use Rattle.boc_program.specs.memory.View.{slot_expr_of, cown_ref_of}
+use Rattle.boc_program.specs.Sizes.{members}
+use Rattle.boc_reader.specs.Shape as shape
+use Rattle.boc_reader.specs.Shape.{Block, Cown, Def, Tree}
+use Rattle.boc_reader.specs.Names.{Named, Left, ResolvedStmt, Set, Spend, Choose, Loop, Spawn, Global, Callee, Top, Outside, PlainBody, PlainProgram, among, top_names, are_free, block_names, body_names, expr_names, plain_cown, slot_of}
 use Rattle.boc_reader.specs.declared.fault.Fault.{Fault}
 use Rattle.boc_reader.specs.declared.fault.Fault.TheVariants.{Memory, At}
 use Rattle.boc_reader.specs.declared.fault.NameFault.{NameFault}

@@ -1,6 +1,6 @@
 -- The tree in memory, as the tree that it stands for.
 use Rattle.std.specs.Prelude.{ℕ, List, [], ◌∷◌, map}
-use Rattle.boc_types.specs.text.Shape as the
+use Rattle.boc_reader.specs.Shape as the
 use Rattle.boc_reader.specs.declared.shape.Spot.{Spot}
 use Rattle.boc_reader.specs.declared.shape.Expr as exprs
 use Rattle.boc_reader.specs.declared.shape.Sum as sums

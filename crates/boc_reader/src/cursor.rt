@@ -2,23 +2,23 @@
 
 ghost use Rattle.std.specs.Prelude.{◌≡◌, ◌≢◌, ◌+◌, ◌<◌, ◌∷◌, [], ℕ, List, drop, MatchResult, MatchOption, MatchBool, IfErr};
 ghost use Rattle.std.specs.Bool.{OnTrue, OnFalse};
-ghost use Rattle.boc_types.specs.text.Tokens as the;
-ghost use Rattle.boc_types.specs.text.Tokens.{name, number, keyword, sign};
-ghost use Rattle.boc_types.specs.text.Shape.{comparison_sign, sum_sign, term_sign};
-ghost use Rattle.boc_types.specs.declared.level.Comparison.{Comparison};
-ghost use Rattle.boc_types.specs.declared.level.SumOperator.{SumOperator};
-ghost use Rattle.boc_types.specs.declared.level.TermOperator.{TermOperator};
-ghost use Rattle.boc_types.specs.declared.token.Sign.TheVariants.{Minus};
+ghost use Rattle.boc_reader.specs.Tokens as the;
+ghost use Rattle.boc_reader.specs.Tokens.{name, number, keyword, sign};
+ghost use Rattle.boc_reader.specs.Shape.{comparison_sign, sum_sign, term_sign};
+ghost use Rattle.boc_reader.specs.declared.level.Comparison.{Comparison};
+ghost use Rattle.boc_reader.specs.declared.level.SumOperator.{SumOperator};
+ghost use Rattle.boc_reader.specs.declared.level.TermOperator.{TermOperator};
+ghost use Rattle.boc_reader.specs.declared.terminal.Sign.TheVariants.{Minus};
 ghost use Rattle.boc_reader.specs.declared.fault.Fault.TheVariants.{At};
 ghost use Rattle.boc_reader.specs.Grammar.{NoSign, NoKeyword, NoOperator};
 ghost use Rattle.boc_reader.specs.Placed.{token_of, tokens_of, position_of, Refusal};
 
 use crate::fault::{Fault, ShapeFault};
+use crate::level::{Comparison, SumOperator, TermOperator};
 use crate::natural::Natural;
 use crate::shape::Spot;
+use crate::terminal::{Keyword, Sign};
 use crate::token::{LONGEST, Placed, Token};
-use boc_types::level::{Comparison, SumOperator, TermOperator};
-use boc_types::token::{Keyword, Sign};
 use std::marker::Model;
 use std::mem;
 

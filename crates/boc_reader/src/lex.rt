@@ -6,12 +6,12 @@ ghost use Rattle.std.specs.Char.{is_ascii_digit};
 ghost use Rattle.std.specs.List.{take_while, list_all};
 ghost use Rattle.std.specs.Str.{byte, IsAscii};
 ghost use Rattle.boc_reader.specs.Placed.{token_of, tokens_of, Refusal};
-ghost use Rattle.boc_types.specs.text.Tokens.{sign, is_name_byte, is_blank, is_numeral, value_of, begins_with_digit, token_of_run, keyword_of, single_sign, pair_sign, put, tokens_of_text, IsApart};
+ghost use Rattle.boc_reader.specs.Tokens.{sign, is_name_byte, is_blank, is_numeral, value_of, begins_with_digit, token_of_run, keyword_of, single_sign, pair_sign, put, tokens_of_text, IsApart};
 
 use crate::fault::{Fault, TokenFault};
 use crate::natural::Natural;
+use crate::terminal::{Keyword, Sign};
 use crate::token::{Placed, Token};
-use boc_types::token::{Keyword, Sign};
 use std::alloc::Global;
 
 fn is_name_byte(b: u8) -> bool
@@ -155,7 +155,7 @@ fn begins_with_digit(run: &[u8]) -> bool
 const LONGEST_NAME: usize = 32;
 
 // What a run of name bytes is.
-#[tactic(auto, unfolding(boc_types::specs::text::Tokens::token_of_run))]
+#[tactic(auto, unfolding(boc_reader::specs::Tokens::token_of_run))]
 fn token_of_run<'a>(run: &'a [u8]) -> Result<Token<'a>, TokenFault>
     requires { IsAscii run.now }
     ensures { MatchResult result (λ t. token_of_run run.now ≡ Some (token_of t)) (λ _. token_of_run run.now ≡ None) }

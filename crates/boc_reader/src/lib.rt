@@ -3,12 +3,14 @@
 
 mod cursor;
 mod fault;
+mod level;
 mod lex;
 mod names;
 mod natural;
 mod parse;
 mod read;
 mod shape;
+mod terminal;
 mod token;
 
 pub use fault::{ReadFault, ReadFaultKind};

@@ -1,10 +1,10 @@
 // From the syntax tree of a text to its program, with every name resolved.
 
 ghost use Rattle.std.specs.Prelude.{◌≡◌, map};
-ghost use Rattle.boc_types.specs.text.Shape.{AreSmallDefs, IsWithinLimits};
-ghost use Rattle.boc_types.specs.text.Names.{PlainProgram, plain_cown, tree_names};
-ghost use Rattle.boc_types.specs.text.Spells.{plain_body, plain_declared, plain_program};
-ghost use Rattle.boc_types.specs.program.Parts.{MakesProgram};
+ghost use Rattle.boc_reader.specs.Shape.{AreSmallDefs, IsWithinLimits};
+ghost use Rattle.boc_reader.specs.Names.{PlainProgram, plain_cown, tree_names};
+ghost use Rattle.boc_reader.specs.Spells.{plain_body, plain_declared, plain_program};
+ghost use Rattle.boc_program.specs.Parts.{MakesProgram};
 ghost use Rattle.boc_reader.specs.Views.{def_of, tree_of};
 ghost use Rattle.boc_reader.specs.Resolves.{Resolves};
 ghost use Rattle.boc_reader.specs.Resolving.{Yields, EndWithin, names_of, declared_of, bodies_behind, program_at, program_in_order};
@@ -20,10 +20,10 @@ use crate::names::body::resolve_body;
 use crate::names::declare::{declare_top, names_of_cowns, resolve_cowns};
 use crate::names::top::{Top, is_name};
 use crate::shape::{DefShape, Tree};
-use boc_types::body::Body;
-use boc_types::cown::Cown;
-use boc_types::lists::{BodyList, CownList};
-use boc_types::program::Program;
+use boc_program::body::Body;
+use boc_program::cown::Cown;
+use boc_program::lists::{BodyList, CownList};
+use boc_program::program::Program;
 use std::alloc::Global;
 
 // The bodies of the defs, whose names may not be among those that stand before them.

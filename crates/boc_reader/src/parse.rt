@@ -2,10 +2,10 @@
 
 ghost use Rattle.std.specs.Prelude.{◌≡◌, ◌≢◌, ◌<◌, ◌≤◌, ◌∷◌, drop, length, map, OnOk, MatchResult};
 ghost use Rattle.std.specs.Option.{option_map};
-ghost use Rattle.boc_types.specs.text.Tokens.{keyword};
-ghost use Rattle.boc_types.specs.text.Shape.{HasShape};
-ghost use Rattle.boc_types.specs.declared.token.Keyword.TheVariants.{If, Repeat};
-ghost use Rattle.boc_types.specs.declared.token.Sign.TheVariants.{Semicolon, Close, Comma};
+ghost use Rattle.boc_reader.specs.Tokens.{keyword};
+ghost use Rattle.boc_reader.specs.Shape.{HasShape};
+ghost use Rattle.boc_reader.specs.declared.terminal.Keyword.TheVariants.{If, Repeat};
+ghost use Rattle.boc_reader.specs.declared.terminal.Sign.TheVariants.{Semicolon, Close, Comma};
 ghost use Rattle.boc_reader.specs.Phrases.{Parses};
 ghost use Rattle.boc_reader.specs.Grammar.{NoKeyword, NoShape, tightness, expr_phrase, compared_phrase, sum_phrase, more_terms_phrase, term_phrase, more_factors_phrase, unary_phrase, atom_phrase, closed_phrase, ref_phrase, name_phrase, list_phrase, written_phrase, let_phrase, arguments_phrase, call_phrase, stmt_phrase, block_phrase, braced_phrase, else_phrase, pair_phrase, body_phrase, size_phrase, initial_phrase, cown_phrase, cowns_phrase, signature_phrase, def_phrase, defs_phrase, main_phrase};
 ghost use Rattle.boc_reader.specs.Placed.{tokens_of, Refusal};
@@ -13,13 +13,13 @@ ghost use Rattle.boc_reader.specs.Views.{name_of, expr_of, sum_of, term_of, unar
 
 use crate::cursor::Cursor;
 use crate::fault::{Fault, ShapeFault};
+use crate::level::{Comparison, SumOperator, TermOperator};
 use crate::natural::Natural;
 use crate::shape::{
     Atom, CownShape, DefShape, Expr, NamedCown, Spot, Stmt, Sum, Term, Tree, Unary,
 };
+use crate::terminal::{Keyword, Sign};
 use crate::token::{Placed, Token};
-use boc_types::level::{Comparison, SumOperator, TermOperator};
-use boc_types::token::{Keyword, Sign};
 use std::alloc::Global;
 
 /// The most cowns of a text, each member of an array counted.

@@ -1,8 +1,8 @@
 // Program texts.
 
 ghost use Rattle.std.specs.Prelude.{◌≡◌, ◌≢◌, ◌≤◌, ℕ, List, length, take, MatchResult};
-ghost use Rattle.boc_types.specs.text.Spells.{Spells, plain_program};
-ghost use Rattle.boc_types.specs.declared.program.Program.{Program};
+ghost use Rattle.boc_reader.specs.Spells.{Spells, plain_program};
+ghost use Rattle.boc_program.specs.declared.program.Program.{Program};
 ghost use Rattle.boc_reader.specs.Placed.{Refusal};
 ghost use Rattle.boc_reader.specs.FaultMeanings.{HasNoTokens, HasNoShape, HasNoNames, SaysOf, IsLineIn, IsRefusalOf};
 ghost use Rattle.boc_reader.specs.declared.fault.ReadFaultKind.{ReadFaultKind};
@@ -13,7 +13,7 @@ use crate::lex::tokens;
 use crate::names::resolve_program;
 use crate::parse::parse_tree;
 use crate::token::LONGEST;
-use boc_types::program::Program;
+use boc_program::program::Program;
 use std::alloc::Global;
 
 const NO_MEMORY: ReadFault = ReadFault {

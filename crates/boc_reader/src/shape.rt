@@ -1,7 +1,7 @@
 // The syntax tree of a text, with its names and its parentheses.
 
+use crate::level::{Comparison, SumOperator, TermOperator};
 use crate::natural::Natural;
-use boc_types::level::{Comparison, SumOperator, TermOperator};
 
 /// A name, and the place of its first byte.
 #[derive(Clone, Copy, Debug)]

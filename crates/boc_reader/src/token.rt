@@ -1,7 +1,7 @@
 // The tokens of a text, with where they stand.
 
 use crate::natural::Natural;
-use boc_types::token::{Keyword, Sign};
+use crate::terminal::{Keyword, Sign};
 
 /// The most bytes of a text. Each token begins before this byte.
 pub const LONGEST: usize = 65_536;

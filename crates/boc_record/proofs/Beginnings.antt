@@ -2,10 +2,10 @@
 use Rattle.std.proofs.Common.{◌≡◌, ℕ, ◌+◌, ◌<◌, List, [], ◌∷◌, ◌++◌, length, get_or, refl, sym, ◌∙◌, ap, subst, arith, append_assoc, length-append}
 use Rattle.std.specs.Prelude.{codes}
 use Rattle.std.proofs.lemmas.List.{get_or-take, length-take}
-use Rattle.boc_types.specs.declared.limits.TheConstants.{MOST_LINE}
-use Rattle.boc_types.specs.declared.event.Event.{Event}
-use Rattle.boc_types.specs.runs.Legal.{Entry, entries, after, after_all, IsAllowed, IsLegalFrom, IsLegal}
-use Rattle.boc_types.specs.text.RecordTexts.{Version, header, event_line, event_lines, begun, line, BeginsWith, BeginsLong, IsCut, IsSpelt, AreSpelt, HasBegun}
+use Rattle.boc_program.specs.declared.limits.TheConstants.{MOST_LINE}
+use Rattle.boc_runs.specs.declared.event.Event.{Event}
+use Rattle.boc_runs.specs.Legal.{Entry, entries, after, after_all, IsAllowed, IsLegalFrom, IsLegal}
+use Rattle.boc_record.specs.RecordTexts.{Version, header, event_line, event_lines, begun, line, BeginsWith, BeginsLong, IsCut, IsSpelt, AreSpelt, HasBegun}
 use Rattle.boc_rules.proofs.Next.{well_log}
 use Rattle.boc_record.proofs.Lines.{one_header, one_event, first_line}
 use Rattle.boc_record.proofs.OneText.{one_event_of, one_header_of}

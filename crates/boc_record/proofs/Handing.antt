@@ -1,9 +1,9 @@
 -- What a judge, and rules, do with an event that is handed to them.
 use Rattle.std.proofs.Common.{◌≡◌, ℕ, List, [], ◌∷◌, ◌++◌, sym, ◌∙◌, ap, subst}
 use Rattle.std.specs.Prelude.{Result, Ok, Err}
-use Rattle.boc_types.specs.declared.event.Event.{Event}
-use Rattle.boc_types.specs.declared.event.Event.TheVariants.{Spawn, Start, End}
-use Rattle.boc_types.specs.runs.Legal.{Entry, entries, after, IsAllowed, IsFirstBroken}
+use Rattle.boc_runs.specs.declared.event.Event.{Event}
+use Rattle.boc_runs.specs.declared.event.Event.TheVariants.{Spawn, Start, End}
+use Rattle.boc_runs.specs.Legal.{Entry, entries, after, IsAllowed, IsFirstBroken}
 use Rattle.boc_rules.specs.declared.fault.RuleFault.{RuleFault}
 use Rattle.boc_rules.specs.declared.fault.RuleFault.TheVariants.{Broken, Memory}
 use Rattle.boc_rules.specs.Course.{Course, Steps}

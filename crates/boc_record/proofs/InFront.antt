@@ -5,9 +5,9 @@ use Rattle.std.specs.Io.KnownBytes.{prepend_known, Consumes}
 use Rattle.std.proofs.lemmas.List.{take-append-drop, length-drop}
 use Rattle.std.proofs.lemmas.List.Elements.{All-nil, All-cons, All-push}
 use Rattle.std.proofs.Math.Seq.{drop-append_seam}
-use Rattle.boc_types.specs.declared.event.Event.{Event}
-use Rattle.boc_types.specs.runs.Legal.{Entry}
-use Rattle.boc_types.specs.text.RecordTexts.{Version, field, fields, line, event_line}
+use Rattle.boc_runs.specs.declared.event.Event.{Event}
+use Rattle.boc_runs.specs.Legal.{Entry}
+use Rattle.boc_record.specs.RecordTexts.{Version, field, fields, line, event_line}
 use Rattle.boc_record.specs.Fields.{IsFront, sign_of}
 use Rattle.boc_record.specs.Ahead.{IsFieldAhead, AreFieldsAhead, TellsAhead, IsLineAhead}
 use Rattle.boc_record.specs.Reading.{TakesEvent}

@@ -5,16 +5,16 @@ use Rattle.std.specs.Bool.{OnFalse}
 use Rattle.std.specs.Prelude.{codes, Result, Ok, Err}
 use Rattle.std.specs.Io.KnownBytes.{Consumes, IsAtEnd, Keeps, prepend_known}
 use Rattle.std.proofs.KnownBytes.{Consumes-trans}
-use Rattle.boc_types.specs.declared.verdict.RecordFaultKind.{RecordFaultKind}
-use Rattle.boc_types.specs.declared.verdict.RecordFaultKind.TheVariants as kinds
-use Rattle.boc_types.specs.declared.event.Event.{Event}
-use Rattle.boc_types.specs.declared.event.BrokenRule.{BrokenRule}
-use Rattle.boc_types.specs.declared.event.BrokenRule.TheVariants as rules
-use Rattle.boc_types.specs.declared.limits.TheConstants.{MOST_LINE, MOST_ROWS}
-use Rattle.boc_types.specs.runs.Legal.{Entry, entries, IsComplete, IsFirstBroken}
-use Rattle.boc_types.specs.declared.rows.Row.{Row}
-use Rattle.boc_types.specs.runs.Records.{Recorded, IsRecord, AreRowsOf}
-use Rattle.boc_types.specs.text.RecordTexts.{HasNoForm, FirstLineIs, NextLineIs, IsWrongAfter, IsCut, Version, BeginsLong, BeginsWith, IsOneLine, BreaksRule, HasMore, HasBegun, AreSpelt, IsFirstFault, line, header, event_line, event_lines, begun, record_text, kind_of_rule}
+use Rattle.boc_record.specs.declared.verdict.RecordFaultKind.{RecordFaultKind}
+use Rattle.boc_record.specs.declared.verdict.RecordFaultKind.TheVariants as kinds
+use Rattle.boc_runs.specs.declared.event.Event.{Event}
+use Rattle.boc_runs.specs.declared.event.BrokenRule.{BrokenRule}
+use Rattle.boc_runs.specs.declared.event.BrokenRule.TheVariants as rules
+use Rattle.boc_program.specs.declared.limits.TheConstants.{MOST_LINE, MOST_ROWS}
+use Rattle.boc_runs.specs.Legal.{Entry, entries, IsComplete, IsFirstBroken}
+use Rattle.boc_runs.specs.declared.rows.Row.{Row}
+use Rattle.boc_runs.specs.Records.{Recorded, IsRecord, AreRowsOf}
+use Rattle.boc_record.specs.RecordTexts.{HasNoForm, FirstLineIs, NextLineIs, IsWrongAfter, IsCut, Version, BeginsLong, BeginsWith, IsOneLine, BreaksRule, HasMore, HasBegun, AreSpelt, IsFirstFault, line, header, event_line, event_lines, begun, record_text, kind_of_rule}
 use Rattle.boc_rules.specs.Course.{Course, IsOver, GivesRows}
 use Rattle.boc_rules.proofs.Events.{counted}
 use Rattle.boc_rules.proofs.Next.{well_log}

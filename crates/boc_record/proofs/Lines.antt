@@ -5,11 +5,11 @@ use Rattle.std.proofs.lemmas.Bool.Decides.{nat_tests}
 use Rattle.std.proofs.lemmas.List.Elements.{All-nil, All-cons, All-append, All-push}
 use Rattle.std.proofs.lemmas.List.Sums.{sum_by-append, sum_by-cons}
 use Rattle.std.proofs.lemmas.Fmt.{decimal_by_steps}
-use Rattle.boc_types.specs.declared.event.Event.{Event}
-use Rattle.boc_types.specs.declared.event.Event.TheVariants.{Spawn, Start, End}
-use Rattle.boc_types.specs.declared.limits.TheConstants.{MOST_COWNS}
-use Rattle.boc_types.specs.runs.Legal.{Entry, entries, after, after_all, HasBounds, IsAllowed, IsLegalFrom}
-use Rattle.boc_types.specs.text.RecordTexts.{Version, First, Second, version_number, field, fields, header, event_line, event_lines, begun, record_text, line, IsOneLine, IsSpelt, AreSpelt, HasBegun}
+use Rattle.boc_runs.specs.declared.event.Event.{Event}
+use Rattle.boc_runs.specs.declared.event.Event.TheVariants.{Spawn, Start, End}
+use Rattle.boc_program.specs.declared.limits.TheConstants.{MOST_COWNS}
+use Rattle.boc_runs.specs.Legal.{Entry, entries, after, after_all, HasBounds, IsAllowed, IsLegalFrom}
+use Rattle.boc_record.specs.RecordTexts.{Version, First, Second, version_number, field, fields, header, event_line, event_lines, begun, record_text, line, IsOneLine, IsSpelt, AreSpelt, HasBegun}
 use Rattle.boc_record.specs.Fields.{AreSmall, sign_of, numbers_of}
 use Rattle.boc_record.specs.Reading.{line_feeds}
 use Rattle.boc_record.proofs.Runs.{small_first, small_rest}

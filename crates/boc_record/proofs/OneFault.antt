@@ -3,16 +3,16 @@ use Rattle.std.proofs.Common.{◌≡◌, ◌⊎◌, ℕ, suc, List, [], ◌∷�
 use Rattle.std.specs.Prelude.{codes}
 use Rattle.std.proofs.lemmas.List.{append-nil}
 use Rattle.arrayvec.specs.ArrayVec.{ArrayVec}
-use Rattle.boc_types.specs.declared.body.EndStatus.{EndStatus}
-use Rattle.boc_types.specs.declared.event.Event.{Event}
-use Rattle.boc_types.specs.declared.event.BrokenRule.{BrokenRule}
-use Rattle.boc_types.specs.declared.event.BrokenRule.TheVariants as rules
-use Rattle.boc_types.specs.declared.rows.Row.{Row}
-use Rattle.boc_types.specs.declared.verdict.RecordFaultKind.{RecordFaultKind}
-use Rattle.boc_types.specs.declared.verdict.RecordFaultKind.TheVariants as kinds
-use Rattle.boc_types.specs.runs.Legal.{Entry, entries, HasBounds, KeepsRule, IsComplete, IsFirstBroken, place_of_rule}
-use Rattle.boc_types.specs.runs.Records.{Recorded, IsRowOf, AreRowsOf}
-use Rattle.boc_types.specs.text.RecordTexts.{Version, header, event_line, begun, line, BeginsWith, BeginsLong, IsCut, IsHeader, HasBegun, HasNoForm, BreaksRule, FirstLineIs, NextLineIs, IsWrongAfter, HasMore, IsFirstFault, IsTextOf, kind_of_rule}
+use Rattle.boc_program.specs.declared.body.EndStatus.{EndStatus}
+use Rattle.boc_runs.specs.declared.event.Event.{Event}
+use Rattle.boc_runs.specs.declared.event.BrokenRule.{BrokenRule}
+use Rattle.boc_runs.specs.declared.event.BrokenRule.TheVariants as rules
+use Rattle.boc_runs.specs.declared.rows.Row.{Row}
+use Rattle.boc_record.specs.declared.verdict.RecordFaultKind.{RecordFaultKind}
+use Rattle.boc_record.specs.declared.verdict.RecordFaultKind.TheVariants as kinds
+use Rattle.boc_runs.specs.Legal.{Entry, entries, HasBounds, KeepsRule, IsComplete, IsFirstBroken, place_of_rule}
+use Rattle.boc_runs.specs.Records.{Recorded, IsRowOf, AreRowsOf}
+use Rattle.boc_record.specs.RecordTexts.{Version, header, event_line, begun, line, BeginsWith, BeginsLong, IsCut, IsHeader, HasBegun, HasNoForm, BreaksRule, FirstLineIs, NextLineIs, IsWrongAfter, HasMore, IsFirstFault, IsTextOf, kind_of_rule}
 use Rattle.std.proofs.lemmas.Bool.{cases_order}
 use Rattle.boc_record.proofs.Lines.{first_line, one_stop}
 use Rattle.boc_record.proofs.OneText.{one_event_of, no_stop, one_items}

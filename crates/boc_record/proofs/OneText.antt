@@ -2,13 +2,13 @@
 use Rattle.std.proofs.Common.{◌≡◌, ◌≢◌, ℕ, ◌≤◌, List, [], ◌∷◌, length, get_or, drop, refl, sym, ◌∙◌, ap, subst, arith}
 use Rattle.std.specs.Prelude.{codes}
 use Rattle.arrayvec.specs.ArrayVec.{ArrayVec}
-use Rattle.boc_types.specs.declared.body.EndStatus.{EndStatus}
-use Rattle.boc_types.specs.declared.body.EndStatus.TheVariants as statuses
-use Rattle.boc_types.specs.declared.limits.TheConstants.{MOST_COWNS}
-use Rattle.boc_types.specs.declared.event.Event.{Event}
-use Rattle.boc_types.specs.declared.event.Event.TheVariants.{Spawn, Start, End}
-use Rattle.boc_types.specs.runs.Legal.{Entry, HasBounds}
-use Rattle.boc_types.specs.text.RecordTexts.{Version, First, Second, version_number, fields, header, event_line, status_number, written_fields, IsSpelt}
+use Rattle.boc_program.specs.declared.body.EndStatus.{EndStatus}
+use Rattle.boc_program.specs.declared.body.EndStatus.TheVariants as statuses
+use Rattle.boc_program.specs.declared.limits.TheConstants.{MOST_COWNS}
+use Rattle.boc_runs.specs.declared.event.Event.{Event}
+use Rattle.boc_runs.specs.declared.event.Event.TheVariants.{Spawn, Start, End}
+use Rattle.boc_runs.specs.Legal.{Entry, HasBounds}
+use Rattle.boc_record.specs.RecordTexts.{Version, First, Second, version_number, fields, header, event_line, status_number, written_fields, IsSpelt}
 use Rattle.boc_record.specs.Fields.{AreSmall, IsField, sign_of, numbers_of}
 use Rattle.boc_record.proofs.Runs.{small_rest, first_field, one_field}
 use Rattle.boc_record.proofs.Told.{line_is, small_numbers}

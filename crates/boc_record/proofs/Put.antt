@@ -4,8 +4,8 @@ use Rattle.std.proofs.lemmas.List.{append-nil}
 use Rattle.std.proofs.Math.Seq.{take-suc}
 use Rattle.std.specs.Prelude.{slice_get, Some}
 use Rattle.std.proofs.lemmas.Option.{slice_get_within, get_or_from_slice_get}
-use Rattle.boc_types.specs.declared.event.Event.{Event}
-use Rattle.boc_types.specs.text.RecordTexts.{Version, line, event_line, event_lines}
+use Rattle.boc_runs.specs.declared.event.Event.{Event}
+use Rattle.boc_record.specs.RecordTexts.{Version, line, event_line, event_lines}
 
 add_one : (i : ℕ) → i + 1 ≡ suc i
 add_one i = omega arith

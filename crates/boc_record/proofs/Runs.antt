@@ -11,7 +11,7 @@ use Rattle.std.proofs.lemmas.Str.Parse.{IsNumeralModel, FoldsDigits, numerals_by
 use Rattle.std.proofs.lemmas.Fmt.{decimal_by_steps, decimal_injective, length-decimal-le, decimal_digit, decimal_nonempty, first_decimal, digits_decimal, digits_value-decimal, decimal-digits_value}
 use Rattle.std.proofs.Math.Seq.{take-append_seam, drop-append_seam}
 use Rattle.std.specs.List.{AllByRecursion}
-use Rattle.boc_types.specs.text.RecordTexts.{field, fields}
+use Rattle.boc_record.specs.RecordTexts.{field, fields}
 use Rattle.boc_record.specs.Fields.{IsApart, IsFront, IsField, AreSmall}
 
 -- a byte that stands within a field: no space

@@ -2,9 +2,9 @@
 use Rattle.std.proofs.Common.{ℕ, ◌≤◌, ◌-◌, List, [], ◌∷◌, ◌++◌, Option, take, drop, length, length-drop, append_assoc, take-append-drop, refl, sym, ap, subst, ◌∙◌, arith}
 use Rattle.std.specs.Prelude.{◌≡◌}
 use Rattle.std.proofs.lemmas.List.{take_all}
-use Rattle.boc_types.specs.declared.event.Event.{Event}
-use Rattle.boc_types.specs.runs.Records.{Recorded, IsRecord}
-use Rattle.boc_types.specs.text.RecordTexts.{Version, Second, line, header, event_line, event_lines}
+use Rattle.boc_runs.specs.declared.event.Event.{Event}
+use Rattle.boc_runs.specs.Records.{Recorded, IsRecord}
+use Rattle.boc_record.specs.RecordTexts.{Version, Second, line, header, event_line, event_lines}
 use Rattle.boc_rules.proofs.Events.{counted}
 use Rattle.boc_rules.proofs.Next.{well_log}
 use Rattle.boc_text.specs.declared.outgoing.Outgoing.{Outgoing}

@@ -4,16 +4,16 @@ use Rattle.std.specs.Prelude.{All}
 use Rattle.std.proofs.lemmas.List.{get_or_default}
 use Rattle.std.proofs.lemmas.Option.{slice_get_within}
 use Rattle.std.proofs.lemmas.Fmt.{length-decimal-le}
-use Rattle.boc_types.specs.declared.body.EndStatus.{EndStatus}
-use Rattle.boc_types.specs.declared.body.EndStatus.TheVariants as statuses
-use Rattle.boc_types.specs.declared.limits.TheConstants.{MOST_COWNS, MOST_HELD, MOST_LINE, MOST_ROWS, MOST_TICKS}
-use Rattle.boc_types.specs.declared.event.Event.{Event}
-use Rattle.boc_types.specs.declared.event.Event.TheVariants.{Spawn, Start, End}
-use Rattle.boc_types.specs.declared.event.BrokenRule.TheVariants as rules
-use Rattle.boc_types.specs.runs.Lives.{Running}
-use Rattle.boc_types.specs.runs.Cowns.{AreAmong}
-use Rattle.boc_types.specs.runs.Legal.{Entry, entry_cowns, IsParent, IsOffset, MayNeed, MayEnd, IsAllowed}
-use Rattle.boc_types.specs.text.RecordTexts.{Version, First, Second, field, fields, header, event_line, status_number, written_fields}
+use Rattle.boc_program.specs.declared.body.EndStatus.{EndStatus}
+use Rattle.boc_program.specs.declared.body.EndStatus.TheVariants as statuses
+use Rattle.boc_program.specs.declared.limits.TheConstants.{MOST_COWNS, MOST_HELD, MOST_LINE, MOST_ROWS, MOST_TICKS}
+use Rattle.boc_runs.specs.declared.event.Event.{Event}
+use Rattle.boc_runs.specs.declared.event.Event.TheVariants.{Spawn, Start, End}
+use Rattle.boc_runs.specs.declared.event.BrokenRule.TheVariants as rules
+use Rattle.boc_runs.specs.Lives.{Running}
+use Rattle.boc_program.specs.Cowns.{AreAmong}
+use Rattle.boc_runs.specs.Legal.{Entry, entry_cowns, IsParent, IsOffset, MayNeed, MayEnd, IsAllowed}
+use Rattle.boc_record.specs.RecordTexts.{Version, First, Second, field, fields, header, event_line, status_number, written_fields}
 use Rattle.boc_rules.proofs.Well.{IsWell}
 use Rattle.boc_rules.proofs.Next.{living}
 use Rattle.boc_rules.proofs.Starts.{has_entry}

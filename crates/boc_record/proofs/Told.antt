@@ -1,13 +1,13 @@
 -- Lines of events, and what they tell.
 use Rattle.std.proofs.Common.{◌^◌, get_or, length, drop, ◌≡◌, ℕ, ◌≤◌, ◌<◌, ◌∷◌, List, [], ◌++◌, refl, sym, ap, ◌∙◌, subst, arith}
 use Rattle.std.proofs.lemmas.List.Elements.{All-cons}
-use Rattle.boc_types.specs.declared.body.EndStatus.{EndStatus}
-use Rattle.boc_types.specs.declared.body.EndStatus.TheVariants as statuses
-use Rattle.boc_types.specs.declared.event.Event.{Event}
-use Rattle.boc_types.specs.declared.event.Event.TheVariants.{Spawn, Start, End}
-use Rattle.boc_types.specs.declared.limits.TheConstants.{MOST_COWNS, MOST_HELD}
-use Rattle.boc_types.specs.runs.Legal.{Entry, HasBounds}
-use Rattle.boc_types.specs.text.RecordTexts.{Version, First, Second, version_number, fields, event_line, status_number, written_fields, IsHeader, IsEventLine, IsSpelt}
+use Rattle.boc_program.specs.declared.body.EndStatus.{EndStatus}
+use Rattle.boc_program.specs.declared.body.EndStatus.TheVariants as statuses
+use Rattle.boc_runs.specs.declared.event.Event.{Event}
+use Rattle.boc_runs.specs.declared.event.Event.TheVariants.{Spawn, Start, End}
+use Rattle.boc_program.specs.declared.limits.TheConstants.{MOST_COWNS, MOST_HELD}
+use Rattle.boc_runs.specs.Legal.{Entry, HasBounds}
+use Rattle.boc_record.specs.RecordTexts.{Version, First, Second, version_number, fields, event_line, status_number, written_fields, IsHeader, IsEventLine, IsSpelt}
 use Rattle.boc_record.specs.Fields.{IsField, AreSmall, sign_of, numbers_of, Tells}
 use Rattle.std.specs.Prelude.{codes, MatchOption, Option, Some, None}
 use Rattle.boc_record.proofs.Runs.{small_rest, first_field, one_field}

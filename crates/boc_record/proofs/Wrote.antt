@@ -4,16 +4,17 @@ use Rattle.std.specs.Prelude.{slice_get, slice_set, Option, Some, None}
 use Rattle.std.specs.Option.{option_map_or}
 use Rattle.std.proofs.lemmas.Option.{slice_get_within}
 use Rattle.std.proofs.lemmas.Bool.{cases_eq}
-use Rattle.boc_types.specs.declared.event.Event.{Event}
-use Rattle.boc_types.specs.declared.event.Event.TheVariants.{Spawn, Start, End}
-use Rattle.boc_types.specs.declared.event.BrokenRule.TheVariants as rules
-use Rattle.boc_types.specs.declared.rows.Row.{Row}
-use Rattle.boc_types.specs.runs.Lives.{Life, Pending, Running, Ended, changed, MayStart}
-use Rattle.boc_types.specs.runs.Legal.{Entry, pending, entries, after, after_all, entry_cowns, life_of, MayEnd, IsAllowed, IsLegalFrom}
-use Rattle.boc_types.specs.runs.Records.{Recorded, IsRecord}
-use Rattle.boc_types.specs.runs.Rows.{cowns_of, written_of}
-use Rattle.boc_types.specs.text.RecordTexts.{First, Second, IsSpelt, AreSpelt}
-use Rattle.boc_types.proofs.ChangedItems.{set_other}
+use Rattle.boc_runs.specs.declared.event.Event.{Event}
+use Rattle.boc_runs.specs.declared.event.Event.TheVariants.{Spawn, Start, End}
+use Rattle.boc_runs.specs.declared.event.BrokenRule.TheVariants as rules
+use Rattle.boc_runs.specs.declared.rows.Row.{Row}
+use Rattle.boc_program.specs.Changed.{changed}
+use Rattle.boc_runs.specs.Lives.{Life, Pending, Running, Ended, MayStart}
+use Rattle.boc_runs.specs.Legal.{Entry, pending, entries, after, after_all, entry_cowns, life_of, MayEnd, IsAllowed, IsLegalFrom}
+use Rattle.boc_runs.specs.Records.{Recorded, IsRecord}
+use Rattle.boc_runs.specs.Rows.{cowns_of, written_of}
+use Rattle.boc_record.specs.RecordTexts.{First, Second, IsSpelt, AreSpelt}
+use Rattle.boc_program.proofs.ChangedItems.{set_other}
 use Rattle.boc_rules.proofs.Lists.{got_set, set_same, got_push, push_below, got_in, one_got, got_at}
 use Rattle.boc_rules.proofs.Next.{living, life_at, cowns_at, not_pending_ended, not_running_ended}
 use Rattle.boc_record.specs.Laws.{HasWrittenAll}

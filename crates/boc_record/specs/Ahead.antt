@@ -1,9 +1,9 @@
 -- The line of an event that is read without looking for its end first.
 use Rattle.std.specs.Prelude.{◌≡◌, ℕ, ◌+◌, ◌*◌, ◌<◌, ◌≤◌, ◌^◌, List, ◌++◌, length, drop}
-use Rattle.boc_types.specs.declared.limits.TheConstants.{MOST_LINE}
-use Rattle.boc_types.specs.declared.event.Event.{Event}
-use Rattle.boc_types.specs.runs.Legal.{Entry, HasBounds}
-use Rattle.boc_types.specs.text.RecordTexts.{Version, field, fields, line, event_line, IsSpelt}
+use Rattle.boc_program.specs.declared.limits.TheConstants.{MOST_LINE}
+use Rattle.boc_runs.specs.declared.event.Event.{Event}
+use Rattle.boc_runs.specs.Legal.{Entry, HasBounds}
+use Rattle.boc_record.specs.RecordTexts.{Version, field, fields, line, event_line, IsSpelt}
 use Rattle.boc_record.specs.Fields.{AreSmall, sign_of, numbers_of}
 
 -- a field of at most eight bytes stands at the front of a text, and this behind it

@@ -1,7 +1,7 @@
 -- The numbers and the names of the faults of a record's text.
 use Rattle.std.specs.Prelude.{ℕ, List, codes}
-use Rattle.boc_types.specs.declared.verdict.RecordFaultKind.{RecordFaultKind}
-use Rattle.boc_types.specs.declared.verdict.RecordFaultKind.TheVariants as kinds
+use Rattle.boc_record.specs.declared.verdict.RecordFaultKind.{RecordFaultKind}
+use Rattle.boc_record.specs.declared.verdict.RecordFaultKind.TheVariants as kinds
 
 -- the number and the name of a kind of fault
 abbrev pub kind_line : RecordFaultKind → List ℕ

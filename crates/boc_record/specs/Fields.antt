@@ -2,11 +2,11 @@
 use Rattle.std.specs.Prelude.{◌≡◌, ℕ, ◌<◌, ◌^◌, ◌++◌, List, [], ◌∷◌, All, length, take, slice_index_or, ◌≤◌}
 use Rattle.std.specs.Str.Parse.{AllDigits, digits_value}
 use Rattle.std.specs.Int.{IsInRange}
-use Rattle.boc_types.specs.declared.limits.TheConstants.{MOST_HELD}
-use Rattle.boc_types.specs.runs.Legal.{Entry, entry_cowns, HasBounds}
-use Rattle.boc_types.specs.text.RecordTexts.{Version, First, Second, field, fields, status_number, written_fields}
-use Rattle.boc_types.specs.declared.event.Event.{Event}
-use Rattle.boc_types.specs.declared.event.Event.TheVariants.{Spawn, Start, End}
+use Rattle.boc_program.specs.declared.limits.TheConstants.{MOST_HELD}
+use Rattle.boc_runs.specs.Legal.{Entry, entry_cowns, HasBounds}
+use Rattle.boc_record.specs.RecordTexts.{Version, First, Second, field, fields, status_number, written_fields}
+use Rattle.boc_runs.specs.declared.event.Event.{Event}
+use Rattle.boc_runs.specs.declared.event.Event.TheVariants.{Spawn, Start, End}
 
 -- a text that ends, or goes on with a space
 abbrev pub IsApart : List ℕ → Type 0

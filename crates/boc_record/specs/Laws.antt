@@ -1,9 +1,9 @@
 -- The texts that a record has.
 use Rattle.std.specs.Prelude.{◌≡◌, ℕ, ◌<◌, List, [], length}
-use Rattle.boc_types.specs.declared.rows.Row.{Row}
-use Rattle.boc_types.specs.runs.Records.{Recorded, IsRecord}
-use Rattle.boc_types.specs.runs.Rows.{cowns_of, written_of}
-use Rattle.boc_types.specs.text.RecordTexts.{Version, AreSpelt, record_text}
+use Rattle.boc_runs.specs.declared.rows.Row.{Row}
+use Rattle.boc_runs.specs.Records.{Recorded, IsRecord}
+use Rattle.boc_runs.specs.Rows.{cowns_of, written_of}
+use Rattle.boc_record.specs.RecordTexts.{Version, AreSpelt, record_text}
 
 -- a text is that of a record in this version
 pub record IsTextIn (version : Version) (text : List ℕ) (r : Recorded) : Type 0 where

@@ -1,3 +1,4 @@
+pub mod RecordTexts
 pub mod Versions
 pub mod Faults
 pub mod Ahead

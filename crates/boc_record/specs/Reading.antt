@@ -1,14 +1,14 @@
 -- What was found of the text of a record.
 use Rattle.std.specs.Prelude.{◌≡◌, ◌==◌, ℕ, ◌+◌, ◌≤◌, ◌<◌, ◌⊎◌, List, [], ◌∷◌, ◌++◌, length, count_by, codes, Option, Some, None, IfSome, Result, Ok, Err}
 use Rattle.std.specs.Io.KnownBytes.{Consumes, IsAtEnd}
-use Rattle.boc_types.specs.declared.limits.TheConstants.{MOST_COWNS, MOST_LINE}
-use Rattle.boc_types.specs.declared.event.Event.{Event}
-use Rattle.boc_types.specs.declared.verdict.RecordFaultKind.{RecordFaultKind}
-use Rattle.boc_types.specs.declared.verdict.RecordFaultKind.TheVariants as kinds
-use Rattle.boc_types.specs.runs.Legal.{Entry, HasBounds, IsComplete}
-use Rattle.boc_types.specs.declared.rows.Row.{Row}
-use Rattle.boc_types.specs.runs.Records.{Recorded}
-use Rattle.boc_types.specs.text.RecordTexts.{Version, IsOneLine, IsCut, IsSpelt, IsTextOf, HasBegun, HasNoForm, FirstLineIs, begun, line, header, event_line, record_text, kind_of_rule, IsFirstFault}
+use Rattle.boc_program.specs.declared.limits.TheConstants.{MOST_COWNS, MOST_LINE}
+use Rattle.boc_runs.specs.declared.event.Event.{Event}
+use Rattle.boc_record.specs.declared.verdict.RecordFaultKind.{RecordFaultKind}
+use Rattle.boc_record.specs.declared.verdict.RecordFaultKind.TheVariants as kinds
+use Rattle.boc_runs.specs.Legal.{Entry, HasBounds, IsComplete}
+use Rattle.boc_runs.specs.declared.rows.Row.{Row}
+use Rattle.boc_runs.specs.Records.{Recorded}
+use Rattle.boc_record.specs.RecordTexts.{Version, IsOneLine, IsCut, IsSpelt, IsTextOf, HasBegun, HasNoForm, FirstLineIs, begun, line, header, event_line, record_text, kind_of_rule, IsFirstFault}
 use Rattle.boc_text.specs.declared.lines.TheConstants.{CAPACITY}
 use Rattle.boc_rules.specs.Course.{IsOver}
 use Rattle.boc_rules.specs.declared.fault.RuleFault.{RuleFault}

@@ -1,8 +1,8 @@
 -- What becomes of an event that is handed to a sink.
 use Rattle.std.specs.Prelude.{ℕ, List, [], ◌∷◌, ◌++◌, Result, Ok, Err}
-use Rattle.boc_types.specs.declared.event.Event.{Event}
-use Rattle.boc_types.specs.declared.event.Event.TheVariants.{Spawn, Start, End}
-use Rattle.boc_types.specs.runs.Legal.{entries, IsAllowed, IsFirstBroken}
+use Rattle.boc_runs.specs.declared.event.Event.{Event}
+use Rattle.boc_runs.specs.declared.event.Event.TheVariants.{Spawn, Start, End}
+use Rattle.boc_runs.specs.Legal.{entries, IsAllowed, IsFirstBroken}
 use Rattle.boc_rules.specs.declared.fault.RuleFault.{RuleFault}
 use Rattle.boc_rules.specs.declared.fault.RuleFault.TheVariants.{Broken, Memory}
 

@@ -1,5 +1,5 @@
 -- The versions of record texts, as the reader names them.
-use Rattle.boc_types.specs.text.RecordTexts as texts
+use Rattle.boc_record.specs.RecordTexts as texts
 use Rattle.boc_record.specs.declared.version.Version.{Version}
 use Rattle.boc_record.specs.declared.version.Version.TheVariants.{First, Second}
 

@@ -1,17 +1,17 @@
 // The line of an event at the front of bytes that are taken in, read without looking for its end first.
 
 ghost use Rattle.std.specs.Prelude.{◌≡◌, ◌<◌, ◌≤◌, length, IfSome};
-ghost use Rattle.boc_types.specs.declared.limits.TheConstants.{MOST_HELD};
-ghost use Rattle.boc_types.specs.text.RecordTexts.{Version as Spelling, Second};
+ghost use Rattle.boc_program.specs.declared.limits.TheConstants.{MOST_HELD};
+ghost use Rattle.boc_record.specs.RecordTexts.{Version as Spelling, Second};
 ghost use Rattle.boc_record.specs.Versions.{spelling};
 ghost use Rattle.boc_record.specs.Fields.{IsFront};
 ghost use Rattle.boc_record.specs.Ahead.{IsFieldAhead, AreFieldsAhead, TellsAhead, IsLineAhead};
 
 use crate::line::status_of;
 use crate::version::Version;
-use boc_types::event::Event;
-use boc_types::limits::MOST_LINE;
-use boc_types::short::Cowns;
+use boc_program::limits::MOST_LINE;
+use boc_program::short::Cowns;
+use boc_runs::event::Event;
 
 /// How many bytes are looked at: a sign, eleven fields of at most eight bytes, and as many again as a field and a byte.
 const AHEAD: usize = 98;

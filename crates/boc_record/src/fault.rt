@@ -4,9 +4,9 @@ ghost use Rattle.std.specs.Prelude.{◌≡◌};
 ghost use Rattle.boc_record.specs.Faults.{kind_line};
 ghost use Rattle.boc_record.specs.Reading.{kind_of_fault};
 
+use crate::verdict::RecordFaultKind;
 use boc_rules::RuleFault;
-use boc_types::event::BrokenRule;
-use boc_types::verdict::RecordFaultKind;
+use boc_runs::event::BrokenRule;
 use thiserror::Error;
 
 /// Why a text was refused as a record: its first faulty line, counted from 1, and what is wrong with it.

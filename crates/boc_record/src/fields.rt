@@ -1,11 +1,11 @@
 // The fields of a line: numbers, each behind a space.
 
 ghost use Rattle.std.specs.Prelude.{◌≡◌, ◌≤◌, ◌^◌, ◌<◌, ◌++◌, [], ℕ, List, All, length, MatchOption};
-ghost use Rattle.boc_types.specs.declared.limits.TheConstants.{MOST_HELD};
-ghost use Rattle.boc_types.specs.text.RecordTexts.{fields as fields_of};
+ghost use Rattle.boc_program.specs.declared.limits.TheConstants.{MOST_HELD};
+ghost use Rattle.boc_record.specs.RecordTexts.{fields as fields_of};
 ghost use Rattle.boc_record.specs.Fields.{IsFront, IsField, AreSmall};
 
-use boc_types::short::Cowns;
+use boc_program::short::Cowns;
 
 /// The most digits of a number of 32 bits.
 const MOST_DIGITS: usize = 10;

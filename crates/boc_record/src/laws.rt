@@ -1,9 +1,9 @@
 // Laws of the texts of records.
 
 ghost use Rattle.std.specs.Prelude.{◌≡◌, ◌↔◌, ℕ, List};
-ghost use Rattle.boc_types.specs.declared.verdict.RecordFaultKind.{RecordFaultKind};
-ghost use Rattle.boc_types.specs.runs.Records.{Recorded, IsRecord};
-ghost use Rattle.boc_types.specs.text.RecordTexts.{Version, First, Second, record_text, IsTextOf, IsFirstFault};
+ghost use Rattle.boc_record.specs.declared.verdict.RecordFaultKind.{RecordFaultKind};
+ghost use Rattle.boc_runs.specs.Records.{Recorded, IsRecord};
+ghost use Rattle.boc_record.specs.RecordTexts.{Version, First, Second, record_text, IsTextOf, IsFirstFault};
 ghost use Rattle.boc_record.specs.Laws.{IsTextIn, HasWrittenAll};
 
 /// A text is that of one record, or it has one first fault: never two of these, and never both.

@@ -16,6 +16,7 @@ mod line;
 mod read;
 mod sink;
 mod text;
+mod verdict;
 mod version;
 
 pub use boc_text::WriteFault;
@@ -23,3 +24,4 @@ pub use fault::RecordFault;
 pub use laws::{record_has_one_text, text_is_of_one_record};
 pub use read::{read_record, read_rows};
 pub use text::{put_events, write_record};
+pub use verdict::RecordFaultKind;

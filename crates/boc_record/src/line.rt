@@ -1,19 +1,19 @@
 // The lines of a record.
 
 ghost use Rattle.std.specs.Prelude.{◌≡◌, ◌≤◌, ◌++◌, ℕ, List, codes, length, MatchOption};
-ghost use Rattle.boc_types.specs.declared.limits.TheConstants.{MOST_COWNS, MOST_HELD};
-ghost use Rattle.boc_types.specs.runs.Legal.{entry_cowns, HasBounds};
-ghost use Rattle.boc_types.specs.text.RecordTexts.{Version as Spelling, fields as fields_of, header, event_line, status_number, written_fields, IsHeader, IsEventLine, IsSpelt};
+ghost use Rattle.boc_program.specs.declared.limits.TheConstants.{MOST_COWNS, MOST_HELD};
+ghost use Rattle.boc_runs.specs.Legal.{entry_cowns, HasBounds};
+ghost use Rattle.boc_record.specs.RecordTexts.{Version as Spelling, fields as fields_of, header, event_line, status_number, written_fields, IsHeader, IsEventLine, IsSpelt};
 ghost use Rattle.boc_record.specs.Versions.{spelling};
 ghost use Rattle.boc_record.specs.Fields.{AreSmall, Tells, TellsWritten};
 
 use crate::fields::{cowns_of, split_field};
 use crate::version::Version;
+use boc_program::body::EndStatus;
+use boc_program::limits::MOST_COWNS;
+use boc_program::short::Cowns;
 use boc_rules::Judge;
-use boc_types::body::EndStatus;
-use boc_types::event::Event;
-use boc_types::limits::MOST_COWNS;
-use boc_types::short::Cowns;
+use boc_runs::event::Event;
 
 /// The version and the number of cowns that a first line tells.
 pub fn version_and_cowns(line: &[u8]) -> Option<(Version, u32)>

@@ -10,13 +10,13 @@ use crate::ahead::event_ahead;
 use crate::fault::{RecordFault, kind_of};
 use crate::line::{event_of_line, version_and_cowns};
 use crate::sink::EventSink;
+use crate::verdict::RecordFaultKind;
 use crate::version::Version;
 use boc_rules::{Judge, Rules};
+use boc_runs::event::Event;
+use boc_runs::record::Record;
+use boc_runs::rows::Rows;
 use boc_text::{Found, Lines, Source};
-use boc_types::event::Event;
-use boc_types::record::Record;
-use boc_types::rows::Rows;
-use boc_types::verdict::RecordFaultKind;
 use std::alloc::Global;
 
 /// Reads a record, line by line, to the end of the source. The text is of the first version or of the second.

@@ -1,13 +1,13 @@
 // What takes the events of a record as they are read.
 
 ghost use Rattle.std.specs.Prelude.{◌≡◌, ◌≤◌, ℕ, List, [], IfOk};
-ghost use Rattle.boc_types.specs.declared.limits.TheConstants.{MOST_COWNS};
-ghost use Rattle.boc_types.specs.declared.event.Event.{Event};
-ghost use Rattle.boc_types.specs.runs.Legal.{entries};
+ghost use Rattle.boc_program.specs.declared.limits.TheConstants.{MOST_COWNS};
+ghost use Rattle.boc_runs.specs.declared.event.Event.{Event};
+ghost use Rattle.boc_runs.specs.Legal.{entries};
 ghost use Rattle.boc_record.specs.Sinks.{Hands};
 
 use boc_rules::{Judge, RuleFault, Rules};
-use boc_types::event::Event;
+use boc_runs::event::Event;
 use std::alloc::{AllocError, Global};
 
 /// Takes events one after the other, and judges each by those before it.

@@ -1,7 +1,7 @@
 // From a record to its text.
 
 ghost use Rattle.std.specs.Prelude.{◌≡◌, ◌<◌, ◌≤◌, ◌+◌, ◌*◌, [], ◌∷◌, ◌++◌, ℕ, List, Option, suc, codes, length, drop, OnOk, OnErr, MatchResult};
-ghost use Rattle.boc_types.specs.text.RecordTexts.{Second, field, fields, line, header, event_line, event_lines, record_text, status_number};
+ghost use Rattle.boc_record.specs.RecordTexts.{Second, field, fields, line, header, event_line, event_lines, record_text, status_number};
 ghost use Rattle.std.specs.Io.KnownBytes.{Appends};
 ghost use Rattle.boc_text.specs.Streams.{StopsAt};
 ghost use Rattle.boc_text.specs.Outgoing.{IsOut, IsUnused, size};
@@ -9,13 +9,13 @@ ghost use Rattle.boc_text.specs.Writing.{Writes, CountsWrite};
 ghost use Rattle.boc_record.specs.Writing.{PutsFirst};
 ghost use Rattle.boc_record.specs.declared.text.TheConstants.{MOST_BYTES, MOST_EVENTS, MOST_FIELD};
 
+use boc_program::body::EndStatus;
+use boc_program::limits::{MOST_HELD, MOST_ROWS};
+use boc_program::short::Cowns;
+use boc_runs::event::Event;
+use boc_runs::events::Events;
+use boc_runs::record::Record;
 use boc_text::{MOST_DIGITS, Outgoing, Sink, Stopped, WriteFault, write_before};
-use boc_types::body::EndStatus;
-use boc_types::event::Event;
-use boc_types::events::Events;
-use boc_types::limits::{MOST_HELD, MOST_ROWS};
-use boc_types::record::Record;
-use boc_types::short::Cowns;
 use std::alloc::{AllocError, Global};
 
 /// The number of the version in which records are written, the second.

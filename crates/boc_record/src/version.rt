@@ -1,7 +1,7 @@
 // The versions of record texts.
 
 ghost use Rattle.std.specs.Prelude.{◌≡◌, MatchOption};
-ghost use Rattle.boc_types.specs.text.RecordTexts.{Version as Spelling, version_number};
+ghost use Rattle.boc_record.specs.RecordTexts.{Version as Spelling, version_number};
 ghost use Rattle.boc_record.specs.Versions.{spelling};
 
 /// How a text spells a record. The first version doesn't say which cowns a row wrote: it stands for all of them.

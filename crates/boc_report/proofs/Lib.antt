@@ -1,2 +1,3 @@
 pub mod ByLines
 pub mod Lines
+pub mod TransferGreedy

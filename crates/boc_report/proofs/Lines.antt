@@ -2,11 +2,11 @@
 use Rattle.std.proofs.Common.{zero, suc, codes, decimal, get_or, length, drop, take, append_assoc, ◌≡◌, ℕ, ◌+◌, ◌<◌, ◌≤◌, ◌∷◌, List, [], ◌++◌, sym, ap, ◌∙◌, arith}
 use Rattle.std.proofs.lemmas.List.{append-nil, drop_all, take_all}
 use Rattle.std.proofs.Math.Seq.{take-suc}
-use Rattle.boc_types.specs.declared.chain.ChainStep.{ChainStep}
-use Rattle.boc_types.specs.declared.chain.Via.TheVariants.{Last}
+use Rattle.boc_plans.specs.declared.chain.ChainStep.{ChainStep}
+use Rattle.boc_plans.specs.declared.chain.Via.TheVariants.{Last}
 use Rattle.boc_text.proofs.Sending.{GrowsBy}
 use Rattle.boc_report.proofs.ByLines.{IsOfLines}
-use Rattle.boc_types.specs.answers.Texts.{bound_line, number_line, plan_line, plan_lines, report_head, served_line, served_lines, step_line, step_lines, sweep_line, sweep_lines, via_word}
+use Rattle.boc_report.specs.Texts.{bound_line, number_line, plan_line, plan_lines, report_head, served_line, served_lines, step_line, step_lines, sweep_line, sweep_lines, via_word}
 
 -- nothing stands behind a room
 pub behind : (n : ℕ) (room : List ℕ) → length room ≡ n → drop n room ≡ []

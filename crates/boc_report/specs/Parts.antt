@@ -1,7 +1,7 @@
 -- The greedy part of a report.
 use Rattle.std.specs.Prelude.{◌≡◌, ℕ, List, [], length, Option, Some, None}
 use Rattle.boc_greedy.specs.declared.report.Greedy.{Greedy}
-use Rattle.boc_types.specs.answers.Texts.{greedy_text}
+use Rattle.boc_report.specs.Texts.{greedy_text}
 
 -- a greedy plan has an end and a worker for each of its starts
 pub record IsWhole (greedy : Greedy) : Type 0 where

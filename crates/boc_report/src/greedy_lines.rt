@@ -1,7 +1,7 @@
 // The greedy part of a report.
 
 ghost use Rattle.std.specs.Prelude.{◌≡◌, ◌++◌, ◌+◌, ◌*◌, ◌<◌, ◌≤◌, ◌^◌, Some, codes, drop, length, OnOk};
-ghost use Rattle.boc_types.specs.answers.Texts.{bound_line, number_line, served_line, served_lines};
+ghost use Rattle.boc_report.specs.Texts.{bound_line, number_line, served_line, served_lines};
 ghost use Rattle.boc_text.specs.Outgoing.{Puts, size};
 ghost use Rattle.boc_text.specs.Streams.{CountsFailure};
 ghost use Rattle.boc_report.specs.Parts.{IsWhole, part_of};

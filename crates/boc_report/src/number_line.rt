@@ -1,7 +1,7 @@
 // Lines that are formed from their end on, in a room.
 
 ghost use Rattle.std.specs.Prelude.{◌≡◌, ◌++◌, ◌+◌, ◌≤◌, drop, length};
-ghost use Rattle.boc_types.specs.answers.Texts.{number_line};
+ghost use Rattle.boc_report.specs.Texts.{number_line};
 ghost use Rattle.boc_report.specs.declared.number_line.TheConstants.{MOST_FIELD};
 
 use boc_text::{MOST_DIGITS, write_before};

@@ -2,7 +2,7 @@
 
 ghost use Rattle.std.specs.Prelude.{◌≡◌, ◌∷◌, ◌++◌, ◌+◌, ◌*◌, ◌<◌, ◌≤◌, ◌^◌, codes, drop, length, option_map, OnOk, IfOk, IfSome, MatchResult};
 ghost use Rattle.std.specs.Io.KnownBytes.{Appends};
-ghost use Rattle.boc_types.specs.answers.Texts.{report_head, report_text, step_line, step_lines, plan_line, plan_lines, via_word};
+ghost use Rattle.boc_report.specs.Texts.{report_head, report_text, step_line, step_lines, plan_line, plan_lines, via_word};
 ghost use Rattle.boc_text.specs.Outgoing.{IsUnused, Puts, size};
 ghost use Rattle.boc_text.specs.Streams.{CountsFailure, StopsAt};
 ghost use Rattle.boc_text.specs.Writing.{CountsWrite, Writes};
@@ -14,8 +14,8 @@ use crate::greedy_lines::put_greedy;
 use crate::number_line::{MOST_FIELD, number_before, word_before};
 use boc_greedy::Greedy;
 use boc_order::Profile;
+use boc_plans::chain::{ChainStep, Via};
 use boc_text::{Bytes, Outgoing, Sink, Stopped, WriteFault, write_before};
-use boc_types::chain::{ChainStep, Via};
 use std::alloc::{AllocError, Global};
 
 /// The most bytes of the lines before the chain, and of `chain`.

@@ -2,7 +2,7 @@
 
 ghost use Rattle.std.specs.Prelude.{◌≡◌, ◌+◌, ◌*◌, ◌<◌, ◌≤◌, ◌^◌, drop, length, OnOk, IfOk, MatchResult};
 ghost use Rattle.std.specs.Io.KnownBytes.{Appends};
-ghost use Rattle.boc_types.specs.answers.Texts.{sweep_line, sweep_lines};
+ghost use Rattle.boc_report.specs.Texts.{sweep_line, sweep_lines};
 ghost use Rattle.boc_text.specs.Outgoing.{IsUnused, Puts, size};
 ghost use Rattle.boc_text.specs.Streams.{CountsFailure, StopsAt};
 ghost use Rattle.boc_text.specs.Writing.{CountsWrite, Writes};

@@ -4,16 +4,17 @@ use Rattle.std.proofs.Math.ListN.{length-set}
 use Rattle.std.specs.Prelude.{slice_get, slice_set, Option, Some, None, All}
 use Rattle.std.proofs.lemmas.Option.{slice_get_within}
 use Rattle.arrayvec.specs.ArrayVec.{ArrayVec}
-use Rattle.boc_types.specs.declared.body.EndStatus.{EndStatus}
-use Rattle.boc_types.specs.declared.event.Event.{Event}
-use Rattle.boc_types.specs.declared.event.Event.TheVariants.{Spawn, Start, End}
-use Rattle.boc_types.specs.declared.event.BrokenRule.TheVariants as rules
-use Rattle.boc_types.specs.declared.limits.TheConstants.{MOST_HELD}
-use Rattle.boc_types.specs.declared.rows.Row.{Row}
-use Rattle.boc_types.specs.runs.Lives as lives
-use Rattle.boc_types.specs.runs.Lives.{changed, MayStart}
-use Rattle.boc_types.specs.runs.Legal.{Entry, pending, after, life_of, entry_cowns, MayEnd, MayNeed, IsParent, IsAllowed}
-use Rattle.boc_types.specs.runs.Records.{IsRowOf, AreRowsOf}
+use Rattle.boc_program.specs.declared.body.EndStatus.{EndStatus}
+use Rattle.boc_runs.specs.declared.event.Event.{Event}
+use Rattle.boc_runs.specs.declared.event.Event.TheVariants.{Spawn, Start, End}
+use Rattle.boc_runs.specs.declared.event.BrokenRule.TheVariants as rules
+use Rattle.boc_program.specs.declared.limits.TheConstants.{MOST_HELD}
+use Rattle.boc_runs.specs.declared.rows.Row.{Row}
+use Rattle.boc_runs.specs.Lives as lives
+use Rattle.boc_program.specs.Changed.{changed}
+use Rattle.boc_runs.specs.Lives.{MayStart}
+use Rattle.boc_runs.specs.Legal.{Entry, pending, after, life_of, entry_cowns, MayEnd, MayNeed, IsParent, IsAllowed}
+use Rattle.boc_runs.specs.Records.{IsRowOf, AreRowsOf}
 use Rattle.boc_rules.specs.declared.stage.Life.{Life}
 use Rattle.boc_rules.specs.declared.stage.Life.TheVariants.{Pending, Running, Ended}
 use Rattle.boc_rules.specs.declared.stage.Stage.{Stage}

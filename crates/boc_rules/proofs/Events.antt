@@ -3,12 +3,13 @@ use Rattle.std.proofs.Common.{◌≡◌, ℕ, zero, suc, ◌+◌, ◌*◌, ◌<�
 use Rattle.std.proofs.Math.ListN.{length-set}
 use Rattle.std.specs.Prelude.{slice_get, slice_set, Option, Some, None}
 use Rattle.arrayvec.specs.ArrayVec.{ArrayVec}
-use Rattle.boc_types.specs.declared.body.EndStatus.{EndStatus}
-use Rattle.boc_types.specs.declared.event.Event.{Event}
-use Rattle.boc_types.specs.declared.event.Event.TheVariants.{Spawn, Start, End}
-use Rattle.boc_types.specs.declared.event.BrokenRule.TheVariants as rules
-use Rattle.boc_types.specs.runs.Lives.{Life, Pending, Running, Ended, changed, MayStart}
-use Rattle.boc_types.specs.runs.Legal.{Entry, pending, entries, after, after_all, life_of, entry_cowns, IsAllowed, IsLegalFrom, IsLegal, MayEnd}
+use Rattle.boc_program.specs.declared.body.EndStatus.{EndStatus}
+use Rattle.boc_runs.specs.declared.event.Event.{Event}
+use Rattle.boc_runs.specs.declared.event.Event.TheVariants.{Spawn, Start, End}
+use Rattle.boc_runs.specs.declared.event.BrokenRule.TheVariants as rules
+use Rattle.boc_program.specs.Changed.{changed}
+use Rattle.boc_runs.specs.Lives.{Life, Pending, Running, Ended, MayStart}
+use Rattle.boc_runs.specs.Legal.{Entry, pending, entries, after, after_all, life_of, entry_cowns, IsAllowed, IsLegalFrom, IsLegal, MayEnd}
 use Rattle.boc_rules.proofs.Next.{living}
 
 -- how many events a row has yet to have

@@ -3,13 +3,13 @@ use Rattle.std.proofs.Common.{◌≡◌, ℕ, zero, suc, ◌<◌, ◌≤◌, Lis
 use Rattle.std.specs.Prelude.{slice_get, Option, Some, All}
 use Rattle.std.specs.Option.{option_map_or}
 use Rattle.std.specs.List.Sorted.{IsStrictlyIncreasing}
-use Rattle.boc_types.specs.declared.rows.Row.{Row}
-use Rattle.boc_types.specs.declared.limits.TheConstants.{MOST_COWNS}
-use Rattle.boc_types.specs.runs.Cowns.{AreAmong}
-use Rattle.boc_types.specs.runs.Lives.{Life, Pending, Running, Ended, AreOver}
-use Rattle.boc_types.specs.runs.Legal.{Entry, life_of}
-use Rattle.boc_types.specs.runs.Records.{IsRowOf, AreRowsOf}
-use Rattle.boc_types.specs.runs.Rows.{parent_of, offset_of, ticks_of, cowns_of, written_of, IsRows}
+use Rattle.boc_runs.specs.declared.rows.Row.{Row}
+use Rattle.boc_program.specs.declared.limits.TheConstants.{MOST_COWNS}
+use Rattle.boc_program.specs.Cowns.{AreAmong}
+use Rattle.boc_runs.specs.Lives.{Life, Pending, Running, Ended, AreOver}
+use Rattle.boc_runs.specs.Legal.{Entry, life_of}
+use Rattle.boc_runs.specs.Records.{IsRowOf, AreRowsOf}
+use Rattle.boc_runs.specs.Rows.{parent_of, offset_of, ticks_of, cowns_of, written_of, IsRows}
 use Rattle.boc_rules.specs.SoFar.{over_one, over}
 use Rattle.boc_rules.proofs.Lists.{got_in, one_got, got_at}
 use Rattle.boc_rules.proofs.Well.{HasEnded, IsWell}

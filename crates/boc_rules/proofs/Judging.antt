@@ -5,17 +5,17 @@ use Rattle.std.specs.Prelude.{slice_get, slice_set, slice_range, Option, Some, A
 use Rattle.std.specs.Option.{option_map_or}
 use Rattle.std.proofs.lemmas.Option.{slice_get_read, slice_get_past, slice_get_within}
 use Rattle.arrayvec.specs.ArrayVec.{ArrayVec}
-use Rattle.boc_types.specs.declared.body.EndStatus.{EndStatus}
-use Rattle.boc_types.specs.declared.event.Event.{Event}
-use Rattle.boc_types.specs.declared.event.Event.TheVariants.{Spawn, Start, End}
-use Rattle.boc_types.specs.declared.event.BrokenRule.TheVariants as rules
-use Rattle.boc_types.specs.declared.rows.Row.{Row}
-use Rattle.boc_types.specs.declared.limits.TheConstants.{MOST_COWNS, MOST_HELD, MOST_ROWS}
-use Rattle.boc_types.specs.runs.Lives as lives
-use Rattle.boc_types.specs.runs.Lives.{MayStart}
-use Rattle.boc_types.specs.runs.Legal.{Entry, after, life_of, entry_cowns, last_of, MayEnd, MayNeed, IsAllowed}
-use Rattle.boc_types.specs.runs.Rows.{IsRows}
-use Rattle.boc_types.proofs.RunsAreLegal.{smaller, among_below}
+use Rattle.boc_program.specs.declared.body.EndStatus.{EndStatus}
+use Rattle.boc_runs.specs.declared.event.Event.{Event}
+use Rattle.boc_runs.specs.declared.event.Event.TheVariants.{Spawn, Start, End}
+use Rattle.boc_runs.specs.declared.event.BrokenRule.TheVariants as rules
+use Rattle.boc_runs.specs.declared.rows.Row.{Row}
+use Rattle.boc_program.specs.declared.limits.TheConstants.{MOST_COWNS, MOST_HELD, MOST_ROWS}
+use Rattle.boc_runs.specs.Lives as lives
+use Rattle.boc_runs.specs.Lives.{MayStart}
+use Rattle.boc_runs.specs.Legal.{Entry, after, life_of, entry_cowns, last_of, MayEnd, MayNeed, IsAllowed}
+use Rattle.boc_runs.specs.Rows.{IsRows}
+use Rattle.boc_runs.proofs.RunsAreLegal.{smaller, among_below}
 use Rattle.boc_rules.specs.declared.stage.Life.TheVariants.{Pending, Running, Ended}
 use Rattle.boc_rules.specs.declared.stage.Life.{Life}
 use Rattle.boc_rules.specs.declared.stage.Stage.{Stage}

@@ -7,12 +7,12 @@ use Rattle.std.specs.List.{Contains}
 use Rattle.std.proofs.lemmas.List.{get_or-map, length-map}
 use Rattle.std.proofs.lemmas.Option.{slice_get_within}
 use Rattle.std.proofs.lemmas.Bool.{cases_eq, cases_order}
-use Rattle.boc_types.specs.declared.limits.TheConstants.{MOST_HELD}
-use Rattle.boc_types.specs.runs.Legal.{Entry, entry_cowns}
+use Rattle.boc_program.specs.declared.limits.TheConstants.{MOST_HELD}
+use Rattle.boc_runs.specs.Legal.{Entry, entry_cowns}
 use Rattle.boc_rules.specs.declared.stage.Stage.{Stage}
 use Rattle.boc_rules.specs.Before.{IsLatest, AreBefore, noted}
 use Rattle.boc_rules.specs.SoFar.{IsStageOf, AreStagesOf, AreFound, AreLatest, over_one, over}
-use Rattle.boc_types.proofs.ChangedItems.{set_other, range_stays, range_behind}
+use Rattle.boc_program.proofs.ChangedItems.{set_other, range_stays, range_behind}
 use Rattle.boc_rules.proofs.Lists.{got_set, set_same, got_push, push_below, push_last, got_at}
 use Rattle.boc_rules.proofs.Next.{cowns_at}
 

@@ -4,14 +4,14 @@ use Rattle.std.specs.Prelude.{slice_get, Option, Some, None}
 use Rattle.std.specs.Option.{option_map}
 use Rattle.std.proofs.lemmas.List.{length-map, map-append, map-set}
 use Rattle.std.proofs.lemmas.Option.{slice_get-map}
-use Rattle.boc_types.specs.declared.body.EndStatus.{EndStatus}
-use Rattle.boc_types.specs.declared.event.Event.{Event}
-use Rattle.boc_types.specs.declared.event.Event.TheVariants.{Spawn, Start, End}
-use Rattle.boc_types.specs.declared.rows.Row.{Row}
-use Rattle.boc_types.specs.runs.Lives as lives
-use Rattle.boc_types.specs.runs.Lives.{changed}
-use Rattle.boc_types.specs.runs.Legal.{Entry, pending, after}
-use Rattle.boc_types.specs.runs.Records.{IsRowOf, AreRowsOf}
+use Rattle.boc_program.specs.declared.body.EndStatus.{EndStatus}
+use Rattle.boc_runs.specs.declared.event.Event.{Event}
+use Rattle.boc_runs.specs.declared.event.Event.TheVariants.{Spawn, Start, End}
+use Rattle.boc_runs.specs.declared.rows.Row.{Row}
+use Rattle.boc_runs.specs.Lives as lives
+use Rattle.boc_program.specs.Changed.{changed}
+use Rattle.boc_runs.specs.Legal.{Entry, pending, after}
+use Rattle.boc_runs.specs.Records.{IsRowOf, AreRowsOf}
 use Rattle.boc_rules.specs.Logged.{row_of}
 use Rattle.boc_rules.specs.RunLog.{rows_after}
 use Rattle.boc_rules.specs.SoFar.{new_row}

@@ -2,17 +2,18 @@
 use Rattle.std.proofs.Common.{◌≡◌, ℕ, ◌+◌, ◌*◌, ◌<◌, ◌≤◌, List, [], ◌∷◌, ◌++◌, length, sym, ◌∙◌, ap, subst, arith, length-append}
 use Rattle.std.specs.Prelude.{slice_get}
 use Rattle.std.proofs.lemmas.Option.{slice_get_within}
-use Rattle.boc_types.specs.declared.limits.TheConstants.{MOST_ROWS}
-use Rattle.boc_types.specs.declared.event.Event.{Event}
-use Rattle.boc_types.specs.declared.event.Event.TheVariants.{Spawn, Start, End}
-use Rattle.boc_types.specs.declared.event.BrokenRule.TheVariants as rules
-use Rattle.boc_types.specs.declared.events.Happening.{Happening}
-use Rattle.boc_types.specs.declared.rows.Row.{Row}
-use Rattle.boc_types.specs.runs.Happenings.{happening_of, row_in, told}
-use Rattle.boc_types.specs.runs.Lives as lives
-use Rattle.boc_types.specs.runs.Lives.{changed, MayStart}
-use Rattle.boc_types.specs.runs.Legal.{Entry, entries, pending, after, life_of, entry_cowns, MayEnd, IsAllowed, IsLegal, IsComplete}
-use Rattle.boc_types.specs.runs.Records.{AreRowsOf, Recorded, IsRecord}
+use Rattle.boc_program.specs.declared.limits.TheConstants.{MOST_ROWS}
+use Rattle.boc_runs.specs.declared.event.Event.{Event}
+use Rattle.boc_runs.specs.declared.event.Event.TheVariants.{Spawn, Start, End}
+use Rattle.boc_runs.specs.declared.event.BrokenRule.TheVariants as rules
+use Rattle.boc_runs.specs.declared.events.Happening.{Happening}
+use Rattle.boc_runs.specs.declared.rows.Row.{Row}
+use Rattle.boc_runs.specs.Happenings.{happening_of, row_in, told}
+use Rattle.boc_runs.specs.Lives as lives
+use Rattle.boc_program.specs.Changed.{changed}
+use Rattle.boc_runs.specs.Lives.{MayStart}
+use Rattle.boc_runs.specs.Legal.{Entry, entries, pending, after, life_of, entry_cowns, MayEnd, IsAllowed, IsLegal, IsComplete}
+use Rattle.boc_runs.specs.Records.{AreRowsOf, Recorded, IsRecord}
 use Rattle.boc_rules.specs.Log.{HasRoomFor, rooms_after}
 use Rattle.boc_rules.specs.Course.{Course, IsOver, stepped}
 use Rattle.boc_rules.specs.Logged.{told_of, IsLogged}

@@ -5,14 +5,15 @@ use Rattle.std.specs.Prelude.{slice_get, slice_set, Option, Some, None}
 use Rattle.std.specs.Option.{option_map, option_map_or}
 use Rattle.std.specs.List.{Contains}
 use Rattle.std.proofs.lemmas.Option.{slice_get_within}
-use Rattle.boc_types.specs.declared.body.EndStatus.{EndStatus}
-use Rattle.boc_types.specs.declared.event.Event.{Event}
-use Rattle.boc_types.specs.declared.event.Event.TheVariants.{Spawn, Start, End}
-use Rattle.boc_types.specs.declared.event.BrokenRule.TheVariants as rules
-use Rattle.boc_types.specs.declared.limits.TheConstants.{MOST_ROWS}
-use Rattle.boc_types.specs.runs.Cowns.{AreCowns, AreAmong}
-use Rattle.boc_types.specs.runs.Lives.{Life, Pending, Running, Ended, changed, MayStart, Overlap}
-use Rattle.boc_types.specs.runs.Legal.{Entry, pending, after, after_all, life_of, entry_cowns, last_of, MayEnd, MayNeed, IsParent, IsOffset, IsAllowed, IsLegalFrom, IsLegal, entries}
+use Rattle.boc_program.specs.declared.body.EndStatus.{EndStatus}
+use Rattle.boc_runs.specs.declared.event.Event.{Event}
+use Rattle.boc_runs.specs.declared.event.Event.TheVariants.{Spawn, Start, End}
+use Rattle.boc_runs.specs.declared.event.BrokenRule.TheVariants as rules
+use Rattle.boc_program.specs.declared.limits.TheConstants.{MOST_ROWS}
+use Rattle.boc_program.specs.Cowns.{AreCowns, AreAmong}
+use Rattle.boc_program.specs.Changed.{changed}
+use Rattle.boc_runs.specs.Lives.{Life, Pending, Running, Ended, MayStart, Overlap}
+use Rattle.boc_runs.specs.Legal.{Entry, pending, after, after_all, life_of, entry_cowns, last_of, MayEnd, MayNeed, IsParent, IsOffset, IsAllowed, IsLegalFrom, IsLegal, entries}
 use Rattle.boc_rules.proofs.Lists.{set_same, one_got, got_at}
 use Rattle.boc_rules.proofs.Well.{IsWell, IsNext, IsSpawnable, came_from, well_set, well_push}
 

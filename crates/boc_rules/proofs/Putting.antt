@@ -1,17 +1,17 @@
 -- What a log that judges nothing keeps stays that of its events as one is put behind them.
 use Rattle.std.proofs.Common.{◌≡◌, ℕ, ◌+◌, ◌*◌, ◌<◌, ◌≤◌, ◌↔◌, List, [], ◌∷◌, ◌++◌, length, refl, sym, ◌∙◌, ap, subst, arith}
 use Rattle.std.specs.Prelude.{All}
-use Rattle.boc_types.specs.declared.event.Event.{Event}
-use Rattle.boc_types.specs.declared.event.Event.TheVariants.{Spawn, Start, End}
-use Rattle.boc_types.specs.declared.event.BrokenRule.TheVariants as rules
-use Rattle.boc_types.specs.declared.events.Happening.{Happening}
-use Rattle.boc_types.specs.declared.rows.Row.{Row}
-use Rattle.boc_types.specs.runs.Happenings.{happening_of, told}
-use Rattle.boc_types.specs.runs.Lives as lives
-use Rattle.boc_types.specs.runs.Legal.{Entry, entries, after, MayEnd, IsAllowed, IsLegal, IsComplete}
-use Rattle.boc_types.specs.runs.Records.{AreRowsOf}
-use Rattle.boc_types.specs.runs.Rows.{IsRows}
-use Rattle.boc_types.proofs.Tellings.{told_all}
+use Rattle.boc_runs.specs.declared.event.Event.{Event}
+use Rattle.boc_runs.specs.declared.event.Event.TheVariants.{Spawn, Start, End}
+use Rattle.boc_runs.specs.declared.event.BrokenRule.TheVariants as rules
+use Rattle.boc_runs.specs.declared.events.Happening.{Happening}
+use Rattle.boc_runs.specs.declared.rows.Row.{Row}
+use Rattle.boc_runs.specs.Happenings.{happening_of, told}
+use Rattle.boc_runs.specs.Lives as lives
+use Rattle.boc_runs.specs.Legal.{Entry, entries, after, MayEnd, IsAllowed, IsLegal, IsComplete}
+use Rattle.boc_runs.specs.Records.{AreRowsOf}
+use Rattle.boc_runs.specs.Rows.{IsRows}
+use Rattle.boc_runs.proofs.Tellings.{told_all}
 use Rattle.boc_rules.specs.Log.{HasRoomFor, rooms_after}
 use Rattle.boc_rules.specs.Course.{AreLegal}
 use Rattle.boc_rules.specs.Logged.{HasHappened, IsLogged}

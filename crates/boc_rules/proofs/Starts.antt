@@ -6,8 +6,8 @@ use Rattle.std.specs.List.{Contains}
 use Rattle.std.proofs.lemmas.List.{get_or_default}
 use Rattle.std.proofs.lemmas.List.Elements.{Contains-get_or}
 use Rattle.std.proofs.lemmas.Bool.{cases_order}
-use Rattle.boc_types.specs.runs.Lives.{Life, Pending, Running, Ended, MayStart}
-use Rattle.boc_types.specs.runs.Legal.{Entry, life_of, entry_cowns}
+use Rattle.boc_runs.specs.Lives.{Life, Pending, Running, Ended, MayStart}
+use Rattle.boc_runs.specs.Legal.{Entry, life_of, entry_cowns}
 use Rattle.boc_rules.specs.Before.{IsLatest, AreBefore, IsOverAt}
 use Rattle.boc_rules.proofs.Lists.{one_got}
 use Rattle.boc_rules.proofs.Well.{IsWell}

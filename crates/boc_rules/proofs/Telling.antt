@@ -6,19 +6,20 @@ use Rattle.std.proofs.lemmas.Bool.{cases_eq}
 use Rattle.std.proofs.lemmas.List.{length-map, map-append}
 use Rattle.std.proofs.lemmas.List.Elements.{All-push}
 use Rattle.std.proofs.lemmas.Option.{slice_get_within}
-use Rattle.boc_types.specs.declared.event.Event.{Event}
-use Rattle.boc_types.specs.declared.event.Event.TheVariants.{Spawn, Start, End}
-use Rattle.boc_types.specs.declared.event.BrokenRule.TheVariants as rules
-use Rattle.boc_types.specs.declared.events.Deed.{Deed}
-use Rattle.boc_types.specs.declared.events.Deed.TheVariants as deeds
-use Rattle.boc_types.specs.declared.events.Happening.{Happening}
-use Rattle.boc_types.specs.declared.rows.Row.{Row}
-use Rattle.boc_types.specs.runs.Happenings.{event_of, event_at, happening_of, told, AreOf}
-use Rattle.boc_types.specs.runs.Lives.{Life, Pending, Running, Ended, changed, MayStart}
-use Rattle.boc_types.specs.runs.Legal.{Entry, pending, after, life_of, entry_cowns, MayEnd, IsAllowed}
-use Rattle.boc_types.specs.runs.Records.{AreRowsOf}
+use Rattle.boc_runs.specs.declared.event.Event.{Event}
+use Rattle.boc_runs.specs.declared.event.Event.TheVariants.{Spawn, Start, End}
+use Rattle.boc_runs.specs.declared.event.BrokenRule.TheVariants as rules
+use Rattle.boc_runs.specs.declared.events.Deed.{Deed}
+use Rattle.boc_runs.specs.declared.events.Deed.TheVariants as deeds
+use Rattle.boc_runs.specs.declared.events.Happening.{Happening}
+use Rattle.boc_runs.specs.declared.rows.Row.{Row}
+use Rattle.boc_runs.specs.Happenings.{event_of, event_at, happening_of, told, AreOf}
+use Rattle.boc_program.specs.Changed.{changed}
+use Rattle.boc_runs.specs.Lives.{Life, Pending, Running, Ended, MayStart}
+use Rattle.boc_runs.specs.Legal.{Entry, pending, after, life_of, entry_cowns, MayEnd, IsAllowed}
+use Rattle.boc_runs.specs.Records.{AreRowsOf}
 use Rattle.boc_rules.specs.Logged.{row_of, told_of, HasHappened}
-use Rattle.boc_types.proofs.ChangedItems.{set_other}
+use Rattle.boc_program.proofs.ChangedItems.{set_other}
 use Rattle.boc_rules.proofs.Lists.{set_same, push_below, push_last, got_in, one_got, got_at}
 use Rattle.boc_rules.proofs.Next.{living, life_at, not_pending_ended, not_running_ended}
 use Rattle.boc_rules.proofs.KeptRows.{at_entry, rows_of_run}

@@ -5,11 +5,11 @@ use Rattle.std.specs.Prelude.{slice_get, slice_set, Some}
 use Rattle.std.specs.List.{Contains}
 use Rattle.std.proofs.lemmas.Option.{slice_get_within}
 use Rattle.std.proofs.lemmas.Bool.{cases_eq}
-use Rattle.boc_types.specs.declared.limits.TheConstants.{MOST_ROWS, MOST_TICKS}
-use Rattle.boc_types.specs.runs.Cowns.{AreCowns, AreAmong}
-use Rattle.boc_types.specs.runs.Lives.{Pending, Ended}
-use Rattle.boc_types.specs.runs.Legal.{Entry, pending}
-use Rattle.boc_types.proofs.ChangedItems.{set_other}
+use Rattle.boc_program.specs.declared.limits.TheConstants.{MOST_ROWS, MOST_TICKS}
+use Rattle.boc_program.specs.Cowns.{AreCowns, AreAmong}
+use Rattle.boc_runs.specs.Lives.{Pending, Ended}
+use Rattle.boc_runs.specs.Legal.{Entry, pending}
+use Rattle.boc_program.proofs.ChangedItems.{set_other}
 use Rattle.boc_rules.proofs.Lists.{got_set, set_same, got_push, push_below, one_got, got_at}
 
 -- main has parent 0, offset 0 and no cowns

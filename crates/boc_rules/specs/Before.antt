@@ -1,8 +1,8 @@
 -- The rows before a row on its cowns.
 use Rattle.std.specs.Prelude.{◌≡◌, ℕ, ◌<◌, List, [], ◌∷◌, length, Option, Some, None, slice_set, slice_index, slice_index_or}
 use Rattle.std.specs.List.{Contains}
-use Rattle.boc_types.specs.runs.Lives.{Ended}
-use Rattle.boc_types.specs.runs.Legal.{Entry, life_of, entry_cowns}
+use Rattle.boc_runs.specs.Lives.{Ended}
+use Rattle.boc_runs.specs.Legal.{Entry, life_of, entry_cowns}
 
 -- of the rows below a number, the latest with this cown, if there is one
 abbrev pub IsLatest : List Entry → ℕ → ℕ → Option ℕ → Type 0

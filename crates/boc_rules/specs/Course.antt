@@ -1,11 +1,11 @@
 -- A run under way as it is judged: its rows so far, and what an event does to them.
 use Rattle.std.specs.Prelude.{◌≡◌, ℕ, ◌≤◌, List, length, Result, Ok, Err}
-use Rattle.boc_types.specs.declared.limits.TheConstants.{MOST_COWNS}
-use Rattle.boc_types.specs.declared.event.Event.{Event}
-use Rattle.boc_types.specs.declared.rows.Row.{Row}
-use Rattle.boc_types.specs.runs.Lives.{AreOver}
-use Rattle.boc_types.specs.runs.Legal.{Entry, entries, after, life_of, IsLegal, IsAllowed, IsFirstBroken}
-use Rattle.boc_types.specs.runs.Records.{AreRowsOf}
+use Rattle.boc_program.specs.declared.limits.TheConstants.{MOST_COWNS}
+use Rattle.boc_runs.specs.declared.event.Event.{Event}
+use Rattle.boc_runs.specs.declared.rows.Row.{Row}
+use Rattle.boc_runs.specs.Lives.{AreOver}
+use Rattle.boc_runs.specs.Legal.{Entry, entries, after, life_of, IsLegal, IsAllowed, IsFirstBroken}
+use Rattle.boc_runs.specs.Records.{AreRowsOf}
 use Rattle.boc_rules.specs.Log.{Log, HasRoomFor, rooms_after}
 use Rattle.boc_rules.specs.declared.fault.RuleFault.{RuleFault}
 use Rattle.boc_rules.specs.declared.fault.RuleFault.TheVariants.{Broken, Memory}

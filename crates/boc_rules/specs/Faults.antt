@@ -1,7 +1,7 @@
 -- The numbers and the names of the faults of an event.
 use Rattle.std.specs.Prelude.{ℕ, List, codes}
-use Rattle.boc_types.specs.declared.event.BrokenRule.{BrokenRule}
-use Rattle.boc_types.specs.declared.event.BrokenRule.TheVariants as rules
+use Rattle.boc_runs.specs.declared.event.BrokenRule.{BrokenRule}
+use Rattle.boc_runs.specs.declared.event.BrokenRule.TheVariants as rules
 use Rattle.boc_rules.specs.declared.fault.RuleFault.{RuleFault}
 use Rattle.boc_rules.specs.declared.fault.RuleFault.TheVariants.{Broken, Memory}
 

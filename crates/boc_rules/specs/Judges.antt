@@ -1,8 +1,8 @@
 -- What is found of an event.
 use Rattle.std.specs.Prelude.{ℕ, List, Result, Ok, Err}
-use Rattle.boc_types.specs.declared.event.Event.{Event}
-use Rattle.boc_types.specs.declared.event.BrokenRule.{BrokenRule}
-use Rattle.boc_types.specs.runs.Legal.{Entry, IsAllowed, IsFirstBroken}
+use Rattle.boc_runs.specs.declared.event.Event.{Event}
+use Rattle.boc_runs.specs.declared.event.BrokenRule.{BrokenRule}
+use Rattle.boc_runs.specs.Legal.{Entry, IsAllowed, IsFirstBroken}
 
 -- the event keeps every rule, or this is the first that it breaks
 abbrev pub Judges : ℕ → List Entry → Event → Result (Unit {0}) BrokenRule → Type 0

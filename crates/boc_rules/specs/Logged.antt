@@ -1,13 +1,13 @@
 -- What is kept of a run with its log.
 use Rattle.std.specs.Prelude.{◌≡◌, ℕ, ◌+◌, ◌*◌, ◌<◌, ◌≤◌, List, length, map, All, Some}
-use Rattle.boc_types.specs.declared.limits.TheConstants.{MOST_COWNS}
-use Rattle.boc_types.specs.declared.event.Event.{Event}
-use Rattle.boc_types.specs.declared.events.Deed.TheVariants as deeds
-use Rattle.boc_types.specs.declared.events.Happening.{Happening}
-use Rattle.boc_types.specs.declared.rows.Row.{Row}
-use Rattle.boc_types.specs.runs.Happenings.{told}
-use Rattle.boc_types.specs.runs.Lives as lives
-use Rattle.boc_types.specs.runs.Legal.{Entry, entries, life_of, IsLegal}
+use Rattle.boc_program.specs.declared.limits.TheConstants.{MOST_COWNS}
+use Rattle.boc_runs.specs.declared.event.Event.{Event}
+use Rattle.boc_runs.specs.declared.events.Deed.TheVariants as deeds
+use Rattle.boc_runs.specs.declared.events.Happening.{Happening}
+use Rattle.boc_runs.specs.declared.rows.Row.{Row}
+use Rattle.boc_runs.specs.Happenings.{told}
+use Rattle.boc_runs.specs.Lives as lives
+use Rattle.boc_runs.specs.Legal.{Entry, entries, life_of, IsLegal}
 use Rattle.boc_rules.specs.declared.rows.TheConstants.{MOST_EVENTS}
 use Rattle.boc_rules.specs.Course.{Course}
 

@@ -1,8 +1,8 @@
 -- What an event does to a log under way, and what becomes of the log in the end.
 use Rattle.std.specs.Prelude.{◌≡◌, Result, Ok, Err}
-use Rattle.boc_types.specs.declared.event.Event.{Event}
-use Rattle.boc_types.specs.runs.Legal.{entries, IsAllowed, IsFirstBroken, IsComplete}
-use Rattle.boc_types.specs.runs.Records.{Recorded, IsRecord}
+use Rattle.boc_runs.specs.declared.event.Event.{Event}
+use Rattle.boc_runs.specs.Legal.{entries, IsAllowed, IsFirstBroken, IsComplete}
+use Rattle.boc_runs.specs.Records.{Recorded, IsRecord}
 use Rattle.boc_rules.specs.Log.{Log, HasRoomFor, grown}
 use Rattle.boc_rules.specs.declared.fault.RuleFault.{RuleFault}
 use Rattle.boc_rules.specs.declared.fault.RuleFault.TheVariants.{Broken, Memory}

@@ -1,14 +1,14 @@
 -- What is kept of a run by a log that judges nothing.
 use Rattle.std.specs.Prelude.{ℕ, ◌+◌, ◌*◌, ◌<◌, ◌≤◌, List, [], ◌∷◌, ◌++◌, length, All, slice_get}
-use Rattle.boc_types.specs.declared.limits.TheConstants.{MOST_COWNS}
-use Rattle.boc_types.specs.declared.event.Event.{Event}
-use Rattle.boc_types.specs.declared.event.Event.TheVariants.{Spawn, Start, End}
-use Rattle.boc_types.specs.declared.events.Happening.{Happening}
-use Rattle.boc_types.specs.declared.rows.Row.{Row}
-use Rattle.boc_types.specs.runs.Happenings.{told}
-use Rattle.boc_types.specs.runs.Lives.{changed}
-use Rattle.boc_types.specs.runs.Legal.{entries, IsLegal}
-use Rattle.boc_types.specs.runs.Records.{AreRowsOf}
+use Rattle.boc_program.specs.declared.limits.TheConstants.{MOST_COWNS}
+use Rattle.boc_runs.specs.declared.event.Event.{Event}
+use Rattle.boc_runs.specs.declared.event.Event.TheVariants.{Spawn, Start, End}
+use Rattle.boc_runs.specs.declared.events.Happening.{Happening}
+use Rattle.boc_runs.specs.declared.rows.Row.{Row}
+use Rattle.boc_runs.specs.Happenings.{told}
+use Rattle.boc_program.specs.Changed.{changed}
+use Rattle.boc_runs.specs.Legal.{entries, IsLegal}
+use Rattle.boc_runs.specs.Records.{AreRowsOf}
 use Rattle.boc_rules.specs.declared.rows.TheConstants.{MOST_EVENTS}
 use Rattle.boc_rules.specs.Logged.{HasHappened}
 use Rattle.boc_rules.specs.SoFar.{new_row}

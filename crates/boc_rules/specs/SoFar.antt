@@ -1,13 +1,13 @@
 -- What is kept of the rows of a run under way, and how an event changes it.
 use Rattle.std.specs.Prelude.{◌≡◌, ℕ, ◌+◌, ◌-◌, ◌*◌, ◌<◌, ◌≤◌, List, [], ◌∷◌, ◌++◌, length, map, Option, Some, None, slice_get, slice_index_or, slice_range, vec_len, vec_capacity}
-use Rattle.boc_types.specs.declared.body.EndStatus.{EndStatus}
-use Rattle.boc_types.specs.declared.body.EndStatus.TheVariants as statuses
-use Rattle.boc_types.specs.declared.rows.Row.{Row}
-use Rattle.boc_types.specs.declared.limits.TheConstants.{MOST_HELD}
-use Rattle.boc_types.specs.runs.Lives as lives
-use Rattle.boc_types.specs.runs.Lives.{changed}
-use Rattle.boc_types.specs.runs.Legal.{Entry}
-use Rattle.boc_types.specs.runs.Records.{AreRowsOf}
+use Rattle.boc_program.specs.declared.body.EndStatus.{EndStatus}
+use Rattle.boc_program.specs.declared.body.EndStatus.TheVariants as statuses
+use Rattle.boc_runs.specs.declared.rows.Row.{Row}
+use Rattle.boc_program.specs.declared.limits.TheConstants.{MOST_HELD}
+use Rattle.boc_runs.specs.Lives as lives
+use Rattle.boc_program.specs.Changed.{changed}
+use Rattle.boc_runs.specs.Legal.{Entry}
+use Rattle.boc_runs.specs.Records.{AreRowsOf}
 use Rattle.arrayvec.specs.ArrayVec.{ArrayVec}
 use Rattle.boc_rules.specs.declared.stage.Life.{Life}
 use Rattle.boc_rules.specs.declared.stage.Life.TheVariants.{Pending, Running, Ended}

@@ -6,17 +6,17 @@ ghost use Rattle.std.specs.Option.{option_map};
 use crate::before::MaybeRow;
 use crate::so_far::RunSoFar;
 use crate::stage::Life;
-use boc_types::cowns::{are_among, are_cowns};
-use boc_types::event::{BrokenRule, Event};
-use boc_types::held::HeldCowns;
-use boc_types::limits::{MOST_ROWS, MOST_TICKS};
-use boc_types::short::Cowns;
+use boc_program::cowns::{are_among, are_cowns};
+use boc_program::held::HeldCowns;
+use boc_program::limits::{MOST_ROWS, MOST_TICKS};
+use boc_program::short::Cowns;
+use boc_runs::event::{BrokenRule, Event};
 
 impl RunSoFar {
-    ghost use Rattle.boc_types.specs.declared.body.EndStatus.{EndStatus};
-    ghost use Rattle.boc_types.specs.runs.Lives.{Running, MayStart};
-    ghost use Rattle.boc_types.specs.runs.Cowns.{AreAmong};
-    ghost use Rattle.boc_types.specs.runs.Legal.{entry_cowns, life_of, last_of, IsParent, IsOffset, MayNeed, MayEnd};
+    ghost use Rattle.boc_program.specs.declared.body.EndStatus.{EndStatus};
+    ghost use Rattle.boc_runs.specs.Lives.{Running, MayStart};
+    ghost use Rattle.boc_program.specs.Cowns.{AreAmong};
+    ghost use Rattle.boc_runs.specs.Legal.{entry_cowns, life_of, last_of, IsParent, IsOffset, MayNeed, MayEnd};
     ghost use Rattle.boc_rules.specs.Course.{IsOver};
     ghost use Rattle.boc_rules.specs.SoFar.{IsRunSoFar, so_far, meant};
     ghost use Rattle.boc_rules.specs.Before.{IsOverAt};

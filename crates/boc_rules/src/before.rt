@@ -1,7 +1,7 @@
 // Which rows stand before a row on its cowns.
 
 ghost use Rattle.std.specs.Prelude.{◌≡◌, ◌+◌, ◌*◌, ◌<◌, ◌≤◌, ◌++◌, All, None, Some, length, map, slice_index_or, vec_len, vec_capacity};
-ghost use Rattle.boc_types.specs.declared.limits.TheConstants.{MOST_HELD, MOST_ROWS};
+ghost use Rattle.boc_program.specs.declared.limits.TheConstants.{MOST_HELD, MOST_ROWS};
 ghost use Rattle.boc_rules.specs.declared.stage.Life.TheVariants.{Pending};
 ghost use Rattle.boc_rules.specs.Before.{noted};
 

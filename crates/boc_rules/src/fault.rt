@@ -2,7 +2,7 @@
 
 ghost use Rattle.std.specs.Prelude.{◌≡◌};
 
-use boc_types::event::BrokenRule;
+use boc_runs::event::BrokenRule;
 use thiserror::Error;
 
 /// Why an event was refused.

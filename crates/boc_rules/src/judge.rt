@@ -4,9 +4,9 @@ ghost use Rattle.std.specs.Prelude.{◌≡◌, ◌+◌, ◌<◌, ◌≤◌, ◌�
 
 use crate::fault::RuleFault;
 use crate::so_far::RunSoFar;
-use boc_types::event::{BrokenRule, Event};
-use boc_types::held::HeldCowns;
-use boc_types::rows::{Row, Rows};
+use boc_program::held::HeldCowns;
+use boc_runs::event::{BrokenRule, Event};
+use boc_runs::rows::{Row, Rows};
 use std::alloc::{AllocError, Global};
 use std::marker::Model;
 
@@ -30,9 +30,9 @@ impl Model for Judge {
 }
 
 impl Judge {
-    ghost use Rattle.boc_types.specs.declared.limits.TheConstants.{MOST_COWNS};
-    ghost use Rattle.boc_types.specs.runs.Legal.{entry_cowns, IsAllowed};
-    ghost use Rattle.boc_types.specs.runs.Records.{AreRowsOf};
+    ghost use Rattle.boc_program.specs.declared.limits.TheConstants.{MOST_COWNS};
+    ghost use Rattle.boc_runs.specs.Legal.{entry_cowns, IsAllowed};
+    ghost use Rattle.boc_runs.specs.Records.{AreRowsOf};
     ghost use Rattle.boc_rules.specs.Log.{HasRoomFor};
     ghost use Rattle.boc_rules.specs.Judges.{Judges};
     ghost use Rattle.boc_rules.specs.Course.{stepped, AreLegal, IsOver, Steps, GivesRows};

@@ -3,10 +3,10 @@
 ghost use Rattle.std.specs.Prelude.{◌≡◌, ◌*◌, ◌^◌, ◌<◌, ◌≤◌, OnOk, vec_len, vec_capacity};
 ghost use Rattle.boc_rules.specs.SoFar.{new_row};
 
-use boc_types::body::EndStatus;
-use boc_types::events::Happening;
-use boc_types::held::HeldCowns;
-use boc_types::rows::Row;
+use boc_program::body::EndStatus;
+use boc_program::held::HeldCowns;
+use boc_runs::events::Happening;
+use boc_runs::rows::Row;
 use std::alloc::AllocError;
 
 /// How many rows the lists have memory for at first. Memory for so many is handed out in pages of its own, which

@@ -5,10 +5,10 @@ ghost use Rattle.std.specs.Prelude.{◌≡◌, ◌+◌, ◌<◌, ◌≤◌, ◌�
 use crate::fault::RuleFault;
 use crate::judge::Judge;
 use crate::rows::make_events_room;
-use boc_types::event::Event;
-use boc_types::events::{Events, Happening};
-use boc_types::held::HeldCowns;
-use boc_types::record::Record;
+use boc_program::held::HeldCowns;
+use boc_runs::event::Event;
+use boc_runs::events::{Events, Happening};
+use boc_runs::record::Record;
 use std::alloc::{AllocError, Global};
 use std::marker::Model;
 
@@ -33,8 +33,8 @@ impl Model for Rules {
 }
 
 impl Rules {
-    ghost use Rattle.boc_types.specs.declared.limits.TheConstants.{MOST_COWNS};
-    ghost use Rattle.boc_types.specs.runs.Legal.{entries, entry_cowns, IsAllowed, IsLegal, IsComplete};
+    ghost use Rattle.boc_program.specs.declared.limits.TheConstants.{MOST_COWNS};
+    ghost use Rattle.boc_runs.specs.Legal.{entries, entry_cowns, IsAllowed, IsLegal, IsComplete};
     ghost use Rattle.boc_rules.specs.Log.{HasRoomFor, grown};
     ghost use Rattle.boc_rules.specs.Course.{course_of};
     ghost use Rattle.boc_rules.specs.Rules.{Applies, Records};

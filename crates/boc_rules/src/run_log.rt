@@ -5,11 +5,11 @@ ghost use Rattle.boc_rules.specs.Log.{HasRoomFor, rooms_after};
 ghost use Rattle.boc_rules.specs.RunLog.{CanKeep, rows_after};
 
 use crate::rows::{FIRST_ROWS, MOST_EVENTS, end_row, make_events_room, pending_row};
-use boc_types::event::Event;
-use boc_types::events::{Events, Happening};
-use boc_types::held::HeldCowns;
-use boc_types::record::Record;
-use boc_types::rows::{Row, Rows};
+use boc_program::held::HeldCowns;
+use boc_runs::event::Event;
+use boc_runs::events::{Events, Happening};
+use boc_runs::record::Record;
+use boc_runs::rows::{Row, Rows};
 use std::alloc::{AllocError, Global};
 use std::marker::Model;
 
@@ -27,7 +27,7 @@ pub struct RunLog {
 
 impl Model for RunLog {
     ghost use Rattle.std.specs.Prelude.{vec_capacity};
-    ghost use Rattle.boc_types.specs.runs.Happenings.{told};
+    ghost use Rattle.boc_runs.specs.Happenings.{told};
     ghost use Rattle.boc_rules.specs.Log.{Log};
 
     ghost Value = { Log };
@@ -74,8 +74,8 @@ fn keep(rows: &mut Vec<Row>, rooms: &mut usize, event: Event)
 }
 
 impl RunLog {
-    ghost use Rattle.boc_types.specs.declared.limits.TheConstants.{MOST_COWNS};
-    ghost use Rattle.boc_types.specs.runs.Legal.{entries, IsAllowed, IsLegal, IsComplete};
+    ghost use Rattle.boc_program.specs.declared.limits.TheConstants.{MOST_COWNS};
+    ghost use Rattle.boc_runs.specs.Legal.{entries, IsAllowed, IsLegal, IsComplete};
     ghost use Rattle.boc_rules.specs.Log.{grown};
     ghost use Rattle.boc_rules.specs.Rules.{Records};
 

@@ -5,11 +5,11 @@ ghost use Rattle.std.specs.Prelude.{◌≡◌, ◌+◌, ◌*◌, ◌≤◌, ◌<
 use crate::before::{MaybeRow, first_stage};
 use crate::rows::{FIRST_ROWS, end_row, pending_row};
 use crate::stage::{Life, Stage};
-use boc_types::body::EndStatus;
-use boc_types::event::Event;
-use boc_types::held::HeldCowns;
-use boc_types::limits::MOST_HELD;
-use boc_types::rows::Row;
+use boc_program::body::EndStatus;
+use boc_program::held::HeldCowns;
+use boc_program::limits::MOST_HELD;
+use boc_runs::event::Event;
+use boc_runs::rows::Row;
 use std::alloc::{AllocError, Global};
 
 /// The rows of a run so far.
@@ -31,8 +31,8 @@ pub struct RunSoFar {
 }
 
 impl RunSoFar {
-    ghost use Rattle.boc_types.specs.declared.limits.TheConstants.{MOST_COWNS, MOST_HELD, MOST_ROWS};
-    ghost use Rattle.boc_types.specs.runs.Legal.{after, IsAllowed};
+    ghost use Rattle.boc_program.specs.declared.limits.TheConstants.{MOST_COWNS, MOST_HELD, MOST_ROWS};
+    ghost use Rattle.boc_runs.specs.Legal.{after, IsAllowed};
     ghost use Rattle.boc_rules.specs.Log.{HasRoomFor, rooms_after};
     ghost use Rattle.boc_rules.specs.SoFar.{IsRunSoFar, HasRooms, so_far, IsSameRun, IsSpawned, IsStarted, IsEnded};
 

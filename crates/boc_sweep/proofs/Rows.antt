@@ -2,8 +2,8 @@
 use Rattle.std.proofs.Common.{◌≡◌, ℕ, zero, suc, ◌+◌, ◌<◌, List, [], ◌∷◌, length, refl, ap, subst, arith}
 use Rattle.std.specs.Prelude.{slice_index}
 use Rattle.std.specs.List.{AllZip, range_with_len}
-use Rattle.boc_types.specs.declared.rows.Row.{Row}
-use Rattle.boc_types.specs.plans.Edits.{IsLeastSpan, IsSweep}
+use Rattle.boc_runs.specs.declared.rows.Row.{Row}
+use Rattle.boc_plans.specs.Edits.{IsLeastSpan, IsSweep}
 
 -- what was made of n numbers from one on, one by one: it has as many parts, and each part goes with its number
 module _ (R : ℕ → ℕ → Type 0) where

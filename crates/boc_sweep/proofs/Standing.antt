@@ -3,9 +3,9 @@ use Rattle.std.proofs.Common.{◌≡◌, ℕ, zero, suc, ◌+◌, ◌<◌, ◌�
 use Rattle.std.specs.Prelude.{slice_index}
 use Rattle.std.specs.List.{Contains}
 use Rattle.std.proofs.lemmas.Bool.{cases_lt, cases_eq}
-use Rattle.boc_types.specs.declared.rows.Row.{Row}
-use Rattle.boc_types.specs.runs.Rows.{IsRows, parent_of, offset_of, ticks_of, cowns_of}
-use Rattle.boc_types.specs.plans.Plans.{ConflictOn, Ordered, end_of, IsEnd}
+use Rattle.boc_runs.specs.declared.rows.Row.{Row}
+use Rattle.boc_runs.specs.Rows.{IsRows, parent_of, offset_of, ticks_of, cowns_of}
+use Rattle.boc_plans.specs.Plans.{ConflictOn, Ordered, end_of, IsEnd}
 use Rattle.boc_order.specs.declared.latest.Latest.{Latest}
 use Rattle.boc_order.specs.Latest.{later_of, IsLatestOf}
 use Rattle.boc_order.specs.Placed.{placement, ArePlaced}

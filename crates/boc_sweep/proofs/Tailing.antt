@@ -4,10 +4,10 @@ use Rattle.std.specs.Prelude.{slice_index, slice_set}
 use Rattle.std.specs.List.{Contains}
 use Rattle.std.proofs.lemmas.Bool.{cases_lt, cases_eq}
 use Rattle.std.proofs.lemmas.List.{length-set, get_or-set_same, get_or-set_other}
-use Rattle.boc_types.specs.declared.limits.TheConstants.{MOST_TICKS}
-use Rattle.boc_types.specs.declared.rows.Row.{Row}
-use Rattle.boc_types.specs.runs.Rows.{IsRows, parent_of, offset_of, ticks_of}
-use Rattle.boc_types.specs.plans.Plans.{IsChild}
+use Rattle.boc_program.specs.declared.limits.TheConstants.{MOST_TICKS}
+use Rattle.boc_runs.specs.declared.rows.Row.{Row}
+use Rattle.boc_runs.specs.Rows.{IsRows, parent_of, offset_of, ticks_of}
+use Rattle.boc_plans.specs.Plans.{IsChild}
 use Rattle.boc_order.specs.Waits.{IsNear, HasWaits}
 use Rattle.boc_order.proofs.Near.{has}
 use Rattle.boc_sweep.specs.Links.{Node, start, stop, finish, IsNode, Links}

@@ -1,9 +1,9 @@
 -- The links that lead over the cuts of rows, as stretches of those rows.
 use Rattle.std.specs.Prelude.{◌≡◌, ℕ, ◌+◌, ◌<◌, ◌≤◌, ◌⊎◌, List, length, slice_index}
 use Rattle.std.specs.List.{Contains}
-use Rattle.boc_types.specs.declared.rows.Row.{Row}
-use Rattle.boc_types.specs.runs.Rows.{offset_of}
-use Rattle.boc_types.specs.plans.Plans.{start_of, end_of, IsChild}
+use Rattle.boc_runs.specs.declared.rows.Row.{Row}
+use Rattle.boc_runs.specs.Rows.{offset_of}
+use Rattle.boc_plans.specs.Plans.{start_of, end_of, IsChild}
 use Rattle.boc_sweep.specs.declared.windows.Stretch.{Stretch}
 use Rattle.boc_order.specs.Waits.{IsNear}
 use Rattle.boc_sweep.specs.Cuts.{Crosses}

@@ -1,10 +1,9 @@
 -- What a sweep computes: the heaviest way over the cut of a row.
 use Rattle.std.specs.Prelude.{◌≡◌, ℕ, ◌+◌, ◌*◌, ◌<◌, ◌≤◌, ◌⊎◌, List, length, Option, slice_index}
-use Rattle.boc_types.specs.declared.limits.TheConstants.{MOST_ROWS, MOST_TICKS}
-use Rattle.boc_types.specs.declared.rows.Row.{Row}
-use Rattle.boc_types.specs.runs.Rows.{offset_of}
-use Rattle.boc_types.specs.plans.Plans.{start_of, end_of, IsChild, IsEnd}
-use Rattle.boc_types.specs.plans.Edits.{edited}
+use Rattle.boc_program.specs.declared.limits.TheConstants.{MOST_ROWS, MOST_TICKS}
+use Rattle.boc_runs.specs.declared.rows.Row.{Row}
+use Rattle.boc_runs.specs.Rows.{offset_of, edited}
+use Rattle.boc_plans.specs.Plans.{start_of, end_of, IsChild, IsEnd}
 use Rattle.boc_order.specs.Placed.{ArePlaced}
 use Rattle.boc_sweep.specs.Ways.{AreTails, IsHeaviest}
 use Rattle.boc_order.specs.Waits.{Covers, IsNear}

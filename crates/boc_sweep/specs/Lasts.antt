@@ -1,7 +1,7 @@
 -- The last child of each row.
 use Rattle.std.specs.Prelude.{◌≡◌, ℕ, ◌<◌, List, length, slice_index}
-use Rattle.boc_types.specs.declared.rows.Row.{Row}
-use Rattle.boc_types.specs.runs.Rows.{IsLast}
+use Rattle.boc_runs.specs.declared.rows.Row.{Row}
+use Rattle.boc_runs.specs.Rows.{IsLast}
 
 -- for each row the offset of its last child, and 0 where it has none
 pub record HasLasts (rows : List Row) (lasts : List ℕ) : Type 0 where

@@ -1,8 +1,8 @@
 -- The links between the starts and the ends of rows.
 use Rattle.std.specs.Prelude.{◌≡◌, ℕ, ◌+◌, ◌*◌, ◌<◌, List, length}
-use Rattle.boc_types.specs.declared.rows.Row.{Row}
-use Rattle.boc_types.specs.runs.Rows.{offset_of, ticks_of}
-use Rattle.boc_types.specs.plans.Plans.{start_of, end_of, IsChild}
+use Rattle.boc_runs.specs.declared.rows.Row.{Row}
+use Rattle.boc_runs.specs.Rows.{offset_of, ticks_of}
+use Rattle.boc_plans.specs.Plans.{start_of, end_of, IsChild}
 
 -- the start of a row, its end, and the end of all
 pub data Node : Type 0 where

@@ -1,7 +1,7 @@
 -- What the spans of a sweep are read from.
 use Rattle.std.specs.Prelude.{◌≡◌, ℕ, ◌<◌, List, length, slice_index}
-use Rattle.boc_types.specs.declared.rows.Row.{Row}
-use Rattle.boc_types.specs.runs.Rows.{IsRows}
+use Rattle.boc_runs.specs.declared.rows.Row.{Row}
+use Rattle.boc_runs.specs.Rows.{IsRows}
 use Rattle.boc_order.specs.declared.plan.Earliest.{Earliest}
 use Rattle.boc_order.specs.Standing.{IsPlanOf}
 use Rattle.boc_sweep.specs.declared.windows.Stretch.{Stretch}

@@ -1,9 +1,9 @@
 -- Tails, from the last row back to a given one.
 use Rattle.std.specs.Prelude.{◌≡◌, ℕ, ◌+◌, ◌*◌, ◌<◌, ◌≤◌, ◌⊎◌, List, length}
-use Rattle.boc_types.specs.declared.limits.TheConstants.{MOST_TICKS}
-use Rattle.boc_types.specs.declared.rows.Row.{Row}
-use Rattle.boc_types.specs.runs.Rows.{offset_of, ticks_of}
-use Rattle.boc_types.specs.plans.Plans.{IsChild}
+use Rattle.boc_program.specs.declared.limits.TheConstants.{MOST_TICKS}
+use Rattle.boc_runs.specs.declared.rows.Row.{Row}
+use Rattle.boc_runs.specs.Rows.{offset_of, ticks_of}
+use Rattle.boc_plans.specs.Plans.{IsChild}
 use Rattle.boc_order.specs.Waits.{IsNear}
 
 -- what makes the tail of a row's start

@@ -1,10 +1,10 @@
 // The last child of each row, and the ticks that a row can take.
 
 ghost use Rattle.std.specs.Prelude.{◌≡◌, max, IfOk};
-ghost use Rattle.boc_types.specs.runs.Rows.{IsRows};
+ghost use Rattle.boc_runs.specs.Rows.{IsRows};
 ghost use Rattle.boc_sweep.specs.Lasts.{HasLasts};
 
-use boc_types::rows::Row;
+use boc_runs::rows::Row;
 use std::alloc::{AllocError, Global};
 
 /// The offset of each row's last child, and 0 for a row without one. `AllocError` says that memory was refused.

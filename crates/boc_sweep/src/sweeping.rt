@@ -1,8 +1,8 @@
 // The spans that a run would have with one row after another at its least ticks.
 
 ghost use Rattle.std.specs.Prelude.{◌≡◌, ℕ, ◌<◌, ◌≤◌, ◌+◌, ◌*◌, Contains, length, IfOk, slice_index};
-ghost use Rattle.boc_types.specs.runs.Rows.{IsRows};
-ghost use Rattle.boc_types.specs.plans.Edits.{IsSweep, IsLeastSpan};
+ghost use Rattle.boc_runs.specs.Rows.{IsRows};
+ghost use Rattle.boc_plans.specs.Edits.{IsSweep, IsLeastSpan};
 ghost use Rattle.boc_order.specs.Standing.{IsPlanOf};
 ghost use Rattle.boc_order.specs.Waits.{AreWaits, HasWaits};
 ghost use Rattle.boc_sweep.specs.Cuts.{HasTails};
@@ -14,8 +14,8 @@ use crate::lasts::least_ticks;
 use crate::tails::{Tails, all_tails};
 use crate::windows::{Stretch, all_tops};
 use boc_order::{Earliest, Links};
-use boc_types::limits::{MOST_ROWS, MOST_TICKS};
-use boc_types::sharing::SeenRows;
+use boc_plans::sharing::SeenRows;
+use boc_program::limits::{MOST_ROWS, MOST_TICKS};
 use rayon::prelude::*;
 use std::alloc::{AllocError, Global};
 use std::thread::Threads;

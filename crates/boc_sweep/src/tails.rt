@@ -1,13 +1,13 @@
 // The heaviest ways from the starts and the ends of rows to the end of all.
 
 ghost use Rattle.std.specs.Prelude.{◌≡◌, ℕ, ◌<◌, ◌≤◌, ◌+◌, max, Contains, length, IfOk, slice_index};
-ghost use Rattle.boc_types.specs.runs.Rows.{IsRows};
+ghost use Rattle.boc_runs.specs.Rows.{IsRows};
 ghost use Rattle.boc_order.specs.Waits.{AreWaits, HasWaits};
 ghost use Rattle.boc_sweep.specs.Cuts.{HasTails};
 ghost use Rattle.boc_sweep.specs.Tails.{TailsFrom};
 
 use boc_order::Links;
-use boc_types::sharing::SeenRows;
+use boc_plans::sharing::SeenRows;
 use std::alloc::{AllocError, Global};
 
 /// The heaviest ways to the end of all.

@@ -4,7 +4,7 @@ ghost use Rattle.std.specs.Prelude.{◌≡◌, ℕ, ◌<◌, ◌≤◌, ◌+◌,
 ghost use Rattle.boc_sweep.specs.declared.windows.Stretch.{Stretch};
 ghost use Rattle.boc_sweep.specs.Tops.{AreWindows, AreTops};
 
-use boc_types::limits::MOST_ROWS;
+use boc_program::limits::MOST_ROWS;
 use std::alloc::{AllocError, Global};
 
 /// The places from one on and before another, and a value.

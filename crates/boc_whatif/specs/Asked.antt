@@ -1,9 +1,9 @@
 -- Rows about which is asked.
 use Rattle.std.specs.Prelude.{ℕ, List, length}
-use Rattle.boc_types.specs.declared.rows.Row.{Row}
-use Rattle.boc_types.specs.declared.sharing.Sharing.{Sharing}
-use Rattle.boc_types.specs.runs.Rows.{IsRows}
-use Rattle.boc_types.specs.runs.Seen.{seen}
+use Rattle.boc_runs.specs.declared.rows.Row.{Row}
+use Rattle.boc_plans.specs.declared.sharing.Sharing.{Sharing}
+use Rattle.boc_runs.specs.Rows.{IsRows}
+use Rattle.boc_plans.specs.Seen.{seen}
 use Rattle.boc_order.specs.declared.plan.Earliest.{Earliest}
 use Rattle.boc_order.specs.Room.{HasRoom}
 use Rattle.boc_order.specs.Standing.{IsPlanOf}

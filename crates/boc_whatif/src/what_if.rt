@@ -1,22 +1,23 @@
 // Rows that are edited one after another.
 
 ghost use Rattle.std.specs.Prelude.{◌≡◌, ◌≤◌, ◌+◌, length, IfOk, IfErr, OnOk, OnErr, MatchResult};
-ghost use Rattle.boc_types.specs.plans.Plans.{work_of};
-ghost use Rattle.boc_types.specs.plans.Greedy.{IsSpan};
-ghost use Rattle.boc_types.specs.plans.Edits.{Fits, IsEditFault, IsSweep, edited};
-ghost use Rattle.boc_types.specs.runs.Seen.{seen};
+ghost use Rattle.boc_plans.specs.Plans.{work_of};
+ghost use Rattle.boc_plans.specs.Greedy.{IsSpan};
+ghost use Rattle.boc_runs.specs.Rows.{edited};
+ghost use Rattle.boc_plans.specs.Edits.{Fits, IsEditFault, IsSweep};
+ghost use Rattle.boc_plans.specs.Seen.{seen};
 ghost use Rattle.boc_order.specs.Profiles.{IsProfileOf};
 ghost use Rattle.boc_greedy.specs.Plans.{IsGreedyPlanOf};
 ghost use Rattle.boc_sweep.specs.Lasts.{HasLasts};
 
 use boc_greedy::{Greedy, greedy_over};
 use boc_order::{Earliest, Links, Profile, waits_and_plan};
+use boc_plans::edit::EditFault;
+use boc_plans::sharing::{SeenRows, Sharing};
+use boc_plans::workers::Workers;
+use boc_program::limits::{MOST_ROWS, MOST_TICKS};
+use boc_runs::rows::{Row, Rows};
 use boc_sweep::{last_children, least_ticks, sweep};
-use boc_types::edit::EditFault;
-use boc_types::limits::{MOST_ROWS, MOST_TICKS};
-use boc_types::rows::{Row, Rows};
-use boc_types::sharing::{SeenRows, Sharing};
-use boc_types::workers::Workers;
 use std::alloc::{AllocError, Global};
 use std::marker::Model;
 use std::thread::Threads;

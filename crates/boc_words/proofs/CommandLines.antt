@@ -4,7 +4,7 @@ use Rattle.clap.proofs.OnLiterals.{clap_on_literals}
 use Rattle.clap.specs.Words.{Text, fault_of, is_simple, is_simple_and_free, subcommand_of}
 use Rattle.clap.specs.declared.error.kind.ErrorKind.TheVariants as kinds
 use Rattle.boc_words.specs.Words.{AreEdits, AreRunners, AreShared, AreTaken, AreWorkers, Names, command_line}
-use Rattle.boc_types.specs.declared.sharing.Sharing.TheVariants.{Exclusive, SharedReads}
+use Rattle.boc_plans.specs.declared.sharing.Sharing.TheVariants.{Exclusive, SharedReads}
 use Rattle.std.specs.Fmt.{digits}
 
 -- what the parser's contract says of `boc` is exact

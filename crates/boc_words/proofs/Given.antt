@@ -8,7 +8,7 @@ use Rattle.std.specs.List.{All}
 use Rattle.std.proofs.lemmas.List.Elements.{All-push}
 use Rattle.clap.specs.Words.{Row}
 use Rattle.std.specs.Str.Parse.{digits_value, without_leading_plus}
-use Rattle.boc_types.specs.declared.edit.Edit.{Edit}
+use Rattle.boc_plans.specs.declared.edit.Edit.{Edit}
 use Rattle.boc_words.specs.EditWords.{edit_word}
 use Rattle.boc_words.specs.Words.{HasNoNumber, IsEditWord, IsFirstMisspelt, IsGiven, values_at}
 

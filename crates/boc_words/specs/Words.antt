@@ -13,10 +13,10 @@ use Rattle.clap.specs.declared.error.kind.ErrorKind.{ErrorKind}
 use Rattle.clap.specs.declared.error.kind.ErrorKind.TheVariants as kinds
 use Rattle.clap.specs.declared.builder.action.ArgAction.TheVariants as actions
 use Rattle.clap.specs.declared.builder.value_parser.ValueParser.TheVariants as parsers
-use Rattle.boc_types.specs.declared.edit.Edit.{Edit}
-use Rattle.boc_types.specs.declared.limits.TheConstants.{MOST_RUNNERS, MOST_WORKERS}
-use Rattle.boc_types.specs.declared.sharing.Sharing.{Sharing}
-use Rattle.boc_types.specs.declared.sharing.Sharing.TheVariants.{Exclusive, SharedReads}
+use Rattle.boc_plans.specs.declared.edit.Edit.{Edit}
+use Rattle.boc_program.specs.declared.limits.TheConstants.{MOST_RUNNERS, MOST_WORKERS}
+use Rattle.boc_plans.specs.declared.sharing.Sharing.{Sharing}
+use Rattle.boc_plans.specs.declared.sharing.Sharing.TheVariants.{Exclusive, SharedReads}
 use Rattle.boc_words.specs.declared.fault.WordsFault.{WordsFault}
 use Rattle.boc_words.specs.declared.fault.WordsFault.TheVariants as faults
 use Rattle.boc_words.specs.declared.words.Command.{Command}

@@ -3,8 +3,8 @@
 ghost use Rattle.std.specs.Prelude.{◌≡◌, ◌<◌, ◌^◌, ℕ, MatchOption};
 ghost use Rattle.boc_words.specs.EditWords.{edit_word};
 
+use boc_plans::edit::Edit;
 use boc_text::read_number;
-use boc_types::edit::Edit;
 
 // The edit that a word `ROW=TICKS` is, of two plain decimals up to 4,294,967,295. No other word is an edit.
 pub(crate) fn edit_of(word: &str) -> Option<Edit>

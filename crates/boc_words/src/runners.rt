@@ -2,7 +2,7 @@
 
 ghost use Rattle.std.specs.Prelude.{◌≡◌, ◌<◌, ◌≤◌, ◌↔◌, IsSome, IfSome};
 
-use boc_types::limits::MOST_RUNNERS;
+use boc_program::limits::MOST_RUNNERS;
 use std::marker::Model;
 
 /// A number of workers that run a program, each in a thread of its own, from 1 to 16.
@@ -13,7 +13,7 @@ pub struct Runners {
 
 impl Model for Runners {
     ghost use Rattle.std.specs.Prelude.{ℕ, ◌<◌, ◌≤◌};
-    ghost use Rattle.boc_types.specs.declared.limits.TheConstants.{MOST_RUNNERS};
+    ghost use Rattle.boc_program.specs.declared.limits.TheConstants.{MOST_RUNNERS};
 
     ghost Value = { ℕ };
 

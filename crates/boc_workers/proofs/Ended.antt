@@ -1,10 +1,10 @@
 -- What a record says of the run that it is of.
 use Rattle.std.proofs.Common.{◌≡◌, sym, ap, ◌∙◌}
 use Rattle.std.specs.Prelude.{Ok}
-use Rattle.boc_types.specs.declared.program.Program.{Program}
-use Rattle.boc_types.specs.machine.AlongRows.{EndsSerially, cowns_of_rows, steps_of_rows}
-use Rattle.boc_types.specs.machine.Sound.{IsSound}
-use Rattle.boc_types.specs.runs.Records.{Recorded, IsRecordOf}
+use Rattle.boc_program.specs.declared.program.Program.{Program}
+use Rattle.boc_runs.specs.machine.AlongRows.{EndsSerially, cowns_of_rows, steps_of_rows}
+use Rattle.boc_runs.specs.machine.Sound.{IsSound}
+use Rattle.boc_runs.specs.Records.{Recorded, IsRecordOf}
 use Rattle.boc_machine.proofs.Every.{all_steps}
 use Rattle.boc_machine.proofs.Serially.{ends_serially}
 use Rattle.boc_dispatch.specs.Calls.{EndsAsRecord}

@@ -1,9 +1,9 @@
 -- Where a turn leads to.
 use Rattle.std.proofs.Common.{◌≡◌, sym, subst}
 use Rattle.std.proofs.Math.Logic.{∥∥₁_elim}
-use Rattle.boc_types.specs.declared.program.Program.{Program}
-use Rattle.boc_types.specs.machine.Schedules.{Reaches, Here, Then}
-use Rattle.boc_types.specs.machine.Steps.{opening_state}
+use Rattle.boc_program.specs.declared.program.Program.{Program}
+use Rattle.boc_runs.specs.machine.Schedules.{Reaches, Here, Then}
+use Rattle.boc_runs.specs.machine.Steps.{opening_state}
 use Rattle.boc_dispatch.specs.declared.worker.Hand.{Hand}
 use Rattle.boc_dispatch.specs.declared.worker.Turn.{Turn}
 use Rattle.boc_dispatch.specs.declared.worker.Turn.TheVariants as turns

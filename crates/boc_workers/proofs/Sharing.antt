@@ -8,16 +8,16 @@ use Rattle.std.proofs.Crossing.{crosses}
 use Rattle.std.specs.contracts.alloc.Global as Global
 use Rattle.std.specs.contracts.boxed.Box as Box
 use Rattle.std.specs.contracts.impls.GlobalAllocator.TheImpl.{ghosts}
-use Rattle.boc_types.specs.declared.body.Block.TheDeep.{the_members, member-Block}
-use Rattle.boc_types.specs.contracts.body.Block as Block
-use Rattle.boc_types.specs.contracts.body.Block.TheKnot as block
-use Rattle.boc_types.specs.contracts.body.Body as Body
-use Rattle.boc_types.specs.contracts.body.CownRef as CownRef
-use Rattle.boc_types.specs.contracts.body.Expr as Expr
-use Rattle.boc_types.specs.contracts.body.Expr.TheKnot as expr
-use Rattle.boc_types.specs.contracts.lists.BodyList as BodyList
-use Rattle.boc_types.specs.contracts.lists.CownList as CownList
-use Rattle.boc_types.specs.contracts.program.Program as Program
+use Rattle.boc_program.specs.declared.body.Block.TheDeep.{the_members, member-Block}
+use Rattle.boc_program.specs.contracts.body.Block as Block
+use Rattle.boc_program.specs.contracts.body.Block.TheKnot as block
+use Rattle.boc_program.specs.contracts.body.Body as Body
+use Rattle.boc_program.specs.contracts.body.CownRef as CownRef
+use Rattle.boc_program.specs.contracts.body.Expr as Expr
+use Rattle.boc_program.specs.contracts.body.Expr.TheKnot as expr
+use Rattle.boc_program.specs.contracts.lists.BodyList as BodyList
+use Rattle.boc_program.specs.contracts.lists.CownList as CownList
+use Rattle.boc_program.specs.contracts.program.Program as Program
 
 -- an expression, where those within it are shared
 expr_layer : (R : RattleType) → IsSync R → IsSync (expr.layer-Expr R R R)

@@ -1,9 +1,9 @@
 // The threads of a run.
 
 ghost use Rattle.std.specs.Prelude.{◌≡◌, ◌≢◌, ◌≤◌, IfOk, IfErr, sum, vec_len};
-ghost use Rattle.boc_types.specs.declared.limits.TheConstants.{MOST_RUNNERS};
-ghost use Rattle.boc_types.specs.runs.Records.{IsRecordOf};
-ghost use Rattle.boc_types.specs.machine.AlongRows.{EndsSerially, cowns_of_rows, steps_of_rows};
+ghost use Rattle.boc_program.specs.declared.limits.TheConstants.{MOST_RUNNERS};
+ghost use Rattle.boc_runs.specs.Records.{IsRecordOf};
+ghost use Rattle.boc_runs.specs.machine.AlongRows.{EndsSerially, cowns_of_rows, steps_of_rows};
 ghost use Rattle.boc_workers.specs.Noting.{CanReachLimit, MayNote};
 ghost use Rattle.boc_workers.specs.declared.fault.RunFault.TheVariants as faults;
 
@@ -13,8 +13,8 @@ use crate::made::Made;
 use crate::shared::Shared;
 use crate::waiters::{Call, Waiters};
 use boc_dispatch::{Step, Turn, Worker};
-use boc_types::program::Program;
-use boc_types::record::Record;
+use boc_program::program::Program;
+use boc_runs::record::Record;
 use std::alloc::Global;
 use std::hint::spin_loop;
 use std::marker::Brand;

@@ -1,9 +1,9 @@
 // What lies under the lock.
 
 ghost use Rattle.std.specs.Prelude.{◌≡◌, ◌≢◌, ◌+◌, ◌↔◌, [], false, IfSome, IfNone, None, Some, IfOk, IfErr, IsOk, IsErrOf, sum, vec_len};
-ghost use Rattle.boc_types.specs.runs.Records.{IsRecordOf};
-ghost use Rattle.boc_types.specs.machine.AlongRows.{EndsSerially, cowns_of_rows, steps_of_rows};
-ghost use Rattle.boc_types.specs.machine.Steps.{opening_state};
+ghost use Rattle.boc_runs.specs.Records.{IsRecordOf};
+ghost use Rattle.boc_runs.specs.machine.AlongRows.{EndsSerially, cowns_of_rows, steps_of_rows};
+ghost use Rattle.boc_runs.specs.machine.Steps.{opening_state};
 ghost use Rattle.boc_dispatch.specs.Working.{Works};
 ghost use Rattle.boc_workers.specs.Noting.{CanReachLimit, IsAtLimit, IsReached, MayNote, fault_of, noted_after, steps_made};
 ghost use Rattle.boc_workers.specs.declared.fault.RunFault.TheVariants as faults;
@@ -13,7 +13,7 @@ use crate::fault::RunFault;
 use crate::gate::Gate;
 use crate::made::Made;
 use boc_dispatch::{Dispatcher, OpenFault, Refusal, Turn, Worker};
-use boc_types::program::Program;
+use boc_program::program::Program;
 use std::alloc::{AllocError, Global};
 use std::marker::PhantomData;
 use std::sync::ledger::{Book, Ledger, Share};

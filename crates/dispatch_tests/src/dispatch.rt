@@ -4,10 +4,10 @@ use boc_dispatch::{
     Advanced, Dispatcher, FinishFault, Job, Leaving, Left, OpenFault, Started, Step,
 };
 use boc_eval::{Frame, Outcome, Stop};
+use boc_program::program::Program;
+use boc_program::short::{Args, Input, Inputs};
 use boc_reader::read_program;
 use boc_record::put_events;
-use boc_types::program::Program;
-use boc_types::short::{Args, Input, Inputs};
 use std::alloc::Global;
 use std::test::*;
 

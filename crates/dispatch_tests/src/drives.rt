@@ -1,8 +1,8 @@
 //! What a driven run leaves. What drives do along lists of choices is in the table of `answers`.
 
 use boc_dispatch::{Dispatcher, drive};
+use boc_program::program::Program;
 use boc_reader::read_program;
-use boc_types::program::Program;
 use std::alloc::Global;
 use std::test::*;
 

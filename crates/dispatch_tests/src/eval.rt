@@ -2,9 +2,9 @@
 
 use crate::dispatch::TRANSFER;
 use boc_eval::{Frame, Stop};
+use boc_program::body::EndStatus;
+use boc_program::short::{Args, Inputs};
 use boc_reader::read_program;
-use boc_types::body::EndStatus;
-use boc_types::short::{Args, Inputs};
 use std::test::*;
 
 #[test]

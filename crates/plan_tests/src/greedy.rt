@@ -3,9 +3,9 @@
 use crate::figures::are;
 use crate::worked_rows::{peek_and_set, row, rows_of, transfer};
 use boc_greedy::{Greedy, greedy};
-use boc_types::rows::{Row, Rows};
-use boc_types::sharing::Sharing;
-use boc_types::workers::Workers;
+use boc_plans::sharing::Sharing;
+use boc_plans::workers::Workers;
+use boc_runs::rows::{Row, Rows};
 use std::alloc::{AllocError, Global};
 use std::process::Abort;
 

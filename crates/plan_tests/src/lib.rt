@@ -7,6 +7,7 @@ mod figures;
 mod greedy;
 #[cfg(test)]
 mod order;
+pub mod row_test;
 #[cfg(test)]
 mod sweep;
 #[cfg(test)]

@@ -2,9 +2,9 @@
 
 use crate::worked_rows::{peek_and_set, transfer, waiting_for_both};
 use boc_order::check_chain;
-use boc_types::chain::{Chain, ChainStep, Via};
-use boc_types::rows::Rows;
-use boc_types::sharing::Sharing;
+use boc_plans::chain::{Chain, ChainStep, Via};
+use boc_plans::sharing::Sharing;
+use boc_runs::rows::Rows;
 use std::alloc::Global;
 use std::process::Abort;
 

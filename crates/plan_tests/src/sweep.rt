@@ -4,11 +4,11 @@ ghost use Rattle.std.specs.Prelude.{◌<◌};
 
 use crate::worked_rows::{held, row, rows_of};
 use boc_order::profile;
+use boc_plans::sharing::Sharing;
+use boc_program::body::EndStatus;
+use boc_program::limits::MOST_COWNS;
+use boc_runs::rows::{Row, Rows};
 use boc_sweep::{last_children, least_ticks};
-use boc_types::body::EndStatus;
-use boc_types::limits::MOST_COWNS;
-use boc_types::rows::{Row, Rows};
-use boc_types::sharing::Sharing;
 use boc_whatif::WhatIf;
 use std::alloc::{AllocError, Global};
 use std::process::Abort;

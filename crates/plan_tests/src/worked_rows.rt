@@ -1,10 +1,10 @@
 // Rows that several tests ask about.
 
-use boc_types::body::EndStatus;
-use boc_types::held::HeldCowns;
-use boc_types::row_test::are_rows;
-use boc_types::rows::{Row, Rows};
-use boc_types::short::Cowns;
+use crate::row_test::are_rows;
+use boc_program::body::EndStatus;
+use boc_program::held::HeldCowns;
+use boc_program::short::Cowns;
+use boc_runs::rows::{Row, Rows};
 use std::alloc::Global;
 use std::process::Abort;
 

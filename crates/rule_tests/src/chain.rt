@@ -3,7 +3,7 @@
 ghost use Rattle.std.specs.Prelude.{◌≡◌, replicate, [], ◌∷◌};
 
 use boc_chain::{Chains, LinkChains, ListChains, Settled};
-use boc_types::short::Cowns;
+use boc_program::short::Cowns;
 use std::alloc::AllocError;
 use std::test::Fail;
 

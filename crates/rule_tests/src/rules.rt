@@ -1,11 +1,11 @@
 //! The events of the transfer program, events that break a rule, and the end of a run.
 
+use boc_program::body::EndStatus;
+use boc_program::short::Cowns;
 use boc_rules::{Judge, RuleFault, Rules};
-use boc_types::body::EndStatus;
-use boc_types::event::{BrokenRule, Event};
-use boc_types::record::Record;
-use boc_types::rows::Row;
-use boc_types::short::Cowns;
+use boc_runs::event::{BrokenRule, Event};
+use boc_runs::record::Record;
+use boc_runs::rows::Row;
 use std::alloc::Global;
 use std::process::Abort;
 

@@ -4,7 +4,7 @@ ghost use Rattle.std.specs.Prelude.{◌≡◌};
 
 use crate::runs::{NO_COWNS, TRANSFER};
 use crate::workers::program;
-use boc_types::program::Program;
+use boc_program::program::Program;
 use boc_workers::{OpenGate, RunAnswer, RunFault, Shared};
 use std::alloc::Global;
 use std::marker::Brand;

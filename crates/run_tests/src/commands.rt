@@ -2,10 +2,10 @@
 
 use crate::runs::{GREEDY, RECORD, REPORT, TRANSFER, bytes};
 use boc_commands::{Command, Fault, Runners, VERSION, run_command};
+use boc_plans::edit::Edit;
+use boc_plans::sharing::Sharing;
+use boc_plans::workers::Workers;
 use boc_text::FailAt;
-use boc_types::edit::Edit;
-use boc_types::sharing::Sharing;
-use boc_types::workers::Workers;
 use boc_workers::OpenGate;
 use std::alloc::{AllocError, Global};
 use std::test::*;

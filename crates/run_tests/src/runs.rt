@@ -4,9 +4,9 @@ ghost use Rattle.std.specs.Prelude.{◌≡◌, IfOk};
 
 use crate::gates::{Meeting, Place, StopsAtSecondBody, StopsAtSwap};
 use boc_commands::{Command, Fault, Runners, run_cmd, run_command, time_cmd};
+use boc_plans::sharing::Sharing;
+use boc_plans::workers::Workers;
 use boc_text::Bytes;
-use boc_types::sharing::Sharing;
-use boc_types::workers::Workers;
 use boc_workers::{Gate, OpenGate};
 use std::alloc::{AllocError, Global};
 use std::sync::Wait;

@@ -3,11 +3,11 @@
 use crate::gates::{Counting, Meeting, Overtaking, Place};
 use crate::runs::{NO_COWNS, PEEK_AND_SET, TRANSFER};
 use boc_eval::{Frame, Stop};
+use boc_program::body::Body;
+use boc_program::program::Program;
+use boc_program::short::{Args, Input, Inputs};
 use boc_reader::read_program;
-use boc_types::body::Body;
-use boc_types::program::Program;
-use boc_types::rows::Row;
-use boc_types::short::{Args, Input, Inputs};
+use boc_runs::rows::Row;
 use boc_workers::{OpenGate, RunAnswer, run};
 use std::alloc::Global;
 use std::process::Abort;

@@ -1,9 +1,9 @@
 // Statements, with every name resolved.
 
 ghost use Rattle.std.specs.Prelude.{◌≡◌, OnOk, map, take, length};
-ghost use Rattle.boc_types.specs.memory.View.{cown_ref_of};
-ghost use Rattle.boc_types.specs.text.Shape.{declare, member};
-ghost use Rattle.boc_types.specs.text.Names.{slot_of as slot_of_spec, global, held_or_single, ref_names, all_names, call_names, stmt_names, block_names};
+ghost use Rattle.boc_program.specs.memory.View.{cown_ref_of};
+ghost use Rattle.boc_reader.specs.Shape.{declare, member};
+ghost use Rattle.boc_reader.specs.Names.{slot_of as slot_of_spec, global, held_or_single, ref_names, all_names, call_names, stmt_names, block_names};
 ghost use Rattle.boc_reader.specs.Views.{expr_of, named_cown_of, stmt_of, block_of};
 ghost use Rattle.boc_reader.specs.Resolving.{Yields, YieldsIn, assign_names, choice_names, loop_names, names_of, resolved_stmt_of, outside_of};
 
@@ -11,7 +11,7 @@ use crate::fault::{Fault, NameFault};
 use crate::names::expr::{resolve_expr, resolve_exprs, slot_of};
 use crate::names::top::{Outside, parameter_of};
 use crate::shape::{self, NamedCown, Spot};
-use boc_types::body::{Block, CownRef, Stmt};
+use boc_program::body::{Block, CownRef, Stmt};
 use std::alloc::Global;
 
 // The cown that a name alone stands for: a cown parameter, or a single cown.

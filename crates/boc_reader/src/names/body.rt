@@ -1,12 +1,12 @@
 // Bodies, with every name resolved.
 
 ghost use Rattle.std.specs.Prelude.{◌≡◌, ◌≤◌, ◌++◌, [], IfOk, map, length};
-ghost use Rattle.boc_types.specs.program.Syntax.{Done};
-ghost use Rattle.boc_types.specs.text.Shape.{IsSmallBody};
-ghost use Rattle.boc_types.specs.memory.View.{code_of, before};
-ghost use Rattle.boc_types.specs.text.Names.{PlainBody, deepest, body_names};
-ghost use Rattle.boc_types.specs.text.Spells.{plain_body};
-ghost use Rattle.boc_types.specs.program.Parts.{MakesBody};
+ghost use Rattle.boc_program.specs.Syntax.{Done};
+ghost use Rattle.boc_reader.specs.Shape.{IsSmallBody};
+ghost use Rattle.boc_program.specs.memory.View.{code_of, before};
+ghost use Rattle.boc_reader.specs.Names.{PlainBody, deepest, body_names};
+ghost use Rattle.boc_reader.specs.Spells.{plain_body};
+ghost use Rattle.boc_program.specs.Parts.{MakesBody};
 ghost use Rattle.boc_reader.specs.Views.{name_of, block_of};
 ghost use Rattle.boc_reader.specs.Resolving.{Yields, EndWithin, names_of, declared_of, scope_with};
 
@@ -14,7 +14,7 @@ use crate::fault::{Fault, NameFault};
 use crate::names::block::resolve_block;
 use crate::names::top::{Outside, Top};
 use crate::shape::{self, Spot};
-use boc_types::body::{Block, Body, Stmt};
+use boc_program::body::{Block, Body, Stmt};
 use std::alloc::{AllocError, Global};
 
 // One slot more than the greatest that a block writes, and `least` at the least.
@@ -27,7 +27,7 @@ fn block_slots(block: &Block, least: usize) -> usize
 }
 
 #[cycle(slots)]
-#[tactic(auto, using(crate::proofs::ResolvingSlots::deepest_before, boc_types::proofs::Followed::then_size, boc_types::proofs::Followed::then_positive))]
+#[tactic(auto, using(crate::proofs::ResolvingSlots::deepest_before, boc_program::proofs::Followed::then_size, boc_program::proofs::Followed::then_positive))]
 fn stmts_slots(stmts: &[Stmt], least: usize) -> usize
     requires { deepest least (code_of stmts.now) ≤ 1016 }
     ensures { result ≡ deepest least (code_of stmts.now) }

@@ -2,18 +2,18 @@
 
 ghost use Rattle.std.specs.Prelude.{◌≡◌, ◌≤◌, [], IfOk, map};
 ghost use Rattle.std.specs.Option.{option_map};
-ghost use Rattle.boc_types.specs.program.Sizes.{members};
-ghost use Rattle.boc_types.specs.text.Shape.{cowns_declared};
-ghost use Rattle.boc_types.specs.text.Names.{plain_cown, among};
-ghost use Rattle.boc_types.specs.text.Spells.{plain_declared};
+ghost use Rattle.boc_program.specs.Sizes.{members};
+ghost use Rattle.boc_reader.specs.Shape.{cowns_declared};
+ghost use Rattle.boc_reader.specs.Names.{plain_cown, among};
+ghost use Rattle.boc_reader.specs.Spells.{plain_declared};
 ghost use Rattle.boc_reader.specs.Views.{cown_of, def_of, tree_of};
 ghost use Rattle.boc_reader.specs.Resolving.{Yields, EndWithin, global_of, callee_of, declared_of, names_of, cown_names, cowns_behind, defs_behind, top_in_order};
 
 use crate::fault::{Fault, NameFault};
 use crate::names::top::{Callee, Global as TopCown, Top, is_cown_name, is_declared};
 use crate::shape::{CownShape, DefShape, Tree};
-use boc_types::cown::Cown;
-use boc_types::text::Name;
+use boc_program::cown::Cown;
+use boc_program::text::Name;
 use std::alloc::{AllocError, Global};
 
 // The size of an array, if a cown is one.

@@ -2,15 +2,15 @@
 
 ghost use Rattle.std.specs.Prelude.{◌≡◌, None, IfOk, map, position};
 ghost use Rattle.std.specs.Str.{bytes_eq};
-ghost use Rattle.boc_types.specs.memory.View.{slot_expr_of};
-ghost use Rattle.boc_types.specs.text.Names.{slot_of as slot_of_spec, compares as compares_spec, adds as adds_spec, multiplies as multiplies_spec, joined, expr_names, sum_names, term_names, unary_names, atom_names, all_names};
+ghost use Rattle.boc_program.specs.memory.View.{slot_expr_of};
+ghost use Rattle.boc_reader.specs.Names.{slot_of as slot_of_spec, compares as compares_spec, adds as adds_spec, multiplies as multiplies_spec, joined, expr_names, sum_names, term_names, unary_names, atom_names, all_names};
 ghost use Rattle.boc_reader.specs.Views.{expr_of, sum_of, term_of, unary_of, atom_of};
 ghost use Rattle.boc_reader.specs.Resolving.{Yields, names_of, left_of};
 
 use crate::fault::{Fault, NameFault};
+use crate::level::{Comparison, SumOperator, TermOperator};
 use crate::shape::{self, Atom, Sum, Term, Unary};
-use boc_types::body::{Expr, Operator};
-use boc_types::level::{Comparison, SumOperator, TermOperator};
+use boc_program::body::{Expr, Operator};
 use std::alloc::{AllocError, Global};
 
 // The place of a name among those in scope.

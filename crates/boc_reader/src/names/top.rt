@@ -4,12 +4,12 @@ ghost use Rattle.std.specs.Prelude.{◌≡◌, find, position, map};
 ghost use Rattle.std.specs.List.{list_any};
 ghost use Rattle.std.specs.Option.{option_map, option_copied};
 ghost use Rattle.std.specs.Str.{bytes_eq};
-ghost use Rattle.boc_types.specs.text.Names.{slot_of, global, callee, kind_of, among, top_names, is_free};
+ghost use Rattle.boc_reader.specs.Names.{slot_of, global, callee, kind_of, among, top_names, is_free};
 ghost use Rattle.boc_reader.specs.Views.{name_of};
 ghost use Rattle.boc_reader.specs.Resolving.{names_of, cown_names, global_of, callee_of, declared_of};
 
 use crate::shape::Spot;
-use boc_types::short::CownNo;
+use boc_program::short::CownNo;
 
 /// A cown, or an array of `size` cowns, that is declared at the top: the number of its first cown.
 #[derive(Clone, Copy)]

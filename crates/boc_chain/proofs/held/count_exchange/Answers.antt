@@ -5,7 +5,7 @@ use Rattle.boc_chain.specs.declared.held.Held.{Held}
 use Rattle.boc_chain.specs.Chain.{one_more, exchanged_of, cowns_of, cown}
 use Rattle.boc_chain.specs.Kept.{place_at, place_in, awaits}
 use Rattle.boc_chain.proofs.Lines.{found_at, read_at, awaits_one_less, awaits_no_more}
-use Rattle.boc_types.proofs.ChangedItems.{set_same, set_other}
+use Rattle.boc_program.proofs.ChangedItems.{set_same, set_other}
 use Rattle.boc_chain.proofs.held.count_exchange.Goals as goal
 
 -- what stands at the slot, and what the code found there, are one

@@ -3,7 +3,7 @@ use Rattle.std.specs.Prelude.{Option, Some, None, slice_get}
 use Rattle.boc_chain.specs.declared.held.Held.{Held}
 use Rattle.boc_chain.specs.Kept.{place_in}
 use Rattle.boc_chain.proofs.Counted.{awaited_held}
-use Rattle.boc_types.proofs.ChangedItems.{none_past}
+use Rattle.boc_program.proofs.ChangedItems.{none_past}
 use Rattle.boc_chain.proofs.Got.{at_end, before_end}
 use Rattle.boc_chain.proofs.held.hold.Goals as goal
 

@@ -1,5 +1,5 @@
 use Rattle.std.proofs.Common.{None, refl}
-use Rattle.boc_types.specs.runs.Seen.{seen}
+use Rattle.boc_plans.specs.Seen.{seen}
 use Rattle.boc_commands.proofs.Asked.{is_report, unwritten}
 use Rattle.boc_commands.proofs.report.plain_report.Goals as goal
 

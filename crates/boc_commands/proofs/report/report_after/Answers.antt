@@ -1,5 +1,5 @@
 use Rattle.std.specs.Prelude.{option_map}
-use Rattle.boc_types.specs.runs.Seen.{seen}
+use Rattle.boc_plans.specs.Seen.{seen}
 use Rattle.boc_commands.proofs.Asked.{is_report, unwritten}
 use Rattle.boc_commands.proofs.report.report_after.Goals as goal
 

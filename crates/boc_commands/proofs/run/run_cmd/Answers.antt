@@ -1,8 +1,8 @@
 use Rattle.std.proofs.Common.{ℕ, List, refl, subst}
 use Rattle.boc_commands.specs.Commands.{IsOfRun}
 use Rattle.boc_commands.specs.Promises.{IsRunAnswer, IsRunOfText}
-use Rattle.boc_types.specs.runs.Records.{Recorded}
-use Rattle.boc_types.specs.text.RecordTexts.{Second, record_text}
+use Rattle.boc_runs.specs.Records.{Recorded}
+use Rattle.boc_record.specs.RecordTexts.{Second, record_text}
 use Rattle.boc_commands.proofs.Asked.{answers_text, unwritten}
 use Rattle.boc_commands.proofs.Passed.{refused_run}
 use Rattle.boc_commands.proofs.run.run_cmd.Goals as goal

@@ -1,6 +1,6 @@
 use Rattle.std.proofs.Common.{◌≡◌, ◌≢◌, ℕ, List, refl}
-use Rattle.boc_types.specs.declared.program.Program.{Program}
-use Rattle.boc_types.specs.text.Spells.{Spells}
+use Rattle.boc_program.specs.declared.program.Program.{Program}
+use Rattle.boc_reader.specs.Spells.{Spells}
 use Rattle.boc_workers.specs.declared.fault.RunFault.{RunFault}
 use Rattle.boc_workers.specs.declared.fault.RunFault.TheVariants as runs
 use Rattle.boc_workers.specs.Noting.{CanReachLimit}

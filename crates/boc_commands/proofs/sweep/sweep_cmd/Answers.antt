@@ -1,5 +1,5 @@
 use Rattle.std.proofs.Common.{List, ℕ, ◌∙◌, refl}
-use Rattle.boc_types.specs.answers.Texts.{sweep_lines}
+use Rattle.boc_report.specs.Texts.{sweep_lines}
 use Rattle.boc_commands.proofs.Asked.{swept, unwritten}
 use Rattle.boc_commands.proofs.sweep.sweep_cmd.Goals as goal
 

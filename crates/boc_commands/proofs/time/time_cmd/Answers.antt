@@ -1,7 +1,7 @@
 use Rattle.std.proofs.Common.{ℕ, List, refl, subst}
 use Rattle.boc_commands.specs.Commands.{CountsSource, IsOfRun}
-use Rattle.boc_types.specs.declared.rows.Row.{Row}
-use Rattle.boc_types.specs.runs.Seen.{seen}
+use Rattle.boc_runs.specs.declared.rows.Row.{Row}
+use Rattle.boc_plans.specs.Seen.{seen}
 use Rattle.boc_commands.specs.Promises.{IsTimeAnswer, IsTrueReport}
 use Rattle.boc_commands.proofs.Asked.{answers_text, leaves_as}
 use Rattle.boc_commands.proofs.Passed.{refused_run, wants_run}

@@ -1,12 +1,12 @@
 use Rattle.std.proofs.Common.{◌≡◌, ℕ, List, Result, Err, rules, refl}
-use Rattle.boc_types.specs.declared.program.Program.{Program}
-use Rattle.boc_types.specs.runs.OwnOrder.{HasTooMany}
-use Rattle.boc_types.specs.text.Spells.{Spells}
+use Rattle.boc_program.specs.declared.program.Program.{Program}
+use Rattle.boc_runs.specs.OwnOrder.{HasTooMany}
+use Rattle.boc_reader.specs.Spells.{Spells}
 use Rattle.boc_eval.specs.declared.serial.SerialFault.{SerialFault}
 use Rattle.boc_eval.specs.declared.serial.SerialFault.TheVariants as serial
 use Rattle.boc_commands.specs.Faults.{of_serial}
 use Rattle.boc_commands.specs.Commands.{IsOfText}
-use Rattle.boc_types.specs.answers.Answers.{IsValuesAnswer}
+use Rattle.boc_commands.specs.Answers.{IsValuesAnswer}
 use Rattle.boc_commands.proofs.Passed.{passed_on}
 use Rattle.boc_commands.proofs.values.values_answer.Goals as goal
 

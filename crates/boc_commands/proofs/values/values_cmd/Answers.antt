@@ -1,4 +1,4 @@
-use Rattle.boc_types.specs.answers.Answers.{IsValuesAnswer}
+use Rattle.boc_commands.specs.Answers.{IsValuesAnswer}
 use Rattle.boc_commands.proofs.Asked.{answers_text, stopped}
 use Rattle.boc_commands.proofs.values.values_cmd.Goals as goal
 

@@ -1,5 +1,5 @@
 use Rattle.std.proofs.Common.{◌≡◌, take}
-use Rattle.boc_types.specs.plans.Edits.{AllFit, all_edited}
+use Rattle.boc_plans.specs.Edits.{AllFit, all_edited}
 use Rattle.boc_commands.proofs.whatif.edit_all.Given as goal
 
 abbrev pub invariant-loop-index : goal.invariant-loop-index

@@ -1,5 +1,5 @@
 use Rattle.std.proofs.Common.{ℕ, ◌∙◌, refl, subst}
-use Rattle.boc_types.specs.text.RecordTexts.{IsTextOf}
+use Rattle.boc_record.specs.RecordTexts.{IsTextOf}
 use Rattle.boc_commands.specs.Commands.{CountsSource}
 use Rattle.boc_commands.proofs.Asked.{answered, leaves_read, told, refused_edits, refuses_as}
 use Rattle.boc_commands.proofs.Passed.{wants_edits}

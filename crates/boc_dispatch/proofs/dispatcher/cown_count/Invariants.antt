@@ -1,5 +1,5 @@
 use Rattle.std.proofs.Common.{◌≡◌, ◌+◌, ◌≤◌, drop}
-use Rattle.boc_types.specs.program.Programs.{cown_count}
+use Rattle.boc_program.specs.Programs.{cown_count}
 use Rattle.boc_dispatch.proofs.dispatcher.cown_count.Given as goal
 
 abbrev pub invariant-loop-cown : goal.invariant-loop-cown

@@ -1,8 +1,8 @@
 use Rattle.std.proofs.Common.{◌≡◌, ◌∙◌, ℕ, List, ◌++◌, length, arith, ap, sym, subst}
 use Rattle.std.specs.Prelude.{slice_set, Some, None, Err}
 use Rattle.std.proofs.lemmas.Result.{err_from_is_err_and}
-use Rattle.boc_types.specs.declared.program.Program.{Program}
-use Rattle.boc_types.proofs.ChangedItems.{place_below}
+use Rattle.boc_program.specs.declared.program.Program.{Program}
+use Rattle.boc_program.proofs.ChangedItems.{place_below}
 use Rattle.boc_dispatch.specs.declared.interleaving.DriveFault.{DriveFault}
 use Rattle.boc_dispatch.specs.declared.worker.Worker.{Worker}
 use Rattle.boc_dispatch.specs.Underway.{Underway}

@@ -1,5 +1,5 @@
 use Rattle.std.proofs.Common.{◌*◌, ◌-◌}
-use Rattle.boc_types.specs.declared.limits.TheConstants.{MOST_ROWS}
+use Rattle.boc_program.specs.declared.limits.TheConstants.{MOST_ROWS}
 use Rattle.boc_dispatch.proofs.Quieting.{GoesOn}
 use Rattle.boc_dispatch.proofs.interleaving.drive_quiet_over.Given as goal
 

@@ -1,8 +1,8 @@
 use Rattle.std.proofs.Common.{ℕ, ◌<◌, ◌∙◌, List, ap, sym, subst}
 use Rattle.std.specs.List.{All}
-use Rattle.boc_types.specs.declared.limits.TheConstants.{MOST_COWNS}
-use Rattle.boc_types.specs.program.Rising.{rising}
-use Rattle.boc_types.proofs.RisingNumbers.{rising_all}
+use Rattle.boc_program.specs.declared.limits.TheConstants.{MOST_COWNS}
+use Rattle.boc_program.specs.Rising.{rising}
+use Rattle.boc_program.proofs.RisingNumbers.{rising_all}
 use Rattle.boc_dispatch.proofs.live.held_cowns.Goals as goal
 
 -- in rising order they are still below that many

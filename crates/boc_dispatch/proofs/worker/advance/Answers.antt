@@ -1,7 +1,7 @@
 use Rattle.boc_dispatch.proofs.InPlace.{works_in_place, works_from, fits_in_place, fits_from}
 use Rattle.boc_dispatch.proofs.OwnTurns.{advances_fits, owns_fits, stays_fits}
 use Rattle.std.proofs.Common.{subst, sym}
-use Rattle.boc_types.specs.declared.step.Step.TheVariants.{Own}
+use Rattle.boc_runs.specs.declared.step.Step.TheVariants.{Own}
 use Rattle.boc_dispatch.specs.declared.worker.Hand.{Hand}
 use Rattle.boc_dispatch.specs.declared.worker.Due.TheVariants as dues
 use Rattle.boc_dispatch.specs.declared.worker.Hand.TheVariants as hands

@@ -1,4 +1,4 @@
-use Rattle.boc_types.specs.declared.step.Step.TheVariants as steps
+use Rattle.boc_runs.specs.declared.step.Step.TheVariants as steps
 use Rattle.boc_dispatch.specs.declared.worker.Hand.TheVariants as hands
 use Rattle.boc_dispatch.specs.declared.worker.Turn.TheVariants as turns
 use Rattle.boc_dispatch.proofs.InPlace.{works_in_place, works_from, fits_from}

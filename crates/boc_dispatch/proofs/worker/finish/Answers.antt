@@ -1,6 +1,6 @@
 use Rattle.std.proofs.Common.{subst, sym}
 use Rattle.std.specs.Prelude.{Option, Result, Ok}
-use Rattle.boc_types.specs.declared.step.Step.TheVariants as steps
+use Rattle.boc_runs.specs.declared.step.Step.TheVariants as steps
 use Rattle.boc_dispatch.specs.declared.answers.FinishFault.{FinishFault}
 use Rattle.boc_dispatch.specs.declared.answers.Leaving.{Leaving}
 use Rattle.boc_dispatch.specs.declared.worker.Hand.{Hand}

@@ -2,7 +2,7 @@ use Rattle.boc_dispatch.proofs.InPlace.{works_from, fits_from}
 use Rattle.boc_dispatch.proofs.OwnTurns.{opens_fits}
 use Rattle.boc_dispatch.proofs.Worked.{opens}
 use Rattle.std.proofs.Common.{◌≡◌, ◌∙◌, ap, subst, sym}
-use Rattle.boc_types.specs.declared.step.Step.TheVariants.{Open}
+use Rattle.boc_runs.specs.declared.step.Step.TheVariants.{Open}
 use Rattle.boc_dispatch.specs.declared.worker.Due.{Due}
 use Rattle.boc_dispatch.specs.declared.worker.Due.TheVariants as dues
 use Rattle.boc_dispatch.specs.declared.worker.Hand.{Hand}

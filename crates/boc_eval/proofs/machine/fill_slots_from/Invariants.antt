@@ -1,7 +1,7 @@
 use Rattle.std.proofs.Common.{◌≡◌, drop, ◌++◌, length}
-use Rattle.boc_types.specs.program.Meaning.{values_held}
-use Rattle.boc_types.specs.program.Signatures.{AllBelow}
-use Rattle.boc_types.specs.runs.Serial.{inputs_of}
+use Rattle.boc_program.specs.Meaning.{values_held}
+use Rattle.boc_program.specs.Signatures.{AllBelow}
+use Rattle.boc_runs.specs.Serial.{inputs_of}
 use Rattle.boc_eval.proofs.machine.fill_slots_from.Given as goal
 
 abbrev pub invariant-loop-cown : goal.invariant-loop-cown

@@ -1,7 +1,7 @@
 use Rattle.std.proofs.Common.{rules, ◌≡◌, Ok, Err, Option, ℤ, Bool, true, false}
-use Rattle.boc_types.specs.declared.body.Operator.{Operator}
-use Rattle.boc_types.specs.program.Value.{OrFault, value, apply, then_value}
-use Rattle.boc_types.specs.memory.View.{slot_expr_of}
+use Rattle.boc_program.specs.declared.body.Operator.{Operator}
+use Rattle.boc_program.specs.Value.{OrFault, value, apply, then_value}
+use Rattle.boc_program.specs.memory.View.{slot_expr_of}
 use Rattle.boc_eval.specs.Lists.{if_any, unless}
 use Rattle.boc_eval.proofs.value.+operands.Goals.{combined-in-Some, combined-in-None+else-fails, combined-in-Some-leaf, combined-in-None-leaf+else-fails-2}
 use Rattle.boc_eval.proofs.value.+operands.Goals as goal

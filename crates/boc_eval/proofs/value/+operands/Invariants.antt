@@ -1,6 +1,6 @@
 use Rattle.std.proofs.Common.{◌+◌, ◌*◌}
-use Rattle.boc_types.specs.program.Resolved.{expr_nodes}
-use Rattle.boc_types.specs.memory.View.{slot_expr_of}
+use Rattle.boc_program.specs.Resolved.{expr_nodes}
+use Rattle.boc_program.specs.memory.View.{slot_expr_of}
 use Rattle.boc_eval.proofs.value.+operands.Given as goal
 
 abbrev pub decreases-combined : goal.decreases-combined

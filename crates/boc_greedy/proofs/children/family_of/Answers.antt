@@ -1,7 +1,7 @@
 use Rattle.std.proofs.Common.{◌≡◌, ℕ, ◌-◌, ◌<◌, length, sym, subst, arith}
 use Rattle.std.specs.Prelude.{slice_index, slice_set}
 use Rattle.std.proofs.lemmas.List.{length-map}
-use Rattle.boc_types.specs.runs.Rows.{parent_of, offset_of}
+use Rattle.boc_runs.specs.Rows.{parent_of, offset_of}
 use Rattle.boc_greedy.specs.declared.children.Change.{Change}
 use Rattle.boc_greedy.specs.Families.{children_of, times_of}
 use Rattle.boc_greedy.proofs.Puts.{Puts}

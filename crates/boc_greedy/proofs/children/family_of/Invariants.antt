@@ -1,6 +1,6 @@
 use Rattle.std.proofs.Common.{◌≡◌, ℕ, ◌<◌, ◌≤◌, length}
 use Rattle.std.specs.Prelude.{slice_index, vec_capacity}
-use Rattle.boc_types.specs.runs.Rows.{ticks_of}
+use Rattle.boc_runs.specs.Rows.{ticks_of}
 use Rattle.boc_greedy.specs.Families.{children_of, times_of}
 use Rattle.boc_greedy.proofs.Following.{Found}
 use Rattle.boc_greedy.proofs.children.family_of.Given as goal

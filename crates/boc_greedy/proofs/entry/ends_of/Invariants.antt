@@ -1,6 +1,6 @@
 use Rattle.std.proofs.Common.{◌≡◌, ℕ, ◌<◌, ◌≤◌, length, get_or}
 use Rattle.std.specs.Prelude.{vec_capacity}
-use Rattle.boc_types.specs.plans.Plans.{end_of}
+use Rattle.boc_plans.specs.Plans.{end_of}
 use Rattle.boc_greedy.proofs.entry.ends_of.Given as goal
 
 -- the rows so far have their ends

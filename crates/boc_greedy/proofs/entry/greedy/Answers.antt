@@ -1,5 +1,5 @@
 use Rattle.std.proofs.Common.{sym, ◌∙◌}
-use Rattle.boc_types.proofs.Seeing.{work_of-seen}
+use Rattle.boc_plans.proofs.Seeing.{work_of-seen}
 use Rattle.boc_greedy.proofs.entry.greedy.Goals as goal
 
 -- the rows take as many ticks, whatever is shared

@@ -1,6 +1,6 @@
 use Rattle.std.proofs.Common.{arith, ◌≡◌, ◌+◌, ◌/◌, ℕ, refl, ◌∙◌, sym, ap}
 use Rattle.std.proofs.Math.Nat.{div-le_self}
-use Rattle.boc_types.specs.plans.Plans.{IsEnd, work_of}
+use Rattle.boc_plans.specs.Plans.{IsEnd, work_of}
 use Rattle.boc_greedy.specs.Plans.{IsClose}
 use Rattle.boc_greedy.proofs.Bound.{work_high, greatest_is_end, end_within, greedy_keeps, greedy_for_workers, span_le_work, greedy_close, greedy_twice}
 use Rattle.boc_greedy.proofs.FewMoments.{few_moments}

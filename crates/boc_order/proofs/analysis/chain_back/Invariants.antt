@@ -1,6 +1,6 @@
 use Rattle.std.proofs.Common.{◌+◌, ◌<◌, ◌≤◌, length, reverse}
 use Rattle.std.specs.Prelude.{vec_len, vec_capacity}
-use Rattle.boc_types.specs.plans.Plans.{end_of}
+use Rattle.boc_plans.specs.Plans.{end_of}
 use Rattle.boc_order.specs.Back.{LeadsTo}
 use Rattle.boc_order.proofs.analysis.chain_back.Given as goal
 

@@ -1,8 +1,8 @@
 use Rattle.std.proofs.Common.{◌≡◌, ◌*◌, ◌≤◌, List, take}
-use Rattle.boc_types.specs.declared.limits.TheConstants.{MOST_TICKS}
+use Rattle.boc_program.specs.declared.limits.TheConstants.{MOST_TICKS}
 use Rattle.std.specs.List.{sum_by}
-use Rattle.boc_types.specs.declared.rows.Row.{Row}
-use Rattle.boc_types.specs.plans.Plans.{HasEnds}
+use Rattle.boc_runs.specs.declared.rows.Row.{Row}
+use Rattle.boc_plans.specs.Plans.{HasEnds}
 use Rattle.boc_order.proofs.analysis.work_between.Given as goal
 
 -- the ticks of the rows so far

@@ -1,7 +1,7 @@
 use Rattle.std.proofs.Common.{arith, ◌≡◌, ◌<◌, ◌≤◌, length, true≢false, false, sym, refl, take}
 use Rattle.std.specs.Prelude.{◌==◌}
 use Rattle.std.proofs.lemmas.Bool.Decides.{nat_tests}
-use Rattle.boc_types.specs.plans.Chains.{IsChain, StepHolds, weight_of}
+use Rattle.boc_plans.specs.Chains.{IsChain, StepHolds, weight_of}
 use Rattle.boc_order.proofs.Chaining.{weight_le_end}
 use Rattle.boc_order.proofs.Checking.{here_holds, checked_more, chain_made}
 use Rattle.std.proofs.lemmas.List.{take_all}

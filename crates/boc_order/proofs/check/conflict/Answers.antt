@@ -3,8 +3,8 @@ use Rattle.std.specs.Prelude.{slice_index}
 use Rattle.std.specs.List.{Contains}
 use Rattle.std.proofs.lemmas.Bool.{cases_eq}
 use Rattle.std.proofs.lemmas.List.{get_or_default}
-use Rattle.boc_types.specs.runs.Rows.{cowns_of}
-use Rattle.boc_types.specs.plans.Plans.{ConflictOn}
+use Rattle.boc_runs.specs.Rows.{cowns_of}
+use Rattle.boc_plans.specs.Plans.{ConflictOn}
 use Rattle.boc_order.proofs.check.conflict.Goals as goal
 
 pub loop-cown-preserved : goal.loop-cown-preserved

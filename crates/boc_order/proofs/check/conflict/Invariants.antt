@@ -1,7 +1,7 @@
 use Rattle.std.proofs.Common.{ℕ, ◌<◌}
 use Rattle.std.specs.Prelude.{slice_index}
-use Rattle.boc_types.specs.runs.Rows.{cowns_of}
-use Rattle.boc_types.specs.plans.Plans.{ConflictOn}
+use Rattle.boc_runs.specs.Rows.{cowns_of}
+use Rattle.boc_plans.specs.Plans.{ConflictOn}
 use Rattle.boc_order.proofs.check.conflict.Given as goal
 
 -- no conflict on the cowns so far

@@ -1,5 +1,5 @@
 use Rattle.std.proofs.Common.{◌<◌, ℕ, length, arith, refl}
-use Rattle.boc_types.specs.runs.Rows.{cowns_of}
+use Rattle.boc_runs.specs.Rows.{cowns_of}
 use Rattle.boc_order.proofs.Using.{cown_small, halfway_none, halfway_more, halfway_all, turn_use, added_none, added_more, added_all}
 use Rattle.boc_order.proofs.gathering.gather.Goals as goal
 

@@ -1,4 +1,4 @@
-use Rattle.boc_types.specs.runs.Rows.{cowns_of}
+use Rattle.boc_runs.specs.Rows.{cowns_of}
 use Rattle.boc_order.proofs.Using.{Halfway, Added}
 use Rattle.boc_order.proofs.gathering.gather.Given as goal
 

@@ -1,6 +1,6 @@
 use Rattle.std.proofs.Common.{◌≡◌, ◌≤◌, length}
 use Rattle.std.specs.Prelude.{vec_len, vec_capacity}
-use Rattle.boc_types.specs.declared.limits.TheConstants.{MOST_COWNS}
+use Rattle.boc_program.specs.declared.limits.TheConstants.{MOST_COWNS}
 use Rattle.boc_order.proofs.Using.{AreUnused}
 use Rattle.boc_order.proofs.gathering.unused.Given as goal
 

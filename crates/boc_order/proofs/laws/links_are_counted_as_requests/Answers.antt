@@ -1,5 +1,5 @@
 use Rattle.std.proofs.Common.{◌≡◌, ℕ, ◌+◌, List, [], ◌∷◌, refl, ap, ◌∙◌}
-use Rattle.boc_types.specs.machine.Queues.{times as times_in}
+use Rattle.boc_runs.specs.machine.Queues.{times as times_in}
 use Rattle.boc_order.specs.Waits.{times}
 use Rattle.boc_order.proofs.Filling.{one_if, times_cons}
 use Rattle.boc_order.proofs.laws.links_are_counted_as_requests.Goals as goal

@@ -1,7 +1,7 @@
 use Rattle.std.proofs.Common.{◌≡◌, [], sym, ap, ◌∙◌, inl, inr, arith}
 use Rattle.std.proofs.lemmas.Bool.{ne_eqb}
 use Rattle.std.proofs.lemmas.List.{nil_from_length}
-use Rattle.boc_types.specs.text.Tokens.{tokens_of_text}
+use Rattle.boc_reader.specs.Tokens.{tokens_of_text}
 use Rattle.boc_reader.proofs.Texts.{in_comment, comment_goes_on, comment_ends, nothing_left, hash_skipped}
 use Rattle.boc_reader.proofs.lex.after_comment.Goals as goal
 use Rattle.boc_reader.proofs.lex.after_comment.Goals.{then-first-eq10-via-then-first-eq10, then-first-eq10-via-else-first-eq10+then-first-ge128}

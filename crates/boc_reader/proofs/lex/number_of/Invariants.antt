@@ -1,5 +1,5 @@
 use Rattle.std.proofs.Common.{◌≡◌, ◌<◌, ◌^◌, take}
-use Rattle.boc_types.specs.text.Tokens.{value_of}
+use Rattle.boc_reader.specs.Tokens.{value_of}
 use Rattle.boc_reader.proofs.lex.number_of.Given as goal
 
 abbrev pub invariant-loop-byte : goal.invariant-loop-byte

@@ -1,5 +1,5 @@
 use Rattle.std.proofs.Common.{◌∷◌, sym, ap, ◌∙◌}
-use Rattle.boc_types.specs.text.Tokens.{tokens_of_text}
+use Rattle.boc_reader.specs.Tokens.{tokens_of_text}
 use Rattle.boc_reader.proofs.Texts.{pair_at}
 use Rattle.boc_reader.proofs.lex.split_pair.Goals as goal
 

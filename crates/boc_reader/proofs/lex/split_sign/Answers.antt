@@ -1,7 +1,7 @@
 use Rattle.std.proofs.Common.{Option, sym, ap, ◌∙◌}
 use Rattle.std.specs.Option.{option_map}
-use Rattle.boc_types.specs.declared.token.Sign.{Sign}
-use Rattle.boc_types.specs.text.Tokens.{sign, tokens_of_text, put}
+use Rattle.boc_reader.specs.declared.terminal.Sign.{Sign}
+use Rattle.boc_reader.specs.Tokens.{sign, tokens_of_text, put}
 use Rattle.boc_reader.proofs.Texts.{single_at}
 use Rattle.boc_reader.proofs.lex.split_sign.Goals as goal
 

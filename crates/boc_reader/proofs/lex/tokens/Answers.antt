@@ -1,7 +1,7 @@
 use Rattle.std.proofs.Common.{◌≡◌, [], sym, ap, ◌∙◌, arith}
 use Rattle.std.proofs.lemmas.List.{nil_from_length}
 use Rattle.boc_reader.specs.Placed.{tokens_of}
-use Rattle.boc_types.specs.text.Tokens.{tokens_of_text}
+use Rattle.boc_reader.specs.Tokens.{tokens_of_text}
 use Rattle.boc_reader.proofs.Texts.{put_all, blank_skipped, no_tokens}
 use Rattle.boc_reader.proofs.lex.tokens.Goals as goal
 

@@ -1,6 +1,6 @@
 use Rattle.std.proofs.Common.{◌≡◌, ◌≤◌, length}
 use Rattle.boc_reader.specs.Placed.{tokens_of}
-use Rattle.boc_types.specs.text.Tokens.{tokens_of_text}
+use Rattle.boc_reader.specs.Tokens.{tokens_of_text}
 use Rattle.boc_reader.proofs.Texts.{put_all}
 use Rattle.boc_reader.proofs.lex.tokens.Given as goal
 

@@ -1,7 +1,7 @@
 use Rattle.std.proofs.Common.{ap, ◌∙◌, map, subst, arith, rules}
 use Rattle.std.proofs.lemmas.List.{map_push}
-use Rattle.boc_types.specs.text.Shape.{AreSmallDefs}
-use Rattle.boc_types.specs.text.Spells.{plain_body}
+use Rattle.boc_reader.specs.Shape.{AreSmallDefs}
+use Rattle.boc_reader.specs.Spells.{plain_body}
 use Rattle.boc_reader.specs.Views.{def_of}
 use Rattle.boc_reader.specs.Resolving.{names_of, declared_of}
 use Rattle.boc_reader.proofs.ResolvingFront.{next_at, bodies_more, bodies_none}

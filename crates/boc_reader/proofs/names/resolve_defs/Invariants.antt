@@ -1,6 +1,6 @@
 use Rattle.std.proofs.Common.{◌≡◌, map, drop}
-use Rattle.boc_types.specs.text.Shape.{AreSmallDefs}
-use Rattle.boc_types.specs.text.Spells.{plain_body}
+use Rattle.boc_reader.specs.Shape.{AreSmallDefs}
+use Rattle.boc_reader.specs.Spells.{plain_body}
 use Rattle.boc_reader.specs.Views.{def_of}
 use Rattle.boc_reader.specs.Resolving.{names_of, declared_of, bodies_behind}
 use Rattle.boc_reader.proofs.ResolvingLists.{with_front}

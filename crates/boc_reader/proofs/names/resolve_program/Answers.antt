@@ -1,5 +1,5 @@
 use Rattle.std.proofs.Common.{◌∙◌, ap, sym, Some}
-use Rattle.boc_types.specs.text.Names.{PlainProgram}
+use Rattle.boc_reader.specs.Names.{PlainProgram}
 use Rattle.boc_reader.specs.Views.{tree_of}
 use Rattle.boc_reader.proofs.ResolvingOrder.{tree_names-in_order}
 use Rattle.boc_reader.proofs.ResolvingParameters.{resolves_fault}

@@ -1,7 +1,7 @@
 use Rattle.std.proofs.Common.{map, rules, sym, ap, ◌∙◌, subst, arith}
 use Rattle.std.proofs.lemmas.List.{map_push}
 use Rattle.std.specs.Option.{option_map}
-use Rattle.boc_types.specs.text.Shape.{block_tokens}
+use Rattle.boc_reader.specs.Shape.{block_tokens}
 use Rattle.boc_reader.specs.Phrases.{Ahead}
 use Rattle.boc_reader.specs.Grammar.{expr_phrase, stmt_phrase, block_phrase, braced_phrase, else_phrase, pair_phrase}
 use Rattle.boc_reader.specs.Views.{stmt_of, block_of}

@@ -1,5 +1,5 @@
 use Rattle.std.proofs.Common.{map}
-use Rattle.boc_types.specs.declared.token.Sign.TheVariants.{Semicolon, Close}
+use Rattle.boc_reader.specs.declared.terminal.Sign.TheVariants.{Semicolon, Close}
 use Rattle.boc_reader.specs.Grammar.{arguments_phrase, expr_phrase, ref_phrase, list_phrase}
 use Rattle.boc_reader.specs.Views.{expr_of, named_cown_of}
 use Rattle.boc_reader.proofs.Refused.{passes, no_second}

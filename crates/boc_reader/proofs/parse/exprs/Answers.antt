@@ -1,6 +1,6 @@
 use Rattle.std.proofs.Common.{map, ap, sym, ◌∙◌, arith}
 use Rattle.std.proofs.lemmas.List.{map_push, length-map}
-use Rattle.boc_types.specs.declared.token.Sign.TheVariants.{Semicolon}
+use Rattle.boc_reader.specs.declared.terminal.Sign.TheVariants.{Semicolon}
 use Rattle.boc_reader.specs.Phrases.{Ahead}
 use Rattle.boc_reader.specs.Grammar.{expr_phrase, list_phrase}
 use Rattle.boc_reader.specs.Views.{expr_of}

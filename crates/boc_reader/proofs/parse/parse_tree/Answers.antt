@@ -1,4 +1,4 @@
-use Rattle.boc_types.specs.text.Shape.{HasShape}
+use Rattle.boc_reader.specs.Shape.{HasShape}
 use Rattle.boc_reader.specs.Placed.{tokens_of}
 use Rattle.boc_reader.specs.Views.{tree_of}
 use Rattle.boc_reader.proofs.Refused.{passes_on}

@@ -1,6 +1,6 @@
 use Rattle.std.proofs.Common.{◌≡◌, ◌<◌, ◌^◌, ◌++◌, ◌∷◌, ◌∙◌, [], ap, length, arith, rules}
 use Rattle.std.proofs.lemmas.List.{append-nil, length-append}
-use Rattle.boc_types.specs.text.RecordTexts.{fields}
+use Rattle.boc_record.specs.RecordTexts.{fields}
 use Rattle.std.proofs.lemmas.Bool.Decides.{nat_tests}
 use Rattle.std.proofs.lemmas.List.Elements.{All-push}
 use Rattle.boc_record.proofs.Runs.{nothing_left, no_numbers, too_many, read_more}

@@ -1,5 +1,5 @@
 use Rattle.std.proofs.Common.{◌≡◌, ◌<◌, ◌≤◌, ◌++◌, length}
-use Rattle.boc_types.specs.text.RecordTexts.{fields as fields_of}
+use Rattle.boc_record.specs.RecordTexts.{fields as fields_of}
 use Rattle.boc_record.specs.Fields.{AreSmall, IsApart}
 use Rattle.boc_record.proofs.fields.cowns_of.Given as goal
 

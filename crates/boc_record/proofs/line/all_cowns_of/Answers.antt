@@ -1,7 +1,7 @@
 use Rattle.std.proofs.Common.{◌∙◌, sym, ap, [], Option}
 use Rattle.std.specs.Option.{option_map_or}
 use Rattle.std.proofs.lemmas.Option.{slice_get_past}
-use Rattle.boc_types.specs.runs.Legal.{Entry}
+use Rattle.boc_runs.specs.Legal.{Entry}
 use Rattle.boc_record.proofs.line.all_cowns_of.Goals as goal
 
 pub returns-in-None-clause-all : goal.returns-in-None-clause-all

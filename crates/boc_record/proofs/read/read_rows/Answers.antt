@@ -1,6 +1,6 @@
 use Rattle.std.proofs.Common.{List, subst}
-use Rattle.boc_types.specs.runs.Legal.{Entry}
-use Rattle.boc_types.specs.runs.Records.{AreRowsOf}
+use Rattle.boc_runs.specs.Legal.{Entry}
+use Rattle.boc_runs.specs.Records.{AreRowsOf}
 use Rattle.boc_record.proofs.Known.{rows_given, rows_taken}
 use Rattle.boc_record.proofs.read.read_rows.Goals as goal
 

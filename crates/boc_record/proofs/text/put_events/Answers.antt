@@ -1,7 +1,7 @@
 use Rattle.std.proofs.Common.{◌∙◌, ◌≡◌, ℕ, ◌<◌, List, ◌++◌, length, take, Result, Ok, Err, arith}
 use Rattle.std.specs.Prelude.{OnErr}
-use Rattle.boc_types.specs.declared.event.Event.{Event}
-use Rattle.boc_types.specs.text.RecordTexts.{Second, event_lines}
+use Rattle.boc_runs.specs.declared.event.Event.{Event}
+use Rattle.boc_record.specs.RecordTexts.{Second, event_lines}
 use Rattle.boc_record.specs.Writing.{PutsFirst}
 use Rattle.boc_record.proofs.Put.{put_line_more}
 use Rattle.boc_record.proofs.text.put_events.Goals as goal

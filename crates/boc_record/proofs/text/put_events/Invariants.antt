@@ -1,5 +1,5 @@
 use Rattle.std.proofs.Common.{◌≡◌, ◌++◌, take}
-use Rattle.boc_types.specs.text.RecordTexts.{Second, event_lines}
+use Rattle.boc_record.specs.RecordTexts.{Second, event_lines}
 use Rattle.boc_record.proofs.text.put_events.Given as goal
 
 abbrev pub invariant-loop-place : goal.invariant-loop-place

@@ -1,7 +1,7 @@
 use Rattle.std.proofs.Common.{ℕ, List, ◌++◌, ◌∙◌, take, drop, length-drop, refl, ap, subst, arith, rules}
 use Rattle.std.proofs.lemmas.List.{take_all}
 use Rattle.boc_text.specs.Streams.{StopsAt}
-use Rattle.boc_types.specs.text.RecordTexts.{Second, event_lines}
+use Rattle.boc_record.specs.RecordTexts.{Second, event_lines}
 use Rattle.boc_text.specs.Outgoing.{IsOut}
 use Rattle.boc_record.proofs.Put.{put_line_more}
 use Rattle.boc_text.proofs.Sending.{stopped_so}

@@ -1,5 +1,5 @@
 use Rattle.std.proofs.Common.{◌≡◌, ◌≤◌, ◌+◌, ◌*◌, ◌++◌, ℕ, List, Option, length, take}
-use Rattle.boc_types.specs.text.RecordTexts.{Second, event_lines}
+use Rattle.boc_record.specs.RecordTexts.{Second, event_lines}
 use Rattle.boc_text.specs.Outgoing.{IsOut, size}
 use Rattle.boc_record.specs.declared.text.TheConstants.{MOST_BYTES}
 use Rattle.boc_record.proofs.text.send_events.Given as goal

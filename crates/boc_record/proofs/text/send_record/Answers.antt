@@ -1,6 +1,6 @@
 use Rattle.std.proofs.Common.{ℕ, List, [], ◌++◌, ◌∙◌, length, codes, ap, subst, rules, arith}
-use Rattle.boc_types.specs.declared.event.Event.{Event}
-use Rattle.boc_types.specs.text.RecordTexts.{Second, line, header, event_lines, record_text}
+use Rattle.boc_runs.specs.declared.event.Event.{Event}
+use Rattle.boc_record.specs.RecordTexts.{Second, line, header, event_lines, record_text}
 use Rattle.boc_text.specs.Streams.{StopsAt}
 use Rattle.boc_text.specs.Outgoing.{IsOut}
 use Rattle.boc_record.specs.declared.text.TheConstants.{MOST_BYTES}

@@ -1,6 +1,6 @@
 use Rattle.std.proofs.Common.{ℕ, List, ◌++◌, codes, subst, arith}
 use Rattle.std.specs.Prelude.{◌≡◌}
-use Rattle.boc_types.specs.answers.Texts.{bound_line, number_line, served_lines}
+use Rattle.boc_report.specs.Texts.{bound_line, number_line, served_lines}
 use Rattle.boc_text.specs.Outgoing.{Puts}
 use Rattle.boc_text.proofs.Sending.{HasPut, StopsIn, put_puts, puts_more, puts_then, puts_stopped, stops_after, stops_early, room_end}
 use Rattle.boc_greedy.specs.declared.report.Greedy.{Greedy}

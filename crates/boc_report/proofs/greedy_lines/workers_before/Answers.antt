@@ -1,6 +1,6 @@
 use Rattle.std.proofs.Common.{ℕ, ◌++◌, ◌∙◌, codes, ap}
 use Rattle.std.proofs.lemmas.List.{append-nil}
-use Rattle.boc_types.specs.answers.Texts.{number_line}
+use Rattle.boc_report.specs.Texts.{number_line}
 use Rattle.boc_report.specs.declared.greedy_lines.TheConstants.{MOST_FRAME}
 use Rattle.boc_report.proofs.Lines.{behind}
 use Rattle.boc_report.proofs.greedy_lines.workers_before.Goals as goal

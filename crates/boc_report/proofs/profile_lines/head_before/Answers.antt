@@ -1,5 +1,5 @@
 use Rattle.std.proofs.Common.{◌≡◌, ◌++◌, ◌∙◌, List, ℕ, codes, drop, length, ap, arith}
-use Rattle.boc_types.specs.answers.Texts.{number_line}
+use Rattle.boc_report.specs.Texts.{number_line}
 use Rattle.boc_report.specs.declared.profile_lines.TheConstants.{MOST_HEAD}
 use Rattle.boc_report.proofs.Lines.{behind, head_formed}
 use Rattle.boc_report.proofs.profile_lines.head_before.Goals as goal

@@ -1,7 +1,7 @@
 use Rattle.std.proofs.Common.{◌≡◌, ℕ, List, ◌++◌, ◌-◌, ◌≤◌, length, codes, drop, take, subst, arith}
 use Rattle.std.specs.Prelude.{Option}
-use Rattle.boc_types.specs.declared.chain.ChainStep.{ChainStep}
-use Rattle.boc_types.specs.answers.Texts.{report_head, step_lines, plan_lines}
+use Rattle.boc_plans.specs.declared.chain.ChainStep.{ChainStep}
+use Rattle.boc_report.specs.Texts.{report_head, step_lines, plan_lines}
 use Rattle.boc_text.specs.declared.outgoing.Outgoing.{Outgoing}
 use Rattle.boc_text.specs.Outgoing.{Puts}
 use Rattle.boc_text.proofs.Sending.{HasPut, StopsIn, puts_more, puts_then, puts_stopped, stops_after, stops_early, stops_put}

@@ -1,6 +1,6 @@
 use Rattle.std.proofs.Common.{List, ℕ, [], ◌++◌}
 use Rattle.std.specs.Prelude.{option_map}
-use Rattle.boc_types.specs.answers.Texts.{report_text}
+use Rattle.boc_report.specs.Texts.{report_text}
 use Rattle.boc_text.specs.Streams.{StopsAt}
 use Rattle.boc_text.proofs.Sending.{stopped_so, stops_before}
 use Rattle.boc_order.specs.declared.report.Profile.{Profile}

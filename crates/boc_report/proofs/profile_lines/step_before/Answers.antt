@@ -1,5 +1,5 @@
 use Rattle.std.proofs.Common.{◌∷◌, ◌++◌, ◌∙◌, decimal, ap, drop, ℕ, []}
-use Rattle.boc_types.specs.answers.Texts.{via_word}
+use Rattle.boc_report.specs.Texts.{via_word}
 use Rattle.boc_report.specs.declared.profile_lines.TheConstants.{MOST_STEP}
 use Rattle.boc_report.proofs.Lines.{behind, step_formed}
 use Rattle.boc_report.proofs.profile_lines.step_before.Goals as goal

@@ -1,5 +1,5 @@
 use Rattle.std.proofs.Common.{[]}
-use Rattle.boc_types.specs.answers.Texts.{sweep_lines}
+use Rattle.boc_report.specs.Texts.{sweep_lines}
 use Rattle.boc_text.specs.Streams.{StopsAt}
 use Rattle.boc_text.proofs.Sending.{stopped_so}
 use Rattle.boc_report.proofs.sweep_lines.send_sweep.Goals as goal

@@ -1,8 +1,8 @@
 use Rattle.std.proofs.Common.{◌≡◌, ℕ, ◌+◌, ◌<◌, List, length, get_or, arith, length-set}
 use Rattle.std.specs.Prelude.{slice_index, slice_set}
-use Rattle.boc_types.specs.declared.rows.Row.{Row}
-use Rattle.boc_types.specs.runs.Rows.{IsRows, IsLast}
-use Rattle.boc_types.proofs.Children.{row_read, rows_fit, parent_there, last_more}
+use Rattle.boc_runs.specs.declared.rows.Row.{Row}
+use Rattle.boc_runs.specs.Rows.{IsRows, IsLast}
+use Rattle.boc_plans.proofs.Children.{row_read, rows_fit, parent_there, last_more}
 use Rattle.boc_sweep.proofs.lasts.last_children.Goals as goal
 
 last_next : (rows : List Row) → IsRows rows → (n : ℕ) (x : Row) (table : List ℕ) → n < length rows → x ≡ get_or rows n x → length table ≡ length rows →

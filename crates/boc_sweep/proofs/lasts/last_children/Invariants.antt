@@ -1,6 +1,6 @@
 use Rattle.std.proofs.Common.{◌≡◌, ℕ, length}
 use Rattle.std.specs.Prelude.{slice_index}
-use Rattle.boc_types.specs.runs.Rows.{IsLast}
+use Rattle.boc_runs.specs.Rows.{IsLast}
 use Rattle.boc_sweep.proofs.lasts.last_children.Given as goal
 
 -- the last children among the rows so far

@@ -2,7 +2,7 @@ use Rattle.std.proofs.Common.{◌≡◌, map, take}
 use Rattle.std.specs.List.{All}
 use Rattle.boc_words.specs.EditWords.{edit_word}
 use Rattle.boc_words.specs.Words.{IsEditWord}
-use Rattle.boc_types.specs.declared.edit.Edit.{Edit}
+use Rattle.boc_plans.specs.declared.edit.Edit.{Edit}
 use Rattle.boc_words.proofs.words.edits_asked.Given as goal
 
 abbrev pub invariant-loop-index : goal.invariant-loop-index

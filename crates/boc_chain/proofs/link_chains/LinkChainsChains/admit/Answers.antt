@@ -5,7 +5,7 @@ use Rattle.boc_chain.specs.KeptLinks.{Linked}
 use Rattle.boc_chain.specs.Chain.{times}
 use Rattle.boc_chain.specs.Linked.{IsLinked, lists_of}
 use Rattle.boc_chain.specs.LinkViews.{lists}
-use Rattle.boc_types.specs.declared.limits.TheConstants.{MOST_COWNS}
+use Rattle.boc_program.specs.declared.limits.TheConstants.{MOST_COWNS}
 use Rattle.boc_chain.proofs.Calls.{grown, admit_call}
 use Rattle.boc_chain.proofs.Counted.{all_below}
 use Rattle.boc_chain.proofs.Listed.{lists_length}

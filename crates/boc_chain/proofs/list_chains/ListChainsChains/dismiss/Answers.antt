@@ -2,7 +2,7 @@ use Rattle.std.proofs.Common.{ap}
 use Rattle.std.specs.Prelude.{None}
 use Rattle.boc_chain.specs.Kept.{place_in}
 use Rattle.boc_chain.proofs.Rooms.{within, gone_here, kept_gone}
-use Rattle.boc_types.proofs.ChangedItems.{set_other}
+use Rattle.boc_program.proofs.ChangedItems.{set_other}
 use Rattle.boc_chain.proofs.list_chains.ListChainsChains.dismiss.Goals as goal
 
 pub invariant_of-self : goal.invariant_of-self

@@ -1,7 +1,7 @@
 use Rattle.std.proofs.Common.{◌∙◌, ap, subst, sym}
-use Rattle.boc_types.specs.machine.Steps.{IsQuiet}
-use Rattle.boc_types.specs.runs.Run.{IsWholeRun}
-use Rattle.boc_types.specs.runs.Records.{IsRecordOf}
+use Rattle.boc_runs.specs.machine.Steps.{IsQuiet}
+use Rattle.boc_runs.specs.Run.{IsWholeRun}
+use Rattle.boc_runs.specs.Records.{IsRecordOf}
 use Rattle.boc_machine.proofs.Every.{whole_run}
 use Rattle.boc_dispatch.specs.Underway.{Underway}
 use Rattle.boc_dispatch.specs.Inside.{parts_of, state}

@@ -1,6 +1,6 @@
 use Rattle.std.proofs.Common.{◌↔◌, IsTrue, nat_eq, subst}
 use Rattle.std.proofs.lemmas.Bool.Decides.{Decides-eqb}
-use Rattle.boc_types.specs.machine.Steps.{IsQuiet}
+use Rattle.boc_runs.specs.machine.Steps.{IsQuiet}
 use Rattle.boc_dispatch.specs.Underway.{Underway}
 use Rattle.boc_dispatch.specs.Inside.{parts_of}
 use Rattle.boc_dispatch.proofs.Quiet.{quiet_if_gone, gone_if_quiet}

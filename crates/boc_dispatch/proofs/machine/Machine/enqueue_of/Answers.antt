@@ -1,11 +1,11 @@
 use Rattle.std.proofs.Common.{◌≡◌, ◌∙◌, ℕ, ap, subst, sym, MatchOption, arith}
 use Rattle.std.specs.Prelude.{Option, Some, None}
-use Rattle.boc_types.specs.machine.Turns.{IsEnqueueOf}
+use Rattle.boc_runs.specs.machine.Turns.{IsEnqueueOf}
 use Rattle.boc_dispatch.specs.declared.live.Live.{Live}
 use Rattle.boc_dispatch.specs.Inside.{parts_of, state, live_at}
 use Rattle.boc_dispatch.specs.Moves.{IsFoundEnqueue}
 use Rattle.boc_dispatch.proofs.Tables.{read_place, read_some, live_there}
-use Rattle.boc_types.specs.machine.Stages.{enqueues_at}
+use Rattle.boc_runs.specs.machine.Stages.{enqueues_at}
 use Rattle.boc_dispatch.specs.declared.machine.Enqueue.{Enqueue}
 use Rattle.boc_dispatch.proofs.Homes.{enqueue_found, one_behaviour}
 use Rattle.boc_dispatch.proofs.machine.Machine.enqueue_of.Goals as goal

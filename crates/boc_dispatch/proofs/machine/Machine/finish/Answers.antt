@@ -1,9 +1,9 @@
 use Rattle.std.proofs.Common.{◌≡◌, true, List, length, sym, ap, subst, arith, ℤ}
 use Rattle.std.specs.Prelude.{Option, vec_capacity}
 use Rattle.std.specs.VecDeque.{deque_capacity}
-use Rattle.boc_types.specs.declared.event.Event.{Event}
-use Rattle.boc_types.specs.program.Signatures.{AllBelow}
-use Rattle.boc_types.specs.runs.Legal.{entries, IsAllowed}
+use Rattle.boc_runs.specs.declared.event.Event.{Event}
+use Rattle.boc_program.specs.Signatures.{AllBelow}
+use Rattle.boc_runs.specs.Legal.{entries, IsAllowed}
 use Rattle.boc_dispatch.specs.declared.live.Live.{Live}
 use Rattle.boc_dispatch.specs.Grants.{IsRemoved}
 use Rattle.boc_dispatch.specs.Inside.{Parts, parts_of, state, IsKept, HasRooms}

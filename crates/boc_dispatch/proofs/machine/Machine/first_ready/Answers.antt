@@ -1,6 +1,6 @@
 use Rattle.std.proofs.Common.{◌≡◌, ◌<◌, ap, sym, subst, refl, length, arith, false, true, List, [], ◌∷◌}
 use Rattle.std.specs.Prelude.{Option, Some, slice_get, slice_index_or, ℕ}
-use Rattle.boc_types.specs.machine.Stages.{row_at}
+use Rattle.boc_runs.specs.machine.Stages.{row_at}
 use Rattle.boc_dispatch.specs.declared.answers.Mover.TheVariants as movers
 use Rattle.boc_dispatch.specs.declared.live.Live.{Live}
 use Rattle.boc_dispatch.specs.Calls.{NamesMover}

@@ -1,7 +1,7 @@
 use Rattle.std.proofs.Common.{◌<◌, suc, sym, subst, refl, length, arith}
 use Rattle.std.specs.Prelude.{Option, vec_capacity}
 use Rattle.std.specs.VecDeque.{deque_capacity}
-use Rattle.boc_types.specs.machine.Steps.{flagging, Flags}
+use Rattle.boc_runs.specs.machine.Steps.{flagging, Flags}
 use Rattle.boc_dispatch.specs.declared.live.Live.{Live}
 use Rattle.boc_dispatch.specs.Inside.{parts_of, state, IsKept, HasRooms}
 use Rattle.boc_dispatch.specs.Places.{Has, in_phase}

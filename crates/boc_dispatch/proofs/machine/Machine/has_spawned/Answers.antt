@@ -1,7 +1,7 @@
 use Rattle.std.proofs.Common.{◌≡◌, sym, ◌∙◌, ap}
 use Rattle.std.specs.Prelude.{Some}
-use Rattle.boc_types.specs.machine.Stages.{row_at}
-use Rattle.boc_types.specs.runs.Run.{Member}
+use Rattle.boc_runs.specs.machine.Stages.{row_at}
+use Rattle.boc_runs.specs.Run.{Member}
 use Rattle.boc_dispatch.specs.declared.live.Live.{Live}
 use Rattle.boc_dispatch.specs.Inside.{parts_of, IsOfRow}
 use Rattle.boc_dispatch.proofs.Homes.{none_open, childless, row_at_slot}

@@ -1,7 +1,7 @@
 use Rattle.std.proofs.Common.{suc, refl, sym, ap, subst, arith}
 use Rattle.std.specs.Prelude.{vec_capacity}
 use Rattle.std.specs.VecDeque.{deque_capacity}
-use Rattle.boc_types.specs.declared.step.Step.TheVariants as steps
+use Rattle.boc_runs.specs.declared.step.Step.TheVariants as steps
 use Rattle.boc_dispatch.specs.Inside.{Parts, parts_of, underway, IsKept, HasRooms}
 use Rattle.boc_dispatch.proofs.Fronts.{due_front, low, low_place, may_leave}
 use Rattle.boc_dispatch.proofs.Departing.{LetGo, releases_of, unhooked_released, unhooked_makes, passed_may, passed_released, passed_makes, passed_program, blocked_parts, blocked_is}

@@ -1,7 +1,7 @@
 use Rattle.std.proofs.Common.{◌≡◌, ◌∙◌, ap, refl, sym, true, false}
 use Rattle.std.specs.Prelude.{ℕ, Option, Some, None, is_some, not}
-use Rattle.boc_types.specs.declared.stage.Stage.TheVariants.{Asking, Recorded}
-use Rattle.boc_types.specs.machine.Stages.{enqueues_at, life_at}
+use Rattle.boc_runs.specs.declared.stage.Stage.TheVariants.{Asking, Recorded}
+use Rattle.boc_runs.specs.machine.Stages.{enqueues_at, life_at}
 use Rattle.boc_dispatch.specs.Inside.{parts_of, IsAtStage}
 use Rattle.boc_dispatch.proofs.Fronts.{Front, low_place, may_leave}
 use Rattle.boc_dispatch.proofs.Settled.{settle_there, settle_stands}

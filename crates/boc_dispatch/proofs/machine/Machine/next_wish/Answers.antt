@@ -2,7 +2,7 @@ use Rattle.std.proofs.Common.{◌≡◌, ◌∙◌, ℕ, ◌+◌, ◌≤◌, len
 use Rattle.std.specs.Prelude.{Option, Some, None}
 use Rattle.std.specs.Borrow.{Bor}
 use Rattle.std.specs.Option.{option_map, option_copied}
-use Rattle.boc_types.specs.machine.Stages.{row_at}
+use Rattle.boc_runs.specs.machine.Stages.{row_at}
 use Rattle.boc_eval.specs.Frames.{last_wish_of, wishes_of}
 use Rattle.boc_eval.specs.Wishes.{wish_of}
 use Rattle.boc_eval.specs.declared.wish.SpawnWish.{SpawnWish}

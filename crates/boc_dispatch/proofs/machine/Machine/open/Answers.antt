@@ -2,7 +2,7 @@ use Rattle.std.proofs.Common.{◌≡◌, ◌∙◌, ◌+◌, ◌<◌, ◌≤◌,
 use Rattle.std.specs.Prelude.{Some, None, slice_index_or, vec_capacity}
 use Rattle.std.specs.VecDeque.{deque_capacity}
 use Rattle.arrayvec.specs.ArrayVec.{ArrayVec}
-use Rattle.boc_types.specs.machine.Steps.{unrecorded}
+use Rattle.boc_runs.specs.machine.Steps.{unrecorded}
 use Rattle.boc_chain.specs.Chain.{times, slots}
 use Rattle.boc_dispatch.specs.Inside.{Parts, parts_of, state, underway, live_at, IsKept, HasRooms}
 use Rattle.boc_dispatch.proofs.ChildOpened.{admit_distinct, admit_in}

@@ -1,10 +1,10 @@
 use Rattle.std.proofs.Common.{◌≡◌, ◌≢◌, ◌∷◌, ◌++◌, [], ◌∙◌, ◌+◌, ◌^◌, ◌≤◌, ℕ, set, List, ap, subst, sym, arith, length, replicate}
 use Rattle.std.specs.Prelude.{Option, Some, None, vec_capacity}
 use Rattle.std.specs.VecDeque.{deque_capacity, deque_len}
-use Rattle.boc_types.specs.program.Programs.{cown_count, initial_values}
-use Rattle.boc_types.proofs.Behaviours.{initial-length}
-use Rattle.boc_types.specs.declared.event.Event.{Event}
-use Rattle.boc_types.specs.declared.event.Event.TheVariants.{Spawn}
+use Rattle.boc_program.specs.Programs.{cown_count, initial_values}
+use Rattle.boc_runs.proofs.Behaviours.{initial-length}
+use Rattle.boc_runs.specs.declared.event.Event.{Event}
+use Rattle.boc_runs.specs.declared.event.Event.TheVariants.{Spawn}
 use Rattle.boc_chain.specs.Chain.{Place}
 use Rattle.boc_rules.specs.Log.{Log, grown}
 use Rattle.boc_dispatch.specs.declared.live.Live.{Live}

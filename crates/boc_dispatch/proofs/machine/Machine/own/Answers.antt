@@ -1,7 +1,7 @@
 use Rattle.std.proofs.Common.{◌≡◌, set, refl, sym, ◌∙◌, ap, subst, arith}
 use Rattle.std.specs.Prelude.{Option, vec_capacity}
 use Rattle.std.specs.VecDeque.{deque_capacity}
-use Rattle.boc_types.specs.machine.Steps.{Owns}
+use Rattle.boc_runs.specs.machine.Steps.{Owns}
 use Rattle.boc_dispatch.specs.declared.live.Live.{Live}
 use Rattle.boc_dispatch.specs.Grants.{with_granted, MayBeGranted}
 use Rattle.boc_dispatch.specs.Inside.{Parts, parts_of, state, IsKept, HasRooms, GoesOn}

@@ -1,9 +1,9 @@
 use Rattle.std.proofs.Common.{◌≡◌, ◌∙◌, ℕ, ◌<◌, length, ap, subst, sym, false, true, MatchOption}
 use Rattle.std.specs.Prelude.{slice_get, Option}
-use Rattle.boc_types.specs.declared.stage.Phase.TheVariants as phases
-use Rattle.boc_types.specs.declared.stage.Stage.TheVariants.{Recorded}
-use Rattle.boc_types.specs.program.Signatures.{AllBelow}
-use Rattle.boc_types.specs.runs.Serial.{inputs_of}
+use Rattle.boc_runs.specs.declared.stage.Phase.TheVariants as phases
+use Rattle.boc_runs.specs.declared.stage.Stage.TheVariants.{Recorded}
+use Rattle.boc_program.specs.Signatures.{AllBelow}
+use Rattle.boc_runs.specs.Serial.{inputs_of}
 use Rattle.boc_dispatch.specs.declared.live.Live.{Live}
 use Rattle.boc_dispatch.specs.Calls.{IsHandedOut}
 use Rattle.boc_dispatch.specs.Inside.{parts_of, underway, IsStageAt}

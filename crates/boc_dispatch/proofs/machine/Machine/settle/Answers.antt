@@ -2,7 +2,7 @@ use Rattle.std.proofs.Common.{◌≡◌, ◌∙◌, ◌<◌, ◌≤◌, suc, eqb
 use Rattle.std.specs.Prelude.{Option, Some, vec_capacity}
 use Rattle.std.specs.VecDeque.{deque_capacity}
 use Rattle.std.proofs.lemmas.Bool.{eqb-true}
-use Rattle.boc_types.specs.declared.stage.Stage.TheVariants.{Asking}
+use Rattle.boc_runs.specs.declared.stage.Stage.TheVariants.{Asking}
 use Rattle.boc_dispatch.specs.declared.live.Live.{Live}
 use Rattle.boc_dispatch.specs.Inside.{Parts, parts_of, state, underway, IsKept, HasRooms, IsAtStage}
 use Rattle.boc_dispatch.specs.Places.{Has, settled}

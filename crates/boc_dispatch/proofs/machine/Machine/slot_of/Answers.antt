@@ -1,6 +1,6 @@
 use Rattle.std.proofs.Common.{◌≡◌, ◌∙◌, ℕ, List, ap, subst, sym, length, ◌≤◌, MatchOption}
 use Rattle.std.specs.Prelude.{Option, Some, None}
-use Rattle.boc_types.specs.machine.Stages.{row_at}
+use Rattle.boc_runs.specs.machine.Stages.{row_at}
 use Rattle.boc_dispatch.specs.declared.live.Live.{Live}
 use Rattle.boc_dispatch.specs.Inside.{parts_of, IsOfRow}
 use Rattle.boc_dispatch.proofs.Homes.{no_home, home_beyond, home_other, home_read, live_read, another_row}

@@ -1,15 +1,15 @@
 use Rattle.std.proofs.Common.{◌≡◌, ◌∙◌, ℕ, List, ap, refl, subst, sym, arith, length, map}
 use Rattle.std.specs.Prelude.{Option, Some, vec_capacity, slice_get}
 use Rattle.std.specs.VecDeque.{deque_capacity}
-use Rattle.boc_types.specs.declared.event.Event.TheVariants.{Start}
-use Rattle.boc_types.specs.machine.Stages.{row_at}
-use Rattle.boc_types.specs.program.Signatures.{AllBelow, CountsAre, signature_of}
+use Rattle.boc_runs.specs.declared.event.Event.TheVariants.{Start}
+use Rattle.boc_runs.specs.machine.Stages.{row_at}
+use Rattle.boc_program.specs.Signatures.{AllBelow, CountsAre, signature_of}
 use Rattle.boc_dispatch.specs.declared.live.Live.{Live}
 use Rattle.boc_dispatch.specs.Places.{Has, begun}
 use Rattle.boc_dispatch.specs.Inside.{parts_of, state, underway, IsOfRow, IsKept, HasRooms}
 use Rattle.boc_dispatch.specs.Calls.{IsHandedOut}
-use Rattle.boc_types.specs.runs.Serial.{inputs_of}
-use Rattle.boc_types.specs.machine.Steps.{Starts}
+use Rattle.boc_runs.specs.Serial.{inputs_of}
+use Rattle.boc_runs.specs.machine.Steps.{Starts}
 use Rattle.boc_rules.specs.Log.{Log, grown}
 use Rattle.boc_dispatch.proofs.Tables.{read_changed, live_here, live_there}
 use Rattle.boc_dispatch.proofs.Homes.{counts_of, params_below, hands_out}

@@ -1,6 +1,6 @@
 use Rattle.std.proofs.Common.{◌≡◌, ◌+◌, ◌-◌, ◌∙◌, arith, ap}
-use Rattle.boc_types.specs.program.Meaning.{State, turns, does}
-use Rattle.boc_types.specs.memory.View.{code_of}
+use Rattle.boc_program.specs.Meaning.{State, turns, does}
+use Rattle.boc_program.specs.memory.View.{code_of}
 use Rattle.boc_eval.specs.Machines.{next_of}
 use Rattle.boc_eval.specs.declared.machine.Task.TheVariants.{Turns}
 use Rattle.boc_eval.proofs.Steps.{next-push, pushed-effort}

@@ -1,10 +1,10 @@
 use Rattle.std.proofs.Common.{◌≡◌, ◌∙◌, ap, sym, rules, List, ℕ, ℤ, length}
-use Rattle.boc_types.specs.declared.short.Input.{Input}
-use Rattle.boc_types.specs.program.Meaning.{State, does, ends, cowns_held, start}
-use Rattle.boc_types.specs.program.Resolved.{Scope}
-use Rattle.boc_types.specs.runs.Serial.{inputs_of}
-use Rattle.boc_types.specs.declared.body.EndStatus.TheVariants.{Done}
-use Rattle.boc_types.proofs.Behaviours.{cowns_of_inputs}
+use Rattle.boc_program.specs.declared.short.Input.{Input}
+use Rattle.boc_program.specs.Meaning.{State, does, ends, cowns_held, start}
+use Rattle.boc_program.specs.Resolved.{Scope}
+use Rattle.boc_runs.specs.Serial.{inputs_of}
+use Rattle.boc_program.specs.declared.body.EndStatus.TheVariants.{Done}
+use Rattle.boc_runs.proofs.Behaviours.{cowns_of_inputs}
 use Rattle.boc_eval.specs.Frames.{unmarked}
 use Rattle.boc_eval.specs.Machines.{state_of, left_with}
 use Rattle.boc_eval.proofs.machine.Machine.start_on.Goals as goal

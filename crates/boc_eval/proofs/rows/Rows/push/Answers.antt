@@ -1,5 +1,5 @@
 use Rattle.std.proofs.Common.{refl, rules, ◌≡◌, ◌+◌, ◌∙◌, ap, length, length-append}
-use Rattle.boc_types.specs.runs.Serial.{Behaviour}
+use Rattle.boc_runs.specs.Serial.{Behaviour}
 use Rattle.boc_eval.specs.declared.rows.Row.{Row}
 use Rattle.boc_eval.specs.declared.rows.Rows.{Rows}
 use Rattle.boc_eval.proofs.Added.{adds, Adds}

@@ -3,7 +3,7 @@ use Rattle.std.specs.Prelude.{slice_index, slice_set}
 use Rattle.std.proofs.lemmas.List.{drop_more, drop_all}
 use Rattle.std.proofs.lemmas.List.Elements.{Contains-get_or}
 use Rattle.std.proofs.lemmas.Option.{slice_get_within}
-use Rattle.boc_types.specs.declared.rows.Row.{Row}
+use Rattle.boc_runs.specs.declared.rows.Row.{Row}
 use Rattle.boc_order.specs.Waits.{links_of}
 use Rattle.boc_greedy.specs.declared.frontier.Stage.TheVariants.{UnderWay, Over}
 use Rattle.boc_greedy.specs.declared.frontier.Frontier.{Frontier}

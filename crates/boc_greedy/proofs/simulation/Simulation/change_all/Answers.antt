@@ -1,6 +1,6 @@
 use Rattle.std.proofs.Common.{List, length, ap, arith}
 use Rattle.std.specs.BinaryHeap.{heap_items}
-use Rattle.boc_types.specs.declared.rows.Row.{Row}
+use Rattle.boc_runs.specs.declared.rows.Row.{Row}
 use Rattle.boc_greedy.specs.declared.simulation.Simulation.{Simulation}
 use Rattle.boc_greedy.specs.Simulating.{HasPassed}
 use Rattle.boc_greedy.specs.Stepping.{IsStepping, IsGiving, IsLow}

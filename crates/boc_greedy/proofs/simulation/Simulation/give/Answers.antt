@@ -2,7 +2,7 @@ use Rattle.std.proofs.Common.{◌≡◌, ◌≢◌, ℕ, ◌+◌, ◌<◌, ◌�
 use Rattle.std.specs.Prelude.{slice_index}
 use Rattle.std.specs.BinaryHeap.{heap_items}
 use Rattle.std.proofs.lemmas.List.{length-map}
-use Rattle.boc_types.specs.runs.Rows.{offset_of, ticks_of}
+use Rattle.boc_runs.specs.Rows.{offset_of, ticks_of}
 use Rattle.boc_greedy.specs.declared.frontier.Stage.TheVariants.{Waiting, UnderWay}
 use Rattle.boc_greedy.specs.Families.{children_of}
 use Rattle.boc_greedy.specs.Stages.{CanStart}

@@ -1,5 +1,5 @@
 use Rattle.std.proofs.Common.{◌≡◌, ◌<◌, length, arith, replicate, rules}
-use Rattle.boc_types.specs.declared.limits.TheConstants.{MOST_TICKS}
+use Rattle.boc_program.specs.declared.limits.TheConstants.{MOST_TICKS}
 use Rattle.boc_greedy.specs.Simulating.{later}
 use Rattle.boc_greedy.proofs.Beginning.{all_set, others_clear, steps_first, kept_first, given_first, passed_first}
 use Rattle.boc_greedy.proofs.Counting.{counts_first}

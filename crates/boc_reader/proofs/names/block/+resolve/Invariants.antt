@@ -1,6 +1,6 @@
 use Rattle.std.proofs.Common.{◌≡◌, ◌+◌, ◌*◌, drop, take, length}
-use Rattle.boc_types.specs.text.Shape.{stmt_nodes, block_nodes}
-use Rattle.boc_types.specs.text.Names.{block_names}
+use Rattle.boc_reader.specs.Shape.{stmt_nodes, block_nodes}
+use Rattle.boc_reader.specs.Names.{block_names}
 use Rattle.boc_reader.specs.Views.{stmt_of, block_of}
 use Rattle.boc_reader.specs.Resolving.{names_of, outside_of}
 use Rattle.boc_reader.proofs.ResolvingScopes.{with_code}

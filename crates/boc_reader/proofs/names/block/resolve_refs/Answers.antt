@@ -1,6 +1,6 @@
 use Rattle.std.proofs.Common.{map, arith}
-use Rattle.boc_types.specs.memory.View.{cown_ref_of}
-use Rattle.boc_types.specs.text.Names.{ref_names}
+use Rattle.boc_program.specs.memory.View.{cown_ref_of}
+use Rattle.boc_reader.specs.Names.{ref_names}
 use Rattle.boc_reader.specs.Views.{named_cown_of}
 use Rattle.boc_reader.specs.Resolving.{names_of, outside_of}
 use Rattle.boc_reader.proofs.ResolvingFront.{names_more, names_none}

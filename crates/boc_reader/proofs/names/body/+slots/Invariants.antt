@@ -1,6 +1,6 @@
 use Rattle.std.specs.Prelude.{◌+◌, ◌*◌}
-use Rattle.boc_types.specs.program.Syntax.{Done, code_size}
-use Rattle.boc_types.specs.memory.View.{code_of, before}
+use Rattle.boc_program.specs.Syntax.{Done, code_size}
+use Rattle.boc_program.specs.memory.View.{code_of, before}
 use Rattle.boc_reader.proofs.names.body.+slots.Given as goal
 
 abbrev pub decreases-block_slots : goal.decreases-block_slots

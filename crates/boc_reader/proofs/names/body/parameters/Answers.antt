@@ -1,6 +1,6 @@
 use Rattle.std.proofs.Common.{◌≡◌, List, Bor, [], ◌++◌, Option, Some, None, ◌∙◌, ap, sym, map}
 use Rattle.std.specs.Option.{option_and_then}
-use Rattle.boc_types.specs.text.Names.{Named, Top}
+use Rattle.boc_reader.specs.Names.{Named, Top}
 use Rattle.boc_reader.specs.Views.{name_of}
 use Rattle.boc_reader.specs.Resolving.{names_of, declared_of, scope_with}
 use Rattle.boc_reader.proofs.ResolvingParameters.{scope_with-append, passed_on}

@@ -1,5 +1,5 @@
 use Rattle.std.proofs.Common.{◌≡◌, ◌+◌, ◌≤◌, [], map, drop}
-use Rattle.boc_types.specs.text.Shape.{cowns_declared}
+use Rattle.boc_reader.specs.Shape.{cowns_declared}
 use Rattle.boc_reader.specs.Views.{cown_of}
 use Rattle.boc_reader.specs.Resolving.{global_of, cowns_behind}
 use Rattle.boc_reader.proofs.names.declare.declare_cowns.Given as goal

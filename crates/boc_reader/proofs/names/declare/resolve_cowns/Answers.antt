@@ -1,7 +1,7 @@
 use Rattle.std.proofs.Common.{ap, map, arith}
-use Rattle.boc_types.specs.text.Shape.{cowns_declared}
-use Rattle.boc_types.specs.text.Names.{plain_cown}
-use Rattle.boc_types.specs.text.Spells.{plain_declared}
+use Rattle.boc_reader.specs.Shape.{cowns_declared}
+use Rattle.boc_reader.specs.Names.{plain_cown}
+use Rattle.boc_reader.specs.Spells.{plain_declared}
 use Rattle.boc_reader.specs.Views.{cown_of}
 use Rattle.boc_reader.proofs.ResolvingFront.{next_at, made_more}
 use Rattle.boc_reader.proofs.names.declare.resolve_cowns.Goals as goal

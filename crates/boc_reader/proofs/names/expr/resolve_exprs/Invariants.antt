@@ -1,6 +1,6 @@
 use Rattle.std.proofs.Common.{◌≡◌, map, drop}
-use Rattle.boc_types.specs.memory.View.{slot_expr_of}
-use Rattle.boc_types.specs.text.Names.{expr_names, all_names}
+use Rattle.boc_program.specs.memory.View.{slot_expr_of}
+use Rattle.boc_reader.specs.Names.{expr_names, all_names}
 use Rattle.boc_reader.specs.Views.{expr_of}
 use Rattle.boc_reader.specs.Resolving.{names_of}
 use Rattle.boc_reader.proofs.ResolvingLists.{with_front}

@@ -1,6 +1,6 @@
 use Rattle.std.proofs.Common.{◌∙◌, List, ap}
-use Rattle.boc_types.specs.declared.events.Happening.{Happening}
-use Rattle.boc_types.specs.runs.Happenings.{told}
+use Rattle.boc_runs.specs.declared.events.Happening.{Happening}
+use Rattle.boc_runs.specs.Happenings.{told}
 use Rattle.boc_rules.specs.Log.{Log}
 use Rattle.boc_rules.proofs.Telling.{told_rows}
 use Rattle.boc_rules.proofs.rules.Rules.events.Goals as goal

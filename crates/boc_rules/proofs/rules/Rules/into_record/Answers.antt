@@ -1,7 +1,7 @@
 use Rattle.std.proofs.Common.{◌∙◌, ap, subst}
 use Rattle.std.specs.Vec.{vec_capacity}
-use Rattle.boc_types.specs.runs.Happenings.{told}
-use Rattle.boc_types.specs.runs.Legal.{IsComplete}
+use Rattle.boc_runs.specs.Happenings.{told}
+use Rattle.boc_runs.specs.Legal.{IsComplete}
 use Rattle.boc_rules.specs.Log.{Log}
 use Rattle.boc_rules.proofs.Logging.{complete_of, record_of, recorded_as}
 use Rattle.boc_rules.proofs.Telling.{told_rows}

@@ -1,7 +1,7 @@
 use Rattle.std.proofs.Common.{List, ap, sym, subst, arith}
 use Rattle.std.specs.Vec.{vec_capacity}
-use Rattle.boc_types.specs.declared.event.Event.{Event}
-use Rattle.boc_types.specs.runs.Legal.{entries, IsAllowed}
+use Rattle.boc_runs.specs.declared.event.Event.{Event}
+use Rattle.boc_runs.specs.Legal.{entries, IsAllowed}
 use Rattle.boc_rules.specs.Log.{Log, HasRoomFor, rooms_after}
 use Rattle.boc_rules.proofs.Logging.{room_left, numbered, log_more, logged_more}
 use Rattle.boc_rules.proofs.rules.Rules.put.Goals as goal

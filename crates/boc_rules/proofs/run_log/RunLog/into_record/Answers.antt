@@ -1,6 +1,6 @@
 use Rattle.std.proofs.Common.{ap, sym, subst}
 use Rattle.std.specs.Vec.{vec_capacity}
-use Rattle.boc_types.specs.runs.Legal.{IsComplete}
+use Rattle.boc_runs.specs.Legal.{IsComplete}
 use Rattle.boc_rules.specs.Log.{Log}
 use Rattle.boc_rules.proofs.Putting.{rows_of_log}
 use Rattle.boc_rules.proofs.run_log.RunLog.into_record.Goals as goal

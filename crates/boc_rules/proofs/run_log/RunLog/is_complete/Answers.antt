@@ -1,6 +1,6 @@
 use Rattle.std.proofs.Common.{arith, ◌≡◌, ◌*◌, length, eqb-true, eq-eqb, sym, ◌∙◌, ap, subst}
 use Rattle.std.specs.Vec.{vec_capacity}
-use Rattle.boc_types.specs.runs.Legal.{IsComplete}
+use Rattle.boc_runs.specs.Legal.{IsComplete}
 use Rattle.boc_rules.specs.Log.{Log}
 use Rattle.boc_rules.proofs.Putting.{complete_log}
 use Rattle.boc_rules.proofs.run_log.RunLog.is_complete.Goals as goal

@@ -1,7 +1,7 @@
 use Rattle.std.proofs.Common.{arith}
 use Rattle.std.specs.Vec.{vec_capacity}
-use Rattle.boc_types.specs.runs.Happenings.{told}
-use Rattle.boc_types.specs.runs.Legal.{entries}
+use Rattle.boc_runs.specs.Happenings.{told}
+use Rattle.boc_runs.specs.Legal.{entries}
 use Rattle.boc_rules.proofs.Logging.{few_events}
 use Rattle.boc_rules.proofs.Putting.{logged_of}
 use Rattle.boc_rules.proofs.run_log.RunLog.make_room.Goals as goal

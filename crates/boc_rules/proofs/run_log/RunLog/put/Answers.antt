@@ -1,8 +1,8 @@
 use Rattle.std.proofs.Common.{◌+◌, ◌≤◌, List, length, ap, sym, subst, arith}
 use Rattle.std.specs.Vec.{vec_capacity}
-use Rattle.boc_types.specs.declared.event.Event.{Event}
-use Rattle.boc_types.specs.runs.Happenings.{told}
-use Rattle.boc_types.specs.runs.Legal.{entries, IsAllowed}
+use Rattle.boc_runs.specs.declared.event.Event.{Event}
+use Rattle.boc_runs.specs.Happenings.{told}
+use Rattle.boc_runs.specs.Legal.{entries, IsAllowed}
 use Rattle.boc_rules.specs.Log.{Log, HasRoomFor, rooms_after}
 use Rattle.boc_rules.specs.RunLog.{rows_after}
 use Rattle.boc_rules.proofs.Logging.{row_few}

@@ -1,5 +1,5 @@
 use Rattle.std.proofs.Common.{sym, subst}
-use Rattle.boc_types.specs.declared.event.Event.{Event}
+use Rattle.boc_runs.specs.declared.event.Event.{Event}
 use Rattle.boc_rules.specs.Judges.{Judges}
 use Rattle.boc_rules.specs.SoFar.{so_far}
 use Rattle.boc_rules.proofs.so_far.RunSoFar.judge.Goals as goal

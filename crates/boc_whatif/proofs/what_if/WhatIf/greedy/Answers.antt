@@ -1,8 +1,8 @@
 use Rattle.std.proofs.Common.{◌∙◌, IfOk, ap, sym, subst}
-use Rattle.boc_types.specs.runs.Seen.{seen}
-use Rattle.boc_types.specs.plans.Plans.{work_of}
-use Rattle.boc_types.specs.plans.Greedy.{IsSpan}
-use Rattle.boc_types.proofs.Seeing.{work_of-seen}
+use Rattle.boc_plans.specs.Seen.{seen}
+use Rattle.boc_plans.specs.Plans.{work_of}
+use Rattle.boc_plans.specs.Greedy.{IsSpan}
+use Rattle.boc_plans.proofs.Seeing.{work_of-seen}
 use Rattle.boc_greedy.specs.Plans.{IsGreedyPlanOf}
 use Rattle.boc_whatif.specs.Asked.{Asked}
 use Rattle.boc_whatif.proofs.what_if.WhatIf.greedy.Goals as goal

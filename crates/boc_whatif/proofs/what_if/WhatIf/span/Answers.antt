@@ -1,7 +1,7 @@
 use Rattle.std.proofs.Common.{subst, arith}
-use Rattle.boc_types.specs.runs.Seen.{seen}
-use Rattle.boc_types.specs.plans.Greedy.{IsSpan}
-use Rattle.boc_types.proofs.Seeing.{length-seen, rows_seen}
+use Rattle.boc_plans.specs.Seen.{seen}
+use Rattle.boc_plans.specs.Greedy.{IsSpan}
+use Rattle.boc_plans.proofs.Seeing.{length-seen, rows_seen}
 use Rattle.boc_whatif.specs.Asked.{Asked}
 use Rattle.boc_whatif.proofs.what_if.WhatIf.span.Goals as goal
 

@@ -1,6 +1,6 @@
 use Rattle.std.proofs.Common.{◌≡◌, ◌∙◌, ap, rules}
 use Rattle.std.specs.Prelude.{Some, Ok}
-use Rattle.boc_types.specs.runs.Records.{IsRecordOf}
+use Rattle.boc_runs.specs.Records.{IsRecordOf}
 use Rattle.boc_dispatch.specs.Calls.{EndsAsRecord}
 use Rattle.boc_workers.specs.declared.fault.RunFault.TheVariants.{Behaviours}
 use Rattle.boc_workers.proofs.Reached.{can_reach}

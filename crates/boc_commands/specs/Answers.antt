@@ -1,0 +1,85 @@
+-- What the commands answer to the bytes that come in.
+use Rattle.std.specs.Prelude.{◌≡◌, ℕ, ℤ, List, [], ◌++◌, length, Option, Some, None}
+use Rattle.boc_program.specs.declared.program.Program.{Program}
+use Rattle.boc_reader.specs.Spells.{Spells}
+use Rattle.boc_runs.specs.declared.rows.Row.{Row}
+use Rattle.boc_plans.specs.declared.chain.ChainStep.{ChainStep}
+use Rattle.boc_plans.specs.Plans.{IsEarliest, IsEnd, HasEnds, work_of}
+use Rattle.boc_plans.specs.Chains.{IsPicked}
+use Rattle.boc_plans.specs.Greedy.{IsGreedy, IsBound}
+use Rattle.boc_runs.specs.OwnOrder.{EndsWith}
+use Rattle.boc_plans.specs.declared.edit.Edit.{Edit}
+use Rattle.boc_plans.specs.declared.sharing.Sharing.{Sharing}
+use Rattle.boc_plans.specs.Seen.{seen}
+use Rattle.boc_plans.specs.Edits.{AllFit, all_edited, IsSweep}
+use Rattle.boc_commands.specs.ValueTexts.{values_text, check_text}
+use Rattle.boc_report.specs.Texts.{report_text, greedy_text, sweep_lines}
+use Rattle.boc_runs.specs.Records.{Recorded}
+use Rattle.boc_record.specs.RecordTexts.{IsTextOf}
+
+-- the output is the text of the values at the end of the own order of a program that the input spells
+pub record IsValuesAnswer (input output : List ℕ) : Type 0 where
+  pub program : Program
+  pub spells : Spells input program
+  pub values : List ℤ
+  pub ends : EndsWith program values
+  pub text : output ≡ values_text program.cowns values
+
+-- the input is the text of a record, and the output tells how many rows it has
+pub record IsCheckAnswer (input output : List ℕ) : Type 0 where
+  pub recorded : Recorded
+  pub spells : IsTextOf input recorded
+  pub text : output ≡ check_text (length recorded.rows)
+
+-- the text of the greedy part for p workers: the greedy plan of the rows, its end, and the bound
+pub record IsGreedyPart (rows : List Row) (p : ℕ) (part : List ℕ) : Type 0 where
+  pub starts : List ℕ
+  pub workers : List ℕ
+  pub greedy : IsGreedy rows p starts workers
+  pub ends : List ℕ
+  pub ends_are : HasEnds rows starts ends
+  pub last : ℕ
+  pub last_is : IsEnd rows starts last
+  pub bound : ℕ
+  pub bound_is : IsBound rows p bound
+  pub text : part ≡ greedy_text p starts ends workers last bound
+
+-- what follows the earliest plan: the greedy part for the number of workers that was asked for, and else nothing
+abbrev pub IsAskedPart : List Row → Option ℕ → List ℕ → Type 0
+IsAskedPart rows None part = part ≡ []
+IsAskedPart rows (Some p) part = IsGreedyPart rows p part
+
+-- the text of the report on some rows: their work, the span, the chain that is picked, the earliest plan, and the part that was asked for
+pub record IsReport (rows : List Row) (asked : Option ℕ) (output : List ℕ) : Type 0 where
+  pub starts : List ℕ
+  pub earliest : IsEarliest rows starts
+  pub ends : List ℕ
+  pub ends_are : HasEnds rows starts ends
+  pub span : ℕ
+  pub span_is : IsEnd rows starts span
+  pub steps : List ChainStep
+  pub picked : IsPicked rows starts steps
+  pub part : List ℕ
+  pub part_is : IsAskedPart rows asked part
+  pub text : output ≡ report_text (work_of rows) span steps starts ends ++ part
+
+-- the input is the text of a record, and the output is the report on its rows, as they are seen
+pub record IsProfileAnswer (sharing : Sharing) (asked : Option ℕ) (input output : List ℕ) : Type 0 where
+  pub recorded : Recorded
+  pub spells : IsTextOf input recorded
+  pub report : IsReport (seen sharing recorded.rows) asked output
+
+-- the input is the text of a record whose rows the edits fit, one after the other, and the output is the report on the rows after them
+pub record IsWhatIfAnswer (edits : List Edit) (sharing : Sharing) (asked : Option ℕ) (input output : List ℕ) : Type 0 where
+  pub recorded : Recorded
+  pub spells : IsTextOf input recorded
+  pub fit : AllFit recorded.rows edits
+  pub report : IsReport (seen sharing (all_edited recorded.rows edits)) asked output
+
+-- the input is the text of a record, and the output tells for each row the span of the rows in which that row takes the least ticks that it can
+pub record IsSweepAnswer (sharing : Sharing) (input output : List ℕ) : Type 0 where
+  pub recorded : Recorded
+  pub spells : IsTextOf input recorded
+  pub spans : List ℕ
+  pub sweep : IsSweep (seen sharing recorded.rows) spans
+  pub text : output ≡ sweep_lines 0 spans

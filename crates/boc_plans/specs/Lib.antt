@@ -1,0 +1,5 @@
+pub mod Seen
+pub mod Plans
+pub mod Chains
+pub mod Greedy
+pub mod Edits

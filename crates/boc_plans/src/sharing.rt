@@ -1,0 +1,125 @@
+//! Whether behaviours that only read a cown may share it, in plans.
+
+ghost use Rattle.std.specs.Prelude.{◌↔◌, IsTrue, Contains};
+
+use boc_runs::rows::{Row, Rows};
+use std::marker::Model;
+
+/// Which rows that have a cown in common are ordered.
+#[derive(Clone, Copy, PartialEq, Eq, Debug)]
+pub enum Sharing {
+    /// All of them, as in a run.
+    Exclusive,
+    /// Those of which one wrote the cown: what was only read is shared.
+    SharedReads,
+}
+
+/// The rows of a record as plans see them: where cowns are exclusive, each row counts as writing all its cowns.
+#[derive(Drop)]
+pub struct SeenRows<'a> {
+    rows: &'a [Row],
+    sharing: Sharing,
+}
+
+impl<'a> Model for SeenRows<'a> {
+    ghost use Rattle.std.specs.Prelude.{List};
+    ghost use Rattle.boc_runs.specs.declared.rows.Row.{Row};
+
+    ghost Value = { List Row };
+
+    ghost use Rattle.boc_plans.specs.Seen.{seen};
+    ghost use Rattle.boc_runs.specs.Rows.{IsRows};
+
+    ghost view = { λ s. seen s.sharing s.rows.now };
+
+    ghost invariant = { λ s. IsRows s.rows.now };
+}
+
+// The cown is one of these.
+fn is_among(cowns: &[u8], cown: u8) -> bool
+    ensures { IsTrue result ↔ Contains cowns.now cown }
+{
+    cowns.contains(&cown)
+}
+
+impl<'a> SeenRows<'a> {
+    ghost use Rattle.std.specs.Prelude.{◌≡◌, ◌↔◌, ◌<◌, IsTrue, Contains, length};
+    ghost use Rattle.boc_plans.specs.Seen.{seen};
+    ghost use Rattle.boc_runs.specs.Rows.{IsRows, parent_of, offset_of, ticks_of, cowns_of, written_of};
+
+    /// These rows as plans see them. It takes no memory.
+    pub fn new(rows: &'a Rows, sharing: Sharing) -> SeenRows<'a>
+        ensures same { result ≡ seen sharing rows.now }
+        ensures shape { IsRows result }
+    {
+        SeenRows {
+            rows: rows.as_slice(),
+            sharing,
+        }
+    }
+
+    /// How many rows there are.
+    pub fn len(&self) -> usize
+        ensures count { result ≡ length self.now }
+        ensures shape { IsRows self.now }
+    {
+        self.rows.len()
+    }
+
+    // A row, of which plans may see that it wrote more.
+    fn row(&self, row: usize) -> &Row
+        requires { row < length self.now }
+        ensures parent { result.now.parent ≡ parent_of self.now row }
+        ensures offset { result.now.offset ≡ offset_of self.now row }
+        ensures ticks { result.now.ticks ≡ ticks_of self.now row }
+        ensures cowns { result.now.cowns.items ≡ cowns_of self.now row }
+    {
+        let rows = self.rows;
+        &rows[row]
+    }
+
+    /// The row that spawned a row; 0 for main.
+    pub fn parent(&self, row: usize) -> u32
+        requires { row < length self.now }
+        ensures { result ≡ parent_of self.now row }
+    {
+        self.row(row).parent
+    }
+
+    /// The ticks that its parent had counted when a row was spawned; 0 for main.
+    pub fn offset(&self, row: usize) -> u32
+        requires { row < length self.now }
+        ensures { result ≡ offset_of self.now row }
+    {
+        self.row(row).offset
+    }
+
+    /// The ticks that a row took.
+    pub fn ticks(&self, row: usize) -> u32
+        requires { row < length self.now }
+        ensures { result ≡ ticks_of self.now row }
+    {
+        self.row(row).ticks
+    }
+
+    /// The cowns of a row, which rise strictly.
+    pub fn cowns(&self, row: usize) -> &[u8]
+        requires { row < length self.now }
+        ensures { result.now ≡ cowns_of self.now row }
+    {
+        self.row(row).cowns.as_slice()
+    }
+
+    /// Whether a row counts as writing one of its cowns.
+    pub fn writes(&self, row: usize, cown: u8) -> bool
+        requires there { row < length self.now }
+        requires own { Contains (cowns_of self.now row) cown }
+        ensures { IsTrue result ↔ Contains (written_of self.now row) cown }
+    {
+        let rows = self.rows;
+        match self.sharing {
+            Sharing::Exclusive => true,
+            Sharing::SharedReads => is_among(rows[row].written.as_slice(), cown),
+        }
+    }
+}

@@ -1,0 +1,10 @@
+pub mod Followed
+pub mod Truth
+pub mod Law
+pub mod Rising
+pub mod RisingNumbers
+pub mod ChangedItems
+pub mod Fitting
+pub mod Samples
+pub mod Transfer
+pub mod WordsLaw

@@ -1,0 +1,13 @@
+pub mod Changed
+pub mod Syntax
+pub mod Rising
+pub mod Cowns
+pub mod Value
+pub mod Meaning
+pub mod Resolved
+pub mod Signatures
+pub mod Sizes
+pub mod Programs
+pub mod Parts
+pub mod Offsets
+pub mod memory

@@ -1,0 +1,73 @@
+// A block with its words beside it.
+
+ghost use Rattle.std.specs.Prelude.{◌≡◌, ◌↔◌, IsTrue, IfOk};
+
+use crate::body::{Block, Stmt};
+use crate::words::put_stmts;
+use std::alloc::{AllocError, Global};
+use std::marker::Model;
+
+/// A block, and beside it what it says as a flat list of words, by which two are compared.
+#[derive(Drop, Debug)]
+pub struct Script {
+    block: Block,
+    words: Vec<u64>,
+}
+
+impl Model for Script {
+    ghost use Rattle.std.specs.Prelude.{◌≡◌};
+    ghost use Rattle.boc_program.specs.Syntax.{Code};
+    ghost use Rattle.boc_program.specs.memory.Stored.{coded_Code};
+    ghost use Rattle.boc_program.specs.memory.Words.{words_of};
+
+    ghost Value = { Code };
+
+    ghost coded = { coded_Code };
+
+    ghost view = { λ a. a.block };
+
+    ghost invariant = { λ a. a.words.items ≡ words_of a.block };
+}
+
+impl Script {
+    ghost use Rattle.boc_program.specs.memory.View.{code_of};
+
+    /// This block, with its words.
+    pub(crate) fn new(alloc: Global, block: Block) -> Result<Script, AllocError>
+        ensures { IfOk result (λ script. script ≡ block) }
+    {
+        let mut words = Vec::new(alloc);
+        put_stmts(&mut words, block.as_slice())?;
+        Ok(Script { block, words })
+    }
+
+    /// The statements.
+    pub fn as_slice(&self) -> &[Stmt]
+        ensures { code_of result.now ≡ self.now }
+    {
+        self.block.as_slice()
+    }
+
+    /// The blocks are the same.
+    #[tactic(auto, using(crate::proofs::WordsLaw::same_code))]
+    pub(crate) fn same(&self, other: &Script) -> bool
+        ensures { IsTrue result ↔ (self.now ≡ other.now) }
+    {
+        same_words(&self.words, &other.words)
+    }
+}
+
+// The words are the same. It looks at each of them, also behind one that differs: the loop has no early end, so
+// that a machine can take several words at once.
+fn same_words(a: &[u64], b: &[u64]) -> bool
+    ensures { IsTrue result ↔ (a.now ≡ b.now) }
+{
+    if a.len() != b.len() {
+        return false;
+    }
+    let mut same = true;
+    for i in 0..a.len() {
+        same &= a[i] == b[i];
+    }
+    same
+}

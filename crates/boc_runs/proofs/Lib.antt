@@ -1,0 +1,7 @@
+pub mod RunsAreLegal
+pub mod Behaviours
+pub mod OwnOrders
+pub mod SerialRuns
+pub mod TransferRun
+pub mod Tellings
+pub mod TransferLog

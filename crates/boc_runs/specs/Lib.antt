@@ -1,0 +1,9 @@
+pub mod Lives
+pub mod Rows
+pub mod Legal
+pub mod Serial
+pub mod OwnOrder
+pub mod Run
+pub mod Happenings
+pub mod Records
+pub mod machine

@@ -1,0 +1,30 @@
+// Laws of the serial runs of programs, and of runs.
+
+ghost use Rattle.std.specs.Prelude.{◌≡◌, ℤ, List};
+ghost use Rattle.boc_runs.specs.declared.event.Event.{Event};
+ghost use Rattle.boc_program.specs.declared.program.Program.{Program};
+ghost use Rattle.boc_program.specs.Programs.{cown_count};
+ghost use Rattle.boc_runs.specs.Legal.{IsLegal};
+ghost use Rattle.boc_runs.specs.Run.{IsRun};
+ghost use Rattle.boc_runs.specs.OwnOrder.{EndsWith, HasTooMany};
+
+use boc_program::program::Program;
+
+/// A run of a program keeps the rules of runs over as many cowns as the program has.
+pub fn runs_are_legal()
+    ensures { (p : Program) (log : List Event) → IsRun p log → IsLegal (cown_count p.cowns) log }
+{}
+
+/// The serial run of a program ends with one list of values at most.
+pub fn ends_once(program: &Program)
+    ensures { (values others : List ℤ) → EndsWith program.now values → EndsWith program.now others → values ≡ others }
+{
+    let _ = program;
+}
+
+/// It does not end where it needs too many behaviours.
+pub fn ends_or_has_too_many(program: &Program)
+    ensures { (values : List ℤ) → EndsWith program.now values → HasTooMany program.now → ⊥ }
+{
+    let _ = program;
+}

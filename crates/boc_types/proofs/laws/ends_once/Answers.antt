@@ -1,5 +1,0 @@
-use Rattle.boc_types.proofs.OwnOrders.{ends_once}
-use Rattle.boc_types.proofs.laws.ends_once.Goals as goal
-
-pub returns : goal.returns
-returns c = ends_once c.args.program.now

@@ -1,5 +1,0 @@
-use Rattle.boc_types.proofs.OwnOrders.{not_too_many}
-use Rattle.boc_types.proofs.laws.ends_or_has_too_many.Goals as goal
-
-pub returns : goal.returns
-returns c = not_too_many c.args.program.now

@@ -1,5 +1,0 @@
-use Rattle.boc_types.proofs.RunsAreLegal.{run_is_legal}
-use Rattle.boc_types.proofs.laws.runs_are_legal.Goals as goal
-
-pub returns : goal.returns
-returns c = run_is_legal

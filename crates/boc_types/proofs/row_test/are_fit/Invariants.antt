@@ -1,8 +1,0 @@
-use Rattle.std.proofs.Common.{◌≡◌, ◌<◌, ℕ, length, slice_index}
-use Rattle.boc_types.specs.runs.Rows.{IsFit, IsLast}
-use Rattle.boc_types.proofs.row_test.are_fit.Given as goal
-
--- the rows so far are fit, and the table has their last children
-abbrev pub invariant-loop-number : goal.invariant-loop-number
-invariant-loop-number l =
-    ((r : ℕ) → r < l.number → IsFit l.rows r) × ((p : ℕ) → IsLast l.rows l.number p (slice_index l.last p)) × (length l.last ≡ length l.fn.last)

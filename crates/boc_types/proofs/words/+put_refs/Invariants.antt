@@ -1,5 +1,0 @@
-use Rattle.std.specs.Prelude.{length}
-use Rattle.boc_types.proofs.words.+put_refs.Given as goal
-
-abbrev pub decreases-put_refs : goal.decreases-put_refs
-decreases-put_refs l = length l.references.now

@@ -1,4 +1,0 @@
-pub mod Plans
-pub mod Chains
-pub mod Greedy
-pub mod Edits

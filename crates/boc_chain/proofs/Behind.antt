@@ -15,7 +15,8 @@ use Rattle.boc_chain.proofs.Steps.{behind_answer, linked_spelled, blocked_spelle
 use Rattle.boc_chain.proofs.Placed.{Neighbour, at_kept, before_it, linked_placed}
 
 -- the link of a request names m as the one before it, whose link is la
-module _ {held : Slab Linked} {c : ℕ} {own m : Node} {xs : List Request} {l la : Link} (h : Holds held c own xs) (got : stored held own.slot c ≡ Some l) (is : l.before ≡ Some m) (ahead : IsAt held m c → stored held m.slot c ≡ Some la) where
+module _ {held : Slab Linked} {c : ℕ} {own m : Node} {xs : List Request} {l la : Link} (h : Holds held c own xs) (got : stored held own.slot c ≡ Some l)
+    (is : l.before ≡ Some m) (ahead : IsAt held m c → stored held m.slot c ≡ Some la) where
   it : Neighbour held c m xs
   it = before_it held c own m xs l h got is
 
@@ -48,5 +49,6 @@ module _ {held : Slab Linked} {c : ℕ} {own m : Node} {xs : List Request} {l la
       let put' = here' c l (at_kept held mid own c (ap cowns_of (places own.slot)) h.at) (others own.slot c far ∙ got) in (
         linked_spelled (links held) (links mid) (links held') c own.slot m.slot xs (seen l) (seen la) h.inside (ap (option_map seen) got) named tie_ahead on
             (ap (option_map seen) put) (λ t n. ap (option_map seen) (others t c n)) (ap (option_map seen) put') (λ t n. ap (option_map seen) (others' t c n)),
-        linked_placed held mid held' c own m xs (before own.slot xs) l la h got (ahead it.at) it.there put (λ t n. others t c n) places put' (λ t n. others' t c n) places',
+        linked_placed held mid held' c own m xs (before own.slot xs) l la h got (ahead it.at) it.there put (λ t n. others t c n) places put'
+            (λ t n. others' t c n) places',
       )

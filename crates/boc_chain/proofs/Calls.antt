@@ -1,5 +1,6 @@
 -- What linked chains keep at each call, and the lists after it.
-use Rattle.std.proofs.Common.{◌≡◌, ◌≢◌, ◌↔◌, ℕ, zero, suc, ◌+◌, ◌-◌, ◌^◌, ◌<◌, ◌≤◌, Bool, true, false, cond, List, [], ◌∷◌, ◌++◌, length, drop, set, get_or, refl, sym, ◌∙◌, ap, subst, inl, inr, arith, length-set, get_or-set_same, get_or-set_other}
+use Rattle.std.proofs.Common.{◌≡◌, ◌≢◌, ◌↔◌, ℕ, zero, suc, ◌+◌, ◌-◌, ◌^◌, ◌<◌, ◌≤◌, Bool, true, false, cond, List, [], ◌∷◌, ◌++◌, length, drop, set, get_or}
+use Rattle.std.proofs.Common.{refl, sym, ◌∙◌, ap, subst, inl, inr, arith, length-set, get_or-set_same, get_or-set_other}
 use Rattle.std.specs.Prelude.{Option, Some, None, slice_get, slice_index_or, position, ◌==◌, replicate, is_some, IsSome, count_by}
 use Rattle.std.specs.Option.{option_map, option_and_then}
 use Rattle.slab.specs.Slab.{Slab, get, slab_len, Updates}
@@ -8,9 +9,11 @@ use Rattle.boc_chain.specs.declared.request.Released.TheVariants.{Unhooked, Pass
 use Rattle.boc_chain.specs.declared.linked.Node.{Node}
 use Rattle.boc_chain.specs.declared.linked.Link.{Link}
 use Rattle.boc_chain.specs.KeptLinks.{Linked}
-use Rattle.boc_chain.specs.Chain.{Place, IsGranted, StandsIn, times, slots, list, list_for, with_change, cowns_of, exchanged_of, cown, one_more, fresh, with_fresh, slot_of, last_slot, before, with_flagged, after_settle, leave_answer, after_leave}
+use Rattle.boc_chain.specs.Chain.{Place, IsGranted, StandsIn, times, slots, list, list_for, with_change, cowns_of, exchanged_of, cown, one_more, fresh}
+use Rattle.boc_chain.specs.Chain.{with_fresh, slot_of, last_slot, before, with_flagged, after_settle, leave_answer, after_leave}
 use Rattle.boc_chain.specs.Links.{Tie, Spells, end_of, next_of}
-use Rattle.boc_chain.specs.Linked.{stored_in, stored, seen, links, IsAt, IsPlaced, Holds, Leads, last_at, place_in, place_at, slot_at, IsSpelled, IsList, IsLinked, last_of, line, from, lists_of, passed}
+use Rattle.boc_chain.specs.Linked.{stored_in, stored, seen, links, IsAt, IsPlaced, Holds, Leads, last_at, place_in, place_at, slot_at, IsSpelled, IsList}
+use Rattle.boc_chain.specs.Linked.{IsLinked, last_of, line, from, lists_of, passed}
 use Rattle.boc_chain.proofs.Lines.{same_or_not}
 use Rattle.boc_chain.proofs.Fuel.{read}
 use Rattle.boc_chain.proofs.Spelled.{has_link, slots_flagged, slots_append, times_append, times_other}
@@ -35,10 +38,12 @@ line_is : (last : List (Option Node)) (held : Slab Linked) (c k : ℕ) → c ≡
 line_is last held c k e h = list_is last held k h ∙ ap (line last held) (sym e)
 
 -- the request that a call is for is at its place
-at_now : (last : List (Option Node)) (held : Slab Linked) (peak c : ℕ) (own : Node) → IsLinked last held peak → c ≡ cown (place_at held own.slot) own.place → own.place < length (cowns_of (place_at held own.slot)) → IsAt held own c
+at_now : (last : List (Option Node)) (held : Slab Linked) (peak c : ℕ) (own : Node) → IsLinked last held peak → c ≡ cown (place_at held own.slot) own.place
+    → own.place < length (cowns_of (place_at held own.slot)) → IsAt held own c
 at_now last held peak c own h e there = subst (λ x. IsAt held own x) (sym e) (own_at held own (h.distinct own.slot) there)
 
-in_now : (last : List (Option Node)) (held : Slab Linked) (peak c k : ℕ) (own : Node) → IsLinked last held peak → c ≡ k → k < length last → IsAt held own c → 0 < times own.slot (slots (list (lists_of last held) k)) → Holds held c own (line last held c)
+in_now : (last : List (Option Node)) (held : Slab Linked) (peak c k : ℕ) (own : Node) → IsLinked last held peak → c ≡ k → k < length last → IsAt held own c
+    → 0 < times own.slot (slots (list (lists_of last held) k)) → Holds held c own (line last held c)
 in_now last held peak c k own h e b at m = record {
   inside = record {
     spelled = (h.spelled c (below_too c k (length last) e b)).spelled;
@@ -48,7 +53,8 @@ in_now last held peak c k own h e b at m = record {
   placed = h.placed c (below_too c k (length last) e b);
 }
 
-front_now : (last : List (Option Node)) (held : Slab Linked) (peak c k : ℕ) (own : Node) → IsLinked last held peak → c ≡ k → k < length last → IsAt held own c → IsGranted own.slot (list (lists_of last held) k) → Leads held c own (line last held c)
+front_now : (last : List (Option Node)) (held : Slab Linked) (peak c k : ℕ) (own : Node) → IsLinked last held peak → c ≡ k → k < length last → IsAt held own c
+    → IsGranted own.slot (list (lists_of last held) k) → Leads held c own (line last held c)
 front_now last held peak c k own h e b at g = record {
   front = record {
     spelled = (h.spelled c (below_too c k (length last) e b)).spelled;
@@ -63,7 +69,8 @@ abbrev pub node_at : ℕ → ℕ → Node
 node_at slot i = record { slot = slot; place = i }
 
 -- such a request, as a call finds it
-module _ {last : List (Option Node)} {held : Slab Linked} {peak : ℕ} (h : IsLinked last held peak) (slot i : ℕ) (there : i < length (cowns_of (place_at held slot))) where
+module _ {last : List (Option Node)} {held : Slab Linked} {peak : ℕ} (h : IsLinked last held peak) (slot i : ℕ)
+    (there : i < length (cowns_of (place_at held slot))) where
   own_at_now : IsAt held (node_at slot i) (cown (place_at held slot) i)
   own_at_now = at_now last held peak (cown (place_at held slot) i) (node_at slot i) h refl there
 
@@ -82,12 +89,20 @@ module _ {last : List (Option Node)} {held : Slab Linked} {peak : ℕ} (h : IsLi
 
   -- some list has it in front
   pub some_leads : IsGranted slot (list_for (lists_of last held) (place_at held slot) i) → (c : ℕ) × ((xs : List Request) × Leads held c (node_at slot i) xs)
-  some_leads g = (_, (_, front_now last held peak (cown (place_at held slot) i) (cown (place_at held slot) i) (node_at slot i) h refl (h.in_range slot i there) own_at_now g))
+  some_leads g = (
+    _,
+    (
+      _,
+      front_now last held peak (cown (place_at held slot) i) (cown (place_at held slot) i) (node_at slot i) h refl (h.in_range slot i there)
+          own_at_now g,
+    ),
+  )
 
   -- what is said of each list that has it is so of the list of its cown
   pub said_of : (P : List Request → Type 0) → ((c : ℕ) (xs : List Request) → Holds held c (node_at slot i) xs → P xs)
       → StandsIn (list_for (lists_of last held) (place_at held slot) i) slot → P (list_for (lists_of last held) (place_at held slot) i)
-  said_of P told m = subst P (sym (line_is last held (cown (place_at held slot) i) (cown (place_at held slot) i) refl (h.in_range slot i there))) (told _ _ (own_holds m))
+  said_of P told m = subst P (sym (line_is last held (cown (place_at held slot) i) (cown (place_at held slot) i) refl (h.in_range slot i there)))
+      (told _ _ (own_holds m))
 
   pub flag_call : (held' : Slab Linked) → StandsIn (list_for (lists_of last held) (place_at held slot) i) slot
       → ((c : ℕ) (l : Link) → IsAt held (node_at slot i) c → stored held slot c ≡ Some l → stored held' slot c ≡ Some (record l { scheduled = true }))
@@ -100,8 +115,10 @@ module _ {last : List (Option Node)} {held : Slab Linked} {peak : ℕ} (h : IsLi
       let l = has_stored held c slot (line last held c) it.inside.spelled it.inside.there in
       let put = here c l.0 own_at_now l.1 in
       let names = it.placed slot l.0 it.inside.there l.1 in
-      one_changed last last held held' peak c c (λ q. with_flagged slot q) h refl (h.in_range slot i there) refl (λ d n. refl) (λ s d n. cowns_same c s d own_at_now n) (λ s. ap cowns_of (places s)) len
-      (flagged (links held) (links held') c slot (last_of last c) (line last held c) (seen l.0) (h.spelled c (h.in_range slot i there)) (ap (option_map seen) l.1) (ap (option_map seen) put) (λ t n. ap (option_map seen) (slots_same t c n)))
+      one_changed last last held held' peak c c (λ q. with_flagged slot q) h refl (h.in_range slot i there) refl (λ d n. refl)
+      (λ s d n. cowns_same c s d own_at_now n) (λ s. ap cowns_of (places s)) len
+      (flagged (links held) (links held') c slot (last_of last c) (line last held c) (seen l.0) (h.spelled c (h.in_range slot i there))
+      (ap (option_map seen) l.1) (ap (option_map seen) put) (λ t n. ap (option_map seen) (slots_same t c n)))
       (placed_put held held' c slot (line last held c) (with_flagged slot (line last held c)) (record l.0 { scheduled = true }) it.placed
       (λ t b n. subst (λ ys. 0 < times t ys) (slots_flagged slot (line last held c)) b)
       (λ s. ap cowns_of (places s)) put (record { before = names.before; next = names.next }) (λ t n. slots_same t c n))
@@ -117,7 +134,8 @@ module _ {last : List (Option Node)} {held : Slab Linked} {peak : ℕ} (h : IsLi
       let c = cown (place_at held slot) i in
       let inside = h.in_range slot i there in
       let it = own_holds m in
-      one_changed last last held held' peak c c (λ q. after_settle slot q) h refl inside refl (λ d n. refl) (λ s d n. cowns_same c s d (line last held c) it n) (λ s. ap cowns_of (places s)) len
+      one_changed last last held held' peak c c (λ q. after_settle slot q) h refl inside refl (λ d n. refl) (λ s d n. cowns_same c s d (line last held c) it n)
+      (λ s. ap cowns_of (places s)) len
       (record {
         spelled = spelled c (line last held c) it;
         ends = end_after_settle (before slot (line last held c)) slot (line last held c) ∙ (h.spelled c inside).ends;
@@ -131,13 +149,15 @@ cowns_more : (p : Option Place) → cowns_of (one_more p) ≡ cowns_of p
 cowns_more None = refl
 cowns_more (Some p) = refl
 
-fresh_in : (o : Option Linked) (i : ℕ) → ((d : ℕ) → times d (cowns_of (place_in o)) ≤ 1) → i < length (cowns_of (place_in o)) → i ≡ exchanged_of (place_in o) → stored_in o (cown (place_in o) i) ≡ None
+fresh_in : (o : Option Linked) (i : ℕ) → ((d : ℕ) → times d (cowns_of (place_in o)) ≤ 1) → i < length (cowns_of (place_in o)) → i ≡ exchanged_of (place_in o)
+    → stored_in o (cown (place_in o) i) ≡ None
 fresh_in None i one h e = refl
 fresh_in (Some v) i one h e = no_link v.cowns.items v.links i one h (omega arith)
 
 in_pushed : (xs : List Request) (s t : ℕ) → 0 < times t (slots (xs ++ (fresh s ∷ []))) → t ≢ s → 0 < times t (slots xs)
 in_pushed xs s t m n =
-    let a : times t (slots (xs ++ (fresh s ∷ []))) ≡ times t (slots xs) + times t (s ∷ []) = ap (times t) (slots_append xs (fresh s ∷ [])) ∙ times_append t (slots xs) (s ∷ []) in
+    let a : times t (slots (xs ++ (fresh s ∷ []))) ≡ times t (slots xs) + times t (s ∷ []) =
+    ap (times t) (slots_append xs (fresh s ∷ [])) ∙ times_append t (slots xs) (s ∷ []) in
     let b = times_other t s [] (λ z. n (sym z)) in omega arith
 
 end_get : (r : Request) (xs : List Request) → option_map slot_of (slice_get (r ∷ xs) (length xs)) ≡ option_map slot_at (end_of (Some r.slot) xs)
@@ -149,10 +169,13 @@ last_is [] = refl
 last_is (r ∷ xs) = ap (λ n. option_map slot_of (slice_get (r ∷ xs) n)) (let e : suc (length xs) - 1 ≡ length xs = omega arith in e) ∙ end_get r xs
 
 -- its cown was read
-module _ {last : List (Option Node)} {held : Slab Linked} {peak : ℕ} (h : IsLinked last held peak) (slot i : ℕ) (there : i < length (cowns_of (place_at held slot)))
+module _ {last : List (Option Node)} {held : Slab Linked} {peak : ℕ} (h : IsLinked last held peak) (slot i : ℕ)
+    (there : i < length (cowns_of (place_at held slot)))
     (c : ℕ) (e : c ≡ cown (place_at held slot) i) (b : Option Node) (is : b ≡ slice_index_or last c b) where
   pub swap_call : (held' : Slab Linked) → i ≡ exchanged_of (place_at held slot)
-      → (((d : ℕ) → times d (cowns_of (place_at held slot)) ≤ 1) → stored held' slot (cown (place_at held slot) (exchanged_of (place_at held slot))) ≡ Some (record { settled = false; scheduled = false; before = b; next = None }))
+      → (((d : ℕ) → times d (cowns_of (place_at held slot)) ≤ 1)
+      → stored held' slot (cown (place_at held slot) (exchanged_of (place_at held slot)))
+      ≡ Some (record { settled = false; scheduled = false; before = b; next = None }))
       → ((s d : ℕ) → s ≢ slot → stored held' s d ≡ stored held s d)
       → ((s d : ℕ) → d ≢ cown (place_at held slot) (exchanged_of (place_at held slot)) → stored held' s d ≡ stored held s d)
       → place_at held' slot ≡ one_more (place_at held slot) → ((s : ℕ) → s ≢ slot → place_at held' s ≡ place_at held s) → slab_len held' ≡ slab_len held
@@ -168,19 +191,22 @@ module _ {last : List (Option Node)} {held : Slab Linked} {peak : ℕ} (h : IsLi
         | inl f ↦ ap (λ t. cowns_of (place_at held' t)) f ∙ ap cowns_of place ∙ cowns_more (place_at held slot) ∙ ap (λ t. cowns_of (place_at held t)) (sym f)
         | inr f ↦ ap cowns_of (places s f)
       ] in
-      let link : stored held' slot c ≡ Some (record { settled = false; scheduled = false; before = b; next = None }) = ap (stored held' slot) (sym same) ∙ here (h.distinct slot) in
+      let link : stored held' slot c ≡ Some (record { settled = false; scheduled = false; before = b; next = None }) =
+      ap (stored held' slot) (sym same) ∙ here (h.distinct slot) in
       one_changed last (set last c (Some own)) held held' peak c (cown (place_at held slot) i) (λ q. q ++ (fresh slot ∷ [])) h e below
       (length-set last c (Some own))
       (λ d n. get_or-set_other last c d (Some own) None n)
       (λ s d n. cowns_same s d (λ z. n (z ∙ same)))
       cowns
       len
-      (subst (λ o. IsList (links held') c o (line last held c ++ (fresh slot ∷ []))) (sym (ap (option_map (λ (n : Node). n.slot)) (get_or-set_same last c (Some own) None inside)))
+      (subst (λ o. IsList (links held') c o (line last held c ++ (fresh slot ∷ [])))
+      (sym (ap (option_map (λ (n : Node). n.slot)) (get_or-set_same last c (Some own) None inside)))
       (swapped (links held) (links held') c slot (last_of last c) (line last held c) (h.spelled c inside)
       (ap (links held slot) e ∙ ap (option_map seen) (fresh_in (get held slot) i (h.distinct slot) there next))
       (ap (option_map seen) link ∙ ap (λ (o : Option Node). Some (seen (record { settled = false; scheduled = false; before = o; next = None }))) read)
       (λ t n. ap (option_map seen) (slots_same t c n))))
-      (placed_put held held' c slot (line last held c) (line last held c ++ (fresh slot ∷ [])) (record { settled = false; scheduled = false; before = b; next = None }) (h.placed c inside)
+      (placed_put held held' c slot (line last held c) (line last held c ++ (fresh slot ∷ []))
+      (record { settled = false; scheduled = false; before = b; next = None }) (h.placed c inside)
       (λ t m n. in_pushed (line last held c) slot t m n)
       cowns link
       (record { before = λ n q. h.ended c n inside (sym read ∙ q); next = λ n q. absurd (let f : None ≡ Some n = q in cc) })
@@ -193,7 +219,8 @@ module _ {last : List (Option Node)} {held : Slab Linked} {peak : ℕ} (h : IsLi
   pub swap_answer : option_map slot_at (option_map (λ (n : Node). n.slot) b) ≡ last_slot (list_for (lists_of last held) (place_at held slot) i)
   swap_answer =
       let below = h.in_range slot i there in
-      ap (option_map slot_at) (ap (option_map (λ (n : Node). n.slot)) (last_read last c (cown (place_at held slot) i) b e below is) ∙ sym (h.spelled c (below_too c (cown (place_at held slot) i) (length last) e below)).ends)
+      ap (option_map slot_at) (ap (option_map (λ (n : Node). n.slot)) (last_read last c (cown (place_at held slot) i) b e below is)
+      ∙ sym (h.spelled c (below_too c (cown (place_at held slot) i) (length last) e below)).ends)
       ∙ sym (last_is (line last held c)) ∙ ap last_slot (sym (line_is last held c (cown (place_at held slot) i) e below))
 
 -- leave
@@ -246,19 +273,23 @@ module _ {last : List (Option Node)} {held : Slab Linked} {peak slot i c : ℕ} 
   line_is_its = line_is last held c (cown (place_at held slot) i) w.same below
 
   front : Leads held c (node_at slot i) (line last held c)
-  front = front_now last held peak c (cown (place_at held slot) i) (node_at slot i) w.linked w.same below (at_now last held peak c (node_at slot i) w.linked w.same w.there) w.granted
+  front = front_now last held peak c (cown (place_at held slot) i) (node_at slot i) w.linked w.same below
+      (at_now last held peak c (node_at slot i) w.linked w.same w.there) w.granted
 
   its_list : IsList (links held) c (last_of last c) (line last held c)
   its_list = w.linked.spelled c inside
 
   -- whether the node that was read as the last is at the slot
-  pub is_last : {b : Option Node} {r : Bool} → b ≡ slice_index_or last c b → (r ≡ true) ↔ (option_map (λ (n : Node). n.slot) b ≡ Some slot) → (r ≡ true) ↔ (last_of last c ≡ Some slot)
+  pub is_last : {b : Option Node} {r : Bool} → b ≡ slice_index_or last c b → (r ≡ true) ↔ (option_map (λ (n : Node). n.slot) b ≡ Some slot)
+      → (r ≡ true) ↔ (last_of last c ≡ Some slot)
   is_last {b} is at =
-      let read : option_map (λ (n : Node). n.slot) b ≡ last_of last c = ap (option_map (λ (n : Node). n.slot)) (last_read last c (cown (place_at held slot) i) b w.same below is) in
+      let read : option_map (λ (n : Node). n.slot) b ≡ last_of last c =
+      ap (option_map (λ (n : Node). n.slot)) (last_read last c (cown (place_at held slot) i) b w.same below is) in
       (λ e. sym read ∙ at.0 e, λ e. at.1 (read ∙ e))
 
   -- it isn't
-  pub not_last : {b : Option Node} {r : Bool} → b ≡ slice_index_or last c b → (r ≡ true) ↔ (option_map (λ (n : Node). n.slot) b ≡ Some slot) → r ≡ false → ¬ (last_of last c ≡ Some slot)
+  pub not_last : {b : Option Node} {r : Bool} → b ≡ slice_index_or last c b → (r ≡ true) ↔ (option_map (λ (n : Node). n.slot) b ≡ Some slot) → r ≡ false
+      → ¬ (last_of last c ≡ Some slot)
   not_last {b} {r} is at off = λ e. absurd (let on : r ≡ true = (is_last is at).1 e in cc)
 
   pub leave_some_answer : {n : ℕ} → next ≡ Some n → Passed (slot_at n) ≡ leave_answer (list_for (lists_of last held) (place_at held slot) i)
@@ -269,7 +300,8 @@ module _ {last : List (Option Node)} {held : Slab Linked} {peak slot i c : ℕ} 
       (let g : IsGranted slot (r ∷ []) = subst (λ ys. IsGranted slot ys) e front.front.granted in g.0))
 
   pub leave_blocked_answer : next ≡ None → ¬ (last_of last c ≡ Some slot) → Blocked ≡ leave_answer (list_for (lists_of last held) (place_at held slot) i)
-  leave_blocked_answer e n = answer_none (line last held c) slot front.front.granted (sym (w.answer c (line last held c) front) ∙ e) (only_last n) ∙ ap leave_answer (sym line_is_its)
+  leave_blocked_answer e n = answer_none (line last held c) slot front.front.granted (sym (w.answer c (line last held c) front) ∙ e) (only_last n)
+      ∙ ap leave_answer (sym line_is_its)
 
   alone : last_of last c ≡ Some slot → (Unhooked ≡ leave_answer (line last held c)) × (after_leave (line last held c) ≡ [])
   alone e = answer_alone (line last held c) (left_none (links held) c slot (last_of last c) (line last held c) its_list front.front.granted e)
@@ -313,29 +345,40 @@ pub record Leaves (last : List (Option Node)) (held held' : Slab Linked) (peak s
 
 module _ {last : List (Option Node)} {held held' : Slab Linked} {peak slot i c : ℕ} {next : Option ℕ} (w : Leaves last held held' peak slot i c next) where
   -- not the only one
-  passes : ((r : Request) → line last held c ≡ r ∷ [] → ⊥) → IsLinked last held' peak × (lists_of last held' ≡ with_change after_leave (lists_of last held) (place_at held slot) i)
-  passes h = one_changed last last held held' peak c (cown (place_at held slot) i) after_leave w.fronts.linked w.fronts.same (below w.fronts) refl (λ d n. refl) (λ s d n. w.cowns_same c s d (line last held c) (front w.fronts) n) (λ s. ap cowns_of (w.places s)) w.len
+  passes : ((r : Request) → line last held c ≡ r ∷ [] → ⊥)
+      → IsLinked last held' peak × (lists_of last held' ≡ with_change after_leave (lists_of last held) (place_at held slot) i)
+  passes h = one_changed last last held held' peak c (cown (place_at held slot) i) after_leave w.fronts.linked w.fronts.same (below w.fronts) refl (λ d n. refl)
+      (λ s d n. w.cowns_same c s d (line last held c) (front w.fronts) n) (λ s. ap cowns_of (w.places s)) w.len
       (subst (λ ys. IsList (links held') c (last_of last c) ys) (passed_is (line last held c) h)
       (record { spelled = w.spelled c (line last held c) (front w.fronts); ends = end_passed (line last held c) ∙ (its_list w.fronts).ends }))
       (subst (λ ys. IsPlaced held' c ys) (passed_is (line last held c) h) (w.placed c (line last held c) (front w.fronts)))
       (λ n q. at_kept held held' n c (ap cowns_of (w.places n.slot)) (w.fronts.linked.ended c n (inside w.fronts) q))
 
-  pub leave_some : {n : ℕ} → next ≡ Some n → IsLinked last held' peak × (lists_of last held' ≡ with_change after_leave (lists_of last held) (place_at held slot) i)
+  pub leave_some : {n : ℕ} → next ≡ Some n → IsLinked last held' peak
+      × (lists_of last held' ≡ with_change after_leave (lists_of last held) (place_at held slot) i)
   leave_some e = passes (not_one (line last held c) _ (sym (w.fronts.answer c (line last held c) (front w.fronts)) ∙ e))
 
-  pub leave_blocked : ¬ (last_of last c ≡ Some slot) → IsLinked last held' peak × (lists_of last held' ≡ with_change after_leave (lists_of last held) (place_at held slot) i)
+  pub leave_blocked : ¬ (last_of last c ≡ Some slot) → IsLinked last held' peak
+      × (lists_of last held' ≡ with_change after_leave (lists_of last held) (place_at held slot) i)
   leave_blocked n = passes (only_last w.fronts n)
 
-  pub leave_alone : last_of last c ≡ Some slot → IsLinked (set last c None) held' peak × (lists_of (set last c None) held' ≡ with_change after_leave (lists_of last held) (place_at held slot) i)
-  leave_alone e = one_changed last (set last c None) held held' peak c (cown (place_at held slot) i) after_leave w.fronts.linked w.fronts.same (below w.fronts) (length-set last c None) (λ d n. get_or-set_other last c d None None n) (λ s d n. w.cowns_same c s d (line last held c) (front w.fronts) n) (λ s. ap cowns_of (w.places s)) w.len
+  pub leave_alone : last_of last c ≡ Some slot → IsLinked (set last c None) held' peak
+      × (lists_of (set last c None) held' ≡ with_change after_leave (lists_of last held) (place_at held slot) i)
+  leave_alone e = one_changed last (set last c None) held held' peak c (cown (place_at held slot) i) after_leave w.fronts.linked w.fronts.same (below w.fronts)
+      (length-set last c None) (λ d n. get_or-set_other last c d None None n) (λ s d n. w.cowns_same c s d (line last held c) (front w.fronts) n)
+      (λ s. ap cowns_of (w.places s)) w.len
       (subst (λ ys. IsList (links held') c (last_of (set last c None) c) ys) (sym (alone w.fronts e).1)
-      (record { spelled = record { spells = tt; once = λ s. omega arith }; ends = sym (ap (option_map (λ (n : Node). n.slot)) (get_or-set_same last c None None (inside w.fronts))) }))
+      (record {
+        spelled = record { spells = tt; once = λ s. omega arith };
+        ends = sym (ap (option_map (λ (n : Node). n.slot)) (get_or-set_same last c None None (inside w.fronts)));
+      }))
       (subst (λ ys. IsPlaced held' c ys) (sym (alone w.fronts e).1) (λ t l m q. absurd (omega arith)))
       (λ n q. absurd (let f : None ≡ Some n = sym (get_or-set_same last c None None (inside w.fronts)) ∙ q in cc))
 
 -- admit and dismiss
 
-pub grown : (last : List (Option Node)) (held held' : Slab Linked) (peak n : ℕ) → IsLinked last held peak → held' ≡ record held { capacity = n } → IsLinked last held' peak × (lists_of last held' ≡ lists_of last held)
+pub grown : (last : List (Option Node)) (held held' : Slab Linked) (peak n : ℕ) → IsLinked last held peak → held' ≡ record held { capacity = n }
+    → IsLinked last held' peak × (lists_of last held' ≡ lists_of last held)
 grown last held held' peak n h e = subst (λ (z : Slab Linked). IsLinked last z peak × (lists_of last z ≡ lists_of last held)) (sym e)
     (none_changed last held (record held { capacity = n }) peak peak h (λ s c b m. refl) (λ n c b m at. at) h.distinct h.in_range h.short h.held)
 
@@ -344,10 +387,13 @@ nothing None = refl
 nothing (Some i) = refl
 
 no_links : (v : Linked) (c : ℕ) → v.links ≡ [] → stored_in (Some v) c ≡ None
-no_links v c e = ap (λ (ls : List Link). option_and_then (λ i. slice_get ls i) (position (λ d. d == c) v.cowns.items)) e ∙ nothing (position (λ d. d == c) v.cowns.items)
+no_links v c e = ap (λ (ls : List Link). option_and_then (λ i. slice_get ls i) (position (λ d. d == c) v.cowns.items)) e
+    ∙ nothing (position (λ d. d == c) v.cowns.items)
 
-pub admit_call : (last : List (Option Node)) (held mid held' : Slab Linked) (peak n key peak' : ℕ) (v : Linked) → IsLinked last held peak → mid ≡ record held { capacity = n }
-    → get mid key ≡ None → Updates mid held' key (Some v) → v.links ≡ [] → ((c : ℕ) → times c v.cowns.items ≤ 1) → ((c : ℕ) → 0 < times c v.cowns.items → c < length (lists_of last held))
+pub admit_call : (last : List (Option Node)) (held mid held' : Slab Linked) (peak n key peak' : ℕ) (v : Linked) → IsLinked last held peak
+    → mid ≡ record held { capacity = n }
+    → get mid key ≡ None → Updates mid held' key (Some v) → v.links ≡ [] → ((c : ℕ) → times c v.cowns.items ≤ 1)
+    → ((c : ℕ) → 0 < times c v.cowns.items → c < length (lists_of last held))
     → ((i : ℕ) → i < length v.cowns.items → (key < 2 ^ 16) × (i < 2 ^ 8))
     → slab_len held' ≤ peak' → IsLinked last held' peak' × (lists_of last held' ≡ lists_of last held)
 admit_call last held mid held' peak n key peak' v h e vacant updates none distinct range short few =
@@ -385,14 +431,18 @@ admit_call last held mid held' peak n key peak' v h e vacant updates none distin
     (r.0, r.1 ∙ g.1)
 
 pub dismiss_call : (last : List (Option Node)) (held held' : Slab Linked) (peak slot : ℕ) → IsLinked last held peak → Updates held held' slot None
-    → ((c : ℕ) → times slot (slots (list (lists_of last held) c)) ≡ 0) → slab_len held' + 1 ≡ slab_len held → IsLinked last held' peak × (lists_of last held' ≡ lists_of last held)
+    → ((c : ℕ) → times slot (slots (list (lists_of last held) c)) ≡ 0) → slab_len held' + 1 ≡ slab_len held
+    → IsLinked last held' peak × (lists_of last held' ≡ lists_of last held)
 dismiss_call last held held' peak slot h updates empty len =
     let at = λ (s : ℕ) (f : s ≡ slot). ap (get held') f ∙ updates.changed in
     none_changed last held held' peak peak h
     (λ s c b m. ap (λ o. stored_in o c) (updates.others s (λ f.
-    let z : times s (slots (line last held c)) ≡ 0 = ap (λ t. times t (slots (line last held c))) f ∙ ap (λ ys. times slot (slots ys)) (sym (list_is last held c b)) ∙ empty c in absurd (omega arith))))
+    let z : times s (slots (line last held c)) ≡ 0 = ap (λ t. times t (slots (line last held c))) f
+    ∙ ap (λ ys. times slot (slots ys)) (sym (list_is last held c b)) ∙ empty c in absurd (omega arith))))
     (λ n c b m at_c. ap (λ o. position (λ d. d == c) (cowns_of (place_in o))) (updates.others n.slot (λ f.
-    let z : times n.slot (slots (line last held c)) ≡ 0 = ap (λ t. times t (slots (line last held c))) f ∙ ap (λ ys. times slot (slots ys)) (sym (list_is last held c b)) ∙ empty c in absurd (omega arith))) ∙ at_c)
+    let z : times n.slot (slots (line last held c)) ≡ 0 =
+    ap (λ t. times t (slots (line last held c))) f ∙ ap (λ ys. times slot (slots ys)) (sym (list_is last held c b)) ∙ empty c in absurd (omega arith)))
+    ∙ at_c)
     (λ s x. elim (same_or_not s slot) [
       | inl f ↦ subst (λ o. times x (cowns_of (place_in o)) ≤ 1) (sym (at s f)) (omega arith)
       | inr f ↦ subst (λ o. times x (cowns_of (place_in o)) ≤ 1) (sym (updates.others s f)) (h.distinct s x)
@@ -426,10 +476,15 @@ length_none (suc n) = ap (λ m. suc m) (length_none n)
 no_place : (held : Slab Linked) (s : ℕ) → held.slots ≡ [] → get held s ≡ None
 no_place held s e = ap (λ (ys : List (Option Linked)). slice_index_or ys s None) e
 
-pub new_chains : (last : List (Option Node)) (held : Slab Linked) (n : ℕ) → last ≡ replicate n None → held.slots ≡ [] → IsLinked last held 0 × (lists_of last held ≡ replicate n []) × ((s : ℕ) → place_at held s ≡ None)
+pub new_chains : (last : List (Option Node)) (held : Slab Linked) (n : ℕ) → last ≡ replicate n None → held.slots ≡ []
+    → IsLinked last held 0 × (lists_of last held ≡ replicate n []) × ((s : ℕ) → place_at held s ≡ None)
 unfolding lists_of
 new_chains last held n e none =
-    let is = λ (c : ℕ). let l : IsList (links held) c (last_of last c) [] = record { spelled = record { spells = tt; once = λ s. omega arith }; ends = sym (ap (option_map (λ (k : Node). k.slot)) (ap (λ (ls : List (Option Node)). last_at ls c) e ∙ none_last n c)) } in l in
+    let is = λ (c : ℕ). let l : IsList (links held) c (last_of last c) [] =
+    record {
+      spelled = record { spells = tt; once = λ s. omega arith };
+      ends = sym (ap (option_map (λ (k : Node). k.slot)) (ap (λ (ls : List (Option Node)). last_at ls c) e ∙ none_last n c));
+    } in l in
     let at = λ (s : ℕ). no_place held s none in (
       record {
         spelled = λ c b. subst (λ ys. IsList (links held) c (last_of last c) ys) (sym (read held c (last_of last c) [] (is c))) (is c);
@@ -440,7 +495,8 @@ new_chains last held n e none =
         short = λ s i b. (let z : i < length {A = ℕ} [] = subst (λ o. i < length (cowns_of (place_in o))) (at s) b in absurd (omega arith));
         held = subst (λ (ys : List (Option Linked)). count_by is_some ys ≤ 0) (sym none) (omega arith);
       },
-      from_same (λ c. []) (line last held) 0 (length last) (λ d m b. read held d (last_of last d) [] (is d)) ∙ ap (from (λ c. []) 0) (ap length e ∙ length_none n) ∙ from_none 0 n,
+      from_same (λ c. []) (line last held) 0 (length last) (λ d m b. read held d (last_of last d) [] (is d))
+          ∙ ap (from (λ c. []) 0) (ap length e ∙ length_none n) ∙ from_none 0 n,
       λ s. ap place_in (at s),
     )
 
@@ -448,17 +504,20 @@ place_there : (o : Option Linked) (c : ℕ) (l : Tie) → option_map seen (store
 place_there None c l e = absurd (let f : None ≡ Some l = e in cc)
 place_there (Some v) c l e = refl
 
-pub said_last : (last : List (Option Node)) (held : Slab Linked) (peak c : ℕ) → IsLinked last held peak → c < length (lists_of last held) → last_of last c ≡ end_of None (list (lists_of last held) c)
+pub said_last : (last : List (Option Node)) (held : Slab Linked) (peak c : ℕ) → IsLinked last held peak → c < length (lists_of last held)
+    → last_of last c ≡ end_of None (list (lists_of last held) c)
 said_last last held peak c h b =
     let b' : c < length last = omega (arith, lists_length last held) in
     sym (h.spelled c b').ends ∙ ap (end_of None) (sym (list_is last held c b'))
 
-pub said_links : (last : List (Option Node)) (held : Slab Linked) (peak c : ℕ) → IsLinked last held peak → c < length (lists_of last held) → Spells (links held) c None (list (lists_of last held) c)
+pub said_links : (last : List (Option Node)) (held : Slab Linked) (peak c : ℕ) → IsLinked last held peak → c < length (lists_of last held)
+    → Spells (links held) c None (list (lists_of last held) c)
 said_links last held peak c h b =
     let b' : c < length last = omega (arith, lists_length last held) in
     subst (λ ys. Spells (links held) c None ys) (sym (list_is last held c b')) (h.spelled c b').spelled.spells
 
-pub said_held : (last : List (Option Node)) (held : Slab Linked) (peak c s : ℕ) → IsLinked last held peak → c < length (lists_of last held) → 0 < times s (slots (list (lists_of last held) c)) → IsSome (place_at held s)
+pub said_held : (last : List (Option Node)) (held : Slab Linked) (peak c s : ℕ) → IsLinked last held peak → c < length (lists_of last held)
+    → 0 < times s (slots (list (lists_of last held) c)) → IsSome (place_at held s)
 said_held last held peak c s h b m =
     let l = has_link (links held) c None (list (lists_of last held) c) s (said_links last held peak c h b) m in
     place_there (get held s) c l.0 l.1

@@ -1,5 +1,6 @@
 -- How often a cown stands in a list, and how many of its requests are still to come.
-use Rattle.std.proofs.Common.{◌≡◌, ◌≢◌, ℕ, zero, suc, ◌+◌, ◌<◌, ◌≤◌, Bool, cond, eqb, List, [], ◌∷◌, length, take, drop, set, get_or, refl, sym, ◌∙◌, ap, subst, arith, add-one}
+use Rattle.std.proofs.Common.{◌≡◌, ◌≢◌, ℕ, zero, suc, ◌+◌, ◌<◌, ◌≤◌, Bool, cond, eqb, List, [], ◌∷◌, length, take, drop, set, get_or, refl, sym, ◌∙◌, ap, subst}
+use Rattle.std.proofs.Common.{arith, add-one}
 use Rattle.std.specs.Prelude.{slice_get, Option, Some, None}
 use Rattle.std.specs.List.{All, sum_by}
 use Rattle.std.proofs.lemmas.List.Sums.{sum_by-set}
@@ -39,7 +40,8 @@ all_below n (x ∷ cs) low zero d l =
 all_below n (x ∷ cs) low (suc k) d l = all_below n cs (λ c stands. low c (omega (arith, stands))) k d (omega (arith, l))
 
 -- what is held at a vacant slot is awaited, whole
-pub awaited_held : (places : List (Option Held)) (slot : ℕ) (h : Held) (c : ℕ) → slice_get places slot ≡ Some None → h.exchanged ≡ 0 → sum_by (awaits c) (set places slot (Some h)) ≡ sum_by (awaits c) places + times c h.cowns.items
+pub awaited_held : (places : List (Option Held)) (slot : ℕ) (h : Held) (c : ℕ) → slice_get places slot ≡ Some None → h.exchanged ≡ 0
+    → sum_by (awaits c) (set places slot (Some h)) ≡ sum_by (awaits c) places + times c h.cowns.items
 awaited_held places slot h c e z =
     let s = sum_by-set (awaits c) places slot (Some h) None (slice_get_within places slot None e) in
     let a : awaits c (get_or places slot None) ≡ 0 = ap (awaits c) (get_or_from_slice_get places slot None None e) in
@@ -47,5 +49,6 @@ awaited_held places slot h c e z =
     omega arith
 
 -- fewer are awaited where a slot is given back
-pub awaited_less_where_gone : (places : List (Option Held)) (slot : ℕ) (c : ℕ) → slot < length places → sum_by (awaits c) (set places slot None) ≤ sum_by (awaits c) places
+pub awaited_less_where_gone : (places : List (Option Held)) (slot : ℕ) (c : ℕ) → slot < length places
+    → sum_by (awaits c) (set places slot None) ≤ sum_by (awaits c) places
 awaited_less_where_gone places slot c h = let s = sum_by-set (awaits c) places slot None None h in let z : awaits c None ≡ 0 = refl in omega arith

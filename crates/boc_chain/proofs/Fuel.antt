@@ -71,7 +71,8 @@ short held c xs h =
     let e = length_slots xs in omega arith
 
 -- the walk gives the list
-pub read : (held : Slab Linked) (c : ℕ) (last : Option ℕ) (xs : List Request) → IsList (links held) c last xs → walk (links held) c (length held.slots) last ≡ xs
+pub read : (held : Slab Linked) (c : ℕ) (last : Option ℕ) (xs : List Request) → IsList (links held) c last xs
+    → walk (links held) c (length held.slots) last ≡ xs
 read held c last xs h =
     let few = short held c xs h.spelled in
     ap (walk (links held) c (length held.slots)) (sym h.ends)

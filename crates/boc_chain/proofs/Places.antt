@@ -15,7 +15,8 @@ use Rattle.boc_chain.proofs.Got.{got_push}
 pub found_is : (cs : List ℕ) (c i : ℕ) → position (λ x. x == c) cs ≡ Some i → get_or cs i 0 ≡ c
 found_is cs c i e = (Decides-eqb (get_or cs i 0) c).0 (position-Some (λ x. x == c) cs i 0 e).1
 
-at_place : (ls : List Link) (i : ℕ) (l : Link) (o : Option ℕ) → ((k : ℕ) → o ≡ Some k → k ≢ i) → option_and_then (λ k. slice_get (set ls i l) k) o ≡ option_and_then (λ k. slice_get ls k) o
+at_place : (ls : List Link) (i : ℕ) (l : Link) (o : Option ℕ) → ((k : ℕ) → o ≡ Some k → k ≢ i)
+    → option_and_then (λ k. slice_get (set ls i l) k) o ≡ option_and_then (λ k. slice_get ls k) o
 at_place ls i l None h = refl
 at_place ls i l (Some k) h = set_other ls i k l (h k refl)
 
@@ -36,26 +37,32 @@ stands (c ∷ cs) (suc k) h = let t = stands cs k (omega arith) in omega arith
 -- in a list of distinct cowns each is found where it stands
 pub here_place : (cs : List ℕ) (n : ℕ) → ((d : ℕ) → times d cs ≤ 1) → n < length cs → position (λ x. x == get_or cs n 0) cs ≡ Some n
 here_place [] n one h = absurd (omega arith)
-here_place (c ∷ cs) zero one h = position_step (λ x. x == c) c cs ∙ ap (λ b. cond b (Some 0) (option_map (λ n. suc n) (position (λ x. x == c) cs))) (eqb_same c c refl)
+here_place (c ∷ cs) zero one h = position_step (λ x. x == c) c cs
+    ∙ ap (λ b. cond b (Some 0) (option_map (λ n. suc n) (position (λ x. x == c) cs))) (eqb_same c c refl)
 here_place (c ∷ cs) (suc k) one h =
     let d = get_or cs k 0 in
     position_step (λ x. x == d) c cs
-    ∙ ap (λ b. cond b (Some 0) (option_map (λ n. suc n) (position (λ x. x == d) cs))) (eqb_other c d (λ e. let a = stands cs k (omega arith) in let b = times_same d c cs e in let o = one d in absurd (omega arith)))
+    ∙ ap (λ b. cond b (Some 0) (option_map (λ n. suc n) (position (λ x. x == d) cs)))
+    (eqb_other c d (λ e. let a = stands cs k (omega arith) in let b = times_same d c cs e in let o = one d in absurd (omega arith)))
     ∙ ap (option_map (λ n. suc n)) (here_place cs k (λ x. let o = one x in omega (arith, times_more x c cs)) (omega arith))
 
-pub push_here : (cs : List ℕ) (ls ls' : List Link) (l : Link) → ls' ≡ ls ++ (l ∷ []) → length ls < length cs → ((d : ℕ) → times d cs ≤ 1) → option_and_then (λ k. slice_get ls' k) (position (λ x. x == get_or cs (length ls) 0) cs) ≡ Some l
+pub push_here : (cs : List ℕ) (ls ls' : List Link) (l : Link) → ls' ≡ ls ++ (l ∷ []) → length ls < length cs → ((d : ℕ) → times d cs ≤ 1)
+    → option_and_then (λ k. slice_get ls' k) (position (λ x. x == get_or cs (length ls) 0) cs) ≡ Some l
 push_here cs ls ls' l is h one =
     ap (λ o. option_and_then (λ k. slice_get ls' k) o) (here_place cs (length ls) one h) ∙ ap (λ (xs : List Link). slice_get xs (length ls)) is ∙ last_item ls l
 
-at_push : (ls : List Link) (l : Link) (o : Option ℕ) → ((k : ℕ) → o ≡ Some k → k ≢ length ls) → option_and_then (λ k. slice_get (ls ++ (l ∷ [])) k) o ≡ option_and_then (λ k. slice_get ls k) o
+at_push : (ls : List Link) (l : Link) (o : Option ℕ) → ((k : ℕ) → o ≡ Some k → k ≢ length ls)
+    → option_and_then (λ k. slice_get (ls ++ (l ∷ [])) k) o ≡ option_and_then (λ k. slice_get ls k) o
 at_push ls l None h = refl
 at_push ls l (Some k) h = got_push ls l k (h k refl)
 
-pub push_other : (cs : List ℕ) (ls ls' : List Link) (l : Link) (d : ℕ) → ls' ≡ ls ++ (l ∷ []) → d ≢ get_or cs (length ls) 0 → option_and_then (λ k. slice_get ls' k) (position (λ x. x == d) cs) ≡ option_and_then (λ k. slice_get ls k) (position (λ x. x == d) cs)
+pub push_other : (cs : List ℕ) (ls ls' : List Link) (l : Link) (d : ℕ) → ls' ≡ ls ++ (l ∷ []) → d ≢ get_or cs (length ls) 0
+    → option_and_then (λ k. slice_get ls' k) (position (λ x. x == d) cs) ≡ option_and_then (λ k. slice_get ls k) (position (λ x. x == d) cs)
 push_other cs ls ls' l d is n =
     ap (λ (xs : List Link). option_and_then (λ k. slice_get xs k) (position (λ x. x == d) cs)) is
     ∙ at_push ls l (position (λ x. x == d) cs) (λ k f m. n (sym (found_is cs d k f) ∙ ap (λ j. get_or cs j 0) m))
 
 -- a request that isn't exchanged has no link
-pub no_link : (cs : List ℕ) (ls : List Link) (i : ℕ) → ((d : ℕ) → times d cs ≤ 1) → i < length cs → length ls ≤ i → option_and_then (λ k. slice_get ls k) (position (λ x. x == get_or cs i 0) cs) ≡ None
+pub no_link : (cs : List ℕ) (ls : List Link) (i : ℕ) → ((d : ℕ) → times d cs ≤ 1) → i < length cs → length ls ≤ i
+    → option_and_then (λ k. slice_get ls k) (position (λ x. x == get_or cs i 0) cs) ≡ None
 no_link cs ls i one h out = ap (λ o. option_and_then (λ k. slice_get ls k) o) (here_place cs i one h) ∙ none_past ls i out

@@ -1,5 +1,6 @@
 -- The room in the lists, as a slot is admitted and given back.
-use Rattle.std.proofs.Common.{◌≡◌, ◌≢◌, ℕ, zero, suc, ◌+◌, ◌^◌, ◌<◌, ◌≤◌, true, false, List, [], ◌∷◌, length, map, take, set, get_or, refl, sym, ◌∙◌, ap, subst, inl, inr, arith}
+use Rattle.std.proofs.Common.{◌≡◌, ◌≢◌, ℕ, zero, suc, ◌+◌, ◌^◌, ◌<◌, ◌≤◌, true, false, List, [], ◌∷◌, length, map, take, set, get_or, refl, sym, ◌∙◌, ap, subst}
+use Rattle.std.proofs.Common.{inl, inr, arith}
 use Rattle.std.specs.Prelude.{slice_get, Option, Some, None, IsSome, Result, Ok, Err, OnErr}
 use Rattle.std.specs.List.{sum_by}
 use Rattle.std.specs.Vec.{vec_len, vec_capacity}
@@ -18,7 +19,8 @@ use Rattle.boc_chain.proofs.Counted.{awaited_less_where_gone, times_take, times_
 use Rattle.boc_chain.proofs.Lines.{same_or_not}
 
 -- the list of k was changed
-pub room_changed : (lines : List (Vec Request Global)) (k : ℕ) (v w : Vec Request Global) (more more' : ℕ → ℕ) → HasRoom lines more → k < length lines → w ≡ get_or lines k w
+pub room_changed : (lines : List (Vec Request Global)) (k : ℕ) (v w : Vec Request Global) (more more' : ℕ → ℕ) → HasRoom lines more → k < length lines
+    → w ≡ get_or lines k w
     → (vec_len w + more k ≤ vec_capacity w → vec_len v + more' k ≤ vec_capacity v) → ((c : ℕ) → c ≢ k → more' c ≤ more c) → HasRoom (set lines k v) more'
 room_changed lines k v w more more' h inside is here others = λ c u e.
     elim (same_or_not c k) [
@@ -42,14 +44,16 @@ pub as_many : (lines lines' : List (Vec Request Global)) → map (λ v. v.items)
 as_many lines lines' e = sym (length-map lines' (λ v. v.items)) ∙ ap length e ∙ length-map lines (λ v. v.items)
 
 -- what is kept where nothing was admitted
-pub kept_refused : (lines lines' : List (Vec Request Global)) (places : List (Option Held)) → IsKept lines places → map (λ v. v.items) lines' ≡ map (λ v. v.items) lines → HasRoom lines' (λ c. sum_by (awaits c) places) → IsKept lines' places
+pub kept_refused : (lines lines' : List (Vec Request Global)) (places : List (Option Held)) → IsKept lines places
+    → map (λ v. v.items) lines' ≡ map (λ v. v.items) lines → HasRoom lines' (λ c. sum_by (awaits c) places) → IsKept lines' places
 kept_refused lines lines' places k e room = record {
   in_range = λ s i below. let r = k.in_range s i below in let l = as_many lines lines' e in omega arith;
   room = room;
 }
 
 -- and where the cowns were
-pub kept_admitted : (lines lines' : List (Vec Request Global)) (places places' : List (Option Held)) (slot : ℕ) (cs : List ℕ) → IsKept lines places → map (λ v. v.items) lines' ≡ map (λ v. v.items) lines
+pub kept_admitted : (lines lines' : List (Vec Request Global)) (places places' : List (Option Held)) (slot : ℕ) (cs : List ℕ) → IsKept lines places
+    → map (λ v. v.items) lines' ≡ map (λ v. v.items) lines
     → ((c : ℕ) → 0 < times c cs → c < length (map (λ v. v.items) lines)) → HasRoom lines' (λ c. sum_by (awaits c) places + times c cs)
     → place_at places' slot ≡ Some (record { cowns = cs; exchanged = 0 }) → ((s : ℕ) → s ≢ slot → place_at places' s ≡ place_at places s)
     → ((c : ℕ) → sum_by (awaits c) places' ≡ sum_by (awaits c) places + times c cs) → IsKept lines' places'
@@ -86,11 +90,13 @@ gone_here (p ∷ places) zero = refl
 gone_here (p ∷ places) (suc slot) = gone_here places slot
 
 -- what is kept as a slot is given back
-pub kept_gone : (lines : List (Vec Request Global)) (places : List (Option Held)) (slot : ℕ) → IsKept lines places → slot < length places → IsKept lines (set places slot None)
+pub kept_gone : (lines : List (Vec Request Global)) (places : List (Option Held)) (slot : ℕ) → IsKept lines places → slot < length places
+    → IsKept lines (set places slot None)
 kept_gone lines places slot k inside = record {
   in_range = λ s i below.
       elim (same_or_not s slot) [
-        | inl q ↦ absurd (let e : cowns_of (place_at (set places slot None) s) ≡ [] = ap (λ n. cowns_of (place_at (set places slot None) n)) q ∙ ap cowns_of (gone_here places slot) in
+        | inl q ↦ absurd (let e : cowns_of (place_at (set places slot None) s) ≡ [] = ap (λ n. cowns_of (place_at (set places slot None) n)) q
+            ∙ ap cowns_of (gone_here places slot) in
             let z : i < 0 = subst (λ (ds : List ℕ). i < length ds) e below in omega arith)
         | inr n ↦
             let is : place_at (set places slot None) s ≡ place_at places s = ap place_in (set_other places slot s None n) in
@@ -98,11 +104,13 @@ kept_gone lines places slot k inside = record {
             let c : cown (place_at (set places slot None) s) i ≡ cown (place_at places s) i = ap (λ p. cown p i) is in
             omega arith
       ];
-  room = room_less lines (λ c. sum_by (awaits c) places) (λ c. sum_by (awaits c) (set places slot None)) k.room (λ c. awaited_less_where_gone places slot c inside);
+  room = room_less lines (λ c. sum_by (awaits c) places) (λ c. sum_by (awaits c) (set places slot None)) k.room
+      (λ c. awaited_less_where_gone places slot c inside);
 }
 
 -- making room for the cowns cs, of which i have room, in lists that were `first`
-module _ (first lines : List (Vec Request Global)) (places : List (Option Held)) (cs : List ℕ) (i : ℕ) (below : i < length cs) (distinct : (c : ℕ) → times c cs ≤ 1) (range : (c : ℕ) → 0 < times c cs → c < length first)
+module _ (first lines : List (Vec Request Global)) (places : List (Option Held)) (cs : List ℕ) (i : ℕ) (below : i < length cs)
+    (distinct : (c : ℕ) → times c cs ≤ 1) (range : (c : ℕ) → 0 < times c cs → c < length first)
     (kept : map (λ v. v.items) lines ≡ map (λ v. v.items) first) (room : HasRoom lines (λ c. sum_by (awaits c) places + times c (take i cs))) where
   pub line_inside : get_or cs i 0 < length lines
   line_inside = let r = range (get_or cs i 0) (stands cs i below) in let l = as_many first lines kept in omega arith
@@ -110,17 +118,22 @@ module _ (first lines : List (Vec Request Global)) (places : List (Option Held))
   pub awaited_fits : sum_by (awaits (get_or cs i 0)) places < 2 ^ 63
   awaited_fits = let f = some_at lines (get_or cs i 0) line_inside in let r = room (get_or cs i 0) f.0 f.1 in let b = f.0.small in omega arith
 
-  pub lists_same : (v w : Vec Request Global) → w ≡ get_or lines (get_or cs i 0) w → v.items ≡ w.items → map (λ u. u.items) (set lines (get_or cs i 0) v) ≡ map (λ u. u.items) first
+  pub lists_same : (v w : Vec Request Global) → w ≡ get_or lines (get_or cs i 0) w → v.items ≡ w.items
+      → map (λ u. u.items) (set lines (get_or cs i 0) v) ≡ map (λ u. u.items) first
   lists_same v w is e = map-set_same (λ u. u.items) lines (get_or cs i 0) v w (e ∙ ap (λ u. u.items) is) ∙ kept
 
-  pub room_made : (v w : Vec Request Global) (a : ℕ) → w ≡ get_or lines (get_or cs i 0) w → a ≡ sum_by (awaits (get_or cs i 0)) places → vec_len v + (a + 1) ≤ vec_capacity v
+  pub room_made : (v w : Vec Request Global) (a : ℕ) → w ≡ get_or lines (get_or cs i 0) w → a ≡ sum_by (awaits (get_or cs i 0)) places
+      → vec_len v + (a + 1) ≤ vec_capacity v
       → HasRoom (set lines (get_or cs i 0) v) (λ c. sum_by (awaits c) places + times c (take (i + 1) cs))
-  room_made v w a is sum more = room_changed lines (get_or cs i 0) v w (λ c. sum_by (awaits c) places + times c (take i cs)) (λ c. sum_by (awaits c) places + times c (take (i + 1) cs)) room line_inside is
+  room_made v w a is sum more = room_changed lines (get_or cs i 0) v w (λ c. sum_by (awaits c) places + times c (take i cs))
+      (λ c. sum_by (awaits c) places + times c (take (i + 1) cs)) room line_inside is
       (λ old. let t = times_take (get_or cs i 0) cs (i + 1) in let o = distinct (get_or cs i 0) in omega arith)
       (λ c n. let t = times_next_other c cs i below (λ e. n (sym e)) in omega arith)
 
-  pub room_refused : (v w : Vec Request Global) → w ≡ get_or lines (get_or cs i 0) w → vec_len v ≡ vec_len w → vec_capacity w ≤ vec_capacity v → HasRoom (set lines (get_or cs i 0) v) (λ c. sum_by (awaits c) places)
-  room_refused v w is len cap = room_changed lines (get_or cs i 0) v w (λ c. sum_by (awaits c) places + times c (take i cs)) (λ c. sum_by (awaits c) places) room line_inside is
+  pub room_refused : (v w : Vec Request Global) → w ≡ get_or lines (get_or cs i 0) w → vec_len v ≡ vec_len w → vec_capacity w ≤ vec_capacity v
+      → HasRoom (set lines (get_or cs i 0) v) (λ c. sum_by (awaits c) places)
+  room_refused v w is len cap = room_changed lines (get_or cs i 0) v w (λ c. sum_by (awaits c) places + times c (take i cs)) (λ c. sum_by (awaits c) places)
+      room line_inside is
       (λ old. omega arith)
       (λ c n. omega arith)
 

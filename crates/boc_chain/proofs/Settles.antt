@@ -1,5 +1,6 @@
 -- How settling a request changes the links, and what leaving does.
-use Rattle.std.proofs.Common.{◌≡◌, ◌≢◌, ℕ, zero, suc, ◌+◌, ◌-◌, ◌<◌, ◌≤◌, ◌⊎◌, Bool, true, false, cond, not, eqb, ltb, List, [], ◌∷◌, length, refl, sym, ◌∙◌, ap, inl, inr, arith}
+use Rattle.std.proofs.Common.{◌≡◌, ◌≢◌, ℕ, zero, suc, ◌+◌, ◌-◌, ◌<◌, ◌≤◌, ◌⊎◌, Bool, true, false, cond, not, eqb, ltb, List, [], ◌∷◌, length, refl, sym, ◌∙◌}
+use Rattle.std.proofs.Common.{ap, inl, inr, arith}
 use Rattle.std.specs.Prelude.{slice_get, Option, Some, None, position, ◌==◌, ◌||◌}
 use Rattle.std.specs.Option.{option_map}
 use Rattle.std.specs.List.{position_or_len}
@@ -21,14 +22,16 @@ at_prior p xs (Some zero) = p
 at_prior p xs (Some (suc k)) = slice_get xs k
 
 step_on : (m n : ℕ) (b : Bool) → ltb m n ≡ b → cond {A = Option ℕ} (ltb (1 + m) (suc n)) (Some (1 + m)) None ≡ option_map (λ k. suc k) (cond b (Some m) None)
-step_on m n true e = ap (λ t. cond {A = Option ℕ} t (Some (1 + m)) None) (lt-ltb (1 + m) (suc n) (let f = ltb-true m n e in omega arith)) ∙ ap (λ (k : ℕ). Some k) (omega arith)
+step_on m n true e = ap (λ t. cond {A = Option ℕ} t (Some (1 + m)) None) (lt-ltb (1 + m) (suc n) (let f = ltb-true m n e in omega arith))
+    ∙ ap (λ (k : ℕ). Some k) (omega arith)
 step_on m n false e = ap (λ t. cond {A = Option ℕ} t (Some (1 + m)) None) (le-ltb (1 + m) (suc n) (let f = ltb-false m n e in omega arith))
 
 pub position_step : {X : Type 0} (t : X → Bool) (x : X) (xs : List X) → position t (x ∷ xs) ≡ cond (t x) (Some 0) (option_map (λ n. suc n) (position t xs))
-position_step {X} t x xs = elim (t x) as (λ b. cond (ltb (cond (not b) (1 + position_or_len t xs) 0) (length (x ∷ xs))) (Some (cond (not b) (1 + position_or_len t xs) 0)) None ≡ cond b (Some 0) (option_map (λ n. suc n) (position t xs))) [
-  | true ↦ ap (λ u. cond {A = Option ℕ} u (Some 0) None) (lt-ltb 0 (suc (length xs)) (omega arith))
-  | false ↦ step_on (position_or_len t xs) (length xs) (ltb (position_or_len t xs) (length xs)) refl
-]
+position_step {X} t x xs = elim (t x) as (λ b. cond (ltb (cond (not b) (1 + position_or_len t xs) 0) (length (x ∷ xs)))
+    (Some (cond (not b) (1 + position_or_len t xs) 0)) None ≡ cond b (Some 0) (option_map (λ n. suc n) (position t xs))) [
+      | true ↦ ap (λ u. cond {A = Option ℕ} u (Some 0) None) (lt-ltb 0 (suc (length xs)) (omega arith))
+      | false ↦ step_on (position_or_len t xs) (length xs) (ltb (position_or_len t xs) (length xs)) refl
+    ]
 
 at_step : (p : Option Request) (r : Request) (xs : List Request) (o : Option ℕ) → at_prior p (r ∷ xs) (option_map (λ n. suc n) o) ≡ at_prior (Some r) xs o
 unfolding at_prior
@@ -40,7 +43,8 @@ prior_at : (p : Option Request) (s : ℕ) (xs : List Request) → prior p s xs �
 unfolding prior at_prior
 prior_at p s [] = refl
 prior_at p s (r ∷ xs) =
-    elim (eqb r.slot s) as (λ b. cond b p (prior (Some r) s xs) ≡ at_prior p (r ∷ xs) (cond b (Some 0) (option_map (λ n. suc n) (position (λ q. q.slot == s) xs)))) [
+    elim (eqb r.slot s) as (λ b. cond b p (prior (Some r) s xs)
+    ≡ at_prior p (r ∷ xs) (cond b (Some 0) (option_map (λ n. suc n) (position (λ q. q.slot == s) xs)))) [
       | true ↦ refl
       | false ↦ prior_at (Some r) s xs ∙ sym (at_step p r xs (position (λ q. q.slot == s) xs))
     ]
@@ -50,7 +54,8 @@ at_same : (xs : List Request) (o : Option ℕ) → at_before xs o ≡ at_prior N
 unfolding at_prior
 at_same xs None = refl
 at_same xs (Some zero) = refl
-at_same xs (Some (suc k)) = ap (λ t. cond {A = Option Request} t (slice_get xs (suc k - 1)) None) (lt-ltb 0 (suc k) (omega arith)) ∙ ap (slice_get xs) (let e : suc k - 1 ≡ k = omega arith in e)
+at_same xs (Some (suc k)) = ap (λ t. cond {A = Option Request} t (slice_get xs (suc k - 1)) None) (lt-ltb 0 (suc k) (omega arith))
+    ∙ ap (slice_get xs) (let e : suc k - 1 ≡ k = omega arith in e)
 
 pub before_is : (s : ℕ) (xs : List Request) → before s xs ≡ prior None s xs
 before_is s xs = at_same xs (position (λ r. r.slot == s) xs) ∙ sym (prior_at None s xs)
@@ -60,7 +65,8 @@ slot_in None = None
 slot_in (Some r) = Some r.slot
 
 -- the link says who is before
-pub link_before : (link : ℕ → ℕ → Option Tie) (c : ℕ) (p : Option Request) (xs : List Request) (s : ℕ) (l : Tie) → Spells link c (slot_in p) xs → 0 < times s (slots xs) → link s c ≡ Some l → l.before ≡ slot_in (prior p s xs)
+pub link_before : (link : ℕ → ℕ → Option Tie) (c : ℕ) (p : Option Request) (xs : List Request) (s : ℕ) (l : Tie) → Spells link c (slot_in p) xs
+    → 0 < times s (slots xs) → link s c ≡ Some l → l.before ≡ slot_in (prior p s xs)
 unfolding prior slot_in
 link_before link c p [] s l h m e = absurd (omega arith)
 link_before link c p (r ∷ xs) s l h m e = elim (same_or_not r.slot s) [
@@ -71,13 +77,15 @@ link_before link c p (r ∷ xs) s l h m e = elim (same_or_not r.slot s) [
 ]
 
 -- where the one before is known, its link is too
-pub prior_link : (link : ℕ → ℕ → Option Tie) (c : ℕ) (b : Option ℕ) (p : Option Request) (xs : List Request) (s : ℕ) (q : Request) → Spells link c b xs → ((r : Request) → p ≡ Some r → (l : Tie) × (link r.slot c ≡ Some l) × (l.scheduled ≡ r.flagged))
+pub prior_link : (link : ℕ → ℕ → Option Tie) (c : ℕ) (b : Option ℕ) (p : Option Request) (xs : List Request) (s : ℕ) (q : Request) → Spells link c b xs
+    → ((r : Request) → p ≡ Some r → (l : Tie) × (link r.slot c ≡ Some l) × (l.scheduled ≡ r.flagged))
     → prior p s xs ≡ Some q → (l : Tie) × (link q.slot c ≡ Some l) × (l.scheduled ≡ q.flagged)
 unfolding prior
 prior_link link c b p [] s q h k e = absurd (let f : None ≡ Some q = e in cc)
 prior_link link c b p (r ∷ xs) s q h k e = elim (same_or_not r.slot s) [
   | inl f ↦ k q (ap (λ t. cond t p (prior (Some r) s xs)) (sym (eqb_same r.slot s f)) ∙ e)
-  | inr n ↦ prior_link link c (Some r.slot) (Some r) xs s q h.1 (λ r2 f. let g : r ≡ r2 = cc in (_, ap (λ (t : Request). link t.slot c) (sym g) ∙ h.0, ap (λ (t : Request). t.flagged) g))
+  | inr n ↦ prior_link link c (Some r.slot) (Some r) xs s q h.1
+      (λ r2 f. let g : r ≡ r2 = cc in (_, ap (λ (t : Request). link t.slot c) (sym g) ∙ h.0, ap (λ (t : Request). t.flagged) g))
       (ap (λ t. cond t p (prior (Some r) s xs)) (sym (eqb_other r.slot s n)) ∙ e)
 ]
 
@@ -113,30 +121,41 @@ unfoldable pub settle_link : ℕ → Option ℕ → ℕ → Tie → Tie
 settle_link s q t l = record l { settled = l.settled || (t == s); next = cond (is_slot q t) (Some s) l.next }
 
 -- the link of one request after it
-settled_head : (link link' : ℕ → ℕ → Option Tie) (c s : ℕ) (q b n : Option ℕ) (r : Request) (xs : List Request) → link r.slot c ≡ Some (record { settled = r.settled; scheduled = r.flagged; before = b; next = next_of xs })
+settled_head : (link link' : ℕ → ℕ → Option Tie) (c s : ℕ) (q b n : Option ℕ) (r : Request) (xs : List Request)
+    → link r.slot c ≡ Some (record { settled = r.settled; scheduled = r.flagged; before = b; next = next_of xs })
     → link' r.slot c ≡ option_map (settle_link s q r.slot) (link r.slot c) → cond (is_slot q r.slot) (Some s) (next_of xs) ≡ n
     → link' r.slot c ≡ Some (record { settled = r.settled || (r.slot == s); scheduled = r.flagged; before = b; next = n })
 unfolding settle_link
 settled_head link link' c s q b n r xs h change e =
-    change ∙ ap (option_map (settle_link s q r.slot)) h ∙ ap (λ (m : Option ℕ). Some (record { settled = r.settled || (r.slot == s); scheduled = r.flagged; before = b; next = m })) e
+    change ∙ ap (option_map (settle_link s q r.slot)) h ∙ ap
+    (λ (m : Option ℕ). Some (record { settled = r.settled || (r.slot == s); scheduled = r.flagged; before = b; next = m })) e
 
 next_settled : (s : ℕ) (xs : List Request) → times s (slots (xs)) ≡ 0 → next_of (with_settled s xs) ≡ next_of xs
 next_settled s [] h = refl
-next_settled s (r ∷ xs) h = ap (λ b. cond b (Some r.slot) None) (ap (λ t. r.settled || t) (eqb_other r.slot s (λ e. let t = times_same s r.slot (slots xs) e in absurd (omega arith))) ∙ or_false r.settled)
+next_settled s (r ∷ xs) h = ap (λ b. cond b (Some r.slot) None)
+    (ap (λ t. r.settled || t) (eqb_other r.slot s (λ e. let t = times_same s r.slot (slots xs) e in absurd (omega arith))) ∙ or_false r.settled)
 
 -- where nobody in the list is before s
-pub spells_first : (link link' : ℕ → ℕ → Option Tie) (c s : ℕ) (q b : Option ℕ) (r : Request) (xs : List Request) → Spells link c b (r ∷ xs) → times s (slots xs) ≡ 0 → ((t : ℕ) → 0 < times t (slots (r ∷ xs)) → is_slot q t ≡ false)
+pub spells_first : (link link' : ℕ → ℕ → Option Tie) (c s : ℕ) (q b : Option ℕ) (r : Request) (xs : List Request) → Spells link c b (r ∷ xs)
+    → times s (slots xs) ≡ 0 → ((t : ℕ) → 0 < times t (slots (r ∷ xs)) → is_slot q t ≡ false)
     → ((t : ℕ) → link' t c ≡ option_map (settle_link s q t) (link t c)) → Spells link' c b (with_settled s (r ∷ xs))
-spells_first link link' c s q b r [] h none out change = (settled_head link link' c s q b None r [] h.0 (change r.slot) (ap (λ t. cond t (Some s) None) (out r.slot (let t = times_same r.slot r.slot [] refl in omega arith))), tt)
+spells_first link link' c s q b r [] h none out change = (
+  settled_head link link' c s q b None r [] h.0 (change r.slot)
+      (ap (λ t. cond t (Some s) None) (out r.slot (let t = times_same r.slot r.slot [] refl in omega arith))),
+  tt,
+)
 spells_first link link' c s q b r (x ∷ xs) h none out change = (
   settled_head link link' c s q b (next_of (with_settled s (x ∷ xs))) r (x ∷ xs) h.0 (change r.slot)
-      (ap (λ t. cond t (Some s) (next_of (x ∷ xs))) (out r.slot (let t = times_same r.slot r.slot (slots (x ∷ xs)) refl in omega arith)) ∙ sym (next_settled s (x ∷ xs) none)),
+      (ap (λ t. cond t (Some s) (next_of (x ∷ xs))) (out r.slot (let t = times_same r.slot r.slot (slots (x ∷ xs)) refl in omega arith))
+      ∙ sym (next_settled s (x ∷ xs) none)),
   spells_first link link' c s q (Some r.slot) x xs h.1 (omega arith) (λ t m. out t (omega arith)) change,
 )
 
 -- where q, which is p or in the list, is before s
-pub spells_behind : (link link' : ℕ → ℕ → Option Tie) (c s : ℕ) (q : Request) (b : Option ℕ) (p : Request) (xs : List Request) → Spells link c b (p ∷ xs) → ((t : ℕ) → times t (slots (p ∷ xs)) ≤ 1)
-    → 0 < times s (slots xs) → prior (Some p) s xs ≡ Some q → ((t : ℕ) → link' t c ≡ option_map (settle_link s (Some q.slot) t) (link t c)) → Spells link' c b (with_settled s (p ∷ xs))
+pub spells_behind : (link link' : ℕ → ℕ → Option Tie) (c s : ℕ) (q : Request) (b : Option ℕ) (p : Request) (xs : List Request) → Spells link c b (p ∷ xs)
+    → ((t : ℕ) → times t (slots (p ∷ xs)) ≤ 1)
+    → 0 < times s (slots xs) → prior (Some p) s xs ≡ Some q → ((t : ℕ) → link' t c ≡ option_map (settle_link s (Some q.slot) t) (link t c))
+    → Spells link' c b (with_settled s (p ∷ xs))
 unfolding prior is_slot
 spells_behind link link' c s q b p [] h once m e change = absurd (omega arith)
 spells_behind link link' c s q b p (r ∷ xs) h once m e change = elim (same_or_not r.slot s) [

@@ -79,7 +79,8 @@ end_in b s (r ∷ xs) e = elim (end_in (Some r.slot) s xs e) [
 
 -- agreement
 
-pub agrees : (link link' : ℕ → ℕ → Option Tie) (c : ℕ) (b : Option ℕ) (xs : List Request) → Spells link c b xs → ((s : ℕ) → 0 < times s (slots xs) → link' s c ≡ link s c) → Spells link' c b xs
+pub agrees : (link link' : ℕ → ℕ → Option Tie) (c : ℕ) (b : Option ℕ) (xs : List Request) → Spells link c b xs
+    → ((s : ℕ) → 0 < times s (slots xs) → link' s c ≡ link s c) → Spells link' c b xs
 agrees link link' c b [] s h = s
 agrees link link' c b (r ∷ xs) s h = (
   h r.slot (let t = times_same r.slot r.slot (slots xs) refl in omega arith) ∙ s.0,
@@ -87,7 +88,8 @@ agrees link link' c b (r ∷ xs) s h = (
 )
 
 -- each slot of a list has its link
-pub has_link : (link : ℕ → ℕ → Option Tie) (c : ℕ) (b : Option ℕ) (xs : List Request) (s : ℕ) → Spells link c b xs → 0 < times s (slots xs) → (l : Tie) × (link s c ≡ Some l)
+pub has_link : (link : ℕ → ℕ → Option Tie) (c : ℕ) (b : Option ℕ) (xs : List Request) (s : ℕ) → Spells link c b xs → 0 < times s (slots xs)
+    → (l : Tie) × (link s c ≡ Some l)
 has_link link c b [] s h m = absurd (omega arith)
 has_link link c b (r ∷ xs) s h m = elim (same_or_not r.slot s) [
   | inl e ↦ (_, ap (λ n. link n c) (sym e) ∙ h.0)
@@ -108,7 +110,8 @@ next_push : (s : ℕ) (xs : List Request) → next_of (xs ++ (fresh s ∷ [])) �
 next_push s [] = refl
 next_push s (r ∷ xs) = refl
 
-pub spells_push : (link : ℕ → ℕ → Option Tie) (c : ℕ) (b : Option ℕ) (xs : List Request) (s : ℕ) → Spells link c b xs → link s c ≡ Some (record { settled = false; scheduled = false; before = end_of b xs; next = None }) → Spells link c b (xs ++ (fresh s ∷ []))
+pub spells_push : (link : ℕ → ℕ → Option Tie) (c : ℕ) (b : Option ℕ) (xs : List Request) (s : ℕ) → Spells link c b xs
+    → link s c ≡ Some (record { settled = false; scheduled = false; before = end_of b xs; next = None }) → Spells link c b (xs ++ (fresh s ∷ []))
 spells_push link c b [] s h e = (e, tt)
 spells_push link c b (r ∷ xs) s h e = (
   h.0 ∙ ap (λ (n : Option ℕ). Some (record { settled = r.settled; scheduled = r.flagged; before = b; next = n })) (sym (next_push s xs)),
@@ -124,10 +127,12 @@ next_flagged : (s : ℕ) (xs : List Request) → next_of (with_flagged s xs) ≡
 next_flagged s [] = refl
 next_flagged s (r ∷ xs) = refl
 
-pub spells_flagged : (link link' : ℕ → ℕ → Option Tie) (c : ℕ) (b : Option ℕ) (xs : List Request) (s : ℕ) → Spells link c b xs → ((t : ℕ) → link' t c ≡ option_map (flag_link s t) (link t c)) → Spells link' c b (with_flagged s xs)
+pub spells_flagged : (link link' : ℕ → ℕ → Option Tie) (c : ℕ) (b : Option ℕ) (xs : List Request) (s : ℕ) → Spells link c b xs
+    → ((t : ℕ) → link' t c ≡ option_map (flag_link s t) (link t c)) → Spells link' c b (with_flagged s xs)
 unfolding flag_link
 spells_flagged link link' c b [] s h change = h
 spells_flagged link link' c b (r ∷ xs) s h change = (
-  change r.slot ∙ ap (option_map (flag_link s r.slot)) h.0 ∙ ap (λ (n : Option ℕ). Some (record { settled = r.settled; scheduled = r.flagged || (r.slot == s); before = b; next = n })) (sym (next_flagged s xs)),
+  change r.slot ∙ ap (option_map (flag_link s r.slot)) h.0
+      ∙ ap (λ (n : Option ℕ). Some (record { settled = r.settled; scheduled = r.flagged || (r.slot == s); before = b; next = n })) (sym (next_flagged s xs)),
   spells_flagged link link' c (Some r.slot) xs s h.1 change,
 )

@@ -128,7 +128,8 @@ impl Kept {
         requires there { place < room_of self.old }
         requires has { HasPlaces self.old }
         ensures has { HasPlaces self.new }
-        ensures places { (l : Link) → slice_get (places_of self.old) place ≡ Some l → places_of self.new ≡ slice_set (places_of self.old) place (changed change l) }
+        ensures places { (l : Link) → slice_get (places_of self.old) place ≡ Some l
+            → places_of self.new ≡ slice_set (places_of self.old) place (changed change l) }
         ensures room { room_of self.new ≡ room_of self.old }
         ensures cowns { (head_of self.new).cowns ≡ (head_of self.old).cowns }
         ensures count { (head_of self.new).count ≡ (head_of self.old).count }

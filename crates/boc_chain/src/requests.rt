@@ -2,7 +2,8 @@
 
 ghost use Rattle.std.specs.Prelude.{◌≡◌, ℕ, ◌+◌, ◌<◌, List, [], ◌∷◌, ◌++◌, length, position, ◌==◌, ◌≤◌, ◌↔◌, false};
 ghost use Rattle.std.specs.Vec.{vec_len, vec_capacity};
-ghost use Rattle.boc_chain.specs.Chain.{last_slot, before, settle_answer, after_settle, with_settled, with_flagged, settle_one, flag_one, leave_answer, after_leave, times, slots, IsGranted, fresh};
+ghost use Rattle.boc_chain.specs.Chain.{last_slot, before, settle_answer, after_settle, with_settled, with_flagged, settle_one, flag_one, leave_answer};
+ghost use Rattle.boc_chain.specs.Chain.{after_leave, times, slots, IsGranted, fresh};
 ghost use Rattle.boc_chain.specs.declared.request.Settled.TheVariants.{Blocked as SettleBlocked};
 ghost use Rattle.boc_chain.specs.declared.request.Released.TheVariants.{Blocked as LeaveBlocked};
 

@@ -30,7 +30,8 @@ use Rattle.boc_record.specs.RecordTexts.{IsTextOf}
 use Rattle.boc_record.specs.Reading.{TakesRecord}
 
 -- the answer, from the rows that were asked about and those after the edits
-pub answered : (edits : List Edit) (sharing kept : Sharing) (asked : Option ℕ) (text : List ℕ) (r : Recorded) (before after : List Row) (made output : List ℕ) → IsTextOf text r
+pub answered : (edits : List Edit) (sharing kept : Sharing) (asked : Option ℕ) (text : List ℕ) (r : Recorded) (before after : List Row) (made output : List ℕ)
+    → IsTextOf text r
     → before ≡ r.rows → AllFit before edits → after ≡ all_edited before edits → kept ≡ sharing → IsReport (seen kept after) asked made → output ≡ made
     → IsWhatIfAnswer edits sharing asked text output
 answered edits sharing kept asked input r before after made output spells same fit edited way report text = record {
@@ -38,11 +39,13 @@ answered edits sharing kept asked input r before after made output spells same f
   spells = spells;
   fit = subst (λ rows. AllFit rows edits) same fit;
   report = subst (λ t. IsReport (seen sharing (all_edited r.rows edits)) asked t) (sym text)
-      (subst (λ rows. IsReport (seen sharing rows) asked made) (edited ∙ ap (λ rows. all_edited rows edits) same) (subst (λ s. IsReport (seen s after) asked made) way report));
+      (subst (λ rows. IsReport (seen sharing rows) asked made) (edited ∙ ap (λ rows. all_edited rows edits) same)
+      (subst (λ s. IsReport (seen s after) asked made) way report));
 }
 
 -- the answer of a sweep, from the rows that were swept
-pub swept : (sharing kept : Sharing) (input : List ℕ) (r : Recorded) (rows : List Row) (spans read made output : List ℕ) → IsTextOf input r → rows ≡ r.rows → kept ≡ sharing
+pub swept : (sharing kept : Sharing) (input : List ℕ) (r : Recorded) (rows : List Row) (spans read made output : List ℕ) → IsTextOf input r → rows ≡ r.rows
+    → kept ≡ sharing
     → IsSweep (seen kept rows) spans → read ≡ spans → made ≡ sweep_lines 0 read → output ≡ made → IsSweepAnswer sharing input output
 swept sharing kept input r rows spans read made output spells same way sweep are text is = record {
   recorded = r;
@@ -59,7 +62,8 @@ stopped IsText (Ok done) gone text old new h is stops = absurd h
 stopped IsText (Err f) gone text old new h is stops = subst (λ x. Leaves {A = Unit {0}} IsText (Err x) old new) (sym h) (text, is, stops)
 
 -- an answer to a text that was taken whole, as what went out
-pub answers_text : (IsAnswer : List ℕ → List ℕ → Type 0) (before after : Option (List ℕ)) (text seen made output : List ℕ) → ReadsWhole before after text (MOST_TEXT + 1)
+pub answers_text : (IsAnswer : List ℕ → List ℕ → Type 0) (before after : Option (List ℕ)) (text seen made output : List ℕ)
+    → ReadsWhole before after text (MOST_TEXT + 1)
     → seen ≡ text → output ≡ made → IsAnswer seen made → length seen ≤ MOST_TEXT → AnswersInput IsAnswer before after output
 answers_text IsAnswer before after text seen made output read same is answer few = record {
   input = text;
@@ -69,7 +73,8 @@ answers_text IsAnswer before after text seen made output read same is answer few
 }
 
 -- the answer of a check, from the rows that were read
-pub counted : (text : List ℕ) (r : Recorded) (rows : List Row) (made output : List ℕ) → IsTextOf text r → rows ≡ r.rows → made ≡ check_text (length rows) → output ≡ made
+pub counted : (text : List ℕ) (r : Recorded) (rows : List Row) (made output : List ℕ) → IsTextOf text r → rows ≡ r.rows → made ≡ check_text (length rows)
+    → output ≡ made
     → IsCheckAnswer text output
 counted text r rows made output spells same is out = record { recorded = r; spells = spells; text = out ∙ is ∙ ap (λ xs. check_text (length xs)) same }
 
@@ -82,7 +87,8 @@ told P (Some xs) (Some ys) text taken over h = subst P (sym (taken ∙ ap (λ zs
 -- edits are refused for the first that the rows of a record that was read cannot take
 pub refused_edits : (fault : Fault) (edits : List Edit) (rows : List Row) (r : Recorded) (before : Option (List ℕ)) → IsOfEdits rows edits fault → rows ≡ r.rows
     → IfSome before (λ text. IsTextOf text r) → RefusesEdits {A = Unit {0}} edits (Err fault) before
-refused_edits (faults.Edit number unfit) edits rows r before h same spells = record { recorded = r; spells = spells; unfit = subst (λ xs. IsFirstUnfit xs edits number unfit) same h }
+refused_edits (faults.Edit number unfit) edits rows r before h same spells =
+    record { recorded = r; spells = spells; unfit = subst (λ xs. IsFirstUnfit xs edits number unfit) same h }
 refused_edits (faults.Words e) edits rows r before h same spells = absurd h
 refused_edits (faults.Program x) edits rows r before h same spells = absurd h
 refused_edits (faults.Record x) edits rows r before h same spells = absurd h
@@ -96,7 +102,8 @@ refused_edits faults.Source edits rows r before h same spells = absurd h
 refused_edits (faults.Sink gone) edits rows r before h same spells = absurd h
 
 -- the report on a profile and the greedy plan that was made, as it is passed on to be written
-pub is_report : (rows : List Row) (asked : Option ℕ) (profile : Profile) (made plan : Option Greedy) → IsProfileOf rows profile → IsAskedPart rows asked (part_of made) → plan ≡ made
+pub is_report : (rows : List Row) (asked : Option ℕ) (profile : Profile) (made plan : Option Greedy) → IsProfileOf rows profile
+    → IsAskedPart rows asked (part_of made) → plan ≡ made
     → IsReport rows asked (report_text profile.work profile.span profile.chain.steps.items profile.starts.items profile.ends.items ++ part_of plan)
 is_report rows asked profile made plan is part_is same = record {
   starts = profile.starts.items;
@@ -122,7 +129,8 @@ reported sharing asked text r rows made output spells same report is = record {
 }
 
 -- so a result that is this fault refuses edits
-pub refuses_as : (result : Result (Unit {0}) Fault) (fault : Fault) (edits : List Edit) (before : Option (List ℕ)) → IsErrAnd result (λ f. f ≡ fault) → RefusesEdits {A = Unit {0}} edits (Err fault) before
+pub refuses_as : (result : Result (Unit {0}) Fault) (fault : Fault) (edits : List Edit) (before : Option (List ℕ)) → IsErrAnd result (λ f. f ≡ fault)
+    → RefusesEdits {A = Unit {0}} edits (Err fault) before
     → RefusesEdits edits result before
 refuses_as (Ok done) fault edits before h refused = absurd h
 refuses_as (Err f) fault edits before h refused = subst (λ x. RefusesEdits {A = Unit {0}} edits (Err x) before) (sym h) refused
@@ -146,7 +154,9 @@ leaves_as IsText IsOther (Err fault) old new other left = after (gone_of fault) 
     after (Some gone) left = (left.0, other left.0 left.1, left.2)
 
 -- what goes out of a record that was read to the end answers it
-pub leaves_read : (IsText : List ℕ → Type 0) (IsAnswer : List ℕ → List ℕ → Type 0) (r : Result (Unit {0}) Fault) (before after old new : Option (List ℕ)) {recorded : Recorded} (read : TakesRecord recorded before after)
+pub leaves_read : (IsText : List ℕ → Type 0) (IsAnswer : List ℕ → List ℕ → Type 0) (r : Result (Unit {0}) Fault) (before after old new : Option (List ℕ))
+    {recorded : Recorded} (read : TakesRecord recorded before after)
     → ((made : List ℕ) → IsText made → IsAnswer read.text made) → Leaves IsText r old new → Leaves (AnswersInput IsAnswer before after) r old new
 leaves_read IsText IsAnswer r before after old new read answers =
-    leaves_as IsText (AnswersInput IsAnswer before after) r old new (λ made is. record { input = read.text; taken = read.taken; whole = read.over; answers = answers made is })
+    leaves_as IsText (AnswersInput IsAnswer before after) r old new
+    (λ made is. record { input = read.text; taken = read.taken; whole = read.over; answers = answers made is })

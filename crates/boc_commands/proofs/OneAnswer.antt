@@ -28,14 +28,16 @@ use Rattle.boc_commands.proofs.OneProgram.{same_program}
 one_greedy_part : (rows : List Row) → IsRows rows → (p : ℕ) (part other : List ℕ) → IsGreedyPart rows p part → IsGreedyPart rows p other → part ≡ other
 one_greedy_part rows hr p part other g h =
     let same = one_greedy_plan rows hr p g.starts g.workers h.starts h.workers g.greedy h.greedy in
-    let ends : g.ends ≡ h.ends = one_list_of_ends rows h.starts g.ends h.ends (subst (λ (plan : List ℕ). HasEnds rows plan g.ends) same.0 g.ends_are) h.ends_are in
+    let ends : g.ends ≡ h.ends = one_list_of_ends rows h.starts g.ends h.ends (subst (λ (plan : List ℕ). HasEnds rows plan g.ends) same.0 g.ends_are)
+    h.ends_are in
     let last : g.last ≡ h.last = one_end rows h.starts g.last h.last (subst (λ (plan : List ℕ). IsEnd rows plan g.last) same.0 g.last_is) h.last_is in
     let bound : g.bound ≡ h.bound = one_bound rows p g.bound h.bound g.bound_is h.bound_is in
     let text : greedy_text p g.starts g.ends g.workers g.last g.bound ≡ greedy_text p h.starts h.ends h.workers h.last h.bound =
     λ i. greedy_text p (same.0 i) (ends i) (same.1 i) (last i) (bound i) in
     g.text ∙ text ∙ sym h.text
 
-one_part : (rows : List Row) → IsRows rows → (asked : Option ℕ) (part other : List ℕ) → IsAskedPart rows asked part → IsAskedPart rows asked other → part ≡ other
+one_part : (rows : List Row) → IsRows rows → (asked : Option ℕ) (part other : List ℕ) → IsAskedPart rows asked part → IsAskedPart rows asked other
+    → part ≡ other
 one_part rows hr None part other g h = g ∙ sym h
 one_part rows hr (Some p) part other g h = one_greedy_part rows hr p part other g h
 
@@ -43,7 +45,8 @@ pub one_report : (rows : List Row) → IsRows rows → (asked : Option ℕ) (out
     output ≡ other
 one_report rows hr asked output other r s =
     let starts : r.starts ≡ s.starts = one_plan rows r.starts s.starts r.earliest s.earliest in
-    let ends : r.ends ≡ s.ends = one_list_of_ends rows s.starts r.ends s.ends (subst (λ (plan : List ℕ). HasEnds rows plan r.ends) starts r.ends_are) s.ends_are in
+    let ends : r.ends ≡ s.ends = one_list_of_ends rows s.starts r.ends s.ends (subst (λ (plan : List ℕ). HasEnds rows plan r.ends) starts r.ends_are)
+    s.ends_are in
     let span : r.span ≡ s.span = one_end rows s.starts r.span s.span (subst (λ (plan : List ℕ). IsEnd rows plan r.span) starts r.span_is) s.span_is in
     let steps : r.steps ≡ s.steps = one_chain rows s.starts r.steps s.steps (subst (λ (plan : List ℕ). IsPicked rows plan r.steps) starts r.picked) s.picked in
     let part : r.part ≡ s.part = one_part rows hr asked r.part s.part r.part_is s.part_is in
@@ -87,7 +90,8 @@ one_whatif_answer edits sharing asked input output other a b =
     one_report (seen sharing (all_edited b.recorded.rows edits)) (rows_seen sharing (all_edited b.recorded.rows edits) rows) asked output other
     (subst (λ (r : Recorded). IsReport (seen sharing (all_edited r.rows edits)) asked output) same a.report) b.report
 
-pub one_sweep_answer : (sharing : Sharing) (input output other : List ℕ) → IsSweepAnswer sharing input output → IsSweepAnswer sharing input other → output ≡ other
+pub one_sweep_answer : (sharing : Sharing) (input output other : List ℕ) → IsSweepAnswer sharing input output → IsSweepAnswer sharing input other
+    → output ≡ other
 one_sweep_answer sharing input output other a b =
     let same : a.recorded ≡ b.recorded = one_record input a.recorded b.recorded a.spells b.spells in
     let spans : a.spans ≡ b.spans =

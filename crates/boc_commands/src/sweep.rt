@@ -28,7 +28,8 @@ pub fn sweep_cmd<R: Threads + Sync, S: Source, W: Sink>(
 ) -> Result<(), Fault>
     requires source { S.failures source.old < u64.MAX }
     requires sink { W.failures sink.old < u64.MAX }
-    ensures written { Leaves (AnswersInput (IsSweepAnswer sharing) (S.remaining source.old) (S.remaining source.new)) result (W.written sink.old) (W.written sink.new) }
+    ensures written { Leaves (AnswersInput (IsSweepAnswer sharing) (S.remaining source.old) (S.remaining source.new)) result (W.written sink.old)
+        (W.written sink.new) }
     ensures refused { RefusesRecord result (S.remaining source.old) }
     ensures source { CountsSource result (S.failures source.old) (S.failures source.new) }
     ensures sink { CountsSink result (W.failures sink.old) (W.failures sink.new) }

@@ -31,7 +31,8 @@ pub fn whatif_cmd<S: Source, W: Sink>(
 ) -> Result<(), Fault>
     requires source { S.failures source.old < u64.MAX }
     requires sink { W.failures sink.old < u64.MAX }
-    ensures written { Leaves (AnswersInput (IsWhatIfAnswer edits.now sharing workers) (S.remaining source.old) (S.remaining source.new)) result (W.written sink.old) (W.written sink.new) }
+    ensures written { Leaves (AnswersInput (IsWhatIfAnswer edits.now sharing workers) (S.remaining source.old) (S.remaining source.new)) result
+        (W.written sink.old) (W.written sink.new) }
     ensures refused { RefusesEdits edits.now result (S.remaining source.old) }
     ensures source { CountsSource result (S.failures source.old) (S.failures source.new) }
     ensures sink { CountsSink result (W.failures sink.old) (W.failures sink.new) }

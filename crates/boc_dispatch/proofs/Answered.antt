@@ -1,5 +1,6 @@
 -- What the calls answer, by what the machine does.
-use Rattle.std.proofs.Common.{◌≡◌, ◌≢◌, ℕ, zero, suc, ◌+◌, ◌^◌, ◌<◌, ◌≤◌, Bool, true, false, List, [], ◌∷◌, length, map, refl, sym, ◌∙◌, ap, subst, arith, add-one}
+use Rattle.std.proofs.Common.{◌≡◌, ◌≢◌, ℕ, zero, suc, ◌+◌, ◌^◌, ◌<◌, ◌≤◌, Bool, true, false, List, [], ◌∷◌, length, map, refl, sym, ◌∙◌, ap, subst, arith}
+use Rattle.std.proofs.Common.{add-one}
 use Rattle.std.specs.Prelude.{slice_get, ℤ, Option, Some, None, Ok, Err}
 use Rattle.std.specs.List.{All}
 use Rattle.std.specs.Option.{option_map}
@@ -63,7 +64,8 @@ below_all n m (c ∷ cs) le h zero d l = omega (arith, le, h.0)
 below_all n m (c ∷ cs) le h (suc k) d l = below_all n m cs le h.1 k d (omega (arith, l))
 
 -- it was handed out with what equals this
-pub handed_as : (u : Underway) (row : ℕ) (b c : Body) (xs ys : List ℤ) (i j : List Input) → b ≡ c → xs ≡ ys → i ≡ j → IsHandedOut u row b xs i → IsHandedOut u row c ys j
+pub handed_as : (u : Underway) (row : ℕ) (b c : Body) (xs ys : List ℤ) (i j : List Input) → b ≡ c → xs ≡ ys → i ≡ j → IsHandedOut u row b xs i
+    → IsHandedOut u row c ys j
 handed_as u row b c xs ys i j same_body same_args same_inputs h = record {
   member = h.member;
   is = h.is;
@@ -74,11 +76,13 @@ handed_as u row b c xs ys i j same_body same_args same_inputs h = record {
 }
 
 -- a frame may ask that was handed out so, and has a wish next
-pub may_ask : (u : Underway) (f : Framed) (row : ℕ) (b : Body) (xs : List ℤ) (i : List Input) → b ≡ f.body → xs ≡ f.args → i ≡ f.inputs → IsHandedOut u row b xs i → IsNextWish u row f.made → MayAsk u f row
+pub may_ask : (u : Underway) (f : Framed) (row : ℕ) (b : Body) (xs : List ℤ) (i : List Input) → b ≡ f.body → xs ≡ f.args → i ≡ f.inputs
+    → IsHandedOut u row b xs i → IsNextWish u row f.made → MayAsk u f row
 may_ask u f row b xs i body args inputs h next = record { handed = handed_as u row b f.body xs f.args i f.inputs body args inputs h; next = next }
 
 -- the last wish of a frame that may ask is the next of its row
-pub next_is : (u : Underway) (f : Framed) (row : ℕ) (w : Wish) → MayAsk u f row → Some w ≡ last_wish_of f → next_wish u.program (slice_get (members u.program u.state) row) ≡ Some w
+pub next_is : (u : Underway) (f : Framed) (row : ℕ) (w : Wish) → MayAsk u f row → Some w ≡ last_wish_of f
+    → next_wish u.program (slice_get (members u.program u.state) row) ≡ Some w
 next_is u f row w may last =
     let h = may.handed in
     let n = may.next in
@@ -196,7 +200,8 @@ module _ (d : Parts) (k : IsKept d) where
         parent = ap parent_of there ∙ f.parent_is;
       }
 
-  pub found_at : (number row : ℕ) (found : Enqueue) (f : IsFoundEnqueue d number row found) (stage : Stage) → found.stage ≡ stage → IsAtStage d found.slot f.this stage
+  pub found_at : (number row : ℕ) (found : Enqueue) (f : IsFoundEnqueue d number row found) (stage : Stage) → found.stage ≡ stage
+      → IsAtStage d found.slot f.this stage
   found_at number row found f stage is = record { is = f.is.is; stage_is = f.is.stage_is ∙ is }
 
   pub step_made : (e : Parts) (child : Child) (found : Enqueue) (f : IsFoundEnqueue d child.number child.row found) (step : Step) → step ≢ Own
@@ -225,12 +230,17 @@ module _ (d : Parts) (k : IsKept d) where
   settled_or_not e child found f request advanced.Unknown s = absurd s
 
 -- as it is answered, and seen from outside
-pub seen_so : (d e : Parts) (u : Underway) (child : Child) (told made : Advanced) → underway d ≡ u → told ≡ made → AdvancesChild (underway d) child made (underway e) → AdvancesChild u child told (underway e)
-seen_so d e u child told made is same h = subst (λ (x : Underway). AdvancesChild x child told (underway e)) is (subst (λ (a : Advanced). AdvancesChild (underway d) child a (underway e)) (sym same) h)
+pub seen_so : (d e : Parts) (u : Underway) (child : Child) (told made : Advanced) → underway d ≡ u → told ≡ made
+    → AdvancesChild (underway d) child made (underway e) → AdvancesChild u child told (underway e)
+seen_so d e u child told made is same h = subst (λ (x : Underway). AdvancesChild x child told (underway e)) is
+    (subst (λ (a : Advanced). AdvancesChild (underway d) child a (underway e)) (sym same) h)
 
-pub step_seen : (d e : Parts) (k : IsKept d) (u : Underway) (child : Child) (found : Enqueue) (f : IsFoundEnqueue d child.number child.row found) (step : Step) (told : Advanced) → step ≢ Own
-    → Advances d.program (state d) f.this.number step (state e) × (e.program ≡ d.program) → underway d ≡ u → told ≡ advanced.Moved step → AdvancesChild u child told (underway e)
-step_seen d e k u child found f step told other makes is same = seen_so d e u child told (advanced.Moved step) is same (step_made d k e child found f step other makes.0 makes.1)
+pub step_seen : (d e : Parts) (k : IsKept d) (u : Underway) (child : Child) (found : Enqueue) (f : IsFoundEnqueue d child.number child.row found) (step : Step)
+    (told : Advanced) → step ≢ Own
+    → Advances d.program (state d) f.this.number step (state e) × (e.program ≡ d.program) → underway d ≡ u → told ≡ advanced.Moved step
+    → AdvancesChild u child told (underway e)
+step_seen d e k u child found f step told other makes is same =
+    seen_so d e u child told (advanced.Moved step) is same (step_made d k e child found f step other makes.0 makes.1)
 
 -- an open enqueue that is recorded and flags no more owns
 pub owning : (row : ℕ) (phase : Phase) → enqueues_at (Recorded row phase) ≡ true → ((request : ℕ) → phase ≡ phases.Flagging request → ⊥) → phase ≡ phases.Owning
@@ -244,7 +254,8 @@ owning row (phases.Leaving request) open_is other = absurd (let h : false ≡ tr
 -- ---- finish
 
 -- the row ends, and this is answered; there is a token where it is left
-ends_so : (d e : Parts) (who row : ℕ) (o : Ran) (left : Bool) (token : Option Leaving) → IsHandedOut (underway d) row o.body o.args o.inputs → EndsBehaviour d who row left e
+ends_so : (d e : Parts) (who row : ℕ) (o : Ran) (left : Bool) (token : Option Leaving) → IsHandedOut (underway d) row o.body o.args o.inputs
+    → EndsBehaviour d who row left e
     → (token ≡ None → left ≡ false) → ((t : Leaving) → token ≡ Some t → (t.row ≡ row) × (left ≡ true)) → FinishesRow (underway d) row o (Ok token) (underway e)
 ends_so d e who row o left token handed ends none some = (
   handed,
@@ -271,7 +282,8 @@ ends_gone d e who row o handed ends = ends_so d e who row o false None handed en
 
 -- ---- leave
 
-pub leaves : (d e : Parts) (leaving : Leaving) (who : ℕ) (result : Left) → ReleasesNext d who leaving.row result e → LeavesCown (underway d) leaving result (underway e)
+pub leaves : (d e : Parts) (leaving : Leaving) (who : ℕ) (result : Left) → ReleasesNext d who leaving.row result e
+    → LeavesCown (underway d) leaving result (underway e)
 leaves d e leaving who (left.Moved step) r = (who, state e, r.0, r.1, moved d e r.2)
 leaves d e leaving who (left.Gone step) r = (who, state e, r.0, r.1, moved d e r.2)
 leaves d e leaving who left.Blocked r = (r.0, (who, r.1))

@@ -11,7 +11,8 @@ use Rattle.boc_runs.specs.Lives.{Life, Pending, Running, Ended}
 use Rattle.boc_runs.specs.Serial.{behaviour_of}
 use Rattle.boc_runs.specs.Legal.{Entry, pending, after, after_all, entries, IsComplete}
 use Rattle.boc_machine.proofs.Rows.{changed_later}
-use Rattle.boc_runs.specs.Run.{Member, Config, config_after, config_after_all, config_of, opening, waiting, spawned_by, started_on, members_after_spawn, MaySpawn, MayHappen, IsRunFrom, IsRun, IsWholeRun}
+use Rattle.boc_runs.specs.Run.{Member, Config, config_after, config_after_all, config_of, opening, waiting, spawned_by, started_on, members_after_spawn}
+use Rattle.boc_runs.specs.Run.{MaySpawn, MayHappen, IsRunFrom, IsRun, IsWholeRun}
 
 -- what has become of each row
 abbrev lives_of : List Member → List Life
@@ -43,7 +44,8 @@ entries_spawned es parent offset cowns =
     map-append (λ (e : Entry). e.life) (changed es parent (λ e. record e { last = offset }) (slice_get es parent)) (pending parent offset cowns ∷ [])
     ∙ ap (λ ls. ls ++ Pending ∷ []) (changed_map (λ (e : Entry). e.life) (λ e. record e { last = offset }) kept (λ e. refl) es parent)
 
-members_spawned : (p : Program) (ms : List Member) (parent offset : ℕ) (cowns : List ℕ) → MaySpawn p ms parent offset cowns → lives_of (members_after_spawn p ms parent) ≡ spawned (lives_of ms) parent
+members_spawned : (p : Program) (ms : List Member) (parent offset : ℕ) (cowns : List ℕ) → MaySpawn p ms parent offset cowns
+    → lives_of (members_after_spawn p ms parent) ≡ spawned (lives_of ms) parent
 unfolding spawned
 members_spawned p [] parent offset cowns may = refl
 members_spawned p (m ∷ ms) parent offset cowns may =
@@ -64,7 +66,8 @@ next_lives p c es (Start row) may same =
 next_lives p c es (End row ticks status written) may same =
     changed_map (λ (x : Member). x.life) (λ m. record m { life = Ended }) (λ l. Ended) (λ x. refl) c.members row
     ∙ ap (λ (ls : List Life). changed ls row (λ l. Ended) (slice_get ls row)) same
-    ∙ sym (changed_map (λ (e : Entry). e.life) (λ e. record e { life = Ended; ticks = ticks; status = status; written = written.items }) (λ l. Ended) (λ e. refl) es row)
+    ∙ sym (changed_map (λ (e : Entry). e.life) (λ e. record e { life = Ended; ticks = ticks; status = status; written = written.items }) (λ l. Ended)
+    (λ e. refl) es row)
 
 lives_from : (p : Program) (c : Config) (es : List Entry) (log : List Event) → IsRunFrom p c log → lives_of c.members ≡ lives_in es
     → lives_of (config_after_all p c log).members ≡ lives_in (after_all es log)

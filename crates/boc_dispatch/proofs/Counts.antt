@@ -84,7 +84,8 @@ first_stays queue queue' c who w rest front front' others n not_next d =
     ]
 
 -- the next in the list, which is settled there: one request more of it is granted
-pub next_granted : (at : ℕ → Option OpenBehaviour) (queue queue' : ℕ → List ℕ) (c who next : ℕ) (rest cowns : List ℕ) → queue c ≡ who ∷ (next ∷ rest) → queue' c ≡ next ∷ rest
+pub next_granted : (at : ℕ → Option OpenBehaviour) (queue queue' : ℕ → List ℕ) (c who next : ℕ) (rest cowns : List ℕ) → queue c ≡ who ∷ (next ∷ rest)
+    → queue' c ≡ next ∷ rest
     → ((d : ℕ) → d ≢ c → queue' d ≡ queue d) → next ≢ who → 0 < times c (settled (at next)) → times c cowns ≡ 1
     → waited at queue next cowns ≡ waited at queue' next cowns + 1
 next_granted at queue queue' c who next rest cowns front front' others n is_settled one =

@@ -79,7 +79,8 @@ module _ (u : Underway) (t : State) (workers : List Worker) (k : ℕ) (old new :
     fits = λ j w there. elim (new_or_other j w there) [
       | inl e ↦ subst (λ (x : Worker). HandFits (in_state u t) x.hand) e.1 fits
       | inr o ↦ hand_on u t w.hand
-          (λ row served. same_turn u.program u.state row (row_in old.hand) t (row_in new.hand) (others_row j w row o.0 o.1 served) (others_after j w row o.0 o.1 served) turn)
+          (λ row served. same_turn u.program u.state row (row_in old.hand) t (row_in new.hand) (others_row j w row o.0 o.1 served)
+          (others_after j w row o.0 o.1 served) turn)
           (crew.fits j w o.1)
     ];
     apart = λ i j row v w a b served_v served_w. elim (new_or_other i v a) [

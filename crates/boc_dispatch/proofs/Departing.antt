@@ -15,7 +15,8 @@ use Rattle.boc_dispatch.specs.declared.live.Live.{Live}
 use Rattle.boc_dispatch.specs.Grants.{with_granted, MayBeGranted, Released, LeftAs}
 use Rattle.boc_dispatch.specs.Inside.{Parts, state, live_at, open_of}
 use Rattle.boc_dispatch.specs.Moves.{ReleasesNext}
-use Rattle.boc_dispatch.proofs.Fronts.{Front, popped, popped_state, front, unhooks, unhooked, blocked, passes, passed, may_grant, unhooked_alone, passed_next, blocked_next, left_behind, left_as_it_was}
+use Rattle.boc_dispatch.proofs.Fronts.{Front, popped, popped_state, front, unhooks, unhooked, blocked, passes, passed, may_grant, unhooked_alone, passed_next}
+use Rattle.boc_dispatch.proofs.Fronts.{blocked_next, left_behind, left_as_it_was}
 
 -- by the step that was made
 pub releases_of : (d e f : Parts) (row : ℕ) (l : Live) (request : ℕ) (step : Step) (result : Left) → e.program ≡ d.program
@@ -63,7 +64,8 @@ module _ (d : Parts) (slot row request : ℕ) (l : Live) (f : Front d slot row r
         let w = front d slot row request l f in
         subst (Released d slot row l (suc request)) (sym unhooked_parts) (unhooked d slot row request l f w.0 only w.3)
 
-    pub unhooked_makes : (t : State) → t ≡ stepped (leaving_on (state e) l.number (open_of l) row (suc request)) → Leaves (state d) l.number row (steps.Unhook request) t
+    pub unhooked_makes : (t : State) → t ≡ stepped (leaving_on (state e) l.number (open_of l) row (suc request))
+        → Leaves (state d) l.number row (steps.Unhook request) t
     unhooked_makes t h =
         let w = front d slot row request l f in
         unhooks d slot row request l f w.0 only w.3 t
@@ -76,7 +78,8 @@ module _ (d : Parts) (slot row request : ℕ) (l : Live) (f : Front d slot row r
     abbrev this : Request
     this = (front d slot row request l f).0
 
-    next : (next : Request) × (behind : List Request) × ((front d slot row request l f).1 ≡ next ∷ behind) × (next.settled ≡ true) × (to ≡ record { index = next.slot })
+    next : (next : Request) × (behind : List Request) × ((front d slot row request l f).1 ≡ next ∷ behind) × (next.settled ≡ true)
+        × (to ≡ record { index = next.slot })
     next = let w = front d slot row request l f in passed_next q w.0 w.1 to w.2 answer
 
     list_is : q ≡ this ∷ ((next).0 ∷ (next).1)
@@ -108,7 +111,8 @@ module _ (d : Parts) (slot row request : ℕ) (l : Live) (f : Front d slot row r
           subst (Released d slot row l (suc request)) (sym (granted ∙ granted_parts))
           (passed d slot row request l f this (next).0 (next).1 (follower).0 list_is mine (follower).1 (next).3)
 
-      pub passed_makes : (t : State) → t ≡ stepped (leaving_on (state e') l.number (open_of l) row (suc request)) → Leaves (state d) l.number row (steps.Pass request) t
+      pub passed_makes : (t : State) → t ≡ stepped (leaving_on (state e') l.number (open_of l) row (suc request))
+          → Leaves (state d) l.number row (steps.Pass request) t
       passed_makes t h =
           passes d slot row request l f this (next).0 (next).1 (follower).0 list_is mine (follower).1 (next).3 t
           (h ∙ ap (λ z. stepped (leaving_on (state z) l.number (open_of l) row (suc request))) (granted ∙ granted_parts))

@@ -104,7 +104,8 @@ module _ (p : Program) (workers : ℕ) (choices : List ℕ) (place : ℕ) (u : U
   pub none_where_full : (choice : ℕ) (w : Worker) → slice_get crew choice ≡ Some w → HasNoRoom (of_program p u.state) (row_in w.hand)
       → (after : Driven) → Turn p (stands_at u crew) choice after → ⊥
   none_where_full choice w is full after turn =
-      let before : turn.before ≡ Some full.served = (let f : Some turn.before ≡ Some (row_in w.hand) = sym turn.is ∙ got_map (λ (x : Worker). row_in x.hand) crew choice w is in
+      let before : turn.before ≡ Some full.served = (let f : Some turn.before ≡ Some (row_in w.hand) = sym turn.is
+      ∙ got_map (λ (x : Worker). row_in x.hand) crew choice w is in
       let g : turn.before ≡ row_in w.hand = cc in g ∙ full.serves) in
       no_turn p u.state after.state full.served full.wish turn.after (subst (λ q. IsSound q u.state) h.program at_sound) full.runs full.none_open full.next
       (omega (arith, full.full)) (subst (λ o. TakesTurn p u.state o after.state turn.after) before turn.takes)
@@ -154,10 +155,12 @@ module _ (p : Program) (workers : ℕ) (choices : List ℕ) (place : ℕ) (u : U
         }
 
 -- all choices have had their turns
-pub at_end : (p : Program) (workers : ℕ) (choices : List ℕ) (place : ℕ) (u : Underway) (crew : List Worker) → place ≡ length choices → IsAt p workers choices place u crew → IsDriven p workers choices u
+pub at_end : (p : Program) (workers : ℕ) (choices : List ℕ) (place : ℕ) (u : Underway) (crew : List Worker) → place ≡ length choices
+    → IsAt p workers choices place u crew → IsDriven p workers choices u
 at_end p workers choices place u crew last h = record {
   end = record { state = u.state; serves = rows_of crew };
-  turns = subst (λ cs. Turns p (opening_driven p workers) cs (record { state = u.state; serves = rows_of crew })) (ap (λ n. take n choices) last ∙ take-length choices) h.turns;
+  turns = subst (λ cs. Turns p (opening_driven p workers) cs (record { state = u.state; serves = rows_of crew }))
+      (ap (λ n. take n choices) last ∙ take-length choices) h.turns;
   same = λ i. record { program = h.program i; state = u.state };
 }
 

@@ -17,7 +17,8 @@ use Rattle.boc_runs.specs.Serial.{behaviour_of}
 use Rattle.boc_runs.specs.Run.{Member, opening, config_of, next_wish, waiting, spawned_by, members_after_spawn, config_after}
 use Rattle.boc_runs.specs.machine.Stages.{OpenBehaviour, parent_of, enqueues, enqueues_at, life, life_at, row_of, row_at}
 use Rattle.boc_runs.specs.machine.Queues.{all_granted}
-use Rattle.boc_runs.specs.machine.Steps.{State, at, queue, members, opened, noted, with_behaviour, with_stage, with_queue, with_new, with_spawn, asking_on, leaving_on, flagging, made_ready, owned, woken, woken_if, woken_at, child, Advances, Leaves, Opens, Starts, Finishes}
+use Rattle.boc_runs.specs.machine.Steps.{State, at, queue, members, opened, noted, with_behaviour, with_stage, with_queue, with_new, with_spawn, asking_on}
+use Rattle.boc_runs.specs.machine.Steps.{leaving_on, flagging, made_ready, owned, woken, woken_if, woken_at, child, Advances, Leaves, Opens, Starts, Finishes}
 use Rattle.boc_runs.specs.machine.Turns.{IsEnqueueOf, TakesTurn, NoneReady, Begins, Advanced, WaitsToSettle, Opened, Finished, Left, WaitsToLeave}
 use Rattle.boc_program.proofs.ChangedItems.{front_item, place_below, length-changed}
 use Rattle.boc_machine.proofs.Lists.{same_or_not, read_past, read_pushed, read_front}
@@ -89,7 +90,8 @@ idle_apart row b over lives = record {
 
 -- ---- one behaviour put in place of another
 
-same_put : (p : Program) (row : ℕ) (s : State) (who : ℕ) (b : OpenBehaviour) (b' : Option OpenBehaviour) → at s who ≡ Some b → IsApart row (Some b) → IsApart row b'
+same_put : (p : Program) (row : ℕ) (s : State) (who : ℕ) (b : OpenBehaviour) (b' : Option OpenBehaviour) → at s who ≡ Some b → IsApart row (Some b)
+    → IsApart row b'
     → SameFor p row s (with_behaviour s who b')
 same_put p row s who b b' is before after =
     let t = with_behaviour s who b' in
@@ -223,7 +225,8 @@ module _ (p : Program) (s : State) (row other : ℕ) (differ : row ≢ other) wh
       subst (SameFor p row s) (sym m.gives) (record { member = same.member; kept = same.kept; no_new = same.no_new })
   same_advanced who (steps.Settle i) t q m =
       let b = m.this in
-      let same = same_asking p row other differ s who b (suc i) m.due.is (parent_is who b q m.due.is) (not_ended (life_at b.stage) (ap life_at m.due.stage_is)) in
+      let same = same_asking p row other differ s who b (suc i) m.due.is (parent_is who b q m.due.is)
+      (not_ended (life_at b.stage) (ap life_at m.due.stage_is)) in
       subst (SameFor p row s) (sym m.gives) (record { member = same.member; kept = same.kept; no_new = same.no_new })
   same_advanced who (steps.Flag i) t q m =
       let b = m.this in
@@ -273,7 +276,8 @@ module _ (p : Program) (s : State) (row other : ℕ) (differ : row ≢ other) wh
       let b' : OpenBehaviour = record b { stage = Recorded other phases.Running } in
       let u = with_behaviour s who (Some b') in
       let same = same_then p row s u (noted u (events.Start other))
-      (same_put p row s who b (Some b') m.is (own_apart row other b (ap enqueues_at m.stage_is) (ap row_at m.stage_is) differ) (own_apart row other b' refl refl differ))
+      (same_put p row s who b (Some b') m.is (own_apart row other b (ap enqueues_at m.stage_is) (ap row_at m.stage_is) differ)
+      (own_apart row other b' refl refl differ))
       (same_noted p row u (events.Start other) (λ x e. changed_other (members p s) other row _ (slice_get (members p s) other) differ ∙ e)) in
       subst (SameFor p row s) (sym m.gives) (record { member = same.member; kept = same.kept; no_new = same.no_new })
 

@@ -1,5 +1,6 @@
 -- A request is exchanged.
-use Rattle.std.proofs.Common.{◌≡◌, ◌≢◌, ℕ, zero, suc, ◌+◌, ◌<◌, ◌⊎◌, inl, inr, true, false, cond, ◌&&◌, ◌||◌, List, [], ◌∷◌, ◌++◌, length, set, take, get_or, refl, sym, ◌∙◌, ap, subst, arith, get_or-set_same, get_or-set_other}
+use Rattle.std.proofs.Common.{◌≡◌, ◌≢◌, ℕ, zero, suc, ◌+◌, ◌<◌, ◌⊎◌, inl, inr, true, false, cond, ◌&&◌, ◌||◌, List, [], ◌∷◌, ◌++◌, length, set, take, get_or}
+use Rattle.std.proofs.Common.{refl, sym, ◌∙◌, ap, subst, arith, get_or-set_same, get_or-set_other}
 use Rattle.std.specs.Prelude.{slice_get, slice_index_or, nat_lt, Option, Some, None}
 use Rattle.std.specs.Option.{option_map, option_map_or}
 use Rattle.std.specs.List.{count_by}
@@ -17,7 +18,8 @@ use Rattle.boc_machine.proofs.Keeps.{keeps_swaps}
 use Rattle.boc_chain.specs.declared.request.Request.{Request}
 use Rattle.boc_chain.specs.Chain.{Place, cowns_of, exchanged_of, with_change, with_fresh, fresh, one_more}
 use Rattle.boc_dispatch.specs.declared.live.Live.{Live}
-use Rattle.boc_dispatch.specs.Inside.{live_at, open_of, place_of, number_at, Parts, IsKept, HasRooms, state, IsAtStage, AreCounted, AreChained, IsRequestOf, queues_of, exchanged_at}
+use Rattle.boc_dispatch.specs.Inside.{live_at, open_of, place_of, number_at, Parts, IsKept, HasRooms, state, IsAtStage, AreCounted, AreChained, IsRequestOf}
+use Rattle.boc_dispatch.specs.Inside.{queues_of, exchanged_at}
 use Rattle.boc_dispatch.proofs.Standing.{open_is, place_is, cown_there, cown_once}
 use Rattle.boc_dispatch.proofs.Going.{granted_same, awaits_same, gone_on, table_on, here_on, counted_on, same_marks, parts_on, state_on, rooms_on, kept_on}
 use Rattle.boc_dispatch.proofs.Flagged.{got_there}
@@ -108,7 +110,8 @@ module _ (d : Parts) (k : IsKept d) (slot : ℕ) (l : Live) (request : ℕ) (it 
       elim (same_or_not c c0) [
         | inl e ↦
             let q : is_first who (queue t c) ≡ is_first who (queue s c) =
-            ap (λ z. is_first who (queue t z)) e ∙ ap (is_first who) queue_here ∙ first_more who l.number (queue s c0) n ∙ ap (λ z. is_first who (queue s z)) (sym e) in
+            ap (λ z. is_first who (queue t z)) e ∙ ap (is_first who) queue_here ∙ first_more who l.number (queue s c0) n
+            ∙ ap (λ z. is_first who (queue s z)) (sym e) in
             λ i. nat_lt 0 (times c (settled_other who n i)) && q i
         | inr m ↦ granted_same s t who c (settled_other who n) (queue_other c m)
       ]
@@ -159,7 +162,8 @@ module _ (d : Parts) (k : IsKept d) (slot : ℕ) (l : Live) (request : ℕ) (it 
         elim (same_or_not c c0) [
           | inl e ↦
               let b : slice_get (get_or d.lists c0 [] ++ (fresh slot ∷ [])) j ≡ Some r =
-              ap (λ q. slice_get q j) (sym (ap (λ z. get_or lists' z []) e ∙ get_or-set_same d.lists c0 (with_fresh slot (get_or d.lists c0 [])) [] below)) ∙ a in
+              ap (λ q. slice_get q j) (sym (ap (λ z. get_or lists' z []) e ∙ get_or-set_same d.lists c0 (with_fresh slot (get_or d.lists c0 [])) [] below))
+              ∙ a in
               elim (got_pushed (get_or d.lists c0 []) (fresh slot) j r b) [
                 | inl there ↦ kept_request c r (subst (λ (z : ℕ). IsRequestOf d.live z r) (sym e) (k.chained.requests c0 j r there))
                 | inr is ↦ subst (λ (z : Request). IsRequestOf table c z) (sym is) (record {
@@ -169,12 +173,14 @@ module _ (d : Parts) (k : IsKept d) (slot : ℕ) (l : Live) (request : ℕ) (it 
                   flagged_is = refl;
                 })
               ]
-          | inr n ↦ kept_request c r (k.chained.requests c j r (ap (λ q. slice_get q j) (sym (get_or-set_other d.lists c0 c (with_fresh slot (get_or d.lists c0 [])) [] n)) ∙ a))
+          | inr n ↦ kept_request c r (k.chained.requests c j r
+              (ap (λ q. slice_get q j) (sym (get_or-set_other d.lists c0 c (with_fresh slot (get_or d.lists c0 [])) [] n)) ∙ a))
         ]
 
     chained_after : AreChained table lists place
     chained_after = record {
-      requests = subst (λ (ls : List (List Request)). (c j : ℕ) (r : Request) → slice_get (slice_index_or ls c []) j ≡ Some r → IsRequestOf table c r) (sym lists_after) requests_after;
+      requests = subst (λ (ls : List (List Request)). (c j : ℕ) (r : Request) → slice_get (slice_index_or ls c []) j ≡ Some r → IsRequestOf table c r)
+          (sym lists_after) requests_after;
       places = λ r. elim (same_or_not r slot) [
         | inl e ↦
             ap place e ∙ place_here ∙ ap one_more (place_is d k slot l it.is)

@@ -1,5 +1,6 @@
 -- Finish: a running behaviour ends as its body did.
-use Rattle.std.proofs.Common.{◌≡◌, ℕ, zero, suc, ◌+◌, ◌<◌, ◌≤◌, inl, inr, Bool, true, false, List, [], ◌∷◌, ◌++◌, length, set, get_or, refl, sym, ◌∙◌, ap, subst, arith, ℤ}
+use Rattle.std.proofs.Common.{◌≡◌, ℕ, zero, suc, ◌+◌, ◌<◌, ◌≤◌, inl, inr, Bool, true, false, List, [], ◌∷◌, ◌++◌, length, set, get_or, refl, sym, ◌∙◌, ap}
+use Rattle.std.proofs.Common.{subst, arith, ℤ}
 use Rattle.std.specs.Prelude.{slice_get, nat_lt, Option, Some, None}
 use Rattle.std.specs.Option.{option_map}
 use Rattle.std.specs.Vec.{vec_len, with_items}
@@ -58,7 +59,14 @@ row_then : (rows : List Member) (row r : ℕ) (m : Member) → slice_get rows r 
     → (n : Member) × (slice_get (rows_ended rows row) r ≡ Some n) × (n.behaviour ≡ m.behaviour) × (n.inputs ≡ m.inputs) × (n.spawned ≡ m.spawned)
 row_then rows row r m is =
     elim (same_or_not r row) [
-      | inl e ↦ (with_end m, ap (slice_get (rows_ended rows row)) e ∙ changed_same rows row with_end ∙ ap (option_map with_end) (ap (slice_get rows) (sym e) ∙ is), refl, refl, refl)
+      | inl e ↦ (
+        with_end m,
+        ap (slice_get (rows_ended rows row)) e ∙ changed_same rows row with_end
+            ∙ ap (option_map with_end) (ap (slice_get rows) (sym e) ∙ is),
+        refl,
+        refl,
+        refl,
+      )
       | inr n ↦ (m, changed_other rows row r with_end (slice_get rows row) n ∙ is, refl, refl, refl)
     ]
 
@@ -174,7 +182,8 @@ module _ (d : Parts) (slot row : ℕ) (l : Live) (o : Ran) (written : ArrayVec �
   -- the event is allowed
   pub allowed : IsAllowed d.log.cowns (entries d.log.events) event
   allowed =
-      let run : IsRun d.program (d.log.events ++ (event ∷ [])) = subst (IsRun d.program) (leaving_same (λ z. z.log) (state ended) l.number (open_of l) row 0 refl refl) (sound).run in
+      let run : IsRun d.program (d.log.events ++ (event ∷ [])) =
+      subst (IsRun d.program) (leaving_same (λ z. z.log) (state ended) l.number (open_of l) row 0 refl refl) (sound).run in
       subst (λ (n : ℕ). IsAllowed n (entries d.log.events) event) (sym f.kept.cowns_are) (allowed_last d.program d.log.events event run)
 
   rows_then : members d.program (state ended) ≡ rows_ended rows row
@@ -244,19 +253,22 @@ module _ (d : Parts) (slot row : ℕ) (l : Live) (o : Ran) (written : ArrayVec �
       let many : length r.member.inputs ≡ length r.member.behaviour.cowns = sym (length-map r.member.inputs (λ i. i.cown)) ∙ ap (length {A = ℕ}) held in
       let inputs : o.inputs ≡ r.member.inputs = f.handed.inputs_are ∙ ap (λ (m : Member). m.inputs) same in
       let cowns : r.member.behaviour.cowns ≡ l.params.items = ap (λ (b : Behaviour). b.cowns) r.behaviour_is in
-      sym (ap (length {A = ℤ}) f.means.same_outputs ∙ output_for_each o.body o.args o.inputs ∙ ap (length {A = Input}) inputs ∙ many ∙ ap (length {A = ℕ}) cowns)
+      sym (ap (length {A = ℤ}) f.means.same_outputs ∙ output_for_each o.body o.args o.inputs ∙ ap (length {A = Input}) inputs ∙ many
+      ∙ ap (length {A = ℕ}) cowns)
 
 -- ---- what the calls read and leave
 
 -- the behaviour's place, the values and the log
-pub record FinishCalls (d : Parts) (slot row : ℕ) (o : Ran) (written : ArrayVec ℕ) (p p' : Option Live) (values : List ℤ) (log : Log) (has_cowns : Bool) : Type 0 where
+pub record FinishCalls (d : Parts) (slot row : ℕ) (o : Ran) (written : ArrayVec ℕ) (p p' : Option Live) (values : List ℤ) (log : Log) (has_cowns : Bool) : Type
+    0 where
   pub reads : p ≡ get_or d.live slot p
   pub ends : p' ≡ option_map (in_phase row (phases.Leaving 0)) p
   pub writes : Has p (λ l. values ≡ after_outputs d.values l.params.items o.outputs)
   pub notes : log ≡ grown d.log (End row o.ticks o.status written)
   pub tells : Has p (λ l. has_cowns ≡ nat_lt 0 (length l.cowns.items))
 
-module _ (d : Parts) (slot row : ℕ) (l : Live) (o : Ran) (written : ArrayVec ℕ) (f : Ending d slot row l o written) (p p' : Option Live) (values : List ℤ) (log : Log) (has_cowns : Bool)
+module _ (d : Parts) (slot row : ℕ) (l : Live) (o : Ran) (written : ArrayVec ℕ) (f : Ending d slot row l o written) (p p' : Option Live) (values : List ℤ)
+    (log : Log) (has_cowns : Bool)
     (k : FinishCalls d slot row o written p p' values log has_cowns) where
   read : p ≡ Some l
   read = read_place d.live slot l p f.is k.reads
@@ -267,10 +279,12 @@ module _ (d : Parts) (slot row : ℕ) (l : Live) (o : Ran) (written : ArrayVec �
   abbrev next : Parts
   next = gone_on d slot row l 0 (ended d slot row l o written f) (released d slot row l o written f)
 
-  pub finished_parts : record d { live = set d.live slot p'; log = log; values = values; steps = d.steps + 1 } ≡ gone_on d slot row l 0 (ended d slot row l o written f) (released d slot row l o written f)
+  pub finished_parts : record d { live = set d.live slot p'; log = log; values = values; steps = d.steps + 1 }
+      ≡ gone_on d slot row l 0 (ended d slot row l o written f) (released d slot row l o written f)
   finished_parts =
       let put : p' ≡ Some (in_phase row (phases.Leaving 0) l) = k.ends ∙ ap (option_map (in_phase row (phases.Leaving 0))) read in
-      let wrote : values ≡ after_outputs d.values l.params.items o.outputs = subst (λ (z : Option Live). Has z (λ x. values ≡ after_outputs d.values x.params.items o.outputs)) read k.writes in
+      let wrote : values ≡ after_outputs d.values l.params.items o.outputs =
+      subst (λ (z : Option Live). Has z (λ x. values ≡ after_outputs d.values x.params.items o.outputs)) read k.writes in
       λ i. record d { live = set d.live slot (put i); log = k.notes i; values = wrote i; steps = d.steps + 1 }
 
   told : has_cowns ≡ nat_lt 0 (length l.cowns.items)
@@ -310,13 +324,15 @@ module _ (d : Parts) (slot row : ℕ) (l : Live) (o : Ran) (written : ArrayVec �
 pub written_long : (d : Parts) (slot : ℕ) (l : Live) (o : Ran) (p : Option Live) (values : List ℤ) → live_at d.live slot ≡ Some l → p ≡ get_or d.live slot p
     → Has p (λ x. values ≡ after_outputs d.values x.params.items o.outputs) → length values ≡ length d.values
 written_long d slot l o p values is reads writes =
-    ap (length {A = ℤ}) (subst (λ (z : Option Live). Has z (λ x. values ≡ after_outputs d.values x.params.items o.outputs)) (read_place d.live slot l p is reads) writes)
+    ap (length {A = ℤ}) (subst (λ (z : Option Live). Has z (λ x. values ≡ after_outputs d.values x.params.items o.outputs))
+    (read_place d.live slot l p is reads) writes)
     ∙ length-after_outputs d.values l.params.items o.outputs
 
 -- ---- as the code tells it
 
 -- what is asked of a call of finish
-pub ending : (d : Parts) (slot row : ℕ) (l : Live) (o : Ran) → IsKept d → IsAtStage d slot l (Recorded row phases.Running) → Means o → IsHandedOut (underway d) row o.body o.args o.inputs
+pub ending : (d : Parts) (slot row : ℕ) (l : Live) (o : Ran) → IsKept d → IsAtStage d slot l (Recorded row phases.Running) → Means o
+    → IsHandedOut (underway d) row o.body o.args o.inputs
     → HasSpawnedAll (underway d) row o.wishes → Ending d slot row l o (record { items = o.written })
 ending d slot row l o kept it means handed spawned = record {
   kept = kept;
@@ -329,13 +345,15 @@ ending d slot row l o kept it means handed spawned = record {
 }
 
 -- what its calls read and leave, where they were handed the values and the outputs as these
-pub finish_calls : (d : Parts) (slot row : ℕ) (l : Live) (o : Ran) (f : Ending d slot row l o (record { items = o.written })) (p p' : Option Live) (held outputs wrote : List ℤ) (values : Vec ℤ Global) (said : Event) (log : Log) (has_cowns : Bool)
+pub finish_calls : (d : Parts) (slot row : ℕ) (l : Live) (o : Ran) (f : Ending d slot row l o (record { items = o.written })) (p p' : Option Live)
+    (held outputs wrote : List ℤ) (values : Vec ℤ Global) (said : Event) (log : Log) (has_cowns : Bool)
     → p ≡ get_or d.live slot p → p' ≡ option_map (in_phase row (phases.Leaving 0)) p → outputs ≡ o.outputs → held ≡ d.values → length held ≡ vec_len values
     → Has p (λ x. wrote ≡ after_outputs held x.params.items outputs) → said ≡ End row o.ticks o.status (record { items = o.written }) → log ≡ grown d.log said
     → Has p (λ x. has_cowns ≡ nat_lt 0 (length x.cowns.items))
     → FinishCalls d slot row o (record { items = o.written }) p p' (with_items values wrote).items log has_cowns
 finish_calls d slot row l o f p p' held outputs wrote values said log has_cowns reads ends outputs_are held_is long writes said_is notes tells =
-    let written : Has p (λ x. wrote ≡ after_outputs d.values x.params.items o.outputs) = subst (λ (os : List ℤ). Has p (λ x. wrote ≡ after_outputs d.values x.params.items os)) outputs_are
+    let written : Has p (λ x. wrote ≡ after_outputs d.values x.params.items o.outputs) =
+    subst (λ (os : List ℤ). Has p (λ x. wrote ≡ after_outputs d.values x.params.items os)) outputs_are
     (subst (λ (vs : List ℤ). Has p (λ x. wrote ≡ after_outputs vs x.params.items outputs)) held_is writes) in
     let same : (with_items values wrote).items ≡ wrote = with_items_is values wrote
     (written_long d slot l o p wrote f.is reads written ∙ ap (length {A = ℤ}) (sym held_is) ∙ long) in

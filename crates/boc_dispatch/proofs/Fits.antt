@@ -1,5 +1,6 @@
 -- The counts of a sound state fit their types, and there is room in the ready list.
-use Rattle.std.proofs.Common.{◌≡◌, ℕ, zero, suc, ◌+◌, ◌*◌, ◌^◌, ◌<◌, ◌≤◌, inl, inr, true, false, ◌||◌, eqb, List, [], ◌∷◌, ◌++◌, length, map, get_or, refl, sym, ◌∙◌, ap, subst, arith}
+use Rattle.std.proofs.Common.{◌≡◌, ℕ, zero, suc, ◌+◌, ◌*◌, ◌^◌, ◌<◌, ◌≤◌, inl, inr, true, false, ◌||◌, eqb, List, [], ◌∷◌, ◌++◌, length, map, get_or, refl, sym}
+use Rattle.std.proofs.Common.{◌∙◌, ap, subst, arith}
 use Rattle.std.specs.Prelude.{slice_get, Option, Some, None}
 use Rattle.std.specs.List.{sum_by, list_any, AllByRecursion, IsDistinct}
 use Rattle.std.proofs.Math.ListN.{length-append}
@@ -28,7 +29,8 @@ use Rattle.boc_runs.specs.machine.Sound.{IsSound, HasNextRequest, made, made_at}
 
 -- ---- events of runs are allowed
 
-legal_last : (count : ℕ) (rows : List Entry) (log : List Event) (event : Event) → IsLegalFrom count rows (log ++ (event ∷ [])) → IsAllowed count (after_all rows log) event
+legal_last : (count : ℕ) (rows : List Entry) (log : List Event) (event : Event) → IsLegalFrom count rows (log ++ (event ∷ []))
+    → IsAllowed count (after_all rows log) event
 legal_last count rows [] event h = h.0
 legal_last count rows (e ∷ log) event h = legal_last count (after rows e) log event h.1
 
@@ -45,7 +47,8 @@ changed_behind : (e : Entry) (rows : List Entry) (i : ℕ) (f : Entry → Entry)
 changed_behind e rows i f None = refl
 changed_behind e rows i f (Some x) = refl
 
-cost_changed : (rows : List Entry) (i : ℕ) (f : Entry → Entry) → ((e : Entry) → cost_of (f e) ≡ cost_of e) → sum_by cost_of (changed rows i f (slice_get rows i)) ≡ sum_by cost_of rows
+cost_changed : (rows : List Entry) (i : ℕ) (f : Entry → Entry) → ((e : Entry) → cost_of (f e) ≡ cost_of e)
+    → sum_by cost_of (changed rows i f (slice_get rows i)) ≡ sum_by cost_of rows
 cost_changed [] i f same = refl
 cost_changed (e ∷ rows) zero f same = sum_by-cons cost_of (f e) rows ∙ ap (λ x. x + sum_by cost_of rows) (same e) ∙ sym (sum_by-cons cost_of e rows)
 cost_changed (e ∷ rows) (suc i) f same =
@@ -57,7 +60,8 @@ pub record AreFew (rows : List Entry) : Type 0 where
   pub rows_are : length rows ≤ MOST_ROWS
   pub steps_are : sum_by cost_of rows ≤ 36 * length rows
 
-few_changed : (rows : List Entry) (i : ℕ) (f : Entry → Entry) → ((e : Entry) → cost_of (f e) ≡ cost_of e) → AreFew rows → AreFew (changed rows i f (slice_get rows i))
+few_changed : (rows : List Entry) (i : ℕ) (f : Entry → Entry) → ((e : Entry) → cost_of (f e) ≡ cost_of e) → AreFew rows
+    → AreFew (changed rows i f (slice_get rows i))
 few_changed rows i f same k =
     let n = length-changed rows i f (slice_get rows i) in
     let c = cost_changed rows i f same in

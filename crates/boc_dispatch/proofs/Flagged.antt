@@ -1,5 +1,6 @@
 -- A request is flagged.
-use Rattle.std.proofs.Common.{◌≡◌, ℕ, zero, suc, ◌+◌, ◌<◌, ◌≤◌, inl, inr, Bool, true, false, cond, ◌||◌, ltb, List, [], ◌∷◌, length, map, set, take, get_or, refl, sym, ◌∙◌, ap, subst, arith}
+use Rattle.std.proofs.Common.{◌≡◌, ℕ, zero, suc, ◌+◌, ◌<◌, ◌≤◌, inl, inr, Bool, true, false, cond, ◌||◌, ltb, List, [], ◌∷◌, length, map, set, take, get_or}
+use Rattle.std.proofs.Common.{refl, sym, ◌∙◌, ap, subst, arith}
 use Rattle.std.specs.Prelude.{slice_get, slice_index_or, nat_lt, Option, Some, None}
 use Rattle.std.specs.Option.{option_map}
 use Rattle.std.specs.List.{count_by}
@@ -21,9 +22,11 @@ use Rattle.boc_machine.proofs.Keeps.{keeps_flags}
 use Rattle.boc_chain.specs.declared.request.Request.{Request}
 use Rattle.boc_chain.specs.Chain.{Place, cowns_of, list_for, with_change, with_flagged, flag_one, StandsIn}
 use Rattle.boc_dispatch.specs.declared.live.Live.{Live}
-use Rattle.boc_dispatch.specs.Inside.{live_at, open_of, place_of, Parts, IsKept, HasRooms, state, IsAtStage, AreCounted, AreChained, IsRequestOf, queues_of, exchanged_at}
+use Rattle.boc_dispatch.specs.Inside.{live_at, open_of, place_of, Parts, IsKept, HasRooms, state, IsAtStage, AreCounted, AreChained, IsRequestOf, queues_of}
+use Rattle.boc_dispatch.specs.Inside.{exchanged_at}
 use Rattle.boc_dispatch.proofs.Standing.{open_is, place_is, stands_in, cown_there}
-use Rattle.boc_dispatch.proofs.Going.{granted_same, awaits_same, queues_mapped, gone_on, table_on, here_on, counted_on, requests_on, parts_on, state_on, rooms_on, kept_on}
+use Rattle.boc_dispatch.proofs.Going.{granted_same, awaits_same, queues_mapped, gone_on, table_on, here_on, counted_on, requests_on, parts_on, state_on}
+use Rattle.boc_dispatch.proofs.Going.{rooms_on, kept_on}
 use Rattle.boc_dispatch.proofs.Tables.{live_other}
 
 -- ---- a list and its places
@@ -53,9 +56,11 @@ or_all false = refl
 
 -- ---- where a behaviour goes on flagging
 
-pub flagging_each : (row : ℕ) (P : Stage → Type 0) (cs : List ℕ) (i : ℕ) → (i < length cs → P (Recorded row (Flagging i))) → (length cs ≤ i → P (Recorded row Owning)) → P (Recorded row (flagging cs i))
+pub flagging_each : (row : ℕ) (P : Stage → Type 0) (cs : List ℕ) (i : ℕ) → (i < length cs → P (Recorded row (Flagging i)))
+    → (length cs ≤ i → P (Recorded row Owning)) → P (Recorded row (flagging cs i))
 flagging_each row P cs i more over =
-    by_test (λ (ph : Phase). P (Recorded row ph)) (ltb i (length cs)) (Flagging i) Owning (λ h. more (ltb-true i (length cs) h)) (λ h. over (ltb-false i (length cs) h))
+    by_test (λ (ph : Phase). P (Recorded row ph)) (ltb i (length cs)) (Flagging i) Owning (λ h. more (ltb-true i (length cs) h))
+    (λ h. over (ltb-false i (length cs) h))
 
 abbrev pub place_with : List ℕ → ℕ → Place
 place_with cowns exchanged = record { cowns = cowns; exchanged = exchanged }
@@ -124,7 +129,8 @@ module _ (d : Parts) (k : IsKept d) (slot : ℕ) (l : Live) (row request : ℕ) 
         | inr n ↦ sym (ap (option_map place_of) (live_other d.live slot (Some (gone_on d k slot l it.is stage l.awaited)) r n))
       ]
 
-  module _ (lists : List (List Request)) (place : ℕ → Option Place) (lists_are : lists ≡ with_change (with_flagged slot) d.lists (d.place slot) request) (places_are : (r : ℕ) → place r ≡ d.place r) where
+  module _ (lists : List (List Request)) (place : ℕ → Option Place) (lists_are : lists ≡ with_change (with_flagged slot) d.lists (d.place slot) request)
+      (places_are : (r : ℕ) → place r ≡ d.place r) where
     abbrev after : Parts
     after = parts_on d k slot l it.is stage l.awaited lists place
 
@@ -147,7 +153,8 @@ module _ (d : Parts) (k : IsKept d) (slot : ℕ) (l : Live) (row request : ℕ) 
 
     chained_after : AreChained (table_on d k slot l it.is stage l.awaited) lists place
     chained_after = record {
-      requests = subst (λ (ls : List (List Request)). (c j : ℕ) (r : Request) → slice_get (slice_index_or ls c []) j ≡ Some r → IsRequestOf (table_on d k slot l it.is stage l.awaited) c r) (sym lists_after)
+      requests = subst (λ (ls : List (List Request)). (c j : ℕ) (r : Request) → slice_get (slice_index_or ls c []) j ≡ Some r
+          → IsRequestOf (table_on d k slot l it.is stage l.awaited) c r) (sym lists_after)
           (requests_on d k slot l it.is stage l.awaited c0 (flag_one slot) (λ r. refl)
           (λ r n. λ i. record r { flagged = (ap (λ b. r.flagged || b) (not_eq r.slot slot n) ∙ or_none r.flagged) i })
           (λ r settles flags e. (

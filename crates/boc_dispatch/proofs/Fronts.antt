@@ -1,5 +1,6 @@
 -- The releases: what stands at the front of a list, and what follows where it leaves.
-use Rattle.std.proofs.Common.{◌≡◌, ◌≢◌, ℕ, zero, suc, ◌+◌, ◌<◌, ◌≤◌, inl, inr, Bool, true, false, cond, List, [], ◌∷◌, length, map, drop, set, get_or, refl, sym, ◌∙◌, ap, subst, arith, get_or-set_other, get_or-set_same}
+use Rattle.std.proofs.Common.{◌≡◌, ◌≢◌, ℕ, zero, suc, ◌+◌, ◌<◌, ◌≤◌, inl, inr, Bool, true, false, cond, List, [], ◌∷◌, length, map, drop, set, get_or, refl}
+use Rattle.std.proofs.Common.{sym, ◌∙◌, ap, subst, arith, get_or-set_other, get_or-set_same}
 use Rattle.std.specs.Prelude.{slice_get, slice_index_or, nat_lt, ◌||◌, Option, Some, None}
 use Rattle.std.specs.Option.{option_map_or}
 use Rattle.std.proofs.lemmas.Bool.Decides.{Decides-ltb}
@@ -7,7 +8,8 @@ use Rattle.boc_runs.specs.declared.stage.Phase.TheVariants as phases
 use Rattle.boc_runs.specs.declared.stage.Stage.{Stage}
 use Rattle.boc_runs.specs.declared.stage.Stage.TheVariants.{Asking, Recorded}
 use Rattle.boc_runs.specs.Lives.{Pending, Running, Ended}
-use Rattle.boc_runs.specs.machine.Stages.{standing, standing_at, settled, settled_at, flagged_at, row_at, ready_row_at, life_at, holds, holds_at, enqueues_at, waits_at, cowns_of}
+use Rattle.boc_runs.specs.machine.Stages.{standing, standing_at, settled, settled_at, flagged_at, row_at, ready_row_at, life_at, holds, holds_at, enqueues_at}
+use Rattle.boc_runs.specs.machine.Stages.{waits_at, cowns_of}
 use Rattle.boc_runs.specs.machine.Queues.{times}
 use Rattle.boc_runs.specs.machine.Sound.{IsSound, HasNextRequest}
 use Rattle.boc_runs.specs.machine.Steps.{State, at, queue, recorded, stepped, with_queue, leaving_on, woken, IsDue, Unhooks, Passes, IsBlockedLeaving}
@@ -101,7 +103,8 @@ pub record Front (d : Parts) (slot row request : ℕ) (l : Live) : Type 0 where
   pub stage_is : l.stage ≡ Recorded row (phases.Leaving request)
 
 -- a behaviour at that stage
-pub due_front : (d : Parts) (slot row request : ℕ) (l : Live) → IsKept d → IsAtStage d slot l (Recorded row (phases.Leaving request)) → Front d slot row request l
+pub due_front : (d : Parts) (slot row request : ℕ) (l : Live) → IsKept d → IsAtStage d slot l (Recorded row (phases.Leaving request))
+    → Front d slot row request l
 due_front d slot row request l kept it = record { kept = kept; is = it.is; stage_is = it.stage_is }
 
 module _ (d : Parts) (slot row request : ℕ) (l : Live) (f : Front d slot row request l) where
@@ -136,7 +139,8 @@ module _ (d : Parts) (slot row request : ℕ) (l : Live) (f : Front d slot row r
 
   first : slice_get (queue (state d) c) 0 ≡ Some l.number
   first = f.kept.sound.lawful.first l.number c (ap holds open_is ∙ ap holds_at f.stage_is)
-      (subst (λ (cs : List ℕ). 0 < times c cs) (sym (ap standing open_is ∙ ap (λ z. standing_at z l.cowns.items) f.stage_is)) (dropped_has l.cowns.items request c cown_is))
+      (subst (λ (cs : List ℕ). 0 < times c cs) (sym (ap standing open_is ∙ ap (λ z. standing_at z l.cowns.items) f.stage_is))
+      (dropped_has l.cowns.items request c cown_is))
 
   -- its request is first, and granted
   front_of : (xs : List Request) → slice_index_or d.lists (cown (d.place slot) request) [] ≡ xs
@@ -152,11 +156,13 @@ module _ (d : Parts) (slot row request : ℕ) (l : Live) (f : Front d slot row r
         rest,
         e,
         here,
-        x.settled_is ∙ ap (λ (z : Live). nat_lt 0 (times c (settled_at z.stage z.cowns.items))) same ∙ ap (λ st. nat_lt 0 (times c (settled_at st l.cowns.items))) f.stage_is
+        x.settled_is ∙ ap (λ (z : Live). nat_lt 0 (times c (settled_at z.stage z.cowns.items))) same
+            ∙ ap (λ st. nat_lt 0 (times c (settled_at st l.cowns.items))) f.stage_is
             ∙ (Decides-ltb 0 (times c l.cowns.items)).1 (among l.cowns.items request c cown_is),
       )
 
-  pub front : (r : Request) × (rest : List Request) × (slice_index_or d.lists (cown (d.place slot) request) [] ≡ r ∷ rest) × (r.slot ≡ slot) × (r.settled ≡ true)
+  pub front : (r : Request) × (rest : List Request) × (slice_index_or d.lists (cown (d.place slot) request) [] ≡ r ∷ rest) × (r.slot ≡ slot)
+      × (r.settled ≡ true)
   front = front_of (slice_index_or d.lists (cown (d.place slot) request) []) refl
 
   pub may_leave : IsGranted slot (slice_index_or d.lists (cown (d.place slot) request) [])
@@ -173,13 +179,15 @@ module _ (d : Parts) (slot row request : ℕ) (l : Live) (f : Front d slot row r
   pub popped_state : (requests : List Request) → state (popped requests) ≡ with_queue (state d) c (whos requests)
   popped_state requests = ap (with_queues (state d)) (queues_put d.live d.lists c requests)
 
-  popped_tied : (requests : List Request) → c < length d.lists → ((k : ℕ) (r : Request) → slice_get requests k ≡ Some r → (j : ℕ) × (slice_get q j ≡ Some r)) → Tied (popped requests)
+  popped_tied : (requests : List Request) → c < length d.lists → ((k : ℕ) (r : Request) → slice_get requests k ≡ Some r → (j : ℕ) × (slice_get q j ≡ Some r))
+      → Tied (popped requests)
   popped_tied requests inside among_them =
       let k = tied_of d f.kept in
       tied_with d (set d.lists c requests) d.ready d.steps k (record {
         requests = λ e j r h. elim (same_or_not e c) [
           | inl g ↦
-              let at_c : slice_get requests j ≡ Some r = sym (ap (λ z. slice_get z j) (ap (λ z. get_or (set d.lists c requests) z []) g ∙ get_or-set_same d.lists c requests [] inside)) ∙ h in
+              let at_c : slice_get requests j ≡ Some r = sym (ap (λ z. slice_get z j)
+              (ap (λ z. get_or (set d.lists c requests) z []) g ∙ get_or-set_same d.lists c requests [] inside)) ∙ h in
               let o = among_them j r at_c in
               let was = k.chained.requests c o.0 r o.1 in
               record {
@@ -227,7 +235,8 @@ module _ (d : Parts) (slot row request : ℕ) (l : Live) (f : Front d slot row r
     inside_alone : c < length d.lists
     inside_alone = there d.lists c r [] alone
 
-    pub unhooks : (t : State) → t ≡ stepped (leaving_on (with_queue (state d) c []) l.number (open_of l) row (suc request)) → Unhooks (state d) l.number row request t
+    pub unhooks : (t : State) → t ≡ stepped (leaving_on (with_queue (state d) c []) l.number (open_of l) row (suc request))
+        → Unhooks (state d) l.number row request t
     unhooks t e = record { this = open_of l; c = c; due = due; alone = queue_alone; gives = e }
 
     pub unhooked : Released d slot row l (suc request) (popped [])
@@ -249,13 +258,15 @@ module _ (d : Parts) (slot row request : ℕ) (l : Live) (f : Front d slot row r
           refl));
       program_same = refl;
       sound = subst (λ (s : State). IsSound d.program (stepped (leaving_on s l.number (open_of l) row (suc request)))) (sym (popped_state []))
-          (keeps_unhooks d.program (state d) l.number row request (stepped (leaving_on (with_queue (state d) c []) l.number (open_of l) row (suc request))) f.kept.sound
+          (keeps_unhooks d.program (state d) l.number row request (stepped (leaving_on (with_queue (state d) c []) l.number (open_of l) row (suc request)))
+          f.kept.sound
           (unhooks (stepped (leaving_on (with_queue (state d) c []) l.number (open_of l) row (suc request))) refl));
       rows = same_rows [];
     }
 
   -- another stands behind it
-  module _ (r next : Request) (rest : List Request) (y : Live) (list_is : q ≡ r ∷ (next ∷ rest)) (mine : r.slot ≡ slot) (y_is : live_at d.live next.slot ≡ Some y) where
+  module _ (r next : Request) (rest : List Request) (y : Live) (list_is : q ≡ r ∷ (next ∷ rest)) (mine : r.slot ≡ slot)
+      (y_is : live_at d.live next.slot ≡ Some y) where
     queue_two : queue (state d) c ≡ l.number ∷ (y.number ∷ whos rest)
     queue_two =
         queue_is ∙ ap whos list_is ∙ ap (λ z. z ∷ (number_at d.live next.slot ∷ whos rest)) (ap (number_at d.live) mine ∙ number_of slot l f.is)
@@ -265,7 +276,8 @@ module _ (d : Parts) (slot row request : ℕ) (l : Live) (f : Front d slot row r
     inside_two = there d.lists c r (next ∷ rest) list_is
 
     numbers_apart : y.number ≢ l.number
-    numbers_apart g = not_twice (at (state d)) (queue (state d)) (laws_of (at (state d)) (queue (state d)) f.kept.sound.lawful) c [] [] (whos rest) l.number y.number queue_two (sym g)
+    numbers_apart g = not_twice (at (state d)) (queue (state d)) (laws_of (at (state d)) (queue (state d)) f.kept.sound.lawful) c [] [] (whos rest) l.number
+        y.number queue_two (sym g)
 
     slots_apart : slot ≢ next.slot
     slots_apart g = numbers_apart (let j : Some l ≡ Some y = sym f.is ∙ ap (live_at d.live) g ∙ y_is in let same : l ≡ y = cc in ap (λ z. z.number) (sym same))
@@ -343,13 +355,15 @@ module _ (d : Parts) (slot row request : ℕ) (l : Live) (f : Front d slot row r
             let other : y.number ≢ x.number = λ g. n (f.kept.numbered.once i next.slot x y h y_is (sym g)) in
             f.kept.counted i x h waits
             ∙ sym (awaits_same (state d) shorter x
-            (first_stays (queue (state d)) (queue shorter) c l.number x.number (y.number ∷ whos rest) queue_two front_after others_after (other_number i x h waits) (not_eq y.number x.number other))
+            (first_stays (queue (state d)) (queue shorter) c l.number x.number (y.number ∷ whos rest) queue_two front_after others_after
+            (other_number i x h waits) (not_eq y.number x.number other))
             refl);
         this = λ x h.
             let same : y ≡ x = (let g : Some y ≡ Some x = sym y_is ∙ h in cc) in
             let n : y.awaited ≡ ungranted (state d) y.number y.cowns.items + cond (enqueues_at y.stage) 1 0 = f.kept.counted next.slot y y_is pending in
             let u : ungranted (state d) y.number y.cowns.items ≡ ungranted shorter y.number y.cowns.items + 1 =
-            next_granted (at (state d)) (queue (state d)) (queue shorter) c l.number y.number (whos rest) y.cowns.items queue_two front_after others_after numbers_apart settled_next one_cown in
+            next_granted (at (state d)) (queue (state d)) (queue shorter) c l.number y.number (whos rest) y.cowns.items queue_two front_after others_after
+            numbers_apart settled_next one_cown in
             let result : y.awaited ≡ (ungranted shorter y.number y.cowns.items + cond (enqueues_at y.stage) 1 0) + 1 = omega (arith, n, u) in
             subst (λ (z : Live). z.awaited ≡ awaits shorter z + 1) same result;
       }
@@ -363,7 +377,8 @@ module _ (d : Parts) (slot row request : ℕ) (l : Live) (f : Front d slot row r
       after_state : state (with_granted next.slot (popped (next ∷ rest))) ≡ woken shorter y.number
       after_state = (granted).gives ∙ ap (λ z. woken z y.number) shorter_state
 
-      pub passes : (t : State) → t ≡ stepped (leaving_on (state (with_granted next.slot (popped (next ∷ rest)))) l.number (open_of l) row (suc request)) → Passes (state d) l.number row request t
+      pub passes : (t : State) → t ≡ stepped (leaving_on (state (with_granted next.slot (popped (next ∷ rest)))) l.number (open_of l) row (suc request))
+          → Passes (state d) l.number row request t
       passes t e = record {
         this = open_of l;
         c = c;
@@ -372,7 +387,8 @@ module _ (d : Parts) (slot row request : ℕ) (l : Live) (f : Front d slot row r
         due = due;
         front = queue_two;
         settled_next = settled_next;
-        gives = e ∙ ap (λ z. stepped (leaving_on z l.number (open_of l) row (suc request))) after_state ∙ ap stepped (leaving_either shorter l.number (open_of l) row (suc request) y.number numbers_apart);
+        gives = e ∙ ap (λ z. stepped (leaving_on z l.number (open_of l) row (suc request))) after_state
+            ∙ ap stepped (leaving_either shorter l.number (open_of l) row (suc request) y.number numbers_apart);
       }
 
       pub passed : Released d slot row l (suc request) (with_granted next.slot (popped (next ∷ rest)))
@@ -436,7 +452,8 @@ passed_next requests r [] to e a = absurd (let g : answers.Passed to ≡ answers
 passed_next requests r (next ∷ rest) to e a =
     let w = by_test next.settled (a ∙ ap leave_answer e) in (next, rest, refl, w.0, w.1)
   where
-    by_test : (b : Bool) → answers.Passed to ≡ cond b (answers.Passed (record { index = next.slot })) answers.Blocked → (b ≡ true) × (to ≡ record { index = next.slot })
+    by_test : (b : Bool) → answers.Passed to ≡ cond b (answers.Passed (record { index = next.slot })) answers.Blocked
+        → (b ≡ true) × (to ≡ record { index = next.slot })
     by_test true g = (refl, cc)
     by_test false g = absurd cc
 

@@ -1,5 +1,6 @@
 -- What is kept where one behaviour goes on: its stage changes, and how much it awaits.
-use Rattle.std.proofs.Common.{◌≡◌, ◌≢◌, ℕ, zero, suc, ◌+◌, ◌<◌, ◌⊎◌, inl, inr, Bool, true, false, cond, ◌&&◌, ◌||◌, List, [], ◌∷◌, length, map, set, get_or, refl, sym, ◌∙◌, ap, subst, arith, get_or-set_other, get_or-set_same, length-set}
+use Rattle.std.proofs.Common.{◌≡◌, ◌≢◌, ℕ, zero, suc, ◌+◌, ◌<◌, ◌⊎◌, inl, inr, Bool, true, false, cond, ◌&&◌, ◌||◌, List, [], ◌∷◌, length, map, set, get_or}
+use Rattle.std.proofs.Common.{refl, sym, ◌∙◌, ap, subst, arith, get_or-set_other, get_or-set_same, length-set}
 use Rattle.std.specs.Prelude.{slice_get, slice_index_or, nat_lt, Option, Some, None}
 use Rattle.std.specs.List.{count_by}
 use Rattle.std.proofs.lemmas.List.{set-get_or}
@@ -15,17 +16,21 @@ use Rattle.boc_machine.proofs.Lists.{same_or_not}
 use Rattle.boc_chain.specs.declared.request.Request.{Request}
 use Rattle.boc_chain.specs.Chain.{Place}
 use Rattle.boc_dispatch.specs.declared.live.Live.{Live}
-use Rattle.boc_dispatch.specs.Inside.{live_at, open_of, number_at, HasRooms, queues_of, Parts, IsKept, state, AreAtHome, AreInHand, IsChildOf, IsParentOf, AreOfRun, IsMember, IsWished, AreCounted, awaits, AreChained, IsRequestOf}
-use Rattle.boc_dispatch.proofs.Tables.{live_there, live_here, live_other, live_new, queue_at, queues_put, queues_same, number_changed, numbered_changed, behaviours_changed, taken_changed}
+use Rattle.boc_dispatch.specs.Inside.{live_at, open_of, number_at, HasRooms, queues_of, Parts, IsKept, state, AreAtHome, AreInHand, IsChildOf, IsParentOf}
+use Rattle.boc_dispatch.specs.Inside.{AreOfRun, IsMember, IsWished, AreCounted, awaits, AreChained, IsRequestOf}
+use Rattle.boc_dispatch.proofs.Tables.{live_there, live_here, live_other, live_new, queue_at, queues_put, queues_same, number_changed, numbered_changed}
+use Rattle.boc_dispatch.proofs.Tables.{behaviours_changed, taken_changed}
 use Rattle.boc_dispatch.proofs.Standing.{open_is, unready_rows}
 
 -- ---- what a behaviour awaits, where the same requests are granted
 
-pub awaits_same : (s t : State) (x : Live) → ((c : ℕ) → is_granted (at t) (queue t) x.number c ≡ is_granted (at s) (queue s) x.number c) → awaits t x ≡ awaits s x
+pub awaits_same : (s t : State) (x : Live) → ((c : ℕ) → is_granted (at t) (queue t) x.number c ≡ is_granted (at s) (queue s) x.number c)
+    → awaits t x ≡ awaits s x
 awaits_same s t x same =
     ap (λ n. n + cond (enqueues_at x.stage) 1 0) (λ i. count_by (λ c. cond (same c i) false true) x.cowns.items)
 
-pub granted_same : (s t : State) (who c : ℕ) → settled (at t who) ≡ settled (at s who) → queue t c ≡ queue s c → is_granted (at t) (queue t) who c ≡ is_granted (at s) (queue s) who c
+pub granted_same : (s t : State) (who c : ℕ) → settled (at t who) ≡ settled (at s who) → queue t c ≡ queue s c
+    → is_granted (at t) (queue t) who c ≡ is_granted (at s) (queue s) who c
 granted_same s t who c settles q = λ i. nat_lt 0 (times c (settles i)) && is_first who (q i)
 
 -- ---- lists of requests, each changed but for its slot
@@ -33,9 +38,11 @@ granted_same s t who c settles q = λ i. nat_lt 0 (times c (settles i)) && is_fi
 abbrev pub KeepsSlots : (Request → Request) → Type 0
 KeepsSlots f = (r : Request) → (f r).slot ≡ r.slot
 
-pub numbers_mapped : (live : List (Option Live)) (f : Request → Request) → KeepsSlots f → (q : List Request) → map (λ r. number_at live r.slot) (map f q) ≡ map (λ r. number_at live r.slot) q
+pub numbers_mapped : (live : List (Option Live)) (f : Request → Request) → KeepsSlots f → (q : List Request)
+    → map (λ r. number_at live r.slot) (map f q) ≡ map (λ r. number_at live r.slot) q
 numbers_mapped live f keeps [] = refl
-numbers_mapped live f keeps (r ∷ q) = ap (λ s. number_at live s ∷ map (λ r. number_at live r.slot) (map f q)) (keeps r) ∙ ap (λ xs. number_at live r.slot ∷ xs) (numbers_mapped live f keeps q)
+numbers_mapped live f keeps (r ∷ q) = ap (λ s. number_at live s ∷ map (λ r. number_at live r.slot) (map f q)) (keeps r)
+    ∙ ap (λ xs. number_at live r.slot ∷ xs) (numbers_mapped live f keeps q)
 
 pub queues_mapped : (live : List (Option Live)) (lists : List (List Request)) (c : ℕ) (f : Request → Request) → KeepsSlots f
     → queues_of live (set lists c (map f (get_or lists c []))) ≡ queues_of live lists
@@ -44,7 +51,8 @@ queues_mapped live lists c f keeps =
     ∙ ap (set (queues_of live lists) c) (numbers_mapped live f keeps (get_or lists c []) ∙ sym (queue_at live lists c))
     ∙ set-get_or (queues_of live lists) c []
 
-got_mapped : (f : Request → Request) (q : List Request) (j : ℕ) (r : Request) → slice_get (map f q) j ≡ Some r → (old : Request) × (slice_get q j ≡ Some old) × (r ≡ f old)
+got_mapped : (f : Request → Request) (q : List Request) (j : ℕ) (r : Request) → slice_get (map f q) j ≡ Some r
+    → (old : Request) × (slice_get q j ≡ Some old) × (r ≡ f old)
 got_mapped f [] j r e = absurd (let h : None ≡ Some r = e in cc)
 got_mapped f (x ∷ q) zero r e = (x, refl, (let h : Some (f x) ≡ Some r = e in cc))
 got_mapped f (x ∷ q) (suc j) r e = got_mapped f q j r e
@@ -178,7 +186,8 @@ module _ (d : Parts) (k : IsKept d) (slot : ℕ) (l : Live) (is : live_at d.live
             ∙ sym (awaits_same (state d) t x (λ c. same x.number c (λ e. u.0 (k.numbered.once s slot x l u.1 is e))))
       ]
 
-  pub ready_on : ready_row_at l.stage ≡ None → (j s : ℕ) → slice_get d.ready j ≡ Some s → (x : Live) × (row : ℕ) × (live_at table_on s ≡ Some x) × (x.stage ≡ Recorded row Ready)
+  pub ready_on : ready_row_at l.stage ≡ None → (j s : ℕ) → slice_get d.ready j ≡ Some s
+      → (x : Live) × (row : ℕ) × (live_at table_on s ≡ Some x) × (x.stage ≡ Recorded row Ready)
   ready_on not j s there =
       let q = k.ready_there j s there in
       let other : s ≢ slot = (λ e.
@@ -188,7 +197,8 @@ module _ (d : Parts) (k : IsKept d) (slot : ℕ) (l : Live) (is : live_at d.live
       (q.0, q.1, live_other d.live slot (Some gone_on) s other ∙ q.2, q.3)
 
   -- a request stays that of its behaviour, where the same are settled and flagged
-  marks_at : (c : ℕ) → (times c (settled_at stage l.cowns.items) ≡ times c (settled_at l.stage l.cowns.items)) × (times c (flagged_at stage l.cowns.items) ≡ times c (flagged_at l.stage l.cowns.items))
+  marks_at : (c : ℕ) → (times c (settled_at stage l.cowns.items) ≡ times c (settled_at l.stage l.cowns.items))
+      × (times c (flagged_at stage l.cowns.items) ≡ times c (flagged_at l.stage l.cowns.items))
       → (r : Request) → IsRequestOf d.live c r → IsRequestOf table_on c r
   marks_at c same r h =
       elim (same_or_not r.slot slot) [
@@ -203,22 +213,26 @@ module _ (d : Parts) (k : IsKept d) (slot : ℕ) (l : Live) (is : live_at d.live
         | inr n ↦ record { this = h.this; is = live_other d.live slot (Some gone_on) r.slot n ∙ h.is; settled_is = h.settled_is; flagged_is = h.flagged_is }
       ]
 
-  pub same_marks : ((c : ℕ) → (times c (settled_at stage l.cowns.items) ≡ times c (settled_at l.stage l.cowns.items)) × (times c (flagged_at stage l.cowns.items) ≡ times c (flagged_at l.stage l.cowns.items)))
+  pub same_marks : ((c : ℕ) → (times c (settled_at stage l.cowns.items) ≡ times c (settled_at l.stage l.cowns.items))
+      × (times c (flagged_at stage l.cowns.items) ≡ times c (flagged_at l.stage l.cowns.items)))
       → (c : ℕ) (r : Request) → IsRequestOf d.live c r → IsRequestOf table_on c r
   same_marks same c r h = marks_at c (same c) r h
 
   -- the requests of one list are changed by f, which changes only those of this slot
   module _ (c0 : ℕ) (f : Request → Request) (keeps : KeepsSlots f) (alone : (r : Request) → r.slot ≢ slot → f r ≡ r)
-      (marks : (r : Request) → r.settled ≡ nat_lt 0 (times c0 (settled_at l.stage l.cowns.items)) → r.flagged ≡ nat_lt 0 (times c0 (flagged_at l.stage l.cowns.items)) → r.slot ≡ slot
+      (marks : (r : Request) → r.settled ≡ nat_lt 0 (times c0 (settled_at l.stage l.cowns.items))
+      → r.flagged ≡ nat_lt 0 (times c0 (flagged_at l.stage l.cowns.items)) → r.slot ≡ slot
       → ((f r).settled ≡ nat_lt 0 (times c0 (settled_at stage l.cowns.items))) × ((f r).flagged ≡ nat_lt 0 (times c0 (flagged_at stage l.cowns.items))))
-      (elsewhere : (c : ℕ) → c ≢ c0 → (times c (settled_at stage l.cowns.items) ≡ times c (settled_at l.stage l.cowns.items)) × (times c (flagged_at stage l.cowns.items) ≡ times c (flagged_at l.stage l.cowns.items)))
+      (elsewhere : (c : ℕ) → c ≢ c0 → (times c (settled_at stage l.cowns.items) ≡ times c (settled_at l.stage l.cowns.items))
+      × (times c (flagged_at stage l.cowns.items) ≡ times c (flagged_at l.stage l.cowns.items)))
       (there : c0 < length d.lists) where
     changed_request : (r : Request) → IsRequestOf d.live c0 r → IsRequestOf table_on c0 (f r)
     changed_request r h =
         elim (same_or_not r.slot slot) [
           | inl e ↦
               let this : h.this ≡ l = (let g : Some h.this ≡ Some l = sym h.is ∙ ap (live_at d.live) e ∙ is in cc) in
-              let m = marks r (h.settled_is ∙ ap (λ z. nat_lt 0 (times c0 (settled_at z.stage z.cowns.items))) this) (h.flagged_is ∙ ap (λ z. nat_lt 0 (times c0 (flagged_at z.stage z.cowns.items))) this) e in
+              let m = marks r (h.settled_is ∙ ap (λ z. nat_lt 0 (times c0 (settled_at z.stage z.cowns.items))) this)
+              (h.flagged_is ∙ ap (λ z. nat_lt 0 (times c0 (flagged_at z.stage z.cowns.items))) this) e in
               record { this = gone_on; is = ap (live_at table_on) (keeps r ∙ e) ∙ here_on; settled_is = m.0; flagged_is = m.1 }
           | inr n ↦
               subst (λ (z : Request). IsRequestOf table_on c0 z) (sym (alone r n))
@@ -228,16 +242,19 @@ module _ (d : Parts) (k : IsKept d) (slot : ℕ) (l : Live) (is : live_at d.live
     same_request : (c : ℕ) → c ≢ c0 → (r : Request) → IsRequestOf d.live c r → IsRequestOf table_on c r
     same_request c other r h = marks_at c (elsewhere c other) r h
 
-    pub requests_on : (c j : ℕ) (r : Request) → slice_get (slice_index_or (set d.lists c0 (map f (get_or d.lists c0 []))) c []) j ≡ Some r → IsRequestOf table_on c r
+    pub requests_on : (c j : ℕ) (r : Request) → slice_get (slice_index_or (set d.lists c0 (map f (get_or d.lists c0 []))) c []) j ≡ Some r
+        → IsRequestOf table_on c r
     requests_on c j r a =
         elim (same_or_not c c0) [
           | inl e ↦
               let b : slice_get (map f (get_or d.lists c0 [])) j ≡ Some r =
-              ap (λ q. slice_get q j) (sym (ap (λ z. get_or (set d.lists c0 (map f (get_or d.lists c0 []))) z []) e ∙ get_or-set_same d.lists c0 (map f (get_or d.lists c0 [])) [] there)) ∙ a in
+              ap (λ q. slice_get q j) (sym (ap (λ z. get_or (set d.lists c0 (map f (get_or d.lists c0 []))) z []) e
+              ∙ get_or-set_same d.lists c0 (map f (get_or d.lists c0 [])) [] there)) ∙ a in
               let o = got_mapped f (get_or d.lists c0 []) j r b in
               let h = k.chained.requests c0 j o.0 o.1 in
               subst (λ (z : ℕ). IsRequestOf table_on z r) (sym e) (subst (λ (z : Request). IsRequestOf table_on c0 z) (sym o.2) (changed_request o.0 h))
-          | inr n ↦ same_request c n r (k.chained.requests c j r (ap (λ q. slice_get q j) (sym (get_or-set_other d.lists c0 c (map f (get_or d.lists c0 [])) [] n)) ∙ a))
+          | inr n ↦ same_request c n r (k.chained.requests c j r
+              (ap (λ q. slice_get q j) (sym (get_or-set_other d.lists c0 c (map f (get_or d.lists c0 [])) [] n)) ∙ a))
         ]
 
   -- ---- all together, where nothing is recorded
@@ -278,7 +295,8 @@ module _ (d : Parts) (k : IsKept d) (slot : ℕ) (l : Live) (is : live_at d.live
         }
 
     pub kept_on : IsSound d.program (state parts_on) → AreCounted (state parts_on) table_on → AreChained table_on lists place
-        → row_at stage ≡ row_at l.stage → asks_at stage ≡ asks_at l.stage → enqueues_at stage ≡ enqueues_at l.stage → ready_row_at l.stage ≡ None → IsKept parts_on
+        → row_at stage ≡ row_at l.stage → asks_at stage ≡ asks_at l.stage → enqueues_at stage ≡ enqueues_at l.stage → ready_row_at l.stage ≡ None
+        → IsKept parts_on
     kept_on sound counted chained same_row same_asks same_enqueues not = record {
       sound = sound;
       cowns_are = k.cowns_are;

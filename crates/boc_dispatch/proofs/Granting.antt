@@ -1,5 +1,6 @@
 -- One request more is granted: the state that follows, and what is kept.
-use Rattle.std.proofs.Common.{◌≡◌, ◌≢◌, ℕ, zero, suc, ◌+◌, ◌-◌, ◌⊎◌, inl, inr, Bool, true, false, cond, eqb, List, [], ◌∷◌, ◌++◌, length, set, refl, sym, ◌∙◌, ap, subst, arith, get_or-set_other, length-set, rules}
+use Rattle.std.proofs.Common.{◌≡◌, ◌≢◌, ℕ, zero, suc, ◌+◌, ◌-◌, ◌⊎◌, inl, inr, Bool, true, false, cond, eqb, List, [], ◌∷◌, ◌++◌, length, set, refl, sym, ◌∙◌}
+use Rattle.std.proofs.Common.{ap, subst, arith, get_or-set_other, length-set, rules}
 use Rattle.std.specs.Prelude.{slice_get, nat_eq, ◌||◌, Option, Some, None}
 use Rattle.std.specs.Option.{option_map_or}
 use Rattle.std.specs.List.{count_by}
@@ -18,10 +19,12 @@ use Rattle.boc_chain.specs.declared.request.Request.{Request}
 use Rattle.boc_dispatch.specs.declared.live.Live.{Live}
 use Rattle.boc_dispatch.specs.Grants.{granted_if, with_granted, SameRows}
 pub use Rattle.boc_dispatch.specs.Grants.{AreReady, Tied}
-use Rattle.boc_dispatch.specs.Inside.{Parts, state, live_at, open_of, behaviours_of, rows_at, row_or_0, ungranted, awaits, is_taken, AreNumbered, AreInHand, AreChained, AreCounted, IsKept, HasRooms}
+use Rattle.boc_dispatch.specs.Inside.{Parts, state, live_at, open_of, behaviours_of, rows_at, row_or_0, ungranted, awaits, is_taken, AreNumbered, AreInHand}
+use Rattle.boc_dispatch.specs.Inside.{AreChained, AreCounted, IsKept, HasRooms}
 use Rattle.boc_dispatch.specs.Places.{granted}
 use Rattle.boc_dispatch.proofs.Counts.{waited_same, all_are_granted}
-use Rattle.boc_dispatch.proofs.Onward.{Onward, Steady, Follows, follows_set, follows_on, stays, steady, onward_at, numbered_on, home_on, queues_on, rows_on, chained_on, of_run_on, in_hand_on}
+use Rattle.boc_dispatch.proofs.Onward.{Onward, Steady, Follows, follows_set, follows_on, stays, steady, onward_at, numbered_on, home_on, queues_on, rows_on}
+use Rattle.boc_dispatch.proofs.Onward.{chained_on, of_run_on, in_hand_on}
 use Rattle.boc_dispatch.proofs.Tables.{live_there, live_here, live_other, live_new, at_slot, behaviours_changed, taken_changed, behaviours_length}
 
 -- ---- what is kept, but for the state that is sound and for what each counts
@@ -33,7 +36,8 @@ pub kept_of : (d : Parts) → Tied d → IsSound d.program (state d) → AreCoun
 kept_of d k sound counted = search rules
 
 -- with other requests in the lists, other ready slots, and after any number of steps
-pub tied_with : (d : Parts) (lists : List (List Request)) (ready : List ℕ) (steps : ℕ) → Tied d → AreChained d.live lists d.place → AreReady d.live ready → Tied (record d { lists = lists; ready = ready; steps = steps })
+pub tied_with : (d : Parts) (lists : List (List Request)) (ready : List ℕ) (steps : ℕ) → Tied d → AreChained d.live lists d.place → AreReady d.live ready
+    → Tied (record d { lists = lists; ready = ready; steps = steps })
 tied_with d lists ready steps k chained ready_there = search rules
 
 -- ---- one behaviour put in place of another
@@ -45,7 +49,8 @@ put_live d slot m = record d { live = set d.live slot (Some m) }
 abbrev pub StaysReady : Live → Live → Type 0
 StaysReady l m = (row : ℕ) → l.stage ≡ Recorded row phases.Ready → m.stage ≡ Recorded row phases.Ready
 
-pub ready_put : (live : List (Option Live)) (ready : List ℕ) (slot : ℕ) (l m : Live) → live_at live slot ≡ Some l → StaysReady l m → AreReady live ready → AreReady (set live slot (Some m)) ready
+pub ready_put : (live : List (Option Live)) (ready : List ℕ) (slot : ℕ) (l m : Live) → live_at live slot ≡ Some l → StaysReady l m → AreReady live ready
+    → AreReady (set live slot (Some m)) ready
 ready_put live ready slot l m is still k i s e =
     let r = k i s e in
     elim (same_or_not s slot) [
@@ -56,7 +61,8 @@ ready_put live ready slot l m is still k i s e =
     ]
 
 -- all of it stays where each behaviour goes on
-pub tied_on : (d : Parts) (live' : List (Option Live)) → Tied d → Follows Onward d.live live' → AreReady live' d.ready → AreInHand live' → count_by is_taken live' ≡ count_by is_taken d.live → Tied (record d { live = live' })
+pub tied_on : (d : Parts) (live' : List (Option Live)) → Tied d → Follows Onward d.live live' → AreReady live' d.ready → AreInHand live'
+    → count_by is_taken live' ≡ count_by is_taken d.live → Tied (record d { live = live' })
 tied_on d live' k f ready hand taken = record {
   cowns_are = k.cowns_are;
   values_are = k.values_are;
@@ -74,7 +80,8 @@ pub tied_steady : (d : Parts) (slot : ℕ) (l m : Live) → Tied d → live_at d
 tied_steady d slot l m k is on still =
     let live' = set d.live slot (Some m) in
     let f : Follows Steady d.live live' = follows_set Steady steady d.live slot l m is on in
-    tied_on d live' k (follows_on d.live live' f) (ready_put d.live d.ready slot l m is still k.ready_there) (in_hand_on d.live live' f k.in_hand) (taken_changed d.live d.opened slot l m k.numbered is on.on.number)
+    tied_on d live' k (follows_on d.live live' f) (ready_put d.live d.ready slot l m is still k.ready_there) (in_hand_on d.live live' f k.in_hand)
+    (taken_changed d.live d.opened slot l m k.numbered is on.on.number)
 
 -- the state then
 pub state_put : (d : Parts) (slot : ℕ) (l m : Live) → AreNumbered d.live d.opened → live_at d.live slot ≡ Some l → Onward l m
@@ -94,7 +101,8 @@ abbrev pub with_behaviours : State → List (Option OpenBehaviour) → State
 with_behaviours s bs = record s { behaviours = bs }
 
 -- the same open behaviour changes nothing of it
-pub state_same : (d : Parts) (slot : ℕ) (l m : Live) → AreNumbered d.live d.opened → live_at d.live slot ≡ Some l → Onward l m → open_of m ≡ open_of l → state (put_live d slot m) ≡ state d
+pub state_same : (d : Parts) (slot : ℕ) (l m : Live) → AreNumbered d.live d.opened → live_at d.live slot ≡ Some l → Onward l m → open_of m ≡ open_of l
+    → state (put_live d slot m) ≡ state d
 state_same d slot l m k is on same =
     state_put d slot l m k is on
     ∙ ap (λ z. with_behaviour (state d) l.number z) (ap (λ b. Some b) same ∙ sym (at_slot d.live d.opened slot l k is))
@@ -108,7 +116,8 @@ pub record CountedBut (s : State) (live : List (Option Live)) (slot : ℕ) : Typ
   pub this : (l : Live) → live_at live slot ≡ Some l → l.awaited ≡ awaits s l + 1
 
 -- whoever isn't the one that changed awaits what it did
-pub awaits_same : (s t : State) (l : Live) → ((c : ℕ) → is_first l.number (queue t c) ≡ is_first l.number (queue s c)) → at t l.number ≡ at s l.number → awaits t l ≡ awaits s l
+pub awaits_same : (s t : State) (l : Live) → ((c : ℕ) → is_first l.number (queue t c) ≡ is_first l.number (queue s c)) → at t l.number ≡ at s l.number
+    → awaits t l ≡ awaits s l
 awaits_same s t l queues same =
     ap (λ n. n + cond (enqueues_at l.stage) 1 0) (waited_same (at s) (at t) (queue s) (queue t) l.number l.cowns.items (ap settled same) queues)
 
@@ -161,7 +170,8 @@ with_ready s ready = record s { ready = ready }
 abbrev at_stage : OpenBehaviour → Stage → OpenBehaviour
 at_stage b stage = record b { stage = stage }
 
-tied_ready : (d : Parts) (slot : ℕ) (l : Live) (row : ℕ) → Tied d → live_at d.live slot ≡ Some l → l.stage ≡ Recorded row phases.Ready → Tied (record d { ready = d.ready ++ slot ∷ [] })
+tied_ready : (d : Parts) (slot : ℕ) (l : Live) (row : ℕ) → Tied d → live_at d.live slot ≡ Some l → l.stage ≡ Recorded row phases.Ready
+    → Tied (record d { ready = d.ready ++ slot ∷ [] })
 tied_ready d slot l row k is stage = tied_with d d.lists (d.ready ++ slot ∷ []) d.steps k k.chained (λ i s e. elim (pushed d.ready slot i s e) [
   | inl h ↦ k.ready_there i s h
   | inr h ↦ (l, row, ap (live_at d.live) h ∙ is, stage)
@@ -172,7 +182,22 @@ module _ (d : Parts) (slot : ℕ) (l : Live) (k : Tied d) (is : live_at d.live s
   still : eqb l.awaited 1 ≡ false → woken (state d) l.number ≡ state d → Grants d l.number (granted_by false l slot d)
   still more same =
       let m : Live = record l { awaited = l.awaited - 1 } in
-      let on : Steady l m = record { on = record { number = refl; parent = refl; behaviour = refl; spawned = refl; cowns = refl; row = refl; asks = refl; settles = refl; flags = refl; exchanges = refl }; child = refl; enqueues = refl } in
+      let on : Steady l m = record {
+        on = record {
+          number = refl;
+          parent = refl;
+          behaviour = refl;
+          spawned = refl;
+          cowns = refl;
+          row = refl;
+          asks = refl;
+          settles = refl;
+          flags = refl;
+          exchanges = refl;
+        };
+        child = refl;
+        enqueues = refl;
+      } in
       let e = put_live d slot m in
       let gives : state e ≡ state d = state_same d slot l m k.numbered is on.on refl in
       record {
@@ -189,7 +214,8 @@ module _ (d : Parts) (slot : ℕ) (l : Live) (k : Tied d) (is : live_at d.live s
       }
 
   -- it awaits nothing more
-  ready_now : (row : ℕ) → l.stage ≡ Recorded row phases.Waiting → woken (state d) l.number ≡ made_ready (state d) l.number (open_of l) row → Grants d l.number (granted_by true l slot d)
+  ready_now : (row : ℕ) → l.stage ≡ Recorded row phases.Waiting → woken (state d) l.number ≡ made_ready (state d) l.number (open_of l) row
+      → Grants d l.number (granted_by true l slot d)
   ready_now row stage woke =
       let m : Live = record l { awaited = 0; stage = Recorded (row_or_0 l.stage) phases.Ready } in
       let row_is : row_or_0 l.stage ≡ row = ap row_or_0 stage in
@@ -224,18 +250,22 @@ module _ (d : Parts) (slot : ℕ) (l : Live) (k : Tied d) (is : live_at d.live s
           | inr u ↦
               let other : x.number ≢ l.number = λ f. u.0 (k.numbered.once i slot x l u.1 is f) in
               counts.others i x u.0 u.1 pending
-              ∙ sym (awaits_same (state d) (made_ready (state d) l.number (open_of l) row) x (λ c. refl) (get_or-set_other (behaviours_of d.live d.opened) l.number x.number (Some (record (open_of l) { stage = Recorded row phases.Ready })) None other))
+              ∙ sym (awaits_same (state d) (made_ready (state d) l.number (open_of l) row) x (λ c. refl)
+              (get_or-set_other (behaviours_of d.live d.opened) l.number x.number (Some (record (open_of l) { stage = Recorded row phases.Ready })) None
+              other))
         ]);
       }
 
-  with_test : ((enqueues_at l.stage || waits_at l.stage) ≡ true) → (b : Bool) → eqb l.awaited 1 ≡ b → (open_yet : Bool) → enqueues_at l.stage ≡ open_yet → Grants d l.number (granted_by b l slot d)
+  with_test : ((enqueues_at l.stage || waits_at l.stage) ≡ true) → (b : Bool) → eqb l.awaited 1 ≡ b → (open_yet : Bool) → enqueues_at l.stage ≡ open_yet
+      → Grants d l.number (granted_by b l slot d)
   with_test pending true one true open_yet =
       let n : l.awaited ≡ awaits (state d) l + 1 = counts.this l is in
       let m : cond (enqueues_at l.stage) 1 0 ≡ one_if true = ap one_if open_yet in
       let f : l.awaited ≡ 1 = (Decides-eqb l.awaited 1).0 one in
       absurd (omega (arith, n, m, f))
   with_test pending false more true open_yet =
-      still more (ap (woken_if (state d) l.number) (at_slot d.live d.opened slot l k.numbered is) ∙ woken_enqueues (state d) l.number (open_of l) l.stage open_yet)
+      still more (ap (woken_if (state d) l.number) (at_slot d.live d.opened slot l k.numbered is)
+      ∙ woken_enqueues (state d) l.number (open_of l) l.stage open_yet)
   with_test pending b test false over =
       let w = waits_stage l.stage (sym (ap (λ z. z || waits_at l.stage) over) ∙ pending) in
       let u = ungranted (state d) l.number l.cowns.items in
@@ -243,19 +273,24 @@ module _ (d : Parts) (slot : ℕ) (l : Live) (k : Tied d) (is : live_at d.live s
       let m : cond (enqueues_at l.stage) 1 0 ≡ one_if false = ap one_if over in
       let awaited_is : l.awaited ≡ u + 1 = omega (arith, n, m) in
       let open_is = at_slot d.live d.opened slot l k.numbered is in
-      let all : eqb u 0 ≡ all_granted (at (state d)) (queue (state d)) l.number = all_are_granted (at (state d)) (queue (state d)) l.number (open_of l) open_is in
-      let woke : (g : Bool) → all_granted (at (state d)) (queue (state d)) l.number ≡ g → woken (state d) l.number ≡ cond g (made_ready (state d) l.number (open_of l) w.0) (state d) =
-      λ g e. ap (woken_if (state d) l.number) open_is ∙ ap (woken_at (state d) l.number (open_of l)) w.1 ∙ ap (λ z. cond z (made_ready (state d) l.number (open_of l) w.0) (state d)) e in
+      let all : eqb u 0 ≡ all_granted (at (state d)) (queue (state d)) l.number =
+      all_are_granted (at (state d)) (queue (state d)) l.number (open_of l) open_is in
+      let woke : (g : Bool) → all_granted (at (state d)) (queue (state d)) l.number ≡ g
+      → woken (state d) l.number ≡ cond g (made_ready (state d) l.number (open_of l) w.0) (state d) =
+      λ g e. ap (woken_if (state d) l.number) open_is ∙ ap (woken_at (state d) l.number (open_of l)) w.1
+      ∙ ap (λ z. cond z (made_ready (state d) l.number (open_of l) w.0) (state d)) e in
       elim b as (λ z. eqb l.awaited 1 ≡ z → Grants d l.number (granted_by z l slot d)) [
         | true ↦ λ one.
             let f : l.awaited ≡ 1 = (Decides-eqb l.awaited 1).0 one in
             ready_now w.0 w.1 (woke true (sym all ∙ (Decides-eqb u 0).1 (omega arith)))
         | false ↦ λ more.
-            still more (woke false (sym all ∙ not_eq u 0 (λ e. absurd (let f : l.awaited ≡ 1 = omega arith in let g : false ≡ true = sym more ∙ (Decides-eqb l.awaited 1).1 f in cc))))
+            still more (woke false (sym all ∙ not_eq u 0 (λ e. absurd
+            (let f : l.awaited ≡ 1 = omega arith in let g : false ≡ true = sym more ∙ (Decides-eqb l.awaited 1).1 f in cc))))
       ] test
 
 -- the behaviour at a slot is granted a request: it is woken where it waited for that alone
-pub grants : (d : Parts) (slot : ℕ) (l : Live) → Tied d → live_at d.live slot ≡ Some l → CountedBut (state d) d.live slot → (enqueues_at l.stage || waits_at l.stage) ≡ true
+pub grants : (d : Parts) (slot : ℕ) (l : Live) → Tied d → live_at d.live slot ≡ Some l → CountedBut (state d) d.live slot
+    → (enqueues_at l.stage || waits_at l.stage) ≡ true
     → Grants d l.number (with_granted slot d)
 grants d slot l k is counts pending =
     subst (λ (o : Option Live). Grants d l.number (granted_if o slot d)) (sym is)
@@ -267,7 +302,8 @@ abbrev pub with_lives : Parts → List (Option Live) → List ℕ → Parts
 with_lives d live ready = record d { live = live; ready = ready }
 
 -- whatever speaks of neither the table nor the ready list
-pub granted_stays : {X : Type 0} (f : Parts → X) (d : Parts) (slot : ℕ) → ((live : List (Option Live)) (ready : List ℕ) → f (with_lives d live ready) ≡ f d) → f (with_granted slot d) ≡ f d
+pub granted_stays : {X : Type 0} (f : Parts → X) (d : Parts) (slot : ℕ) → ((live : List (Option Live)) (ready : List ℕ) → f (with_lives d live ready) ≡ f d)
+    → f (with_granted slot d) ≡ f d
 granted_stays f d slot same = at_place (live_at d.live slot)
   where
     at_place : (o : Option Live) → f (granted_if o slot d) ≡ f d

@@ -91,7 +91,8 @@ module _ (u : Underway) (t : State) (row : ℕ) (same : SameFor u.program row u.
     is = same.kept h.who (inr (ap life h.is, ap row_of h.is)) ∙ h.is;
   }
 
-pub hand_on : (u : Underway) (t : State) (h : Hand) → ((row : ℕ) → row_in h ≡ Some row → SameFor u.program row u.state t) → HandFits u h → HandFits (in_state u t) h
+pub hand_on : (u : Underway) (t : State) (h : Hand) → ((row : ℕ) → row_in h ≡ Some row → SameFor u.program row u.state t) → HandFits u h
+    → HandFits (in_state u t) h
 hand_on u t hands.Nothing same fits = fits
 hand_on u t (hands.Started job) same fits = frame_on u t job.row (same job.row refl) (frame_of job) fits
 hand_on u t (hands.Framed row f dues.Going) same fits = frame_on u t row (same row refl) f fits
@@ -110,7 +111,8 @@ meant p m f body args inputs =
     ∙ ap (λ xs. Some (meaning f.body xs m.inputs)) (sym args)
     ∙ ap (λ xs. Some (meaning f.body f.args xs)) (sym inputs)
 
-pub same_member : (u : Underway) (row : ℕ) (m n : Member) → slice_get (members u.program u.state) row ≡ Some m → slice_get (members u.program u.state) row ≡ Some n → m ≡ n
+pub same_member : (u : Underway) (row : ℕ) (m n : Member) → slice_get (members u.program u.state) row ≡ Some m
+    → slice_get (members u.program u.state) row ≡ Some n → m ≡ n
 same_member u row m n e f = (let g : Some m ≡ Some n = sym e ∙ f in cc)
 
 wish_came : (u : Underway) (row : ℕ) (f g : Framed) (w : Wish) → IsFrameOf u row f → WishComes w f g → IsWishing u row g
@@ -190,7 +192,8 @@ thought_fits u (hands.Leaving l) k (Err x) fits t = absurd t
 abbrev pub IsUnderWay : Underway → ℕ → Type 0
 IsUnderWay u row = (m : Member) × (slice_get (members u.program u.state) row ≡ Some m) × (m.life ≢ Pending)
 
-handed_lives : (u : Underway) (own row : ℕ) (body : Body) (args : List ℤ) (inputs : List Input) → Some own ≡ Some row → IsHandedOut u own body args inputs → IsUnderWay u row
+handed_lives : (u : Underway) (own row : ℕ) (body : Body) (args : List ℤ) (inputs : List Input) → Some own ≡ Some row → IsHandedOut u own body args inputs
+    → IsUnderWay u row
 handed_lives u own row body args inputs e h =
     let same : own ≡ row = cc in
     subst (IsUnderWay u) same (h.member, h.is, λ f. (let g : Running ≡ Pending = sym h.runs ∙ f in cc))
@@ -213,7 +216,8 @@ served_lives u (hands.Done own o) row sound fits e = handed_lives u own row o.bo
 served_lives u (hands.Leaving l) row sound fits e = leaving_lives u l.row row sound e fits
 
 -- the row that starts isn't
-pub starting_waits : (p : Program) (s : State) (who row : ℕ) (t : State) → IsSound p s → Starts s who row t → (m : Member) × (slice_get (members p s) row ≡ Some m) × (m.life ≡ Pending)
+pub starting_waits : (p : Program) (s : State) (who row : ℕ) (t : State) → IsSound p s → Starts s who row t
+    → (m : Member) × (slice_get (members p s) row ≡ Some m) × (m.life ≡ Pending)
 starting_waits p s who row t sound m =
     let h = sound.fits.has_row who row (ap row_of m.is ∙ ap row_at m.stage_is) in
     (h.member, h.is, h.life_is ∙ ap life m.is ∙ ap life_at m.stage_is)

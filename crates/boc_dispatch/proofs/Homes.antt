@@ -1,5 +1,6 @@
 -- Rows, and the slots of their behaviours.
-use Rattle.std.proofs.Common.{◌≡◌, ◌≢◌, ℕ, zero, suc, ◌+◌, ◌<◌, ◌≤◌, true, false, eqb, List, [], ◌∷◌, length, map, get_or, add-one, refl, sym, ◌∙◌, ap, subst, arith}
+use Rattle.std.proofs.Common.{◌≡◌, ◌≢◌, ℕ, zero, suc, ◌+◌, ◌<◌, ◌≤◌, true, false, eqb, List, [], ◌∷◌, length, map, get_or, add-one, refl, sym, ◌∙◌, ap, subst}
+use Rattle.std.proofs.Common.{arith}
 use Rattle.std.specs.Prelude.{slice_get, ℤ, Option, Some, None}
 use Rattle.std.specs.Option.{option_eq}
 use Rattle.std.proofs.lemmas.Bool.Decides.{Decides-eqb}
@@ -45,7 +46,8 @@ running_stage row (Recorded own (phases.Flagging request)) is runs = absurd (let
 running_stage row (Recorded own phases.Owning) is runs = absurd (let h : Pending ≡ Running = runs in cc)
 running_stage row (Recorded own phases.Waiting) is runs = absurd (let h : Pending ≡ Running = runs in cc)
 running_stage row (Recorded own phases.Ready) is runs = absurd (let h : Pending ≡ Running = runs in cc)
-running_stage row (Recorded own phases.Running) is runs = (let h : Some own ≡ Some row = is in let same : own ≡ row = cc in ap (λ r. Recorded r phases.Running) same)
+running_stage row (Recorded own phases.Running) is runs =
+    (let h : Some own ≡ Some row = is in let same : own ≡ row = cc in ap (λ r. Recorded r phases.Running) same)
 running_stage row (Recorded own (phases.Leaving request)) is runs = absurd (let h : Ended ≡ Running = runs in cc)
 
 -- an open behaviour with a row is there
@@ -163,7 +165,8 @@ module _ (d : Parts) (k : IsKept d) where
       ∙ (λ i. inputs_of ((r.behaviour_is i).cowns) (sym k.values_are i))
 
   pub hands_out : (slot row : ℕ) (x : IsOfRow d slot row) (body : Body) (args : List ℤ) (inputs : List Input) → x.this.stage ≡ Recorded row phases.Running
-      → slice_get d.program.bodies x.this.kind ≡ Some body → args ≡ x.this.args.items → inputs ≡ inputs_of x.this.params.items d.values → IsHandedOut (underway d) row body args inputs
+      → slice_get d.program.bodies x.this.kind ≡ Some body → args ≡ x.this.args.items → inputs ≡ inputs_of x.this.params.items d.values
+      → IsHandedOut (underway d) row body args inputs
   hands_out slot row x body args inputs runs body_is args_are inputs_are =
       let r = row_at_slot slot row x.this x.is x.row_is in
       record {
@@ -175,12 +178,14 @@ module _ (d : Parts) (k : IsKept d) where
         inputs_are = inputs_are ∙ sym (present slot row x runs);
       }
 
-  pub handed_slot : (row : ℕ) (body : Body) (args : List ℤ) (inputs : List Input) → IsHandedOut (underway d) row body args inputs → (slot : ℕ) × IsOfRow d slot row
+  pub handed_slot : (row : ℕ) (body : Body) (args : List ℤ) (inputs : List Input) → IsHandedOut (underway d) row body args inputs
+      → (slot : ℕ) × IsOfRow d slot row
   handed_slot row body args inputs h =
       slot_of_member row h.member h.is (λ ended. absurd (let e : Running ≡ Ended = sym h.runs ∙ ended in cc))
 
   pub handed_means : (slot row : ℕ) (x : IsOfRow d slot row) (body : Body) (args : List ℤ) (inputs : List Input) → IsHandedOut (underway d) row body args inputs
-      → (x.this.stage ≡ Recorded row phases.Running) × (slice_get d.program.bodies x.this.kind ≡ Some body) × (args ≡ x.this.args.items) × (inputs ≡ inputs_of x.this.params.items d.values)
+      → (x.this.stage ≡ Recorded row phases.Running) × (slice_get d.program.bodies x.this.kind ≡ Some body) × (args ≡ x.this.args.items)
+      × (inputs ≡ inputs_of x.this.params.items d.values)
   handed_means slot row x body args inputs h =
       let r = row_at_slot slot row x.this x.is x.row_is in
       let same : h.member ≡ r.member = (let e : Some h.member ≡ Some r.member = sym h.is ∙ r.is in cc) in
@@ -197,7 +202,8 @@ module _ (d : Parts) (k : IsKept d) where
   pub fits_row : (slot row : ℕ) (x : IsOfRow d slot row) → MemberFits d.program (row_at_slot slot row x.this x.is x.row_is).member
   fits_row slot row x = let r = row_at_slot slot row x.this x.is x.row_is in all_fit d.program d.log.events k.sound.run row r.member r.is
 
-  pub counts_of : (slot row : ℕ) (x : IsOfRow d slot row) → CountsAre (slice_get (map signature_of d.program.bodies) x.this.kind) (length x.this.args.items) (length x.this.params.items)
+  pub counts_of : (slot row : ℕ) (x : IsOfRow d slot row)
+      → CountsAre (slice_get (map signature_of d.program.bodies) x.this.kind) (length x.this.args.items) (length x.this.params.items)
   counts_of slot row x =
       let r = row_at_slot slot row x.this x.is x.row_is in
       let P : Behaviour → Type 0 = λ b. CountsAre (slice_get (map signature_of d.program.bodies) b.kind) (length b.args) (length b.cowns) in
@@ -221,7 +227,8 @@ module _ (d : Parts) (k : IsKept d) where
 
   -- ---- the open enqueue of a row
 
-  pub enqueue_found : (row number : ℕ) → IsEnqueueOf (state d) number row → (slot : ℕ) × (home : ℕ) × (c : IsNumbered d slot number) × (x : IsOfRow d home row) × (x.this.child ≡ Some slot)
+  pub enqueue_found : (row number : ℕ) → IsEnqueueOf (state d) number row
+      → (slot : ℕ) × (home : ℕ) × (c : IsNumbered d slot number) × (x : IsOfRow d home row) × (x.this.child ≡ Some slot)
   enqueue_found row number q =
       let b = open_enqueuing (at (state d) number) q.is_open in
       let s = slot_of_open d.live d.opened number b.0 k.numbered b.1 in
@@ -233,7 +240,12 @@ module _ (d : Parts) (k : IsKept d) where
 
   pub leaving_slot : (row : ℕ) (q : IsLeaving (state d) row) → (slot : ℕ) × (x : IsOfRow d slot row) × (x.this.stage ≡ Recorded row (phases.Leaving q.request))
   leaving_slot row q =
-      let s = slot_of_open d.live d.opened q.who (record { parent = q.parent; offset = q.offset; cowns = q.cowns; stage = Recorded row (phases.Leaving q.request) }) k.numbered q.is in
+      let s = slot_of_open d.live d.opened q.who (record {
+        parent = q.parent;
+        offset = q.offset;
+        cowns = q.cowns;
+        stage = Recorded row (phases.Leaving q.request);
+      }) k.numbered q.is in
       let stage = ap (λ (o : OpenBehaviour). o.stage) s.4 in
       (s.0, record { this = s.1; is = s.2; row_is = ap row_at stage }, stage)
 
@@ -244,7 +256,8 @@ module _ (d : Parts) (k : IsKept d) where
     parent = x.this.parent;
     offset = x.this.offset;
     cowns = x.this.cowns.items;
-    is = at_slot d.live d.opened slot x.this k.numbered x.is ∙ ap (λ st. let b : OpenBehaviour = record { parent = x.this.parent; offset = x.this.offset; cowns = x.this.cowns.items; stage = st } in Some b) stage;
+    is = at_slot d.live d.opened slot x.this k.numbered x.is
+        ∙ ap (λ st. let b : OpenBehaviour = record { parent = x.this.parent; offset = x.this.offset; cowns = x.this.cowns.items; stage = st } in Some b) stage;
   }
 
 -- ---- reading
@@ -264,7 +277,8 @@ place_read (p ∷ live) (suc slot) place below is = place_read live slot place (
 pub home_read : (xs homes : List ℕ) (i x : ℕ) → xs ≡ homes → i < length xs → x ≡ get_or xs i x → slice_get homes i ≡ Some x
 home_read xs homes i x same below is = subst (λ (ys : List ℕ). slice_get ys i ≡ Some x) same (number_read xs i x below is)
 
-pub live_read : (xs live : List (Option Live)) (slot : ℕ) (place : Option Live) → xs ≡ live → slot < length xs → place ≡ get_or xs slot place → live_at live slot ≡ place
+pub live_read : (xs live : List (Option Live)) (slot : ℕ) (place : Option Live) → xs ≡ live → slot < length xs → place ≡ get_or xs slot place
+    → live_at live slot ≡ place
 live_read xs live slot place same below is = subst (λ (ys : List (Option Live)). live_at ys slot ≡ place) same (place_read xs slot place below is)
 
 -- a test of a row that failed

@@ -151,7 +151,8 @@ module _ (d : Parts) (k : IsKept d) (slot : ℕ) (l : Live) (is : live_at d.live
           leaves = unhooks d slot row i l f r e mine after refl;
         }
     leaves_behind r (next ∷ rest) e mine free =
-        elim next.settled as (λ x. next.settled ≡ x → (cond x (releases.Passed (record { index = next.slot })) releases.Blocked ≡ releases.Blocked → ⊥) → CanLeave s row) [
+        elim next.settled as (λ x. next.settled ≡ x → (cond x (releases.Passed (record { index = next.slot })) releases.Blocked ≡ releases.Blocked → ⊥)
+        → CanLeave s row) [
           | true ↦ λ set h. passes_next r next rest e mine set
           | false ↦ λ set h. absurd (h refl)
         ] refl free
@@ -222,7 +223,8 @@ module _ (d : Parts) (k : IsKept d) (idle : NobodyWorks (state d)) where
   pub none_ready : d.ready ≡ [] → IsQuiet (state d)
   none_ready e = moving.quiet_unless_ready d.program (state d) k.sound idle (ap (rows_at d.live) e)
 
-  pub starts_first : (slot : ℕ) (rest : List ℕ) (l : Live) (row : ℕ) → d.ready ≡ slot ∷ rest → live_at d.live slot ≡ Some l → row_at l.stage ≡ Some row → CanStart (state d) row
+  pub starts_first : (slot : ℕ) (rest : List ℕ) (l : Live) (row : ℕ) → d.ready ≡ slot ∷ rest → live_at d.live slot ≡ Some l → row_at l.stage ≡ Some row
+      → CanStart (state d) row
   starts_first slot rest l row e is at_row =
       let first : option_map_or (λ (x : Live). row_or_0 x.stage) (live_at d.live slot) 0 ≡ row =
       ap (λ o. option_map_or (λ (x : Live). row_or_0 x.stage) o 0) is ∙ ap (λ o. option_map_or (λ (r : ℕ). r) o 0) at_row in

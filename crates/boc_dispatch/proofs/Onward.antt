@@ -10,7 +10,8 @@ use Rattle.boc_runs.specs.Run.{Member, next_wish}
 use Rattle.boc_chain.specs.declared.request.Request.{Request}
 use Rattle.boc_chain.specs.Chain.{Place}
 use Rattle.boc_dispatch.specs.declared.live.Live.{Live}
-use Rattle.boc_dispatch.specs.Inside.{live_at, behaviour_of, exchanged_at, place_of, number_at, queues_of, rows_at, row_or_0, IsRequestOf, AreNumbered, AreAtHome, AreInHand, AreChained, AreOfRun}
+use Rattle.boc_dispatch.specs.Inside.{live_at, behaviour_of, exchanged_at, place_of, number_at, queues_of, rows_at, row_or_0, IsRequestOf, AreNumbered}
+use Rattle.boc_dispatch.specs.Inside.{AreAtHome, AreInHand, AreChained, AreOfRun}
 use Rattle.boc_dispatch.proofs.Tables.{live_there, live_here, live_other, live_new}
 use Rattle.boc_machine.proofs.Lists.{same_or_not}
 
@@ -34,7 +35,18 @@ pub record Steady (l m : Live) : Type 0 where
   pub enqueues : enqueues_at m.stage ≡ enqueues_at l.stage
 
 pub stays : (l : Live) → Onward l l
-stays l = record { number = refl; parent = refl; behaviour = refl; spawned = refl; cowns = refl; row = refl; asks = refl; settles = refl; flags = refl; exchanges = refl }
+stays l = record {
+  number = refl;
+  parent = refl;
+  behaviour = refl;
+  spawned = refl;
+  cowns = refl;
+  row = refl;
+  asks = refl;
+  settles = refl;
+  flags = refl;
+  exchanges = refl;
+}
 
 pub steady : (l : Live) → Steady l l
 steady l = record { on = stays l; child = refl; enqueues = refl }
@@ -119,7 +131,8 @@ follows_on live live' f = record {
 }
 
 -- what is read of a place stays
-read_on : {X : Type 0} (f : Option Live → X) (live live' : List (Option Live)) → Follows Onward live live' → ((l m : Live) → Onward l m → f (Some m) ≡ f (Some l))
+read_on : {X : Type 0} (f : Option Live → X) (live live' : List (Option Live)) → Follows Onward live live'
+    → ((l m : Live) → Onward l m → f (Some m) ≡ f (Some l))
     → (s : ℕ) → f (live_at live' s) ≡ f (live_at live s)
 read_on f live live' fs same s =
     elim (live_at live s) as (λ (o : Option Live). live_at live s ≡ o → f (live_at live' s) ≡ f o) [
@@ -159,7 +172,8 @@ module _ (live live' : List (Option Live)) (fs : Follows Onward live live') wher
   pub chained_on : (lists : List (List Request)) (place : ℕ → Option Place) → AreChained live lists place → AreChained live' lists place
   chained_on lists place k = record {
     requests = λ c i r e. request_by Onward (λ l m x. x.settles) (λ l m x. x.flags) live live' fs c r (k.requests c i r e);
-    places = λ s. k.places s ∙ sym (read_on (λ o. option_map place_of o) live live' fs (λ l m r. λ i. Some (record { cowns = r.cowns i; exchanged = r.exchanges i })) s);
+    places = λ s. k.places s ∙ sym (read_on (λ o. option_map place_of o) live live' fs
+        (λ l m r. λ i. Some (record { cowns = r.cowns i; exchanged = r.exchanges i })) s);
   }
 
   pub of_run_on : (p : Program) (rows : List Member) → AreOfRun p rows live → AreOfRun p rows live'
@@ -187,8 +201,10 @@ module _ (live live' : List (Option Live)) (fs : Follows Onward live live') wher
   }
 
 -- where the child in hand, the row, the parent and an open enqueue are as before
-pub in_hand_by : (R : Live → Live → Type 0) → ((l m : Live) → R l m → m.child ≡ l.child) → ((l m : Live) → R l m → row_at m.stage ≡ row_at l.stage) → ((l m : Live) → R l m → m.parent ≡ l.parent)
-    → ((l m : Live) → R l m → enqueues_at m.stage ≡ enqueues_at l.stage) → (live live' : List (Option Live)) → Follows R live live' → AreInHand live → AreInHand live'
+pub in_hand_by : (R : Live → Live → Type 0) → ((l m : Live) → R l m → m.child ≡ l.child) → ((l m : Live) → R l m → row_at m.stage ≡ row_at l.stage)
+    → ((l m : Live) → R l m → m.parent ≡ l.parent)
+    → ((l m : Live) → R l m → enqueues_at m.stage ≡ enqueues_at l.stage) → (live live' : List (Option Live)) → Follows R live live' → AreInHand live
+    → AreInHand live'
 in_hand_by R child row parent enqueues live live' fs k = record {
   children = λ home slot l a e.
       let x = fs.before home l a in

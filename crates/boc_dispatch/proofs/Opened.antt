@@ -1,5 +1,6 @@
 -- What a dispatcher has in hand at first.
-use Rattle.std.proofs.Common.{◌≡◌, ◌≢◌, ℕ, zero, suc, ◌^◌, ◌<◌, ◌≤◌, inl, inr, true, false, ◌||◌, List, [], ◌∷◌, length, map, set, replicate, refl, sym, ◌∙◌, ap, subst, arith, length-set}
+use Rattle.std.proofs.Common.{◌≡◌, ◌≢◌, ℕ, zero, suc, ◌^◌, ◌<◌, ◌≤◌, inl, inr, true, false, ◌||◌, List, [], ◌∷◌, length, map, set, replicate, refl, sym, ◌∙◌}
+use Rattle.std.proofs.Common.{ap, subst, arith, length-set}
 use Rattle.std.specs.Prelude.{slice_get, slice_index_or, Option, Some, None}
 use Rattle.std.specs.Option.{option_map, option_map_or}
 use Rattle.boc_runs.specs.declared.event.Event.TheVariants.{Spawn}
@@ -17,7 +18,8 @@ use Rattle.boc_machine.proofs.Lists.{same_or_not}
 use Rattle.boc_chain.specs.declared.request.Request.{Request}
 use Rattle.boc_chain.specs.Chain.{Place}
 use Rattle.boc_dispatch.specs.declared.live.Live.{Live}
-use Rattle.boc_dispatch.specs.Inside.{Parts, state, live_at, find_live, open_of, behaviour_of, place_of, exchanged_at, number_at, row_or_0, IsKept, HasRooms, AreNumbered, IsMember}
+use Rattle.boc_dispatch.specs.Inside.{Parts, state, live_at, find_live, open_of, behaviour_of, place_of, exchanged_at, number_at, row_or_0, IsKept, HasRooms}
+use Rattle.boc_dispatch.specs.Inside.{AreNumbered, IsMember}
 use Rattle.boc_dispatch.proofs.Tables.{live_here, live_other, live_new, find_here, taken_added}
 use Rattle.boc_dispatch.proofs.Quiet.{none_taken}
 
@@ -104,7 +106,10 @@ module _ (p : Program) (place : ℕ → Option Place) (table : List (Option Live
       elim (same_or_not s slot) [
         | inl h ↦
             ap place h ∙ here
-            ∙ (λ i. Some (record { cowns = sym cowns_are i; exchanged = (ap length (sym cowns_are) ∙ sym (ap (λ st. exchanged_at st l.cowns.items) stage_is)) i }))
+            ∙ (λ i. Some (record {
+              cowns = sym cowns_are i;
+              exchanged = (ap length (sym cowns_are) ∙ sym (ap (λ st. exchanged_at st l.cowns.items) stage_is)) i;
+            }))
             ∙ sym (ap (option_map place_of) (ap (live_at d.live) h ∙ at_slot_is))
         | inr n ↦ others s n ∙ sym (ap (option_map place_of) (live_other table slot (Some l) s n ∙ free s))
       ]
@@ -150,7 +155,8 @@ module _ (p : Program) (place : ℕ → Option Place) (table : List (Option Live
       asking = λ s x a e. absurd (let f : false ≡ true = sym (ap (λ (z : Live). asks_at z.stage) (only s x a).1 ∙ ap asks_at stage_is) ∙ e in cc);
     };
     counted = λ s x a e.
-        absurd (let f : false ≡ true = sym (ap (λ (z : Live). enqueues_at z.stage || waits_at z.stage) (only s x a).1 ∙ ap (λ st. enqueues_at st || waits_at st) stage_is) ∙ e in cc);
+        absurd (let f : false ≡ true = sym (ap (λ (z : Live). enqueues_at z.stage || waits_at z.stage) (only s x a).1
+        ∙ ap (λ st. enqueues_at st || waits_at st) stage_is) ∙ e in cc);
     ready_there = ready_is;
     left = (let none = none_taken table free in let one = taken_added table 0 slot l none_before (free slot) below main.number in omega arith);
   }

@@ -19,7 +19,8 @@ use Rattle.boc_dispatch.specs.Inside.{live_at, place_of, Parts, IsKept, HasRooms
 use Rattle.boc_dispatch.specs.Moves.{with_table, MayPut, Puts}
 use Rattle.boc_dispatch.specs.Places.{with_child}
 use Rattle.boc_dispatch.proofs.Fits.{steps_fit}
-use Rattle.boc_dispatch.proofs.ChildOpened.{E, end, apart, p2_is, e_own, e_slot, opened_rooms, may_put, asking_kept, recorded_kept, end_rooms, opens_asking, opens_recorded}
+use Rattle.boc_dispatch.proofs.ChildOpened.{E, end, apart, p2_is, e_own, e_slot, opened_rooms, may_put, asking_kept, recorded_kept, end_rooms, opens_asking}
+use Rattle.boc_dispatch.proofs.ChildOpened.{opens_recorded}
 use Rattle.boc_dispatch.proofs.Standing.{AreLive, lists_live}
 use Rattle.boc_dispatch.proofs.Tables.{SamePlaces, behaviours_length, behaviours_placed, queues_placed, rows_placed, taken_placed}
 
@@ -100,7 +101,8 @@ module _ (d : Parts) (k : IsKept d) (live2 : List (Option Live)) (same : SamePla
           record { home = h.home; parent = h.parent; is = same h.home ∙ h.is; row_is = h.row_is; knows = h.knows };
     };
     chained = record {
-      requests = λ c j r a. let h = k.chained.requests c j r a in record { this = h.this; is = same r.slot ∙ h.is; settled_is = h.settled_is; flagged_is = h.flagged_is };
+      requests = λ c j r a. let h = k.chained.requests c j r a in
+          record { this = h.this; is = same r.slot ∙ h.is; settled_is = h.settled_is; flagged_is = h.flagged_is };
       places = λ r. k.chained.places r ∙ sym (ap (option_map place_of) (same r));
     };
     of_run = record {
@@ -114,9 +116,11 @@ module _ (d : Parts) (k : IsKept d) (live2 : List (Option Live)) (same : SamePla
 
 -- ---- the child is put in
 
-module _ (d : Parts) (k : IsKept d) (row slot : ℕ) (p : Live) (it : IsAtStage d slot p (Recorded row phases.Running)) (free : p.child ≡ None) (child : Live) (new : IsNew d row child) (few : d.opened < MOST_ROWS)
+module _ (d : Parts) (k : IsKept d) (row slot : ℕ) (p : Live) (it : IsAtStage d slot p (Recorded row phases.Running)) (free : p.child ≡ None) (child : Live)
+    (new : IsNew d row child) (few : d.opened < MOST_ROWS)
     (live2 : List (Option Live)) (same : SamePlaces d.live live2) (own : ℕ) (vacant : live_at d.live own ≡ None) (room : own < length live2)
-    (place : ℕ → Option Place) (place_own : place own ≡ Some (record { cowns = child.cowns.items; exchanged = 0 })) (place_other : (r : ℕ) → r ≢ own → place r ≡ d.place r)
+    (place : ℕ → Option Place) (place_own : place own ≡ Some (record { cowns = child.cowns.items; exchanged = 0 }))
+    (place_other : (r : ℕ) → r ≢ own → place r ≡ d.place r)
     (homes ready : ℕ) (rooms : unrecorded (state d) ≤ d.log.rooms) (homes_fit : length d.homes + (unrecorded (state d) + 1) ≤ homes)
     (ready_fit : length live2 ≤ ready) (slots_fit : length live2 ≤ 2 ^ 32)
     (before : Parts) (before_is : before ≡ record d { place = place; live = live2; log = roomier d.log }) where
@@ -124,7 +128,8 @@ module _ (d : Parts) (k : IsKept d) (row slot : ℕ) (p : Live) (it : IsAtStage 
   opened_parts = E d k row slot p it free child new few live2 same own vacant room place place_own place_other
 
   opened_fit : HasRooms opened_parts homes ready
-  opened_fit = opened_rooms d k row slot p it free child new few live2 same own vacant room place place_own place_other homes ready rooms homes_fit ready_fit slots_fit
+  opened_fit = opened_rooms d k row slot p it free child new few live2 same own vacant room place place_own place_other homes ready rooms homes_fit ready_fit
+      slots_fit
 
   pub may_be_put : MayPut before homes slot own child
   may_be_put = subst (λ (z : Parts). MayPut z homes slot own child) (sym before_is) (record {
@@ -143,7 +148,8 @@ module _ (d : Parts) (k : IsKept d) (row slot : ℕ) (p : Live) (it : IsAtStage 
         (puts p (ap (λ z. live_at z.live slot) before_is ∙ p2_is d k row slot p it free child new few live2 same own vacant room place place_own place_other))
 
     either : (P : Parts → Type 0) → (0 < length child.cowns.items → P opened_parts)
-        → ((empty : length child.cowns.items ≡ 0) → P (end d k row slot p it free child new few live2 same own vacant room place place_own place_other empty)) → P e
+        → ((empty : length child.cowns.items ≡ 0) → P (end d k row slot p it free child new few live2 same own vacant room place place_own place_other empty))
+        → P e
     either P more over =
         elim (cases_lt 0 (length child.cowns.items)) [
           | inl h ↦ subst P (sym (done.asks h)) (more h)
@@ -184,7 +190,8 @@ on_success (Err x) P h e = absurd (let f : true ≡ false = e in cc)
 -- the parts once what was admitted is dismissed again
 pub dismissed : (d : Parts) (k : IsKept d) (live2 : List (Option Live)) (same : SamePlaces d.live live2) (place : ℕ → Option Place) (before : Parts)
     → before ≡ record d { place = place; live = live2; log = roomier d.log } → (lists' : List (List Request)) (place' : ℕ → Option Place)
-    → lists' ≡ before.lists → (own : ℕ) → d.place own ≡ None → place' own ≡ None → ((r : ℕ) → r ≢ own → place' r ≡ before.place r) → ((r : ℕ) → r ≢ own → place r ≡ d.place r)
+    → lists' ≡ before.lists → (own : ℕ) → d.place own ≡ None → place' own ≡ None → ((r : ℕ) → r ≢ own → place' r ≡ before.place r)
+    → ((r : ℕ) → r ≢ own → place r ≡ d.place r)
     → record before { lists = lists'; place = place' } ≡ longer d k live2 same
 dismissed d k live2 same place before e lists' place' lists_are own fresh gone others old =
     let places : (r : ℕ) → place' r ≡ d.place r = (λ r. elim (same_or_not r own) [

@@ -17,7 +17,9 @@ use Rattle.boc_runs.specs.Serial.{Behaviour, behaviour_of}
 use Rattle.boc_runs.specs.Run.{Member, config_of, next_wish, started_on, state_of, waiting, members_after_spawn}
 use Rattle.boc_runs.specs.machine.Stages.{OpenBehaviour, parent_of, enqueues, enqueues_at, asks, asks_at}
 use Rattle.boc_runs.specs.machine.Queues.{all_granted}
-use Rattle.boc_runs.specs.machine.Steps.{State, at, queue, members, values, opened, noted, with_behaviour, with_stage, with_queue, with_new, with_spawn, asking_on, leaving_on, flagging, made_ready, owned, woken, woken_if, woken_at, child, stepped, HasNoEnqueue, Advances, Opens, Owns, Leaves, Starts}
+use Rattle.boc_runs.specs.machine.Steps.{State, at, queue, members, values, opened, noted, with_behaviour, with_stage, with_queue, with_new, with_spawn}
+use Rattle.boc_runs.specs.machine.Steps.{asking_on, leaving_on, flagging, made_ready, owned, woken, woken_if, woken_at, child, stepped, HasNoEnqueue, Advances}
+use Rattle.boc_runs.specs.machine.Steps.{Opens, Owns, Leaves, Starts}
 use Rattle.boc_runs.specs.machine.Sound.{IsSound}
 use Rattle.boc_runs.specs.machine.Turns.{IsEnqueueOf}
 use Rattle.boc_program.proofs.ChangedItems.{front_item, place_below, length-changed}
@@ -84,7 +86,8 @@ module _ (u : Underway) (sound : IsSound u.program u.state) (who row : ℕ) (t :
       let one : x ≡ started_on (values u.program s) waits.0 = cc in
       ap (λ z. z.spawned) one ∙ (all_fit u.program s.log sound.run row waits.0 waits.1).fresh waits.2
 
-  started_fits : (job : Job) → job.row ≡ row → IsHandedOut (in_state u t) job.row job.body.now job.args.items job.inputs.items → HandFits (in_state u t) (hands.Started job)
+  started_fits : (job : Job) → job.row ≡ row → IsHandedOut (in_state u t) job.row job.body.now job.args.items job.inputs.items
+      → HandFits (in_state u t) (hands.Started job)
   started_fits job is h =
       let there : slice_get (members u.program t) row ≡ Some h.member = ap (slice_get (members u.program t)) (sym is) ∙ h.is in
       record {
@@ -164,7 +167,8 @@ has_asked p s who row b request m w is parent there next =
 -- ---- an enqueue is open
 
 module _ (u : Underway) (f : Framed) (who row : ℕ) where
-  asked_fits : (t : State) (h : IsHandedOut u row f.body f.args f.inputs) → f.made ≡ h.member.spawned + 1 → HasAsked u.program t who row h.member → IsEnqueuing (in_state u t) f who row
+  asked_fits : (t : State) (h : IsHandedOut u row f.body f.args f.inputs) → f.made ≡ h.member.spawned + 1 → HasAsked u.program t who row h.member
+      → IsEnqueuing (in_state u t) f who row
   asked_fits t h came a = record {
     handed = record {
       member = a.member;
@@ -188,7 +192,8 @@ module _ (u : Underway) (f : Framed) (who row : ℕ) where
       let a = has_asked u.program (with_new s b) (opened s) row b 0 x m.wish (read_pushed s.behaviours (Some b)) refl h.may.handed.is
       (ap (next_wish u.program) (sym h.may.handed.is) ∙ m.may.next) in
       asked_fits t h.may.handed (n.next ∙ ap (λ (z : Member). z.spawned + 1) same)
-      (subst (λ (z : State). HasAsked u.program z who row x) (sym m.gives) (subst (λ z. HasAsked u.program (stepped (asking_on u.program (with_new s b) (opened s) b 0)) z row x) (sym number)
+      (subst (λ (z : State). HasAsked u.program z who row x) (sym m.gives)
+      (subst (λ z. HasAsked u.program (stepped (asking_on u.program (with_new s b) (opened s) b 0)) z row x) (sym number)
       (asked_stepped u.program (asking_on u.program (with_new s b) (opened s) b 0) (opened s) row x a)))
 
   -- the same members, and the enqueue at another stage, at which it asks as before
@@ -207,7 +212,8 @@ module _ (u : Underway) (f : Framed) (who row : ℕ) where
     came = h.came ∙ ap (λ x. h.handed.member.spawned + cond x 1 0) (ap asks is ∙ sym asking ∙ sym (ap asks here));
   }
 
-  advanced_fits : (step : Step) (t : State) → IsSound u.program u.state → step ≢ steps.Own → IsEnqueuing u f who row → Advances u.program u.state who step t → IsEnqueuing (in_state u t) f who row
+  advanced_fits : (step : Step) (t : State) → IsSound u.program u.state → step ≢ steps.Own → IsEnqueuing u f who row → Advances u.program u.state who step t
+      → IsEnqueuing (in_state u t) f who row
   advanced_fits (steps.Swap i) t sound other h m =
       let b' : OpenBehaviour = record m.this { stage = Asking i true } in
       staged_fits t m.this (Asking i true) h m.due.is (ap (λ z. z.log) m.gives)
@@ -218,7 +224,8 @@ module _ (u : Underway) (f : Framed) (who row : ℕ) where
       let x = h.handed.member in
       let asking : asks (at s who) ≡ true = ap asks m.due.is ∙ ap asks_at m.due.stage_is in
       let wished = sound.fits.asking who asking in
-      let next : next_wish u.program (Some x) ≡ Some wished.wish = ap (next_wish u.program) (sym h.handed.is ∙ ap (slice_get (members u.program s)) (sym h.enqueue.parent)) ∙ wished.next in
+      let next : next_wish u.program (Some x) ≡ Some wished.wish =
+      ap (next_wish u.program) (sym h.handed.is ∙ ap (slice_get (members u.program s)) (sym h.enqueue.parent)) ∙ wished.next in
       let a = has_asked u.program s who row b (suc i) x wished.wish m.due.is (sym (ap parent_of m.due.is) ∙ h.enqueue.parent) h.handed.is next in
       asked_fits t h.handed (h.came ∙ ap (λ z. x.spawned + cond z 1 0) asking)
       (subst (λ (z : State). HasAsked u.program z who row x) (sym m.gives) (asked_stepped u.program (asking_on u.program s who b (suc i)) who row x a))
@@ -226,7 +233,8 @@ module _ (u : Underway) (f : Framed) (who row : ℕ) where
       let stage : Stage = Recorded m.row (flagging m.this.cowns (suc i)) in
       let b' : OpenBehaviour = record m.this { stage = stage } in
       staged_fits t m.this stage h m.due.is (ap (λ z. z.log) m.gives)
-      (ap (λ z. at z who) m.gives ∙ put_here u.state who m.this (Some b') m.due.is) (flagging_enqueues m.row (suc i) m.this.cowns) (sym (ap asks_at m.due.stage_is))
+      (ap (λ z. at z who) m.gives ∙ put_here u.state who m.this (Some b') m.due.is) (flagging_enqueues m.row (suc i) m.this.cowns)
+      (sym (ap asks_at m.due.stage_is))
   advanced_fits steps.Own t sound other h m = absurd (other refl)
   advanced_fits steps.Open t sound other h m = absurd m
   advanced_fits steps.Start t sound other h m = absurd m
@@ -261,7 +269,8 @@ module _ (u : Underway) (f : Framed) (who row : ℕ) where
       by_test (λ (z : State). HasNoEnqueue z row) (all_granted (at s) (queue s) who) (made_ready s who b m.row) (with_stage s who b (Recorded m.row Waiting))
       (λ g. none_open_left b ready sound h.enqueue m.is refl) (λ g. none_open_left b waits sound h.enqueue m.is refl) in
       let log : (owned s who b m.row).log ≡ s.log =
-      by_test (λ (z : State). z.log ≡ s.log) (all_granted (at s) (queue s) who) (made_ready s who b m.row) (with_stage s who b (Recorded m.row Waiting)) (λ g. refl) (λ g. refl) in
+      by_test (λ (z : State). z.log ≡ s.log) (all_granted (at s) (queue s) who) (made_ready s who b m.row) (with_stage s who b (Recorded m.row Waiting))
+      (λ g. refl) (λ g. refl) in
       let there : slice_get (members u.program t) row ≡ Some h.handed.member =
       ap (λ l. slice_get (config_of u.program l).members row) (ap (λ z. z.log) m.gives ∙ log) ∙ h.handed.is in
       let recorded : asks (at s who) ≡ false = ap asks m.is ∙ ap asks_at m.stage_is in
@@ -283,26 +292,32 @@ module _ (u : Underway) (f : Framed) (who row : ℕ) where
         };
       }
 
-pub opens_fits : (u v : Underway) (row : ℕ) (f : Framed) (token : Child) → HandFits u (hands.Framed row f dues.Wishing) → OpensWish u f row (Ok token) v → HandFits v (hands.Framed row f (dues.Enqueuing token))
+pub opens_fits : (u v : Underway) (row : ℕ) (f : Framed) (token : Child) → HandFits u (hands.Framed row f dues.Wishing) → OpensWish u f row (Ok token) v
+    → HandFits v (hands.Framed row f (dues.Enqueuing token))
 opens_fits u v row f token h o =
     subst (λ (x : Underway). HandFits x (hands.Framed row f (dues.Enqueuing token))) (sym o.5)
     (subst (λ r. IsEnqueuing (in_state u o.3) f token.number r) (sym o.2) (opened_fits u f token.number row o.3 h o.1 o.4))
 
-pub advances_fits : (u v : Underway) (row : ℕ) (f : Framed) (token : Child) (step : Step) → IsSound u.program u.state → HandFits u (hands.Framed row f (dues.Enqueuing token)) → AdvancesChild u token (advanced.Moved step) v
+pub advances_fits : (u v : Underway) (row : ℕ) (f : Framed) (token : Child) (step : Step) → IsSound u.program u.state
+    → HandFits u (hands.Framed row f (dues.Enqueuing token)) → AdvancesChild u token (advanced.Moved step) v
     → HandFits v (hands.Framed row f (dues.Enqueuing token))
 advances_fits u v row f token step sound h a =
-    subst (λ (x : Underway). HandFits x (hands.Framed row f (dues.Enqueuing token))) (sym a.4) (advanced_fits u f token.number token.row step a.2 sound a.1 h a.3)
+    subst (λ (x : Underway). HandFits x (hands.Framed row f (dues.Enqueuing token))) (sym a.4)
+    (advanced_fits u f token.number token.row step a.2 sound a.1 h a.3)
 
-pub owns_fits : (u v : Underway) (row : ℕ) (f : Framed) (token : Child) → IsSound u.program u.state → HandFits u (hands.Framed row f (dues.Enqueuing token)) → AdvancesChild u token advanced.Enqueued v → HandFits v (hands.Framed token.row f dues.Going)
+pub owns_fits : (u v : Underway) (row : ℕ) (f : Framed) (token : Child) → IsSound u.program u.state → HandFits u (hands.Framed row f (dues.Enqueuing token))
+    → AdvancesChild u token advanced.Enqueued v → HandFits v (hands.Framed token.row f dues.Going)
 owns_fits u v row f token sound h a =
     subst (λ (x : Underway). HandFits x (hands.Framed token.row f dues.Going)) (sym a.3) (owned_fits u f token.number token.row a.1 sound h a.2)
 
 -- ---- a row releases its cowns
 
 -- a behaviour that isn't gone is leaving
-still_leaving : (s : State) (who row : ℕ) (b : OpenBehaviour) (request : ℕ) → at s who ≡ Some b → at (leaving_on s who b row request) who ≢ None → IsLeaving (leaving_on s who b row request) row
+still_leaving : (s : State) (who row : ℕ) (b : OpenBehaviour) (request : ℕ) → at s who ≡ Some b → at (leaving_on s who b row request) who ≢ None
+    → IsLeaving (leaving_on s who b row request) row
 still_leaving s who row b request is =
-    by_test (λ (t : State). at t who ≢ None → IsLeaving t row) (nat_lt request (length b.cowns)) (with_stage s who b (Recorded row (Leaving request))) (with_behaviour s who None)
+    by_test (λ (t : State). at t who ≢ None → IsLeaving t row) (nat_lt request (length b.cowns)) (with_stage s who b (Recorded row (Leaving request)))
+    (with_behaviour s who None)
     (λ h stays. record {
       who = who;
       request = request;

@@ -1,5 +1,6 @@
 -- Own: an enqueue ends, and the behaviour waits or is ready.
-use Rattle.std.proofs.Common.{◌≡◌, ◌≢◌, ℕ, ◌+◌, ◌≤◌, inl, inr, true, false, cond, List, length, set, get_or, refl, sym, ◌∙◌, ap, subst, arith, get_or-set_other, length-set}
+use Rattle.std.proofs.Common.{◌≡◌, ◌≢◌, ℕ, ◌+◌, ◌≤◌, inl, inr, true, false, cond, List, length, set, get_or, refl, sym, ◌∙◌, ap, subst, arith, get_or-set_other}
+use Rattle.std.proofs.Common.{length-set}
 use Rattle.std.specs.Prelude.{slice_get, ◌||◌, Option, Some, None}
 use Rattle.std.specs.List.{count_by}
 use Rattle.std.specs.Option.{option_map}
@@ -10,7 +11,8 @@ use Rattle.boc_runs.specs.declared.stage.Stage.{Stage}
 use Rattle.boc_runs.specs.declared.stage.Stage.TheVariants.{Asking, Recorded}
 use Rattle.boc_runs.specs.Lives.{Pending, Running, Ended}
 use Rattle.boc_runs.specs.Run.{state_of as state_of_run}
-use Rattle.boc_runs.specs.machine.Stages.{OpenBehaviour, cowns_of, settled, settled_at, row_of, row_at, life, life_at, enqueues, enqueues_at, waits_at, parent_of, ready_row_at}
+use Rattle.boc_runs.specs.machine.Stages.{OpenBehaviour, cowns_of, settled, settled_at, row_of, row_at, life, life_at, enqueues, enqueues_at, waits_at}
+use Rattle.boc_runs.specs.machine.Stages.{parent_of, ready_row_at}
 use Rattle.boc_runs.specs.machine.Queues.{all_granted}
 use Rattle.boc_runs.specs.machine.Sound.{IsSound}
 use Rattle.boc_runs.specs.machine.Steps.{State, at, queue, members, recorded, stepped, with_stage, made_ready, owned, woken, woken_if, Owns}
@@ -21,13 +23,15 @@ use Rattle.boc_machine.proofs.Rows.{life_there}
 use Rattle.boc_machine.proofs.Keeps.{keeps_owns}
 use Rattle.boc_dispatch.specs.declared.live.Live.{Live}
 use Rattle.boc_dispatch.specs.Grants.{with_granted, MayBeGranted, Tied, AreReady}
-use Rattle.boc_dispatch.specs.Inside.{Parts, state, live_at, open_of, behaviours_of, ungranted, awaits, is_taken, AreNumbered, AreInHand, IsChildOf, IsParentOf, IsKept, HasRooms, GoesOn}
+use Rattle.boc_dispatch.specs.Inside.{Parts, state, live_at, open_of, behaviours_of, ungranted, awaits, is_taken, AreNumbered, AreInHand, IsChildOf, IsParentOf}
+use Rattle.boc_dispatch.specs.Inside.{IsKept, HasRooms, GoesOn}
 use Rattle.boc_dispatch.specs.Places.{in_phase, with_child}
 use Rattle.boc_dispatch.proofs.Counts.{waited_same}
 use Rattle.boc_dispatch.proofs.Onward.{Onward, onward_at, Follows, follows_set, follows_then, stays}
 use Rattle.boc_dispatch.proofs.Tables.{live_there, live_here, live_other, live_new, at_slot, numbered_changed, taken_changed, read_place}
 use Rattle.boc_dispatch.proofs.Standing.{ready_fits}
-use Rattle.boc_dispatch.proofs.Granting.{tied_of, tied_on, ready_put, put_live, state_put, state_same, CountedBut, awaits_same, Grants, grants, with_behaviours, granted_stays, granted_length, stepped_on, tied_stepped, kept_of, rooms_stay}
+use Rattle.boc_dispatch.proofs.Granting.{tied_of, tied_on, ready_put, put_live, state_put, state_same, CountedBut, awaits_same, Grants, grants, with_behaviours}
+use Rattle.boc_dispatch.proofs.Granting.{granted_stays, granted_length, stepped_on, tied_stepped, kept_of, rooms_stay}
 
 -- whoever has a child in hand runs
 pub holder_runs : (d : Parts) → IsKept d → (home slot : ℕ) (l : Live) → live_at d.live home ≡ Some l → l.child ≡ Some slot → life_at l.stage ≡ Running
@@ -100,13 +104,25 @@ module _ (d : Parts) (parent slot row : ℕ) (holder l : Live) (o : Owning d par
   still_there = live_other d.live parent (Some freed) slot apart ∙ o.is
 
   freed_on : Onward holder freed
-  freed_on = record { number = refl; parent = refl; behaviour = refl; spawned = refl; cowns = refl; row = refl; asks = refl; settles = refl; flags = refl; exchanges = refl }
+  freed_on = record {
+    number = refl;
+    parent = refl;
+    behaviour = refl;
+    spawned = refl;
+    cowns = refl;
+    row = refl;
+    asks = refl;
+    settles = refl;
+    flags = refl;
+    exchanges = refl;
+  }
 
   waiting_on : Onward l waiting
   waiting_on = onward_at l l.awaited (Recorded row phases.Owning) (Recorded row phases.Waiting) o.stage_is refl refl refl refl refl
 
   on : Follows Onward d.live enqueued
-  on = follows_then d.live alone enqueued (follows_set Onward stays d.live parent holder freed o.holder_is freed_on) (follows_set Onward stays alone slot l waiting still_there waiting_on)
+  on = follows_then d.live alone enqueued (follows_set Onward stays d.live parent holder freed o.holder_is freed_on)
+      (follows_set Onward stays alone slot l waiting still_there waiting_on)
 
   -- who else is there was there, or is the parent
   data Was (s : ℕ) (x : Live) : Type 0 where
@@ -129,7 +145,8 @@ module _ (d : Parts) (parent slot row : ℕ) (holder l : Live) (o : Owning d par
   here = live_here alone slot (Some waiting) (live_there alone slot l still_there)
 
   parent_here : live_at enqueued parent ≡ Some freed
-  parent_here = live_other alone slot (Some waiting) parent (λ e. apart (sym e)) ∙ live_here d.live parent (Some freed) (live_there d.live parent holder o.holder_is)
+  parent_here = live_other alone slot (Some waiting) parent (λ e. apart (sym e))
+      ∙ live_here d.live parent (Some freed) (live_there d.live parent holder o.holder_is)
 
   other_here : (s : ℕ) (x : Live) → s ≢ slot → s ≢ parent → live_at d.live s ≡ Some x → live_at enqueued s ≡ Some x
   other_here s x n m e = live_other alone slot (Some waiting) s n ∙ live_other d.live parent (Some freed) s m ∙ e
@@ -193,14 +210,16 @@ module _ (d : Parts) (parent slot row : ℕ) (holder l : Live) (o : Owning d par
   }
 
   ready : AreReady enqueued d.ready
-  ready = ready_put alone d.ready slot l waiting still_there (λ r e. absurd (let f : Recorded row phases.Owning ≡ Recorded r phases.Ready = sym o.stage_is ∙ e in cc))
+  ready = ready_put alone d.ready slot l waiting still_there
+      (λ r e. absurd (let f : Recorded row phases.Owning ≡ Recorded r phases.Ready = sym o.stage_is ∙ e in cc))
       (ready_put d.live d.ready parent holder freed o.holder_is (λ r e. e) o.kept.ready_there)
 
   alone_numbered : AreNumbered alone d.opened
   alone_numbered = numbered_changed d.live d.opened parent holder freed o.kept.numbered o.holder_is refl
 
   taken : count_by is_taken enqueued ≡ count_by is_taken d.live
-  taken = taken_changed alone d.opened slot l waiting alone_numbered still_there refl ∙ taken_changed d.live d.opened parent holder freed o.kept.numbered o.holder_is refl
+  taken = taken_changed alone d.opened slot l waiting alone_numbered still_there refl
+      ∙ taken_changed d.live d.opened parent holder freed o.kept.numbered o.holder_is refl
 
   tied : Tied after
   tied = tied_on d enqueued (tied_of d o.kept) on ready hand taken
@@ -224,7 +243,8 @@ module _ (d : Parts) (parent slot row : ℕ) (holder l : Live) (o : Owning d par
       | Other f m g ↦
           let other : x.number ≢ l.number = λ h. n (o.kept.numbered.once i slot x l g o.is h) in
           o.kept.counted i x g pending
-          ∙ sym (awaits_same (state d) waits x (λ c. refl) (get_or-set_other (behaviours_of d.live d.opened) l.number x.number (Some (record (open_of l) { stage = Recorded row phases.Waiting })) None other))
+          ∙ sym (awaits_same (state d) waits x (λ c. refl) (get_or-set_other (behaviours_of d.live d.opened) l.number x.number
+          (Some (record (open_of l) { stage = Recorded row phases.Waiting })) None other))
     ];
     this = λ x e.
         let same : waiting ≡ x = (let f : Some waiting ≡ Some x = sym here ∙ e in cc) in
@@ -232,7 +252,8 @@ module _ (d : Parts) (parent slot row : ℕ) (holder l : Live) (o : Owning d par
         let was_one : cond (enqueues_at l.stage) 1 0 ≡ one_if true = ap (λ z. one_if (enqueues_at z)) o.stage_is in
         let is_none : cond false 1 0 ≡ one_if false = refl in
         let n : l.awaited ≡ ungranted (state d) l.number l.cowns.items + cond (enqueues_at l.stage) 1 0 = o.kept.counted slot l o.is open_yet in
-        let put : at waits l.number ≡ Some (record (open_of l) { stage = Recorded row phases.Waiting }) = put_here (state d) l.number (open_of l) (Some (record (open_of l) { stage = Recorded row phases.Waiting })) open_is in
+        let put : at waits l.number ≡ Some (record (open_of l) { stage = Recorded row phases.Waiting }) =
+        put_here (state d) l.number (open_of l) (Some (record (open_of l) { stage = Recorded row phases.Waiting })) open_is in
         let same_settled : settled (at waits l.number) ≡ settled (at (state d) l.number) =
         ap settled put ∙ sym (ap settled open_is ∙ ap (λ z. settled_at z l.cowns.items) o.stage_is) in
         let u : ungranted waits l.number l.cowns.items ≡ ungranted (state d) l.number l.cowns.items =
@@ -255,7 +276,8 @@ module _ (d : Parts) (parent slot row : ℕ) (holder l : Live) (o : Owning d par
       let g : all_granted (at waits) (queue waits) l.number ≡ all_granted (at (state d)) (queue (state d)) l.number =
       regranted (at (state d)) (at waits) (queue (state d)) l.number same_settled (ap cowns_of put ∙ sym (ap cowns_of open_is)) in
       let readied : made_ready waits l.number b row ≡ made_ready (state d) l.number (open_of l) row =
-      ap (with_behaviours (made_ready waits l.number b row)) (set-set (behaviours_of d.live d.opened) l.number (Some b) (Some (record (open_of l) { stage = Recorded row phases.Ready }))) in
+      ap (with_behaviours (made_ready waits l.number b row))
+      (set-set (behaviours_of d.live d.opened) l.number (Some b) (Some (record (open_of l) { stage = Recorded row phases.Ready }))) in
       ap (woken_if waits l.number) put
       ∙ ap (λ z. cond z (made_ready waits l.number b row) waits) g
       ∙ ap (λ z. cond (all_granted (at (state d)) (queue (state d)) l.number) z waits) readied
@@ -309,18 +331,21 @@ pub record OwnCalls (d : Parts) (parent slot row : ℕ) (p p' q q' : Option Live
   pub reads_own : q ≡ get_or (set d.live parent p') slot q
   pub waits : q' ≡ option_map (in_phase row phases.Waiting) q
 
-freed_place : (d : Parts) (parent : ℕ) (holder : Live) (p p' : Option Live) → live_at d.live parent ≡ Some holder → p ≡ get_or d.live parent p → p' ≡ option_map (with_child None) p
+freed_place : (d : Parts) (parent : ℕ) (holder : Live) (p p' : Option Live) → live_at d.live parent ≡ Some holder → p ≡ get_or d.live parent p
+    → p' ≡ option_map (with_child None) p
     → p' ≡ Some (with_child None holder)
 freed_place d parent holder p p' is reads frees = frees ∙ ap (option_map (with_child None)) (read_place d.live parent holder p is reads)
 
 -- the slot's own place is read as it was
-pub own_place : (d : Parts) (parent slot row : ℕ) (holder l : Live) (p p' q : Option Live) → Owning d parent slot row holder l → p ≡ get_or d.live parent p → p' ≡ option_map (with_child None) p
+pub own_place : (d : Parts) (parent slot row : ℕ) (holder l : Live) (p p' q : Option Live) → Owning d parent slot row holder l → p ≡ get_or d.live parent p
+    → p' ≡ option_map (with_child None) p
     → q ≡ get_or (set d.live parent p') slot q → q ≡ Some l
 own_place d parent slot row holder l p p' q o reads frees own =
     let f = freed_place d parent holder p p' o.holder_is reads frees in
     read_place (set d.live parent p') slot l q (ap (λ z. live_at (set d.live parent z) slot) f ∙ still_there d parent slot row holder l o) own
 
-pub own_parts : (d : Parts) (parent slot row : ℕ) (holder l : Live) (p p' q q' : Option Live) → Owning d parent slot row holder l → OwnCalls d parent slot row p p' q q'
+pub own_parts : (d : Parts) (parent slot row : ℕ) (holder l : Live) (p p' q q' : Option Live) → Owning d parent slot row holder l
+    → OwnCalls d parent slot row p p' q q'
     → record d { live = set (set d.live parent p') slot q' } ≡ after_own d parent slot row holder l
 own_parts d parent slot row holder l p p' q q' o k =
     let e = freed_place d parent holder p p' o.holder_is k.reads k.frees in

@@ -11,7 +11,8 @@ use Rattle.boc_program.specs.Meaning.{Wish}
 use Rattle.boc_program.specs.Changed.{changed}
 use Rattle.boc_runs.specs.Lives.{Life, Pending, Running, Ended, MayStart, Overlap}
 use Rattle.boc_runs.specs.Serial.{behaviour_of, main_behaviour, inputs_of, after_outputs}
-use Rattle.boc_runs.specs.Run.{Member, Config, config_after, config_after_all, config_of, opening, next_wish, waiting, spawned_by, started_on, members_after_spawn, values_after_end, values_written, state_of, member_cowns, MayHappen, IsRunFrom, IsRun}
+use Rattle.boc_runs.specs.Run.{Member, Config, config_after, config_after_all, config_of, opening, next_wish, waiting, spawned_by, started_on}
+use Rattle.boc_runs.specs.Run.{members_after_spawn, values_after_end, values_written, state_of, member_cowns, MayHappen, IsRunFrom, IsRun}
 use Rattle.boc_runs.specs.machine.Queues.{times}
 use Rattle.boc_machine.proofs.Twins.{read_changed, read_more}
 use Rattle.boc_machine.proofs.Outputs.{contains_times, outputs_elsewhere, inputs_alike}
@@ -22,7 +23,8 @@ Apart m n = (d : ℕ) → 0 < times d m.behaviour.cowns → 0 < times d n.behavi
 
 -- running rows share no cown, and the inputs of each are the values that its cowns have now
 pub record ArePresent (c : Config) : Type 0 where
-  pub apart : (r q : ℕ) (m n : Member) → r ≢ q → slice_get c.members r ≡ Some m → slice_get c.members q ≡ Some n → m.life ≡ Running → n.life ≡ Running → Apart m n
+  pub apart : (r q : ℕ) (m n : Member) → r ≢ q → slice_get c.members r ≡ Some m → slice_get c.members q ≡ Some n → m.life ≡ Running → n.life ≡ Running
+      → Apart m n
   pub present : (r : ℕ) (m : Member) → slice_get c.members r ≡ Some m → m.life ≡ Running → m.inputs ≡ inputs_of m.behaviour.cowns c.values
 
 -- who runs ran before, with the same cowns and inputs
@@ -41,7 +43,8 @@ never_runs m n life same is runs = sym is ∙ ap (λ (x : Member). x.life) same 
 abbrev one_more : Member → Member
 one_more m = record m { spawned = m.spawned + 1 }
 
-spawn_ran : (p : Program) (rows : List Member) (parent r : ℕ) (m : Member) → slice_get (members_after_spawn p rows parent) r ≡ Some m → m.life ≡ Running → RanSo rows r m
+spawn_ran : (p : Program) (rows : List Member) (parent r : ℕ) (m : Member) → slice_get (members_after_spawn p rows parent) r ≡ Some m → m.life ≡ Running
+    → RanSo rows r m
 spawn_ran p [] parent zero m is runs =
     let same : waiting main_behaviour ≡ m = (let f : Some (waiting main_behaviour) ≡ Some m = is in cc) in
     absurd (let h : Pending ≡ Running = never_runs (waiting main_behaviour) m Pending same refl runs in cc)
@@ -70,7 +73,8 @@ spawn_present p c parent k = record {
   apart = λ r q m n other is js runs goes d a b.
       let x = spawn_ran p c.members parent r m is runs in
       let y = spawn_ran p c.members parent q n js goes in
-      k.apart r q x.before y.before other x.is y.is x.runs y.runs d (subst (λ (cs : List ℕ). 0 < times d cs) x.cowns a) (subst (λ (cs : List ℕ). 0 < times d cs) y.cowns b);
+      k.apart r q x.before y.before other x.is y.is x.runs y.runs d (subst (λ (cs : List ℕ). 0 < times d cs) x.cowns a)
+      (subst (λ (cs : List ℕ). 0 < times d cs) y.cowns b);
   present = λ r m is runs.
       let x = spawn_ran p c.members parent r m is runs in
       x.inputs ∙ k.present r x.before x.is x.runs ∙ ap (λ cs. inputs_of cs c.values) (sym x.cowns);
@@ -79,7 +83,8 @@ spawn_present p c parent k = record {
 -- ---- a start
 
 -- rows with a cown in common overlap
-overlap : (rows : List Member) (r q : ℕ) (x y : Member) (d : ℕ) → slice_get rows r ≡ Some x → slice_get rows q ≡ Some y → 0 < times d x.behaviour.cowns → 0 < times d y.behaviour.cowns → Overlap (member_cowns rows) r q
+overlap : (rows : List Member) (r q : ℕ) (x y : Member) (d : ℕ) → slice_get rows r ≡ Some x → slice_get rows q ≡ Some y → 0 < times d x.behaviour.cowns
+    → 0 < times d y.behaviour.cowns → Overlap (member_cowns rows) r q
 overlap rows r q x y d is js a b = (
   d,
   subst (λ (o : Option Member). Contains (option_map_or (λ m. m.behaviour.cowns) o []) d) (sym is) (contains_times d x.behaviour.cowns a),
@@ -91,7 +96,8 @@ module _ (c : Config) (row : ℕ) (may : MayStart (state_of c.members) (member_c
   started = changed c.members row (started_on c.values) (slice_get c.members row)
 
   -- the row that starts is apart from one that runs
-  start_apart : (q : ℕ) (x m n : Member) → slice_get c.members row ≡ Some x → started_on c.values x ≡ m → slice_get c.members q ≡ Some n → n.life ≡ Running → Apart m n
+  start_apart : (q : ℕ) (x m n : Member) → slice_get c.members row ≡ Some x → started_on c.values x ≡ m → slice_get c.members q ≡ Some n → n.life ≡ Running
+      → Apart m n
   start_apart q x m n is same js goes d a b =
       may.none_running q (ap (λ o. option_map (λ (z : Member). z.life) o) js ∙ ap Some goes)
       (overlap c.members row q x n d is js (subst (λ (z : Member). 0 < times d z.behaviour.cowns) (sym same) a) b)
@@ -121,7 +127,8 @@ module _ (c : Config) (row : ℕ) (may : MayStart (state_of c.members) (member_c
 abbrev with_end : Member → Member
 with_end m = record m { life = Ended }
 
-end_ran : (rows : List Member) (row r : ℕ) (m : Member) → slice_get (changed rows row with_end (slice_get rows row)) r ≡ Some m → m.life ≡ Running → (r ≢ row) × (slice_get rows r ≡ Some m)
+end_ran : (rows : List Member) (row r : ℕ) (m : Member) → slice_get (changed rows row with_end (slice_get rows row)) r ≡ Some m → m.life ≡ Running
+    → (r ≢ row) × (slice_get rows r ≡ Some m)
 end_ran rows row r m is runs =
     elim (read_changed rows row with_end r m is) [
       | inl x ↦ absurd (let h : Ended ≡ Running = never_runs (with_end x.1.0) m Ended x.1.2 refl runs in cc)

@@ -54,7 +54,8 @@ prior_behind p slot (x ∷ q) r h e =
     elim (same_or_not x.slot slot) [
       | inl f ↦ inl (sym (ap (λ b. cond b p (prior (Some x) slot q)) (eqb_same x.slot slot f)) ∙ e, record { this = x; rest = q; is = refl; slot_is = f })
       | inr n ↦
-          elim (prior_behind (Some x) slot q r (let t = times_other slot x.slot (slots q) n in omega arith) (sym (ap (λ b. cond b p (prior (Some x) slot q)) (eqb_other x.slot slot n)) ∙ e)) [
+          elim (prior_behind (Some x) slot q r (let t = times_other slot x.slot (slots q) n in omega arith)
+          (sym (ap (λ b. cond b p (prior (Some x) slot q)) (eqb_other x.slot slot n)) ∙ e)) [
             | inl u ↦
                 let same : x ≡ r = (let f : Some x ≡ Some r = u.0 in cc) in
                 inr (record { ahead = []; this = u.1.this; behind = u.1.rest; is = ap (λ z. z ∷ q) same ∙ ap (λ z. r ∷ z) u.1.is; slot_is = u.1.slot_is })
@@ -62,7 +63,8 @@ prior_behind p slot (x ∷ q) r h e =
           ]
     ]
 
-pub stands_behind : (slot : ℕ) (ahead : List Request) (r x : Request) (behind : List Request) → x.slot ≡ slot → 0 < times slot (slots (ahead ++ (r ∷ (x ∷ behind))))
+pub stands_behind : (slot : ℕ) (ahead : List Request) (r x : Request) (behind : List Request) → x.slot ≡ slot
+    → 0 < times slot (slots (ahead ++ (r ∷ (x ∷ behind))))
 stands_behind slot [] r x behind e =
     let m = times_same slot x.slot (slots behind) e in omega arith
 stands_behind slot (y ∷ ahead) r x behind e = omega (arith, stands_behind slot ahead r x behind e)

@@ -1,5 +1,6 @@
 -- A drive that goes on until it is quiet.
-use Rattle.std.proofs.Common.{◌≡◌, ◌≢◌, ℕ, zero, suc, ◌+◌, ◌*◌, ◌-◌, ◌<◌, inl, inr, true, false, List, [], ◌∷◌, ◌++◌, length, take, get_or, refl, sym, ◌∙◌, ap, subst, arith, length-append}
+use Rattle.std.proofs.Common.{◌≡◌, ◌≢◌, ℕ, zero, suc, ◌+◌, ◌*◌, ◌-◌, ◌<◌, inl, inr, true, false, List, [], ◌∷◌, ◌++◌, length, take, get_or, refl, sym, ◌∙◌, ap}
+use Rattle.std.proofs.Common.{subst, arith, length-append}
 use Rattle.std.specs.Prelude.{slice_get, slice_set, Option, Some, None, Ok, Err, MatchOption}
 use Rattle.std.proofs.Math.Seq.{take-length}
 use Rattle.std.proofs.lemmas.List.{append-nil, append_assoc, take-append-le}
@@ -68,7 +69,8 @@ first_there u crew mover chosen found k low same =
     found.3 k low v.0 v.1 v.2
 
 -- the turn of who can step is a step
-turn_steps : (u : Underway) (t : State) (after : Option ℕ) → IsSound u.program u.state → (mover : Mover) → CanMove u mover → TakesTurn u.program u.state (row_for mover) t after
+turn_steps : (u : Underway) (t : State) (after : Option ℕ) → IsSound u.program u.state → (mover : Mover) → CanMove u mover
+    → TakesTurn u.program u.state (row_for mover) t after
     → t.steps ≡ u.state.steps + 1
 turn_steps u t after k (movers.Ready row) can turn = start_steps u.program u.state k t after row can turn
 turn_steps u t after k (movers.Running row) can turn = body_steps u.program u.state k t after row can turn
@@ -125,7 +127,8 @@ module _ (p : Program) (workers : ℕ) (choices : List ℕ) (u : Underway) (crew
     goes_on_next v old new mover can found is turn same fits =
         let own : found.0 ≡ old = (let e : Some found.0 ≡ Some old = sym found.1 ∙ is in cc) in
         let serves : row_in old.hand ≡ row_for mover = ap (λ (w : Worker). row_in w.hand) (sym own) ∙ found.2 in
-        let next = at_next p workers (xs ++ chosen ∷ []) (length xs) u crew (at_longer p workers xs chosen u crew g.at) chosen (last_chosen xs chosen) v old new is turn same fits in
+        let next = at_next p workers (xs ++ chosen ∷ []) (length xs) u crew (at_longer p workers xs chosen u crew g.at) chosen (last_chosen xs chosen) v old new
+        is turn same fits in
         let count : suc (length xs) ≡ length (xs ++ chosen ∷ []) = omega (arith, length-append xs (chosen ∷ [])) in
         record {
           more = g.more ++ chosen ∷ [];
@@ -158,7 +161,8 @@ module _ (p : Program) (workers : ℕ) (choices : List ℕ) (u : Underway) (crew
   driven_there quiet = (stands_at u crew, driven_on, λ i. record { program = g.at.program i; state = u.state }, quiet)
 
 -- a fault that came before the last choice
-pub fault_before : (p : Program) (workers : ℕ) (choices : List ℕ) (fault : DriveFault) → Drives p workers choices (Err fault) → DrivesQuiet p workers choices (Err fault)
+pub fault_before : (p : Program) (workers : ℕ) (choices : List ℕ) (fault : DriveFault) → Drives p workers choices (Err fault)
+    → DrivesQuiet p workers choices (Err fault)
 fault_before p workers choices (drive_faults.NoSuchWorker place) h =
     let low = place_below choices place h.choice h.is in
     record {
@@ -179,10 +183,12 @@ fault_after p workers choices drive_faults.Behaviours full never = inr (full ref
 fault_after p workers choices drive_faults.Memory full never = tt
 
 -- with no workers there is no worker 0
-pub nobody_there : (p : Program) (workers : ℕ) (choices : List ℕ) (u : Underway) (crew : List Worker) → IsAt p workers choices (length choices) u crew → workers ≡ 0
+pub nobody_there : (p : Program) (workers : ℕ) (choices : List ℕ) (u : Underway) (crew : List Worker) → IsAt p workers choices (length choices) u crew
+    → workers ≡ 0
     → HasNoWorker p workers (choices ++ 0 ∷ []) (length choices)
 nobody_there p workers choices u crew h none =
-    at_stranger p workers (choices ++ 0 ∷ []) (length choices) u crew (at_longer p workers choices 0 u crew h) 0 (last_chosen choices 0) (omega (arith, h.count, none))
+    at_stranger p workers (choices ++ 0 ∷ []) (length choices) u crew (at_longer p workers choices 0 u crew h) 0 (last_chosen choices 0)
+    (omega (arith, h.count, none))
 
 -- ---- who serves who can step
 
@@ -242,7 +248,8 @@ module _ (p : Program) (workers : ℕ) (choices : List ℕ) (place : ℕ) (u : U
   active_served : (who row : ℕ) → IsActive u.state who row → IsServed crew (Some row)
   active_served who row a =
       let served = each_is_served p workers (take place choices) (record { state = u.state; serves = rows_of crew }) h.turns who row a in
-      let w = mapped (λ (x : Worker). row_in x.hand) (slice_get crew served.0) (Some row) (sym (slice_get-map (λ (x : Worker). row_in x.hand) crew served.0) ∙ served.1) in
+      let w = mapped (λ (x : Worker). row_in x.hand) (slice_get crew served.0) (Some row)
+      (sym (slice_get-map (λ (x : Worker). row_in x.hand) crew served.0) ∙ served.1) in
       (served.0, w.0, w.1, w.2)
 
   running_served : (row : ℕ) → state_of (members u.program u.state) row ≡ Some Running → IsServed crew (Some row)
@@ -276,12 +283,14 @@ pub finds_in : (crew ws : List Worker) (mover : Mover) (result : Option ℕ) →
 finds_in crew ws mover result same = subst (λ (xs : List Worker). FindsServer xs mover result) same
 
 -- the worker that is read there
-pub server_read : (crew : List Worker) (mover : Mover) (chosen : ℕ) (w : Worker) → FindsServer crew mover (Some chosen) → w ≡ get_or crew chosen w → slice_get crew chosen ≡ Some w
+pub server_read : (crew : List Worker) (mover : Mover) (chosen : ℕ) (w : Worker) → FindsServer crew mover (Some chosen) → w ≡ get_or crew chosen w
+    → slice_get crew chosen ≡ Some w
 server_read crew mover chosen w found reads = slice_get_read crew (length crew) chosen w refl (place_below crew chosen found.0 found.1) reads
 
 -- ---- there are ever fewer steps to make
 
-pub fewer_left : (u v : Underway) (before after : Option ℕ) → IsSound u.program u.state → IsSound v.program v.state → (mover : Mover) → CanMove u mover → before ≡ row_for mover
+pub fewer_left : (u v : Underway) (before after : Option ℕ) → IsSound u.program u.state → IsSound v.program v.state → (mover : Mover) → CanMove u mover
+    → before ≡ row_for mover
     → TakesTurn u.program u.state before v.state after → 36 * MOST_ROWS - v.state.steps < 36 * MOST_ROWS - u.state.steps
 fewer_left u v before after k l mover can row turn =
     let more = turn_steps u v.state after k mover can (subst (λ o. TakesTurn u.program u.state o v.state after) row turn) in

@@ -1,5 +1,6 @@
 -- A spawn is recorded.
-use Rattle.std.proofs.Common.{◌≡◌, ◌≢◌, ℕ, zero, suc, ◌+◌, ◌^◌, ◌<◌, ◌⊎◌, inl, inr, true, false, cond, List, [], ◌∷◌, ◌++◌, length, set, refl, sym, ◌∙◌, ap, subst, arith, length-set, length-append}
+use Rattle.std.proofs.Common.{◌≡◌, ◌≢◌, ℕ, zero, suc, ◌+◌, ◌^◌, ◌<◌, ◌⊎◌, inl, inr, true, false, cond, List, [], ◌∷◌, ◌++◌, length, set, refl, sym, ◌∙◌, ap}
+use Rattle.std.proofs.Common.{subst, arith, length-set, length-append}
 use Rattle.std.specs.Prelude.{slice_get, nat_lt, Option, Some, None}
 use Rattle.std.specs.Option.{option_map, option_map_or}
 use Rattle.std.specs.List.{count_by}
@@ -30,13 +31,15 @@ use Rattle.boc_machine.proofs.Rows.{after_spawn, config_more, with_one_more}
 use Rattle.boc_machine.proofs.Core.{put_sum}
 use Rattle.boc_chain.specs.declared.request.Request.{Request}
 use Rattle.boc_dispatch.specs.declared.live.Live.{Live}
-use Rattle.boc_dispatch.specs.Inside.{HasRooms, live_at, open_of, place_of, exchanged_at, number_at, behaviours_of, rows_at, row_or_0, is_taken, Parts, state, AreNumbered, AreAtHome, AreInHand, IsChildOf, IsParentOf, AreOfRun, IsMember, IsWished, IsRequestOf}
+use Rattle.boc_dispatch.specs.Inside.{HasRooms, live_at, open_of, place_of, exchanged_at, number_at, behaviours_of, rows_at, row_or_0, is_taken, Parts, state}
+use Rattle.boc_dispatch.specs.Inside.{AreNumbered, AreAtHome, AreInHand, IsChildOf, IsParentOf, AreOfRun, IsMember, IsWished, IsRequestOf}
 use Rattle.boc_dispatch.specs.Moves.{recorded, MayRecord}
 use Rattle.boc_dispatch.specs.Places.{with_spawn, with_row, spawn_of}
 use Rattle.boc_dispatch.proofs.Flagged.{flagging_each, place_with}
 use Rattle.boc_dispatch.proofs.Fits.{allowed_last}
 use Rattle.boc_dispatch.proofs.Granting.{Tied, AreReady}
-use Rattle.boc_dispatch.proofs.Tables.{live_there, live_here, live_other, live_new, numbered_changed, behaviours_changed, number_changed, taken_changed, at_slot, queues_same, rows_alike}
+use Rattle.boc_dispatch.proofs.Tables.{live_there, live_here, live_other, live_new, numbered_changed, behaviours_changed, number_changed, taken_changed}
+use Rattle.boc_dispatch.proofs.Tables.{at_slot, queues_same, rows_alike}
 
 -- who asks has no row
 pub asks_no_row : (stage : Stage) (row : ℕ) → asks_at stage ≡ true → row_at stage ≡ Some row → ⊥
@@ -58,7 +61,8 @@ wish_below low high [] j w h e = absurd (let f : None ≡ Some w = e in cc)
 wish_below low high (v ∷ ws) zero w h e = let q = rises_through v.offset high ws h.1 in omega (arith, h.0, q)
 wish_below low high (v ∷ ws) (suc j) w h e = let q = wish_below v.offset high ws j w h.1 e in omega (arith, h.0, q)
 
-wish_of : (p : Program) (m : Member) (o : Option Body) (w : Wish) → wish_at (option_map (λ body. meaning body m.behaviour.args m.inputs) o) m.spawned ≡ Some w → m.spawned < 1000000
+wish_of : (p : Program) (m : Member) (o : Option Body) (w : Wish) → wish_at (option_map (λ body. meaning body m.behaviour.args m.inputs) o) m.spawned ≡ Some w
+    → m.spawned < 1000000
 wish_of p m None w e = absurd (let f : None ≡ Some w = e in cc)
 wish_of p m (Some body) w e =
     let r = meaning_rises (λ kind es ps. true) body m.behaviour.args m.inputs (all_pass body.block) in
@@ -70,7 +74,8 @@ wish_number : (p : Program) (m : Member) (w : Wish) → next_wish p (Some m) ≡
 wish_number p m w e = wish_of p m (slice_get p.bodies m.behaviour.kind) w e
 
 module _ (d : Parts) (k : Tied d) (some : 0 < length (members d.program (state d))) (parent slot : ℕ) (p l : Live)
-    (p_is : live_at d.live parent ≡ Some p) (l_is : live_at d.live slot ≡ Some l) (knows : p.child ≡ Some slot) (asks_is : l.stage ≡ Asking (length l.cowns.items) false) where
+    (p_is : live_at d.live parent ≡ Some p) (l_is : live_at d.live slot ≡ Some l) (knows : p.child ≡ Some slot)
+    (asks_is : l.stage ≡ Asking (length l.cowns.items) false) where
   abbrev cs : List ℕ
   cs = l.cowns.items
 
@@ -156,7 +161,8 @@ module _ (d : Parts) (k : Tied d) (some : 0 < length (members d.program (state d
   front = changed rows l.parent with_one_more (slice_get rows l.parent)
 
   rows_are : rows' ≡ front ++ (newest ∷ [])
-  rows_are = ap (λ c. c.members) (config_more d.program (opening d.program) d.log.events (spawn_of n l)) ∙ after_spawn d.program rows l.parent wished.wish some wished.next
+  rows_are = ap (λ c. c.members) (config_more d.program (opening d.program) d.log.events (spawn_of n l))
+      ∙ after_spawn d.program rows l.parent wished.wish some wished.next
 
   front_length : length front ≡ length rows
   front_length = length-changed rows l.parent with_one_more (slice_get rows l.parent)
@@ -275,7 +281,13 @@ module _ (d : Parts) (k : Tied d) (some : 0 < length (members d.program (state d
       | inr v ↦ elim v [
         | inl u ↦
             let h = parent_after parent p (k.in_hand.parents parent p p_is (ap (λ z. enqueues_at z.stage) (sym u.1) ∙ enqueued)) in
-            record { home = h.home; parent = h.parent; is = h.is; row_is = h.row_is ∙ ap (λ z. Some z.parent) (sym u.1); knows = h.knows ∙ ap (λ (z : ℕ). Some z) (sym u.0) }
+            record {
+              home = h.home;
+              parent = h.parent;
+              is = h.is;
+              row_is = h.row_is ∙ ap (λ z. Some z.parent) (sym u.1);
+              knows = h.knows ∙ ap (λ (z : ℕ). Some z) (sym u.0);
+            }
         | inr u ↦ parent_after s x (k.in_hand.parents s x u.2 enqueued)
       ]
     ];

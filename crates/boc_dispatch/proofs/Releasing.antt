@@ -1,5 +1,6 @@
 -- A request was released, and whoever came behind it may have been granted: the behaviour that leaves goes on, or is gone.
-use Rattle.std.proofs.Common.{◌≡◌, ◌≢◌, ℕ, zero, suc, ◌+◌, ◌^◌, ◌<◌, ◌≤◌, Bool, true, false, cond, List, [], ◌∷◌, length, map, set, get_or, refl, sym, ◌∙◌, ap, subst, arith, get_or-set_other, length-set}
+use Rattle.std.proofs.Common.{◌≡◌, ◌≢◌, ℕ, zero, suc, ◌+◌, ◌^◌, ◌<◌, ◌≤◌, Bool, true, false, cond, List, [], ◌∷◌, length, map, set, get_or, refl, sym, ◌∙◌, ap}
+use Rattle.std.proofs.Common.{subst, arith, get_or-set_other, length-set}
 use Rattle.std.specs.Prelude.{slice_get, slice_index_or, nat_lt, ◌||◌, ◌==◌, IsSome, Option, Some, None}
 use Rattle.std.specs.Option.{option_map, option_map_or}
 use Rattle.std.specs.List.{count_by}
@@ -55,7 +56,8 @@ started_stage (Recorded q (phases.Leaving i)) row h r =
     let e : q ≡ row = (let f : Some q ≡ Some row = r in cc) in
     record { phase = phases.Leaving i; stage_is = ap (λ z. Recorded z (phases.Leaving i)) e; flags = λ cs. refl; enqueues = refl; not_ready = λ x g. absurd cc }
 
-mapped_times : (live : List (Option Live)) (n : ℕ) (q : List Request) (k : ℕ) (r : Request) → slice_get q k ≡ Some r → number_at live r.slot ≡ n → 0 < times n (map (λ x. number_at live x.slot) q)
+mapped_times : (live : List (Option Live)) (n : ℕ) (q : List Request) (k : ℕ) (r : Request) → slice_get q k ≡ Some r → number_at live r.slot ≡ n
+    → 0 < times n (map (λ x. number_at live x.slot) q)
 mapped_times live n [] k r e h = absurd (let f : None ≡ Some r = e in cc)
 mapped_times live n (x ∷ q) zero r e h =
     let is : x ≡ r = (let f : Some x ≡ Some r = e in cc) in
@@ -98,7 +100,8 @@ module _ (d : Parts) (slot row : ℕ) (l : Live) (request : ℕ) (e : Parts) (h 
   on_counted : AreCounted (state gone_on) (gone_on).live
   on_counted = subst (λ (z : State). AreCounted z (gone_on).live) (sym on_state)
       (counted_set (state e) left e.live e.opened slot l (Some next) h.tied.numbered h.here h.counted
-      (λ x g pending. let same : next ≡ x = (let f : Some next ≡ Some x = g in cc) in let f : false ≡ true = ap (λ z. enqueues_at z.stage || waits_at z.stage) same ∙ pending in cc)
+      (λ x g pending. let same : next ≡ x = (let f : Some next ≡ Some x = g in cc) in
+      let f : false ≡ true = ap (λ z. enqueues_at z.stage || waits_at z.stage) same ∙ pending in cc)
       (λ c. refl)
       (λ w n. get_or-set_other (behaviours_of e.live e.opened) l.number w (Some (record (open_of l) { stage = Recorded row (phases.Leaving request) })) None n))
 
@@ -120,10 +123,12 @@ module _ (d : Parts) (slot row : ℕ) (l : Live) (request : ℕ) (e : Parts) (h 
   -- another request is to be released
   module _ (more : request < length l.cowns.items) where
     pub moved_state : state gone_on ≡ stepped (leaving_on (state e) l.number (open_of l) row request)
-    moved_state = on_state ∙ ap (λ t. stepped (cond t left (with_behaviour (state e) l.number None))) (sym ((Decides-ltb request (length l.cowns.items)).1 more))
+    moved_state = on_state ∙ ap (λ t. stepped (cond t left (with_behaviour (state e) l.number None)))
+        (sym ((Decides-ltb request (length l.cowns.items)).1 more))
 
     pub moved_kept : IsKept gone_on
-    moved_kept = kept_of gone_on on_tied (subst (λ (p : Program). IsSound p (state gone_on)) (sym h.program_same) (subst (IsSound d.program) (sym moved_state) h.sound)) on_counted
+    moved_kept = kept_of gone_on on_tied (subst (λ (p : Program). IsSound p (state gone_on)) (sym h.program_same)
+        (subst (IsSound d.program) (sym moved_state) h.sound)) on_counted
 
     pub moved_there : at (state gone_on) l.number ≢ None
     moved_there g =
@@ -196,7 +201,8 @@ module _ (d : Parts) (slot row : ℕ) (l : Live) (request : ℕ) (e : Parts) (h 
       gone_state =
           state_removed gone_on slot next f free r
           ∙ ap (λ z. with_behaviour z l.number None) on_state
-          ∙ ap (with_behaviours (stepped (state e))) (set-set (behaviours_of e.live e.opened) l.number (Some (record (open_of l) { stage = Recorded row (phases.Leaving request) })) None)
+          ∙ ap (with_behaviours (stepped (state e))) (set-set (behaviours_of e.live e.opened) l.number
+          (Some (record (open_of l) { stage = Recorded row (phases.Leaving request) })) None)
           ∙ sym none_state
 
       program_gone : f.program ≡ d.program
@@ -222,7 +228,8 @@ module _ (d : Parts) (slot row : ℕ) (l : Live) (request : ℕ) (e : Parts) (h 
 -- ---- what the calls leave in the table's places
 
 -- what is read of a state stays where a behaviour goes on with its release, if it does where it goes on and where it is gone
-pub leaving_same : {X : Type 0} (f : State → X) (s : State) (who : ℕ) (b : OpenBehaviour) (row request : ℕ) → f (with_stage s who b (Recorded row (phases.Leaving request))) ≡ f s
+pub leaving_same : {X : Type 0} (f : State → X) (s : State) (who : ℕ) (b : OpenBehaviour) (row request : ℕ)
+    → f (with_stage s who b (Recorded row (phases.Leaving request))) ≡ f s
     → f (with_behaviour s who None) ≡ f s → f (leaving_on s who b row request) ≡ f s
 leaving_same f s who b row request on gone = by_test (nat_lt request (length b.cowns))
   where
@@ -244,7 +251,8 @@ module _ (e : Parts) (slot row request homes room : ℕ) (r : IsReleased slot ro
 
     pub place_then : record (stepped_on e) { live = set e.live slot p' } ≡ gone_on r.before slot row r.this (suc request) e r.released
     place_then =
-        let put : p' ≡ Some (in_phase row (phases.Leaving (suc request)) r.this) = released ∙ ap (option_map (in_phase row (phases.Leaving (suc request)))) read in
+        let put : p' ≡ Some (in_phase row (phases.Leaving (suc request)) r.this) =
+        released ∙ ap (option_map (in_phase row (phases.Leaving (suc request)))) read in
         λ i. record (stepped_on e) { live = set e.live slot (put i) }
 
     -- the test whether that was the last
@@ -267,7 +275,8 @@ module _ (e : Parts) (slot row request homes room : ℕ) (r : IsReleased slot ro
     same : r.this ≡ l
     same = let f : Some r.this ≡ Some l = sym r.released.here ∙ here in cc
 
-    pub answers_gone : (last : length r.this.cowns.items ≤ suc request) (f : Parts) → IsRemoved (gone_on r.before slot row r.this (suc request) e r.released) slot f → LeftAs e row l (suc request) step (lefts.Gone step) f
+    pub answers_gone : (last : length r.this.cowns.items ≤ suc request) (f : Parts)
+        → IsRemoved (gone_on r.before slot row r.this (suc request) e r.released) slot f → LeftAs e row l (suc request) step (lefts.Gone step) f
     answers_gone last f removed =
         let h = r.released in
         subst (λ (z : Live). LeftAs e row z (suc request) step (lefts.Gone step) f) same (
@@ -279,8 +288,13 @@ module _ (e : Parts) (slot row request homes room : ℕ) (r : IsReleased slot ro
           gone_not_there r.before slot row r.this (suc request) e h last f removed,
         )
 
-    pub answers_moved : suc request < length r.this.cowns.items → LeftAs e row l (suc request) step (lefts.Moved step) (gone_on r.before slot row r.this (suc request) e r.released)
+    pub answers_moved : suc request < length r.this.cowns.items
+        → LeftAs e row l (suc request) step (lefts.Moved step) (gone_on r.before slot row r.this (suc request) e r.released)
     answers_moved more =
         let h = r.released in
-        subst (λ (z : Live). LeftAs e row z (suc request) step (lefts.Moved step) (gone_on r.before slot row r.this (suc request) e h)) same
-        (record { gives = moved_state r.before slot row r.this (suc request) e h more; same = refl }, refl, moved_there r.before slot row r.this (suc request) e h more)
+        subst (λ (z : Live). LeftAs e row z (suc request) step (lefts.Moved step) (gone_on r.before slot row r.this (suc request) e h)) same (
+          record { gives = moved_state r.before slot row r.this (suc request) e h more; same = refl },
+          refl,
+          moved_there r.before slot row r.this (suc request) e
+              h more,
+        )

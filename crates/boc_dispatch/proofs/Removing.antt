@@ -16,7 +16,8 @@ use Rattle.boc_dispatch.proofs.Tables.{live_there, live_here, live_other, live_n
 use Rattle.boc_dispatch.proofs.Granting.{awaits_same}
 
 -- the behaviour at a slot neither enqueues nor waits: what the others await stays
-pub counted_set : (s t : State) (live : List (Option Live)) (n slot : ℕ) (l : Live) (place : Option Live) → AreNumbered live n → live_at live slot ≡ Some l → AreCounted s live
+pub counted_set : (s t : State) (live : List (Option Live)) (n slot : ℕ) (l : Live) (place : Option Live) → AreNumbered live n → live_at live slot ≡ Some l
+    → AreCounted s live
     → ((x : Live) → place ≡ Some x → (enqueues_at x.stage || waits_at x.stage) ≡ true → ⊥)
     → ((c : ℕ) → queue t c ≡ queue s c) → ((w : ℕ) → w ≢ l.number → at t w ≡ at s w) → AreCounted t (set live slot place)
 counted_set s t live n slot l place k is counted over queues others i x e pending =
@@ -90,7 +91,8 @@ module _ (d : Parts) (slot : ℕ) (l : Live) (e : Parts) (f : IsFree d slot l) (
               let q = k.chained.requests c i x h in
               record { this = q.this; is = stays x.slot (Some q.this) (f.unlisted c i x h) q.is; settled_is = q.settled_is; flagged_is = q.flagged_is };
           places = λ s. elim (same_or_not s slot) [
-            | inl g ↦ ap e.place g ∙ r.place_is ∙ sym (ap (λ z. option_map place_of (live_at live' z)) g ∙ ap (option_map place_of) (live_here d.live slot None (live_there d.live slot l f.is)))
+            | inl g ↦ ap e.place g ∙ r.place_is ∙ sym (ap (λ z. option_map place_of (live_at live' z)) g
+                ∙ ap (option_map place_of) (live_here d.live slot None (live_there d.live slot l f.is)))
             | inr n ↦ r.other_places s n ∙ k.chained.places s ∙ sym (ap (option_map place_of) (live_other d.live slot None s n))
           ];
         };
@@ -113,7 +115,8 @@ module _ (d : Parts) (slot : ℕ) (l : Live) (e : Parts) (f : IsFree d slot l) (
       ∙ (λ i. record {
         log = d.log.events;
         behaviours = behaviours_removed d.live d.opened slot l f.tied.numbered f.is i;
-        queues = queues_same d.live live' d.lists (λ c j x h. ap (λ o. option_map_or (λ (z : Live). z.number) o 0) (live_other d.live slot None x.slot (f.unlisted c j x h))) i;
+        queues = queues_same d.live live' d.lists (λ c j x h. ap (λ o. option_map_or (λ (z : Live). z.number) o 0)
+            (live_other d.live slot None x.slot (f.unlisted c j x h))) i;
         ready = rows_same d.live live' d.ready (λ j s h. live_other d.live slot None s (unready j s h)) i;
         steps = d.steps;
       })

@@ -1,5 +1,6 @@
 -- A request is settled.
-use Rattle.std.proofs.Common.{◌≡◌, ◌≢◌, ℕ, suc, ◌+◌, ◌-◌, ◌<◌, ◌≤◌, inl, inr, Bool, true, false, cond, ◌&&◌, ◌||◌, eqb, List, [], ◌∷◌, ◌++◌, length, map, set, take, get_or, refl, sym, ◌∙◌, ap, subst, arith}
+use Rattle.std.proofs.Common.{◌≡◌, ◌≢◌, ℕ, suc, ◌+◌, ◌-◌, ◌<◌, ◌≤◌, inl, inr, Bool, true, false, cond, ◌&&◌, ◌||◌, eqb, List, [], ◌∷◌, ◌++◌, length, map, set}
+use Rattle.std.proofs.Common.{take, get_or, refl, sym, ◌∙◌, ap, subst, arith}
 use Rattle.std.specs.Prelude.{slice_get, slice_index_or, nat_lt, Option, Some, None}
 use Rattle.std.specs.Option.{option_map, option_map_or}
 use Rattle.std.proofs.lemmas.Bool.Decides.{Decides-eqb, Decides-ltb}
@@ -19,7 +20,8 @@ use Rattle.boc_chain.specs.declared.request.Request.{Request}
 use Rattle.boc_chain.specs.Chain.{Place, cowns_of, list_for, with_change, after_settle, settle_one, before, slots, StandsIn}
 use Rattle.boc_chain.specs.Chain.{times as times_in}
 use Rattle.boc_dispatch.specs.declared.live.Live.{Live}
-use Rattle.boc_dispatch.specs.Inside.{live_at, open_of, place_of, number_at, Parts, IsKept, state, IsAtStage, AreCounted, AreChained, IsRequestOf, queues_of, exchanged_at}
+use Rattle.boc_dispatch.specs.Inside.{live_at, open_of, place_of, number_at, Parts, IsKept, state, IsAtStage, AreCounted, AreChained, IsRequestOf, queues_of}
+use Rattle.boc_dispatch.specs.Inside.{exchanged_at}
 use Rattle.boc_dispatch.proofs.Counts.{failing, fails_less}
 use Rattle.boc_dispatch.proofs.Flagged.{place_with, got_there, taken_has, has_some, or_none, or_all}
 use Rattle.boc_dispatch.proofs.Going.{granted_same, queues_mapped, gone_on, table_on, here_on, counted_on, requests_on}
@@ -46,7 +48,15 @@ split_mapped f [] (a ∷ ahead) x y behind e = absurd cc
 split_mapped f (r ∷ q) (a ∷ ahead) x y behind e =
     let g : f r ∷ map f q ≡ a ∷ (ahead ++ (x ∷ (y ∷ behind))) = e in
     let rest = split_mapped f q ahead x y behind (cc) in
-    record { ahead = r ∷ rest.ahead; first = rest.first; second = rest.second; behind = rest.behind; is = ap (λ z. r ∷ z) rest.is; first_is = rest.first_is; second_is = rest.second_is }
+    record {
+      ahead = r ∷ rest.ahead;
+      first = rest.first;
+      second = rest.second;
+      behind = rest.behind;
+      is = ap (λ z. r ∷ z) rest.is;
+      first_is = rest.first_is;
+      second_is = rest.second_is;
+    }
 
 first_in : (ahead : List Request) (r : Request) (behind : List Request) → slice_get (ahead ++ (r ∷ behind)) (length ahead) ≡ Some r
 first_in [] r behind = refl
@@ -155,16 +165,19 @@ module _ (d : Parts) (k : IsKept d) (slot : ℕ) (l : Live) (request : ℕ) (it 
       ap (is_first l.number) (queue_at d.live d.lists c0 ∙ ap (map number) f.is)
       ∙ ap (λ n. eqb n l.number) (ap (number_at d.live) f.slot_is ∙ number_here) ∙ (Decides-eqb l.number l.number).1 refl
 
-  front_apart : (ahead : List Request) (r x : Request) (behind : List Request) → requests ≡ ahead ++ (r ∷ (x ∷ behind)) → x.slot ≡ slot → is_first l.number (queue s c0) ≡ true → ⊥
+  front_apart : (ahead : List Request) (r x : Request) (behind : List Request) → requests ≡ ahead ++ (r ∷ (x ∷ behind)) → x.slot ≡ slot
+      → is_first l.number (queue s c0) ≡ true → ⊥
   front_apart [] r x behind is same first =
-      let first' : eqb (number_at d.live r.slot) l.number ≡ true = sym (ap (is_first l.number) (queue_at d.live d.lists c0 ∙ ap (map (λ z. number_at d.live z.slot)) is)) ∙ first in
+      let first' : eqb (number_at d.live r.slot) l.number ≡ true =
+      sym (ap (is_first l.number) (queue_at d.live d.lists c0 ∙ ap (map (λ z. number_at d.live z.slot)) is)) ∙ first in
       let e = slot_of r 0 (ap (λ q. slice_get q 0) is) ((Decides-eqb (number_at d.live r.slot) l.number).0 first') in
       let one : times_in slot (slots (r ∷ (x ∷ behind))) ≤ 1 = subst (λ (z : List Request). times_in slot (slots z) ≤ 1) is stands_once in
       let a = times_same slot r.slot (x.slot ∷ slots behind) e in
       let b = times_same slot x.slot (slots behind) same in
       absurd (omega arith)
   front_apart (y ∷ ahead) r x behind is same first =
-      let first' : eqb (number_at d.live y.slot) l.number ≡ true = sym (ap (is_first l.number) (queue_at d.live d.lists c0 ∙ ap (map (λ z. number_at d.live z.slot)) is)) ∙ first in
+      let first' : eqb (number_at d.live y.slot) l.number ≡ true =
+      sym (ap (is_first l.number) (queue_at d.live d.lists c0 ∙ ap (map (λ z. number_at d.live z.slot)) is)) ∙ first in
       let e = slot_of y 0 (ap (λ q. slice_get q 0) is) ((Decides-eqb (number_at d.live y.slot) l.number).0 first') in
       let one : times_in slot (slots (y ∷ (ahead ++ (r ∷ (x ∷ behind))))) ≤ 1 = subst (λ (z : List Request). times_in slot (slots z) ≤ 1) is stands_once in
       let a = times_same slot y.slot (slots (ahead ++ (r ∷ (x ∷ behind)))) e in
@@ -191,7 +204,8 @@ module _ (d : Parts) (k : IsKept d) (slot : ℕ) (l : Live) (request : ℕ) (it 
   settled_was : settled (at s l.number) ≡ take request cs
   settled_was = ap settled (open_is d k slot l it.is) ∙ ap (λ z. settled_at z cs) it.stage_is
 
-  module _ (granted : ℕ) (granted_is : granted ≡ cond first 1 0) (stage : Stage) (settles : settled_at stage cs ≡ take (suc request) cs) (enqueued : enqueues_at stage ≡ true) where
+  module _ (granted : ℕ) (granted_is : granted ≡ cond first 1 0) (stage : Stage) (settles : settled_at stage cs ≡ take (suc request) cs)
+      (enqueued : enqueues_at stage ≡ true) where
     abbrev on : Live
     on = gone_on d k slot l it.is stage (l.awaited - granted)
 
@@ -210,7 +224,8 @@ module _ (d : Parts) (k : IsKept d) (slot : ℕ) (l : Live) (request : ℕ) (it 
     granted_was = ap (λ m. nat_lt 0 m && first) (ap (times c0) settled_was ∙ unsettled)
 
     granted_now : is_granted (at t) (queue t) l.number c0 ≡ first
-    granted_now = ap (λ z. nat_lt 0 (times c0 z) && first) settled_here ∙ ap (λ b. b && first) (has_some (times c0 (take (suc request) cs)) (taken_has cs request c0 cown_is))
+    granted_now = ap (λ z. nat_lt 0 (times c0 z) && first) settled_here
+        ∙ ap (λ b. b && first) (has_some (times c0 (take (suc request) cs)) (taken_has cs request c0 cown_is))
 
     abbrev before_it : ℕ
     before_it = failing (λ c. is_granted (at s) (queue s) l.number c) cs
@@ -222,7 +237,8 @@ module _ (d : Parts) (k : IsKept d) (slot : ℕ) (l : Live) (request : ℕ) (it 
     fewer =
         elim first as (λ b. first ≡ b → before_it ≡ after_it + granted) [
           | true ↦ λ e.
-              let less = fails_less (λ c. is_granted (at s) (queue s) l.number c) (λ c. is_granted (at t) (queue t) l.number c) c0 granted_else granted_was (granted_now ∙ e) cs in
+              let less = fails_less (λ c. is_granted (at s) (queue s) l.number c) (λ c. is_granted (at t) (queue t) l.number c) c0 granted_else granted_was
+              (granted_now ∙ e) cs in
               let one : Bool → ℕ = λ b. cond b 1 0 in
               let g : granted ≡ 1 = granted_is ∙ ap one e in
               let once = cown_once d k slot c0 l it.is in
@@ -233,7 +249,8 @@ module _ (d : Parts) (k : IsKept d) (slot : ℕ) (l : Live) (request : ℕ) (it 
               let g : granted ≡ 0 = granted_is ∙ ap one e in
               let each : (c : ℕ) → is_granted (at t) (queue t) l.number c ≡ is_granted (at s) (queue s) l.number c =
               (λ c. elim (same_or_not c c0) [
-                | inl h ↦ ap (λ z. is_granted (at t) (queue t) l.number z) h ∙ granted_now ∙ e ∙ sym granted_was ∙ ap (λ z. is_granted (at s) (queue s) l.number z) (sym h)
+                | inl h ↦ ap (λ z. is_granted (at t) (queue t) l.number z) h ∙ granted_now ∙ e ∙ sym granted_was
+                    ∙ ap (λ z. is_granted (at s) (queue s) l.number z) (sym h)
                 | inr n ↦ granted_else c n
               ]) in
               let same : after_it ≡ before_it = (λ i. failing (λ c. each c i) cs) in
@@ -286,7 +303,8 @@ module _ (d : Parts) (k : IsKept d) (slot : ℕ) (l : Live) (request : ℕ) (it 
 
     pub settled_chained : AreChained (table_on d k slot l it.is asking awaited) lists place
     settled_chained = record {
-      requests = subst (λ (ls : List (List Request)). (c j : ℕ) (r : Request) → slice_get (slice_index_or ls c []) j ≡ Some r → IsRequestOf (table_on d k slot l it.is asking awaited) c r) (sym lists_after)
+      requests = subst (λ (ls : List (List Request)). (c j : ℕ) (r : Request) → slice_get (slice_index_or ls c []) j ≡ Some r
+          → IsRequestOf (table_on d k slot l it.is asking awaited) c r) (sym lists_after)
           (requests_on d k slot l it.is asking awaited c0 (settle_one slot) (λ r. refl)
           (λ r n. λ i. record r { settled = (ap (λ b. r.settled || b) (not_eq r.slot slot n) ∙ or_none r.settled) i })
           (λ r settles flags e. (

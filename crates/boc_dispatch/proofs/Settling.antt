@@ -1,5 +1,6 @@
 -- What is kept where a request is settled: its behaviour asks on, or its spawn is recorded.
-use Rattle.std.proofs.Common.{◌≡◌, ◌≢◌, ℕ, zero, suc, ◌+◌, ◌-◌, ◌<◌, inl, inr, Bool, true, false, cond, ◌||◌, eqb, List, [], ◌∷◌, ◌++◌, length, set, refl, sym, ◌∙◌, ap, subst, arith, rules}
+use Rattle.std.proofs.Common.{◌≡◌, ◌≢◌, ℕ, zero, suc, ◌+◌, ◌-◌, ◌<◌, inl, inr, Bool, true, false, cond, ◌||◌, eqb, List, [], ◌∷◌, ◌++◌, length, set, refl, sym}
+use Rattle.std.proofs.Common.{◌∙◌, ap, subst, arith, rules}
 use Rattle.std.specs.Prelude.{slice_index_or, Option, Some}
 use Rattle.std.proofs.lemmas.Bool.{lt-ltb, le-ltb, eqb-true, eqb-false}
 use Rattle.std.proofs.lemmas.List.{set-get_or}
@@ -24,7 +25,8 @@ use Rattle.boc_dispatch.proofs.Granting.{Tied, kept_of}
 use Rattle.boc_dispatch.proofs.Going.{gone_on, table_on, here_on, at_home_on, in_hand_on, of_run_on, ready_on, parts_on, state_on, rooms_on, kept_on}
 use Rattle.boc_dispatch.proofs.Priors.{IsFree, lone_none, linked_some, blocked_some, blocked_list}
 use Rattle.boc_dispatch.proofs.Recording.{asks_no_row, tied_after, state_after, may_record, rooms_after, e_is}
-use Rattle.boc_dispatch.proofs.Settled.{requests, first, due, list_is, free_before, first_alone, first_not, blocked, settle_next, settled_counts, settled_queues, settled_chained}
+use Rattle.boc_dispatch.proofs.Settled.{requests, first, due, list_is, free_before, first_alone, first_not, blocked, settle_next, settled_counts}
+use Rattle.boc_dispatch.proofs.Settled.{settled_queues, settled_chained}
 use Rattle.boc_dispatch.proofs.Standing.{place_is}
 use Rattle.boc_dispatch.proofs.Tables.{live_there, live_here, live_other, numbered_changed, taken_changed}
 
@@ -45,14 +47,17 @@ module _ (d : Parts) (k : IsKept d) (slot : ℕ) (l : Live) (request : ℕ) (it 
       let one : Bool → ℕ = λ x. cond x 1 0 in
       record { free = subst IsFree (sym b) tt; granted_is = g ∙ ap one (sym (first_alone d k slot l request it b)) }
 
-  pub linked_outcome : (granted : ℕ) → Linked ≡ settle_answer slot (list_for d.lists (d.place slot) request) → granted ≡ 0 → IsOutcome d k slot l request it granted
+  pub linked_outcome : (granted : ℕ) → Linked ≡ settle_answer slot (list_for d.lists (d.place slot) request) → granted ≡ 0
+      → IsOutcome d k slot l request it granted
   linked_outcome granted e g =
       let b = linked_some (before slot (requests d k slot l request it)) (e ∙ ap (settle_answer slot) (list_is d k slot l request it)) in
       let one : Bool → ℕ = λ x. cond x 1 0 in
       record { free = subst IsFree (sym b.1) b.2; granted_is = g ∙ ap one (sym (first_not d k slot l request it b.0 b.1)) }
 
-module _ (d : Parts) (k : IsKept d) (slot : ℕ) (l : Live) (request : ℕ) (it : IsAtStage d slot l (Asking request true)) (granted : ℕ) (out : IsOutcome d k slot l request it granted)
-    (lists : List (List Request)) (place : ℕ → Option Place) (lists_are : lists ≡ with_change (after_settle slot) d.lists (d.place slot) request) (places_are : (r : ℕ) → place r ≡ d.place r) where
+module _ (d : Parts) (k : IsKept d) (slot : ℕ) (l : Live) (request : ℕ) (it : IsAtStage d slot l (Asking request true)) (granted : ℕ)
+    (out : IsOutcome d k slot l request it granted)
+    (lists : List (List Request)) (place : ℕ → Option Place) (lists_are : lists ≡ with_change (after_settle slot) d.lists (d.place slot) request)
+    (places_are : (r : ℕ) → place r ≡ d.place r) where
   abbrev cs : List ℕ
   cs = l.cowns.items
 
@@ -91,7 +96,8 @@ module _ (d : Parts) (k : IsKept d) (slot : ℕ) (l : Live) (request : ℕ) (it 
 
   module _ (more : suc request < length cs) where
     pub settles_on : Settles d.program s l.number request (state mid)
-    settles_on = settles_so (state mid) (mid_state ∙ ap (λ b. stepped (cond b (with_stage s l.number (open_of l) asking) (steps.with_spawn d.program s l.number (open_of l)))) (sym (lt-ltb (suc request) (length cs) more)))
+    settles_on = settles_so (state mid) (mid_state ∙ ap (λ b. stepped
+        (cond b (with_stage s l.number (open_of l) asking) (steps.with_spawn d.program s l.number (open_of l)))) (sym (lt-ltb (suc request) (length cs) more)))
 
     pub settled_on_kept : IsKept mid
     settled_on_kept =
@@ -147,7 +153,8 @@ module _ (d : Parts) (k : IsKept d) (slot : ℕ) (l : Live) (request : ℕ) (it 
 
     -- with this row
     abbrev with_row_of : ℕ → State
-    with_row_of row = stepped (noted (with_stage s l.number (open_of l) (Recorded row (flagging cs 0))) (events.Spawn row l.parent l.offset (record { items = cs })))
+    with_row_of row = stepped (noted (with_stage s l.number (open_of l) (Recorded row (flagging cs 0)))
+        (events.Spawn row l.parent l.offset (record { items = cs })))
 
     end_state : state end ≡ with_row_of (steps.recorded d.program s)
     end_state =
@@ -155,14 +162,17 @@ module _ (d : Parts) (k : IsKept d) (slot : ℕ) (l : Live) (request : ℕ) (it 
         ∙ ap (λ z. steps.with_spawn d.program z l.number (open_of on)) mid_state
         ∙ (λ i. record {
           log = s.log ++ (events.Spawn (steps.recorded d.program s) l.parent l.offset (record { items = cs }) ∷ []);
-          behaviours = set_set s.behaviours l.number (Some (open_of on)) (Some (record { parent = l.parent; offset = l.offset; cowns = cs; stage = Recorded (steps.recorded d.program s) (flagging cs 0) })) i;
+          behaviours = set_set s.behaviours l.number (Some (open_of on))
+              (Some (record { parent = l.parent; offset = l.offset; cowns = cs; stage = Recorded (steps.recorded d.program s) (flagging cs 0) })) i;
           queues = s.queues;
           ready = s.ready;
           steps = s.steps + 1;
         })
 
     pub settles_last : Settles d.program s l.number request (state end)
-    settles_last = settles_so (state end) (end_state ∙ ap (λ b. stepped (cond b (with_stage s l.number (open_of l) asking) (steps.with_spawn d.program s l.number (open_of l)))) (sym (le-ltb (suc request) (length cs) (omega (arith, last)))))
+    settles_last = settles_so (state end) (end_state ∙ ap
+        (λ b. stepped (cond b (with_stage s l.number (open_of l) asking) (steps.with_spawn d.program s l.number (open_of l))))
+        (sym (le-ltb (suc request) (length cs) (omega (arith, last)))))
 
     sound_end : IsSound d.program (state end)
     sound_end = keeps_settles d.program s l.number request (state end) k.sound settles_last
@@ -188,7 +198,8 @@ module _ (d : Parts) (k : IsKept d) (slot : ℕ) (l : Live) (request : ℕ) (it 
           | inr v ↦ elim v [
             | inl u ↦ subst (λ (z : Live). (enqueues_at z.stage || waits_at z.stage) ≡ true → z.awaited ≡ awaits (with_row_of (length d.homes)) z) (sym u.1)
                 (counts parent p (live_other d.live slot (Some (gone_on d k slot l it.is row_stage awaited)) parent apart_from ∙ held.is)) h
-            | inr u ↦ counts r x (live_other d.live slot (Some (gone_on d k slot l it.is row_stage awaited)) r u.0 ∙ sym (live_other d.live slot (Some on) r u.0) ∙ u.2) h
+            | inr u ↦ counts r x (live_other d.live slot (Some (gone_on d k slot l it.is row_stage awaited)) r u.0
+                ∙ sym (live_other d.live slot (Some on) r u.0) ∙ u.2) h
           ]
         ]
 
@@ -203,8 +214,10 @@ module _ (d : Parts) (k : IsKept d) (slot : ℕ) (l : Live) (request : ℕ) (it 
 abbrev pub changed_parts : Parts → List (List Request) → (ℕ → Option Place) → ℕ → Option Live → Parts
 changed_parts d lists place slot new = record d { lists = lists; place = place; live = set d.live slot new }
 
-module _ (d : Parts) (k : IsKept d) (slot : ℕ) (l : Live) (request : ℕ) (it : IsAtStage d slot l (Asking request true)) (granted : ℕ) (out : IsOutcome d k slot l request it granted)
-    (lists : List (List Request)) (place : ℕ → Option Place) (lists_are : lists ≡ with_change (after_settle slot) d.lists (d.place slot) request) (places_are : (r : ℕ) → place r ≡ d.place r)
+module _ (d : Parts) (k : IsKept d) (slot : ℕ) (l : Live) (request : ℕ) (it : IsAtStage d slot l (Asking request true)) (granted : ℕ)
+    (out : IsOutcome d k slot l request it granted)
+    (lists : List (List Request)) (place : ℕ → Option Place) (lists_are : lists ≡ with_change (after_settle slot) d.lists (d.place slot) request)
+    (places_are : (r : ℕ) → place r ≡ d.place r)
     (new : Option Live) (new_is : Some (settled request granted l) ≡ new) where
   abbrev mid' : Parts
   mid' = mid d k slot l request it granted out lists place lists_are places_are
@@ -218,17 +231,20 @@ module _ (d : Parts) (k : IsKept d) (slot : ℕ) (l : Live) (request : ℕ) (it 
         let m = may_settle d k slot l request it granted out lists place lists_are places_are last parent held homes ready h in
         subst (λ (o : Option Live). MayRecord (changed_parts d lists place slot o) homes parent slot) new_is (search rules)
 
-    pub last_parts : (e : Parts) → Records (counted (changed_parts d lists place slot new)) parent slot e → e ≡ end d k slot l request it granted out lists place lists_are places_are last parent held
+    pub last_parts : (e : Parts) → Records (counted (changed_parts d lists place slot new)) parent slot e
+        → e ≡ end d k slot l request it granted out lists place lists_are places_are last parent held
     last_parts e h =
         let r : Records (counted (changed_parts d lists place slot (Some (settled request granted l)))) parent slot e =
         subst (λ (o : Option Live). Records (counted (changed_parts d lists place slot o)) parent slot e) (sym new_is) h in
         r held.this (settled request granted l)
-        (live_other d.live slot (Some (settled request granted l)) parent (apart_from d k slot l request it granted out lists place lists_are places_are last parent held) ∙ held.is)
+        (live_other d.live slot (Some (settled request granted l)) parent
+        (apart_from d k slot l request it granted out lists place lists_are places_are last parent held) ∙ held.is)
         (live_here d.live slot (Some (settled request granted l)) (live_there d.live slot l it.is))
 
   -- it asks on, or its spawn is recorded
   module _ (parent : ℕ) (held : HasInHand d parent (Some slot)) (e : Parts) (is_last : Bool) (last_is : is_last ≡ eqb (suc request) (length l.cowns.items))
-      (asks : is_last ≡ false → e ≡ counted (changed_parts d lists place slot new)) (records : is_last ≡ true → Records (counted (changed_parts d lists place slot new)) parent slot e) where
+      (asks : is_last ≡ false → e ≡ counted (changed_parts d lists place slot new))
+      (records : is_last ≡ true → Records (counted (changed_parts d lists place slot new)) parent slot e) where
     either : (P : Parts → Type 0) → (suc request < length l.cowns.items → P mid')
         → ((last : suc request ≡ length l.cowns.items) → P (end d k slot l request it granted out lists place lists_are places_are last parent held)) → P e
     either P more over =
@@ -263,8 +279,10 @@ rooms_in e homes ready homes' ready' a b h = record { rooms = h.rooms; homes = o
 
 -- ---- the one before is not flagged: nothing changes
 
-module _ (d : Parts) (k : IsKept d) (slot : ℕ) (l : Live) (request : ℕ) (it : IsAtStage d slot l (Asking request true)) (answer : Blocked ≡ settle_answer slot (list_for d.lists (d.place slot) request))
-    (lists : List (List Request)) (place : ℕ → Option Place) (lists_are : lists ≡ with_change (after_settle slot) d.lists (d.place slot) request) (places_are : (r : ℕ) → place r ≡ d.place r) where
+module _ (d : Parts) (k : IsKept d) (slot : ℕ) (l : Live) (request : ℕ) (it : IsAtStage d slot l (Asking request true))
+    (answer : Blocked ≡ settle_answer slot (list_for d.lists (d.place slot) request))
+    (lists : List (List Request)) (place : ℕ → Option Place) (lists_are : lists ≡ with_change (after_settle slot) d.lists (d.place slot) request)
+    (places_are : (r : ℕ) → place r ≡ d.place r) where
   abbrev q : List Request
   q = requests d k slot l request it
 

@@ -108,7 +108,8 @@ module _ (d : Parts) (k : IsKept d) where
             ap (λ o. option_map_or (λ (l : Live). row_or_0 l.stage) o 0) r.2 ∙ ap row_or_0 r.3 in
             let is_ready : ready_row (at (state d) r.0.number) ≡ Some r.1 = ap ready_row (open_is d k s r.0 r.2) ∙ ap ready_row_at r.3 in
             let once : times r.1 (state d).ready ≡ 1 = k.sound.ready_once r.0.number r.1 is_ready in
-            let same : times (option_map_or (λ (l : Live). row_or_0 l.stage) (live_at d.live s) 0) (state d).ready ≡ 1 = ap (λ x. times x (state d).ready) row_is ∙ once in
+            let same : times (option_map_or (λ (l : Live). row_or_0 l.stage) (live_at d.live s) 0) (state d).ready ≡ 1 =
+            ap (λ x. times x (state d).ready) row_is ∙ once in
             omega (arith, more, same)
         | inr h ↦ omega arith
       ]
@@ -141,7 +142,8 @@ module _ (d : Parts) (k : IsKept d) where
       omega (arith, all)
 
   -- a behaviour that is not ready may change: the ready list's rows stay
-  pub unready_rows : (s : ℕ) (l : Live) (place : Option Live) → live_at d.live s ≡ Some l → ready_row_at l.stage ≡ None → rows_at (set d.live s place) d.ready ≡ rows_at d.live d.ready
+  pub unready_rows : (s : ℕ) (l : Live) (place : Option Live) → live_at d.live s ≡ Some l → ready_row_at l.stage ≡ None
+      → rows_at (set d.live s place) d.ready ≡ rows_at d.live d.ready
   unready_rows s l place is not =
       rows_same d.live (set d.live s place) d.ready (λ j r there. live_other d.live s place r (λ e.
       let q = k.ready_there j r there in
@@ -152,7 +154,12 @@ module _ (d : Parts) (k : IsKept d) where
   -- the cowns of who is there have lists
   pub cown_there : (s c : ℕ) (l : Live) → live_at d.live s ≡ Some l → 0 < times c l.cowns.items → c < length d.lists
   cown_there s c l is h =
-      omega (arith, queues_length d.live d.lists, k.sound.in_range l.number c (subst (λ (o : Option OpenBehaviour). 0 < times c (cowns_of o)) (sym (open_is d k s l is)) h))
+      omega (
+        arith,
+        queues_length d.live d.lists,
+        k.sound.in_range l.number c
+            (subst (λ (o : Option OpenBehaviour). 0 < times c (cowns_of o)) (sym (open_is d k s l is)) h),
+      )
 
   -- none of its cowns is there twice
   pub cown_once : (s c : ℕ) (l : Live) → live_at d.live s ≡ Some l → times c l.cowns.items ≤ 1

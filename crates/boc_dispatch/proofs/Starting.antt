@@ -1,5 +1,6 @@
 -- The first of the ready list starts: the state that follows, and what is kept.
-use Rattle.std.proofs.Common.{◌≡◌, ◌≢◌, ℕ, zero, suc, ◌+◌, ◌<◌, ◌≤◌, ◌⊎◌, inl, inr, true, false, ◌||◌, List, [], ◌∷◌, ◌++◌, length, map, set, get_or, refl, sym, ◌∙◌, ap, subst, arith, length-set}
+use Rattle.std.proofs.Common.{◌≡◌, ◌≢◌, ℕ, zero, suc, ◌+◌, ◌<◌, ◌≤◌, ◌⊎◌, inl, inr, true, false, ◌||◌, List, [], ◌∷◌, ◌++◌, length, map, set, get_or, refl, sym}
+use Rattle.std.proofs.Common.{◌∙◌, ap, subst, arith, length-set}
 use Rattle.std.specs.Prelude.{slice_get, slice_index_or, Option, Some, None}
 use Rattle.std.specs.Option.{option_map, option_map_or}
 use Rattle.boc_runs.specs.declared.event.Event.TheVariants.{Start}
@@ -21,8 +22,10 @@ use Rattle.boc_machine.proofs.Keeps.{keeps_starts}
 use Rattle.boc_rules.specs.Log.{Log, grown}
 use Rattle.boc_dispatch.specs.declared.live.Live.{Live}
 use Rattle.boc_dispatch.specs.Places.{Has, begun}
-use Rattle.boc_dispatch.specs.Inside.{Parts, state, live_at, open_of, place_of, exchanged_at, queues_of, rows_at, row_or_0, IsKept, HasRooms, AreInHand, AreCounted, IsMember, IsWished}
-use Rattle.boc_dispatch.proofs.Tables.{read_place, live_there, live_here, live_other, live_new, at_slot, behaviours_length, numbered_changed, behaviours_changed, number_changed, taken_changed}
+use Rattle.boc_dispatch.specs.Inside.{Parts, state, live_at, open_of, place_of, exchanged_at, queues_of, rows_at, row_or_0, IsKept, HasRooms, AreInHand}
+use Rattle.boc_dispatch.specs.Inside.{AreCounted, IsMember, IsWished}
+use Rattle.boc_dispatch.proofs.Tables.{read_place, live_there, live_here, live_other, live_new, at_slot, behaviours_length, numbered_changed}
+use Rattle.boc_dispatch.proofs.Tables.{behaviours_changed, number_changed, taken_changed}
 use Rattle.boc_dispatch.proofs.Standing.{open_is, ready_distinct}
 use Rattle.boc_dispatch.proofs.Going.{awaits_same, granted_same}
 use Rattle.boc_dispatch.proofs.Onward.{Follows, follows_set, in_hand_by, request_by}
@@ -72,7 +75,8 @@ pub record FirstReady (d : Parts) (slot row : ℕ) (p : Option Live) : Type 0 wh
   pub stage_is : this.stage ≡ Recorded row phases.Ready
   pub read : p ≡ Some this
 
-pub first_ready : (d : Parts) → IsKept d → (slot : ℕ) (rest : List ℕ) → d.ready ≡ slot ∷ rest → (p : Option Live) → p ≡ get_or d.live slot p → (row : ℕ) × FirstReady d slot row p
+pub first_ready : (d : Parts) → IsKept d → (slot : ℕ) (rest : List ℕ) → d.ready ≡ slot ∷ rest → (p : Option Live) → p ≡ get_or d.live slot p
+    → (row : ℕ) × FirstReady d slot row p
 first_ready d k slot rest head p reads =
     let first = k.ready_there 0 slot (ap (λ (xs : List ℕ). slice_get xs 0) head) in
     (first.1, record { this = first.0; is = first.2; stage_is = first.3; read = read_place d.live slot first.0 p first.2 reads })
@@ -90,7 +94,8 @@ first_told d k slot rest head p reads row told =
 abbrev pub started_parts : Parts → ℕ → Option Live → List ℕ → Log → Parts
 started_parts d slot place rest log = record d { live = set d.live slot place; ready = rest; log = log; steps = d.steps + 1 }
 
-module _ (d : Parts) (k : IsKept d) (slot : ℕ) (rest : List ℕ) (head : d.ready ≡ slot ∷ rest) (l : Live) (row : ℕ) (is : live_at d.live slot ≡ Some l) (stage_is : l.stage ≡ Recorded row phases.Ready) where
+module _ (d : Parts) (k : IsKept d) (slot : ℕ) (rest : List ℕ) (head : d.ready ≡ slot ∷ rest) (l : Live) (row : ℕ) (is : live_at d.live slot ≡ Some l)
+    (stage_is : l.stage ≡ Recorded row phases.Ready) where
   abbrev m : Live
   m = begun row l
 
@@ -208,7 +213,8 @@ module _ (d : Parts) (k : IsKept d) (slot : ℕ) (rest : List ℕ) (head : d.rea
             })))
         | inr u ↦
             (let q = k.of_run.recorded s r x u.1 b in
-            let other : r ≢ row = (λ h. u.0 (let f : Some s ≡ Some slot = sym (k.at_home s r x u.1 b) ∙ ap (slice_get d.homes) h ∙ k.at_home slot row l is row_is in cc)) in
+            let other : r ≢ row = (λ h. u.0 (let f : Some s ≡ Some slot = sym (k.at_home s r x u.1 b) ∙ ap (slice_get d.homes) h
+            ∙ k.at_home slot row l is row_is in cc)) in
             record {
               member = q.member;
               is = member_other r other ∙ q.is;
@@ -225,9 +231,11 @@ module _ (d : Parts) (k : IsKept d) (slot : ℕ) (rest : List ℕ) (head : d.rea
             (let q = k.of_run.asking s x u.1 b in
             let open_now = at_slot d.live d.opened s x k.numbered u.1 in
             let runs : state_of ms x.parent ≡ Some Running =
-            subst (λ (n : ℕ). state_of ms n ≡ Some Running) (ap parent_of open_now) (k.sound.fits.parents x.number (ap enqueues open_now ∙ enqueues_if_asks x.stage b)) in
+            subst (λ (n : ℕ). state_of ms n ≡ Some Running) (ap parent_of open_now)
+            (k.sound.fits.parents x.number (ap enqueues open_now ∙ enqueues_if_asks x.stage b)) in
             let other : x.parent ≢ row = (λ h. absurd (let f : Some Pending ≡ Some Running =
-            ap Some (sym (own_row.life_is ∙ ap life_at stage_is)) ∙ sym (ap (λ o. option_map (λ (z : Member). z.life) o) own_row.is) ∙ ap (state_of ms) (sym h) ∙ runs in cc)) in
+            ap Some (sym (own_row.life_is ∙ ap life_at stage_is)) ∙ sym (ap (λ o. option_map (λ (z : Member). z.life) o) own_row.is) ∙ ap (state_of ms) (sym h)
+            ∙ runs in cc)) in
             record {
               wish = q.wish;
               next = ap (next_wish d.program) (member_other x.parent other) ∙ q.next;
@@ -247,7 +255,8 @@ module _ (d : Parts) (k : IsKept d) (slot : ℕ) (rest : List ℕ) (head : d.rea
             let same : at (state e) x.number ≡ at (state d) x.number =
             at_slot table d.opened s x numbered a ∙ sym (at_slot d.live d.opened s x k.numbered u.1) in
             k.counted s x u.1 b
-            ∙ sym (awaits_same (state d) (state e) x (λ c. granted_same (state d) (state e) x.number c (ap settled same) (ap (λ qs. slice_index_or qs c []) queues_same_now))))
+            ∙ sym (awaits_same (state d) (state e) x (λ c. granted_same (state d) (state e) x.number c (ap settled same)
+            (ap (λ qs. slice_index_or qs c []) queues_same_now))))
       ]
 
   ready_then : (j s : ℕ) → slice_get rest j ≡ Some s → (x : Live) × (r : ℕ) × (live_at table s ≡ Some x) × (x.stage ≡ Recorded r phases.Ready)

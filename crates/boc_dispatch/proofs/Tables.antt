@@ -1,5 +1,6 @@
 -- The table of the behaviours, of which one is changed, added or removed, and the state that it stands for.
-use Rattle.std.proofs.Common.{◌≡◌, ◌≢◌, ℕ, zero, suc, ◌+◌, ◌<◌, ◌⊎◌, inl, inr, cond, List, [], ◌∷◌, ◌++◌, length, map, set, get_or, refl, sym, ◌∙◌, ap, subst, arith, add-one, get_or-set_other, get_or-set_same, length-set, length-append}
+use Rattle.std.proofs.Common.{◌≡◌, ◌≢◌, ℕ, zero, suc, ◌+◌, ◌<◌, ◌⊎◌, inl, inr, cond, List, [], ◌∷◌, ◌++◌, length, map, set, get_or, refl, sym, ◌∙◌, ap, subst}
+use Rattle.std.proofs.Common.{arith, add-one, get_or-set_other, get_or-set_same, length-set, length-append}
 use Rattle.std.specs.Prelude.{slice_get, slice_index_or, Option, Some, None}
 use Rattle.std.specs.Option.{option_map, option_map_or}
 use Rattle.std.specs.List.{count_by}
@@ -32,7 +33,8 @@ pub live_new : (live : List (Option Live)) (slot : ℕ) (place : Option Live) (s
 live_new live slot place s l is =
     elim (same_or_not s slot) [
       | inl e ↦
-          let h : slot < length live = subst (λ (x : ℕ). x < length live) e (omega (arith, read_there (set live slot place) s l is, length-set live slot place)) in
+          let h : slot < length live = subst (λ (x : ℕ). x < length live) e
+          (omega (arith, read_there (set live slot place) s l is, length-set live slot place)) in
           inl (e, sym (live_here live slot place h) ∙ ap (live_at (set live slot place)) (sym e) ∙ is)
       | inr n ↦ inr (n, sym (live_other live slot place s n) ∙ is)
     ]
@@ -87,7 +89,8 @@ find_none (p ∷ live) number none =
     skipped number p (find_live number live) other ∙ find_none live number (λ s. none (suc s))
 
 -- a number's behaviour is at a slot
-pub find_slot : (live : List (Option Live)) (number : ℕ) (l : Live) → find_live number live ≡ Some l → (slot : ℕ) × (live_at live slot ≡ Some l) × (l.number ≡ number)
+pub find_slot : (live : List (Option Live)) (number : ℕ) (l : Live) → find_live number live ≡ Some l
+    → (slot : ℕ) × (live_at live slot ≡ Some l) × (l.number ≡ number)
 find_slot [] number l e = absurd (let f : None ≡ Some l = e in cc)
 find_slot (None ∷ live) number l e = let r = find_slot live number l e in (suc r.0, r.1, r.2)
 find_slot (Some m ∷ live) number l e =
@@ -118,7 +121,8 @@ behaviours_at live (suc n) who h =
     ]
 
 -- the open behaviour of any number is that of the table
-pub at_found : (live : List (Option Live)) (n : ℕ) → AreNumbered live n → (who : ℕ) → get_or (behaviours_of live n) who None ≡ option_map open_of (find_live who live)
+pub at_found : (live : List (Option Live)) (n : ℕ) → AreNumbered live n → (who : ℕ)
+    → get_or (behaviours_of live n) who None ≡ option_map open_of (find_live who live)
 at_found live n k who =
     elim (cases_lt who n) [
       | inl h ↦ behaviours_at live n who h
@@ -128,7 +132,8 @@ at_found live n k who =
     ]
 
 -- the open behaviour of a number is that at its slot
-pub at_slot : (live : List (Option Live)) (n slot : ℕ) (l : Live) → AreNumbered live n → live_at live slot ≡ Some l → get_or (behaviours_of live n) l.number None ≡ Some (open_of l)
+pub at_slot : (live : List (Option Live)) (n slot : ℕ) (l : Live) → AreNumbered live n → live_at live slot ≡ Some l
+    → get_or (behaviours_of live n) l.number None ≡ Some (open_of l)
 at_slot live n slot l k is = at_found live n k l.number ∙ ap (option_map open_of) (find_here live slot l k.once is)
 
 -- who is open is at a slot
@@ -136,12 +141,14 @@ pub slot_of_open : (live : List (Option Live)) (n who : ℕ) (b : OpenBehaviour)
     → (slot : ℕ) × (l : Live) × (live_at live slot ≡ Some l) × (l.number ≡ who) × (open_of l ≡ b)
 slot_of_open live n who b k is =
     let e = sym (at_found live n k who) ∙ is in
-    elim (find_live who live) as (λ (o : Option Live). find_live who live ≡ o → option_map open_of o ≡ Some b → (slot : ℕ) × (l : Live) × (live_at live slot ≡ Some l) × (l.number ≡ who) × (open_of l ≡ b)) [
+    elim (find_live who live) as (λ (o : Option Live). find_live who live ≡ o → option_map open_of o ≡ Some b
+    → (slot : ℕ) × (l : Live) × (live_at live slot ≡ Some l) × (l.number ≡ who) × (open_of l ≡ b)) [
       | None ↦ λ f g. absurd (let h : None ≡ Some b = g in cc)
       | Some l ↦ λ f g. let r = find_slot live who l f in (r.0, l, r.1, r.2, (let h : Some (open_of l) ≡ Some b = g in cc))
     ] refl e
 
-pub behaviours_same : (live live' : List (Option Live)) (n : ℕ) → ((who : ℕ) → who < n → find_live who live' ≡ find_live who live) → behaviours_of live' n ≡ behaviours_of live n
+pub behaviours_same : (live live' : List (Option Live)) (n : ℕ) → ((who : ℕ) → who < n → find_live who live' ≡ find_live who live)
+    → behaviours_of live' n ≡ behaviours_of live n
 behaviours_same live live' zero same = refl
 behaviours_same live live' (suc n) same =
     ap (λ bs. bs ++ (option_map open_of (find_live n live') ∷ [])) (behaviours_same live live' n (λ who h. same who (omega arith)))
@@ -170,13 +177,15 @@ behaviours_put live live' (suc n) k h same =
 -- ---- a behaviour changed, which keeps its number
 
 -- what a mutable place holds that was read with a default
-pub read_place : (live : List (Option Live)) (slot : ℕ) (l : Live) (place : Option Live) → live_at live slot ≡ Some l → place ≡ get_or live slot place → place ≡ Some l
+pub read_place : (live : List (Option Live)) (slot : ℕ) (l : Live) (place : Option Live) → live_at live slot ≡ Some l → place ≡ get_or live slot place
+    → place ≡ Some l
 read_place [] slot l place is e = absurd (let f : None ≡ Some l = is in cc)
 read_place (p ∷ live) zero l place is e = e ∙ is
 read_place (p ∷ live) (suc slot) l place is e = read_place live slot l place is e
 
 -- whom it is matched as
-pub read_some : (live : List (Option Live)) (slot : ℕ) (l m : Live) (place : Option Live) → live_at live slot ≡ Some l → place ≡ get_or live slot place → place ≡ Some m → m ≡ l
+pub read_some : (live : List (Option Live)) (slot : ℕ) (l m : Live) (place : Option Live) → live_at live slot ≡ Some l → place ≡ get_or live slot place
+    → place ≡ Some m → m ≡ l
 read_some live slot l m place is e was = let f : Some m ≡ Some l = sym was ∙ read_place live slot l place is e in cc
 
 -- and what it holds once it is changed
@@ -274,7 +283,8 @@ module _ (live : List (Option Live)) (n slot : ℕ) (l : Live) (k : AreNumbered 
 
 -- ---- a behaviour added under the next number
 
-module _ (live : List (Option Live)) (n slot : ℕ) (m : Live) (k : AreNumbered live n) (free : live_at live slot ≡ None) (room : slot < length live) (number_is : m.number ≡ n) where
+module _ (live : List (Option Live)) (n slot : ℕ) (m : Live) (k : AreNumbered live n) (free : live_at live slot ≡ None) (room : slot < length live)
+    (number_is : m.number ≡ n) where
   pub numbered_added : AreNumbered (set live slot (Some m)) (n + 1)
   numbered_added = record {
     once = λ i j x y a b e. elim (live_new live slot (Some m) i x a) [
@@ -309,7 +319,8 @@ module _ (live : List (Option Live)) (n slot : ℕ) (m : Live) (k : AreNumbered 
   behaviours_added =
       ap (behaviours_of (set live slot (Some m))) (add-one n)
       ∙ ap (λ bs. bs ++ (option_map open_of (find_live n (set live slot (Some m))) ∷ []))
-      (behaviours_same live (set live slot (Some m)) n (λ who h. find_other live slot who (Some m) (subst (IsNot who) (sym free) tt) (λ e. let f : who ≡ n = sym e ∙ number_is in omega arith)))
+      (behaviours_same live (set live slot (Some m)) n (λ who h. find_other live slot who (Some m) (subst (IsNot who) (sym free) tt)
+      (λ e. let f : who ≡ n = sym e ∙ number_is in omega arith)))
       ∙ ap (λ o. behaviours_of live n ++ (option_map open_of o ∷ [])) found_added
 
   pub taken_added : count_by is_taken (set live slot (Some m)) ≡ count_by is_taken live + 1
@@ -320,7 +331,8 @@ module _ (live : List (Option Live)) (n slot : ℕ) (m : Live) (k : AreNumbered 
 
 -- ---- the lists of the cowns
 
-numbers_same : (live live' : List (Option Live)) (q : List Request) → ((k : ℕ) (r : Request) → slice_get q k ≡ Some r → number_at live' r.slot ≡ number_at live r.slot)
+numbers_same : (live live' : List (Option Live)) (q : List Request)
+    → ((k : ℕ) (r : Request) → slice_get q k ≡ Some r → number_at live' r.slot ≡ number_at live r.slot)
     → map (λ r. number_at live' r.slot) q ≡ map (λ r. number_at live r.slot) q
 numbers_same live live' [] same = refl
 numbers_same live live' (r ∷ q) same =
@@ -337,7 +349,8 @@ queues_same live live' (q ∷ lists) same =
 pub queues_length : (live : List (Option Live)) (lists : List (List Request)) → length (queues_of live lists) ≡ length lists
 queues_length live lists = length-map lists (λ (requests : List Request). map (λ (r : Request). number_at live r.slot) requests)
 
-pub queue_at : (live : List (Option Live)) (lists : List (List Request)) (c : ℕ) → get_or (queues_of live lists) c [] ≡ map (λ r. number_at live r.slot) (get_or lists c [])
+pub queue_at : (live : List (Option Live)) (lists : List (List Request)) (c : ℕ)
+    → get_or (queues_of live lists) c [] ≡ map (λ r. number_at live r.slot) (get_or lists c [])
 queue_at live lists c = get_or-map (λ (requests : List Request). map (λ (r : Request). number_at live r.slot) requests) lists c []
 
 pub queues_put : (live : List (Option Live)) (lists : List (List Request)) (c : ℕ) (q : List Request)
@@ -394,7 +407,8 @@ taken_placed (p ∷ live) (q ∷ live') same =
 -- ---- the ready list, where rows stay
 
 pub rows_alike : (live live' : List (Option Live)) (ready : List ℕ)
-    → ((j s : ℕ) → slice_get ready j ≡ Some s → option_map_or (λ l. row_or_0 l.stage) (live_at live' s) 0 ≡ option_map_or (λ l. row_or_0 l.stage) (live_at live s) 0)
+    → ((j s : ℕ) → slice_get ready j ≡ Some s → option_map_or (λ l. row_or_0 l.stage) (live_at live' s) 0
+    ≡ option_map_or (λ l. row_or_0 l.stage) (live_at live s) 0)
     → rows_at live' ready ≡ rows_at live ready
 rows_alike live live' [] same = refl
 rows_alike live live' (s ∷ ready) same =

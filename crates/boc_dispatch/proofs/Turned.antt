@@ -68,7 +68,8 @@ none_ready u v h was k same is hand nothing none =
       same = ap (λ (x : Underway). x.program) is;
     }
 
-open_stops : (u v : Underway) (row : ℕ) (f : Framed) (was : Hand) (fault : OpenFault) → Some row ≡ row_in was → IsWishing u row f → OpensWish u f row (Err fault) v
+open_stops : (u v : Underway) (row : ℕ) (f : Framed) (was : Hand) (fault : OpenFault) → Some row ≡ row_in was → IsWishing u row f
+    → OpensWish u f row (Err fault) v
     → IsStopped u was (refusals.Open fault)
 open_stops u v row f was open_faults.Stranger same h o = absurd (o.1 h.may.handed)
 open_stops u v row f was open_faults.OutOfTurn same h o = absurd (o.2 h.may.next)
@@ -104,7 +105,8 @@ refused u hands.Nothing was refusal same fits r = absurd r
 refused u (hands.Started job) was refusal same fits r = absurd r
 refused u (hands.Framed row f dues.Going) was refusal same fits r = absurd r
 
-says : (u v : Underway) (h was k : Hand) (x : Unit {0}) (answer : Answer) → HandFits u was → HasThought was (Ok x) h → Works u h answer v k → Says u was answer v k
+says : (u v : Underway) (h was k : Hand) (x : Unit {0}) (answer : Answer) → HandFits u was → HasThought was (Ok x) h → Works u h answer v k
+    → Says u was answer v k
 says u v h was k x (turns.Moved step) fits t w = moved u v h was k step (thinks_row was h (Ok x) t) w
 says u v h was k x turns.Blocked fits t w = blocked u v h was k (thinks_row was h (Ok x) t) w
 says u v h was k x turns.NoneReady fits t w = none_ready u v h was k (thinks_row was h (Ok x) t) w.0 w.1 w.2 w.3
@@ -129,7 +131,8 @@ went_on u v h was k x answer fits t w is =
       ]
     ]
 
-pub stopped : (u v : Underway) (h was k : Hand) (x : Unit {0}) (refusal : Refusal) → HandFits u was → HasThought was (Ok x) h → Works u h (turns.Refused refusal) v k → IsStopped u was refusal
+pub stopped : (u v : Underway) (h was k : Hand) (x : Unit {0}) (refusal : Refusal) → HandFits u was → HasThought was (Ok x) h
+    → Works u h (turns.Refused refusal) v k → IsStopped u was refusal
 stopped u v h was k x refusal fits t w = says u v h was k x (turns.Refused refusal) fits t w
 
 -- the one reason that a refusal has

@@ -17,9 +17,11 @@ module _ (s : State) (who : ℕ) (b' : Option OpenBehaviour) (w : ℕ) (apart : 
 
   ready_either : (x : OpenBehaviour) (r : ℕ) → with_behaviour (made_ready s w x r) who b' ≡ made_ready (with_behaviour s who b') w x r
   ready_either x r =
-      ap (with_behaviours (with_behaviour (made_ready s w x r) who b')) (set_comm s.behaviours w who (Some (record x { stage = Recorded r phases.Ready })) b' apart)
+      ap (with_behaviours (with_behaviour (made_ready s w x r) who b'))
+      (set_comm s.behaviours w who (Some (record x { stage = Recorded r phases.Ready })) b' apart)
 
-  by_grant : (g : Bool) (x : OpenBehaviour) (r : ℕ) → with_behaviour (cond g (made_ready s w x r) s) who b' ≡ cond g (made_ready (with_behaviour s who b') w x r) (with_behaviour s who b')
+  by_grant : (g : Bool) (x : OpenBehaviour) (r : ℕ) → with_behaviour (cond g (made_ready s w x r) s) who b'
+      ≡ cond g (made_ready (with_behaviour s who b') w x r) (with_behaviour s who b')
   by_grant true x r = ready_either x r
   by_grant false x r = refl
 
@@ -45,7 +47,8 @@ module _ (s : State) (who : ℕ) (b' : Option OpenBehaviour) (w : ℕ) (apart : 
   woken_either = by_place (at s w) ∙ ap (woken_if (with_behaviour s who b') w) (sym same_at)
 
 -- whoever leaves goes on before another is woken, or after
-pub leaving_either : (s : State) (who : ℕ) (b : OpenBehaviour) (row request w : ℕ) → w ≢ who → leaving_on (woken s w) who b row request ≡ woken (leaving_on s who b row request) w
+pub leaving_either : (s : State) (who : ℕ) (b : OpenBehaviour) (row request w : ℕ) → w ≢ who
+    → leaving_on (woken s w) who b row request ≡ woken (leaving_on s who b row request) w
 leaving_either s who b row request w apart = by_test (nat_lt request (length b.cowns))
   where
     by_test : (t : Bool) → cond t (with_stage (woken s w) who b (Recorded row (phases.Leaving request))) (with_behaviour (woken s w) who None)

@@ -10,7 +10,8 @@ use Rattle.boc_runs.specs.declared.step.Step.{Step}
 use Rattle.boc_runs.specs.declared.step.Step.TheVariants as steps
 use Rattle.boc_runs.specs.machine.Stages.{OpenBehaviour, ready_row}
 use Rattle.boc_runs.specs.machine.Steps.{State, at, Makes, IsQuiet}
-use Rattle.boc_runs.specs.machine.Turns.{TakesTurn, Begins as BeginsTurn, Advanced as AdvancedTurn, WaitsToSettle, Opened, Finished, Left as LeftTurn, WaitsToLeave, unless_gone}
+use Rattle.boc_runs.specs.machine.Turns.{TakesTurn, Begins as BeginsTurn, Advanced as AdvancedTurn, WaitsToSettle, Opened, Finished, Left as LeftTurn}
+use Rattle.boc_runs.specs.machine.Turns.{WaitsToLeave, unless_gone}
 use Rattle.boc_eval.specs.Frames.{UnderWay as Framed, Ran}
 use Rattle.boc_machine.proofs.OneTurn.{advance_makes, leave_makes}
 use Rattle.boc_dispatch.specs.declared.answers.Advanced.TheVariants as advanced
@@ -28,14 +29,16 @@ use Rattle.boc_dispatch.specs.Calls.{in_state, Begins, OpensWish, AdvancesChild,
 use Rattle.boc_dispatch.specs.Working.{row_in, MakesTurn, Works, HasThought, IsToThink}
 
 -- a step to another state of the same program
-made : (u v : Underway) (h k : Hand) (step : Step) (t : State) → v ≡ in_state u t → TakesTurn u.program u.state (row_in h) t (row_in k) → Makes u.program u.state step t → MakesTurn u h step v k
+made : (u v : Underway) (h k : Hand) (step : Step) (t : State) → v ≡ in_state u t → TakesTurn u.program u.state (row_in h) t (row_in k)
+    → Makes u.program u.state step t → MakesTurn u h step v k
 made u v h k step t is takes makes =
     subst (λ (x : Underway). MakesTurn u h step x k) (sym is) (record { takes = takes; makes = makes; same = refl })
 
 pub begins : (u v : Underway) (job : Job) → Begins u (started.Job job) v → Works u hands.Nothing (turns.Moved steps.Start) v (hands.Started job)
 begins u v job b = made u v hands.Nothing (hands.Started job) steps.Start b.1 b.3 (BeginsTurn b.0 job.row b.1 b.2) (b.0, job.row, b.2)
 
-pub opens : (u v : Underway) (row : ℕ) (f : Framed) (child : Child) → OpensWish u f row (Ok child) v → Works u (hands.Framed row f dues.Wishing) (turns.Moved steps.Open) v (hands.Framed row f (dues.Enqueuing child))
+pub opens : (u v : Underway) (row : ℕ) (f : Framed) (child : Child) → OpensWish u f row (Ok child) v
+    → Works u (hands.Framed row f dues.Wishing) (turns.Moved steps.Open) v (hands.Framed row f (dues.Enqueuing child))
 opens u v row f child o =
     made u v (hands.Framed row f dues.Wishing) (hands.Framed row f (dues.Enqueuing child)) steps.Open o.3 o.5
     (subst (λ (r : ℕ). TakesTurn u.program u.state (Some row) o.3 (Some r)) (sym o.2) (Opened row o.3 o.4)) (row, o.4)
@@ -43,27 +46,33 @@ opens u v row f child o =
 pub advances : (u v : Underway) (row : ℕ) (f : Framed) (child : Child) (step : Step) → AdvancesChild u child (advanced.Moved step) v
     → Works u (hands.Framed row f (dues.Enqueuing child)) (turns.Moved step) v (hands.Framed row f (dues.Enqueuing child))
 advances u v row f child step a =
-    made u v (hands.Framed row f (dues.Enqueuing child)) (hands.Framed row f (dues.Enqueuing child)) step a.2 a.4 (AdvancedTurn child.row child.number step a.2 a.0 a.3) (advance_makes u.program u.state child.number step a.2 a.3)
+    made u v (hands.Framed row f (dues.Enqueuing child)) (hands.Framed row f (dues.Enqueuing child)) step a.2 a.4
+    (AdvancedTurn child.row child.number step a.2 a.0 a.3) (advance_makes u.program u.state child.number step a.2 a.3)
 
-pub waits_to_settle : (u v : Underway) (row : ℕ) (f : Framed) (child : Child) → AdvancesChild u child advanced.Blocked v → Works u (hands.Framed row f (dues.Enqueuing child)) turns.Blocked v (hands.Framed row f (dues.Enqueuing child))
+pub waits_to_settle : (u v : Underway) (row : ℕ) (f : Framed) (child : Child) → AdvancesChild u child advanced.Blocked v
+    → Works u (hands.Framed row f (dues.Enqueuing child)) turns.Blocked v (hands.Framed row f (dues.Enqueuing child))
 waits_to_settle u v row f child a =
     (a.0, refl, record { row = child.row; serves = refl; takes = WaitsToSettle child.row child.number a.1 a.2 })
 
-pub owns : (u v : Underway) (row : ℕ) (f : Framed) (child : Child) → AdvancesChild u child advanced.Enqueued v → Works u (hands.Framed row f (dues.Enqueuing child)) (turns.Moved steps.Own) v (hands.Framed child.row f dues.Going)
+pub owns : (u v : Underway) (row : ℕ) (f : Framed) (child : Child) → AdvancesChild u child advanced.Enqueued v
+    → Works u (hands.Framed row f (dues.Enqueuing child)) (turns.Moved steps.Own) v (hands.Framed child.row f dues.Going)
 owns u v row f child a =
-    made u v (hands.Framed row f (dues.Enqueuing child)) (hands.Framed child.row f dues.Going) steps.Own a.1 a.3 (AdvancedTurn child.row child.number steps.Own a.1 a.0 a.2) (child.number, a.2)
+    made u v (hands.Framed row f (dues.Enqueuing child)) (hands.Framed child.row f dues.Going) steps.Own a.1 a.3
+    (AdvancedTurn child.row child.number steps.Own a.1 a.0 a.2) (child.number, a.2)
 
 -- the row of who isn't gone is served on
 still_served : (row : ℕ) (o : Option OpenBehaviour) → o ≢ None → unless_gone row o ≡ Some row
 still_served row None there = absurd (there refl)
 still_served row (Some b) there = refl
 
-pub finishes : (u v : Underway) (row : ℕ) (o : Ran) (leaving : Leaving) → FinishesRow u row o (Ok (Some leaving)) v → Works u (hands.Done row o) (turns.Moved steps.Finish) v (hands.Leaving leaving)
+pub finishes : (u v : Underway) (row : ℕ) (o : Ran) (leaving : Leaving) → FinishesRow u row o (Ok (Some leaving)) v
+    → Works u (hands.Done row o) (turns.Moved steps.Finish) v (hands.Leaving leaving)
 finishes u v row o leaving f =
     let e = f.1 in
     let stays = e.left leaving refl in
     made u v (hands.Done row o) (hands.Leaving leaving) steps.Finish e.state e.same
-    (subst (λ (r : Option ℕ). TakesTurn u.program u.state (Some row) e.state r) (still_served row (at e.state e.who) stays.1 ∙ ap (λ z. Some z) (sym stays.0)) (Finished row e.who e.state e.finishes))
+    (subst (λ (r : Option ℕ). TakesTurn u.program u.state (Some row) e.state r) (still_served row (at e.state e.who) stays.1 ∙ ap (λ z. Some z) (sym stays.0))
+    (Finished row e.who e.state e.finishes))
     (e.who, row, e.finishes)
 
 pub is_gone : (u v : Underway) (row : ℕ) (o : Ran) → FinishesRow u row o (Ok None) v → Works u (hands.Done row o) (turns.Moved steps.Finish) v hands.Nothing
@@ -73,13 +82,15 @@ is_gone u v row o f =
     (subst (λ (r : Option ℕ). TakesTurn u.program u.state (Some row) e.state r) (ap (unless_gone row) (e.gone refl)) (Finished row e.who e.state e.finishes))
     (e.who, row, e.finishes)
 
-pub leaves_on : (u v : Underway) (l : Leaving) (step : Step) → LeavesCown u l (left.Moved step) v → Works u (hands.Leaving l) (turns.Moved step) v (hands.Leaving l)
+pub leaves_on : (u v : Underway) (l : Leaving) (step : Step) → LeavesCown u l (left.Moved step) v
+    → Works u (hands.Leaving l) (turns.Moved step) v (hands.Leaving l)
 leaves_on u v l step a =
     made u v (hands.Leaving l) (hands.Leaving l) step a.1 a.4
     (subst (λ (r : Option ℕ). TakesTurn u.program u.state (Some l.row) a.1 r) (still_served l.row (at a.1 a.0) a.3) (LeftTurn l.row a.0 step a.1 a.2))
     (leave_makes u.program u.state a.0 l.row step a.1 a.2)
 
-pub leaves_last : (u v : Underway) (l : Leaving) (step : Step) → LeavesCown u l (left.Gone step) v → Works u (hands.Leaving l) (turns.Moved step) v hands.Nothing
+pub leaves_last : (u v : Underway) (l : Leaving) (step : Step) → LeavesCown u l (left.Gone step) v
+    → Works u (hands.Leaving l) (turns.Moved step) v hands.Nothing
 leaves_last u v l step a =
     made u v (hands.Leaving l) hands.Nothing step a.1 a.4
     (subst (λ (r : Option ℕ). TakesTurn u.program u.state (Some l.row) a.1 r) (ap (unless_gone l.row) a.3) (LeftTurn l.row a.0 step a.1 a.2))

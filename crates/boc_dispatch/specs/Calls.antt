@@ -10,7 +10,8 @@ use Rattle.boc_runs.specs.Lives.{Running}
 use Rattle.boc_program.specs.Meaning.{Wish}
 use Rattle.boc_runs.specs.Run.{Member, next_wish, state_of}
 use Rattle.boc_runs.specs.Records.{Recorded as RecordOf, IsRecordOf}
-use Rattle.boc_runs.specs.machine.Steps.{State, at, members, opened, recorded, unrecorded, IsQuiet, HasNoEnqueue, MayOpen, Opens, Advances, Starts, Owns, Finishes, Leaves, IsBlockedAsking, IsBlockedLeaving}
+use Rattle.boc_runs.specs.machine.Steps.{State, at, members, opened, recorded, unrecorded, IsQuiet, HasNoEnqueue, MayOpen, Opens, Advances, Starts, Owns}
+use Rattle.boc_runs.specs.machine.Steps.{Finishes, Leaves, IsBlockedAsking, IsBlockedLeaving}
 use Rattle.boc_runs.specs.machine.Turns.{IsEnqueueOf}
 use Rattle.boc_runs.specs.machine.Movers.{CanAdvance, CanGoOn, CanLeave, CanStart}
 use Rattle.boc_eval.specs.Frames.{UnderWay as Framed, Ran}

@@ -21,10 +21,12 @@ coded_behaviour =
 abbrev pub coded_state : Coded State
 coded_state =
     code_by (List Event × (List (Option OpenBehaviour) × (List (List ℕ) × (List ℕ × ℕ))))
-    (coded× (coded_list event.the_row.coded) (coded× (coded_list (coded_option coded_behaviour)) (coded× (coded_list (coded_list coded_ℕ)) (coded× (coded_list coded_ℕ) coded_ℕ))))
+    (coded× (coded_list event.the_row.coded) (coded× (coded_list (coded_option coded_behaviour))
+    (coded× (coded_list (coded_list coded_ℕ)) (coded× (coded_list coded_ℕ) coded_ℕ))))
     (λ s. (s.log, (s.behaviours, (s.queues, (s.ready, s.steps)))))
     (λ t. record { log = t.0; behaviours = t.1.0; queues = t.1.1.0; ready = t.1.1.1.0; steps = t.1.1.1.1 }) (λ _. refl)
 
 -- the code of a program under way
 abbrev pub coded_underway : Coded Underway
-coded_underway = code_by (Program × State) (coded× program.the_row.coded coded_state) (λ u. (u.program, u.state)) (λ t. record { program = t.0; state = t.1 }) (λ _. refl)
+coded_underway = code_by (Program × State) (coded× program.the_row.coded coded_state) (λ u. (u.program, u.state)) (λ t. record { program = t.0; state = t.1 })
+    (λ _. refl)

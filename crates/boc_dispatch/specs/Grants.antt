@@ -14,7 +14,8 @@ use Rattle.boc_runs.specs.machine.Steps.{at, members, recorded, stepped, leaving
 use Rattle.boc_dispatch.specs.declared.answers.Left.{Left}
 use Rattle.boc_dispatch.specs.declared.answers.Left.TheVariants as left
 use Rattle.boc_dispatch.specs.declared.live.Live.{Live}
-use Rattle.boc_dispatch.specs.Inside.{Parts, state, live_at, open_of, row_or_0, is_taken, AreNumbered, AreAtHome, AreInHand, AreChained, AreOfRun, AreCounted, IsKept, HasRooms}
+use Rattle.boc_dispatch.specs.Inside.{Parts, state, live_at, open_of, row_or_0, is_taken, AreNumbered, AreAtHome, AreInHand, AreChained, AreOfRun, AreCounted}
+use Rattle.boc_dispatch.specs.Inside.{IsKept, HasRooms}
 use Rattle.boc_dispatch.specs.Places.{granted}
 
 -- ---- a grant
@@ -51,7 +52,8 @@ pub record IsRemoved (d : Parts) (slot : ℕ) (e : Parts) : Type 0 where
 
 -- the slots of the ready list are of ready behaviours
 abbrev pub AreReady : List (Option Live) → List ℕ → Type 0
-AreReady live ready = (k slot : ℕ) → slice_get ready k ≡ Some slot → (l : Live) × (row : ℕ) × (live_at live slot ≡ Some l) × (l.stage ≡ Recorded row phases.Ready)
+AreReady live ready = (k slot : ℕ) → slice_get ready k ≡ Some slot
+    → (l : Live) × (row : ℕ) × (live_at live slot ≡ Some l) × (l.stage ≡ Recorded row phases.Ready)
 
 -- what is kept, but for the state that is sound and for what each counts
 pub record Tied (d : Parts) : Type 0 where

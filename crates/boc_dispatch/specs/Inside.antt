@@ -1,5 +1,6 @@
 -- How a dispatcher is kept, and what it keeps.
-use Rattle.std.specs.Prelude.{◌≡◌, ℕ, zero, suc, ◌+◌, ◌^◌, ◌<◌, ◌≤◌, Bool, true, false, ◌||◌, if◌then◌else◌, nat_eq, nat_lt, List, [], ◌∷◌, ◌++◌, length, map, ℤ, slice_get, slice_index_or, vec_capacity, Option, Some, None}
+use Rattle.std.specs.Prelude.{◌≡◌, ℕ, zero, suc, ◌+◌, ◌^◌, ◌<◌, ◌≤◌, Bool, true, false, ◌||◌, if◌then◌else◌, nat_eq, nat_lt, List, [], ◌∷◌, ◌++◌, length, map}
+use Rattle.std.specs.Prelude.{ℤ, slice_get, slice_index_or, vec_capacity, Option, Some, None}
 use Rattle.std.specs.Option.{option_map, option_map_or}
 use Rattle.std.specs.List.{count_by}
 use Rattle.std.specs.VecDeque.{deque_capacity}
@@ -206,7 +207,8 @@ pub record IsKept (d : Parts) : Type 0 where
   pub chained : AreChained d.live d.lists d.place
   pub of_run : AreOfRun d.program (members d.program (state d)) d.live
   pub counted : AreCounted (state d) d.live
-  pub ready_there : (k slot : ℕ) → slice_get d.ready k ≡ Some slot → (l : Live) × (row : ℕ) × (live_at d.live slot ≡ Some l) × (l.stage ≡ Recorded row phases.Ready)
+  pub ready_there : (k slot : ℕ) → slice_get d.ready k ≡ Some slot
+      → (l : Live) × (row : ℕ) × (live_at d.live slot ≡ Some l) × (l.stage ≡ Recorded row phases.Ready)
   pub left : count_by is_taken d.live + d.gone ≡ d.opened
 
 -- there is room for each behaviour that has no row yet: for its spawn, its start and its end, for its home, and in the ready list for all;

@@ -97,7 +97,8 @@ IsEnded _ = ⊥
 
 -- a row's frame that has ended gave what its body means
 abbrev pub HasGiven : Hand → Hand → Type 0
-HasGiven (hands.Framed row f due) (hands.Done own o) = (own ≡ row) × (o.body ≡ f.body) × (o.args ≡ f.args) × (o.inputs ≡ f.inputs) × (o.wishes ≡ f.made) × Means o
+HasGiven (hands.Framed row f due) (hands.Done own o) =
+    (own ≡ row) × (o.body ≡ f.body) × (o.args ≡ f.args) × (o.inputs ≡ f.inputs) × (o.wishes ≡ f.made) × Means o
 HasGiven _ _ = ⊥
 
 -- what a body gave that has ended from here on

@@ -102,7 +102,8 @@ pub fn wished_behaviour(
     requires cowns { All (λ c. c < MOST_COWNS) wish.now.cowns.items }
     requires kind { wish.now.kind < 2 ^ 32 }
     ensures behaviour { IfOk result (λ l. behaviour_of l ≡ record { kind = wish.now.kind; args = wish.now.args.items; cowns = wish.now.cowns.items }) }
-    ensures state { IfOk result (λ l. open_of l ≡ record { parent = row; offset = wish.now.offset; cowns = rising wish.now.cowns.items; stage = Asking 0 false }) }
+    ensures state { IfOk result (λ l. open_of l ≡ record
+        { parent = row; offset = wish.now.offset; cowns = rising wish.now.cowns.items; stage = Asking 0 false }) }
     ensures number { IfOk result (λ l. l.number ≡ number) }
     ensures awaited { IfOk result (λ l. l.awaited ≡ length l.cowns.items + 1) }
     ensures fresh { IfOk result (λ l. (l.spawned ≡ 0) × (l.child ≡ None)) }

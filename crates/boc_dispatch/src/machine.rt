@@ -1,6 +1,7 @@
 //! What the dispatcher has in hand, and how each step changes it.
 
-ghost use Rattle.std.specs.Prelude.{◌≡◌, ◌+◌, ◌^◌, ◌<◌, ◌≤◌, ◌↔◌, ℕ, suc, [], None, Some, IfOk, IsTrue, IsSome, MatchOption, OnOk, false, true, length, max, replicate, slice_set, vec_len, vec_capacity};
+ghost use Rattle.std.specs.Prelude.{◌≡◌, ◌+◌, ◌^◌, ◌<◌, ◌≤◌, ◌↔◌, ℕ, suc, [], None, Some, IfOk, IsTrue, IsSome, MatchOption, OnOk, false, true, length, max};
+ghost use Rattle.std.specs.Prelude.{replicate, slice_set, vec_len, vec_capacity};
 ghost use Rattle.std.specs.VecDeque.{deque_capacity};
 ghost use Rattle.boc_dispatch.specs.Inside.{live_at};
 
@@ -105,7 +106,8 @@ impl<'a, C: Chains + Drop> Machine<'a, C> {
     ghost use Rattle.boc_chain.specs.Chain.{times, slots, list};
     ghost use Rattle.boc_dispatch.specs.Inside.{parts_of, state, underway, IsSoundMachine, IsAtStage, IsStageAt, IsOfRow, HasInHand, GoesOn, Stays, IsNew};
     ghost use Rattle.boc_dispatch.specs.Grants.{MayBeGranted, with_granted, IsRemoved, IsReleased, LeftAs};
-    ghost use Rattle.boc_dispatch.specs.Moves.{MayPut, Puts, with_table, MayRecord, Records, counted, StartsJob, OpensChild, IsFoundEnqueue, SettlesNext, EndsBehaviour, ReleasesNext, IsFoundLeaving};
+    ghost use Rattle.boc_dispatch.specs.Moves.{MayPut, Puts, with_table, MayRecord, Records, counted, StartsJob, OpensChild, IsFoundEnqueue, SettlesNext};
+    ghost use Rattle.boc_dispatch.specs.Moves.{EndsBehaviour, ReleasesNext, IsFoundLeaving};
 
     /// Main is opened over chains with no request, its spawn is recorded, and it is ready.
     pub fn over(

@@ -73,7 +73,8 @@ ghost use Rattle.boc_dispatch.specs.declared.worker.Due.{Due};
 ghost use Rattle.boc_dispatch.specs.declared.worker.Due.TheVariants as dues;
 ghost use Rattle.boc_dispatch.specs.declared.worker.Hand.TheVariants as hands;
 ghost use Rattle.boc_dispatch.specs.Driving.{KeepsFitting};
-ghost use Rattle.boc_dispatch.specs.Working.{row_in, frame_of as frame_at_start, Enqueues, Goes, HasGiven, HasGoneOn, HasThought, IsDone, IsEnded, IsStarted, Wishes, Works};
+ghost use Rattle.boc_dispatch.specs.Working.{row_in, frame_of as frame_at_start, Enqueues, Goes, HasGiven, HasGoneOn, HasThought, IsDone, IsEnded, IsStarted};
+ghost use Rattle.boc_dispatch.specs.Working.{Wishes, Works};
 ghost use Rattle.boc_dispatch.specs.declared.answers.Child.{Child};
 ghost use Rattle.boc_eval.specs.Frames.{UnderWay as Framed};
 

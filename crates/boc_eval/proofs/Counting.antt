@@ -1,5 +1,6 @@
 -- A turn that is counted where it stands on the stack.
-use Rattle.std.proofs.Common.{◌≡◌, subst, add-one, ℕ, zero, suc, ◌+◌, ◌-◌, ◌<◌, ◌≤◌, List, [], ◌∷◌, ◌++◌, Some, refl, sym, ap, ◌∙◌, arith, IsTrue, Bor, length, length-append}
+use Rattle.std.proofs.Common.{◌≡◌, subst, add-one, ℕ, zero, suc, ◌+◌, ◌-◌, ◌<◌, ◌≤◌, List, [], ◌∷◌, ◌++◌, Some, refl, sym, ap, ◌∙◌, arith, IsTrue, Bor, length}
+use Rattle.std.proofs.Common.{length-append}
 use Rattle.std.specs.Prelude.{vec_capacity, slice_get, slice_set}
 use Rattle.boc_program.specs.declared.body.Stmt.{Stmt}
 use Rattle.boc_program.specs.Syntax.{Code}
@@ -38,7 +39,9 @@ pub record Counted (block : Bor (List Stmt)) (m m' : Machine) : Type 0 where
   pub scope : scope_of m' ≡ scope_of m
   pub resumed : Resumed block m m'
 
-pub counted : (m m' : Machine) (n k : ℕ) (block : Bor (List Stmt)) → IsSound m → NextTurn n block m → m.ticks < 1000000 → n ≡ k + 1 → m'.stack.items ≡ slice_set m.stack.items (length m.stack.items - 1) (Turns k block) → state_of m' ≡ record (state_of m) { ticks = m.ticks + 1 } → m'.status ≡ m.status → m'.assigned ≡ m.assigned → 1001 ≤ vec_capacity m'.stack → Counted block m m'
+pub counted : (m m' : Machine) (n k : ℕ) (block : Bor (List Stmt)) → IsSound m → NextTurn n block m → m.ticks < 1000000 → n ≡ k + 1
+    → m'.stack.items ≡ slice_set m.stack.items (length m.stack.items - 1) (Turns k block) → state_of m' ≡ record (state_of m) { ticks = m.ticks + 1 }
+    → m'.status ≡ m.status → m'.assigned ≡ m.assigned → 1001 ≤ vec_capacity m'.stack → Counted block m m'
 counted m m' n k block sound next tick more stack state status marks room =
     let c : Code = code_of block.now in
     let s = ending_at_end m.stack.items (Turns n block) (Turns k block) next.last in

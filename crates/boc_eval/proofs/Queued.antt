@@ -1,5 +1,6 @@
 -- What holds from turn to turn of a serial run in the program's own order.
-use Rattle.std.proofs.Common.{◌≡◌, ℕ, zero, suc, ◌+◌, ◌<◌, ◌≤◌, List, [], ◌∷◌, ◌++◌, map, length, drop, take, refl, sym, ap, ◌∙◌, arith, IsTrue, ℤ, Some, subst, length-append, length-drop}
+use Rattle.std.proofs.Common.{◌≡◌, ℕ, zero, suc, ◌+◌, ◌<◌, ◌≤◌, List, [], ◌∷◌, ◌++◌, map, length, drop, take, refl, sym, ap, ◌∙◌, arith, IsTrue, ℤ, Some, subst}
+use Rattle.std.proofs.Common.{length-append, length-drop}
 use Rattle.std.specs.Prelude.{slice_get, replicate}
 use Rattle.std.proofs.lemmas.List.{length-map, length-replicate, drop-append-le}
 use Rattle.boc_program.specs.declared.body.Body.{Body}
@@ -7,7 +8,8 @@ use Rattle.boc_program.specs.declared.program.Program.{Program}
 use Rattle.boc_program.specs.Meaning.{Wish, meaning}
 use Rattle.boc_program.specs.Programs.{cown_count, initial_values}
 use Rattle.boc_program.specs.Signatures.{signature_of, calls_fit, AllBelow, WishesFit}
-use Rattle.boc_runs.specs.Serial.{Behaviour, Serial, SerialRow, main_behaviour, behaviour_of, inputs_of, after_outputs, meaning_if, run_at_once, with_row, serial_along}
+use Rattle.boc_runs.specs.Serial.{Behaviour, Serial, SerialRow, main_behaviour, behaviour_of, inputs_of, after_outputs, meaning_if, run_at_once, with_row}
+use Rattle.boc_runs.specs.Serial.{serial_along}
 use Rattle.boc_runs.specs.OwnOrder.{IsOwnOrder, EndsWith, HasTooMany}
 use Rattle.boc_program.proofs.Fitting.{meaning_fits}
 use Rattle.boc_runs.proofs.Behaviours.{named, cowns_of_inputs, length-after_outputs, initial-length, main_fits}
@@ -24,28 +26,45 @@ wishes_queue p [] h = tt
 wishes_queue p (w ∷ ws) h = ((h.0.counts, h.0.below), wishes_queue p ws h.1)
 
 -- the wishes of a behaviour of a program fit
-pub turn_fits : (p : Program) (b : Behaviour) (values : List ℤ) (body : Body) → slice_get p.bodies b.kind ≡ Some body → BehaviourFits p b → QueueFits p (map behaviour_of (meaning body b.args (inputs_of b.cowns values)).wishes)
+pub turn_fits : (p : Program) (b : Behaviour) (values : List ℤ) (body : Body) → slice_get p.bodies b.kind ≡ Some body → BehaviourFits p b
+    → QueueFits p (map behaviour_of (meaning body b.args (inputs_of b.cowns values)).wishes)
 turn_fits p b values body is fits =
     let n : ℕ = cown_count p.cowns in
     let r = named p.bodies (calls_fit (map signature_of p.bodies) n) b.kind (length b.args) (length b.cowns) fits.0 p.calls in
     let same : r.body ≡ body = let e : Some r.body ≡ Some body = sym r.is ∙ is in cc in
-    let passes : IsTrue (calls_fit (map signature_of p.bodies) n body) = subst (λ (b : Body). IsTrue (calls_fit (map signature_of p.bodies) n b)) same r.passes in
+    let passes : IsTrue (calls_fit (map signature_of p.bodies) n body) =
+    subst (λ (b : Body). IsTrue (calls_fit (map signature_of p.bodies) n b)) same r.passes in
     let len : length (inputs_of b.cowns values) ≡ length b.cowns = simp length-map in
     wishes_queue p (meaning body b.args (inputs_of b.cowns values)).wishes
-    (meaning_fits (map signature_of p.bodies) n body b.args (inputs_of b.cowns values) passes (len ∙ r.few_cowns ∙ ap (λ (b : Body). b.cown_params) same) (subst (AllBelow n) (sym (cowns_of_inputs b.cowns values)) fits.1))
+    (meaning_fits (map signature_of p.bodies) n body b.args (inputs_of b.cowns values) passes (len ∙ r.few_cowns ∙ ap (λ (b : Body). b.cown_params) same)
+    (subst (AllBelow n) (sym (cowns_of_inputs b.cowns values)) fits.1))
 
 -- a turn leaves a queue of behaviours that fit
-pub turned_fits : (p : Program) (b : Behaviour) (rest : List Behaviour) (values : List ℤ) (queue : List Behaviour) (after : List ℤ) → QueueFits p (b ∷ rest) → Turned p b rest values queue after → QueueFits p queue
+pub turned_fits : (p : Program) (b : Behaviour) (rest : List Behaviour) (values : List ℤ) (queue : List Behaviour) (after : List ℤ) → QueueFits p (b ∷ rest)
+    → Turned p b rest values queue after → QueueFits p queue
 turned_fits p b rest values queue after h t =
-    subst (QueueFits p) (sym t.queued) (QueueFits-append p rest (map behaviour_of (meaning t.body b.args (inputs_of b.cowns values)).wishes) h.1 (turn_fits p b values t.body t.is h.0))
+    subst (QueueFits p) (sym t.queued) (QueueFits-append p rest (map behaviour_of (meaning t.body b.args (inputs_of b.cowns values)).wishes) h.1
+    (turn_fits p b values t.body t.is h.0))
 
 -- the row that is due is that of the first in the queue
-row_is : (p : Program) (done due : List ℕ) (q : ℕ) (b : Behaviour) (rest : List Behaviour) (values : List ℤ) (body : Body) → IsOwnOrder p done (q ∷ due) → drop (length done) (behaviours_after (serial_along p done).rows) ≡ b ∷ rest → (serial_along p done).values ≡ values → slice_get p.bodies b.kind ≡ Some body →
-    next_row p (serial_along p done) q ≡ record { parent = q; behaviour = b; inputs = inputs_of b.cowns values; means = meaning body b.args (inputs_of b.cowns values) }
+row_is : (p : Program) (done due : List ℕ) (q : ℕ) (b : Behaviour) (rest : List Behaviour) (values : List ℤ) (body : Body) → IsOwnOrder p done (q ∷ due)
+    → drop (length done) (behaviours_after (serial_along p done).rows) ≡ b ∷ rest → (serial_along p done).values ≡ values
+    → slice_get p.bodies b.kind ≡ Some body →
+    next_row p (serial_along p done) q ≡ record {
+      parent = q;
+      behaviour = b;
+      inputs = inputs_of b.cowns values;
+      means = meaning body b.args (inputs_of b.cowns values);
+    }
 row_is p done due q b rest values body own queued values_are is =
     ap (run_at_once p (serial_along p done).values q) (next_is p done due q b rest own queued)
     ∙ ap (λ (vs : List ℤ). run_at_once p vs q (Some b)) values_are
-    ∙ ap (λ o. let row : SerialRow = record { parent = q; behaviour = b; inputs = inputs_of b.cowns values; means = meaning_if o b.args (inputs_of b.cowns values) } in row) is
+    ∙ ap (λ o. let row : SerialRow = record {
+      parent = q;
+      behaviour = b;
+      inputs = inputs_of b.cowns values;
+      means = meaning_if o b.args (inputs_of b.cowns values);
+    } in row) is
 
 -- a row is due where a behaviour is queued
 record IsDue (due : List ℕ) : Type 0 where
@@ -60,7 +79,15 @@ is_due (q ∷ due) some = record { first = q; others = due; is = refl }
 -- there are as many rows due as behaviours queued
 due_are : (p : Program) (queue : List Behaviour) (values : List ℤ) (so_far : ℕ) → (s : HasReached p queue values so_far) → length s.due ≡ length queue
 due_are p queue values so_far s =
-    omega (arith, ap length s.queued, length-drop (length s.done) (behaviours_after (serial_along p s.done).rows), length-behaviours (serial_along p s.done).rows, ap length s.own, length-append s.done s.due)
+    omega (
+      arith,
+      ap length s.queued,
+      length-drop (length s.done) (behaviours_after (serial_along p s.done).rows),
+      length-behaviours
+          (serial_along p s.done).rows,
+      ap length s.own,
+      length-append s.done s.due,
+    )
 
 -- after the turn of the first in the queue
 record Onward (p : Program) (b : Behaviour) (rest : List Behaviour) (values : List ℤ) (body : Body) (done : List ℕ) : Type 0 where
@@ -68,7 +95,8 @@ record Onward (p : Program) (b : Behaviour) (rest : List Behaviour) (values : Li
   parent : ℕ
   own : IsOwnOrder p (done ++ parent ∷ []) due
   long : length due ≡ length rest + length (meaning body b.args (inputs_of b.cowns values)).wishes
-  queued : drop (length (done ++ parent ∷ [])) (behaviours_after (serial_along p (done ++ parent ∷ [])).rows) ≡ rest ++ map behaviour_of (meaning body b.args (inputs_of b.cowns values)).wishes
+  queued : drop (length (done ++ parent ∷ [])) (behaviours_after (serial_along p (done ++ parent ∷ [])).rows) ≡ rest
+      ++ map behaviour_of (meaning body b.args (inputs_of b.cowns values)).wishes
   values_are : (serial_along p (done ++ parent ∷ [])).values ≡ after_outputs values b.cowns (meaning body b.args (inputs_of b.cowns values)).outputs
 
 drop_one : (xs : List Behaviour) (n : ℕ) (b : Behaviour) (rest : List Behaviour) → drop n xs ≡ b ∷ rest → drop (suc n) xs ≡ rest
@@ -77,24 +105,39 @@ drop_one [] (suc n) b rest e = absurd cc
 drop_one (x ∷ xs) zero b rest e = cc
 drop_one (x ∷ xs) (suc n) b rest e = drop_one xs n b rest e
 
-onward : (p : Program) (b : Behaviour) (rest : List Behaviour) (values : List ℤ) (so_far : ℕ) (body : Body) → (s : HasReached p (b ∷ rest) values so_far) → slice_get p.bodies b.kind ≡ Some body → Onward p b rest values body s.done
+onward : (p : Program) (b : Behaviour) (rest : List Behaviour) (values : List ℤ) (so_far : ℕ) (body : Body) → (s : HasReached p (b ∷ rest) values so_far)
+    → slice_get p.bodies b.kind ≡ Some body → Onward p b rest values body s.done
 onward p b rest values so_far body s is =
     let long = due_are p (b ∷ rest) values so_far s in
     let d = is_due s.due (omega (arith, long)) in
     let own : IsOwnOrder p s.done (d.first ∷ d.others) = subst (IsOwnOrder p s.done) d.is s.own in
     let old : Serial = serial_along p s.done in
-    let row : SerialRow = record { parent = d.first; behaviour = b; inputs = inputs_of b.cowns values; means = meaning body b.args (inputs_of b.cowns values) } in
+    let row : SerialRow = record {
+      parent = d.first;
+      behaviour = b;
+      inputs = inputs_of b.cowns values;
+      means = meaning body b.args (inputs_of b.cowns values);
+    } in
     let same : next_row p old d.first ≡ row = row_is p s.done d.others d.first b rest values body own s.queued s.values_are is in
     let after : serial_along p (s.done ++ d.first ∷ []) ≡ with_row old row = along_more p (serial_along p []) s.done d.first ∙ ap (with_row old) same in
     let wishes : next_wishes p s.done d.first ≡ length row.means.wishes = ap (λ r. length r.means.wishes) same in
     let more : List Behaviour = map behaviour_of row.means.wishes in
     let n : length (s.done ++ d.first ∷ []) ≡ suc (length s.done) = omega (arith, length-append s.done (d.first ∷ [])) in
-    let reached : suc (length s.done) ≤ length (behaviours_after old.rows) = omega (arith, length-behaviours old.rows, ap length own, length-append s.done (d.first ∷ d.others)) in
+    let reached : suc (length s.done) ≤ length (behaviours_after old.rows) =
+    omega (arith, length-behaviours old.rows, ap length own, length-append s.done (d.first ∷ d.others)) in
     record {
       due = d.others ++ replicate (next_wishes p s.done d.first) (length s.done);
       parent = d.first;
       own = next_own p s.done d.others d.first own;
-      long = omega (arith, long, ap length d.is, wishes, length-append d.others (replicate (next_wishes p s.done d.first) (length s.done)), length-replicate (next_wishes p s.done d.first) (length s.done));
+      long = omega (
+        arith,
+        long,
+        ap length d.is,
+        wishes,
+        length-append d.others (replicate (next_wishes p s.done d.first) (length s.done)),
+        length-replicate
+            (next_wishes p s.done d.first) (length s.done),
+      );
       queued =
           ap (λ k. drop k (behaviours_after (serial_along p (s.done ++ d.first ∷ [])).rows)) n
           ∙ ap (λ (t : Serial). drop (suc (length s.done)) (behaviours_after t.rows)) after
@@ -104,7 +147,9 @@ onward p b rest values so_far body s is =
       values_are = ap (λ (t : Serial). t.values) after ∙ ap (λ (vs : List ℤ). after_outputs vs b.cowns row.means.outputs) s.values_are;
     }
 
-pub reached_next : (p : Program) (b : Behaviour) (rest : List Behaviour) (values : List ℤ) (so_far : ℕ) (queue : List Behaviour) (after : List ℤ) (now : ℕ) → HasReached p (b ∷ rest) values so_far → Turned p b rest values queue after → now + length rest ≡ so_far + length queue → now ≤ 65535 → HasReached p queue after now
+pub reached_next : (p : Program) (b : Behaviour) (rest : List Behaviour) (values : List ℤ) (so_far : ℕ) (queue : List Behaviour) (after : List ℤ) (now : ℕ)
+    → HasReached p (b ∷ rest) values so_far → Turned p b rest values queue after → now + length rest ≡ so_far + length queue → now ≤ 65535
+    → HasReached p queue after now
 reached_next p b rest values so_far queue after now s t rows few =
     let o = onward p b rest values so_far t.body s t.is in
     record {
@@ -128,7 +173,8 @@ reached_end p queue values so_far s e =
     empty [] none = refl
     empty (x ∷ xs) none = absurd (omega (arith, none))
 
-pub reached_over : (p : Program) (b : Behaviour) (rest : List Behaviour) (values : List ℤ) (so_far : ℕ) → HasReached p (b ∷ rest) values so_far → 65535 < so_far + turn_wishes p b values → HasTooMany p
+pub reached_over : (p : Program) (b : Behaviour) (rest : List Behaviour) (values : List ℤ) (so_far : ℕ) → HasReached p (b ∷ rest) values so_far
+    → 65535 < so_far + turn_wishes p b values → HasTooMany p
 reached_over p b rest values so_far s h =
     let r = named p.bodies (calls_fit (map signature_of p.bodies) (cown_count p.cowns)) b.kind (length b.args) (length b.cowns) s.fits.0.0 p.calls in
     let o = onward p b rest values so_far r.body s r.is in
@@ -140,7 +186,8 @@ reached_over p b rest values so_far s h =
       many = omega (arith, h, count, o.long, s.rows_are, length-append s.done (o.parent ∷ []));
     }
 
-pub reached_first : (p : Program) (queue : List Behaviour) (values : List ℤ) → queue ≡ main_behaviour ∷ [] → values ≡ initial_values p.cowns → HasReached p queue values 1
+pub reached_first : (p : Program) (queue : List Behaviour) (values : List ℤ) → queue ≡ main_behaviour ∷ [] → values ≡ initial_values p.cowns
+    → HasReached p queue values 1
 reached_first p queue values e v = record {
   done = [];
   due = 0 ∷ [];

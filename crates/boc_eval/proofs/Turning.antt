@@ -20,31 +20,40 @@ pub same_found : (a b : Body) → Some a ≡ Some b → a ≡ b
 same_found a b e = cc
 
 -- the behaviours that come behind leave those before them as they are
-pub stays_at : (old new : Rows) (more : List Behaviour) (turn : ℕ) → turn < length old.rows.items → behaviours_of new ≡ behaviours_of old ++ more → behaviour_at new turn ≡ behaviour_at old turn
+pub stays_at : (old new : Rows) (more : List Behaviour) (turn : ℕ) → turn < length old.rows.items → behaviours_of new ≡ behaviours_of old ++ more
+    → behaviour_at new turn ≡ behaviour_at old turn
 stays_at old new more turn h e =
     ap (λ (bs : List Behaviour). slice_index_or bs turn main_behaviour) e
     ∙ get_or_append_left (behaviours_of old) more main_behaviour turn (omega (arith, rows_are old))
 
 -- the behaviour whose turn it is comes before those whose turns are to come
-pub in_front : (p : Program) (rows : Rows) (turn : ℕ) (values : List ℤ) (n : ℕ) → turn < length rows.rows.items → HasReached p (drop turn (behaviours_of rows)) values n → HasReached p (behaviour_at rows turn ∷ drop (turn + 1) (behaviours_of rows)) values n
+pub in_front : (p : Program) (rows : Rows) (turn : ℕ) (values : List ℤ) (n : ℕ) → turn < length rows.rows.items
+    → HasReached p (drop turn (behaviours_of rows)) values n → HasReached p (behaviour_at rows turn ∷ drop (turn + 1) (behaviours_of rows)) values n
 in_front p rows turn values n h s =
     subst (λ (q : List Behaviour). HasReached p q values n) (drop_more (behaviours_of rows) turn main_behaviour (omega (arith, rows_are rows))) s
 
 -- where the run stands with main's row alone
-pub first_row : (p : Program) (none rows : Rows) (values : List ℤ) → none.rows.items ≡ [] → behaviours_of rows ≡ behaviours_of none ++ main_behaviour ∷ [] → values ≡ initial_values p.cowns → HasReached p (behaviours_of rows) values (length rows.rows.items)
+pub first_row : (p : Program) (none rows : Rows) (values : List ℤ) → none.rows.items ≡ [] → behaviours_of rows ≡ behaviours_of none ++ main_behaviour ∷ []
+    → values ≡ initial_values p.cowns → HasReached p (behaviours_of rows) values (length rows.rows.items)
 first_row p none rows values empty added v =
-    let alone : behaviours_of rows ≡ main_behaviour ∷ [] = added ∙ ap (λ rs. map (behaviour_in none.args.items none.cowns.items) rs ++ main_behaviour ∷ []) empty in
+    let alone : behaviours_of rows ≡ main_behaviour ∷ [] =
+    added ∙ ap (λ rs. map (behaviour_in none.args.items none.cowns.items) rs ++ main_behaviour ∷ []) empty in
     let one : 1 ≡ length rows.rows.items = omega (arith, ap length alone, rows_are rows) in
     subst (λ (n : ℕ). HasReached p (behaviours_of rows) values n) one (reached_first p (behaviours_of rows) values alone v)
 
 -- where the run stands after a turn
-pub next_row : (p : Program) (old new : Rows) (turn : ℕ) (values after : List ℤ) → turn < length old.rows.items → HasReached p (drop turn (behaviours_of old)) values (length old.rows.items) → Turned p (behaviour_at old turn) (drop (turn + 1) (behaviours_of old)) values (drop (turn + 1) (behaviours_of new)) after → length old.rows.items ≤ length new.rows.items → IsConsistent new → HasReached p (drop (turn + 1) (behaviours_of new)) after (length new.rows.items)
+pub next_row : (p : Program) (old new : Rows) (turn : ℕ) (values after : List ℤ) → turn < length old.rows.items
+    → HasReached p (drop turn (behaviours_of old)) values (length old.rows.items)
+    → Turned p (behaviour_at old turn) (drop (turn + 1) (behaviours_of old)) values (drop (turn + 1) (behaviours_of new)) after
+    → length old.rows.items ≤ length new.rows.items → IsConsistent new → HasReached p (drop (turn + 1) (behaviours_of new)) after (length new.rows.items)
 next_row p old new turn values after h s t more sound =
-    reached_next p (behaviour_at old turn) (drop (turn + 1) (behaviours_of old)) values (length old.rows.items) (drop (turn + 1) (behaviours_of new)) after (length new.rows.items) (in_front p old turn values (length old.rows.items) h s) t
+    reached_next p (behaviour_at old turn) (drop (turn + 1) (behaviours_of old)) values (length old.rows.items) (drop (turn + 1) (behaviours_of new)) after
+    (length new.rows.items) (in_front p old turn values (length old.rows.items) h s) t
     (omega (arith, rows_are old, rows_are new, length-drop (turn + 1) (behaviours_of old), length-drop (turn + 1) (behaviours_of new)))
     sound.few_rows
 
 -- the run is over after the turn of the last row
-pub last_row : (p : Program) (rows : Rows) (turn : ℕ) (values : List ℤ) → length rows.rows.items ≤ turn → HasReached p (drop turn (behaviours_of rows)) values (length rows.rows.items) → EndsWith p values
+pub last_row : (p : Program) (rows : Rows) (turn : ℕ) (values : List ℤ) → length rows.rows.items ≤ turn
+    → HasReached p (drop turn (behaviours_of rows)) values (length rows.rows.items) → EndsWith p values
 last_row p rows turn values h s =
     reached_end p (drop turn (behaviours_of rows)) values (length rows.rows.items) s (drop_all turn (behaviours_of rows) (omega (arith, rows_are rows)))

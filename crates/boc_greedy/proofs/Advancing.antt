@@ -27,13 +27,15 @@ module _ (rows : List Row) (hr : IsRows rows) (p end : ℕ) (starts workers : Li
     kept_next = record {
       staged = k.staged;
       early = early;
-      under_way = λ q e. (let o = k.under_way q e in record { begun = omega (arith, o.begun, forward); below = o.below; taken = o.taken; change = o.change; queued = o.queued });
+      under_way = λ q e. (let o = k.under_way q e in record
+          { begun = omega (arith, o.begun, forward); below = o.below; taken = o.taken; change = o.change; queued = o.queued });
       over = λ q e. omega (arith, k.over q e, forward);
       spawned = λ a b c out. omega (arith, k.spawned a b c out, forward);
       busy = λ at q i. (let y = k.busy at q i in record { under_way = y.under_way; ahead = least at q i; spawns = y.spawns; ends = y.ends });
       greedy = λ x lt. elim (cases_lt x t) [
         | inl l ↦ k.greedy x l
-        | inr ge ↦ greedy_now rows hr p end starts workers stages first queue idle t k x ge (omega (arith, lt, early)) (λ at q i. omega (arith, least at q i, lt)) full g
+        | inr ge ↦ greedy_now rows hr p end starts workers stages first queue idle t k x ge (omega (arith, lt, early))
+            (λ at q i. omega (arith, least at q i, lt)) full g
       ];
     }
 
@@ -52,7 +54,14 @@ module _ (rows : List Row) (hr : IsRows rows) (p end : ℕ) (starts workers : Li
     -- no moment lies in between
     no_end : (r x : ℕ) → r < length rows → end_of rows starts r ≡ x → t < x → x ≤ u → x ≡ u
     no_end r x h e lt le = elim (started rows hr p end starts workers stages first queue idle t k r h (omega (arith, e, le, early))) [
-      | inl s ↦ omega (arith, e, le, least _ r (k.under_way r s).queued, change_low rows hr p end starts workers stages first queue idle t k r _ (its_change rows hr p end starts workers stages first queue idle t k r s))
+      | inl s ↦ omega (
+        arith,
+        e,
+        le,
+        least _ r (k.under_way r s).queued,
+        change_low rows hr p end starts workers stages first queue idle t k r _
+            (its_change rows hr p end starts workers stages first queue idle t k r s),
+      )
       | inr s ↦ absurd (omega (arith, k.over r s, e, lt))
     ]
 
@@ -61,7 +70,14 @@ module _ (rows : List Row) (hr : IsRows rows) (p end : ℕ) (starts workers : Li
       | inl s ↦ (
           let h : a < length rows = omega (arith, parent_there rows hr p end starts workers stages first queue idle t k a b c, c.there) in
           let q = parent_under_way rows hr p end starts workers stages first queue idle t k a b c s h (omega (arith, e, le, early)) in
-          omega (arith, e, le, least _ a (k.under_way a q).queued, change_first rows hr p end starts workers stages first queue idle t k a _ (its_change rows hr p end starts workers stages first queue idle t k a q) b c s))
+          omega (
+            arith,
+            e,
+            le,
+            least _ a (k.under_way a q).queued,
+            change_first rows hr p end starts workers stages first queue idle t k a _
+                (its_change rows hr p end starts workers stages first queue idle t k a q) b c s,
+          ))
       | inr out ↦ absurd (omega (arith, k.spawned a b c out, e, lt))
     ]
 
@@ -79,7 +95,8 @@ module _ (rows : List Row) (hr : IsRows rows) (p end : ℕ) (starts workers : Li
             k.staged.all_spawned (parent_of rows r) r c (before (parent_of rows r) (hr.parent_before r pos h)) e)
         | inr ge ↦ (let z : r ≡ 0 = omega (arith, ge) in k.staged.not_main (subst (λ (x : ℕ). IsAt stages x Unspawned) z e))
       ])
-      | inr (inl e) ↦ absurd (let (q, on, at) = k.staged.held 0 some (full r 0 (record { waits = e; clear = λ a o. before a o.before })) in none _ q (k.under_way q on).queued)
+      | inr (inl e) ↦ absurd (let (q, on, at) = k.staged.held 0 some (full r 0 (record { waits = e; clear = λ a o. before a o.before })) in
+          none _ q (k.under_way q on).queued)
       | inr (inr (inl e)) ↦ absurd (none _ r (k.under_way r e).queued)
       | inr (inr (inr e)) ↦ e
     ]
@@ -112,7 +129,8 @@ module _ (rows : List Row) (hr : IsRows rows) (p end : ℕ) (starts workers : Li
         | inl l ↦ k.greedy u l
         | inr ge ↦ elim (cases_lt t u) [
           | inl lt ↦ greedy_late u lt
-          | inr le ↦ greedy_now rows hr p end starts workers stages first queue idle t k u ge (omega (arith, le, k.early)) (λ at q i. absurd (none at q i)) full g
+          | inr le ↦ greedy_now rows hr p end starts workers stages first queue idle t k u ge (omega (arith, le, k.early)) (λ at q i. absurd (none at q i)) full
+              g
         ]
       ];
     }

@@ -62,7 +62,8 @@ greedy_there rows hr p t plan plan' workers workers' a u lt g = record {
     b = turned t plan plan' workers workers' a
 
     old : (r : ℕ) → IsReady rows plan' u r → IsReady rows plan u r
-    old r i = ready_there rows hr p t plan' plan workers' workers b u (omega (arith, lt)) r (up rows hr p t plan' plan workers' workers b u (omega (arith, lt)) r i.waits) i
+    old r i = ready_there rows hr p t plan' plan workers' workers b u (omega (arith, lt)) r
+        (up rows hr p t plan' plan workers' workers b u (omega (arith, lt)) r i.waits) i
 
     later_still : (r : ℕ) → u < start_of plan' r → u < start_of plan r
     later_still r l = elim (cases_lt u (start_of plan r)) [ inl h ↦ h | inr ge ↦ absurd (omega (arith, l, ge, (a.there r (omega (arith, ge, lt))).0)) ]

@@ -21,7 +21,8 @@ use Rattle.boc_greedy.specs.Simulating.{Kept, Given, IsFresh, HasPassed, steps_l
 use Rattle.boc_greedy.proofs.Waking.{main_alone, none_else}
 
 -- where no row starts at a tick, nothing was given
-pub given_fresh : (rows : List Row) (p : ℕ) (starts workers : List ℕ) (stages : List Stage) (idle t : ℕ) → IsFresh rows starts t → Given rows p starts workers stages idle t
+pub given_fresh : (rows : List Row) (p : ℕ) (starts workers : List ℕ) (stages : List Stage) (idle t : ℕ) → IsFresh rows starts t
+    → Given rows p starts workers stages idle t
 given_fresh rows p starts workers stages idle t fresh = record {
   ready = λ r h e. absurd (fresh r h e);
   free = λ r h e. absurd (fresh r h e);

@@ -100,7 +100,8 @@ module _ (rows : List Row) (hr : IsRows rows) (p : ℕ) (some : 0 < p) (plan wor
       none_free w h z =
           let out : (r : ℕ) → r < length rows → worker_of workers r ≡ w → RunsAt rows plan r t → ⊥ = λ r there e k.
           (let one : on rows plan workers t r w ≡ 1 = on_yes rows plan workers t r w k e in
-          let le : on rows plan workers t r w ≤ total (λ r. on rows plan workers t r w) (length rows) = at-le-total (λ r. on rows plan workers t r w) (length rows) r there in
+          let le : on rows plan workers t r w ≤ total (λ r. on rows plan workers t r w) (length rows) =
+          at-le-total (λ r. on rows plan workers t r w) (length rows) r there in
           omega arith) in
           let free : IsFree rows p plan workers t w = record {
             below = h;

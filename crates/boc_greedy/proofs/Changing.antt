@@ -26,7 +26,8 @@ pub record IsDue (rows : List Row) (s : Simulation) (r : ℕ) : Type 0 where
   pub under_way : IsAt s.frontier.stages.items r UnderWay
   pub early : start_of s.starts.items r + MOST_TICKS < later
   pub listed : r < length s.family.first.items
-  pub unspawned : slice_index (children_of s.family.first.items) r < length rows → IsAt s.frontier.stages.items (slice_index (children_of s.family.first.items) r) Unspawned
+  pub unspawned : slice_index (children_of s.family.first.items) r < length rows
+      → IsAt s.frontier.stages.items (slice_index (children_of s.family.first.items) r) Unspawned
 
 pub is_due : (rows : List Row) → IsRows rows → (s : Simulation) (r : ℕ) → IsStepping rows s → IsOnTop (heap_items s.queue) s.tick r → IsDue rows s r
 is_due rows hr s r i top =
@@ -52,8 +53,10 @@ pub record IsSpawning (rows : List Row) (s : Simulation) (r : ℕ) (change next 
   pub rises : change.after ≤ next.after
   pub now : s.tick ≡ start_of s.starts.items r + change.after
 
-module _ (rows : List Row) (hr : IsRows rows) (s : Simulation) (r : ℕ) (i : IsStepping rows s) (top : IsOnTop (heap_items s.queue) s.tick r) (change next : Change)
-    (read : change ≡ get_or s.family.first.items r change) (there : change.child < length rows) (next_read : next ≡ get_or s.family.next.items change.child next) where
+module _ (rows : List Row) (hr : IsRows rows) (s : Simulation) (r : ℕ) (i : IsStepping rows s) (top : IsOnTop (heap_items s.queue) s.tick r)
+    (change next : Change)
+    (read : change ≡ get_or s.family.first.items r change) (there : change.child < length rows)
+    (next_read : next ≡ get_or s.family.next.items change.child next) where
   d : IsDue rows s r
   d = is_due rows hr s r i top
 

@@ -44,16 +44,24 @@ pub unmet_same : (stages : List Stage) (row : ℕ) (from to : Stage) → IsAt st
     unmet_of (slice_set stages row to) xs ≡ unmet_of stages xs
 unmet_same stages row from to was still goes_on [] = refl
 unmet_same stages row from to was still goes_on (x ∷ xs) =
-    omega (arith, here, unmet_same stages row from to was still goes_on xs, sum_by-cons (λ a. not_over (slice_get (slice_set stages row to) a)) x xs, sum_by-cons (λ a. not_over (slice_get stages a)) x xs)
+    omega (
+      arith,
+      here,
+      unmet_same stages row from to was still goes_on xs,
+      sum_by-cons (λ a. not_over (slice_get (slice_set stages row to) a)) x xs,
+      sum_by-cons (λ a. not_over (slice_get stages a)) x xs,
+    )
   where
     here : not_over (slice_get (slice_set stages row to) x) ≡ not_over (slice_get stages x)
     here = elim (cases_eq x row) [
-      | inl e ↦ rw e (ap not_over (set_same stages row to (place_below stages row from was)) ∙ lives (Some to) (λ e. goes_on (cc)) ∙ sym (ap not_over was ∙ lives (Some from) (λ e. still (cc))))
+      | inl e ↦ rw e (ap not_over (set_same stages row to (place_below stages row from was)) ∙ lives (Some to) (λ e. goes_on (cc))
+          ∙ sym (ap not_over was ∙ lives (Some from) (λ e. still (cc))))
       | inr ne ↦ ap not_over (set_other stages row x to ne)
     ]
 
 -- a row that is under way ends
-pub unmet_ended : (stages : List Stage) (row : ℕ) → IsAt stages row UnderWay → (xs : List ℕ) → unmet_of (slice_set stages row Over) xs + times row xs ≡ unmet_of stages xs
+pub unmet_ended : (stages : List Stage) (row : ℕ) → IsAt stages row UnderWay → (xs : List ℕ)
+    → unmet_of (slice_set stages row Over) xs + times row xs ≡ unmet_of stages xs
 unmet_ended stages row was [] = refl
 unmet_ended stages row was (x ∷ xs) =
     omega (
@@ -74,4 +82,10 @@ unmet_ended stages row was (x ∷ xs) =
 -- at the beginning none is over
 pub unmet_all : (stages : List Stage) → ((a : ℕ) → IsAt stages a Over → ⊥) → (xs : List ℕ) → unmet_of stages xs ≡ length xs
 unmet_all stages none [] = refl
-unmet_all stages none (x ∷ xs) = omega (arith, lives (slice_get stages x) (none x), unmet_all stages none xs, sum_by-cons (λ a. not_over (slice_get stages a)) x xs)
+unmet_all stages none (x ∷ xs) = omega (
+  arith,
+  lives (slice_get stages x) (none x),
+  unmet_all stages none xs,
+  sum_by-cons (λ a. not_over (slice_get stages a)) x
+      xs,
+)

@@ -61,10 +61,15 @@ pub counts_given : (rows : List Row) → IsRows rows → (t : ℕ) (starts start
     (n : ℕ) → CountsAll n (IsPast rows starts t) → CountsAll n (IsPast rows starts' t)
 counts_given rows hr t starts starts' workers workers' a n c = counts_same n (IsPast rows starts t) (IsPast rows starts' t)
     (λ u i. record { come = i.come; moment = moment_there rows hr t starts starts' workers workers' a u i.come i.moment })
-    (λ u i. record { come = i.come; moment = moment_there rows hr t starts' starts workers' workers (turned t starts starts' workers workers' a) u i.come i.moment }) c
+    (λ u i. record {
+      come = i.come;
+      moment = moment_there rows hr t starts' starts workers' workers (turned t starts starts' workers workers' a) u i.come
+          i.moment;
+    }) c
 
 -- the next moment is counted
-pub counts_next : (rows : List Row) (starts : List ℕ) (t u n : ℕ) → t < u → IsMoment rows starts u → ((x : ℕ) → IsMoment rows starts x → t < x → x ≤ u → x ≡ u) →
+pub counts_next : (rows : List Row) (starts : List ℕ) (t u n : ℕ) → t < u → IsMoment rows starts u → ((x : ℕ) → IsMoment rows starts x → t < x → x ≤ u → x ≡ u)
+    →
     CountsAll n (IsPast rows starts t) → CountsAll (n + 1) (IsPast rows starts u)
 counts_next rows starts t u n above here none c = counts_more n (IsPast rows starts t) (IsPast rows starts u) t u above
     (λ x i. i.come) (λ x i. record { come = omega (arith, i.come, above); moment = i.moment }) (record { come = omega arith; moment = here })

@@ -41,7 +41,13 @@ module _ (rows : List Row) (hr : IsRows rows) (p end : ℕ) (starts workers : Li
       let old = ran a e in
       let o = k.under_way a old.1 in
       let other : worker_of workers a ≢ worker_of workers r = λ same. old.0 (k.staged.apart a r old.1 is_busy.under_way same) in
-      record { begun = o.begun; below = o.below; taken = λ is. o.taken (sym (others _ other) ∙ is); change = o.change; queued = po.stays o.change a old.0 o.queued }
+      record {
+        begun = o.begun;
+        below = o.below;
+        taken = λ is. o.taken (sym (others _ other) ∙ is);
+        change = o.change;
+        queued = po.stays o.change a old.0 o.queued;
+      }
 
   busy_after : (at q : ℕ) → IsIn rest at q → IsBusy rows starts stages' t q (slice_index first q) at
   busy_after at q i =
@@ -57,7 +63,8 @@ module _ (rows : List Row) (hr : IsRows rows) (p end : ℕ) (starts workers : Li
 
   all_after : (a b : ℕ) → IsChild rows a b → IsAt stages' a Over → IsAt stages' b Unspawned → ⊥
   all_after a b d o e = elim (cases_eq a r) [
-    | inl same ↦ (k.staged.left r (there rows hr p end starts workers stages first queue idle t k r UnderWay is_busy.under_way)).before b (subst (λ (x : ℕ). IsChild rows x b) same d)
+    | inl same ↦ (k.staged.left r (there rows hr p end starts workers stages first queue idle t k r UnderWay is_busy.under_way)).before b
+        (subst (λ (x : ℕ). IsChild rows x b) same d)
         (omega (arith, d.there, none_left)) (was b e)
     | inr ne ↦ k.staged.all_spawned a b d (sym (sg.others a ne) ∙ o) (was b e)
   ]

@@ -68,7 +68,8 @@ spawn_is_there : (rows : List Row) (plan : List ℕ) (a b : ℕ) → 0 < b → b
     → Contains (at_each (λ i. start_of plan (parent_of rows (suc i)) + offset_of rows (suc i)) (length rows - 1)) (start_of plan a + offset_of rows b)
 spawn_is_there rows plan a zero above there parent = absurd (omega (arith, above))
 spawn_is_there rows plan a (suc b) above there parent =
-    subst (λ x. Contains (at_each (λ i. start_of plan (parent_of rows (suc i)) + offset_of rows (suc i)) (length rows - 1)) (start_of plan x + offset_of rows (suc b))) parent
+    subst (λ x. Contains (at_each (λ i. start_of plan (parent_of rows (suc i)) + offset_of rows (suc i)) (length rows - 1))
+    (start_of plan x + offset_of rows (suc b))) parent
     (each_is_there (λ i. start_of plan (parent_of rows (suc i)) + offset_of rows (suc i)) (length rows - 1) b (omega (arith, there)))
 
 moment_is_there : (rows : List Row) (plan : List ℕ) (t : ℕ) → IsMoment rows plan t → Contains (candidates rows plan) t
@@ -78,8 +79,10 @@ moment_is_there rows plan t m =
     elim m [
       | inl e ↦ (0, omega arith, sym e)
       | inr later ↦ elim later [
-        | inl (r, there, e) ↦ further t 0 (ends ++ spawns) (Contains-append_left ends spawns t (subst (λ x. Contains ends x) e (each_is_there (end_of rows plan) (length rows) r there)))
-        | inr (a, b, child, e) ↦ further t 0 (ends ++ spawns) (Contains-append_right ends spawns t (subst (λ x. Contains spawns x) e (spawn_is_there rows plan a b child.not_main child.there child.parent)))
+        | inl (r, there, e) ↦ further t 0 (ends ++ spawns)
+            (Contains-append_left ends spawns t (subst (λ x. Contains ends x) e (each_is_there (end_of rows plan) (length rows) r there)))
+        | inr (a, b, child, e) ↦ further t 0 (ends ++ spawns)
+            (Contains-append_right ends spawns t (subst (λ x. Contains spawns x) e (spawn_is_there rows plan a b child.not_main child.there child.parent)))
       ]
     ]
 

@@ -22,7 +22,8 @@ module _ (rows : List Row) (hr : IsRows rows) (p end : ℕ) (starts workers : Li
     (x w change : ℕ) (starts' workers' : List ℕ) (stages' : List Stage) (queue' : List Entry) (idle' : ℕ)
     (ps : Puts starts starts' x t) (pw : Puts workers workers' x w) (sg : Restages stages stages' x UnderWay) (pq : Pushed queue queue' change x)
     (can : CanStart rows stages x) (is_idle : bit_at idle w ≡ 1) (cleared : bit_at idle' w ≡ 0) (others : (v : ℕ) → v ≢ w → bit_at idle' v ≡ bit_at idle v)
-    (spawns : slice_index first x < length rows → change ≡ t + offset_of rows (slice_index first x)) (ends : length rows ≤ slice_index first x → change ≡ t + ticks_of rows x) where
+    (spawns : slice_index first x < length rows → change ≡ t + offset_of rows (slice_index first x))
+    (ends : length rows ≤ slice_index first x → change ≡ t + ticks_of rows x) where
   x_there : x < length rows
   x_there = there rows hr p end starts workers stages first queue idle t k x Waiting can.waits
 
@@ -67,7 +68,13 @@ module _ (rows : List Row) (hr : IsRows rows) (p end : ℕ) (starts workers : Li
 
   on_after : (r : ℕ) → IsAt stages' r UnderWay → IsOn p starts' workers' queue' idle' t r
   on_after r e = elim (cases_eq r x) [
-    | inl same ↦ rw same (record { begun = omega (arith, ps.at); below = rw pw.at (k.staged.idle_below w is_idle); taken = rw pw.at (λ is. omega (arith, is, cleared)); change = change; queued = pq.here })
+    | inl same ↦ rw same (record {
+      begun = omega (arith, ps.at);
+      below = rw pw.at (k.staged.idle_below w is_idle);
+      taken = rw pw.at (λ is. omega (arith, is, cleared));
+      change = change;
+      queued = pq.here;
+    })
     | inr ne ↦ (
         let o = was_on r ne e in
         let moved : worker_of workers' r ≡ worker_of workers r = pw.others r ne in
@@ -82,11 +89,21 @@ module _ (rows : List Row) (hr : IsRows rows) (p end : ℕ) (starts workers : Li
 
   busy_after : (at r : ℕ) → IsIn queue' at r → IsBusy rows starts' stages' t r (slice_index first r) at
   busy_after at r i = elim (pq.was at r i) [
-    | inl e ↦ rw (e.0, e.1) (record { under_way = sg.at; ahead = omega (arith, change_above); spawns = λ l. omega (arith, spawns l, ps.at); ends = λ ge. omega (arith, ends ge, ps.at) })
+    | inl e ↦ rw (e.0, e.1) (record {
+      under_way = sg.at;
+      ahead = omega (arith, change_above);
+      spawns = λ l. omega (arith, spawns l, ps.at);
+      ends = λ ge. omega (arith, ends ge, ps.at);
+    })
     | inr old ↦ (
         let y = k.busy at r old in
         let o = other_on r y.under_way in
-        record { under_way = o.1; ahead = y.ahead; spawns = λ l. omega (arith, y.spawns l, ps.others r o.0); ends = λ ge. omega (arith, y.ends ge, ps.others r o.0) })
+        record {
+          under_way = o.1;
+          ahead = y.ahead;
+          spawns = λ l. omega (arith, y.spawns l, ps.others r o.0);
+          ends = λ ge. omega (arith, y.ends ge, ps.others r o.0);
+        })
   ]
 
   apart_after : (a b : ℕ) → IsAt stages' a UnderWay → IsAt stages' b UnderWay → worker_of workers' a ≡ worker_of workers' b → a ≡ b
@@ -119,7 +136,8 @@ module _ (rows : List Row) (hr : IsRows rows) (p end : ℕ) (starts workers : Li
       stages_whole = omega (arith, sg.whole, k.staged.stages_whole);
       first_whole = k.staged.first_whole;
       few = k.staged.few;
-      unspawned = λ r e. (let o = other_stage stages stages' x UnderWay sg r Unspawned (λ d. (cc)) e in omega (arith, ps.others r o.0, k.staged.unspawned r o.1));
+      unspawned = λ r e. (let o = other_stage stages stages' x UnderWay sg r Unspawned (λ d. (cc)) e in
+          omega (arith, ps.others r o.0, k.staged.unspawned r o.1));
       not_main = λ e. k.staged.not_main (was_unspawned 0 e);
       waiting = λ r e. (let o = other_stage stages stages' x UnderWay sg r Waiting (λ d. (cc)) e in omega (arith, ps.others r o.0, k.staged.waiting r o.1));
       all_spawned = λ a b c o e. k.staged.all_spawned a b c (other_stage stages stages' x UnderWay sg a Over (λ d. (cc)) o).1 (was_unspawned b e);

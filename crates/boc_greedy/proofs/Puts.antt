@@ -52,10 +52,12 @@ unspawned_or_not xs r h = elim (at_stage xs r h) [
 ]
 
 -- one step lowers the weight by one
-pub weight_set : (xs ys : List Stage) (i : ℕ) (s t : Stage) → IsAt xs i s → ys ≡ slice_set xs i t → steps_of_all ys + steps_left s ≡ steps_of_all xs + steps_left t
+pub weight_set : (xs ys : List Stage) (i : ℕ) (s t : Stage) → IsAt xs i s → ys ≡ slice_set xs i t
+    → steps_of_all ys + steps_left s ≡ steps_of_all xs + steps_left t
 weight_set xs ys i s t at is =
     let e : get_or xs i s ≡ s = get_or_from_slice_get xs i s s at in
-    let w : steps_of_all (set xs i t) + steps_left (get_or xs i s) ≡ steps_of_all xs + steps_left t = sum_by-set steps_left xs i t s (slice_get_within xs i s at) in
+    let w : steps_of_all (set xs i t) + steps_left (get_or xs i s) ≡ steps_of_all xs + steps_left t =
+    sum_by-set steps_left xs i t s (slice_get_within xs i s at) in
     rw is (rw e at w)
 
 -- another row, at another stage, was there before

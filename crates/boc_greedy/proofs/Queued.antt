@@ -39,7 +39,8 @@ pub record Taken (queue rest : List Entry) (r : ℕ) : Type 0 where
   pub stays : (change q : ℕ) → q ≢ r → IsIn queue change q → IsIn rest change q
 
 -- the top was taken off
-pub taken : (queue rest : List Entry) (x : Entry) (tick r : ℕ) → IsQueue queue → IsOnTop queue tick r → x ≡ slice_index_or queue 0 x → IsPermutation queue (x ∷ rest) →
+pub taken : (queue rest : List Entry) (x : Entry) (tick r : ℕ) → IsQueue queue → IsOnTop queue tick r → x ≡ slice_index_or queue 0 x
+    → IsPermutation queue (x ∷ rest) →
     Taken queue rest r
 taken queue rest x tick r q top at p = record {
   once = λ v. omega (arith, count v, q.once v);
@@ -66,7 +67,8 @@ pub record Popped (queue rest : List Entry) (r : ℕ) : Type 0 where
   pub taken : Taken queue rest r
 
 pub popped : (queue rest : List Entry) (o : Option Entry) (len tick r : ℕ) → IsQueue queue → IsOnTop queue tick r → len ≡ length queue →
-    IfSome o (λ x. x ≡ slice_index_or queue 0 x) → IfSome o (λ x. IsPermutation queue (x ∷ rest)) → IfSome o (λ x. PopsGreatest entry_order queue x rest) → IfNone o (len ≡ 0) →
+    IfSome o (λ x. x ≡ slice_index_or queue 0 x) → IfSome o (λ x. IsPermutation queue (x ∷ rest)) → IfSome o (λ x. PopsGreatest entry_order queue x rest)
+    → IfNone o (len ≡ 0) →
     Popped queue rest r
 popped queue rest None len tick r q top is at p heap none = absurd (omega (arith, is, none, slice_get_within queue 0 _ top))
 popped queue rest (Some x) len tick r q top is at p heap none =
@@ -99,10 +101,15 @@ pushed queue more change r all_once none heap p = record {
     once v =
         let count : entries_of v more ≡ one_if r v + entries_of v queue =
         omega (arith, sum_by-IsPermutation (λ (e : Entry). one_if e.0.1 v) (x ∷ queue) more p, sum_by-cons (λ (e : Entry). one_if e.0.1 v) x queue) in
-        elim (cases_eq r v) [ inl e ↦ (let s : entries_of v queue ≡ entries_of r queue = ap (λ (u : ℕ). entries_of u queue) (sym e) in omega (arith, one_same r v e)) | inr ne ↦ omega (arith, one_other r v ne, all_once v) ]
+        elim (cases_eq r v) [
+          | inl e ↦ (let s : entries_of v queue ≡ entries_of r queue = ap (λ (u : ℕ). entries_of u queue) (sym e) in
+              omega (arith, one_same r v e))
+          | inr ne ↦ omega (arith, one_other r v ne, all_once v)
+        ]
 
 -- the top was taken off, and came back with a later tick
-pub put_back : (queue rest later : List Entry) (x : Entry) (before tick r : ℕ) → IsQueue queue → IsOnTop queue before r → x ≡ slice_index_or queue 0 x → IsPermutation queue (x ∷ rest) →
+pub put_back : (queue rest later : List Entry) (x : Entry) (before tick r : ℕ) → IsQueue queue → IsOnTop queue before r → x ≡ slice_index_or queue 0 x
+    → IsPermutation queue (x ∷ rest) →
     IsHeap entry_order later → IsPermutation (record { 0 = (tick, x.0.1) } ∷ rest) later → IsPutOff queue r tick later
 put_back queue rest later x before tick r q top at p heap back = record {
   is_queue = pq.is_queue;

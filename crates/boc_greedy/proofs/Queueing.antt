@@ -8,7 +8,8 @@ use Rattle.boc_greedy.specs.RowSets.{IsRowSet, Has}
 use Rattle.boc_greedy.specs.Frontier.{AreQueuedBut}
 
 -- the set is one, and has the rows that it is to have
-pub queued : (left : List ℕ) (Is : ℕ → Type 0) (ready : RowSet) → IsRowSet ready → ((r : ℕ) → Has ready r → Is r) → ((r : ℕ) → Is r → Has ready r ⊎ Contains left r) →
+pub queued : (left : List ℕ) (Is : ℕ → Type 0) (ready : RowSet) → IsRowSet ready → ((r : ℕ) → Has ready r → Is r)
+    → ((r : ℕ) → Is r → Has ready r ⊎ Contains left r) →
     AreQueuedBut left Is ready
 unfolding AreQueuedBut
 queued left Is ready set only all = (set, only, all)

@@ -17,9 +17,11 @@ use Rattle.boc_greedy.proofs.Standing.{there, offset_low}
 module _ (rows : List Row) (hr : IsRows rows) (p end : ℕ) (starts workers : List ℕ) (stages : List Stage) (first : List ℕ) (queue : List Entry) (idle t : ℕ)
     (k : Kept rows p end starts workers stages first queue idle t)
     (r c child change : ℕ) (stages' : List Stage) (first' : List ℕ) (queue' : List Entry)
-    (due : IsIn queue t r) (c_is : slice_index first r ≡ c) (c_there : c < length rows) (sg : Restages stages stages' c Waiting) (pf : Puts first first' r child)
+    (due : IsIn queue t r) (c_is : slice_index first r ≡ c) (c_there : c < length rows) (sg : Restages stages stages' c Waiting)
+    (pf : Puts first first' r child)
     (po : IsPutOff queue r change queue') (next : IsNextChild rows (parent_of rows c) (c + 1) child)
-    (spawns : child < length rows → change ≡ start_of starts r + offset_of rows child) (ends : length rows ≤ child → change ≡ start_of starts r + ticks_of rows r) where
+    (spawns : child < length rows → change ≡ start_of starts r + offset_of rows child)
+    (ends : length rows ≤ child → change ≡ start_of starts r + ticks_of rows r) where
   is_busy : IsBusy rows starts stages t r c t
   is_busy = rw c_is at (k.busy t r due)
 
@@ -39,7 +41,13 @@ module _ (rows : List Row) (hr : IsRows rows) (p end : ℕ) (starts workers : Li
   change_from = elim (cases_lt child (length rows)) [
     | inl l ↦ (
         let d = next_is.child l in
-        omega (arith, spawns l, is_busy.spawns c_there, hr.offsets_rise c child c_child.not_main (omega (arith, next_is.above)) d.there (c_child.parent ∙ sym d.parent)))
+        omega (
+          arith,
+          spawns l,
+          is_busy.spawns c_there,
+          hr.offsets_rise c child c_child.not_main (omega (arith, next_is.above)) d.there
+              (c_child.parent ∙ sym d.parent),
+        ))
     | inr ge ↦ omega (arith, ends ge, is_busy.spawns c_there, offset_low rows hr p end starts workers stages first queue idle t k r c c_child)
   ]
 

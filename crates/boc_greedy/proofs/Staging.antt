@@ -32,7 +32,8 @@ one_stage stages r s t e f = let g : Some s ≡ Some t = sym e ∙ f in cc
 
 -- the rows that wait for nothing but a worker are those that can start
 module _ (rows : List Row) (waits : List (List ℕ)) (stages : List Stage) (are : AreWaits rows waits) where
-  module _ (past : (r : ℕ) → IsAt stages r Over → (a : ℕ) → Ordered rows a r → IsAt stages a Over) (r : ℕ) (there : r < length rows) (none : HasNoWaits waits stages r) where
+  module _ (past : (r : ℕ) → IsAt stages r Over → (a : ℕ) → Ordered rows a r → IsAt stages a Over) (r : ℕ) (there : r < length rows)
+      (none : HasNoWaits waits stages r) where
     over_from : (n a : ℕ) → Ordered rows a r → r < a + n → IsAt stages a Over
     over_from zero a o h = absurd (omega (arith, o.before, h))
     over_from (suc n) a o h = elim (near_complete rows a r there o) [
@@ -58,7 +59,8 @@ module _ (rows : List Row) (stages : List Stage) (row : ℕ) (from to : Stage) (
     | inr n ↦ moved_other stages row a to Over n e
   ]
 
-  stay : (q : Stage) → (to ≡ q → (a : ℕ) → Ordered rows a row → IsAt stages a Over) → ((r : ℕ) → IsAt stages r q → (a : ℕ) → Ordered rows a r → IsAt stages a Over) →
+  stay : (q : Stage) → (to ≡ q → (a : ℕ) → Ordered rows a row → IsAt stages a Over)
+      → ((r : ℕ) → IsAt stages r q → (a : ℕ) → Ordered rows a r → IsAt stages a Over) →
       (r : ℕ) → IsAt (slice_set stages row to) r q → (a : ℕ) → Ordered rows a r → IsAt (slice_set stages row to) a Over
   stay q clear past r e a o = over_stays a (elim (moved stages row r to q e) [
     | inl p ↦ clear p.1 a (subst (Ordered rows a) p.0 o)

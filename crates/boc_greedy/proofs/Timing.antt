@@ -40,14 +40,22 @@ module _ (rows : List Row) (hr : IsRows rows) where
   ]
 
   -- a later child comes later, and the end of the row too
-  pub timed_rise : (a b child before after : ℕ) → IsChild rows a b → IsNextChild rows a (b + 1) child → IsTimed rows a b before → IsTimed rows a child after → before ≤ after
+  pub timed_rise : (a b child before after : ℕ) → IsChild rows a b → IsNextChild rows a (b + 1) child → IsTimed rows a b before → IsTimed rows a child after
+      → before ≤ after
   timed_rise a b child before after is next t u = elim (cases_lt child (length rows)) [
-    | inl l ↦ (let d = next.child l in omega (arith, t.spawns is.there, u.spawns l, hr.offsets_rise b child is.not_main (omega (arith, next.above)) d.there (is.parent ∙ sym d.parent)))
+    | inl l ↦ (let d = next.child l in omega (
+      arith,
+      t.spawns is.there,
+      u.spawns l,
+      hr.offsets_rise b child is.not_main (omega (arith, next.above)) d.there
+          (is.parent ∙ sym d.parent),
+    ))
     | inr ge ↦ omega (arith, t.spawns is.there, u.ends ge, rw is.parent at (hr.ticks_cover b is.not_main is.there))
   ]
 
 -- the times of all rows, where one row has another child
-pub timed_after : (rows : List Row) (first first' times times' : List ℕ) (r child after : ℕ) → AreTimed rows first times → Puts first first' r child → Puts times times' r after →
+pub timed_after : (rows : List Row) (first first' times times' : List ℕ) (r child after : ℕ) → AreTimed rows first times → Puts first first' r child
+    → Puts times times' r after →
     IsTimed rows r child after → AreTimed rows first' times'
 timed_after rows first first' times times' r child after are pf pt is a h = elim (cases_eq a r) [
   | inl e ↦ subst (λ (x : ℕ). IsTimed rows x (slice_index first' x) (slice_index times' x)) (sym e) (rw (pf.at, pt.at) is)

@@ -1,5 +1,6 @@
 -- The frontier as a row is spawned, starts or ends, and at the beginning.
-use Rattle.std.proofs.Common.{◌≡◌, ◌≢◌, ℕ, zero, suc, ◌+◌, ◌-◌, ◌<◌, ◌⊎◌, List, [], ◌∷◌, length, refl, sym, subst, inl, inr, arith, replicate, length-set, get_or-set_same, get_or-set_other}
+use Rattle.std.proofs.Common.{◌≡◌, ◌≢◌, ℕ, zero, suc, ◌+◌, ◌-◌, ◌<◌, ◌⊎◌, List, [], ◌∷◌, length, refl, sym, subst, inl, inr, arith, replicate, length-set}
+use Rattle.std.proofs.Common.{get_or-set_same, get_or-set_other}
 use Rattle.std.specs.Prelude.{slice_index, slice_set, pred, Some, None, ◌↔◌}
 use Rattle.std.specs.List.{Contains}
 use Rattle.std.proofs.lemmas.Bool.{cases_eq, cases_lt}
@@ -21,7 +22,8 @@ use Rattle.boc_greedy.proofs.Queueing.{queued, queued_each, queued_more, queued_
 use Rattle.boc_greedy.proofs.Staging.{moved_same, ready_can, can_ready, stay_in_turn, ready_stays, was_ready}
 
 -- by its count a row is ready where it waits for nothing but a worker, unless it is left
-module _ (waits : List (List ℕ)) (stages : List Stage) (unmet left : List ℕ) (are : AreCountedBut left waits stages unmet) (row : ℕ) (there : row < length stages) where
+module _ (waits : List (List ℕ)) (stages : List Stage) (unmet left : List ℕ) (are : AreCountedBut left waits stages unmet) (row : ℕ)
+    (there : row < length stages) where
   pub counts_awaits : CountsReady stages unmet row → AwaitsWorker waits stages row
   counts_awaits is = record { waiting = is.waiting; over = all_over stages (links_of waits row) (omega (arith, are.count row there, is.none_unmet)) }
 
@@ -32,12 +34,14 @@ module _ (waits : List (List ℕ)) (stages : List Stage) (unmet left : List ℕ)
   ]
 
 -- a row that goes on to another stage before its end leaves the counts as they are
-counts_stay : (waits : List (List ℕ)) (stages : List Stage) (unmet : List ℕ) (row : ℕ) (from to : Stage) → IsAt stages row from → (from ≡ Over → ⊥) → (to ≡ Over → ⊥) →
+counts_stay : (waits : List (List ℕ)) (stages : List Stage) (unmet : List ℕ) (row : ℕ) (from to : Stage) → IsAt stages row from → (from ≡ Over → ⊥)
+    → (to ≡ Over → ⊥) →
     AreCountedBut [] waits stages unmet → AreCountedBut [] waits (slice_set stages row to) unmet
 counts_stay waits stages unmet row from to was lives goes_on are = record {
   whole = simp length-set are.whole;
   waits_whole = simp length-set are.waits_whole;
-  count = λ r h. (let h' : r < length stages = omega (arith, h, length-set stages row to) in omega (arith, are.count r h', unmet_same stages row from to was lives goes_on (links_of waits r)));
+  count = λ r h. (let h' : r < length stages = omega (arith, h, length-set stages row to) in
+      omega (arith, are.count r h', unmet_same stages row from to was lives goes_on (links_of waits r)));
 }
 
 module _ (rows : List Row) (waits followers : List (List ℕ)) (stages : List Stage) (unmet : List ℕ) (ready : RowSet) where
@@ -122,7 +126,8 @@ module _ (rows : List Row) (waits followers : List (List ℕ)) (stages : List St
 
   -- of a row that was left one more that it waits for is over, and it was looked at
   pub woken : (row : ℕ) (left unmet' : List ℕ) (ready' : RowSet) → IsKeptBut rows (row ∷ left) waits followers stages unmet ready → row < length stages →
-      unmet' ≡ slice_set unmet row (slice_index unmet row - 1) → IsRowSet ready' → ((r : ℕ) → Has ready' r ↔ (Has ready r ⊎ ((r ≡ row) × CountsReady stages unmet' row))) →
+      unmet' ≡ slice_set unmet row (slice_index unmet row - 1) → IsRowSet ready'
+      → ((r : ℕ) → Has ready' r ↔ (Has ready r ⊎ ((r ≡ row) × CountsReady stages unmet' row))) →
       IsKeptBut rows left waits followers stages unmet' ready'
   woken row left unmet' ready' is there less set each = record {
     in_turn = is.in_turn;
@@ -141,7 +146,8 @@ module _ (rows : List Row) (waits followers : List (List ℕ)) (stages : List St
         whole = simp length-set was.whole;
         waits_whole = was.waits_whole;
         count = λ r h. elim (cases_eq r row) [
-          | inl e ↦ rw e (let l : row < length unmet = omega (arith, there, was.whole) in rw get_or-set_same (omega (arith, was.count row there, times-first row left)))
+          | inl e ↦ rw e (let l : row < length unmet = omega (arith, there, was.whole) in
+              rw get_or-set_same (omega (arith, was.count row there, times-first row left)))
           | inr ne ↦ rw get_or-set_other (omega (arith, was.count r h, times-other r row left ne))
         ];
       })

@@ -1,5 +1,6 @@
 -- Words of bits, and the bits above them that say which words are not 0.
-use Rattle.std.proofs.Common.{◌≡◌, ◌≢◌, ℕ, zero, suc, ◌+◌, ◌*◌, ◌/◌, ◌%◌, ◌^◌, ◌<◌, ◌≤◌, ◌⊎◌, List, length, get_or, sym, ◌∙◌, ap, subst, inl, inr, arith, get_or-set_same, get_or-set_other, w64, refl, replicate}
+use Rattle.std.proofs.Common.{◌≡◌, ◌≢◌, ℕ, zero, suc, ◌+◌, ◌*◌, ◌/◌, ◌%◌, ◌^◌, ◌<◌, ◌≤◌, ◌⊎◌, List, length, get_or, sym, ◌∙◌, ap, subst, inl, inr, arith}
+use Rattle.std.proofs.Common.{get_or-set_same, get_or-set_other, w64, refl, replicate}
 use Rattle.std.specs.Prelude.{slice_index, slice_set, ◌↔◌}
 use Rattle.std.specs.Int.{bit_at, trailing_zeros}
 use Rattle.std.proofs.lemmas.Bool.{cases_eq, cases_lt}
@@ -107,7 +108,8 @@ zero_at (suc n) (suc r) = zero_at n r
 
 -- no bit of zeros is set
 pub no_bits : (n i : ℕ) → IsSet (replicate n 0) i → ⊥
-no_bits n i is = let none : bit_at (slice_index (replicate n 0) (i / 64)) (i % 64) ≡ 0 = ap (λ (x : ℕ). bit_at x (i % 64)) (zero_at n (i / 64)) ∙ bit_at-zero (i % 64) in omega arith
+no_bits n i is = let none : bit_at (slice_index (replicate n 0) (i / 64)) (i % 64) ≡ 0 =
+    ap (λ (x : ℕ). bit_at x (i % 64)) (zero_at n (i / 64)) ∙ bit_at-zero (i % 64) in omega arith
 
 -- zeros are a set
 pub empty_set : (s : RowSet) → s.rows.items ≡ replicate 1024 0 → s.words ≡ replicate 16 0 → s.top ≡ 0 → IsRowSet s
@@ -133,7 +135,8 @@ module _ (s : RowSet) (is : IsRowSet s) where
         omega (arith, within s.words (trailing_zeros w64 s.top) full, is.words_room),
         full,
         λ i has. elim (cases_lt (i / 64) (trailing_zeros w64 s.top)) [
-          | inl less ↦ absurd (let none = low.2 (i / 64) less in let one = (is.top (i / 64)).1 (not_zero (slice_index s.words (i / 64)) (i % 64) has) in omega arith)
+          | inl less ↦ absurd (let none = low.2 (i / 64) less in let one = (is.top (i / 64)).1 (not_zero (slice_index s.words (i / 64)) (i % 64) has) in
+              omega arith)
           | inr l ↦ l
         ],
       )
@@ -185,12 +188,14 @@ module _ (s : RowSet) (row : ℕ) (is : IsRowSet s) (small : row < 65536) where
   group_full has = not_zero (slice_index s.words group) (word % 64) ((is.words word).1 (word_full has))
 
   -- the word is still not 0, as it is read again, or has become 0
-  pub words_stay : (v x : ℕ) → x ≡ get_or (slice_set s.rows.items word v) word x → Has s row → x ≢ 0 → (w : ℕ) → IsSet s.words w ↔ 0 < slice_index (slice_set s.rows.items word v) w
+  pub words_stay : (v x : ℕ) → x ≡ get_or (slice_set s.rows.items word v) word x → Has s row → x ≢ 0 → (w : ℕ)
+      → IsSet s.words w ↔ 0 < slice_index (slice_set s.rows.items word v) w
   words_stay v x read has more = marked (IsSet s.words) (IsSet s.words) s.rows.items word v there is.words (λ w n. ((λ h. h), (λ h. h)))
       ((λ _. omega (arith, read ∙ get_or-set_same s.rows.items word v x there)), (λ _. (is.words word).1 (word_full has)))
 
   pub words_clear : (v x u : ℕ) → x ≡ get_or (slice_set s.rows.items word v) word x → x ≡ 0 → bit_at u (word % 64) ≡ 0 →
-      ((j : ℕ) → j ≢ word % 64 → bit_at u j ≡ bit_at (slice_index s.words group) j) → (w : ℕ) → IsSet (slice_set s.words group u) w ↔ 0 < slice_index (slice_set s.rows.items word v) w
+      ((j : ℕ) → j ≢ word % 64 → bit_at u j ≡ bit_at (slice_index s.words group) j) → (w : ℕ)
+      → IsSet (slice_set s.words group u) w ↔ 0 < slice_index (slice_set s.rows.items word v) w
   words_clear v x u read none cleared others =
       let gone = clear_bit s.words word group (word % 64) u above (omega arith) (omega arith) cleared others in
       marked (IsSet s.words) (IsSet (slice_set s.words group u)) s.rows.items word v there is.words
@@ -198,7 +203,8 @@ module _ (s : RowSet) (row : ℕ) (is : IsRowSet s) (small : row < 65536) where
       ((λ h. absurd (((gone word).0 h).1 refl)), (λ l. absurd (omega (arith, read ∙ get_or-set_same s.rows.items word v x there))))
 
   -- the word of those bits is still not 0, or has become 0 as well
-  pub top_stays : (u : ℕ) → Has s row → slice_index (slice_set s.words group u) group ≢ 0 → (w : ℕ) → (bit_at s.top w ≡ 1) ↔ 0 < slice_index (slice_set s.words group u) w
+  pub top_stays : (u : ℕ) → Has s row → slice_index (slice_set s.words group u) group ≢ 0 → (w : ℕ)
+      → (bit_at s.top w ≡ 1) ↔ 0 < slice_index (slice_set s.words group u) w
   top_stays u has more = marked (λ w. bit_at s.top w ≡ 1) (λ w. bit_at s.top w ≡ 1) s.words group u above is.top (λ w n. ((λ h. h), (λ h. h)))
       ((λ _. omega (arith, get_or-set_same s.words group u 0 above)), (λ _. (is.top group).1 (group_full has)))
 

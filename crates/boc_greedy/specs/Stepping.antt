@@ -12,7 +12,8 @@ use Rattle.boc_greedy.specs.Simulating.{later, Kept, Given, IsFresh, HasPassed, 
 
 -- the simulation keeps what it has to keep
 abbrev pub IsSimulated : List Row → Simulation → Type 0
-IsSimulated rows s = Kept rows s.p later s.starts.items s.workers.items s.frontier.stages.items (children_of s.family.first.items) (heap_items s.queue) s.idle s.tick
+IsSimulated rows s = Kept rows s.p later s.starts.items s.workers.items s.frontier.stages.items (children_of s.family.first.items) (heap_items s.queue) s.idle
+    s.tick
 
 -- the moments so far are counted
 pub record IsCounted (rows : List Row) (starts : List ℕ) (tick moments : ℕ) : Type 0 where

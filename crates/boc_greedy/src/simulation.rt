@@ -22,7 +22,8 @@ const LATER: u64 = u64::MAX;
 
 // Has the row on top of the queue change next at this tick.
 fn put_off(queue: &mut BinaryHeap<Reverse<(u64, u32)>>, tick: u64)
-    ensures { (before row : ℕ) → IsQueue (heap_items queue.old) → IsOnTop (heap_items queue.old) before row → IsPutOff (heap_items queue.old) row tick (heap_items queue.new) }
+    ensures { (before row : ℕ) → IsQueue (heap_items queue.old) → IsOnTop (heap_items queue.old) before row
+        → IsPutOff (heap_items queue.old) row tick (heap_items queue.new) }
 {
     if let Some(mut top) = queue.peek_mut() {
         let Reverse((_, row)) = *top;

@@ -1,5 +1,6 @@
 -- Why a step is allowed where not all is over, unless there is no room for the next wish of a row.
-use Rattle.std.proofs.Common.{◌≡◌, ℕ, zero, suc, ◌+◌, ◌<◌, ◌≤◌, ◌⊎◌, inl, inr, Bool, true, false, List, [], ◌∷◌, ◌++◌, length, refl, sym, ◌∙◌, ap, subst, arith, append_assoc, length-append}
+use Rattle.std.proofs.Common.{◌≡◌, ℕ, zero, suc, ◌+◌, ◌<◌, ◌≤◌, ◌⊎◌, inl, inr, Bool, true, false, List, [], ◌∷◌, ◌++◌, length, refl, sym, ◌∙◌, ap, subst, arith}
+use Rattle.std.proofs.Common.{append_assoc, length-append}
 use Rattle.std.specs.Prelude.{slice_get, Some, None}
 use Rattle.std.proofs.lemmas.Bool.{cases_lt}
 use Rattle.boc_program.specs.declared.limits.TheConstants.{MOST_ROWS}
@@ -14,7 +15,8 @@ use Rattle.boc_runs.specs.Lives.{Pending, Running as RunningLife, Ended}
 use Rattle.boc_runs.specs.Run.{Member, meaning_of, next_wish, wish_at}
 use Rattle.boc_runs.specs.machine.Stages.{OpenBehaviour, row_of, row_at, life, life_at, flagged, enqueues, enqueues_at}
 use Rattle.boc_runs.specs.machine.Queues.{times}
-use Rattle.boc_runs.specs.machine.Steps.{State, at, queue, members, recorded, unrecorded, opened, stepped, noted, with_new, asking_on, leaving_on, child, IsQuiet, IsDue, IsBlockedAsking}
+use Rattle.boc_runs.specs.machine.Steps.{State, at, queue, members, recorded, unrecorded, opened, stepped, noted, with_new, asking_on, leaving_on, child}
+use Rattle.boc_runs.specs.machine.Steps.{IsQuiet, IsDue, IsBlockedAsking}
 use Rattle.boc_runs.specs.machine.Sound.{IsSound, HasNextRequest}
 use Rattle.boc_runs.specs.machine.Movers.{works, works_at, NobodyWorks, CanAdvance, CanGoOn, SomebodyCanStep, Enqueue, Body, Release, First}
 use Rattle.boc_machine.specs.Allowed.{AllowsStep, IsFull}
@@ -22,7 +24,8 @@ use Rattle.boc_machine.proofs.Lists.{same_or_not, found, last_of, end_injective,
 use Rattle.boc_machine.proofs.Rows.{some_or_none, with_life}
 use Rattle.boc_machine.proofs.Members.{all_fit, means_there}
 use Rattle.boc_machine.proofs.OneTurn.{advance_makes, leave_makes, blocked_asking}
-use Rattle.boc_machine.proofs.Moving.{AsksAt, item_there, one_place, gone_or_open, can_swap, can_settle, can_flag, can_own, can_leave, can_start, stands_once, asks_inside, none_open, runs_there, quiet_unless_ready}
+use Rattle.boc_machine.proofs.Moving.{AsksAt, item_there, one_place, gone_or_open, can_swap, can_settle, can_flag, can_own, can_leave, can_start, stands_once}
+use Rattle.boc_machine.proofs.Moving.{asks_inside, none_open, runs_there, quiet_unless_ready}
 
 -- ---- one of so many numbers is so, or none is
 

@@ -1,5 +1,6 @@
 -- Swap and Settle keep what every state keeps.
-use Rattle.std.proofs.Common.{◌≡◌, ◌≢◌, ℕ, zero, suc, ◌+◌, ◌<◌, ◌≤◌, Bool, true, false, cond, List, [], ◌∷◌, ◌++◌, length, take, refl, sym, ◌∙◌, ap, subst, arith, rules, length-append, get_or-set_other, get_or-set_same, length-set}
+use Rattle.std.proofs.Common.{◌≡◌, ◌≢◌, ℕ, zero, suc, ◌+◌, ◌<◌, ◌≤◌, Bool, true, false, cond, List, [], ◌∷◌, ◌++◌, length, take, refl, sym, ◌∙◌, ap, subst}
+use Rattle.std.proofs.Common.{arith, rules, length-append, get_or-set_other, get_or-set_same, length-set}
 use Rattle.std.specs.Prelude.{slice_get, Option, Some, None}
 use Rattle.boc_program.specs.declared.program.Program.{Program}
 use Rattle.boc_runs.specs.declared.event.Event.{Event}
@@ -14,7 +15,9 @@ use Rattle.boc_program.specs.Changed.{changed}
 use Rattle.boc_runs.specs.Lives.{Pending, Running}
 use Rattle.boc_runs.specs.Serial.{behaviour_of}
 use Rattle.boc_runs.specs.Run.{Member, Config, config_of, opening, waiting, next_wish, state_of, MayHappen}
-use Rattle.boc_runs.specs.machine.Stages.{OpenBehaviour, standing, standing_at, settled, settled_at, flagged, flagged_at, row_of, row_at, ready_row, ready_row_at, holds, holds_at, cowns_of, life, life_at, asks, asks_at, enqueues, enqueues_at, waits, waits_at, parent_of, offset_of}
+use Rattle.boc_runs.specs.machine.Stages.{OpenBehaviour, standing, standing_at, settled, settled_at, flagged, flagged_at, row_of, row_at, ready_row}
+use Rattle.boc_runs.specs.machine.Stages.{ready_row_at, holds, holds_at, cowns_of, life, life_at, asks, asks_at, enqueues, enqueues_at, waits, waits_at}
+use Rattle.boc_runs.specs.machine.Stages.{parent_of, offset_of}
 use Rattle.boc_runs.specs.machine.Queues.{times}
 use Rattle.boc_runs.specs.machine.Steps.{State, at, queue, members, recorded, unrecorded, with_stage, with_queue, with_spawn, flagging, IsDue}
 use Rattle.boc_runs.specs.machine.Sound.{Fits}

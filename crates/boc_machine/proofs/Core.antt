@@ -1,5 +1,6 @@
 -- What the steps keep, but for how many were made; and what of it stays where one behaviour goes on.
-use Rattle.std.proofs.Common.{◌≡◌, ℕ, ◌+◌, ◌<◌, ◌≤◌, Bool, cond, List, length, set, refl, sym, ◌∙◌, ap, subst, arith, rules, get_or-set_other, get_or-set_same, length-set}
+use Rattle.std.proofs.Common.{◌≡◌, ℕ, ◌+◌, ◌<◌, ◌≤◌, Bool, cond, List, length, set, refl, sym, ◌∙◌, ap, subst, arith, rules, get_or-set_other, get_or-set_same}
+use Rattle.std.proofs.Common.{length-set}
 use Rattle.std.specs.Prelude.{Option, Some, None}
 use Rattle.std.specs.List.{sum_by}
 use Rattle.std.proofs.lemmas.List.Sums.{sum_by-set}

@@ -1,5 +1,6 @@
 -- Flag, Own, Start and Finish keep what every state keeps, and so do the releases.
-use Rattle.std.proofs.Common.{◌≡◌, ◌≢◌, ℕ, zero, suc, ◌+◌, ◌<◌, ◌≤◌, inl, inr, Bool, true, false, cond, List, [], ◌∷◌, ◌++◌, length, drop, refl, sym, ◌∙◌, ap, subst, arith, get_or-set_other, get_or-set_same, length-set}
+use Rattle.std.proofs.Common.{◌≡◌, ◌≢◌, ℕ, zero, suc, ◌+◌, ◌<◌, ◌≤◌, inl, inr, Bool, true, false, cond, List, [], ◌∷◌, ◌++◌, length, drop, refl, sym, ◌∙◌, ap}
+use Rattle.std.proofs.Common.{subst, arith, get_or-set_other, get_or-set_same, length-set}
 use Rattle.std.specs.Prelude.{slice_get, Option, Some, None}
 use Rattle.boc_program.specs.declared.program.Program.{Program}
 use Rattle.boc_program.specs.declared.body.EndStatus.{EndStatus}
@@ -13,13 +14,17 @@ use Rattle.boc_runs.specs.declared.stage.Stage.TheVariants.{Asking, Recorded}
 use Rattle.boc_program.specs.Changed.{changed}
 use Rattle.boc_runs.specs.Lives.{Pending, Running, Ended}
 use Rattle.boc_runs.specs.Run.{Member, Config, config_of, config_after, opening, started_on, state_of, CanEnd, MayHappen}
-use Rattle.boc_runs.specs.machine.Stages.{OpenBehaviour, standing, standing_at, settled, settled_at, flagged, flagged_at, row_of, row_at, ready_row, ready_row_at, holds, holds_at, cowns_of, life, life_at, asks, asks_at, enqueues, enqueues_at, waits, waits_at, parent_of, offset_of}
+use Rattle.boc_runs.specs.machine.Stages.{OpenBehaviour, standing, standing_at, settled, settled_at, flagged, flagged_at, row_of, row_at, ready_row}
+use Rattle.boc_runs.specs.machine.Stages.{ready_row_at, holds, holds_at, cowns_of, life, life_at, asks, asks_at, enqueues, enqueues_at, waits, waits_at}
+use Rattle.boc_runs.specs.machine.Stages.{parent_of, offset_of}
 use Rattle.boc_runs.specs.machine.Queues.{times, is_first, all_granted}
-use Rattle.boc_runs.specs.machine.Steps.{State, at, queue, members, values, noted, with_behaviour, with_stage, with_queue, with_ready, flagging, made_ready, HasNoEnqueue, IsDue}
+use Rattle.boc_runs.specs.machine.Steps.{State, at, queue, members, values, noted, with_behaviour, with_stage, with_queue, with_ready, flagging, made_ready}
+use Rattle.boc_runs.specs.machine.Steps.{HasNoEnqueue, IsDue}
 use Rattle.boc_runs.specs.machine.Sound.{Fits}
 use Rattle.boc_program.proofs.ChangedItems.{length-changed}
 use Rattle.boc_machine.proofs.Lists.{same_or_not, no_less, times-here, times-other, times-append}
-use Rattle.boc_machine.proofs.Lawful.{nobody, OthersStay, at_each, release, nowhere, relabel, ordered_kept, waits_on, waits_kept, waits_release, granted_first, times-take-le, regranted}
+use Rattle.boc_machine.proofs.Lawful.{nobody, OthersStay, at_each, release, nowhere, relabel, ordered_kept, waits_on, waits_kept, waits_release, granted_first}
+use Rattle.boc_machine.proofs.Lawful.{times-take-le, regranted}
 use Rattle.boc_machine.proofs.Rows.{config_more, run_more}
 use Rattle.boc_machine.proofs.Fitting.{goes_on_at, fits_on, fits_row, fits_gone}
 use Rattle.boc_machine.proofs.Starts.{may_start, stands_for_all}

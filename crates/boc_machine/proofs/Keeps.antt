@@ -1,5 +1,6 @@
 -- Each kind of step leads from a sound state to a sound one.
-use Rattle.std.proofs.Common.{◌≡◌, ℕ, suc, ◌+◌, ◌*◌, ◌<◌, ◌≤◌, inl, inr, true, false, List, [], ◌∷◌, ◌++◌, length, drop, refl, sym, ◌∙◌, ap, subst, arith, set, set-set}
+use Rattle.std.proofs.Common.{◌≡◌, ℕ, suc, ◌+◌, ◌*◌, ◌<◌, ◌≤◌, inl, inr, true, false, List, [], ◌∷◌, ◌++◌, length, drop, refl, sym, ◌∙◌, ap, subst, arith, set}
+use Rattle.std.proofs.Common.{set-set}
 use Rattle.std.specs.Prelude.{nat_lt, Option, Some, None}
 use Rattle.std.specs.List.{sum_by}
 use Rattle.std.proofs.lemmas.Bool.{ltb-false, ltb-true}
@@ -16,7 +17,9 @@ use Rattle.boc_runs.specs.declared.step.Step.{Step}
 use Rattle.boc_runs.specs.declared.step.Step.TheVariants as steps
 use Rattle.boc_runs.specs.machine.Stages.{OpenBehaviour, standing_at, settled, settled_at, flagged, asks_at, waits, waits_at}
 use Rattle.boc_runs.specs.machine.Queues.{times, is_first, all_granted}
-use Rattle.boc_runs.specs.machine.Steps.{State, at, queue, recorded, opened, stepped, noted, with_behaviour, with_stage, with_new, with_ready, with_queue, with_spawn, asking_on, leaving_on, made_ready, owned, flagging, woken, woken_if, woken_at, child, Opens, Swaps, Settles, Flags, Owns, Starts, Finishes, Unhooks, Passes, Makes}
+use Rattle.boc_runs.specs.machine.Steps.{State, at, queue, recorded, opened, stepped, noted, with_behaviour, with_stage, with_new, with_ready, with_queue}
+use Rattle.boc_runs.specs.machine.Steps.{with_spawn, asking_on, leaving_on, made_ready, owned, flagging, woken, woken_if, woken_at, child, Opens, Swaps}
+use Rattle.boc_runs.specs.machine.Steps.{Settles, Flags, Owns, Starts, Finishes, Unhooks, Passes, Makes}
 use Rattle.boc_runs.specs.machine.AlongRows.{steps_of}
 use Rattle.boc_runs.specs.machine.Sound.{IsSound, HasNextRequest, made, made_at, owed, owed_at}
 use Rattle.boc_machine.proofs.Lists.{same_or_not, read_front}
@@ -25,7 +28,8 @@ use Rattle.boc_machine.proofs.Core.{Core, HasRequests, HasSteps, core_of, core_w
 use Rattle.boc_machine.proofs.Asking.{AsksOn, taken_there, keeps_swap, keeps_asking, keeps_recording}
 use Rattle.boc_machine.proofs.Going.{keeps_flag, keeps_wait, keeps_ready, keeps_start, keeps_end, keeps_release, keeps_gone}
 use Rattle.boc_machine.proofs.Opening.{keeps_new, new_here}
-use Rattle.boc_machine.proofs.Counting.{steps_of_log, steps_spawned, steps_started, steps_ended, steps_put, requests_put, OthersHaveRequests, by_test, dropped_one, dropped_all, owed_flagging, next_flagging}
+use Rattle.boc_machine.proofs.Counting.{steps_of_log, steps_spawned, steps_started, steps_ended, steps_put, requests_put, OthersHaveRequests, by_test}
+use Rattle.boc_machine.proofs.Counting.{dropped_one, dropped_all, owed_flagging, next_flagging}
 
 -- what is kept in a state after which one step more is counted
 pub record Nearly (p : Program) (s : State) (but : ℕ → Type 0) : Type 0 where

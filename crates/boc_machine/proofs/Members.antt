@@ -14,7 +14,8 @@ use Rattle.boc_program.specs.Changed.{changed}
 use Rattle.boc_runs.specs.Lives.{Life, Pending, Running, Ended}
 use Rattle.boc_runs.specs.Serial.{Behaviour, behaviour_of, main_behaviour}
 use Rattle.boc_runs.specs.Legal.{Entry}
-use Rattle.boc_runs.specs.Run.{Member, Config, config_after, config_after_all, config_of, opening, next_wish, wish_at, meaning_of, waiting, spawned_by, started_on, members_after_spawn, values_after_end, values_written, state_of, MaySpawn, MayHappen, IsRunFrom, IsRun}
+use Rattle.boc_runs.specs.Run.{Member, Config, config_after, config_after_all, config_of, opening, next_wish, wish_at, meaning_of, waiting, spawned_by}
+use Rattle.boc_runs.specs.Run.{started_on, members_after_spawn, values_after_end, values_written, state_of, MaySpawn, MayHappen, IsRunFrom, IsRun}
 use Rattle.boc_runs.proofs.Behaviours.{cowns_of_inputs, main_fits, length-after_outputs, initial-length}
 use Rattle.boc_runs.proofs.RunsAreLegal.{Twins, last_offset, whole_meaning, is_meant, meant_fits}
 use Rattle.boc_program.proofs.ChangedItems.{place_below}
@@ -33,7 +34,8 @@ AllFit p ms = (r : ℕ) (m : Member) → slice_get ms r ≡ Some m → MemberFit
 
 -- ---- lists of which one item is changed, or that have one more
 
-all_changed : (p : Program) (ms : List Member) (i : ℕ) (f : Member → Member) → AllFit p ms → ((m : Member) → slice_get ms i ≡ Some m → MemberFits p m → MemberFits p (f m))
+all_changed : (p : Program) (ms : List Member) (i : ℕ) (f : Member → Member) → AllFit p ms
+    → ((m : Member) → slice_get ms i ≡ Some m → MemberFits p m → MemberFits p (f m))
     → AllFit p (changed ms i f (slice_get ms i))
 all_changed p [] i f all keeps r m e = absurd (let h : None ≡ Some m = e in cc)
 all_changed p (x ∷ ms) zero f all keeps zero m e =
@@ -84,7 +86,8 @@ wish_fits sigs n (v ∷ ws) zero w h e = (let same : v ≡ w = (let f : Some v �
 wish_fits sigs n (v ∷ ws) (suc k) w h e = wish_fits sigs n ws k w h.1 e
 
 -- the next wish of a running behaviour fits
-pub next_fits : (p : Program) (m : Member) (w : Wish) → MemberFits p m → m.life ≡ Running → next_wish p (Some m) ≡ Some w → WishFits (map signature_of p.bodies) (cown_count p.cowns) w
+pub next_fits : (p : Program) (m : Member) (w : Wish) → MemberFits p m → m.life ≡ Running → next_wish p (Some m) ≡ Some w
+    → WishFits (map signature_of p.bodies) (cown_count p.cowns) w
 next_fits p m w fits runs next =
     let t = twins p m fits in
     let means : Meaning = whole_meaning p m (entry_of p m) t in
@@ -104,7 +107,8 @@ one_spent p m w means next meant =
 
 -- ---- along a run
 
-waiting_fits : (p : Program) (b : Behaviour) → CountsAre (slice_get (map signature_of p.bodies) b.kind) (length b.args) (length b.cowns) → AllBelow (cown_count p.cowns) b.cowns → MemberFits p (waiting b)
+waiting_fits : (p : Program) (b : Behaviour) → CountsAre (slice_get (map signature_of p.bodies) b.kind) (length b.args) (length b.cowns)
+    → AllBelow (cown_count p.cowns) b.cowns → MemberFits p (waiting b)
 waiting_fits p b counts below = record {
   counts = counts;
   below = below;
@@ -120,7 +124,8 @@ member_there : (o : Option Member) (life : Life) → option_map (λ (m : Member)
 member_there None life e = absurd (let h : None ≡ Some life = e in cc)
 member_there (Some m) life e = (m, refl)
 
-spawn_fits : (p : Program) (ms : List Member) (parent offset : ℕ) (cowns : List ℕ) → MaySpawn p ms parent offset cowns → AllFit p ms → AllFit p (members_after_spawn p ms parent)
+spawn_fits : (p : Program) (ms : List Member) (parent offset : ℕ) (cowns : List ℕ) → MaySpawn p ms parent offset cowns → AllFit p ms
+    → AllFit p (members_after_spawn p ms parent)
 spawn_fits p [] parent offset cowns may all = all_more p [] (waiting main_behaviour) all (waiting_fits p main_behaviour (main_fits p.bodies p.main) tt)
 spawn_fits p (m ∷ ms) parent offset cowns may all =
     let rows = m ∷ ms in

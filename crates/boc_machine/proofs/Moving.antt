@@ -1,5 +1,6 @@
 -- Why somebody can step where not all is over.
-use Rattle.std.proofs.Common.{◌≡◌, ℕ, zero, suc, ◌+◌, ◌<◌, ◌≤◌, ◌⊎◌, inl, inr, Bool, true, false, List, [], ◌∷◌, ◌++◌, length, take, refl, sym, ◌∙◌, ap, subst, arith, append_assoc, length-append}
+use Rattle.std.proofs.Common.{◌≡◌, ℕ, zero, suc, ◌+◌, ◌<◌, ◌≤◌, ◌⊎◌, inl, inr, Bool, true, false, List, [], ◌∷◌, ◌++◌, length, take, refl, sym, ◌∙◌, ap, subst}
+use Rattle.std.proofs.Common.{arith, append_assoc, length-append}
 use Rattle.std.specs.Prelude.{slice_get, nat_lt, ◌&&◌, Option, Some, None}
 use Rattle.std.specs.List.{list_all}
 use Rattle.std.proofs.lemmas.Bool.{lt-ltb}
@@ -13,9 +14,11 @@ use Rattle.boc_program.specs.Rising.{rising}
 use Rattle.boc_runs.specs.Lives.{Running as RunningLife, Ended as EndedLife}
 use Rattle.boc_runs.specs.Run.{state_of}
 use Rattle.boc_program.proofs.RisingNumbers.{rising_rises}
-use Rattle.boc_runs.specs.machine.Stages.{OpenBehaviour, parent_of, cowns_of, row_of, row_at, ready_row, ready_row_at, standing, standing_at, settled, settled_at, flagged, flagged_at, asks, asks_at, enqueues, enqueues_at, waits, waits_at, life, life_at}
+use Rattle.boc_runs.specs.machine.Stages.{OpenBehaviour, parent_of, cowns_of, row_of, row_at, ready_row, ready_row_at, standing, standing_at, settled}
+use Rattle.boc_runs.specs.machine.Stages.{settled_at, flagged, flagged_at, asks, asks_at, enqueues, enqueues_at, waits, waits_at, life, life_at}
 use Rattle.boc_runs.specs.machine.Queues.{times, is_first, is_granted, InOrder}
-use Rattle.boc_runs.specs.machine.Steps.{State, at, queue, members, stepped, with_queue, with_stage, asking_on, owned, flagging, noted, with_ready, woken, leaving_on, IsQuiet, IsDue, IsFlaggedBefore}
+use Rattle.boc_runs.specs.machine.Steps.{State, at, queue, members, stepped, with_queue, with_stage, asking_on, owned, flagging, noted, with_ready, woken}
+use Rattle.boc_runs.specs.machine.Steps.{leaving_on, IsQuiet, IsDue, IsFlaggedBefore}
 use Rattle.boc_runs.specs.machine.Turns.{IsEnqueueOf}
 use Rattle.boc_runs.specs.machine.Sound.{IsSound, HasNextRequest}
 use Rattle.boc_runs.specs.machine.Movers.{works, works_at, NobodyWorks, CanAdvance, CanGoOn, CanLeave, CanStart, SomebodyCanStep, Enqueue, Body, Release, First}

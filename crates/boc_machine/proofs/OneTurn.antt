@@ -15,8 +15,11 @@ use Rattle.boc_runs.specs.Lives.{Life, Running, Ended}
 use Rattle.boc_runs.specs.Run.{meaning_of, next_wish, wish_at, state_of}
 use Rattle.boc_runs.specs.machine.Stages.{OpenBehaviour, row_of, row_at, life, life_at, flagged, settled}
 use Rattle.boc_runs.specs.machine.Queues.{times}
-use Rattle.boc_runs.specs.machine.Steps.{HasNoEnqueue, State, at, queue, members, recorded, unrecorded, opened, stepped, noted, with_stage, with_queue, with_new, with_ready, asking_on, leaving_on, owned, flagging, woken, child, IsDue, IsBlockedAsking, IsBlockedLeaving, Opens, Settles, Starts, Finishes, Unhooks, Passes, Advances, Leaves, Makes}
-use Rattle.boc_runs.specs.machine.Turns.{IsEnqueueOf, unless_gone, TakesTurn, Begins, NoneReady, Advanced, WaitsToSettle, Opened, Finished, Left, WaitsToLeave, Driven, Turn, Turns}
+use Rattle.boc_runs.specs.machine.Steps.{HasNoEnqueue, State, at, queue, members, recorded, unrecorded, opened, stepped, noted, with_stage, with_queue}
+use Rattle.boc_runs.specs.machine.Steps.{with_new, with_ready, asking_on, leaving_on, owned, flagging, woken, child, IsDue, IsBlockedAsking, IsBlockedLeaving}
+use Rattle.boc_runs.specs.machine.Steps.{Opens, Settles, Starts, Finishes, Unhooks, Passes, Advances, Leaves, Makes}
+use Rattle.boc_runs.specs.machine.Turns.{IsEnqueueOf, unless_gone, TakesTurn, Begins, NoneReady, Advanced, WaitsToSettle, Opened, Finished, Left, WaitsToLeave}
+use Rattle.boc_runs.specs.machine.Turns.{Driven, Turn, Turns}
 use Rattle.boc_runs.specs.machine.Schedules.{Reaches, Here, Then}
 use Rattle.boc_runs.specs.machine.Movers.{CanLeave}
 use Rattle.boc_runs.specs.machine.Sound.{IsSound}

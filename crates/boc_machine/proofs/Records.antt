@@ -12,7 +12,8 @@ use Rattle.boc_program.specs.Changed.{changed}
 use Rattle.boc_runs.specs.Lives.{Life, Pending, Running, Ended}
 use Rattle.boc_runs.specs.Legal.{Entry, entries, after, after_all, pending, IsAllowed, IsComplete}
 use Rattle.boc_runs.specs.Records.{AreRowsOf}
-use Rattle.boc_runs.specs.Run.{Member, Config, waiting, config_of, config_after, config_after_all, opening, members_after_spawn, started_on, MaySpawn, MayHappen, IsRunFrom, IsRun, IsWholeRun}
+use Rattle.boc_runs.specs.Run.{Member, Config, waiting, config_of, config_after, config_after_all, opening, members_after_spawn, started_on, MaySpawn}
+use Rattle.boc_runs.specs.Run.{MayHappen, IsRunFrom, IsRun, IsWholeRun}
 use Rattle.boc_runs.specs.machine.AlongRows.{cowns_of_rows, parents_of_rows}
 use Rattle.boc_runs.proofs.RunsAreLegal.{run_is_legal}
 use Rattle.boc_machine.proofs.Rows.{run_more, after_spawn, with_one_more}

@@ -7,7 +7,8 @@ use Rattle.boc_program.specs.Meaning.{Wish}
 use Rattle.boc_runs.specs.Serial.{behaviour_of}
 use Rattle.boc_program.specs.Changed.{changed}
 use Rattle.boc_runs.specs.Lives.{Life}
-use Rattle.boc_runs.specs.Run.{Member, Config, waiting, next_wish, spawned_by, members_after_spawn, config_after, config_after_all, state_of, MaySpawn, SpawnsWish, MayHappen, IsRunFrom}
+use Rattle.boc_runs.specs.Run.{Member, Config, waiting, next_wish, spawned_by, members_after_spawn, config_after, config_after_all, state_of, MaySpawn}
+use Rattle.boc_runs.specs.Run.{SpawnsWish, MayHappen, IsRunFrom}
 
 -- ---- one item changed
 

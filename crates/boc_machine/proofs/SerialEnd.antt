@@ -17,7 +17,8 @@ use Rattle.boc_runs.proofs.Behaviours.{length-after_outputs}
 use Rattle.boc_machine.proofs.Lists.{same_or_not, no_less}
 use Rattle.boc_machine.proofs.Rows.{changed_same, changed_other}
 use Rattle.boc_machine.proofs.Outputs.{outputs_elsewhere, outputs_alike, take_all_of}
-use Rattle.boc_machine.proofs.Twins.{before_row, before_length, Twin, EndedBefore, OpenAfter, Follows, ended_not_pending, running_not_pending, twin_lives, twins_changed, read_changed}
+use Rattle.boc_machine.proofs.Twins.{before_row, before_length, Twin, EndedBefore, OpenAfter, Follows, ended_not_pending, running_not_pending, twin_lives}
+use Rattle.boc_machine.proofs.Twins.{twins_changed, read_changed}
 
 -- what a behaviour means, that has its inputs
 meant_if : (o : Option Body) (args : List ℤ) (inputs : List Input) (means : Meaning)

@@ -5,7 +5,8 @@ use Rattle.std.proofs.lemmas.Bool.{cases_lt}
 use Rattle.std.proofs.lemmas.List.Sums.{sum_by-append}
 use Rattle.boc_program.specs.declared.program.Program.{Program}
 use Rattle.boc_program.specs.Meaning.{Wish, Meaning}
-use Rattle.boc_runs.specs.Serial.{Behaviour, behaviour_of, main_behaviour, inputs_of, after_outputs, SerialRow, Serial, meaning_if, wish_of_row, children, next_behaviour, run_at_once, with_row, serial_along}
+use Rattle.boc_runs.specs.Serial.{Behaviour, behaviour_of, main_behaviour, inputs_of, after_outputs, SerialRow, Serial, meaning_if, wish_of_row, children}
+use Rattle.boc_runs.specs.Serial.{next_behaviour, run_at_once, with_row, serial_along}
 use Rattle.boc_program.specs.Changed.{changed}
 use Rattle.boc_runs.specs.Lives.{Pending, Ended}
 use Rattle.boc_runs.specs.Run.{Member, Config, waiting, wish_at}

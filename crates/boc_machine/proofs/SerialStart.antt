@@ -11,7 +11,8 @@ use Rattle.boc_program.proofs.ChangedItems.{length-changed}
 use Rattle.boc_machine.proofs.Lists.{same_or_not}
 use Rattle.boc_machine.proofs.Rows.{changed_same, changed_other, life_there}
 use Rattle.boc_machine.proofs.Outputs.{inputs_alike}
-use Rattle.boc_machine.proofs.Twins.{before_row, Twin, EndedBefore, OpenAfter, Follows, over_if, ended_not_pending, twin_lives, twins_changed, read_changed, has_cown}
+use Rattle.boc_machine.proofs.Twins.{before_row, Twin, EndedBefore, OpenAfter, Follows, over_if, ended_not_pending, twin_lives, twins_changed, read_changed}
+use Rattle.boc_machine.proofs.Twins.{has_cown}
 
 module _ (p : Program) (c : Config) (ps : List ℕ) (f : Follows p c ps) (r : ℕ)
     (may : MayStart (state_of c.members) (member_cowns c.members) r) where

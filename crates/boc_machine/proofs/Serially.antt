@@ -12,7 +12,8 @@ use Rattle.boc_program.specs.Meaning.{Meaning}
 use Rattle.boc_runs.specs.Serial.{behaviour_of, main_behaviour, SerialRow, Serial, children, next_behaviour, run_at_once, serial_along}
 use Rattle.boc_program.specs.Changed.{changed}
 use Rattle.boc_runs.specs.Lives.{Running, Ended}
-use Rattle.boc_runs.specs.Run.{Member, Config, waiting, meaning_of, wish_at, next_wish, members_after_spawn, config_after, config_after_all, config_of, opening, MaySpawn, SpawnsWish, MayHappen, IsRunFrom, IsRun, IsWholeRun}
+use Rattle.boc_runs.specs.Run.{Member, Config, waiting, meaning_of, wish_at, next_wish, members_after_spawn, config_after, config_after_all, config_of, opening}
+use Rattle.boc_runs.specs.Run.{MaySpawn, SpawnsWish, MayHappen, IsRunFrom, IsRun, IsWholeRun}
 use Rattle.boc_program.proofs.ChangedItems.{place_below, front_item, length-changed}
 use Rattle.boc_runs.proofs.OwnOrders.{along_more, rows_done}
 use Rattle.boc_machine.proofs.Rows.{with_life, life_there, with_one_more, after_spawn}

@@ -12,8 +12,11 @@ use Rattle.boc_runs.specs.Lives.{Pending}
 use Rattle.boc_runs.specs.Run.{state_of}
 use Rattle.boc_runs.specs.machine.Stages.{OpenBehaviour, row_of, row_at, life, life_at}
 use Rattle.boc_runs.specs.machine.Queues.{all_granted}
-use Rattle.boc_runs.specs.machine.Steps.{State, at, queue, members, opened, noted, with_behaviour, with_stage, with_queue, with_new, with_spawn, asking_on, leaving_on, flagging, made_ready, owned, woken, woken_if, woken_at, child, opening_state, Advances, Leaves, Opens, Finishes, Makes}
-use Rattle.boc_runs.specs.machine.Turns.{TakesTurn, Driven, Turn, Turns, opening_driven, unless_gone, NoneReady, Begins, Advanced, WaitsToSettle, Opened, Finished, Left, WaitsToLeave}
+use Rattle.boc_runs.specs.machine.Steps.{State, at, queue, members, opened, noted, with_behaviour, with_stage, with_queue, with_new, with_spawn, asking_on}
+use Rattle.boc_runs.specs.machine.Steps.{leaving_on, flagging, made_ready, owned, woken, woken_if, woken_at, child, opening_state, Advances, Leaves, Opens}
+use Rattle.boc_runs.specs.machine.Steps.{Finishes, Makes}
+use Rattle.boc_runs.specs.machine.Turns.{TakesTurn, Driven, Turn, Turns, opening_driven, unless_gone, NoneReady, Begins, Advanced, WaitsToSettle, Opened}
+use Rattle.boc_runs.specs.machine.Turns.{Finished, Left, WaitsToLeave}
 use Rattle.boc_runs.specs.machine.Sound.{IsSound}
 use Rattle.boc_runs.specs.machine.Movers.{CanAdvance, CanGoOn, CanLeave, CanStart}
 use Rattle.boc_program.proofs.ChangedItems.{place_below, set_same, set_other}
@@ -21,7 +24,8 @@ use Rattle.boc_machine.proofs.Lists.{same_or_not, read_pushed, read_front}
 use Rattle.boc_machine.proofs.Core.{put_here, put_others}
 use Rattle.boc_machine.proofs.Counting.{by_test}
 use Rattle.boc_machine.proofs.Every.{opening_sound}
-use Rattle.boc_machine.proofs.OneTurn.{turn_keeps, advance_makes, leave_makes, blocked_asking, blocked_stays, blocked_is_leaving, leaves_leaving, leaving_row, leaving_ended, enqueue_running, running_or_ended, who_leaves}
+use Rattle.boc_machine.proofs.OneTurn.{turn_keeps, advance_makes, leave_makes, blocked_asking, blocked_stays, blocked_is_leaving, leaves_leaving, leaving_row}
+use Rattle.boc_machine.proofs.OneTurn.{leaving_ended, enqueue_running, running_or_ended, who_leaves}
 
 -- ---- who runs or leaves
 
@@ -106,11 +110,13 @@ none_woken s who = none_woken_if s who (at s who) refl
 abbrev OneGoesOn : State → ℕ → ℕ → State → Type 0
 OneGoesOn s who own t = (w row : ℕ) → IsActive t w row → ((w ≡ who) × (row ≡ own)) ⊎ ((w ≢ who) × IsActive s w row)
 
-goes_on_put : (s : State) (who own : ℕ) (b b' : OpenBehaviour) → at s who ≡ Some b → row_at b'.stage ≡ Some own → OneGoesOn s who own (with_behaviour s who (Some b'))
+goes_on_put : (s : State) (who own : ℕ) (b b' : OpenBehaviour) → at s who ≡ Some b → row_at b'.stage ≡ Some own
+    → OneGoesOn s who own (with_behaviour s who (Some b'))
 goes_on_put s who own b b' is row_is w row a =
     elim (same_or_not w who) [
       | inl e ↦
-          let f : Some row ≡ Some own = sym a.row_is ∙ ap (λ v. row_of (at (with_behaviour s who (Some b')) v)) e ∙ ap row_of (put_here s who b (Some b') is) ∙ row_is in
+          let f : Some row ≡ Some own = sym a.row_is ∙ ap (λ v. row_of (at (with_behaviour s who (Some b')) v)) e ∙ ap row_of (put_here s who b (Some b') is)
+          ∙ row_is in
           let same : row ≡ own = cc in
           inl (e, same)
       | inr n ↦ inr (n, elsewhere s who (Some b') w row n a)
@@ -279,15 +285,18 @@ each_is_served p workers choices e turns =
 
 steps_asking : (p : Program) (s : State) (who : ℕ) (b : OpenBehaviour) (request : ℕ) → (asking_on p s who b request).steps ≡ s.steps
 steps_asking p s who b request =
-    by_test (λ (z : State). z.steps ≡ s.steps) (nat_lt request (length b.cowns)) (with_stage s who b (Asking request false)) (with_spawn p s who b) (λ h. refl) (λ h. refl)
+    by_test (λ (z : State). z.steps ≡ s.steps) (nat_lt request (length b.cowns)) (with_stage s who b (Asking request false)) (with_spawn p s who b) (λ h. refl)
+    (λ h. refl)
 
 steps_leaving : (s : State) (who : ℕ) (b : OpenBehaviour) (row request : ℕ) → (leaving_on s who b row request).steps ≡ s.steps
 steps_leaving s who b row request =
-    by_test (λ (z : State). z.steps ≡ s.steps) (nat_lt request (length b.cowns)) (with_stage s who b (Recorded row (Leaving request))) (with_behaviour s who None) (λ h. refl) (λ h. refl)
+    by_test (λ (z : State). z.steps ≡ s.steps) (nat_lt request (length b.cowns)) (with_stage s who b (Recorded row (Leaving request)))
+    (with_behaviour s who None) (λ h. refl) (λ h. refl)
 
 steps_owned : (s : State) (who : ℕ) (b : OpenBehaviour) (row : ℕ) → (owned s who b row).steps ≡ s.steps
 steps_owned s who b row =
-    by_test (λ (z : State). z.steps ≡ s.steps) (all_granted (at s) (queue s) who) (made_ready s who b row) (with_stage s who b (Recorded row Waiting)) (λ h. refl) (λ h. refl)
+    by_test (λ (z : State). z.steps ≡ s.steps) (all_granted (at s) (queue s) who) (made_ready s who b row) (with_stage s who b (Recorded row Waiting))
+    (λ h. refl) (λ h. refl)
 
 steps_woken_at : (s : State) (who : ℕ) (b : OpenBehaviour) (stage : Stage) → (woken_at s who b stage).steps ≡ s.steps
 steps_woken_at s who b (Asking i e) = refl
@@ -345,7 +354,8 @@ module _ (p : Program) (s : State) (k : IsSound p s) where
   enqueue_steps t after number row can (Finished r who u m) = one_step_more p s steps.Finish t (who, row, m)
   enqueue_steps t after number row can (Left r who step u m) = one_step_more p s step t (leave_makes p s who row step t m)
   enqueue_steps t after number row can (WaitsToLeave r who m) =
-      absurd (running_or_ended (state_of (members p s) row) (enqueue_running p s k number row can.enqueue) (leaving_ended p s k who row (blocked_is_leaving s who row m)))
+      absurd (running_or_ended (state_of (members p s) row) (enqueue_running p s k number row can.enqueue)
+      (leaving_ended p s k who row (blocked_is_leaving s who row m)))
 
   pub release_steps : (t : State) (after : Option ℕ) (row : ℕ) → CanLeave s row → TakesTurn p s (Some row) t after → t.steps ≡ s.steps + 1
   release_steps t after row can (Advanced r who step u q m) = one_step_more p s step t (advance_makes p s who step t m)

@@ -1,6 +1,7 @@
 -- A run beside the serial run along the rows of its log: each row that has started has the inputs that it has there, and
 -- the value of a cown is the one there after the rows that wrote it so far.
-use Rattle.std.proofs.Common.{◌≡◌, ◌≢◌, ℕ, suc, ◌<◌, ◌≤◌, ◌⊎◌, inl, inr, List, [], ◌∷◌, ◌++◌, length, take, refl, sym, ◌∙◌, ap, subst, arith, ℤ, length-append, rules}
+use Rattle.std.proofs.Common.{◌≡◌, ◌≢◌, ℕ, suc, ◌<◌, ◌≤◌, ◌⊎◌, inl, inr, List, [], ◌∷◌, ◌++◌, length, take, refl, sym, ◌∙◌, ap, subst, arith, ℤ, length-append}
+use Rattle.std.proofs.Common.{rules}
 use Rattle.std.specs.Prelude.{slice_get, Option, Some, None, option_map}
 use Rattle.std.specs.Option.{option_map_or}
 use Rattle.std.specs.List.{Contains}
@@ -8,7 +9,8 @@ use Rattle.std.proofs.lemmas.Bool.{cases_lt}
 use Rattle.boc_program.specs.declared.short.Input.{Input}
 use Rattle.boc_program.specs.declared.program.Program.{Program}
 use Rattle.boc_program.specs.Programs.{initial_values}
-use Rattle.boc_runs.specs.Serial.{inputs_of, after_outputs, SerialRow, Serial, meaning_if, children, next_behaviour, run_at_once, after_turn, after_turns, serial_along}
+use Rattle.boc_runs.specs.Serial.{inputs_of, after_outputs, SerialRow, Serial, meaning_if, children, next_behaviour, run_at_once, after_turn, after_turns}
+use Rattle.boc_runs.specs.Serial.{serial_along}
 use Rattle.boc_program.specs.Changed.{changed}
 use Rattle.boc_runs.specs.Lives.{Life, Pending, Running, Ended}
 use Rattle.boc_runs.specs.Run.{Member, Config, member_cowns}

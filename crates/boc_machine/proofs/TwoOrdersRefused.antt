@@ -10,10 +10,12 @@ use Rattle.boc_runs.specs.Lives as lives
 use Rattle.boc_runs.specs.Run.{Member, meaning_of}
 use Rattle.boc_runs.specs.machine.Stages.{OpenBehaviour, flagged_at, settled}
 use Rattle.boc_runs.specs.machine.Queues.{times, Lawful}
-use Rattle.boc_runs.specs.machine.Steps.{State, at, queue, with_stage, IsBlockedAsking, IsBlockedLeaving, MayOpen, Settles, Swaps, Owns, Starts, Finishes, Unhooks, Passes}
+use Rattle.boc_runs.specs.machine.Steps.{State, at, queue, with_stage, IsBlockedAsking, IsBlockedLeaving, MayOpen, Settles, Swaps, Owns, Starts, Finishes}
+use Rattle.boc_runs.specs.machine.Steps.{Unhooks, Passes}
 use Rattle.boc_runs.specs.machine.Turns.{TakesTurn, WaitsToSettle}
 use Rattle.boc_machine.proofs.OneTurn.{takes_one, blocked_settle, same_one}
-use Rattle.boc_machine.proofs.TwoOrders.{program, main_body, left_at, one_at, two_at, state_2, state_3, state_6, state_11, state_18, state_24, state_33, state_34}
+use Rattle.boc_machine.proofs.TwoOrders.{program, main_body, left_at, one_at, two_at, state_2, state_3, state_6, state_11, state_18, state_24, state_33}
+use Rattle.boc_machine.proofs.TwoOrders.{state_34}
 use Rattle.boc_machine.proofs.TwoOrdersTurns.{sound_18, blocked_at}
 
 -- the stage of the behaviour of a number is the one that is there

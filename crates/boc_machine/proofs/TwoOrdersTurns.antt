@@ -1,6 +1,7 @@
 -- The machine tried on a program whose rows may come in two orders: the turns of one list of choices, what they lead to, and
 -- what isn't allowed.
-use Rattle.std.proofs.Common.{◌≡◌, ◌≢◌, ℕ, zero, suc, ◌+◌, ◌<◌, List, [], ◌∷◌, ◌++◌, Some, None, Bool, true, false, not, cond, get_or, length, refl, sym, ◌∙◌, ap, subst, pos, lit≤, take, IsTrue}
+use Rattle.std.proofs.Common.{◌≡◌, ◌≢◌, ℕ, zero, suc, ◌+◌, ◌<◌, List, [], ◌∷◌, ◌++◌, Some, None, Bool, true, false, not, cond, get_or, length, refl, sym, ◌∙◌}
+use Rattle.std.proofs.Common.{ap, subst, pos, lit≤, take, IsTrue}
 use Rattle.std.specs.Prelude.{Option, ◌&&◌, nat_eq, nat_lt, slice_get, slice_set}
 use Rattle.boc_program.specs.declared.limits.TheConstants.{MOST_ROWS}
 use Rattle.boc_program.specs.declared.body.Body.{Body}
@@ -17,7 +18,9 @@ use Rattle.boc_runs.specs.Lives as lives
 use Rattle.boc_runs.specs.Run.{Member, IsWholeRun, meaning_of, next_wish, state_of}
 use Rattle.boc_runs.specs.machine.Stages.{OpenBehaviour, flagged, settled, enqueues, enqueues_at, parent_of}
 use Rattle.boc_runs.specs.machine.Queues.{times}
-use Rattle.boc_runs.specs.machine.Steps.{State, at, queue, values, members, recorded, unrecorded, opened, stepped, noted, with_stage, with_queue, with_new, with_ready, asking_on, leaving_on, flagging, owned, woken, child, Advances, IsDue, IsBlockedAsking, IsQuiet, HasNoEnqueue, IsFlaggedBefore}
+use Rattle.boc_runs.specs.machine.Steps.{State, at, queue, values, members, recorded, unrecorded, opened, stepped, noted, with_stage, with_queue, with_new}
+use Rattle.boc_runs.specs.machine.Steps.{with_ready, asking_on, leaving_on, flagging, owned, woken, child, Advances, IsDue, IsBlockedAsking, IsQuiet}
+use Rattle.boc_runs.specs.machine.Steps.{HasNoEnqueue, IsFlaggedBefore}
 use Rattle.boc_runs.specs.machine.AlongRows.{cowns_of_rows, steps_of_rows, serial_of_log}
 use Rattle.boc_runs.specs.machine.Turns.{Begins, Advanced, WaitsToSettle, Opened, Finished, Left, Driven, opening_driven, unless_gone, TakesTurn, Turn, Turns}
 use Rattle.boc_runs.specs.machine.Sound.{IsSound}
@@ -25,7 +28,11 @@ use Rattle.std.proofs.lemmas.Bool.{ltb-true}
 use Rattle.boc_machine.proofs.Lists.{and_true, same_numbers}
 use Rattle.boc_machine.proofs.Every.{opening_sound, whole_run}
 use Rattle.boc_machine.proofs.OneTurn.{turns_keep}
-use Rattle.boc_machine.proofs.TwoOrders.{program, log, main_body, one_body, two_body, left_body, right_body, main_at, left_at, right_at, one_at, two_at, state_0, state_1, state_2, state_3, state_4, state_5, state_6, state_7, state_8, state_9, state_10, state_11, state_12, state_13, state_14, state_15, state_16, state_17, state_18, state_20, state_21, state_22, state_24, state_25, state_26, state_27, state_28, state_29, state_30, state_31, state_32, state_33, state_34, state_35, state_36, state_37, state_38, state_39, state_40}
+use Rattle.boc_machine.proofs.TwoOrders.{program, log, main_body, one_body, two_body, left_body, right_body, main_at, left_at, right_at, one_at, two_at}
+use Rattle.boc_machine.proofs.TwoOrders.{state_0, state_1, state_2, state_3, state_4, state_5, state_6, state_7, state_8, state_9, state_10, state_11, state_12}
+use Rattle.boc_machine.proofs.TwoOrders.{state_13, state_14, state_15, state_16, state_17, state_18, state_20, state_21, state_22, state_24, state_25, state_26}
+use Rattle.boc_machine.proofs.TwoOrders.{state_27, state_28, state_29, state_30, state_31, state_32, state_33, state_34, state_35, state_36, state_37, state_38}
+use Rattle.boc_machine.proofs.TwoOrders.{state_39, state_40}
 
 -- ---- tests by which conditions over all numbers are shown
 
@@ -361,16 +368,20 @@ turns_to_40 = turns_of {d = driven_25} {e = driven_40} {workers = last_choices}
     (Then _ (owns state_27 4 4 (two_at (Recorded 4 Owning)) refl refl refl refl)
     (Then _ (flags state_28 3 3 1 1 (one_at (Recorded 3 (Flagging 1))) refl refl refl refl refl)
     (Then _ (owns state_29 3 3 (one_at (Recorded 3 Owning)) refl refl refl refl)
-    (Then _ (finishes state_30 1 1 2 [] (left_at (Recorded 1 Running)) (ran 3 (input 2 0 ∷ []) (2 ∷ []) 1) left_body refl refl refl refl refl refl refl refl refl refl refl refl)
+    (Then _ (finishes state_30 1 1 2 [] (left_at (Recorded 1 Running)) (ran 3 (input 2 0 ∷ []) (2 ∷ []) 1) left_body refl refl refl refl refl refl refl refl
+    refl refl refl refl)
     (Then _ (unhooks state_31 1 1 0 2 (left_at (Recorded 1 (Leaving 0))) refl refl refl refl refl refl)
     (Then _ (begins state_32 3 3 (one_at (Recorded 3 Ready)) [] refl refl refl refl refl)
-    (Then _ (finishes state_33 3 3 3 (0 ∷ 1 ∷ []) (one_at (Recorded 3 Running)) (ran 1 (input 0 0 ∷ input 1 0 ∷ []) (0 ∷ 1 ∷ []) 0) one_body refl refl refl refl refl refl refl refl refl refl refl refl)
+    (Then _ (finishes state_33 3 3 3 (0 ∷ 1 ∷ []) (one_at (Recorded 3 Running)) (ran 1 (input 0 0 ∷ input 1 0 ∷ []) (0 ∷ 1 ∷ []) 0) one_body refl refl refl refl
+    refl refl refl refl refl refl refl refl)
     (Then _ (passes state_34 3 3 0 0 4 [] (one_at (Recorded 3 (Leaving 0))) refl refl refl refl (lit≤ tt) refl refl)
     (Then _ (unhooks state_35 3 3 1 1 (one_at (Recorded 3 (Leaving 1))) refl refl refl refl refl refl)
-    (Then _ (finishes state_36 2 2 2 [] (right_at (Recorded 2 Running)) (ran 4 (input 3 0 ∷ []) (3 ∷ []) 1) right_body refl refl refl refl refl refl refl refl refl refl refl refl)
+    (Then _ (finishes state_36 2 2 2 [] (right_at (Recorded 2 Running)) (ran 4 (input 3 0 ∷ []) (3 ∷ []) 1) right_body refl refl refl refl refl refl refl refl
+    refl refl refl refl)
     (Then _ (unhooks state_37 2 2 0 3 (right_at (Recorded 2 (Leaving 0))) refl refl refl refl refl refl)
     (Then _ (begins state_38 4 4 (two_at (Recorded 4 Ready)) [] refl refl refl refl refl)
-    (Then _ (finishes state_39 4 4 2 (0 ∷ []) (two_at (Recorded 4 Running)) (ran 2 (input 0 1 ∷ []) (0 ∷ []) 0) two_body refl refl refl refl refl refl refl refl refl refl refl refl)
+    (Then _ (finishes state_39 4 4 2 (0 ∷ []) (two_at (Recorded 4 Running)) (ran 2 (input 0 1 ∷ []) (0 ∷ []) 0) two_body refl refl refl refl refl refl refl refl
+    refl refl refl refl)
     (Then _ (unhooks state_40 4 4 0 0 (two_at (Recorded 4 (Leaving 0))) refl refl refl refl refl refl) Over)))))))))))))))
 
 pub sound_18 : IsSound program state_18

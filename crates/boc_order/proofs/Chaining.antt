@@ -1,5 +1,6 @@
 -- Chains: what the links back from a last row make, and what a chain says of every plan.
-use Rattle.std.proofs.Common.{◌≡◌, ℕ, zero, suc, ◌+◌, ◌<◌, ◌≤◌, List, [], ◌∷◌, ◌++◌, reverse, get_or, length, Option, Some, None, refl, sym, ap, subst, inl, inr, arith}
+use Rattle.std.proofs.Common.{◌≡◌, ℕ, zero, suc, ◌+◌, ◌<◌, ◌≤◌, List, [], ◌∷◌, ◌++◌, reverse, get_or, length, Option, Some, None, refl, sym, ap, subst, inl}
+use Rattle.std.proofs.Common.{inr, arith}
 use Rattle.std.specs.Prelude.{slice_get, slice_index, slice_index_or}
 use Rattle.std.proofs.lemmas.List.Sums.{sum_by-cons}
 use Rattle.std.proofs.lemmas.Bool.{cases_eq}
@@ -84,7 +85,11 @@ module _ (rows : List Row) (hr : IsRows rows) (starts ends : List ℕ) (after : 
       (s.row < b) × LeadsTo rows starts last s.row (s ∷ steps)
   step_by None tight s steps q l =
       let before : parent_of rows b < b = hr.parent_before b above there in
-      rw q (before, lead _ steps l (omega (arith, there), rw l.at (record { not_main = above; there = there; parent = refl }, refl)) (rw l.at tight) (rw tight.1.parent tight.2))
+      rw q (
+        before,
+        lead _ steps l (omega (arith, there), rw l.at (record { not_main = above; there = there; parent = refl }, refl)) (rw l.at tight)
+            (rw tight.1.parent tight.2),
+      )
   step_by (Some a) tight s steps q l =
       let before : a < b = tight.1.0.before in
       rw q (before, lead _ steps l (omega (arith, there), rw l.at (tight.1.0, refl)) (rw l.at tight) tight.1.1)
@@ -161,7 +166,8 @@ waits_below rows starts ends after placed b above there a q =
 
 -- the first step that is made
 pub leads_first : (rows : List Row) (plan : List ℕ) (r weight : ℕ) (steps all : List ChainStep) → r < length rows → IsFirstLatest rows plan r →
-    weight ≡ ticks_of rows r → steps ≡ [] → all ≡ steps ++ record { row = r; via = Last; weight = weight } ∷ [] → LeadsTo rows plan (end_of rows plan r) r (reverse all)
+    weight ≡ ticks_of rows r → steps ≡ [] → all ≡ steps ++ record { row = r; via = Last; weight = weight } ∷ []
+    → LeadsTo rows plan (end_of rows plan r) r (reverse all)
 leads_first rows plan r weight steps all h f m none e = rw (e, none, m) (leads_last rows plan r h f)
 
 -- no plan that keeps ends sooner than the earliest

@@ -1,5 +1,6 @@
 -- The steps of a chain, one by one.
-use Rattle.std.proofs.Common.{◌≡◌, ℕ, suc, ◌+◌, ◌*◌, ◌<◌, ◌≤◌, List, [], ◌∷◌, length, take, Option, Some, None, get_or, add-one, below_more, refl, sym, ap, subst, arith}
+use Rattle.std.proofs.Common.{◌≡◌, ℕ, suc, ◌+◌, ◌*◌, ◌<◌, ◌≤◌, List, [], ◌∷◌, length, take, Option, Some, None, get_or, add-one, below_more, refl, sym, ap}
+use Rattle.std.proofs.Common.{subst, arith}
 use Rattle.boc_program.specs.declared.limits.TheConstants.{MOST_TICKS}
 use Rattle.std.specs.Prelude.{slice_get}
 use Rattle.std.proofs.lemmas.List.Sums.{sum_by_more}
@@ -12,7 +13,8 @@ use Rattle.boc_runs.specs.Rows.{IsRows, parent_of, ticks_of}
 use Rattle.boc_plans.specs.Chains.{weight_of, LinkVia, IsLink, StepHolds, IsChain}
 use Rattle.boc_order.proofs.Chaining.{Links}
 
-module _ (rows : List Row) (steps : List ChainStep) (k : ℕ) (d : ChainStep) (there : k < length steps) (next : Option ChainStep) (is_next : next ≡ slice_get steps (k + 1)) where
+module _ (rows : List Row) (steps : List ChainStep) (k : ℕ) (d : ChainStep) (there : k < length steps) (next : Option ChainStep)
+    (is_next : next ≡ slice_get steps (k + 1)) where
   here : slice_get steps k ≡ Some (get_or steps k d)
   here = slice_get-get_or steps k d there
 
@@ -36,7 +38,8 @@ link_rises rows hr Spawn a weight next l = omega (arith, hr.parent_before next.r
 link_rises rows hr Order a weight next l = l.0.before
 link_rises rows hr Last a weight next l = absurd l
 
-pub link_small : (rows : List Row) (hr : IsRows rows) (via : Via) (a weight : ℕ) (next : Option ChainStep) → a < length rows → LinkVia rows a weight via next → weight ≤ MOST_TICKS
+pub link_small : (rows : List Row) (hr : IsRows rows) (via : Via) (a weight : ℕ) (next : Option ChainStep) → a < length rows → LinkVia rows a weight via next
+    → weight ≤ MOST_TICKS
 link_small rows hr Spawn a weight None h l = absurd l
 link_small rows hr Order a weight None h l = absurd l
 link_small rows hr Last a weight None h l = omega (arith, l, hr.ticks_high a h)
@@ -56,7 +59,8 @@ pub chain_short : (rows : List Row) → IsRows rows → (steps : List ChainStep)
 chain_short rows hr [] c = omega (arith, c.not_empty)
 chain_short rows hr (s ∷ rest) c = omega (arith, chain_rises rows hr s rest (λ k t e. (c.holds k t e).1))
 
-pub chain_made : (rows : List Row) (steps : List ChainStep) (n : ℕ) → length steps ≤ n → 0 < length steps → ((j : ℕ) → j < n → StepHolds rows steps j) → IsChain rows steps
+pub chain_made : (rows : List Row) (steps : List ChainStep) (n : ℕ) → length steps ≤ n → 0 < length steps → ((j : ℕ) → j < n → StepHolds rows steps j)
+    → IsChain rows steps
 chain_made rows steps n h some hold = record {
   not_empty = some;
   holds = λ k s q. hold k (omega (arith, slice_get_within steps k s q)) s q;
@@ -70,7 +74,8 @@ pub record Checked (rows : List Row) (steps : List ChainStep) (k weight : ℕ) :
   pub small : weight ≤ k * MOST_TICKS
   pub few : k ≤ length rows
 
-pub checked_more : (rows : List Row) (hr : IsRows rows) (steps : List ChainStep) (k : ℕ) (d : ChainStep) (weight : ℕ) → k < length steps → (next : Option ChainStep) →
+pub checked_more : (rows : List Row) (hr : IsRows rows) (steps : List ChainStep) (k : ℕ) (d : ChainStep) (weight : ℕ) → k < length steps
+    → (next : Option ChainStep) →
     next ≡ slice_get steps (k + 1) → (k ≡ 0 → (get_or steps k d).row ≡ 0) × IsLink rows (get_or steps k d) next → Checked rows steps k weight →
     Checked rows steps (k + 1) (weight + (get_or steps k d).weight)
 checked_more rows hr steps k d weight there next is_next h c =

@@ -26,7 +26,8 @@ pub record IsBetween (first list : List ℕ) (r next : ℕ) : Type 0 where
 between_from : (begin : ℕ) (ends list : List ℕ) → EndAt begin ends (length list) → (r : ℕ) → r < length ends → IsBetween (begin ∷ ends) list r (suc r)
 between_from begin [] list p r h = absurd (omega (arith, h))
 between_from begin (x ∷ ends) list p zero h = record { rise = p.0; inside = end_high x ends (length list) p.1; is = refl }
-between_from begin (x ∷ ends) list p (suc r) h = (let i = between_from x ends list p.1 r (omega (arith, h)) in record { rise = i.rise; inside = i.inside; is = i.is })
+between_from begin (x ∷ ends) list p (suc r) h = (let i = between_from x ends list p.1 r (omega (arith, h)) in
+    record { rise = i.rise; inside = i.inside; is = i.is })
 
 pub list_between : (first list : List ℕ) → AreBounds first (length list) → (r : ℕ) → r + 1 < length first → IsBetween first list r (r + 1)
 list_between [] list p r h = absurd p
@@ -64,16 +65,20 @@ between_more [] list added p = absurd p
 between_more (begin ∷ ends) list added p = from_more begin ends list added p
 
 -- as many lists as there are bounds but the last
-pub len_is : (first list : List ℕ) (lists : List (List ℕ)) (n : ℕ) → lists ≡ lists_between first list → AreBounds first (length list) → n ≡ length first → n - 1 ≡ length lists
+pub len_is : (first list : List ℕ) (lists : List (List ℕ)) (n : ℕ) → lists ≡ lists_between first list → AreBounds first (length list) → n ≡ length first
+    → n - 1 ≡ length lists
 len_is first list lists n e p q = rw (e, q) (omega (arith, length-between first list p))
 
 -- a row's list lies between two bounds
-pub there_is : (first list : List ℕ) (lists : List (List ℕ)) (r : ℕ) → lists ≡ lists_between first list → AreBounds first (length list) → r < length lists → r + 1 < length first
+pub there_is : (first list : List ℕ) (lists : List (List ℕ)) (r : ℕ) → lists ≡ lists_between first list → AreBounds first (length list) → r < length lists
+    → r + 1 < length first
 there_is first list lists r e p h = omega (arith, length-between first list p, ap (length {A = List ℕ}) e, h)
 
 -- a row's list, between the bounds that are read
-pub read_between : (first list : List ℕ) (lists : List (List ℕ)) (r begin end : ℕ) → lists ≡ lists_between first list → AreBounds first (length list) → r < length lists →
-    begin ≡ get_or first r begin → end ≡ get_or first (r + 1) end → (begin ≤ end) × (end ≤ length list) × (take (end - begin) (drop begin list) ≡ slice_index_or lists r [])
+pub read_between : (first list : List ℕ) (lists : List (List ℕ)) (r begin end : ℕ) → lists ≡ lists_between first list → AreBounds first (length list)
+    → r < length lists →
+    begin ≡ get_or first r begin → end ≡ get_or first (r + 1) end
+    → (begin ≤ end) × (end ≤ length list) × (take (end - begin) (drop begin list) ≡ slice_index_or lists r [])
 read_between first list lists r begin end e p h b_read e_read =
     let there = there_is first list lists r e p h in
     let b : begin ≡ slice_index first r = get_or_read first r begin (omega (arith, there)) b_read 0 in

@@ -45,7 +45,8 @@ module _ (rows : List Row) (n c : ℕ) where
       | inr ne ↦ none k low (omega (arith, below)) w
     ]
 
-    pub writer_more : (o : Option ℕ) → MatchOption o (NoneWrites rows c 0 n) (IsWriter rows n c) → MatchOption o (NoneWrites rows c 0 (n + 1)) (IsWriter rows (n + 1) c)
+    pub writer_more : (o : Option ℕ) → MatchOption o (NoneWrites rows c 0 n) (IsWriter rows n c)
+        → MatchOption o (NoneWrites rows c 0 (n + 1)) (IsWriter rows (n + 1) c)
     writer_more None p = none_more 0 p
     writer_more (Some x) p = record { before = omega (arith, p.before); wrote = p.wrote; last = none_more (x + 1) p.last }
 
@@ -145,7 +146,8 @@ module _ (rows : List Row) (hr : IsRows rows) (b c : ℕ) (there : b < length ro
     ]
 
     -- the last writer is added
-    pub adds_writer : (x : ℕ) → used.writer ≡ Some x → (Contains (written_of rows b) c → length used.readers.items ≡ 0) → new ≡ old ++ x ∷ [] → AddsNearOn rows b c old new
+    pub adds_writer : (x : ℕ) → used.writer ≡ Some x → (Contains (written_of rows b) c → length used.readers.items ≡ 0) → new ≡ old ++ x ∷ []
+        → AddsNearOn rows b c old new
     adds_writer x is none e =
         let i : IsWriter rows b c x = rw is at u.writer in
         record {
@@ -176,12 +178,14 @@ module _ (rows : List Row) (hr : IsRows rows) (b c : ℕ) (there : b < length ro
     }
 
     -- row b only reads it
-    pub use_read : (Contains (written_of rows b) c → ⊥) → next.writer ≡ used.writer → next.readers.items ≡ used.readers.items ++ b ∷ [] → IsUse rows (b + 1) c next
+    pub use_read : (Contains (written_of rows b) c → ⊥) → next.writer ≡ used.writer → next.readers.items ≡ used.readers.items ++ b ∷ []
+        → IsUse rows (b + 1) c next
     use_read isnt is more = record {
       writer = rw is (writer_more rows b c isnt used.writer u.writer);
       sound = rw more (λ r k. elim (Contains-push_cases used.readers.items b r k) [
         | inl i ↦ reader_more rows b c isnt r (u.sound r i)
-        | inr e ↦ subst (IsReader rows (b + 1) c) e (record { before = omega arith; needs = own; since = none_more rows b c isnt b (λ k low below w. omega (arith, low, below)) })
+        | inr e ↦ subst (IsReader rows (b + 1) c) e (record
+            { before = omega arith; needs = own; since = none_more rows b c isnt b (λ k low below w. omega (arith, low, below)) })
       ]);
       complete = rw more (λ r i. elim (cases_eq r b) [
         | inl e ↦ rw e (Contains-push used.readers.items b)
@@ -225,7 +229,8 @@ module _ (rows : List Row) where
   pub near_complete : (a b : ℕ) → b < length rows → Ordered rows a b → IsNear rows a b ⊎ ((c : ℕ) × Ordered rows a c × Ordered rows c b)
   near_complete a b there o =
       let c : ℕ = o.shared.0 in
-      elim (some_below (λ k. (a < k) × (ConflictOn rows c a k × ConflictOn rows c k b)) (λ k. both (after a k) (both (conflict_at c a k) (conflict_at c k b))) b) [
+      elim (some_below (λ k. (a < k) × (ConflictOn rows c a k × ConflictOn rows c k b)) (λ k. both (after a k) (both (conflict_at c a k) (conflict_at c k b)))
+      b) [
         | inl (k, below, (low, (p, q))) ↦ inr (k, record { before = low; shared = (c, p) }, record { before = below; shared = (c, q) })
         | inr none ↦ inl (record {
           there = there;

@@ -1,5 +1,6 @@
 -- One more row gets its place.
-use Rattle.std.proofs.Common.{◌≡◌, ℕ, zero, suc, ◌+◌, ◌*◌, ◌<◌, ◌≤◌, ◌⊎◌, Bool, true, false, List, [], ◌∷◌, ◌++◌, length, Option, Some, None, refl, sym, ap, ◌∙◌, subst, inl, inr, arith}
+use Rattle.std.proofs.Common.{◌≡◌, ℕ, zero, suc, ◌+◌, ◌*◌, ◌<◌, ◌≤◌, ◌⊎◌, Bool, true, false, List, [], ◌∷◌, ◌++◌, length, Option, Some, None, refl, sym, ap}
+use Rattle.std.proofs.Common.{◌∙◌, subst, inl, inr, arith}
 use Rattle.boc_program.specs.declared.limits.TheConstants.{MOST_TICKS}
 use Rattle.std.specs.Prelude.{slice_index, slice_index_or, nat_lt, MatchOption}
 use Rattle.std.specs.List.{Contains}
@@ -118,7 +119,14 @@ module _ (n : ℕ) (rows others : List Row) (s : AreSameBefore n rows others) (h
     low = omega (arith, p.low, agree_ends b h);
     spawned = λ a child. (let c = child_same n rows others s a b child in
         omega (arith, s.offsets b, p.spawned a c, agree a (omega (arith, before a c, h)), agree b h));
-    in_order = λ a o. omega (arith, s.ticks a (omega (arith, o.before, h)), p.in_order a (ordered_same n rows others s a b o), agree a (omega (arith, o.before, h)), agree b h);
+    in_order = λ a o. omega (
+      arith,
+      s.ticks a (omega (arith, o.before, h)),
+      p.in_order a (ordered_same n rows others s a b o),
+      agree a
+          (omega (arith, o.before, h)),
+      agree b h,
+    );
     tight = λ k. still_tight w (p.tight k);
   }
 
@@ -154,7 +162,8 @@ module _ (rows : List Row) (hr : IsRows rows) (starts ends : List ℕ) (after : 
     ]
 
     at_low_by : (o : Option ℕ) → MatchOption o (at ≡ spawned)
-        (λ a. (spawned < at) × Ordered rows a n × (slice_index ends a ≡ at) × ((o : ℕ) → Ordered rows o n → slice_index ends o ≡ at → a ≤ o)) → at ≤ n * MOST_TICKS
+        (λ a. (spawned < at) × Ordered rows a n × (slice_index ends a ≡ at) × ((o : ℕ) → Ordered rows o n → slice_index ends o ≡ at → a ≤ o))
+        → at ≤ n * MOST_TICKS
     at_low_by None t = omega (arith, t, spawned_low)
     at_low_by (Some a) t =
         let before : a < n = t.1.before in

@@ -36,7 +36,8 @@ picked A B C ends x y h to from p q = record {
 }
 
 -- the later of the latest of two sets is the latest of both
-pub later_latest : (A B : ℕ → Type 0) (ends : ℕ → ℕ) (x y : Latest) → IsLatestOf A ends x → IsLatestOf B ends y → IsLatestOf (λ r. A r ⊎ B r) ends (later_of x y)
+pub later_latest : (A B : ℕ → Type 0) (ends : ℕ → ℕ) (x y : Latest) → IsLatestOf A ends x → IsLatestOf B ends y
+    → IsLatestOf (λ r. A r ⊎ B r) ends (later_of x y)
 later_latest A B ends x y p q = by_test (comes_after y x) refl
   where
     by_test : (b : Bool) → comes_after y x ≡ b → IsLatestOf (λ r. A r ⊎ B r) ends (if comes_after y x then y else x)
@@ -103,7 +104,8 @@ latest_more rows ends k latest one is above e p =
     ]
 
 -- all of them
-pub latest_all : (rows : List ℕ) (ends : ℕ → ℕ) (k : ℕ) (latest : Latest) → k ≡ length rows → IsLatestOf (UpTo rows k) ends latest → IsLatestOf (λ a. Contains rows a) ends latest
+pub latest_all : (rows : List ℕ) (ends : ℕ → ℕ) (k : ℕ) (latest : Latest) → k ≡ length rows → IsLatestOf (UpTo rows k) ends latest
+    → IsLatestOf (λ a. Contains rows a) ends latest
 latest_all rows ends k latest all p =
     IsLatest-same (UpTo rows k) (λ a. Contains rows a) ends ends latest
     (λ a m. (m.0, omega (arith, m.1, all), get_or_default rows m.0 a 0 (omega (arith, m.1, all)) ∙ m.2))

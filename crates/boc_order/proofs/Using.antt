@@ -1,5 +1,6 @@
 -- The uses of the cowns, once a row has used its own.
-use Rattle.std.proofs.Common.{◌≡◌, ◌≢◌, ℕ, zero, suc, ◌+◌, ◌<◌, ◌≤◌, List, [], ◌∷◌, ◌++◌, length, get_or, Some, None, inl, inr, ap, sym, ◌∙◌, subst, arith, append_assoc}
+use Rattle.std.proofs.Common.{◌≡◌, ◌≢◌, ℕ, zero, suc, ◌+◌, ◌<◌, ◌≤◌, List, [], ◌∷◌, ◌++◌, length, get_or, Some, None, inl, inr, ap, sym, ◌∙◌, subst, arith}
+use Rattle.std.proofs.Common.{append_assoc}
 use Rattle.std.specs.Prelude.{slice_index, slice_get, slice_set}
 use Rattle.std.specs.List.{Contains}
 use Rattle.std.proofs.lemmas.Bool.{cases_eq}
@@ -26,7 +27,8 @@ pub record Halfway (rows : List Row) (n i : ℕ) (cowns : List ℕ) (uses : List
 pub halfway_none : (rows : List Row) (n : ℕ) (cowns : List ℕ) (uses : List Use) → AreUses rows n uses → Halfway rows n 0 cowns uses
 halfway_none rows n cowns uses p = record { whole = p.whole; done = λ j used h e. absurd (omega (arith, h)); rest = λ c used other e. p.at c used e }
 
-pub halfway_more : (rows : List Row) (n i : ℕ) (cowns : List ℕ) (uses : List Use) (next : Use) → slice_index cowns i < MOST_COWNS → Halfway rows n i cowns uses →
+pub halfway_more : (rows : List Row) (n i : ℕ) (cowns : List ℕ) (uses : List Use) (next : Use) → slice_index cowns i < MOST_COWNS → Halfway rows n i cowns uses
+    →
     IsUse rows (n + 1) (slice_index cowns i) next → Halfway rows n (i + 1) cowns (slice_set uses (slice_index cowns i) next)
 halfway_more rows n i cowns uses next small p u = record {
   whole = length-set uses (slice_index cowns i) next ∙ p.whole;
@@ -35,17 +37,20 @@ halfway_more rows n i cowns uses next small p u = record {
         subst (λ (x : ℕ). IsUse rows (n + 1) x used) (sym same) (subst (λ (x : Use). IsUse rows (n + 1) (slice_index cowns i) x) is u))
     | inr ne ↦ p.done j used (before j h ne) (sym (set_other uses (slice_index cowns i) (slice_index cowns j) next ne) ∙ e)
   ];
-  rest = λ c used other e. p.rest c used (λ j h. other j (omega arith)) (sym (set_other uses (slice_index cowns i) c next (λ same. other i (omega arith) (sym same))) ∙ e);
+  rest = λ c used other e. p.rest c used (λ j h. other j (omega arith))
+      (sym (set_other uses (slice_index cowns i) c next (λ same. other i (omega arith) (sym same))) ∙ e);
 }
   where
     here : (used : Use) → slice_get (slice_set uses (slice_index cowns i) next) (slice_index cowns i) ≡ Some used → next ≡ used
-    here used e = (let s : slice_get (slice_set uses (slice_index cowns i) next) (slice_index cowns i) ≡ Some next = set_same uses (slice_index cowns i) next (omega (arith, small, p.whole)) in cc)
+    here used e = (let s : slice_get (slice_set uses (slice_index cowns i) next) (slice_index cowns i)
+        ≡ Some next = set_same uses (slice_index cowns i) next (omega (arith, small, p.whole)) in cc)
 
     before : (j : ℕ) → j < i + 1 → slice_index cowns j ≢ slice_index cowns i → j < i
     before j h ne = elim (cases_eq j i) [ inl e ↦ absurd (ne (ap (slice_index cowns) e)) | inr other ↦ omega arith ]
 
 -- a cown that row n hasn't is used as before
-use_other : (rows : List Row) → IsRows rows → (n c : ℕ) → n < length rows → (Contains (cowns_of rows n) c → ⊥) → (used : Use) → IsUse rows n c used → IsUse rows (n + 1) c used
+use_other : (rows : List Row) → IsRows rows → (n c : ℕ) → n < length rows → (Contains (cowns_of rows n) c → ⊥) → (used : Use) → IsUse rows n c used
+    → IsUse rows (n + 1) c used
 use_other rows hr n c there other used u = record {
   writer = writer_more rows n c isnt used.writer u.writer;
   sound = λ r k. reader_more rows n c isnt r (u.sound r k);
@@ -58,7 +63,8 @@ use_other rows hr n c there other used u = record {
     isnt : Contains (written_of rows n) c → ⊥
     isnt w = other (writes_own rows hr n c there w)
 
-pub halfway_all : (rows : List Row) → IsRows rows → (n i : ℕ) (cowns : List ℕ) (uses : List Use) → n < length rows → cowns ≡ cowns_of rows n → i ≡ length cowns →
+pub halfway_all : (rows : List Row) → IsRows rows → (n i : ℕ) (cowns : List ℕ) (uses : List Use) → n < length rows → cowns ≡ cowns_of rows n → i ≡ length cowns
+    →
     Halfway rows n i cowns uses → AreUses rows (n + 1) uses
 halfway_all rows hr n i cowns uses there is all p = record {
   whole = p.whole;
@@ -92,9 +98,15 @@ pub record Added (rows : List Row) (b i : ℕ) (cowns old new : List ℕ) : Type
   pub complete : (a j : ℕ) → j < i → IsNearOn rows (slice_index cowns j) a b → Contains added a
 
 pub added_none : (rows : List Row) (b : ℕ) (cowns old : List ℕ) → Added rows b 0 cowns old old
-added_none rows b cowns old = record { added = []; is = sym (append-nil old); sound = λ a k. absurd (omega (arith, k.1)); complete = λ a j h. absurd (omega (arith, h)) }
+added_none rows b cowns old = record {
+  added = [];
+  is = sym (append-nil old);
+  sound = λ a k. absurd (omega (arith, k.1));
+  complete = λ a j h. absurd (omega (arith, h));
+}
 
-pub added_more : (rows : List Row) (b i : ℕ) (cowns old mid new : List ℕ) → b < length rows → Added rows b i cowns old mid → AddsNearOn rows b (slice_index cowns i) mid new →
+pub added_more : (rows : List Row) (b i : ℕ) (cowns old mid new : List ℕ) → b < length rows → Added rows b i cowns old mid
+    → AddsNearOn rows b (slice_index cowns i) mid new →
     Added rows b (i + 1) cowns old new
 added_more rows b i cowns old mid new there p q = record {
   added = p.added ++ q.added;
@@ -109,7 +121,8 @@ added_more rows b i cowns old mid new there p q = record {
   ];
 }
 
-pub added_all : (rows : List Row) (b i : ℕ) (cowns old new : List ℕ) → cowns ≡ cowns_of rows b → i ≡ length cowns → Added rows b i cowns old new → AddsNear rows b old new
+pub added_all : (rows : List Row) (b i : ℕ) (cowns old new : List ℕ) → cowns ≡ cowns_of rows b → i ≡ length cowns → Added rows b i cowns old new
+    → AddsNear rows b old new
 added_all rows b i cowns old new is all p = record {
   added = p.added;
   is = p.is;
@@ -150,7 +163,8 @@ unused_all rows uses whole all = record {
 }
 
 -- one more row has its links
-pub waits_more : (rows : List Row) (n : ℕ) (first old new : List ℕ) → AreBounds first (length old) → AddsNear rows n old new → AreFirstWaits rows n (lists_between first old) →
+pub waits_more : (rows : List Row) (n : ℕ) (first old new : List ℕ) → AreBounds first (length old) → AddsNear rows n old new
+    → AreFirstWaits rows n (lists_between first old) →
     AreFirstWaits rows (n + 1) (lists_between (first ++ length new ∷ []) new)
 waits_more rows n first old new bounds adds p =
     subst (λ (xs : List ℕ). AreFirstWaits rows (n + 1) (lists_between (first ++ length xs ∷ []) xs)) (sym adds.is)

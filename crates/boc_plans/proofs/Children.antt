@@ -80,7 +80,8 @@ own_child rows n fit = record {
   ];
 }
 
-other_above : (rows : List Row) (n p last a : ℕ) → parent_of rows n ≢ p → IsLast rows n p last → 0 < a → a < n + 1 → parent_of rows a ≡ p → offset_of rows a ≤ last
+other_above : (rows : List Row) (n p last a : ℕ) → parent_of rows n ≢ p → IsLast rows n p last → 0 < a → a < n + 1 → parent_of rows a ≡ p
+    → offset_of rows a ≤ last
 other_above rows n p last a other was k l same =
     elim (up_to a n l) [
       | inl e ↦ absurd (other (ap (parent_of rows) (sym e) ∙ same))

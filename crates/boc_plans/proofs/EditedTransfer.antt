@@ -10,7 +10,14 @@ use Rattle.boc_plans.specs.Edits.{all_edited, Fits, AllFit, IsLeastTicks, IsBelo
 use Rattle.boc_plans.proofs.Editing.{last_edited}
 
 abbrev row : ℕ → List ℕ → ℕ → Row
-row offset cowns ticks = record { parent = 0; offset = offset; cowns = record { items = cowns }; ticks = ticks; status = Done; written = record { items = cowns } }
+row offset cowns ticks = record {
+  parent = 0;
+  offset = offset;
+  cowns = record { items = cowns };
+  ticks = ticks;
+  status = Done;
+  written = record { items = cowns };
+}
 
 abbrev transfer : List Row
 transfer = row 0 [] 4 ∷ row 2 (0 ∷ []) 2 ∷ row 3 (0 ∷ 1 ∷ []) 3 ∷ row 4 (1 ∷ []) 2 ∷ []
@@ -72,7 +79,14 @@ pub same_edit_twice : AllFit transfer (edit 2 1 ∷ edit 2 1 ∷ [])
 same_edit_twice = (one_tick_fits, (again, tt))
   where
     again : Fits (edited transfer 2 1) 2 1
-    again = record { there = omega arith; low = omega arith; high = omega arith; last = 0; is_last = last_edited transfer 2 1 4 2 0 last_of_child; covers = omega arith }
+    again = record {
+      there = omega arith;
+      low = omega arith;
+      high = omega arith;
+      last = 0;
+      is_last = last_edited transfer 2 1 4 2 0 last_of_child;
+      covers = omega arith;
+    }
 
 -- the second edit is the first that does not fit, whatever the third is
 pub second_does_not_fit : IsFirstUnfit transfer (edit 2 1 ∷ edit 0 3 ∷ edit 4 1 ∷ []) 2 BelowSpawn

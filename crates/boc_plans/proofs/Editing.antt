@@ -85,7 +85,12 @@ edited_read (y ∷ rows) (suc row) ticks x h e = ap (λ (xs : List Row). y ∷ x
 -- the last child of a row stays
 pub last_edited : (rows : List Row) (row ticks n p last : ℕ) → IsLast rows n p last → IsLast (edited rows row ticks) n p last
 last_edited rows row ticks n p last l = record {
-  none_above = λ a above below same. omega (arith, offset_of-edited rows row ticks a, l.none_above a above below (sym (parent_of-edited rows row ticks a) ∙ same));
+  none_above = λ a above below same. omega (
+    arith,
+    offset_of-edited rows row ticks a,
+    l.none_above a above below
+        (sym (parent_of-edited rows row ticks a) ∙ same),
+  );
   reached = elim l.reached [
     | inl e ↦ inl e
     | inr (a, above, below, same, is) ↦ inr (a, above, below, parent_of-edited rows row ticks a ∙ same, offset_of-edited rows row ticks a ∙ is)

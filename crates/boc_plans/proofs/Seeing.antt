@@ -81,7 +81,8 @@ module _ (rows : List Row) (hr : IsRows rows) where
     );
     ticks_low = λ r h. omega (arith, ticks_of-seen Exclusive rows r, hr.ticks_low r (within r h));
     ticks_high = λ r h. omega (arith, ticks_of-seen Exclusive rows r, hr.ticks_high r (within r h));
-    ticks_cover = λ r above h. rw (offset_of-seen Exclusive rows r, parent_of-seen Exclusive rows r, ticks_of-seen Exclusive rows (parent_of rows r)) (hr.ticks_cover r above (within r h));
+    ticks_cover = λ r above h. rw (offset_of-seen Exclusive rows r, parent_of-seen Exclusive rows r, ticks_of-seen Exclusive rows (parent_of rows r))
+        (hr.ticks_cover r above (within r h));
   }
 
 -- the rows as they are seen are the rows of a record
@@ -100,7 +101,8 @@ edited-seen Exclusive rows row ticks = edited_writing rows row ticks
 edited-seen SharedReads rows row ticks = refl
 
 -- where cowns are exclusive, a row counts as writing each cown that it has
-pub written_of-seen : (s : Sharing) (rows all : List Row) (r c : ℕ) → all ≡ seen s rows → Contains (cowns_of all r) c → s ≡ Exclusive → Contains (written_of all r) c
+pub written_of-seen : (s : Sharing) (rows all : List Row) (r c : ℕ) → all ≡ seen s rows → Contains (cowns_of all r) c → s ≡ Exclusive
+    → Contains (written_of all r) c
 written_of-seen Exclusive rows all r c same has e = rw (same, written_of-writing rows r) (rw (same, cowns_of-seen Exclusive rows r) at has)
 written_of-seen SharedReads rows all r c same has e = absurd (let bad : ⊥ = cc in bad)
 

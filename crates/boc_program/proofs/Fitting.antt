@@ -1,5 +1,6 @@
 -- The wishes of a body whose calls fit, fit.
-use Rattle.std.proofs.Common.{◌≡◌, ℕ, zero, suc, ◌+◌, ◌<◌, ◌≤◌, List, [], ◌∷◌, map, length, ap, ◌∙◌, refl, arith, IsTrue, ℤ, pos, negsuc, Bool, true, false, Ok, Err, Option, Some, None}
+use Rattle.std.proofs.Common.{◌≡◌, ℕ, zero, suc, ◌+◌, ◌<◌, ◌≤◌, List, [], ◌∷◌, map, length, ap, ◌∙◌, refl, arith, IsTrue, ℤ, pos, negsuc, Bool, true, false, Ok}
+use Rattle.std.proofs.Common.{Err, Option, Some, None}
 use Rattle.std.specs.Prelude.{slice_get, slice_index, nat_lt, nat_eq, ◌&&◌, if◌then◌else◌}
 use Rattle.std.proofs.lemmas.List.{length-map}
 use Rattle.std.proofs.lemmas.Bool.Decides.{nat_tests}
@@ -14,7 +15,8 @@ use Rattle.boc_program.specs.Signatures.{Signature, ref_below, counts_fit, call_
 use Rattle.boc_program.proofs.Law.{Keeps, law}
 use Rattle.boc_program.proofs.Truth.{and_true}
 
-values_cons : (o : OrFault ℤ) (p : OrFault (List ℤ)) (n : ℕ) (vs : List ℤ) → ((ws : List ℤ) → Ok ws ≡ p → length ws ≡ n) → Ok vs ≡ then_value o (λ v. then_value p (λ ws. Ok (v ∷ ws))) → length vs ≡ suc n
+values_cons : (o : OrFault ℤ) (p : OrFault (List ℤ)) (n : ℕ) (vs : List ℤ) → ((ws : List ℤ) → Ok ws ≡ p → length ws ≡ n)
+    → Ok vs ≡ then_value o (λ v. then_value p (λ ws. Ok (v ∷ ws))) → length vs ≡ suc n
 values_cons (Err f) p n vs h e = absurd cc
 values_cons (Ok v) (Err f) n vs h e = absurd cc
 values_cons (Ok v) (Ok ws) n vs h e =
@@ -31,7 +33,8 @@ held_below n [] i all h = absurd (omega arith)
 held_below n (c ∷ cs) zero all h = all.0
 held_below n (c ∷ cs) (suc i) all h = held_below n cs i all.1 (omega arith)
 
-member_is : (b : Bool) (n first size i c : ℕ) → nat_lt i size ≡ b → first + size ≤ n → Ok c ≡ (let r : OrFault ℕ = if b then Ok (first + i) else Err OutOfRange in r) → c < n
+member_is : (b : Bool) (n first size i c : ℕ) → nat_lt i size ≡ b → first + size ≤ n
+    → Ok c ≡ (let r : OrFault ℕ = if b then Ok (first + i) else Err OutOfRange in r) → c < n
 member_is true n first size i c t h e = let same : c ≡ first + i = cc in let lt : i < size = grind (arith, nat_tests) in omega arith
 member_is false n first size i c t h e = absurd cc
 
@@ -51,7 +54,9 @@ cown_below (Member first size index) s n c all t e =
     let le : first + size ≤ n = grind (arith, nat_tests) in
     member_below (value index s.slots) n first size c le e
 
-cowns_cons : (o : OrFault ℕ) (p : OrFault (List ℕ)) (n k : ℕ) (cs : List ℕ) → ((c : ℕ) → Ok c ≡ o → c < n) → ((ds : List ℕ) → Ok ds ≡ p → (length ds ≡ k) × AllBelow n ds) → Ok cs ≡ then_value o (λ c. then_value p (λ ds. Ok (c ∷ ds))) → (length cs ≡ suc k) × AllBelow n cs
+cowns_cons : (o : OrFault ℕ) (p : OrFault (List ℕ)) (n k : ℕ) (cs : List ℕ) → ((c : ℕ) → Ok c ≡ o → c < n)
+    → ((ds : List ℕ) → Ok ds ≡ p → (length ds ≡ k) × AllBelow n ds) → Ok cs ≡ then_value o (λ c. then_value p (λ ds. Ok (c ∷ ds)))
+    → (length cs ≡ suc k) × AllBelow n cs
 cowns_cons (Err f) p n k cs h g e = absurd cc
 cowns_cons (Ok c) (Err f) n k cs h g e = absurd cc
 cowns_cons (Ok c) (Ok ds) n k cs h g e =
@@ -59,7 +64,8 @@ cowns_cons (Ok c) (Ok ds) n k cs h g e =
     let both = g ds refl in
     rw same (ap suc both.0, (h c refl, both.1))
 
-cowns_below : (rs : List CownRef) (s : State) (n : ℕ) (cs : List ℕ) → AllBelow n s.held → IsTrue (every (map (ref_below (length s.held) n) rs)) → Ok cs ≡ cowns_of rs s → (length cs ≡ length rs) × AllBelow n cs
+cowns_below : (rs : List CownRef) (s : State) (n : ℕ) (cs : List ℕ) → AllBelow n s.held → IsTrue (every (map (ref_below (length s.held) n) rs))
+    → Ok cs ≡ cowns_of rs s → (length cs ≡ length rs) × AllBelow n cs
 cowns_below [] s n cs all t e = let same : cs ≡ [] = cc in rw same (refl, tt)
 cowns_below (r ∷ rs) s n cs all t e =
     let both = and_true (ref_below (length s.held) n r) (every (map (ref_below (length s.held) n) rs)) t in
@@ -73,7 +79,8 @@ were_distinct : (o : OrFault (List ℕ)) (cs : List ℕ) → Ok cs ≡ then_valu
 were_distinct (Err f) cs e = e
 were_distinct (Ok ds) cs e = ap Ok (distinct_if (has_same_twice ds) ds cs e)
 
-counts_are : (o : Option Signature) (args : List SlotExpr) (refs : List CownRef) (a c : ℕ) → IsTrue (counts_fit o args refs) → a ≡ length args → c ≡ length refs → CountsAre o a c
+counts_are : (o : Option Signature) (args : List SlotExpr) (refs : List CownRef) (a c : ℕ) → IsTrue (counts_fit o args refs) → a ≡ length args → c ≡ length refs
+    → CountsAre o a c
 counts_are None args refs a c t h g = absurd cc
 counts_are (Some sig) args refs a c t h g =
     let both = and_true (nat_eq (length args) sig.args) (nat_eq (length refs) sig.cowns) t in
@@ -102,7 +109,9 @@ fitting_keeps sigs held n = record {
       (fits, h);
 }
 
-pub meaning_fits : (sigs : List Signature) (n : ℕ) (body : Body) (args : List ℤ) (inputs : List Input) → IsTrue (calls_fit sigs n body) → length inputs ≡ body.cown_params → AllBelow n (cowns_held inputs) → WishesFit sigs n (meaning body args inputs).wishes
+pub meaning_fits : (sigs : List Signature) (n : ℕ) (body : Body) (args : List ℤ) (inputs : List Input) → IsTrue (calls_fit sigs n body)
+    → length inputs ≡ body.cown_params → AllBelow n (cowns_held inputs) → WishesFit sigs n (meaning body args inputs).wishes
 meaning_fits sigs n body args inputs t len below =
     let same : length (cowns_held inputs) ≡ length inputs = simp length-map in
-    law (Holding body.cown_params n) (λ s r. WishesFit sigs n r.wishes) (call_fits sigs body.cown_params n) (fitting_keeps sigs body.cown_params n) body.block t (start body args inputs) (ends Done) (same ∙ len, below) (λ s i. tt)
+    law (Holding body.cown_params n) (λ s r. WishesFit sigs n r.wishes) (call_fits sigs body.cown_params n) (fitting_keeps sigs body.cown_params n) body.block t
+    (start body args inputs) (ends Done) (same ∙ len, below) (λ s i. tt)

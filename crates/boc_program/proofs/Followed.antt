@@ -10,7 +10,8 @@ use Rattle.boc_program.specs.memory.View.{before, slot_expr_of, cown_ref_of}
 use Rattle.boc_program.specs.memory.Words.{words_of, stmt_words}
 
 -- a statement and what follows it count together, in size and in nodes
-then_counts : (s : Stmt) (rest : Code) → (code_size (before s rest) ≡ code_size (before s Done) + code_size rest) × (nodes (before s rest) ≡ nodes (before s Done) + nodes rest)
+then_counts : (s : Stmt) (rest : Code) → (code_size (before s rest) ≡ code_size (before s Done) + code_size rest)
+    × (nodes (before s rest) ≡ nodes (before s Done) + nodes rest)
 then_counts (stmt.Assign slot e) rest = (omega arith, omega arith)
 then_counts (stmt.Work e) rest = (omega arith, omega arith)
 then_counts (stmt.If e a b) rest = (omega arith, omega arith)

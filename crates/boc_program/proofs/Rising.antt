@@ -28,6 +28,7 @@ rising_keeps test = record {
   wish_back = λ kind args refs s vs cs r t i is_vs is_cs h. ((omega arith, h.0), h.1);
 }
 
-pub meaning_rises : (test : Test) (body : Body) (args : List ℤ) (inputs : List Input) → IsTrue (whens_pass test body.block) → RisesFrom 1 (meaning body args inputs).wishes (meaning body args inputs).ticks × (meaning body args inputs).ticks ≤ 1000000
+pub meaning_rises : (test : Test) (body : Body) (args : List ℤ) (inputs : List Input) → IsTrue (whens_pass test body.block)
+    → RisesFrom 1 (meaning body args inputs).wishes (meaning body args inputs).ticks × (meaning body args inputs).ticks ≤ 1000000
 meaning_rises test body args inputs t =
     law Within Rising test (rising_keeps test) body.block t (start body args inputs) (ends Done) (omega arith) (λ s i. (omega arith, i))

@@ -32,7 +32,8 @@ body_of params cown_params slots block (few_params, few_cowns, few_slots, parame
 -- the limits of a program, each as a test
 abbrev pub ProgramTests : List Cown → List Body → Type 0
 ProgramTests cowns bodies =
-    IsTrue (have_members cowns) × T (leb (cown_count cowns) MOST_COWNS) × T (leb (length bodies) MOST_BODIES) × IsTrue (has_main bodies) × IsTrue (program_fits cowns bodies)
+    IsTrue (have_members cowns) × T (leb (cown_count cowns) MOST_COWNS) × T (leb (length bodies) MOST_BODIES) × IsTrue (has_main bodies)
+    × IsTrue (program_fits cowns bodies)
 
 abbrev pub program_of : (cowns : List Cown) (bodies : List Body) → ProgramTests cowns bodies → Program
 program_of cowns bodies (members, few_cowns, few_defs, main, calls) = record {

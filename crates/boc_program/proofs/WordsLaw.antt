@@ -98,10 +98,12 @@ expr_goes_on (Negate e) xs ys h = cc
 expr_goes_on (Binary o a b) xs ys h = let tags = (heads h).0 in omega (arith, tags, operator_above o)
 
 -- lists of things that are told by their words, and whose words do not begin with the end of a list
-module _ {A : Type 0} (words : A → List ℕ) (all : List A → List ℕ) (end : all [] ≡ 0 ∷ []) (more : (a : A) (rest : List A) → all (a ∷ rest) ≡ words a ++ all rest)
+module _ {A : Type 0} (words : A → List ℕ) (all : List A → List ℕ) (end : all [] ≡ 0 ∷ [])
+    (more : (a : A) (rest : List A) → all (a ∷ rest) ≡ words a ++ all rest)
     (one : (a b : A) (xs ys : List ℕ) → words a ++ xs ≡ words b ++ ys → Alike a b xs ys) (goes_on : (a : A) (xs ys : List ℕ) → words a ++ xs ≡ 0 ∷ ys → ⊥) where
   ends_apart : (a : A) (rest : List A) (xs ys : List ℕ) → all (a ∷ rest) ++ xs ≡ all [] ++ ys → ⊥
-  ends_apart a rest xs ys h = goes_on a (all rest ++ xs) ys (sym (append_assoc (words a) (all rest) xs) ∙ ap (λ ws. ws ++ xs) (sym (more a rest)) ∙ h ∙ ap (λ ws. ws ++ ys) end)
+  ends_apart a rest xs ys h = goes_on a (all rest ++ xs) ys
+      (sym (append_assoc (words a) (all rest) xs) ∙ ap (λ ws. ws ++ xs) (sym (more a rest)) ∙ h ∙ ap (λ ws. ws ++ ys) end)
 
   one_list : (rest others : List A) (xs ys : List ℕ) → all rest ++ xs ≡ all others ++ ys → Alike rest others xs ys
   one_list [] [] xs ys h = (refl, (heads (rw end at h)).1)
@@ -150,7 +152,8 @@ one_code (Work e rest) (Work f rest') xs ys h =
     let more = one_code rest rest' xs ys expr.1 in
     (λ i. Work (expr.0 i) (more.0 i), more.1)
 one_code (If e a b rest) (If f c d rest') xs ys h =
-    let expr = told_first expr_words one_expr e f (words_of a ++ (words_of b ++ words_of rest)) (words_of c ++ (words_of d ++ words_of rest')) xs ys (heads h).1 in
+    let expr = told_first expr_words one_expr e f (words_of a ++ (words_of b ++ words_of rest)) (words_of c ++ (words_of d ++ words_of rest')) xs ys
+    (heads h).1 in
     let first = one_code a c ((words_of b ++ words_of rest) ++ xs) ((words_of d ++ words_of rest') ++ ys)
     (regroup (words_of a) (words_of b ++ words_of rest) xs (words_of c) (words_of d ++ words_of rest') ys expr.1) in
     let second = one_code b d (words_of rest ++ xs) (words_of rest' ++ ys)

@@ -12,14 +12,16 @@ use crate::body::Body;
 
 /// The offsets of a body's wishes rise strictly, and end at its ticks at most, which are at most 1,000,000.
 pub fn offsets_rise(body: &Body)
-    ensures { (args : List ℤ) (inputs : List Input) → RisesFrom 1 (meaning body.now args inputs).wishes (meaning body.now args inputs).ticks × (meaning body.now args inputs).ticks ≤ MOST_TICKS }
+    ensures { (args : List ℤ) (inputs : List Input) → RisesFrom 1 (meaning body.now args inputs).wishes (meaning body.now args inputs).ticks
+        × (meaning body.now args inputs).ticks ≤ MOST_TICKS }
 {
     let _ = body;
 }
 
 /// Where the calls of a body fit, its wishes fit.
 pub fn wishes_fit(body: &Body)
-    ensures { (sigs : List Signature) (n : _) (args : List ℤ) (inputs : List Input) → IsTrue (calls_fit sigs n body.now) → length inputs ≡ body.now.cown_params → AllBelow n (cowns_held inputs) → WishesFit sigs n (meaning body.now args inputs).wishes }
+    ensures { (sigs : List Signature) (n : _) (args : List ℤ) (inputs : List Input) → IsTrue (calls_fit sigs n body.now) → length inputs ≡ body.now.cown_params
+        → AllBelow n (cowns_held inputs) → WishesFit sigs n (meaning body.now args inputs).wishes }
 {
     let _ = body;
 }

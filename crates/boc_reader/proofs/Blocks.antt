@@ -2,7 +2,8 @@
 use Rattle.std.proofs.Common.{◌≡◌, ℕ, ◌+◌, List, [], ◌∷◌, length, refl, ap, arith}
 use Rattle.boc_reader.specs.Tokens.{Token}
 use Rattle.boc_program.specs.Sizes.{members}
-use Rattle.boc_reader.specs.Shape.{each_tokens, list_nodes, Cown, cowns_declared, HaveMembers, Def, AreSmallDefs, Stmt, stmt_tokens, stmt_nodes, block_tokens, block_nodes, IsSmallBlock}
+use Rattle.boc_reader.specs.Shape.{each_tokens, list_nodes, Cown, cowns_declared, HaveMembers, Def, AreSmallDefs, Stmt, stmt_tokens, stmt_nodes, block_tokens}
+use Rattle.boc_reader.specs.Shape.{block_nodes, IsSmallBlock}
 use Rattle.boc_reader.specs.Grammar.{cown_phrase, def_phrase, stmt_phrase}
 use Rattle.boc_reader.specs.Views.{block_from}
 use Rattle.boc_reader.proofs.Each.{AllSmall}

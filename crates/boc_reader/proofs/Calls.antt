@@ -19,7 +19,8 @@ pub one_arguments : OneReading arguments_phrase
 one_arguments = one_pair (list_phrase expr_phrase Semicolon) (list_phrase ref_phrase Close) (λ _ _ _ _. tt) one_exprs one_refs
 
 -- behind the parenthesis stands a semicolon
-pub no_call_end : (old mid end : Ahead) (f : List ℕ) (w : List Expr × List NamedCown) → old.tokens ≡ name f ∷ sign Open ∷ mid.tokens → Stands arguments_phrase mid w end.tokens → NoSign Semicolon end.tokens → NoneStands call_phrase old
+pub no_call_end : (old mid end : Ahead) (f : List ℕ) (w : List Expr × List NamedCown) → old.tokens ≡ name f ∷ sign Open ∷ mid.tokens
+    → Stands arguments_phrase mid w end.tokens → NoSign Semicolon end.tokens → NoneStands call_phrase old
 no_call_end old mid end f w e item none x r st =
     let h = st.tokens in
     none r (one_arguments w x.1 end.tokens (sign Semicolon ∷ r) tt tt (sym item.tokens ∙ cc)).1

@@ -4,9 +4,11 @@ use Rattle.boc_reader.specs.declared.terminal.Sign.{Sign}
 use Rattle.boc_reader.specs.declared.terminal.Sign.TheVariants.{Assign, Open, Close, Comma, Semicolon}
 use Rattle.boc_reader.specs.declared.terminal.Keyword.TheVariants.{Cown as CownKeyword, Def as DefKeyword, Main}
 use Rattle.boc_reader.specs.Tokens.{Token, name, number, sign, keyword}
-use Rattle.boc_reader.specs.Shape.{Cown, Def, Tree, Block, def_tokens, each_tokens, braced_tokens, list_tokens, name_tokens, size_tokens, minus_tokens, tree_tokens, HasShape}
+use Rattle.boc_reader.specs.Shape.{Cown, Def, Tree, Block, def_tokens, each_tokens, braced_tokens, list_tokens, name_tokens, size_tokens, minus_tokens}
+use Rattle.boc_reader.specs.Shape.{tree_tokens, HasShape}
 use Rattle.boc_reader.specs.Phrases.{Ahead, Stands, NoneStands}
-use Rattle.boc_reader.specs.Grammar.{NoKeyword, EndsSize, name_phrase, list_phrase, size_phrase, initial_phrase, cown_phrase, cowns_phrase, signature_phrase, body_phrase, def_phrase, defs_phrase, main_phrase}
+use Rattle.boc_reader.specs.Grammar.{NoKeyword, EndsSize, name_phrase, list_phrase, size_phrase, initial_phrase, cown_phrase, cowns_phrase, signature_phrase}
+use Rattle.boc_reader.specs.Grammar.{body_phrase, def_phrase, defs_phrase, main_phrase}
 use Rattle.boc_reader.proofs.Refused.{OneReading}
 use Rattle.boc_reader.proofs.Each.{ReadEach}
 use Rattle.boc_reader.proofs.Ended.{one_keyword, no_next_keyword}
@@ -27,12 +29,14 @@ size_ends : (n : Option ℕ) (w : List Token) → EndsSize n (sign Assign ∷ w)
 size_ends None w = λ after e. cc
 size_ends (Some n) w = tt
 
-one_minus : (a b : Bool) (n m : ℕ) (r s : List Token) → minus_tokens a (number n ∷ sign Semicolon ∷ r) ≡ minus_tokens b (number m ∷ sign Semicolon ∷ s) → (a ≡ b) × (n ≡ m) × (r ≡ s)
+one_minus : (a b : Bool) (n m : ℕ) (r s : List Token) → minus_tokens a (number n ∷ sign Semicolon ∷ r) ≡ minus_tokens b (number m ∷ sign Semicolon ∷ s)
+    → (a ≡ b) × (n ≡ m) × (r ≡ s)
 one_minus false false n m r s e = (refl, cc, cc)
 one_minus true true n m r s e = (refl, cc, cc)
 one_minus a b n m r s e = absurd cc
 
-pub no_initial : (old sized mid : Ahead) (f : List ℕ) (n : Option ℕ) → old.tokens ≡ keyword CownKeyword ∷ name f ∷ sized.tokens → Stands size_phrase sized n mid.tokens → NoneStands initial_phrase mid → NoneStands cown_phrase old
+pub no_initial : (old sized mid : Ahead) (f : List ℕ) (n : Option ℕ) → old.tokens ≡ keyword CownKeyword ∷ name f ∷ sized.tokens
+    → Stands size_phrase sized n mid.tokens → NoneStands initial_phrase mid → NoneStands cown_phrase old
 no_initial old sized mid f n e item none c r st =
     let rest = sign Assign ∷ minus_tokens c.negative (number c.value ∷ sign Semicolon ∷ r) in
     let w = st.tokens in
@@ -49,7 +53,8 @@ one_cown x y r s p q e =
     let u = one_size x.size y.size rest others (size_ends x.size _) (size_ends y.size _) same in
     let k = u.1 in
     let v = one_minus x.negative y.negative x.value y.value r s cc in
-    let by_name : x ≡ record { name = y.name; size = x.size; negative = x.negative; value = x.value } = ap (λ (n : List ℕ). let c : Cown = record { name = n; size = x.size; negative = x.negative; value = x.value } in c) f in
+    let by_name : x ≡ record { name = y.name; size = x.size; negative = x.negative; value = x.value } =
+    ap (λ (n : List ℕ). let c : Cown = record { name = n; size = x.size; negative = x.negative; value = x.value } in c) f in
     let by_size = ap (λ (n : Option ℕ). let c : Cown = record { name = y.name; size = n; negative = x.negative; value = x.value } in c) u.0 in
     let by_sign = ap (λ (b : Bool). let c : Cown = record { name = y.name; size = y.size; negative = b; value = x.value } in c) v.0 in
     let by_value = ap (λ (n : ℕ). let c : Cown = record { name = y.name; size = y.size; negative = y.negative; value = n } in c) v.1 in
@@ -58,7 +63,8 @@ one_cown x y r s p q e =
 one_cowns : OneReading cowns_phrase
 one_cowns = one_keyword cown_phrase CownKeyword one_cown (λ _ _. tt) (λ _ _. (_, refl))
 
-pub no_next_cown : (old mid : Ahead) (xs : List Cown) (after : List Token) → ReadEach cown_phrase old mid xs → mid.tokens ≡ keyword CownKeyword ∷ after → NoneStands cown_phrase mid → NoneStands cowns_phrase old
+pub no_next_cown : (old mid : Ahead) (xs : List Cown) (after : List Token) → ReadEach cown_phrase old mid xs → mid.tokens ≡ keyword CownKeyword ∷ after
+    → NoneStands cown_phrase mid → NoneStands cowns_phrase old
 no_next_cown old mid xs after so_far e none ys r st =
     no_next_keyword cown_phrase CownKeyword one_cown (λ _ _. tt) (λ _ _. (_, refl)) old mid xs ys after r so_far e none st.ends st.tokens st.fits st.small
 
@@ -67,12 +73,14 @@ no_next_cown old mid xs after so_far e none ys r st =
 pub one_names : (close : Sign) → close ≢ Comma → OneReading (list_phrase name_phrase close)
 one_names close h x y r s p q e = one_list name_phrase close (names_readable close h) x y r s e
 
-pub no_params : (old mid : Ahead) (f : List ℕ) → old.tokens ≡ name f ∷ sign Open ∷ mid.tokens → NoneStands (list_phrase name_phrase Semicolon) mid → NoneStands signature_phrase old
+pub no_params : (old mid : Ahead) (f : List ℕ) → old.tokens ≡ name f ∷ sign Open ∷ mid.tokens → NoneStands (list_phrase name_phrase Semicolon) mid
+    → NoneStands signature_phrase old
 no_params old mid f e none s r st =
     let w = st.tokens in
     none s.1.0 (list_tokens name_tokens s.1.1 (sign Close ∷ r)) (record { tokens = cc; ends = tt; fits = omega (arith, names_nodes s.1.0); small = st.small.0 })
 
-pub no_held : (old mid end : Ahead) (f : List ℕ) (ps : List (List ℕ)) → old.tokens ≡ name f ∷ sign Open ∷ mid.tokens → Stands (list_phrase name_phrase Semicolon) mid ps end.tokens → NoneStands (list_phrase name_phrase Close) end → NoneStands signature_phrase old
+pub no_held : (old mid end : Ahead) (f : List ℕ) (ps : List (List ℕ)) → old.tokens ≡ name f ∷ sign Open ∷ mid.tokens
+    → Stands (list_phrase name_phrase Semicolon) mid ps end.tokens → NoneStands (list_phrase name_phrase Close) end → NoneStands signature_phrase old
 no_held old mid end f ps e item none s r st =
     let rest = list_tokens name_tokens s.1.1 (sign Close ∷ r) in
     let w = st.tokens in
@@ -93,9 +101,11 @@ one_signature x y r s p q e =
 pub no_signature : (old mid : Ahead) → old.tokens ≡ keyword DefKeyword ∷ mid.tokens → NoneStands signature_phrase mid → NoneStands def_phrase old
 no_signature old mid e none d r st =
     let w = st.tokens in
-    none (d.name, (d.params, d.cowns)) (braced_tokens d.block r) (record { tokens = cc; ends = tt; fits = omega arith; small = (st.small.params, st.small.cowns) })
+    none (d.name, (d.params, d.cowns)) (braced_tokens d.block r)
+    (record { tokens = cc; ends = tt; fits = omega arith; small = (st.small.params, st.small.cowns) })
 
-pub no_body : (old mid end : Ahead) (s : List ℕ × (List (List ℕ) × List (List ℕ))) → old.tokens ≡ keyword DefKeyword ∷ mid.tokens → Stands signature_phrase mid s end.tokens → NoneStands body_phrase end → NoneStands def_phrase old
+pub no_body : (old mid end : Ahead) (s : List ℕ × (List (List ℕ) × List (List ℕ))) → old.tokens ≡ keyword DefKeyword ∷ mid.tokens
+    → Stands signature_phrase mid s end.tokens → NoneStands body_phrase end → NoneStands def_phrase old
 no_body old mid end s e item none d r st =
     let w = st.tokens in
     let same : mid.tokens ≡ signature_phrase.tokens (d.name, (d.params, d.cowns)) (braced_tokens d.block r) = cc in
@@ -104,7 +114,8 @@ no_body old mid end s e item none d r st =
 
 one_def : OneReading def_phrase
 one_def x y r s p q e =
-    let same : signature_phrase.tokens (x.name, (x.params, x.cowns)) (braced_tokens x.block r) ≡ signature_phrase.tokens (y.name, (y.params, y.cowns)) (braced_tokens y.block s) = cc in
+    let same : signature_phrase.tokens (x.name, (x.params, x.cowns)) (braced_tokens x.block r)
+    ≡ signature_phrase.tokens (y.name, (y.params, y.cowns)) (braced_tokens y.block s) = cc in
     let u = one_signature (x.name, (x.params, x.cowns)) (y.name, (y.params, y.cowns)) (braced_tokens x.block r) (braced_tokens y.block s) tt tt same in
     let v = one_braced x.block y.block r s tt tt u.1 in (
       ap (λ (w : List ℕ × (List (List ℕ) × List (List ℕ))). let d : Def = record { name = w.0; params = w.1.0; cowns = w.1.1; block = x.block } in d) u.0
@@ -115,13 +126,16 @@ one_def x y r s p q e =
 one_defs : OneReading defs_phrase
 one_defs = one_keyword def_phrase DefKeyword one_def (λ _ _. tt) (λ _ _. (_, refl))
 
-pub no_next_def : (old mid : Ahead) (xs : List Def) (after : List Token) → ReadEach def_phrase old mid xs → mid.tokens ≡ keyword DefKeyword ∷ after → NoneStands def_phrase mid → NoneStands defs_phrase old
+pub no_next_def : (old mid : Ahead) (xs : List Def) (after : List Token) → ReadEach def_phrase old mid xs → mid.tokens ≡ keyword DefKeyword ∷ after
+    → NoneStands def_phrase mid → NoneStands defs_phrase old
 no_next_def old mid xs after so_far e none ys r st =
-    no_next_keyword def_phrase DefKeyword one_def (λ _ _. tt) (λ _ _. (_, refl)) old mid xs ys after r so_far e none st.ends st.tokens (omega (arith, length-list ys, st.fits)) st.small
+    no_next_keyword def_phrase DefKeyword one_def (λ _ _. tt) (λ _ _. (_, refl)) old mid xs ys after r so_far e none st.ends st.tokens
+    (omega (arith, length-list ys, st.fits)) st.small
 
 -- whole texts
 
-pub no_end : (old mid end : Ahead) (b : Block) → old.tokens ≡ keyword Main ∷ mid.tokens → Stands body_phrase mid b end.tokens → end.tokens ≢ [] → NoneStands main_phrase old
+pub no_end : (old mid end : Ahead) (b : Block) → old.tokens ≡ keyword Main ∷ mid.tokens → Stands body_phrase mid b end.tokens → end.tokens ≢ []
+    → NoneStands main_phrase old
 no_end old mid end b e item none c r st =
     let w = st.tokens in
     let same : mid.tokens ≡ braced_tokens c r = cc in
@@ -140,17 +154,21 @@ no_cowns ws first e n none t has =
     none t.cowns (each_tokens def_tokens t.defs (keyword Main ∷ braced_tokens t.main []))
     (record { tokens = e ∙ has.tokens_are; ends = no_cown_in t.defs _; fits = omega arith; small = has.limits.arrays })
 
-behind_cowns : (ws : List Token) (first : Ahead) (cs : List Cown) (w : List Token) → first.tokens ≡ ws → Stands cowns_phrase first cs w → (t : Tree) → HasShape ws t → w ≡ each_tokens def_tokens t.defs (keyword Main ∷ braced_tokens t.main [])
+behind_cowns : (ws : List Token) (first : Ahead) (cs : List Cown) (w : List Token) → first.tokens ≡ ws → Stands cowns_phrase first cs w → (t : Tree)
+    → HasShape ws t → w ≡ each_tokens def_tokens t.defs (keyword Main ∷ braced_tokens t.main [])
 behind_cowns ws first cs w e item t has =
-    (one_cowns cs t.cowns w (each_tokens def_tokens t.defs (keyword Main ∷ braced_tokens t.main [])) item.ends (no_cown_in t.defs _) (sym item.tokens ∙ e ∙ has.tokens_are)).1
+    (one_cowns cs t.cowns w (each_tokens def_tokens t.defs (keyword Main ∷ braced_tokens t.main [])) item.ends (no_cown_in t.defs _)
+    (sym item.tokens ∙ e ∙ has.tokens_are)).1
 
-pub no_defs : (ws : List Token) (first mid second : Ahead) (cs : List Cown) → first.tokens ≡ ws → Stands cowns_phrase first cs mid.tokens → second.tokens ≡ mid.tokens → second.room ≡ 64 → NoneStands defs_phrase second → (t : Tree) → HasShape ws t → ⊥
+pub no_defs : (ws : List Token) (first mid second : Ahead) (cs : List Cown) → first.tokens ≡ ws → Stands cowns_phrase first cs mid.tokens
+    → second.tokens ≡ mid.tokens → second.room ≡ 64 → NoneStands defs_phrase second → (t : Tree) → HasShape ws t → ⊥
 no_defs ws first mid second cs e item same n none t has =
     let k = has.limits.defs in
     none t.defs (keyword Main ∷ braced_tokens t.main [])
     (record { tokens = same ∙ behind_cowns ws first cs mid.tokens e item t has; ends = no_def_in _; fits = omega arith; small = has.limits.small_defs })
 
-pub no_main : (ws : List Token) (first mid second third : Ahead) (cs : List Cown) (ds : List Def) → first.tokens ≡ ws → Stands cowns_phrase first cs mid.tokens → second.tokens ≡ mid.tokens → Stands defs_phrase second ds third.tokens → NoneStands main_phrase third → (t : Tree) → HasShape ws t → ⊥
+pub no_main : (ws : List Token) (first mid second third : Ahead) (cs : List Cown) (ds : List Def) → first.tokens ≡ ws → Stands cowns_phrase first cs mid.tokens
+    → second.tokens ≡ mid.tokens → Stands defs_phrase second ds third.tokens → NoneStands main_phrase third → (t : Tree) → HasShape ws t → ⊥
 no_main ws first mid second third cs ds e item same other none t has =
     let behind = behind_cowns ws first cs mid.tokens e item t has in
     none t.main []

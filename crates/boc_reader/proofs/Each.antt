@@ -21,7 +21,8 @@ pub record ReadEach {X : Type 0} (kind : Phrase X) (old now : Ahead) (xs : List 
   pub small : AllSmall kind xs
   pub shorter : length now.tokens ≤ length old.tokens
 
-each_tokens-append : {X : Type 0} (tokens : X → List Token → List Token) (xs : List X) (x : X) (rest : List Token) → each_tokens tokens (xs ++ x ∷ []) rest ≡ each_tokens tokens xs (tokens x rest)
+each_tokens-append : {X : Type 0} (tokens : X → List Token → List Token) (xs : List X) (x : X) (rest : List Token)
+    → each_tokens tokens (xs ++ x ∷ []) rest ≡ each_tokens tokens xs (tokens x rest)
 each_tokens-append tokens [] x rest = refl
 each_tokens-append tokens (y ∷ ys) x rest = ap (tokens y) (each_tokens-append tokens ys x rest)
 
@@ -33,12 +34,14 @@ all_small_more : {X : Type 0} (kind : Phrase X) (xs : List X) (x : X) → AllSma
 all_small_more kind [] x h k = (k, tt)
 all_small_more kind (y ∷ ys) x h k = (h.0, all_small_more kind ys x h.1 k)
 
-all_end_more : {X : Type 0} (kind : Phrase X) (xs : List X) (x : X) (rest : List Token) → AllEnd kind xs (kind.tokens x rest) → kind.Ends x rest → AllEnd kind (xs ++ x ∷ []) rest
+all_end_more : {X : Type 0} (kind : Phrase X) (xs : List X) (x : X) (rest : List Token) → AllEnd kind xs (kind.tokens x rest) → kind.Ends x rest
+    → AllEnd kind (xs ++ x ∷ []) rest
 all_end_more kind [] x rest h k = (k, tt)
 all_end_more kind (y ∷ ys) x rest h k =
     (subst (kind.Ends y) (sym (each_tokens-append kind.tokens ys x rest)) h.0, all_end_more kind ys x rest h.1 k)
 
-pub read_each_more : {X : Type 0} (kind : Phrase X) (old mid new : Ahead) (xs all : List X) (x : X) → ReadEach kind old mid xs → Stands kind mid x new.tokens → kind.nodes x + new.room ≡ mid.room → length new.tokens < length mid.tokens → all ≡ xs ++ x ∷ [] → ReadEach kind old new all
+pub read_each_more : {X : Type 0} (kind : Phrase X) (old mid new : Ahead) (xs all : List X) (x : X) → ReadEach kind old mid xs → Stands kind mid x new.tokens
+    → kind.nodes x + new.room ≡ mid.room → length new.tokens < length mid.tokens → all ≡ xs ++ x ∷ [] → ReadEach kind old new all
 read_each_more kind old mid new xs all x so_far item room shorter more =
     let n = list_nodes-append kind.nodes xs (x ∷ []) in
     subst (ReadEach kind old new) (sym more) (record {

@@ -23,7 +23,8 @@ module _ {X : Type 0} (kind : Phrase X) (one : OneReading kind) (next : (x y : X
   each_ends x [] r stop = stop.ends x
   each_ends x (y ∷ ys) r stop = next x y _
 
-  left : (xs ys : List X) (w r : List Token) → AllEnd kind xs w → Stops kind r → each_tokens kind.tokens xs w ≡ each_tokens kind.tokens ys r → (zs : List X) × (ys ≡ xs ++ zs) × (w ≡ each_tokens kind.tokens zs r)
+  left : (xs ys : List X) (w r : List Token) → AllEnd kind xs w → Stops kind r → each_tokens kind.tokens xs w ≡ each_tokens kind.tokens ys r
+      → (zs : List X) × (ys ≡ xs ++ zs) × (w ≡ each_tokens kind.tokens zs r)
   left [] ys w r all stop e = (ys, refl, e)
   left (x ∷ xs) [] w r all stop e = absurd (stop.none x _ (sym e))
   left (x ∷ xs) (y ∷ ys) w r all stop e =
@@ -31,13 +32,15 @@ module _ {X : Type 0} (kind : Phrase X) (one : OneReading kind) (next : (x y : X
       let l = left xs ys w r all.1 stop u.1 in
       (l.0, ap (λ z. z ∷ ys) (sym u.0) ∙ ap (λ zs. x ∷ zs) l.1, l.2)
 
-  none_left : (mid : Ahead) (zs : List X) (r : List Token) → Stops kind r → NoneStands kind mid → mid.tokens ≢ r → mid.tokens ≡ each_tokens kind.tokens zs r → list_nodes kind.nodes zs ≤ mid.room → AllSmall kind zs → ⊥
+  none_left : (mid : Ahead) (zs : List X) (r : List Token) → Stops kind r → NoneStands kind mid → mid.tokens ≢ r → mid.tokens ≡ each_tokens kind.tokens zs r
+      → list_nodes kind.nodes zs ≤ mid.room → AllSmall kind zs → ⊥
   none_left mid [] r stop none ajar e n small = ajar e
   none_left mid (z ∷ zs) r stop none ajar e n small =
       none z (each_tokens kind.tokens zs r) (record { tokens = e; ends = each_ends z zs r stop; fits = omega arith; small = small.0 })
 
   -- some were read, and no further one can be
-  pub no_next : (old mid : Ahead) (xs ys : List X) (r : List Token) → ReadEach kind old mid xs → NoneStands kind mid → Stops kind r → mid.tokens ≢ r → old.tokens ≡ each_tokens kind.tokens ys r → list_nodes kind.nodes ys ≤ old.room → AllSmall kind ys → ⊥
+  pub no_next : (old mid : Ahead) (xs ys : List X) (r : List Token) → ReadEach kind old mid xs → NoneStands kind mid → Stops kind r → mid.tokens ≢ r
+      → old.tokens ≡ each_tokens kind.tokens ys r → list_nodes kind.nodes ys ≤ old.room → AllSmall kind ys → ⊥
   no_next old mid xs ys r so_far none stop ajar e n small =
       let l = left xs ys mid.tokens r so_far.ends stop (sym so_far.tokens ∙ e) in
       none_left mid l.0 r stop none ajar l.2
@@ -49,7 +52,8 @@ module _ {X : Type 0} (kind : Phrase X) (one : OneReading kind) (next : (x y : X
   no_left (z ∷ zs) w r stop e = absurd (stop.none z _ e)
 
   -- tokens are those of one list only
-  pub one_each : (xs ys : List X) (w r : List Token) → AllEnd kind xs w → Stops kind w → Stops kind r → each_tokens kind.tokens xs w ≡ each_tokens kind.tokens ys r → (xs ≡ ys) × (w ≡ r)
+  pub one_each : (xs ys : List X) (w r : List Token) → AllEnd kind xs w → Stops kind w → Stops kind r
+      → each_tokens kind.tokens xs w ≡ each_tokens kind.tokens ys r → (xs ≡ ys) × (w ≡ r)
   one_each xs ys w r all at_w at_r e =
       let l = left xs ys w r all at_r e in
       let n = no_left l.0 w r at_w l.2 in
@@ -66,10 +70,13 @@ module _ {X : Type 0} (kind : Phrase X) (word : Keyword) (one : OneReading kind)
   all_end (x ∷ xs) w = (free x _, all_end xs w)
 
   -- one after another, up to where the keyword isn't next: their tokens are those of one list only
-  pub one_keyword : (xs ys : List X) (r s : List Token) → NoKeyword word r → NoKeyword word s → each_tokens kind.tokens xs r ≡ each_tokens kind.tokens ys s → (xs ≡ ys) × (r ≡ s)
+  pub one_keyword : (xs ys : List X) (r s : List Token) → NoKeyword word r → NoKeyword word s → each_tokens kind.tokens xs r ≡ each_tokens kind.tokens ys s
+      → (xs ≡ ys) × (r ≡ s)
   one_keyword xs ys r s p q e = one_each kind one (λ x _ _. free x _) xs ys r s (all_end xs r) (stop r p) (stop s q) e
 
   -- some were read, and the keyword is next, but no further one
-  pub no_next_keyword : (old mid : Ahead) (xs ys : List X) (after r : List Token) → ReadEach kind old mid xs → mid.tokens ≡ keyword word ∷ after → NoneStands kind mid → NoKeyword word r
+  pub no_next_keyword : (old mid : Ahead) (xs ys : List X) (after r : List Token) → ReadEach kind old mid xs → mid.tokens ≡ keyword word ∷ after
+      → NoneStands kind mid → NoKeyword word r
       → old.tokens ≡ each_tokens kind.tokens ys r → list_nodes kind.nodes ys ≤ old.room → AllSmall kind ys → ⊥
-  no_next_keyword old mid xs ys after r so_far e none ends = no_next kind one (λ x _ _. free x _) old mid xs ys r so_far none (stop r ends) (λ same. ends after (sym same ∙ e))
+  no_next_keyword old mid xs ys after r so_far e none ends =
+      no_next kind one (λ x _ _. free x _) old mid xs ys r so_far none (stop r ends) (λ same. ends after (sym same ∙ e))

@@ -2,9 +2,12 @@
 use Rattle.std.proofs.Common.{◌≡◌, ◌≢◌, ℕ, ◌+◌, ◌≤◌, List, ◌∷◌, Some, None, refl, sym, ap, ◌∙◌, arith}
 use Rattle.boc_reader.specs.declared.terminal.Sign.TheVariants.{Open, Close, Minus}
 use Rattle.boc_reader.specs.Tokens.{Token, name, number, sign}
-use Rattle.boc_reader.specs.Shape.{comparison_sign, sum_sign, term_sign, Expr, plain, compared, expr_tokens, Sum, one_term, more_terms, sum_tokens, sum_nodes, Term, one_factor, more_factors, term_tokens, term_nodes, Unary, negated, unsigned, unary_tokens, unary_nodes, Atom, literal, variable, parens, atom_tokens, atom_nodes}
+use Rattle.boc_reader.specs.Shape.{comparison_sign, sum_sign, term_sign, Expr, plain, compared, expr_tokens, Sum, one_term, more_terms, sum_tokens, sum_nodes}
+use Rattle.boc_reader.specs.Shape.{Term, one_factor, more_factors, term_tokens, term_nodes, Unary, negated, unsigned, unary_tokens, unary_nodes, Atom, literal}
+use Rattle.boc_reader.specs.Shape.{variable, parens, atom_tokens, atom_nodes}
 use Rattle.boc_reader.specs.Phrases.{Ahead, Stands, NoneStands}
-use Rattle.boc_reader.specs.Grammar.{NoSign, NoOperator, EndsSum, EndsExpr, expr_phrase, compared_phrase, sum_phrase, more_terms_phrase, term_phrase, more_factors_phrase, unary_phrase, atom_phrase, closed_phrase}
+use Rattle.boc_reader.specs.Grammar.{NoSign, NoOperator, EndsSum, EndsExpr, expr_phrase, compared_phrase, sum_phrase, more_terms_phrase, term_phrase}
+use Rattle.boc_reader.specs.Grammar.{more_factors_phrase, unary_phrase, atom_phrase, closed_phrase}
 use Rattle.boc_reader.proofs.Operators.{same_comparison, same_sum, same_term, sign_ends, comparison_ends, sum_ends}
 
 atom_minus : (a : Atom) (r w : List Token) → atom_tokens a r ≢ sign Minus ∷ w
@@ -20,7 +23,8 @@ mutual
   one_expr (compared a op t) (plain b) r s p q e =
       absurd (q.1 op (sum_tokens t r) (sym (one_sum a b (sign (comparison_sign op) ∷ sum_tokens t r) s (comparison_ends op _) q.0 e).1))
   one_expr (compared a op t) (compared b op' t') r s p q e =
-      let u = one_sum a b (sign (comparison_sign op) ∷ sum_tokens t r) (sign (comparison_sign op') ∷ sum_tokens t' s) (comparison_ends op _) (comparison_ends op' _) e in
+      let u = one_sum a b (sign (comparison_sign op) ∷ sum_tokens t r) (sign (comparison_sign op') ∷ sum_tokens t' s) (comparison_ends op _)
+      (comparison_ends op' _) e in
       let h = u.0 in
       let k = u.1 in
       let o : op ≡ op' = same_comparison op op' cc in
@@ -79,7 +83,8 @@ pub no_left : (old : Ahead) → NoneStands sum_phrase old → NoneStands expr_ph
 no_left old none (plain a) r st = none a r (record { tokens = st.tokens; ends = st.ends.0; fits = st.fits; small = tt })
 no_left old none (compared a op t) r st = none a _ (record { tokens = st.tokens; ends = comparison_ends op _; fits = omega (arith, st.fits); small = tt })
 
-pub no_comparison : (old mid : Ahead) (a : Sum) → Stands sum_phrase old a mid.tokens → sum_nodes a + mid.room ≡ old.room → NoneStands compared_phrase mid → NoneStands expr_phrase old
+pub no_comparison : (old mid : Ahead) (a : Sum) → Stands sum_phrase old a mid.tokens → sum_nodes a + mid.room ≡ old.room → NoneStands compared_phrase mid
+    → NoneStands expr_phrase old
 no_comparison old mid a first n none (plain b) r st =
     let u = one_sum a b mid.tokens r first.ends st.ends.0 (sym first.tokens ∙ st.tokens) in
     none None r (record { tokens = u.1; ends = st.ends.1; fits = omega arith; small = tt })
@@ -91,7 +96,8 @@ pub no_first_term : (old : Ahead) → NoneStands term_phrase old → NoneStands 
 no_first_term old none (one_term a) r st = none a r (record { tokens = st.tokens; ends = st.ends.0; fits = st.fits; small = tt })
 no_first_term old none (more_terms a op s) r st = none a _ (record { tokens = st.tokens; ends = sum_ends op _; fits = omega (arith, st.fits); small = tt })
 
-pub no_more_terms : (old mid : Ahead) (a : Term) → Stands term_phrase old a mid.tokens → term_nodes a + mid.room ≡ old.room → NoneStands more_terms_phrase mid → NoneStands sum_phrase old
+pub no_more_terms : (old mid : Ahead) (a : Term) → Stands term_phrase old a mid.tokens → term_nodes a + mid.room ≡ old.room → NoneStands more_terms_phrase mid
+    → NoneStands sum_phrase old
 no_more_terms old mid a first n none (one_term b) r st =
     let u = one_terms a b mid.tokens r first.ends st.ends.0 (sym first.tokens ∙ st.tokens) in
     none None r (record { tokens = u.1; ends = st.ends.1; fits = omega arith; small = tt })
@@ -103,7 +109,8 @@ pub no_first_factor : (old : Ahead) → NoneStands unary_phrase old → NoneStan
 no_first_factor old none (one_factor a) r st = none a r (record { tokens = st.tokens; ends = tt; fits = st.fits; small = tt })
 no_first_factor old none (more_factors a op s) r st = none a _ (record { tokens = st.tokens; ends = tt; fits = omega (arith, st.fits); small = tt })
 
-pub no_more_factors : (old mid : Ahead) (a : Unary) → Stands unary_phrase old a mid.tokens → unary_nodes a + mid.room ≡ old.room → NoneStands more_factors_phrase mid → NoneStands term_phrase old
+pub no_more_factors : (old mid : Ahead) (a : Unary) → Stands unary_phrase old a mid.tokens → unary_nodes a + mid.room ≡ old.room
+    → NoneStands more_factors_phrase mid → NoneStands term_phrase old
 no_more_factors old mid a first n none (one_factor b) r st =
     let u = one_unary a b mid.tokens r (sym first.tokens ∙ st.tokens) in
     none None r (record { tokens = u.1; ends = st.ends; fits = omega arith; small = tt })
@@ -132,14 +139,21 @@ no_negated old mid e n none (unsigned a) r st = atom_minus a r mid.tokens (sym s
 pub no_unsigned : (old mid : Ahead) → mid ≡ old → NoSign Minus old.tokens → NoneStands atom_phrase mid → NoneStands unary_phrase old
 no_unsigned old mid same no_minus none (negated a) r st = no_minus _ st.tokens
 no_unsigned old mid same no_minus none (unsigned a) r st =
-    none a r (record { tokens = ap (λ (h : Ahead). h.tokens) same ∙ st.tokens; ends = tt; fits = omega (arith, st.fits, ap (λ (h : Ahead). h.room) same); small = tt })
+    none a r (record {
+      tokens = ap (λ (h : Ahead). h.tokens) same ∙ st.tokens;
+      ends = tt;
+      fits = omega (arith, st.fits, ap (λ (h : Ahead). h.room) same);
+      small = tt;
+    })
 
-pub no_parens : (old mid : Ahead) → old.tokens ≡ sign Open ∷ mid.tokens → 1 + mid.room ≡ old.room → NoneStands (closed_phrase expr_phrase Close) mid → NoneStands atom_phrase old
+pub no_parens : (old mid : Ahead) → old.tokens ≡ sign Open ∷ mid.tokens → 1 + mid.room ≡ old.room → NoneStands (closed_phrase expr_phrase Close) mid
+    → NoneStands atom_phrase old
 no_parens old mid e n none (literal m) r st = let w = st.tokens in absurd cc
 no_parens old mid e n none (variable m) r st = let w = st.tokens in absurd cc
 no_parens old mid e n none (parens x) r st = let w = st.tokens in none x r (record { tokens = cc; ends = tt; fits = omega (arith, st.fits); small = tt })
 
-pub not_atom : (old : Ahead) → ((n : ℕ) (after : List Token) → old.tokens ≢ number n ∷ after) → ((n : List ℕ) (after : List Token) → old.tokens ≢ name n ∷ after) → NoSign Open old.tokens → NoneStands atom_phrase old
+pub not_atom : (old : Ahead) → ((n : ℕ) (after : List Token) → old.tokens ≢ number n ∷ after)
+    → ((n : List ℕ) (after : List Token) → old.tokens ≢ name n ∷ after) → NoSign Open old.tokens → NoneStands atom_phrase old
 not_atom old no_number no_name no_open (literal n) r st = no_number n r st.tokens
 not_atom old no_number no_name no_open (variable n) r st = no_name n r st.tokens
 not_atom old no_number no_name no_open (parens s) r st = no_open _ st.tokens

@@ -3,7 +3,8 @@ use Rattle.std.proofs.Common.{◌≡◌, ◌≢◌, List, ◌∷◌, refl}
 use Rattle.boc_reader.specs.declared.terminal.Sign.{Sign}
 use Rattle.boc_reader.specs.declared.terminal.Sign.TheVariants.{Semicolon, Close, Comma, OpenIndex, CloseIndex}
 use Rattle.boc_reader.specs.Tokens.{Token, sign}
-use Rattle.boc_reader.specs.Shape.{Expr, plain, compared, Sum, one_term, more_terms, Term, one_factor, more_factors, Unary, negated, unsigned, Atom, literal, variable, parens, expr_tokens, sum_tokens, term_tokens, unary_tokens, atom_tokens, NamedCown, alone, member, ref_tokens}
+use Rattle.boc_reader.specs.Shape.{Expr, plain, compared, Sum, one_term, more_terms, Term, one_factor, more_factors, Unary, negated, unsigned, Atom, literal}
+use Rattle.boc_reader.specs.Shape.{variable, parens, expr_tokens, sum_tokens, term_tokens, unary_tokens, atom_tokens, NamedCown, alone, member, ref_tokens}
 use Rattle.boc_reader.specs.Grammar.{EndsRef, expr_phrase, ref_phrase, name_phrase}
 use Rattle.boc_reader.proofs.Refused.{OneReading}
 use Rattle.boc_reader.proofs.Operators.{sign_ends}
@@ -33,7 +34,14 @@ no_expr (plain s) w r e = no_sum s _ r e
 no_expr (compared s op t) w r e = no_sum s _ r e
 
 pub exprs_readable : Readable expr_phrase Semicolon
-exprs_readable = record { one = one_expr; comma = sign_ends Comma refl; closed = sign_ends Semicolon refl; no_comma = λ e. cc; begins = no_expr; small = λ x. tt }
+exprs_readable = record {
+  one = one_expr;
+  comma = sign_ends Comma refl;
+  closed = sign_ends Semicolon refl;
+  no_comma = λ e. cc;
+  begins = no_expr;
+  small = λ x. tt;
+}
 
 pub one_ref : OneReading ref_phrase
 one_ref (alone x) (alone y) r s p q e = (cc, cc)
@@ -54,7 +62,21 @@ no_ref (alone x) w r e = cc
 no_ref (member x f) w r e = cc
 
 pub refs_readable : Readable ref_phrase Close
-refs_readable = record { one = one_ref; comma = ref_ends Comma (λ e. cc); closed = ref_ends Close (λ e. cc); no_comma = λ e. cc; begins = no_ref; small = λ x. tt }
+refs_readable = record {
+  one = one_ref;
+  comma = ref_ends Comma (λ e. cc);
+  closed = ref_ends Close (λ e. cc);
+  no_comma = λ e. cc;
+  begins = no_ref;
+  small = λ x. tt;
+}
 
 pub names_readable : (close : Sign) → close ≢ Comma → Readable name_phrase close
-names_readable close h = record { one = λ x y r s p q e. (cc, cc); comma = λ x r. tt; closed = λ x r. tt; no_comma = h; begins = λ x w r e. cc; small = λ x. tt }
+names_readable close h = record {
+  one = λ x y r s p q e. (cc, cc);
+  comma = λ x r. tt;
+  closed = λ x r. tt;
+  no_comma = h;
+  begins = λ x w r e. cc;
+  small = λ x. tt;
+}

@@ -19,20 +19,25 @@ pub record ReadBefore {X : Type 0} (kind : Phrase X) (old now : Ahead) (xs : Lis
   pub few : length xs ≤ 8
   pub shorter : length now.tokens ≤ length old.tokens
 
-before-append : {X : Type 0} (tokens : X → List Token → List Token) (xs : List X) (x : X) (rest : List Token) → before tokens (xs ++ x ∷ []) rest ≡ before tokens xs (tokens x (sign Comma ∷ rest))
+before-append : {X : Type 0} (tokens : X → List Token → List Token) (xs : List X) (x : X) (rest : List Token)
+    → before tokens (xs ++ x ∷ []) rest ≡ before tokens xs (tokens x (sign Comma ∷ rest))
 before-append tokens [] x rest = refl
 before-append tokens (y ∷ ys) x rest = ap (λ ws. tokens y (sign Comma ∷ ws)) (before-append tokens ys x rest)
 
-behind_last : {X : Type 0} (tokens : X → List Token → List Token) (xs : List X) (x : X) (rest : List Token) → sign Comma ∷ before tokens xs (tokens x rest) ≡ behind_commas tokens (xs ++ x ∷ []) rest
+behind_last : {X : Type 0} (tokens : X → List Token → List Token) (xs : List X) (x : X) (rest : List Token)
+    → sign Comma ∷ before tokens xs (tokens x rest) ≡ behind_commas tokens (xs ++ x ∷ []) rest
 behind_last tokens [] x rest = refl
 behind_last tokens (y ∷ ys) x rest = ap (λ ws. sign Comma ∷ tokens y ws) (behind_last tokens ys x rest)
 
-before_last : {X : Type 0} (tokens : X → List Token → List Token) (xs : List X) (x : X) (rest : List Token) → before tokens xs (tokens x rest) ≡ list_tokens tokens (xs ++ x ∷ []) rest
+before_last : {X : Type 0} (tokens : X → List Token → List Token) (xs : List X) (x : X) (rest : List Token)
+    → before tokens xs (tokens x rest) ≡ list_tokens tokens (xs ++ x ∷ []) rest
 before_last tokens [] x rest = refl
 before_last tokens (y ∷ ys) x rest = ap (tokens y) (behind_last tokens ys x rest)
 
 -- one more was read, and a comma behind it
-pub read_comma : {X : Type 0} (kind : Phrase X) (old mid item new : Ahead) (xs all : List X) (x : X) → ReadBefore kind old mid xs → Stands kind mid x item.tokens → kind.nodes x + item.room ≡ mid.room → length item.tokens < length mid.tokens → item.tokens ≡ sign Comma ∷ new.tokens → new.room ≡ item.room → length xs < 8 → all ≡ xs ++ x ∷ [] → ReadBefore kind old new all
+pub read_comma : {X : Type 0} (kind : Phrase X) (old mid item new : Ahead) (xs all : List X) (x : X) → ReadBefore kind old mid xs
+    → Stands kind mid x item.tokens → kind.nodes x + item.room ≡ mid.room → length item.tokens < length mid.tokens → item.tokens ≡ sign Comma ∷ new.tokens
+    → new.room ≡ item.room → length xs < 8 → all ≡ xs ++ x ∷ [] → ReadBefore kind old new all
 read_comma kind old mid item new xs all x so_far st room shorter comma same few more =
     let n = list_nodes-append kind.nodes xs (x ∷ []) in
     let k = length-append xs (x ∷ []) in
@@ -45,7 +50,10 @@ read_comma kind old mid item new xs all x so_far st room shorter comma same few 
     })
 
 -- the last was read, and the sign behind it
-pub read_last : {X : Type 0} (kind : Phrase X) (close : Sign) (old mid item new : Ahead) (xs all : List X) (x : X) → ReadBefore kind old mid xs → Stands kind mid x item.tokens → kind.nodes x + item.room ≡ mid.room → length item.tokens < length mid.tokens → item.tokens ≡ sign close ∷ new.tokens → new.room ≡ item.room → length xs < 8 → all ≡ xs ++ x ∷ [] → Stands (list_phrase kind close) old all new.tokens × (list_nodes kind.nodes all + new.room ≡ old.room)
+pub read_last : {X : Type 0} (kind : Phrase X) (close : Sign) (old mid item new : Ahead) (xs all : List X) (x : X) → ReadBefore kind old mid xs
+    → Stands kind mid x item.tokens → kind.nodes x + item.room ≡ mid.room → length item.tokens < length mid.tokens → item.tokens ≡ sign close ∷ new.tokens
+    → new.room ≡ item.room → length xs < 8 → all ≡ xs ++ x ∷ []
+    → Stands (list_phrase kind close) old all new.tokens × (list_nodes kind.nodes all + new.room ≡ old.room)
 read_last kind close old mid item new xs all x so_far st room shorter closed same few more =
     let n = list_nodes-append kind.nodes xs (x ∷ []) in
     let k = length-append xs (x ∷ []) in

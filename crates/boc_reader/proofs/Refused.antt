@@ -24,21 +24,25 @@ pub tells : (e : Fault ShapeFault) {P : Type 0} → P → Refusal e P
 tells faults.Memory h = tt
 tells (faults.At kind at) h = h
 
-pub passes : {X Y : Type 0} (kind : Phrase X) (view : Y → X) (P : Type 0) (old new : Ahead) (r : Result Y (Fault ShapeFault)) (e : Fault ShapeFault) → IsErrAnd r (λ f. f ≡ e) → Refusal e P → (P → NoneStands kind old) → Parses kind view old r new
+pub passes : {X Y : Type 0} (kind : Phrase X) (view : Y → X) (P : Type 0) (old new : Ahead) (r : Result Y (Fault ShapeFault)) (e : Fault ShapeFault)
+    → IsErrAnd r (λ f. f ≡ e) → Refusal e P → (P → NoneStands kind old) → Parses kind view old r new
 passes kind view P old new (Ok y) e is h f = absurd is
 passes kind view P old new (Err d) e is h f = refusal_on d (subst (λ (x : Fault ShapeFault). Refusal x P) (sym is) h) f
 
-pub passes_on : {Y : Type 0} (Good : Y → Type 0) (P Q : Type 0) (r : Result Y (Fault ShapeFault)) (e : Fault ShapeFault) → IsErrAnd r (λ f. f ≡ e) → Refusal e P → (P → Q) → MatchResult r Good (λ f. Refusal f Q)
+pub passes_on : {Y : Type 0} (Good : Y → Type 0) (P Q : Type 0) (r : Result Y (Fault ShapeFault)) (e : Fault ShapeFault) → IsErrAnd r (λ f. f ≡ e) → Refusal e P
+    → (P → Q) → MatchResult r Good (λ f. Refusal f Q)
 passes_on Good P Q (Ok y) e is h f = absurd is
 passes_on Good P Q (Err d) e is h f = refusal_on d (subst (λ (x : Fault ShapeFault). Refusal x P) (sym is) h) f
 
 -- an operator and what it takes in
 module _ {Op X : Type 0} (op_sign : Op → Sign) (kind : Phrase X) where
-  pub no_room_for_tail : (old : Ahead) (op : Op) (after : List Token) → old.room ≡ 0 → old.tokens ≡ sign (op_sign op) ∷ after → NoneStands (tail_phrase op_sign kind) old
+  pub no_room_for_tail : (old : Ahead) (op : Op) (after : List Token) → old.room ≡ 0 → old.tokens ≡ sign (op_sign op) ∷ after
+      → NoneStands (tail_phrase op_sign kind) old
   no_room_for_tail old op after z e None r st = st.ends op after (sym st.tokens ∙ e)
   no_room_for_tail old op after z e (Some p) r st = omega (arith, st.fits)
 
-  pub no_operand : (old mid : Ahead) (op : Op) → ((x : X) → kind.IsSmall x) → old.tokens ≡ sign (op_sign op) ∷ mid.tokens → 1 + mid.room ≡ old.room → NoneStands kind mid → NoneStands (tail_phrase op_sign kind) old
+  pub no_operand : (old mid : Ahead) (op : Op) → ((x : X) → kind.IsSmall x) → old.tokens ≡ sign (op_sign op) ∷ mid.tokens → 1 + mid.room ≡ old.room
+      → NoneStands kind mid → NoneStands (tail_phrase op_sign kind) old
   no_operand old mid op small e n none None r st = st.ends op mid.tokens (sym st.tokens ∙ e)
   no_operand old mid op small e n none (Some p) r st =
       let w = st.tokens in
@@ -49,22 +53,26 @@ module _ {X : Type 0} (kind : Phrase X) (close : Sign) (closes : (x : X) (r : Li
   pub no_inner : (old : Ahead) → NoneStands kind old → NoneStands (closed_phrase kind close) old
   no_inner old none x r st = none x (sign close ∷ r) (record { tokens = st.tokens; ends = closes x r; fits = st.fits; small = st.small })
 
-  pub no_close : OneReading kind → (old mid : Ahead) (x : X) → Stands kind old x mid.tokens → NoSign close mid.tokens → NoneStands (closed_phrase kind close) old
+  pub no_close : OneReading kind → (old mid : Ahead) (x : X) → Stands kind old x mid.tokens → NoSign close mid.tokens
+      → NoneStands (closed_phrase kind close) old
   no_close one old mid x item none y r st =
       none r (one x y mid.tokens (sign close ∷ r) item.ends (closes y r) (sym item.tokens ∙ st.tokens)).1
 
 -- a phrase behind another
-module _ {X Y : Type 0} (first : Phrase X) (second : Phrase Y) (follows : (x : X) (y : Y) (r : List Token) → second.Ends y r → first.Ends x (second.tokens y r)) where
-  pub no_first : (old : Ahead) → NoneStands first old → NoneStands (pair_phrase first second) old
-  no_first old none p r st = none p.0 (second.tokens p.1 r) (record { tokens = st.tokens; ends = follows p.0 p.1 r st.ends; fits = omega (arith, st.fits); small = st.small.0 })
+module _ {X Y : Type 0} (first : Phrase X) (second : Phrase Y) (follows : (x : X) (y : Y) (r : List Token) → second.Ends y r → first.Ends x (second.tokens y r))
+  where
+    pub no_first : (old : Ahead) → NoneStands first old → NoneStands (pair_phrase first second) old
+    no_first old none p r st = none p.0 (second.tokens p.1 r)
+        (record { tokens = st.tokens; ends = follows p.0 p.1 r st.ends; fits = omega (arith, st.fits); small = st.small.0 })
 
-  pub no_second : OneReading first → (old mid : Ahead) (x : X) → Stands first old x mid.tokens → first.nodes x + mid.room ≡ old.room → NoneStands second mid → NoneStands (pair_phrase first second) old
-  no_second one old mid x item n none p r st =
-      let u = one x p.0 mid.tokens (second.tokens p.1 r) item.ends (follows p.0 p.1 r st.ends) (sym item.tokens ∙ st.tokens) in
-      none p.1 r (record { tokens = u.1; ends = st.ends; fits = omega (arith, ap first.nodes u.0, n, st.fits); small = st.small.1 })
+    pub no_second : OneReading first → (old mid : Ahead) (x : X) → Stands first old x mid.tokens → first.nodes x + mid.room ≡ old.room → NoneStands second mid
+        → NoneStands (pair_phrase first second) old
+    no_second one old mid x item n none p r st =
+        let u = one x p.0 mid.tokens (second.tokens p.1 r) item.ends (follows p.0 p.1 r st.ends) (sym item.tokens ∙ st.tokens) in
+        none p.1 r (record { tokens = u.1; ends = st.ends; fits = omega (arith, ap first.nodes u.0, n, st.fits); small = st.small.1 })
 
-  pub one_pair : OneReading first → OneReading second → OneReading (pair_phrase first second)
-  one_pair one two p q r s e f h =
-      let u = one p.0 q.0 (second.tokens p.1 r) (second.tokens q.1 s) (follows p.0 p.1 r e) (follows q.0 q.1 s f) h in
-      let v = two p.1 q.1 r s e f u.1 in
-      (ap (λ (x : X). (x, p.1)) u.0 ∙ ap (λ (y : Y). (q.0, y)) v.0, v.1)
+    pub one_pair : OneReading first → OneReading second → OneReading (pair_phrase first second)
+    one_pair one two p q r s e f h =
+        let u = one p.0 q.0 (second.tokens p.1 r) (second.tokens q.1 s) (follows p.0 p.1 r e) (follows q.0 q.1 s f) h in
+        let v = two p.1 q.1 r s e f u.1 in
+        (ap (λ (x : X). (x, p.1)) u.0 ∙ ap (λ (y : Y). (q.0, y)) v.0, v.1)

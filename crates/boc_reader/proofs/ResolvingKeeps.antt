@@ -68,7 +68,8 @@ pub record CownRefsKeep (held k l j : ℕ) (ps : List CownRef) : Type 0 where
   pub within : (n : ℕ) → k ≤ n → IsTrue (every (map (ref_fits (record { slots = n; cowns = held })) ps))
   pub few : total (map ref_nodes ps) ≤ j
 
--- Where k names are in scope and `held` cowns are held, code writes slots below any number of slots that is large enough, has at most m nodes, and each of its calls passes the test.
+-- Where k names are in scope and `held` cowns are held, code writes slots below any number of slots that is large enough, has at most m nodes, and each of its
+-- calls passes the test.
 pub record CodeKeeps (test : Test) (held k m : ℕ) (c : Code) : Type 0 where
   pub few : nodes c ≤ m
   pub deep : deepest 0 c ≤ k + m
@@ -78,7 +79,8 @@ pub record CodeKeeps (test : Test) (held k m : ℕ) (c : Code) : Type 0 where
 pub keeps_done : (test : Test) (held k : ℕ) → CodeKeeps test held k 0 Done
 keeps_done test held k = record { few = omega arith; deep = omega arith; within = λ n a b. refl; passes = refl }
 
-pub keeps_let : (test : Test) (held k j m : ℕ) (e : SlotExpr) (rest : Code) → ExprKeeps k j e → CodeKeeps test held (k + 1) m rest → CodeKeeps test held k (1 + j + m) (Assign k e rest)
+pub keeps_let : (test : Test) (held k j m : ℕ) (e : SlotExpr) (rest : Code) → ExprKeeps k j e → CodeKeeps test held (k + 1) m rest
+    → CodeKeeps test held k (1 + j + m) (Assign k e rest)
 keeps_let test held k j m e rest x r = record {
   few = omega arith;
   deep = omega arith;
@@ -86,7 +88,8 @@ keeps_let test held k j m e rest x r = record {
   passes = r.passes;
 }
 
-pub keeps_assign : (test : Test) (held k j m slot : ℕ) (e : SlotExpr) (rest : Code) → slot < k → ExprKeeps k j e → CodeKeeps test held k m rest → CodeKeeps test held k (1 + j + m) (Assign slot e rest)
+pub keeps_assign : (test : Test) (held k j m slot : ℕ) (e : SlotExpr) (rest : Code) → slot < k → ExprKeeps k j e → CodeKeeps test held k m rest
+    → CodeKeeps test held k (1 + j + m) (Assign slot e rest)
 keeps_assign test held k j m slot e rest h x r = record {
   few = omega arith;
   deep = omega arith;
@@ -94,7 +97,8 @@ keeps_assign test held k j m slot e rest h x r = record {
   passes = r.passes;
 }
 
-pub keeps_work : (test : Test) (held k j m : ℕ) (e : SlotExpr) (rest : Code) → ExprKeeps k j e → CodeKeeps test held k m rest → CodeKeeps test held k (1 + j + m) (Work e rest)
+pub keeps_work : (test : Test) (held k j m : ℕ) (e : SlotExpr) (rest : Code) → ExprKeeps k j e → CodeKeeps test held k m rest
+    → CodeKeeps test held k (1 + j + m) (Work e rest)
 keeps_work test held k j m e rest x r = record {
   few = omega arith;
   deep = omega arith;
@@ -102,7 +106,8 @@ keeps_work test held k j m e rest x r = record {
   passes = r.passes;
 }
 
-pub keeps_if : (test : Test) (held k j i o m : ℕ) (e : SlotExpr) (a b rest : Code) → ExprKeeps k j e → CodeKeeps test held k i a → CodeKeeps test held k o b → CodeKeeps test held k m rest → CodeKeeps test held k (1 + (j + (i + o)) + m) (If e a b rest)
+pub keeps_if : (test : Test) (held k j i o m : ℕ) (e : SlotExpr) (a b rest : Code) → ExprKeeps k j e → CodeKeeps test held k i a → CodeKeeps test held k o b
+    → CodeKeeps test held k m rest → CodeKeeps test held k (1 + (j + (i + o)) + m) (If e a b rest)
 keeps_if test held k j i o m e a b rest x p q r = record {
   few = omega arith;
   deep = omega arith;
@@ -110,7 +115,8 @@ keeps_if test held k j i o m e a b rest x p q r = record {
   passes = both _ _ (both _ _ p.passes q.passes) r.passes;
 }
 
-pub keeps_repeat : (test : Test) (held k j i m : ℕ) (e : SlotExpr) (a rest : Code) → ExprKeeps k j e → CodeKeeps test held k i a → CodeKeeps test held k m rest → CodeKeeps test held k (1 + (j + i) + m) (Repeat e a rest)
+pub keeps_repeat : (test : Test) (held k j i m : ℕ) (e : SlotExpr) (a rest : Code) → ExprKeeps k j e → CodeKeeps test held k i a → CodeKeeps test held k m rest
+    → CodeKeeps test held k (1 + (j + i) + m) (Repeat e a rest)
 keeps_repeat test held k j i m e a rest x p r = record {
   few = omega arith;
   deep = omega arith;
@@ -118,11 +124,13 @@ keeps_repeat test held k j i m e a rest x p r = record {
   passes = both _ _ p.passes r.passes;
 }
 
-pub keeps_when : (test : Test) (held k l l' j i m kind : ℕ) (es : List SlotExpr) (ps : List CownRef) (rest : Code) → l ≤ 8 → l' ≤ 8 → ExprsKeep k l j es → CownRefsKeep held k l' i ps → IsTrue (test kind es ps) → CodeKeeps test held k m rest → CodeKeeps test held k (1 + (j + i) + m) (When kind es ps rest)
+pub keeps_when : (test : Test) (held k l l' j i m kind : ℕ) (es : List SlotExpr) (ps : List CownRef) (rest : Code) → l ≤ 8 → l' ≤ 8 → ExprsKeep k l j es
+    → CownRefsKeep held k l' i ps → IsTrue (test kind es ps) → CodeKeeps test held k m rest → CodeKeeps test held k (1 + (j + i) + m) (When kind es ps rest)
 keeps_when test held k l l' j i m kind es ps rest f g x p t r = record {
   few = omega arith;
   deep = omega arith;
-  within = λ n a b. both _ _ (both _ _ (both _ _ (at_most (length es) 8 (omega arith)) (at_most (length ps) 8 (omega arith))) (both _ _ (x.within n a) (p.within n a))) (r.within n a b);
+  within = λ n a b. both _ _ (both _ _ (both _ _ (at_most (length es) 8 (omega arith)) (at_most (length ps) 8 (omega arith)))
+      (both _ _ (x.within n a) (p.within n a))) (r.within n a b);
   passes = both _ _ t r.passes;
 }
 

@@ -35,6 +35,7 @@ with_front front (Some xs) = Some (front ++ xs)
 pub find-position : {X : Type 0} (p : X → Bool) (xs : List X) → find p xs ≡ option_and_then (slice_get xs) (position p xs)
 find-position p xs = find_at p xs ∙ within (nat_lt (position_or_len p xs) (length xs)) refl
   where
-    within : (b : Bool) → nat_lt (position_or_len p xs) (length xs) ≡ b → slice_get xs (position_or_len p xs) ≡ option_and_then (slice_get xs) (cond b (Some (position_or_len p xs)) None)
+    within : (b : Bool) → nat_lt (position_or_len p xs) (length xs) ≡ b
+        → slice_get xs (position_or_len p xs) ≡ option_and_then (slice_get xs) (cond b (Some (position_or_len p xs)) None)
     within true h = refl
     within false h = slice_get_past xs (position_or_len p xs) (grind (arith, nat_tests))

@@ -9,7 +9,8 @@ use Rattle.std.proofs.lemmas.Slice.Eq.{bytes_eq-Decides}
 use Rattle.std.proofs.lemmas.Bool.Decides.{same_from_decides, Decides-like}
 use Rattle.boc_program.specs.Sizes.{members}
 use Rattle.boc_reader.specs.Shape.{Cown, Def, Tree, cowns_declared}
-use Rattle.boc_reader.specs.Names.{Named, Global, Callee, Top, PlainBody, PlainProgram, among, top_names, are_distinct, globals, callees, top_of, all_names, body_names, plain_cown, tree_names}
+use Rattle.boc_reader.specs.Names.{Named, Global, Callee, Top, PlainBody, PlainProgram, among, top_names, are_distinct, globals, callees, top_of, all_names}
+use Rattle.boc_reader.specs.Names.{body_names, plain_cown, tree_names}
 use Rattle.boc_reader.specs.Resolving.{EndWithin, cown_names, global_at, callee_for, cowns_behind, defs_behind, def_names, bodies_behind, program_in_order}
 
 -- names of which none is among those before it
@@ -18,7 +19,8 @@ are_new before [] = true
 are_new before (x ∷ xs) = not (among before x) && are_new (before ++ x ∷ []) xs
 
 bytes_eq-sym : (x y : Named) → bytes_eq x y ≡ bytes_eq y x
-bytes_eq-sym x y = same_from_decides (bytes_eq x y) (bytes_eq y x) (bytes_eq-Decides x y) (Decides-like (bytes_eq y x) (λ e. sym e) (λ e. sym e) (bytes_eq-Decides y x))
+bytes_eq-sym x y = same_from_decides (bytes_eq x y) (bytes_eq y x) (bytes_eq-Decides x y)
+    (Decides-like (bytes_eq y x) (λ e. sym e) (λ e. sym e) (bytes_eq-Decides y x))
 
 -- none of several is among those before
 abbrev pub are_apart : List Named → List Named → Bool
@@ -65,7 +67,8 @@ and_assoc false b c = refl
 are_new-append : (before xs ys : List Named) → are_new before (xs ++ ys) ≡ (are_new before xs && are_new (before ++ xs) ys)
 are_new-append before [] ys = ap (λ s. are_new s ys) (sym (append-nil before))
 are_new-append before (x ∷ xs) ys =
-    ap (λ b. not (among before x) && b) (are_new-append (before ++ x ∷ []) xs ys ∙ ap (λ s. are_new (before ++ x ∷ []) xs && are_new s ys) (append_assoc before (x ∷ []) xs))
+    ap (λ b. not (among before x) && b) (are_new-append (before ++ x ∷ []) xs ys
+    ∙ ap (λ s. are_new (before ++ x ∷ []) xs && are_new s ys) (append_assoc before (x ∷ []) xs))
     ∙ and_assoc (not (among before x)) (are_new (before ++ x ∷ []) xs) (are_new (before ++ (x ∷ xs)) ys)
 
 -- one test behind another
@@ -79,13 +82,16 @@ names_of_shapes cs = map (λ c. c.name) cs
 abbrev pub names_of_defs : List Def → List Named
 names_of_defs ds = map (λ d. d.name) ds
 
-cowns_behind-all : (before : List Global) (n : ℕ) (cs : List Cown) → cowns_behind before n cs ≡ (if are_new (cown_names before) (names_of_shapes cs) then Some (before ++ globals n cs) else None)
+cowns_behind-all : (before : List Global) (n : ℕ) (cs : List Cown)
+    → cowns_behind before n cs ≡ (if are_new (cown_names before) (names_of_shapes cs) then Some (before ++ globals n cs) else None)
 cowns_behind-all before n [] = ap Some (sym (append-nil before))
 cowns_behind-all before n (c ∷ cs) =
     ap (λ o. if among (cown_names before) c.name then None else o)
     (cowns_behind-all (before ++ global_at n c ∷ []) (n + members c.size) cs
-    ∙ ap (λ ns. if are_new ns (names_of_shapes cs) then Some ((before ++ global_at n c ∷ []) ++ globals (n + members c.size) cs) else None) (map-append (λ g. g.name) before (global_at n c ∷ []))
-    ∙ ap (λ gs. if are_new (cown_names before ++ c.name ∷ []) (names_of_shapes cs) then Some gs else None) (append_assoc before (global_at n c ∷ []) (globals (n + members c.size) cs)))
+    ∙ ap (λ ns. if are_new ns (names_of_shapes cs) then Some ((before ++ global_at n c ∷ []) ++ globals (n + members c.size) cs) else None)
+    (map-append (λ g. g.name) before (global_at n c ∷ []))
+    ∙ ap (λ gs. if are_new (cown_names before ++ c.name ∷ []) (names_of_shapes cs) then Some gs else None)
+    (append_assoc before (global_at n c ∷ []) (globals (n + members c.size) cs)))
     ∙ if_both (among (cown_names before) c.name) (are_new (cown_names before ++ c.name ∷ []) (names_of_shapes cs)) (Some (before ++ globals n (c ∷ cs)))
 
 both_true : (a b : Bool) → (not a && b) ≡ true → (a ≡ false) × (b ≡ true)
@@ -95,7 +101,8 @@ both_true false b h = (refl, h)
 abbrev pub with_defs : List Global → List Callee → Top
 with_defs gs ds = record { cowns = gs; defs = ds }
 
-top_names-push : (gs : List Global) (before : List Callee) (d : Def) → top_names (with_defs gs (before ++ callee_for d ∷ [])) ≡ top_names (with_defs gs before) ++ d.name ∷ []
+top_names-push : (gs : List Global) (before : List Callee) (d : Def)
+    → top_names (with_defs gs (before ++ callee_for d ∷ [])) ≡ top_names (with_defs gs before) ++ d.name ∷ []
 top_names-push gs before d =
     ap (λ ns. cown_names gs ++ ns) (map-append (λ (e : Callee). e.name) before (callee_for d ∷ []))
     ∙ sym (append_assoc (cown_names gs) (map (λ (e : Callee). e.name) before) (d.name ∷ []))
@@ -104,7 +111,8 @@ kept : {X : Type 0} (a : Bool) (x y : X) → a ≡ false → (if a then x else y
 kept true x y h = absurd cc
 kept false x y h = refl
 
-defs_behind-all : (gs : List Global) (before : List Callee) (ds : List Def) → are_new (top_names (with_defs gs before)) (names_of_defs ds) ≡ true → defs_behind gs before ds ≡ before ++ callees ds
+defs_behind-all : (gs : List Global) (before : List Callee) (ds : List Def) → are_new (top_names (with_defs gs before)) (names_of_defs ds) ≡ true
+    → defs_behind gs before ds ≡ before ++ callees ds
 defs_behind-all gs before [] h = sym (append-nil before)
 defs_behind-all gs before (d ∷ ds) h =
     let parts = both_true (among (top_names (with_defs gs before)) d.name) (are_new (top_names (with_defs gs before) ++ d.name ∷ []) (names_of_defs ds)) h in
@@ -116,15 +124,19 @@ none_behind : {X Y : Type 0} (o : Option X) → option_and_then (λ (x : X). let
 none_behind None = refl
 none_behind (Some x) = refl
 
-body_behind : {X : Type 0} (a b : Bool) (o : Option X) (rest all : Option (List X)) → rest ≡ (if b then all else None) → (if a then None else option_and_then (λ x. option_map (λ xs. x ∷ xs) rest) o) ≡ (if not a && b then option_and_then (λ x. option_map (λ xs. x ∷ xs) all) o else None)
+body_behind : {X : Type 0} (a b : Bool) (o : Option X) (rest all : Option (List X)) → rest ≡ (if b then all else None)
+    → (if a then None else option_and_then (λ x. option_map (λ xs. x ∷ xs) rest) o)
+    ≡ (if not a && b then option_and_then (λ x. option_map (λ xs. x ∷ xs) all) o else None)
 body_behind true b o rest all h = refl
 body_behind false true o rest all h = ap (λ r. option_and_then (λ x. option_map (λ xs. x ∷ xs) r) o) h
 body_behind false false o rest all h = ap (λ r. option_and_then (λ x. option_map (λ xs. x ∷ xs) r) o) h ∙ none_behind o
 
-bodies_behind-all : (top : Top) (before : List Named) (ds : List Def) → bodies_behind top before ds ≡ (if are_new before (names_of_defs ds) then all_names (def_names top) ds else None)
+bodies_behind-all : (top : Top) (before : List Named) (ds : List Def)
+    → bodies_behind top before ds ≡ (if are_new before (names_of_defs ds) then all_names (def_names top) ds else None)
 bodies_behind-all top before [] = refl
 bodies_behind-all top before (d ∷ ds) =
-    body_behind (among before d.name) (are_new (before ++ d.name ∷ []) (names_of_defs ds)) (def_names top d) (bodies_behind top (before ++ d.name ∷ []) ds) (all_names (def_names top) ds) (bodies_behind-all top (before ++ d.name ∷ []) ds)
+    body_behind (among before d.name) (are_new (before ++ d.name ∷ []) (names_of_defs ds)) (def_names top d) (bodies_behind top (before ++ d.name ∷ []) ds)
+    (all_names (def_names top) ds) (bodies_behind-all top (before ++ d.name ∷ []) ds)
 
 cown_names-globals : (n : ℕ) (cs : List Cown) → cown_names (globals n cs) ≡ names_of_shapes cs
 cown_names-globals n [] = refl
@@ -162,7 +174,8 @@ cowns_behind_none cs gs h = made (are_new [] (names_of_shapes cs)) (sym (cowns_b
 pub cowns_end : (cs : List Cown) (gs : List Global) → cowns_declared cs ≤ 256 → cowns_behind [] 0 cs ≡ Some gs → EndWithin 256 gs
 cowns_end cs gs few h = subst (EndWithin 256) (sym (cowns_behind_none cs gs h)) (globals_end 256 0 cs (omega arith))
 
-swap : {M D P : Type 0} (p : M → D → P) (m : Option M) (d : Option D) → option_and_then (λ x. option_map (p x) d) m ≡ option_and_then (λ y. option_map (λ x. p x y) m) d
+swap : {M D P : Type 0} (p : M → D → P) (m : Option M) (d : Option D)
+    → option_and_then (λ x. option_map (p x) d) m ≡ option_and_then (λ y. option_map (λ x. p x y) m) d
 swap p None None = refl
 swap p None (Some y) = refl
 swap p (Some x) None = refl
@@ -185,23 +198,29 @@ at_cowns t h =
     ap (λ o. option_and_then (whole_at t) (option_map (λ gs. with_defs gs (defs_behind gs [] t.defs)) o))
     (cowns_behind-all [] 0 t.cowns ∙ ap (λ b. if b then Some (globals 0 t.cowns) else None) h)
 
-bodies_at : (t : Tree) (top : Top) (b : Bool) → top.cowns ≡ globals 0 t.cowns → defs_new t ≡ b → bodies_behind top (cown_names top.cowns) t.defs ≡ (if b then all_names (def_names top) t.defs else None)
+bodies_at : (t : Tree) (top : Top) (b : Bool) → top.cowns ≡ globals 0 t.cowns → defs_new t ≡ b
+    → bodies_behind top (cown_names top.cowns) t.defs ≡ (if b then all_names (def_names top) t.defs else None)
 bodies_at t top b same h =
     bodies_behind-all top (cown_names top.cowns) t.defs
-    ∙ ap (λ c. if c then all_names (def_names top) t.defs else None) (ap (λ ns. are_new ns (names_of_defs t.defs)) (ap cown_names same ∙ cown_names-globals 0 t.cowns) ∙ h)
+    ∙ ap (λ c. if c then all_names (def_names top) t.defs else None)
+    (ap (λ ns. are_new ns (names_of_defs t.defs)) (ap cown_names same ∙ cown_names-globals 0 t.cowns) ∙ h)
 
 by_tests : (t : Tree) (a b : Bool) → cowns_new t ≡ a → defs_new t ≡ b → tree_names t ≡ program_in_order t
 by_tests t false b h k =
-    ap (λ c. if c then option_and_then (λ main. option_map (plain_of t main) (all_names (def_names (top_of t)) t.defs)) (body_names (top_of t) [] [] t.main) else None) (distinct_parts t ∙ ap (λ c. c && defs_new t) h)
+    ap (λ c. if c then option_and_then (λ main. option_map (plain_of t main) (all_names (def_names (top_of t)) t.defs)) (body_names (top_of t) [] [] t.main)
+    else None) (distinct_parts t ∙ ap (λ c. c && defs_new t) h)
     ∙ sym (no_cowns t h)
 by_tests t true false h k =
     let top : Top = with_defs (globals 0 t.cowns) (defs_behind (globals 0 t.cowns) [] t.defs) in
-    ap (λ c. if c then option_and_then (λ main. option_map (plain_of t main) (all_names (def_names (top_of t)) t.defs)) (body_names (top_of t) [] [] t.main) else None) (distinct_parts t ∙ ap (λ c. c && defs_new t) h ∙ k)
+    ap (λ c. if c then option_and_then (λ main. option_map (plain_of t main) (all_names (def_names (top_of t)) t.defs)) (body_names (top_of t) [] [] t.main)
+    else None) (distinct_parts t ∙ ap (λ c. c && defs_new t) h ∙ k)
     ∙ sym (at_cowns t h ∙ ap (option_and_then (λ defs. option_map (λ main. plain_of t main defs) (body_names top [] [] t.main))) (bodies_at t top false refl k))
 by_tests t true true h k =
     let same : defs_behind (globals 0 t.cowns) [] t.defs ≡ callees t.defs =
-    defs_behind-all (globals 0 t.cowns) [] t.defs (ap (λ ns. are_new ns (names_of_defs t.defs)) (append-nil (cown_names (globals 0 t.cowns)) ∙ cown_names-globals 0 t.cowns) ∙ k) in
-    ap (λ c. if c then option_and_then (λ main. option_map (plain_of t main) (all_names (def_names (top_of t)) t.defs)) (body_names (top_of t) [] [] t.main) else None) (distinct_parts t ∙ ap (λ c. c && defs_new t) h ∙ k)
+    defs_behind-all (globals 0 t.cowns) [] t.defs (ap (λ ns. are_new ns (names_of_defs t.defs))
+    (append-nil (cown_names (globals 0 t.cowns)) ∙ cown_names-globals 0 t.cowns) ∙ k) in
+    ap (λ c. if c then option_and_then (λ main. option_map (plain_of t main) (all_names (def_names (top_of t)) t.defs)) (body_names (top_of t) [] [] t.main)
+    else None) (distinct_parts t ∙ ap (λ c. c && defs_new t) h ∙ k)
     ∙ swap (plain_of t) (body_names (top_of t) [] [] t.main) (all_names (def_names (top_of t)) t.defs)
     ∙ ap (option_and_then (λ defs. option_map (λ main. plain_of t main defs) (body_names (top_of t) [] [] t.main))) (sym (bodies_at t (top_of t) true refl k))
     ∙ ap (λ ds. whole_at t (with_defs (globals 0 t.cowns) ds)) (sym same)

@@ -1,5 +1,6 @@
 -- What a tree within the limits resolves to fits in a program.
-use Rattle.std.proofs.Common.{◌≡◌, ℕ, suc, ◌+◌, ◌≤◌, Bool, true, false, List, [], ◌∷◌, ◌++◌, map, length, Option, Some, None, IsTrue, refl, sym, ap, ◌∙◌, subst, arith}
+use Rattle.std.proofs.Common.{◌≡◌, ℕ, suc, ◌+◌, ◌≤◌, Bool, true, false, List, [], ◌∷◌, ◌++◌, map, length, Option, Some, None, IsTrue, refl, sym, ap, ◌∙◌, subst}
+use Rattle.std.proofs.Common.{arith}
 use Rattle.std.specs.Prelude.{◌&&◌, nat_eq, nat_lt, slice_get, position}
 use Rattle.std.specs.Str.{bytes_eq}
 use Rattle.std.specs.Option.{option_map, option_and_then}
@@ -13,7 +14,8 @@ use Rattle.boc_program.specs.Resolved.{every}
 use Rattle.boc_program.specs.Signatures.{Signature, signature_of, whens_pass, counts_fit, call_fits, calls_fit}
 use Rattle.boc_program.specs.Programs.{members, cown_count, have_members, has_main}
 use Rattle.boc_program.specs.Parts.{MakesProgram}
-use Rattle.boc_reader.specs.Names.{Named, Callee, Top, Outside, kind_of, callee, takes, PlainBody, PlainCown, PlainProgram, body_names, callees, top_of, top_names, are_distinct, all_names, plain_cown, tree_names}
+use Rattle.boc_reader.specs.Names.{Named, Callee, Top, Outside, kind_of, callee, takes, PlainBody, PlainCown, PlainProgram, body_names, callees, top_of}
+use Rattle.boc_reader.specs.Names.{top_names, are_distinct, all_names, plain_cown, tree_names}
 use Rattle.boc_reader.specs.Spells.{plain_body, plain_declared}
 use Rattle.boc_reader.specs.Resolving.{EndWithin, def_names, callee_for}
 use Rattle.boc_reader.proofs.ResolvingLists.{find-position}
@@ -66,21 +68,24 @@ above_zero o kind h =
     let m = map_made suc o kind h in
     subst (λ (k : ℕ). IsTrue (nat_lt 0 k)) m.gives (below 0 (suc m.value) (omega arith))
 
-call_passes : (sigs : List Signature) (most : ℕ) (outside : Outside) → Knows sigs outside.top → Allows most outside → CallsPass (call_fits sigs (length outside.held) most) outside
+call_passes : (sigs : List Signature) (most : ℕ) (outside : Outside) → Knows sigs outside.top → Allows most outside
+    → CallsPass (call_fits sigs (length outside.held) most) outside
 call_passes sigs most outside knows allows scope f es rs s made =
     let t = takes_made (callee outside.top f) (length es) (length rs) made.takes_them in
     let sig = knows f made.kind t.def made.kind_is t.is in
     let args = exprs_keep es scope made.args made.args_are in
     let refs = refs_keep rs outside scope most made.refs allows made.refs_are in
     let counted : IsTrue (counts_fit (Some (signature_for t.def)) made.args made.refs) =
-    both _ _ (same_number (length made.args) t.def.args (args.many ∙ sym t.same_args)) (same_number (length made.refs) t.def.cowns (refs.refs.many ∙ sym t.same_cowns)) in
+    both _ _ (same_number (length made.args) t.def.args (args.many ∙ sym t.same_args))
+    (same_number (length made.refs) t.def.cowns (refs.refs.many ∙ sym t.same_cowns)) in
     let of_def : IsTrue (nat_lt 0 made.kind) = above_zero (position (λ c. bytes_eq c.name f) outside.top.defs) made.kind made.kind_is in
     both _ _ of_def (both _ _ (subst (λ (o : Option Signature). IsTrue (counts_fit o made.args made.refs)) (sym sig) counted) refs.ends)
 
 abbrev pub plain_calls : List Signature → ℕ → PlainBody → Bool
 plain_calls sigs most b = whens_pass (call_fits sigs b.cown_params most) b.code
 
-body_passes : (sigs : List Signature) (most : ℕ) (top : Top) (params held : List Named) (block : Block) (b : PlainBody) → Knows sigs top → most ≤ 256 → EndWithin most top.cowns → IsSmallBlock block → body_names top params held block ≡ Some b → IsTrue (plain_calls sigs most b)
+body_passes : (sigs : List Signature) (most : ℕ) (top : Top) (params held : List Named) (block : Block) (b : PlainBody) → Knows sigs top → most ≤ 256
+    → EndWithin most top.cowns → IsSmallBlock block → body_names top params held block ≡ Some b → IsTrue (plain_calls sigs most b)
 body_passes sigs most top params held block b knows few end small h =
     let m = body_made top params held block b h in
     let allows : Allows most (record { top = top; held = held }) = record { few = few; end = end } in
@@ -88,7 +93,8 @@ body_passes sigs most top params held block b knows few end small h =
     (record { allows = allows; calls = call_passes sigs most (record { top = top; held = held }) knows allows }) small m.code_is in
     subst (λ (c : PlainBody). IsTrue (plain_calls sigs most c)) m.gives k.passes
 
-defs_pass : (sigs : List Signature) (most : ℕ) (top : Top) (ds : List Def) (bs : List PlainBody) → Knows sigs top → most ≤ 256 → EndWithin most top.cowns → AreSmallDefs ds → all_names (def_names top) ds ≡ Some bs → IsTrue (every (map (plain_calls sigs most) bs))
+defs_pass : (sigs : List Signature) (most : ℕ) (top : Top) (ds : List Def) (bs : List PlainBody) → Knows sigs top → most ≤ 256 → EndWithin most top.cowns
+    → AreSmallDefs ds → all_names (def_names top) ds ≡ Some bs → IsTrue (every (map (plain_calls sigs most) bs))
 defs_pass sigs most top [] bs knows few end small h =
     let same : [] ≡ bs = cc in
     subst (λ (l : List PlainBody). IsTrue (every (map (plain_calls sigs most) l))) same refl
@@ -96,16 +102,19 @@ defs_pass sigs most top (d ∷ ds) bs knows few end small h =
     let m = then_made _ (def_names top d) bs h in
     let g = map_made _ (all_names (def_names top) ds) bs m.gives in
     subst (λ (l : List PlainBody). IsTrue (every (map (plain_calls sigs most) l))) g.gives
-    (both _ _ (body_passes sigs most top d.params d.cowns d.block m.value knows few end small.0.body.calls m.is) (defs_pass sigs most top ds g.value knows few end small.1 g.is))
+    (both _ _ (body_passes sigs most top d.params d.cowns d.block m.value knows few end small.0.body.calls m.is)
+    (defs_pass sigs most top ds g.value knows few end small.1 g.is))
 
 abbrev pub plain_signature : PlainBody → Signature
 plain_signature b = record { args = b.params; cowns = b.cown_params }
 
-body_signature : (top : Top) (params held : List Named) (block : Block) (b : PlainBody) → body_names top params held block ≡ Some b → plain_signature b ≡ (let s : Signature = record { args = length params; cowns = length held } in s)
+body_signature : (top : Top) (params held : List Named) (block : Block) (b : PlainBody) → body_names top params held block ≡ Some b
+    → plain_signature b ≡ (let s : Signature = record { args = length params; cowns = length held } in s)
 body_signature top params held block b h =
     let m = body_made top params held block b h in ap plain_signature (sym m.gives)
 
-def_signatures : (top : Top) (ds : List Def) (bs : List PlainBody) → all_names (def_names top) ds ≡ Some bs → map plain_signature bs ≡ map signature_for (callees ds)
+def_signatures : (top : Top) (ds : List Def) (bs : List PlainBody) → all_names (def_names top) ds ≡ Some bs
+    → map plain_signature bs ≡ map signature_for (callees ds)
 def_signatures top [] bs h = let same : [] ≡ bs = cc in ap (map plain_signature) (sym same)
 def_signatures top (d ∷ ds) bs h =
     let m = then_made _ (def_names top d) bs h in
@@ -163,7 +172,8 @@ signatures_made : (bs : List Body) → map signature_of bs ≡ map plain_signatu
 signatures_made [] = refl
 signatures_made (b ∷ bs) = ap (λ ss. signature_of b ∷ ss) (signatures_made bs)
 
-calls_made : (sigs : List Signature) (most : ℕ) (bs : List Body) → every (map (calls_fit sigs most) bs) ≡ every (map (plain_calls sigs most) (map plain_body bs))
+calls_made : (sigs : List Signature) (most : ℕ) (bs : List Body)
+    → every (map (calls_fit sigs most) bs) ≡ every (map (plain_calls sigs most) (map plain_body bs))
 calls_made sigs most [] = refl
 calls_made sigs most (b ∷ bs) = ap (λ x. calls_fit sigs most b && x) (calls_made sigs most bs)
 
@@ -174,12 +184,15 @@ fits_made : (most : ℕ) (bs : List Body) → every (map (calls_fit (map signatu
 fits_made most bs = ap (λ sigs. every (map (calls_fit sigs most) bs)) (signatures_made bs) ∙ calls_made (map plain_signature (map plain_body bs)) most bs
 
 -- main's body and those of the defs
-bodies_fit : (t : Tree) (main : PlainBody) (defs : List PlainBody) → IsWithinLimits t → body_names (top_of t) [] [] t.main ≡ Some main → all_names (def_names (top_of t)) t.defs ≡ Some defs → IsTrue (plain_fits (cowns_declared t.cowns) (main ∷ defs))
+bodies_fit : (t : Tree) (main : PlainBody) (defs : List PlainBody) → IsWithinLimits t → body_names (top_of t) [] [] t.main ≡ Some main
+    → all_names (def_names (top_of t)) t.defs ≡ Some defs → IsTrue (plain_fits (cowns_declared t.cowns) (main ∷ defs))
 bodies_fit t main defs limits h k =
     let knows : Knows (plain_signature main ∷ map plain_signature defs) (top_of t) =
-    subst (λ (ss : List Signature). Knows (plain_signature main ∷ ss) (top_of t)) (sym (def_signatures (top_of t) t.defs defs k)) (knows_defs (plain_signature main) (top_of t)) in
+    subst (λ (ss : List Signature). Knows (plain_signature main ∷ ss) (top_of t)) (sym (def_signatures (top_of t) t.defs defs k))
+    (knows_defs (plain_signature main) (top_of t)) in
     let end = globals_end (cowns_declared t.cowns) 0 t.cowns (omega arith) in
-    both _ _ (body_passes (plain_signature main ∷ map plain_signature defs) (cowns_declared t.cowns) (top_of t) [] [] t.main main knows limits.cowns end limits.small_main.calls h)
+    both _ _ (body_passes (plain_signature main ∷ map plain_signature defs) (cowns_declared t.cowns) (top_of t) [] [] t.main main knows limits.cowns end
+    limits.small_main.calls h)
     (defs_pass (plain_signature main ∷ map plain_signature defs) (cowns_declared t.cowns) (top_of t) t.defs defs knows limits.cowns end limits.small_defs k)
 
 main_takes_nothing : (t : Tree) (main : PlainBody) (defs : List PlainBody) → body_names (top_of t) [] [] t.main ≡ Some main → IsTrue (plain_main (main ∷ defs))
@@ -188,7 +201,8 @@ main_takes_nothing t main defs h =
     subst (λ (b : PlainBody). IsTrue (plain_main (b ∷ defs))) m.gives refl
 
 -- the parts that a tree within the limits resolves to make a program
-pub program_makes : (t : Tree) (cs : List Cown') (bs : List Body) → IsWithinLimits t → tree_names t ≡ Some (let p : PlainProgram = record { cowns = map plain_declared cs; bodies = map plain_body bs } in p) → MakesProgram cs bs
+pub program_makes : (t : Tree) (cs : List Cown') (bs : List Body) → IsWithinLimits t
+    → tree_names t ≡ Some (let p : PlainProgram = record { cowns = map plain_declared cs; bodies = map plain_body bs } in p) → MakesProgram cs bs
 program_makes t cs bs limits h =
     let d = test_made (are_distinct (top_names (top_of t))) _ _ h in
     let m = then_made _ (body_names (top_of t) [] [] t.main) _ d.1 in
@@ -206,5 +220,6 @@ program_makes t cs bs limits h =
       few_cowns = omega arith;
       few_defs = omega arith;
       main = rw (main_made bs) (subst (λ (l : List PlainBody). IsTrue (plain_main l)) same_bodies (main_takes_nothing t m.value g.value m.is));
-      calls = rw (count, fits_made (cowns_declared t.cowns) bs) (subst (λ (l : List PlainBody). IsTrue (plain_fits (cowns_declared t.cowns) l)) same_bodies whole);
+      calls = rw (count, fits_made (cowns_declared t.cowns) bs)
+          (subst (λ (l : List PlainBody). IsTrue (plain_fits (cowns_declared t.cowns) l)) same_bodies whole);
     }

@@ -1,5 +1,6 @@
 -- Statement after statement, with the names in scope.
-use Rattle.std.proofs.Common.{◌≡◌, ℕ, zero, suc, ◌+◌, ◌≤◌, ◌<◌, List, [], ◌∷◌, ◌++◌, length, take, drop, get_or, Option, Some, None, refl, sym, ap, ◌∙◌, arith, add-one, drop-cons}
+use Rattle.std.proofs.Common.{◌≡◌, ℕ, zero, suc, ◌+◌, ◌≤◌, ◌<◌, List, [], ◌∷◌, ◌++◌, length, take, drop, get_or, Option, Some, None, refl, sym, ap, ◌∙◌, arith}
+use Rattle.std.proofs.Common.{add-one, drop-cons}
 use Rattle.std.proofs.lemmas.List.{take-take, length-take, drop_all}
 use Rattle.std.specs.Option.{option_map, option_and_then}
 use Rattle.boc_reader.specs.declared.shape.Stmt.{Stmt as Stmt'}
@@ -49,7 +50,9 @@ nodes_of_one [] i s h e = absurd (omega (arith, h))
 nodes_of_one (x ∷ xs) zero s h e = omega (arith, ap (λ y. stmt_nodes (stmt_of y)) e)
 nodes_of_one (x ∷ xs) (suc i) s h e = omega (arith, nodes_of_one xs i s (omega (arith, h)) e)
 
-pub goes_on : (b : List Stmt') (i : ℕ) (s : Stmt') (front all : List Stmt) (x : Stmt) (outside : Outside) (scope scope' : List Named) (whole : Option Code) → i < length b → s ≡ get_or b i s → stmt_names (stmt_of s) outside scope ≡ Some (resolved_stmt_of x, scope') → all ≡ front ++ x ∷ [] → whole ≡ with_code front (block_names (block_of (drop i b)) outside scope) → whole ≡ with_code all (block_names (block_of (drop (i + 1) b)) outside scope')
+pub goes_on : (b : List Stmt') (i : ℕ) (s : Stmt') (front all : List Stmt) (x : Stmt) (outside : Outside) (scope scope' : List Named) (whole : Option Code)
+    → i < length b → s ≡ get_or b i s → stmt_names (stmt_of s) outside scope ≡ Some (resolved_stmt_of x, scope') → all ≡ front ++ x ∷ []
+    → whole ≡ with_code front (block_names (block_of (drop i b)) outside scope) → whole ≡ with_code all (block_names (block_of (drop (i + 1) b)) outside scope')
 goes_on b i s front all x outside scope scope' whole h e found more so_far =
     so_far ∙ ap (λ c. with_code front (block_names c outside scope)) (block_at b i s h e)
     ∙ ap (λ o. with_code front (option_and_then (λ y. option_map (then_code y.0) (block_names (block_of (drop (i + 1) b)) outside y.1)) o)) found
@@ -59,7 +62,8 @@ goes_on b i s front all x outside scope scope' whole h e found more so_far =
 pub ends : (front : List Stmt) (outside : Outside) (scope : List Named) → with_code front (block_names done outside scope) ≡ Some (code_of front)
 ends front outside scope = ap Some (onto_done front)
 
-pub at_end : (b : List Stmt') (i : ℕ) (front : List Stmt) (outside : Outside) (scope : List Named) (whole : Option Code) → length b ≤ i → whole ≡ with_code front (block_names (block_of (drop i b)) outside scope) → whole ≡ Some (code_of front)
+pub at_end : (b : List Stmt') (i : ℕ) (front : List Stmt) (outside : Outside) (scope : List Named) (whole : Option Code) → length b ≤ i
+    → whole ≡ with_code front (block_names (block_of (drop i b)) outside scope) → whole ≡ Some (code_of front)
 at_end b i front outside scope whole h so_far =
     so_far ∙ ap (λ xs. with_code front (block_names (block_of xs) outside scope)) (drop_all i b h) ∙ ends front outside scope
 

@@ -17,7 +17,8 @@ deepest_before n (stmts.If e a b) rest = omega (arith, deepest-max n rest, deepe
 deepest_before n (stmts.Repeat e a) rest = omega (arith, deepest-max n rest, deepest-max n a)
 deepest_before n (stmts.When kind args refs) rest = omega (arith, deepest-max n rest)
 
-pub slots_of_if : (n : ℕ) (s : Stmt) (e : Expr) (a b : Code) (x y r : ℕ) → s ≡ stmts.If e a b → x ≡ deepest n a → y ≡ deepest n b → r ≡ max x y → r ≡ deepest n (before s Done)
+pub slots_of_if : (n : ℕ) (s : Stmt) (e : Expr) (a b : Code) (x y r : ℕ) → s ≡ stmts.If e a b → x ≡ deepest n a → y ≡ deepest n b → r ≡ max x y
+    → r ≡ deepest n (before s Done)
 slots_of_if n s e a b x y r is f g h =
     let k : r ≡ deepest n (before (stmts.If e a b) Done) = omega (arith, deepest-max n a, deepest-max n b) in
     k ∙ ap (λ t. deepest n (before t Done)) (sym is)
@@ -27,7 +28,8 @@ slots_of_repeat n s e a r is f =
     let k : r ≡ deepest n (before (stmts.Repeat e a) Done) = omega (arith, deepest-max n a) in
     k ∙ ap (λ t. deepest n (before t Done)) (sym is)
 
-pub slots_of_more : (n : ℕ) (ss : List Stmt) (s : Stmt) (x y r : ℕ) → 1 ≤ length ss → s ≡ get_or ss 0 s → x ≡ deepest n (before s Done) → y ≡ deepest n (code_of (take (length ss - 1) (drop 1 ss))) → r ≡ max x y → r ≡ deepest n (code_of ss)
+pub slots_of_more : (n : ℕ) (ss : List Stmt) (s : Stmt) (x y r : ℕ) → 1 ≤ length ss → s ≡ get_or ss 0 s → x ≡ deepest n (before s Done)
+    → y ≡ deepest n (code_of (take (length ss - 1) (drop 1 ss))) → r ≡ max x y → r ≡ deepest n (code_of ss)
 slots_of_more n [] s x y r long is f g h = absurd (omega arith)
 slots_of_more n (z ∷ zs) s x y r long is f g h =
     let first = f ∙ ap (λ t. deepest n (before t Done)) is in

@@ -20,11 +20,13 @@ pub among_cowns : (gs : List Global') (x : Named) → among (cown_names (map glo
 among_cowns gs x =
     list_any-map (λ y. bytes_eq y x) (λ g. g.name) (map global_of gs) ∙ list_any-map (λ g. bytes_eq g.name x) global_of gs
 
-pub among_top : (gs : List Global') (ds : List Callee') (x : Named) → among (top_names (seen gs ds)) x ≡ (list_any (λ g. bytes_eq g.name.now x) gs || list_any (λ d. bytes_eq d.name.now x) ds)
+pub among_top : (gs : List Global') (ds : List Callee') (x : Named)
+    → among (top_names (seen gs ds)) x ≡ (list_any (λ g. bytes_eq g.name.now x) gs || list_any (λ d. bytes_eq d.name.now x) ds)
 among_top gs ds x =
     list_any-append (λ y. bytes_eq y x) (map (λ g. g.name) (map global_of gs)) (map (λ d. d.name) (map callee_of ds))
     ∙ ap (λ b. b || list_any (λ y. bytes_eq y x) (map (λ d. d.name) (map callee_of ds))) (among_cowns gs x)
-    ∙ ap (λ b. list_any (λ g. bytes_eq g.name.now x) gs || b) (list_any-map (λ y. bytes_eq y x) (λ d. d.name) (map callee_of ds) ∙ list_any-map (λ d. bytes_eq d.name x) callee_of ds)
+    ∙ ap (λ b. list_any (λ g. bytes_eq g.name.now x) gs || b)
+    (list_any-map (λ y. bytes_eq y x) (λ d. d.name) (map callee_of ds) ∙ list_any-map (λ d. bytes_eq d.name x) callee_of ds)
 
 -- a test by its two parts, of which the first may settle it
 pub by_first : (a b r : Bool) → r ≡ a → r ≡ true → r ≡ (a || b)
@@ -35,15 +37,19 @@ pub by_second : (a b q r : Bool) → q ≡ a → q ≡ false → r ≡ b → r �
 by_second true b q r h k e = absurd cc
 by_second false b q r h k e = e
 
-pub cown_at : (gs xs : List Global') (ds : List Callee') (x : Named) (r : Option Global') → xs ≡ gs → r ≡ find (λ g. bytes_eq g.name.now x) xs → option_map global_of r ≡ global (seen gs ds) x
+pub cown_at : (gs xs : List Global') (ds : List Callee') (x : Named) (r : Option Global') → xs ≡ gs → r ≡ find (λ g. bytes_eq g.name.now x) xs
+    → option_map global_of r ≡ global (seen gs ds) x
 cown_at gs xs ds x r same found =
-    ap (option_map global_of) found ∙ ap (λ l. option_map global_of (find (λ g. bytes_eq g.name.now x) l)) same ∙ sym (find-map (λ g. bytes_eq g.name x) global_of gs)
+    ap (option_map global_of) found ∙ ap (λ l. option_map global_of (find (λ g. bytes_eq g.name.now x) l)) same
+    ∙ sym (find-map (λ g. bytes_eq g.name x) global_of gs)
 
-pub kind_at : (gs : List Global') (ds ys : List Callee') (x : Named) (o : Option ℕ) → ys ≡ ds → o ≡ position (λ d. bytes_eq d.name.now x) ys → option_map suc o ≡ kind_of (seen gs ds) x
+pub kind_at : (gs : List Global') (ds ys : List Callee') (x : Named) (o : Option ℕ) → ys ≡ ds → o ≡ position (λ d. bytes_eq d.name.now x) ys
+    → option_map suc o ≡ kind_of (seen gs ds) x
 kind_at gs ds ys x o same found =
     ap (option_map suc) (found ∙ ap (position (λ d. bytes_eq d.name.now x)) same ∙ sym (position-map (λ d. bytes_eq d.name x) callee_of ds))
 
-pub callee_at : (gs : List Global') (ds ys : List Callee') (x : Named) (o : Option ℕ) → ys ≡ ds → o ≡ position (λ d. bytes_eq d.name.now x) ys → option_map callee_of (option_and_then (slice_get ds) o) ≡ callee (seen gs ds) x
+pub callee_at : (gs : List Global') (ds ys : List Callee') (x : Named) (o : Option ℕ) → ys ≡ ds → o ≡ position (λ d. bytes_eq d.name.now x) ys
+    → option_map callee_of (option_and_then (slice_get ds) o) ≡ callee (seen gs ds) x
 callee_at gs ds ys x o same found =
     ap (λ q. option_map callee_of (option_and_then (slice_get ds) q)) (found ∙ ap (position (λ d. bytes_eq d.name.now x)) same)
     ∙ ap (option_map callee_of) (sym (find-position (λ d. bytes_eq d.name.now x) ds))
@@ -63,10 +69,13 @@ not_the_first true b q h k = ap not k
 not_the_first false b q h k = absurd cc
 
 -- what is in scope, or declared at the top
-pub is_free_at : (gs xs : List Global') (ds ys : List Callee') (scope : List (Bor Named)) (x : Named) (q r : Bool) → xs ≡ gs → ys ≡ ds → q ≡ among (top_names (seen xs ys)) x → q ≡ false → r ≡ list_any (λ n. bytes_eq n.now x) scope → not r ≡ is_free (seen gs ds) (names_of scope) x
+pub is_free_at : (gs xs : List Global') (ds ys : List Callee') (scope : List (Bor Named)) (x : Named) (q r : Bool) → xs ≡ gs → ys ≡ ds
+    → q ≡ among (top_names (seen xs ys)) x → q ≡ false → r ≡ list_any (λ n. bytes_eq n.now x) scope → not r ≡ is_free (seen gs ds) (names_of scope) x
 is_free_at gs xs ds ys scope x q r same_cowns same_defs h hidden e =
-    not_either _ _ q r (h ∙ ap (λ l. among (top_names (seen l ys)) x) same_cowns ∙ ap (λ l. among (top_names (seen gs l)) x) same_defs) hidden (e ∙ sym (list_any-map (λ y. bytes_eq y x) (λ n. n.now) scope))
+    not_either _ _ q r (h ∙ ap (λ l. among (top_names (seen l ys)) x) same_cowns ∙ ap (λ l. among (top_names (seen gs l)) x) same_defs) hidden
+    (e ∙ sym (list_any-map (λ y. bytes_eq y x) (λ n. n.now) scope))
 
-pub is_declared_at : (gs xs : List Global') (ds ys : List Callee') (scope : List Named) (x : Named) (q : Bool) → xs ≡ gs → ys ≡ ds → q ≡ among (top_names (seen xs ys)) x → q ≡ true → not q ≡ is_free (seen gs ds) scope x
+pub is_declared_at : (gs xs : List Global') (ds ys : List Callee') (scope : List Named) (x : Named) (q : Bool) → xs ≡ gs → ys ≡ ds
+    → q ≡ among (top_names (seen xs ys)) x → q ≡ true → not q ≡ is_free (seen gs ds) scope x
 is_declared_at gs xs ds ys scope x q same_cowns same_defs h there =
     not_the_first _ _ q (h ∙ ap (λ l. among (top_names (seen l ys)) x) same_cowns ∙ ap (λ l. among (top_names (seen gs l)) x) same_defs) there

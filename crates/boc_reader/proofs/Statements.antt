@@ -4,9 +4,11 @@ use Rattle.boc_reader.specs.declared.terminal.Sign.{Sign}
 use Rattle.boc_reader.specs.declared.terminal.Sign.TheVariants.{Semicolon, Close, OpenBlock, CloseBlock}
 use Rattle.boc_reader.specs.declared.terminal.Keyword.TheVariants.{Let, Work, If, Else, Repeat, When}
 use Rattle.boc_reader.specs.Tokens.{Token, name, sign, keyword}
-use Rattle.boc_reader.specs.Shape.{Expr, Stmt, declare, assign, work, if_only, if_else, repeat, when, Block, done, next, stmt_tokens, block_tokens, braced_tokens, stmt_nodes, block_nodes, IsSmallBlock, expr_tokens, each_tokens, list_tokens, list_nodes, ref_tokens}
+use Rattle.boc_reader.specs.Shape.{Expr, Stmt, declare, assign, work, if_only, if_else, repeat, when, Block, done, next, stmt_tokens, block_tokens}
+use Rattle.boc_reader.specs.Shape.{braced_tokens, stmt_nodes, block_nodes, IsSmallBlock, expr_tokens, each_tokens, list_tokens, list_nodes, ref_tokens}
 use Rattle.boc_reader.specs.Phrases.{Ahead, NoneStands}
-use Rattle.boc_reader.specs.Grammar.{NoSign, NoKeyword, EndsStmt, expr_phrase, closed_phrase, let_phrase, call_phrase, if_phrase, else_phrase, repeat_phrase, stmt_phrase, block_phrase, braced_phrase}
+use Rattle.boc_reader.specs.Grammar.{NoSign, NoKeyword, EndsStmt, expr_phrase, closed_phrase, let_phrase, call_phrase, if_phrase, else_phrase, repeat_phrase}
+use Rattle.boc_reader.specs.Grammar.{stmt_phrase, block_phrase, braced_phrase}
 use Rattle.boc_reader.proofs.Refused.{OneReading}
 use Rattle.boc_reader.proofs.Operators.{sign_ends}
 use Rattle.boc_reader.proofs.Expressions.{one_expr}
@@ -56,7 +58,8 @@ one_ended e f r s h =
     (u.0, cc)
 
 -- an expression, and what stands in the block behind it
-one_guard : (e f : Expr) (b c : Block) (r s : List Token) → expr_tokens e (braced_tokens b r) ≡ expr_tokens f (braced_tokens c s) → (e ≡ f) × (block_tokens b (sign CloseBlock ∷ r) ≡ block_tokens c (sign CloseBlock ∷ s))
+one_guard : (e f : Expr) (b c : Block) (r s : List Token) → expr_tokens e (braced_tokens b r) ≡ expr_tokens f (braced_tokens c s)
+    → (e ≡ f) × (block_tokens b (sign CloseBlock ∷ r) ≡ block_tokens c (sign CloseBlock ∷ s))
 one_guard e f b c r s h =
     let u = one_expr e f (braced_tokens b r) (braced_tokens c s) (brace_ends e b r) (brace_ends f c s) h in
     let t = u.1 in
@@ -87,7 +90,8 @@ mutual
       let v = u.0 in let k = one_block b c r s u.1 in let l = k.0 in
       (cc, k.1)
   one_stmt (when f es rs) (when g fs ss) r s p q h =
-      let u = one_exprs es fs (list_tokens ref_tokens rs (sign Close ∷ sign Semicolon ∷ r)) (list_tokens ref_tokens ss (sign Close ∷ sign Semicolon ∷ s)) tt tt cc in
+      let u = one_exprs es fs (list_tokens ref_tokens rs (sign Close ∷ sign Semicolon ∷ r)) (list_tokens ref_tokens ss (sign Close ∷ sign Semicolon ∷ s)) tt tt
+      cc in
       let v = u.0 in let t = u.1 in
       let k = one_refs rs ss (sign Semicolon ∷ r) (sign Semicolon ∷ s) tt tt cc in
       let l = k.0 in let m = k.1 in
@@ -132,7 +136,8 @@ stmts_small (next s b) h = (h.0, stmts_small b h.1)
 close_stops : (r : List Token) → Stops stmt_phrase (sign CloseBlock ∷ r)
 close_stops r = record { ends = λ x. last_stmt x r; none = λ x w h. no_stmt x CloseBlock w r (sym h) }
 
-pub no_next_stmt : (old mid : Ahead) (xs : List Stmt) → ReadEach stmt_phrase old mid xs → NoSign CloseBlock mid.tokens → NoneStands stmt_phrase mid → NoneStands block_phrase old
+pub no_next_stmt : (old mid : Ahead) (xs : List Stmt) → ReadEach stmt_phrase old mid xs → NoSign CloseBlock mid.tokens → NoneStands stmt_phrase mid
+    → NoneStands block_phrase old
 no_next_stmt old mid xs so_far ajar none b r st =
     no_next stmt_phrase one_stmt next_stmt old mid xs (stmts_of b) (sign CloseBlock ∷ r) so_far none (close_stops r) (ajar r)
     (st.tokens ∙ stmts_tokens b _) (omega (arith, stmts_nodes b, st.fits)) (stmts_small b st.small)
@@ -152,8 +157,10 @@ pub no_room_for_stmt : (old : Ahead) → old.room ≡ 0 → NoneStands stmt_phra
 no_room_for_stmt old h x r st = omega (arith, stmt_needs_room x, st.fits)
 
 module _ (old mid : Ahead) (n : 1 + mid.room ≡ old.room) where
-  pub no_assign : (x : List ℕ) (after : List Token) → old.tokens ≡ name x ∷ after → mid.tokens ≡ old.tokens → NoneStands let_phrase mid → NoneStands stmt_phrase old
-  no_assign y after e same none (assign x v) r st = none (x, v) r (record { tokens = same ∙ st.tokens; ends = tt; fits = omega (arith, st.fits); small = (tt, tt) })
+  pub no_assign : (x : List ℕ) (after : List Token) → old.tokens ≡ name x ∷ after → mid.tokens ≡ old.tokens → NoneStands let_phrase mid
+      → NoneStands stmt_phrase old
+  no_assign y after e same none (assign x v) r st = none (x, v) r
+      (record { tokens = same ∙ st.tokens; ends = tt; fits = omega (arith, st.fits); small = (tt, tt) })
   no_assign y after e same none x r st = let w = st.tokens in absurd cc
 
   pub no_let : old.tokens ≡ keyword Let ∷ mid.tokens → NoneStands let_phrase mid → NoneStands stmt_phrase old
@@ -165,19 +172,24 @@ module _ (old mid : Ahead) (n : 1 + mid.room ≡ old.room) where
   no_work e none x r st = let w = st.tokens in absurd cc
 
   pub no_if : old.tokens ≡ keyword If ∷ mid.tokens → NoneStands if_phrase mid → NoneStands stmt_phrase old
-  no_if e none (if_only v b) r st = let w = st.tokens in none (v, (b, None)) r (record { tokens = cc; ends = st.ends; fits = omega (arith, st.fits); small = (tt, (st.small, tt)) })
-  no_if e none (if_else v b c) r st = let w = st.tokens in none (v, (b, Some c)) r (record { tokens = cc; ends = tt; fits = omega (arith, st.fits); small = (tt, (st.small.0, st.small.1)) })
+  no_if e none (if_only v b) r st = let w = st.tokens in
+      none (v, (b, None)) r (record { tokens = cc; ends = st.ends; fits = omega (arith, st.fits); small = (tt, (st.small, tt)) })
+  no_if e none (if_else v b c) r st = let w = st.tokens in
+      none (v, (b, Some c)) r (record { tokens = cc; ends = tt; fits = omega (arith, st.fits); small = (tt, (st.small.0, st.small.1)) })
   no_if e none x r st = let w = st.tokens in absurd cc
 
   pub no_repeat : old.tokens ≡ keyword Repeat ∷ mid.tokens → NoneStands repeat_phrase mid → NoneStands stmt_phrase old
-  no_repeat e none (repeat v b) r st = let w = st.tokens in none (v, b) r (record { tokens = cc; ends = tt; fits = omega (arith, st.fits); small = (tt, st.small) })
+  no_repeat e none (repeat v b) r st = let w = st.tokens in
+      none (v, b) r (record { tokens = cc; ends = tt; fits = omega (arith, st.fits); small = (tt, st.small) })
   no_repeat e none x r st = let w = st.tokens in absurd cc
 
   pub no_when : old.tokens ≡ keyword When ∷ mid.tokens → NoneStands call_phrase mid → NoneStands stmt_phrase old
-  no_when e none (when f es rs) r st = let w = st.tokens in none (f, (es, rs)) r (record { tokens = cc; ends = tt; fits = omega (arith, st.fits); small = st.small })
+  no_when e none (when f es rs) r st = let w = st.tokens in
+      none (f, (es, rs)) r (record { tokens = cc; ends = tt; fits = omega (arith, st.fits); small = st.small })
   no_when e none x r st = let w = st.tokens in absurd cc
 
-pub not_stmt : (old : Ahead) → ((n : List ℕ) (after : List Token) → old.tokens ≢ name n ∷ after) → NoKeyword Let old.tokens → NoKeyword Work old.tokens → NoKeyword If old.tokens → NoKeyword Repeat old.tokens → NoKeyword When old.tokens → NoneStands stmt_phrase old
+pub not_stmt : (old : Ahead) → ((n : List ℕ) (after : List Token) → old.tokens ≢ name n ∷ after) → NoKeyword Let old.tokens → NoKeyword Work old.tokens
+    → NoKeyword If old.tokens → NoKeyword Repeat old.tokens → NoKeyword When old.tokens → NoneStands stmt_phrase old
 not_stmt old a b c d e f (declare x v) r st = b _ st.tokens
 not_stmt old a b c d e f (assign x v) r st = a x _ st.tokens
 not_stmt old a b c d e f (work v) r st = c _ st.tokens

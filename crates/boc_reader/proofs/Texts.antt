@@ -1,5 +1,6 @@
 -- How the tokens of a text follow from its front.
-use Rattle.std.proofs.Common.{lit<, zero, suc, ◌⊎◌, ◌*◌, ◌-◌, ◌^◌, get_or, length, take, drop, append_assoc, ◌≡◌, ◌≢◌, ℕ, ◌+◌, ◌≤◌, ◌<◌, ◌∷◌, List, [], ◌++◌, true, false, cond, eqb, ltb, ◌&&◌, ◌||◌, Option, Some, None, refl, sym, ap, ◌∙◌, subst, arith, inl, inr}
+use Rattle.std.proofs.Common.{lit<, zero, suc, ◌⊎◌, ◌*◌, ◌-◌, ◌^◌, get_or, length, take, drop, append_assoc, ◌≡◌, ◌≢◌, ℕ, ◌+◌, ◌≤◌, ◌<◌, ◌∷◌, List, [], ◌++◌}
+use Rattle.std.proofs.Common.{true, false, cond, eqb, ltb, ◌&&◌, ◌||◌, Option, Some, None, refl, sym, ap, ◌∙◌, subst, arith, inl, inr}
 use Rattle.std.proofs.lemmas.Bool.Decides.{nat_tests}
 use Rattle.std.proofs.lemmas.Bool.{or_cases, and_right, eqb-true, ne_eqb, cases_Bool}
 use Rattle.std.proofs.lemmas.Bool.{lt-ltb, le-ltb}
@@ -13,7 +14,8 @@ use Rattle.std.proofs.lemmas.List.Folds.{length-prefix_len}
 use Rattle.std.proofs.Math.Seq.{take-append_seam, drop-append_seam}
 use Rattle.std.specs.List.{AllByRecursion, prefix_len, take_while}
 use Rattle.std.specs.Option.{option_map}
-use Rattle.boc_reader.specs.Tokens.{Token, sign, is_name_byte, is_blank, without_comments, Piece, run, pair, single, join, in_front, begins_pair, cut, token_of_run, pair_sign, single_sign, put, tokens_of_pieces, tokens_of_text, IsApart, value_of}
+use Rattle.boc_reader.specs.Tokens.{Token, sign, is_name_byte, is_blank, without_comments, Piece, run, pair, single, join, in_front, begins_pair, cut}
+use Rattle.boc_reader.specs.Tokens.{token_of_run, pair_sign, single_sign, put, tokens_of_pieces, tokens_of_text, IsApart, value_of}
 
 -- a byte that begins no pair
 pub cut_front : (b : ℕ) (bs : List ℕ) → begins_pair b ≡ false → cut (b ∷ bs) ≡ in_front b (cut bs)
@@ -44,7 +46,8 @@ pub name_byte_is : (b : ℕ) → is_name_byte b ≡ true → (begins_pair b ≡ 
 name_byte_is b h = (grind (arith, nat_tests), grind (arith, nat_tests))
 
 pub blank_is : (b : ℕ) → is_blank b ≡ true → (is_name_byte b ≡ false) × (begins_pair b ≡ false) × (eqb b 35 ≡ false)
-blank_is b h = blank_by (λ b. (is_name_byte b ≡ false) × (begins_pair b ≡ false) × (eqb b 35 ≡ false)) (refl, refl, refl) (refl, refl, refl) (refl, refl, refl) (refl, refl, refl) b h
+blank_is b h = blank_by (λ b. (is_name_byte b ≡ false) × (begins_pair b ≡ false) × (eqb b 35 ≡ false)) (refl, refl, refl) (refl, refl, refl) (refl, refl, refl)
+    (refl, refl, refl) b h
 
 pub cut_blank : (b : ℕ) (bs : List ℕ) → is_blank b ≡ true → tokens_of_pieces (cut (b ∷ bs)) ≡ tokens_of_pieces (cut bs)
 cut_blank b bs h = let i = blank_is b h in let w = i.0 in ap tokens_of_pieces (cut_front b bs i.1) ∙ rw (w, h) refl
@@ -72,7 +75,8 @@ cut_no_run : (bs : List ℕ) → NoNameByte bs → NoRun (cut bs)
 unfolding cut
 cut_no_run [] h = tt
 cut_no_run (b ∷ []) h = rw h tt
-cut_no_run (b ∷ c ∷ bs) h = rw h (elim (begins_pair b && eqb c 61) as (λ t. NoRun (cond t (pair b ∷ cut bs) (single b ∷ cut (c ∷ bs)))) [ true ↦ tt | false ↦ tt ])
+cut_no_run (b ∷ c ∷ bs) h = rw h (elim (begins_pair b && eqb c 61) as (λ t. NoRun (cond t (pair b ∷ cut bs) (single b ∷ cut (c ∷ bs))))
+    [ true ↦ tt | false ↦ tt ])
 
 join_no_run : (b : ℕ) (ps : List Piece) → NoRun ps → join b ps ≡ run (b ∷ []) ∷ ps
 join_no_run b [] h = refl
@@ -81,7 +85,8 @@ join_no_run b (pair c ∷ ps) h = refl
 join_no_run b (single c ∷ ps) h = refl
 
 -- name bytes in front of others are one run
-cut_run : (b : ℕ) (w bs : List ℕ) → is_name_byte b ≡ true → AllByRecursion (λ c. is_name_byte c ≡ true) w → NoNameByte bs → cut (b ∷ (w ++ bs)) ≡ run (b ∷ w) ∷ cut bs
+cut_run : (b : ℕ) (w bs : List ℕ) → is_name_byte b ≡ true → AllByRecursion (λ c. is_name_byte c ≡ true) w → NoNameByte bs
+    → cut (b ∷ (w ++ bs)) ≡ run (b ∷ w) ∷ cut bs
 cut_run b [] bs h all none =
     cut_front b bs (name_byte_is b h).0 ∙ rw h (join_no_run b (cut bs) (cut_no_run bs none))
 cut_run b (c ∷ w) bs h all none =
@@ -96,25 +101,30 @@ still_none : (bs : List ℕ) → NoNameByte bs → NoNameByte (without_comments 
 still_none [] h = tt
 still_none (b ∷ bs) h = elim (cases_Bool (eqb b 35)) [ inl e ↦ rw e refl | inr e ↦ rw e h ]
 
-pub run_read : (b : ℕ) (w bs : List ℕ) → is_name_byte b ≡ true → AllByRecursion (λ c. is_name_byte c ≡ true) w → NoNameByte bs → tokens_of_text (b ∷ (w ++ bs)) ≡ put (token_of_run (b ∷ w)) (tokens_of_text bs)
+pub run_read : (b : ℕ) (w bs : List ℕ) → is_name_byte b ≡ true → AllByRecursion (λ c. is_name_byte c ≡ true) w → NoNameByte bs
+    → tokens_of_text (b ∷ (w ++ bs)) ≡ put (token_of_run (b ∷ w)) (tokens_of_text bs)
 unfolding tokens_of_text
 run_read b w bs h all none =
     ap (λ xs. tokens_of_pieces (cut xs)) (no_comment_in_run (b ∷ w) bs (h, all))
     ∙ ap tokens_of_pieces (cut_run b w (without_comments false bs) h all (still_none bs none))
 
-pub pair_read : (b : ℕ) (bs : List ℕ) → begins_pair b ≡ true → eqb b 35 ≡ false → tokens_of_text (b ∷ 61 ∷ bs) ≡ put (option_map sign (pair_sign b)) (tokens_of_text bs)
+pub pair_read : (b : ℕ) (bs : List ℕ) → begins_pair b ≡ true → eqb b 35 ≡ false
+    → tokens_of_text (b ∷ 61 ∷ bs) ≡ put (option_map sign (pair_sign b)) (tokens_of_text bs)
 unfolding tokens_of_text cut
 pair_read b bs h e = rw e (rw h refl)
 
 -- a byte that isn't the first of a pair here, nor a name byte
-alone : (b : ℕ) (bs : List ℕ) → is_name_byte b ≡ false → is_blank b ≡ false → cut (b ∷ bs) ≡ in_front b (cut bs) → tokens_of_pieces (cut (b ∷ bs)) ≡ put (option_map sign (single_sign b)) (tokens_of_pieces (cut bs))
+alone : (b : ℕ) (bs : List ℕ) → is_name_byte b ≡ false → is_blank b ≡ false → cut (b ∷ bs) ≡ in_front b (cut bs)
+    → tokens_of_pieces (cut (b ∷ bs)) ≡ put (option_map sign (single_sign b)) (tokens_of_pieces (cut bs))
 alone b bs w k e = ap tokens_of_pieces e ∙ rw (w, k) refl
 
-pub last_read : (b : ℕ) → is_name_byte b ≡ false → is_blank b ≡ false → eqb b 35 ≡ false → tokens_of_text (b ∷ []) ≡ put (option_map sign (single_sign b)) (tokens_of_text [])
+pub last_read : (b : ℕ) → is_name_byte b ≡ false → is_blank b ≡ false → eqb b 35 ≡ false
+    → tokens_of_text (b ∷ []) ≡ put (option_map sign (single_sign b)) (tokens_of_text [])
 unfolding tokens_of_text cut
 last_read b w k e = rw e (rw (w, k) refl)
 
-pub single_read : (b c : ℕ) (bs : List ℕ) → is_name_byte b ≡ false → is_blank b ≡ false → eqb b 35 ≡ false → (begins_pair b && eqb c 61) ≡ false → tokens_of_text (b ∷ c ∷ bs) ≡ put (option_map sign (single_sign b)) (tokens_of_text (c ∷ bs))
+pub single_read : (b c : ℕ) (bs : List ℕ) → is_name_byte b ≡ false → is_blank b ≡ false → eqb b 35 ≡ false → (begins_pair b && eqb c 61) ≡ false
+    → tokens_of_text (b ∷ c ∷ bs) ≡ put (option_map sign (single_sign b)) (tokens_of_text (c ∷ bs))
 unfolding tokens_of_text cut
 single_read b c bs w k e apart =
     elim (cases_Bool (eqb c 35)) [
@@ -151,7 +161,8 @@ pub nothing_left : in_comment [] ≡ tokens_of_text []
 unfolding tokens_of_text
 nothing_left = refl
 
-split_run : (bs : List ℕ) → (w : List ℕ) × (rest : List ℕ) × (bs ≡ w ++ rest) × AllByRecursion (λ c. is_name_byte c ≡ true) w × NoNameByte rest × (length w ≡ prefix_len is_name_byte bs)
+split_run : (bs : List ℕ) → (w : List ℕ) × (rest : List ℕ) × (bs ≡ w ++ rest) × AllByRecursion (λ c. is_name_byte c ≡ true) w × NoNameByte rest
+    × (length w ≡ prefix_len is_name_byte bs)
 split_run [] = ([], [], refl, tt, tt, refl)
 split_run (b ∷ bs) =
     elim (cases_Bool (is_name_byte b)) [
@@ -159,18 +170,21 @@ split_run (b ∷ bs) =
       | inr e ↦ ([], b ∷ bs, refl, tt, e, rw e refl)
     ]
 
-run_of : (w bs : List ℕ) → AllByRecursion (λ c. is_name_byte c ≡ true) w → NoNameByte bs → 0 < length w → tokens_of_text (w ++ bs) ≡ put (token_of_run w) (tokens_of_text bs)
+run_of : (w bs : List ℕ) → AllByRecursion (λ c. is_name_byte c ≡ true) w → NoNameByte bs → 0 < length w
+    → tokens_of_text (w ++ bs) ≡ put (token_of_run w) (tokens_of_text bs)
 run_of [] bs all none h = absurd (omega arith)
 run_of (b ∷ w) bs all none h = run_read b w bs all.0 all.1 none
 
 -- the longest run of name bytes at the front is a token
-pub run_at : (bs : List ℕ) (n : ℕ) → n ≡ length (take_while is_name_byte bs) → 0 < n → tokens_of_text bs ≡ put (token_of_run (take n bs)) (tokens_of_text (drop n bs))
+pub run_at : (bs : List ℕ) (n : ℕ) → n ≡ length (take_while is_name_byte bs) → 0 < n
+    → tokens_of_text bs ≡ put (token_of_run (take n bs)) (tokens_of_text (drop n bs))
 run_at bs n e h =
     let s = split_run bs in
     let k : n ≡ length s.0 = e ∙ length-prefix_len is_name_byte bs ∙ sym s.5 in
     let t : take n bs ≡ s.0 = ap (λ m. take m bs) k ∙ ap (take (length s.0)) s.2 ∙ take-append_seam s.0 s.1 in
     let d : drop n bs ≡ s.1 = ap (λ m. drop m bs) k ∙ ap (drop (length s.0)) s.2 ∙ drop-append_seam s.0 s.1 in
-    ap tokens_of_text s.2 ∙ run_of s.0 s.1 s.3 s.4 (omega arith) ∙ sym (ap (λ x. put (token_of_run x) (tokens_of_text (drop n bs))) t ∙ ap (λ x. put (token_of_run s.0) (tokens_of_text x)) d)
+    ap tokens_of_text s.2 ∙ run_of s.0 s.1 s.3 s.4 (omega arith)
+    ∙ sym (ap (λ x. put (token_of_run x) (tokens_of_text (drop n bs))) t ∙ ap (λ x. put (token_of_run s.0) (tokens_of_text x)) d)
 
 one_ascii : (c : ℕ) → c < 128 → IsAscii (c ∷ [])
 one_ascii c h zero = h
@@ -216,7 +230,8 @@ pair_at b bs s h =
     let e : eqb b 35 ≡ false = grind (arith, nat_tests) in
     pair_read b bs p e ∙ ap (λ (o : Option Sign). put (option_map sign o) (tokens_of_text bs)) h
 
-pub single_at : (b : ℕ) (bs : List ℕ) → is_name_byte b ≡ false → is_blank b ≡ false → b ≢ 35 → IsApart b bs → tokens_of_text (b ∷ bs) ≡ put (option_map sign (single_sign b)) (tokens_of_text bs)
+pub single_at : (b : ℕ) (bs : List ℕ) → is_name_byte b ≡ false → is_blank b ≡ false → b ≢ 35 → IsApart b bs
+    → tokens_of_text (b ∷ bs) ≡ put (option_map sign (single_sign b)) (tokens_of_text bs)
 single_at b [] w k e a = last_read b w k (ne_eqb b 35 e)
 single_at b (c ∷ bs) w k e a = single_read b c bs w k (ne_eqb b 35 e) a
 
@@ -227,7 +242,8 @@ value_grows (d ∷ ds) v = let h = value_grows ds (10 * v + (d - 48)) in omega a
 -- once the value is too large, it stays so
 pub stays_large : (ds : List ℕ) (i : ℕ) → i < length ds → 2 ^ 63 ≤ 10 * value_of (take i ds) + (get_or ds i 0 - 48) → nat_lt (value_of ds) (2 ^ 63) ≡ false
 stays_large ds i lt h =
-    let whole : fold (λ v d. 10 * v + (d - 48)) (value_of (take (i + 1) ds)) (drop (i + 1) ds) ≡ value_of ds = sym (fold-append (λ v d. 10 * v + (d - 48)) 0 (take (i + 1) ds) (drop (i + 1) ds)) ∙ ap value_of (take-append-drop (i + 1) ds) in
+    let whole : fold (λ v d. 10 * v + (d - 48)) (value_of (take (i + 1) ds)) (drop (i + 1) ds) ≡ value_of ds =
+    sym (fold-append (λ v d. 10 * v + (d - 48)) 0 (take (i + 1) ds) (drop (i + 1) ds)) ∙ ap value_of (take-append-drop (i + 1) ds) in
     let more = fold_more (λ v d. 10 * v + (d - 48)) 0 ds i 0 lt in
     let grows = value_grows (drop (i + 1) ds) (value_of (take (i + 1) ds)) in
     le-ltb (value_of ds) (2 ^ 63) (omega arith)

@@ -1,7 +1,8 @@
 -- The definitions of texts tried on a program: its tokens, its tree and its names.
 use Rattle.std.proofs.Common.{◌≡◌, ℕ, List, [], ◌∷◌, Some, None, false, refl, codes}
 use Rattle.boc_reader.specs.declared.level.SumOperator.TheVariants as sums
-use Rattle.boc_reader.specs.Shape.{Expr, plain, one_term, more_terms, Term, one_factor, unsigned, literal, variable, alone, assign, when, done, next, Tree, tree_tokens}
+use Rattle.boc_reader.specs.Shape.{Expr, plain, one_term, more_terms, Term, one_factor, unsigned, literal, variable, alone, assign, when, done, next, Tree}
+use Rattle.boc_reader.specs.Shape.{tree_tokens}
 use Rattle.boc_reader.specs.Tokens.{tokens_of_text, cut, token_of_run}
 use Rattle.boc_reader.specs.Names.{tree_names}
 use Rattle.boc_reader.specs.Spells.{plain_program}
@@ -18,7 +19,8 @@ of_number n = plain (one_term (one_factor (unsigned (literal n))))
 
 abbrev tree : Tree
 tree = record {
-  cowns = (record { name = codes "a"; size = None; negative = false; value = 10 }) ∷ (record { name = codes "b"; size = None; negative = false; value = 0 }) ∷ [];
+  cowns = (record { name = codes "a"; size = None; negative = false; value = 10 }) ∷ (record { name = codes "b"; size = None; negative = false; value = 0 })
+      ∷ [];
   defs = (record {
     name = codes "add";
     params = codes "k" ∷ [];

@@ -49,8 +49,8 @@ pub record IsLineIn (line : ℕ) (text : List ℕ) : Type 0 where
   pub within : at ≤ length text
   pub line_is : line ≡ line_after (take at text)
 
--- The line that is told with a kind of fault: that of the first byte too many where the text is too long, none where memory was refused, and otherwise one of the
--- text.
+-- The line that is told with a kind of fault: that of the first byte too many where the text is too long, none where memory was refused, and otherwise one of
+-- the text.
 abbrev pub TellsLine : ReadFaultKind → ℕ → List ℕ → Type 0
 TellsLine kinds.TooLong line text = line ≡ line_after (take 65536 text)
 TellsLine kinds.Memory line text = line ≡ 0

@@ -10,7 +10,12 @@ use Rattle.boc_reader.specs.declared.level.SumOperator.{SumOperator}
 use Rattle.boc_reader.specs.declared.level.TermOperator.{TermOperator}
 use Rattle.boc_reader.specs.Tokens.{Token, name, number, keyword, sign}
 use Rattle.boc_program.specs.Sizes.{members}
-use Rattle.boc_reader.specs.Shape.{comparison_sign, sum_sign, term_sign, Expr, plain, compared, expr_tokens, expr_nodes, Sum, sum_tokens, sum_nodes, Term, term_tokens, term_nodes, Unary, unary_tokens, unary_nodes, Atom, atom_tokens, atom_nodes, NamedCown, alone, member, ref_tokens, ref_nodes, Stmt, declare, assign, work, if_only, if_else, repeat, when, stmt_tokens, stmt_nodes, IsSmallStmt, Block, block_tokens, block_nodes, IsSmallBlock, IsSmallBody, braced_tokens, list_tokens, list_nodes, each_tokens, name_tokens, written_tokens, Cown, cown_tokens, cowns_declared, HasMembers, HaveMembers, size_tokens, minus_tokens, Def, def_tokens, IsSmallDef, AreSmallDefs, Tree, HasShape}
+use Rattle.boc_reader.specs.Shape.{comparison_sign, sum_sign, term_sign, Expr, plain, compared, expr_tokens, expr_nodes, Sum, sum_tokens, sum_nodes, Term}
+use Rattle.boc_reader.specs.Shape.{term_tokens, term_nodes, Unary, unary_tokens, unary_nodes, Atom, atom_tokens, atom_nodes, NamedCown, alone, member}
+use Rattle.boc_reader.specs.Shape.{ref_tokens, ref_nodes, Stmt, declare, assign, work, if_only, if_else, repeat, when, stmt_tokens, stmt_nodes, IsSmallStmt}
+use Rattle.boc_reader.specs.Shape.{Block, block_tokens, block_nodes, IsSmallBlock, IsSmallBody, braced_tokens, list_tokens, list_nodes, each_tokens}
+use Rattle.boc_reader.specs.Shape.{name_tokens, written_tokens, Cown, cown_tokens, cowns_declared, HasMembers, HaveMembers, size_tokens, minus_tokens, Def}
+use Rattle.boc_reader.specs.Shape.{def_tokens, IsSmallDef, AreSmallDefs, Tree, HasShape}
 use Rattle.boc_reader.specs.Phrases.{Phrase}
 
 -- the sign isn't next
@@ -86,7 +91,12 @@ EndsTail op_sign Ends (Some p) rest = Ends p.1 rest
 
 -- an operator and what it takes in, or no operator
 abbrev pub tail_phrase : {Op X : Type 0} → (Op → Sign) → Phrase X → Phrase (Option (Op × X))
-tail_phrase op_sign kind = record { tokens = tail_tokens op_sign kind.tokens; nodes = tail_nodes kind.nodes; Ends = EndsTail op_sign kind.Ends; IsSmall = λ _. Unit {0} }
+tail_phrase op_sign kind = record {
+  tokens = tail_tokens op_sign kind.tokens;
+  nodes = tail_nodes kind.nodes;
+  Ends = EndsTail op_sign kind.Ends;
+  IsSmall = λ _. Unit {0};
+}
 
 -- a comparison and its right side, or neither
 abbrev pub compared_phrase : Phrase (Option (Comparison × Sum))
@@ -115,7 +125,12 @@ pair_phrase first second = record {
 
 -- at most eight of a kind, and the sign behind them
 abbrev pub list_phrase : {X : Type 0} → Phrase X → Sign → Phrase (List X)
-list_phrase kind close = record { tokens = λ xs rest. list_tokens kind.tokens xs (sign close ∷ rest); nodes = list_nodes kind.nodes; Ends = λ _ _. Unit {0}; IsSmall = λ xs. length xs ≤ 8 }
+list_phrase kind close = record {
+  tokens = λ xs rest. list_tokens kind.tokens xs (sign close ∷ rest);
+  nodes = list_nodes kind.nodes;
+  Ends = λ _ _. Unit {0};
+  IsSmall = λ xs. length xs ≤ 8;
+}
 
 -- a name
 abbrev pub name_phrase : Phrase (List ℕ)
@@ -220,7 +235,12 @@ size_phrase = record { tokens = size_tokens; nodes = members; Ends = EndsSize; I
 
 -- a value that a cown begins with, behind a minus or without one
 abbrev pub initial_phrase : Phrase (Bool × ℕ)
-initial_phrase = record { tokens = λ v rest. sign Assign ∷ minus_tokens v.0 (number v.1 ∷ sign Semicolon ∷ rest); nodes = λ _. 0; Ends = λ _ _. Unit {0}; IsSmall = λ _. Unit {0} }
+initial_phrase = record {
+  tokens = λ v rest. sign Assign ∷ minus_tokens v.0 (number v.1 ∷ sign Semicolon ∷ rest);
+  nodes = λ _. 0;
+  Ends = λ _ _. Unit {0};
+  IsSmall = λ _. Unit {0};
+}
 
 -- a declaration of cowns
 abbrev pub cown_phrase : Phrase Cown

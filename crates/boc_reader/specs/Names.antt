@@ -1,5 +1,6 @@
 -- What the names of a program text stand for.
-use Rattle.std.specs.Prelude.{ℕ, suc, ◌+◌, max, nat_eq, Bool, true, false, ◌||◌, ◌&&◌, not, if◌then◌else◌, List, [], ◌∷◌, ◌++◌, length, map, is_some, Option, Some, None, position, find, ℤ, pos, neg_ℤ}
+use Rattle.std.specs.Prelude.{ℕ, suc, ◌+◌, max, nat_eq, Bool, true, false, ◌||◌, ◌&&◌, not, if◌then◌else◌, List, [], ◌∷◌, ◌++◌, length, map, is_some, Option}
+use Rattle.std.specs.Prelude.{Some, None, position, find, ℤ, pos, neg_ℤ}
 use Rattle.std.specs.List.{list_any}
 use Rattle.std.specs.Option.{option_map, option_and_then}
 use Rattle.std.specs.Str.{bytes_eq}
@@ -13,7 +14,9 @@ use Rattle.boc_reader.specs.declared.level.TermOperator.{TermOperator}
 use Rattle.boc_reader.specs.declared.level.TermOperator.TheVariants as terms
 use Rattle.boc_program.specs.Syntax as resolved
 use Rattle.boc_program.specs.Sizes.{members}
-use Rattle.boc_reader.specs.Shape.{Expr, plain, compared, Sum, one_term, more_terms, Term, one_factor, more_factors, Unary, negated, unsigned, Atom, literal, variable, parens, NamedCown, alone, member, Stmt, declare, assign, work, if_only, if_else, repeat, when, Block, done, next, Cown, Def, Tree}
+use Rattle.boc_reader.specs.Shape.{Expr, plain, compared, Sum, one_term, more_terms, Term, one_factor, more_factors, Unary, negated, unsigned, Atom, literal}
+use Rattle.boc_reader.specs.Shape.{variable, parens, NamedCown, alone, member, Stmt, declare, assign, work, if_only, if_else, repeat, when, Block, done, next}
+use Rattle.boc_reader.specs.Shape.{Cown, Def, Tree}
 
 -- a name, by its bytes
 abbrev pub Named : Type 0
@@ -170,7 +173,8 @@ callee top f = find (λ d. bytes_eq d.name f) top.defs
 abbrev pub call_names : Outside → List Named → Named → List Expr → List NamedCown → Option ResolvedStmt
 call_names outside scope f es rs =
     if takes (callee outside.top f) (length es) (length rs)
-    then option_and_then (λ kind. option_and_then (λ args. option_map (Spawn kind args) (all_names (ref_names outside scope) rs)) (all_names (λ e. expr_names e scope) es)) (kind_of outside.top f)
+    then option_and_then (λ kind. option_and_then (λ args. option_map (Spawn kind args) (all_names (ref_names outside scope) rs))
+    (all_names (λ e. expr_names e scope) es)) (kind_of outside.top f)
     else None
 
 -- a name that may be declared: none at the top, and none in scope
@@ -188,7 +192,8 @@ abbrev mutual
   stmt_names (if_only e b) outside scope =
       option_and_then (λ v. option_map (λ a. (Choose v a resolved.Done, scope)) (block_names b outside scope)) (expr_names e scope)
   stmt_names (if_else e b c) outside scope =
-      option_and_then (λ v. option_and_then (λ a. option_map (λ o. (Choose v a o, scope)) (block_names c outside scope)) (block_names b outside scope)) (expr_names e scope)
+      option_and_then (λ v. option_and_then (λ a. option_map (λ o. (Choose v a o, scope)) (block_names c outside scope)) (block_names b outside scope))
+      (expr_names e scope)
   stmt_names (repeat e b) outside scope =
       option_and_then (λ v. option_map (λ a. (Loop v a, scope)) (block_names b outside scope)) (expr_names e scope)
   stmt_names (when f es rs) outside scope = option_map (λ s. (s, scope)) (call_names outside scope f es rs)
@@ -235,7 +240,12 @@ are_free top scope (x ∷ xs) = is_free top scope x && are_free top (scope ++ x 
 abbrev pub body_names : Top → List Named → List Named → Block → Option PlainBody
 body_names top params held block =
     if are_free top [] (params ++ held)
-    then option_map (λ code. let b : PlainBody = record { params = length params; cown_params = length held; slots = deepest (length (params ++ held)) code; code = code } in b)
+    then option_map (λ code. let b : PlainBody = record {
+      params = length params;
+      cown_params = length held;
+      slots = deepest (length (params ++ held)) code;
+      code = code;
+    } in b)
     (block_names block (record { top = top; held = held }) (params ++ held))
     else None
 

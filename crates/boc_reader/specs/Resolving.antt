@@ -10,7 +10,8 @@ use Rattle.boc_program.specs.memory.View.{slot_expr_of, cown_ref_of}
 use Rattle.boc_program.specs.Sizes.{members}
 use Rattle.boc_reader.specs.Shape as shape
 use Rattle.boc_reader.specs.Shape.{Block, Cown, Def, Tree}
-use Rattle.boc_reader.specs.Names.{Named, Left, ResolvedStmt, Set, Spend, Choose, Loop, Spawn, Global, Callee, Top, Outside, PlainBody, PlainProgram, among, top_names, are_free, block_names, body_names, expr_names, plain_cown, slot_of}
+use Rattle.boc_reader.specs.Names.{Named, Left, ResolvedStmt, Set, Spend, Choose, Loop, Spawn, Global, Callee, Top, Outside, PlainBody, PlainProgram, among}
+use Rattle.boc_reader.specs.Names.{top_names, are_free, block_names, body_names, expr_names, plain_cown, slot_of}
 use Rattle.boc_reader.specs.declared.fault.Fault.{Fault}
 use Rattle.boc_reader.specs.declared.fault.Fault.TheVariants.{Memory, At}
 use Rattle.boc_reader.specs.declared.fault.NameFault.{NameFault}
@@ -55,7 +56,8 @@ assign_names x e scope = option_and_then (λ slot. option_map (λ v. Set slot v)
 -- a choice between two blocks
 abbrev pub choice_names : shape.Expr → Block → Block → Outside → List Named → Option ResolvedStmt
 choice_names e b c outside scope =
-    option_and_then (λ v. option_and_then (λ a. option_map (λ o. Choose v a o) (block_names c outside scope)) (block_names b outside scope)) (expr_names e scope)
+    option_and_then (λ v. option_and_then (λ a. option_map (λ o. Choose v a o) (block_names c outside scope)) (block_names b outside scope))
+    (expr_names e scope)
 
 -- a block that is repeated
 abbrev pub loop_names : shape.Expr → Block → Outside → List Named → Option ResolvedStmt

@@ -157,7 +157,8 @@ abbrev mutual
   stmt_tokens (work e) rest = keyword keywords.Work ∷ expr_tokens e (sign signs.Semicolon ∷ rest)
   stmt_tokens (if_only e b) rest = keyword keywords.If ∷ expr_tokens e (sign signs.OpenBlock ∷ block_tokens b (sign signs.CloseBlock ∷ rest))
   stmt_tokens (if_else e b c) rest =
-      keyword keywords.If ∷ expr_tokens e (sign signs.OpenBlock ∷ block_tokens b (sign signs.CloseBlock ∷ keyword keywords.Else ∷ sign signs.OpenBlock ∷ block_tokens c (sign signs.CloseBlock ∷ rest)))
+      keyword keywords.If ∷ expr_tokens e (sign signs.OpenBlock
+      ∷ block_tokens b (sign signs.CloseBlock ∷ keyword keywords.Else ∷ sign signs.OpenBlock ∷ block_tokens c (sign signs.CloseBlock ∷ rest)))
   stmt_tokens (repeat e b) rest = keyword keywords.Repeat ∷ expr_tokens e (sign signs.OpenBlock ∷ block_tokens b (sign signs.CloseBlock ∷ rest))
   stmt_tokens (when f es rs) rest = keyword keywords.When ∷ call_tokens f es rs rest
 
@@ -192,7 +193,8 @@ cown_tokens c rest =
 -- a def with its parameters and its block
 abbrev pub def_tokens : Def → List Token → List Token
 def_tokens d rest =
-    keyword keywords.Def ∷ name d.name ∷ sign signs.Open ∷ list_tokens name_tokens d.params (sign signs.Semicolon ∷ list_tokens name_tokens d.cowns (sign signs.Close ∷ braced_tokens d.block rest))
+    keyword keywords.Def ∷ name d.name ∷ sign signs.Open
+    ∷ list_tokens name_tokens d.params (sign signs.Semicolon ∷ list_tokens name_tokens d.cowns (sign signs.Close ∷ braced_tokens d.block rest))
 
 -- the whole of a text: nothing follows main's block
 abbrev pub tree_tokens : Tree → List Token

@@ -1,5 +1,6 @@
 -- The tokens of a program text, apart from where they stand.
-use Rattle.std.specs.Prelude.{◌≡◌, ℕ, ◌+◌, ◌-◌, ◌*◌, ◌^◌, List, [], ◌∷◌, length, Bool, true, false, ◌&&◌, ◌||◌, ◌==◌, nat_lt, nat_le, if◌then◌else◌, Option, Some, None, fold, find, codes}
+use Rattle.std.specs.Prelude.{◌≡◌, ℕ, ◌+◌, ◌-◌, ◌*◌, ◌^◌, List, [], ◌∷◌, length, Bool, true, false, ◌&&◌, ◌||◌, ◌==◌, nat_lt, nat_le, if◌then◌else◌, Option}
+use Rattle.std.specs.Prelude.{Some, None, fold, find, codes}
 use Rattle.std.specs.Str.{byte, bytes_eq}
 use Rattle.std.specs.List.{list_all}
 use Rattle.std.specs.Option.{option_map, option_map_or}
@@ -69,7 +70,8 @@ spelled keywords.When = codes "when"
 
 -- the keyword that these bytes spell
 abbrev pub keyword_of : List ℕ → Option Keyword
-keyword_of bs = find (λ k. bytes_eq bs (spelled k)) (keywords.Cown ∷ keywords.Def ∷ keywords.Main ∷ keywords.Let ∷ keywords.Work ∷ keywords.If ∷ keywords.Else ∷ keywords.Repeat ∷ keywords.When ∷ [])
+keyword_of bs = find (λ k. bytes_eq bs (spelled k)) (keywords.Cown ∷ keywords.Def ∷ keywords.Main ∷ keywords.Let ∷ keywords.Work ∷ keywords.If ∷ keywords.Else
+    ∷ keywords.Repeat ∷ keywords.When ∷ [])
 
 -- the value of digits
 abbrev pub value_of : List ℕ → ℕ
@@ -118,7 +120,9 @@ sign_spelled signs.Comma = codes ","
 abbrev pub sign_of : List ℕ → Option Sign
 sign_of bs =
     find (λ s. bytes_eq bs (sign_spelled s))
-    (signs.Equal ∷ signs.NotEqual ∷ signs.AtMost ∷ signs.AtLeast ∷ signs.Assign ∷ signs.Less ∷ signs.Greater ∷ signs.Plus ∷ signs.Minus ∷ signs.Star ∷ signs.Slash ∷ signs.Percent ∷ signs.Open ∷ signs.Close ∷ signs.OpenBlock ∷ signs.CloseBlock ∷ signs.OpenIndex ∷ signs.CloseIndex ∷ signs.Semicolon ∷ signs.Comma ∷ [])
+    (signs.Equal ∷ signs.NotEqual ∷ signs.AtMost ∷ signs.AtLeast ∷ signs.Assign ∷ signs.Less ∷ signs.Greater ∷ signs.Plus ∷ signs.Minus ∷ signs.Star
+    ∷ signs.Slash ∷ signs.Percent ∷ signs.Open ∷ signs.Close ∷ signs.OpenBlock ∷ signs.CloseBlock ∷ signs.OpenIndex ∷ signs.CloseIndex ∷ signs.Semicolon
+    ∷ signs.Comma ∷ [])
 
 -- a sign that an equals sign ends
 abbrev pub pair_sign : ℕ → Option Sign

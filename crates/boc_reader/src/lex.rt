@@ -1,12 +1,14 @@
 // From bytes to tokens.
 
-ghost use Rattle.std.specs.Prelude.{◌≡◌, ◌≢◌, ◌+◌, ◌<◌, ◌≤◌, ◌^◌, ◌&&◌, ◌∷◌, ◌++◌, [], ℕ, List, All, length, nat_lt, MatchResult, MatchOption, IfSome, IfOk, true, false, Some, None};
+ghost use Rattle.std.specs.Prelude.{◌≡◌, ◌≢◌, ◌+◌, ◌<◌, ◌≤◌, ◌^◌, ◌&&◌, ◌∷◌, ◌++◌, [], ℕ, List, All, length, nat_lt, MatchResult, MatchOption, IfSome, IfOk};
+ghost use Rattle.std.specs.Prelude.{true, false, Some, None};
 ghost use Rattle.std.specs.Bool.{OnTrue};
 ghost use Rattle.std.specs.Char.{is_ascii_digit};
 ghost use Rattle.std.specs.List.{take_while, list_all};
 ghost use Rattle.std.specs.Str.{byte, IsAscii};
 ghost use Rattle.boc_reader.specs.Placed.{token_of, tokens_of, Refusal};
-ghost use Rattle.boc_reader.specs.Tokens.{sign, is_name_byte, is_blank, is_numeral, value_of, begins_with_digit, token_of_run, keyword_of, single_sign, pair_sign, put, tokens_of_text, IsApart};
+ghost use Rattle.boc_reader.specs.Tokens.{sign, is_name_byte, is_blank, is_numeral, value_of, begins_with_digit, token_of_run, keyword_of, single_sign};
+ghost use Rattle.boc_reader.specs.Tokens.{pair_sign, put, tokens_of_text, IsApart};
 
 use crate::fault::{Fault, TokenFault};
 use crate::natural::Natural;

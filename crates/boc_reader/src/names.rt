@@ -65,7 +65,8 @@ fn resolve_bodies<'a>(
 ) -> Result<Vec<Body>, Fault<NameFault>>
     requires limits { IsWithinLimits (tree_of tree.now) }
     requires cowns { EndWithin 256 (declared_of top.now).cowns }
-    ensures { Yields (λ bodies. let p : PlainProgram = record { cowns = map plain_cown (tree_of tree.now).cowns; bodies = map plain_body bodies.items } in p) result (program_at (tree_of tree.now) (declared_of top.now)) }
+    ensures { Yields (λ bodies. let p : PlainProgram = record { cowns = map plain_cown (tree_of tree.now).cowns; bodies = map plain_body bodies.items } in p)
+        result (program_at (tree_of tree.now) (declared_of top.now)) }
 {
     let before = names_of_cowns(alloc, &top.cowns)?;
     let mut bodies = resolve_defs(alloc, top, before, &tree.defs)?;
@@ -77,7 +78,8 @@ fn resolve_bodies<'a>(
 // The cowns and the bodies of a tree, main's body first.
 fn resolve_parts(alloc: Global, tree: &Tree<'_>) -> Result<(Vec<Cown>, Vec<Body>), Fault<NameFault>>
     requires { IsWithinLimits (tree_of tree.now) }
-    ensures { Yields (λ parts. let p : PlainProgram = record { cowns = map plain_declared parts.0.items; bodies = map plain_body parts.1.items } in p) result (program_in_order (tree_of tree.now)) }
+    ensures { Yields (λ parts. let p : PlainProgram = record { cowns = map plain_declared parts.0.items; bodies = map plain_body parts.1.items } in p) result
+        (program_in_order (tree_of tree.now)) }
 {
     let top = declare_top(alloc, tree)?;
     let bodies = resolve_bodies(alloc, &top, tree)?;

@@ -7,7 +7,11 @@ ghost use Rattle.boc_reader.specs.Shape.{HasShape};
 ghost use Rattle.boc_reader.specs.declared.terminal.Keyword.TheVariants.{If, Repeat};
 ghost use Rattle.boc_reader.specs.declared.terminal.Sign.TheVariants.{Semicolon, Close, Comma};
 ghost use Rattle.boc_reader.specs.Phrases.{Parses};
-ghost use Rattle.boc_reader.specs.Grammar.{NoKeyword, NoShape, tightness, expr_phrase, compared_phrase, sum_phrase, more_terms_phrase, term_phrase, more_factors_phrase, unary_phrase, atom_phrase, closed_phrase, ref_phrase, name_phrase, list_phrase, written_phrase, let_phrase, arguments_phrase, call_phrase, stmt_phrase, block_phrase, braced_phrase, else_phrase, pair_phrase, body_phrase, size_phrase, initial_phrase, cown_phrase, cowns_phrase, signature_phrase, def_phrase, defs_phrase, main_phrase};
+ghost use Rattle.boc_reader.specs.Grammar.{NoKeyword, NoShape, tightness, expr_phrase, compared_phrase, sum_phrase, more_terms_phrase, term_phrase};
+ghost use Rattle.boc_reader.specs.Grammar.{more_factors_phrase, unary_phrase, atom_phrase, closed_phrase, ref_phrase, name_phrase, list_phrase, written_phrase};
+ghost use Rattle.boc_reader.specs.Grammar.{let_phrase, arguments_phrase, call_phrase, stmt_phrase, block_phrase, braced_phrase, else_phrase, pair_phrase};
+ghost use Rattle.boc_reader.specs.Grammar.{body_phrase, size_phrase, initial_phrase, cown_phrase, cowns_phrase, signature_phrase, def_phrase, defs_phrase};
+ghost use Rattle.boc_reader.specs.Grammar.{main_phrase};
 ghost use Rattle.boc_reader.specs.Placed.{tokens_of, Refusal};
 ghost use Rattle.boc_reader.specs.Views.{name_of, expr_of, sum_of, term_of, unary_of, atom_of, named_cown_of, stmt_of, block_of, cown_of, def_of, tree_of};
 
@@ -289,7 +293,8 @@ fn blocks<'a>(
     alloc: Global,
     cursor: &mut Cursor<'_, 'a>,
 ) -> Read<(Vec<Stmt<'a>>, Option<Vec<Stmt<'a>>>)>
-    ensures answers { Parses (pair_phrase braced_phrase else_phrase) (λ w. (block_of w.0.items, option_map (λ b. block_of b.items) w.1)) cursor.old result cursor.new }
+    ensures answers { Parses (pair_phrase braced_phrase else_phrase) (λ w. (block_of w.0.items, option_map (λ b. block_of b.items) w.1)) cursor.old result
+        cursor.new }
     ensures shorter { OnOk result (length cursor.new.tokens < length cursor.old.tokens) }
 {
     let body = braced(alloc, cursor)?;

@@ -18,16 +18,24 @@ wants_spawn rooms (Spawn row parent offset cowns) none = tt
 wants_spawn rooms (Start row) none = none tt
 wants_spawn rooms (End row ticks status written) none = none tt
 
-pub judge_hands : (result : Result (Unit {0}) RuleFault) (old new : Course) (log : List Event) (event : Event) → Steps old event result new → old.rows ≡ entries log → Hands old.cowns log event result (λ l. new.rows ≡ entries l)
-judge_hands (Ok done) old new log event s e =
-    (subst (λ (rows : List Entry). IsAllowed old.cowns rows event) e s.0, ap (λ (c : Course). c.rows) s.1 ∙ ap (λ (rows : List Entry). after rows event) e ∙ sym (after_more [] log event))
+pub judge_hands : (result : Result (Unit {0}) RuleFault) (old new : Course) (log : List Event) (event : Event) → Steps old event result new
+    → old.rows ≡ entries log → Hands old.cowns log event result (λ l. new.rows ≡ entries l)
+judge_hands (Ok done) old new log event s e = (
+  subst (λ (rows : List Entry). IsAllowed old.cowns rows event) e s.0,
+  ap (λ (c : Course). c.rows) s.1 ∙ ap (λ (rows : List Entry). after rows event) e
+      ∙ sym (after_more [] log event),
+)
 judge_hands (Err (Broken rule)) old new log event s e = subst (λ (rows : List Entry). IsFirstBroken old.cowns rows event rule) e s.0
 judge_hands (Err Memory) old new log event s e =
     (subst (λ (rows : List Entry). IsAllowed old.cowns rows event) e s.0, wants_spawn old.rooms event s.1)
 
-pub rules_hand : (result : Result (Unit {0}) RuleFault) (old new : Log) (log : List Event) (event : Event) → Applies old event result new → old.events ≡ log → Hands old.cowns log event result (λ l. new.events ≡ l)
-rules_hand (Ok done) old new log event s e =
-    (subst (λ (events : List Event). IsAllowed old.cowns (entries events) event) e s.0, ap (λ (l : Log). l.events) s.1 ∙ ap (λ (events : List Event). events ++ event ∷ []) e)
+pub rules_hand : (result : Result (Unit {0}) RuleFault) (old new : Log) (log : List Event) (event : Event) → Applies old event result new → old.events ≡ log
+    → Hands old.cowns log event result (λ l. new.events ≡ l)
+rules_hand (Ok done) old new log event s e = (
+  subst (λ (events : List Event). IsAllowed old.cowns (entries events) event) e s.0,
+  ap (λ (l : Log). l.events) s.1
+      ∙ ap (λ (events : List Event). events ++ event ∷ []) e,
+)
 rules_hand (Err (Broken rule)) old new log event s e = subst (λ (events : List Event). IsFirstBroken old.cowns (entries events) event rule) e s.0
 rules_hand (Err Memory) old new log event s e =
     (subst (λ (events : List Event). IsAllowed old.cowns (entries events) event) e s.0, wants_spawn old.rooms event s.1)

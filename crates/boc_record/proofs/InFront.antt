@@ -1,5 +1,6 @@
 -- The line of an event at the front of bytes, read without looking for its end first.
-use Rattle.std.proofs.Common.{◌≡◌, ℕ, ◌+◌, ◌-◌, ◌<◌, ◌≤◌, ◌^◌, List, [], ◌∷◌, ◌++◌, length, get_or, drop, refl, sym, ◌∙◌, ap, arith, append_assoc, length-append}
+use Rattle.std.proofs.Common.{◌≡◌, ℕ, ◌+◌, ◌-◌, ◌<◌, ◌≤◌, ◌^◌, List, [], ◌∷◌, ◌++◌, length, get_or, drop, refl, sym, ◌∙◌, ap, arith, append_assoc}
+use Rattle.std.proofs.Common.{length-append}
 use Rattle.std.specs.Prelude.{codes, Option, Some, None}
 use Rattle.std.specs.Io.KnownBytes.{prepend_known, Consumes}
 use Rattle.std.proofs.lemmas.List.{take-append-drop, length-drop}
@@ -21,7 +22,8 @@ first_byte [] some = absurd (omega (arith, some))
 first_byte (b ∷ rest) some = refl
 
 -- the field at the front of a text that begins with a space and few digits
-pub field_is_ahead : (text : List ℕ) (len value : ℕ) → 9 ≤ length text → get_or text 0 0 ≡ 32 → IsFront (drop 1 text) len value → len < 8 → 0 < len → (get_or (drop 1 text) 0 0 ≡ 48 → len ≡ 1) → value < 2 ^ 32
+pub field_is_ahead : (text : List ℕ) (len value : ℕ) → 9 ≤ length text → get_or text 0 0 ≡ 32 → IsFront (drop 1 text) len value → len < 8 → 0 < len
+    → (get_or (drop 1 text) 0 0 ≡ 48 → len ≡ 1) → value < 2 ^ 32
     → IsFieldAhead text value (drop len (drop 1 text))
 field_is_ahead text len value long space front few some lead small =
     let after = drop 1 text in record {
@@ -52,16 +54,20 @@ one_before text mid rest n ns f all = record {
 }
 
 -- the line that a sign and fields make, where a line feed stands behind them
-pub line_ahead : (v : Version) (bytes rest : List ℕ) (event : Event) → 0 < length bytes → TellsAhead v (get_or bytes 0 0) (drop 1 bytes) event rest → get_or rest 0 0 ≡ 10 → length bytes - length rest ≤ 80
+pub line_ahead : (v : Version) (bytes rest : List ℕ) (event : Event) → 0 < length bytes → TellsAhead v (get_or bytes 0 0) (drop 1 bytes) event rest
+    → get_or rest 0 0 ≡ 10 → length bytes - length rest ≤ 80
     → IsLineAhead v bytes event (length bytes - length rest)
 line_ahead v bytes rest event some told feed short =
     let l = event_line v event in
     let others = drop 1 rest in
-    let front : bytes ≡ l ++ rest = first_byte bytes some ∙ ap (λ b. b ∷ drop 1 bytes) (sym told.sign_is) ∙ ap (λ xs. sign_of event ∷ xs) told.is ∙ ap (λ xs. xs ++ rest) (sym (line_is v event)) in
-    let whole : bytes ≡ line l ++ others = front ∙ ap (λ xs. l ++ xs) (first_byte rest told.some ∙ ap (λ b. b ∷ others) feed) ∙ sym (append_assoc l (codes "\n") others) in
+    let front : bytes ≡ l ++ rest = first_byte bytes some ∙ ap (λ b. b ∷ drop 1 bytes) (sym told.sign_is) ∙ ap (λ xs. sign_of event ∷ xs) told.is
+    ∙ ap (λ xs. xs ++ rest) (sym (line_is v event)) in
+    let whole : bytes ≡ line l ++ others = front ∙ ap (λ xs. l ++ xs) (first_byte rest told.some ∙ ap (λ b. b ∷ others) feed)
+    ∙ sym (append_assoc l (codes "\n") others) in
     let joined : length bytes ≡ length l + length rest = ap length front ∙ length-append l rest in
     let size : length bytes - length rest + 1 ≡ length (line l) = omega (arith, joined, length-append l (codes "\n")) in
-    let behind : drop (length bytes - length rest + 1) bytes ≡ others = ap (λ n. drop n bytes) size ∙ ap (drop (length (line l))) whole ∙ drop-append_seam (line l) others in record {
+    let behind : drop (length bytes - length rest + 1) bytes ≡ others =
+    ap (λ n. drop n bytes) size ∙ ap (drop (length (line l))) whole ∙ drop-append_seam (line l) others in record {
       small = told.small;
       short = omega (arith, joined, short);
       within = omega (arith, joined, told.some);
@@ -75,7 +81,8 @@ taken_ahead held rest given None e = tt
 taken_ahead held rest given (Some bytes) e = ap (λ xs. xs ++ bytes) e ∙ append_assoc given rest bytes
 
 -- an event whose line stands at the front of bytes is taken with that line
-pub event_in_front : (v : Version) (rows : List Entry) (bytes : List ℕ) (event : Event) (len : ℕ) (s : Option (List ℕ)) → IsLineAhead v bytes event len → TakesEvent v rows event (prepend_known bytes s) (prepend_known (drop (len + 1) bytes) s)
+pub event_in_front : (v : Version) (rows : List Entry) (bytes : List ℕ) (event : Event) (len : ℕ) (s : Option (List ℕ)) → IsLineAhead v bytes event len
+    → TakesEvent v rows event (prepend_known bytes s) (prepend_known (drop (len + 1) bytes) s)
 event_in_front v rows bytes event len s told = record {
   small = told.small;
   one = one_event v event told.small;

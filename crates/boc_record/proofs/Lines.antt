@@ -9,7 +9,8 @@ use Rattle.boc_runs.specs.declared.event.Event.{Event}
 use Rattle.boc_runs.specs.declared.event.Event.TheVariants.{Spawn, Start, End}
 use Rattle.boc_program.specs.declared.limits.TheConstants.{MOST_COWNS}
 use Rattle.boc_runs.specs.Legal.{Entry, entries, after, after_all, HasBounds, IsAllowed, IsLegalFrom}
-use Rattle.boc_record.specs.RecordTexts.{Version, First, Second, version_number, field, fields, header, event_line, event_lines, begun, record_text, line, IsOneLine, IsSpelt, AreSpelt, HasBegun}
+use Rattle.boc_record.specs.RecordTexts.{Version, First, Second, version_number, field, fields, header, event_line, event_lines, begun, record_text, line}
+use Rattle.boc_record.specs.RecordTexts.{IsOneLine, IsSpelt, AreSpelt, HasBegun}
 use Rattle.boc_record.specs.Fields.{AreSmall, sign_of, numbers_of}
 use Rattle.boc_record.specs.Reading.{line_feeds}
 use Rattle.boc_record.proofs.Runs.{small_first, small_rest}
@@ -33,8 +34,10 @@ one_fields [] small = All-nil (λ b. b ≢ 10)
 one_fields (n ∷ ns) small = All-append (λ b. b ≢ 10) (field n) (fields ns) (one_field_line n (small_first n ns small)) (one_fields ns (small_rest n ns small))
 
 pub small_pair : (v : Version) (cowns : ℕ) → cowns ≤ MOST_COWNS → AreSmall (version_number v ∷ cowns ∷ [])
-small_pair First cowns few = All-cons (λ n. n < 2 ^ 32) 1 (cowns ∷ []) (omega arith) (All-cons (λ n. n < 2 ^ 32) cowns [] (omega (arith, few)) (All-nil (λ n. n < 2 ^ 32)))
-small_pair Second cowns few = All-cons (λ n. n < 2 ^ 32) 2 (cowns ∷ []) (omega arith) (All-cons (λ n. n < 2 ^ 32) cowns [] (omega (arith, few)) (All-nil (λ n. n < 2 ^ 32)))
+small_pair First cowns few = All-cons (λ n. n < 2 ^ 32) 1 (cowns ∷ []) (omega arith)
+    (All-cons (λ n. n < 2 ^ 32) cowns [] (omega (arith, few)) (All-nil (λ n. n < 2 ^ 32)))
+small_pair Second cowns few = All-cons (λ n. n < 2 ^ 32) 2 (cowns ∷ []) (omega arith)
+    (All-cons (λ n. n < 2 ^ 32) cowns [] (omega (arith, few)) (All-nil (λ n. n < 2 ^ 32)))
 
 -- a header has none
 pub one_header : (v : Version) (cowns : ℕ) → cowns ≤ MOST_COWNS → IsOneLine (header v cowns)
@@ -52,7 +55,8 @@ sign_is_none (End row ticks status written) e = absurd (omega (arith, e))
 -- an event's line has none
 pub one_event : (v : Version) (event : Event) → HasBounds event → IsOneLine (event_line v event)
 one_event v event small =
-    subst IsOneLine (sym (line_is v event)) (All-cons (λ b. b ≢ 10) (sign_of event) (fields (numbers_of v event)) (sign_is_none event) (one_fields (numbers_of v event) (small_numbers v event small)))
+    subst IsOneLine (sym (line_is v event)) (All-cons (λ b. b ≢ 10) (sign_of event) (fields (numbers_of v event)) (sign_is_none event)
+    (one_fields (numbers_of v event) (small_numbers v event small)))
 
 pub one_stop : IsOneLine (codes ".")
 one_stop = All-cons (λ b. b ≢ 10) 46 [] (λ e. absurd (omega (arith, e))) (All-nil (λ b. b ≢ 10))
@@ -92,15 +96,28 @@ one_feed = refl
 pub line_feed : (l : List ℕ) → IsOneLine l → line_feeds (line l) ≡ 1
 line_feed l one = omega (arith, feeds_both l (codes "\n"), no_feeds l one, one_feed)
 
-lines_feeds : (v : Version) (count : ℕ) (rows : List Entry) (events : List Event) → IsLegalFrom count rows events → line_feeds (event_lines v events) ≡ length events
+lines_feeds : (v : Version) (count : ℕ) (rows : List Entry) (events : List Event) → IsLegalFrom count rows events
+    → line_feeds (event_lines v events) ≡ length events
 lines_feeds v count rows [] legal = refl
 lines_feeds v count rows (event ∷ events) legal =
-    omega (arith, feeds_both (line (event_line v event)) (event_lines v events), line_feed (event_line v event) (one_event v event legal.0.bounds), lines_feeds v count (after rows event) events legal.1)
+    omega (
+      arith,
+      feeds_both (line (event_line v event)) (event_lines v events),
+      line_feed (event_line v event) (one_event v event legal.0.bounds),
+      lines_feeds
+          v count (after rows event) events legal.1,
+    )
 
 -- a text that has begun has a line for each event, and the first line
 pub begun_feeds : (v : Version) (cowns : ℕ) (events : List Event) → HasBegun v cowns events → line_feeds (begun v cowns events) ≡ length events + 1
 begun_feeds v cowns events h =
-    omega (arith, feeds_both (line (header v cowns)) (event_lines v events), line_feed (header v cowns) (one_header v cowns h.few), lines_feeds v cowns [] events h.legal)
+    omega (
+      arith,
+      feeds_both (line (header v cowns)) (event_lines v events),
+      line_feed (header v cowns) (one_header v cowns h.few),
+      lines_feeds v cowns []
+          events h.legal,
+    )
 
 pub text_feeds : (v : Version) (cowns : ℕ) (events : List Event) → HasBegun v cowns events → line_feeds (record_text v cowns events) ≡ length events + 2
 text_feeds v cowns events h =
@@ -108,15 +125,18 @@ text_feeds v cowns events h =
 
 -- ---- one event more
 
-legal_more : (count : ℕ) (rows : List Entry) (events : List Event) (event : Event) → IsLegalFrom count rows events → IsAllowed count (after_all rows events) event → IsLegalFrom count rows (events ++ event ∷ [])
+legal_more : (count : ℕ) (rows : List Entry) (events : List Event) (event : Event) → IsLegalFrom count rows events
+    → IsAllowed count (after_all rows events) event → IsLegalFrom count rows (events ++ event ∷ [])
 legal_more count rows [] event l a = (a, tt)
 legal_more count rows (first ∷ events) event l a = (l.0, legal_more count (after rows first) events event l.1 a)
 
-spelt_more : (v : Version) (rows : List Entry) (events : List Event) (event : Event) → AreSpelt v rows events → IsSpelt v (after_all rows events) event → AreSpelt v rows (events ++ event ∷ [])
+spelt_more : (v : Version) (rows : List Entry) (events : List Event) (event : Event) → AreSpelt v rows events → IsSpelt v (after_all rows events) event
+    → AreSpelt v rows (events ++ event ∷ [])
 spelt_more v rows [] event s is = (is, tt)
 spelt_more v rows (first ∷ events) event s is = (s.0, spelt_more v (after rows first) events event s.1 is)
 
-pub begun_more : (v : Version) (cowns : ℕ) (events : List Event) (event : Event) → HasBegun v cowns events → IsAllowed cowns (entries events) event → IsSpelt v (entries events) event → HasBegun v cowns (events ++ event ∷ [])
+pub begun_more : (v : Version) (cowns : ℕ) (events : List Event) (event : Event) → HasBegun v cowns events → IsAllowed cowns (entries events) event
+    → IsSpelt v (entries events) event → HasBegun v cowns (events ++ event ∷ [])
 begun_more v cowns events event h a s = record {
   few = h.few;
   legal = legal_more cowns [] events event h.legal a;

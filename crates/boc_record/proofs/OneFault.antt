@@ -12,11 +12,13 @@ use Rattle.boc_record.specs.declared.verdict.RecordFaultKind.{RecordFaultKind}
 use Rattle.boc_record.specs.declared.verdict.RecordFaultKind.TheVariants as kinds
 use Rattle.boc_runs.specs.Legal.{Entry, entries, HasBounds, KeepsRule, IsComplete, IsFirstBroken, place_of_rule}
 use Rattle.boc_runs.specs.Records.{Recorded, IsRowOf, AreRowsOf}
-use Rattle.boc_record.specs.RecordTexts.{Version, header, event_line, begun, line, BeginsWith, BeginsLong, IsCut, IsHeader, HasBegun, HasNoForm, BreaksRule, FirstLineIs, NextLineIs, IsWrongAfter, HasMore, IsFirstFault, IsTextOf, kind_of_rule}
+use Rattle.boc_record.specs.RecordTexts.{Version, header, event_line, begun, line, BeginsWith, BeginsLong, IsCut, IsHeader, HasBegun, HasNoForm, BreaksRule}
+use Rattle.boc_record.specs.RecordTexts.{FirstLineIs, NextLineIs, IsWrongAfter, HasMore, IsFirstFault, IsTextOf, kind_of_rule}
 use Rattle.std.proofs.lemmas.Bool.{cases_order}
 use Rattle.boc_record.proofs.Lines.{first_line, one_stop}
 use Rattle.boc_record.proofs.OneText.{one_event_of, no_stop, one_items}
-use Rattle.boc_record.proofs.Beginnings.{GoesOn, same, left_goes_on, right_goes_on, both_begun, begins_header, begins_on, begins_one, not_cut, not_long, not_both}
+use Rattle.boc_record.proofs.Beginnings.{GoesOn, same, left_goes_on, right_goes_on, both_begun, begins_header, begins_on, begins_one, not_cut, not_long}
+use Rattle.boc_record.proofs.Beginnings.{not_both}
 
 -- ---- what is wrong with the line behind some events
 
@@ -83,7 +85,8 @@ one_broken c rows e a b p q =
 
 one_rule : (v : Version) (c : ℕ) (es : List Event) (text : List ℕ) (a b : BrokenRule) → BreaksRule v c es text a → BreaksRule v c es text b → a ≡ b
 one_rule v c es text a b p q =
-    let one : q.event ≡ p.event = one_event_of v (entries es) q.event p.event q.first.bounds p.first.bounds q.spelt p.spelt (begins_one text (event_line v q.event) (event_line v p.event) q.stands p.stands) in
+    let one : q.event ≡ p.event = one_event_of v (entries es) q.event p.event q.first.bounds p.first.bounds q.spelt p.spelt
+    (begins_one text (event_line v q.event) (event_line v p.event) q.stands p.stands) in
     one_broken c (entries es) p.event a b p.first (subst (λ (e : Event). IsFirstBroken c (entries es) e b) one q.first)
 
 -- a line has one thing wrong first
@@ -106,10 +109,12 @@ one_wrong v c es text k j (cut p b) (unended q d n) = absurd (not_cut text (code
 one_wrong v c es text k j (cut p b) (cut q d) = p ∙ sym q
 
 -- where the text goes on nothing is wrong
-on_is_right : (v : Version) (c : ℕ) (es : List Event) (text : List ℕ) (k : RecordFaultKind) → HasBegun v c es → GoesOn v c (entries es) text → Wrong v c es text k → ⊥
+on_is_right : (v : Version) (c : ℕ) (es : List Event) (text : List ℕ) (k : RecordFaultKind) → HasBegun v c es → GoesOn v c (entries es) text
+    → Wrong v c es text k → ⊥
 on_is_right v c es text k h g (no_form p f) = has_form v text g.event g.allowed.bounds (begins_on v c es text h g) f
 on_is_right v c es text k h g (broken r p b) =
-    let one : b.event ≡ g.event = one_event_of v (entries es) b.event g.event b.first.bounds g.allowed.bounds b.spelt g.spelt (begins_one text (event_line v b.event) (event_line v g.event) b.stands (begins_on v c es text h g)) in
+    let one : b.event ≡ g.event = one_event_of v (entries es) b.event g.event b.first.bounds g.allowed.bounds b.spelt g.spelt
+    (begins_one text (event_line v b.event) (event_line v g.event) b.stands (begins_on v c es text h g)) in
     b.first.broken (subst (λ (e : Event). KeepsRule c (entries es) e r) (sym one) (g.allowed.keeps r))
 on_is_right v c es text k h g (unended p b n) = not_stop v text g.event (begins_on v c es text h g) b
 on_is_right v c es text k h g (cut p b) = not_cut text (event_line v g.event) (begins_on v c es text h g) b
@@ -118,14 +123,16 @@ begins_stop : (text tail : List ℕ) → text ≡ line (codes ".") ++ tail → B
 begins_stop text tail e = record { rest = tail; is = e; one = one_stop; short = omega arith }
 
 -- nor where the last line stands, and the run is complete
-end_is_right : (v : Version) (c : ℕ) (es : List Event) (text tail : List ℕ) (k : RecordFaultKind) → text ≡ line (codes ".") ++ tail → IsComplete es → Wrong v c es text k → ⊥
+end_is_right : (v : Version) (c : ℕ) (es : List Event) (text tail : List ℕ) (k : RecordFaultKind) → text ≡ line (codes ".") ++ tail → IsComplete es
+    → Wrong v c es text k → ⊥
 end_is_right v c es text tail k e o (no_form p f) = stop_has_form v text (begins_stop text tail e) f
 end_is_right v c es text tail k e o (broken r p b) = not_stop v text b.event b.stands (begins_stop text tail e)
 end_is_right v c es text tail k e o (unended p b n) = n o
 end_is_right v c es text tail k e o (cut p b) = not_cut text (codes ".") (begins_stop text tail e) b
 
 -- and the last line is no event's
-end_goes_on : (v : Version) (c : ℕ) (es : List Event) (text tail : List ℕ) → HasBegun v c es → text ≡ line (codes ".") ++ tail → GoesOn v c (entries es) text → ⊥
+end_goes_on : (v : Version) (c : ℕ) (es : List Event) (text tail : List ℕ) → HasBegun v c es → text ≡ line (codes ".") ++ tail → GoesOn v c (entries es) text
+    → ⊥
 end_goes_on v c es text tail h e g = not_stop v text g.event (begins_on v c es text h g) (begins_stop text tail e)
 
 -- ---- whole texts
@@ -150,7 +157,8 @@ one_end text xs ys a b =
     let x = line (codes ".") ++ xs in
     let y = line (codes ".") ++ ys in
     let two = both_begun a.version b.version a.cowns b.cowns a.events b.events x y a.begins b.begins (sym a.is ∙ b.is) in
-    let begins : HasBegun a.version a.cowns b.events = subst (λ (v : Version). HasBegun v a.cowns b.events) (sym two.version) (subst (λ (n : ℕ). HasBegun b.version n b.events) (sym two.cowns) b.begins) in
+    let begins : HasBegun a.version a.cowns b.events = subst (λ (v : Version). HasBegun v a.cowns b.events) (sym two.version)
+    (subst (λ (n : ℕ). HasBegun b.version n b.events) (sym two.cowns) b.begins) in
     elim two.followed [
       | same p q ↦ record { cowns = two.cowns; events = p; tails = (first_line (codes ".") (codes ".") xs ys one_stop one_stop q).1 }
       | left_goes_on g ↦ absurd (end_goes_on a.version a.cowns a.events x xs a.begins refl g)
@@ -162,7 +170,8 @@ end_not_wrong : (text xs : List ℕ) (n : ℕ) (k : RecordFaultKind) → Ends te
 end_not_wrong text xs n k a w =
     let x = line (codes ".") ++ xs in
     let two = both_begun w.version a.version w.cowns a.cowns w.events a.events w.rest x w.begins a.begins (sym w.split ∙ a.is) in
-    let begins : HasBegun w.version w.cowns a.events = subst (λ (v : Version). HasBegun v w.cowns a.events) (sym two.version) (subst (λ (n : ℕ). HasBegun a.version n a.events) (sym two.cowns) a.begins) in
+    let begins : HasBegun w.version w.cowns a.events = subst (λ (v : Version). HasBegun v w.cowns a.events) (sym two.version)
+    (subst (λ (n : ℕ). HasBegun a.version n a.events) (sym two.cowns) a.begins) in
     let is = wrong w.version w.cowns w.events w.rest k w.wrong in
     elim two.followed [
       | same p q ↦ end_is_right w.version w.cowns w.events w.rest xs k q (subst IsComplete (sym p) a.complete) is
@@ -174,15 +183,18 @@ end_not_wrong text xs n k a w =
 both_wrong : (text : List ℕ) (n m : ℕ) (k j : RecordFaultKind) → IsWrongAfter text n k → IsWrongAfter text m j → (n ≡ m) × (k ≡ j)
 both_wrong text n m k j a b =
     let two = both_begun a.version b.version a.cowns b.cowns a.events b.events a.rest b.rest a.begins b.begins (sym a.split ∙ b.split) in
-    let begins : HasBegun a.version a.cowns b.events = subst (λ (v : Version). HasBegun v a.cowns b.events) (sym two.version) (subst (λ (n : ℕ). HasBegun b.version n b.events) (sym two.cowns) b.begins) in
+    let begins : HasBegun a.version a.cowns b.events = subst (λ (v : Version). HasBegun v a.cowns b.events) (sym two.version)
+    (subst (λ (n : ℕ). HasBegun b.version n b.events) (sym two.cowns) b.begins) in
     let first = wrong a.version a.cowns a.events a.rest k a.wrong in
     let second : Wrong a.version a.cowns b.events b.rest j =
-    subst (λ (v : Version). Wrong v a.cowns b.events b.rest j) (sym two.version) (subst (λ (n : ℕ). Wrong b.version n b.events b.rest j) (sym two.cowns) (wrong b.version b.cowns b.events b.rest j b.wrong)) in
+    subst (λ (v : Version). Wrong v a.cowns b.events b.rest j) (sym two.version)
+    (subst (λ (n : ℕ). Wrong b.version n b.events b.rest j) (sym two.cowns) (wrong b.version b.cowns b.events b.rest j b.wrong)) in
     elim two.followed [
       | same p q ↦ (
         omega (arith, a.number_is, b.number_is, ap length p),
         one_wrong a.version a.cowns a.events a.rest k j first
-            (subst (λ (fs : List Event). Wrong a.version a.cowns fs a.rest j) (sym p) (subst (λ (ys : List ℕ). Wrong a.version a.cowns b.events ys j) (sym q) second)),
+            (subst (λ (fs : List Event). Wrong a.version a.cowns fs a.rest j) (sym p)
+            (subst (λ (ys : List ℕ). Wrong a.version a.cowns b.events ys j) (sym q) second)),
       )
       | left_goes_on g ↦ absurd (on_is_right a.version a.cowns a.events a.rest k a.begins g first)
       | right_goes_on g ↦ absurd (on_is_right a.version a.cowns b.events b.rest j begins g second)
@@ -211,7 +223,8 @@ one_first text k j (cut_header p a) (no_header q b) = absurd (cut_is_none text a
 one_first text k j (cut_header p a) (cut_header q b) = p ∙ sym q
 
 -- a text that has begun has nothing wrong there
-begun_is_right : (v : Version) (c : ℕ) (es : List Event) (text rest : List ℕ) (k : RecordFaultKind) → HasBegun v c es → text ≡ begun v c es ++ rest → FirstWrong text k → ⊥
+begun_is_right : (v : Version) (c : ℕ) (es : List Event) (text rest : List ℕ) (k : RecordFaultKind) → HasBegun v c es → text ≡ begun v c es ++ rest
+    → FirstWrong text k → ⊥
 begun_is_right v c es text rest k h e (no_header p (inl long)) = not_long text (header v c) (begins_header v c es text rest h e) long
 begun_is_right v c es text rest k h e (no_header p (inr other)) =
     other.2 (v, c, h.few, begins_one text other.0 (header v c) other.1 (begins_header v c es text rest h e))
@@ -259,9 +272,11 @@ end_not_first text xs k a f = begun_is_right a.version a.cowns a.events text (li
 
 both_faulty : (text : List ℕ) (n m : ℕ) (k j : RecordFaultKind) → Faulty text n k → Faulty text m j → (n ≡ m) × (k ≡ j)
 both_faulty text n m k j (at_first p a) (at_first q b) = (p ∙ sym q, one_first text k j (first_wrong text k a) (first_wrong text j b))
-both_faulty text n m k j (at_first p a) (further_on b) = absurd (begun_is_right b.version b.cowns b.events text b.rest k b.begins b.split (first_wrong text k a))
+both_faulty text n m k j (at_first p a) (further_on b) =
+    absurd (begun_is_right b.version b.cowns b.events text b.rest k b.begins b.split (first_wrong text k a))
 both_faulty text n m k j (at_first p a) (behind q b) = absurd (end_not_first text (b.first ∷ b.rest) k (more_ends text m b) a)
-both_faulty text n m k j (further_on a) (at_first q b) = absurd (begun_is_right a.version a.cowns a.events text a.rest j a.begins a.split (first_wrong text j b))
+both_faulty text n m k j (further_on a) (at_first q b) =
+    absurd (begun_is_right a.version a.cowns a.events text a.rest j a.begins a.split (first_wrong text j b))
 both_faulty text n m k j (further_on a) (further_on b) = both_wrong text n m k j a b
 both_faulty text n m k j (further_on a) (behind q b) = absurd (end_not_wrong text (b.first ∷ b.rest) n k (more_ends text m b) a)
 both_faulty text n m k j (behind p a) (at_first q b) = absurd (end_not_first text (a.first ∷ a.rest) j (more_ends text n a) b)
@@ -286,13 +301,16 @@ pub never_both : (text : List ℕ) (r : Recorded) (n : ℕ) (k : RecordFaultKind
 never_both text r n k t f = ends_faulty text n k (text_ends text r t) (faulty text n k f)
 
 -- the rows of a run are one list
-six_same : (f : ℕ → ℕ → ArrayVec ℕ → ℕ → EndStatus → ArrayVec ℕ → Row) (a b p q : ℕ) (c d : ArrayVec ℕ) (t u : ℕ) (s r : EndStatus) (v w : ArrayVec ℕ) → a ≡ b → p ≡ q → c ≡ d → t ≡ u → s ≡ r → v ≡ w → f a p c t s v ≡ f b q d u r w
+six_same : (f : ℕ → ℕ → ArrayVec ℕ → ℕ → EndStatus → ArrayVec ℕ → Row) (a b p q : ℕ) (c d : ArrayVec ℕ) (t u : ℕ) (s r : EndStatus) (v w : ArrayVec ℕ) → a ≡ b
+    → p ≡ q → c ≡ d → t ≡ u → s ≡ r → v ≡ w → f a p c t s v ≡ f b q d u r w
 six_same f a b p q c d t u s r v w h i j k l m = cc
 
 one_row : (e : Entry) (x y : Row) → IsRowOf e x → IsRowOf e y → x ≡ y
 one_row e x y p q =
-    six_same (λ parent offset cowns ticks status written. record { parent = parent; offset = offset; cowns = cowns; ticks = ticks; status = status; written = written })
-    x.parent y.parent x.offset y.offset x.cowns y.cowns x.ticks y.ticks x.status y.status x.written y.written (p.parent ∙ sym q.parent) (p.offset ∙ sym q.offset) (one_items x.cowns y.cowns (p.cowns ∙ sym q.cowns))
+    six_same (λ parent offset cowns ticks status written. record
+    { parent = parent; offset = offset; cowns = cowns; ticks = ticks; status = status; written = written })
+    x.parent y.parent x.offset y.offset x.cowns y.cowns x.ticks y.ticks x.status y.status x.written y.written (p.parent ∙ sym q.parent)
+    (p.offset ∙ sym q.offset) (one_items x.cowns y.cowns (p.cowns ∙ sym q.cowns))
     (p.ticks ∙ sym q.ticks) (p.status ∙ sym q.status) (one_items x.written y.written (p.written ∙ sym q.written))
 
 next_rows : (e : Entry) (run : List Entry) (x : Row) (xs : List Row) → AreRowsOf (e ∷ run) (x ∷ xs) → AreRowsOf run xs
@@ -305,7 +323,8 @@ one_rows [] (x ∷ xs) ys p q = absurd (omega (arith, p.all))
 one_rows (e ∷ run) [] ys p q = absurd (omega (arith, p.all))
 one_rows (e ∷ run) (x ∷ xs) [] p q = absurd (omega (arith, q.all))
 one_rows (e ∷ run) (x ∷ xs) (y ∷ ys) p q =
-    ap (λ (z : Row). z ∷ xs) (one_row e x y (p.each 0 e x refl refl) (q.each 0 e y refl refl)) ∙ ap (λ zs. y ∷ zs) (one_rows run xs ys (next_rows e run x xs p) (next_rows e run y ys q))
+    ap (λ (z : Row). z ∷ xs) (one_row e x y (p.each 0 e x refl refl) (q.each 0 e y refl refl))
+    ∙ ap (λ zs. y ∷ zs) (one_rows run xs ys (next_rows e run x xs p) (next_rows e run y ys q))
 
 three_same : (f : ℕ → List Event → List Row → Recorded) (a b : ℕ) (c d : List Event) (x y : List Row) → a ≡ b → c ≡ d → x ≡ y → f a c x ≡ f b d y
 three_same f a b c d x y p q r = cc
@@ -315,5 +334,6 @@ pub one_record : (text : List ℕ) (r s : Recorded) → IsTextOf text r → IsTe
 one_record text r s t u =
     let one = one_end text [] [] (text_ends text r t) (text_ends text s u) in
     let e : r.events ≡ s.events = one.events in
-    let x : r.rows ≡ s.rows = one_rows (entries r.events) r.rows s.rows t.record_is.rows_are (subst (λ (es : List Event). AreRowsOf (entries es) s.rows) (sym e) u.record_is.rows_are) in
+    let x : r.rows ≡ s.rows = one_rows (entries r.events) r.rows s.rows t.record_is.rows_are
+    (subst (λ (es : List Event). AreRowsOf (entries es) s.rows) (sym e) u.record_is.rows_are) in
     three_same (λ cowns events rows. record { cowns = cowns; events = events; rows = rows }) r.cowns s.cowns r.events s.events r.rows s.rows one.cowns e x

@@ -20,7 +20,8 @@ one_fields_list [] [] p q e = refl
 one_fields_list [] (m ∷ ms) p q e = absurd (omega (arith, ap length e))
 one_fields_list (n ∷ ns) [] p q e = absurd (omega (arith, ap length e))
 one_fields_list (n ∷ ns) (m ∷ ms) p q e =
-    let s = one_field (fields (n ∷ ns)) (fields ns) (fields ms) n m (first_field n ns p) (subst (λ (t : List ℕ). IsField t m (fields ms)) (sym e) (first_field m ms q)) in
+    let s = one_field (fields (n ∷ ns)) (fields ns) (fields ms) n m (first_field n ns p)
+    (subst (λ (t : List ℕ). IsField t m (fields ms)) (sym e) (first_field m ms q)) in
     ap (λ x. x ∷ ns) s.0 ∙ ap (λ xs. m ∷ xs) (one_fields_list ns ms (small_rest n ns p) (small_rest m ms q) s.1)
 
 first_same : (n m : ℕ) (ns ms : List ℕ) → n ∷ ns ≡ m ∷ ms → n ≡ m
@@ -62,19 +63,22 @@ pub one_items : (a b : ArrayVec ℕ) → a.items ≡ b.items → a ≡ b
 one_items a b e = ap (λ (xs : List ℕ). let v : ArrayVec ℕ = record { items = xs } in v) e
 
 -- what a row wrote is told, or left out
-one_written : (v : Version) (rows : List Entry) (row ticks other : ℕ) (s t : EndStatus) (a b : ArrayVec ℕ) → IsSpelt v rows (End row ticks s a) → IsSpelt v rows (End row other t b)
+one_written : (v : Version) (rows : List Entry) (row ticks other : ℕ) (s t : EndStatus) (a b : ArrayVec ℕ) → IsSpelt v rows (End row ticks s a)
+    → IsSpelt v rows (End row other t b)
     → written_fields v a.items ≡ written_fields v b.items → a ≡ b
 one_written First rows row ticks other s t a b p q e = one_items a b (p ∙ sym q)
 one_written Second rows row ticks other s t a b p q e = one_items a b e
 
-one_end : (v : Version) (rows : List Entry) (row line_row ticks other : ℕ) (s t : EndStatus) (a b : ArrayVec ℕ) → row ≡ line_row → ticks ≡ other → s ≡ t → IsSpelt v rows (End row ticks s a) → IsSpelt v rows (End line_row other t b)
+one_end : (v : Version) (rows : List Entry) (row line_row ticks other : ℕ) (s t : EndStatus) (a b : ArrayVec ℕ) → row ≡ line_row → ticks ≡ other → s ≡ t
+    → IsSpelt v rows (End row ticks s a) → IsSpelt v rows (End line_row other t b)
     → written_fields v a.items ≡ written_fields v b.items → End row ticks s a ≡ End line_row other t b
 one_end v rows row line_row ticks other s t a b p q r x y e =
     let w : a ≡ b = one_written v rows row ticks other s t a b x (subst (λ (k : ℕ). IsSpelt v rows (End k other t b)) (sym p) y) e in
     cc
 
 -- events that are spelt behind the same rows, and have the same numbers, are the same
-same_event : (v : Version) (rows : List Entry) (e f : Event) → IsSpelt v rows e → IsSpelt v rows f → sign_of e ≡ sign_of f → numbers_of v e ≡ numbers_of v f → e ≡ f
+same_event : (v : Version) (rows : List Entry) (e f : Event) → IsSpelt v rows e → IsSpelt v rows f → sign_of e ≡ sign_of f → numbers_of v e ≡ numbers_of v f
+    → e ≡ f
 same_event v rows (Spawn row parent offset cowns) (Spawn r p o c) x y s n =
     let tail = rest_same row r (parent ∷ offset ∷ cowns.items) (p ∷ o ∷ c.items) n in
     let later = rest_same parent p (offset ∷ cowns.items) (o ∷ c.items) tail in
@@ -96,15 +100,18 @@ same_event v rows (End row ticks status written) (End r t u w) x y s n =
     let tail = rest_same row r (ticks ∷ status_number status ∷ a) (t ∷ status_number u ∷ b) n in
     let later = rest_same ticks t (status_number status ∷ a) (status_number u ∷ b) tail in
     one_end v rows row r ticks t status u written w (first_same row r (ticks ∷ status_number status ∷ a) (t ∷ status_number u ∷ b) n)
-    (first_same ticks t (status_number status ∷ a) (status_number u ∷ b) tail) (one_status status u (first_same (status_number status) (status_number u) a b later)) x y
+    (first_same ticks t (status_number status ∷ a) (status_number u ∷ b) tail)
+    (one_status status u (first_same (status_number status) (status_number u) a b later)) x y
     (rest_same (status_number status) (status_number u) a b later)
 
 -- a line tells one event
-pub one_event_of : (v : Version) (rows : List Entry) (e f : Event) → HasBounds e → HasBounds f → IsSpelt v rows e → IsSpelt v rows f → event_line v e ≡ event_line v f → e ≡ f
+pub one_event_of : (v : Version) (rows : List Entry) (e f : Event) → HasBounds e → HasBounds f → IsSpelt v rows e → IsSpelt v rows f
+    → event_line v e ≡ event_line v f → e ≡ f
 one_event_of v rows e f p q x y h =
     let both : sign_of e ∷ fields (numbers_of v e) ≡ sign_of f ∷ fields (numbers_of v f) = sym (line_is v e) ∙ h ∙ line_is v f in
     same_event v rows e f x y (first_same (sign_of e) (sign_of f) (fields (numbers_of v e)) (fields (numbers_of v f)) both)
-    (one_fields_list (numbers_of v e) (numbers_of v f) (small_numbers v e p) (small_numbers v f q) (rest_same (sign_of e) (sign_of f) (fields (numbers_of v e)) (fields (numbers_of v f)) both))
+    (one_fields_list (numbers_of v e) (numbers_of v f) (small_numbers v e p) (small_numbers v f q)
+    (rest_same (sign_of e) (sign_of f) (fields (numbers_of v e)) (fields (numbers_of v f)) both))
 
 no_sign : (e : Event) → sign_of e ≢ 46
 no_sign (Spawn row parent offset cowns) h = absurd (omega (arith, h))

@@ -14,10 +14,12 @@ add_one i = omega arith
 pub lines_more : (v : Version) (events : List Event) (event : Event) → event_lines v (events ++ event ∷ []) ≡ event_lines v events ++ line (event_line v event)
 lines_more v [] event = append-nil (line (event_line v event))
 lines_more v (first ∷ events) event =
-    ap (λ xs. line (event_line v first) ++ xs) (lines_more v events event) ∙ sym (append_assoc (line (event_line v first)) (event_lines v events) (line (event_line v event)))
+    ap (λ xs. line (event_line v first) ++ xs) (lines_more v events event)
+    ∙ sym (append_assoc (line (event_line v first)) (event_lines v events) (line (event_line v event)))
 
 -- one line more
-pub put_line_more : (v : Version) (before text after : List ℕ) (events : List Event) (i : ℕ) (event : Event) → slice_get events i ≡ Some event → text ≡ before ++ event_lines v (take i events)
+pub put_line_more : (v : Version) (before text after : List ℕ) (events : List Event) (i : ℕ) (event : Event) → slice_get events i ≡ Some event
+    → text ≡ before ++ event_lines v (take i events)
     → after ≡ text ++ line (event_line v event) → after ≡ before ++ event_lines v (take (i + 1) events)
 put_line_more v before text after events i event at e put =
     put ∙ ap (λ xs. xs ++ line (event_line v event)) e ∙ append_assoc before (event_lines v (take i events)) (line (event_line v event))

@@ -1,14 +1,18 @@
 -- A text of fields has one reading.
-use Rattle.std.proofs.Common.{zero, suc, ◌*◌, ◌-◌, ◌%◌, ◌^◌, get_or, length, take, drop, append_assoc, ◌≡◌, ℕ, ◌+◌, ◌≤◌, ◌<◌, ◌∷◌, List, [], ◌++◌, true, false, refl, sym, ap, ◌∙◌, subst, arith, inl, inr, lit<}
+use Rattle.std.proofs.Common.{zero, suc, ◌*◌, ◌-◌, ◌%◌, ◌^◌, get_or, length, take, drop, append_assoc, ◌≡◌, ℕ, ◌+◌, ◌≤◌, ◌<◌, ◌∷◌, List, [], ◌++◌, true, false}
+use Rattle.std.proofs.Common.{refl, sym, ap, ◌∙◌, subst, arith, inl, inr, lit<}
 use Rattle.std.specs.Prelude.{decimal, fold, Bool, nat_eq, if◌then◌else◌}
 use Rattle.std.proofs.lemmas.Bool.Decides.{nat_tests}
 use Rattle.std.proofs.lemmas.Bool.{cases_order}
-use Rattle.std.proofs.lemmas.List.{take-append-drop, append-nil, length-append, length-take, length-drop, take_all, get_or-take, get_or_append_left, get_or-append_right}
+use Rattle.std.proofs.lemmas.List.{take-append-drop, append-nil, length-append, length-take, length-drop, take_all, get_or-take, get_or_append_left}
+use Rattle.std.proofs.lemmas.List.{get_or-append_right}
 use Rattle.std.specs.Str.Parse.{AllDigits, digits_value}
 use Rattle.std.specs.Int.{IsInRange}
 use Rattle.std.specs.Char.{is_ascii_digit}
-use Rattle.std.proofs.lemmas.Str.Parse.{IsNumeralModel, FoldsDigits, numerals_by_fold, numerals_by_value, tells_digits, tells_by_index, digit_at, digits_value_short}
-use Rattle.std.proofs.lemmas.Fmt.{decimal_by_steps, decimal_injective, length-decimal-le, decimal_digit, decimal_nonempty, first_decimal, digits_decimal, digits_value-decimal, decimal-digits_value}
+use Rattle.std.proofs.lemmas.Str.Parse.{IsNumeralModel, FoldsDigits, numerals_by_fold, numerals_by_value, tells_digits, tells_by_index, digit_at}
+use Rattle.std.proofs.lemmas.Str.Parse.{digits_value_short}
+use Rattle.std.proofs.lemmas.Fmt.{decimal_by_steps, decimal_injective, length-decimal-le, decimal_digit, decimal_nonempty, first_decimal, digits_decimal}
+use Rattle.std.proofs.lemmas.Fmt.{digits_value-decimal, decimal-digits_value}
 use Rattle.std.proofs.Math.Seq.{take-append_seam, drop-append_seam}
 use Rattle.std.specs.List.{AllByRecursion}
 use Rattle.boc_record.specs.RecordTexts.{field, fields}
@@ -115,7 +119,8 @@ taken_digits text i within digits k less =
     subst (IsInRange 48 57) (sym (get_or-take i text k 0 below)) (digits k below)
 
 -- digits that were read so far stand at the front
-pub front_so_far : (text : List ℕ) (i value : ℕ) → i ≤ length text → i ≤ 10 → value ≡ value_of (take i text) → ((k : ℕ) → k < i → IsInRange 48 57 (get_or text k 0))
+pub front_so_far : (text : List ℕ) (i value : ℕ) → i ≤ length text → i ≤ 10 → value ≡ value_of (take i text)
+    → ((k : ℕ) → k < i → IsInRange 48 57 (get_or text k 0))
     → (i < 10 → i < length text → ¬ (IsInRange 48 57 (get_or text i 0))) → IsFront text i value
 front_so_far text i value within few is digits ends =
     let all : AllDigits 10 (take i text) = own.to (take i text) (taken_digits text i within digits) in record {
@@ -127,11 +132,13 @@ front_so_far text i value within few is digits ends =
     }
 
 -- they are worth less than a number of one digit more
-pub worth_below : (most : ℕ) (text : List ℕ) (i value : ℕ) → i ≤ length text → i ≤ most → value ≡ value_of (take i text) → ((k : ℕ) → k < i → IsInRange 48 57 (get_or text k 0)) → value < 10 ^ most
+pub worth_below : (most : ℕ) (text : List ℕ) (i value : ℕ) → i ≤ length text → i ≤ most → value ≡ value_of (take i text)
+    → ((k : ℕ) → k < i → IsInRange 48 57 (get_or text k 0)) → value < 10 ^ most
 worth_below most text i value within few is digits =
     subst (λ v. v < 10 ^ most) (sym is) (digits_value_short own (take i text) most (taken_digits text i within digits) (omega (arith, length-take i text, few)))
 
-pub few_worth : (text : List ℕ) (i value : ℕ) → i ≤ length text → i < 10 → value ≡ value_of (take i text) → ((k : ℕ) → k < i → IsInRange 48 57 (get_or text k 0)) → value < 10 ^ 9
+pub few_worth : (text : List ℕ) (i value : ℕ) → i ≤ length text → i < 10 → value ≡ value_of (take i text)
+    → ((k : ℕ) → k < i → IsInRange 48 57 (get_or text k 0)) → value < 10 ^ 9
 few_worth text i value within few is digits = worth_below 9 text i value within (omega (arith, few)) is digits
 
 -- a text that is apart begins with no digit
@@ -140,7 +147,8 @@ apart_no_digit [] a some h = omega (arith, some)
 apart_no_digit (b ∷ rest) a some h = grind (arith, nat_tests)
 
 -- digits stand at the front of a text that begins with a number, up to the number's end
-pub same_front : (text rest : List ℕ) (len value n : ℕ) → IsFront text len value → n < 2 ^ 32 → text ≡ decimal n ++ rest → IsApart rest → (len ≡ length (decimal n)) × (value ≡ n) × (drop len text ≡ rest)
+pub same_front : (text rest : List ℕ) (len value n : ℕ) → IsFront text len value → n < 2 ^ 32 → text ≡ decimal n ++ rest → IsApart rest
+    → (len ≡ length (decimal n)) × (value ≡ n) × (drop len text ≡ rest)
 same_front text rest len value n f small e apart =
     let k = length (decimal n) in
     let few : k ≤ 10 = length-decimal-le 10 n (omega arith) (omega (arith, small)) (wide n small) in
@@ -148,8 +156,12 @@ same_front text rest len value n f small e apart =
     let own = numerals_by_value (AllDigits 10) tells_digits in
     elim (cases_order len k) [
       | inl same ↦
-          let front : take len text ≡ decimal n = ap (λ m. take m text) same ∙ ap (take k) e ∙ take-append_seam (decimal n) rest in
-          (same, sym f.worth ∙ ap (digits_value 10) front ∙ digits_value-decimal own n (wide n small), ap (λ m. drop m text) same ∙ ap (drop k) e ∙ drop-append_seam (decimal n) rest)
+          let front : take len text ≡ decimal n = ap (λ m. take m text) same ∙ ap (take k) e ∙ take-append_seam (decimal n) rest in (
+            same,
+            sym f.worth ∙ ap (digits_value 10) front ∙ digits_value-decimal own n (wide n small),
+            ap (λ m. drop m text) same ∙ ap (drop k) e
+                ∙ drop-append_seam (decimal n) rest,
+          )
       | inr other ↦ elim other [
         | inl less ↦
             let digit = digit_at (decimal n) len (digits_decimal own n (wide n small)) less in
@@ -158,22 +170,27 @@ same_front text rest len value n f small e apart =
         | inr more ↦
             let long : k < length (take len text) = omega (arith, more, f.within, length-take len text) in
             let digit = digit_at (take len text) k f.digits long in
-            let at : get_or (take len text) k 0 ≡ get_or rest 0 0 = get_or-take len text k 0 more ∙ ap (λ t. get_or t k 0) e ∙ get_or-append_right (decimal n) rest k k 0 refl (omega arith) ∙ ap (λ m. get_or rest m 0) (omega arith) in
+            let at : get_or (take len text) k 0 ≡ get_or rest 0 0 =
+            get_or-take len text k 0 more ∙ ap (λ t. get_or t k 0) e ∙ get_or-append_right (decimal n) rest k k 0 refl (omega arith)
+            ∙ ap (λ m. get_or rest m 0) (omega arith) in
             let some : 0 < length rest = omega (arith, total, more, f.within) in
             absurd (apart_no_digit rest apart some (subst (IsInRange 48 57) at digit))
       ]
     ]
 
 -- there is no field where those digits are no number, or something stands right behind them
-pub no_field : (text after : List ℕ) (len value : ℕ) → text ≡ 32 ∷ after → IsFront after len value → ((n : ℕ) → n < 2 ^ 32 → take len after ≡ decimal n → value ≡ n → IsApart (drop len after) → ⊥)
+pub no_field : (text after : List ℕ) (len value : ℕ) → text ≡ 32 ∷ after → IsFront after len value
+    → ((n : ℕ) → n < 2 ^ 32 → take len after ≡ decimal n → value ≡ n → IsApart (drop len after) → ⊥)
     → (n : ℕ) (rest : List ℕ) → IsField text n rest → ⊥
 no_field text after len value e f none n rest field =
     let is : after ≡ decimal n ++ rest = ap (drop 1) (sym e ∙ field.is) in
     let s = same_front after rest len value n f field.small is field.apart in
-    none n field.small (ap (λ m. take m after) s.0 ∙ ap (take (length (decimal n))) is ∙ take-append_seam (decimal n) rest) s.1 (subst IsApart (sym s.2) field.apart)
+    none n field.small (ap (λ m. take m after) s.0 ∙ ap (take (length (decimal n))) is ∙ take-append_seam (decimal n) rest) s.1
+    (subst IsApart (sym s.2) field.apart)
 
 -- digits at the front of a text that are those of their number
-pub front_decimal : (after : List ℕ) (len value : ℕ) → IsFront after len value → 0 < len → (get_or after 0 0 ≡ 48 → len ≡ 1) → value < 2 ^ 32 → take len after ≡ decimal value
+pub front_decimal : (after : List ℕ) (len value : ℕ) → IsFront after len value → 0 < len → (get_or after 0 0 ≡ 48 → len ≡ 1) → value < 2 ^ 32
+    → take len after ≡ decimal value
 front_decimal after len value f some lead small =
     let own = numerals_by_value (AllDigits 10) tells_digits in
     let long : length (take len after) ≡ len = omega (arith, length-take len after, f.within) in
@@ -182,7 +199,8 @@ front_decimal after len value f some lead small =
     sym (decimal-digits_value own (take len after) f.digits (omega (arith, long, some)) (λ z. long ∙ lead (sym first ∙ z)) fits) ∙ ap decimal f.worth
 
 -- the field at the front of a text that begins with a space and digits
-pub is_field : (text after : List ℕ) (len value : ℕ) → text ≡ 32 ∷ after → IsFront after len value → 0 < len → (get_or after 0 0 ≡ 48 → len ≡ 1) → IsApart (drop len after) → value < 2 ^ 32 → IsField text value (drop len after)
+pub is_field : (text after : List ℕ) (len value : ℕ) → text ≡ 32 ∷ after → IsFront after len value → 0 < len → (get_or after 0 0 ≡ 48 → len ≡ 1)
+    → IsApart (drop len after) → value < 2 ^ 32 → IsField text value (drop len after)
 is_field text after len value e f some lead apart small = record {
   small = small;
   is = e ∙ ap (λ xs. 32 ∷ xs) (sym (take-append-drop len after) ∙ ap (λ xs. xs ++ drop len after) (front_decimal after len value f some lead small));
@@ -230,7 +248,8 @@ split_numbers : (text done rest all : List ℕ) → text ≡ fields done ++ rest
 split_numbers text done rest all e small apart small_all is =
     front_fields done rest all small small_all (apart_of done rest all apart (sym e ∙ is)) (sym e ∙ is)
 
-field_of : (rest : List ℕ) (more : List ℕ) → 0 < length rest → rest ≡ fields more → AreSmall more → (n : ℕ) × (left : List ℕ) × IsField rest n left × (0 < length more)
+field_of : (rest : List ℕ) (more : List ℕ) → 0 < length rest → rest ≡ fields more → AreSmall more
+    → (n : ℕ) × (left : List ℕ) × IsField rest n left × (0 < length more)
 field_of rest [] h e small = absurd (omega (arith, h, ap length e))
 field_of rest (n ∷ more) h e small = (n, fields more, subst (λ t. IsField t n (fields more)) (sym e) (first_field n more small), omega arith)
 

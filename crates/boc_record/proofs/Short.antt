@@ -51,8 +51,22 @@ below_most count cs few h = λ k d less. omega (arith, h k d less, few)
 
 -- a header is short
 pub short_header : (v : Version) (c : ℕ) → c ≤ MOST_COWNS → length (header v c) ≤ MOST_LINE
-short_header First c few = omega (arith, length-append (field 1) (field c ++ []), length-append (field c) [], three 1 (omega arith), three c (omega (arith, few)))
-short_header Second c few = omega (arith, length-append (field 2) (field c ++ []), length-append (field c) [], three 2 (omega arith), three c (omega (arith, few)))
+short_header First c few = omega (
+  arith,
+  length-append (field 1) (field c ++ []),
+  length-append (field c) [],
+  three 1 (omega arith),
+  three c
+      (omega (arith, few)),
+)
+short_header Second c few = omega (
+  arith,
+  length-append (field 2) (field c ++ []),
+  length-append (field c) [],
+  three 2 (omega arith),
+  three c
+      (omega (arith, few)),
+)
 
 parent_few : (count : ℕ) (rows : List Entry) (parent : ℕ) → IsWell count rows → IsParent rows parent → parent ≤ MOST_ROWS
 parent_few count [] parent w p = omega (arith, p)
@@ -69,7 +83,8 @@ need_few count [] cowns few m = subst (λ (cs : List ℕ). All (λ c. c < MOST_C
 need_few count (main ∷ others) cowns few m = below_most count cowns few m.below
 
 -- what was written is below the number of cowns
-own_few : (count : ℕ) (rows : List Entry) (row : ℕ) (written : List ℕ) → count ≤ MOST_COWNS → IsWell count rows → AreAmong (entry_cowns rows row) written → All (λ c. c < MOST_COWNS) written
+own_few : (count : ℕ) (rows : List Entry) (row : ℕ) (written : List ℕ) → count ≤ MOST_COWNS → IsWell count rows → AreAmong (entry_cowns rows row) written
+    → All (λ c. c < MOST_COWNS) written
 own_few count rows row written few w among = λ k d less.
     let has = among.own k d less in
     let e = has_entry rows row (get_or written k d) has in
@@ -86,12 +101,14 @@ status_few statuses.SameCown = omega arith
 status_few statuses.Negative = omega arith
 status_few statuses.TickCap = omega arith
 
-written_few : (v : Version) (written : List ℕ) → All (λ c. c < MOST_COWNS) written → length written ≤ MOST_HELD → length (fields (written_fields v written)) ≤ 32
+written_few : (v : Version) (written : List ℕ) → All (λ c. c < MOST_COWNS) written → length written ≤ MOST_HELD
+    → length (fields (written_fields v written)) ≤ 32
 written_few First written below few = omega arith
 written_few Second written below few = omega (arith, cown_fields written below, few)
 
 -- so is the line of an event that is allowed behind the rows of a legal log
-pub short_event : (v : Version) (count : ℕ) (rows : List Entry) (event : Event) → count ≤ MOST_COWNS → IsWell count rows → IsAllowed count rows event → length (event_line v event) ≤ MOST_LINE
+pub short_event : (v : Version) (count : ℕ) (rows : List Entry) (event : Event) → count ≤ MOST_COWNS → IsWell count rows → IsAllowed count rows event
+    → length (event_line v event) ≤ MOST_LINE
 short_event v count rows (Spawn row parent offset cowns) few w a =
     let b = a.bounds in
     let less : row < MOST_ROWS = a.keeps rules.TooMany in

@@ -7,7 +7,8 @@ use Rattle.boc_runs.specs.declared.event.Event.{Event}
 use Rattle.boc_runs.specs.declared.event.Event.TheVariants.{Spawn, Start, End}
 use Rattle.boc_program.specs.declared.limits.TheConstants.{MOST_COWNS, MOST_HELD}
 use Rattle.boc_runs.specs.Legal.{Entry, HasBounds}
-use Rattle.boc_record.specs.RecordTexts.{Version, First, Second, version_number, fields, event_line, status_number, written_fields, IsHeader, IsEventLine, IsSpelt}
+use Rattle.boc_record.specs.RecordTexts.{Version, First, Second, version_number, fields, event_line, status_number, written_fields, IsHeader, IsEventLine}
+use Rattle.boc_record.specs.RecordTexts.{IsSpelt}
 use Rattle.boc_record.specs.Fields.{IsField, AreSmall, sign_of, numbers_of, Tells}
 use Rattle.std.specs.Prelude.{codes, MatchOption, Option, Some, None}
 use Rattle.boc_record.proofs.Runs.{small_rest, first_field, one_field}
@@ -52,12 +53,14 @@ small_written Second written small = small
 -- the numbers of an event are small
 pub small_numbers : (v : Version) (event : Event) → HasBounds event → AreSmall (numbers_of v event)
 small_numbers v (Spawn row parent offset cowns) s =
-    All-cons (λ n. n < 2 ^ 32) row (parent ∷ offset ∷ cowns.items) s.0 (All-cons (λ n. n < 2 ^ 32) parent (offset ∷ cowns.items) s.1 (All-cons (λ n. n < 2 ^ 32) offset cowns.items s.2 s.3))
+    All-cons (λ n. n < 2 ^ 32) row (parent ∷ offset ∷ cowns.items) s.0
+    (All-cons (λ n. n < 2 ^ 32) parent (offset ∷ cowns.items) s.1 (All-cons (λ n. n < 2 ^ 32) offset cowns.items s.2 s.3))
 small_numbers v (Start row) s = All-cons (λ n. n < 2 ^ 32) row [] s nothing_small
 small_numbers v (End row ticks status written) s =
     let last = written_fields v written.items in
     All-cons (λ n. n < 2 ^ 32) row (ticks ∷ status_number status ∷ last) s.0
-    (All-cons (λ n. n < 2 ^ 32) ticks (status_number status ∷ last) s.1 (All-cons (λ n. n < 2 ^ 32) (status_number status) last (small_status status) (small_written v written.items s.2)))
+    (All-cons (λ n. n < 2 ^ 32) ticks (status_number status ∷ last) s.1
+    (All-cons (λ n. n < 2 ^ 32) (status_number status) last (small_status status) (small_written v written.items s.2)))
 
 -- the text of a spawn
 pub record IsSpawnText (text : List ℕ) : Type 0 where
@@ -159,7 +162,8 @@ header_text text rest e given = record {
   cowns = given.1;
   few = given.2;
   of = record {
-    small = All-cons (λ n. n < 2 ^ 32) (version_number given.0) (given.1 ∷ []) (small_version given.0) (All-cons (λ n. n < 2 ^ 32) given.1 [] (omega (arith, given.2)) nothing_small);
+    small = All-cons (λ n. n < 2 ^ 32) (version_number given.0) (given.1 ∷ []) (small_version given.0)
+        (All-cons (λ n. n < 2 ^ 32) given.1 [] (omega (arith, given.2)) nothing_small);
     is = ap (drop 3) (sym e ∙ given.3);
   };
 }

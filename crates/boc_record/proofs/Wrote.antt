@@ -38,17 +38,20 @@ full_push rows parent offset cowns full = λ k x g over.
       | inr p ↦ absurd (not_pending_ended (ap (λ (z : Entry). z.life) p.1 ∙ over))
     ]
 
-full_spawn : (rows : List Entry) (parent offset : ℕ) (cowns : List ℕ) (o : Option Entry) → slice_get rows parent ≡ o → Full rows → Full (changed rows parent (λ x. record x { last = offset }) o ++ pending parent offset cowns ∷ [])
+full_spawn : (rows : List Entry) (parent offset : ℕ) (cowns : List ℕ) (o : Option Entry) → slice_get rows parent ≡ o → Full rows
+    → Full (changed rows parent (λ x. record x { last = offset }) o ++ pending parent offset cowns ∷ [])
 full_spawn rows parent offset cowns None g full = full_push rows parent offset cowns full
 full_spawn rows parent offset cowns (Some e) g full =
-    full_push (slice_set rows parent (record e { last = offset })) parent offset cowns (full_set rows parent (record e { last = offset }) full (λ over. full parent e g over))
+    full_push (slice_set rows parent (record e { last = offset })) parent offset cowns
+    (full_set rows parent (record e { last = offset }) full (λ over. full parent e g over))
 
 full_after : (count : ℕ) (rows : List Entry) (event : Event) → IsAllowed count rows event → IsSpelt First rows event → Full rows → Full (after rows event)
 full_after count rows (Spawn row parent offset cowns) a s full = full_spawn rows parent offset cowns.items (slice_get rows parent) refl full
 full_after count rows (Start row) a s full =
     let may : MayStart (life_of rows) (entry_cowns rows) row = a.keeps rules.StartNotAllowed in
     let e = living rows row Pending may.waits in
-    subst Full (sym (ap (changed rows row (λ x. record x { life = Running })) e.1)) (full_set rows row (record e.0 { life = Running }) full (λ over. absurd (not_running_ended over)))
+    subst Full (sym (ap (changed rows row (λ x. record x { life = Running })) e.1))
+    (full_set rows row (record e.0 { life = Running }) full (λ over. absurd (not_running_ended over)))
 full_after count rows (End row ticks status written) a s full =
     let may : MayEnd rows row ticks written.items = a.keeps rules.EndNotAllowed in
     let e = living rows row Running may.runs in
@@ -72,7 +75,8 @@ record IsAsOver (rows : List Entry) (r : ℕ) (e : Entry) : Type 0 where
 other_stays : (rows : List Entry) (r row : ℕ) (e v : Entry) → slice_get rows r ≡ Some e → e.life ≡ Ended → r ≢ row → IsAsOver (slice_set rows row v) r e
 other_stays rows r row e v g over n = record { later = e; is = set_other rows row r v n ∙ g; over = over; written = refl; cowns = refl }
 
-not_that : (rows : List Entry) (r row : ℕ) (e f : Entry) (l : Life) → (l ≡ Ended → ⊥) → slice_get rows r ≡ Some e → e.life ≡ Ended → slice_get rows row ≡ Some f → f.life ≡ l → r ≢ row
+not_that : (rows : List Entry) (r row : ℕ) (e f : Entry) (l : Life) → (l ≡ Ended → ⊥) → slice_get rows r ≡ Some e → e.life ≡ Ended → slice_get rows row ≡ Some f
+    → f.life ≡ l → r ≢ row
 not_that rows r row e f l n g over h life same =
     let one : e ≡ f = one_got rows r e f g (got_at rows r row f same h) in
     n (sym life ∙ sym (ap (λ (z : Entry). z.life) one) ∙ over)
@@ -89,7 +93,8 @@ pushed_stays rows r e v h = record {
 itself : (rows : List Entry) (r : ℕ) (e : Entry) → slice_get rows r ≡ Some e → e.life ≡ Ended → IsAsOver rows r e
 itself rows r e g over = record { later = e; is = g; over = over; written = refl; cowns = refl }
 
-parent_stays : (rows : List Entry) (r parent offset : ℕ) (e p : Entry) → slice_get rows r ≡ Some e → e.life ≡ Ended → slice_get rows parent ≡ Some p → (r ≡ parent) ⊎ (r ≢ parent)
+parent_stays : (rows : List Entry) (r parent offset : ℕ) (e p : Entry) → slice_get rows r ≡ Some e → e.life ≡ Ended → slice_get rows parent ≡ Some p
+    → (r ≡ parent) ⊎ (r ≢ parent)
     → IsAsOver (slice_set rows parent (record p { last = offset })) r e
 parent_stays rows r parent offset e p g over h (inl same) =
     let v : Entry = record p { last = offset } in
@@ -102,13 +107,16 @@ parent_stays rows r parent offset e p g over h (inl same) =
     }
 parent_stays rows r parent offset e p g over h (inr n) = other_stays rows r parent e (record p { last = offset }) g over n
 
-spawn_stays : (rows : List Entry) (r parent offset : ℕ) (cowns : List ℕ) (e : Entry) (o : Option Entry) → slice_get rows r ≡ Some e → e.life ≡ Ended → slice_get rows parent ≡ o
+spawn_stays : (rows : List Entry) (r parent offset : ℕ) (cowns : List ℕ) (e : Entry) (o : Option Entry) → slice_get rows r ≡ Some e → e.life ≡ Ended
+    → slice_get rows parent ≡ o
     → IsAsOver (changed rows parent (λ x. record x { last = offset }) o ++ pending parent offset cowns ∷ []) r e
 spawn_stays rows r parent offset cowns e None g over h = pushed_stays rows r e (pending parent offset cowns) (itself rows r e g over)
 spawn_stays rows r parent offset cowns e (Some p) g over h =
-    pushed_stays (slice_set rows parent (record p { last = offset })) r e (pending parent offset cowns) (parent_stays rows r parent offset e p g over h (cases_eq r parent))
+    pushed_stays (slice_set rows parent (record p { last = offset })) r e (pending parent offset cowns)
+    (parent_stays rows r parent offset e p g over h (cases_eq r parent))
 
-stays_after : (count : ℕ) (rows : List Entry) (event : Event) (r : ℕ) (e : Entry) → IsAllowed count rows event → slice_get rows r ≡ Some e → e.life ≡ Ended → IsAsOver (after rows event) r e
+stays_after : (count : ℕ) (rows : List Entry) (event : Event) (r : ℕ) (e : Entry) → IsAllowed count rows event → slice_get rows r ≡ Some e → e.life ≡ Ended
+    → IsAsOver (after rows event) r e
 stays_after count rows (Spawn row parent offset cowns) r e a g over = spawn_stays rows r parent offset cowns.items e (slice_get rows parent) g over refl
 stays_after count rows (Start row) r e a g over =
     let may : MayStart (life_of rows) (entry_cowns rows) row = a.keeps rules.StartNotAllowed in
@@ -118,10 +126,13 @@ stays_after count rows (Start row) r e a g over =
 stays_after count rows (End row ticks status written) r e a g over =
     let may : MayEnd rows row ticks written.items = a.keeps rules.EndNotAllowed in
     let f = living rows row Running may.runs in
-    subst (λ (run : List Entry). IsAsOver run r e) (sym (ap (changed rows row (λ x. record x { life = Ended; ticks = ticks; status = status; written = written.items })) f.1))
-    (other_stays rows r row e (record f.0 { life = Ended; ticks = ticks; status = status; written = written.items }) g over (not_that rows r row e f.0 Running not_running_ended g over f.1 f.2))
+    subst (λ (run : List Entry). IsAsOver run r e) (sym (ap
+    (changed rows row (λ x. record x { life = Ended; ticks = ticks; status = status; written = written.items })) f.1))
+    (other_stays rows r row e (record f.0 { life = Ended; ticks = ticks; status = status; written = written.items }) g over
+    (not_that rows r row e f.0 Running not_running_ended g over f.1 f.2))
 
-stays : (count : ℕ) (rows : List Entry) (log : List Event) (r : ℕ) (e : Entry) → IsLegalFrom count rows log → slice_get rows r ≡ Some e → e.life ≡ Ended → IsAsOver (after_all rows log) r e
+stays : (count : ℕ) (rows : List Entry) (log : List Event) (r : ℕ) (e : Entry) → IsLegalFrom count rows log → slice_get rows r ≡ Some e → e.life ≡ Ended
+    → IsAsOver (after_all rows log) r e
 stays count rows [] r e l g over = itself rows r e g over
 stays count rows (event ∷ log) r e l g over =
     let one = stays_after count rows event r e l.0 g over in
@@ -133,7 +144,8 @@ stays count rows (event ∷ log) r e l g over =
 abbrev AllWrote : List Entry → Type 0
 AllWrote rows = (r : ℕ) (e : Entry) → slice_get rows r ≡ Some e → e.written ≡ e.cowns
 
-spelt_first : (count : ℕ) (rows : List Entry) (event : Event) (log : List Event) → IsAllowed count rows event → IsLegalFrom count (after rows event) log → AllWrote (after_all (after rows event) log) → IsSpelt First rows event
+spelt_first : (count : ℕ) (rows : List Entry) (event : Event) (log : List Event) → IsAllowed count rows event → IsLegalFrom count (after rows event) log
+    → AllWrote (after_all (after rows event) log) → IsSpelt First rows event
 spelt_first count rows (Spawn row parent offset cowns) log a l all = tt
 spelt_first count rows (Start row) log a l all = tt
 spelt_first count rows (End row ticks status written) log a l all =
@@ -141,7 +153,8 @@ spelt_first count rows (End row ticks status written) log a l all =
     let e = living rows row Running may.runs in
     let v : Entry = record e.0 { life = Ended; ticks = ticks; status = status; written = written.items } in
     let next = after rows (End row ticks status written) in
-    let at : slice_get next row ≡ Some v = ap (λ (run : List Entry). slice_get run row) (ap (changed rows row (λ x. record x { life = Ended; ticks = ticks; status = status; written = written.items })) e.1) ∙ set_same rows row v e.0 e.1 in
+    let at : slice_get next row ≡ Some v = ap (λ (run : List Entry). slice_get run row)
+    (ap (changed rows row (λ x. record x { life = Ended; ticks = ticks; status = status; written = written.items })) e.1) ∙ set_same rows row v e.0 e.1 in
     let last = stays count next log row v l at refl in
     sym last.written ∙ all row last.later last.is ∙ last.cowns ∙ sym (cowns_at rows row e.0 e.1)
 

@@ -8,7 +8,8 @@ use Rattle.boc_record.specs.declared.verdict.RecordFaultKind.TheVariants as kind
 use Rattle.boc_runs.specs.Legal.{Entry, HasBounds, IsComplete}
 use Rattle.boc_runs.specs.declared.rows.Row.{Row}
 use Rattle.boc_runs.specs.Records.{Recorded}
-use Rattle.boc_record.specs.RecordTexts.{Version, IsOneLine, IsCut, IsSpelt, IsTextOf, HasBegun, HasNoForm, FirstLineIs, begun, line, header, event_line, record_text, kind_of_rule, IsFirstFault}
+use Rattle.boc_record.specs.RecordTexts.{Version, IsOneLine, IsCut, IsSpelt, IsTextOf, HasBegun, HasNoForm, FirstLineIs, begun, line, header, event_line}
+use Rattle.boc_record.specs.RecordTexts.{record_text, kind_of_rule, IsFirstFault}
 use Rattle.boc_text.specs.declared.lines.TheConstants.{CAPACITY}
 use Rattle.boc_rules.specs.Course.{IsOver}
 use Rattle.boc_rules.specs.declared.fault.RuleFault.{RuleFault}
@@ -36,7 +37,8 @@ abbrev pub AreGoodLines : List ℕ → Type 0
 AreGoodLines done =
     (done ≡ [])
     ⊎ ((version : Version) × (cowns : ℕ) × (events : List Event) × HasBegun version cowns events × (done ≡ begun version cowns events))
-    ⊎ ((version : Version) × (cowns : ℕ) × (events : List Event) × HasBegun version cowns events × IsComplete events × (done ≡ record_text version cowns events))
+    ⊎ ((version : Version) × (cowns : ℕ) × (events : List Event) × HasBegun version cowns events × IsComplete events
+    × (done ≡ record_text version cowns events))
 
 -- The source failed at a line: it gave good lines before, and a beginning of this one at most, which is not too long so far.
 pub record FailsAt (number : ℕ) (before after : Option (List ℕ)) : Type 0 where

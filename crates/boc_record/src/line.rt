@@ -3,7 +3,8 @@
 ghost use Rattle.std.specs.Prelude.{◌≡◌, ◌≤◌, ◌++◌, ℕ, List, codes, length, MatchOption};
 ghost use Rattle.boc_program.specs.declared.limits.TheConstants.{MOST_COWNS, MOST_HELD};
 ghost use Rattle.boc_runs.specs.Legal.{entry_cowns, HasBounds};
-ghost use Rattle.boc_record.specs.RecordTexts.{Version as Spelling, fields as fields_of, header, event_line, status_number, written_fields, IsHeader, IsEventLine, IsSpelt};
+ghost use Rattle.boc_record.specs.RecordTexts.{Version as Spelling, fields as fields_of, header, event_line, status_number, written_fields, IsHeader};
+ghost use Rattle.boc_record.specs.RecordTexts.{IsEventLine, IsSpelt};
 ghost use Rattle.boc_record.specs.Versions.{spelling};
 ghost use Rattle.boc_record.specs.Fields.{AreSmall, Tells, TellsWritten};
 
@@ -99,7 +100,8 @@ fn end_of(fields: &[u8], version: Version, judge: &Judge) -> Option<Event>
 // What the last fields of a row's end say that it wrote. In the first version there are none, and they stand for all
 // of its cowns.
 fn written_of(fields: &[u8], row: u32, version: Version, judge: &Judge) -> Option<Cowns>
-    ensures { MatchOption result ((written : List ℕ) → AreSmall written → length written ≤ MOST_HELD → fields.now ≡ fields_of (written_fields (spelling version) written) → ⊥)
+    ensures { MatchOption result ((written : List ℕ) → AreSmall written → length written ≤ MOST_HELD
+        → fields.now ≡ fields_of (written_fields (spelling version) written) → ⊥)
         (λ written. TellsWritten (spelling version) judge.now.rows row fields.now written.items) }
 {
     match version {

@@ -22,17 +22,20 @@ room_put room line long begin old new from to all is put = subst (λ (bytes : Li
 pub put_stopped : {A : Type 0} (whole : List ℕ) (result : Result A Stopped) (stopped : Stopped) (old new : Outgoing) (from to : Option (List ℕ))
     → ((before : Option (List ℕ)) (sent : List ℕ) → IsOut before from sent old → StopsAt stopped.gone sent before to) → IsErrAnd result (λ s. s ≡ stopped)
     → Puts whole result old new from to
-put_stopped whole result stopped old new from to stops is = puts_stopped whole result stopped old new from to is (stops_put whole stopped.gone old from to stops)
+put_stopped whole result stopped old new from to stops is =
+    puts_stopped whole result stopped old new from to is (stops_put whole stopped.gone old from to stops)
 
 -- one line more was put
-pub line_put : {whole : List ℕ} {text line : ℕ → List ℕ} {n : ℕ} (l : IsOfLines whole text line n) (i : ℕ) (room : List ℕ) (long begin : ℕ) (old middle new : Outgoing)
+pub line_put : {whole : List ℕ} {text line : ℕ → List ℕ} {n : ℕ} (l : IsOfLines whole text line n) (i : ℕ) (room : List ℕ) (long begin : ℕ)
+    (old middle new : Outgoing)
     (from between to : Option (List ℕ)) → i < n → HasPut (text i) old middle from between → length room ≤ long → drop begin room ≡ line i
     → HasPut (take (long - begin) (drop begin room)) middle new between to → HasPut (text (i + 1)) old new from to
 line_put {text = text} {line = line} {n = n} l i room long begin old middle new from between to small came all is put =
     line_more text line n i old middle new from between to l.grows small came (room_put room (line i) long begin middle new between to all is put)
 
 -- the sink failed at a line
-pub lines_stopped : {whole : List ℕ} {text line : ℕ → List ℕ} {n : ℕ} {A : Type 0} (l : IsOfLines whole text line n) (i : ℕ) (result : Result A Stopped) (stopped : Stopped)
+pub lines_stopped : {whole : List ℕ} {text line : ℕ → List ℕ} {n : ℕ} {A : Type 0} (l : IsOfLines whole text line n) (i : ℕ) (result : Result A Stopped)
+    (stopped : Stopped)
     (old middle new : Outgoing) (from between to : Option (List ℕ)) → i < n → HasPut (text i) old middle from between
     → ((before : Option (List ℕ)) (sent : List ℕ) → IsOut before between sent middle → StopsAt stopped.gone sent before to) → IsErrAnd result (λ s. s ≡ stopped)
     → Puts whole result old new from to

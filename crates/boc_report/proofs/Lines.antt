@@ -1,12 +1,14 @@
 -- Texts that grow by a line.
-use Rattle.std.proofs.Common.{zero, suc, codes, decimal, get_or, length, drop, take, append_assoc, ◌≡◌, ℕ, ◌+◌, ◌<◌, ◌≤◌, ◌∷◌, List, [], ◌++◌, sym, ap, ◌∙◌, arith}
+use Rattle.std.proofs.Common.{zero, suc, codes, decimal, get_or, length, drop, take, append_assoc, ◌≡◌, ℕ, ◌+◌, ◌<◌, ◌≤◌, ◌∷◌, List, [], ◌++◌, sym, ap, ◌∙◌}
+use Rattle.std.proofs.Common.{arith}
 use Rattle.std.proofs.lemmas.List.{append-nil, drop_all, take_all}
 use Rattle.std.proofs.Math.Seq.{take-suc}
 use Rattle.boc_plans.specs.declared.chain.ChainStep.{ChainStep}
 use Rattle.boc_plans.specs.declared.chain.Via.TheVariants.{Last}
 use Rattle.boc_text.proofs.Sending.{GrowsBy}
 use Rattle.boc_report.proofs.ByLines.{IsOfLines}
-use Rattle.boc_report.specs.Texts.{bound_line, number_line, plan_line, plan_lines, report_head, served_line, served_lines, step_line, step_lines, sweep_line, sweep_lines, via_word}
+use Rattle.boc_report.specs.Texts.{bound_line, number_line, plan_line, plan_lines, report_head, served_line, served_lines, step_line, step_lines, sweep_line}
+use Rattle.boc_report.specs.Texts.{sweep_lines, via_word}
 
 -- nothing stands behind a room
 pub behind : (n : ℕ) (room : List ℕ) → length room ≡ n → drop n room ≡ []
@@ -45,7 +47,8 @@ zero_more i = omega arith
 -- one step more
 steps_more : (steps : List ChainStep) (step : ChainStep) → step_lines (steps ++ step ∷ []) ≡ step_lines steps ++ step_line step
 steps_more [] step = append-nil (step_line step)
-steps_more (first ∷ steps) step = ap (λ xs. step_line first ++ xs) (steps_more steps step) ∙ sym (append_assoc (step_line first) (step_lines steps) (step_line step))
+steps_more (first ∷ steps) step = ap (λ xs. step_line first ++ xs) (steps_more steps step)
+    ∙ sym (append_assoc (step_line first) (step_lines steps) (step_line step))
 
 -- the lines of the first steps
 abbrev pub steps_to : List ChainStep → ℕ → List ℕ
@@ -71,7 +74,8 @@ steps_by_line steps none = record { grows = steps_grow steps none; all = steps_a
 
 -- the lines of the first rows of a plan, and that of the next one
 rows_more : (r i : ℕ) (starts ends : List ℕ) → i < length starts → length starts ≡ length ends
-    → plan_lines r (take (suc i) starts) (take (suc i) ends) ≡ plan_lines r (take i starts) (take i ends) ++ plan_line (r + i) (get_or starts i 0) (get_or ends i 0)
+    → plan_lines r (take (suc i) starts) (take (suc i) ends) ≡ plan_lines r (take i starts) (take i ends)
+    ++ plan_line (r + i) (get_or starts i 0) (get_or ends i 0)
 rows_more r i [] ends h e = absurd (omega (arith, h))
 rows_more r i (start ∷ starts) [] h e = absurd (omega (arith, e))
 rows_more r zero (start ∷ starts) (end ∷ ends) h e =
@@ -79,7 +83,8 @@ rows_more r zero (start ∷ starts) (end ∷ ends) h e =
 rows_more r (suc i) (start ∷ starts) (end ∷ ends) h e =
     ap (λ xs. plan_line r start end ++ xs) (rows_more (suc r) i starts ends (omega (arith, h)) (omega (arith, e))
     ∙ ap (λ n. plan_lines (suc r) (take i starts) (take i ends) ++ plan_line n (get_or starts i 0) (get_or ends i 0)) (omega arith))
-    ∙ sym (append_assoc (plan_line r start end) (plan_lines (suc r) (take i starts) (take i ends)) (plan_line (r + suc i) (get_or starts i 0) (get_or ends i 0)))
+    ∙ sym (append_assoc (plan_line r start end) (plan_lines (suc r) (take i starts) (take i ends))
+    (plan_line (r + suc i) (get_or starts i 0) (get_or ends i 0)))
 
 -- the lines of the first rows
 abbrev pub plan_to : List ℕ → List ℕ → ℕ → List ℕ
@@ -98,7 +103,8 @@ plan_all : (starts ends : List ℕ) (i : ℕ) → length starts ≡ length ends 
 plan_all starts ends i same end = ap (λ xs. plan_lines 0 xs (take i ends)) (take_all i starts end)
     ∙ ap (plan_lines 0 starts) (take_all i ends (omega (arith, same, end)))
 
-pub plan_by_line : (starts ends : List ℕ) → length starts ≡ length ends → IsOfLines (plan_lines 0 starts ends) (plan_to starts ends) (plan_at starts ends) (length starts)
+pub plan_by_line : (starts ends : List ℕ) → length starts ≡ length ends
+    → IsOfLines (plan_lines 0 starts ends) (plan_to starts ends) (plan_at starts ends) (length starts)
 plan_by_line starts ends same = record { grows = plan_grows starts ends same; all = λ i end. plan_all starts ends i same end }
 
 -- the lines of the first rows of a greedy plan, and that of the next one
@@ -112,7 +118,8 @@ served_more r zero (start ∷ starts) (end ∷ ends) (worker ∷ workers) h e w 
     append-nil (served_line r start end worker) ∙ ap (λ n. served_line n start end worker) (omega arith)
 served_more r (suc i) (start ∷ starts) (end ∷ ends) (worker ∷ workers) h e w =
     ap (λ xs. served_line r start end worker ++ xs) (served_more (suc r) i starts ends workers (omega (arith, h)) (omega (arith, e)) (omega (arith, w))
-    ∙ ap (λ n. served_lines (suc r) (take i starts) (take i ends) (take i workers) ++ served_line n (get_or starts i 0) (get_or ends i 0) (get_or workers i 0)) (omega arith))
+    ∙ ap (λ n. served_lines (suc r) (take i starts) (take i ends) (take i workers) ++ served_line n (get_or starts i 0) (get_or ends i 0) (get_or workers i 0))
+    (omega arith))
     ∙ sym (append_assoc (served_line r start end worker) (served_lines (suc r) (take i starts) (take i ends) (take i workers))
     (served_line (r + suc i) (get_or starts i 0) (get_or ends i 0) (get_or workers i 0)))
 

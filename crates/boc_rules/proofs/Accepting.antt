@@ -33,8 +33,10 @@ pub record IsThatOf (run : List Entry) (cowns : ℕ) (stages : List Stage) (foun
   pub latest_are : AreLatest run cowns latest
   pub ended_is : ended ≡ over run
 
-that : (cowns : ℕ) (run : List Entry) (rows : List Row) (stages : List Stage) (found latest : List (Option ℕ)) (ended : ℕ) → AreParts cowns run rows stages found latest ended → IsThatOf run cowns stages found latest ended
-that cowns run rows stages found latest ended k = record { stages_are = k.stages_are; found_are = k.found_are; latest_are = k.latest_are; ended_is = k.ended_is }
+that : (cowns : ℕ) (run : List Entry) (rows : List Row) (stages : List Stage) (found latest : List (Option ℕ)) (ended : ℕ)
+    → AreParts cowns run rows stages found latest ended → IsThatOf run cowns stages found latest ended
+that cowns run rows stages found latest ended k = record
+    { stages_are = k.stages_are; found_are = k.found_are; latest_are = k.latest_are; ended_is = k.ended_is }
 
 -- a row and its stage tell the entry
 same_entry : (e : Entry) (row : Row) (stage : Stage) → IsRowOf e row → IsStageOf e stage → e ≡ entry_of row stage
@@ -56,7 +58,8 @@ entries_same (e ∷ run) [] stages of at = absurd (omega (arith, of.all))
 entries_same (e ∷ run) (row ∷ rows) [] of at = absurd (omega (arith, at.all))
 entries_same (e ∷ run) (row ∷ rows) (stage ∷ stages) of at =
     let first = same_entry e row stage (of.each 0 e row refl refl) (at.each 0 e stage refl refl) in
-    let rest = entries_same run rows stages (record { all = omega (arith, of.all); each = λ r d x g h. of.each (suc r) d x g h }) (record { all = omega (arith, at.all); each = λ r d x g h. at.each (suc r) d x g h }) in
+    let rest = entries_same run rows stages (record { all = omega (arith, of.all); each = λ r d x g h. of.each (suc r) d x g h })
+    (record { all = omega (arith, at.all); each = λ r d x g h. at.each (suc r) d x g h }) in
     ap (λ x. x ∷ run) first ∙ ap (λ xs. entry_of row stage ∷ xs) rest
 
 -- the rows after an event that is allowed are those of a legal log
@@ -73,8 +76,10 @@ pub record Goes (cowns : ℕ) (later : List Entry) (rows : List Row) (stages : L
   pub kept : AreParts cowns (entries_of rows stages) rows stages found latest ended
   pub rows_are : entries_of rows stages ≡ later
 
-goes : (cowns : ℕ) (run : List Entry) (event : Event) (rows : List Row) (stages : List Stage) (found latest : List (Option ℕ)) (ended : ℕ) → AreLegal cowns run → IsAllowed cowns run event
-    → AreRowsOf (after run event) rows → IsThatOf (after run event) cowns stages found latest ended → Goes cowns (after run event) rows stages found latest ended
+goes : (cowns : ℕ) (run : List Entry) (event : Event) (rows : List Row) (stages : List Stage) (found latest : List (Option ℕ)) (ended : ℕ) → AreLegal cowns run
+    → IsAllowed cowns run event
+    → AreRowsOf (after run event) rows → IsThatOf (after run event) cowns stages found latest ended
+    → Goes cowns (after run event) rows stages found latest ended
 goes cowns run event rows stages found latest ended l a are t =
     let e = entries_same (after run event) rows stages are t.stages_are in
     let k : AreParts cowns (after run event) rows stages found latest ended = record {
@@ -88,8 +93,10 @@ goes cowns run event rows stages found latest ended l a are t =
     record { kept = subst (λ (r : List Entry). AreParts cowns r rows stages found latest ended) e k; rows_are = sym e }
 
 -- the row of a life goes on to another, with its cowns and its children as before
-that_goes_on : (run : List Entry) (cowns : ℕ) (stages : List Stage) (found latest : List (Option ℕ)) (ended later row : ℕ) (from : lives.Life) (f : Entry → Entry) (now : Life) → IsThatOf run cowns stages found latest ended → life_of run row ≡ Some from
-    → ((e : Entry) → (f e).cowns ≡ e.cowns) → ((e : Entry) → (f e).last ≡ e.last) → ((e : Entry) → (f e).life ≡ meant now) → later + over_one from ≡ ended + over_one (meant now)
+that_goes_on : (run : List Entry) (cowns : ℕ) (stages : List Stage) (found latest : List (Option ℕ)) (ended later row : ℕ) (from : lives.Life)
+    (f : Entry → Entry) (now : Life) → IsThatOf run cowns stages found latest ended → life_of run row ≡ Some from
+    → ((e : Entry) → (f e).cowns ≡ e.cowns) → ((e : Entry) → (f e).last ≡ e.last) → ((e : Entry) → (f e).life ≡ meant now)
+    → later + over_one from ≡ ended + over_one (meant now)
     → IsThatOf (changed run row f (slice_get run row)) cowns (changed stages row (λ s. record s { life = now }) (slice_get stages row)) found latest later
 that_goes_on run cowns stages found latest ended later row from f now t at cowns_stay last_stays lives counts =
     let e = living run row from at in
@@ -100,7 +107,8 @@ that_goes_on run cowns stages found latest ended later row from f now t at cowns
     let y : Stage = record x.0 { life = now } in
     let was = t.stages_are.each row e.0 x.0 e.1 x.1 in
     let counted = over_set run row e.0 v e.1 in
-    subst (λ (r : List Entry). IsThatOf r cowns (changed stages row (λ s. record s { life = now }) (slice_get stages row)) found latest later) (sym (ap (changed run row f) e.1))
+    subst (λ (r : List Entry). IsThatOf r cowns (changed stages row (λ s. record s { life = now }) (slice_get stages row)) found latest later)
+    (sym (ap (changed run row f) e.1))
     (subst (λ (s : List Stage). IsThatOf (slice_set run row v) cowns s found latest later) (sym (ap (changed stages row (λ s. record s { life = now })) x.1))
     (record {
       stages_are = stages_set run stages row e.0 v x.0 y t.stages_are h x.1 (record { life = sym (lives e.0); last = was.last ∙ sym (last_stays e.0) });
@@ -110,7 +118,8 @@ that_goes_on run cowns stages found latest ended later row from f now t at cowns
     }))
 
 -- the parent has a further child
-that_child : (run : List Entry) (cowns : ℕ) (stages : List Stage) (found latest : List (Option ℕ)) (ended parent offset : ℕ) (e : Entry) (x : Stage) → IsThatOf run cowns stages found latest ended → slice_get run parent ≡ Some e → slice_get stages parent ≡ Some x
+that_child : (run : List Entry) (cowns : ℕ) (stages : List Stage) (found latest : List (Option ℕ)) (ended parent offset : ℕ) (e : Entry) (x : Stage)
+    → IsThatOf run cowns stages found latest ended → slice_get run parent ≡ Some e → slice_get stages parent ≡ Some x
     → IsThatOf (slice_set run parent (record e { last = offset })) cowns (slice_set stages parent (record x { last = offset })) found latest ended
 that_child run cowns stages found latest ended parent offset e x t is at =
     let v : Entry = record e { last = offset } in
@@ -127,8 +136,10 @@ abbrev new_stage : List (Option ℕ) → ArrayVec ℕ → Stage
 new_stage found cowns = record { life = Pending; last = 0; from = length found; to = length found + length cowns.items }
 
 -- a new row stands behind the others
-that_push : (run : List Entry) (count : ℕ) (stages : List Stage) (found latest : List (Option ℕ)) (ended row parent offset : ℕ) (cowns : ArrayVec ℕ) → IsThatOf run count stages found latest ended → row ≡ length run → All (λ c. c < count) cowns.items → length cowns.items ≤ MOST_HELD
-    → IsThatOf (run ++ (pending parent offset cowns.items ∷ [])) count (stages ++ (new_stage found cowns ∷ [])) (found ++ map (λ c. get_or latest c None) cowns.items) (noted latest cowns.items row) ended
+that_push : (run : List Entry) (count : ℕ) (stages : List Stage) (found latest : List (Option ℕ)) (ended row parent offset : ℕ) (cowns : ArrayVec ℕ)
+    → IsThatOf run count stages found latest ended → row ≡ length run → All (λ c. c < count) cowns.items → length cowns.items ≤ MOST_HELD
+    → IsThatOf (run ++ (pending parent offset cowns.items ∷ [])) count (stages ++ (new_stage found cowns ∷ []))
+    (found ++ map (λ c. get_or latest c None) cowns.items) (noted latest cowns.items row) ended
 that_push run count stages found latest ended row parent offset cowns t next below held =
     let v = pending parent offset cowns.items in record {
       stages_are = stages_push run stages v (new_stage found cowns) t.stages_are (record { life = refl; last = refl });
@@ -141,15 +152,20 @@ no_stages : (stages : List Stage) → length stages ≡ 0 → stages ≡ []
 no_stages [] e = refl
 no_stages (x ∷ stages) e = absurd (omega arith)
 
-that_spawn : (run : List Entry) (count : ℕ) (stages : List Stage) (found latest : List (Option ℕ)) (ended row parent offset : ℕ) (cowns : ArrayVec ℕ) → IsThatOf run count stages found latest ended → row ≡ length run
+that_spawn : (run : List Entry) (count : ℕ) (stages : List Stage) (found latest : List (Option ℕ)) (ended row parent offset : ℕ) (cowns : ArrayVec ℕ)
+    → IsThatOf run count stages found latest ended → row ≡ length run
     → IsParent run parent → MayNeed count run cowns.items → length cowns.items ≤ MOST_HELD
     → IsThatOf (changed run parent (λ x. record x { last = offset }) (slice_get run parent) ++ (pending parent offset cowns.items ∷ [])) count
-    (changed stages parent (λ s. record s { last = offset }) (slice_get stages parent) ++ (new_stage found cowns ∷ [])) (found ++ map (λ c. get_or latest c None) cowns.items) (noted latest cowns.items row) ended
+    (changed stages parent (λ s. record s { last = offset }) (slice_get stages parent) ++ (new_stage found cowns ∷ []))
+    (found ++ map (λ c. get_or latest c None) cowns.items) (noted latest cowns.items row) ended
 that_spawn [] count stages found latest ended row parent offset cowns t next p m held =
     let none : stages ≡ [] = no_stages stages t.stages_are.all in
-    let same : changed stages parent (λ s. record s { last = offset }) (slice_get stages parent) ≡ stages = subst (λ (s : List Stage). changed s parent (λ s. record s { last = offset }) (slice_get s parent) ≡ s) (sym none) refl in
-    subst (λ (s : List Stage). IsThatOf (pending parent offset cowns.items ∷ []) count (s ++ (new_stage found cowns ∷ [])) (found ++ map (λ c. get_or latest c None) cowns.items) (noted latest cowns.items row) ended) (sym same)
-    (that_push [] count stages found latest ended row parent offset cowns t next (subst (λ (cs : List ℕ). All (λ c. c < count) cs) (sym m) (λ k d h. absurd (omega arith))) held)
+    let same : changed stages parent (λ s. record s { last = offset }) (slice_get stages parent) ≡ stages =
+    subst (λ (s : List Stage). changed s parent (λ s. record s { last = offset }) (slice_get s parent) ≡ s) (sym none) refl in
+    subst (λ (s : List Stage). IsThatOf (pending parent offset cowns.items ∷ []) count (s ++ (new_stage found cowns ∷ []))
+    (found ++ map (λ c. get_or latest c None) cowns.items) (noted latest cowns.items row) ended) (sym same)
+    (that_push [] count stages found latest ended row parent offset cowns t next
+    (subst (λ (cs : List ℕ). All (λ c. c < count) cs) (sym m) (λ k d h. absurd (omega arith))) held)
 that_spawn (main ∷ others) count stages found latest ended row parent offset cowns t next p m held =
     let run = main ∷ others in
     let e = living run parent lives.Running p in
@@ -157,9 +173,12 @@ that_spawn (main ∷ others) count stages found latest ended row parent offset c
     let x = got_in stages parent inside in
     let v : Entry = record e.0 { last = offset } in
     let y : Stage = record x.0 { last = offset } in
-    subst (λ (r : List Entry). IsThatOf (r ++ (pending parent offset cowns.items ∷ [])) count (changed stages parent (λ s. record s { last = offset }) (slice_get stages parent) ++ (new_stage found cowns ∷ [])) (found ++ map (λ c. get_or latest c None) cowns.items) (noted latest cowns.items row) ended)
+    subst (λ (r : List Entry). IsThatOf (r ++ (pending parent offset cowns.items ∷ [])) count
+    (changed stages parent (λ s. record s { last = offset }) (slice_get stages parent) ++ (new_stage found cowns ∷ []))
+    (found ++ map (λ c. get_or latest c None) cowns.items) (noted latest cowns.items row) ended)
     (sym (ap (changed run parent (λ z. record z { last = offset })) e.1))
-    (subst (λ (s : List Stage). IsThatOf (slice_set run parent v ++ (pending parent offset cowns.items ∷ [])) count (s ++ (new_stage found cowns ∷ [])) (found ++ map (λ c. get_or latest c None) cowns.items) (noted latest cowns.items row) ended)
+    (subst (λ (s : List Stage). IsThatOf (slice_set run parent v ++ (pending parent offset cowns.items ∷ [])) count (s ++ (new_stage found cowns ∷ []))
+    (found ++ map (λ c. get_or latest c None) cowns.items) (noted latest cowns.items row) ended)
     (sym (ap (changed stages parent (λ s. record s { last = offset })) x.1))
     (that_push (slice_set run parent v) count (slice_set stages parent y) found latest ended row parent offset cowns
     (that_child run count stages found latest ended parent offset e.0 x.0 t e.1 x.1) (next ∙ sym (length-set run parent v)) m.below held))
@@ -170,22 +189,39 @@ may_start run row may = may.waits
 may_end : (run : List Entry) (row ticks : ℕ) (written : List ℕ) → MayEnd run row ticks written → life_of run row ≡ Some lives.Running
 may_end run row ticks written may = may.runs
 
-pub keeps_start : (cowns : ℕ) (run : List Entry) (rows : List Row) (stages : List Stage) (found latest : List (Option ℕ)) (ended row : ℕ) → AreParts cowns run rows stages found latest ended → IsAllowed cowns run (Start row)
+pub keeps_start : (cowns : ℕ) (run : List Entry) (rows : List Row) (stages : List Stage) (found latest : List (Option ℕ)) (ended row : ℕ)
+    → AreParts cowns run rows stages found latest ended → IsAllowed cowns run (Start row)
     → Goes cowns (after run (Start row)) rows (changed stages row (λ s. record s { life = Running }) (slice_get stages row)) found latest ended
 keeps_start cowns run rows stages found latest ended row k a =
-    goes cowns run (Start row) rows (changed stages row (λ s. record s { life = Running }) (slice_get stages row)) found latest ended k.legal a (rows_go_on run rows (Start row) k.rows_are)
-    (that_goes_on run cowns stages found latest ended ended row lives.Pending (λ x. record x { life = lives.Running }) Running (that cowns run rows stages found latest ended k)
+    goes cowns run (Start row) rows (changed stages row (λ s. record s { life = Running }) (slice_get stages row)) found latest ended k.legal a
+    (rows_go_on run rows (Start row) k.rows_are)
+    (that_goes_on run cowns stages found latest ended ended row lives.Pending (λ x. record x { life = lives.Running }) Running
+    (that cowns run rows stages found latest ended k)
     (may_start run row (a.keeps rules.StartNotAllowed)) (λ e. refl) (λ e. refl) (λ e. refl) refl)
 
-pub keeps_end : (cowns : ℕ) (run : List Entry) (rows : List Row) (stages : List Stage) (found latest : List (Option ℕ)) (ended row ticks : ℕ) (status : EndStatus) (written : ArrayVec ℕ) → AreParts cowns run rows stages found latest ended → IsAllowed cowns run (End row ticks status written)
-    → Goes cowns (after run (End row ticks status written)) (changed rows row (λ x. record x { ticks = ticks; status = status; written = written }) (slice_get rows row)) (changed stages row (λ s. record s { life = Ended }) (slice_get stages row)) found latest (ended + 1)
+pub keeps_end : (cowns : ℕ) (run : List Entry) (rows : List Row) (stages : List Stage) (found latest : List (Option ℕ)) (ended row ticks : ℕ)
+    (status : EndStatus) (written : ArrayVec ℕ) → AreParts cowns run rows stages found latest ended → IsAllowed cowns run (End row ticks status written)
+    → Goes cowns (after run (End row ticks status written))
+    (changed rows row (λ x. record x { ticks = ticks; status = status; written = written }) (slice_get rows row))
+    (changed stages row (λ s. record s { life = Ended }) (slice_get stages row)) found latest (ended + 1)
 keeps_end cowns run rows stages found latest ended row ticks status written k a =
-    goes cowns run (End row ticks status written) (changed rows row (λ x. record x { ticks = ticks; status = status; written = written }) (slice_get rows row)) (changed stages row (λ s. record s { life = Ended }) (slice_get stages row)) found latest (ended + 1) k.legal a (rows_go_on run rows (End row ticks status written) k.rows_are)
-    (that_goes_on run cowns stages found latest ended (ended + 1) row lives.Running (λ x. record x { life = lives.Ended; ticks = ticks; status = status; written = written.items }) Ended
-    (that cowns run rows stages found latest ended k) (may_end run row ticks written.items (a.keeps rules.EndNotAllowed)) (λ e. refl) (λ e. refl) (λ e. refl) (omega arith))
+    goes cowns run (End row ticks status written) (changed rows row (λ x. record x { ticks = ticks; status = status; written = written }) (slice_get rows row))
+    (changed stages row (λ s. record s { life = Ended }) (slice_get stages row)) found latest (ended + 1) k.legal a
+    (rows_go_on run rows (End row ticks status written) k.rows_are)
+    (that_goes_on run cowns stages found latest ended (ended + 1) row lives.Running
+    (λ x. record x { life = lives.Ended; ticks = ticks; status = status; written = written.items }) Ended
+    (that cowns run rows stages found latest ended k) (may_end run row ticks written.items (a.keeps rules.EndNotAllowed)) (λ e. refl) (λ e. refl) (λ e. refl)
+    (omega arith))
 
-pub keeps_spawn : (count : ℕ) (run : List Entry) (rows : List Row) (stages : List Stage) (found latest : List (Option ℕ)) (ended row parent offset : ℕ) (cowns : ArrayVec ℕ) → AreParts count run rows stages found latest ended → IsAllowed count run (Spawn row parent offset cowns)
-    → Goes count (after run (Spawn row parent offset cowns)) (rows ++ (new_row parent offset cowns ∷ [])) (changed stages parent (λ s. record s { last = offset }) (slice_get stages parent) ++ (new_stage found cowns ∷ [])) (found ++ map (λ c. get_or latest c None) cowns.items) (noted latest cowns.items row) ended
+pub keeps_spawn : (count : ℕ) (run : List Entry) (rows : List Row) (stages : List Stage) (found latest : List (Option ℕ)) (ended row parent offset : ℕ)
+    (cowns : ArrayVec ℕ) → AreParts count run rows stages found latest ended → IsAllowed count run (Spawn row parent offset cowns)
+    → Goes count (after run (Spawn row parent offset cowns)) (rows ++ (new_row parent offset cowns ∷ []))
+    (changed stages parent (λ s. record s { last = offset }) (slice_get stages parent) ++ (new_stage found cowns ∷ []))
+    (found ++ map (λ c. get_or latest c None) cowns.items) (noted latest cowns.items row) ended
 keeps_spawn count run rows stages found latest ended row parent offset cowns k a =
-    goes count run (Spawn row parent offset cowns) (rows ++ (new_row parent offset cowns ∷ [])) (changed stages parent (λ s. record s { last = offset }) (slice_get stages parent) ++ (new_stage found cowns ∷ [])) (found ++ map (λ c. get_or latest c None) cowns.items) (noted latest cowns.items row) ended k.legal a (rows_go_on run rows (Spawn row parent offset cowns) k.rows_are)
-    (that_spawn run count stages found latest ended row parent offset cowns (that count run rows stages found latest ended k) (a.keeps rules.NumberNotNext) (a.keeps rules.ParentNotRunning) (a.keeps rules.Cowns) a.bounds.4)
+    goes count run (Spawn row parent offset cowns) (rows ++ (new_row parent offset cowns ∷ []))
+    (changed stages parent (λ s. record s { last = offset }) (slice_get stages parent) ++ (new_stage found cowns ∷ []))
+    (found ++ map (λ c. get_or latest c None) cowns.items) (noted latest cowns.items row) ended k.legal a
+    (rows_go_on run rows (Spawn row parent offset cowns) k.rows_are)
+    (that_spawn run count stages found latest ended row parent offset cowns (that count run rows stages found latest ended k) (a.keeps rules.NumberNotNext)
+    (a.keeps rules.ParentNotRunning) (a.keeps rules.Cowns) a.bounds.4)

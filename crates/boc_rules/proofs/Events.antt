@@ -75,7 +75,8 @@ counts_after count rows (End row ticks status written) a =
     subst (Counts rows) (sym (ap (changed rows row (λ x. record x { life = Ended; ticks = ticks; status = status; written = written.items })) e.1))
     (counts_set rows row e.0 v e.1 (omega (arith, ap left_one e.2)))
 
-counts_all : (count : ℕ) (rows : List Entry) (log : List Event) → IsLegalFrom count rows log → left (after_all rows log) + length log + 3 * length rows ≡ 3 * length (after_all rows log) + left rows
+counts_all : (count : ℕ) (rows : List Entry) (log : List Event) → IsLegalFrom count rows log
+    → left (after_all rows log) + length log + 3 * length rows ≡ 3 * length (after_all rows log) + left rows
 counts_all count rows [] l = omega arith
 counts_all count rows (event ∷ log) l = omega (arith, counts_all count (after rows event) log l.1, counts_after count rows event l.0)
 
@@ -84,7 +85,8 @@ pub counted : (count : ℕ) (log : List Event) → IsLegal count log → left (e
 counted count log l = omega (arith, counts_all count [] log l)
 
 -- a row that can start has an event left
-pub start_left : (count : ℕ) (log : List Event) (row : ℕ) → IsLegal count log → IsAllowed count (entries log) (Start row) → length log < 3 * length (entries log)
+pub start_left : (count : ℕ) (log : List Event) (row : ℕ) → IsLegal count log → IsAllowed count (entries log) (Start row)
+    → length log < 3 * length (entries log)
 start_left count log row l a =
     let rows = entries log in
     let may : MayStart (life_of rows) (entry_cowns rows) row = a.keeps rules.StartNotAllowed in
@@ -92,7 +94,8 @@ start_left count log row l a =
     omega (arith, counted count log l, left_at rows row e.0 e.1, ap left_one e.2)
 
 -- and so has one that can end
-pub end_left : (count : ℕ) (log : List Event) (row ticks : ℕ) (status : EndStatus) (written : ArrayVec ℕ) → IsLegal count log → IsAllowed count (entries log) (End row ticks status written)
+pub end_left : (count : ℕ) (log : List Event) (row ticks : ℕ) (status : EndStatus) (written : ArrayVec ℕ) → IsLegal count log
+    → IsAllowed count (entries log) (End row ticks status written)
     → length log < 3 * length (entries log)
 end_left count log row ticks status written l a =
     let rows = entries log in

@@ -45,12 +45,14 @@ written_at : (run : List Entry) (rows : List Row) (r : ℕ) (h : IsAt run rows r
 written_at run rows r h = ap (λ (o : Option Row). option_map_or (λ (x : Row). x.written.items) o []) h.is ∙ h.that.written
 
 -- a row of a run that is over
-ended_in : (count : ℕ) (run : List Entry) (r : ℕ) (e : Entry) → IsWell count run → AreOver (length run) (life_of run) → slice_get run r ≡ Some e → r < length run → HasEnded e
+ended_in : (count : ℕ) (run : List Entry) (r : ℕ) (e : Entry) → IsWell count run → AreOver (length run) (life_of run) → slice_get run r ≡ Some e
+    → r < length run → HasEnded e
 ended_in count run r e w o g less =
     let x = living run r Ended (o.ended r less) in
     w.ended r e g (ap (λ (z : Entry). z.life) (one_got run r e x.0 g x.1) ∙ x.2)
 
-pub is_rows : (count : ℕ) (run : List Entry) (rows : List Row) → count ≤ MOST_COWNS → IsWell count run → AreOver (length run) (life_of run) → AreRowsOf run rows → IsRows rows
+pub is_rows : (count : ℕ) (run : List Entry) (rows : List Row) → count ≤ MOST_COWNS → IsWell count run → AreOver (length run) (life_of run) → AreRowsOf run rows
+    → IsRows rows
 is_rows count run rows few w o are = record {
   not_empty = omega (arith, o.some, are.all);
   not_many = omega (arith, w.few, are.all);
@@ -59,11 +61,13 @@ is_rows count run rows few w o are = record {
       subst (λ (cs : List ℕ). IsStrictlyIncreasing cs) (sym (cowns_at run rows r h)) (w.cowned r h.entry h.was).rise;
   cowns_below = λ r less.
       let h = at run rows r are less in
-      subst (λ (cs : List ℕ). All (λ c. c < MOST_COWNS) cs) (sym (cowns_at run rows r h)) (λ k d inside. omega (arith, (w.cowned r h.entry h.was).below k d inside, few));
+      subst (λ (cs : List ℕ). All (λ c. c < MOST_COWNS) cs) (sym (cowns_at run rows r h))
+      (λ k d inside. omega (arith, (w.cowned r h.entry h.was).below k d inside, few));
   written_own = λ r less.
       let h = at run rows r are less in
       let own = (ended_in count run r h.entry w o h.was (omega (arith, are.all, less))).own in
-      subst (λ (cs : List ℕ). AreAmong cs (written_of rows r)) (sym (cowns_at run rows r h)) (subst (AreAmong h.entry.cowns) (sym (written_at run rows r h)) own);
+      subst (λ (cs : List ℕ). AreAmong cs (written_of rows r)) (sym (cowns_at run rows r h))
+      (subst (AreAmong h.entry.cowns) (sym (written_at run rows r h)) own);
   main_parent = let h = at run rows 0 are (omega (arith, o.some, are.all)) in parent_at run rows 0 h ∙ (w.main h.entry h.was).parent;
   main_offset = let h = at run rows 0 are (omega (arith, o.some, are.all)) in offset_at run rows 0 h ∙ (w.main h.entry h.was).offset;
   main_cowns = let h = at run rows 0 are (omega (arith, o.some, are.all)) in cowns_at run rows 0 h ∙ (w.main h.entry h.was).cowns;
@@ -88,7 +92,8 @@ is_rows count run rows few w o are = record {
       let h = at run rows r are less in
       let c = w.child r h.entry more h.was in
       let p = at run rows (parent_of rows r) are (omega (arith, parent_at run rows r h, c.before, less)) in
-      let one : c.spawner ≡ p.entry = one_got run (parent_of rows r) c.spawner p.entry (got_at run (parent_of rows r) h.entry.parent c.spawner (parent_at run rows r h) c.is) p.was in
+      let one : c.spawner ≡ p.entry = one_got run (parent_of rows r) c.spawner p.entry
+      (got_at run (parent_of rows r) h.entry.parent c.spawner (parent_at run rows r h) c.is) p.was in
       let t = ended_in count run (parent_of rows r) p.entry w o p.was (omega (arith, are.all, parent_at run rows r h, c.before, less)) in
       omega (arith, offset_at run rows r h, ticks_at run rows (parent_of rows r) p, c.reached, ap (λ (z : Entry). z.last) one, t.cover);
 }

@@ -42,29 +42,34 @@ pub record IsReadAt (run : List Entry) (stages : List Stage) (r : ℕ) (stage : 
   pub at : slice_get stages r ≡ Some stage
   pub is : IsStageOf entry stage
 
-pub read_at : (run : List Entry) (stages : List Stage) (r : ℕ) (stage : Stage) → AreStagesOf run stages → r < length stages → stage ≡ get_or stages r stage → IsReadAt run stages r stage
+pub read_at : (run : List Entry) (stages : List Stage) (r : ℕ) (stage : Stage) → AreStagesOf run stages → r < length stages → stage ≡ get_or stages r stage
+    → IsReadAt run stages r stage
 read_at run stages r stage are less read =
     let at = slice_get_read stages (length stages) r stage refl less read in
     let e = got_in run r (omega (arith, are.all, less)) in
     record { entry = e.0; was = e.1; at = at; is = are.each r e.0 stage e.1 at }
 
-pub last_read : (run : List Entry) (stages : List Stage) (r : ℕ) (stage : Stage) → AreStagesOf run stages → r < length stages → stage ≡ get_or stages r stage → stage.last ≡ last_of run r
+pub last_read : (run : List Entry) (stages : List Stage) (r : ℕ) (stage : Stage) → AreStagesOf run stages → r < length stages → stage ≡ get_or stages r stage
+    → stage.last ≡ last_of run r
 last_read run stages r stage are less read =
     let h = read_at run stages r stage are less read in
     h.is.last ∙ sym (last_at run r h.entry h.was)
 
 pub last_past : (run : List Entry) (stages : List Stage) (r : ℕ) → AreStagesOf run stages → length stages ≤ r → 0 ≡ last_of run r
-last_past run stages r are past = sym (ap (λ (o : Option Entry). option_map_or (λ (x : Entry). x.last) o 0) (slice_get_past run r (omega (arith, are.all, past))))
+last_past run stages r are past = sym (ap (λ (o : Option Entry). option_map_or (λ (x : Entry). x.last) o 0)
+    (slice_get_past run r (omega (arith, are.all, past))))
 
 -- a pending row may start where the rows before it on its cowns are over
-pub pending_may_start : (run : RunSoFar) (r : ℕ) (stage : Stage) (before : List (Option ℕ)) → IsRunSoFar run → r < length run.stages.items → stage ≡ get_or run.stages.items r stage → stage.life ≡ Pending → before ≡ slice_range run.found.items stage.from stage.to
+pub pending_may_start : (run : RunSoFar) (r : ℕ) (stage : Stage) (before : List (Option ℕ)) → IsRunSoFar run → r < length run.stages.items
+    → stage ≡ get_or run.stages.items r stage → stage.life ≡ Pending → before ≡ slice_range run.found.items stage.from stage.to
     → All (IsOverAt (so_far run)) before ↔ MayStart (life_of (so_far run)) (entry_cowns (so_far run)) r
 pending_may_start run r stage before k less read waits same =
     let rows = so_far run in
     let h = read_at rows run.stages.items r stage k.stages_are less read in
     let life : life_of rows r ≡ Some lives.Pending = life_at rows r h.entry h.was ∙ ap (λ (l : lives.Life). Some l) (sym h.is.life ∙ ap meant waits) in
     let are = k.found_are.before r stage h.at in (
-      λ over. starts run.cowns rows r (slice_range run.found.items stage.from stage.to) (well_rows run.cowns (so_far run) k.legal) life are (subst (λ (b : List (Option ℕ)). All (IsOverAt rows) b) same over),
+      λ over. starts run.cowns rows r (slice_range run.found.items stage.from stage.to) (well_rows run.cowns (so_far run) k.legal) life are
+          (subst (λ (b : List (Option ℕ)). All (IsOverAt rows) b) same over),
       λ may. subst (λ (b : List (Option ℕ)). All (IsOverAt rows) b) (sym same) (over_before rows r (slice_range run.found.items stage.from stage.to) may are),
     )
 
@@ -74,7 +79,8 @@ meant_pending Running e = absurd (not_pending_running (sym e))
 meant_pending Ended e = absurd (not_pending_ended (sym e))
 
 -- and no other row may
-pub others_may_not : (run : RunSoFar) (r : ℕ) (stage : Stage) → IsRunSoFar run → r < length run.stages.items → stage ≡ get_or run.stages.items r stage → MayStart (life_of (so_far run)) (entry_cowns (so_far run)) r → stage.life ≡ Pending
+pub others_may_not : (run : RunSoFar) (r : ℕ) (stage : Stage) → IsRunSoFar run → r < length run.stages.items → stage ≡ get_or run.stages.items r stage
+    → MayStart (life_of (so_far run)) (entry_cowns (so_far run)) r → stage.life ≡ Pending
 others_may_not run r stage k less read may =
     let rows = so_far run in
     let h = read_at rows run.stages.items r stage k.stages_are less read in
@@ -87,10 +93,12 @@ need_below count [] cowns m = subst (λ (cs : List ℕ). All (λ c. c < count) c
 need_below count (main ∷ others) cowns m = m.below
 
 -- the cowns that an allowed event names have bytes
-pub spawn_small : (count : ℕ) (rows : List Entry) (row parent offset : ℕ) (cowns : ArrayVec ℕ) → count ≤ MOST_COWNS → IsAllowed count rows (Spawn row parent offset cowns) → All (λ c. c < MOST_COWNS) cowns.items
+pub spawn_small : (count : ℕ) (rows : List Entry) (row parent offset : ℕ) (cowns : ArrayVec ℕ) → count ≤ MOST_COWNS
+    → IsAllowed count rows (Spawn row parent offset cowns) → All (λ c. c < MOST_COWNS) cowns.items
 spawn_small count rows row parent offset cowns few a = smaller count MOST_COWNS cowns.items few (need_below count rows cowns.items (a.keeps rules.Cowns))
 
-pub written_small : (count : ℕ) (rows : List Entry) (row ticks : ℕ) (status : EndStatus) (written : ArrayVec ℕ) → AreLegal count rows → IsAllowed count rows (End row ticks status written) → All (λ c. c < MOST_COWNS) written.items
+pub written_small : (count : ℕ) (rows : List Entry) (row ticks : ℕ) (status : EndStatus) (written : ArrayVec ℕ) → AreLegal count rows
+    → IsAllowed count rows (End row ticks status written) → All (λ c. c < MOST_COWNS) written.items
 written_small count rows row ticks status written l a =
     let may : MayEnd rows row ticks written.items = a.keeps rules.EndNotAllowed in
     let e = living rows row lives.Running may.runs in
@@ -106,18 +114,21 @@ pub record IsSpawnable (run : RunSoFar) (row : ℕ) (cowns : ArrayVec ℕ) : Typ
   pub next : row < MOST_ROWS
   pub few : length run.found.items ≤ MOST_HELD * MOST_ROWS
 
-pub spawn_finds : (run : RunSoFar) {event : Event} {row parent offset : ℕ} {cowns : ArrayVec ℕ} → event ≡ Spawn row parent offset cowns → IsRunSoFar run → IsAllowed run.cowns (so_far run) event → IsSpawnable run row cowns
-spawn_finds run {row = row} {parent = parent} {offset = offset} {cowns = cowns} is k allowed = let a = subst (IsAllowed run.cowns (so_far run)) is allowed in record {
-  there = subst (λ (n : ℕ). All (λ c. c < n) cowns.items) (sym k.latest_are.all) (need_below run.cowns (so_far run) cowns.items (a.keeps rules.Cowns));
-  small = spawn_small run.cowns (so_far run) row parent offset cowns k.legal.few a;
-  next = a.keeps rules.TooMany;
-  few = omega (arith, k.found_are.few, (well_rows run.cowns (so_far run) k.legal).few);
-}
+pub spawn_finds : (run : RunSoFar) {event : Event} {row parent offset : ℕ} {cowns : ArrayVec ℕ} → event ≡ Spawn row parent offset cowns → IsRunSoFar run
+    → IsAllowed run.cowns (so_far run) event → IsSpawnable run row cowns
+spawn_finds run {row = row} {parent = parent} {offset = offset} {cowns = cowns} is k allowed = let a = subst (IsAllowed run.cowns (so_far run)) is allowed in
+    record {
+      there = subst (λ (n : ℕ). All (λ c. c < n) cowns.items) (sym k.latest_are.all) (need_below run.cowns (so_far run) cowns.items (a.keeps rules.Cowns));
+      small = spawn_small run.cowns (so_far run) row parent offset cowns k.legal.few a;
+      next = a.keeps rules.TooMany;
+      few = omega (arith, k.found_are.few, (well_rows run.cowns (so_far run) k.legal).few);
+    }
 
 pub there : (rows : List Entry) (r : ℕ) (l : lives.Life) → life_of rows r ≡ Some l → r < length rows
 there rows r l h = let e = living rows r l h in slice_get_within rows r e.0 e.1
 
-pub start_finds : (run : RunSoFar) {event : Event} {row : ℕ} → event ≡ Start row → IsRunSoFar run → IsAllowed run.cowns (so_far run) event → row < length run.stages.items
+pub start_finds : (run : RunSoFar) {event : Event} {row : ℕ} → event ≡ Start row → IsRunSoFar run → IsAllowed run.cowns (so_far run) event
+    → row < length run.stages.items
 start_finds run {row = row} is k allowed =
     let a = subst (IsAllowed run.cowns (so_far run)) is allowed in
     let may : MayStart (life_of (so_far run)) (entry_cowns (so_far run)) row = a.keeps rules.StartNotAllowed in
@@ -130,7 +141,8 @@ pub record IsEndable (run : RunSoFar) (row : ℕ) (written : ArrayVec ℕ) : Typ
   pub small : All (λ c. c < MOST_COWNS) written.items
   pub few : run.ended < MOST_ROWS
 
-pub end_finds : (run : RunSoFar) {event : Event} {row ticks : ℕ} {status : EndStatus} {written : ArrayVec ℕ} → event ≡ End row ticks status written → IsRunSoFar run → IsAllowed run.cowns (so_far run) event → IsEndable run row written
+pub end_finds : (run : RunSoFar) {event : Event} {row ticks : ℕ} {status : EndStatus} {written : ArrayVec ℕ} → event ≡ End row ticks status written
+    → IsRunSoFar run → IsAllowed run.cowns (so_far run) event → IsEndable run row written
 end_finds run {row = row} {ticks = ticks} {status = status} {written = written} is k allowed =
     let a = subst (IsAllowed run.cowns (so_far run)) is allowed in
     let rows = so_far run in
@@ -151,7 +163,8 @@ HasGone run later = Goes run.cowns later run.rows.items run.stages.items run.fou
 
 -- so it is after an event, where these rows are kept
 gone_as : (old new : RunSoFar) {event given : Event} {rows : List Row} {stages : List Stage} {found latest : List (Option ℕ)} {ended : ℕ} → event ≡ given
-    → IsAllowed old.cowns (so_far old) event → (IsAllowed old.cowns (so_far old) given → Goes old.cowns (after (so_far old) given) rows stages found latest ended)
+    → IsAllowed old.cowns (so_far old) event → (IsAllowed old.cowns (so_far old) given
+    → Goes old.cowns (after (so_far old) given) rows stages found latest ended)
     → new.cowns ≡ old.cowns → new.rows.items ≡ rows → new.stages.items ≡ stages → new.found.items ≡ found → new.latest.items ≡ latest → new.ended ≡ ended
     → HasGone new (after (so_far old) event)
 gone_as old new {given = given} {rows = rows} {stages = stages} {found = found} {latest = latest} {ended = ended} is allowed goes a c d g e f =
@@ -166,23 +179,28 @@ gone_as old new {given = given} {rows = rows} {stages = stages} {found = found} 
     (subst (λ (x : ℕ). Goes old.cowns later rows stages found latest x) (sym f) k))))))
 
 -- The run is kept after an event.
-pub kept_spawn : {old new : RunSoFar} {event : Event} {row parent offset : ℕ} {cowns given : ArrayVec ℕ} → event ≡ Spawn row parent offset cowns → IsRunSoFar old → IsAllowed old.cowns (so_far old) event
+pub kept_spawn : {old new : RunSoFar} {event : Event} {row parent offset : ℕ} {cowns given : ArrayVec ℕ} → event ≡ Spawn row parent offset cowns
+    → IsRunSoFar old → IsAllowed old.cowns (so_far old) event
     → given ≡ cowns → IsSpawned old new row parent offset given → HasGone new (after (so_far old) event)
 kept_spawn {old = old} {new = new} {row = row} {parent = parent} {offset = offset} {cowns = cowns} is k allowed same spawned =
     let h = subst (IsSpawned old new row parent offset) same spawned in
-    gone_as old new is allowed (keeps_spawn old.cowns (so_far old) old.rows.items old.stages.items old.found.items old.latest.items old.ended row parent offset cowns k)
+    gone_as old new is allowed (keeps_spawn old.cowns (so_far old) old.rows.items old.stages.items old.found.items old.latest.items old.ended row parent offset
+    cowns k)
     h.cowns_stay h.rows h.stages h.found h.latest h.ended
 
-pub kept_start : {old new : RunSoFar} {event : Event} {row : ℕ} → event ≡ Start row → IsRunSoFar old → IsAllowed old.cowns (so_far old) event → IsStarted old new row → HasGone new (after (so_far old) event)
+pub kept_start : {old new : RunSoFar} {event : Event} {row : ℕ} → event ≡ Start row → IsRunSoFar old → IsAllowed old.cowns (so_far old) event
+    → IsStarted old new row → HasGone new (after (so_far old) event)
 kept_start {old = old} {new = new} {row = row} is k allowed h =
     gone_as old new is allowed (keeps_start old.cowns (so_far old) old.rows.items old.stages.items old.found.items old.latest.items old.ended row k)
     h.cowns_stay h.rows_stay h.stages h.found_stays h.latest_stay h.ended
 
-pub kept_end : {old new : RunSoFar} {event : Event} {row ticks : ℕ} {status : EndStatus} {written given : ArrayVec ℕ} → event ≡ End row ticks status written → IsRunSoFar old → IsAllowed old.cowns (so_far old) event
+pub kept_end : {old new : RunSoFar} {event : Event} {row ticks : ℕ} {status : EndStatus} {written given : ArrayVec ℕ} → event ≡ End row ticks status written
+    → IsRunSoFar old → IsAllowed old.cowns (so_far old) event
     → given ≡ written → IsEnded old new row ticks status given → HasGone new (after (so_far old) event)
 kept_end {old = old} {new = new} {row = row} {ticks = ticks} {status = status} {written = written} is k allowed same ended =
     let h = subst (IsEnded old new row ticks status) same ended in
-    gone_as old new is allowed (keeps_end old.cowns (so_far old) old.rows.items old.stages.items old.found.items old.latest.items old.ended row ticks status written k)
+    gone_as old new is allowed (keeps_end old.cowns (so_far old) old.rows.items old.stages.items old.found.items old.latest.items old.ended row ticks status
+    written k)
     h.cowns_stay h.rows h.stages h.found_stays h.latest_stay h.ended
 
 -- A run is over where all of its rows are.

@@ -1,5 +1,6 @@
 -- What is kept of a run stays that of its log as a row is changed, or put behind the others.
-use Rattle.std.proofs.Common.{◌≡◌, ℕ, zero, suc, ◌+◌, ◌*◌, ◌<◌, ◌≤◌, ◌≢◌, ◌⊎◌, List, [], ◌∷◌, ◌++◌, length, map, get_or, refl, sym, ◌∙◌, ap, subst, inl, inr, arith, length-append, get_or-set_same, get_or-set_other}
+use Rattle.std.proofs.Common.{◌≡◌, ℕ, zero, suc, ◌+◌, ◌*◌, ◌<◌, ◌≤◌, ◌≢◌, ◌⊎◌, List, [], ◌∷◌, ◌++◌, length, map, get_or, refl, sym, ◌∙◌, ap, subst, inl, inr}
+use Rattle.std.proofs.Common.{arith, length-append, get_or-set_same, get_or-set_other}
 use Rattle.std.proofs.Math.ListN.{length-set}
 use Rattle.std.specs.Prelude.{slice_get, slice_set, slice_range, Option, Some, None, All}
 use Rattle.std.specs.Option.{option_map_or}
@@ -32,7 +33,8 @@ latest_same old new c n (Some latest) same is =
     (is.0, carry old new latest c (same.cowns latest is.0) is.1, λ r more less has. is.2 r more less (back old new r c (same.cowns r less) has))
 
 -- the next row hasn't this cown
-latest_passes : (run : List Entry) (c n : ℕ) (latest : Option ℕ) → (Contains (entry_cowns run n) c → ⊥) → IsLatest run c n latest → IsLatest run c (suc n) latest
+latest_passes : (run : List Entry) (c n : ℕ) (latest : Option ℕ) → (Contains (entry_cowns run n) c → ⊥) → IsLatest run c n latest
+    → IsLatest run c (suc n) latest
 latest_passes run c n None lacks is = λ r less has.
     elim (cases_order r n) [
       | inl e ↦ lacks (subst (λ (k : ℕ). Contains (entry_cowns run k) c) e has)
@@ -56,7 +58,8 @@ before_same old new r before same are =
       all = are.all ∙ ap length (sym here);
       each = λ k less.
           let inside : k < length (entry_cowns old r) = subst (λ (cs : List ℕ). k < length cs) here less in
-          subst (λ (cs : List ℕ). IsLatest new (get_or cs k 0) r (get_or before k None)) (sym here) (latest_same old new (get_or (entry_cowns old r) k 0) r (get_or before k None) below (are.each k inside));
+          subst (λ (cs : List ℕ). IsLatest new (get_or cs k 0) r (get_or before k None)) (sym here)
+          (latest_same old new (get_or (entry_cowns old r) k 0) r (get_or before k None) below (are.each k inside));
     }
 
 -- Row r changes, and keeps its cowns.
@@ -82,7 +85,8 @@ stage_case run stages r v y are is k f z (inl p) (inr q) = absurd (q.0 p.0)
 stage_case run stages r v y are is k f z (inr p) (inl q) = absurd (p.0 q.0)
 stage_case run stages r v y are is k f z (inr p) (inr q) = are.each k f z p.1 q.1
 
-pub stages_set : (run : List Entry) (stages : List Stage) (r : ℕ) (e v : Entry) (x y : Stage) → AreStagesOf run stages → IsSet run r e v → slice_get stages r ≡ Some x → IsStageOf v y → AreStagesOf (slice_set run r v) (slice_set stages r y)
+pub stages_set : (run : List Entry) (stages : List Stage) (r : ℕ) (e v : Entry) (x y : Stage) → AreStagesOf run stages → IsSet run r e v
+    → slice_get stages r ≡ Some x → IsStageOf v y → AreStagesOf (slice_set run r v) (slice_set stages r y)
 stages_set run stages r e v x y are h at is = record {
   all = length-set stages r y ∙ are.all ∙ sym (length-set run r v);
   each = λ k f z g i. stage_case run stages r v y are is k f z (got_set run r k v f g) (got_set stages r k y z i);
@@ -95,14 +99,16 @@ pub record HasPart (stages : List Stage) (k : ℕ) (z : Stage) : Type 0 where
   pub from : old.from ≡ z.from
   pub to : old.to ≡ z.to
 
-part_set : (stages : List Stage) (r : ℕ) (x y : Stage) → slice_get stages r ≡ Some x → x.from ≡ y.from → x.to ≡ y.to → (k : ℕ) (z : Stage) → slice_get (slice_set stages r y) k ≡ Some z → HasPart stages k z
+part_set : (stages : List Stage) (r : ℕ) (x y : Stage) → slice_get stages r ≡ Some x → x.from ≡ y.from → x.to ≡ y.to → (k : ℕ) (z : Stage)
+    → slice_get (slice_set stages r y) k ≡ Some z → HasPart stages k z
 part_set stages r x y at from to k z i =
     elim (got_set stages r k y z i) [
       | inl p ↦ record { old = x; was = got_at stages k r x p.0 at; from = from ∙ ap (λ (a : Stage). a.from) p.1; to = to ∙ ap (λ (a : Stage). a.to) p.1 }
       | inr p ↦ record { old = z; was = p.1; from = refl; to = refl }
     ]
 
-pub found_set : (run : List Entry) (stages : List Stage) (found : List (Option ℕ)) (r : ℕ) (e v : Entry) (x y : Stage) → AreFound run stages found → IsSet run r e v → slice_get stages r ≡ Some x → x.from ≡ y.from → x.to ≡ y.to
+pub found_set : (run : List Entry) (stages : List Stage) (found : List (Option ℕ)) (r : ℕ) (e v : Entry) (x y : Stage) → AreFound run stages found
+    → IsSet run r e v → slice_get stages r ≡ Some x → x.from ≡ y.from → x.to ≡ y.to
     → AreFound (slice_set run r v) (slice_set stages r y) found
 found_set run stages found r e v x y are h at from to = record {
   few = subst (λ (n : ℕ). length found ≤ MOST_HELD * n) (sym (length-set run r v)) are.few;
@@ -111,10 +117,12 @@ found_set run stages found r e v x y are h at from to = record {
   before = λ k z i.
       let p = part_set stages r x y at from to k z i in
       before_same run (slice_set run r v) k (slice_range found z.from z.to) (same_set run r e v (suc k) h)
-      (subst (λ (n : ℕ). AreBefore run k (slice_range found n z.to)) p.from (subst (λ (n : ℕ). AreBefore run k (slice_range found p.old.from n)) p.to (are.before k p.old p.was)));
+      (subst (λ (n : ℕ). AreBefore run k (slice_range found n z.to)) p.from
+      (subst (λ (n : ℕ). AreBefore run k (slice_range found p.old.from n)) p.to (are.before k p.old p.was)));
 }
 
-pub latest_set : (run : List Entry) (r : ℕ) (e v : Entry) (cowns : ℕ) (latest : List (Option ℕ)) → AreLatest run cowns latest → IsSet run r e v → AreLatest (slice_set run r v) cowns latest
+pub latest_set : (run : List Entry) (r : ℕ) (e v : Entry) (cowns : ℕ) (latest : List (Option ℕ)) → AreLatest run cowns latest → IsSet run r e v
+    → AreLatest (slice_set run r v) cowns latest
 latest_set run r e v cowns latest are h = record {
   all = are.all;
   each = λ c less.
@@ -141,7 +149,8 @@ stage_push_case run stages v y are is k f z (inr p) (inl q) = absurd (omega (ari
 stage_push_case run stages v y are is k f z (inr p) (inr q) = subst (λ (a : Entry). IsStageOf a z) p.1 (subst (IsStageOf v) q.1 is)
 
 -- what is found on the cowns of the new row
-before_new : (run : List Entry) (v : Entry) (cowns : ℕ) (latest : List (Option ℕ)) → AreLatest run cowns latest → All (λ c. c < cowns) v.cowns → AreBefore (run ++ (v ∷ [])) (length run) (map (λ c. get_or latest c None) v.cowns)
+before_new : (run : List Entry) (v : Entry) (cowns : ℕ) (latest : List (Option ℕ)) → AreLatest run cowns latest → All (λ c. c < cowns) v.cowns
+    → AreBefore (run ++ (v ∷ [])) (length run) (map (λ c. get_or latest c None) v.cowns)
 before_new run v cowns latest are below =
     let new = run ++ (v ∷ []) in
     let here : entry_cowns new (length run) ≡ v.cowns = cowns_at new (length run) v (push_last run v) in record {
@@ -154,14 +163,17 @@ before_new run v cowns latest are below =
           (latest_same run new c (length run) (get_or latest c None) (same_push run v (length run) (omega arith)) (are.each c (below k 0 inside))));
     }
 
-pub stages_push : (run : List Entry) (stages : List Stage) (v : Entry) (y : Stage) → AreStagesOf run stages → IsStageOf v y → AreStagesOf (run ++ (v ∷ [])) (stages ++ (y ∷ []))
+pub stages_push : (run : List Entry) (stages : List Stage) (v : Entry) (y : Stage) → AreStagesOf run stages → IsStageOf v y
+    → AreStagesOf (run ++ (v ∷ [])) (stages ++ (y ∷ []))
 stages_push run stages v y are is = record {
   all = omega (arith, length-append stages (y ∷ []), length-append run (v ∷ []), are.all);
   each = λ k f z g i. stage_push_case run stages v y are is k f z (got_push run k v f g) (got_push stages k y z i);
 }
 
-pub found_push : (run : List Entry) (stages : List Stage) (found : List (Option ℕ)) (v : Entry) (y : Stage) (cowns : ℕ) (latest : List (Option ℕ)) → AreStagesOf run stages → AreFound run stages found → AreLatest run cowns latest → All (λ c. c < cowns) v.cowns → length v.cowns ≤ MOST_HELD
-    → y.from ≡ length found → y.to ≡ length found + length v.cowns → AreFound (run ++ (v ∷ [])) (stages ++ (y ∷ [])) (found ++ map (λ c. get_or latest c None) v.cowns)
+pub found_push : (run : List Entry) (stages : List Stage) (found : List (Option ℕ)) (v : Entry) (y : Stage) (cowns : ℕ) (latest : List (Option ℕ))
+    → AreStagesOf run stages → AreFound run stages found → AreLatest run cowns latest → All (λ c. c < cowns) v.cowns → length v.cowns ≤ MOST_HELD
+    → y.from ≡ length found → y.to ≡ length found + length v.cowns
+    → AreFound (run ++ (v ∷ [])) (stages ++ (y ∷ [])) (found ++ map (λ c. get_or latest c None) v.cowns)
 found_push run stages found v y cowns latest stages_are are on below held from to =
     let more = map (λ c. get_or latest c None) v.cowns in
     let long = length-append found more in
@@ -181,7 +193,9 @@ found_push run stages found v y cowns latest stages_are are on below held from t
             before_same run (run ++ (v ∷ [])) k (slice_range (found ++ more) z.from z.to) (same_push run v (suc k) (omega (arith, stages_are.all, inside)))
             (subst (AreBefore run k) (sym (range_stays found more z.from z.to (are.ordered k z p) (are.within k z p))) (are.before k z p))
         | inr p ↦
-            let part : slice_range (found ++ more) z.from z.to ≡ more = range_behind found more z.from z.to (sym (ap (λ (a : Stage). a.from) p.1) ∙ from) (sym (ap (λ (a : Stage). a.to) p.1) ∙ to ∙ ap (λ (n : ℕ). length found + n) (sym new)) in
+            let part : slice_range (found ++ more) z.from z.to ≡ more =
+            range_behind found more z.from z.to (sym (ap (λ (a : Stage). a.from) p.1) ∙ from)
+            (sym (ap (λ (a : Stage). a.to) p.1) ∙ to ∙ ap (λ (n : ℕ). length found + n) (sym new)) in
             subst (AreBefore (run ++ (v ∷ [])) k) (sym part)
             (subst (λ (m : ℕ). AreBefore (run ++ (v ∷ [])) m more) (sym (p.0 ∙ stages_are.all)) (before_new run v cowns latest on below))
       ];
@@ -210,13 +224,15 @@ noted_cases latest (x ∷ cs) row c less =
         | inl e ↦
             inl (
               (zero, omega arith, sym e),
-              p.1 ∙ subst (λ (k : ℕ). get_or (slice_set latest x (Some row)) k None ≡ Some row) (sym e) (get_or-set_same latest x (Some row) None (subst (λ (k : ℕ). k < length latest) e less)),
+              p.1 ∙ subst (λ (k : ℕ). get_or (slice_set latest x (Some row)) k None ≡ Some row) (sym e)
+                  (get_or-set_same latest x (Some row) None (subst (λ (k : ℕ). k < length latest) e less)),
             )
         | inr n ↦ inr (other_cown x cs c n p.0, p.1 ∙ get_or-set_other latest x c (Some row) None n)
       ]
     ]
 
-pub latest_push : (run : List Entry) (v : Entry) (cowns : ℕ) (latest : List (Option ℕ)) → AreLatest run cowns latest → AreLatest (run ++ (v ∷ [])) cowns (noted latest v.cowns (length run))
+pub latest_push : (run : List Entry) (v : Entry) (cowns : ℕ) (latest : List (Option ℕ)) → AreLatest run cowns latest
+    → AreLatest (run ++ (v ∷ [])) cowns (noted latest v.cowns (length run))
 latest_push run v cowns latest are =
     let new = run ++ (v ∷ []) in
     let n = length run in

@@ -22,7 +22,8 @@ at_entry rows r e at = slice_get-map row_of rows r ∙ ap (option_map row_of) at
 
 -- a row with these parts
 abbrev made : ℕ → ℕ → List ℕ → ℕ → EndStatus → List ℕ → Row
-made parent offset cowns ticks status written = record { parent = parent; offset = offset; cowns = record { items = cowns }; ticks = ticks; status = status; written = record { items = written } }
+made parent offset cowns ticks status written = record
+    { parent = parent; offset = offset; cowns = record { items = cowns }; ticks = ticks; status = status; written = record { items = written } }
 
 row_is : (e : Entry) (x : Row) → IsRowOf e x → row_of e ≡ x
 row_is e x is = sym (
@@ -62,7 +63,8 @@ map_stays f g same [] r = refl
 map_stays f g same (x ∷ xs) zero = ap (λ y. y ∷ map f xs) (same x)
 map_stays f g same (x ∷ xs) (suc r) = ap (map f) (changed_next x xs r g (slice_get xs r)) ∙ ap (λ ys. f x ∷ ys) (map_stays f g same xs r)
 
-changed_map : {A B : Type 0} (f : A → B) (g : A → A) (h : B → B) → ((x : A) → f (g x) ≡ h (f x)) → (xs : List A) (r : ℕ) (o : Option A) → map f (changed xs r g o) ≡ changed (map f xs) r h (option_map f o)
+changed_map : {A B : Type 0} (f : A → B) (g : A → A) (h : B → B) → ((x : A) → f (g x) ≡ h (f x)) → (xs : List A) (r : ℕ) (o : Option A)
+    → map f (changed xs r g o) ≡ changed (map f xs) r h (option_map f o)
 changed_map f g h same xs r None = refl
 changed_map f g h same xs r (Some x) = map-set f xs r (g x) ∙ ap (λ y. changed (map f xs) r (λ _. y) (Some y)) (same x)
 
@@ -75,10 +77,12 @@ rows_more run (Spawn row parent offset cowns) =
 rows_more run (Start row) = map_stays row_of (λ e. record e { life = lives.Running }) (λ e. refl) run row
 rows_more run (End row ticks status written) =
     let over : Row → Row = λ x. record x { ticks = ticks; status = status; written = written } in
-    changed_map row_of (λ e. record e { life = lives.Ended; ticks = ticks; status = status; written = written.items }) over (λ e. refl) run row (slice_get run row)
+    changed_map row_of (λ e. record e { life = lives.Ended; ticks = ticks; status = status; written = written.items }) over (λ e. refl) run row
+    (slice_get run row)
     ∙ ap (changed (map row_of run) row over) (sym (slice_get-map row_of run row))
 
 -- what is kept stays the rows of the run
 pub rows_go_on : (run : List Entry) (rows : List Row) (event : Event) → AreRowsOf run rows → AreRowsOf (after run event) (rows_after rows event)
 rows_go_on run rows event are =
-    subst (AreRowsOf (after run event)) (rows_more run event ∙ ap (λ (xs : List Row). rows_after xs event) (rows_of_run run rows are)) (run_of_rows (after run event))
+    subst (AreRowsOf (after run event)) (rows_more run event ∙ ap (λ (xs : List Row). rows_after xs event) (rows_of_run run rows are))
+    (run_of_rows (after run event))

@@ -2,7 +2,8 @@
 use Rattle.std.proofs.Common.{◌≡◌, ℕ, zero, suc, ◌<◌, ◌≢◌, ◌⊎◌, List, [], ◌∷◌, ◌++◌, length, refl, sym, ◌∙◌, ap, inl, inr, arith}
 use Rattle.std.specs.Prelude.{slice_get, slice_set, Some, None}
 
-pub got_set : {A : Type 0} (xs : List A) (r k : ℕ) (v x : A) → slice_get (slice_set xs r v) k ≡ Some x → ((k ≡ r) × (v ≡ x)) ⊎ ((k ≢ r) × (slice_get xs k ≡ Some x))
+pub got_set : {A : Type 0} (xs : List A) (r k : ℕ) (v x : A) → slice_get (slice_set xs r v) k ≡ Some x
+    → ((k ≡ r) × (v ≡ x)) ⊎ ((k ≢ r) × (slice_get xs k ≡ Some x))
 got_set [] r k v x e = absurd (let f : None ≡ Some x = e in cc)
 got_set (y ∷ xs) zero zero v x e = inl (refl, (let f : Some v ≡ Some x = e in cc))
 got_set (y ∷ xs) zero (suc k) v x e = inr ((λ f. omega arith), e)

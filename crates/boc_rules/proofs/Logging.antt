@@ -22,11 +22,13 @@ use Rattle.boc_rules.proofs.Events.{counted, start_left, end_left}
 use Rattle.boc_rules.proofs.Telling.{length_changed, told_more, happened_more, told_length, told_rows}
 
 -- an event that the log allows is allowed by the rows
-allowed_of : (course : Course) (happenings : List Happening) (room : ℕ) (event : Event) → IsLogged course happenings room → IsAllowed course.cowns (entries (told_of course.rows happenings)) event → IsAllowed course.cowns course.rows event
+allowed_of : (course : Course) (happenings : List Happening) (room : ℕ) (event : Event) → IsLogged course happenings room
+    → IsAllowed course.cowns (entries (told_of course.rows happenings)) event → IsAllowed course.cowns course.rows event
 allowed_of course happenings room event k a = subst (λ (rows : List Entry). IsAllowed course.cowns rows event) (sym k.rows_are) a
 
 -- One more event has room.
-pub room_left : (course : Course) (happenings : List Happening) (room : ℕ) (event : Event) → IsLogged course happenings room → IsAllowed course.cowns (entries (told_of course.rows happenings)) event → HasRoomFor course.rooms event → length happenings < room
+pub room_left : (course : Course) (happenings : List Happening) (room : ℕ) (event : Event) → IsLogged course happenings room
+    → IsAllowed course.cowns (entries (told_of course.rows happenings)) event → HasRoomFor course.rooms event → length happenings < room
 room_left course happenings room (Spawn row parent offset cowns) k a has =
     let log = told_of course.rows happenings in
     omega (arith, counted course.cowns log k.legal, told_length course.rows happenings, ap length k.rows_are, k.roomy, has)
@@ -54,25 +56,36 @@ row_few count log (End row ticks status written) l a =
     let e = living (entries log) row lives.Running may.runs in
     omega (arith, slice_get_within (entries log) row e.0 e.1, (well_log count log l).few)
 
-pub numbered : (course : Course) (happenings : List Happening) (room : ℕ) (event : Event) → IsLogged course happenings room → IsAllowed course.cowns (entries (told_of course.rows happenings)) event → row_in event < MOST_ROWS
+pub numbered : (course : Course) (happenings : List Happening) (room : ℕ) (event : Event) → IsLogged course happenings room
+    → IsAllowed course.cowns (entries (told_of course.rows happenings)) event → row_in event < MOST_ROWS
 numbered course happenings room event k a = row_few course.cowns (told_of course.rows happenings) event k.legal a
 
 -- the rows of an event and the rooms that are left are as many as before
-pub rooms_stay : (rows : List Entry) (rooms : ℕ) (event : Event) → HasRoomFor rooms event → length (after rows event) + rooms_after rooms event ≡ length rows + rooms
+pub rooms_stay : (rows : List Entry) (rooms : ℕ) (event : Event) → HasRoomFor rooms event
+    → length (after rows event) + rooms_after rooms event ≡ length rows + rooms
 rooms_stay rows rooms (Spawn row parent offset cowns) has =
     let first = changed rows parent (λ e. record e { last = offset }) (slice_get rows parent) in
-    omega (arith, length-append first (pending parent offset cowns.items ∷ []), length_changed rows parent (λ (e : Entry). record e { last = offset }) (slice_get rows parent), has)
+    omega (
+      arith,
+      length-append first (pending parent offset cowns.items ∷ []),
+      length_changed rows parent (λ (e : Entry). record e { last = offset })
+          (slice_get rows parent),
+      has,
+    )
 rooms_stay rows rooms (Start row) has = ap (λ n. n + rooms) (length_changed rows row (λ (e : Entry). record e { life = lives.Running }) (slice_get rows row))
 rooms_stay rows rooms (End row ticks status written) has =
-    ap (λ n. n + rooms) (length_changed rows row (λ (e : Entry). record e { life = lives.Ended; ticks = ticks; status = status; written = written.items }) (slice_get rows row))
+    ap (λ n. n + rooms) (length_changed rows row (λ (e : Entry). record e { life = lives.Ended; ticks = ticks; status = status; written = written.items })
+    (slice_get rows row))
 
 -- the log goes on by the event
-pub log_more : (course : Course) (happenings : List Happening) (room : ℕ) (event : Event) → IsLogged course happenings room → IsAllowed course.cowns (entries (told_of course.rows happenings)) event
+pub log_more : (course : Course) (happenings : List Happening) (room : ℕ) (event : Event) → IsLogged course happenings room
+    → IsAllowed course.cowns (entries (told_of course.rows happenings)) event
     → told_of (after course.rows event) (happenings ++ (happening_of event ∷ [])) ≡ told_of course.rows happenings ++ (event ∷ [])
 log_more course happenings room event k a = told_more course.cowns course.rows happenings event k.happened (allowed_of course happenings room event k a)
 
 -- the log goes on with the run
-pub logged_more : (course : Course) (happenings : List Happening) (room : ℕ) (event : Event) → IsLogged course happenings room → IsAllowed course.cowns (entries (told_of course.rows happenings)) event → HasRoomFor course.rooms event
+pub logged_more : (course : Course) (happenings : List Happening) (room : ℕ) (event : Event) → IsLogged course happenings room
+    → IsAllowed course.cowns (entries (told_of course.rows happenings)) event → HasRoomFor course.rooms event
     → IsLogged (stepped course event) (happenings ++ (happening_of event ∷ [])) room
 logged_more course happenings room event k a has =
     let log = told_of course.rows happenings in
@@ -85,11 +98,13 @@ logged_more course happenings room event k a has =
     }
 
 -- the log of a run that is over is complete
-pub complete_of : (course : Course) (happenings : List Happening) (room : ℕ) → IsLogged course happenings room → IsOver course.rows → IsComplete (told_of course.rows happenings)
+pub complete_of : (course : Course) (happenings : List Happening) (room : ℕ) → IsLogged course happenings room → IsOver course.rows
+    → IsComplete (told_of course.rows happenings)
 complete_of course happenings room k over = subst IsOver k.rows_are over
 
 -- and with its rows it is a record
-pub record_of : (course : Course) (happenings : List Happening) (room : ℕ) (rows : List Row) → IsLogged course happenings room → AreRowsOf course.rows rows → IsOver course.rows
+pub record_of : (course : Course) (happenings : List Happening) (room : ℕ) (rows : List Row) → IsLogged course happenings room → AreRowsOf course.rows rows
+    → IsOver course.rows
     → IsRecord (record { cowns = course.cowns; events = told happenings rows; rows = rows })
 record_of course happenings room rows k are over =
     let same = told_rows course.rows rows happenings are in record {
@@ -100,7 +115,8 @@ record_of course happenings room rows k are over =
     }
 
 -- a record by its parts
-pub recorded_as : (r : Recorded) (cowns : ℕ) (events : List Event) (rows : List Row) → r.cowns ≡ cowns → r.events ≡ events → r.rows ≡ rows → IsRecord (record { cowns = cowns; events = events; rows = rows }) → IsRecord r
+pub recorded_as : (r : Recorded) (cowns : ℕ) (events : List Event) (rows : List Row) → r.cowns ≡ cowns → r.events ≡ events → r.rows ≡ rows
+    → IsRecord (record { cowns = cowns; events = events; rows = rows }) → IsRecord r
 recorded_as r cowns events rows e f g is =
     subst (λ (x : ℕ). IsRecord (record { cowns = x; events = r.events; rows = r.rows })) (sym e)
     (subst (λ (x : List Event). IsRecord (record { cowns = cowns; events = x; rows = r.rows })) (sym f)

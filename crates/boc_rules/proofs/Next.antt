@@ -13,7 +13,8 @@ use Rattle.boc_program.specs.declared.limits.TheConstants.{MOST_ROWS}
 use Rattle.boc_program.specs.Cowns.{AreCowns, AreAmong}
 use Rattle.boc_program.specs.Changed.{changed}
 use Rattle.boc_runs.specs.Lives.{Life, Pending, Running, Ended, MayStart, Overlap}
-use Rattle.boc_runs.specs.Legal.{Entry, pending, after, after_all, life_of, entry_cowns, last_of, MayEnd, MayNeed, IsParent, IsOffset, IsAllowed, IsLegalFrom, IsLegal, entries}
+use Rattle.boc_runs.specs.Legal.{Entry, pending, after, after_all, life_of, entry_cowns, last_of, MayEnd, MayNeed, IsParent, IsOffset, IsAllowed, IsLegalFrom}
+use Rattle.boc_runs.specs.Legal.{IsLegal, entries}
 use Rattle.boc_rules.proofs.Lists.{set_same, one_got, got_at}
 use Rattle.boc_rules.proofs.Well.{IsWell, IsNext, IsSpawnable, came_from, well_set, well_push}
 
@@ -49,11 +50,13 @@ life_cases Running = inr (inl refl)
 life_cases Ended = inr (inr refl)
 
 -- entries that share a cown overlap
-pub overlap : (rows : List Entry) (a b c : ℕ) (d e : Entry) → slice_get rows a ≡ Some d → slice_get rows b ≡ Some e → Contains d.cowns c → Contains e.cowns c → Overlap (entry_cowns rows) a b
+pub overlap : (rows : List Entry) (a b c : ℕ) (d e : Entry) → slice_get rows a ≡ Some d → slice_get rows b ≡ Some e → Contains d.cowns c → Contains e.cowns c
+    → Overlap (entry_cowns rows) a b
 overlap rows a b c d e g h hd he =
     (c, subst (λ (cs : List ℕ). Contains cs c) (sym (cowns_at rows a d g)) hd, subst (λ (cs : List ℕ). Contains cs c) (sym (cowns_at rows b e h)) he)
 
-pub start_next : (count : ℕ) (rows : List Entry) (r : ℕ) (e : Entry) → IsWell count rows → MayStart (life_of rows) (entry_cowns rows) r → slice_get rows r ≡ Some e → e.life ≡ Pending → IsNext rows r e (record e { life = Running })
+pub start_next : (count : ℕ) (rows : List Entry) (r : ℕ) (e : Entry) → IsWell count rows → MayStart (life_of rows) (entry_cowns rows) r
+    → slice_get rows r ≡ Some e → e.life ≡ Pending → IsNext rows r e (record e { life = Running })
 start_next count rows r e w may is waits = record {
   is = is;
   like = record { parent = refl; offset = refl; cowns = refl; last = omega arith };
@@ -68,16 +71,24 @@ start_next count rows r e w may is waits = record {
   before_others = λ b d c less g he hd np. absurd (not_pending_ended (sym waits ∙ w.in_turn r b e d c less is g he hd np));
 }
 
-pub end_next : (count : ℕ) (rows : List Entry) (r ticks : ℕ) (status : EndStatus) (written : List ℕ) (e : Entry) → IsWell count rows → MayEnd rows r ticks written → slice_get rows r ≡ Some e → e.life ≡ Running → IsNext rows r e (record e { life = Ended; ticks = ticks; status = status; written = written })
+pub end_next : (count : ℕ) (rows : List Entry) (r ticks : ℕ) (status : EndStatus) (written : List ℕ) (e : Entry) → IsWell count rows
+    → MayEnd rows r ticks written → slice_get rows r ≡ Some e → e.life ≡ Running
+    → IsNext rows r e (record e { life = Ended; ticks = ticks; status = status; written = written })
 end_next count rows r ticks status written e w may is runs = record {
   is = is;
   like = record { parent = refl; offset = refl; cowns = refl; last = omega arith };
-  ticks = λ f. record { low = may.low; high = may.high; cover = subst (λ (l : ℕ). l ≤ ticks) (last_at rows r e is) may.covers; own = subst (λ (cs : List ℕ). AreAmong cs written) (cowns_at rows r e is) may.own };
+  ticks = λ f. record {
+    low = may.low;
+    high = may.high;
+    cover = subst (λ (l : ℕ). l ≤ ticks) (last_at rows r e is) may.covers;
+    own = subst (λ (cs : List ℕ). AreAmong cs written) (cowns_at rows r e is) may.own;
+  };
   after_others = λ a d c less g hd he np. w.in_turn a r d e c less g is hd he (λ l. not_pending_running (sym l ∙ runs));
   before_others = λ b d c less g he hd np. refl;
 }
 
-pub spawn_next : (count : ℕ) (rows : List Entry) (r offset : ℕ) (e : Entry) → IsWell count rows → slice_get rows r ≡ Some e → e.life ≡ Running → e.last < offset → IsNext rows r e (record e { last = offset })
+pub spawn_next : (count : ℕ) (rows : List Entry) (r offset : ℕ) (e : Entry) → IsWell count rows → slice_get rows r ≡ Some e → e.life ≡ Running → e.last < offset
+    → IsNext rows r e (record e { last = offset })
 spawn_next count rows r offset e w is runs more = record {
   is = is;
   like = record { parent = refl; offset = refl; cowns = refl; last = omega arith };
@@ -86,7 +97,8 @@ spawn_next count rows r offset e w is runs more = record {
   before_others = λ b d c less g he hd np. w.in_turn r b e d c less is g he hd np;
 }
 
-spawnable : (count : ℕ) (rows : List Entry) (r offset : ℕ) (cowns : List ℕ) (e : Entry) → IsWell count rows → slice_get rows r ≡ Some e → e.life ≡ Running → e.last < offset
+spawnable : (count : ℕ) (rows : List Entry) (r offset : ℕ) (cowns : List ℕ) (e : Entry) → IsWell count rows → slice_get rows r ≡ Some e → e.life ≡ Running
+    → e.last < offset
     → length rows < MOST_ROWS → AreCowns count cowns → IsSpawnable count (slice_set rows r (record e { last = offset })) r offset cowns
 spawnable count rows r offset cowns e w is runs more few cowned =
     let v : Entry = record e { last = offset } in
@@ -96,7 +108,13 @@ spawnable count rows r offset cowns e w is runs more few cowned =
       few = omega (arith, long, few);
       cowned = cowned;
       main = λ none. absurd (omega (arith, long, inside, none));
-      child = λ some. record { before = omega (arith, long, inside); above = omega (arith, more); spawner = v; is = set_same rows r v e is; reached = omega arith };
+      child = λ some. record {
+        before = omega (arith, long, inside);
+        above = omega (arith, more);
+        spawner = v;
+        is = set_same rows r v e is;
+        reached = omega arith;
+      };
       siblings = λ a d main g same.
           let y = came_from rows r e v a d n.is n.like g in
           let h = w.child a y.0 main y.1 in
@@ -104,10 +122,12 @@ spawnable count rows r offset cowns e w is runs more few cowned =
           omega (arith, y.2.offset, h.reached, ap (λ (z : Entry). z.last) one, more);
     }
 
-spawn_changed : (rows : List Entry) (r offset : ℕ) (v e : Entry) → slice_get rows r ≡ Some e → changed rows r (λ x. record x { last = offset }) (slice_get rows r) ++ (v ∷ []) ≡ slice_set rows r (record e { last = offset }) ++ (v ∷ [])
+spawn_changed : (rows : List Entry) (r offset : ℕ) (v e : Entry) → slice_get rows r ≡ Some e
+    → changed rows r (λ x. record x { last = offset }) (slice_get rows r) ++ (v ∷ []) ≡ slice_set rows r (record e { last = offset }) ++ (v ∷ [])
 spawn_changed rows r offset v e is = ap (λ (o : Option Entry). changed rows r (λ x. record x { last = offset }) o ++ (v ∷ [])) is
 
-well_spawn : (count : ℕ) (rows : List Entry) (row parent offset : ℕ) (cowns : List ℕ) → IsWell count rows → row ≡ length rows → row < MOST_ROWS → IsParent rows parent → IsOffset rows parent offset → MayNeed count rows cowns
+well_spawn : (count : ℕ) (rows : List Entry) (row parent offset : ℕ) (cowns : List ℕ) → IsWell count rows → row ≡ length rows → row < MOST_ROWS
+    → IsParent rows parent → IsOffset rows parent offset → MayNeed count rows cowns
     → IsWell count (changed rows parent (λ x. record x { last = offset }) (slice_get rows parent) ++ (pending parent offset cowns ∷ []))
 well_spawn count [] row parent offset cowns w next few p o m =
     well_push count [] parent offset cowns w (record {
@@ -123,22 +143,26 @@ well_spawn count (main ∷ others) row parent offset cowns w next few p o m =
     let more : e.0.last < offset = subst (λ (l : ℕ). l < offset) (last_at rows parent e.0 e.1) o.0 in
     let n = spawn_next count rows parent offset e.0 w e.1 e.2 more in
     subst (IsWell count) (sym (spawn_changed rows parent offset (pending parent offset cowns) e.0 e.1))
-    (well_push count (slice_set rows parent (record e.0 { last = offset })) parent offset cowns (well_set count rows parent e.0 (record e.0 { last = offset }) w n)
+    (well_push count (slice_set rows parent (record e.0 { last = offset })) parent offset cowns
+    (well_set count rows parent e.0 (record e.0 { last = offset }) w n)
     (spawnable count rows parent offset cowns e.0 w e.1 e.2 more (subst (λ (k : ℕ). k < MOST_ROWS) next few) m))
 
 pub well_after : (count : ℕ) (rows : List Entry) (event : Event) → IsWell count rows → IsAllowed count rows event → IsWell count (after rows event)
 well_after count rows (Spawn row parent offset cowns) w a =
-    well_spawn count rows row parent offset cowns.items w (a.keeps rules.NumberNotNext) (a.keeps rules.TooMany) (a.keeps rules.ParentNotRunning) (a.keeps rules.Offset) (a.keeps rules.Cowns)
+    well_spawn count rows row parent offset cowns.items w (a.keeps rules.NumberNotNext) (a.keeps rules.TooMany) (a.keeps rules.ParentNotRunning)
+    (a.keeps rules.Offset) (a.keeps rules.Cowns)
 well_after count rows (Start row) w a =
     let may : MayStart (life_of rows) (entry_cowns rows) row = a.keeps rules.StartNotAllowed in
     let e = living rows row Pending may.waits in
     let v : Entry = record e.0 { life = Running } in
-    subst (IsWell count) (sym (ap (changed rows row (λ x. record x { life = Running })) e.1)) (well_set count rows row e.0 v w (start_next count rows row e.0 w may e.1 e.2))
+    subst (IsWell count) (sym (ap (changed rows row (λ x. record x { life = Running })) e.1))
+    (well_set count rows row e.0 v w (start_next count rows row e.0 w may e.1 e.2))
 well_after count rows (End row ticks status written) w a =
     let may : MayEnd rows row ticks written.items = a.keeps rules.EndNotAllowed in
     let e = living rows row Running may.runs in
     let v : Entry = record e.0 { life = Ended; ticks = ticks; status = status; written = written.items } in
-    subst (IsWell count) (sym (ap (changed rows row (λ x. record x { life = Ended; ticks = ticks; status = status; written = written.items })) e.1)) (well_set count rows row e.0 v w (end_next count rows row ticks status written.items e.0 w may e.1 e.2))
+    subst (IsWell count) (sym (ap (changed rows row (λ x. record x { life = Ended; ticks = ticks; status = status; written = written.items })) e.1))
+    (well_set count rows row e.0 v w (end_next count rows row ticks status written.items e.0 w may e.1 e.2))
 
 well_none : (count : ℕ) → IsWell count []
 well_none count = record {
@@ -164,6 +188,7 @@ pub after_more : (rows : List Entry) (log : List Event) (event : Event) → afte
 after_more rows [] event = refl
 after_more rows (first ∷ log) event = after_more (after rows first) log event
 
-pub legal_more : (count : ℕ) (rows : List Entry) (log : List Event) (event : Event) → IsLegalFrom count rows log → IsAllowed count (after_all rows log) event → IsLegalFrom count rows (log ++ (event ∷ []))
+pub legal_more : (count : ℕ) (rows : List Entry) (log : List Event) (event : Event) → IsLegalFrom count rows log → IsAllowed count (after_all rows log) event
+    → IsLegalFrom count rows (log ++ (event ∷ []))
 legal_more count rows [] event l a = (a, tt)
 legal_more count rows (first ∷ log) event l a = (l.0, legal_more count (after rows first) log event l.1 a)

@@ -26,7 +26,8 @@ use Rattle.boc_rules.proofs.KeptRows.{rows_go_on}
 use Rattle.boc_rules.proofs.Telling.{told_more, happened_more, told_rows}
 
 -- the log is that of its rows, with room for their events
-pub logged_of : (cowns : ℕ) (rows : List Row) (happenings : List Happening) (rooms row_room event_room : ℕ) → IsRunLog cowns rows happenings rooms row_room event_room
+pub logged_of : (cowns : ℕ) (rows : List Row) (happenings : List Happening) (rooms row_room event_room : ℕ)
+    → IsRunLog cowns rows happenings rooms row_room event_room
     → IsLogged (record { cowns = cowns; rows = entries (told happenings rows); rooms = rooms }) happenings event_room
 logged_of cowns rows happenings rooms row_room event_room k =
     let same = told_rows (entries (told happenings rows)) rows happenings k.rows_are in record {
@@ -37,18 +38,21 @@ logged_of cowns rows happenings rooms row_room event_room k =
       roomy = omega (arith, k.events_fit, k.rows_are.all);
     }
 
-legal_of : (cowns : ℕ) (rows : List Row) (happenings : List Happening) (rooms row_room event_room : ℕ) → IsRunLog cowns rows happenings rooms row_room event_room → AreLegal cowns (entries (told happenings rows))
+legal_of : (cowns : ℕ) (rows : List Row) (happenings : List Happening) (rooms row_room event_room : ℕ)
+    → IsRunLog cowns rows happenings rooms row_room event_room → AreLegal cowns (entries (told happenings rows))
 legal_of cowns rows happenings rooms row_room event_room k = record { few = k.few; log = told happenings rows; legal = k.legal; rows_are = refl }
 
 -- what is kept of an allowed event can be kept
-can_keep : (count : ℕ) (run : List Entry) (rows : List Row) (event : Event) → AreLegal count run → length rows ≡ length run → IsAllowed count run event → CanKeep rows event
+can_keep : (count : ℕ) (run : List Entry) (rows : List Row) (event : Event) → AreLegal count run → length rows ≡ length run → IsAllowed count run event
+    → CanKeep rows event
 can_keep count run rows (Spawn row parent offset cowns) l long a = spawn_small count run row parent offset cowns l.few a
 can_keep count run rows (Start row) l long a = tt
 can_keep count run rows (End row ticks status written) l long a =
     let may : MayEnd run row ticks written.items = a.keeps rules.EndNotAllowed in
     (omega (arith, long, there run row lives.Running may.runs), written_small count run row ticks status written l a)
 
-module _ (cowns : ℕ) (rows : List Row) (happenings : List Happening) (rooms row_room event_room : ℕ) (event : Event) (k : IsRunLog cowns rows happenings rooms row_room event_room)
+module _ (cowns : ℕ) (rows : List Row) (happenings : List Happening) (rooms row_room event_room : ℕ) (event : Event)
+    (k : IsRunLog cowns rows happenings rooms row_room event_room)
     (a : IsAllowed cowns (entries (told happenings rows)) event) where
   abbrev log : List Event
   log = told happenings rows
@@ -65,7 +69,8 @@ module _ (cowns : ℕ) (rows : List Row) (happenings : List Happening) (rooms ro
   pub room_to_put : HasRoomFor rooms event → length happenings < event_room
   room_to_put has =
       let l = logged_of cowns rows happenings rooms row_room event_room k in
-      room_left (record { cowns = cowns; rows = run; rooms = rooms }) happenings event_room event l (subst (λ (r : List Entry). IsAllowed cowns r event) l.rows_are a) has
+      room_left (record { cowns = cowns; rows = run; rooms = rooms }) happenings event_room event l
+      (subst (λ (r : List Entry). IsAllowed cowns r event) l.rows_are a) has
 
   pub told_put : told happenings2 (rows_after rows event) ≡ log ++ (event ∷ [])
   told_put =
@@ -100,7 +105,8 @@ left_over (e ∷ run) =
     (omega (arith, one.0, rest.0), omega (arith, one.1, rest.1))
 
 -- A log is complete where each row has had all of its events.
-pub complete_log : (cowns : ℕ) (rows : List Row) (happenings : List Happening) (rooms row_room event_room : ℕ) → IsRunLog cowns rows happenings rooms row_room event_room → 0 < length rows
+pub complete_log : (cowns : ℕ) (rows : List Row) (happenings : List Happening) (rooms row_room event_room : ℕ)
+    → IsRunLog cowns rows happenings rooms row_room event_room → 0 < length rows
     → (length happenings ≡ 3 * length rows) ↔ IsComplete (told happenings rows)
 complete_log cowns rows happenings rooms row_room event_room k some =
     let log = told happenings rows in
@@ -114,7 +120,8 @@ complete_log cowns rows happenings rooms row_room event_room k some =
     )
 
 -- and its rows have the shape of a record's
-pub rows_of_log : (cowns : ℕ) (rows : List Row) (happenings : List Happening) (rooms row_room event_room : ℕ) → IsRunLog cowns rows happenings rooms row_room event_room → IsComplete (told happenings rows) → IsRows rows
+pub rows_of_log : (cowns : ℕ) (rows : List Row) (happenings : List Happening) (rooms row_room event_room : ℕ)
+    → IsRunLog cowns rows happenings rooms row_room event_room → IsComplete (told happenings rows) → IsRows rows
 rows_of_log cowns rows happenings rooms row_room event_room k o =
     let run = entries (told happenings rows) in
     is_rows cowns run rows k.few (well_rows cowns run (legal_of cowns rows happenings rooms row_room event_room k)) o k.rows_are

@@ -38,7 +38,8 @@ earlier_over count rows r c (Some latest) w is over other less has =
             let e = has_entry rows latest c is.1 in
             let f = living rows latest Ended over in
             let is_over : e.0.life ≡ Ended = ap (λ (z : Entry). z.life) (one_got rows latest e.0 f.0 e.1 f.1) ∙ f.2 in
-            life_at rows other d.0 d.1 ∙ ap (λ (l : Life). Some l) (w.in_turn other latest d.0 e.0 c before d.1 e.1 d.2 e.2 (λ l. not_pending_ended (sym l ∙ is_over)))
+            life_at rows other d.0 d.1 ∙ ap (λ (l : Life). Some l)
+            (w.in_turn other latest d.0 e.0 c before d.1 e.1 d.2 e.2 (λ l. not_pending_ended (sym l ∙ is_over)))
         | inr behind ↦ absurd (is.2 other behind less has)
       ]
     ]
@@ -54,7 +55,8 @@ before_on rows r c before are over has =
       over k None (omega (arith, are.all, has.1)),
     )
 
-pub starts : (count : ℕ) (rows : List Entry) (r : ℕ) (before : List (Option ℕ)) → IsWell count rows → life_of rows r ≡ Some Pending → AreBefore rows r before → All (IsOverAt rows) before → MayStart (life_of rows) (entry_cowns rows) r
+pub starts : (count : ℕ) (rows : List Entry) (r : ℕ) (before : List (Option ℕ)) → IsWell count rows → life_of rows r ≡ Some Pending → AreBefore rows r before
+    → All (IsOverAt rows) before → MayStart (life_of rows) (entry_cowns rows) r
 starts count rows r before w waits are over = record {
   waits = waits;
   none_running = λ other runs o.
@@ -80,7 +82,8 @@ starts count rows r before w waits are over = record {
 }
 
 -- where a row may start, the latest row before it on one of its cowns is over
-latest_over : (rows : List Entry) (r c : ℕ) (latest : Option ℕ) → MayStart (life_of rows) (entry_cowns rows) r → Contains (entry_cowns rows r) c → IsLatest rows c r latest → IsOverAt rows latest
+latest_over : (rows : List Entry) (r c : ℕ) (latest : Option ℕ) → MayStart (life_of rows) (entry_cowns rows) r → Contains (entry_cowns rows r) c
+    → IsLatest rows c r latest → IsOverAt rows latest
 latest_over rows r c None may has is = tt
 latest_over rows r c (Some latest) may has is =
     let d = has_entry rows latest c is.1 in
@@ -93,8 +96,10 @@ latest_over rows r c (Some latest) may has is =
       ]
     ]
 
-pub over_before : (rows : List Entry) (r : ℕ) (before : List (Option ℕ)) → MayStart (life_of rows) (entry_cowns rows) r → AreBefore rows r before → All (IsOverAt rows) before
+pub over_before : (rows : List Entry) (r : ℕ) (before : List (Option ℕ)) → MayStart (life_of rows) (entry_cowns rows) r → AreBefore rows r before
+    → All (IsOverAt rows) before
 over_before rows r before may are = λ k d h.
     let less : k < length (entry_cowns rows r) = omega (arith, are.all, h) in
     let cown = get_or (entry_cowns rows r) k 0 in
-    subst (IsOverAt rows) (get_or_default before k None d h) (latest_over rows r cown (get_or before k None) may (Contains-get_or (entry_cowns rows r) k 0 less) (are.each k less))
+    subst (IsOverAt rows) (get_or_default before k None d h)
+    (latest_over rows r cown (get_or before k None) may (Contains-get_or (entry_cowns rows r) k 0 less) (are.each k less))

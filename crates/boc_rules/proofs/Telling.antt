@@ -39,7 +39,8 @@ AreLater rows rows2 = (r : ℕ) (old : Entry) → slice_get rows r ≡ Some old 
 stays : (e : Entry) → IsLater e e
 stays e = record { parent = refl; offset = refl; cowns = refl; over = λ h. h; same = λ h. refl }
 
-later_changed : (rows : List Entry) (r : ℕ) (f : Entry → Entry) (o : Option Entry) → slice_get rows r ≡ o → ((e : Entry) → slice_get rows r ≡ Some e → IsLater e (f e)) → AreLater rows (changed rows r f o)
+later_changed : (rows : List Entry) (r : ℕ) (f : Entry → Entry) (o : Option Entry) → slice_get rows r ≡ o
+    → ((e : Entry) → slice_get rows r ≡ Some e → IsLater e (f e)) → AreLater rows (changed rows r f o)
 later_changed rows r f None is goes k e at = (e, at, stays e)
 later_changed rows r f (Some x) is goes k e at =
     elim (cases_eq k r) [
@@ -77,9 +78,11 @@ later_more count rows (End row ticks status written) a =
 
 spawn_same : (n p p2 o o2 : ℕ) (c c2 : List ℕ) → p2 ≡ p → o2 ≡ o → c2 ≡ c → Spawn n p2 o2 (record { items = c2 }) ≡ Spawn n p o (record { items = c })
 spawn_same n p p2 o o2 c c2 e f g =
-    ap (λ x. Spawn n x o2 (record { items = c2 })) e ∙ ap (λ x. Spawn n p x (record { items = c2 })) f ∙ ap (λ (x : List ℕ). Spawn n p o (record { items = x })) g
+    ap (λ x. Spawn n x o2 (record { items = c2 })) e ∙ ap (λ x. Spawn n p x (record { items = c2 })) f
+    ∙ ap (λ (x : List ℕ). Spawn n p o (record { items = x })) g
 
-tells_same : (n : ℕ) (d : Deed) (old new : Entry) → IsLater old new → (d ≡ deeds.Ended → old.life ≡ Ended) → event_of n (row_of new) d ≡ event_of n (row_of old) d
+tells_same : (n : ℕ) (d : Deed) (old new : Entry) → IsLater old new → (d ≡ deeds.Ended → old.life ≡ Ended)
+    → event_of n (row_of new) d ≡ event_of n (row_of old) d
 tells_same n deeds.Spawned old new l over = spawn_same n old.parent new.parent old.offset new.offset old.cowns new.cowns l.parent l.offset l.cowns
 tells_same n deeds.Started old new l over = refl
 tells_same n deeds.Ended old new l over = ap (λ (x : Row). event_of n x deeds.Ended) (l.same (over refl))
@@ -96,7 +99,8 @@ one_same rows rows2 h later has =
     ∙ tells_same h.row h.deed e.0 x.0 x.2 (λ d. same_life rows h.row e.0 Ended e.1 (has.over d))
     ∙ sym (ap (λ (o : Option Row). event_at h.row o h.deed) (at_entry rows h.row e.0 e.1))
 
-all_same : (rows rows2 : List Entry) (happenings : List Happening) → AreLater rows rows2 → All (HasHappened rows) happenings → told_of rows2 happenings ≡ told_of rows happenings
+all_same : (rows rows2 : List Entry) (happenings : List Happening) → AreLater rows rows2 → All (HasHappened rows) happenings
+    → told_of rows2 happenings ≡ told_of rows happenings
 all_same rows rows2 [] later all = refl
 all_same rows rows2 (h ∷ happenings) later all =
     ap (λ (x : Event). x ∷ told_of rows2 happenings) (one_same rows rows2 h later (all 0 h (omega arith)))
@@ -128,7 +132,8 @@ not_spawned_ended e = cc
 not_started_ended : deeds.Started ≡ deeds.Ended → ⊥
 not_started_ended e = cc
 
-changed_at : (rows : List Entry) (r : ℕ) (f : Entry → Entry) (e : Entry) → slice_get rows r ≡ Some e → slice_get (changed rows r f (slice_get rows r)) r ≡ Some (f e)
+changed_at : (rows : List Entry) (r : ℕ) (f : Entry → Entry) (e : Entry) → slice_get rows r ≡ Some e
+    → slice_get (changed rows r f (slice_get rows r)) r ≡ Some (f e)
 changed_at rows r f e at = ap (λ (o : Option Entry). slice_get (changed rows r f o) r) at ∙ set_same rows r (f e) e at
 
 told_new : (count : ℕ) (rows : List Entry) (event : Event) → IsAllowed count rows event → IsTold rows event
@@ -137,7 +142,8 @@ told_new count rows (Spawn row parent offset cowns) a =
     let v = pending parent offset cowns.items in
     let next : row ≡ length rows = a.keeps rules.NumberNotNext in record {
       entry = v;
-      is = got_at (first ++ (v ∷ [])) row (length first) v (next ∙ sym (length_changed rows parent (λ (e : Entry). record e { last = offset }) (slice_get rows parent))) (push_last first v);
+      is = got_at (first ++ (v ∷ [])) row (length first) v
+          (next ∙ sym (length_changed rows parent (λ (e : Entry). record e { last = offset }) (slice_get rows parent))) (push_last first v);
       tells = refl;
       over = λ d. absurd (not_spawned_ended d);
     }
@@ -166,10 +172,13 @@ told_more count rows happenings event all a =
     let t = told_new count rows event a in
     map-append (told_one rows2) happenings (happening_of event ∷ [])
     ∙ ap (λ (xs : List Event). xs ++ (told_one rows2 (happening_of event) ∷ [])) (all_same rows rows2 happenings (later_more count rows event a) all)
-    ∙ ap (λ (x : Event). told_of rows happenings ++ (x ∷ [])) (ap (λ (o : Option Row). event_at (happening_of event).row o (happening_of event).deed) (at_entry rows2 (happening_of event).row t.entry t.is) ∙ t.tells)
+    ∙ ap (λ (x : Event). told_of rows happenings ++ (x ∷ []))
+    (ap (λ (o : Option Row). event_at (happening_of event).row o (happening_of event).deed) (at_entry rows2 (happening_of event).row t.entry t.is)
+    ∙ t.tells)
 
 -- and has happened
-pub happened_more : (count : ℕ) (rows : List Entry) (happenings : List Happening) (event : Event) → All (HasHappened rows) happenings → IsAllowed count rows event
+pub happened_more : (count : ℕ) (rows : List Entry) (happenings : List Happening) (event : Event) → All (HasHappened rows) happenings
+    → IsAllowed count rows event
     → All (HasHappened (after rows event)) (happenings ++ (happening_of event ∷ []))
 happened_more count rows happenings event all a =
     let rows2 = after rows event in
@@ -190,5 +199,6 @@ pub told_rows : (run : List Entry) (rows : List Row) (happenings : List Happenin
 told_rows run rows happenings are = ap (told happenings) (sym (rows_of_run run rows are))
 
 -- and are of these rows
-pub happened_of : (run : List Entry) (rows : List Row) (happenings : List Happening) → AreRowsOf run rows → All (HasHappened run) happenings → AreOf happenings rows
+pub happened_of : (run : List Entry) (rows : List Row) (happenings : List Happening) → AreRowsOf run rows → All (HasHappened run) happenings
+    → AreOf happenings rows
 happened_of run rows happenings are all k d less = omega (arith, are.all, (all k d less).there)

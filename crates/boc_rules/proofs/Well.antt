@@ -40,7 +40,8 @@ pub record IsWell (count : ℕ) (rows : List Entry) : Type 0 where
   pub child : (r : ℕ) (e : Entry) → 0 < r → slice_get rows r ≡ Some e → IsChild rows r e
   pub siblings : (a b : ℕ) (d e : Entry) → 0 < a → a < b → slice_get rows a ≡ Some d → slice_get rows b ≡ Some e → d.parent ≡ e.parent → d.offset < e.offset
   pub ended : (r : ℕ) (e : Entry) → slice_get rows r ≡ Some e → e.life ≡ Ended → HasEnded e
-  pub in_turn : (a b : ℕ) (d e : Entry) (c : ℕ) → a < b → slice_get rows a ≡ Some d → slice_get rows b ≡ Some e → Contains d.cowns c → Contains e.cowns c → e.life ≢ Pending → d.life ≡ Ended
+  pub in_turn : (a b : ℕ) (d e : Entry) (c : ℕ) → a < b → slice_get rows a ≡ Some d → slice_get rows b ≡ Some e → Contains d.cowns c → Contains e.cowns c
+      → e.life ≢ Pending → d.life ≡ Ended
 
 -- a row later: who spawned it, and its cowns, stay
 pub record IsLike (e v : Entry) : Type 0 where
@@ -54,14 +55,17 @@ pub record IsNext (rows : List Entry) (r : ℕ) (e v : Entry) : Type 0 where
   pub is : slice_get rows r ≡ Some e
   pub like : IsLike e v
   pub ticks : v.life ≡ Ended → HasEnded v
-  pub after_others : (a : ℕ) (d : Entry) (c : ℕ) → a < r → slice_get rows a ≡ Some d → Contains d.cowns c → Contains e.cowns c → v.life ≢ Pending → d.life ≡ Ended
-  pub before_others : (b : ℕ) (d : Entry) (c : ℕ) → r < b → slice_get rows b ≡ Some d → Contains e.cowns c → Contains d.cowns c → d.life ≢ Pending → v.life ≡ Ended
+  pub after_others : (a : ℕ) (d : Entry) (c : ℕ) → a < r → slice_get rows a ≡ Some d → Contains d.cowns c → Contains e.cowns c → v.life ≢ Pending
+      → d.life ≡ Ended
+  pub before_others : (b : ℕ) (d : Entry) (c : ℕ) → r < b → slice_get rows b ≡ Some d → Contains e.cowns c → Contains d.cowns c → d.life ≢ Pending
+      → v.life ≡ Ended
 
 like_itself : (e : Entry) → IsLike e e
 like_itself e = record { parent = refl; offset = refl; cowns = refl; last = omega arith }
 
 -- a row of the changed list was there before
-pub came_from : (rows : List Entry) (r : ℕ) (e v : Entry) (k : ℕ) (x : Entry) → slice_get rows r ≡ Some e → IsLike e v → slice_get (slice_set rows r v) k ≡ Some x → (y : Entry) × (slice_get rows k ≡ Some y) × IsLike y x
+pub came_from : (rows : List Entry) (r : ℕ) (e v : Entry) (k : ℕ) (x : Entry) → slice_get rows r ≡ Some e → IsLike e v
+    → slice_get (slice_set rows r v) k ≡ Some x → (y : Entry) × (slice_get rows k ≡ Some y) × IsLike y x
 came_from rows r e v k x is like g =
     elim (got_set rows r k v x g) [
       | inl p ↦ (e, got_at rows k r e p.0 is, subst (IsLike e) p.1 like)
@@ -69,7 +73,8 @@ came_from rows r e v k x is like g =
     ]
 
 -- and a row that was there is in the changed list
-pub goes_to : (rows : List Entry) (r : ℕ) (e v : Entry) (k : ℕ) (y : Entry) → slice_get rows r ≡ Some e → IsLike e v → slice_get rows k ≡ Some y → (k ≡ r) ⊎ (k ≢ r) → (x : Entry) × (slice_get (slice_set rows r v) k ≡ Some x) × IsLike y x
+pub goes_to : (rows : List Entry) (r : ℕ) (e v : Entry) (k : ℕ) (y : Entry) → slice_get rows r ≡ Some e → IsLike e v → slice_get rows k ≡ Some y
+    → (k ≡ r) ⊎ (k ≢ r) → (x : Entry) × (slice_get (slice_set rows r v) k ≡ Some x) × IsLike y x
 goes_to rows r e v k y is like g (inl p) =
     (v, got_at (slice_set rows r v) k r v p (set_same rows r v e is), subst (λ (z : Entry). IsLike z v) (one_got rows k e y (got_at rows k r e p is) g) like)
 goes_to rows r e v k y is like g (inr p) = (y, set_other rows r k v p ∙ g, like_itself y)
@@ -140,8 +145,10 @@ child_more rows k x v h = record {
   reached = h.reached;
 }
 
-siblings_more : (count : ℕ) (rows : List Entry) (parent offset : ℕ) (cowns : List ℕ) → IsWell count rows → IsSpawnable count rows parent offset cowns → (a b : ℕ) (d f : Entry) → 0 < a → a < b
-    → (slice_get rows a ≡ Some d) ⊎ ((a ≡ length rows) × (pending parent offset cowns ≡ d)) → (slice_get rows b ≡ Some f) ⊎ ((b ≡ length rows) × (pending parent offset cowns ≡ f))
+siblings_more : (count : ℕ) (rows : List Entry) (parent offset : ℕ) (cowns : List ℕ) → IsWell count rows → IsSpawnable count rows parent offset cowns
+    → (a b : ℕ) (d f : Entry) → 0 < a → a < b
+    → (slice_get rows a ≡ Some d) ⊎ ((a ≡ length rows) × (pending parent offset cowns ≡ d))
+    → (slice_get rows b ≡ Some f) ⊎ ((b ≡ length rows) × (pending parent offset cowns ≡ f))
     → d.parent ≡ f.parent → d.offset < f.offset
 siblings_more count rows parent offset cowns w n a b d f main less (inl p) (inl q) same = w.siblings a b d f main less p q same
 siblings_more count rows parent offset cowns w n a b d f main less (inl p) (inr q) same =
@@ -157,7 +164,8 @@ turn_more count rows v w l a b d f c less (inr p) (inl q) hd hf np = absurd (ome
 turn_more count rows v w l a b d f c less (inl p) (inr q) hd hf np = absurd (np (sym (ap (λ (z : Entry). z.life) q.1) ∙ l))
 turn_more count rows v w l a b d f c less (inr p) (inr q) hd hf np = absurd (omega (arith, p.0, q.0, less))
 
-pub well_push : (count : ℕ) (rows : List Entry) (parent offset : ℕ) (cowns : List ℕ) → IsWell count rows → IsSpawnable count rows parent offset cowns → IsWell count (rows ++ (pending parent offset cowns ∷ []))
+pub well_push : (count : ℕ) (rows : List Entry) (parent offset : ℕ) (cowns : List ℕ) → IsWell count rows → IsSpawnable count rows parent offset cowns
+    → IsWell count (rows ++ (pending parent offset cowns ∷ []))
 well_push count rows parent offset cowns w n =
     let v = pending parent offset cowns in record {
       few = omega (arith, length-append rows (v ∷ []), n.few);

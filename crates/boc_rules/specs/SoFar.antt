@@ -1,5 +1,6 @@
 -- What is kept of the rows of a run under way, and how an event changes it.
-use Rattle.std.specs.Prelude.{◌≡◌, ℕ, ◌+◌, ◌-◌, ◌*◌, ◌<◌, ◌≤◌, List, [], ◌∷◌, ◌++◌, length, map, Option, Some, None, slice_get, slice_index_or, slice_range, vec_len, vec_capacity}
+use Rattle.std.specs.Prelude.{◌≡◌, ℕ, ◌+◌, ◌-◌, ◌*◌, ◌<◌, ◌≤◌, List, [], ◌∷◌, ◌++◌, length, map, Option, Some, None, slice_get, slice_index_or, slice_range}
+use Rattle.std.specs.Prelude.{vec_len, vec_capacity}
 use Rattle.boc_program.specs.declared.body.EndStatus.{EndStatus}
 use Rattle.boc_program.specs.declared.body.EndStatus.TheVariants as statuses
 use Rattle.boc_runs.specs.declared.rows.Row.{Row}

@@ -20,7 +20,8 @@ pub record Named (bodies : List Body) (test : Body → Bool) (kind args cowns : 
   pub few_cowns : cowns ≡ body.cown_params
   pub passes : IsTrue (test body)
 
-pub named : (bodies : List Body) (test : Body → Bool) (kind args cowns : ℕ) → CountsAre (slice_get (map signature_of bodies) kind) args cowns → IsTrue (every (map test bodies)) → Named bodies test kind args cowns
+pub named : (bodies : List Body) (test : Body → Bool) (kind args cowns : ℕ) → CountsAre (slice_get (map signature_of bodies) kind) args cowns
+    → IsTrue (every (map test bodies)) → Named bodies test kind args cowns
 named [] test zero args cowns c t = absurd c
 named [] test (suc n) args cowns c t = absurd c
 named (b ∷ bodies) test zero args cowns c t =

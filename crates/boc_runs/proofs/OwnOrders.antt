@@ -1,5 +1,6 @@
 -- A program has one own order: of two beginnings of it the shorter is a beginning of the longer, and it ends once.
-use Rattle.std.proofs.Common.{◌≡◌, ◌≢◌, ◌⊎◌, inl, inr, ℕ, zero, suc, ◌+◌, ◌-◌, true, false, eqb, ◌<◌, ◌≤◌, List, [], ◌∷◌, ◌++◌, length, refl, sym, ap, ◌∙◌, subst, arith, append-nil, append_assoc, add-zero, zero-add, None, ℤ, length-append}
+use Rattle.std.proofs.Common.{◌≡◌, ◌≢◌, ◌⊎◌, inl, inr, ℕ, zero, suc, ◌+◌, ◌-◌, true, false, eqb, ◌<◌, ◌≤◌, List, [], ◌∷◌, ◌++◌, length, refl, sym, ap, ◌∙◌}
+use Rattle.std.proofs.Common.{subst, arith, append-nil, append_assoc, add-zero, zero-add, None, ℤ, length-append}
 use Rattle.std.specs.Prelude.{replicate, slice_get}
 use Rattle.std.specs.List.{Contains}
 use Rattle.std.proofs.lemmas.Bool.Decides.{leb_tells, eqb_tells}
@@ -23,11 +24,13 @@ rows_along p s [] = sym (add-zero (length s.rows))
 rows_along p s (first ∷ done) =
     omega (arith, rows_along p (after_turn p s first) done, length-append s.rows (next_row p s first ∷ []))
 
-pub spawners-append : (n : ℕ) (rows : List SerialRow) (row : SerialRow) → spawners n (rows ++ row ∷ []) ≡ spawners n rows ++ replicate (length row.means.wishes) (n + length rows)
+pub spawners-append : (n : ℕ) (rows : List SerialRow) (row : SerialRow)
+    → spawners n (rows ++ row ∷ []) ≡ spawners n rows ++ replicate (length row.means.wishes) (n + length rows)
 spawners-append n [] row = append-nil (replicate (length row.means.wishes) n) ∙ ap (replicate (length row.means.wishes)) (sym (add-zero n))
 spawners-append n (first ∷ rows) row =
     let same : suc n + length rows ≡ n + suc (length rows) = omega arith in
-    ap (λ xs. replicate (length first.means.wishes) n ++ xs) (spawners-append (suc n) rows row ∙ ap (λ k. spawners (suc n) rows ++ replicate (length row.means.wishes) k) same)
+    ap (λ xs. replicate (length first.means.wishes) n ++ xs)
+    (spawners-append (suc n) rows row ∙ ap (λ k. spawners (suc n) rows ++ replicate (length row.means.wishes) k) same)
     ∙ sym (append_assoc (replicate (length first.means.wishes) n) (spawners (suc n) rows) (replicate (length row.means.wishes) (n + suc (length rows))))
 
 -- the order in which rows come
@@ -43,7 +46,8 @@ pub rows_done : (p : Program) (done : List ℕ) → length (serial_along p done)
 rows_done p done = rows_along p (serial_along p []) done ∙ zero-add (length done)
 
 -- the wishes of one row more come behind
-pub order_more : (p : Program) (done : List ℕ) (parent : ℕ) → order_of p (done ++ parent ∷ []) ≡ order_of p done ++ replicate (next_wishes p done parent) (length done)
+pub order_more : (p : Program) (done : List ℕ) (parent : ℕ)
+    → order_of p (done ++ parent ∷ []) ≡ order_of p done ++ replicate (next_wishes p done parent) (length done)
 order_more p done parent =
     let s : Serial = serial_along p done in
     let start : Serial = serial_along p [] in
@@ -52,7 +56,8 @@ order_more p done parent =
     ∙ ap (λ k. order_of p done ++ replicate (next_wishes p done parent) k) (zero-add (length s.rows) ∙ rows_done p done)
 
 -- the own order goes on with the first row that is due
-pub next_own : (p : Program) (done due : List ℕ) (parent : ℕ) → IsOwnOrder p done (parent ∷ due) → IsOwnOrder p (done ++ parent ∷ []) (due ++ replicate (next_wishes p done parent) (length done))
+pub next_own : (p : Program) (done due : List ℕ) (parent : ℕ) → IsOwnOrder p done (parent ∷ due)
+    → IsOwnOrder p (done ++ parent ∷ []) (due ++ replicate (next_wishes p done parent) (length done))
 next_own p done due parent own =
     let new : List ℕ = replicate (next_wishes p done parent) (length done) in
     order_more p done parent
@@ -99,7 +104,8 @@ none_there (row ∷ rows) zero h = absurd (omega arith)
 none_there (row ∷ rows) (suc n) h = none_there rows n (omega arith)
 
 -- a row whose parent isn't there yet has no wish, unless it is the first
-idle : (p : Program) (values : List ℤ) (rows : List SerialRow) (n : ℕ) → 0 < length rows → length rows ≤ n → length (run_at_once p values n (next_behaviour rows n)).means.wishes ≡ 0
+idle : (p : Program) (values : List ℤ) (rows : List SerialRow) (n : ℕ) → 0 < length rows → length rows ≤ n
+    → length (run_at_once p values n (next_behaviour rows n)).means.wishes ≡ 0
 idle p values [] n some past = absurd (omega arith)
 idle p values (main ∷ others) n some past = rw (none_there (main ∷ others) n past) refl
 
@@ -117,13 +123,15 @@ first_back p due parent own =
 
 later_back : (p : Program) (done due : List ℕ) (parent : ℕ) → 0 < length done → IsOwnOrder p (done ++ parent ∷ []) due → Before p done due parent
 later_back p done due parent some own =
-    let e : order_of p done ++ replicate (next_wishes p done parent) (length done) ≡ done ++ parent ∷ due = sym (order_more p done parent) ∙ own ∙ append_assoc done (parent ∷ []) due in
+    let e : order_of p done ++ replicate (next_wishes p done parent) (length done) ≡ done ++ parent ∷ due =
+    sym (order_more p done parent) ∙ own ∙ append_assoc done (parent ∷ []) due in
     elim (split_at (order_of p done) (replicate (next_wishes p done parent) (length done)) done due parent e) [
       | inl h ↦ record { others = h.between; own = h.first; is = h.second }
       | inr has ↦ absurd
           (let itself : length done ≡ parent = same_of_replicate (next_wishes p done parent) (length done) parent has in
           let s : Serial = serial_along p done in
-          let none : next_wishes p done parent ≡ 0 = idle p s.values s.rows parent (omega (arith, rows_done p done, some)) (omega (arith, rows_done p done, itself)) in
+          let none : next_wishes p done parent ≡ 0 = idle p s.values s.rows parent (omega (arith, rows_done p done, some))
+          (omega (arith, rows_done p done, itself)) in
           none_in_none parent (subst (λ k. Contains (replicate k (length done)) parent) none has))
     ]
 
@@ -151,7 +159,8 @@ empty [] none = refl
 empty (x ∷ xs) none = absurd (omega (arith, none))
 
 -- after as many turns the same rows had theirs
-pub same_done : (p : Program) (n : ℕ) (done due done' due' : List ℕ) → length done ≡ n → length done' ≡ n → IsOwnOrder p done due → IsOwnOrder p done' due' → done ≡ done'
+pub same_done : (p : Program) (n : ℕ) (done due done' due' : List ℕ) → length done ≡ n → length done' ≡ n → IsOwnOrder p done due → IsOwnOrder p done' due'
+    → done ≡ done'
 same_done p zero done due done' due' long long' own own' = empty done long ∙ sym (empty done' long')
 same_done p (suc n) done due done' due' long long' own own' =
     let e = ends_in done n long in
@@ -160,7 +169,8 @@ same_done p (suc n) done due done' due' long long' own own' =
     let b' = one_back p e'.front due' e'.last (subst (λ (d : List ℕ). IsOwnOrder p d due') e'.is own') in
     let front : e.front ≡ e'.front = same_done p n e.front (e.last ∷ b.others) e'.front (e'.last ∷ b'.others) e.long e'.long b.own b'.own in
     let due_there : IsOwnOrder p e'.front (e.last ∷ b.others) = subst (λ (d : List ℕ). IsOwnOrder p d (e.last ∷ b.others)) front b.own in
-    let last : e.last ≡ e'.last = let both : e.last ∷ b.others ≡ e'.last ∷ b'.others = append_cancel e'.front (e.last ∷ b.others) (e'.last ∷ b'.others) (sym due_there ∙ b'.own) in cc in
+    let last : e.last ≡ e'.last = let both : e.last ∷ b.others ≡ e'.last ∷ b'.others =
+    append_cancel e'.front (e.last ∷ b.others) (e'.last ∷ b'.others) (sym due_there ∙ b'.own) in cc in
     e.is ∙ ap (λ d. d ++ e.last ∷ []) front ∙ ap (λ q. e'.front ++ q ∷ []) last ∙ sym e'.is
   where
     append_cancel : (xs ys zs : List ℕ) → xs ++ ys ≡ xs ++ zs → ys ≡ zs
@@ -239,7 +249,8 @@ not_too_many p values a many = by_cases (eqb_tells (length many.done) (length a.
         let there : IsOwnOrder p many.done e.due = subst (λ (d : List ℕ). IsOwnOrder p d e.due) same e.own in
         omega (arith, e.no_more, ap length (sym there ∙ many.own), length-append many.done e.due, length-append many.done many.due)
 
-    by_cases : ((eqb (length many.done) (length a.done) ≡ true) × (length many.done ≡ length a.done)) ⊎ ((eqb (length many.done) (length a.done) ≡ false) × (length many.done ≢ length a.done)) → ⊥
+    by_cases : ((eqb (length many.done) (length a.done) ≡ true) × (length many.done ≡ length a.done))
+        ⊎ ((eqb (length many.done) (length a.done) ≡ false) × (length many.done ≢ length a.done)) → ⊥
     by_cases (inl e) =
         let same : many.done ≡ a.done = same_done p (length a.done) many.done many.due a.done [] e.1 refl many.own a.own in
         let there : IsOwnOrder p a.done many.due = subst (λ (d : List ℕ). IsOwnOrder p d many.due) same many.own in

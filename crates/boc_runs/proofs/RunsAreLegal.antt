@@ -1,5 +1,6 @@
 -- A run of a program keeps the rules of runs, over as many cowns as the program has.
-use Rattle.std.proofs.Common.{◌≡◌, ℕ, zero, suc, ◌+◌, ◌^◌, ◌<◌, ◌≤◌, inl, inr, List, [], ◌∷◌, ◌++◌, length, map, Some, None, true, refl, sym, ap, subst, ◌∙◌, arith, ℤ}
+use Rattle.std.proofs.Common.{◌≡◌, ℕ, zero, suc, ◌+◌, ◌^◌, ◌<◌, ◌≤◌, inl, inr, List, [], ◌∷◌, ◌++◌, length, map, Some, None, true, refl, sym, ap, subst, ◌∙◌}
+use Rattle.std.proofs.Common.{arith, ℤ}
 use Rattle.std.specs.Prelude.{slice_get, slice_set, slice_index_or, nat_eq, Option, option_map, IsTrue}
 use Rattle.std.specs.Option.{option_map_or}
 use Rattle.std.specs.List.{All, Contains}
@@ -26,14 +27,17 @@ use Rattle.boc_runs.specs.Serial.{Behaviour, behaviour_of, main_behaviour, input
 use Rattle.boc_program.specs.Changed.{changed}
 use Rattle.boc_runs.specs.Lives.{Life, Pending, Running, Ended, Overlap, MayStart}
 use Rattle.boc_program.specs.Cowns.{AreCowns}
-use Rattle.boc_runs.specs.Legal.{Entry, HasBounds, pending, after, life_of, entry_cowns, last_of, IsParent, IsOffset, MayNeed, MayEnd, KeepsRule, IsAllowed, IsLegalFrom, IsLegal}
-use Rattle.boc_runs.specs.Run.{Member, Config, waiting, meaning_of, wish_at, next_wish, spawned_by, members_after_spawn, started_on, config_after, opening, state_of, member_cowns, SpawnsWish, MaySpawn, CanEnd, MayHappen, IsRunFrom, IsRun}
+use Rattle.boc_runs.specs.Legal.{Entry, HasBounds, pending, after, life_of, entry_cowns, last_of, IsParent, IsOffset, MayNeed, MayEnd, KeepsRule, IsAllowed}
+use Rattle.boc_runs.specs.Legal.{IsLegalFrom, IsLegal}
+use Rattle.boc_runs.specs.Run.{Member, Config, waiting, meaning_of, wish_at, next_wish, spawned_by, members_after_spawn, started_on, config_after, opening}
+use Rattle.boc_runs.specs.Run.{state_of, member_cowns, SpawnsWish, MaySpawn, CanEnd, MayHappen, IsRunFrom, IsRun}
 use Rattle.boc_program.proofs.Rising.{meaning_rises}
 use Rattle.boc_program.proofs.Fitting.{meaning_fits}
 use Rattle.boc_program.proofs.Truth.{all_pass, and_true}
 use Rattle.boc_runs.proofs.Behaviours.{Named, named}
 use Rattle.boc_program.proofs.RisingNumbers.{rising_rises, rising_has, rising_had, rising_all, length-rising, written_held, written_rises, written_few}
-use Rattle.boc_program.proofs.ChangedItems.{item_at, none_past, place_below, set_same, set_other, changed_there, changed_nowhere, length-changed, last_item, front_item}
+use Rattle.boc_program.proofs.ChangedItems.{item_at, none_past, place_below, set_same, set_other, changed_there, changed_nowhere, length-changed, last_item}
+use Rattle.boc_program.proofs.ChangedItems.{front_item}
 
 -- ---- wishes
 
@@ -50,7 +54,8 @@ wish_between low high (v ∷ ws) zero w h e =
 wish_between low high (v ∷ ws) (suc k) w h e =
     let b = wish_between v.offset high ws k w h.1 e in (omega (arith, h.0, b.0), b.1)
 
-pub wish_after : (low high : ℕ) (ws : List Wish) (k : ℕ) (v w : Wish) → RisesFrom low ws high → slice_get ws k ≡ Some v → slice_get ws (suc k) ≡ Some w → v.offset < w.offset
+pub wish_after : (low high : ℕ) (ws : List Wish) (k : ℕ) (v w : Wish) → RisesFrom low ws high → slice_get ws k ≡ Some v → slice_get ws (suc k) ≡ Some w
+    → v.offset < w.offset
 wish_after low high [] k v w h e f = absurd cc
 wish_after low high (u ∷ ws) zero v w h e f =
     let same : u ≡ v = cc in
@@ -68,11 +73,13 @@ last_of_none None = refl
 last_of_none (Some m) = refl
 
 -- what bodies say of their ticks
-rises_of : (body : Body) (args : List ℤ) (inputs : List Input) → RisesFrom 1 (meaning body args inputs).wishes (meaning body args inputs).ticks × ((meaning body args inputs).ticks ≤ MOST_TICKS)
+rises_of : (body : Body) (args : List ℤ) (inputs : List Input)
+    → RisesFrom 1 (meaning body args inputs).wishes (meaning body args inputs).ticks × ((meaning body args inputs).ticks ≤ MOST_TICKS)
 rises_of body args inputs = meaning_rises (λ kind es ps. true) body args inputs (all_pass body.block)
 
 -- the last wish that was spawned comes before the next one
-last_before_next : (m : Meaning) (spawned : ℕ) (w : Wish) → RisesFrom 1 m.wishes m.ticks → slice_get m.wishes spawned ≡ Some w → last_offset (Some m) spawned < w.offset
+last_before_next : (m : Meaning) (spawned : ℕ) (w : Wish) → RisesFrom 1 m.wishes m.ticks → slice_get m.wishes spawned ≡ Some w
+    → last_offset (Some m) spawned < w.offset
 last_before_next m zero w h e = omega (arith, (wish_between 1 m.ticks m.wishes zero w h e).0)
 last_before_next m (suc k) w h e =
     let (v, f) = item_at m.wishes k (omega (arith, place_below m.wishes (suc k) w e)) in
@@ -189,7 +196,8 @@ module _ (p : Program) (m : Member) (e : Entry) (t : Twins p m e) where
 
 -- ---- which events are allowed
 
-spawn_keeps : (count : ℕ) (rows : List Entry) (row parent offset : ℕ) (cowns : ArrayVec ℕ) → row ≡ length rows → row < MOST_ROWS → IsParent rows parent → IsOffset rows parent offset
+spawn_keeps : (count : ℕ) (rows : List Entry) (row parent offset : ℕ) (cowns : ArrayVec ℕ) → row ≡ length rows → row < MOST_ROWS → IsParent rows parent
+    → IsOffset rows parent offset
     → MayNeed count rows cowns.items → (rule : BrokenRule) → KeepsRule count rows (Spawn row parent offset cowns) rule
 spawn_keeps count rows row parent offset cowns next few parents offsets needs rules.NumberNotNext = next
 spawn_keeps count rows row parent offset cowns next few parents offsets needs rules.TooMany = few
@@ -199,7 +207,8 @@ spawn_keeps count rows row parent offset cowns next few parents offsets needs ru
 spawn_keeps count rows row parent offset cowns next few parents offsets needs rules.StartNotAllowed = tt
 spawn_keeps count rows row parent offset cowns next few parents offsets needs rules.EndNotAllowed = tt
 
-start_keeps : (count : ℕ) (rows : List Entry) (row : ℕ) → MayStart (life_of rows) (entry_cowns rows) row → (rule : BrokenRule) → KeepsRule count rows (Start row) rule
+start_keeps : (count : ℕ) (rows : List Entry) (row : ℕ) → MayStart (life_of rows) (entry_cowns rows) row → (rule : BrokenRule)
+    → KeepsRule count rows (Start row) rule
 start_keeps count rows row h rules.NumberNotNext = tt
 start_keeps count rows row h rules.TooMany = tt
 start_keeps count rows row h rules.ParentNotRunning = tt
@@ -208,7 +217,8 @@ start_keeps count rows row h rules.Cowns = tt
 start_keeps count rows row h rules.StartNotAllowed = h
 start_keeps count rows row h rules.EndNotAllowed = tt
 
-end_keeps : (count : ℕ) (rows : List Entry) (row ticks : ℕ) (status : EndStatus) (written : ArrayVec ℕ) → MayEnd rows row ticks written.items → (rule : BrokenRule)
+end_keeps : (count : ℕ) (rows : List Entry) (row ticks : ℕ) (status : EndStatus) (written : ArrayVec ℕ) → MayEnd rows row ticks written.items
+    → (rule : BrokenRule)
     → KeepsRule count rows (End row ticks status written) rule
 end_keeps count rows row ticks status written h rules.NumberNotNext = tt
 end_keeps count rows row ticks status written h rules.TooMany = tt
@@ -243,15 +253,18 @@ same_life p ms es h r = elim (cases_lt r (length ms)) [
   | inl l ↦ (
       let b = beside p ms es h r l in
       ap (λ o. option_map (λ (e : Entry). e.life) o) b.e_is ∙ ap Some b.twins.life ∙ sym (ap (λ o. option_map (λ (m : Member). m.life) o) b.m_is))
-  | inr ge ↦ ap (λ o. option_map (λ (e : Entry). e.life) o) (none_past es r (omega (arith, ge, h.same))) ∙ sym (ap (λ o. option_map (λ (m : Member). m.life) o) (none_past ms r ge))
+  | inr ge ↦ ap (λ o. option_map (λ (e : Entry). e.life) o) (none_past es r (omega (arith, ge, h.same)))
+      ∙ sym (ap (λ o. option_map (λ (m : Member). m.life) o) (none_past ms r ge))
 ]
 
 same_cowns : (p : Program) (ms : List Member) (es : List Entry) → AreTwins p ms es → (r : ℕ) → entry_cowns es r ≡ rising (member_cowns ms r)
 same_cowns p ms es h r = elim (cases_lt r (length ms)) [
   | inl l ↦ (
       let b = beside p ms es h r l in
-      ap (λ o. option_map_or (λ (e : Entry). e.cowns) o []) b.e_is ∙ b.twins.cowns ∙ sym (ap (λ o. rising (option_map_or (λ (m : Member). m.behaviour.cowns) o [])) b.m_is))
-  | inr ge ↦ ap (λ o. option_map_or (λ (e : Entry). e.cowns) o []) (none_past es r (omega (arith, ge, h.same))) ∙ sym (ap (λ o. rising (option_map_or (λ (m : Member). m.behaviour.cowns) o [])) (none_past ms r ge))
+      ap (λ o. option_map_or (λ (e : Entry). e.cowns) o []) b.e_is ∙ b.twins.cowns
+      ∙ sym (ap (λ o. rising (option_map_or (λ (m : Member). m.behaviour.cowns) o [])) b.m_is))
+  | inr ge ↦ ap (λ o. option_map_or (λ (e : Entry). e.cowns) o []) (none_past es r (omega (arith, ge, h.same)))
+      ∙ sym (ap (λ o. rising (option_map_or (λ (m : Member). m.behaviour.cowns) o [])) (none_past ms r ge))
 ]
 
 overlap_back : (p : Program) (ms : List Member) (es : List Entry) → AreTwins p ms es → (a b : ℕ) → Overlap (entry_cowns es) a b → Overlap (member_cowns ms) a b
@@ -261,7 +274,8 @@ overlap_back p ms es h a b (c, left, right) = (
   rising_had (member_cowns ms b) c (subst (λ cs. Contains cs c) (same_cowns p ms es h b) right),
 )
 
-start_allowed : (p : Program) (ms : List Member) (es : List Entry) → AreTwins p ms es → (row : ℕ) → MayStart (state_of ms) (member_cowns ms) row → IsAllowed (cown_count p.cowns) es (Start row)
+start_allowed : (p : Program) (ms : List Member) (es : List Entry) → AreTwins p ms es → (row : ℕ) → MayStart (state_of ms) (member_cowns ms) row
+    → IsAllowed (cown_count p.cowns) es (Start row)
 start_allowed p ms es h row may = record {
   bounds = omega (arith, is_there ms row Pending may.waits, h.few);
   keeps = start_keeps (cown_count p.cowns) es row (record {
@@ -272,7 +286,8 @@ start_allowed p ms es h row may = record {
 }
 
 -- the behaviour that is read at a place
-read_at : (p : Program) (ms : List Member) (es : List Entry) → AreTwins p ms es → (r : ℕ) (m : Member) → slice_get ms r ≡ Some m → (e : Entry) × (slice_get es r ≡ Some e) × Twins p m e
+read_at : (p : Program) (ms : List Member) (es : List Entry) → AreTwins p ms es → (r : ℕ) (m : Member) → slice_get ms r ≡ Some m
+    → (e : Entry) × (slice_get es r ≡ Some e) × Twins p m e
 read_at p ms es h r m is =
     let (e, g) = item_at es r (omega (arith, place_below ms r m is, h.same)) in
     (e, g, h.each r m e is g)
@@ -294,7 +309,8 @@ record Spawning (p : Program) (ms : List Member) (es : List Entry) (parent offse
   offset_is : offset ≡ wish.offset
   cowns_are : cowns ≡ rising wish.cowns
 
-spawning : (p : Program) (ms : List Member) (es : List Entry) → AreTwins p ms es → (parent offset : ℕ) (cowns : List ℕ) → SpawnsWish p ms parent offset cowns → Spawning p ms es parent offset cowns
+spawning : (p : Program) (ms : List Member) (es : List Entry) → AreTwins p ms es → (parent offset : ℕ) (cowns : List ℕ) → SpawnsWish p ms parent offset cowns
+    → Spawning p ms es parent offset cowns
 spawning p ms es h parent offset cowns s =
     let b = beside p ms es h parent (is_there ms parent Running s.runs) in
     let next : wish_at (meaning_of p b.m) b.m.spawned ≡ Some s.wish = sym (ap (λ o. next_wish p o) b.m_is) ∙ s.next in
@@ -311,7 +327,8 @@ spawning p ms es h parent offset cowns s =
 -- a wish that a behaviour of a run spawns fits the program
 module _ (p : Program) (ms : List Member) (es : List Entry) (parent offset : ℕ) (cowns : List ℕ) (s : Spawning p ms es parent offset cowns) where
   fits : WishFits (map signature_of p.bodies) (cown_count p.cowns) s.wish
-  fits = wish_fits (map signature_of p.bodies) (cown_count p.cowns) (whole_meaning p s.both.m s.both.e s.both.twins).wishes s.both.m.spawned s.wish (meant_fits p s.both.m s.both.e s.both.twins s.runs) s.wish_is
+  fits = wish_fits (map signature_of p.bodies) (cown_count p.cowns) (whole_meaning p s.both.m s.both.e s.both.twins).wishes s.both.m.spawned s.wish
+      (meant_fits p s.both.m s.both.e s.both.twins s.runs) s.wish_is
 
   low_wish : All (λ c. c < cown_count p.cowns) (rising s.wish.cowns)
   low_wish = rising_all (λ c. c < cown_count p.cowns) s.wish.cowns (all_below (cown_count p.cowns) s.wish.cowns fits.below)
@@ -323,17 +340,25 @@ module _ (p : Program) (ms : List Member) (es : List Entry) (parent offset : ℕ
   last_now = s.both.twins.last ∙ ap (λ o. last_offset o s.both.m.spawned) (is_meant p s.both.m s.both.e s.both.twins)
 
   later_wish : s.both.e.last < offset
-  later_wish = omega (arith, last_now, s.offset_is, last_before_next (whole_meaning p s.both.m s.both.e s.both.twins) s.both.m.spawned s.wish (meant_rises p s.both.m s.both.e s.both.twins) s.wish_is)
+  later_wish = omega (
+    arith,
+    last_now,
+    s.offset_is,
+    last_before_next (whole_meaning p s.both.m s.both.e s.both.twins) s.both.m.spawned s.wish
+        (meant_rises p s.both.m s.both.e s.both.twins) s.wish_is,
+  )
 
   short_wish : offset ≤ MOST_TICKS
   short_wish = omega (
     arith,
     s.offset_is,
-    (wish_between 1 (whole_meaning p s.both.m s.both.e s.both.twins).ticks (whole_meaning p s.both.m s.both.e s.both.twins).wishes s.both.m.spawned s.wish (meant_rises p s.both.m s.both.e s.both.twins) s.wish_is).1,
+    (wish_between 1 (whole_meaning p s.both.m s.both.e s.both.twins).ticks (whole_meaning p s.both.m s.both.e s.both.twins).wishes s.both.m.spawned s.wish
+        (meant_rises p s.both.m s.both.e s.both.twins) s.wish_is).1,
     meant_short p s.both.m s.both.e s.both.twins,
   )
 
-spawn_bounds : (n row parent offset : ℕ) (cowns : ArrayVec ℕ) (own : List ℕ) → row < MOST_ROWS → parent ≤ MOST_ROWS → offset ≤ MOST_TICKS → n ≤ MOST_COWNS → cowns.items ≡ own
+spawn_bounds : (n row parent offset : ℕ) (cowns : ArrayVec ℕ) (own : List ℕ) → row < MOST_ROWS → parent ≤ MOST_ROWS → offset ≤ MOST_TICKS → n ≤ MOST_COWNS
+    → cowns.items ≡ own
     → All (λ c. c < n) own → length own ≤ MOST_HELD → HasBounds (Spawn row parent offset cowns)
 spawn_bounds n row parent offset cowns own few low short most is below held = (
   omega arith,
@@ -343,10 +368,12 @@ spawn_bounds n row parent offset cowns own few low short most is below held = (
   subst (λ cs. length cs ≤ MOST_HELD) (sym is) held,
 )
 
-spawn_allowed : (p : Program) (ms : List Member) (es : List Entry) → AreTwins p ms es → (row parent offset : ℕ) (cowns : ArrayVec ℕ) → row ≡ length ms → row < MOST_ROWS
+spawn_allowed : (p : Program) (ms : List Member) (es : List Entry) → AreTwins p ms es → (row parent offset : ℕ) (cowns : ArrayVec ℕ) → row ≡ length ms
+    → row < MOST_ROWS
     → MaySpawn p ms parent offset cowns.items → IsAllowed (cown_count p.cowns) es (Spawn row parent offset cowns)
 spawn_allowed p [] [] h row parent offset cowns next few (first, at_once, none) = record {
-  bounds = spawn_bounds (cown_count p.cowns) row parent offset cowns [] few (omega (arith, first)) (omega (arith, at_once)) p.few_cowns none (λ k d l. absurd (omega (arith, l))) (omega arith);
+  bounds = spawn_bounds (cown_count p.cowns) row parent offset cowns [] few (omega (arith, first)) (omega (arith, at_once)) p.few_cowns none
+      (λ k d l. absurd (omega (arith, l))) (omega arith);
   keeps = spawn_keeps (cown_count p.cowns) [] row parent offset cowns next few first at_once none;
 }
 spawn_allowed p [] (e ∷ es) h row parent offset cowns next few s = absurd (omega (arith, h.same))
@@ -356,25 +383,32 @@ spawn_allowed p (m ∷ ms) (e ∷ es) h row parent offset cowns next few s =
     let own : length (e ∷ es) ≡ length (m ∷ ms) = h.same in
     let last : last_of (e ∷ es) parent ≡ t.both.e.last = ap (λ o. option_map_or (λ (x : Entry). x.last) o 0) t.both.e_is in
     record {
-      bounds = spawn_bounds (cown_count p.cowns) row parent offset cowns (rising t.wish.cowns) few (omega (arith, place_below (m ∷ ms) parent t.both.m t.both.m_is, h.few)) (short_wish p (m ∷ ms) (e ∷ es) parent offset cowns.items t) p.few_cowns t.cowns_are
+      bounds = spawn_bounds (cown_count p.cowns) row parent offset cowns (rising t.wish.cowns) few
+          (omega (arith, place_below (m ∷ ms) parent t.both.m t.both.m_is, h.few)) (short_wish p (m ∷ ms) (e ∷ es) parent offset cowns.items t) p.few_cowns
+          t.cowns_are
           (low_wish p (m ∷ ms) (e ∷ es) parent offset cowns.items t) (few_wish p (m ∷ ms) (e ∷ es) parent offset cowns.items t);
       keeps = spawn_keeps (cown_count p.cowns) (e ∷ es) row parent offset cowns (next ∙ sym own) few (same_life p (m ∷ ms) (e ∷ es) h parent ∙ s.runs)
           (omega (arith, last, later_wish p (m ∷ ms) (e ∷ es) parent offset cowns.items t), short_wish p (m ∷ ms) (e ∷ es) parent offset cowns.items t)
-          (subst (AreCowns (cown_count p.cowns)) (sym t.cowns_are) (record { rise = rising_rises t.wish.cowns; below = low_wish p (m ∷ ms) (e ∷ es) parent offset cowns.items t }));
+          (subst (AreCowns (cown_count p.cowns)) (sym t.cowns_are)
+          (record { rise = rising_rises t.wish.cowns; below = low_wish p (m ∷ ms) (e ∷ es) parent offset cowns.items t }));
     }
 
-end_allowed : (p : Program) (ms : List Member) (es : List Entry) → AreTwins p ms es → (row ticks : ℕ) (status : EndStatus) (written : ArrayVec ℕ) → CanEnd p ms row ticks status written.items
+end_allowed : (p : Program) (ms : List Member) (es : List Entry) → AreTwins p ms es → (row ticks : ℕ) (status : EndStatus) (written : ArrayVec ℕ)
+    → CanEnd p ms row ticks status written.items
     → IsAllowed (cown_count p.cowns) es (End row ticks status written)
 end_allowed p ms es h row ticks status written c =
     let (e, e_is, t) = read_at p ms es h row c.member c.is in
-    let same : whole_meaning p c.member e t ≡ c.means = let q : Some (whole_meaning p c.member e t) ≡ Some c.means = sym (is_meant p c.member e t) ∙ c.meant in cc in
+    let same : whole_meaning p c.member e t ≡ c.means = let q : Some (whole_meaning p c.member e t) ≡ Some c.means = sym (is_meant p c.member e t) ∙ c.meant in
+    cc in
     let wrote : written.items ≡ (whole_meaning p c.member e t).written = c.written_is ∙ ap (λ (m : Meaning). m.written) (sym same) in
     let took : ticks ≡ (whole_meaning p c.member e t).ticks = c.ticks_are ∙ ap (λ (m : Meaning). m.ticks) (sym same) in
     let spawned : c.member.spawned ≡ length (whole_meaning p c.member e t).wishes = c.all_spawned ∙ ap (λ (m : Meaning). length m.wishes) (sym same) in
     let last : last_of es row ≡ e.last = ap (λ o. option_map_or (λ (x : Entry). x.last) o 0) e_is in
-    let last_now : e.last ≡ last_offset (Some (whole_meaning p c.member e t)) c.member.spawned = t.last ∙ ap (λ o. last_offset o c.member.spawned) (is_meant p c.member e t) in
+    let last_now : e.last ≡ last_offset (Some (whole_meaning p c.member e t)) c.member.spawned =
+    t.last ∙ ap (λ o. last_offset o c.member.spawned) (is_meant p c.member e t) in
     let rises = meant_rises p c.member e t in
-    let own : All (Contains c.member.behaviour.cowns) written.items = subst (λ ws. All (Contains c.member.behaviour.cowns) ws) (sym wrote) (own_written p c.member e t c.runs) in
+    let own : All (Contains c.member.behaviour.cowns) written.items =
+    subst (λ ws. All (Contains c.member.behaviour.cowns) ws) (sym wrote) (own_written p c.member e t c.runs) in
     let few : length written.items ≤ MOST_HELD = subst (λ ws. length ws ≤ MOST_HELD) (sym wrote) (few_written p c.member e t c.runs) in
     let cowns : entry_cowns es row ≡ rising c.member.behaviour.cowns = ap (λ o. option_map_or (λ (x : Entry). x.cowns) o []) e_is ∙ t.cowns in
     record {
@@ -407,8 +441,10 @@ module _ (p : Program) (ms : List Member) (es : List Entry) (h : AreTwins p ms e
     few = omega (arith, length-set ms r (f b.m), h.few);
     each = λ k m e at_m at_e. elim (cases_eq k r) [
       | inl q ↦ (
-          let first : f b.m ≡ m = let x : Some (f b.m) ≡ Some m = sym (set_same ms r (f b.m) l) ∙ ap (λ i. slice_get (slice_set ms r (f b.m)) i) (sym q) ∙ at_m in cc in
-          let second : g b.e ≡ e = let x : Some (g b.e) ≡ Some e = sym (set_same es r (g b.e) (omega (arith, l, h.same))) ∙ ap (λ i. slice_get (slice_set es r (g b.e)) i) (sym q) ∙ at_e in cc in
+          let first : f b.m ≡ m = let x : Some (f b.m) ≡ Some m =
+          sym (set_same ms r (f b.m) l) ∙ ap (λ i. slice_get (slice_set ms r (f b.m)) i) (sym q) ∙ at_m in cc in
+          let second : g b.e ≡ e = let x : Some (g b.e) ≡ Some e =
+          sym (set_same es r (g b.e) (omega (arith, l, h.same))) ∙ ap (λ i. slice_get (slice_set es r (g b.e)) i) (sym q) ∙ at_e in cc in
           subst (λ y. Twins p m y) second (subst (λ y. Twins p y (g b.e)) first (alike b.m b.e b.m_is b.e_is b.twins)))
       | inr ne ↦ h.each k m e (sym (set_other ms r k (f b.m) ne) ∙ at_m) (sym (set_other es r k (g b.e) ne) ∙ at_e)
     ];
@@ -425,7 +461,8 @@ module _ (p : Program) (ms : List Member) (es : List Entry) (h : AreTwins p ms e
   ]
 
 -- one behaviour more, and its row
-twins_more : (p : Program) (ms : List Member) (es : List Entry) (m : Member) (e : Entry) → AreTwins p ms es → length ms < MOST_ROWS → Twins p m e → AreTwins p (ms ++ m ∷ []) (es ++ e ∷ [])
+twins_more : (p : Program) (ms : List Member) (es : List Entry) (m : Member) (e : Entry) → AreTwins p ms es → length ms < MOST_ROWS → Twins p m e
+    → AreTwins p (ms ++ m ∷ []) (es ++ e ∷ [])
 twins_more p ms es m e h few t = record {
   same = length-append es (e ∷ []) ∙ ap (λ (k : ℕ). k + 1) h.same ∙ sym (length-append ms (m ∷ []));
   few = omega (arith, length-append ms (m ∷ []), few);
@@ -446,7 +483,8 @@ main_counts (b ∷ bodies) h =
     (sym (eqb-true b.params 0 both.0), sym (eqb-true b.cown_params 0 both.1))
 
 -- a behaviour that was just spawned, and its row
-fresh_twins : (p : Program) (b : Behaviour) (parent offset : ℕ) (cowns : List ℕ) → CountsAre (slice_get (map signature_of p.bodies) b.kind) (length b.args) (length b.cowns)
+fresh_twins : (p : Program) (b : Behaviour) (parent offset : ℕ) (cowns : List ℕ)
+    → CountsAre (slice_get (map signature_of p.bodies) b.kind) (length b.args) (length b.cowns)
     → AllBelow (cown_count p.cowns) b.cowns → cowns ≡ rising b.cowns → Twins p (waiting b) (pending parent offset cowns)
 fresh_twins p b parent offset cowns counts below is = record {
   counts = counts;
@@ -462,14 +500,16 @@ none_twins : (p : Program) → AreTwins p [] []
 none_twins p = record { same = refl; few = omega arith; each = λ r m e q s. absurd cc }
 
 -- a parent whose next wish was spawned, and its row
-spawned_twins : (p : Program) (x : Member) (y : Entry) (offset : ℕ) (w : Wish) → Twins p x y → x.life ≡ Running → next_wish p (Some x) ≡ Some w → offset ≡ w.offset
+spawned_twins : (p : Program) (x : Member) (y : Entry) (offset : ℕ) (w : Wish) → Twins p x y → x.life ≡ Running → next_wish p (Some x) ≡ Some w
+    → offset ≡ w.offset
     → Twins p (record x { spawned = x.spawned + 1 }) (record y { last = offset })
 spawned_twins p x y offset w t runs next is =
     let m : Meaning = whole_meaning p x y t in
     let at : slice_get m.wishes x.spawned ≡ Some w = wish_of_meaning (meaning_of p x) x.spawned m w (is_meant p x y t) next in
     let one : x.spawned + 1 ≡ suc x.spawned = omega arith in
     let last : last_offset (Some m) (suc x.spawned) ≡ w.offset = ap (λ o. option_map_or (λ (v : Wish). v.offset) o 0) at in
-    let now : last_offset (meaning_of p x) (x.spawned + 1) ≡ w.offset = ap (λ o. last_offset o (x.spawned + 1)) (is_meant p x y t) ∙ ap (λ k. last_offset (Some m) k) one ∙ last in
+    let now : last_offset (meaning_of p x) (x.spawned + 1) ≡ w.offset =
+    ap (λ o. last_offset o (x.spawned + 1)) (is_meant p x y t) ∙ ap (λ k. last_offset (Some m) k) one ∙ last in
     record {
       counts = t.counts;
       below = t.below;
@@ -480,10 +520,12 @@ spawned_twins p x y offset w t runs next is =
       last = is ∙ sym now;
     }
 
-twins_spawn : (p : Program) (ms : List Member) (es : List Entry) → AreTwins p ms es → (row parent offset : ℕ) (cowns : ArrayVec ℕ) → row ≡ length ms → row < MOST_ROWS
+twins_spawn : (p : Program) (ms : List Member) (es : List Entry) → AreTwins p ms es → (row parent offset : ℕ) (cowns : ArrayVec ℕ) → row ≡ length ms
+    → row < MOST_ROWS
     → MaySpawn p ms parent offset cowns.items → AreTwins p (members_after_spawn p ms parent) (after es (Spawn row parent offset cowns))
 twins_spawn p [] [] h row parent offset cowns next few (first, at_once, none) =
-    twins_more p [] [] (waiting main_behaviour) (pending parent offset cowns.items) h (omega arith) (fresh_twins p main_behaviour parent offset cowns.items (main_counts p.bodies p.main) tt none)
+    twins_more p [] [] (waiting main_behaviour) (pending parent offset cowns.items) h (omega arith)
+    (fresh_twins p main_behaviour parent offset cowns.items (main_counts p.bodies p.main) tt none)
 twins_spawn p [] (e ∷ es) h row parent offset cowns next few s = absurd (omega (arith, h.same))
 twins_spawn p (m ∷ ms) [] h row parent offset cowns next few s = absurd (omega (arith, h.same))
 twins_spawn p (m ∷ ms) (e ∷ es) h row parent offset cowns next few s =
@@ -492,7 +534,8 @@ twins_spawn p (m ∷ ms) (e ∷ es) h row parent offset cowns next few s =
     subst (λ xs. AreTwins p xs (after (e ∷ es) (Spawn row parent offset cowns))) (sym (ap (λ o. spawned_by (m ∷ ms) parent o) t.next))
     (twins_more p _ _ (waiting (behaviour_of t.wish)) (pending parent offset cowns.items)
     (twins_changed p (m ∷ ms) (e ∷ es) h parent (λ x. record x { spawned = x.spawned + 1 }) (λ y. record y { last = offset })
-    (λ x y at_x at_y tw. spawned_twins p x y offset t.wish tw (running_of (m ∷ ms) parent x at_x s.runs) (sym (ap (λ o. next_wish p o) at_x) ∙ t.next) t.offset_is))
+    (λ x y at_x at_y tw. spawned_twins p x y offset t.wish tw (running_of (m ∷ ms) parent x at_x s.runs) (sym (ap (λ o. next_wish p o) at_x) ∙ t.next)
+    t.offset_is))
     (omega (arith, length-changed (m ∷ ms) parent (λ (x : Member). record x { spawned = x.spawned + 1 }) (slice_get (m ∷ ms) parent), next, few))
     (fresh_twins p (behaviour_of t.wish) parent offset cowns.items w.counts w.below t.cowns_are))
 
@@ -501,7 +544,8 @@ held_of_inputs [] values = refl
 held_of_inputs (c ∷ cs) values = ap (λ ds. c ∷ ds) (held_of_inputs cs values)
 
 -- a behaviour that starts, and its row
-started_twins : (p : Program) (values : List ℤ) (x : Member) (y : Entry) → x.life ≡ Pending → Twins p x y → Twins p (started_on values x) (record y { life = Running })
+started_twins : (p : Program) (values : List ℤ) (x : Member) (y : Entry) → x.life ≡ Pending → Twins p x y
+    → Twins p (started_on values x) (record y { life = Running })
 started_twins p values x y waits t =
     let none : x.spawned ≡ 0 = t.fresh waits in
     record {
@@ -534,20 +578,24 @@ pending_of ms r m is waits =
 
 -- ---- the law
 
-next_allowed : (p : Program) (c : Config) (es : List Entry) (event : Event) → AreTwins p c.members es → MayHappen p c event → IsAllowed (cown_count p.cowns) es event
+next_allowed : (p : Program) (c : Config) (es : List Entry) (event : Event) → AreTwins p c.members es → MayHappen p c event
+    → IsAllowed (cown_count p.cowns) es event
 next_allowed p c es (Spawn row parent offset cowns) h may = spawn_allowed p c.members es h row parent offset cowns may.0 may.1 may.2
 next_allowed p c es (Start row) h may = start_allowed p c.members es h row may
 next_allowed p c es (End row ticks status written) h may = end_allowed p c.members es h row ticks status written may
 
-next_twins : (p : Program) (c : Config) (es : List Entry) (event : Event) → AreTwins p c.members es → MayHappen p c event → AreTwins p (config_after p c event).members (after es event)
+next_twins : (p : Program) (c : Config) (es : List Entry) (event : Event) → AreTwins p c.members es → MayHappen p c event
+    → AreTwins p (config_after p c event).members (after es event)
 next_twins p c es (Spawn row parent offset cowns) h may = twins_spawn p c.members es h row parent offset cowns may.0 may.1 may.2
 next_twins p c es (Start row) h may = twins_changed p c.members es h row (started_on c.values) (λ e. record e { life = Running })
     (λ x y at_x at_y t. started_twins p c.values x y (pending_of c.members row x at_x may.waits) t)
 next_twins p c es (End row ticks status written) h may =
-    twins_changed p c.members es h row (λ m. record m { life = Ended }) (λ e. record e { life = Ended; ticks = ticks; status = status; written = written.items })
+    twins_changed p c.members es h row (λ m. record m { life = Ended })
+    (λ e. record e { life = Ended; ticks = ticks; status = status; written = written.items })
     (λ x y at_x at_y t. ended_twins p x y ticks status written.items t)
 
-legal_from : (p : Program) (c : Config) (es : List Entry) (events : List Event) → AreTwins p c.members es → IsRunFrom p c events → IsLegalFrom (cown_count p.cowns) es events
+legal_from : (p : Program) (c : Config) (es : List Entry) (events : List Event) → AreTwins p c.members es → IsRunFrom p c events
+    → IsLegalFrom (cown_count p.cowns) es events
 legal_from p c es [] h run = tt
 legal_from p c es (event ∷ events) h run =
     (next_allowed p c es event h run.0, legal_from p (config_after p c event) (after es event) events (next_twins p c es event h run.0) run.1)

@@ -13,7 +13,8 @@ pub told_all : (happenings : List Happening) (rows : List Row) → length (told 
 told_all happenings rows = length-map happenings (λ h. event_at h.row (slice_get rows h.row) h.deed)
 
 -- the event at a place is told by the happening there, of its row
-told_got : (happenings : List Happening) (rows : List Row) (k : ℕ) (h : Happening) (row : Row) → slice_get happenings k ≡ Some h → slice_get rows h.row ≡ Some row
+told_got : (happenings : List Happening) (rows : List Row) (k : ℕ) (h : Happening) (row : Row) → slice_get happenings k ≡ Some h
+    → slice_get rows h.row ≡ Some row
     → slice_get (told happenings rows) k ≡ Some (event_of h.row row h.deed)
 told_got happenings rows k h row at is =
     slice_get-map (λ h. event_at h.row (slice_get rows h.row) h.deed) happenings k
@@ -21,7 +22,8 @@ told_got happenings rows k h row at is =
     ∙ ap (λ (o : Option Row). Some (event_at h.row o h.deed)) is
 
 -- the event of a happening and a row as they were read
-pub told_read : (happenings : List Happening) (rows : List Row) (k n : ℕ) (none : Happening) (other : Row) → k < length happenings → AreOf happenings rows → n ≡ (get_or happenings k none).row
+pub told_read : (happenings : List Happening) (rows : List Row) (k n : ℕ) (none : Happening) (other : Row) → k < length happenings → AreOf happenings rows
+    → n ≡ (get_or happenings k none).row
     → slice_get (told happenings rows) k ≡ Some (event_of (get_or happenings k none).row (get_or rows n other) (get_or happenings k none).deed)
 told_read happenings rows k n none other less are number =
     let h = get_or happenings k none in

@@ -1,5 +1,6 @@
 -- The rule of runs tried on the run of the transfer by one worker, and on logs that are no runs.
-use Rattle.std.proofs.Common.{◌≡◌, ℕ, zero, suc, ◌<◌, List, [], ◌∷◌, ◌++◌, Some, Bool, true, false, refl, sym, ap, pos, ℤ, lit≤, take, arith, length, ◌∙◌, IsTrue}
+use Rattle.std.proofs.Common.{◌≡◌, ℕ, zero, suc, ◌<◌, List, [], ◌∷◌, ◌++◌, Some, Bool, true, false, refl, sym, ap, pos, ℤ, lit≤, take, arith, length, ◌∙◌}
+use Rattle.std.proofs.Common.{IsTrue}
 use Rattle.std.specs.Prelude.{◌&&◌}
 use Rattle.boc_runs.specs.declared.event.BrokenRule.TheVariants as rules
 use Rattle.boc_runs.specs.declared.event.Event.TheVariants.{Start}
@@ -59,7 +60,8 @@ no_wait [] (suc row) h other l e = cc
 no_wait (m ∷ ms) (suc row) h zero l e = not_pending m.life (both (is_over m.life) (none_waits ms row) h).0 e
 no_wait (m ∷ ms) (suc row) h (suc other) l e = no_wait ms row (both (is_over m.life) (none_waits ms row) h).1 other (omega arith) e
 
-starts_alone : (ms : List Member) (row : ℕ) → state_of ms row ≡ Some Pending → IsTrue (none_runs ms) → IsTrue (none_waits ms row) → MayStart (state_of ms) (member_cowns ms) row
+starts_alone : (ms : List Member) (row : ℕ) → state_of ms row ≡ Some Pending → IsTrue (none_runs ms) → IsTrue (none_waits ms row)
+    → MayStart (state_of ms) (member_cowns ms) row
 starts_alone ms row waits idle first = record {
   waits = waits;
   none_running = λ other h share. no_run ms idle other h;
@@ -76,7 +78,12 @@ members_after n = (config_of program (take n log)).members
 
 -- a behaviour that runs, and has spawned so many wishes
 abbrev running : ℕ → List ℤ → List Input → List ℕ → ℕ → Member
-running kind args inputs cowns wishes = record { behaviour = record { kind = kind; args = args; cowns = cowns }; inputs = inputs; spawned = wishes; life = Running }
+running kind args inputs cowns wishes = record {
+  behaviour = record { kind = kind; args = args; cowns = cowns };
+  inputs = inputs;
+  spawned = wishes;
+  life = Running;
+}
 
 pub transfer_runs : IsRun program log
 transfer_runs = (
@@ -84,25 +91,95 @@ transfer_runs = (
   (
     starts_alone (members_after 1) 0 refl refl refl,
     (
-      (refl, lit≤ tt, record { runs = refl; wish = record { offset = 2; kind = 1; args = pos 5 ∷ []; cowns = 0 ∷ [] }; next = refl; offset_is = refl; cowns_are = refl }),
       (
-        (refl, lit≤ tt, record { runs = refl; wish = record { offset = 3; kind = 2; args = pos 3 ∷ []; cowns = 0 ∷ 1 ∷ [] }; next = refl; offset_is = refl; cowns_are = refl }),
+        refl,
+        lit≤ tt,
+        record {
+          runs = refl;
+          wish = record { offset = 2; kind = 1; args = pos 5 ∷ []; cowns = 0 ∷ [] };
+          next = refl;
+          offset_is = refl;
+          cowns_are = refl;
+        },
+      ),
+      (
         (
-          (refl, lit≤ tt, record { runs = refl; wish = record { offset = 4; kind = 1; args = pos 1 ∷ []; cowns = 1 ∷ [] }; next = refl; offset_is = refl; cowns_are = refl }),
+          refl,
+          lit≤ tt,
+          record {
+            runs = refl;
+            wish = record { offset = 3; kind = 2; args = pos 3 ∷ []; cowns = 0 ∷ 1 ∷ [] };
+            next = refl;
+            offset_is = refl;
+            cowns_are = refl;
+          },
+        ),
+        (
           (
-            record { member = running 0 [] [] [] 3; is = refl; runs = refl; means = meaning main_body [] []; meant = refl; all_spawned = refl; ticks_are = refl; status_is = refl; written_is = refl },
+            refl,
+            lit≤ tt,
+            record {
+              runs = refl;
+              wish = record { offset = 4; kind = 1; args = pos 1 ∷ []; cowns = 1 ∷ [] };
+              next = refl;
+              offset_is = refl;
+              cowns_are = refl;
+            },
+          ),
+          (
+            record {
+              member = running 0 [] [] [] 3;
+              is = refl;
+              runs = refl;
+              means = meaning main_body [] [];
+              meant = refl;
+              all_spawned = refl;
+              ticks_are = refl;
+              status_is = refl;
+              written_is = refl;
+            },
             (
               starts_alone (members_after 6) 1 refl refl refl,
               (
-                record { member = running 1 (pos 5 ∷ []) (input 0 (pos 10) ∷ []) (0 ∷ []) 0; is = refl; runs = refl; means = meaning add_body (pos 5 ∷ []) (input 0 (pos 10) ∷ []); meant = refl; all_spawned = refl; ticks_are = refl; status_is = refl; written_is = refl },
+                record {
+                  member = running 1 (pos 5 ∷ []) (input 0 (pos 10) ∷ []) (0 ∷ []) 0;
+                  is = refl;
+                  runs = refl;
+                  means = meaning add_body (pos 5 ∷ []) (input 0 (pos 10) ∷ []);
+                  meant = refl;
+                  all_spawned = refl;
+                  ticks_are = refl;
+                  status_is = refl;
+                  written_is = refl;
+                },
                 (
                   starts_alone (members_after 8) 2 refl refl refl,
                   (
-                    record { member = running 2 (pos 3 ∷ []) (input 0 (pos 15) ∷ input 1 (pos 0) ∷ []) (0 ∷ 1 ∷ []) 0; is = refl; runs = refl; means = meaning move_body (pos 3 ∷ []) (input 0 (pos 15) ∷ input 1 (pos 0) ∷ []); meant = refl; all_spawned = refl; ticks_are = refl; status_is = refl; written_is = refl },
+                    record {
+                      member = running 2 (pos 3 ∷ []) (input 0 (pos 15) ∷ input 1 (pos 0) ∷ []) (0 ∷ 1 ∷ []) 0;
+                      is = refl;
+                      runs = refl;
+                      means = meaning move_body (pos 3 ∷ []) (input 0 (pos 15) ∷ input 1 (pos 0) ∷ []);
+                      meant = refl;
+                      all_spawned = refl;
+                      ticks_are = refl;
+                      status_is = refl;
+                      written_is = refl;
+                    },
                     (
                       starts_alone (members_after 10) 3 refl refl refl,
                       (
-                        record { member = running 1 (pos 1 ∷ []) (input 1 (pos 3) ∷ []) (1 ∷ []) 0; is = refl; runs = refl; means = meaning add_body (pos 1 ∷ []) (input 1 (pos 3) ∷ []); meant = refl; all_spawned = refl; ticks_are = refl; status_is = refl; written_is = refl },
+                        record {
+                          member = running 1 (pos 1 ∷ []) (input 1 (pos 3) ∷ []) (1 ∷ []) 0;
+                          is = refl;
+                          runs = refl;
+                          means = meaning add_body (pos 1 ∷ []) (input 1 (pos 3) ∷ []);
+                          meant = refl;
+                          all_spawned = refl;
+                          ticks_are = refl;
+                          status_is = refl;
+                          written_is = refl;
+                        },
                         tt,
                       ),
                     ),
@@ -140,7 +217,8 @@ pub early_end : IsRun program (take 2 log ++ over 0 4 [] ∷ []) → ⊥
 early_end run =
     let c = run.1.1.0 in
     let same : running 0 [] [] [] 0 ≡ c.member = let e : Some (running 0 [] [] [] 0) ≡ Some c.member = c.is in cc in
-    let means : meaning main_body [] [] ≡ c.means = let e : Some (meaning main_body [] []) ≡ Some c.means = ap (λ m. meaning_of program m) same ∙ c.meant in cc in
+    let means : meaning main_body [] [] ≡ c.means = let e : Some (meaning main_body [] []) ≡ Some c.means = ap (λ m. meaning_of program m) same ∙ c.meant in
+    cc in
     three_or_none c.member.spawned (sym (ap (λ (m : Member). m.spawned) same)) (c.all_spawned ∙ sym (ap (λ (m : Meaning). length m.wishes) means))
 
 -- a row cannot start over a cown of one that runs

@@ -20,7 +20,8 @@ HasBounds (Start row) = row < 2 ^ 32
 HasBounds (End row ticks status written) =
     (row < 2 ^ 32) × (ticks < 2 ^ 32) × All (λ c. c < 2 ^ 32) written.items × (length written.items ≤ MOST_HELD)
 
--- a row of a run under way: who spawned it, the offset of its last child (0 where it has none), and from its end on its ticks, its status and the cowns that it wrote
+-- a row of a run under way: who spawned it, the offset of its last child (0 where it has none), and from its end on its ticks, its status and the cowns that it
+-- wrote
 pub record Entry : Type 0 where
   pub parent : ℕ
   pub offset : ℕ

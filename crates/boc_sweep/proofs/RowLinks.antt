@@ -8,7 +8,8 @@ use Rattle.boc_plans.specs.Plans.{start_of, IsChild, IsEnd}
 use Rattle.boc_plans.specs.Chains.{IsSpawnTight, IsOrderTight}
 use Rattle.boc_plans.specs.Edits.{Fits}
 use Rattle.boc_plans.specs.Greedy.{IsSpan}
-use Rattle.boc_plans.proofs.Editing.{length-edited, parent_of-edited, offset_of-edited, ordered_edited, ordered_back, ticks_of-edited_other, edited_back, rows_edited}
+use Rattle.boc_plans.proofs.Editing.{length-edited, parent_of-edited, offset_of-edited, ordered_edited, ordered_back, ticks_of-edited_other, edited_back}
+use Rattle.boc_plans.proofs.Editing.{rows_edited}
 use Rattle.boc_order.specs.Placed.{ArePlaced}
 use Rattle.boc_order.proofs.Chaining.{placed_earliest}
 use Rattle.boc_sweep.specs.Ways.{AreHeads, ChangesAt}
@@ -41,41 +42,43 @@ module _ (rows : List Row) (hr : IsRows rows) (Waits : ℕ → ℕ → Type 0) (
   links_inside finish y w l = absurd l
 
   -- the earliest plan is the heads
-  module _ (starts ends : List ℕ) (after : List (Option ℕ)) (placed : ArePlaced rows starts ends after (length rows)) (last : ℕ) (end : IsEnd rows starts last) where
-    ticks_keep : (x y : Node) (w : ℕ) → Links rows Waits x y w → tick_of rows starts last x + w ≤ tick_of rows starts last y
-    ticks_keep (start a) (start b) w l = omega (arith, (placed.placed b l.0.there).spawned a l.0, l.1)
-    ticks_keep (start a) (stop b) w l = rw l.1 (omega (arith, l.2))
-    ticks_keep (start a) finish w l = absurd l
-    ticks_keep (stop a) (start b) w l = omega (arith, (placed.placed b (covers.there a b l.0)).in_order a (covers.sound a b l.0), l.1)
-    ticks_keep (stop a) (stop b) w l = absurd l
-    ticks_keep (stop a) finish w l = omega (arith, end.none_later a l.0, l.1)
-    ticks_keep finish y w l = absurd l
+  module _ (starts ends : List ℕ) (after : List (Option ℕ)) (placed : ArePlaced rows starts ends after (length rows)) (last : ℕ) (end : IsEnd rows starts last)
+    where
+      ticks_keep : (x y : Node) (w : ℕ) → Links rows Waits x y w → tick_of rows starts last x + w ≤ tick_of rows starts last y
+      ticks_keep (start a) (start b) w l = omega (arith, (placed.placed b l.0.there).spawned a l.0, l.1)
+      ticks_keep (start a) (stop b) w l = rw l.1 (omega (arith, l.2))
+      ticks_keep (start a) finish w l = absurd l
+      ticks_keep (stop a) (start b) w l = omega (arith, (placed.placed b (covers.there a b l.0)).in_order a (covers.sound a b l.0), l.1)
+      ticks_keep (stop a) (stop b) w l = absurd l
+      ticks_keep (stop a) finish w l = omega (arith, end.none_later a l.0, l.1)
+      ticks_keep finish y w l = absurd l
 
-    -- the row that a row waits for is one that it has a link from
-    wait_is_link : (a b : ℕ) → b < length rows → IsOrderTight rows starts a b → Waits a b
-    wait_is_link a b there t = elim (covers.complete a b there t.0) [
-      | inl w ↦ w
-      | inr (c, o, p) ↦ absurd (
-          let c_there : c < length rows = omega (arith, p.before, there) in
-          omega (arith, t.1, (placed.placed c c_there).in_order a o, (placed.placed b there).in_order c p, hr.ticks_low c c_there))
-    ]
+      -- the row that a row waits for is one that it has a link from
+      wait_is_link : (a b : ℕ) → b < length rows → IsOrderTight rows starts a b → Waits a b
+      wait_is_link a b there t = elim (covers.complete a b there t.0) [
+        | inl w ↦ w
+        | inr (c, o, p) ↦ absurd (
+            let c_there : c < length rows = omega (arith, p.before, there) in
+            omega (arith, t.1, (placed.placed c c_there).in_order a o, (placed.placed b there).in_order c p, hr.ticks_low c c_there))
+      ]
 
-    tight_by : (b : ℕ) → b < length rows → (o : Option ℕ) → MatchOption o (IsSpawnTight rows starts b)
-        (λ a. (IsSpawnTight rows starts b → ⊥) × IsOrderTight rows starts a b × ((other : ℕ) → IsOrderTight rows starts other b → a ≤ other)) →
-        (x : Node) × (w : ℕ) × IsNode (length rows) x × Links rows Waits x (start b) w × (tick_of rows starts last x + w ≡ start_of starts b)
-    tight_by b there None (a, child, e) = (start a, offset_of rows b, omega (arith, parent_first a b child, there), (child, refl), e)
-    tight_by b there (Some a) t = (stop a, 0, omega (arith, t.1.0.before, there), (wait_is_link a b there t.1, refl), omega (arith, t.1.1))
+      tight_by : (b : ℕ) → b < length rows → (o : Option ℕ) → MatchOption o (IsSpawnTight rows starts b)
+          (λ a. (IsSpawnTight rows starts b → ⊥) × IsOrderTight rows starts a b × ((other : ℕ) → IsOrderTight rows starts other b → a ≤ other)) →
+          (x : Node) × (w : ℕ) × IsNode (length rows) x × Links rows Waits x (start b) w × (tick_of rows starts last x + w ≡ start_of starts b)
+      tight_by b there None (a, child, e) = (start a, offset_of rows b, omega (arith, parent_first a b child, there), (child, refl), e)
+      tight_by b there (Some a) t = (stop a, 0, omega (arith, t.1.0.before, there), (wait_is_link a b there t.1, refl), omega (arith, t.1.1))
 
-    ticks_tight : (y : Node) → IsNode (length rows) y → (y ≡ start 0) ⊎ ((x : Node) × (w : ℕ) × IsNode (length rows) x × Links rows Waits x y w × (tick_of rows starts last x + w ≡ tick_of rows starts last y))
-    ticks_tight (start b) there = elim (cases_eq b 0) [
-      | inl e ↦ inl (ap start e)
-      | inr ne ↦ inr (tight_by b there (slice_index_or after b None) ((placed.placed b there).tight (omega arith)))
-    ]
-    ticks_tight (stop b) there = inr (start b, ticks_of rows b, there, (there, refl, refl), refl)
-    ticks_tight finish there = inr (stop end.reached.0, 0, end.reached.1, (end.reached.1, refl), omega (arith, end.reached.2))
+      ticks_tight : (y : Node) → IsNode (length rows) y → (y ≡ start 0)
+          ⊎ ((x : Node) × (w : ℕ) × IsNode (length rows) x × Links rows Waits x y w × (tick_of rows starts last x + w ≡ tick_of rows starts last y))
+      ticks_tight (start b) there = elim (cases_eq b 0) [
+        | inl e ↦ inl (ap start e)
+        | inr ne ↦ inr (tight_by b there (slice_index_or after b None) ((placed.placed b there).tight (omega arith)))
+      ]
+      ticks_tight (stop b) there = inr (start b, ticks_of rows b, there, (there, refl, refl), refl)
+      ticks_tight finish there = inr (stop end.reached.0, 0, end.reached.1, (end.reached.1, refl), omega (arith, end.reached.2))
 
-    pub plan_is_heads : AreHeads (IsNode (length rows)) (Links rows Waits) (start 0) (tick_of rows starts last)
-    plan_is_heads = record { at_source = (placed.placed 0 hr.not_empty).main refl; keeps = ticks_keep; tight = ticks_tight }
+      pub plan_is_heads : AreHeads (IsNode (length rows)) (Links rows Waits) (start 0) (tick_of rows starts last)
+      plan_is_heads = record { at_source = (placed.placed 0 hr.not_empty).main refl; keeps = ticks_keep; tight = ticks_tight }
 
 -- the order stays
 covers_edited : (rows : List Row) (Waits : ℕ → ℕ → Type 0) (row ticks : ℕ) → Covers rows Waits → Covers (edited rows row ticks) Waits
@@ -89,7 +92,8 @@ covers_edited rows Waits row ticks c = record {
 }
 
 -- all links but the row's own stay
-links_edited : (rows : List Row) (Waits : ℕ → ℕ → Type 0) (row ticks count : ℕ) (x y : Node) (w : ℕ) → (number_of count y ≤ 2 * row) ⊎ (2 * row < number_of count x) →
+links_edited : (rows : List Row) (Waits : ℕ → ℕ → Type 0) (row ticks count : ℕ) (x y : Node) (w : ℕ)
+    → (number_of count y ≤ 2 * row) ⊎ (2 * row < number_of count x) →
     Links rows Waits x y w → Links (edited rows row ticks) Waits x y w
 links_edited rows Waits row ticks count (start a) (start b) w k l = (
   record {
@@ -111,10 +115,12 @@ links_edited rows Waits row ticks count (stop a) (stop b) w k l = absurd l
 links_edited rows Waits row ticks count (stop a) finish w k l = (omega (arith, l.0, length-edited rows row ticks), l.1)
 links_edited rows Waits row ticks count finish y w k l = absurd l
 
-links_back : (rows : List Row) (Waits : ℕ → ℕ → Type 0) (row ticks count : ℕ) (x y : Node) (w : ℕ) → (number_of count y ≤ 2 * row) ⊎ (2 * row < number_of count x) →
+links_back : (rows : List Row) (Waits : ℕ → ℕ → Type 0) (row ticks count : ℕ) (x y : Node) (w : ℕ)
+    → (number_of count y ≤ 2 * row) ⊎ (2 * row < number_of count x) →
     Links (edited rows row ticks) Waits x y w → Links rows Waits x y w
 links_back rows Waits row ticks count x y w k l =
-    subst (λ (xs : List Row). Links xs Waits x y w) (edited_back rows row ticks) (links_edited (edited rows row ticks) Waits row (ticks_of rows row) count x y w k l)
+    subst (λ (xs : List Row). Links xs Waits x y w) (edited_back rows row ticks)
+    (links_edited (edited rows row ticks) Waits row (ticks_of rows row) count x y w k l)
 
 node_low : (count : ℕ) (x : Node) → IsNode count x → number_of count x ≤ 2 * count
 node_low count (start r) i = omega (arith, i)
@@ -148,13 +154,15 @@ module _ (rows : List Row) (hr : IsRows rows) (Waits : ℕ → ℕ → Type 0) (
   }
 
   -- of any earliest plan of the changed rows
-  span_by : (starts' ends' : List ℕ) (after' : List (Option ℕ)) (last' : ℕ) → ArePlaced (edited rows row ticks) starts' ends' after' (length (edited rows row ticks)) →
+  span_by : (starts' ends' : List ℕ) (after' : List (Option ℕ)) (last' : ℕ)
+      → ArePlaced (edited rows row ticks) starts' ends' after' (length (edited rows row ticks)) →
       IsEnd (edited rows row ticks) starts' last' → (most : ℕ) → IsMostAt rows Waits starts last tail row ticks most → IsSpan (edited rows row ticks) most
   span_by starts' ends' after' last' placed' end' most m =
       let heads' : AreHeads (IsNode (length rows)) (Links (edited rows row ticks) Waits) (start 0) (tick_of (edited rows row ticks) starts' last') =
       subst (λ (n : ℕ). AreHeads (IsNode n) (Links (edited rows row ticks) Waits) (start 0) (tick_of (edited rows row ticks) starts' last')) same
       (plan_is_heads (edited rows row ticks) hr' Waits covers' starts' ends' after' placed' last' end') in
-      let is : last' ≡ most = cut_heaviest (IsNode (length rows)) (number_of (length rows)) (Links rows Waits) (Links (edited rows row ticks) Waits) (start 0) finish
+      let is : last' ≡ most = cut_heaviest (IsNode (length rows)) (number_of (length rows)) (Links rows Waits) (Links (edited rows row ticks) Waits) (start 0)
+      finish
       (tick_of rows starts last) tail (tick_of (edited rows row ticks) starts' last') (2 * row)
       (links_inside rows hr Waits ways.covers) inside' (links_rise rows hr Waits ways.covers) rises'
       (λ x i. node_low (length rows) x i) tt (omega arith) (omega (arith, f.there))

@@ -35,7 +35,8 @@ module _ (rows : List Row) (n : ℕ) where
   abbrev OrderedBelow : ℕ → ℕ → Type 0
   OrderedBelow m a = (a < m) × Ordered rows a n
 
-  ordered_upto : (ends : List ℕ) → ((a : ℕ) → a < n → 0 < slice_index ends a) → (m : ℕ) → m ≤ n → (best : Latest) × IsLatestOf (OrderedBelow m) (slice_index ends) best
+  ordered_upto : (ends : List ℕ) → ((a : ℕ) → a < n → 0 < slice_index ends a) → (m : ℕ) → m ≤ n
+      → (best : Latest) × IsLatestOf (OrderedBelow m) (slice_index ends) best
   ordered_upto ends late zero h = (record { end = 0; row = 0 }, record { none = λ e a o. omega (arith, o.0); some = λ l. absurd (omega (arith, l)) })
   ordered_upto ends late (suc m) h =
       let p = ordered_upto ends late m (omega (arith, h)) in
@@ -50,7 +51,8 @@ module _ (rows : List Row) (n : ℕ) where
         )
       ]
     where
-      one_more : (ends : List ℕ) → ((a : ℕ) → a < n → 0 < slice_index ends a) → (m : ℕ) → suc m ≤ n → (best : Latest) → IsLatestOf (OrderedBelow m) (slice_index ends) best →
+      one_more : (ends : List ℕ) → ((a : ℕ) → a < n → 0 < slice_index ends a) → (m : ℕ) → suc m ≤ n → (best : Latest)
+          → IsLatestOf (OrderedBelow m) (slice_index ends) best →
           Ordered rows m n → IsLatestOf (OrderedBelow (suc m)) (slice_index ends) (later_of best (record { end = slice_index ends m; row = m }))
       one_more ends late m h best q o =
           IsLatest-same (λ a. OrderedBelow m a ⊎ (a ≡ m)) (OrderedBelow (suc m)) (slice_index ends) (slice_index ends) _
@@ -87,7 +89,8 @@ stands_next rows hr n there s =
     let late : (a : ℕ) → a < n → 0 < slice_index s.ends a = λ a h. omega (arith, (s.placed.placed a h).ends_then, hr.ticks_low a (omega (arith, h, there))) in
     let p = ordered_upto rows n s.ends late n (omega arith) in
     let q : IsLatestOf (λ a. Ordered rows a n) (slice_index s.ends) p.0 =
-    IsLatest-same (OrderedBelow rows n n) (λ a. Ordered rows a n) (slice_index s.ends) (slice_index s.ends) p.0 (λ a k. k.1) (λ a o. (o.before, o)) (λ a k. refl) p.1 in
+    IsLatest-same (OrderedBelow rows n n) (λ a. Ordered rows a n) (slice_index s.ends) (slice_index s.ends) p.0 (λ a k. k.1) (λ a o. (o.before, o))
+    (λ a k. refl) p.1 in
     let place : ℕ × Option ℕ = placement spawned p.0 in
     record {
       starts = s.starts ++ place.0 ∷ [];

@@ -153,7 +153,8 @@ module _ (rows : List Row) (hr : IsRows rows) (s e s' e' : ℕ → ℕ) (v : ℕ
   tails_more = record { spawned = spawned; own = own; waits = waits; tight_start = tight_start; tight_end = tight_end; low = low }
 
 -- before the last row
-pub tails_none : (rows : List Row) (s e : ℕ → ℕ) (n : ℕ) → n ≡ length rows → ((r : ℕ) → r < length rows → s r ≡ 0) → ((r : ℕ) → r < length rows → e r ≡ 0) → TailsFrom rows s e n
+pub tails_none : (rows : List Row) (s e : ℕ → ℕ) (n : ℕ) → n ≡ length rows → ((r : ℕ) → r < length rows → s r ≡ 0) → ((r : ℕ) → r < length rows → e r ≡ 0)
+    → TailsFrom rows s e n
 tails_none rows s e n whole zeros zero_ends = record {
   spawned = λ a b child h. absurd (omega (arith, child.there, h, whole));
   own = λ r h below. absurd (omega (arith, below, h, whole));
@@ -190,7 +191,12 @@ module _ (rows : List Row) (hr : IsRows rows) (s e : List ℕ) (from : TailsFrom
   tight finish there = inl refl
 
   pub tails_all : length s ≡ length rows → length e ≡ length rows → HasTails rows s e
-  tails_all p q = record { starts_len = p; ends_len = q; tails = record { at_source = refl; keeps = keeps; tight = tight }; low = λ r h. omega (arith, from.low r h, hr.not_many) }
+  tails_all p q = record {
+    starts_len = p;
+    ends_len = q;
+    tails = record { at_source = refl; keeps = keeps; tight = tight };
+    low = λ r h. omega (arith, from.low r h, hr.not_many);
+  }
 
 -- the loop's step
 pub tails_step : (rows : List Row) → IsRows rows → (v : ℕ) → v < length rows → (waits : List ℕ) → HasWaits rows v waits →
@@ -205,7 +211,8 @@ tails_step rows hr v there waits has_waits s e e' ls from tail up is_tail is_up 
     near_or
     (λ a near. end_here a (has_waits.complete a near) ∙ ap (max (slice_index e a)) (sym here))
     (λ a isnt. end_other a (λ k. isnt (has_waits.sound a k)))
-    (here ∙ is_tail ∙ (let flip : max (slice_index e v + ticks_of rows v) (slice_index s v) ≡ max (slice_index s v) (ticks_of rows v + slice_index e v) = omega arith in flip))
+    (here ∙ is_tail ∙ (let flip : max (slice_index e v + ticks_of rows v) (slice_index s v)
+    ≡ max (slice_index s v) (ticks_of rows v + slice_index e v) = omega arith in flip))
     parent
     other
   where
@@ -229,7 +236,8 @@ tails_step rows hr v there waits has_waits s e e' ls from tail up is_tail is_up 
       | inl q ↦ (
           let zero_v : v ≡ 0 = elim (cases_eq v 0) [ inl z ↦ z | inr nz ↦ absurd (omega (arith, q, hr.parent_before v (omega arith) there)) ] in
           let no_offset : offset_of rows v ≡ 0 = ap (offset_of rows) zero_v ∙ hr.main_offset in
-          let same : slice_index (slice_set (slice_set s v tail) (parent_of rows v) up) v ≡ up = ap (slice_index (slice_set (slice_set s v tail) (parent_of rows v) up)) q ∙ at_p in
+          let same : slice_index (slice_set (slice_set s v tail) (parent_of rows v) up) v ≡ up =
+          ap (slice_index (slice_set (slice_set s v tail) (parent_of rows v) up)) q ∙ at_p in
           let own : slice_index (slice_set s v tail) (parent_of rows v) ≡ tail = ap (slice_index (slice_set s v tail)) (sym q) ∙ at_v in
           omega (arith, same, is_up, own, no_offset))
       | inr nq ↦ get_or-set_other (slice_set s v tail) (parent_of rows v) v up 0 nq ∙ at_v
@@ -252,7 +260,8 @@ tails_step rows hr v there waits has_waits s e e' ls from tail up is_tail is_up 
     ]
 
 -- no number is too great
-pub end_small : (rows : List Row) → (v : ℕ) → v < length rows → (s e : ℕ → ℕ) → TailsFrom rows s e (suc v) → e v + (v + 1) * MOST_TICKS ≤ length rows * MOST_TICKS
+pub end_small : (rows : List Row) → (v : ℕ) → v < length rows → (s e : ℕ → ℕ) → TailsFrom rows s e (suc v)
+    → e v + (v + 1) * MOST_TICKS ≤ length rows * MOST_TICKS
 end_small rows v there s e from = elim (from.tight_end v there) [
   | inl z ↦ omega (arith, z, there)
   | inr (b, h, near, w) ↦ omega (arith, w, h, from.low b near.there)

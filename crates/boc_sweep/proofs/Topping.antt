@@ -56,7 +56,8 @@ pub covered_grows : (n size : ℕ) (s s' : ℕ → ℕ) (r : Stretch) → ((j : 
 covered_grows n size s s' r grows c v above below = let p = c v above below in (p.0, p.1, p.2, p.3, omega (arith, p.4, grows p.0))
 
 -- the two windows of a stretch
-module _ (stretches : List Stretch) (half size : ℕ) (values : List ℕ) (x : Stretch) (has : Contains stretches x) (some : 0 < half) (long : x.low + half ≤ x.high)
+module _ (stretches : List Stretch) (half size : ℕ) (values : List ℕ) (x : Stretch) (has : Contains stretches x) (some : 0 < half)
+    (long : x.low + half ≤ x.high)
     (inside : x.high ≤ length values) (place value : ℕ) (low : x.low ≤ place) (high : place + half ≤ x.high)
     (is : value ≡ max x.value (slice_index values place)) where
   there : place < length values
@@ -78,7 +79,8 @@ module _ (stretches : List Stretch) (half size : ℕ) (values : List ℕ) (x : S
       (j : ℕ) → j < length values → IsHeld stretches half j (slice_index (slice_set values place value) j)
   raise_held held j h = elim (cases_eq j place) [
     | inl e ↦ rw e (elim (cases_lt x.value (slice_index values place)) [
-      | inl l ↦ (let same : slice_index (slice_set values place value) place ≡ slice_index values place = omega (arith, here, is, l) in rw same (held place there))
+      | inl l ↦ (let same : slice_index (slice_set values place value) place ≡ slice_index values place = omega (arith, here, is, l) in
+          rw same (held place there))
       | inr g ↦ inr (x, has, low, high, (let same : slice_index (slice_set values place value) place ≡ x.value = omega (arith, here, is, g) in same))
     ])
     | inr ne ↦ rw (get_or-set_other values place j value 0 ne) (held j h)
@@ -91,7 +93,8 @@ pub record Covering (stretches : List Stretch) (n half size k : ℕ) (values : L
   pub longer : (r : Stretch) → Contains stretches r → r.low + size ≤ r.high → IsCovered n half (slice_index values) r
   pub done : (i : ℕ) (r : Stretch) → i < k → get_or stretches i r ≡ r → r.low + half ≤ r.high → IsCovered n half (slice_index values) r
 
-pub covering_none : (stretches : List Stretch) (n half size : ℕ) (values : List ℕ) → length values ≡ n → AreWindows stretches n half size (slice_index values) → Covering stretches n half size 0 values
+pub covering_none : (stretches : List Stretch) (n half size : ℕ) (values : List ℕ) → length values ≡ n → AreWindows stretches n half size (slice_index values)
+    → Covering stretches n half size 0 values
 covering_none stretches n half size values len w = record { len = len; sound = w.sound; longer = w.complete; done = λ i r h q l. absurd (omega (arith, h)) }
 
 one_at : (stretches : List Stretch) (k : ℕ) (x r : Stretch) → k < length stretches → x ≡ get_or stretches k x → get_or stretches k r ≡ r → r ≡ x
@@ -126,24 +129,29 @@ module _ (stretches : List Stretch) (n half size k : ℕ) (values : List ℕ) (x
   rises j = omega (
     arith,
     raise_grows stretches half size values x has some long (omega (arith, inside, c.len)) x.low a (omega arith) long is_a j,
-    raise_grows stretches half size (slice_set values x.low a) x has some long (omega (arith, inside, len_a)) (x.high - half) b (omega (arith, long)) (omega (arith, long)) is_b j,
+    raise_grows stretches half size (slice_set values x.low a) x has some long (omega (arith, inside, len_a)) (x.high - half) b (omega (arith, long))
+        (omega (arith, long)) is_b j,
   )
 
   first : x.value ≤ slice_index (slice_set (slice_set values x.low a) (x.high - half) b) x.low
   first = omega (
     arith,
     raise_here stretches half size values x has some long (omega (arith, inside, c.len)) x.low a (omega arith) long is_a,
-    raise_grows stretches half size (slice_set values x.low a) x has some long (omega (arith, inside, len_a)) (x.high - half) b (omega (arith, long)) (omega (arith, long)) is_b x.low,
+    raise_grows stretches half size (slice_set values x.low a) x has some long (omega (arith, inside, len_a)) (x.high - half) b (omega (arith, long))
+        (omega (arith, long)) is_b x.low,
   )
 
   second : x.value ≤ slice_index (slice_set (slice_set values x.low a) (x.high - half) b) (x.high - half)
-  second = raise_here stretches half size (slice_set values x.low a) x has some long (omega (arith, inside, len_a)) (x.high - half) b (omega (arith, long)) (omega (arith, long)) is_b
+  second = raise_here stretches half size (slice_set values x.low a) x has some long (omega (arith, inside, len_a)) (x.high - half) b (omega (arith, long))
+      (omega (arith, long)) is_b
 
   sound_a : (j : ℕ) → j < length values → IsHeld stretches half j (slice_index (slice_set values x.low a) j)
-  sound_a = raise_held stretches half size values x has some long (omega (arith, inside, c.len)) x.low a (omega arith) long is_a (λ j l. c.sound j (omega (arith, l, c.len)))
+  sound_a = raise_held stretches half size values x has some long (omega (arith, inside, c.len)) x.low a (omega arith) long is_a
+      (λ j l. c.sound j (omega (arith, l, c.len)))
 
   sound_b : (j : ℕ) → j < n → IsHeld stretches half j (slice_index (slice_set (slice_set values x.low a) (x.high - half) b) j)
-  sound_b j l = raise_held stretches half size (slice_set values x.low a) x has some long (omega (arith, inside, len_a)) (x.high - half) b (omega (arith, long)) (omega (arith, long)) is_b
+  sound_b j l = raise_held stretches half size (slice_set values x.low a) x has some long (omega (arith, inside, len_a)) (x.high - half) b (omega (arith, long))
+      (omega (arith, long)) is_b
       (λ i m. sound_a i (omega (arith, m, len_a, c.len))) j (omega (arith, l, len_a))
 
   -- a stretch shorter than the size is covered by its two windows
@@ -168,22 +176,26 @@ module _ (stretches : List Stretch) (n half size k : ℕ) (values : List ℕ) (x
       | inl e ↦ (
           let same : r ≡ x = one_at stretches k x r h is (rw e at q) in
           subst (λ (y : Stretch). IsCovered n half (slice_index (slice_set (slice_set values x.low a) (x.high - half) b)) y) (sym same) now_covered)
-      | inr ne ↦ covered_grows n half (slice_index values) (slice_index (slice_set (slice_set values x.low a) (x.high - half) b)) r rises (c.done i r (omega arith) q l)
+      | inr ne ↦ covered_grows n half (slice_index values) (slice_index (slice_set (slice_set values x.low a) (x.high - half) b)) r rises
+          (c.done i r (omega arith) q l)
     ];
   }
 
-pub covering_all : (stretches : List Stretch) (n half size : ℕ) (values : List ℕ) → Covering stretches n half size (length stretches) values → AreWindows stretches n half half (slice_index values)
+pub covering_all : (stretches : List Stretch) (n half size : ℕ) (values : List ℕ) → Covering stretches n half size (length stretches) values
+    → AreWindows stretches n half half (slice_index values)
 covering_all stretches n half size values c = record { sound = c.sound; complete = λ r m l. c.done m.0 r m.1 m.2 l }
 
 -- no stretch is longer than all places
-pub windows_none : (stretches : List Stretch) (n : ℕ) (s : ℕ → ℕ) → ((r : Stretch) → Contains stretches r → r.high ≤ n) → ((j : ℕ) → j < n → s j ≡ 0) → AreWindows stretches n (n + 1) (n + 1) s
+pub windows_none : (stretches : List Stretch) (n : ℕ) (s : ℕ → ℕ) → ((r : Stretch) → Contains stretches r → r.high ≤ n) → ((j : ℕ) → j < n → s j ≡ 0)
+    → AreWindows stretches n (n + 1) (n + 1) s
 windows_none stretches n s inside zeros = record {
   sound = λ j h. inl (zeros j h);
   complete = λ r m l. absurd (omega (arith, l, inside r m));
 }
 
 -- windows of one place
-pub windows_all : (stretches : List Stretch) (n : ℕ) (tops : List ℕ) → length tops ≡ n → AreWindows stretches n 1 1 (slice_index tops) → AreTops stretches n tops
+pub windows_all : (stretches : List Stretch) (n : ℕ) (tops : List ℕ) → length tops ≡ n → AreWindows stretches n 1 1 (slice_index tops)
+    → AreTops stretches n tops
 windows_all stretches n tops len w = record {
   whole = len;
   above = λ r m v above below.

@@ -20,4 +20,5 @@ pub record AreWindows (stretches : List Stretch) (n size shortest : ℕ) (values
 pub record AreTops (stretches : List Stretch) (n : ℕ) (tops : List ℕ) : Type 0 where
   pub whole : length tops ≡ n
   pub above : (r : Stretch) → Contains stretches r → (v : ℕ) → r.low ≤ v → v < r.high → r.value ≤ slice_index tops v
-  pub reached : (v : ℕ) → v < n → (slice_index tops v ≡ 0) ⊎ ((r : Stretch) × Contains stretches r × (r.low ≤ v) × (v < r.high) × (slice_index tops v ≡ r.value))
+  pub reached : (v : ℕ) → v < n → (slice_index tops v ≡ 0)
+      ⊎ ((r : Stretch) × Contains stretches r × (r.low ≤ v) × (v < r.high) × (slice_index tops v ≡ r.value))

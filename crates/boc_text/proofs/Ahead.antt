@@ -1,5 +1,6 @@
 -- Bytes that are taken in ahead, and what they begin with.
-use Rattle.std.proofs.Common.{◌≡◌, ◌≢◌, ℕ, ◌+◌, ◌-◌, ◌≤◌, ◌<◌, List, ◌++◌, length, take, drop, Option, Some, None, arith, ap, sym, ◌∙◌, subst, append_assoc, eq-eqb, length-take}
+use Rattle.std.proofs.Common.{◌≡◌, ◌≢◌, ℕ, ◌+◌, ◌-◌, ◌≤◌, ◌<◌, List, ◌++◌, length, take, drop, Option, Some, None, arith, ap, sym, ◌∙◌, subst, append_assoc}
+use Rattle.std.proofs.Common.{eq-eqb, length-take}
 use Rattle.std.proofs.Math.Nat.{sub-zero}
 use Rattle.std.proofs.lemmas.List.{drop-drop, drop-take}
 use Rattle.std.proofs.lemmas.List.Elements.{All-from_get_or}
@@ -15,7 +16,8 @@ use Rattle.boc_text.specs.Lines.{LinesState, to_come, HasNoLineFeed, IsTooLong}
 pub range-later : (buffer : List ℕ) (start end n : ℕ) → n ≤ end - start → slice_range buffer (start + n) end ≡ drop n (slice_range buffer start end)
 range-later buffer start end n h =
     let split : end - start ≡ n + (end - (start + n)) = omega arith in
-    sym (ap (λ k. drop n (take k (drop start buffer))) split ∙ drop-take n (end - (start + n)) (drop start buffer) ∙ ap (take (end - (start + n))) (drop-drop n start buffer))
+    sym (ap (λ k. drop n (take k (drop start buffer))) split ∙ drop-take n (end - (start + n)) (drop start buffer)
+    ∙ ap (take (end - (start + n))) (drop-drop n start buffer))
 
 pub range-length : (buffer : List ℕ) (start end : ℕ) → length (slice_range buffer start end) ≤ end - start
 range-length buffer start end = omega (arith, length-take (end - start) (drop start buffer))
@@ -35,30 +37,37 @@ prepend_known-more (Some x) None held given p = absurd p
 prepend_known-more (Some x) (Some y) held given p = append_assoc held given y ∙ ap (λ l. held ++ l) (sym p)
 
 -- bytes were moved to the front of a buffer, and a source gave some behind them
-pub refilled : (a b : Option (List ℕ)) (held moved given : List ℕ) (len room count : ℕ) → take len moved ≡ held → len ≤ length moved → count ≤ length given → Consumes a b (take count given)
+pub refilled : (a b : Option (List ℕ)) (held moved given : List ℕ) (len room count : ℕ) → take len moved ≡ held → len ≤ length moved → count ≤ length given
+    → Consumes a b (take count given)
     → Keeps (prepend_known held a) (prepend_known (slice_range (put_mid len room moved given) 0 (len + count)) b)
 refilled a b held moved given len room count e long few p =
     let size : length (take len moved) ≡ len = length-take len moved ∙ omega arith in
     let joined : take (len + count) (put_mid len room moved given) ≡ held ++ take count given =
-    ap (λ k. take (k + count) (put_mid len room moved given)) (sym size) ∙ take_behind (take len moved) given (post_of len room moved) count few ∙ ap (λ l. l ++ take count given) e in
-    subst (λ l. Keeps (prepend_known held a) (prepend_known l b)) (sym (ap (λ k. take k (put_mid len room moved given)) (sub-zero (len + count)) ∙ joined)) (prepend_known-more a b held (take count given) p)
+    ap (λ k. take (k + count) (put_mid len room moved given)) (sym size) ∙ take_behind (take len moved) given (post_of len room moved) count few
+    ∙ ap (λ l. l ++ take count given) e in
+    subst (λ l. Keeps (prepend_known held a) (prepend_known l b)) (sym (ap (λ k. take k (put_mid len room moved given)) (sub-zero (len + count)) ∙ joined))
+    (prepend_known-more a b held (take count given) p)
 
 -- a search for a line feed that found none
 pub none_found : (bytes : List ℕ) → Nowhere (Passes (is_byte 10) bytes) 0 (length bytes) → HasNoLineFeed bytes
 none_found bytes h = All-from_get_or (λ b. b ≢ 10) bytes 0 (λ i lt e. h i (omega arith) lt (eq-eqb _ _ e))
 
 -- nor is there one in the front of bytes, as far as it was searched
-pub none_in_front : (bytes : List ℕ) (most : ℕ) → most ≡ min (length bytes) 81 → Nowhere (Passes (is_byte 10) (take most bytes)) 0 (length (take most bytes)) → 80 < most
+pub none_in_front : (bytes : List ℕ) (most : ℕ) → most ≡ min (length bytes) 81 → Nowhere (Passes (is_byte 10) (take most bytes)) 0 (length (take most bytes))
+    → 80 < most
     → (80 < length bytes) × HasNoLineFeed (take 81 bytes)
-none_in_front bytes most e h over = let same : most ≡ 81 = omega arith in (omega arith, subst (λ k. HasNoLineFeed (take k bytes)) same (none_found (take most bytes) h))
+none_in_front bytes most e h over = let same : most ≡ 81 = omega arith in
+    (omega arith, subst (λ k. HasNoLineFeed (take k bytes)) same (none_found (take most bytes) h))
 
 -- or in all of few bytes
-pub none_in_all : (bytes : List ℕ) (most : ℕ) → most ≡ min (length bytes) 81 → Nowhere (Passes (is_byte 10) (take most bytes)) 0 (length (take most bytes)) → most ≤ 80
+pub none_in_all : (bytes : List ℕ) (most : ℕ) → most ≡ min (length bytes) 81 → Nowhere (Passes (is_byte 10) (take most bytes)) 0 (length (take most bytes))
+    → most ≤ 80
     → (length bytes ≤ 80) × HasNoLineFeed bytes
 none_in_all bytes most e h few = (omega arith, subst HasNoLineFeed (take_all most bytes (omega arith)) (none_found (take most bytes) h))
 
 -- more bytes than a line may have stand in front of those that a source has
-pub too_long : (bytes : List ℕ) (known rest : Option (List ℕ)) → 80 < length bytes → HasNoLineFeed (take 81 bytes) → Keeps known (prepend_known bytes rest) → IsTooLong known
+pub too_long : (bytes : List ℕ) (known rest : Option (List ℕ)) → 80 < length bytes → HasNoLineFeed (take 81 bytes) → Keeps known (prepend_known bytes rest)
+    → IsTooLong known
 too_long bytes known rest many unbroken kept = record {
   beginning = take 81 bytes;
   many = length-take 81 bytes ∙ omega arith;

@@ -1,5 +1,6 @@
 -- When the digits of a text are those of a number.
-use Rattle.std.proofs.Common.{◌≡◌, ℕ, ◌+◌, ◌-◌, ◌*◌, ◌^◌, ◌<◌, ◌≤◌, List, [], ◌∷◌, length, get_or, take, drop, arith, sym, ap, subst, ◌∙◌, refl, decimal, zero, suc, lit<}
+use Rattle.std.proofs.Common.{◌≡◌, ℕ, ◌+◌, ◌-◌, ◌*◌, ◌^◌, ◌<◌, ◌≤◌, List, [], ◌∷◌, length, get_or, take, drop, arith, sym, ap, subst, ◌∙◌, refl, decimal, zero}
+use Rattle.std.proofs.Common.{suc, lit<}
 use Rattle.std.specs.Prelude.{fold, Bool, false, Option, Some, None, MatchOption}
 use Rattle.std.specs.Str.Parse.{AllDigits, digits_value}
 use Rattle.std.specs.Int.{IsInRange}
@@ -37,7 +38,8 @@ value_grows (d ∷ ds) v = let h = value_grows ds (10 * v + (d - 48)) in omega a
 -- the digits so far with one more are worth at most what all are
 pub value-front : (ds : List ℕ) (i : ℕ) → i < length ds → 10 * value_of (take i ds) + (get_or ds i 0 - 48) ≤ value_of ds
 value-front ds i lt =
-    let whole : value_after (value_of (take (i + 1) ds)) (drop (i + 1) ds) ≡ value_of ds = sym (fold-append (λ v d. 10 * v + (d - 48)) 0 (take (i + 1) ds) (drop (i + 1) ds)) ∙ ap value_of (take-append-drop (i + 1) ds) in
+    let whole : value_after (value_of (take (i + 1) ds)) (drop (i + 1) ds) ≡ value_of ds =
+    sym (fold-append (λ v d. 10 * v + (d - 48)) 0 (take (i + 1) ds) (drop (i + 1) ds)) ∙ ap value_of (take-append-drop (i + 1) ds) in
     let more = fold_more (λ v d. 10 * v + (d - 48)) 0 ds i 0 lt in
     let grows = value_grows (drop (i + 1) ds) (value_of (take (i + 1) ds)) in
     omega arith
@@ -83,7 +85,8 @@ pub no_digit : (b : ℕ) (r : Bool) → r ≡ is_ascii_digit b → r ≡ false �
 no_digit b r e failed h = let f : is_ascii_digit b ≡ false = sym e ∙ failed in grind (arith, nat_tests)
 
 -- where the loop over the digits has come to its end, the number is what they are worth
-pub all_read : (ds : List ℕ) (i n : ℕ) → n < 2 ^ 32 → length ds ≤ i → ((k : ℕ) → k < i → IsInRange 48 57 (get_or ds k 0)) → n ≡ value_of (take i ds) → i ≤ length ds → (n < 2 ^ 32) × AllDigits 10 ds × (digits_value 10 ds ≡ n)
+pub all_read : (ds : List ℕ) (i n : ℕ) → n < 2 ^ 32 → length ds ≤ i → ((k : ℕ) → k < i → IsInRange 48 57 (get_or ds k 0)) → n ≡ value_of (take i ds)
+    → i ≤ length ds → (n < 2 ^ 32) × AllDigits 10 ds × (digits_value 10 ds ≡ n)
 all_read ds i n small end digits value within =
     let all : AllDigits 10 ds = own.to ds (λ k h. digits k (omega arith)) in
     (small, all, sym (own.same ds all) ∙ sym (value ∙ ap value_of (take_all i ds end)))

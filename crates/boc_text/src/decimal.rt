@@ -43,7 +43,8 @@ pub fn write_before(line: &mut [u8], place: usize, number: u64, between: u8) -> 
 
 // The number that digits are worth.
 fn value_of(digits: &[u8]) -> Option<u32>
-    ensures { MatchOption result ((n : ℕ) → n < 2 ^ 32 → digits.now ≡ decimal n → ⊥) (λ n. (n < 2 ^ 32) × AllDigits 10 digits.now × (digits_value 10 digits.now ≡ n)) }
+    ensures { MatchOption result ((n : ℕ) → n < 2 ^ 32 → digits.now ≡ decimal n → ⊥)
+        (λ n. (n < 2 ^ 32) × AllDigits 10 digits.now × (digits_value 10 digits.now ≡ n)) }
 {
     let mut number: u32 = 0;
     for byte in digits {

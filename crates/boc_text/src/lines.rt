@@ -105,7 +105,8 @@ impl Model for Lines {
 
     ghost view = { λ l. record { line = slice_range l.buffer l.line l.line_end; buffered = slice_range l.buffer l.start l.end; is_over = l.is_over } };
 
-    ghost invariant = { λ l. (l.line ≤ l.line_end) × (l.line_end ≤ CAPACITY) × (l.start ≤ l.end) × (l.end ≤ CAPACITY) × OnTrue l.is_over (l.line ≡ l.line_end) };
+    ghost invariant = { λ l. (l.line ≤ l.line_end) × (l.line_end ≤ CAPACITY) × (l.start ≤ l.end) × (l.end ≤ CAPACITY)
+        × OnTrue l.is_over (l.line ≡ l.line_end) };
 }
 
 impl Lines {
@@ -199,7 +200,8 @@ impl Lines {
     pub fn advance<S: Source>(&mut self, source: &mut S) -> Found
         requires { S.failures source.old < u64.MAX }
         ensures over { OnTrue self.old.is_over ((result ≡ Found.End) × (self.new ≡ self.old) × (source.new ≡ source.old)) }
-        ensures found { OnFalse self.old.is_over (Finds result self.new.line (to_come self.old (S.remaining source.old)) (to_come self.new (S.remaining source.new))) }
+        ensures found { OnFalse self.old.is_over (Finds result self.new.line (to_come self.old (S.remaining source.old))
+            (to_come self.new (S.remaining source.new))) }
         ensures exhausts { OnFalse self.old.is_over (Exhausts result (S.remaining source.new)) }
         ensures open { OnFalse self.old.is_over (LeavesOpen result self.new.buffered) }
         ensures ahead { length self.new.buffered ≤ CAPACITY }
@@ -231,7 +233,8 @@ impl Lines {
     pub fn next_line<S: Source>(&mut self, source: &mut S) -> Next
         requires { S.failures source.old < u64.MAX }
         ensures over { OnTrue self.old.is_over ((result ≡ Next.End) × (self.new ≡ self.old) × (source.new ≡ source.old)) }
-        ensures answer { OnFalse self.old.is_over (Finds (found_of result) (line_of result) (to_come self.old (S.remaining source.old)) (to_come self.new (S.remaining source.new))) }
+        ensures answer { OnFalse self.old.is_over (Finds (found_of result) (line_of result) (to_come self.old (S.remaining source.old))
+            (to_come self.new (S.remaining source.new))) }
         ensures exhausts { OnFalse self.old.is_over (Exhausts (found_of result) (S.remaining source.new)) }
         ensures line { self.new.line ≡ line_of result }
         ensures is_over { self.new.is_over ≡ ends_lines (found_of result) }

@@ -20,7 +20,8 @@ use Rattle.boc_whatif.specs.Asked.{IsUpToDate}
 pub lasts_edited : (rows : List Row) (offsets : List ℕ) (row ticks : ℕ) → HasLasts rows offsets → HasLasts (edited rows row ticks) offsets
 lasts_edited rows offsets row ticks h = record {
   whole = h.whole ∙ sym (length-edited rows row ticks);
-  at = λ r there. rw (length-edited rows row ticks) (last_edited rows row ticks (length rows) r _ (h.at r (omega (arith, there, length-edited rows row ticks))));
+  at = λ r there. rw (length-edited rows row ticks) (last_edited rows row ticks (length rows) r _
+      (h.at r (omega (arith, there, length-edited rows row ticks))));
 }
 
 -- a row has the same last child however the rows are seen
@@ -67,7 +68,8 @@ module _ (rows now list : List Row) (s : Sharing) (offsets : List ℕ) (waits : 
   waits_then = rw then_is (waits_edited (seen s rows) row ticks waits kept.waits_are)
 
   pub first_then : HasFirst list plan row
-  first_then = rw then_is (edited_first (seen s rows) (rows_seen s rows kept.shape) row ticks (length (seen s rows)) plan.starts.items plan.ends.items plan.after.items
+  first_then = rw then_is (edited_first (seen s rows) (rows_seen s rows kept.shape) row ticks (length (seen s rows)) plan.starts.items plan.ends.items
+      plan.after.items
       (omega (arith, f.there, length-seen s rows)) kept.placed)
 
   pub kept_then : (anew : Earliest) → IsPlanOf list anew → HasRoom anew (length list) → IsUpToDate now s offsets waits anew
@@ -80,7 +82,8 @@ module _ (rows now list : List Row) (s : Sharing) (offsets : List ℕ) (waits : 
   }
 
 -- what is kept, before any edit
-pub begun : (rows list : List Row) (s : Sharing) (offsets : List ℕ) (waits : List (List ℕ)) (plan : Earliest) → IsRows rows → list ≡ seen s rows → HasLasts rows offsets →
+pub begun : (rows list : List Row) (s : Sharing) (offsets : List ℕ) (waits : List (List ℕ)) (plan : Earliest) → IsRows rows → list ≡ seen s rows
+    → HasLasts rows offsets →
     AreWaits list waits → IsPlanOf list plan → HasRoom plan (length list) → IsUpToDate rows s offsets waits plan
 begun rows list s offsets waits plan shape is lasts are placed room = record {
   shape = shape;

@@ -1,5 +1,6 @@
 -- What was found for an argument.
-use Rattle.std.proofs.Common.{zero, suc, ◌≡◌, ◌∙◌, ◌+◌, ◌<◌, ◌≤◌, ℕ, List, [], ◌∷◌, ◌++◌, map, take, drop, length, get_or, Option, Some, None, Bool, true, false, sym, ap, refl, subst, arith, Bor}
+use Rattle.std.proofs.Common.{zero, suc, ◌≡◌, ◌∙◌, ◌+◌, ◌<◌, ◌≤◌, ℕ, List, [], ◌∷◌, ◌++◌, map, take, drop, length, get_or, Option, Some, None, Bool, true}
+use Rattle.std.proofs.Common.{false, sym, ap, refl, subst, arith, Bor}
 use Rattle.std.specs.Prelude.{option_map, unwrap_or, codes, ◌^◌, ◌==◌, ◌↔◌, IsTrue}
 use Rattle.std.specs.Str.{bytes_eq}
 use Rattle.std.proofs.lemmas.Slice.Eq.{bytes_eq-Decides}
@@ -18,14 +19,16 @@ pub read : (found : Option (Bor (List (Bor (List ℕ))))) (r : Bor (List (Bor (L
     → UnwrapsOrElse found IsDefault r → option_map (λ s. map (λ v. v.now) s.now) found ≡ all
     → map (λ v. v.now) r.now ≡ unwrap_or all []
 read None r IsDefault all empty h e = ap (map (λ v. v.now)) (empty r h) ∙ ap (λ (o : Option (List (List ℕ))). unwrap_or o []) e
-read (Some x) r IsDefault all empty h e = ap (λ (s : Bor (List (Bor (List ℕ)))). map (λ v. v.now) s.now) h ∙ ap (λ (o : Option (List (List ℕ))). unwrap_or o []) e
+read (Some x) r IsDefault all empty h e = ap (λ (s : Bor (List (Bor (List ℕ)))). map (λ v. v.now) s.now) h
+    ∙ ap (λ (o : Option (List (List ℕ))). unwrap_or o []) e
 
 some_text : (texts : List (Bor (List ℕ))) → (length texts == 0) ≡ false → map (λ t. t.now) texts ≡ [] → ⊥
 some_text [] some empty = cc
 some_text (text ∷ texts) some empty = cc
 
 -- texts that are there, and no number from 1 to this
-pub no_number : (id : List ℕ) (most : ℕ) (rows : List Row) (texts : List (Bor (List ℕ))) → map (λ t. t.now) texts ≡ values_at rows id → (length texts == 0) ≡ false
+pub no_number : (id : List ℕ) (most : ℕ) (rows : List Row) (texts : List (Bor (List ℕ))) → map (λ t. t.now) texts ≡ values_at rows id
+    → (length texts == 0) ≡ false
     → ((number : ℕ) → 0 < number → number ≤ most → IsGiven (map (λ t. t.now) texts) number → ⊥) → HasNoNumber id most rows
 no_number id most rows texts is some none = record {
   given = λ empty. some_text texts some (is ∙ empty);
@@ -59,7 +62,8 @@ edits_more [] edit = refl
 edits_more (first ∷ edits) edit = ap (λ l. edit_word first.row first.ticks ∷ l) (edits_more edits edit)
 
 pub taken_next : (words : List (Bor (List ℕ))) (i : ℕ) (d : Bor (List ℕ)) (edits after : List Edit) (edit : Edit) → i < length words
-    → map (λ e. edit_word e.row e.ticks) edits ≡ map (λ t. t.now) (take i words) → after ≡ edits ++ (edit ∷ []) → (get_or words i d).now ≡ edit_word edit.row edit.ticks
+    → map (λ e. edit_word e.row e.ticks) edits ≡ map (λ t. t.now) (take i words) → after ≡ edits ++ (edit ∷ [])
+    → (get_or words i d).now ≡ edit_word edit.row edit.ticks
     → map (λ e. edit_word e.row e.ticks) after ≡ map (λ t. t.now) (take (i + 1) words)
 taken_next words i d edits after edit h taken is word =
     ap (map (λ e. edit_word e.row e.ticks)) is ∙ edits_more edits edit ∙ ap (λ l. l ++ (edit_word edit.row edit.ticks ∷ [])) taken
@@ -97,7 +101,8 @@ first_misspelt values words i d is h spelt none = record {
 }
 
 -- there is one text, and it is this word
-pub one_text_is : (texts : List (Bor (List ℕ))) (d : Bor (List ℕ)) (word : List ℕ) (r : Bool) → 1 ≤ length texts → length texts < 2 → r ≡ bytes_eq (get_or texts 0 d).now word
+pub one_text_is : (texts : List (Bor (List ℕ))) (d : Bor (List ℕ)) (word : List ℕ) (r : Bool) → 1 ≤ length texts → length texts < 2
+    → r ≡ bytes_eq (get_or texts 0 d).now word
     → IsTrue r ↔ (map (λ t. t.now) texts ≡ word ∷ [])
 one_text_is [] d word r some one is = absurd (omega (arith, some))
 one_text_is (text ∷ []) d word r some one is = (

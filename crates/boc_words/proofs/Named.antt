@@ -1,5 +1,6 @@
 -- Words that the parser has nothing against name a command.
-use Rattle.std.proofs.Common.{suc, ◌≡◌, ◌⊎◌, ◌∙◌, ◌&&◌, ◌||◌, ◌==◌, ◌++◌, ℕ, Bool, true, false, not, List, [], ◌∷◌, Option, Some, None, pos, refl, ap, sym, subst, inl, inr, length, codes, arith}
+use Rattle.std.proofs.Common.{suc, ◌≡◌, ◌⊎◌, ◌∙◌, ◌&&◌, ◌||◌, ◌==◌, ◌++◌, ℕ, Bool, true, false, not, List, [], ◌∷◌, Option, Some, None, pos, refl, ap, sym}
+use Rattle.std.proofs.Common.{subst, inl, inr, length, codes, arith}
 use Rattle.std.specs.Prelude.{IfSome, find, is_some, option_map, if◌then◌else◌}
 use Rattle.std.specs.List.{list_any}
 use Rattle.std.specs.Option.{option_map_or}
@@ -9,10 +10,12 @@ use Rattle.std.proofs.lemmas.List.{append-nil}
 use Rattle.std.proofs.lemmas.Slice.Eq.{bytes_eq-Decides}
 use Rattle.clap.specs.Kinds.{range_kinds, value_kinds, values_kinds}
 use Rattle.clap.specs.Facts.{explicit_source}
-use Rattle.clap.specs.Faults.{check_fault, defaults_fault, entered_fault, level_fault, repeat_fault, set_fault, settle_fault, use_fault, values_fault, walk_fault}
+use Rattle.clap.specs.Faults.{check_fault, defaults_fault, entered_fault, level_fault, repeat_fault, set_fault, settle_fault, use_fault, values_fault}
+use Rattle.clap.specs.Faults.{walk_fault}
 use Rattle.clap.specs.Simple.{Shape, argument_words, built, entered, filled, help_rule, label_of, names_of, rows_at, with_index}
 use Rattle.clap.specs.ValueTests.{accepts}
-use Rattle.clap.specs.Walk.{Row, Rule, Text, all_of, answers_to, at_row, finished, has_row, more_values, nothing_held, reading_by, settled, stronger, used, values_or_missing, walk, walk_from, with_default, with_values}
+use Rattle.clap.specs.Walk.{Row, Rule, Text, all_of, answers_to, at_row, finished, has_row, more_values, nothing_held, reading_by, settled, stronger, used}
+use Rattle.clap.specs.Walk.{values_or_missing, walk, walk_from, with_default, with_values}
 use Rattle.clap.specs.Words.{App, subcommand_of}
 use Rattle.clap.specs.declared.builder.value_parser.ValueParser.TheVariants as parsers
 use Rattle.clap.specs.declared.error.kind.ErrorKind.TheVariants as kind
@@ -153,11 +156,14 @@ row_of_flag source values = record { id = codes "shared-reads"; values = values;
 used_flag : (values : List Text) (rows : List Row) → has_row (codes "shared-reads") rows ≡ false
     → used built_flag values rows ≡ rows ++ (row_of_flag CommandLine (values_or_missing built_flag values) ∷ [])
 used_flag values rows clear =
-    ap (at_row (codes "shared-reads") (more_values CommandLine (values_or_missing built_flag values)) (row_of_flag CommandLine (values_or_missing built_flag values) ∷ []))
+    ap (at_row (codes "shared-reads") (more_values CommandLine (values_or_missing built_flag values))
+    (row_of_flag CommandLine (values_or_missing built_flag values) ∷ []))
     (row_added (codes "shared-reads") (λ _. []) [] rows clear ∙ append-nil rows)
-    ∙ row_added (codes "shared-reads") (more_values CommandLine (values_or_missing built_flag values)) (row_of_flag CommandLine (values_or_missing built_flag values) ∷ []) rows clear
+    ∙ row_added (codes "shared-reads") (more_values CommandLine (values_or_missing built_flag values))
+    (row_of_flag CommandLine (values_or_missing built_flag values) ∷ []) rows clear
 
-flag_keeps : (other : Text) (most : ℕ) (rows : List Row) (row : Row) → bytes_eq row.id other ≡ false → HasOne other most rows → HasOne other most (rows ++ (row ∷ []))
+flag_keeps : (other : Text) (most : ℕ) (rows : List Row) (row : Row) → bytes_eq row.id other ≡ false → HasOne other most rows
+    → HasOne other most (rows ++ (row ∷ []))
 flag_keeps other most rows row differs good = subst (IsOne most) (sym (row_passed other row rows differs)) good
 
 flag_added : (source : ValueSource) (values : List Text) (rows : List Row) → HasNumbers rows → HasNumbers (rows ++ (row_of_flag source values ∷ []))
@@ -170,7 +176,8 @@ fine_flag : Fine HasNumbers false built_flag
 fine_flag values rows none good =
     let set = neither (range_kinds 0 0 (length values)) (set_fault false built_flag (values_or_missing built_flag values) rows) none in
     let once = neither (repeat_fault false (codes "shared-reads") rows) (values_fault built_flag (values_or_missing built_flag values)) set.1 in
-    subst HasNumbers (sym (used_flag values rows (not_there (codes "shared-reads") rows once.0))) (flag_added CommandLine (values_or_missing built_flag values) rows good)
+    subst HasNumbers (sym (used_flag values rows (not_there (codes "shared-reads") rows once.0)))
+    (flag_added CommandLine (values_or_missing built_flag values) rows good)
 
 -- and so does its default
 flag_default : (rows : List Row) → HasNumbers rows → HasNumbers (with_default rows built_flag)
@@ -242,7 +249,48 @@ kept_help : (rows : List Row) → HasNumbers rows → HasNumbers (with_default r
 kept_help = bare HasNumbers built_help refl
 
 all_lead : AllLead (built command_line).subs
-all_lead = ((λ word words is other none. (inl refl, level_good HasNumbers _ (fine_help, tt) words [] (kept_help, tt) none (tt, tt))), ((λ word words is other none. (inr (inl refl), level_good HasNumbers _ (fine_help, tt) words [] (kept_help, tt) none (tt, tt))), ((λ word words is other none. (inr (inr (inl refl)), level_good HasNumbers _ (fine_runners, (fine_help, tt)) words [] (kept_runners, (kept_help, tt)) none (tt, tt))), ((λ word words is other none. (inr (inr (inr (inl refl))), level_good HasNumbers _ (fine_workers, (fine_flag, (fine_help, tt))) words [] (kept_workers, (flag_default, (kept_help, tt))) none (tt, tt))), ((λ word words is other none. (inr (inr (inr (inr (inl refl)))), level_good HasNumbers _ (fine_runners, (fine_workers, (fine_flag, (fine_help, tt)))) words [] (kept_runners, (kept_workers, (flag_default, (kept_help, tt)))) none (tt, tt))), ((λ word words is other none. (inr (inr (inr (inr (inr (inl refl))))), level_good HasNumbers _ (fine_workers, (fine_flag, (fine_edits, (fine_help, tt)))) words [] (kept_workers, (flag_default, (kept_edits, (kept_help, tt)))) none (tt, tt))), ((λ word words is other none. (inr (inr (inr (inr (inr (inr refl))))), level_good HasNumbers _ (fine_flag, (fine_help, tt)) words [] (flag_default, (kept_help, tt)) none (tt, tt))), ((λ word words is other none. absurd (no_help word is other)), tt))))))))
+all_lead = (
+  (λ word words is other none. (inl refl, level_good HasNumbers _ (fine_help, tt) words [] (kept_help, tt) none (tt, tt))),
+  (
+    (λ word words is other none. (inr (inl refl), level_good HasNumbers _ (fine_help, tt) words [] (kept_help, tt) none (tt, tt))),
+    (
+      (λ word words is other none. (
+        inr (inr (inl refl)),
+        level_good HasNumbers _ (fine_runners, (fine_help, tt)) words [] (kept_runners, (kept_help, tt)) none
+            (tt, tt),
+      )),
+      (
+        (λ word words is other none. (
+          inr (inr (inr (inl refl))),
+          level_good HasNumbers _ (fine_workers, (fine_flag, (fine_help, tt))) words []
+              (kept_workers, (flag_default, (kept_help, tt))) none (tt, tt),
+        )),
+        (
+          (λ word words is other none. (
+            inr (inr (inr (inr (inl refl)))),
+            level_good HasNumbers _ (fine_runners, (fine_workers, (fine_flag, (fine_help, tt)))) words
+                [] (kept_runners, (kept_workers, (flag_default, (kept_help, tt)))) none (tt, tt),
+          )),
+          (
+            (λ word words is other none. (
+              inr (inr (inr (inr (inr (inl refl))))),
+              level_good HasNumbers _ (fine_workers, (fine_flag, (fine_edits, (fine_help, tt))))
+                  words [] (kept_workers, (flag_default, (kept_edits, (kept_help, tt)))) none (tt, tt),
+            )),
+            (
+              (λ word words is other none. (
+                inr (inr (inr (inr (inr (inr refl))))),
+                level_good HasNumbers _ (fine_flag, (fine_help, tt)) words []
+                    (flag_default, (kept_help, tt)) none (tt, tt),
+              )),
+              ((λ word words is other none. absurd (no_help word is other)), tt),
+            ),
+          ),
+        ),
+      ),
+    ),
+  ),
+)
 
 -- a command is wanted
 wants_one : (rows : List Row) → check_fault (built command_line).top rows false ≡ [] → ⊥
@@ -266,7 +314,8 @@ stop_found : (stop : Option (Text × List Text)) (rows : List Row) → IsOther s
     → (found : Text × List Row) × (entered (built command_line) stop ≡ Some found) × IsCommand found
 stop_found None rows other below checks = absurd (wants_one rows checks)
 stop_found (Some stop) rows other below checks =
-    command_found stop rows (find (λ s. answers_to stop.0 (label_of s)) (built command_line).subs) (lead_found stop.0 (built command_line).subs all_lead) other below
+    command_found stop rows (find (λ s. answers_to stop.0 (label_of s)) (built command_line).subs) (lead_found stop.0 (built command_line).subs all_lead) other
+    below
     checks
 
 -- the parser has nothing against the words: they name a command
@@ -279,4 +328,5 @@ named words none =
     let below = neither (entered_fault app end.stopped) _ walks.1 in
     let settles = neither (settle_fault app.top.rules app.top.args_override_self end.held) _ below.1 in
     let defaults = neither (defaults_fault (settled app.top.rules end.held).rows app.top.rules) _ settles.1 in
-    stop_found end.stopped (finished app.top.rules end.held) (walk_other app.top refl (names_of app) rest (walk_from nothing_held) walks.0 tt) below.0 defaults.1
+    stop_found end.stopped (finished app.top.rules end.held) (walk_other app.top refl (names_of app) rest (walk_from nothing_held) walks.0 tt) below.0
+    defaults.1

@@ -19,7 +19,8 @@ told_arg added local is told = record {
 }
 
 -- and the last one, where there is memory for it
-pub told_last : {old : Command} {app : App} {rule : Rule} {E : Type 0} (made : Result Command E) (arg : Arg) → IfOk made (λ new. AddsArg old arg new) → arg.global ≡ false → rule_of arg ≡ rule → Told old app
+pub told_last : {old : Command} {app : App} {rule : Rule} {E : Type 0} (made : Result Command E) (arg : Arg) → IfOk made (λ new. AddsArg old arg new)
+    → arg.global ≡ false → rule_of arg ≡ rule → Told old app
     → IfOk made (λ new. Told new (with_rule app rule))
 told_last made arg added local is told = IfOk-weaker made _ _ (λ new one. told_arg one local is told) added
 
@@ -32,7 +33,8 @@ told_subcommand old sub new app below added told told_below = record {
 }
 
 -- other fields, of which the parse reads what this says
-pub told_fields : (old new : Command) (app : App) (fields : Command-F Command) → out-Command new ≡ fields → app_of_fields fields ≡ app → fields.has_globals ≡ false
+pub told_fields : (old new : Command) (app : App) (fields : Command-F Command) → out-Command new ≡ fields → app_of_fields fields ≡ app
+    → fields.has_globals ≡ false
     → Told new app
 told_fields old new app fields is same local = record {
   app_is = ap app_of_fields is ∙ same;

@@ -1,6 +1,9 @@
 // The words of the command line.
 
-ghost use Rattle.boc_words.specs.Words.{AreEdits, AreRunners, AreShared, AreTaken, AreWorkers, IsAsked, IsGiven, IsMisnamed, IsNamed, IsOfEditWords, IsOfError, IsOfNoText, IsOfNumber, IsRefused, IsTextOfKind, Told, command_line, edits_operand, profile_command as profile_as_told, run_command as run_as_told, runners_option, sharing_flag, sweep_command as sweep_as_told, time_command as time_as_told, values_at, whatif_command as whatif_as_told, without_commands, workers_option};
+ghost use Rattle.boc_words.specs.Words.{AreEdits, AreRunners, AreShared, AreTaken, AreWorkers, IsAsked, IsGiven, IsMisnamed, IsNamed, IsOfEditWords, IsOfError};
+ghost use Rattle.boc_words.specs.Words.{IsOfNoText, IsOfNumber, IsRefused, IsTextOfKind, Told, command_line, edits_operand, profile_command as profile_as_told};
+ghost use Rattle.boc_words.specs.Words.{run_command as run_as_told, runners_option, sharing_flag, sweep_command as sweep_as_told, time_command as time_as_told};
+ghost use Rattle.boc_words.specs.Words.{values_at, whatif_command as whatif_as_told, without_commands, workers_option};
 ghost use Rattle.clap.specs.Kinds.{HasKind};
 ghost use Rattle.clap.specs.Words.{app_of, fault_of, found_of, kind_of, new_app, rows_of, rule_of, subcommand_of, subcommand_rows_of};
 ghost use Rattle.std.specs.Prelude.{◌≡◌, ◌<◌, ◌≤◌, ◌^◌, ◌∷◌, ◌↔◌, [], ℕ, IfErr, IfOk, IsTrue, MatchOption, codes, false, map, string_bytes};

@@ -58,7 +58,8 @@ impl<'a, 'g, L: Ledger, G: Gate> Shared<'a, 'g, L, G> {
         ensures number { worker.new.number ≡ worker.old.number }
         ensures counted { IfSome result (λ t. made.new.count ≡ made.old.count + steps_made t) }
         ensures noted { IfSome result (λ t. (self.old.fault ≡ None) × (self.new.fault ≡ noted_after t)) }
-        ensures none { IfNone result ((self.old.fault ≢ None) × (self.new.dispatcher ≡ self.old.dispatcher) × (self.new.fault ≡ self.old.fault) × (worker.new ≡ worker.old) × (made.new.count ≡ made.old.count)) }
+        ensures none { IfNone result ((self.old.fault ≢ None) × (self.new.dispatcher ≡ self.old.dispatcher) × (self.new.fault ≡ self.old.fault)
+            × (worker.new ≡ worker.old) × (made.new.count ≡ made.old.count)) }
     {
         if self.fault.is_some() {
             return None;

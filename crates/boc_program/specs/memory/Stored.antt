@@ -134,7 +134,8 @@ code_back (gcons (gnum zero) (gcons (gnum slot) (gcons e rest))) = Assign slot (
 code_back (gcons (gnum (suc zero)) (gcons e rest)) = Work (slot_expr_back e) (code_back rest)
 code_back (gcons (gnum (suc (suc zero))) (gcons e (gcons a (gcons b rest)))) = If (slot_expr_back e) (code_back a) (code_back b) (code_back rest)
 code_back (gcons (gnum (suc (suc (suc zero)))) (gcons e (gcons a rest))) = Repeat (slot_expr_back e) (code_back a) (code_back rest)
-code_back (gcons (gnum (suc (suc (suc (suc zero))))) (gcons (gnum kind) (gcons args (gcons cowns rest)))) = When kind (slot_exprs_back args) (cown_refs_back cowns) (code_back rest)
+code_back (gcons (gnum (suc (suc (suc (suc zero))))) (gcons (gnum kind) (gcons args (gcons cowns rest)))) =
+    When kind (slot_exprs_back args) (cown_refs_back cowns) (code_back rest)
 code_back _ = Done
 
 pub code_law : (c : Code) → code_back (code c) ≡ c

@@ -16,7 +16,8 @@ use std::alloc::Global;
 
 // The cown that a name alone stands for: a cown parameter, or a single cown.
 fn resolve_alone(outside: &Outside<'_, '_>, spot: &Spot<'_>) -> Result<CownRef, Fault<NameFault>>
-    ensures { Yields cown_ref_of result (held_or_single (slot_of_spec (outside_of outside.now).held spot.now.name.now) (global (outside_of outside.now).top spot.now.name.now)) }
+    ensures { Yields cown_ref_of result (held_or_single (slot_of_spec (outside_of outside.now).held spot.now.name.now)
+        (global (outside_of outside.now).top spot.now.name.now)) }
 {
     if let Some(parameter) = parameter_of(outside.held, spot.name) {
         return Ok(CownRef::Held(parameter));
@@ -78,7 +79,8 @@ fn resolve_refs(
     scope: &[&str],
     references: &[NamedCown<'_>],
 ) -> Result<Vec<CownRef>, Fault<NameFault>>
-    ensures { Yields (λ v. map cown_ref_of v.items) result (all_names (ref_names (outside_of outside.now) (names_of scope.now)) (map named_cown_of references.now)) }
+    ensures { Yields (λ v. map cown_ref_of v.items) result
+        (all_names (ref_names (outside_of outside.now) (names_of scope.now)) (map named_cown_of references.now)) }
 {
     let mut all = Vec::new(alloc);
     for reference in references {
@@ -97,7 +99,8 @@ fn resolve_call(
     args: &[shape::Expr<'_>],
     references: &[NamedCown<'_>],
 ) -> Result<Stmt, Fault<NameFault>>
-    ensures { Yields resolved_stmt_of result (call_names (outside_of outside.now) (names_of scope.now) def.now.name.now (map expr_of args.now) (map named_cown_of references.now)) }
+    ensures { Yields resolved_stmt_of result (call_names (outside_of outside.now) (names_of scope.now) def.now.name.now (map expr_of args.now)
+        (map named_cown_of references.now)) }
 {
     let Some((kind, callee)) = outside.top.def(def.name) else {
         return Err(Fault::At(NameFault::UnknownName, def.at));
@@ -118,7 +121,8 @@ fn resolve_let<'a>(
     spot: &Spot<'a>,
     value: &shape::Expr<'a>,
 ) -> Result<Stmt, Fault<NameFault>>
-    ensures names { YieldsIn resolved_stmt_of result (names_of scope.new.items) (stmt_names (declare spot.now.name.now (expr_of value.now)) (outside_of outside.now) (names_of scope.old.items)) }
+    ensures names { YieldsIn resolved_stmt_of result (names_of scope.new.items)
+        (stmt_names (declare spot.now.name.now (expr_of value.now)) (outside_of outside.now) (names_of scope.old.items)) }
     ensures grows { OnOk result (take (length scope.old.items) scope.new.items ≡ scope.old.items) }
 {
     if !outside.top.leaves_free(scope, spot.name) {
@@ -154,7 +158,8 @@ fn resolve_stmt<'a>(
     scope: &mut Vec<&'a str>,
     stmt: &shape::Stmt<'a>,
 ) -> Result<Stmt, Fault<NameFault>>
-    ensures names { YieldsIn resolved_stmt_of result (names_of scope.new.items) (stmt_names (stmt_of stmt.now) (outside_of outside.now) (names_of scope.old.items)) }
+    ensures names { YieldsIn resolved_stmt_of result (names_of scope.new.items)
+        (stmt_names (stmt_of stmt.now) (outside_of outside.now) (names_of scope.old.items)) }
     ensures grows { OnOk result (take (length scope.old.items) scope.new.items ≡ scope.old.items) }
 {
     match stmt {
@@ -184,7 +189,8 @@ fn resolve_choice<'a>(
     block: &[shape::Stmt<'a>],
     other: &[shape::Stmt<'a>],
 ) -> Result<Stmt, Fault<NameFault>>
-    ensures names { Yields resolved_stmt_of result (choice_names (expr_of condition.now) (block_of block.now) (block_of other.now) (outside_of outside.now) (names_of scope.old.items)) }
+    ensures names { Yields resolved_stmt_of result (choice_names (expr_of condition.now) (block_of block.now) (block_of other.now) (outside_of outside.now)
+        (names_of scope.old.items)) }
     ensures scope { OnOk result (scope.new.items ≡ scope.old.items) }
 {
     let condition = resolve_expr(alloc, scope, condition)?;

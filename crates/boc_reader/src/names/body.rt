@@ -92,7 +92,8 @@ fn fitting(
     block: Block,
 ) -> Result<Body, AllocError>
     requires { MakesBody params cown_params (deepest names block) block }
-    ensures { IfOk result (λ body. let b : PlainBody = record { params = params; cown_params = cown_params; slots = deepest names block; code = block } in plain_body body ≡ b) }
+    ensures { IfOk result (λ body. let b : PlainBody = record { params = params; cown_params = cown_params; slots = deepest names block; code = block } in
+        plain_body body ≡ b) }
 {
     let slots = block_slots(&block, names);
     Body::new(alloc, params, cown_params, slots, block)

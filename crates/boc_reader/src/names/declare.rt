@@ -7,7 +7,8 @@ ghost use Rattle.boc_reader.specs.Shape.{cowns_declared};
 ghost use Rattle.boc_reader.specs.Names.{plain_cown, among};
 ghost use Rattle.boc_reader.specs.Spells.{plain_declared};
 ghost use Rattle.boc_reader.specs.Views.{cown_of, def_of, tree_of};
-ghost use Rattle.boc_reader.specs.Resolving.{Yields, EndWithin, global_of, callee_of, declared_of, names_of, cown_names, cowns_behind, defs_behind, top_in_order};
+ghost use Rattle.boc_reader.specs.Resolving.{Yields, EndWithin, global_of, callee_of, declared_of, names_of, cown_names, cowns_behind, defs_behind};
+ghost use Rattle.boc_reader.specs.Resolving.{top_in_order};
 
 use crate::fault::{Fault, NameFault};
 use crate::names::top::{Callee, Global as TopCown, Top, is_cown_name, is_declared};

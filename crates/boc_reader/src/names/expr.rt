@@ -3,7 +3,8 @@
 ghost use Rattle.std.specs.Prelude.{◌≡◌, None, IfOk, map, position};
 ghost use Rattle.std.specs.Str.{bytes_eq};
 ghost use Rattle.boc_program.specs.memory.View.{slot_expr_of};
-ghost use Rattle.boc_reader.specs.Names.{slot_of as slot_of_spec, compares as compares_spec, adds as adds_spec, multiplies as multiplies_spec, joined, expr_names, sum_names, term_names, unary_names, atom_names, all_names};
+ghost use Rattle.boc_reader.specs.Names.{slot_of as slot_of_spec, compares as compares_spec, adds as adds_spec, multiplies as multiplies_spec, joined};
+ghost use Rattle.boc_reader.specs.Names.{expr_names, sum_names, term_names, unary_names, atom_names, all_names};
 ghost use Rattle.boc_reader.specs.Views.{expr_of, sum_of, term_of, unary_of, atom_of};
 ghost use Rattle.boc_reader.specs.Resolving.{Yields, names_of, left_of};
 

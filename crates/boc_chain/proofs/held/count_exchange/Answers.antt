@@ -9,7 +9,8 @@ use Rattle.boc_program.proofs.ChangedItems.{set_same, set_other}
 use Rattle.boc_chain.proofs.held.count_exchange.Goals as goal
 
 -- what stands at the slot, and what the code found there, are one
-same : (places : List (Option Held)) (slot : ℕ) (held : Held) (d : Option Held) → exchanged_of (place_at places slot) < length (cowns_of (place_at places slot)) → get_or places slot d ≡ Some held
+same : (places : List (Option Held)) (slot : ℕ) (held : Held) (d : Option Held) → exchanged_of (place_at places slot) < length (cowns_of (place_at places slot))
+    → get_or places slot d ≡ Some held
     → (slice_get places slot ≡ Some (Some held)) × (slot < length places) × (held.exchanged < length held.cowns.items)
 same places slot held d h e =
     let f = found_at places slot (exchanged_of (place_at places slot)) h in
@@ -37,7 +38,8 @@ returns-clause-awaited c =
     let s = same c.args.places.now.items c.args.slot h c.index_mut.result.now c.requires is in
     let h' : Held = record { cowns = h.cowns; exchanged = h.exchanged + 1 } in
     let ps = c.args.places.now.items in
-    subst (λ (o : Option (Option Held)). sum_by (awaits (cown (place_in o) (exchanged_of (place_in o)))) (set ps c.args.slot (Some h')) + 1 ≡ sum_by (awaits (cown (place_in o) (exchanged_of (place_in o)))) ps) (sym s.0)
+    subst (λ (o : Option (Option Held)). sum_by (awaits (cown (place_in o) (exchanged_of (place_in o)))) (set ps c.args.slot (Some h')) + 1
+    ≡ sum_by (awaits (cown (place_in o) (exchanged_of (place_in o)))) ps) (sym s.0)
     (awaits_one_less ps c.args.slot h h' c.index_mut.result.now s.1 is refl refl s.2)
 
 pub returns-clause-others_awaited : goal.returns-clause-others_awaited

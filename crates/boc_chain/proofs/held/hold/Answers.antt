@@ -15,7 +15,11 @@ pub returns-in-None-clause-fresh : goal.returns-in-None-clause-fresh
 returns-in-None-clause-fresh c = ap place_in (none_past c.args.places.now.items c.len-slot.result (omega (arith, c.len-slot.ensures, c.args.places.now.ok.0)))
 
 pub returns-in-None-clause-here : goal.returns-in-None-clause-here
-returns-in-None-clause-here c = ap place_in (at_end c.args.places.now.items c.push_reserved.new.self.items (Some (record { cowns = c.args.cowns; exchanged = 0 })) c.len-slot.result c.push_reserved.ensures.items (omega (arith, c.len-slot.ensures, c.args.places.now.ok.0)))
+returns-in-None-clause-here c = ap place_in (at_end c.args.places.now.items c.push_reserved.new.self.items
+    (Some (record { cowns = c.args.cowns; exchanged = 0 })) c.len-slot.result c.push_reserved.ensures.items
+    (omega (arith, c.len-slot.ensures, c.args.places.now.ok.0)))
 
 pub returns-in-None-clause-others : goal.returns-in-None-clause-others
-returns-in-None-clause-others c = λ s far. ap place_in (before_end c.args.places.now.items c.push_reserved.new.self.items (Some (record { cowns = c.args.cowns; exchanged = 0 })) c.len-slot.result s c.push_reserved.ensures.items (omega (arith, c.len-slot.ensures, c.args.places.now.ok.0)) far)
+returns-in-None-clause-others c = λ s far. ap place_in
+    (before_end c.args.places.now.items c.push_reserved.new.self.items (Some (record { cowns = c.args.cowns; exchanged = 0 })) c.len-slot.result s
+    c.push_reserved.ensures.items (omega (arith, c.len-slot.ensures, c.args.places.now.ok.0)) far)

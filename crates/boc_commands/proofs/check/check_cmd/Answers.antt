@@ -10,7 +10,8 @@ returns-clause-written g c =
         input = read.text;
         taken = read.taken;
         whole = read.over;
-        answers = counted read.text asked.0 c.in_ok-rows.rows c.in_ok-answer.answer.items c.deref.result.now read.text_of asked.2 c.in_ok-answer.ensures c.deref.ensures.value;
+        answers = counted read.text asked.0 c.in_ok-rows.rows c.in_ok-answer.answer.items c.deref.result.now read.text_of asked.2 c.in_ok-answer.ensures
+            c.deref.ensures.value;
       },
       c.in_ok-put_out.ensures.ok,
     )
@@ -23,5 +24,6 @@ returns-in_err-put_out-clause-written g c =
       input = read.text;
       taken = read.taken;
       whole = read.over;
-      answers = counted read.text asked.0 c.in_ok-rows.rows c.in_ok-answer.answer.items c.deref.result.now read.text_of asked.2 c.in_ok-answer.ensures c.deref.ensures.value;
+      answers = counted read.text asked.0 c.in_ok-rows.rows c.in_ok-answer.answer.items c.deref.result.now read.text_of asked.2 c.in_ok-answer.ensures
+          c.deref.ensures.value;
     }) c.in_err-put_out.ensures.stopped

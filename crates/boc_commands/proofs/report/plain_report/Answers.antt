@@ -4,10 +4,14 @@ use Rattle.boc_commands.proofs.Asked.{is_report, unwritten}
 use Rattle.boc_commands.proofs.report.plain_report.Goals as goal
 
 pub returns-clause-written : goal.returns-clause-written
-returns-clause-written g c =
-    (_, is_report (seen c.args.sharing c.args.rows.now) None c.in_ok-profile.profile None None c.in_ok-profile.ensures refl refl, c.in_ok-write_report.ensures.written)
+returns-clause-written g c = (
+  _,
+  is_report (seen c.args.sharing c.args.rows.now) None c.in_ok-profile.profile None None c.in_ok-profile.ensures refl refl,
+  c.in_ok-write_report.ensures.written,
+)
 
 pub returns-in_err-write_report-clause-written : goal.returns-in_err-write_report-clause-written
 returns-in_err-write_report-clause-written g c =
     unwritten _ _ c.in_err-write_report.field-0.0 _ _ _ c.from_residual-in_err-write_report.ensures.1
-    (is_report (seen c.args.sharing c.args.rows.now) None c.in_ok-profile.profile None None c.in_ok-profile.ensures refl refl) c.in_err-write_report.ensures.written
+    (is_report (seen c.args.sharing c.args.rows.now) None c.in_ok-profile.profile None None c.in_ok-profile.ensures refl refl)
+    c.in_err-write_report.ensures.written

@@ -22,4 +22,5 @@ refused always_on text program runs.Unfinished spells held full = (program, spel
 pub returns-in_err-answer : goal.returns-in_err-answer
 returns-in_err-answer g c =
     passed_on _ (IsOfRun g.G.Gate.always_on c.args.text.now) _ _ c.from_residual-in_err-answer.ensures.1
-    (refused g.G.Gate.always_on c.args.text.now c.in_ok-program.program c.in_err-answer.field-0.0 c.in_ok-program.ensures c.in_err-answer.ensures.held c.in_err-answer.ensures.behaviours)
+    (refused g.G.Gate.always_on c.args.text.now c.in_ok-program.program c.in_err-answer.field-0.0 c.in_ok-program.ensures c.in_err-answer.ensures.held
+    c.in_err-answer.ensures.behaviours)

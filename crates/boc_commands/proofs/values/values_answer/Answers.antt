@@ -30,4 +30,5 @@ refused text program run serial.Behaviours spells is many = record { program = p
 pub returns-in_err-values : goal.returns-in_err-values
 returns-in_err-values c =
     passed_on _ (IsOfText c.args.text.now) _ _ c.from_residual-in_err-values.ensures.1
-    (refused c.args.text.now c.in_ok-program.program (Err c.in_err-values.field-0.0) c.in_err-values.field-0.0 c.in_ok-program.ensures refl c.in_err-values.ensures.behaviours)
+    (refused c.args.text.now c.in_ok-program.program (Err c.in_err-values.field-0.0) c.in_err-values.field-0.0 c.in_ok-program.ensures refl
+    c.in_err-values.ensures.behaviours)

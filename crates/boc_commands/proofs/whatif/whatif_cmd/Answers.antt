@@ -17,7 +17,8 @@ returns-in_err-edit_all-clause-refused g c =
 pub returns-clause-written : goal.returns-clause-written
 returns-clause-written g c =
     let asked = c.in_ok-rows.ensures.rows_or_fault in
-    leaves_read _ _ c.report_after.result _ _ _ _ asked.1 (λ text report. answered c.args.edits.now c.args.sharing c.edit_all.new.question.sharing c.args.workers asked.1.text asked.0
+    leaves_read _ _ c.report_after.result _ _ _ _ asked.1
+    (λ text report. answered c.args.edits.now c.args.sharing c.edit_all.new.question.sharing c.args.workers asked.1.text asked.0
     c.in_ok-question.question.rows c.edit_all.new.question.rows text text
     asked.1.text_of (c.in_ok-question.ensures.rows ∙ asked.2) c.in_ok-edit_all.ensures.fit c.in_ok-edit_all.ensures.rows
     (c.in_ok-edit_all.ensures.sharing ∙ c.in_ok-question.ensures.sharing) report refl) c.report_after.ensures.written

@@ -11,7 +11,8 @@ use Rattle.boc_dispatch.proofs.interleaving.play.Goals.{After-index_mut}
 use Rattle.boc_dispatch.proofs.interleaving.play.Goals as goal
 
 pub loop-place-init : goal.loop-place-init
-loop-place-init g c = at_first c.args.workers c.in_ok-crew.crew.items c.in_ok-crew.ensures c.args.program.now c.args.choices.now c.in_ok-core.core c.in_ok-core.ensures
+loop-place-init g c = at_first c.args.workers c.in_ok-crew.crew.items c.in_ok-crew.ensures c.args.program.now c.args.choices.now c.in_ok-core.core
+    c.in_ok-core.ensures
 
 pub returns-then-chosen-len : goal.returns-then-chosen-len
 returns-then-chosen-len g c =
@@ -26,7 +27,8 @@ take_turn-requires-clause-sound g c =
     at_sound c.args.program.now c.args.workers c.args.choices.now c.loop-place.place c.loop-place.core c.loop-place.crew.items c.loop-place.invariant
 
 -- the worker that is chosen
-chosen_read : (g : Over) (c : After-index_mut g) → slice_get c.loop-place.crew.items (get_or c.args.choices.now c.loop-place.place 0) ≡ Some c.index_mut.result.now
+chosen_read : (g : Over) (c : After-index_mut g) → slice_get c.loop-place.crew.items (get_or c.args.choices.now c.loop-place.place 0)
+    ≡ Some c.index_mut.result.now
 chosen_read g c =
     let choice : ℕ = get_or c.args.choices.now c.loop-place.place 0 in
     let crew : List Worker = c.loop-place.crew.items in
@@ -35,7 +37,8 @@ chosen_read g c =
 
 pub take_turn-requires-clause-fits : goal.take_turn-requires-clause-fits
 take_turn-requires-clause-fits g c =
-    at_fits c.args.program.now c.args.workers c.args.choices.now c.loop-place.place c.loop-place.core c.loop-place.crew.items c.loop-place.invariant (get_or c.args.choices.now c.loop-place.place 0) c.index_mut.result.now
+    at_fits c.args.program.now c.args.workers c.args.choices.now c.loop-place.place c.loop-place.core c.loop-place.crew.items c.loop-place.invariant
+    (get_or c.args.choices.now c.loop-place.place 0) c.index_mut.result.now
     (chosen_read g (goal.at.take_turn-requires-clause-fits g c).After-index_mut)
 
 pub returns-in_err-take_turn : goal.returns-in_err-take_turn
@@ -47,7 +50,9 @@ returns-in_err-take_turn g c =
     let fault : DriveFault = passed_on.0 in
     subst (HasPlayed c.args.program.now c.args.workers choices) (sym passed_on.1)
     (ends_by c.args.program.now c.args.workers choices fault
-    (λ e. at_full c.args.program.now c.args.workers choices c.loop-place.place c.loop-place.core c.loop-place.crew.items c.loop-place.invariant (get_or choices c.loop-place.place 0) chosen c.index_mut.result.now is (c.in_err-take_turn.ensures.full (ap (λ (f : DriveFault). Err f) (sym passed_on.2 ∙ e))))
+    (λ e. at_full c.args.program.now c.args.workers choices c.loop-place.place c.loop-place.core c.loop-place.crew.items c.loop-place.invariant
+    (get_or choices c.loop-place.place 0) chosen c.index_mut.result.now is
+    (c.in_err-take_turn.ensures.full (ap (λ (f : DriveFault). Err f) (sym passed_on.2 ∙ e))))
     (λ place e. c.in_err-take_turn.ensures.served place (ap (λ (f : DriveFault). Err f) (sym passed_on.2 ∙ e))))
 
 pub loop-place-preserved : goal.loop-place-preserved
@@ -55,5 +60,8 @@ loop-place-preserved g c =
     let choices : List ℕ = c.args.choices.now in
     let chosen = slice_get-get_or choices c.loop-place.place 0 c.loop-place-test.true in
     let is = chosen_read g (goal.at.loop-place-preserved g c).After-index_mut in
-    subst (λ n. IsAt c.args.program.now c.args.workers choices n c.take_turn.new.core (slice_set c.loop-place.crew.items (get_or choices c.loop-place.place 0) c.take_turn.new.worker)) (sym (add-one c.loop-place.place))
-    (at_next c.args.program.now c.args.workers choices c.loop-place.place c.loop-place.core c.loop-place.crew.items c.loop-place.invariant (get_or choices c.loop-place.place 0) chosen c.take_turn.new.core c.index_mut.result.now c.take_turn.new.worker is c.in_ok-take_turn.ensures.turn c.in_ok-take_turn.ensures.program c.in_ok-take_turn.ensures.fits)
+    subst (λ n. IsAt c.args.program.now c.args.workers choices n c.take_turn.new.core
+    (slice_set c.loop-place.crew.items (get_or choices c.loop-place.place 0) c.take_turn.new.worker)) (sym (add-one c.loop-place.place))
+    (at_next c.args.program.now c.args.workers choices c.loop-place.place c.loop-place.core c.loop-place.crew.items c.loop-place.invariant
+    (get_or choices c.loop-place.place 0) chosen c.take_turn.new.core c.index_mut.result.now c.take_turn.new.worker is c.in_ok-take_turn.ensures.turn
+    c.in_ok-take_turn.ensures.program c.in_ok-take_turn.ensures.fits)

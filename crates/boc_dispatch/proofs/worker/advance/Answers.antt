@@ -15,7 +15,8 @@ pub returns-in-Moved-clause-works : goal.returns-in-Moved-clause-works
 returns-in-Moved-clause-works g c =
     let row = c.requires.0 in
     let f = c.requires.1 in
-    works_in_place c.args.core.now c.advance.new.self (turns.Moved c.in-Moved.step) c.args.hand.now (hands.Framed row f (dues.Enqueuing c.args.child)) c.requires.2
+    works_in_place c.args.core.now c.advance.new.self (turns.Moved c.in-Moved.step) c.args.hand.now (hands.Framed row f (dues.Enqueuing c.args.child))
+    c.requires.2
     (advances c.args.core.now c.advance.new.self row f c.args.child c.in-Moved.step c.in-Moved.ensures)
 
 pub returns-in-Blocked-clause-works : goal.returns-in-Blocked-clause-works
@@ -31,7 +32,8 @@ returns-in-Enqueued-clause-works g c =
     let f = c.requires.1 in
     let goes = c.resume.ensures row f c.requires.2 in
     subst (λ (k : Hand). Works c.args.core.now c.args.hand.now (turns.Moved Own) c.advance.new.self k) (sym goes)
-    (works_from c.args.core.now c.advance.new.self (turns.Moved Own) c.args.hand.now (hands.Framed row f (dues.Enqueuing c.args.child)) (hands.Framed c.args.child.row f dues.Going) c.requires.2
+    (works_from c.args.core.now c.advance.new.self (turns.Moved Own) c.args.hand.now (hands.Framed row f (dues.Enqueuing c.args.child))
+    (hands.Framed c.args.child.row f dues.Going) c.requires.2
     (owns c.args.core.now c.advance.new.self row f c.args.child c.in-Enqueued.ensures))
 
 pub returns-in-Moved-clause-fits : goal.returns-in-Moved-clause-fits
@@ -53,5 +55,6 @@ returns-in-Enqueued-clause-fits g c =
     let f = c.requires.1 in
     let goes = c.resume.ensures row f c.requires.2 in
     subst (λ (k : Hand). KeepsFitting c.args.core.now c.args.hand.now c.advance.new.self k) (sym goes)
-    (fits_from c.args.core.now c.advance.new.self c.args.hand.now (hands.Framed row f (dues.Enqueuing c.args.child)) (hands.Framed c.args.child.row f dues.Going) c.requires.2
+    (fits_from c.args.core.now c.advance.new.self c.args.hand.now (hands.Framed row f (dues.Enqueuing c.args.child))
+    (hands.Framed c.args.child.row f dues.Going) c.requires.2
     (λ sound fits. owns_fits c.args.core.now c.advance.new.self row f c.args.child sound fits c.in-Enqueued.ensures))

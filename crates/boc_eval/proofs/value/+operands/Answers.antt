@@ -17,7 +17,8 @@ is_leaf : (r : OrFault ℤ) (v n : ℤ) → v ≡ n → r ≡ Ok n → r ≡ Ok 
 is_leaf r v n same is = rw same is
 
 -- both values are there
-both : (a b : OrFault ℤ) (x y : ℤ) (op : Operator) (r : Option ℤ) → a ≡ Ok x → b ≡ Ok y → r ≡ if_any (apply op x y) → r ≡ if_any (then_value a (λ x. then_value b (λ y. apply op x y)))
+both : (a b : OrFault ℤ) (x y : ℤ) (op : Operator) (r : Option ℤ) → a ≡ Ok x → b ≡ Ok y → r ≡ if_any (apply op x y)
+    → r ≡ if_any (then_value a (λ x. then_value b (λ y. apply op x y)))
 both a b x y op r ea eb er = rw ea (rw eb er)
 
 pub combined-returns : goal.combined-returns
@@ -32,4 +33,5 @@ combined-returns t c =
       | combined-in-Some-leaf w ↦ is_leaf _ _ _ (search rules) w.in-Some-leaf.ensures.value
       | combined-in-None-leaf+else-fails-2 w ↦ is_there _ _ _ _ w.if-fails-2.false (search rules) w.applied-number-in-None-leaf.ensures
     ] in
-    both (value (slot_expr_of c.args.left.now) c.args.slots.now) (value (slot_expr_of c.args.right.now) c.args.slots.now) c.match-leaf.first c.match-leaf-2.second c.args.operator _ left right (let h = c.match-leaf.first-is in search rules)
+    both (value (slot_expr_of c.args.left.now) c.args.slots.now) (value (slot_expr_of c.args.right.now) c.args.slots.now) c.match-leaf.first
+    c.match-leaf-2.second c.args.operator _ left right (let h = c.match-leaf.first-is in search rules)

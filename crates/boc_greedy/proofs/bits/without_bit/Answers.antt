@@ -15,5 +15,6 @@ returns-clause-others c = λ i n.
     let less : left ≤ c.args.word = and_le_l c.args.word (bit_not w64 (1 * 2 ^ c.args.bit % 2 ^ 64)) in
     elim (cases_lt i 64) [
       | inl small ↦ bit_at_clear_other w64 c.args.word c.args.bit c.requires i small n
-      | inr past ↦ bit_at_above left 64 i (omega (arith, c.ranges.word.fits)) past ∙ sym (bit_at_above c.args.word 64 i (omega (arith, c.ranges.word.fits)) past)
+      | inr past ↦ bit_at_above left 64 i (omega (arith, c.ranges.word.fits)) past
+          ∙ sym (bit_at_above c.args.word 64 i (omega (arith, c.ranges.word.fits)) past)
     ])

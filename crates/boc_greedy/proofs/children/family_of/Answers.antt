@@ -27,7 +27,9 @@ loop-row-2-preserved c =
     let pt : Puts (times_of xs) (times_of (slice_set xs parent spawn)) parent (offset_of rows row) =
     subst (λ (o : ℕ). Puts (times_of xs) (times_of (slice_set xs parent spawn)) parent o) c.offset.ensures (puts_time xs parent spawn low) in
     let pn : Puts (children_of ys) (children_of (slice_set ys row found)) row (slice_index (children_of xs) parent) =
-    subst (λ (o : ℕ). Puts (children_of ys) (children_of (slice_set ys row found)) row o) (sym (child_at xs parent found low c.index.ensures)) (puts_child ys row found there) in
+    subst (λ (o : ℕ). Puts (children_of ys) (children_of (slice_set ys row found)) row o) (sym (child_at xs parent found low c.index.ensures))
+    (puts_child ys row found there) in
     let pnt : Puts (times_of ys) (times_of (slice_set ys row found)) row (slice_index (times_of xs) parent) =
-    subst (λ (o : ℕ). Puts (times_of ys) (times_of (slice_set ys row found)) row o) (sym (time_at xs parent found low c.index.ensures)) (puts_time ys row found there) in
+    subst (λ (o : ℕ). Puts (times_of ys) (times_of (slice_set ys row found)) row o) (sym (time_at xs parent found low c.index.ensures))
+    (puts_time ys row found there) in
     found_more rows c.requires _ _ _ _ _ _ _ _ _ row parent i (omega (arith, c.loop-row-2-test.true)) pos parent_is (puts_child xs parent spawn low) pt pn pnt

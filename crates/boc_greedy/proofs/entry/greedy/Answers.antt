@@ -4,4 +4,5 @@ use Rattle.boc_greedy.proofs.entry.greedy.Goals as goal
 
 -- the rows take as many ticks, whatever is shared
 pub greedy_over-requires-clause-work : goal.greedy_over-requires-clause-work
-greedy_over-requires-clause-work c = rw c.new-rows.ensures.same ((rw c.as_slice.ensures.same at c.work-work.ensures) ∙ sym (work_of-seen c.args.sharing c.args.rows.now))
+greedy_over-requires-clause-work c = rw c.new-rows.ensures.same
+    ((rw c.as_slice.ensures.same at c.work-work.ensures) ∙ sym (work_of-seen c.args.sharing c.args.rows.now))

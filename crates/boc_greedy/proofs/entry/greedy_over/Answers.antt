@@ -13,23 +13,34 @@ pub followers-requires-clause-few : goal.followers-requires-clause-few
 followers-requires-clause-few c = omega (arith, c.requires.waits.whole, c.requires.shape.not_many)
 
 pub followers-requires-clause-inside : goal.followers-requires-clause-inside
-followers-requires-clause-inside c = λ b a has. (let p = wait_there c.args.rows.now c.args.waits.now c.requires.waits b a has in omega (arith, p.0, p.1, c.requires.waits.whole))
+followers-requires-clause-inside c = λ b a has. (let p = wait_there c.args.rows.now c.args.waits.now c.requires.waits b a has in
+    omega (arith, p.0, p.1, c.requires.waits.whole))
 
 pub ends_of-requires-clause-low : goal.ends_of-requires-clause-low
 ends_of-requires-clause-low c =
-    let d = done _ _ c.loop-tick.simulation c.requires.shape c.loop-tick.invariant.settled c.loop-tick.invariant.asked (rw c.number-p.ensures.value c.number-p.ensures.some) c.in_default.ensures.none in
+    let d = done _ _ c.loop-tick.simulation c.requires.shape c.loop-tick.invariant.settled c.loop-tick.invariant.asked
+    (rw c.number-p.ensures.value c.number-p.ensures.some) c.in_default.ensures.none in
     rw c.deref.ensures.value (λ r h. omega (arith, d.low r h, c.requires.shape.ticks_high r h))
 
 pub overflow_add-result : goal.overflow_add-result
 overflow_add-result c =
-    let d = done _ _ c.loop-tick.simulation c.requires.shape c.loop-tick.invariant.settled c.loop-tick.invariant.asked (rw c.number-p.ensures.value c.number-p.ensures.some) c.in_default.ensures.none in
+    let d = done _ _ c.loop-tick.simulation c.requires.shape c.loop-tick.invariant.settled c.loop-tick.invariant.asked
+    (rw c.number-p.ensures.value c.number-p.ensures.some) c.in_default.ensures.none in
     let end = greatest_is_end _ _ _ _ (rw c.deref.ensures.value at c.in_ok-ends.ensures)
     (rw c.deref-2.ensures.value at c.last_end-ends_at.ensures.none_later) (rw c.deref-2.ensures.value at c.last_end-ends_at.ensures.reached) in
-    omega (arith, c.requires.work, work_high _ c.requires.shape, div-le_self c.args.work c.from.result, span_le_work _ c.requires.shape _ (rw c.number-p.ensures.value c.number-p.ensures.some) _ _ d.greedy _ end c.args.span c.requires.span)
+    omega (
+      arith,
+      c.requires.work,
+      work_high _ c.requires.shape,
+      div-le_self c.args.work c.from.result,
+      span_le_work _ c.requires.shape _
+          (rw c.number-p.ensures.value c.number-p.ensures.some) _ _ d.greedy _ end c.args.span c.requires.span,
+    )
 
 -- what the simulation has made
 all_done : (c : After-drop-followers-inside-3) → IsDone c.args.rows.now c.number-p.result c.loop-tick.simulation
-all_done c = done _ _ c.loop-tick.simulation c.requires.shape c.loop-tick.invariant.settled c.loop-tick.invariant.asked (rw c.number-p.ensures.value c.number-p.ensures.some) c.in_default.ensures.none
+all_done c = done _ _ c.loop-tick.simulation c.requires.shape c.loop-tick.invariant.settled c.loop-tick.invariant.asked
+    (rw c.number-p.ensures.value c.number-p.ensures.some) c.in_default.ensures.none
 
 -- the greatest of the ends is the end of the plan
 is_end : (c : After-drop-followers-inside-3) → IsEnd c.args.rows.now c.loop-tick.simulation.starts.items c.last_end-ends_at.result

@@ -7,6 +7,7 @@ pub returns-in-Some : goal.returns-in-Some
 returns-in-Some c = λ before row q on.
     (let back = c.drop-top.ensures.permutation (search rules) in
     let heap = c.drop-top.ensures.heap_order (search rules) (c.in-Some.ensures.heap_order q.ordered) in
-    let put = put_back _ (peek_mut_rest c.in-Some.top) _ (peek_mut_top c.in-Some.top) before c.args.tick row q on c.in-Some.ensures.top c.in-Some.ensures.permutation heap
+    let put = put_back _ (peek_mut_rest c.in-Some.top) _ (peek_mut_top c.in-Some.top) before c.args.tick row q on c.in-Some.ensures.top
+    c.in-Some.ensures.permutation heap
     (rw c.deref.ensures at back) in
     search rules)

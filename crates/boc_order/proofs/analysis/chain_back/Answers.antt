@@ -5,7 +5,8 @@ use Rattle.boc_order.proofs.analysis.chain_back.Goals as goal
 pub loop-row-init : goal.loop-row-init
 loop-row-init c = record {
   there = c.requires.there;
-  leads = leads_first _ _ c.args.last _ _ c.push_reserved.new.self.items c.requires.there c.requires.latest c.ticks.ensures c.in_ok-steps.ensures.items c.push_reserved.ensures.items;
+  leads = leads_first _ _ c.args.last _ _ c.push_reserved.new.self.items c.requires.there c.requires.latest c.ticks.ensures c.in_ok-steps.ensures.items
+      c.push_reserved.ensures.items;
   room = omega (arith, c.push_reserved.ensures.len, c.push_reserved.ensures.capacity, c.in_ok-steps.ensures.len, c.in_ok-steps.ensures.capacity);
 }
 

@@ -21,5 +21,6 @@ on_one cowns k x P all none (i, h, e) p = none i (omega (arith, h, all)) (subst 
 pub returns : goal.returns
 returns c = (
   λ t. absurd (true≢false (sym t)),
-  λ f. absurd (on_one _ c.loop-cown.cown-index f.0 (λ (x : ℕ). ConflictOn c.args.rows.now x c.args.a c.args.b) (rw c.cowns-cown-items.ensures at c.loop-cown-test.false) c.loop-cown.invariant f.1.first f.1),
+  λ f. absurd (on_one _ c.loop-cown.cown-index f.0 (λ (x : ℕ). ConflictOn c.args.rows.now x c.args.a c.args.b)
+      (rw c.cowns-cown-items.ensures at c.loop-cown-test.false) c.loop-cown.invariant f.1.first f.1),
 )

@@ -12,7 +12,8 @@ none_read : (n m : ℕ) → n ≡ m → true ≡ ◌==◌ m 0 → n ≡ 0
 none_read n m e t = grind (arith, nat_tests)
 
 pub returns-in_ok-extend_from_slice : goal.returns-in_ok-extend_from_slice
-returns-in_ok-extend_from_slice c = adds_readers _ c.requires.shape _ _ c.requires.there c.requires.own _ c.requires.used _ _ (c.writes.ensures.0 c.if-writes.true)
+returns-in_ok-extend_from_slice c = adds_readers _ c.requires.shape _ _ c.requires.there c.requires.own _ c.requires.used _ _
+    (c.writes.ensures.0 c.if-writes.true)
     (some_read _ _ (sym c.args.used.now.readers.ok.0) c.if-not-is_empty.ensures) (rw c.deref.ensures.value at c.in_ok-extend_from_slice.ensures.items)
 
 pub returns-in_ok-push : goal.returns-in_ok-push

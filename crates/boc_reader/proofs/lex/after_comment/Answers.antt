@@ -9,7 +9,8 @@ use Rattle.boc_reader.proofs.lex.after_comment.Goals.{then-first-eq10-via-then-f
 pub loop-first-preserved : goal.loop-first-preserved
 loop-first-preserved c =
     let parts = c.in-Some.ensures.cases in (
-      c.loop-first.invariant.0 ∙ ap in_comment parts.0 ∙ comment_goes_on c.in-Some.first.now c.in-Some.after.now (ne_eqb _ 10 c.if-first-eq10.false) c.if-first-ge128.false,
+      c.loop-first.invariant.0 ∙ ap in_comment parts.0 ∙ comment_goes_on c.in-Some.first.now c.in-Some.after.now (ne_eqb _ 10 c.if-first-eq10.false)
+          c.if-first-ge128.false,
       omega (arith, parts.1),
     )
 

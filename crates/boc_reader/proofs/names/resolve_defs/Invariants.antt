@@ -8,6 +8,7 @@ use Rattle.boc_reader.proofs.names.resolve_defs.Given as goal
 
 abbrev pub invariant-loop-def : goal.invariant-loop-def
 invariant-loop-def l = record {
-  found : bodies_behind (declared_of l.fn.top) (names_of l.fn.before.items) (map def_of l.defs) ≡ with_front (map plain_body l.bodies.items) (bodies_behind (declared_of l.top) (names_of l.before.items) (map def_of (drop l.def-index l.defs)));
+  found : bodies_behind (declared_of l.fn.top) (names_of l.fn.before.items) (map def_of l.defs)
+      ≡ with_front (map plain_body l.bodies.items) (bodies_behind (declared_of l.top) (names_of l.before.items) (map def_of (drop l.def-index l.defs)));
   small : AreSmallDefs (map def_of (drop l.def-index l.defs));
 }

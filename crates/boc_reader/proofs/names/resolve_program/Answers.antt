@@ -8,11 +8,13 @@ use Rattle.boc_reader.proofs.names.resolve_program.Goals as goal
 
 pub returns-in_err-cowns : goal.returns-in_err-cowns
 returns-in_err-cowns c =
-    resolves_fault {Y = PlainProgram} (λ p. p) _ _ _ _ c.from_residual.ensures.1 c.in_err-cowns.ensures (λ none. tree_names-in_order (tree_of c.args.tree.now) ∙ none)
+    resolves_fault {Y = PlainProgram} (λ p. p) _ _ _ _ c.from_residual.ensures.1 c.in_err-cowns.ensures
+    (λ none. tree_names-in_order (tree_of c.args.tree.now) ∙ none)
 
 pub fitting-requires : goal.fitting-requires
 fitting-requires c =
-    program_makes (tree_of c.args.tree.now) c.in_ok-cowns.cowns.items c.in_ok-cowns.bodies.items c.requires (tree_names-in_order (tree_of c.args.tree.now) ∙ c.in_ok-cowns.ensures)
+    program_makes (tree_of c.args.tree.now) c.in_ok-cowns.cowns.items c.in_ok-cowns.bodies.items c.requires
+    (tree_names-in_order (tree_of c.args.tree.now) ∙ c.in_ok-cowns.ensures)
 
 pub returns : goal.returns
 returns c = tree_names-in_order (tree_of c.args.tree.now) ∙ c.in_ok-cowns.ensures ∙ ap Some (sym c.fitting.ensures)

@@ -17,7 +17,12 @@ defs-preserved c =
 pub returns : goal.returns
 returns c =
     let n = length-list (map def_of c.defs.all.items) in (
-      record { tokens = c.defs.invariant.tokens; ends = c.defs-test.ensures.other; fits = omega (arith, c.defs.invariant.room); small = small_defs _ c.defs.invariant.small },
+      record {
+        tokens = c.defs.invariant.tokens;
+        ends = c.defs-test.ensures.other;
+        fits = omega (arith, c.defs.invariant.room);
+        small = small_defs _ c.defs.invariant.small;
+      },
       omega (arith, c.defs.invariant.room),
     )
 

@@ -30,15 +30,20 @@ names-preserved c =
 
 pub returns-then-len-eq-LISTED-clause-answers : goal.returns-then-len-eq-LISTED-clause-answers
 returns-then-len-eq-LISTED-clause-answers c =
-    tells c.ninth.result (no_ninth name_phrase c.args.close (names_readable c.args.close c.requires) _ _ _ c.names.invariant c.if-accept.ensures.stays.1 (length-map c.names.all.items name_of ∙ omega (arith, c.names.all.ok.0)))
+    tells c.ninth.result (no_ninth name_phrase c.args.close (names_readable c.args.close c.requires) _ _ _ c.names.invariant c.if-accept.ensures.stays.1
+    (length-map c.names.all.items name_of ∙ omega (arith, c.names.all.ok.0)))
 
 pub returns-in_err-name-clause-answers : goal.returns-in_err-name-clause-answers
 returns-in_err-name-clause-answers c =
     passes (list_phrase name_phrase c.args.close) (λ v. map name_of v.items) _ _ _ _ _ c.from_residual.ensures.1 c.in_err-name.ensures
-    (λ h. no_item name_phrase c.args.close (names_readable c.args.close c.requires) _ c.names.cursor _ c.names.invariant c.if-accept.ensures.stays.1 (λ x r st. h x r st.tokens))
+    (λ h. no_item name_phrase c.args.close (names_readable c.args.close c.requires) _ c.names.cursor _ c.names.invariant c.if-accept.ensures.stays.1
+    (λ x r st. h x r st.tokens))
 
 pub returns-in_err-take-clause-answers : goal.returns-in_err-take-clause-answers
 returns-in_err-take-clause-answers c =
     let same = c.if-accept-2.ensures.stays.0 in
     passes (list_phrase name_phrase c.args.close) (λ v. map name_of v.items) _ _ _ _ _ c.from_residual-in_err-take.ensures.1 c.in_err-take.ensures
-    (λ h. no_comma_here name_phrase c.args.close (names_readable c.args.close c.requires) _ _ _ _ _ c.names.invariant c.if-accept.ensures.stays.1 (let item : Stands name_phrase c.names.cursor (name_of c.in_ok-name.field-0) c.name.new.self.tokens = record { tokens = c.in_ok-name.ensures.0; ends = tt; fits = omega arith; small = tt } in item) c.if-accept-2.ensures.stays.1 (λ after e. h after (ap (λ (a : Ahead). a.tokens) same ∙ e)))
+    (λ h. no_comma_here name_phrase c.args.close (names_readable c.args.close c.requires) _ _ _ _ _ c.names.invariant c.if-accept.ensures.stays.1
+    (let item : Stands name_phrase c.names.cursor (name_of c.in_ok-name.field-0) c.name.new.self.tokens = record
+    { tokens = c.in_ok-name.ensures.0; ends = tt; fits = omega arith; small = tt } in item) c.if-accept-2.ensures.stays.1
+    (λ after e. h after (ap (λ (a : Ahead). a.tokens) same ∙ e)))

@@ -13,9 +13,11 @@ returns-in_err-cowns c =
 pub returns-in_err-defs : goal.returns-in_err-defs
 returns-in_err-defs c =
     passes_on (λ t. HasShape (tokens_of c.args.tokens.now) (tree_of t)) _ _ _ _ c.from_residual-in_err-defs.ensures.1 c.in_err-defs.ensures
-    (no_defs _ c.new-cursor.result c.cowns.new.cursor c.refill.new.self _ c.new-cursor.ensures.tokens c.in_ok-cowns.ensures.0 c.refill.ensures.tokens c.refill.ensures.room)
+    (no_defs _ c.new-cursor.result c.cowns.new.cursor c.refill.new.self _ c.new-cursor.ensures.tokens c.in_ok-cowns.ensures.0 c.refill.ensures.tokens
+    c.refill.ensures.room)
 
 pub returns-in_err-main : goal.returns-in_err-main
 returns-in_err-main c =
     passes_on (λ t. HasShape (tokens_of c.args.tokens.now) (tree_of t)) _ _ _ _ c.from_residual-in_err-main.ensures.1 c.in_err-main.ensures
-    (no_main _ c.new-cursor.result c.cowns.new.cursor c.refill.new.self c.defs.new.cursor _ _ c.new-cursor.ensures.tokens c.in_ok-cowns.ensures.0 c.refill.ensures.tokens c.in_ok-defs.ensures.0)
+    (no_main _ c.new-cursor.result c.cowns.new.cursor c.refill.new.self c.defs.new.cursor _ _ c.new-cursor.ensures.tokens c.in_ok-cowns.ensures.0
+    c.refill.ensures.tokens c.in_ok-defs.ensures.0)

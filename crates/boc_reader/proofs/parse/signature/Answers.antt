@@ -18,10 +18,12 @@ returns-clause-answers c =
 
 pub returns-in_err-params-clause-answers : goal.returns-in_err-params-clause-answers
 returns-in_err-params-clause-answers c =
-    passes signature_phrase (λ s. (name_of s.0, (map name_of s.1.0.items, map name_of s.1.1.items))) _ _ _ _ _ c.from_residual-in_err-params.ensures.1 c.in_err-params.ensures.answers
+    passes signature_phrase (λ s. (name_of s.0, (map name_of s.1.0.items, map name_of s.1.1.items))) _ _ _ _ _ c.from_residual-in_err-params.ensures.1
+    c.in_err-params.ensures.answers
     (no_params c.args.cursor.now c.take.new.self (name_of c.in_ok-name.name) (search rules))
 
 pub returns-in_err-cowns-clause-answers : goal.returns-in_err-cowns-clause-answers
 returns-in_err-cowns-clause-answers c =
-    passes signature_phrase (λ s. (name_of s.0, (map name_of s.1.0.items, map name_of s.1.1.items))) _ _ _ _ _ c.from_residual-in_err-cowns.ensures.1 c.in_err-cowns.ensures.answers
+    passes signature_phrase (λ s. (name_of s.0, (map name_of s.1.0.items, map name_of s.1.1.items))) _ _ _ _ _ c.from_residual-in_err-cowns.ensures.1
+    c.in_err-cowns.ensures.answers
     (no_held c.args.cursor.now c.take.new.self c.names.new.cursor (name_of c.in_ok-name.name) _ (search rules) c.in_ok-params.ensures.answers.0)

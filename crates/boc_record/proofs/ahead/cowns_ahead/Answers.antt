@@ -9,6 +9,7 @@ loop-rest-preserved c =
     let i = c.loop-rest.invariant in
     let less : length c.loop-rest.cowns.items < 8 = grind (arith, nat_tests, i.few) in
     rw c.push.ensures.items (record {
-      fields = one_more_ahead c.args.text.now c.loop-rest.cowns.items c.loop-rest.rest.now c.in_ok-cown.after.now c.in_ok-cown.cown i.fields c.in_ok-cown.ensures;
+      fields = one_more_ahead c.args.text.now c.loop-rest.cowns.items c.loop-rest.rest.now c.in_ok-cown.after.now c.in_ok-cown.cown i.fields
+          c.in_ok-cown.ensures;
       few = omega (arith, less, length-append c.loop-rest.cowns.items (c.in_ok-cown.cown ∷ []));
     })

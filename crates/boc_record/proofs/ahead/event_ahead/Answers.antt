@@ -11,5 +11,6 @@ returns c =
     let v = spelling c.args.version in
     let event = c.in_ok-event.event in
     let rest = c.in_ok-event.rest.now in
-    let told : TellsAhead v (get_or bytes 0 0) (drop 1 bytes) event rest = subst (λ r. TellsAhead v (get_or bytes 0 0) r event rest) (whole_tail bytes 1) c.in_ok-event.ensures in
+    let told : TellsAhead v (get_or bytes 0 0) (drop 1 bytes) event rest =
+    subst (λ r. TellsAhead v (get_or bytes 0 0) r event rest) (whole_tail bytes 1) c.in_ok-event.ensures in
     line_ahead v bytes rest event (omega (arith, c.if-bytes-lt-AHEAD.false)) told c.if-rest-ne10.false (omega (arith, c.if-len-gt-MOST_LINE.false))

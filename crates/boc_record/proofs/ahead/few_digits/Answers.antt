@@ -11,11 +11,13 @@ returns-then-not-is_ascii_digit-clause-front c =
 pub overflow_mul-value : goal.overflow_mul-value
 overflow_mul-value c =
     let i = c.loop-i.invariant in
-    let few : c.loop-i.value < 10 ^ 7 = worth_below 7 c.args.text.now c.loop-i.i c.loop-i.value (omega (arith, c.requires, c.loop-i-test.true)) (omega (arith, c.loop-i-test.true)) i.value i.digits in
+    let few : c.loop-i.value < 10 ^ 7 = worth_below 7 c.args.text.now c.loop-i.i c.loop-i.value (omega (arith, c.requires, c.loop-i-test.true))
+    (omega (arith, c.loop-i-test.true)) i.value i.digits in
     omega (arith, few)
 
 pub overflow_add-value : goal.overflow_add-value
 overflow_add-value c =
     let i = c.loop-i.invariant in
-    let few : c.loop-i.value < 10 ^ 7 = worth_below 7 c.args.text.now c.loop-i.i c.loop-i.value (omega (arith, c.requires, c.loop-i-test.true)) (omega (arith, c.loop-i-test.true)) i.value i.digits in
+    let few : c.loop-i.value < 10 ^ 7 = worth_below 7 c.args.text.now c.loop-i.i c.loop-i.value (omega (arith, c.requires, c.loop-i-test.true))
+    (omega (arith, c.loop-i-test.true)) i.value i.digits in
     omega (arith, few, c.from.ensures, c.type_inv.text c.loop-i.i)

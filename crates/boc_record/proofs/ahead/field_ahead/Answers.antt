@@ -13,7 +13,9 @@ returns c =
     let tail = whole_tail text 1 in
     let front : IsFront (drop 1 text) len value = subst (λ r. IsFront r len value) tail c.in_ok-len.ensures.front in
     let some : 0 < len = omega (arith, c.if-len-eq0.false) in
-    let lead : get_or (drop 1 text) 0 0 ≡ 48 → len ≡ 1 = λ zero. elim c.else-after-eq48.either [ inl w ↦ omega (arith, w.1, some) | inr w ↦ absurd (w (ap (λ r. get_or r 0 0) tail ∙ zero)) ] in
+    let lead : get_or (drop 1 text) 0 0 ≡ 48 → len ≡ 1 =
+    λ zero. elim c.else-after-eq48.either [ inl w ↦ omega (arith, w.1, some) | inr w ↦ absurd (w (ap (λ r. get_or r 0 0) tail ∙ zero)) ] in
     let small : value < 2 ^ 32 = search rules in
     subst (λ r. IsFieldAhead text value (take (length r - len) (drop len r))) (sym tail)
-    (subst (λ r. IsFieldAhead text value r) (sym (whole_tail (drop 1 text) len)) (field_is_ahead text len value c.requires c.if-text-ne32.false front c.in_ok-len.ensures.few some lead small))
+    (subst (λ r. IsFieldAhead text value r) (sym (whole_tail (drop 1 text) len))
+    (field_is_ahead text len value c.requires c.if-text-ne32.false front c.in_ok-len.ensures.few some lead small))

@@ -9,7 +9,8 @@ use Rattle.boc_record.proofs.fields.cowns_of.Goals as goal
 pub returns-in_err-cown : goal.returns-in_err-cown
 returns-in_err-cown c =
     let i = c.loop-rest.invariant in
-    rw c.from_residual.ensures (no_numbers c.args.text.now c.loop-rest.cowns.items c.loop-rest.rest.now i.0 i.1 i.2 (grind (arith, nat_tests)) c.in_err-cown.ensures)
+    rw c.from_residual.ensures (no_numbers c.args.text.now c.loop-rest.cowns.items c.loop-rest.rest.now i.0 i.1 i.2 (grind (arith, nat_tests))
+    c.in_err-cown.ensures)
 
 pub returns-then-is_full : goal.returns-then-is_full
 returns-then-is_full c =

@@ -6,19 +6,22 @@ use Rattle.boc_record.proofs.fields.front_digits.Goals as goal
 pub returns-then-not-is_ascii_digit : goal.returns-then-not-is_ascii_digit
 returns-then-not-is_ascii_digit c =
     let i = c.loop-i.invariant in
-    front_so_far c.args.text.now c.loop-i.i c.loop-i.value (omega (arith, c.min-most.ensures, c.loop-i-test.true)) (omega (arith, c.min-most.ensures, c.loop-i-test.true)) i.value i.digits
+    front_so_far c.args.text.now c.loop-i.i c.loop-i.value (omega (arith, c.min-most.ensures, c.loop-i-test.true))
+    (omega (arith, c.min-most.ensures, c.loop-i-test.true)) i.value i.digits
     (λ few within. no_digit _ _ c.is_ascii_digit.ensures.value c.if-not-is_ascii_digit.true)
 
 pub overflow_mul-value : goal.overflow_mul-value
 overflow_mul-value c =
     let i = c.loop-i.invariant in
-    let few : c.loop-i.value < 10 ^ 9 = few_worth c.args.text.now c.loop-i.i c.loop-i.value (omega (arith, c.min-most.ensures, c.loop-i-test.true)) (omega (arith, c.min-most.ensures, c.loop-i-test.true)) i.value i.digits in
+    let few : c.loop-i.value < 10 ^ 9 = few_worth c.args.text.now c.loop-i.i c.loop-i.value (omega (arith, c.min-most.ensures, c.loop-i-test.true))
+    (omega (arith, c.min-most.ensures, c.loop-i-test.true)) i.value i.digits in
     omega (arith, few)
 
 pub overflow_add-value : goal.overflow_add-value
 overflow_add-value c =
     let i = c.loop-i.invariant in
-    let few : c.loop-i.value < 10 ^ 9 = few_worth c.args.text.now c.loop-i.i c.loop-i.value (omega (arith, c.min-most.ensures, c.loop-i-test.true)) (omega (arith, c.min-most.ensures, c.loop-i-test.true)) i.value i.digits in
+    let few : c.loop-i.value < 10 ^ 9 = few_worth c.args.text.now c.loop-i.i c.loop-i.value (omega (arith, c.min-most.ensures, c.loop-i-test.true))
+    (omega (arith, c.min-most.ensures, c.loop-i-test.true)) i.value i.digits in
     omega (arith, few, c.from.ensures, c.type_inv.text c.loop-i.i)
 
 pub returns : goal.returns

@@ -39,10 +39,12 @@ returns c =
     let after = c.in_ok-first.after.now in
     let tail = whole_tail after c.front_digits-len.result.0 in
     let some : 0 < c.front_digits-len.result.0 = omega (arith, c.if-len-eq0.false) in
-    let lead : get_or after 0 0 ≡ 48 → c.front_digits-len.result.0 ≡ 1 = λ zero. elim c.else-after-eq48.either [ inl w ↦ omega (arith, w.1, some) | inr w ↦ absurd (w zero) ] in
+    let lead : get_or after 0 0 ≡ 48 → c.front_digits-len.result.0 ≡ 1 =
+    λ zero. elim c.else-after-eq48.either [ inl w ↦ omega (arith, w.1, some) | inr w ↦ absurd (w zero) ] in
     let apart : IsApart (drop c.front_digits-len.result.0 after) = subst IsApart tail (first_apart _ (λ more. elim c.else-not-is_empty.branch [
       | else-not-is_empty-via-then-not-is_empty+else-rest-ne32 w ↦ w.if-rest-ne32.false
       | else-not-is_empty-via-else-not-is_empty w ↦ absurd (grind (arith, nat_tests))
     ])) in
     subst (λ r. IsField c.args.text.now c.front_digits-len.result.1 r) (sym tail)
-    (is_field c.args.text.now after _ _ (spaced _ _ _ c.in_ok-first.ensures.cases.0 (grind (arith, nat_tests))) c.front_digits-len.ensures some lead apart (omega (arith, c.if-value-from.false, c.from.ensures)))
+    (is_field c.args.text.now after _ _ (spaced _ _ _ c.in_ok-first.ensures.cases.0 (grind (arith, nat_tests))) c.front_digits-len.ensures some lead apart
+    (omega (arith, c.if-value-from.false, c.from.ensures)))

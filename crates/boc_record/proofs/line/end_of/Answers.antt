@@ -15,7 +15,8 @@ returns-in_err-number c = rw c.from_residual-in_err-number.ensures (λ event t.
 pub returns-in_err-written : goal.returns-in_err-written
 returns-in_err-written c = rw c.from_residual-in_err-written.ensures (λ event t.
     let e = end_text c.args.fields.now (spelling c.args.version) event t in
-    let left = (next_field _ _ _ _ _ c.in_ok-number.ensures (next_field _ _ _ _ _ c.in_ok-ticks.ensures (next_field _ _ _ _ _ c.in_ok-row.ensures e.of).1).1).1 in
+    let left = (next_field _ _ _ _ _ c.in_ok-number.ensures
+    (next_field _ _ _ _ _ c.in_ok-ticks.ensures (next_field _ _ _ _ _ c.in_ok-row.ensures e.of).1).1).1 in
     c.in_err-written.ensures e.written e.small e.few left.is)
 
 pub returns-in_err-status : goal.returns-in_err-status

@@ -14,5 +14,6 @@ returns-in_err-offset c = rw c.from_residual-in_err-offset.ensures (λ v event t
 pub returns-in_err-cowns : goal.returns-in_err-cowns
 returns-in_err-cowns c = rw c.from_residual-in_err-cowns.ensures (λ v event t.
     let s = spawn_text c.args.fields.now v event t in
-    let left = (next_field _ _ _ _ _ c.in_ok-offset.ensures (next_field _ _ _ _ _ c.in_ok-parent.ensures (next_field _ _ _ _ _ c.in_ok-row.ensures s.of).1).1).1 in
+    let left = (next_field _ _ _ _ _ c.in_ok-offset.ensures
+    (next_field _ _ _ _ _ c.in_ok-parent.ensures (next_field _ _ _ _ _ c.in_ok-row.ensures s.of).1).1).1 in
     c.in_err-cowns.ensures s.cowns left.small s.few left.is)

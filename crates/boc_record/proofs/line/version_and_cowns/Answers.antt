@@ -2,7 +2,8 @@ use Rattle.std.proofs.Common.{◌≡◌, ap, length, arith}
 use Rattle.std.proofs.lemmas.Bool.Decides.{nat_tests}
 use Rattle.boc_record.proofs.Told.{header_text, next_field, has_field}
 use Rattle.boc_record.proofs.line.version_and_cowns.Goals as goal
-use Rattle.boc_record.proofs.line.version_and_cowns.Goals.{then-not-is_empty-via-then-not-is_empty, then-not-is_empty-via-else-not-is_empty+then-cowns-gt-MOST_COWNS}
+use Rattle.boc_record.proofs.line.version_and_cowns.Goals.{then-not-is_empty-via-then-not-is_empty}
+use Rattle.boc_record.proofs.line.version_and_cowns.Goals.{then-not-is_empty-via-else-not-is_empty+then-cowns-gt-MOST_COWNS}
 
 pub returns-in_err-cowns : goal.returns-in_err-cowns
 returns-in_err-cowns c = rw c.from_residual-in_err-cowns.ensures (λ given.

@@ -26,4 +26,5 @@ returns-in-Some-clause-item g c =
     let known = g.S.Source.remaining c.args.source.now in
     let bytes = c.args.lines.now.buffered in
     let told : IsLineAhead v bytes event len = subst (λ (b : List ℕ). IsLineAhead v b event len) c.buffered.ensures.bytes c.in-Some.ensures in
-    subst (λ (b : List ℕ). TakesEvent v rows event (prepend_known bytes known) (prepend_known b known)) (sym c.take_line.ensures.rest) (event_in_front v rows bytes event len known told)
+    subst (λ (b : List ℕ). TakesEvent v rows event (prepend_known bytes known) (prepend_known b known)) (sym c.take_line.ensures.rest)
+    (event_in_front v rows bytes event len known told)

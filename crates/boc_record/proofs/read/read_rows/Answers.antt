@@ -7,5 +7,6 @@ use Rattle.boc_record.proofs.read.read_rows.Goals as goal
 pub returns-clause-rows_or_fault : goal.returns-clause-rows_or_fault
 returns-clause-rows_or_fault g c =
     let run = c.in_ok-judge.ensures.run_or_fault in
-    let given : AreRowsOf c.in_ok-judge.judge.rows c.unwrap.result = rows_given c.in_ok-judge.judge c.into_rows.result c.unwrap.result c.into_rows.ensures c.unwrap.ensures in
+    let given : AreRowsOf c.in_ok-judge.judge.rows c.unwrap.result =
+    rows_given c.in_ok-judge.judge c.into_rows.result c.unwrap.result c.into_rows.ensures c.unwrap.ensures in
     rows_taken _ _ _ _ c.unwrap.result run (subst (λ (rows : List Entry). AreRowsOf rows c.unwrap.result) run.has given)

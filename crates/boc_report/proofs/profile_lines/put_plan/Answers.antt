@@ -12,11 +12,13 @@ returns-in_err-put-clause-goes_on g c =
 
 pub loop-row-preserved : goal.loop-row-preserved
 loop-row-preserved g c = record {
-  came = line_put (plan_by_line c.args.starts.now c.args.ends.now c.requires.lengths) c.loop-row.row c.row_before-begin.new.room MOST_ROW c.row_before-begin.result c.args.out.now c.loop-row.out c.put.new.self
+  came = line_put (plan_by_line c.args.starts.now c.args.ends.now c.requires.lengths) c.loop-row.row c.row_before-begin.new.room MOST_ROW
+      c.row_before-begin.result c.args.out.now c.loop-row.out c.put.new.self
       _ _ _ c.loop-row-test.true c.loop-row.invariant.came (omega arith) c.row_before-begin.ensures.written c.in_ok-put.ensures.goes_on;
   size = omega (arith, c.in_ok-put.ensures.size);
   failures = c.in_ok-put.ensures.failures ∙ c.loop-row.invariant.failures;
 }
 
 pub returns-clause-goes_on : goal.returns-clause-goes_on
-returns-clause-goes_on g c = lines_put (plan_by_line c.args.starts.now c.args.ends.now c.requires.lengths) c.loop-row.row _ _ _ _ (omega arith) c.loop-row.invariant.came
+returns-clause-goes_on g c = lines_put (plan_by_line c.args.starts.now c.args.ends.now c.requires.lengths) c.loop-row.row _ _ _ _ (omega arith)
+    c.loop-row.invariant.came

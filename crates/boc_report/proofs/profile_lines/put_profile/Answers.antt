@@ -24,7 +24,8 @@ abbrev whole : Profile → List ℕ
 whole p = ((head p ++ steps p) ++ codes "plan\n") ++ plan p
 
 -- the head was put, formed in a room, and the steps were put behind it
-stepped : (p : Profile) (room : List ℕ) (begin : ℕ) (passed : List ChainStep) (old middle new : Outgoing) (from between to : Option (List ℕ)) → length room ≤ MOST_HEAD
+stepped : (p : Profile) (room : List ℕ) (begin : ℕ) (passed : List ChainStep) (old middle new : Outgoing) (from between to : Option (List ℕ))
+    → length room ≤ MOST_HEAD
     → drop begin room ≡ head p → HasPut (take (MOST_HEAD - begin) (drop begin room)) old middle from between → passed ≡ p.chain.steps.items
     → HasPut (step_lines passed) middle new between to → HasPut (head p ++ steps p) old new from to
 stepped p room begin passed old middle new from between to all is came same comes =

@@ -13,7 +13,8 @@ returns-in_err-put-clause-goes_on g c =
 
 pub loop-step-preserved : goal.loop-step-preserved
 loop-step-preserved g c = record {
-  came = line_put (steps_by_line c.args.steps.now _) c.loop-step.step-index c.step_before-begin.new.room MOST_STEP c.step_before-begin.result c.args.out.now c.loop-step.out c.put.new.self
+  came = line_put (steps_by_line c.args.steps.now _) c.loop-step.step-index c.step_before-begin.new.room MOST_STEP c.step_before-begin.result c.args.out.now
+      c.loop-step.out c.put.new.self
       _ _ _ (grind (arith, nat_tests)) c.loop-step.invariant.came (omega arith) c.step_before-begin.ensures.written c.in_ok-put.ensures.goes_on;
   size = omega (arith, c.in_ok-put.ensures.size);
   failures = c.in_ok-put.ensures.failures ∙ c.loop-step.invariant.failures;

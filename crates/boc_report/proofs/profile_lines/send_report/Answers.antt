@@ -24,7 +24,8 @@ returns-in_err-put_part-clause-sent g c =
     let p = c.args.profile.now in
     let before = g.W.Sink.written c.args.sink.now in
     let part : List ℕ = part_of (option_map (λ x. x.now) c.args.greedy) in
-    stopped_so _ (λ s. StopsAt s.gone (report p ++ part) before (g.W.Sink.written c.put_part.new.sink)) c.from_residual-in_err-put_part.result _ c.from_residual-in_err-put_part.ensures.1
+    stopped_so _ (λ s. StopsAt s.gone (report p ++ part) before (g.W.Sink.written c.put_part.new.sink)) c.from_residual-in_err-put_part.result _
+    c.from_residual-in_err-put_part.ensures.1
     (c.in_err-put_part.ensures.goes_on before (report p) (c.in_ok-put_profile.ensures.goes_on before [] (c.requires.unused before)))
 
 pub returns-clause-sent : goal.returns-clause-sent

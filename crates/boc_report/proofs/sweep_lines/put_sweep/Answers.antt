@@ -12,7 +12,8 @@ returns-in_err-put-clause-goes_on g c =
 
 pub loop-row-preserved : goal.loop-row-preserved
 loop-row-preserved g c = record {
-  came = line_put (sweep_by_line c.args.spans.now) c.loop-row.row c.swept_before-begin.new.room MOST_SWEPT c.swept_before-begin.result c.args.out.now c.loop-row.out c.put.new.self
+  came = line_put (sweep_by_line c.args.spans.now) c.loop-row.row c.swept_before-begin.new.room MOST_SWEPT c.swept_before-begin.result c.args.out.now
+      c.loop-row.out c.put.new.self
       _ _ _ c.loop-row-test.true c.loop-row.invariant.came (omega arith) c.swept_before-begin.ensures.written c.in_ok-put.ensures.goes_on;
   size = omega (arith, c.in_ok-put.ensures.size);
   failures = c.in_ok-put.ensures.failures ∙ c.loop-row.invariant.failures;

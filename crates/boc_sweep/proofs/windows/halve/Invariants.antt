@@ -8,7 +8,8 @@ invariant-loop-place l = record {
   within : l.place ≤ length l.fn.values;
   before : (j : ℕ) → j < l.place → slice_index l.values j ≡ slice_index l.fn.values j;
   low : (j : ℕ) → j < l.step → slice_index l.values j ≡ slice_index l.fn.values j;
-  high : (j : ℕ) → l.place ≤ j → l.step ≤ j → j < length l.fn.values → slice_index l.values j ≡ max (slice_index l.fn.values (j - l.step)) (slice_index l.fn.values j);
+  high : (j : ℕ) → l.place ≤ j → l.step ≤ j → j < length l.fn.values
+      → slice_index l.values j ≡ max (slice_index l.fn.values (j - l.step)) (slice_index l.fn.values j);
 }
 
 abbrev pub decreases-loop-place : goal.decreases-loop-place

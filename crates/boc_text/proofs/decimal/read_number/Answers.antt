@@ -12,5 +12,6 @@ returns-then-bytes-gt1 c = λ n h e. omega (arith, (leads n c.args.bytes.now h e
 pub returns : goal.returns
 returns c =
     let some : 0 < length c.args.bytes.now = grind (arith, nat_tests, c.is_empty.ensures, c.if-is_empty.false) in
-    let lead : get_or c.args.bytes.now 0 0 ≡ 48 → length c.args.bytes.now ≡ 1 = λ zero. elim c.else-bytes-eq48.either [ inl w ↦ omega (arith, w.1, some) | inr w ↦ absurd (w zero) ] in
+    let lead : get_or c.args.bytes.now 0 0 ≡ 48 → length c.args.bytes.now ≡ 1 =
+    λ zero. elim c.else-bytes-eq48.either [ inl w ↦ omega (arith, w.1, some) | inr w ↦ absurd (w zero) ] in
     number_read c.args.bytes.now c.value_of.result some lead c.value_of.ensures

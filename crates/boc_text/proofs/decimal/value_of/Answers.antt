@@ -8,7 +8,8 @@ returns-then-not-is_ascii_digit c =
 
 pub returns-in_err-checked_mul : goal.returns-in_err-checked_mul
 returns-in_err-checked_mul c =
-    rw c.from_residual.ensures (none_above c.args.digits.now c.loop-byte.byte-index c.loop-byte-test.true (omega (arith, c.in_err-checked_mul.ensures, c.loop-byte.invariant.value)))
+    rw c.from_residual.ensures (none_above c.args.digits.now c.loop-byte.byte-index c.loop-byte-test.true
+    (omega (arith, c.in_err-checked_mul.ensures, c.loop-byte.invariant.value)))
 
 pub returns-in_err-number : goal.returns-in_err-number
 returns-in_err-number c =
@@ -17,4 +18,5 @@ returns-in_err-number c =
 
 pub returns : goal.returns
 returns c =
-    all_read c.args.digits.now c.loop-byte.byte-index c.loop-byte.number c.loop-byte.invariant.small c.loop-byte-test.false c.loop-byte.invariant.digits c.loop-byte.invariant.value c.loop-byte.auto.byte-index-end
+    all_read c.args.digits.now c.loop-byte.byte-index c.loop-byte.number c.loop-byte.invariant.small c.loop-byte-test.false c.loop-byte.invariant.digits
+    c.loop-byte.invariant.value c.loop-byte.auto.byte-index-end

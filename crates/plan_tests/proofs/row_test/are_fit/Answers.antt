@@ -11,6 +11,7 @@ loop-number-preserved c =
     let row = row_read c.args.rows.now c.loop-number.number c.index-rows-number.result c.loop-number-test.true c.index-rows-number.is in
     let parent = parent_there c.args.rows.now c.loop-number.number fit c.loop-number-test.true in (
       fit_more c.args.rows.now c.loop-number.number i.0 fit,
-      rw (sym row.parent, sym row.offset) (last_more c.args.rows.now c.loop-number.number c.loop-number.last fit (omega (arith, parent, c.requires.whole, i.2)) i.1),
+      rw (sym row.parent, sym row.offset) (last_more c.args.rows.now c.loop-number.number c.loop-number.last fit (omega (arith, parent, c.requires.whole, i.2))
+          i.1),
       length-set c.loop-number.last _ _ ∙ i.2,
     )

@@ -8,7 +8,8 @@ use Rattle.boc_chain.proofs.kept_links.Linked.push.Goals as goal
 pub returns-clause-here : goal.returns-clause-here
 returns-clause-here c = λ one.
     let old = c.args.self.now in
-    ap (λ (cs : ArrayVec ℕ). option_and_then (λ k. slice_get c.add.new.self.links k) (position (λ x. x == get_or old.cowns.items (length old.links) 0) cs.items)) c.add.ensures.cowns
+    ap (λ (cs : ArrayVec ℕ). option_and_then (λ k. slice_get c.add.new.self.links k)
+    (position (λ x. x == get_or old.cowns.items (length old.links) 0) cs.items)) c.add.ensures.cowns
     ∙ push_here old.cowns.items old.links c.add.new.self.links c.args.link c.add.ensures.links c.requires one
 
 pub returns-clause-others : goal.returns-clause-others

@@ -33,17 +33,21 @@ returns-in_err-reserve-clause-lists c =
     (grown s.last.items s.slots c.reserve.new.self s.peak c.reserve.new.self.capacity s.linked c.reserve.ensures.rest_kept).1
 
 -- what the links keep, and the lists, with the cowns admitted
-admitted : (c : After-max-self) → IsLinked c.args.self.now.last.items c.insert_reserved-index.new.self c.max-self.result × (lists_of c.args.self.now.last.items c.insert_reserved-index.new.self ≡ lists c.args.self.now)
+admitted : (c : After-max-self) → IsLinked c.args.self.now.last.items c.insert_reserved-index.new.self c.max-self.result
+    × (lists_of c.args.self.now.last.items c.insert_reserved-index.new.self ≡ lists c.args.self.now)
 admitted c =
     let s = c.args.self.now in
     let few : slab_len c.insert_reserved-index.new.self ≤ c.max-self.result = omega arith in
-    let key : c.insert_reserved-index.result ≡ s.slots.vacant_key = c.insert_reserved-index.ensures.key ∙ ap (λ (x : Slab Linked). x.vacant_key) c.reserve.ensures.rest_kept in
+    let key : c.insert_reserved-index.result ≡ s.slots.vacant_key =
+    c.insert_reserved-index.ensures.key ∙ ap (λ (x : Slab Linked). x.vacant_key) c.reserve.ensures.rest_kept in
     let kept = c.in_ok-linked.linked.cowns in
     let same : kept ≡ c.args.cowns = c.in_ok-linked.ensures.cowns ∙ c.of.ensures in
     let distinct = subst (λ (cs : ArrayVec ℕ). (n : ℕ) → times n cs.items ≤ 1) (sym same) c.requires.distinct in
     let in_range = subst (λ (cs : ArrayVec ℕ). (n : ℕ) → 0 < times n cs.items → n < length (lists s)) (sym same) c.requires.in_range in
-    let short : (i : ℕ) → i < length kept.items → (c.insert_reserved-index.result < 2 ^ 16) × (i < 2 ^ 8) = λ i h. (omega (arith, key), omega (arith, h, ap (λ (cs : ArrayVec ℕ). length cs.items) same)) in
-    admit_call s.last.items s.slots c.reserve.new.self c.insert_reserved-index.new.self s.peak c.reserve.new.self.capacity c.insert_reserved-index.result c.max-self.result _ s.linked c.reserve.ensures.rest_kept
+    let short : (i : ℕ) → i < length kept.items → (c.insert_reserved-index.result < 2 ^ 16) × (i < 2 ^ 8) =
+    λ i h. (omega (arith, key), omega (arith, h, ap (λ (cs : ArrayVec ℕ). length cs.items) same)) in
+    admit_call s.last.items s.slots c.reserve.new.self c.insert_reserved-index.new.self s.peak c.reserve.new.self.capacity c.insert_reserved-index.result
+    c.max-self.result _ s.linked c.reserve.ensures.rest_kept
     c.insert_reserved-index.ensures.was_vacant c.insert_reserved-index.ensures.updates c.in_ok-linked.ensures.empty distinct in_range short few
 
 pub invariant_of-self-2 : goal.invariant_of-self-2

@@ -7,11 +7,21 @@ pub next_at-requires : goal.next_at-requires
 next_at-requires c = some_leads c.args.self.now.linked c.args.slot.index c.args.i c.requires.there c.requires.granted
 
 -- what is known of the request
-fronts : (c : After-next_at) → Fronts c.args.self.now.last.items c.args.self.now.slots c.args.self.now.peak c.args.slot.index c.args.i c.cown_at-c.result c.next_at.result
-fronts c = record { linked = c.args.self.now.linked; there = c.requires.there; same = c.cown_at-c.ensures; granted = c.requires.granted; answer = c.next_at.ensures }
+fronts : (c : After-next_at) → Fronts c.args.self.now.last.items c.args.self.now.slots c.args.self.now.peak c.args.slot.index c.args.i c.cown_at-c.result
+    c.next_at.result
+fronts c = record {
+  linked = c.args.self.now.linked;
+  there = c.requires.there;
+  same = c.cown_at-c.ensures;
+  granted = c.requires.granted;
+  answer = c.next_at.ensures;
+}
 
 pub returns-then-is_some : goal.returns-then-is_some
-returns-then-is_some c = record { blocked = leave_told_next (fronts (goal.at.returns-then-is_some c).After-next_at) c.is_some.result c.if-is_some.true c.is_some.ensures }
+returns-then-is_some c = record {
+  blocked = leave_told_next (fronts (goal.at.returns-then-is_some c).After-next_at) c.is_some.result c.if-is_some.true
+      c.is_some.ensures;
+}
 
 pub returns-else-is_some : goal.returns-else-is_some
 returns-else-is_some c =

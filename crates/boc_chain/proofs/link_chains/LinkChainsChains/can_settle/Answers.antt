@@ -9,7 +9,8 @@ can_settle_at-requires c = some_holds c.args.self.now.linked c.args.slot.index c
 
 pub returns : goal.returns
 returns c = record {
-  blocked = said_of c.args.self.now.linked c.args.slot.index c.args.i c.requires.there (λ xs. (c.can_settle_at.result ≡ false) ↔ (settle_answer c.args.slot.index xs ≡ Blocked)) c.can_settle_at.ensures c.requires.exchanged;
+  blocked = said_of c.args.self.now.linked c.args.slot.index c.args.i c.requires.there
+      (λ xs. (c.can_settle_at.result ≡ false) ↔ (settle_answer c.args.slot.index xs ≡ Blocked)) c.can_settle_at.ensures c.requires.exchanged;
 }
 
 pub overflow_cast-slot : goal.overflow_cast-slot

@@ -1,6 +1,7 @@
 use Rattle.std.proofs.Common.{arith, length-set}
 use Rattle.std.specs.Prelude.{None}
-use Rattle.boc_chain.proofs.Calls.{some_leads, is_last, not_last, Leaves, leave_some, leave_some_answer, leave_blocked, leave_blocked_answer, leave_alone, leave_alone_answer}
+use Rattle.boc_chain.proofs.Calls.{some_leads, is_last, not_last, Leaves, leave_some, leave_some_answer, leave_blocked, leave_blocked_answer, leave_alone}
+use Rattle.boc_chain.proofs.Calls.{leave_alone_answer}
 use Rattle.boc_chain.proofs.link_chains.LinkChainsChains.leave.Goals as goal
 use Rattle.boc_chain.proofs.link_chains.LinkChainsChains.leave.Goals.{After-pass_at}
 
@@ -8,9 +9,16 @@ pub pass_at-requires : goal.pass_at-requires
 pass_at-requires c = some_leads c.args.self.now.linked c.args.slot.index c.args.i c.requires.there c.requires.granted
 
 -- what is known as it leaves
-leaves : (c : After-pass_at) → Leaves c.args.self.now.last.items c.args.self.now.slots c.pass_at.new.slots c.args.self.now.peak c.args.slot.index c.args.i c.cown_at-c.result c.pass_at.result
+leaves : (c : After-pass_at) → Leaves c.args.self.now.last.items c.args.self.now.slots c.pass_at.new.slots c.args.self.now.peak c.args.slot.index c.args.i
+    c.cown_at-c.result c.pass_at.result
 leaves c = record {
-  fronts = record { linked = c.args.self.now.linked; there = c.requires.there; same = c.cown_at-c.ensures; granted = c.requires.granted; answer = c.pass_at.ensures.answer };
+  fronts = record {
+    linked = c.args.self.now.linked;
+    there = c.requires.there;
+    same = c.cown_at-c.ensures;
+    granted = c.requires.granted;
+    answer = c.pass_at.ensures.answer;
+  };
   spelled = c.pass_at.ensures.spelled;
   placed = c.pass_at.ensures.placed;
   cowns_same = c.pass_at.ensures.other_cowns;

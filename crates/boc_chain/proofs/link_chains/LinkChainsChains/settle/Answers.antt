@@ -12,7 +12,8 @@ invariant_of-self-clause-linked c =
     c.settle_at.ensures.spelled c.settle_at.ensures.placed c.settle_at.ensures.other_cowns c.settle_at.ensures.places c.settle_at.ensures.len).0
 
 pub returns-clause-answer : goal.returns-clause-answer
-returns-clause-answer c = said_of c.args.self.now.linked c.args.slot.index c.args.i c.requires.there (λ xs. c.settle_at.result ≡ settle_answer c.args.slot.index xs) c.settle_at.ensures.answer c.requires.exchanged
+returns-clause-answer c = said_of c.args.self.now.linked c.args.slot.index c.args.i c.requires.there
+    (λ xs. c.settle_at.result ≡ settle_answer c.args.slot.index xs) c.settle_at.ensures.answer c.requires.exchanged
 
 pub returns-clause-lists : goal.returns-clause-lists
 returns-clause-lists c =

@@ -9,7 +9,8 @@ invariant_of-self-clause-linked c =
     c.push_link.ensures.other_cowns c.push_link.ensures.place c.push_link.ensures.other_places c.push_link.ensures.len).0
 
 pub returns-clause-before : goal.returns-clause-before
-returns-clause-before c = c.slot_in.ensures ∙ swap_answer c.args.self.now.linked c.args.slot.index c.args.i c.requires.there c.cown_at-c.result c.cown_at-c.ensures c.index-before.result.now c.index-before.ensures
+returns-clause-before c = c.slot_in.ensures ∙ swap_answer c.args.self.now.linked c.args.slot.index c.args.i c.requires.there c.cown_at-c.result
+    c.cown_at-c.ensures c.index-before.result.now c.index-before.ensures
 
 pub returns-clause-lists : goal.returns-clause-lists
 returns-clause-lists c =

@@ -18,7 +18,8 @@ returns g c =
     let row = c.args.row in
     let runs = c.in-Some.ensures in
     let handed : IsHandedOut (underway d) row o.body o.args o.inputs =
-    handed_as (underway d) row c.body.result.now o.body c.args-2.result.now o.args c.inputs.result.now o.inputs c.body.ensures.value c.args-2.ensures.value c.inputs.ensures.value runs.0 in
+    handed_as (underway d) row c.body.result.now o.body c.args-2.result.now o.args c.inputs.result.now o.inputs c.body.ensures.value c.args-2.ensures.value
+    c.inputs.ensures.value runs.0 in
     let who : ℕ = runs.1.0.number in
     let ends = c.finish.ensures.ends runs.1.0 runs.1.1 in
     let Answer : Type 0 = Result (Option Leaving) FinishFault in

@@ -14,7 +14,8 @@ pub returns-in_err-parent : goal.returns-in_err-parent
 returns-in_err-parent g c =
     let d = parts_of g.C.Chains.lists g.C.Chains.place c.args.self.now in
     let child = c.args.child.now in
-    subst (λ (o : Option Enqueue). MatchOption o (IsEnqueueOf (state d) child.number child.row → ⊥) (IsFoundEnqueue d child.number child.row)) (sym c.from_residual.ensures)
+    subst (λ (o : Option Enqueue). MatchOption o (IsEnqueueOf (state d) child.number child.row → ⊥) (IsFoundEnqueue d child.number child.row))
+    (sym c.from_residual.ensures)
     (λ q. let f = enqueue_found d c.requires.kept child.row child.number q in c.in_err-parent.ensures f.1 f.3)
 
 pub returns-in_err-slot-in-Some : goal.returns-in_err-slot-in-Some
@@ -23,7 +24,8 @@ returns-in_err-slot-in-Some g c =
     let child = c.args.child.now in
     let x = c.in_ok-parent.ensures in
     let same = read_some c.args.self.now.live.items c.in_ok-parent.parent x.this c.in-Some.live c.index.result.now x.is c.index.ensures c.in-Some.is in
-    subst (λ (o : Option Enqueue). MatchOption o (IsEnqueueOf (state d) child.number child.row → ⊥) (IsFoundEnqueue d child.number child.row)) (sym c.from_residual-in_err-slot-in-Some.ensures)
+    subst (λ (o : Option Enqueue). MatchOption o (IsEnqueueOf (state d) child.number child.row → ⊥) (IsFoundEnqueue d child.number child.row))
+    (sym c.from_residual-in_err-slot-in-Some.ensures)
     (λ q.
     (let f = enqueue_found d c.requires.kept child.row child.number q in
     let knows = ap (λ (l : Live). l.child) (same ∙ one_behaviour d c.requires.kept c.in_ok-parent.parent f.1 child.row x f.3) ∙ f.4 in
@@ -34,7 +36,8 @@ index-requires-2 g c =
     let d = parts_of g.C.Chains.lists g.C.Chains.place c.args.self.now in
     let x = c.in_ok-parent.ensures in
     let same = read_some c.args.self.now.live.items c.in_ok-parent.parent x.this c.in-Some.live c.index.result.now x.is c.index.ensures c.in-Some.is in
-    let down = c.requires.kept.in_hand.children c.in_ok-parent.parent c.in_ok-slot-in-Some.slot x.this x.is (ap (λ (l : Live). l.child) (sym same) ∙ c.in_ok-slot-in-Some.was) in
+    let down = c.requires.kept.in_hand.children c.in_ok-parent.parent c.in_ok-slot-in-Some.slot x.this x.is
+    (ap (λ (l : Live). l.child) (sym same) ∙ c.in_ok-slot-in-Some.was) in
     let below = live_there c.args.self.now.live.items c.in_ok-slot-in-Some.slot down.child down.is in
     omega (arith, c.args.self.now.live.ok.0)
 
@@ -80,5 +83,6 @@ returns-in_default-2 g c =
     let same = read_some c.args.self.now.live.items c.in_ok-parent.parent x.this c.in-Some.live c.index.result.now x.is c.index.ensures c.in-Some.is in
     let knows = ap (λ (l : Live). l.child) (sym same) ∙ c.in_ok-slot-in-Some.was in
     let down = c.requires.kept.in_hand.children c.in_ok-parent.parent slot x.this x.is knows in
-    let read_child : c.index-2.result.now ≡ Some down.child = read_place c.args.self.now.live.items slot down.child c.index-2.result.now down.is c.index-2.ensures in
+    let read_child : c.index-2.result.now ≡ Some down.child =
+    read_place c.args.self.now.live.items slot down.child c.index-2.result.now down.is c.index-2.ensures in
     λ q. absurd (let e : None ≡ Some down.child = sym c.in_default.is ∙ read_child in cc)

@@ -29,7 +29,8 @@ returns-in_err-slot g c =
 pub index-requires : goal.index-requires
 index-requires g c =
     let d = parts_of g.C.Chains.lists g.C.Chains.place c.args.self.now in
-    let front = front_is c.args.self.now.ready.items c.in_ok-slot.field-0.now (omega (arith, c.in_ok-slot.ensures.variant.0 refl, c.args.self.now.ready.ok)) c.in_ok-slot.ensures.lookup in
+    let front = front_is c.args.self.now.ready.items c.in_ok-slot.field-0.now (omega (arith, c.in_ok-slot.ensures.variant.0 refl, c.args.self.now.ready.ok))
+    c.in_ok-slot.ensures.lookup in
     let first = c.requires.sound.kept.ready_there 0 c.in_ok-slot.field-0.now (ap (λ (xs : List ℕ). slice_get xs 0) front.1) in
     let below = live_there c.args.self.now.live.items c.in_ok-slot.field-0.now first.0 first.2 in
     omega (arith, c.args.self.now.live.ok.0)
@@ -37,7 +38,8 @@ index-requires g c =
 pub recorded_row-requires : goal.recorded_row-requires
 recorded_row-requires g c =
     let d = parts_of g.C.Chains.lists g.C.Chains.place c.args.self.now in
-    let front = front_is c.args.self.now.ready.items c.in_ok-slot.field-0.now (omega (arith, c.in_ok-slot.ensures.variant.0 refl, c.args.self.now.ready.ok)) c.in_ok-slot.ensures.lookup in
+    let front = front_is c.args.self.now.ready.items c.in_ok-slot.field-0.now (omega (arith, c.in_ok-slot.ensures.variant.0 refl, c.args.self.now.ready.ok))
+    c.in_ok-slot.ensures.lookup in
     let first = c.requires.sound.kept.ready_there 0 c.in_ok-slot.field-0.now (ap (λ (xs : List ℕ). slice_get xs 0) front.1) in
     let read = read_place c.args.self.now.live.items c.in_ok-slot.field-0.now first.0 c.index.result.now first.2 c.index.ensures in
     subst (λ (o : Option Live). Has o (λ l. (row : ℕ) × (row_at l.stage ≡ Some row))) (sym read) (first.1, ap row_at first.3)
@@ -45,9 +47,11 @@ recorded_row-requires g c =
 pub returns : goal.returns
 returns g c =
     let d = parts_of g.C.Chains.lists g.C.Chains.place c.args.self.now in
-    let front = front_is c.args.self.now.ready.items c.in_ok-slot.field-0.now (omega (arith, c.in_ok-slot.ensures.variant.0 refl, c.args.self.now.ready.ok)) c.in_ok-slot.ensures.lookup in
+    let front = front_is c.args.self.now.ready.items c.in_ok-slot.field-0.now (omega (arith, c.in_ok-slot.ensures.variant.0 refl, c.args.self.now.ready.ok))
+    c.in_ok-slot.ensures.lookup in
     let first = c.requires.sound.kept.ready_there 0 c.in_ok-slot.field-0.now (ap (λ (xs : List ℕ). slice_get xs 0) front.1) in
     let read = read_place c.args.self.now.live.items c.in_ok-slot.field-0.now first.0 c.index.result.now first.2 c.index.ensures in
-    let row_is : row_at first.0.stage ≡ Some c.recorded_row.result = subst (λ (o : Option Live). Has o (λ l. row_at l.stage ≡ Some c.recorded_row.result)) read c.recorded_row.ensures in
+    let row_is : row_at first.0.stage ≡ Some c.recorded_row.result =
+    subst (λ (o : Option Live). Has o (λ l. row_at l.stage ≡ Some c.recorded_row.result)) read c.recorded_row.ensures in
     let can = starts_first d c.requires.sound.kept c.requires.idle c.in_ok-slot.field-0.now front.0 first.0 c.recorded_row.result front.1 first.2 row_is in
     (can, not_quiet d c.requires.sound.kept (movers.Ready c.recorded_row.result) can)

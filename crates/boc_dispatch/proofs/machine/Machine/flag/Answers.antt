@@ -28,20 +28,28 @@ flag_next-requires g c =
     (flag_next d c.requires.sound.kept c.args.slot l c.args.row c.args.request c.requires.due.1)
 
 pub overflow_add-self : goal.overflow_add-self
-overflow_add-self g c = omega (arith, steps_fit c.args.self.now.program.now (state (parts_of g.C.Chains.lists g.C.Chains.place c.args.self.now)) c.requires.sound.kept.sound)
+overflow_add-self g c = omega (
+  arith,
+  steps_fit c.args.self.now.program.now (state (parts_of g.C.Chains.lists g.C.Chains.place c.args.self.now))
+      c.requires.sound.kept.sound,
+)
 
 pub returns-clause-sound : goal.returns-clause-sound
 returns-clause-sound g c =
     let d = parts_of g.C.Chains.lists g.C.Chains.place c.args.self.now in
     let change : Live → Live = λ x. in_phase c.args.row (flagging x.cowns.items (suc c.args.request)) x in
-    let new_is = read_changed change d.live c.args.slot c.requires.due.0 c.index_mut.result.now c.flag_next.new.place c.requires.due.1.is c.index_mut.ensures.value c.flag_next.ensures in
+    let new_is = read_changed change d.live c.args.slot c.requires.due.0 c.index_mut.result.now c.flag_next.new.place c.requires.due.1.is
+    c.index_mut.ensures.value c.flag_next.ensures in
     let homes = vec_capacity c.args.self.now.homes in
     let ready = deque_capacity c.args.self.now.ready in
     record {
       kept = subst (λ (o : Option Live). IsKept (placed d (g.C.Chains.lists c.flag.new.self) (g.C.Chains.place c.flag.new.self) c.args.slot o)) new_is
-          (flag_keeps d c.requires.sound.kept c.args.slot c.requires.due.0 c.args.row c.args.request c.requires.due.1 (g.C.Chains.lists c.flag.new.self) (g.C.Chains.place c.flag.new.self) c.flag.ensures.lists c.flag.ensures.places);
-      rooms = subst (λ (o : Option Live). HasRooms (placed d (g.C.Chains.lists c.flag.new.self) (g.C.Chains.place c.flag.new.self) c.args.slot o) homes ready) new_is
-          (flag_rooms d c.requires.sound.kept c.args.slot c.requires.due.0 c.args.row c.args.request c.requires.due.1 (g.C.Chains.lists c.flag.new.self) (g.C.Chains.place c.flag.new.self) c.flag.ensures.lists c.flag.ensures.places homes ready c.requires.sound.rooms);
+          (flag_keeps d c.requires.sound.kept c.args.slot c.requires.due.0 c.args.row c.args.request c.requires.due.1 (g.C.Chains.lists c.flag.new.self)
+          (g.C.Chains.place c.flag.new.self) c.flag.ensures.lists c.flag.ensures.places);
+      rooms = subst (λ (o : Option Live). HasRooms (placed d (g.C.Chains.lists c.flag.new.self) (g.C.Chains.place c.flag.new.self) c.args.slot o) homes ready)
+          new_is
+          (flag_rooms d c.requires.sound.kept c.args.slot c.requires.due.0 c.args.row c.args.request c.requires.due.1 (g.C.Chains.lists c.flag.new.self)
+          (g.C.Chains.place c.flag.new.self) c.flag.ensures.lists c.flag.ensures.places homes ready c.requires.sound.rooms);
     }
 
 pub returns-clause-flags : goal.returns-clause-flags

@@ -12,5 +12,6 @@ grant_one-requires g c =
     let r = c.requires in
     let there = read_there live c.args.slot r.this r.is in
     record {
-      awaits = subst (λ (o : Option Live). Has o (λ l. 0 < l.awaited)) (sym (c.index_mut.ensures.value ∙ get_or_default live c.args.slot c.index_mut.result.now None there ∙ r.is)) r.awaits;
+      awaits = subst (λ (o : Option Live). Has o (λ l. 0 < l.awaited))
+          (sym (c.index_mut.ensures.value ∙ get_or_default live c.args.slot c.index_mut.result.now None there ∙ r.is)) r.awaits;
     }

@@ -20,7 +20,8 @@ returns-in_err-leaving-in-Some g c =
     let d = parts_of g.C.Chains.lists g.C.Chains.place c.args.self.now in
     let x = c.in_ok-slot.ensures in
     let same = read_some c.args.self.now.live.items c.in_ok-slot.slot x.this c.in-Some.live c.index.result.now x.is c.index.ensures c.in-Some.is in
-    subst (λ (o : Option (ℕ × ℕ)). MatchOption o (IsLeaving (state d) c.args.row → ⊥) (λ found. IsFoundLeaving d c.args.row found.0 found.1)) (sym c.from_residual-in_err-leaving-in-Some.ensures)
+    subst (λ (o : Option (ℕ × ℕ)). MatchOption o (IsLeaving (state d) c.args.row → ⊥) (λ found. IsFoundLeaving d c.args.row found.0 found.1))
+    (sym c.from_residual-in_err-leaving-in-Some.ensures)
     (λ q.
     (let s = leaving_slot d c.requires.kept c.args.row q in
     let stage = ap (λ (l : Live). l.stage) (same ∙ one_behaviour d c.requires.kept c.in_ok-slot.slot s.0 c.args.row x s.1) ∙ s.2 in
@@ -30,5 +31,11 @@ returns-in_err-leaving-in-Some g c =
 pub returns-in_ok-leaving-in-Some : goal.returns-in_ok-leaving-in-Some
 returns-in_ok-leaving-in-Some g c =
     let x = c.in_ok-slot.ensures in
-    let same = read_some c.args.self.now.live.items c.in_ok-slot.slot x.this c.in-Some.live c.index.result.now x.is c.index.ensures c.in-Some.is in
-    (x.this, record { is = x.is; stage_is = ap (λ (l : Live). l.stage) (sym same) ∙ (c.leaving.ensures c.in_ok-leaving-in-Some.field-0).0 c.in_ok-leaving-in-Some.was })
+    let same = read_some c.args.self.now.live.items c.in_ok-slot.slot x.this c.in-Some.live c.index.result.now x.is c.index.ensures c.in-Some.is in (
+      x.this,
+      record {
+        is = x.is;
+        stage_is = ap (λ (l : Live). l.stage) (sym same)
+            ∙ (c.leaving.ensures c.in_ok-leaving-in-Some.field-0).0 c.in_ok-leaving-in-Some.was;
+      },
+    )

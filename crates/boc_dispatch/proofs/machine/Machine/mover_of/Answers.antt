@@ -27,7 +27,8 @@ pub returns-then-not-can_settle : goal.returns-then-not-can_settle
 returns-then-not-can_settle g c =
     let d = parts_of g.C.Chains.lists g.C.Chains.place c.args.self.now in
     waits_to_settle d c.requires.sound.kept c.args.slot c.args.live.now c.requires.is c.in-Asking.request
-    (sym c.stage.ensures ∙ c.in-Asking.is ∙ ap (Asking c.in-Asking.request) c.if-exchanged.true) c.can_settle.result c.can_settle.ensures.blocked c.if-not-can_settle.true
+    (sym c.stage.ensures ∙ c.in-Asking.is ∙ ap (Asking c.in-Asking.request) c.if-exchanged.true) c.can_settle.result c.can_settle.ensures.blocked
+    c.if-not-can_settle.true
 
 pub returns-else-exchanged : goal.returns-else-exchanged
 returns-else-exchanged g c =
@@ -35,7 +36,8 @@ returns-else-exchanged g c =
     elim c.else-exchanged.branch [
       | else-exchanged-via-then-exchanged+else-not-can_settle w ↦
           settles_next d c.requires.sound.kept c.args.slot c.args.live.now c.requires.is c.in-Asking.request
-          (sym c.stage.ensures ∙ c.in-Asking.is ∙ ap (Asking c.in-Asking.request) w.if-exchanged.true) w.can_settle.result w.can_settle.ensures.blocked w.if-not-can_settle.false
+          (sym c.stage.ensures ∙ c.in-Asking.is ∙ ap (Asking c.in-Asking.request) w.if-exchanged.true) w.can_settle.result w.can_settle.ensures.blocked
+          w.if-not-can_settle.false
       | else-exchanged-via-else-exchanged w ↦
           swaps d c.requires.sound.kept c.args.slot c.args.live.now c.requires.is c.in-Asking.request
           (sym c.stage.ensures ∙ c.in-Asking.is ∙ ap (Asking c.in-Asking.request) w.if-exchanged.false)
@@ -69,19 +71,25 @@ pub returns-then-is_none : goal.returns-then-is_none
 returns-then-is_none g c =
     let d = parts_of g.C.Chains.lists g.C.Chains.place c.args.self.now in
     goes_on d c.requires.sound.kept c.args.slot c.args.live.now c.requires.is c.in-Recorded.row
-    (sym c.stage.ensures ∙ c.in-Recorded.is ∙ ap (Recorded c.in-Recorded.row) c.in-Running.is) (none_there c.args.live.now.child (c.is_none.ensures ∙ ap not c.if-is_none.true))
+    (sym c.stage.ensures ∙ c.in-Recorded.is ∙ ap (Recorded c.in-Recorded.row) c.in-Running.is)
+    (none_there c.args.live.now.child (c.is_none.ensures ∙ ap not c.if-is_none.true))
 
 pub returns-else-is_none : goal.returns-else-is_none
 returns-else-is_none g c =
     let d = parts_of g.C.Chains.lists g.C.Chains.place c.args.self.now in
     waits_for_child d c.requires.sound.kept c.args.slot c.args.live.now c.requires.is c.in-Recorded.row
-    (sym c.stage.ensures ∙ c.in-Recorded.is ∙ ap (Recorded c.in-Recorded.row) c.in-Running.is) (λ e. let f : false ≡ true = sym (ap is_some e) ∙ c.is_none.ensures ∙ ap not c.if-is_none.false in cc)
+    (sym c.stage.ensures ∙ c.in-Recorded.is ∙ ap (Recorded c.in-Recorded.row) c.in-Running.is)
+    (λ e. let f : false ≡ true = sym (ap is_some e) ∙ c.is_none.ensures ∙ ap not c.if-is_none.false in cc)
 
 pub can_leave-requires : goal.can_leave-requires
 can_leave-requires g c =
     let d = parts_of g.C.Chains.lists g.C.Chains.place c.args.self.now in
     let f : Front d c.args.slot c.in-Recorded.row c.in-Leaving.request c.args.live.now =
-    record { kept = c.requires.sound.kept; is = c.requires.is; stage_is = sym c.stage.ensures ∙ c.in-Recorded.is ∙ ap (Recorded c.in-Recorded.row) c.in-Leaving.is } in
+    record {
+      kept = c.requires.sound.kept;
+      is = c.requires.is;
+      stage_is = sym c.stage.ensures ∙ c.in-Recorded.is ∙ ap (Recorded c.in-Recorded.row) c.in-Leaving.is;
+    } in
     record {
       there = low_place d c.args.slot c.in-Recorded.row c.in-Leaving.request c.args.live.now f;
       granted = may_leave d c.args.slot c.in-Recorded.row c.in-Leaving.request c.args.live.now f;
@@ -91,10 +99,12 @@ pub returns-then-can_leave : goal.returns-then-can_leave
 returns-then-can_leave g c =
     let d = parts_of g.C.Chains.lists g.C.Chains.place c.args.self.now in
     leaves_next d c.requires.sound.kept c.args.slot c.args.live.now c.requires.is c.in-Recorded.row c.in-Leaving.request
-    (sym c.stage.ensures ∙ c.in-Recorded.is ∙ ap (Recorded c.in-Recorded.row) c.in-Leaving.is) c.can_leave.result c.can_leave.ensures.blocked c.if-can_leave.true
+    (sym c.stage.ensures ∙ c.in-Recorded.is ∙ ap (Recorded c.in-Recorded.row) c.in-Leaving.is) c.can_leave.result c.can_leave.ensures.blocked
+    c.if-can_leave.true
 
 pub returns-else-can_leave : goal.returns-else-can_leave
 returns-else-can_leave g c =
     let d = parts_of g.C.Chains.lists g.C.Chains.place c.args.self.now in
     waits_to_leave d c.requires.sound.kept c.args.slot c.args.live.now c.requires.is c.in-Recorded.row c.in-Leaving.request
-    (sym c.stage.ensures ∙ c.in-Recorded.is ∙ ap (Recorded c.in-Recorded.row) c.in-Leaving.is) c.can_leave.result c.can_leave.ensures.blocked c.if-can_leave.false
+    (sym c.stage.ensures ∙ c.in-Recorded.is ∙ ap (Recorded c.in-Recorded.row) c.in-Leaving.is) c.can_leave.result c.can_leave.ensures.blocked
+    c.if-can_leave.false

@@ -26,9 +26,15 @@ returns-in-Some g c =
     let made : f.made ≡ runs.0.spawned + 1 = sym c.wishes.ensures.value ∙ next.1 ∙ ap (λ (l : Live). l.spawned + 1) same in
     let few = subst (λ (n : ℕ). n ≤ length (wishes_of f)) c.wishes.ensures.value c.wishes.ensures.few in
     elim c.last_wish.result as (λ (o : Option (Bor SpawnWish)). option_map wish_of (option_copied o) ≡ last_wish_of f
-    → MatchOption o (IsNextWish (underway d) c.args.row f.made → ⊥) (λ wish. IsNextWish (underway d) c.args.row f.made × HasInHand d c.args.slot None × (Some (wish_of wish.now) ≡ last_wish_of f))) [
+    → MatchOption o (IsNextWish (underway d) c.args.row f.made → ⊥)
+    (λ wish. IsNextWish (underway d) c.args.row f.made × HasInHand d c.args.slot None × (Some (wish_of wish.now) ≡ last_wish_of f))) [
       | None ↦ λ e. absurd (last_there f runs.0.spawned made few (sym e))
-      | Some wish ↦ λ e. (has_next_wish d c.requires.sound.kept c.args.slot c.args.row f.made x none made, record { this = runs.0; is = runs.1.is; child_is = none }, e)
+      | Some wish ↦ λ e. (
+        has_next_wish d c.requires.sound.kept c.args.slot c.args.row f.made x none made,
+        record
+            { this = runs.0; is = runs.1.is; child_is = none },
+        e,
+      )
     ] c.last_wish.ensures
 
 pub returns-in_default : goal.returns-in_default
@@ -41,7 +47,11 @@ returns-in_default g c =
       | in_default-via-in-Some+else-opens_next w ↦ λ n.
           (let means = next_wish_means d c.requires.sound.kept c.args.slot c.args.row c.args.frame.now.made x n in
           let same = read_some c.args.self.now.live.items c.args.slot runs.0 w.in-Some.live c.index.result.now runs.1.is c.index.ensures w.in-Some.is in
-          let yes = w.opens_next.ensures.1 (ap (λ (l : Live). l.child) same ∙ means.0, w.wishes.ensures.value ∙ means.1 ∙ ap (λ (l : Live). l.spawned + 1) (sym same)) in
+          let yes = w.opens_next.ensures.1 (
+            ap (λ (l : Live). l.child) same ∙ means.0,
+            w.wishes.ensures.value ∙ means.1
+                ∙ ap (λ (l : Live). l.spawned + 1) (sym same),
+          ) in
           absurd (let e : false ≡ true = sym w.if-opens_next.false ∙ yes in cc))
       | in_default-via-in_default w ↦ λ n. absurd (let e : None ≡ Some runs.0 = sym w.in_default.is ∙ read in cc)
     ]

@@ -71,7 +71,8 @@ made g c = record {
 }
 
 -- its parts are those of a program whose main is opened
-made_is : (g : Over) (c : After-put g) → made g c ≡ opened_parts c.args.program.now (place g c) c.reach.new.live.items c.in_ok-slot.slot.index c.main_behaviour.result (main g c) (free g c) c.in_ok-reach.ensures.long (here g c) (others g c)
+made_is : (g : Over) (c : After-put g) → made g c ≡ opened_parts c.args.program.now (place g c) c.reach.new.live.items c.in_ok-slot.slot.index
+    c.main_behaviour.result (main g c) (free g c) c.in_ok-reach.ensures.long (here g c) (others g c)
 made_is g c =
     let cowns = c.args.program.now.cowns in
     let slot : ℕ = c.in_ok-slot.slot.index in
@@ -109,11 +110,15 @@ returns-clause-sound g c =
     let wide : length table ≤ ready = omega (arith, c.reach.new.live.ok.0) in
     let few : length table ≤ 2 ^ 32 = omega (arith, c.in_ok-reach.ensures.no_longer, ap length (nothing g s)) in
     record {
-      kept = subst IsKept (sym (made_is g s)) (opened_keeps c.args.program.now (place g s) table c.in_ok-slot.slot.index c.main_behaviour.result (main g s) (free g s) c.in_ok-reach.ensures.long (here g s) (others g s));
-      rooms = subst (λ (x : Parts). HasRooms x homes ready) (sym (made_is g s)) (opened_rooms c.args.program.now (place g s) table c.in_ok-slot.slot.index c.main_behaviour.result (main g s) (free g s) c.in_ok-reach.ensures.long (here g s) (others g s) homes ready one wide few);
+      kept = subst IsKept (sym (made_is g s)) (opened_keeps c.args.program.now (place g s) table c.in_ok-slot.slot.index c.main_behaviour.result (main g s)
+          (free g s) c.in_ok-reach.ensures.long (here g s) (others g s));
+      rooms = subst (λ (x : Parts). HasRooms x homes ready) (sym (made_is g s))
+          (opened_rooms c.args.program.now (place g s) table c.in_ok-slot.slot.index c.main_behaviour.result (main g s) (free g s) c.in_ok-reach.ensures.long
+          (here g s) (others g s) homes ready one wide few);
     }
 
 pub returns-clause-opening : goal.returns-clause-opening
 returns-clause-opening g c =
     let s = (goal.at.returns-clause-opening g c).After-put in
-    ap state (made_is g s) ∙ opened_state c.args.program.now (place g s) c.reach.new.live.items c.in_ok-slot.slot.index c.main_behaviour.result (main g s) (free g s) c.in_ok-reach.ensures.long (here g s) (others g s)
+    ap state (made_is g s) ∙ opened_state c.args.program.now (place g s) c.reach.new.live.items c.in_ok-slot.slot.index c.main_behaviour.result (main g s)
+    (free g s) c.in_ok-reach.ensures.long (here g s) (others g s)

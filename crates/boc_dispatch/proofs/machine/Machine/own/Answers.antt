@@ -15,25 +15,31 @@ use Rattle.boc_dispatch.proofs.machine.Machine.own.Goals as goal
 pub end_child-requires : goal.end_child-requires
 end_child-requires g c =
     let held = c.requires.held in
-    subst (λ (o : Option Live). Has o (λ l. Unit {0})) (sym (read_place c.args.self.now.live.items c.args.parent held.this c.index_mut.result.now held.is c.index_mut.ensures.value)) tt
+    subst (λ (o : Option Live). Has o (λ l. Unit {0})) (sym
+    (read_place c.args.self.now.live.items c.args.parent held.this c.index_mut.result.now held.is c.index_mut.ensures.value)) tt
 
 pub wait-requires : goal.wait-requires
 wait-requires g c =
     let d = parts_of g.C.Chains.lists g.C.Chains.place c.args.self.now in
     let r = c.requires in
-    let o : Owning d c.args.parent c.args.slot c.args.row r.held.this r.due.0 = record { kept = r.sound.kept; is = r.due.1.is; stage_is = r.due.1.stage_is; holder_is = r.held.is; holds = r.held.child_is } in
+    let o : Owning d c.args.parent c.args.slot c.args.row r.held.this r.due.0 =
+    record { kept = r.sound.kept; is = r.due.1.is; stage_is = r.due.1.stage_is; holder_is = r.held.is; holds = r.held.child_is } in
     subst (λ (z : Option Live). Has z (λ l. Unit {0}))
-    (sym (own_place d c.args.parent c.args.slot c.args.row r.held.this r.due.0 c.index_mut.result.now c.end_child.new.place c.index_mut-2.result.now o c.index_mut.ensures.value c.end_child.ensures c.index_mut-2.ensures.value)) tt
+    (sym (own_place d c.args.parent c.args.slot c.args.row r.held.this r.due.0 c.index_mut.result.now c.end_child.new.place c.index_mut-2.result.now o
+    c.index_mut.ensures.value c.end_child.ensures c.index_mut-2.ensures.value)) tt
 
 pub grant-requires : goal.grant-requires
 grant-requires g c =
     let d = parts_of g.C.Chains.lists g.C.Chains.place c.args.self.now in
     let r = c.requires in
-    let o : Owning d c.args.parent c.args.slot c.args.row r.held.this r.due.0 = record { kept = r.sound.kept; is = r.due.1.is; stage_is = r.due.1.stage_is; holder_is = r.held.is; holds = r.held.child_is } in
-    let e = own_parts d c.args.parent c.args.slot c.args.row r.held.this r.due.0 c.index_mut.result.now c.end_child.new.place c.index_mut-2.result.now c.wait.new.place o
+    let o : Owning d c.args.parent c.args.slot c.args.row r.held.this r.due.0 =
+    record { kept = r.sound.kept; is = r.due.1.is; stage_is = r.due.1.stage_is; holder_is = r.held.is; holds = r.held.child_is } in
+    let e = own_parts d c.args.parent c.args.slot c.args.row r.held.this r.due.0 c.index_mut.result.now c.end_child.new.place c.index_mut-2.result.now
+    c.wait.new.place o
     (record { reads = c.index_mut.ensures.value; frees = c.end_child.ensures; reads_own = c.index_mut-2.ensures.value; waits = c.wait.ensures }) in
     let room = deque_capacity c.args.self.now.ready in
-    subst (λ (z : Parts). MayBeGranted z c.args.slot room) (sym e) (own_may d c.args.parent c.args.slot c.args.row r.held.this r.due.0 o room r.sound.rooms.ready)
+    subst (λ (z : Parts). MayBeGranted z c.args.slot room) (sym e)
+    (own_may d c.args.parent c.args.slot c.args.row r.held.this r.due.0 o room r.sound.rooms.ready)
 
 pub overflow_add-self : goal.overflow_add-self
 overflow_add-self g c =
@@ -47,14 +53,17 @@ pub returns-clause-sound : goal.returns-clause-sound
 returns-clause-sound g c =
     let d = parts_of g.C.Chains.lists g.C.Chains.place c.args.self.now in
     let r = c.requires in
-    let o : Owning d c.args.parent c.args.slot c.args.row r.held.this r.due.0 = record { kept = r.sound.kept; is = r.due.1.is; stage_is = r.due.1.stage_is; holder_is = r.held.is; holds = r.held.child_is } in
-    let e = own_parts d c.args.parent c.args.slot c.args.row r.held.this r.due.0 c.index_mut.result.now c.end_child.new.place c.index_mut-2.result.now c.wait.new.place o
+    let o : Owning d c.args.parent c.args.slot c.args.row r.held.this r.due.0 =
+    record { kept = r.sound.kept; is = r.due.1.is; stage_is = r.due.1.stage_is; holder_is = r.held.is; holds = r.held.child_is } in
+    let e = own_parts d c.args.parent c.args.slot c.args.row r.held.this r.due.0 c.index_mut.result.now c.end_child.new.place c.index_mut-2.result.now
+    c.wait.new.place o
     (record { reads = c.index_mut.ensures.value; frees = c.end_child.ensures; reads_own = c.index_mut-2.ensures.value; waits = c.wait.ensures }) in
     let f = ap stepped_on (c.grant.ensures.granted ∙ ap (with_granted c.args.slot) e) in
     let homes = vec_capacity c.args.self.now.homes in
     let room = deque_capacity c.args.self.now.ready in
     let kept = own_kept d c.args.parent c.args.slot c.args.row r.held.this r.due.0 o in
-    let rooms = subst (λ (z : Parts). HasRooms z homes room) (sym f) (own_rooms d c.args.parent c.args.slot c.args.row r.held.this r.due.0 o homes room r.sound.rooms) in
+    let rooms = subst (λ (z : Parts). HasRooms z homes room) (sym f)
+    (own_rooms d c.args.parent c.args.slot c.args.row r.held.this r.due.0 o homes room r.sound.rooms) in
     record {
       kept = subst IsKept (sym f) kept;
       rooms = record {
@@ -69,8 +78,10 @@ pub returns-clause-owns : goal.returns-clause-owns
 returns-clause-owns g c l at_stage =
     let d = parts_of g.C.Chains.lists g.C.Chains.place c.args.self.now in
     let r = c.requires in
-    let o : Owning d c.args.parent c.args.slot c.args.row r.held.this l = record { kept = r.sound.kept; is = at_stage.is; stage_is = at_stage.stage_is; holder_is = r.held.is; holds = r.held.child_is } in
-    let e = own_parts d c.args.parent c.args.slot c.args.row r.held.this l c.index_mut.result.now c.end_child.new.place c.index_mut-2.result.now c.wait.new.place o
+    let o : Owning d c.args.parent c.args.slot c.args.row r.held.this l =
+    record { kept = r.sound.kept; is = at_stage.is; stage_is = at_stage.stage_is; holder_is = r.held.is; holds = r.held.child_is } in
+    let e = own_parts d c.args.parent c.args.slot c.args.row r.held.this l c.index_mut.result.now c.end_child.new.place c.index_mut-2.result.now
+    c.wait.new.place o
     (record { reads = c.index_mut.ensures.value; frees = c.end_child.ensures; reads_own = c.index_mut-2.ensures.value; waits = c.wait.ensures }) in
     let f = ap stepped_on (c.grant.ensures.granted ∙ ap (with_granted c.args.slot) e) in
     subst (λ (z : Parts). GoesOn (λ s t. Owns s l.number t) d z) (sym f) (own_goes d c.args.parent c.args.slot c.args.row r.held.this l o)

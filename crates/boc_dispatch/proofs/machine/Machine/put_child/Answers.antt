@@ -21,10 +21,13 @@ returns-clause-puts g c this is =
     let parent = c.args.parent in
     let table = c.put.new.live.items in
     let is_set : table ≡ set d.live slot (Some c.args.child) = c.put.ensures in
-    let there : live_at table parent ≡ Some this = ap (λ t. live_at t parent) is_set ∙ live_other d.live slot (Some c.args.child) parent c.requires.apart ∙ is in
-    let new_is = read_changed (with_child (Some slot)) table parent this c.index_mut.result.now c.begin_child.new.place there c.index_mut.ensures.value c.begin_child.ensures in
+    let there : live_at table parent ≡ Some this = ap (λ t. live_at t parent) is_set ∙ live_other d.live slot (Some c.args.child) parent c.requires.apart
+    ∙ is in
+    let new_is = read_changed (with_child (Some slot)) table parent this c.index_mut.result.now c.begin_child.new.place there c.index_mut.ensures.value
+    c.begin_child.ensures in
     let held = Some (with_child (Some slot) this) in
-    let settled : c.is_empty-is_settled.result ≡ eqb (length c.args.child.cowns.items) 0 = c.is_empty-is_settled.ensures ∙ ap (λ cs. eqb (length cs) 0) c.as_slice.ensures.value in
+    let settled : c.is_empty-is_settled.result ≡ eqb (length c.args.child.cowns.items) 0 =
+    c.is_empty-is_settled.ensures ∙ ap (λ cs. eqb (length cs) 0) c.as_slice.ensures.value in
     record {
       asks = λ some. subst (λ (t : List (Option Live)). e ≡ with_both d parent t held) is_set
           (subst (λ (o : Option Live). e ≡ with_both d parent table o) (sym new_is)

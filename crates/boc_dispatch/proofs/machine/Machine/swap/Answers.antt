@@ -27,19 +27,27 @@ ask-requires g c =
     (swap_next d c.requires.sound.kept c.args.slot c.requires.due.0 c.args.request c.requires.due.1)
 
 pub overflow_add-self : goal.overflow_add-self
-overflow_add-self g c = omega (arith, steps_fit c.args.self.now.program.now (state (parts_of g.C.Chains.lists g.C.Chains.place c.args.self.now)) c.requires.sound.kept.sound)
+overflow_add-self g c = omega (
+  arith,
+  steps_fit c.args.self.now.program.now (state (parts_of g.C.Chains.lists g.C.Chains.place c.args.self.now))
+      c.requires.sound.kept.sound,
+)
 
 pub returns-clause-sound : goal.returns-clause-sound
 returns-clause-sound g c =
     let d = parts_of g.C.Chains.lists g.C.Chains.place c.args.self.now in
-    let new_is = read_changed (exchanged c.args.request) d.live c.args.slot c.requires.due.0 c.index_mut.result.now c.ask.new.place c.requires.due.1.is c.index_mut.ensures.value c.ask.ensures in
+    let new_is = read_changed (exchanged c.args.request) d.live c.args.slot c.requires.due.0 c.index_mut.result.now c.ask.new.place c.requires.due.1.is
+    c.index_mut.ensures.value c.ask.ensures in
     let homes = vec_capacity c.args.self.now.homes in
     let ready = deque_capacity c.args.self.now.ready in
     record {
       kept = subst (λ (o : Option Live). IsKept (placed d (g.C.Chains.lists c.swap.new.self) (g.C.Chains.place c.swap.new.self) c.args.slot o)) new_is
-          (swap_keeps d c.requires.sound.kept c.args.slot c.requires.due.0 c.args.request c.requires.due.1 (g.C.Chains.lists c.swap.new.self) (g.C.Chains.place c.swap.new.self) c.swap.ensures.lists c.swap.ensures.place c.swap.ensures.other_places);
-      rooms = subst (λ (o : Option Live). HasRooms (placed d (g.C.Chains.lists c.swap.new.self) (g.C.Chains.place c.swap.new.self) c.args.slot o) homes ready) new_is
-          (swap_rooms d c.requires.sound.kept c.args.slot c.requires.due.0 c.args.request c.requires.due.1 (g.C.Chains.lists c.swap.new.self) (g.C.Chains.place c.swap.new.self) c.swap.ensures.lists c.swap.ensures.place c.swap.ensures.other_places homes ready c.requires.sound.rooms);
+          (swap_keeps d c.requires.sound.kept c.args.slot c.requires.due.0 c.args.request c.requires.due.1 (g.C.Chains.lists c.swap.new.self)
+          (g.C.Chains.place c.swap.new.self) c.swap.ensures.lists c.swap.ensures.place c.swap.ensures.other_places);
+      rooms = subst (λ (o : Option Live). HasRooms (placed d (g.C.Chains.lists c.swap.new.self) (g.C.Chains.place c.swap.new.self) c.args.slot o) homes ready)
+          new_is
+          (swap_rooms d c.requires.sound.kept c.args.slot c.requires.due.0 c.args.request c.requires.due.1 (g.C.Chains.lists c.swap.new.self)
+          (g.C.Chains.place c.swap.new.self) c.swap.ensures.lists c.swap.ensures.place c.swap.ensures.other_places homes ready c.requires.sound.rooms);
     }
 
 pub returns-clause-swaps : goal.returns-clause-swaps
@@ -47,8 +55,10 @@ returns-clause-swaps g c l it =
     let d = parts_of g.C.Chains.lists g.C.Chains.place c.args.self.now in
     let lists = g.C.Chains.lists c.swap.new.self in
     let place = g.C.Chains.place c.swap.new.self in
-    let new_is = read_changed (exchanged c.args.request) d.live c.args.slot l c.index_mut.result.now c.ask.new.place it.is c.index_mut.ensures.value c.ask.ensures in (
+    let new_is = read_changed (exchanged c.args.request) d.live c.args.slot l c.index_mut.result.now c.ask.new.place it.is c.index_mut.ensures.value
+    c.ask.ensures in (
       subst (λ (o : Option Live). Swaps (state d) l.number c.args.request (state (placed d lists place c.args.slot o))) new_is
-          (swap_steps d c.requires.sound.kept c.args.slot l c.args.request it lists place c.swap.ensures.lists c.swap.ensures.place c.swap.ensures.other_places),
+          (swap_steps d c.requires.sound.kept c.args.slot l c.args.request it lists place c.swap.ensures.lists c.swap.ensures.place
+          c.swap.ensures.other_places),
       refl,
     )

@@ -8,7 +8,13 @@ returns-in-len1-up-clause-next c = let p = c.push.ensures in next-push c.args.se
 
 pub returns-in-len1-up-clause-room : goal.returns-in-len1-up-clause-room
 returns-in-len1-up-clause-room c =
-    omega (arith, ap length c.push.ensures.stack, length-append c.args.self.now.stack.items (Block c.args.rest ∷ []), nodes-code_of c.args.rest.now c.in-len1-up.len_at_least)
+    omega (
+      arith,
+      ap length c.push.ensures.stack,
+      length-append c.args.self.now.stack.items (Block c.args.rest ∷ []),
+      nodes-code_of c.args.rest.now
+          c.in-len1-up.len_at_least,
+    )
 
 pub returns-in-len1-up-clause-effort : goal.returns-in-len1-up-clause-effort
 returns-in-len1-up-clause-effort c =

@@ -17,14 +17,17 @@ holds : (c : goal.In_ok-push) → Adds c.args.self.now (after c) (added c)
 unfolding after added
 holds c =
     let old : Rows = c.args.self.now in
-    let n : length c.push_each.new.list.items ≡ length old.args.items + length c.args.args.now = ap length c.in_ok-push_each.ensures ∙ length-append old.args.items c.args.args.now in
-    let m : length c.push_each-2.new.list.items ≡ length old.cowns.items + length c.args.cowns.now = ap length c.in_ok-push_each-2.ensures ∙ length-append old.cowns.items c.args.cowns.now in
+    let n : length c.push_each.new.list.items ≡ length old.args.items + length c.args.args.now =
+    ap length c.in_ok-push_each.ensures ∙ length-append old.args.items c.args.args.now in
+    let m : length c.push_each-2.new.list.items ≡ length old.cowns.items + length c.args.cowns.now =
+    ap length c.in_ok-push_each-2.ensures ∙ length-append old.cowns.items c.args.cowns.now in
     let r : Row = record {
       kind = c.args.kind;
       args = record { from = c.len-args_from.result; to = c.len.result };
       cowns = record { from = c.len-cowns_from.result; to = c.len-2.result };
     } in
-    adds old (after c) r (added c) c.requires.sound c.requires.few c.requires.few_args c.requires.few_cowns c.in_ok-push_each.ensures c.in_ok-push_each-2.ensures c.in_ok-push.ensures.items refl (search rules) (search rules) (search rules) (search rules)
+    adds old (after c) r (added c) c.requires.sound c.requires.few c.requires.few_args c.requires.few_cowns c.in_ok-push_each.ensures
+    c.in_ok-push_each-2.ensures c.in_ok-push.ensures.items refl (search rules) (search rules) (search rules) (search rules)
 
 pub returns-clause-sound : goal.returns-clause-sound
 unfolding after added

@@ -16,23 +16,39 @@ use Rattle.boc_greedy.proofs.Waking.{ended, woken, follower_there}
 use Rattle.boc_greedy.proofs.frontier.Frontier.end.Goals as goal
 
 -- the next follower is there, and its count is not 0
-next_there : (rows : List Row) (old now : Frontier) (row n : ℕ) (items : List ℕ) → IsFrontierBut rows (drop n items) now → now.stages.items ≡ slice_set old.stages.items row Over →
+next_there : (rows : List Row) (old now : Frontier) (row n : ℕ) (items : List ℕ) → IsFrontierBut rows (drop n items) now
+    → now.stages.items ≡ slice_set old.stages.items row Over →
     now.followers.now ≡ old.followers.now → IsAt old.stages.items row UnderWay → items ≡ links_of old.followers.now row → n < length items →
-    (slice_index items n < length now.stages.items) × (length now.unmet.items ≡ length now.stages.items) × (0 < slice_index now.unmet.items (slice_index items n))
-next_there rows old now row n items (waits, is) stages followers was of_row h = (there, is.are_counted.whole, omega (arith, (rw (drop_more items n 0 h) at is.are_counted.count) (slice_index items n) there, times-first (slice_index items n) (drop (n + 1) items)))
+    (slice_index items n < length now.stages.items) × (length now.unmet.items ≡ length now.stages.items)
+    × (0 < slice_index now.unmet.items (slice_index items n))
+next_there rows old now row n items (waits, is) stages followers was of_row h = (
+  there,
+  is.are_counted.whole,
+  omega (
+    arith,
+    (rw (drop_more items n 0 h) at is.are_counted.count) (slice_index items n) there,
+    times-first
+        (slice_index items n) (drop (n + 1) items),
+  ),
+)
   where
     row_there : row < length now.stages.items
     row_there = omega (arith, slice_get_within old.stages.items row UnderWay was, ap length stages, length-set old.stages.items row Over)
 
     there : slice_index items n < length now.stages.items
-    there = follower_there rows waits now.followers.now now.stages.items now.unmet.items now.ready _ row _ is row_there (rw (followers, sym of_row) (Contains-get_or items n 0 h))
+    there = follower_there rows waits now.followers.now now.stages.items now.unmet.items now.ready _ row _ is row_there
+        (rw (followers, sym of_row) (Contains-get_or items n 0 h))
 
 pub loop-follower-init : goal.loop-follower-init
 loop-follower-init c =
     let f = c.args.self.now in
     let (waits, is) = c.requires.frontier in
     record {
-      kept = rw c.of-follower-items.ensures (waits, ended c.args.rows.now waits f.followers.now f.stages.items f.unmet.items f.ready c.args.row is c.requires.under_way);
+      kept = rw c.of-follower-items.ensures (
+        waits,
+        ended c.args.rows.now waits f.followers.now f.stages.items f.unmet.items f.ready c.args.row is
+            c.requires.under_way,
+      );
       stages = refl;
       followers = refl;
     }
@@ -40,19 +56,27 @@ loop-follower-init c =
 pub index_mut-requires-in-loop-follower : goal.index_mut-requires-in-loop-follower
 index_mut-requires-in-loop-follower c =
     let i = c.loop-follower.invariant in
-    let t = next_there _ c.args.self.now c.loop-follower.self c.args.row c.loop-follower.follower-index _ i.kept i.stages i.followers c.requires.under_way c.of-follower-items.ensures c.loop-follower-test.true in
+    let t = next_there _ c.args.self.now c.loop-follower.self c.args.row c.loop-follower.follower-index _ i.kept i.stages i.followers c.requires.under_way
+    c.of-follower-items.ensures c.loop-follower-test.true in
     omega (arith, t.0, t.1, c.loop-follower.self.unmet.ok.0)
 
 pub overflow_sub-index_mut : goal.overflow_sub-index_mut
 overflow_sub-index_mut c =
     let i = c.loop-follower.invariant in
-    let t = next_there _ c.args.self.now c.loop-follower.self c.args.row c.loop-follower.follower-index _ i.kept i.stages i.followers c.requires.under_way c.of-follower-items.ensures c.loop-follower-test.true in
-    omega (arith, t.2, read_at c.loop-follower.self.unmet.items _ c.index_mut-in-loop-follower.result.now (omega (arith, t.0, t.1)) c.index_mut-in-loop-follower.ensures.value)
+    let t = next_there _ c.args.self.now c.loop-follower.self c.args.row c.loop-follower.follower-index _ i.kept i.stages i.followers c.requires.under_way
+    c.of-follower-items.ensures c.loop-follower-test.true in
+    omega (
+      arith,
+      t.2,
+      read_at c.loop-follower.self.unmet.items _ c.index_mut-in-loop-follower.result.now (omega (arith, t.0, t.1))
+          c.index_mut-in-loop-follower.ensures.value,
+    )
 
 pub wake-requires-clause-there : goal.wake-requires-clause-there
 wake-requires-clause-there c =
     let i = c.loop-follower.invariant in
-    (next_there _ c.args.self.now c.loop-follower.self c.args.row c.loop-follower.follower-index _ i.kept i.stages i.followers c.requires.under_way c.of-follower-items.ensures c.loop-follower-test.true).0
+    (next_there _ c.args.self.now c.loop-follower.self c.args.row c.loop-follower.follower-index _ i.kept i.stages i.followers c.requires.under_way
+    c.of-follower-items.ensures c.loop-follower-test.true).0
 
 pub wake-requires-clause-set : goal.wake-requires-clause-set
 wake-requires-clause-set c = queued_set _ _ _ c.loop-follower.invariant.kept.1.are_ready
@@ -64,14 +88,17 @@ loop-follower-preserved c =
     let w = c.wake.ensures in
     let items = c.of-follower-items.result.now in
     let n : ℕ = c.loop-follower.follower-index in
-    let t = next_there _ c.args.self.now f c.args.row n items i.kept i.stages i.followers c.requires.under_way c.of-follower-items.ensures c.loop-follower-test.true in
-    let read = read_at f.unmet.items (slice_index items n) c.index_mut-in-loop-follower.result.now (omega (arith, t.0, t.1)) c.index_mut-in-loop-follower.ensures.value in
+    let t = next_there _ c.args.self.now f c.args.row n items i.kept i.stages i.followers c.requires.under_way c.of-follower-items.ensures
+    c.loop-follower-test.true in
+    let read = read_at f.unmet.items (slice_index items n) c.index_mut-in-loop-follower.result.now (omega (arith, t.0, t.1))
+    c.index_mut-in-loop-follower.ensures.value in
     let (waits, is) = i.kept in
     record {
       kept = rw (w.stages, w.unmet, w.followers) (
         waits,
         woken c.args.rows.now waits f.followers.now f.stages.items f.unmet.items f.ready (slice_index items n) (drop (n + 1) items) _ _
-            (rw (sym (drop_more items n 0 c.loop-follower-test.true)) is) t.0 (ap (λ (x : ℕ). slice_set f.unmet.items (slice_index items n) (x - 1)) (sym read)) w.set w.rows,
+            (rw (sym (drop_more items n 0 c.loop-follower-test.true)) is) t.0 (ap (λ (x : ℕ). slice_set f.unmet.items (slice_index items n) (x - 1)) (sym read))
+            w.set w.rows,
       );
       stages = w.stages ∙ i.stages;
       followers = w.followers ∙ i.followers;

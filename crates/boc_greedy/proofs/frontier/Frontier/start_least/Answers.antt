@@ -18,7 +18,11 @@ index_mut-requires c =
     omega (arith, slice_get_within f.stages.items c.in_ok-row.row Waiting top.waiting, f.stages.ok.0)
 
 pub returns-clause-kept : goal.returns-clause-kept
-returns-clause-kept c = (c.requires.frontier.0, started _ _ _ _ _ _ c.in_ok-row.row c.take_least.new.self c.requires.frontier.1 c.in_ok-row.ensures.had c.take_least.ensures.set c.in_ok-row.ensures.rows)
+returns-clause-kept c = (
+  c.requires.frontier.0,
+  started _ _ _ _ _ _ c.in_ok-row.row c.take_least.new.self c.requires.frontier.1 c.in_ok-row.ensures.had
+      c.take_least.ensures.set c.in_ok-row.ensures.rows,
+)
 
 pub returns-clause-can : goal.returns-clause-can
 returns-clause-can c = had_can _ _ _ _ _ _ c.in_ok-row.row c.requires.frontier.1 c.in_ok-row.ensures.had

@@ -19,7 +19,12 @@ returns-then-eq-clause-rows c = λ r. (
     is = record {
       waiting = slice_get_read c.args.self.now.stages.items _ c.args.row c.index-then-index-eq0.result.now refl c.requires.there c.index-then-index-eq0.ensures
           ∙ ap Some (same_true the_type (search rules) _ _ (sym c.if-eq.ensures));
-      none_unmet = omega (arith, read_at c.args.self.now.unmet.items c.args.row c.index.result.now (omega (arith, c.requires.there, c.requires.whole)) c.index.ensures, c.if-index-eq0.true);
+      none_unmet = omega (
+        arith,
+        read_at c.args.self.now.unmet.items c.args.row c.index.result.now (omega (arith, c.requires.there, c.requires.whole))
+            c.index.ensures,
+        c.if-index-eq0.true,
+      );
     }
 
 pub returns-else-index-eq0-clause-rows : goal.returns-else-index-eq0-clause-rows
@@ -28,10 +33,16 @@ returns-else-index-eq0-clause-rows c = λ r. (λ h. inl h, λ h. elim h [ inl wa
     lacks : CountsReady c.args.self.now.stages.items c.args.self.now.unmet.items c.args.row → ⊥
     lacks is = elim c.else-index-eq0.branch [
       | else-index-eq0-via-then-index-eq0+else-eq w ↦ (
-          let read = slice_get_read c.args.self.now.stages.items _ c.args.row w.index-then-index-eq0.result.now refl c.requires.there w.index-then-index-eq0.ensures in
+          let read = slice_get_read c.args.self.now.stages.items _ c.args.row w.index-then-index-eq0.result.now refl c.requires.there
+          w.index-then-index-eq0.ensures in
           let e : w.index-then-index-eq0.result.now ≡ Waiting = (let s = sym read ∙ is.waiting in cc) in
           let t : false ≡ true = subst (λ (s : Stage). false ≡ sameb the_type s Waiting) e w.if-eq.ensures in
           cc)
       | else-index-eq0-via-else-index-eq0 w ↦
-          omega (arith, read_at c.args.self.now.unmet.items c.args.row c.index.result.now (omega (arith, c.requires.there, c.requires.whole)) c.index.ensures, w.if-index-eq0.false, is.none_unmet)
+          omega (
+            arith,
+            read_at c.args.self.now.unmet.items c.args.row c.index.result.now (omega (arith, c.requires.there, c.requires.whole)) c.index.ensures,
+            w.if-index-eq0.false,
+            is.none_unmet,
+          )
     ]

@@ -14,7 +14,8 @@ returns-clause-set c =
     let group : ℕ = word / 64 in
     let there : word < length s.rows.items = omega (arith, is.rows_room, c.requires.small) in
     let above : group < length s.words = omega (arith, is.words_room, c.requires.small) in
-    let marks = set_bit s.words word group (word % 64) c.with_bit-2.result above (omega arith) (omega arith) c.with_bit-2.ensures.set c.with_bit-2.ensures.others in
+    let marks = set_bit s.words word group (word % 64) c.with_bit-2.result above (omega arith) (omega arith) c.with_bit-2.ensures.set
+    c.with_bit-2.ensures.others in
     record {
       rows_room = simp length-set is.rows_room;
       words_room = simp length-set is.words_room;

@@ -13,7 +13,8 @@ change-requires-clause-stepping c =
     let k = g.kept in
     let full = c.requires.settled.full in
     let top = on_top _ _ _ c.requires.top in
-    let early : c.args.tick + MOST_TICKS < later = omega (arith, change_soon _ c.requires.shape _ _ _ _ _ _ _ _ _ k c.args.tick c.args.row top, g.low, c.requires.shape.not_many) in
+    let early : c.args.tick + MOST_TICKS < later = omega
+    (arith, change_soon _ c.requires.shape _ _ _ _ _ _ _ _ _ k c.args.tick c.args.row top, g.low, c.requires.shape.not_many) in
     let up = forward _ c.requires.shape _ _ _ _ _ _ _ _ _ k g.given g.passed full c.args.row c.args.tick top c.requires.least early in
     record {
       frontier = g.frontier;
@@ -23,7 +24,8 @@ change-requires-clause-stepping c =
       are_next = g.are_next;
       queue = g.queue;
       counted = record {
-        all = counts_next _ _ _ c.args.tick _ up (next_moment _ c.requires.shape _ _ _ _ _ _ _ _ _ k g.given g.passed full c.args.row c.args.tick top c.requires.least early)
+        all = counts_next _ _ _ c.args.tick _ up (next_moment _ c.requires.shape _ _ _ _ _ _ _ _ _ k g.given g.passed full c.args.row c.args.tick top
+            c.requires.least early)
             (no_moment _ c.requires.shape _ _ _ _ _ _ _ _ _ k g.given g.passed full c.args.row c.args.tick top c.requires.least early) g.counted.all;
         low = omega (arith, up, g.counted.low);
       };

@@ -28,13 +28,15 @@ index_mut-requires c =
     omega (arith, d.listed, c.args.self.now.family.first.ok.0)
 
 pub overflow_sub-next : goal.overflow_sub-next
-overflow_sub-next c = (is_spawning _ c.requires.shape c.args.self.now _ c.requires.stepping c.requires.top _ _ c.index-change.ensures (omega (arith, c.if-change-len.true, c.len.ensures.count)) c.index-next.ensures).rises
+overflow_sub-next c = (is_spawning _ c.requires.shape c.args.self.now _ c.requires.stepping c.requires.top _ _ c.index-change.ensures
+    (omega (arith, c.if-change-len.true, c.len.ensures.count)) c.index-next.ensures).rises
 
 pub overflow_add-tick : goal.overflow_add-tick
 overflow_add-tick c =
     let s = c.args.self.now in
     let d = is_due _ c.requires.shape s _ c.requires.stepping c.requires.top in
-    let p = is_spawning _ c.requires.shape s _ c.requires.stepping c.requires.top _ _ c.index-change.ensures (omega (arith, c.if-change-len.true, c.len.ensures.count)) c.index-next.ensures in
+    let p = is_spawning _ c.requires.shape s _ c.requires.stepping c.requires.top _ _ c.index-change.ensures
+    (omega (arith, c.if-change-len.true, c.len.ensures.count)) c.index-next.ensures in
     omega (arith, c.from.ensures, p.rises, p.now, d.early, timed_low _ c.requires.shape _ _ _ d.there p.timed)
 
 pub end-requires-clause-under_way : goal.end-requires-clause-under_way
@@ -64,7 +66,8 @@ returns-then-change-len-clause-stepping c =
     let there : change.child < length c.args.rows.now = omega (arith, c.if-change-len.true, c.len.ensures.count) in
     let d = is_due _ shape s r i c.requires.top in
     let p = is_spawning _ shape s r i c.requires.top change next c.index-change.ensures there c.index-next.ensures in
-    let sg = restages s.frontier.stages.items c.spawn.new.self.stages.items change.child Waiting (omega (arith, there, k.staged.stages_whole)) c.spawn.ensures.stages in
+    let sg = restages s.frontier.stages.items c.spawn.new.self.stages.items change.child Waiting (omega (arith, there, k.staged.stages_whole))
+    c.spawn.ensures.stages in
     let pf = puts_child s.family.first.items r next d.listed in
     let po = c.put_off.ensures s.tick r i.queue c.requires.top in
     record {
@@ -101,7 +104,8 @@ returns-else-change-len-clause-stepping c =
     let child = child_at s.family.first.items r c.index-change.result.now d.listed c.index-change.ensures in
     let worker = read_at s.workers.items r c.index.result.now (omega (arith, d.there, k.staged.workers_whole)) c.index.ensures in
     let sg = restages s.frontier.stages.items c.end.new.self.stages.items r Over (omega (arith, d.there, k.staged.stages_whole)) c.end.ensures.stages in
-    let po = popped _ _ c.pop.result _ s.tick r i.queue c.requires.top s.queue.data.ok.0 c.pop.ensures.top c.pop.ensures.permutation c.pop.ensures.heap_order c.pop.ensures.none in
+    let po = popped _ _ c.pop.result _ s.tick r i.queue c.requires.top s.queue.data.ok.0 c.pop.ensures.top c.pop.ensures.permutation c.pop.ensures.heap_order
+    c.pop.ensures.none in
     record {
       frontier = c.end.ensures.kept;
       kept = ending.kept_after _ shape _ later _ _ _ _ _ _ _ k r _ _ _ d.due (omega (arith, child, c.if-change-len.false, c.len.ensures.count)) sg po.taken

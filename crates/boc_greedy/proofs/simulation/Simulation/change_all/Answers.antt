@@ -27,9 +27,11 @@ returns-then-tick-self-clause-giving c =
     let i = c.loop-tick.invariant in
     let s = c.loop-tick.self in
     let y = i.stepping.kept.busy _ _ (on_top _ _ _ c.in-Some.ensures.top) in
-    gives _ s i.stepping (omega (arith, c.requires.low, i.tick_stays, i.no_more)) (λ at r in_queue. omega (arith, y.ahead, c.if-tick-self.true, c.in-Some.ensures.least at r in_queue))
+    gives _ s i.stepping (omega (arith, c.requires.low, i.tick_stays, i.no_more))
+    (λ at r in_queue. omega (arith, y.ahead, c.if-tick-self.true, c.in-Some.ensures.least at r in_queue))
 
 pub returns-clause-giving : goal.returns-clause-giving
 returns-clause-giving c =
     let i = c.loop-tick.invariant in
-    gives _ c.loop-tick.self i.stepping (omega (arith, c.requires.low, i.tick_stays, i.no_more)) (λ at r in_queue. absurd (omega (arith, in_queue.1, ap length c.in_default.ensures.none)))
+    gives _ c.loop-tick.self i.stepping (omega (arith, c.requires.low, i.tick_stays, i.no_more))
+    (λ at r in_queue. absurd (omega (arith, in_queue.1, ap length c.in_default.ensures.none)))

@@ -22,7 +22,8 @@ overflow_add-tick c =
     let s = c.args.self.now in
     let x : ℕ = c.in-Some.row in
     let h : x < length c.args.rows.now = there _ c.requires.shape _ _ _ _ _ _ _ _ _ g.kept x Waiting c.in-Some.ensures.can.waits in
-    let time = time_at s.family.first.items x c.index-change.result.now (omega (arith, h, simp length-map at g.kept.staged.first_whole)) c.index-change.ensures in
+    let time = time_at s.family.first.items x c.index-change.result.now (omega (arith, h, simp length-map at g.kept.staged.first_whole))
+    c.index-change.ensures in
     omega (arith, time, timed_low _ c.requires.shape x _ _ h (g.are_timed x h), g.kept.early, c.from.ensures)
 
 pub returns-in_ok-push-in-Some-clause-giving : goal.returns-in_ok-push-in-Some-clause-giving
@@ -40,24 +41,33 @@ returns-in_ok-push-in-Some-clause-giving c =
     let timed = g.are_timed x h in
     let ps = puts s.starts.items x s.tick (omega (arith, h, k.staged.starts_whole)) in
     let pw = puts s.workers.items x w (omega (arith, h, k.staged.workers_whole)) in
-    let sg = restages s.frontier.stages.items c.start_least.new.self.stages.items x UnderWay (omega (arith, h, k.staged.stages_whole)) c.in-Some.ensures.stages in
-    let none : (change q : ℕ) → IsIn (heap_items s.queue) change q → q ≢ x = λ change q i. not_same _ x Waiting can.waits q UnderWay (λ d. (cc)) (k.busy change q i).under_way in
-    let pq = pushed _ _ (s.tick + c.from.result) x g.queue.once (none_counts _ x none) (c.in_ok-push-in-Some.ensures.heap_order g.queue.ordered) c.in_ok-push-in-Some.ensures.permutation in
+    let sg = restages s.frontier.stages.items c.start_least.new.self.stages.items x UnderWay (omega (arith, h, k.staged.stages_whole))
+    c.in-Some.ensures.stages in
+    let none : (change q : ℕ) → IsIn (heap_items s.queue) change q → q ≢ x =
+    λ change q i. not_same _ x Waiting can.waits q UnderWay (λ d. (cc)) (k.busy change q i).under_way in
+    let pq = pushed _ _ (s.tick + c.from.result) x g.queue.once (none_counts _ x none) (c.in_ok-push-in-Some.ensures.heap_order g.queue.ordered)
+    c.in_ok-push-in-Some.ensures.permutation in
     let idle = c.requires.idle in
     let child : ℕ = slice_index (children_of s.family.first.items) x in
-    let spawns : child < length c.args.rows.now → s.tick + c.from.result ≡ s.tick + offset_of c.args.rows.now child = λ l. omega (arith, timed.spawns l, time, c.from.ensures) in
-    let ends : length c.args.rows.now ≤ child → s.tick + c.from.result ≡ s.tick + ticks_of c.args.rows.now x = λ ge. omega (arith, timed.ends ge, time, c.from.ensures) in
+    let spawns : child < length c.args.rows.now → s.tick + c.from.result ≡ s.tick + offset_of c.args.rows.now child =
+    λ l. omega (arith, timed.spawns l, time, c.from.ensures) in
+    let ends : length c.args.rows.now ≤ child → s.tick + c.from.result ≡ s.tick + ticks_of c.args.rows.now x =
+    λ ge. omega (arith, timed.ends ge, time, c.from.ensures) in
     record {
       frontier = c.in-Some.ensures.kept;
-      kept = kept_after _ shape _ later _ _ _ _ _ _ _ k x w _ _ _ _ _ _ ps pw sg pq can idle.set c.without_bit-self.ensures.cleared c.without_bit-self.ensures.others spawns ends;
-      given = given_after _ shape _ later _ _ _ _ _ _ _ k x w _ _ _ _ _ _ ps pw sg pq can idle.set c.without_bit-self.ensures.cleared c.without_bit-self.ensures.others spawns ends
+      kept = kept_after _ shape _ later _ _ _ _ _ _ _ k x w _ _ _ _ _ _ ps pw sg pq can idle.set c.without_bit-self.ensures.cleared
+          c.without_bit-self.ensures.others spawns ends;
+      given = given_after _ shape _ later _ _ _ _ _ _ _ k x w _ _ _ _ _ _ ps pw sg pq can idle.set c.without_bit-self.ensures.cleared
+          c.without_bit-self.ensures.others spawns ends
           g.given c.in-Some.ensures.least idle.least;
-      passed = passed_after _ shape _ later _ _ _ _ _ _ _ k x w _ _ _ _ _ _ ps pw sg pq can idle.set c.without_bit-self.ensures.cleared c.without_bit-self.ensures.others spawns ends g.passed;
+      passed = passed_after _ shape _ later _ _ _ _ _ _ _ k x w _ _ _ _ _ _ ps pw sg pq can idle.set c.without_bit-self.ensures.cleared
+          c.without_bit-self.ensures.others spawns ends g.passed;
       are_timed = g.are_timed;
       are_next = g.are_next;
       queue = pq.is_queue;
       counted = record {
-        all = counts_given _ shape _ _ _ _ _ (agree _ shape _ later _ _ _ _ _ _ _ k x w _ _ _ _ _ _ ps pw sg pq can idle.set c.without_bit-self.ensures.cleared c.without_bit-self.ensures.others spawns ends)
+        all = counts_given _ shape _ _ _ _ _ (agree _ shape _ later _ _ _ _ _ _ _ k x w _ _ _ _ _ _ ps pw sg pq can idle.set c.without_bit-self.ensures.cleared
+            c.without_bit-self.ensures.others spawns ends)
             _ g.counted.all;
         low = g.counted.low;
       };
@@ -67,4 +77,8 @@ returns-in_ok-push-in-Some-clause-giving c =
 pub returns-in_ok-push-in-Some-clause-fewer : goal.returns-in_ok-push-in-Some-clause-fewer
 returns-in_ok-push-in-Some-clause-fewer c = λ e.
     (let can : CanStart c.args.rows.now c.args.self.now.frontier.stages.items c.in-Some.row = c.in-Some.ensures.can in
-    omega (arith, weight_set c.args.self.now.frontier.stages.items c.start_least.new.self.stages.items c.in-Some.row Waiting UnderWay can.waits c.in-Some.ensures.stages))
+    omega (
+      arith,
+      weight_set c.args.self.now.frontier.stages.items c.start_least.new.self.stages.items c.in-Some.row Waiting UnderWay can.waits
+          c.in-Some.ensures.stages,
+    ))

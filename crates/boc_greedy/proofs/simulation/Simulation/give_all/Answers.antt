@@ -9,4 +9,7 @@ give-requires-clause-idle c =
     record { set = low.1; least = low.2 }
 
 pub returns-clause-settled : goal.returns-clause-settled
-returns-clause-settled c = record { giving = c.loop-self.invariant.giving; full = λ b w can is. omega (arith, is, ap (λ (x : ℕ). bit_at x w) c.loop-self-test.false, bit_at-zero w) }
+returns-clause-settled c = record {
+  giving = c.loop-self.invariant.giving;
+  full = λ b w can is. omega (arith, is, ap (λ (x : ℕ). bit_at x w) c.loop-self-test.false, bit_at-zero w);
+}

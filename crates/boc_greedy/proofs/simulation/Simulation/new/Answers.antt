@@ -13,9 +13,12 @@ returns-clause-giving c =
     let early : MOST_TICKS < later = omega arith in
     record {
       frontier = c.in_ok-frontier.ensures.kept;
-      kept = kept_first _ c.requires.shape _ later c.requires.few early _ _ _ _ _ _ _ _ _ starts workers c.in_ok-frontier.ensures.stages c.in_ok-family.ensures c.in_ok-with_capacity.ensures.items (all_set c.args.p c.requires.few) (others_clear c.args.p c.requires.few);
-      given = given_first _ c.requires.shape _ later c.requires.few early _ _ _ _ _ _ _ _ _ starts workers c.in_ok-frontier.ensures.stages c.in_ok-family.ensures c.in_ok-with_capacity.ensures.items (all_set c.args.p c.requires.few) (others_clear c.args.p c.requires.few);
-      passed = passed_first _ c.requires.shape _ later c.requires.few early _ _ _ _ _ _ _ _ _ starts workers c.in_ok-frontier.ensures.stages c.in_ok-family.ensures c.in_ok-with_capacity.ensures.items (all_set c.args.p c.requires.few) (others_clear c.args.p c.requires.few);
+      kept = kept_first _ c.requires.shape _ later c.requires.few early _ _ _ _ _ _ _ _ _ starts workers c.in_ok-frontier.ensures.stages c.in_ok-family.ensures
+          c.in_ok-with_capacity.ensures.items (all_set c.args.p c.requires.few) (others_clear c.args.p c.requires.few);
+      given = given_first _ c.requires.shape _ later c.requires.few early _ _ _ _ _ _ _ _ _ starts workers c.in_ok-frontier.ensures.stages
+          c.in_ok-family.ensures c.in_ok-with_capacity.ensures.items (all_set c.args.p c.requires.few) (others_clear c.args.p c.requires.few);
+      passed = passed_first _ c.requires.shape _ later c.requires.few early _ _ _ _ _ _ _ _ _ starts workers c.in_ok-frontier.ensures.stages
+          c.in_ok-family.ensures c.in_ok-with_capacity.ensures.items (all_set c.args.p c.requires.few) (others_clear c.args.p c.requires.few);
       are_timed = c.in_ok-family.ensures.are_timed;
       are_next = c.in_ok-family.ensures.are_next;
       queue = empty_queue _ c.in_ok-with_capacity.ensures.items c.in_ok-with_capacity.ensures.heap_order;

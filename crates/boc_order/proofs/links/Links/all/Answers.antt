@@ -3,7 +3,12 @@ use Rattle.boc_order.proofs.Filling.{first_read}
 use Rattle.boc_order.proofs.links.Links.all.Goals as goal
 
 pub offset_bounds-deref-index : goal.offset_bounds-deref-index
-offset_bounds-deref-index c = omega (arith, (first_read _ c.self.inside.list.items _ c.self.invariant c.index.ensures).0, c.self.inside.list.ok.0, c.self.inside.list.small)
+offset_bounds-deref-index c = omega (
+  arith,
+  (first_read _ c.self.inside.list.items _ c.self.invariant c.index.ensures).0,
+  c.self.inside.list.ok.0,
+  c.self.inside.list.small,
+)
 
 pub slice_bounds-result-count : goal.slice_bounds-result-count
 slice_bounds-result-count c = rw c.deref.ensures.value (first_read _ c.self.inside.list.items _ c.self.invariant c.index.ensures).0

@@ -17,13 +17,17 @@ offset_bounds-deref-index c =
     omega (arith, b.0, b.1, c.self.inside.list.ok.0, c.self.inside.list.small)
 
 pub slice_bounds-result-count : goal.slice_bounds-result-count
-slice_bounds-result-count c = (read_between _ c.self.inside.list.items _ _ _ _ (sym c.self.view_is) c.self.invariant c.requires c.index.ensures c.index-2.ensures).0
+slice_bounds-result-count c = (read_between _ c.self.inside.list.items _ _ _ _ (sym c.self.view_is) c.self.invariant c.requires c.index.ensures
+    c.index-2.ensures).0
 
 pub slice_bounds-result-start : goal.slice_bounds-result-start
-slice_bounds-result-start c = (read_between _ c.self.inside.list.items _ _ _ _ (sym c.self.view_is) c.self.invariant c.requires c.index.ensures c.index-2.ensures).0
+slice_bounds-result-start c = (read_between _ c.self.inside.list.items _ _ _ _ (sym c.self.view_is) c.self.invariant c.requires c.index.ensures
+    c.index-2.ensures).0
 
 pub slice_bounds-result-end : goal.slice_bounds-result-end
-slice_bounds-result-end c = rw c.deref.ensures.value (read_between _ c.self.inside.list.items _ _ _ _ (sym c.self.view_is) c.self.invariant c.requires c.index.ensures c.index-2.ensures).1
+slice_bounds-result-end c = rw c.deref.ensures.value (read_between _ c.self.inside.list.items _ _ _ _ (sym c.self.view_is) c.self.invariant c.requires
+    c.index.ensures c.index-2.ensures).1
 
 pub returns : goal.returns
-returns c = rw c.deref.ensures.value (read_between _ c.self.inside.list.items _ _ _ _ (sym c.self.view_is) c.self.invariant c.requires c.index.ensures c.index-2.ensures).2
+returns c = rw c.deref.ensures.value (read_between _ c.self.inside.list.items _ _ _ _ (sym c.self.view_is) c.self.invariant c.requires c.index.ensures
+    c.index-2.ensures).2

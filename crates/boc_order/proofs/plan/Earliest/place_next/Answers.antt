@@ -11,4 +11,5 @@ pub returns-clause-placed : goal.returns-clause-placed
 returns-clause-placed c =
     rw (c.push_reserved.ensures.items, c.push_reserved-2.ensures.items, c.push_reserved-3.ensures.items, c.from.ensures, c.ticks.ensures)
     (place_placed _ c.requires.shape _ _ _ _ c.requires.placed c.requires.there _ c.requires.waits _ (rw c.deref-2.ensures.value at c.latest_of.ensures)
-    c.spawned_at-spawned.result c.spawned_at-spawned.ensures.main (rw c.deref.ensures.value at c.spawned_at-spawned.ensures.child) _ c.earliest_start-start.ensures)
+    c.spawned_at-spawned.result c.spawned_at-spawned.ensures.main (rw c.deref.ensures.value at c.spawned_at-spawned.ensures.child) _
+    c.earliest_start-start.ensures)

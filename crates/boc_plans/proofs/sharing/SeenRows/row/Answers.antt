@@ -10,7 +10,8 @@ pub offset_bounds-rows-row : goal.offset_bounds-rows-row
 offset_bounds-rows-row c = omega (arith, bounds-rows-row c, c.self.invariant.not_many)
 
 is_row : (c : After-index-rows-row) → IsSeenRow c.args.self.now c.args.row c.index-rows-row.result
-is_row c = subst (IsSeenRow c.args.self.now c.args.row) (sym c.index-rows-row.is) (seen_read c.self.inside.sharing c.self.inside.rows.now c.args.self.now c.args.row c.index-rows-row.result (sym c.self.view_is) c.requires)
+is_row c = subst (IsSeenRow c.args.self.now c.args.row) (sym c.index-rows-row.is)
+    (seen_read c.self.inside.sharing c.self.inside.rows.now c.args.self.now c.args.row c.index-rows-row.result (sym c.self.view_is) c.requires)
 
 pub returns-clause-parent : goal.returns-clause-parent
 returns-clause-parent c = (is_row c).parent

@@ -5,7 +5,8 @@ use Rattle.boc_reader.proofs.names.block.+resolve.Goals as goal
 pub resolve_block-loop-stmt-preserved : goal.resolve_block-loop-stmt-preserved
 resolve_block-loop-stmt-preserved t c =
     record {
-      names = goes_on c.args.block.now c.loop-stmt.stmt-index c.stmt-item.result c.loop-stmt.stmts.items _ c.in_ok-stmt.stmt _ _ _ _ (omega arith) c.stmt-item.is c.in_ok-stmt.ensures.names c.in_ok-push.ensures.items c.loop-stmt.invariant.names;
+      names = goes_on c.args.block.now c.loop-stmt.stmt-index c.stmt-item.result c.loop-stmt.stmts.items _ c.in_ok-stmt.stmt _ _ _ _ (omega arith)
+          c.stmt-item.is c.in_ok-stmt.ensures.names c.in_ok-push.ensures.items c.loop-stmt.invariant.names;
       outer = stays_outer c.args.scope.now.items c.loop-stmt.scope.items c.resolve_stmt.new.scope.items c.loop-stmt.invariant.outer c.in_ok-stmt.ensures.grows;
       depth = c.loop-stmt.invariant.depth;
     }

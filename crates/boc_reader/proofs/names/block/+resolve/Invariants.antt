@@ -8,7 +8,8 @@ use Rattle.boc_reader.proofs.names.block.+resolve.Given as goal
 
 abbrev pub invariant-resolve_block-loop-stmt : goal.invariant-resolve_block-loop-stmt
 invariant-resolve_block-loop-stmt l = record {
-  names : block_names (block_of l.fn.block) (outside_of l.fn.outside) (names_of l.fn.scope.items) ≡ with_code l.stmts.items (block_names (block_of (drop l.stmt-index l.block)) (outside_of l.outside) (names_of l.scope.items));
+  names : block_names (block_of l.fn.block) (outside_of l.fn.outside) (names_of l.fn.scope.items)
+      ≡ with_code l.stmts.items (block_names (block_of (drop l.stmt-index l.block)) (outside_of l.outside) (names_of l.scope.items));
   outer : take (length l.fn.scope.items) l.scope.items ≡ l.fn.scope.items;
   depth : l.depth ≡ length l.fn.scope.items;
 }

@@ -7,4 +7,6 @@ use Rattle.boc_reader.proofs.ResolvingLists.{with_front}
 use Rattle.boc_reader.proofs.names.block.resolve_refs.Given as goal
 
 abbrev pub invariant-loop-reference : goal.invariant-loop-reference
-invariant-loop-reference l = all_names (ref_names (outside_of l.outside) (names_of l.scope)) (map named_cown_of l.references) ≡ with_front (map cown_ref_of l.all.items) (all_names (ref_names (outside_of l.outside) (names_of l.scope)) (map named_cown_of (drop l.reference-index l.references)))
+invariant-loop-reference l = all_names (ref_names (outside_of l.outside) (names_of l.scope)) (map named_cown_of l.references)
+    ≡ with_front (map cown_ref_of l.all.items) (all_names (ref_names (outside_of l.outside) (names_of l.scope))
+    (map named_cown_of (drop l.reference-index l.references)))

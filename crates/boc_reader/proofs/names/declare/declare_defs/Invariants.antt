@@ -5,4 +5,5 @@ use Rattle.boc_reader.proofs.names.declare.declare_defs.Given as goal
 
 abbrev pub invariant-loop-def : goal.invariant-loop-def
 invariant-loop-def l =
-    defs_behind (map global_of l.cowns) [] (map def_of l.defs) ≡ defs_behind (map global_of l.cowns) (map callee_of l.declared.items) (map def_of (drop l.def-index l.defs))
+    defs_behind (map global_of l.cowns) [] (map def_of l.defs)
+    ≡ defs_behind (map global_of l.cowns) (map callee_of l.declared.items) (map def_of (drop l.def-index l.defs))

@@ -12,5 +12,6 @@ make_events_room-requires-clause-few c =
     let rows = log.rows.items in
     let happenings = log.happenings.items in
     let logged = logged_of log.cowns rows happenings log.rooms (vec_capacity log.rows) (vec_capacity log.happenings) c.self.invariant in
-    let few = few_events (record { cowns = log.cowns; rows = entries (told happenings rows); rooms = log.rooms }) happenings (vec_capacity log.happenings) logged in
+    let few = few_events (record { cowns = log.cowns; rows = entries (told happenings rows); rooms = log.rooms }) happenings (vec_capacity log.happenings)
+    logged in
     omega (arith, few, c.self.invariant.rows_are.all, log.happenings.ok.0, log.rows.ok.0, c.len.ensures)

@@ -7,7 +7,8 @@ use Rattle.boc_rules.proofs.so_far.RunSoFar.may_start.Goals as goal
 use Rattle.boc_rules.proofs.so_far.RunSoFar.may_start.Goals.{In-Some}
 
 -- the stage of the row is there, and was read
-read : (c : In-Some) → (c.args.row < length c.args.self.now.stages.items) × (c.in-Some.stage.now ≡ get_or c.args.self.now.stages.items c.args.row c.in-Some.stage.now)
+read : (c : In-Some) → (c.args.row < length c.args.self.now.stages.items)
+    × (c.in-Some.stage.now ≡ get_or c.args.self.now.stages.items c.args.row c.in-Some.stage.now)
 read c =
     let h = c.in-Some.ensures.lookup in
     let stages = c.deref.ensures.value in (
@@ -20,7 +21,8 @@ returns-in-Pending c =
     let s = c.in-Some.stage.now in
     let r = read (goal.at.returns-in-Pending c).In-Some in
     let found = c.deref-in-Pending.result.now in
-    let is = pending_may_start c.args.self.now c.args.row s (slice_range found s.from s.to) c.requires r.0 r.1 c.in-Pending.is (ap (λ xs. slice_range xs s.from s.to) c.deref-in-Pending.ensures.value) in
+    let is = pending_may_start c.args.self.now c.args.row s (slice_range found s.from s.to) c.requires r.0 r.1 c.in-Pending.is
+    (ap (λ xs. slice_range xs s.from s.to) c.deref-in-Pending.ensures.value) in
     (λ t. is.0 (c.are_over.ensures.0 t), λ m. c.are_over.ensures.1 (is.1 m))
 
 pub returns-in-Running : goal.returns-in-Running
@@ -28,5 +30,6 @@ returns-in-Running c =
     let s = c.in-Some.stage.now in
     let r = read (goal.at.returns-in-Running c).In-Some in (
       λ t. absurd (let f : false ≡ true = t in cc),
-      λ m. absurd (let waits : s.life ≡ Pending = others_may_not c.args.self.now c.args.row s c.requires r.0 r.1 m in elim c.in-Running.is [ inl e ↦ (let f : Running ≡ Pending = sym e ∙ waits in cc) | inr e ↦ (let f : Ended ≡ Pending = sym e ∙ waits in cc) ]),
+      λ m. absurd (let waits : s.life ≡ Pending = others_may_not c.args.self.now c.args.row s c.requires r.0 r.1 m in
+          elim c.in-Running.is [ inl e ↦ (let f : Running ≡ Pending = sym e ∙ waits in cc) | inr e ↦ (let f : Ended ≡ Pending = sym e ∙ waits in cc) ]),
     )

@@ -9,7 +9,8 @@ use Rattle.boc_whatif.proofs.what_if.WhatIf.greedy.Goals as goal
 
 pub greedy_over-requires-clause-work : goal.greedy_over-requires-clause-work
 greedy_over-requires-clause-work c =
-    rw c.new-rows.ensures.same (c.work.ensures ∙ ap (λ (a : Asked). work_of a.rows) (sym c.self.view_is) ∙ sym (work_of-seen c.self.inside.sharing c.self.inside.rows))
+    rw c.new-rows.ensures.same (c.work.ensures ∙ ap (λ (a : Asked). work_of a.rows) (sym c.self.view_is)
+    ∙ sym (work_of-seen c.self.inside.sharing c.self.inside.rows))
 
 pub greedy_over-requires-clause-span : goal.greedy_over-requires-clause-span
 greedy_over-requires-clause-span c =

@@ -30,9 +30,6 @@ pub const MOST_TICKS: u32 = 1_000_000;
 /// The most behaviours of a run, main included: each has a row.
 pub const MOST_ROWS: usize = 65_535;
 
-/// The most bytes of a line of a record, without its line feed.
-pub const MOST_LINE: usize = 80;
-
 /// The most workers that run a program.
 pub const MOST_RUNNERS: usize = 16;
 

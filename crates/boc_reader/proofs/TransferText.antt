@@ -1,5 +1,5 @@
 -- The definitions of texts tried on a program: its tokens, its tree and its names.
-use Rattle.std.proofs.Common.{◌≡◌, ℕ, List, [], ◌∷◌, Some, None, false, refl, codes}
+use Rattle.std.proofs.Common.{◌≡◌, ℕ, List, [], ◌∷◌, ◌++◌, Some, None, false, refl, codes}
 use Rattle.boc_reader.specs.declared.level.SumOperator.TheVariants as sums
 use Rattle.boc_reader.specs.Shape.{Expr, plain, one_term, more_terms, Term, one_factor, unsigned, literal, variable, alone, assign, when, done, next, Tree}
 use Rattle.boc_reader.specs.Shape.{tree_tokens}
@@ -9,7 +9,11 @@ use Rattle.boc_reader.specs.Spells.{plain_program}
 use Rattle.boc_program.proofs.Transfer.{program}
 
 abbrev text : List ℕ
-text = codes "cown a = 10; cown b = 0; # two accounts\ndef add(k; x) { x = x + k; }\ndef move(k; x, y) { x = x - k; y = y + k; }\nmain { when add(5; a); when move(3; a, b); when add(1; b); }\n"
+text =
+    codes "cown a = 10; cown b = 0; # two accounts\n"
+    ++ codes "def add(k; x) { x = x + k; }\n"
+    ++ codes "def move(k; x, y) { x = x - k; y = y + k; }\n"
+    ++ codes "main { when add(5; a); when move(3; a, b); when add(1; b); }\n"
 
 abbrev of_name : List ℕ → Term
 of_name x = one_factor (unsigned (variable x))

@@ -1,5 +1,6 @@
 -- What each fault says of a text.
 use Rattle.std.specs.Prelude.{◌≡◌, ℕ, ◌<◌, ◌≤◌, List, length, take, Some, None}
+use Rattle.boc_program.specs.declared.limits.TheConstants.{MOST_TEXT}
 use Rattle.boc_reader.specs.Tokens.{Token, tokens_of_text}
 use Rattle.boc_reader.specs.Shape.{Tree, HasShape}
 use Rattle.boc_reader.specs.Names.{tree_names}
@@ -11,19 +12,19 @@ use Rattle.boc_reader.specs.declared.fault.ReadFaultKind.TheVariants as kinds
 
 -- a text that is short enough and has no tokens
 pub record HasNoTokens (text : List ℕ) : Type 0 where
-  pub short : length text ≤ 65536
+  pub short : length text ≤ MOST_TEXT
   pub none : tokens_of_text text ≡ None
 
 -- a text whose tokens form no tree within the limits
 pub record HasNoShape (text : List ℕ) : Type 0 where
-  pub short : length text ≤ 65536
+  pub short : length text ≤ MOST_TEXT
   pub tokens : List Token
   pub has_tokens : tokens_of_text text ≡ Some tokens
   pub none : NoShape tokens
 
 -- a text of whose tree the names can't be resolved
 pub record HasNoNames (text : List ℕ) : Type 0 where
-  pub short : length text ≤ 65536
+  pub short : length text ≤ MOST_TEXT
   pub tokens : List Token
   pub has_tokens : tokens_of_text text ≡ Some tokens
   pub tree : Tree
@@ -40,7 +41,7 @@ SaysOf kinds.TooMany text = HasNoShape text
 SaysOf kinds.UnknownName text = HasNoNames text
 SaysOf kinds.NameTaken text = HasNoNames text
 SaysOf kinds.WrongCount text = HasNoNames text
-SaysOf kinds.TooLong text = 65536 < length text
+SaysOf kinds.TooLong text = MOST_TEXT < length text
 SaysOf kinds.Memory text = Unit {0}
 
 -- a line of a text: that of one of its bytes, or of its end
@@ -52,7 +53,7 @@ pub record IsLineIn (line : ℕ) (text : List ℕ) : Type 0 where
 -- The line that is told with a kind of fault: that of the first byte too many where the text is too long, none where memory was refused, and otherwise one of
 -- the text.
 abbrev pub TellsLine : ReadFaultKind → ℕ → List ℕ → Type 0
-TellsLine kinds.TooLong line text = line ≡ line_after (take 65536 text)
+TellsLine kinds.TooLong line text = line ≡ line_after (take MOST_TEXT text)
 TellsLine kinds.Memory line text = line ≡ 0
 TellsLine kind line text = IsLineIn line text
 

@@ -1,5 +1,6 @@
 -- The kinds of phrases.
 use Rattle.std.specs.Prelude.{◌≡◌, ◌≢◌, [], ℕ, ◌+◌, ◌≤◌, Bool, List, ◌∷◌, length, Option, Some, None}
+use Rattle.boc_reader.specs.declared.parse.TheConstants.{MOST_LISTED}
 use Rattle.boc_reader.specs.declared.terminal.Sign.{Sign}
 use Rattle.boc_reader.specs.declared.terminal.Sign.TheVariants.{Open, Close, OpenIndex, CloseBlock, Semicolon, Assign}
 use Rattle.boc_reader.specs.declared.terminal.Sign.TheVariants as signs
@@ -129,7 +130,7 @@ list_phrase kind close = record {
   tokens = λ xs rest. list_tokens kind.tokens xs (sign close ∷ rest);
   nodes = list_nodes kind.nodes;
   Ends = λ _ _. Unit {0};
-  IsSmall = λ xs. length xs ≤ 8;
+  IsSmall = λ xs. length xs ≤ MOST_LISTED;
 }
 
 -- a name
@@ -256,7 +257,7 @@ signature_phrase = record {
   tokens = λ s rest. name s.0 ∷ sign Open ∷ list_tokens name_tokens s.1.0 (sign Semicolon ∷ list_tokens name_tokens s.1.1 (sign Close ∷ rest));
   nodes = λ _. 0;
   Ends = λ _ _. Unit {0};
-  IsSmall = λ s. (length s.1.0 ≤ 8) × (length s.1.1 ≤ 8);
+  IsSmall = λ s. (length s.1.0 ≤ MOST_LISTED) × (length s.1.1 ≤ MOST_LISTED);
 }
 
 -- a def

@@ -4,7 +4,7 @@ use Rattle.boc_reader.specs.Tokens as the
 use Rattle.boc_reader.specs.declared.token.Token.{Token}
 use Rattle.boc_reader.specs.declared.token.Token.TheVariants as tokens
 use Rattle.boc_reader.specs.declared.token.Placed.{Placed}
-use Rattle.boc_reader.specs.declared.token.TheConstants.{LONGEST}
+use Rattle.boc_program.specs.declared.limits.TheConstants.{MOST_TEXT}
 use Rattle.boc_reader.specs.declared.fault.Fault.{Fault}
 use Rattle.boc_reader.specs.declared.fault.Fault.TheVariants as faults
 
@@ -21,7 +21,7 @@ tokens_of ps = map (λ p. token_of p.token) ps
 
 -- the byte at which the first of these tokens begins; where there is none, a byte behind every text
 abbrev pub position_of : List Placed → ℕ
-position_of [] = LONGEST
+position_of [] = MOST_TEXT
 position_of (p ∷ ps) = p.at
 
 -- a fault that says something of the text holds of it

@@ -18,7 +18,8 @@ use crate::level::{Comparison, SumOperator, TermOperator};
 use crate::natural::Natural;
 use crate::shape::Spot;
 use crate::terminal::{Keyword, Sign};
-use crate::token::{LONGEST, Placed, Token};
+use crate::token::{Placed, Token};
+use boc_program::limits::MOST_TEXT;
 use std::marker::Model;
 use std::mem;
 
@@ -54,7 +55,7 @@ impl<'t, 'a> Cursor<'t, 'a> {
         ensures { result ≡ self.now.position }
     {
         match self.rest {
-            [] => LONGEST,
+            [] => MOST_TEXT,
             [first, ..] => first.at,
         }
     }

@@ -1,6 +1,7 @@
 // From the syntax tree of a text to its program, with every name resolved.
 
 ghost use Rattle.std.specs.Prelude.{◌≡◌, map};
+ghost use Rattle.boc_program.specs.declared.limits.TheConstants.{MOST_COWNS};
 ghost use Rattle.boc_reader.specs.Shape.{AreSmallDefs, IsWithinLimits};
 ghost use Rattle.boc_reader.specs.Names.{PlainProgram, plain_cown, tree_names};
 ghost use Rattle.boc_reader.specs.Spells.{plain_body, plain_declared, plain_program};
@@ -34,7 +35,7 @@ fn resolve_defs<'a>(
     defs: &[DefShape<'a>],
 ) -> Result<Vec<Body>, Fault<NameFault>>
     requires small { AreSmallDefs (map def_of defs.now) }
-    requires cowns { EndWithin 256 (declared_of top.now).cowns }
+    requires cowns { EndWithin MOST_COWNS (declared_of top.now).cowns }
     ensures { Yields (λ v. map plain_body v.items) result (bodies_behind (declared_of top.now) (names_of before.entry.items) (map def_of defs.now)) }
 {
     let mut bodies = Vec::new(alloc);
@@ -64,7 +65,7 @@ fn resolve_bodies<'a>(
     tree: &Tree<'a>,
 ) -> Result<Vec<Body>, Fault<NameFault>>
     requires limits { IsWithinLimits (tree_of tree.now) }
-    requires cowns { EndWithin 256 (declared_of top.now).cowns }
+    requires cowns { EndWithin MOST_COWNS (declared_of top.now).cowns }
     ensures { Yields (λ bodies. let p : PlainProgram = record { cowns = map plain_cown (tree_of tree.now).cowns; bodies = map plain_body bodies.items } in p)
         result (program_at (tree_of tree.now) (declared_of top.now)) }
 {

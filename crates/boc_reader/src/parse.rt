@@ -24,19 +24,13 @@ use crate::shape::{
 };
 use crate::terminal::{Keyword, Sign};
 use crate::token::{Placed, Token};
+use boc_program::limits::{MOST_ARGUMENTS, MOST_COWNS, MOST_DEFS, MOST_HELD, MOST_NODES};
 use std::alloc::Global;
 
-/// The most cowns of a text, each member of an array counted.
-const COWNS: u32 = 256;
+// The most parameters of a kind, arguments and references.
+const MOST_LISTED: usize = MOST_ARGUMENTS;
 
-/// The most defs of a text.
-const DEFS: u32 = 64;
-
-/// The most nodes of a body.
-const NODES: u32 = 1_000;
-
-/// The most parameters of a kind, arguments and references.
-const LISTED: usize = 8;
+const _: () = prove!(MOST_LISTED == MOST_HELD);
 
 type Read<T> = Result<T, Fault<ShapeFault>>;
 
@@ -45,9 +39,9 @@ pub fn parse_tree<'a>(alloc: Global, tokens: &[Placed<'a>]) -> Read<Tree<'a>>
     ensures { MatchResult result (λ t. HasShape (tokens_of tokens.now) (tree_of t))
         (λ f. Refusal f (NoShape (tokens_of tokens.now))) }
 {
-    let mut cursor = Cursor::new(tokens, COWNS);
+    let mut cursor = Cursor::new(tokens, MOST_COWNS as u32);
     let cowns = cowns(alloc, &mut cursor)?;
-    cursor.refill(DEFS);
+    cursor.refill(MOST_DEFS as u32);
     let defs = defs(alloc, &mut cursor)?;
     let main = main_block(alloc, &mut cursor)?;
     Ok(Tree { cowns, defs, main })
@@ -171,7 +165,7 @@ fn names<'a>(alloc: Global, cursor: &mut Cursor<'_, 'a>, close: Sign) -> Read<Ve
         return Ok(all);
     }
     'names: loop {
-        if all.len() == LISTED {
+        if all.len() == MOST_LISTED {
             return Err(ninth(cursor));
         }
         all.push(cursor.name()?)?;
@@ -195,7 +189,7 @@ fn body<'a>(alloc: Global, cursor: &mut Cursor<'_, 'a>) -> Read<Vec<Stmt<'a>>>
     ensures answers { Parses body_phrase (λ v. block_of v.items) cursor.old result cursor.new }
     ensures shorter { OnOk result (length cursor.new.tokens < length cursor.old.tokens) }
 {
-    let outer = cursor.refill(NODES);
+    let outer = cursor.refill(MOST_NODES as u32);
     let body = braced(alloc, cursor)?;
     cursor.refill(outer);
     Ok(body)
@@ -371,7 +365,7 @@ fn exprs<'a>(alloc: Global, cursor: &mut Cursor<'_, 'a>) -> Read<Vec<Expr<'a>>>
         return Ok(all);
     }
     'exprs: loop {
-        if all.len() == LISTED {
+        if all.len() == MOST_LISTED {
             return Err(ninth_argument(cursor));
         }
         all.push(expr(alloc, cursor)?)?;
@@ -402,7 +396,7 @@ fn refs<'a>(alloc: Global, cursor: &mut Cursor<'_, 'a>) -> Read<Vec<NamedCown<'a
         return Ok(all);
     }
     'refs: loop {
-        if all.len() == LISTED {
+        if all.len() == MOST_LISTED {
             return Err(ninth(cursor));
         }
         all.push(reference(alloc, cursor)?)?;

@@ -2,6 +2,7 @@
 
 ghost use Rattle.std.specs.Prelude.{◌≡◌, ◌≢◌, ◌≤◌, ℕ, List, length, take, MatchResult};
 ghost use Rattle.boc_reader.specs.Spells.{Spells, plain_program};
+ghost use Rattle.boc_program.specs.declared.limits.TheConstants.{MOST_TEXT};
 ghost use Rattle.boc_program.specs.declared.program.Program.{Program};
 ghost use Rattle.boc_reader.specs.Placed.{Refusal};
 ghost use Rattle.boc_reader.specs.FaultMeanings.{HasNoTokens, HasNoShape, HasNoNames, SaysOf, IsLineIn, IsRefusalOf};
@@ -12,7 +13,7 @@ use crate::fault::{Fault, NameFault, ReadFault, ReadFaultKind, ShapeFault, Token
 use crate::lex::tokens;
 use crate::names::resolve_program;
 use crate::parse::parse_tree;
-use crate::token::LONGEST;
+use boc_program::limits::MOST_TEXT;
 use boc_program::program::Program;
 use std::alloc::Global;
 
@@ -27,9 +28,9 @@ const NO_MEMORY: ReadFault = ReadFault {
 pub fn read_program(alloc: Global, text: &[u8]) -> Result<Program, ReadFault>
     ensures { MatchResult result (Spells text.now) (λ f. IsRefusalOf f text.now) }
 {
-    if text.len() > LONGEST {
+    if text.len() > MOST_TEXT {
         return Err(ReadFault {
-            line: line_after(text.split_at(LONGEST).0),
+            line: line_after(text.split_at(MOST_TEXT).0),
             kind: ReadFaultKind::TooLong,
         });
     }
@@ -49,7 +50,7 @@ pub fn read_program(alloc: Global, text: &[u8]) -> Result<Program, ReadFault>
 
 // A fault of the first pass.
 fn no_tokens(text: &[u8], fault: Fault<TokenFault>) -> ReadFault
-    requires short { length text.now ≤ 65536 }
+    requires short { length text.now ≤ MOST_TEXT }
     requires none { Refusal fault (HasNoTokens text.now) }
     ensures { IsRefusalOf result text.now }
 {
@@ -67,7 +68,7 @@ fn no_tokens(text: &[u8], fault: Fault<TokenFault>) -> ReadFault
 
 // A fault of the second pass.
 fn no_shape(text: &[u8], fault: Fault<ShapeFault>) -> ReadFault
-    requires short { length text.now ≤ 65536 }
+    requires short { length text.now ≤ MOST_TEXT }
     requires none { Refusal fault (HasNoShape text.now) }
     ensures { IsRefusalOf result text.now }
 {
@@ -84,7 +85,7 @@ fn no_shape(text: &[u8], fault: Fault<ShapeFault>) -> ReadFault
 
 // A fault of the third pass.
 fn no_names(text: &[u8], fault: Fault<NameFault>) -> ReadFault
-    requires short { length text.now ≤ 65536 }
+    requires short { length text.now ≤ MOST_TEXT }
     requires none { Refusal fault (HasNoNames text.now) }
     ensures { IsRefusalOf result text.now }
 {
@@ -102,7 +103,7 @@ fn no_names(text: &[u8], fault: Fault<NameFault>) -> ReadFault
 
 // The number of the line in which a byte stands, or the last one at the end of the text.
 fn line_at(text: &[u8], at: usize) -> u32
-    requires { length text.now ≤ 65536 }
+    requires { length text.now ≤ MOST_TEXT }
     ensures value { result ≡ line_after (take at text.now) }
     ensures within { IsLineIn result text.now }
 {
@@ -111,7 +112,7 @@ fn line_at(text: &[u8], at: usize) -> u32
 
 // The number of the line that these bytes lead to.
 fn line_after(front: &[u8]) -> u32
-    requires { length front.now ≤ 65536 }
+    requires { length front.now ≤ MOST_TEXT }
     ensures { result ≡ line_after front.now }
 {
     let mut line = 1;

@@ -3,9 +3,6 @@
 use crate::natural::Natural;
 use crate::terminal::{Keyword, Sign};
 
-/// The most bytes of a text. Each token begins before this byte.
-pub const LONGEST: usize = 65_536;
-
 /// A token. A name is the part of the text that spells it.
 #[derive(Clone, Copy, Debug)]
 pub enum Token<'a> {

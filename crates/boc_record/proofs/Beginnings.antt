@@ -2,7 +2,7 @@
 use Rattle.std.proofs.Common.{◌≡◌, ℕ, ◌+◌, ◌<◌, List, [], ◌∷◌, ◌++◌, length, get_or, refl, sym, ◌∙◌, ap, subst, arith, append_assoc, length-append}
 use Rattle.std.specs.Prelude.{codes}
 use Rattle.std.proofs.lemmas.List.{get_or-take, length-take}
-use Rattle.boc_program.specs.declared.limits.TheConstants.{MOST_LINE}
+use Rattle.boc_text.specs.declared.lines.TheConstants.{MOST_LINE}
 use Rattle.boc_runs.specs.declared.event.Event.{Event}
 use Rattle.boc_runs.specs.Legal.{Entry, entries, after, after_all, IsAllowed, IsLegalFrom, IsLegal}
 use Rattle.boc_record.specs.RecordTexts.{Version, header, event_line, event_lines, begun, line, BeginsWith, BeginsLong, IsCut, IsSpelt, AreSpelt, HasBegun}

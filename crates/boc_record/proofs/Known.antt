@@ -11,7 +11,8 @@ use Rattle.boc_record.specs.declared.verdict.RecordFaultKind.TheVariants as kind
 use Rattle.boc_runs.specs.declared.event.Event.{Event}
 use Rattle.boc_runs.specs.declared.event.BrokenRule.{BrokenRule}
 use Rattle.boc_runs.specs.declared.event.BrokenRule.TheVariants as rules
-use Rattle.boc_program.specs.declared.limits.TheConstants.{MOST_LINE, MOST_ROWS}
+use Rattle.boc_program.specs.declared.limits.TheConstants.{MOST_ROWS}
+use Rattle.boc_text.specs.declared.lines.TheConstants.{MOST_LINE}
 use Rattle.boc_runs.specs.Legal.{Entry, entries, IsComplete, IsFirstBroken}
 use Rattle.boc_runs.specs.declared.rows.Row.{Row}
 use Rattle.boc_runs.specs.Records.{Recorded, IsRecord, AreRowsOf}

@@ -6,7 +6,8 @@ use Rattle.std.proofs.lemmas.Option.{slice_get_within}
 use Rattle.std.proofs.lemmas.Fmt.{length-decimal-le}
 use Rattle.boc_program.specs.declared.body.EndStatus.{EndStatus}
 use Rattle.boc_program.specs.declared.body.EndStatus.TheVariants as statuses
-use Rattle.boc_program.specs.declared.limits.TheConstants.{MOST_COWNS, MOST_HELD, MOST_LINE, MOST_ROWS, MOST_TICKS}
+use Rattle.boc_program.specs.declared.limits.TheConstants.{MOST_COWNS, MOST_HELD, MOST_ROWS, MOST_TICKS}
+use Rattle.boc_text.specs.declared.lines.TheConstants.{MOST_LINE}
 use Rattle.boc_runs.specs.declared.event.Event.{Event}
 use Rattle.boc_runs.specs.declared.event.Event.TheVariants.{Spawn, Start, End}
 use Rattle.boc_runs.specs.declared.event.BrokenRule.TheVariants as rules

@@ -1,6 +1,6 @@
 -- The line of an event that is read without looking for its end first.
 use Rattle.std.specs.Prelude.{◌≡◌, ℕ, ◌+◌, ◌*◌, ◌<◌, ◌≤◌, ◌^◌, List, ◌++◌, length, drop}
-use Rattle.boc_program.specs.declared.limits.TheConstants.{MOST_LINE}
+use Rattle.boc_text.specs.declared.lines.TheConstants.{MOST_LINE}
 use Rattle.boc_runs.specs.declared.event.Event.{Event}
 use Rattle.boc_runs.specs.Legal.{Entry, HasBounds}
 use Rattle.boc_record.specs.RecordTexts.{Version, field, fields, line, event_line, IsSpelt}

@@ -1,7 +1,8 @@
 -- What was found of the text of a record.
 use Rattle.std.specs.Prelude.{◌≡◌, ◌==◌, ℕ, ◌+◌, ◌≤◌, ◌<◌, ◌⊎◌, List, [], ◌∷◌, ◌++◌, length, count_by, codes, Option, Some, None, IfSome, Result, Ok, Err}
 use Rattle.std.specs.Io.KnownBytes.{Consumes, IsAtEnd}
-use Rattle.boc_program.specs.declared.limits.TheConstants.{MOST_COWNS, MOST_LINE}
+use Rattle.boc_program.specs.declared.limits.TheConstants.{MOST_COWNS}
+use Rattle.boc_text.specs.declared.lines.TheConstants.{MOST_LINE}
 use Rattle.boc_runs.specs.declared.event.Event.{Event}
 use Rattle.boc_record.specs.declared.verdict.RecordFaultKind.{RecordFaultKind}
 use Rattle.boc_record.specs.declared.verdict.RecordFaultKind.TheVariants as kinds

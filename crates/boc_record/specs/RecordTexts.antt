@@ -1,6 +1,7 @@
 -- The text of a record, and what a text that is none has first wrong.
 use Rattle.std.specs.Prelude.{◌≡◌, ◌≢◌, ℕ, ◌+◌, ◌<◌, ◌≤◌, ◌⊎◌, List, [], ◌∷◌, ◌++◌, length, take, All, codes, decimal}
-use Rattle.boc_program.specs.declared.limits.TheConstants.{MOST_COWNS, MOST_LINE}
+use Rattle.boc_program.specs.declared.limits.TheConstants.{MOST_COWNS}
+use Rattle.boc_text.specs.declared.lines.TheConstants.{MOST_LINE}
 use Rattle.boc_program.specs.declared.body.EndStatus.{EndStatus}
 use Rattle.boc_program.specs.declared.body.EndStatus.TheVariants as statuses
 use Rattle.boc_runs.specs.declared.event.Event.{Event}

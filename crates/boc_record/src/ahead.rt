@@ -9,9 +9,9 @@ ghost use Rattle.boc_record.specs.Ahead.{IsFieldAhead, AreFieldsAhead, TellsAhea
 
 use crate::line::status_of;
 use crate::version::Version;
-use boc_program::limits::MOST_LINE;
 use boc_program::short::Cowns;
 use boc_runs::event::Event;
+use boc_text::MOST_LINE;
 
 /// How many bytes are looked at: a sign, eleven fields of at most eight bytes, and as many again as a field and a byte.
 const AHEAD: usize = 98;

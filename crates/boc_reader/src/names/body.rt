@@ -1,6 +1,7 @@
 // Bodies, with every name resolved.
 
 ghost use Rattle.std.specs.Prelude.{◌≡◌, ◌≤◌, ◌++◌, [], IfOk, map, length};
+ghost use Rattle.boc_program.specs.declared.limits.TheConstants.{MOST_ARGUMENTS, MOST_COWNS, MOST_HELD, MOST_SLOTS};
 ghost use Rattle.boc_program.specs.Syntax.{Done};
 ghost use Rattle.boc_reader.specs.Shape.{IsSmallBody};
 ghost use Rattle.boc_program.specs.memory.View.{code_of, before};
@@ -20,7 +21,7 @@ use std::alloc::{AllocError, Global};
 // One slot more than the greatest that a block writes, and `least` at the least.
 #[cycle(slots)]
 fn block_slots(block: &Block, least: usize) -> usize
-    requires { deepest least block.now ≤ 1016 }
+    requires { deepest least block.now ≤ MOST_SLOTS }
     ensures { result ≡ deepest least block.now }
 {
     stmts_slots(block.as_slice(), least)
@@ -29,7 +30,7 @@ fn block_slots(block: &Block, least: usize) -> usize
 #[cycle(slots)]
 #[tactic(auto, using(crate::proofs::ResolvingSlots::deepest_before, boc_program::proofs::Followed::then_size, boc_program::proofs::Followed::then_positive))]
 fn stmts_slots(stmts: &[Stmt], least: usize) -> usize
-    requires { deepest least (code_of stmts.now) ≤ 1016 }
+    requires { deepest least (code_of stmts.now) ≤ MOST_SLOTS }
     ensures { result ≡ deepest least (code_of stmts.now) }
 {
     match stmts {
@@ -40,7 +41,7 @@ fn stmts_slots(stmts: &[Stmt], least: usize) -> usize
 
 #[cycle(slots)]
 fn stmt_slots(stmt: &Stmt, least: usize) -> usize
-    requires { deepest least (before stmt.now Done) ≤ 1016 }
+    requires { deepest least (before stmt.now Done) ≤ MOST_SLOTS }
     ensures { result ≡ deepest least (before stmt.now Done) }
 {
     match stmt {
@@ -107,10 +108,10 @@ pub fn resolve_body<'a>(
     held: &[Spot<'a>],
     block: &[shape::Stmt<'a>],
 ) -> Result<Body, Fault<NameFault>>
-    requires few_params { length params.now ≤ 8 }
-    requires few_cowns { length held.now ≤ 8 }
+    requires few_params { length params.now ≤ MOST_ARGUMENTS }
+    requires few_cowns { length held.now ≤ MOST_HELD }
     requires small { IsSmallBody (block_of block.now) }
-    requires cowns { EndWithin 256 (declared_of top.now).cowns }
+    requires cowns { EndWithin MOST_COWNS (declared_of top.now).cowns }
     ensures { Yields plain_body result (body_names (declared_of top.now) (map name_of params.now) (map name_of held.now) (block_of block.now)) }
 {
     let mut scope = parameters(alloc, top, params, held)?;

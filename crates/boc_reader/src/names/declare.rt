@@ -2,6 +2,7 @@
 
 ghost use Rattle.std.specs.Prelude.{◌≡◌, ◌≤◌, [], IfOk, map};
 ghost use Rattle.std.specs.Option.{option_map};
+ghost use Rattle.boc_program.specs.declared.limits.TheConstants.{MOST_COWNS};
 ghost use Rattle.boc_program.specs.Sizes.{members};
 ghost use Rattle.boc_reader.specs.Shape.{cowns_declared};
 ghost use Rattle.boc_reader.specs.Names.{plain_cown, among};
@@ -19,7 +20,7 @@ use std::alloc::{AllocError, Global};
 
 // The size of an array, if a cown is one.
 fn array_size(cown: &CownShape<'_>) -> Option<u32>
-    requires { members cown.now.size ≤ 256 }
+    requires { members cown.now.size ≤ MOST_COWNS }
     ensures { result ≡ cown.now.size }
 {
     match cown.size {
@@ -40,7 +41,7 @@ fn declare_cowns<'a>(
     alloc: Global,
     cowns: &[CownShape<'a>],
 ) -> Result<Vec<TopCown<'a>>, Fault<NameFault>>
-    requires { cowns_declared (map cown_of cowns.now) ≤ 256 }
+    requires { cowns_declared (map cown_of cowns.now) ≤ MOST_COWNS }
     ensures { Yields (λ v. map global_of v.items) result (cowns_behind [] 0 (map cown_of cowns.now)) }
 {
     let mut declared = Vec::new(alloc);
@@ -83,9 +84,9 @@ fn declare_defs<'a>(
 
 /// What is declared at the top of the whole text.
 pub fn declare_top<'a>(alloc: Global, tree: &Tree<'a>) -> Result<Top<'a>, Fault<NameFault>>
-    requires { cowns_declared (tree_of tree.now).cowns ≤ 256 }
+    requires { cowns_declared (tree_of tree.now).cowns ≤ MOST_COWNS }
     ensures top { Yields declared_of result (top_in_order (tree_of tree.now)) }
-    ensures cowns { IfOk result (λ top. EndWithin 256 (declared_of top).cowns) }
+    ensures cowns { IfOk result (λ top. EndWithin MOST_COWNS (declared_of top).cowns) }
 {
     let cowns = declare_cowns(alloc, &tree.cowns)?;
     let defs = declare_defs(alloc, &cowns, &tree.defs)?;
@@ -105,7 +106,7 @@ pub fn names_of_cowns<'a>(alloc: Global, cowns: &[TopCown<'a>]) -> Result<Vec<&'
 
 // A cown as the program has it.
 fn resolve_cown(alloc: Global, cown: &CownShape<'_>) -> Result<Cown, AllocError>
-    requires { members cown.now.size ≤ 256 }
+    requires { members cown.now.size ≤ MOST_COWNS }
     ensures { IfOk result (λ made. plain_declared made ≡ plain_cown (cown_of cown.now)) }
 {
     Ok(Cown {
@@ -117,7 +118,7 @@ fn resolve_cown(alloc: Global, cown: &CownShape<'_>) -> Result<Cown, AllocError>
 
 /// The cowns as the program has them.
 pub fn resolve_cowns(alloc: Global, cowns: &[CownShape<'_>]) -> Result<Vec<Cown>, AllocError>
-    requires { cowns_declared (map cown_of cowns.now) ≤ 256 }
+    requires { cowns_declared (map cown_of cowns.now) ≤ MOST_COWNS }
     ensures { IfOk result (λ v. map plain_declared v.items ≡ map plain_cown (map cown_of cowns.now)) }
 {
     let mut all = Vec::new(alloc);

@@ -2,30 +2,18 @@
 
 . bin/lib/tree.sh
 
-# Says what is wrong and what to do, and gives no answer.
-refuse() {
-    status=$1
-    shift
-    for line; do
-        echo "bin/boc: $line" >&2
-    done
-    exit "$status"
-}
+caller=bin/boc
 
 # Finds the program that is of the tree's sources, builds it where there is none, and leaves its place in `program`.
 check() {
-    is_whole "$MANIFEST" "$SHIPPED" || refuse 70 "$fault" "$REMEDY"
+    want_manifest
     if is_tree_of "$MANIFEST"; then
-        [ -x "$SHIPPED" ] || refuse 70 "$SHIPPED may not be run" "\`chmod +x $SHIPPED\` lets it run"
-        runs_here "$SHIPPED" || refuse 70 "$fault" "where the Rattle kit is, bin/build makes one for it: $BUILT"
+        want_running "where the Rattle kit is, bin/build makes one for it: $BUILT"
         program=$SHIPPED
         note "$MANIFEST"
         return
     fi
-    is_comparable
-    case $differing$lacking in
-    "$SHIPPED") refuse 70 "$SHIPPED is not the program that $MANIFEST tells of, or can't be read" "$REMEDY" ;;
-    esac
+    want_program
     changed=$differing
     gone=$lacking
     program=$BUILT
@@ -34,11 +22,6 @@ check() {
         is_built || refuse 70 "the sources have changed while they were proved and built; call it again"
     fi
     note "$BUILT_MANIFEST"
-}
-
-# Refuses where sha256sum found no file that differs, and doesn't say that none does.
-is_comparable() {
-    [ -n "$differing$lacking" ] || refuse 70 "sha256sum can't compare what $MANIFEST names: it isn't there, or a line of the manifest is none of its lines" "$REMEDY"
 }
 
 # Whether what was built here is of the tree's sources.

@@ -10,6 +10,16 @@ BUILT_MANIFEST=crates/boc/out/MANIFEST
 BUILT=crates/boc/out/boc
 REMEDY='`git checkout dist` brings it back; bin/build and then bin/ship make it anew'
 
+# Says what is wrong and what to do, and gives no answer. Who says it stands in `caller`.
+refuse() {
+    status=$1
+    shift
+    for line; do
+        echo "$caller: $line" >&2
+    done
+    exit "$status"
+}
+
 # The files that a manifest names, one a line.
 files_of() {
     head -n -1 "$1" | tail -n +6 | cut -c67-
@@ -67,4 +77,23 @@ runs_here() {
         fault="$1 is for x86-64 Linux with the GNU C library, version 2.34 or later, and $fault"
         return 1
     fi
+}
+
+# Refuses where dist/ has no whole manifest.
+want_manifest() {
+    is_whole "$MANIFEST" "$SHIPPED" || refuse 70 "$fault" "$REMEDY"
+}
+
+# Refuses where it is the shipped program that differs from its manifest, or where sha256sum could compare nothing.
+want_program() {
+    case $differing$lacking in
+    "$SHIPPED") refuse 70 "$SHIPPED is not the program that $MANIFEST tells of, or can't be read" "$REMEDY" ;;
+    '') refuse 70 "sha256sum can't compare what $MANIFEST names: it isn't there, or a line of the manifest is none of its lines" "$REMEDY" ;;
+    esac
+}
+
+# Refuses where the shipped program may not be run, or does not run here, for which there are further lines.
+want_running() {
+    [ -x "$SHIPPED" ] || refuse 70 "$SHIPPED may not be run" "\`chmod +x $SHIPPED\` lets it run"
+    runs_here "$SHIPPED" || refuse 70 "$fault" "$@"
 }

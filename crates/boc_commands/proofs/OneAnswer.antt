@@ -14,7 +14,7 @@ use Rattle.boc_plans.specs.Edits.{AllFit, all_edited, IsSweep}
 use Rattle.boc_commands.specs.Answers.{IsAskedPart, IsGreedyPart, IsReport, IsValuesAnswer, IsCheckAnswer, IsProfileAnswer, IsWhatIfAnswer, IsSweepAnswer}
 use Rattle.boc_commands.specs.ValueTexts.{values_text, check_text}
 use Rattle.boc_report.specs.Texts.{report_text, greedy_text, sweep_lines}
-use Rattle.boc_plans.proofs.Editing.{rows_edited}
+use Rattle.boc_runs.proofs.Editing.{rows_edited}
 use Rattle.boc_runs.proofs.OwnOrders.{ends_once}
 use Rattle.boc_plans.proofs.Seeing.{rows_seen}
 use Rattle.boc_rules.proofs.Finished.{is_rows}

@@ -3,8 +3,8 @@ use Rattle.std.proofs.Common.{zero, suc, get_or, length, take, drop, ◌≡◌, 
 use Rattle.boc_runs.specs.declared.rows.Row.{Row}
 use Rattle.boc_plans.specs.declared.edit.Edit.{Edit}
 use Rattle.boc_plans.specs.declared.edit.EditFault.{EditFault}
-use Rattle.boc_runs.specs.Rows.{edited}
-use Rattle.boc_plans.specs.Edits.{AllFit, Fits, IsEditFault, IsFirstUnfit, all_edited}
+use Rattle.boc_runs.specs.Rows.{Fits, edited}
+use Rattle.boc_plans.specs.Edits.{AllFit, IsEditFault, IsFirstUnfit, all_edited}
 
 -- one edit more fits
 pub fit_more : (rows : List Row) (edits : List Edit) (i : ℕ) (d : Edit) → i < length edits → AllFit rows (take i edits)

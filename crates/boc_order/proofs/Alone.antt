@@ -14,7 +14,7 @@ use Rattle.boc_plans.specs.Plans.{work_of, IsEnd, IsEarliest, HasEnds}
 use Rattle.boc_plans.specs.Chains.{LinkVia, IsLink, PickedVia, IsPicked}
 use Rattle.boc_plans.specs.Greedy.{IsSpan, IsBound}
 use Rattle.boc_plans.specs.Edits.{IsLeastSpan, IsSweep}
-use Rattle.boc_plans.proofs.Editing.{one_last}
+use Rattle.boc_runs.proofs.Editing.{one_last}
 
 -- no plan of the earliest starts a row before another
 pub one_plan : (rows : List Row) (plan other : List ℕ) → IsEarliest rows plan → IsEarliest rows other → plan ≡ other

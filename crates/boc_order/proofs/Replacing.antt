@@ -5,7 +5,7 @@ use Rattle.std.proofs.lemmas.List.{get_or-take, length-take}
 use Rattle.boc_runs.specs.declared.rows.Row.{Row}
 use Rattle.boc_runs.specs.Rows.{IsRows, edited}
 use Rattle.boc_plans.specs.Greedy.{IsSpan}
-use Rattle.boc_plans.proofs.Editing.{length-edited, parent_of-edited, offset_of-edited, cowns_of-edited, written_of-edited, ticks_of-edited_other}
+use Rattle.boc_runs.proofs.Editing.{length-edited, parent_of-edited, offset_of-edited, cowns_of-edited, written_of-edited, ticks_of-edited_other}
 use Rattle.boc_order.specs.Placed.{ArePlaced}
 use Rattle.boc_order.specs.Waits.{IsNear}
 use Rattle.boc_order.proofs.Placing.{AreSameBefore, same_back, conflict_same, still_placed}

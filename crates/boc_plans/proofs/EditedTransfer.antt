@@ -2,12 +2,12 @@
 use Rattle.std.proofs.Common.{◌≡◌, ℕ, zero, suc, ◌<◌, ◌≤◌, List, [], ◌∷◌, refl, inl, inr, arith}
 use Rattle.boc_program.specs.declared.body.EndStatus.TheVariants.{Done}
 use Rattle.boc_runs.specs.declared.rows.Row.{Row}
-use Rattle.boc_runs.specs.Rows.{IsLast, parent_of, offset_of, edited}
+use Rattle.boc_runs.specs.Rows.{IsLast, parent_of, offset_of, edited, Fits}
 use Rattle.boc_plans.specs.Plans.{work_of}
 use Rattle.boc_plans.specs.declared.edit.Edit.{Edit}
 use Rattle.boc_plans.specs.declared.edit.EditFault.TheVariants.{BelowSpawn, NoRow}
-use Rattle.boc_plans.specs.Edits.{all_edited, Fits, AllFit, IsLeastTicks, IsBelowSpawn, IsFirstUnfit}
-use Rattle.boc_plans.proofs.Editing.{last_edited}
+use Rattle.boc_plans.specs.Edits.{all_edited, AllFit, IsLeastTicks, IsBelowSpawn, IsFirstUnfit}
+use Rattle.boc_runs.proofs.Editing.{last_edited}
 
 abbrev row : ℕ → List ℕ → ℕ → Row
 row offset cowns ticks = record {

@@ -1,4 +1,4 @@
 pub mod EditedTransfer
 pub mod Children
-pub mod Editing
 pub mod Seeing
+pub mod EditedOrder

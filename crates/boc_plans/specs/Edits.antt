@@ -5,7 +5,7 @@ use Rattle.boc_runs.specs.declared.rows.Row.{Row}
 use Rattle.boc_plans.specs.declared.edit.Edit.{Edit}
 use Rattle.boc_plans.specs.declared.edit.EditFault.{EditFault}
 use Rattle.boc_plans.specs.declared.edit.EditFault.TheVariants.{NoRow, BelowSpawn, TooManyTicks}
-use Rattle.boc_runs.specs.Rows.{IsLast, edited}
+use Rattle.boc_runs.specs.Rows.{IsLast, edited, Fits}
 use Rattle.boc_plans.specs.Greedy.{IsSpan}
 
 -- the least ticks that a row can take: the offset of its last child, and 1 at least
@@ -13,15 +13,6 @@ pub record IsLeastTicks (rows : List Row) (row least : ℕ) : Type 0 where
   pub last : ℕ
   pub is_last : IsLast rows (length rows) row last
   pub is : least ≡ max 1 last
-
--- the row is there and can take these ticks: 1 to 1,000,000, and no fewer than the offset of its last child
-pub record Fits (rows : List Row) (row ticks : ℕ) : Type 0 where
-  pub there : row < length rows
-  pub low : 1 ≤ ticks
-  pub high : ticks ≤ MOST_TICKS
-  pub last : ℕ
-  pub is_last : IsLast rows (length rows) row last
-  pub covers : last ≤ ticks
 
 -- the row is there, and the ticks are below the least that it can take
 pub record IsBelowSpawn (rows : List Row) (row ticks : ℕ) : Type 0 where

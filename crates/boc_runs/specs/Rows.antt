@@ -70,3 +70,12 @@ abbrev pub edited : List Row → ℕ → ℕ → List Row
 edited [] row ticks = []
 edited (x ∷ rows) zero ticks = record x { ticks = ticks } ∷ rows
 edited (x ∷ rows) (suc row) ticks = x ∷ edited rows row ticks
+
+-- the row is there and can take these ticks: 1 to 1,000,000, and no fewer than the offset of its last child
+pub record Fits (rows : List Row) (row ticks : ℕ) : Type 0 where
+  pub there : row < length rows
+  pub low : 1 ≤ ticks
+  pub high : ticks ≤ MOST_TICKS
+  pub last : ℕ
+  pub is_last : IsLast rows (length rows) row last
+  pub covers : last ≤ ticks

@@ -67,8 +67,7 @@ impl Row {
 }
 
 impl Rows {
-    ghost use Rattle.boc_runs.specs.Rows.{IsRows, edited};
-    ghost use Rattle.boc_plans.specs.Edits.{Fits};
+    ghost use Rattle.boc_runs.specs.Rows.{IsRows, Fits, edited};
 
     /// These rows, main first. It takes no memory.
     pub fn new(list: Vec<Row>) -> Rows

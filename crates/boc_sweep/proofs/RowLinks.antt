@@ -3,13 +3,12 @@ use Rattle.std.proofs.Common.{◌≡◌, ◌≢◌, ℕ, ◌+◌, ◌*◌, ◌<�
 use Rattle.std.specs.Prelude.{slice_index_or, MatchOption}
 use Rattle.std.proofs.lemmas.Bool.{cases_eq}
 use Rattle.boc_runs.specs.declared.rows.Row.{Row}
-use Rattle.boc_runs.specs.Rows.{IsRows, offset_of, ticks_of, edited}
+use Rattle.boc_runs.specs.Rows.{IsRows, offset_of, ticks_of, edited, Fits}
 use Rattle.boc_plans.specs.Plans.{start_of, IsChild, IsEnd}
 use Rattle.boc_plans.specs.Chains.{IsSpawnTight, IsOrderTight}
-use Rattle.boc_plans.specs.Edits.{Fits}
 use Rattle.boc_plans.specs.Greedy.{IsSpan}
-use Rattle.boc_plans.proofs.Editing.{length-edited, parent_of-edited, offset_of-edited, ordered_edited, ordered_back, ticks_of-edited_other, edited_back}
-use Rattle.boc_plans.proofs.Editing.{rows_edited}
+use Rattle.boc_plans.proofs.EditedOrder.{ordered_edited, ordered_back}
+use Rattle.boc_runs.proofs.Editing.{length-edited, parent_of-edited, offset_of-edited, ticks_of-edited_other, edited_back, rows_edited}
 use Rattle.boc_order.specs.Placed.{ArePlaced}
 use Rattle.boc_order.proofs.Chaining.{placed_earliest}
 use Rattle.boc_sweep.specs.Ways.{AreHeads, ChangesAt}

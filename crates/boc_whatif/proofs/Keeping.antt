@@ -2,10 +2,9 @@
 use Rattle.std.proofs.Common.{◌≡◌, ℕ, ◌≤◌, List, length, ap, sym, ◌∙◌, subst, inl, inr, arith}
 use Rattle.boc_runs.specs.declared.rows.Row.{Row}
 use Rattle.boc_plans.specs.declared.sharing.Sharing.{Sharing}
-use Rattle.boc_runs.specs.Rows.{IsLast, IsRows, edited}
+use Rattle.boc_runs.specs.Rows.{IsLast, IsRows, edited, Fits}
 use Rattle.boc_plans.specs.Seen.{seen}
-use Rattle.boc_plans.specs.Edits.{Fits}
-use Rattle.boc_plans.proofs.Editing.{length-edited, last_edited, rows_edited}
+use Rattle.boc_runs.proofs.Editing.{length-edited, last_edited, rows_edited}
 use Rattle.boc_plans.proofs.Seeing.{length-seen, parent_of-seen, offset_of-seen, rows_seen, edited-seen}
 use Rattle.boc_order.specs.declared.plan.Earliest.{Earliest}
 use Rattle.boc_order.specs.Room.{HasRoom}

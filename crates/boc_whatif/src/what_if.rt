@@ -3,8 +3,8 @@
 ghost use Rattle.std.specs.Prelude.{◌≡◌, ◌≤◌, ◌+◌, length, IfOk, IfErr, OnOk, OnErr, MatchResult};
 ghost use Rattle.boc_plans.specs.Plans.{work_of};
 ghost use Rattle.boc_plans.specs.Greedy.{IsSpan};
-ghost use Rattle.boc_runs.specs.Rows.{edited};
-ghost use Rattle.boc_plans.specs.Edits.{Fits, IsEditFault, IsSweep};
+ghost use Rattle.boc_runs.specs.Rows.{Fits, edited};
+ghost use Rattle.boc_plans.specs.Edits.{IsEditFault, IsSweep};
 ghost use Rattle.boc_plans.specs.Seen.{seen};
 ghost use Rattle.boc_order.specs.Profiles.{IsProfileOf};
 ghost use Rattle.boc_greedy.specs.Plans.{IsGreedyPlanOf};

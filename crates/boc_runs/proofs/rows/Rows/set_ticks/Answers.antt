@@ -1,6 +1,6 @@
 use Rattle.std.proofs.Common.{sym, subst}
 use Rattle.boc_runs.specs.Rows.{IsRows}
-use Rattle.boc_plans.proofs.Editing.{edited_seen, rows_edited}
+use Rattle.boc_runs.proofs.Editing.{edited_seen, rows_edited}
 use Rattle.boc_runs.proofs.rows.Rows.set_ticks.Goals as goal
 
 pub invariant_of-self : goal.invariant_of-self

@@ -4,9 +4,7 @@ use Rattle.std.specs.Option.{option_map_or}
 use Rattle.std.specs.Prelude.{slice_get, slice_set, max}
 use Rattle.std.proofs.lemmas.Bool.{cases_eq}
 use Rattle.boc_runs.specs.declared.rows.Row.{Row}
-use Rattle.boc_runs.specs.Rows.{IsRows, IsLast, parent_of, offset_of, ticks_of, cowns_of, written_of, edited}
-use Rattle.boc_plans.specs.Plans.{ConflictOn, Ordered}
-use Rattle.boc_plans.specs.Edits.{Fits}
+use Rattle.boc_runs.specs.Rows.{IsRows, IsLast, parent_of, offset_of, ticks_of, cowns_of, written_of, edited, Fits}
 
 -- all but the ticks stays
 pub length-edited : (rows : List Row) (row ticks : ℕ) → length (edited rows row ticks) ≡ length rows
@@ -46,28 +44,6 @@ pub ticks_of-edited_same : (rows : List Row) (row ticks : ℕ) → row < length 
 ticks_of-edited_same [] row ticks h = absurd (omega arith)
 ticks_of-edited_same (x ∷ rows) zero ticks h = refl
 ticks_of-edited_same (x ∷ rows) (suc row) ticks h = ticks_of-edited_same rows row ticks (omega arith)
-
--- rows conflict as before
-pub conflict_edited : (rows : List Row) (row ticks c a b : ℕ) → ConflictOn rows c a b → ConflictOn (edited rows row ticks) c a b
-conflict_edited rows row ticks c a b o = record {
-  first = rw (cowns_of-edited rows row ticks a) o.first;
-  second = rw (cowns_of-edited rows row ticks b) o.second;
-  wrote = rw (written_of-edited rows row ticks a, written_of-edited rows row ticks b) o.wrote;
-}
-
-pub conflict_back : (rows : List Row) (row ticks c a b : ℕ) → ConflictOn (edited rows row ticks) c a b → ConflictOn rows c a b
-conflict_back rows row ticks c a b o = record {
-  first = rw (cowns_of-edited rows row ticks a) at o.first;
-  second = rw (cowns_of-edited rows row ticks b) at o.second;
-  wrote = rw (written_of-edited rows row ticks a, written_of-edited rows row ticks b) at o.wrote;
-}
-
--- the order stays
-pub ordered_edited : (rows : List Row) (row ticks a b : ℕ) → Ordered rows a b → Ordered (edited rows row ticks) a b
-ordered_edited rows row ticks a b o = record { before = o.before; shared = (o.shared.0, conflict_edited rows row ticks o.shared.0 a b o.shared.1) }
-
-pub ordered_back : (rows : List Row) (row ticks a b : ℕ) → Ordered (edited rows row ticks) a b → Ordered rows a b
-ordered_back rows row ticks a b o = record { before = o.before; shared = (o.shared.0, conflict_back rows row ticks o.shared.0 a b o.shared.1) }
 
 -- an edit is undone by the ticks that the row had
 pub edited_back : (rows : List Row) (row ticks : ℕ) → edited (edited rows row ticks) row (ticks_of rows row) ≡ rows

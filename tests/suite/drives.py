@@ -1,6 +1,6 @@
 """A drive, each of whose requests for memory is refused in turn: the answer is the want of memory, or the whole right one.
 
-The table of `answers` has the drives, so its program is run on one of them.
+The table of `tables` has the drives, so its program is run on one of them.
 """
 import os
 import tempfile
@@ -9,7 +9,7 @@ from .memory import MOST_REQUESTS, SECONDS, build, run_with_refusal
 from .running import Program, done, fault_of
 
 TOP = os.path.dirname(os.path.dirname(os.path.dirname(os.path.abspath(__file__))))
-ANSWERS = os.path.join(TOP, "crates", "answers", "out", "answers")
+TABLES = os.path.join(TOP, "crates", "tables", "out", "tables")
 
 # Two behaviours, each of which asks for another on the same cown, and what the drive along these choices leaves.
 TWO_COUNTS = "aaaaaaabaaaaaaabbaababbbbbb", b"""cown a = 0;
@@ -65,10 +65,10 @@ SPAWN_LINES = [1, 2, 4, 5, 6]
 
 
 def cases(program):
-    if not os.access(ANSWERS, os.X_OK):
-        yield "the program of the table", f"there is none at {ANSWERS}"
+    if not os.access(TABLES, os.X_OK):
+        yield "the program of the table", f"there is none at {TABLES}"
         return
-    answers = Program(ANSWERS, program.examples)
+    answers = Program(TABLES, program.examples)
     with tempfile.TemporaryDirectory() as folder:
         library = os.path.join(folder, "refuse.so")
         fault = build(library)

@@ -1,6 +1,6 @@
 """Each replacement of one byte of a record's text and of a program's, and each beginning of both: what is told is what plain readers find.
 
-There are more of these texts than the program could be started for in a short while. So they stand in tables for `answers`, a
+There are more of these texts than the program could be started for in a short while. So they stand in tables for `tables`, a
 program of the repository's own tests, which hands each text to the reader that the commands have. The program itself is given those
 with a byte that the texts have.
 """
@@ -12,7 +12,7 @@ from .refusals import READER_KINDS, RECORD_KINDS
 from .running import Program, done, fault_of, refused
 
 TOP = os.path.dirname(os.path.dirname(os.path.dirname(os.path.abspath(__file__))))
-ANSWERS = os.path.join(TOP, "crates", "answers", "out", "answers")
+TABLES = os.path.join(TOP, "crates", "tables", "out", "tables")
 
 # The bytes that records and the program are given in each place, by their kind.
 TRIED = {"record": b" \n.+<>01239b\x80", "program": b" \n{};(09ax=#\x80"}
@@ -86,15 +86,15 @@ def cases(program):
     with ProcessPoolExecutor() as pool:
         for kind, name, command in EXAMPLES:
             text = program.example(name)
-            yield from in_tables(pool, Program(ANSWERS, program.examples), kind, name, text)
+            yield from in_tables(pool, Program(TABLES, program.examples), kind, name, text)
             for place in range(len(text)):
                 yield f"{command} of {name} with another byte at {place}", by_the_program(program, command, kind, text, place)
 
 
 def in_tables(pool, answers, kind, name, text):
     """All replacements and beginnings, a table for each place."""
-    if not os.access(ANSWERS, os.X_OK):
-        yield "the program that works through tables", f"there is none at {ANSWERS}: rt ci builds it"
+    if not os.access(TABLES, os.X_OK):
+        yield "the program that works through tables", f"there is none at {TABLES}: rt ci builds it"
         return
     places = range(len(text))
     for place, expected in zip(places, pool.map(lines_on, [kind] * len(text), [text] * len(text), places, chunksize=4)):

@@ -24,21 +24,21 @@ use Rattle.boc_runs.specs.machine.Turns.{IsEnqueueOf}
 use Rattle.boc_runs.specs.machine.Sound.{IsSound}
 use Rattle.boc_program.specs.Programs.{cown_count}
 use Rattle.boc_program.specs.Signatures.{AllBelow, WishFits, signature_of}
-use Rattle.boc_machine.proofs.Members.{all_fit, next_fits}
-use Rattle.boc_machine.proofs.Rows.{life_there}
+use Rattle.boc_machine_laws.proofs.Members.{all_fit, next_fits}
+use Rattle.boc_machine_laws.proofs.Rows.{life_there}
 use Rattle.boc_eval.specs.Frames.{UnderWay as Framed, Ran, last_of, last_wish_of, wishes_of}
 use Rattle.boc_eval.specs.Wishes.{wish_of}
 use Rattle.boc_eval.specs.declared.wish.SpawnWish.{SpawnWish}
-use Rattle.boc_dispatch.specs.declared.answers.Advanced.{Advanced}
-use Rattle.boc_dispatch.specs.declared.answers.Advanced.TheVariants as advanced
-use Rattle.boc_dispatch.specs.declared.answers.Child.{Child}
-use Rattle.boc_dispatch.specs.declared.answers.Leaving.{Leaving}
-use Rattle.boc_dispatch.specs.declared.answers.Left.{Left}
-use Rattle.boc_dispatch.specs.declared.answers.Left.TheVariants as left
-use Rattle.boc_dispatch.specs.declared.answers.OpenFault.TheVariants as open_faults
-use Rattle.boc_dispatch.specs.declared.answers.Started.TheVariants as started
+use Rattle.boc_dispatch.specs.declared.calls.Advanced.{Advanced}
+use Rattle.boc_dispatch.specs.declared.calls.Advanced.TheVariants as advanced
+use Rattle.boc_dispatch.specs.declared.calls.Child.{Child}
+use Rattle.boc_dispatch.specs.declared.calls.Leaving.{Leaving}
+use Rattle.boc_dispatch.specs.declared.calls.Left.{Left}
+use Rattle.boc_dispatch.specs.declared.calls.Left.TheVariants as left
+use Rattle.boc_dispatch.specs.declared.calls.OpenFault.TheVariants as open_faults
+use Rattle.boc_dispatch.specs.declared.calls.Started.TheVariants as started
 use Rattle.boc_dispatch.specs.declared.live.Live.{Live}
-use Rattle.boc_dispatch.specs.declared.machine.Enqueue.{Enqueue}
+use Rattle.boc_dispatch.specs.declared.roster.Enqueue.{Enqueue}
 use Rattle.boc_dispatch.specs.Underway.{Underway}
 use Rattle.boc_dispatch.specs.Calls.{in_state, IsHandedOut, Begins, IsNextWish, MayAsk, OpensWish, AdvancesChild, FinishesRow, LeavesCown}
 use Rattle.boc_dispatch.specs.Inside.{Parts, state, underway, open_of, behaviour_of, IsKept, IsAtStage, IsNew, Stays}

@@ -21,10 +21,10 @@ use Rattle.boc_runs.specs.machine.Queues.{times, is_granted, is_first}
 use Rattle.boc_runs.specs.machine.Steps.{State, at, queue, members, opened, unrecorded, stepped, with_stage, asking_on, HasNoEnqueue, MayOpen, Opens}
 use Rattle.boc_runs.specs.machine.Steps as steps
 use Rattle.boc_runs.specs.machine.Sound.{IsSound}
-use Rattle.boc_machine.proofs.Lists.{same_or_not, read_pushed, read_front}
-use Rattle.boc_machine.proofs.Counting.{by_test}
-use Rattle.boc_machine.proofs.Keeps.{keeps_opens}
-use Rattle.boc_machine.proofs.Rows.{life_there}
+use Rattle.boc_machine_laws.proofs.Lists.{same_or_not, read_pushed, read_front}
+use Rattle.boc_machine_laws.proofs.Counting.{by_test}
+use Rattle.boc_machine_laws.proofs.Keeps.{keeps_opens}
+use Rattle.boc_machine_laws.proofs.Rows.{life_there}
 use Rattle.boc_chain.specs.declared.request.Request.{Request}
 use Rattle.boc_chain.specs.Chain.{Place}
 use Rattle.boc_chain.specs.Chain.{times as times_in}
@@ -231,8 +231,13 @@ module _ (d : Parts) (k : IsKept d) (row slot : ℕ) (p : Live) (it : IsAtStage 
             | inl e ↦
                 let this = p_only h.parent h.home e h.is in
                 absurd (let f : Some r ≡ None = sym h.knows ∙ ap (λ z. z.child) this ∙ free in cc)
-            | inr n ↦ record { home = h.home; parent = h.parent; is = e_other h.home (not_own h.home h.parent h.is) n ∙ h.is; row_is = h.row_is;
-                knows = h.knows }
+            | inr n ↦ record {
+              home = h.home;
+              parent = h.parent;
+              is = e_other h.home (not_own h.home h.parent h.is) n ∙ h.is;
+              row_is = h.row_is;
+              knows = h.knows;
+            }
           ]
 
       in_hand_after : AreInHand E.live

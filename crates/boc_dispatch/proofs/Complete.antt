@@ -10,7 +10,7 @@ use Rattle.boc_program.specs.Changed.{changed}
 use Rattle.boc_runs.specs.Lives.{Life, Pending, Running, Ended}
 use Rattle.boc_runs.specs.Serial.{behaviour_of}
 use Rattle.boc_runs.specs.Legal.{Entry, pending, after, after_all, entries, IsComplete}
-use Rattle.boc_machine.proofs.Rows.{changed_later}
+use Rattle.boc_machine_laws.proofs.Rows.{changed_later}
 use Rattle.boc_runs.specs.Run.{Member, Config, config_after, config_after_all, config_of, opening, waiting, spawned_by, started_on, members_after_spawn}
 use Rattle.boc_runs.specs.Run.{MaySpawn, MayHappen, IsRunFrom, IsRun, IsWholeRun}
 

@@ -6,7 +6,7 @@ use Rattle.std.proofs.lemmas.Bool.Decides.{Decides-eqb, Decides-ltb}
 use Rattle.std.proofs.lemmas.List.Sums.{sum_by-cons}
 use Rattle.boc_runs.specs.machine.Stages.{OpenBehaviour, cowns_of, settled}
 use Rattle.boc_runs.specs.machine.Queues.{times, is_first, is_granted, all_granted}
-use Rattle.boc_machine.proofs.Lists.{same_or_not, not_eq, times-here, times-other}
+use Rattle.boc_machine_laws.proofs.Lists.{same_or_not, not_eq, times-here, times-other}
 
 -- how many of a list fail a test
 abbrev pub failing : (ℕ → Bool) → List ℕ → ℕ

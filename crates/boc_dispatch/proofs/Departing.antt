@@ -9,8 +9,8 @@ use Rattle.boc_chain.specs.declared.request.Request.{Request}
 use Rattle.boc_chain.specs.declared.request.Slot.{Slot}
 use Rattle.boc_chain.specs.declared.request.Released.TheVariants as answers
 use Rattle.boc_chain.specs.Chain.{cown, leave_answer, after_leave}
-use Rattle.boc_dispatch.specs.declared.answers.Left.{Left}
-use Rattle.boc_dispatch.specs.declared.answers.Left.TheVariants as lefts
+use Rattle.boc_dispatch.specs.declared.calls.Left.{Left}
+use Rattle.boc_dispatch.specs.declared.calls.Left.TheVariants as lefts
 use Rattle.boc_dispatch.specs.declared.live.Live.{Live}
 use Rattle.boc_dispatch.specs.Grants.{with_granted, MayBeGranted, Released, LeftAs}
 use Rattle.boc_dispatch.specs.Inside.{Parts, state, live_at, open_of}

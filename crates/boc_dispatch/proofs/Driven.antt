@@ -10,8 +10,8 @@ use Rattle.boc_runs.specs.machine.Steps.{opening_state}
 use Rattle.boc_runs.specs.machine.Sound.{IsSound}
 use Rattle.boc_runs.specs.machine.Turns.{TakesTurn, Driven, Turn, Turns, opening_driven}
 use Rattle.boc_program.proofs.ChangedItems.{place_below, item_at}
-use Rattle.boc_machine.proofs.Every.{opening_sound}
-use Rattle.boc_machine.proofs.OneTurn.{turns_keep, no_turn}
+use Rattle.boc_machine_laws.proofs.Every.{opening_sound}
+use Rattle.boc_machine_laws.proofs.OneTurn.{turns_keep, no_turn}
 use Rattle.boc_dispatch.specs.declared.interleaving.DriveFault.{DriveFault}
 use Rattle.boc_dispatch.specs.declared.interleaving.DriveFault.TheVariants as drive_faults
 use Rattle.boc_dispatch.specs.declared.worker.Hand.{Hand}

@@ -21,10 +21,10 @@ use Rattle.boc_runs.specs.machine.Steps.{State, at, queue, members, opened, note
 use Rattle.boc_runs.specs.machine.Steps.{leaving_on, flagging, made_ready, owned, woken, woken_if, woken_at, child, Advances, Leaves, Opens, Starts, Finishes}
 use Rattle.boc_runs.specs.machine.Turns.{IsEnqueueOf, TakesTurn, NoneReady, Begins, Advanced, WaitsToSettle, Opened, Finished, Left, WaitsToLeave}
 use Rattle.boc_program.proofs.ChangedItems.{front_item, place_below, length-changed}
-use Rattle.boc_machine.proofs.Lists.{same_or_not, read_past, read_pushed, read_front}
-use Rattle.boc_machine.proofs.Rows.{changed_other, config_more, with_one_more}
-use Rattle.boc_machine.proofs.Core.{put_here, put_others}
-use Rattle.boc_machine.proofs.Counting.{by_test}
+use Rattle.boc_machine_laws.proofs.Lists.{same_or_not, read_past, read_pushed, read_front}
+use Rattle.boc_machine_laws.proofs.Rows.{changed_other, config_more, with_one_more}
+use Rattle.boc_machine_laws.proofs.Core.{put_here, put_others}
+use Rattle.boc_machine_laws.proofs.Counting.{by_test}
 
 -- an open enqueue of a row, or its release
 abbrev pub Concerns : ℕ → Option OpenBehaviour → Type 0

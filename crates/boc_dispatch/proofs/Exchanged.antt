@@ -11,10 +11,10 @@ use Rattle.boc_runs.specs.machine.Stages.{settled_at, flagged_at, row_at, ready_
 use Rattle.boc_runs.specs.machine.Queues.{times, is_granted, is_first}
 use Rattle.boc_runs.specs.machine.Steps.{State, at, queue, stepped, with_stage, with_queue, Swaps}
 use Rattle.boc_runs.specs.machine.Sound.{HasNextRequest}
-use Rattle.boc_machine.proofs.Lists.{same_or_not, not_eq}
-use Rattle.boc_machine.proofs.Asking.{fresh_at, among}
-use Rattle.boc_machine.proofs.Core.{put_here, put_others}
-use Rattle.boc_machine.proofs.Keeps.{keeps_swaps}
+use Rattle.boc_machine_laws.proofs.Lists.{same_or_not, not_eq}
+use Rattle.boc_machine_laws.proofs.Asking.{fresh_at, among}
+use Rattle.boc_machine_laws.proofs.Core.{put_here, put_others}
+use Rattle.boc_machine_laws.proofs.Keeps.{keeps_swaps}
 use Rattle.boc_chain.specs.declared.request.Request.{Request}
 use Rattle.boc_chain.specs.Chain.{Place, cowns_of, exchanged_of, with_change, with_fresh, fresh, one_more}
 use Rattle.boc_dispatch.specs.declared.live.Live.{Live}

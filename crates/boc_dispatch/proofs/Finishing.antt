@@ -28,9 +28,9 @@ use Rattle.boc_runs.specs.machine.Sound.{IsSound}
 use Rattle.boc_runs.specs.machine.Steps.{State, at, members, stepped, leaving_on, Finishes}
 use Rattle.boc_runs.proofs.Behaviours.{length-after_outputs}
 use Rattle.boc_program.proofs.ChangedItems.{length-changed}
-use Rattle.boc_machine.proofs.Lists.{same_or_not}
-use Rattle.boc_machine.proofs.Rows.{changed_same, changed_other, config_more}
-use Rattle.boc_machine.proofs.Keeps.{keeps_finishes}
+use Rattle.boc_machine_laws.proofs.Lists.{same_or_not}
+use Rattle.boc_machine_laws.proofs.Rows.{changed_same, changed_other, config_more}
+use Rattle.boc_machine_laws.proofs.Keeps.{keeps_finishes}
 use Rattle.boc_rules.specs.Log.{Log, grown}
 use Rattle.boc_eval.specs.Frames.{Ran, Means}
 use Rattle.boc_dispatch.specs.declared.live.Live.{Live}

@@ -24,7 +24,7 @@ use Rattle.boc_runs.specs.machine.Stages.{OpenBehaviour, cowns_of}
 use Rattle.boc_runs.specs.machine.Queues.{times}
 use Rattle.boc_runs.specs.machine.Steps.{State, at}
 use Rattle.boc_runs.specs.machine.AlongRows.{steps_of}
-use Rattle.boc_machine.proofs.Lists.{same_or_not, not_eq, times-here, times-other}
+use Rattle.boc_machine_laws.proofs.Lists.{same_or_not, not_eq, times-here, times-other}
 use Rattle.boc_runs.specs.machine.Sound.{IsSound, HasNextRequest, made, made_at}
 
 -- ---- events of runs are allowed

@@ -14,11 +14,11 @@ use Rattle.boc_runs.specs.machine.Stages.{standing_at, settled_at, flagged_at, r
 use Rattle.boc_runs.specs.machine.Queues.{times, is_granted}
 use Rattle.boc_runs.specs.machine.Steps.{State, at, queue, stepped, with_stage, flagging, Flags}
 use Rattle.boc_runs.specs.machine.Sound.{HasNextRequest}
-use Rattle.boc_machine.proofs.Lists.{same_or_not, not_eq, times-here}
-use Rattle.boc_machine.proofs.Asking.{taken_there, take_whole, among}
-use Rattle.boc_machine.proofs.Counting.{by_test}
-use Rattle.boc_machine.proofs.Core.{put_here, put_others}
-use Rattle.boc_machine.proofs.Keeps.{keeps_flags}
+use Rattle.boc_machine_laws.proofs.Lists.{same_or_not, not_eq, times-here}
+use Rattle.boc_machine_laws.proofs.Asking.{taken_there, take_whole, among}
+use Rattle.boc_machine_laws.proofs.Counting.{by_test}
+use Rattle.boc_machine_laws.proofs.Core.{put_here, put_others}
+use Rattle.boc_machine_laws.proofs.Keeps.{keeps_flags}
 use Rattle.boc_chain.specs.declared.request.Request.{Request}
 use Rattle.boc_chain.specs.Chain.{Place, cowns_of, list_for, with_change, with_flagged, flag_one, StandsIn}
 use Rattle.boc_dispatch.specs.declared.live.Live.{Live}

@@ -13,11 +13,11 @@ use Rattle.boc_runs.specs.machine.Stages.{waits_at, cowns_of}
 use Rattle.boc_runs.specs.machine.Queues.{times}
 use Rattle.boc_runs.specs.machine.Sound.{IsSound, HasNextRequest}
 use Rattle.boc_runs.specs.machine.Steps.{State, at, queue, recorded, stepped, with_queue, leaving_on, woken, IsDue, Unhooks, Passes, IsBlockedLeaving}
-use Rattle.boc_machine.proofs.Lists.{same_or_not, times-here, times-other, no_less, not_true, not_eq}
-use Rattle.boc_machine.proofs.Asking.{among}
-use Rattle.boc_machine.proofs.Lawful.{laws_of, not_twice, times-take-le}
-use Rattle.boc_machine.proofs.Keeps.{keeps_unhooks, keeps_passes}
-use Rattle.boc_machine.proofs.Core.{one_if}
+use Rattle.boc_machine_laws.proofs.Lists.{same_or_not, times-here, times-other, no_less, not_true, not_eq}
+use Rattle.boc_machine_laws.proofs.Asking.{among}
+use Rattle.boc_machine_laws.proofs.Lawful.{laws_of, not_twice, times-take-le}
+use Rattle.boc_machine_laws.proofs.Keeps.{keeps_unhooks, keeps_passes}
+use Rattle.boc_machine_laws.proofs.Core.{one_if}
 use Rattle.boc_chain.specs.declared.request.Request.{Request}
 use Rattle.boc_chain.specs.declared.request.Slot.{Slot}
 use Rattle.boc_chain.specs.declared.request.Released.TheVariants as answers

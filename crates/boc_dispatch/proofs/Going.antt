@@ -11,8 +11,8 @@ use Rattle.boc_runs.specs.machine.Stages.{settled_at, flagged_at, row_at, ready_
 use Rattle.boc_runs.specs.machine.Queues.{times, is_granted, is_first}
 use Rattle.boc_runs.specs.machine.Steps.{State, at, queue, members, unrecorded, stepped, with_stage}
 use Rattle.boc_runs.specs.machine.Sound.{IsSound}
-use Rattle.boc_machine.proofs.Core.{put_sum}
-use Rattle.boc_machine.proofs.Lists.{same_or_not}
+use Rattle.boc_machine_laws.proofs.Core.{put_sum}
+use Rattle.boc_machine_laws.proofs.Lists.{same_or_not}
 use Rattle.boc_chain.specs.declared.request.Request.{Request}
 use Rattle.boc_chain.specs.Chain.{Place}
 use Rattle.boc_dispatch.specs.declared.live.Live.{Live}

@@ -13,8 +13,8 @@ use Rattle.boc_runs.specs.machine.Stages.{OpenBehaviour, settled, row_at, enqueu
 use Rattle.boc_runs.specs.machine.Queues.{is_first, all_granted}
 use Rattle.boc_runs.specs.machine.Sound.{IsSound}
 use Rattle.boc_runs.specs.machine.Steps.{State, at, queue, members, unrecorded, with_behaviour, made_ready, woken, woken_at, woken_if}
-use Rattle.boc_machine.proofs.Lists.{same_or_not, not_eq}
-use Rattle.boc_machine.proofs.Core.{one_if}
+use Rattle.boc_machine_laws.proofs.Lists.{same_or_not, not_eq}
+use Rattle.boc_machine_laws.proofs.Core.{one_if}
 use Rattle.boc_chain.specs.declared.request.Request.{Request}
 use Rattle.boc_dispatch.specs.declared.live.Live.{Live}
 use Rattle.boc_dispatch.specs.Grants.{granted_if, with_granted, SameRows}

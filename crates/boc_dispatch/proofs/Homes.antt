@@ -10,7 +10,7 @@ use Rattle.boc_runs.specs.Serial.{Behaviour, inputs_of}
 use Rattle.boc_runs.specs.machine.Turns.{IsEnqueueOf}
 use Rattle.boc_program.specs.Programs.{cown_count}
 use Rattle.boc_program.specs.Signatures.{signature_of, AllBelow, CountsAre}
-use Rattle.boc_machine.proofs.Members.{MemberFits, all_fit, values_length}
+use Rattle.boc_machine_laws.proofs.Members.{MemberFits, all_fit, values_length}
 use Rattle.boc_dispatch.proofs.Present.{inputs_present}
 use Rattle.boc_program.proofs.ChangedItems.{item_at, place_below}
 use Rattle.boc_eval.specs.Frames.{UnderWay as Framed, last_of, last_wish_of, wishes_of}

@@ -10,15 +10,15 @@ use Rattle.boc_runs.specs.Run.{Member}
 use Rattle.boc_runs.specs.machine.Stages.{OpenBehaviour, parent_of, row_at, enqueues, enqueues_at, life_at}
 use Rattle.boc_runs.specs.machine.Steps.{State, at, members, stepped, with_queue, leaving_on, IsQuiet}
 use Rattle.boc_runs.specs.machine.Movers.{NobodyWorks, CanAdvance, CanGoOn, CanLeave, CanStart}
-use Rattle.boc_machine.proofs.Rows.{life_there, with_life}
-use Rattle.boc_machine.proofs.OneTurn.{blocked_asking, blocked_stays, who_leaves}
-use Rattle.boc_machine.proofs.Moving as moving
+use Rattle.boc_machine_laws.proofs.Rows.{life_there, with_life}
+use Rattle.boc_machine_laws.proofs.OneTurn.{blocked_asking, blocked_stays, who_leaves}
+use Rattle.boc_machine_laws.proofs.Moving as moving
 use Rattle.boc_chain.specs.declared.request.Request.{Request}
 use Rattle.boc_chain.specs.declared.request.Settled.TheVariants as settles
 use Rattle.boc_chain.specs.declared.request.Released.TheVariants as releases
 use Rattle.boc_chain.specs.Chain.{cown, list_for, before, settle_answer, answer_behind, leave_answer}
-use Rattle.boc_dispatch.specs.declared.answers.Mover.{Mover}
-use Rattle.boc_dispatch.specs.declared.answers.Mover.TheVariants as movers
+use Rattle.boc_dispatch.specs.declared.calls.Mover.{Mover}
+use Rattle.boc_dispatch.specs.declared.calls.Mover.TheVariants as movers
 use Rattle.boc_dispatch.specs.declared.live.Live.{Live}
 use Rattle.boc_dispatch.specs.Calls.{CanMove}
 use Rattle.boc_dispatch.specs.Grants.{with_granted}

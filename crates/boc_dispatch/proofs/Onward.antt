@@ -13,7 +13,7 @@ use Rattle.boc_dispatch.specs.declared.live.Live.{Live}
 use Rattle.boc_dispatch.specs.Inside.{live_at, behaviour_of, exchanged_at, place_of, number_at, queues_of, rows_at, row_or_0, IsRequestOf, AreNumbered}
 use Rattle.boc_dispatch.specs.Inside.{AreAtHome, AreInHand, AreChained, AreOfRun}
 use Rattle.boc_dispatch.proofs.Tables.{live_there, live_here, live_other, live_new}
-use Rattle.boc_machine.proofs.Lists.{same_or_not}
+use Rattle.boc_machine_laws.proofs.Lists.{same_or_not}
 
 -- the same behaviour under the same row, with the same requests settled, flagged and exchanged
 pub record Onward (l m : Live) : Type 0 where

@@ -13,8 +13,8 @@ use Rattle.boc_runs.specs.Run.{waiting}
 use Rattle.boc_runs.specs.machine.Stages.{OpenBehaviour, row_at, asks_at, enqueues_at, waits_at}
 use Rattle.boc_runs.specs.machine.Steps.{unrecorded, opening_state}
 use Rattle.boc_runs.specs.machine.Sound.{IsSound}
-use Rattle.boc_machine.proofs.Every.{opening_sound}
-use Rattle.boc_machine.proofs.Lists.{same_or_not}
+use Rattle.boc_machine_laws.proofs.Every.{opening_sound}
+use Rattle.boc_machine_laws.proofs.Lists.{same_or_not}
 use Rattle.boc_chain.specs.declared.request.Request.{Request}
 use Rattle.boc_chain.specs.Chain.{Place}
 use Rattle.boc_dispatch.specs.declared.live.Live.{Live}

@@ -9,7 +9,7 @@ use Rattle.boc_runs.specs.declared.stage.Stage.TheVariants.{Recorded}
 use Rattle.boc_runs.specs.machine.Steps.{State, unrecorded, Opens}
 use Rattle.boc_runs.specs.machine.Sound.{IsSound}
 use Rattle.boc_rules.specs.Log.{Log}
-use Rattle.boc_machine.proofs.Lists.{same_or_not}
+use Rattle.boc_machine_laws.proofs.Lists.{same_or_not}
 use Rattle.boc_chain.specs.declared.request.Request.{Request}
 use Rattle.boc_chain.specs.Chain.{Place, slots}
 use Rattle.boc_chain.specs.Chain.{times as times_in}

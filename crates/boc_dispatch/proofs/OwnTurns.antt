@@ -24,20 +24,20 @@ use Rattle.boc_runs.specs.machine.Sound.{IsSound}
 use Rattle.boc_runs.specs.machine.Turns.{IsEnqueueOf}
 use Rattle.boc_program.proofs.ChangedItems.{front_item, place_below, length-changed}
 use Rattle.boc_eval.specs.Frames.{UnderWay as Framed, Ran}
-use Rattle.boc_machine.proofs.Lists.{same_or_not, read_pushed}
-use Rattle.boc_machine.proofs.Rows.{after_spawn, changed_same, life_there, with_one_more}
-use Rattle.boc_machine.proofs.Core.{put_here, put_others}
-use Rattle.boc_machine.proofs.Counting.{by_test}
-use Rattle.boc_dispatch.specs.declared.answers.Advanced.TheVariants as advanced
-use Rattle.boc_dispatch.specs.declared.answers.Child.{Child}
-use Rattle.boc_dispatch.specs.declared.answers.FinishFault.{FinishFault}
-use Rattle.boc_dispatch.specs.declared.answers.FinishFault.TheVariants as finish_faults
-use Rattle.boc_dispatch.specs.declared.answers.Job.{Job}
-use Rattle.boc_dispatch.specs.declared.answers.OpenFault.{OpenFault}
-use Rattle.boc_dispatch.specs.declared.answers.OpenFault.TheVariants as open_faults
-use Rattle.boc_dispatch.specs.declared.answers.Leaving.{Leaving as Token}
-use Rattle.boc_dispatch.specs.declared.answers.Left.TheVariants as left
-use Rattle.boc_dispatch.specs.declared.answers.Started.TheVariants as started
+use Rattle.boc_machine_laws.proofs.Lists.{same_or_not, read_pushed}
+use Rattle.boc_machine_laws.proofs.Rows.{after_spawn, changed_same, life_there, with_one_more}
+use Rattle.boc_machine_laws.proofs.Core.{put_here, put_others}
+use Rattle.boc_machine_laws.proofs.Counting.{by_test}
+use Rattle.boc_dispatch.specs.declared.calls.Advanced.TheVariants as advanced
+use Rattle.boc_dispatch.specs.declared.calls.Child.{Child}
+use Rattle.boc_dispatch.specs.declared.calls.FinishFault.{FinishFault}
+use Rattle.boc_dispatch.specs.declared.calls.FinishFault.TheVariants as finish_faults
+use Rattle.boc_dispatch.specs.declared.calls.Job.{Job}
+use Rattle.boc_dispatch.specs.declared.calls.OpenFault.{OpenFault}
+use Rattle.boc_dispatch.specs.declared.calls.OpenFault.TheVariants as open_faults
+use Rattle.boc_dispatch.specs.declared.calls.Leaving.{Leaving as Token}
+use Rattle.boc_dispatch.specs.declared.calls.Left.TheVariants as left
+use Rattle.boc_dispatch.specs.declared.calls.Started.TheVariants as started
 use Rattle.boc_dispatch.specs.declared.worker.Hand.{Hand}
 use Rattle.boc_dispatch.specs.declared.worker.Due.TheVariants as dues
 use Rattle.boc_dispatch.specs.declared.worker.Hand.TheVariants as hands
@@ -46,7 +46,7 @@ use Rattle.boc_dispatch.specs.Calls.{in_state, Begins, OpensWish, AdvancesChild,
 use Rattle.boc_dispatch.specs.Driving.{IsFrameOf, IsWishing, IsEnqueuing, HandFits}
 use Rattle.boc_dispatch.proofs.Elsewhere.{logged, same_woken}
 use Rattle.boc_dispatch.proofs.Hands.{same_member, starting_waits, releases_on}
-use Rattle.boc_machine.proofs.Members.{all_fit}
+use Rattle.boc_machine_laws.proofs.Members.{all_fit}
 
 -- ---- a start
 

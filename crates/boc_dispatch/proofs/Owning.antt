@@ -16,11 +16,11 @@ use Rattle.boc_runs.specs.machine.Stages.{parent_of, ready_row_at}
 use Rattle.boc_runs.specs.machine.Queues.{all_granted}
 use Rattle.boc_runs.specs.machine.Sound.{IsSound}
 use Rattle.boc_runs.specs.machine.Steps.{State, at, queue, members, recorded, stepped, with_stage, made_ready, owned, woken, woken_if, Owns}
-use Rattle.boc_machine.proofs.Lists.{same_or_not}
-use Rattle.boc_machine.proofs.Lawful.{regranted}
-use Rattle.boc_machine.proofs.Core.{put_here, one_if}
-use Rattle.boc_machine.proofs.Rows.{life_there}
-use Rattle.boc_machine.proofs.Keeps.{keeps_owns}
+use Rattle.boc_machine_laws.proofs.Lists.{same_or_not}
+use Rattle.boc_machine_laws.proofs.Lawful.{regranted}
+use Rattle.boc_machine_laws.proofs.Core.{put_here, one_if}
+use Rattle.boc_machine_laws.proofs.Rows.{life_there}
+use Rattle.boc_machine_laws.proofs.Keeps.{keeps_owns}
 use Rattle.boc_dispatch.specs.declared.live.Live.{Live}
 use Rattle.boc_dispatch.specs.Grants.{with_granted, MayBeGranted, Tied, AreReady}
 use Rattle.boc_dispatch.specs.Inside.{Parts, state, live_at, open_of, behaviours_of, ungranted, awaits, is_taken, AreNumbered, AreInHand, IsChildOf, IsParentOf}

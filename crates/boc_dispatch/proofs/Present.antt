@@ -14,8 +14,8 @@ use Rattle.boc_runs.specs.Serial.{behaviour_of, main_behaviour, inputs_of, after
 use Rattle.boc_runs.specs.Run.{Member, Config, config_after, config_after_all, config_of, opening, next_wish, waiting, spawned_by, started_on}
 use Rattle.boc_runs.specs.Run.{members_after_spawn, values_after_end, values_written, state_of, member_cowns, MayHappen, IsRunFrom, IsRun}
 use Rattle.boc_runs.specs.machine.Queues.{times}
-use Rattle.boc_machine.proofs.Twins.{read_changed, read_more}
-use Rattle.boc_machine.proofs.Outputs.{contains_times, outputs_elsewhere, inputs_alike}
+use Rattle.boc_machine_laws.proofs.Twins.{read_changed, read_more}
+use Rattle.boc_machine_laws.proofs.Outputs.{contains_times, outputs_elsewhere, inputs_alike}
 
 -- two behaviours share no cown
 abbrev pub Apart : Member → Member → Type 0

@@ -1,7 +1,7 @@
 -- Who stands right before a behaviour in a list.
 use Rattle.std.proofs.Common.{◌≡◌, ◌≢◌, ℕ, ◌<◌, ◌≤◌, ◌⊎◌, inl, inr, true, false, cond, eqb, List, [], ◌∷◌, ◌++◌, refl, sym, ◌∙◌, ap, subst, arith}
 use Rattle.std.specs.Prelude.{Option, Some, None}
-use Rattle.boc_machine.proofs.Lists.{same_or_not}
+use Rattle.boc_machine_laws.proofs.Lists.{same_or_not}
 use Rattle.boc_chain.specs.declared.request.Request.{Request}
 use Rattle.boc_chain.specs.declared.request.Settled.TheVariants.{Lone, Linked, Blocked}
 use Rattle.boc_chain.specs.Chain.{times, slots, before, answer_behind, settled_behind, with_settled}

@@ -19,13 +19,13 @@ use Rattle.boc_runs.specs.machine.Turns.{TakesTurn, Driven, Turn, Turns, opening
 use Rattle.boc_runs.specs.machine.Movers.{works, works_at, NobodyWorks}
 use Rattle.std.proofs.lemmas.Option.{slice_get_read}
 use Rattle.boc_program.proofs.ChangedItems.{place_below, item_at, front_item}
-use Rattle.boc_machine.proofs.Bounds.{few_steps}
-use Rattle.boc_machine.proofs.OneTurn.{enqueue_running, leaving_row, who_leaves}
-use Rattle.boc_machine.proofs.Rows.{with_life}
-use Rattle.boc_machine.proofs.Serving.{IsActive, each_is_served, start_steps, body_steps, enqueue_steps, release_steps}
-use Rattle.boc_machine.proofs.Twins.{mapped}
-use Rattle.boc_dispatch.specs.declared.answers.Mover.{Mover}
-use Rattle.boc_dispatch.specs.declared.answers.Mover.TheVariants as movers
+use Rattle.boc_machine_laws.proofs.Bounds.{few_steps}
+use Rattle.boc_machine_laws.proofs.OneTurn.{enqueue_running, leaving_row, who_leaves}
+use Rattle.boc_machine_laws.proofs.Rows.{with_life}
+use Rattle.boc_machine_laws.proofs.Serving.{IsActive, each_is_served, start_steps, body_steps, enqueue_steps, release_steps}
+use Rattle.boc_machine_laws.proofs.Twins.{mapped}
+use Rattle.boc_dispatch.specs.declared.calls.Mover.{Mover}
+use Rattle.boc_dispatch.specs.declared.calls.Mover.TheVariants as movers
 use Rattle.boc_dispatch.specs.declared.interleaving.DriveFault.{DriveFault}
 use Rattle.boc_dispatch.specs.declared.interleaving.DriveFault.TheVariants as drive_faults
 use Rattle.boc_dispatch.specs.declared.worker.Due.TheVariants as dues

@@ -25,10 +25,10 @@ use Rattle.boc_runs.specs.machine.Steps.{State, at, members, unrecorded, flaggin
 use Rattle.boc_runs.specs.machine.Steps.{recorded as recorded_rows}
 use Rattle.boc_runs.specs.machine.Steps as steps
 use Rattle.boc_program.proofs.ChangedItems.{last_item, front_item, length-changed, set_same, set_other, place_below, changed_there}
-use Rattle.boc_machine.proofs.Lists.{same_or_not, read_there}
-use Rattle.boc_machine.proofs.Asking.{take_whole}
-use Rattle.boc_machine.proofs.Rows.{after_spawn, config_more, with_one_more}
-use Rattle.boc_machine.proofs.Core.{put_sum}
+use Rattle.boc_machine_laws.proofs.Lists.{same_or_not, read_there}
+use Rattle.boc_machine_laws.proofs.Asking.{take_whole}
+use Rattle.boc_machine_laws.proofs.Rows.{after_spawn, config_more, with_one_more}
+use Rattle.boc_machine_laws.proofs.Core.{put_sum}
 use Rattle.boc_chain.specs.declared.request.Request.{Request}
 use Rattle.boc_dispatch.specs.declared.live.Live.{Live}
 use Rattle.boc_dispatch.specs.Inside.{HasRooms, live_at, open_of, place_of, exchanged_at, number_at, behaviours_of, rows_at, row_or_0, is_taken, Parts, state}

@@ -16,13 +16,13 @@ use Rattle.boc_runs.specs.machine.Stages.{OpenBehaviour, standing, flagged_at, r
 use Rattle.boc_runs.specs.machine.Queues.{times}
 use Rattle.boc_runs.specs.machine.Sound.{IsSound}
 use Rattle.boc_runs.specs.machine.Steps.{State, at, queue, recorded, stepped, with_behaviour, with_stage, leaving_on}
-use Rattle.boc_machine.proofs.Lists.{not_true, times-here}
-use Rattle.boc_machine.proofs.Core.{put_here}
+use Rattle.boc_machine_laws.proofs.Lists.{not_true, times-here}
+use Rattle.boc_machine_laws.proofs.Core.{put_here}
 use Rattle.boc_chain.specs.declared.request.Request.{Request}
 use Rattle.boc_chain.specs.Chain.{Place, slots}
 use Rattle.boc_chain.specs.Chain.{times as times_in}
 use Rattle.boc_runs.specs.declared.step.Step.{Step}
-use Rattle.boc_dispatch.specs.declared.answers.Left.TheVariants as lefts
+use Rattle.boc_dispatch.specs.declared.calls.Left.TheVariants as lefts
 use Rattle.boc_dispatch.specs.declared.live.Live.{Live}
 use Rattle.boc_dispatch.specs.Grants.{IsRemoved, IsStarted, IsReleased, LeftAs, Tied, SameRows, Released}
 use Rattle.boc_dispatch.specs.Inside.{Parts, state, live_at, open_of, behaviours_of, number_at, place_of, is_taken, AreCounted, IsKept, HasRooms}

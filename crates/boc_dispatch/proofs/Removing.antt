@@ -7,7 +7,7 @@ use Rattle.boc_runs.specs.declared.stage.Stage.TheVariants.{Recorded}
 use Rattle.boc_runs.specs.machine.Stages.{enqueues_at, waits_at}
 use Rattle.boc_runs.specs.machine.Queues.{is_first}
 use Rattle.boc_runs.specs.machine.Steps.{State, at, queue, with_behaviour}
-use Rattle.boc_machine.proofs.Lists.{same_or_not}
+use Rattle.boc_machine_laws.proofs.Lists.{same_or_not}
 use Rattle.boc_chain.specs.declared.request.Request.{Request}
 use Rattle.boc_dispatch.specs.declared.live.Live.{Live}
 use Rattle.boc_dispatch.specs.Grants.{IsRemoved, Tied}

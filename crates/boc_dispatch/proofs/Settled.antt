@@ -11,10 +11,10 @@ use Rattle.boc_runs.specs.machine.Stages.{standing_at, settled_at, flagged_at, e
 use Rattle.boc_runs.specs.machine.Queues.{times, is_granted, is_first}
 use Rattle.boc_runs.specs.machine.Steps.{State, at, queue, stepped, with_stage, IsDue, IsFlaggedBefore, IsBlockedAsking}
 use Rattle.boc_runs.specs.machine.Sound.{HasNextRequest}
-use Rattle.boc_machine.proofs.Lists.{same_or_not, not_eq, no_less}
-use Rattle.boc_machine.proofs.Asking.{fresh_at, among, taken_there}
-use Rattle.boc_machine.proofs.Core.{put_here, put_others}
-use Rattle.boc_machine.proofs.Lawful.{times-take-le}
+use Rattle.boc_machine_laws.proofs.Lists.{same_or_not, not_eq, no_less}
+use Rattle.boc_machine_laws.proofs.Asking.{fresh_at, among, taken_there}
+use Rattle.boc_machine_laws.proofs.Core.{put_here, put_others}
+use Rattle.boc_machine_laws.proofs.Lawful.{times-take-le}
 use Rattle.boc_chain.proofs.Spelled.{times_same}
 use Rattle.boc_chain.specs.declared.request.Request.{Request}
 use Rattle.boc_chain.specs.Chain.{Place, cowns_of, list_for, with_change, after_settle, settle_one, before, slots, StandsIn}

@@ -11,8 +11,8 @@ use Rattle.boc_runs.specs.machine.Stages.{row_at, ready_row_at, asks_at, enqueue
 use Rattle.boc_runs.specs.machine.Steps.{State, stepped, noted, with_stage, flagging, members, asking_on, Settles, IsBlockedAsking}
 use Rattle.boc_runs.specs.machine.Steps as steps
 use Rattle.boc_runs.specs.machine.Sound.{IsSound}
-use Rattle.boc_machine.proofs.Asking.{take_whole}
-use Rattle.boc_machine.proofs.Keeps.{keeps_settles}
+use Rattle.boc_machine_laws.proofs.Asking.{take_whole}
+use Rattle.boc_machine_laws.proofs.Keeps.{keeps_settles}
 use Rattle.boc_chain.specs.declared.request.Request.{Request}
 use Rattle.boc_chain.specs.declared.request.Settled.TheVariants.{Lone, Linked, Blocked}
 use Rattle.boc_chain.specs.Chain.{Place, list_for, with_change, after_settle, settle_answer, settled_behind, before}

@@ -9,7 +9,7 @@ use Rattle.boc_runs.specs.declared.stage.Stage.TheVariants.{Recorded}
 use Rattle.boc_runs.specs.machine.Stages.{OpenBehaviour, cowns_of, standing, standing_at, ready_row, ready_row_at}
 use Rattle.boc_runs.specs.machine.Queues.{times}
 use Rattle.boc_runs.specs.machine.Steps.{at}
-use Rattle.boc_machine.proofs.Lists.{same_or_not, not_eq, times-here, times-other}
+use Rattle.boc_machine_laws.proofs.Lists.{same_or_not, not_eq, times-here, times-other}
 use Rattle.boc_chain.specs.declared.request.Request.{Request}
 use Rattle.boc_chain.specs.Chain.{slots}
 use Rattle.boc_chain.specs.Chain.{times as times_in}

@@ -16,9 +16,9 @@ use Rattle.boc_runs.specs.machine.Queues.{times}
 use Rattle.boc_runs.specs.machine.Steps.{State, at, members, stepped, noted, with_stage, Starts}
 use Rattle.boc_runs.specs.machine.Sound.{IsSound}
 use Rattle.boc_program.proofs.ChangedItems.{changed_there, set_same, set_other, place_below, length-changed}
-use Rattle.boc_machine.proofs.Lists.{same_or_not, times-here, times-other}
-use Rattle.boc_machine.proofs.Rows.{config_more}
-use Rattle.boc_machine.proofs.Keeps.{keeps_starts}
+use Rattle.boc_machine_laws.proofs.Lists.{same_or_not, times-here, times-other}
+use Rattle.boc_machine_laws.proofs.Rows.{config_more}
+use Rattle.boc_machine_laws.proofs.Keeps.{keeps_starts}
 use Rattle.boc_rules.specs.Log.{Log, grown}
 use Rattle.boc_dispatch.specs.declared.live.Live.{Live}
 use Rattle.boc_dispatch.specs.Places.{Has, begun}

@@ -11,7 +11,7 @@ use Rattle.std.proofs.Math.ListN.{get_or-map}
 use Rattle.std.proofs.Math.Seq.{set-append_seam}
 use Rattle.std.proofs.lemmas.List.Sums.{sum_by-set, sum_by-cons}
 use Rattle.boc_runs.specs.machine.Stages.{OpenBehaviour}
-use Rattle.boc_machine.proofs.Lists.{same_or_not, not_eq, read_there, read_past, read_pushed, read_front}
+use Rattle.boc_machine_laws.proofs.Lists.{same_or_not, not_eq, read_there, read_past, read_pushed, read_front}
 use Rattle.boc_chain.specs.declared.request.Request.{Request}
 use Rattle.boc_dispatch.specs.declared.live.Live.{Live}
 use Rattle.boc_dispatch.specs.Inside.{live_at, if_numbered, find_live, open_of, behaviours_of, number_at, queues_of, rows_at, row_or_0, is_taken, AreNumbered}

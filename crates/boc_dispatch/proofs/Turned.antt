@@ -5,10 +5,10 @@ use Rattle.boc_program.specs.declared.program.Program.{Program}
 use Rattle.boc_runs.specs.declared.step.Step.{Step}
 use Rattle.boc_runs.specs.machine.Turns.{TakesTurn, NoneReady, Driven, Turn, Turns}
 use Rattle.boc_eval.specs.Frames.{UnderWay as Framed, Ran}
-use Rattle.boc_dispatch.specs.declared.answers.FinishFault.{FinishFault}
-use Rattle.boc_dispatch.specs.declared.answers.FinishFault.TheVariants as finish_faults
-use Rattle.boc_dispatch.specs.declared.answers.OpenFault.{OpenFault}
-use Rattle.boc_dispatch.specs.declared.answers.OpenFault.TheVariants as open_faults
+use Rattle.boc_dispatch.specs.declared.calls.FinishFault.{FinishFault}
+use Rattle.boc_dispatch.specs.declared.calls.FinishFault.TheVariants as finish_faults
+use Rattle.boc_dispatch.specs.declared.calls.OpenFault.{OpenFault}
+use Rattle.boc_dispatch.specs.declared.calls.OpenFault.TheVariants as open_faults
 use Rattle.boc_dispatch.specs.declared.interleaving.DriveFault.{DriveFault}
 use Rattle.boc_dispatch.specs.declared.interleaving.DriveFault.TheVariants as drive_faults
 use Rattle.boc_dispatch.specs.declared.worker.Hand.{Hand}

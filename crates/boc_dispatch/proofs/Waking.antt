@@ -8,7 +8,7 @@ use Rattle.boc_runs.specs.declared.stage.Stage.TheVariants.{Asking, Recorded}
 use Rattle.boc_runs.specs.machine.Stages.{OpenBehaviour, settled, cowns_of}
 use Rattle.boc_runs.specs.machine.Queues.{all_granted}
 use Rattle.boc_runs.specs.machine.Steps.{State, at, queue, with_behaviour, with_stage, made_ready, leaving_on, woken, woken_at, woken_if}
-use Rattle.boc_machine.proofs.Lawful.{regranted}
+use Rattle.boc_machine_laws.proofs.Lawful.{regranted}
 use Rattle.boc_dispatch.proofs.Granting.{with_behaviours}
 
 module _ (s : State) (who : ℕ) (b' : Option OpenBehaviour) (w : ℕ) (apart : w ≢ who) where

@@ -4,7 +4,7 @@ use Rattle.std.specs.Prelude.{Option, Some, None, Result, Ok, Err}
 use Rattle.std.specs.declared.alloc.AllocError.{AllocError}
 use Rattle.boc_runs.specs.machine.Queues.{times}
 use Rattle.boc_runs.specs.machine.Sound.{IsSound}
-use Rattle.boc_machine.proofs.Lists.{times-here}
+use Rattle.boc_machine_laws.proofs.Lists.{times-here}
 use Rattle.boc_program.specs.declared.program.Program.{Program}
 use Rattle.boc_runs.specs.declared.step.Step.{Step}
 use Rattle.boc_runs.specs.declared.step.Step.TheVariants as steps
@@ -13,13 +13,13 @@ use Rattle.boc_runs.specs.machine.Steps.{State, at, Makes, IsQuiet}
 use Rattle.boc_runs.specs.machine.Turns.{TakesTurn, Begins as BeginsTurn, Advanced as AdvancedTurn, WaitsToSettle, Opened, Finished, Left as LeftTurn}
 use Rattle.boc_runs.specs.machine.Turns.{WaitsToLeave, unless_gone}
 use Rattle.boc_eval.specs.Frames.{UnderWay as Framed, Ran}
-use Rattle.boc_machine.proofs.OneTurn.{advance_makes, leave_makes}
-use Rattle.boc_dispatch.specs.declared.answers.Advanced.TheVariants as advanced
-use Rattle.boc_dispatch.specs.declared.answers.Child.{Child}
-use Rattle.boc_dispatch.specs.declared.answers.Job.{Job}
-use Rattle.boc_dispatch.specs.declared.answers.Leaving.{Leaving}
-use Rattle.boc_dispatch.specs.declared.answers.Left.TheVariants as left
-use Rattle.boc_dispatch.specs.declared.answers.Started.TheVariants as started
+use Rattle.boc_machine_laws.proofs.OneTurn.{advance_makes, leave_makes}
+use Rattle.boc_dispatch.specs.declared.calls.Advanced.TheVariants as advanced
+use Rattle.boc_dispatch.specs.declared.calls.Child.{Child}
+use Rattle.boc_dispatch.specs.declared.calls.Job.{Job}
+use Rattle.boc_dispatch.specs.declared.calls.Leaving.{Leaving}
+use Rattle.boc_dispatch.specs.declared.calls.Left.TheVariants as left
+use Rattle.boc_dispatch.specs.declared.calls.Started.TheVariants as started
 use Rattle.boc_dispatch.specs.declared.worker.Hand.{Hand}
 use Rattle.boc_dispatch.specs.declared.worker.Due.TheVariants as dues
 use Rattle.boc_dispatch.specs.declared.worker.Hand.TheVariants as hands

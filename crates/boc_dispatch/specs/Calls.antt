@@ -15,20 +15,20 @@ use Rattle.boc_runs.specs.machine.Steps.{Finishes, Leaves, IsBlockedAsking, IsBl
 use Rattle.boc_runs.specs.machine.Turns.{IsEnqueueOf}
 use Rattle.boc_runs.specs.machine.Movers.{CanAdvance, CanGoOn, CanLeave, CanStart}
 use Rattle.boc_eval.specs.Frames.{UnderWay as Framed, Ran}
-use Rattle.boc_dispatch.specs.declared.answers.Advanced.{Advanced}
-use Rattle.boc_dispatch.specs.declared.answers.Advanced.TheVariants as advanced
-use Rattle.boc_dispatch.specs.declared.answers.Child.{Child}
-use Rattle.boc_dispatch.specs.declared.answers.FinishFault.{FinishFault}
-use Rattle.boc_dispatch.specs.declared.answers.FinishFault.TheVariants as finish_faults
-use Rattle.boc_dispatch.specs.declared.answers.Leaving.{Leaving}
-use Rattle.boc_dispatch.specs.declared.answers.Left.{Left}
-use Rattle.boc_dispatch.specs.declared.answers.Left.TheVariants as left
-use Rattle.boc_dispatch.specs.declared.answers.Mover.{Mover}
-use Rattle.boc_dispatch.specs.declared.answers.Mover.TheVariants as movers
-use Rattle.boc_dispatch.specs.declared.answers.OpenFault.{OpenFault}
-use Rattle.boc_dispatch.specs.declared.answers.OpenFault.TheVariants as open_faults
-use Rattle.boc_dispatch.specs.declared.answers.Started.{Started}
-use Rattle.boc_dispatch.specs.declared.answers.Started.TheVariants as started
+use Rattle.boc_dispatch.specs.declared.calls.Advanced.{Advanced}
+use Rattle.boc_dispatch.specs.declared.calls.Advanced.TheVariants as advanced
+use Rattle.boc_dispatch.specs.declared.calls.Child.{Child}
+use Rattle.boc_dispatch.specs.declared.calls.FinishFault.{FinishFault}
+use Rattle.boc_dispatch.specs.declared.calls.FinishFault.TheVariants as finish_faults
+use Rattle.boc_dispatch.specs.declared.calls.Leaving.{Leaving}
+use Rattle.boc_dispatch.specs.declared.calls.Left.{Left}
+use Rattle.boc_dispatch.specs.declared.calls.Left.TheVariants as left
+use Rattle.boc_dispatch.specs.declared.calls.Mover.{Mover}
+use Rattle.boc_dispatch.specs.declared.calls.Mover.TheVariants as movers
+use Rattle.boc_dispatch.specs.declared.calls.OpenFault.{OpenFault}
+use Rattle.boc_dispatch.specs.declared.calls.OpenFault.TheVariants as open_faults
+use Rattle.boc_dispatch.specs.declared.calls.Started.{Started}
+use Rattle.boc_dispatch.specs.declared.calls.Started.TheVariants as started
 use Rattle.boc_dispatch.specs.Underway.{Underway}
 
 -- another state of the same program

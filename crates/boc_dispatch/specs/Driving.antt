@@ -11,9 +11,9 @@ use Rattle.boc_runs.specs.machine.Steps.{State, at, members, IsQuiet}
 use Rattle.boc_runs.specs.machine.Sound.{IsSound}
 use Rattle.boc_runs.specs.machine.Turns.{IsEnqueueOf, Driven, Turn, Turns, opening_driven}
 use Rattle.boc_eval.specs.Frames.{UnderWay as Framed, Ran}
-use Rattle.boc_dispatch.specs.declared.answers.Mover.{Mover}
-use Rattle.boc_dispatch.specs.declared.answers.Mover.TheVariants as movers
-use Rattle.boc_dispatch.specs.declared.answers.OpenFault.TheVariants as open_faults
+use Rattle.boc_dispatch.specs.declared.calls.Mover.{Mover}
+use Rattle.boc_dispatch.specs.declared.calls.Mover.TheVariants as movers
+use Rattle.boc_dispatch.specs.declared.calls.OpenFault.TheVariants as open_faults
 use Rattle.boc_dispatch.specs.declared.interleaving.DriveFault.{DriveFault}
 use Rattle.boc_dispatch.specs.declared.interleaving.DriveFault.TheVariants as drive_faults
 use Rattle.boc_dispatch.specs.declared.worker.Hand.{Hand}

@@ -11,8 +11,8 @@ use Rattle.boc_runs.specs.Run.{config_of}
 use Rattle.boc_runs.specs.machine.Stages.{row_at, life_at}
 use Rattle.boc_runs.specs.machine.Sound.{IsSound}
 use Rattle.boc_runs.specs.machine.Steps.{at, members, recorded, stepped, leaving_on}
-use Rattle.boc_dispatch.specs.declared.answers.Left.{Left}
-use Rattle.boc_dispatch.specs.declared.answers.Left.TheVariants as left
+use Rattle.boc_dispatch.specs.declared.calls.Left.{Left}
+use Rattle.boc_dispatch.specs.declared.calls.Left.TheVariants as left
 use Rattle.boc_dispatch.specs.declared.live.Live.{Live}
 use Rattle.boc_dispatch.specs.Inside.{Parts, state, live_at, open_of, row_or_0, is_taken, AreNumbered, AreAtHome, AreInHand, AreChained, AreOfRun, AreCounted}
 use Rattle.boc_dispatch.specs.Inside.{IsKept, HasRooms}

@@ -22,7 +22,7 @@ use Rattle.boc_chain.specs.declared.request.Request.{Request}
 use Rattle.boc_chain.specs.Chain.{Place}
 use Rattle.boc_rules.specs.Log.{Log}
 use Rattle.boc_dispatch.specs.declared.live.Live.{Live}
-use Rattle.boc_dispatch.specs.declared.machine.Machine.{Machine}
+use Rattle.boc_dispatch.specs.declared.roster.Roster.{Roster}
 use Rattle.boc_dispatch.specs.Underway.{Underway}
 
 -- ---- what is kept stands for a state of the machine
@@ -219,10 +219,10 @@ pub record HasRooms (d : Parts) (homes_room ready_room : ℕ) : Type 0 where
   pub ready : length d.live ≤ ready_room
   pub few : length d.live ≤ 2 ^ 32
 
--- ---- the same of the machine itself, whose chains have these lists and places
+-- ---- the same of the roster itself, whose chains have these lists and places
 
--- the parts of a machine
-abbrev pub parts_of : {C : Type 0} → (C → List (List Request)) → (C → ℕ → Option Place) → Machine C → Parts
+-- the parts of a roster
+abbrev pub parts_of : {C : Type 0} → (C → List (List Request)) → (C → ℕ → Option Place) → Roster C → Parts
 parts_of lists place m = record {
   program = m.program.now;
   lists = lists m.chains;
@@ -238,7 +238,7 @@ parts_of lists place m = record {
 }
 
 -- it keeps all of that, and has room
-pub record IsSoundMachine {C : Type 0} (lists : C → List (List Request)) (place : C → ℕ → Option Place) (m : Machine C) : Type 0 where
+pub record IsSoundRoster {C : Type 0} (lists : C → List (List Request)) (place : C → ℕ → Option Place) (m : Roster C) : Type 0 where
   pub kept : IsKept (parts_of lists place m)
   pub rooms : HasRooms (parts_of lists place m) (vec_capacity m.homes) (deque_capacity m.ready)
 

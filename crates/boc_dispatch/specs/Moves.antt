@@ -1,4 +1,4 @@
--- What the functions of the machine do to what it has in hand.
+-- What the functions of the roster do to what it has in hand.
 use Rattle.std.specs.Prelude.{◌≡◌, ◌≢◌, ℕ, ◌+◌, ◌^◌, ◌<◌, Bool, true, false, List, [], ◌∷◌, ◌++◌, length, slice_set, Option, Some, None, Result, Ok, Err}
 use Rattle.boc_runs.specs.declared.stage.Phase.TheVariants.{Leaving as LeavingPhase, Running as RunningPhase}
 use Rattle.boc_runs.specs.declared.stage.Stage.TheVariants.{Recorded}
@@ -6,15 +6,15 @@ use Rattle.boc_runs.specs.declared.step.Step.TheVariants.{Settle}
 use Rattle.boc_runs.specs.machine.Stages.{enqueues_at}
 use Rattle.boc_runs.specs.machine.Steps.{at, HasNoEnqueue, Opens, Starts, Settles, Finishes, Leaves, IsBlockedAsking, IsBlockedLeaving}
 use Rattle.boc_runs.specs.machine.Movers.{NobodyWorks, CanAdvance, CanLeave}
-use Rattle.boc_dispatch.specs.declared.answers.Advanced.{Advanced}
-use Rattle.boc_dispatch.specs.declared.answers.Advanced.TheVariants as advanced
-use Rattle.boc_dispatch.specs.declared.answers.Child.{Child}
-use Rattle.boc_dispatch.specs.declared.answers.Job.{Job}
-use Rattle.boc_dispatch.specs.declared.answers.Left.{Left}
-use Rattle.boc_dispatch.specs.declared.answers.Left.TheVariants as left
-use Rattle.boc_dispatch.specs.declared.answers.Mover.{Mover}
+use Rattle.boc_dispatch.specs.declared.calls.Advanced.{Advanced}
+use Rattle.boc_dispatch.specs.declared.calls.Advanced.TheVariants as advanced
+use Rattle.boc_dispatch.specs.declared.calls.Child.{Child}
+use Rattle.boc_dispatch.specs.declared.calls.Job.{Job}
+use Rattle.boc_dispatch.specs.declared.calls.Left.{Left}
+use Rattle.boc_dispatch.specs.declared.calls.Left.TheVariants as left
+use Rattle.boc_dispatch.specs.declared.calls.Mover.{Mover}
 use Rattle.boc_dispatch.specs.declared.live.Live.{Live}
-use Rattle.boc_dispatch.specs.declared.machine.Enqueue.{Enqueue}
+use Rattle.boc_dispatch.specs.declared.roster.Enqueue.{Enqueue}
 use Rattle.boc_dispatch.specs.Calls.{IsHandedOut, CanMove}
 use Rattle.boc_runs.specs.Legal.{IsAllowed, entries}
 use Rattle.boc_rules.specs.Log.{grown}

@@ -7,10 +7,10 @@ use Rattle.boc_runs.specs.machine.Steps.{IsQuiet, Makes}
 use Rattle.boc_runs.specs.machine.Turns.{TakesTurn}
 use Rattle.boc_eval.specs.Frames.{UnderWay as Framed, Ran, Means}
 use Rattle.boc_eval.specs.Stops.{WishComes, BodyEnds}
-use Rattle.boc_dispatch.specs.declared.answers.Advanced.TheVariants as advanced
-use Rattle.boc_dispatch.specs.declared.answers.Child.{Child}
-use Rattle.boc_dispatch.specs.declared.answers.Job.{Job}
-use Rattle.boc_dispatch.specs.declared.answers.Left.TheVariants as left
+use Rattle.boc_dispatch.specs.declared.calls.Advanced.TheVariants as advanced
+use Rattle.boc_dispatch.specs.declared.calls.Child.{Child}
+use Rattle.boc_dispatch.specs.declared.calls.Job.{Job}
+use Rattle.boc_dispatch.specs.declared.calls.Left.TheVariants as left
 use Rattle.boc_dispatch.specs.declared.worker.Hand.{Hand}
 use Rattle.boc_dispatch.specs.declared.worker.Due.TheVariants as dues
 use Rattle.boc_dispatch.specs.declared.worker.Hand.TheVariants as hands

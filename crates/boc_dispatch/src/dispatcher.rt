@@ -3,9 +3,9 @@
 ghost use Rattle.boc_program.specs.Programs.{cown_count as cowns_of};
 ghost use Rattle.std.specs.Prelude.{◌≡◌, ◌↔◌, ◌+◌, ◌^◌, ◌<◌, ℕ, [], None, IfOk, IsTrue, false, map, replicate, slice_get};
 
-use crate::answers::{Advanced, Child, FinishFault, Leaving, Left, Mover, OpenFault, Started};
+use crate::calls::{Advanced, Child, FinishFault, Leaving, Left, Mover, OpenFault, Started};
 use crate::live::wished_behaviour;
-use crate::machine::{Enqueue, Machine};
+use crate::roster::{Enqueue, Roster};
 use boc_chain::{Chains, LinkChains};
 use boc_eval::{Frame, Outcome};
 use boc_program::limits::MOST_ROWS;
@@ -22,7 +22,7 @@ pub type Dispatcher<'a> = Core<'a, LinkChains>;
 /// The behaviours of a program under way, over chains of either kind.
 #[derive(Drop)]
 pub struct Core<'a, C: Chains + Drop> {
-    machine: Machine<'a, C>,
+    roster: Roster<'a, C>,
 }
 
 /// How many cowns a program has: for so many, chains are made.
@@ -58,11 +58,11 @@ impl<'a, C: Chains + Drop> Model for Core<'a, C> {
 
     ghost coded = { Prim.hlevel (codes, coded_underway) };
 
-    ghost use Rattle.boc_dispatch.specs.Inside.{underway, parts_of, IsSoundMachine};
+    ghost use Rattle.boc_dispatch.specs.Inside.{underway, parts_of, IsSoundRoster};
 
-    ghost view = { λ a. underway (parts_of C.lists C.place a.machine) };
+    ghost view = { λ a. underway (parts_of C.lists C.place a.roster) };
 
-    ghost invariant = { λ a. IsSoundMachine C.lists C.place a.machine };
+    ghost invariant = { λ a. IsSoundRoster C.lists C.place a.roster };
 }
 
 impl<'a, C: Chains + Drop> Core<'a, C> {
@@ -78,7 +78,7 @@ impl<'a, C: Chains + Drop> Core<'a, C> {
         ensures { IfOk result (λ core. core ≡ record { program = program.now; state = opening_state program.now }) }
     {
         Ok(Core {
-            machine: Machine::over(alloc, program, chains)?,
+            roster: Roster::over(alloc, program, chains)?,
         })
     }
 
@@ -87,7 +87,7 @@ impl<'a, C: Chains + Drop> Core<'a, C> {
         ensures begins { Begins self.old result self.new }
         ensures sound { IsSound self.new.program self.new.state }
     {
-        match self.machine.start() {
+        match self.roster.start() {
             Some(job) => Started::Job(job),
             None => {
                 if self.is_quiet() {
@@ -104,22 +104,22 @@ impl<'a, C: Chains + Drop> Core<'a, C> {
         ensures { OpensWish self.old frame.now row result self.new }
     {
         let Some(slot) = self
-            .machine
+            .roster
             .running(row, frame.body(), frame.args(), frame.inputs())
         else {
             return Err(OpenFault::Stranger);
         };
-        let Some(wish) = self.machine.next_wish(slot, row, frame) else {
+        let Some(wish) = self.roster.next_wish(slot, row, frame) else {
             return Err(OpenFault::OutOfTurn);
         };
-        if self.machine.opened as usize >= MOST_ROWS {
+        if self.roster.opened as usize >= MOST_ROWS {
             return Err(OpenFault::Behaviours);
         }
-        let alloc = *self.machine.live.allocator();
-        let Ok(child) = wished_behaviour(alloc, self.machine.opened, row, wish) else {
+        let alloc = *self.roster.live.allocator();
+        let Ok(child) = wished_behaviour(alloc, self.roster.opened, row, wish) else {
             return Err(OpenFault::Memory);
         };
-        match self.machine.open(slot, row, child) {
+        match self.roster.open(slot, row, child) {
             Ok(child) => Ok(child),
             Err(_) => Err(OpenFault::Memory),
         }
@@ -135,21 +135,21 @@ impl<'a, C: Chains + Drop> Core<'a, C> {
                 slot,
                 stage,
             },
-        ) = self.machine.enqueue_of(child)
+        ) = self.roster.enqueue_of(child)
         else {
             return Advanced::Unknown;
         };
         match stage {
             Stage::Asking { request, exchanged } => {
                 if exchanged {
-                    self.machine.settle(parent, slot, request)
+                    self.roster.settle(parent, slot, request)
                 } else {
-                    self.machine.swap(slot as usize, request)
+                    self.roster.swap(slot as usize, request)
                 }
             }
             Stage::Recorded { row, phase } => match phase {
-                Phase::Flagging(request) => self.machine.flag(slot as usize, row, request),
-                _ => self.machine.own(parent, slot, row),
+                Phase::Flagging(request) => self.roster.flag(slot as usize, row, request),
+                _ => self.roster.own(parent, slot, row),
             },
         }
     }
@@ -178,15 +178,15 @@ impl<'a, C: Chains + Drop> Core<'a, C> {
         ensures { FinishesRow self.old row outcome.now (with_outcome outcome.now result) self.new }
     {
         let running = self
-            .machine
+            .roster
             .running(row, outcome.body(), outcome.args(), outcome.inputs());
         let Some(slot) = running else {
             return Err(FinishFault::Stranger);
         };
-        if !self.machine.has_spawned(slot, row, outcome.wishes()) {
+        if !self.roster.has_spawned(slot, row, outcome.wishes()) {
             return Err(FinishFault::Busy);
         }
-        if self.machine.finish(slot, row, outcome) {
+        if self.roster.finish(slot, row, outcome) {
             Ok(Some(Leaving { row }))
         } else {
             Ok(None)
@@ -197,8 +197,8 @@ impl<'a, C: Chains + Drop> Core<'a, C> {
     pub fn leave(&mut self, leaving: &Leaving) -> Left
         ensures { LeavesCown self.old leaving.now result self.new }
     {
-        match self.machine.leaving(leaving.row) {
-            Some((slot, request)) => self.machine.leave(slot, leaving.row, request),
+        match self.roster.leaving(leaving.row) {
+            Some((slot, request)) => self.roster.leave(slot, leaving.row, request),
             None => Left::Unknown,
         }
     }
@@ -207,14 +207,14 @@ impl<'a, C: Chains + Drop> Core<'a, C> {
     pub fn log(&self) -> Events<'_>
         ensures { result ≡ self.now.state.log }
     {
-        self.machine.log.events()
+        self.roster.log.events()
     }
 
     /// The chains, whose lists are the queues: each slot stands for a behaviour's number.
     pub fn chains(&self) -> &C
         ensures { (number : ℕ → ℕ) × (map (λ requests. map (λ r. number r.slot) requests) (C.lists result.now) ≡ self.now.state.queues) }
     {
-        &self.machine.chains
+        &self.roster.chains
     }
 
     /// The program.
@@ -222,35 +222,35 @@ impl<'a, C: Chains + Drop> Core<'a, C> {
         ensures value { result.now ≡ self.now.program }
         ensures sound { IsSound self.now.program self.now.state }
     {
-        self.machine.program
+        self.roster.program
     }
 
     /// The value of a cown, which changes only as behaviours end.
     pub fn value(&self, cown: u32) -> Option<i64>
         ensures { result ≡ slice_get (values self.now.program self.now.state) cown }
     {
-        self.machine.values.get(cown as usize).copied()
+        self.roster.values.get(cown as usize).copied()
     }
 
     /// Every behaviour has ended and released its cowns.
     pub fn is_quiet(&self) -> bool
         ensures { IsTrue result ↔ IsQuiet self.now.state }
     {
-        self.machine.gone == self.machine.opened
+        self.roster.gone == self.roster.opened
     }
 
     /// The ready list has a behaviour, so that `start` starts one.
     pub fn has_ready(&self) -> bool
         ensures { (result ≡ false) ↔ (self.now.state.ready ≡ []) }
     {
-        !self.machine.ready.is_empty()
+        !self.roster.ready.is_empty()
     }
 
     /// Somebody who can step, or nobody, exactly where it is quiet. It takes no memory.
     pub fn movable(&self) -> Option<Mover>
         ensures { NamesMover self.now result }
     {
-        self.machine.movable()
+        self.roster.movable()
     }
 
     /// How many steps were made.
@@ -258,7 +258,7 @@ impl<'a, C: Chains + Drop> Core<'a, C> {
         ensures value { result ≡ self.now.state.steps }
         ensures few { result + 1 < 2 ^ 64 }
     {
-        self.machine.steps
+        self.roster.steps
     }
 
     /// The record of the run where it is quiet; otherwise the dispatcher comes back unchanged. It takes no memory.
@@ -268,8 +268,8 @@ impl<'a, C: Chains + Drop> Core<'a, C> {
         if !self.is_quiet() {
             return Err(self);
         }
-        let Core { machine } = self;
-        let Machine { log, .. } = machine;
+        let Core { roster } = self;
+        let Roster { log, .. } = roster;
         match log.into_record() {
             Ok(record) => Ok(record),
             Err(_) => unreachable!(),

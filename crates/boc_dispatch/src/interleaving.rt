@@ -4,7 +4,7 @@ ghost use Rattle.std.specs.Prelude.{◌≡◌, ◌≢◌, ◌↔◌, ℕ, ◌<�
 ghost use Rattle.boc_dispatch.specs.declared.worker.Worker.{Worker};
 ghost use Rattle.boc_dispatch.specs.Driving.{Drives, DrivesQuiet, EndsFor, HandFits, HasPlayed, row_for};
 
-use crate::answers::{Mover, OpenFault};
+use crate::calls::{Mover, OpenFault};
 use crate::dispatcher::{Core, Dispatcher, cown_count};
 use crate::worker::{Refusal, Turn, Worker};
 use boc_chain::{Chains, LinkChains};

@@ -1,19 +1,19 @@
 //! The machine of the runtime: behaviours go step by step from their Open to their last release, and what happens becomes a log.
 #![tactic(auto)]
 
-mod answers;
+mod calls;
 mod dispatcher;
 mod interleaving;
 mod kept_args;
 mod kept_stage;
 mod live;
-mod machine;
 mod movers;
 mod moves;
+mod roster;
 mod worker;
 
-pub use answers::{Advanced, Child, FinishFault, Job, Leaving, Left, Mover, OpenFault, Started};
 pub use boc_runs::step::Step;
+pub use calls::{Advanced, Child, FinishFault, Job, Leaving, Left, Mover, OpenFault, Started};
 pub use dispatcher::{Core, Dispatcher, cown_count};
 pub use interleaving::{DriveFault, drive, drive_over, drive_quiet, drive_quiet_over};
 pub use worker::{Refusal, Turn, Worker};

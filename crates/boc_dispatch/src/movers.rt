@@ -3,20 +3,20 @@
 ghost use Rattle.std.specs.Prelude.{◌≡◌, ◌<◌, Some, length};
 ghost use Rattle.boc_runs.specs.machine.Movers.{NobodyWorks};
 ghost use Rattle.boc_dispatch.specs.Calls.{NamesMover};
-ghost use Rattle.boc_dispatch.specs.Inside.{parts_of, underway, live_at, state, IsSoundMachine};
+ghost use Rattle.boc_dispatch.specs.Inside.{parts_of, underway, live_at, state, IsSoundRoster};
 ghost use Rattle.boc_dispatch.specs.Moves.{MovesOrNot, MovesAtOrNot, NamesWorker};
 
-use crate::answers::{Child, Leaving, Mover};
+use crate::calls::{Child, Leaving, Mover};
 use crate::live::Live;
-use crate::machine::Machine;
 use crate::moves::recorded_row;
+use crate::roster::Roster;
 use boc_chain::{Chains, Slot};
 use boc_runs::stage::{Phase, Stage};
 
-impl<'a, C: Chains + Drop> Machine<'a, C> {
+impl<'a, C: Chains + Drop> Roster<'a, C> {
     /// Somebody who can step, unless all is over.
     pub fn movable(&self) -> Option<Mover>
-        requires { IsSoundMachine C.lists C.place self.now }
+        requires { IsSoundRoster C.lists C.place self.now }
         ensures { NamesMover (underway (parts_of C.lists C.place self.now)) result }
     {
         match self.movable_worker() {
@@ -27,7 +27,7 @@ impl<'a, C: Chains + Drop> Machine<'a, C> {
 
     // One of those that are being enqueued, run or leave, who can step.
     fn movable_worker(&self) -> Option<Mover>
-        requires { IsSoundMachine C.lists C.place self.now }
+        requires { IsSoundRoster C.lists C.place self.now }
         ensures { NamesWorker (parts_of C.lists C.place self.now) result }
     {
         for slot in 0..self.live.len() {
@@ -40,7 +40,7 @@ impl<'a, C: Chains + Drop> Machine<'a, C> {
 
     // The behaviour at a slot, if it can step.
     fn mover_at(&self, slot: usize) -> Option<Mover>
-        requires sound { IsSoundMachine C.lists C.place self.now }
+        requires sound { IsSoundRoster C.lists C.place self.now }
         requires there { slot < length self.now.live.items }
         ensures { MovesAtOrNot (parts_of C.lists C.place self.now) slot result }
     {
@@ -52,7 +52,7 @@ impl<'a, C: Chains + Drop> Machine<'a, C> {
 
     // The behaviour at a slot, which is this one, if it can step.
     fn mover_of(&self, slot: usize, live: &Live) -> Option<Mover>
-        requires sound { IsSoundMachine C.lists C.place self.now }
+        requires sound { IsSoundRoster C.lists C.place self.now }
         requires is { live_at (parts_of C.lists C.place self.now).live slot ≡ Some live.now }
         ensures { MovesOrNot (parts_of C.lists C.place self.now) live.now result }
     {
@@ -93,7 +93,7 @@ impl<'a, C: Chains + Drop> Machine<'a, C> {
 
     // The first of the ready list, where nobody works.
     fn first_ready(&self) -> Option<Mover>
-        requires sound { IsSoundMachine C.lists C.place self.now }
+        requires sound { IsSoundRoster C.lists C.place self.now }
         requires idle { NobodyWorks (state (parts_of C.lists C.place self.now)) }
         ensures { NamesMover (underway (parts_of C.lists C.place self.now)) result }
     {

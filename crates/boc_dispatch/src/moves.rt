@@ -10,7 +10,7 @@ ghost use Rattle.boc_program.specs.Signatures.{AllBelow, CountsAre, signature_of
 ghost use Rattle.boc_runs.specs.Serial.{after_outputs, inputs_of as inputs};
 ghost use Rattle.boc_dispatch.specs.Places.{Has, in_phase, begun, with_child, with_spawn, exchanged, settled, with_row, spawn_of, granted as with_grant};
 
-use crate::answers::Job;
+use crate::calls::Job;
 use crate::kept_stage::KeptStage;
 use crate::live::Live;
 use boc_program::program::Program;

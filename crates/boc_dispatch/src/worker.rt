@@ -2,7 +2,7 @@
 
 ghost use Rattle.std.specs.Prelude.{◌≡◌, ℕ, false, IfOk, None, length};
 
-use crate::answers::{Advanced, Child, FinishFault, Job, Leaving, Left, OpenFault, Started};
+use crate::calls::{Advanced, Child, FinishFault, Job, Leaving, Left, OpenFault, Started};
 use crate::dispatcher::Core;
 use boc_chain::Chains;
 use boc_eval::{Frame, Outcome, Spare};
@@ -75,7 +75,7 @@ ghost use Rattle.boc_dispatch.specs.declared.worker.Hand.TheVariants as hands;
 ghost use Rattle.boc_dispatch.specs.Driving.{KeepsFitting};
 ghost use Rattle.boc_dispatch.specs.Working.{row_in, frame_of as frame_at_start, Enqueues, Goes, HasGiven, HasGoneOn, HasThought, IsDone, IsEnded, IsStarted};
 ghost use Rattle.boc_dispatch.specs.Working.{Wishes, Works};
-ghost use Rattle.boc_dispatch.specs.declared.answers.Child.{Child};
+ghost use Rattle.boc_dispatch.specs.declared.calls.Child.{Child};
 ghost use Rattle.boc_eval.specs.Frames.{UnderWay as Framed};
 
 // The frame of a behaviour that was started.

@@ -7,10 +7,10 @@ use Rattle.boc_program.specs.Syntax.{Code}
 use Rattle.boc_program.specs.memory.View.{code_of}
 use Rattle.boc_program.specs.Meaning.{State, Next, does, turns, ends}
 use Rattle.boc_program.specs.Resolved.{Scope, fits as block_fits}
-use Rattle.boc_eval.specs.declared.machine.Task.{Task}
-use Rattle.boc_eval.specs.declared.machine.Task.TheVariants.{Turns}
-use Rattle.boc_eval.specs.declared.machine.Machine.{Machine}
-use Rattle.boc_eval.specs.Machines.{after, scope_of, state_of, next_of, rest_of, NextTurn, Resumed, TasksFit, IsSound, tasks_size}
+use Rattle.boc_eval.specs.declared.interpreter.Task.{Task}
+use Rattle.boc_eval.specs.declared.interpreter.Task.TheVariants.{Turns}
+use Rattle.boc_eval.specs.declared.interpreter.Interpreter.{Interpreter}
+use Rattle.boc_eval.specs.Interpreters.{after, scope_of, state_of, next_of, rest_of, NextTurn, Resumed, TasksFit, IsSound, tasks_size}
 use Rattle.boc_eval.proofs.Stacks.{TasksFit-push, TasksFit-pop, after-push, after-push-as, tasks_size-push}
 use Rattle.boc_eval.proofs.Steps.{charge_is, same_left}
 
@@ -34,12 +34,12 @@ ending_at_end [] t u e = absurd cc
 ending_at_end (x ∷ ts) t u e = ending (x ∷ ts) (length (x ∷ ts) - 1) t u (omega arith) e
 
 -- the tick of a turn was counted, and the turns after it are left
-pub record Counted (block : Bor (List Stmt)) (m m' : Machine) : Type 0 where
+pub record Counted (block : Bor (List Stmt)) (m m' : Interpreter) : Type 0 where
   pub sound : IsSound m'
   pub scope : scope_of m' ≡ scope_of m
   pub resumed : Resumed block m m'
 
-pub counted : (m m' : Machine) (n k : ℕ) (block : Bor (List Stmt)) → IsSound m → NextTurn n block m → m.ticks < 1000000 → n ≡ k + 1
+pub counted : (m m' : Interpreter) (n k : ℕ) (block : Bor (List Stmt)) → IsSound m → NextTurn n block m → m.ticks < 1000000 → n ≡ k + 1
     → m'.stack.items ≡ slice_set m.stack.items (length m.stack.items - 1) (Turns k block) → state_of m' ≡ record (state_of m) { ticks = m.ticks + 1 }
     → m'.status ≡ m.status → m'.assigned ≡ m.assigned → 1001 ≤ vec_capacity m'.stack → Counted block m m'
 counted m m' n k block sound next tick more stack state status marks room =

@@ -5,8 +5,8 @@ use Rattle.boc_program.specs.declared.program.Program.{Program}
 use Rattle.boc_runs.specs.machine.AlongRows.{EndsSerially, cowns_of_rows, steps_of_rows}
 use Rattle.boc_runs.specs.machine.Sound.{IsSound}
 use Rattle.boc_runs.specs.Records.{Recorded, IsRecordOf}
-use Rattle.boc_machine.proofs.Every.{all_steps}
-use Rattle.boc_machine.proofs.Serially.{ends_serially}
+use Rattle.boc_machine_laws.proofs.Every.{all_steps}
+use Rattle.boc_machine_laws.proofs.Serially.{ends_serially}
 use Rattle.boc_dispatch.specs.Calls.{EndsAsRecord}
 use Rattle.boc_dispatch.specs.Underway.{Underway}
 

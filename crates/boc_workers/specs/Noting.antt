@@ -3,7 +3,7 @@ use Rattle.std.specs.Prelude.{◌≡◌, ℕ, ◌+◌, Option, Some, None}
 use Rattle.boc_program.specs.declared.program.Program.{Program}
 use Rattle.boc_runs.specs.machine.Schedules.{Reaches}
 use Rattle.boc_runs.specs.machine.Steps.{State, opening_state}
-use Rattle.boc_dispatch.specs.declared.answers.OpenFault.TheVariants as open_faults
+use Rattle.boc_dispatch.specs.declared.calls.OpenFault.TheVariants as open_faults
 use Rattle.boc_dispatch.specs.declared.worker.Refusal.{Refusal}
 use Rattle.boc_dispatch.specs.declared.worker.Refusal.TheVariants as refusals
 use Rattle.boc_dispatch.specs.declared.worker.Turn.{Turn}

@@ -1,8 +1,8 @@
 use Rattle.std.proofs.Common.{subst, sym}
 use Rattle.std.specs.Prelude.{Option, Result, Ok}
 use Rattle.boc_runs.specs.declared.step.Step.TheVariants as steps
-use Rattle.boc_dispatch.specs.declared.answers.FinishFault.{FinishFault}
-use Rattle.boc_dispatch.specs.declared.answers.Leaving.{Leaving}
+use Rattle.boc_dispatch.specs.declared.calls.FinishFault.{FinishFault}
+use Rattle.boc_dispatch.specs.declared.calls.Leaving.{Leaving}
 use Rattle.boc_dispatch.specs.declared.worker.Hand.{Hand}
 use Rattle.boc_dispatch.specs.declared.worker.Hand.TheVariants as hands
 use Rattle.boc_dispatch.specs.declared.worker.Turn.TheVariants as turns

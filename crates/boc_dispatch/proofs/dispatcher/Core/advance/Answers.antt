@@ -7,13 +7,13 @@ use Rattle.boc_runs.specs.declared.step.Step.TheVariants as steps
 use Rattle.boc_dispatch.specs.Underway.{Underway}
 use Rattle.boc_dispatch.specs.Calls.{AdvancesChild}
 use Rattle.boc_dispatch.specs.Inside.{parts_of, underway}
-use Rattle.boc_dispatch.specs.declared.answers.Advanced.TheVariants as advanced
+use Rattle.boc_dispatch.specs.declared.calls.Advanced.TheVariants as advanced
 use Rattle.boc_dispatch.proofs.Answered.{found_at, seen_so, step_seen, own_made, settled_or_not, owning}
 use Rattle.boc_dispatch.proofs.dispatcher.Core.advance.Goals as goal
 
 pub returns-then-exchanged : goal.returns-then-exchanged
 returns-then-exchanged g c =
-    let d = parts_of g.C.Chains.lists g.C.Chains.place c.self.inside.machine in
+    let d = parts_of g.C.Chains.lists g.C.Chains.place c.self.inside.roster in
     let child = c.args.child.now in
     let f = c.in-Some.ensures in
     let due = found_at d c.self.invariant.kept child.number child.row _ f (Asking c.in-Asking.request true)
@@ -24,7 +24,7 @@ returns-then-exchanged g c =
 
 pub returns-else-exchanged : goal.returns-else-exchanged
 returns-else-exchanged g c =
-    let d = parts_of g.C.Chains.lists g.C.Chains.place c.self.inside.machine in
+    let d = parts_of g.C.Chains.lists g.C.Chains.place c.self.inside.roster in
     let f = c.in-Some.ensures in
     step_seen d (parts_of g.C.Chains.lists g.C.Chains.place c.swap.new.self) c.self.invariant.kept _ c.args.child.now _ f (steps.Swap c.in-Asking.request)
     c.swap.result (λ own. absurd (let h : steps.Swap c.in-Asking.request ≡ steps.Own = own in cc))
@@ -34,7 +34,7 @@ returns-else-exchanged g c =
 
 pub returns-in-Flagging : goal.returns-in-Flagging
 returns-in-Flagging g c =
-    let d = parts_of g.C.Chains.lists g.C.Chains.place c.self.inside.machine in
+    let d = parts_of g.C.Chains.lists g.C.Chains.place c.self.inside.roster in
     let f = c.in-Some.ensures in
     step_seen d (parts_of g.C.Chains.lists g.C.Chains.place c.flag.new.self) c.self.invariant.kept _ c.args.child.now _ f (steps.Flag c.in-Flagging.request)
     c.flag.result (λ own. absurd (let h : steps.Flag c.in-Flagging.request ≡ steps.Own = own in cc))
@@ -45,7 +45,7 @@ returns-in-Flagging g c =
 
 pub returns-in_default-phase : goal.returns-in_default-phase
 returns-in_default-phase g c =
-    let d = parts_of g.C.Chains.lists g.C.Chains.place c.self.inside.machine in
+    let d = parts_of g.C.Chains.lists g.C.Chains.place c.self.inside.roster in
     let e = parts_of g.C.Chains.lists g.C.Chains.place c.own.new.self in
     let f = c.in-Some.ensures in
     let enqueued = subst (λ (s : Stage). enqueues_at s ≡ true) c.in-Recorded.is f.enqueued in

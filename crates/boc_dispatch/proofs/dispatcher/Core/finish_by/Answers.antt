@@ -1,8 +1,8 @@
 use Rattle.std.proofs.Common.{Bool, subst, sym, ℕ}
 use Rattle.std.specs.Prelude.{Option, Result}
 use Rattle.boc_dispatch.specs.Underway.{Underway}
-use Rattle.boc_dispatch.specs.declared.answers.Leaving.{Leaving}
-use Rattle.boc_dispatch.specs.declared.answers.FinishFault.{FinishFault}
+use Rattle.boc_dispatch.specs.declared.calls.Leaving.{Leaving}
+use Rattle.boc_dispatch.specs.declared.calls.FinishFault.{FinishFault}
 use Rattle.boc_dispatch.specs.Calls.{FinishesRow, with_outcome, IsHandedOut}
 use Rattle.boc_dispatch.specs.Inside.{parts_of, underway}
 use Rattle.boc_dispatch.specs.Moves.{EndsBehaviour}
@@ -12,7 +12,7 @@ use Rattle.boc_dispatch.proofs.dispatcher.Core.finish_by.Goals as goal
 
 pub returns : goal.returns
 returns g c =
-    let d = parts_of g.C.Chains.lists g.C.Chains.place c.self.inside.machine in
+    let d = parts_of g.C.Chains.lists g.C.Chains.place c.self.inside.roster in
     let e = parts_of g.C.Chains.lists g.C.Chains.place c.finish.new.self in
     let o = c.args.outcome.now in
     let row = c.args.row in

@@ -8,7 +8,7 @@ use Rattle.boc_dispatch.proofs.dispatcher.Core.is_quiet.Goals as goal
 
 pub returns : goal.returns
 returns g c =
-    let m = c.self.inside.machine in
+    let m = c.self.inside.roster in
     let d = parts_of g.C.Chains.lists g.C.Chains.place m in
     let k = c.self.invariant.kept in
     let same = Decides-eqb m.gone m.opened in

@@ -5,9 +5,9 @@ use Rattle.boc_dispatch.specs.Underway.{Underway}
 use Rattle.boc_dispatch.specs.Calls.{OpensWish}
 use Rattle.boc_dispatch.specs.Inside.{parts_of, underway}
 use Rattle.boc_dispatch.specs.Moves.{OpensChild}
-use Rattle.boc_dispatch.specs.declared.answers.Child.{Child}
-use Rattle.boc_dispatch.specs.declared.answers.OpenFault.{OpenFault}
-use Rattle.boc_dispatch.specs.declared.answers.OpenFault.TheVariants as open_faults
+use Rattle.boc_dispatch.specs.declared.calls.Child.{Child}
+use Rattle.boc_dispatch.specs.declared.calls.OpenFault.{OpenFault}
+use Rattle.boc_dispatch.specs.declared.calls.OpenFault.TheVariants as open_faults
 use Rattle.std.specs.declared.alloc.AllocError.{AllocError}
 use Rattle.boc_dispatch.proofs.Answered.{may_ask, cowns_small, kind_small, full, opens, no_memory, new_is}
 use Rattle.boc_dispatch.proofs.dispatcher.Core.open.Goals.{in-Ok-open, in-Err}
@@ -15,7 +15,7 @@ use Rattle.boc_dispatch.proofs.dispatcher.Core.open.Goals as goal
 
 pub returns-then-self-ge-MOST_ROWS : goal.returns-then-self-ge-MOST_ROWS
 returns-then-self-ge-MOST_ROWS g c =
-    let d = parts_of g.C.Chains.lists g.C.Chains.place c.self.inside.machine in
+    let d = parts_of g.C.Chains.lists g.C.Chains.place c.self.inside.roster in
     let f = c.args.frame.now in
     let may = may_ask (underway d) f c.args.row c.body.result.now c.args-2.result.now c.inputs.result.now
     c.body.ensures c.args-2.ensures c.inputs.ensures c.in-Some.ensures.0 c.in-Some-next_wish.ensures.0 in
@@ -26,7 +26,7 @@ returns-then-self-ge-MOST_ROWS g c =
 
 pub wished_behaviour-requires-clause-cowns : goal.wished_behaviour-requires-clause-cowns
 wished_behaviour-requires-clause-cowns g c =
-    let d = parts_of g.C.Chains.lists g.C.Chains.place c.self.inside.machine in
+    let d = parts_of g.C.Chains.lists g.C.Chains.place c.self.inside.roster in
     let f = c.args.frame.now in
     let may = may_ask (underway d) f c.args.row c.body.result.now c.args-2.result.now c.inputs.result.now
     c.body.ensures c.args-2.ensures c.inputs.ensures c.in-Some.ensures.0 c.in-Some-next_wish.ensures.0 in
@@ -34,7 +34,7 @@ wished_behaviour-requires-clause-cowns g c =
 
 pub wished_behaviour-requires-clause-kind : goal.wished_behaviour-requires-clause-kind
 wished_behaviour-requires-clause-kind g c =
-    let d = parts_of g.C.Chains.lists g.C.Chains.place c.self.inside.machine in
+    let d = parts_of g.C.Chains.lists g.C.Chains.place c.self.inside.roster in
     let f = c.args.frame.now in
     let may = may_ask (underway d) f c.args.row c.body.result.now c.args-2.result.now c.inputs.result.now
     c.body.ensures c.args-2.ensures c.inputs.ensures c.in-Some.ensures.0 c.in-Some-next_wish.ensures.0 in
@@ -42,7 +42,7 @@ wished_behaviour-requires-clause-kind g c =
 
 pub open-requires-clause-new : goal.open-requires-clause-new
 open-requires-clause-new g c =
-    let d = parts_of g.C.Chains.lists g.C.Chains.place c.self.inside.machine in
+    let d = parts_of g.C.Chains.lists g.C.Chains.place c.self.inside.roster in
     let f = c.args.frame.now in
     let may = may_ask (underway d) f c.args.row c.body.result.now c.args-2.result.now c.inputs.result.now
     c.body.ensures c.args-2.ensures c.inputs.ensures c.in-Some.ensures.0 c.in-Some-next_wish.ensures.0 in
@@ -52,7 +52,7 @@ open-requires-clause-new g c =
 
 pub returns : goal.returns
 returns g c =
-    let d = parts_of g.C.Chains.lists g.C.Chains.place c.self.inside.machine in
+    let d = parts_of g.C.Chains.lists g.C.Chains.place c.self.inside.roster in
     let e = parts_of g.C.Chains.lists g.C.Chains.place c.open.new.self in
     let f = c.args.frame.now in
     let may = may_ask (underway d) f c.args.row c.body.result.now c.args-2.result.now c.inputs.result.now
@@ -72,7 +72,7 @@ returns g c =
 
 pub returns-in_default-wished_behaviour : goal.returns-in_default-wished_behaviour
 returns-in_default-wished_behaviour g c =
-    let d = parts_of g.C.Chains.lists g.C.Chains.place c.self.inside.machine in
+    let d = parts_of g.C.Chains.lists g.C.Chains.place c.self.inside.roster in
     let f = c.args.frame.now in
     let may = may_ask (underway d) f c.args.row c.body.result.now c.args-2.result.now c.inputs.result.now
     c.body.ensures c.args-2.ensures c.inputs.ensures c.in-Some.ensures.0 c.in-Some-next_wish.ensures.0 in

@@ -5,5 +5,5 @@ use Rattle.boc_dispatch.proofs.dispatcher.Core.steps.Goals as goal
 
 pub returns-clause-few : goal.returns-clause-few
 returns-clause-few g c =
-    let d = parts_of g.C.Chains.lists g.C.Chains.place c.self.inside.machine in
+    let d = parts_of g.C.Chains.lists g.C.Chains.place c.self.inside.roster in
     omega (arith, steps_fit d.program (state d) c.self.invariant.kept.sound)

@@ -1,0 +1,88 @@
+use Rattle.std.proofs.Common.{◌≡◌, ◌∙◌, ℕ, ap, subst, sym, MatchOption, arith}
+use Rattle.std.specs.Prelude.{Option, Some, None}
+use Rattle.boc_runs.specs.machine.Turns.{IsEnqueueOf}
+use Rattle.boc_dispatch.specs.declared.live.Live.{Live}
+use Rattle.boc_dispatch.specs.Inside.{parts_of, state, live_at}
+use Rattle.boc_dispatch.specs.Moves.{IsFoundEnqueue}
+use Rattle.boc_dispatch.proofs.Tables.{read_place, read_some, live_there}
+use Rattle.boc_runs.specs.machine.Stages.{enqueues_at}
+use Rattle.boc_dispatch.specs.declared.roster.Enqueue.{Enqueue}
+use Rattle.boc_dispatch.proofs.Homes.{enqueue_found, one_behaviour}
+use Rattle.boc_dispatch.proofs.roster.Roster.enqueue_of.Goals as goal
+
+pub returns-in_err-parent : goal.returns-in_err-parent
+returns-in_err-parent g c =
+    let d = parts_of g.C.Chains.lists g.C.Chains.place c.args.self.now in
+    let child = c.args.child.now in
+    subst (λ (o : Option Enqueue). MatchOption o (IsEnqueueOf (state d) child.number child.row → ⊥) (IsFoundEnqueue d child.number child.row))
+    (sym c.from_residual.ensures)
+    (λ q. let f = enqueue_found d c.requires.kept child.row child.number q in c.in_err-parent.ensures f.1 f.3)
+
+pub returns-in_err-slot-in-Some : goal.returns-in_err-slot-in-Some
+returns-in_err-slot-in-Some g c =
+    let d = parts_of g.C.Chains.lists g.C.Chains.place c.args.self.now in
+    let child = c.args.child.now in
+    let x = c.in_ok-parent.ensures in
+    let same = read_some c.args.self.now.live.items c.in_ok-parent.parent x.this c.in-Some.live c.index.result.now x.is c.index.ensures c.in-Some.is in
+    subst (λ (o : Option Enqueue). MatchOption o (IsEnqueueOf (state d) child.number child.row → ⊥) (IsFoundEnqueue d child.number child.row))
+    (sym c.from_residual-in_err-slot-in-Some.ensures)
+    (λ q.
+    (let f = enqueue_found d c.requires.kept child.row child.number q in
+    let knows = ap (λ (l : Live). l.child) (same ∙ one_behaviour d c.requires.kept c.in_ok-parent.parent f.1 child.row x f.3) ∙ f.4 in
+    absurd (let e : None ≡ Some f.0 = sym c.in_err-slot-in-Some.was ∙ knows in cc)))
+
+pub index-requires-2 : goal.index-requires-2
+index-requires-2 g c =
+    let d = parts_of g.C.Chains.lists g.C.Chains.place c.args.self.now in
+    let x = c.in_ok-parent.ensures in
+    let same = read_some c.args.self.now.live.items c.in_ok-parent.parent x.this c.in-Some.live c.index.result.now x.is c.index.ensures c.in-Some.is in
+    let down = c.requires.kept.in_hand.children c.in_ok-parent.parent c.in_ok-slot-in-Some.slot x.this x.is
+    (ap (λ (l : Live). l.child) (sym same) ∙ c.in_ok-slot-in-Some.was) in
+    let below = live_there c.args.self.now.live.items c.in_ok-slot-in-Some.slot down.child down.is in
+    omega (arith, c.args.self.now.live.ok.0)
+
+pub returns-in-Some-index : goal.returns-in-Some-index
+returns-in-Some-index g c =
+    let d = parts_of g.C.Chains.lists g.C.Chains.place c.args.self.now in
+    let child = c.args.child.now in
+    let slot : ℕ = c.in_ok-slot-in-Some.slot in
+    let x = c.in_ok-parent.ensures in
+    let same = read_some c.args.self.now.live.items c.in_ok-parent.parent x.this c.in-Some.live c.index.result.now x.is c.index.ensures c.in-Some.is in
+    let knows = ap (λ (l : Live). l.child) (sym same) ∙ c.in_ok-slot-in-Some.was in
+    let down = c.requires.kept.in_hand.children c.in_ok-parent.parent slot x.this x.is knows in
+    let own = read_some c.args.self.now.live.items slot down.child c.in-Some-index.live c.index-2.result.now down.is c.index-2.ensures c.in-Some-index.is in
+    record {
+      this = down.child;
+      is = record { is = down.is; stage_is = ap (λ (l : Live). l.stage) (sym own) ∙ sym c.stage.ensures };
+      number_is = ap (λ (l : Live). l.number) (sym own) ∙ c.if-live-child.true;
+      parent_is = (let e : Some down.child.parent ≡ Some child.row = sym down.parent_is ∙ x.row_is in cc);
+      enqueued = ap enqueues_at c.stage.ensures ∙ ap (λ (l : Live). enqueues_at l.stage) own ∙ down.enqueued;
+      held = record { this = x.this; is = x.is; child_is = knows };
+    }
+
+pub returns-in_default : goal.returns-in_default
+returns-in_default g c =
+    let d = parts_of g.C.Chains.lists g.C.Chains.place c.args.self.now in
+    let child = c.args.child.now in
+    let slot : ℕ = c.in_ok-slot-in-Some.slot in
+    let x = c.in_ok-parent.ensures in
+    let same = read_some c.args.self.now.live.items c.in_ok-parent.parent x.this c.in-Some.live c.index.result.now x.is c.index.ensures c.in-Some.is in
+    λ q.
+    (let f = enqueue_found d c.requires.kept child.row child.number q in
+    let knows = ap (λ (l : Live). l.child) (same ∙ one_behaviour d c.requires.kept c.in_ok-parent.parent f.1 child.row x f.3) ∙ f.4 in
+    let there : f.0 ≡ slot = (let e : Some f.0 ≡ Some slot = sym knows ∙ c.in_ok-slot-in-Some.was in cc) in
+    let child_at = subst (λ (s : ℕ). live_at d.live s ≡ Some f.2.this) there f.2.is in
+    let own = read_some c.args.self.now.live.items slot f.2.this c.in-Some-index.live c.index-2.result.now child_at c.index-2.ensures c.in-Some-index.is in
+    absurd (c.if-live-child.false (ap (λ (l : Live). l.number) own ∙ f.2.number_is)))
+
+pub returns-in_default-2 : goal.returns-in_default-2
+returns-in_default-2 g c =
+    let d = parts_of g.C.Chains.lists g.C.Chains.place c.args.self.now in
+    let slot : ℕ = c.in_ok-slot-in-Some.slot in
+    let x = c.in_ok-parent.ensures in
+    let same = read_some c.args.self.now.live.items c.in_ok-parent.parent x.this c.in-Some.live c.index.result.now x.is c.index.ensures c.in-Some.is in
+    let knows = ap (λ (l : Live). l.child) (sym same) ∙ c.in_ok-slot-in-Some.was in
+    let down = c.requires.kept.in_hand.children c.in_ok-parent.parent slot x.this x.is knows in
+    let read_child : c.index-2.result.now ≡ Some down.child =
+    read_place c.args.self.now.live.items slot down.child c.index-2.result.now down.is c.index-2.ensures in
+    λ q. absurd (let e : None ≡ Some down.child = sym c.in_default.is ∙ read_child in cc)

@@ -1,0 +1,519 @@
+//! What the dispatcher has in hand, and how each step changes it.
+
+ghost use Rattle.std.specs.Prelude.{◌≡◌, ◌+◌, ◌^◌, ◌<◌, ◌≤◌, ◌↔◌, ℕ, suc, [], None, Some, IfOk, IsTrue, IsSome, MatchOption, OnOk, false, true, length, max};
+ghost use Rattle.std.specs.Prelude.{replicate, slice_set, vec_len, vec_capacity};
+ghost use Rattle.std.specs.VecDeque.{deque_capacity};
+ghost use Rattle.boc_dispatch.specs.Inside.{live_at};
+
+use crate::calls::{Advanced, Child, Job, Left};
+use crate::live::{Live, main_behaviour};
+use crate::moves::{
+    ask, begin, begin_child, count_spawn, end, end_child, flag_next, grant_one, leave_next, record,
+    settle_next, wait,
+};
+use boc_chain::{Chains, Released, Settled, Slot};
+use boc_eval::{Frame, Outcome, SpawnWish};
+use boc_program::body::Body;
+use boc_program::program::Program;
+use boc_program::short::{Cowns, Input};
+use boc_rules::RunLog;
+use boc_runs::event::Event;
+use boc_runs::stage::{Phase, Stage};
+use boc_runs::step::Step;
+use boc_runs::values::initial_values;
+use std::alloc::{AllocError, Global};
+use std::collections::VecDeque;
+
+/// The behaviours of a program under way, with their chains, and the log.
+#[derive(Drop)]
+pub struct Roster<'a, C: Chains + Drop> {
+    pub program: &'a Program,
+    pub chains: C,
+    /// The behaviours that aren't gone, each at the slot of its requests.
+    pub live: Vec<Option<Live>>,
+    /// The slot that the behaviour of each row has, or had.
+    pub homes: Vec<u32>,
+    /// The slots of the ready behaviours, in the order in which they will start.
+    pub ready: VecDeque<u32>,
+    /// The log, with room for each behaviour that was opened.
+    pub log: RunLog,
+    /// The values of the cowns.
+    pub values: Vec<i64>,
+    /// How many behaviours were opened, main among them.
+    pub opened: u32,
+    /// How many of them are gone.
+    pub gone: u32,
+    /// How many steps were made.
+    pub steps: u64,
+}
+
+/// An open enqueue: the slots of the parent and of the child, and how far the child is.
+pub struct Enqueue {
+    pub parent: usize,
+    pub slot: u32,
+    pub stage: Stage,
+}
+
+// The last slot that is kept, in 32 bits.
+const LAST_SLOT: usize = u32::MAX as usize;
+
+// Makes a table long enough to have this slot, and no longer than that.
+fn reach(live: &mut Vec<Option<Live>>, slot: usize) -> Result<(), AllocError>
+    ensures same { (s : ℕ) → live_at live.new.items s ≡ live_at live.old.items s }
+    ensures long { OnOk result (slot < length live.new.items) }
+    ensures no_longer { length live.new.items ≤ max (length live.old.items) (slot + 1) }
+{
+    while live.len() <= slot {
+        live.push(None)?;
+    }
+    Ok(())
+}
+
+// Puts a behaviour at a slot of a table.
+fn put(live: &mut Vec<Option<Live>>, slot: usize, child: Live)
+    requires { slot < length live.old.items }
+    ensures { live.new.items ≡ slice_set live.old.items slot (Some child) }
+{
+    live[slot] = Some(child);
+}
+
+ghost use Rattle.boc_runs.specs.declared.event.Event.TheVariants.{End as EndEvent};
+
+// The end of a row, as its body ended.
+fn end_event(row: u32, outcome: &Outcome) -> Event
+    ensures { result ≡ EndEvent row outcome.now.ticks outcome.now.status (record { items = outcome.now.written }) }
+{
+    Event::End {
+        row,
+        ticks: outcome.ticks(),
+        status: outcome.status(),
+        written: Cowns::try_from(outcome.written().as_slice()).unwrap(),
+    }
+}
+
+impl<'a, C: Chains + Drop> Roster<'a, C> {
+    ghost use Rattle.boc_program.specs.declared.limits.TheConstants.{MOST_ROWS};
+    ghost use Rattle.boc_runs.specs.declared.stage.Phase.TheVariants as phases;
+    ghost use Rattle.boc_runs.specs.declared.stage.Stage.TheVariants.{Asking, Recorded};
+    ghost use Rattle.boc_runs.specs.declared.step.Step.TheVariants as steps;
+    ghost use Rattle.boc_program.specs.Programs.{cown_count};
+    ghost use Rattle.boc_runs.specs.machine.Steps.{opening_state, Swaps, Flags, Owns};
+    ghost use Rattle.boc_runs.specs.machine.Turns.{IsEnqueueOf};
+    ghost use Rattle.boc_eval.specs.Frames.{last_wish_of};
+    ghost use Rattle.boc_eval.specs.Wishes.{wish_of};
+    ghost use Rattle.boc_dispatch.specs.declared.calls.Advanced.TheVariants as advanced;
+    ghost use Rattle.boc_dispatch.specs.Calls.{IsHandedOut, IsNextWish, HasSpawnedAll, IsLeaving};
+    ghost use Rattle.boc_chain.specs.Chain.{times, slots, list};
+    ghost use Rattle.boc_dispatch.specs.Inside.{parts_of, state, underway, IsSoundRoster, IsAtStage, IsStageAt, IsOfRow, HasInHand, GoesOn, Stays, IsNew};
+    ghost use Rattle.boc_dispatch.specs.Grants.{MayBeGranted, with_granted, IsRemoved, IsReleased, LeftAs};
+    ghost use Rattle.boc_dispatch.specs.Moves.{MayPut, Puts, with_table, MayRecord, Records, counted, StartsJob, OpensChild, IsFoundEnqueue, SettlesNext};
+    ghost use Rattle.boc_dispatch.specs.Moves.{EndsBehaviour, ReleasesNext, IsFoundLeaving};
+
+    /// Main is opened over chains with no request, its spawn is recorded, and it is ready.
+    pub fn over(alloc: Global, program: &'a Program, chains: C) -> Result<Roster<'a, C>, AllocError>
+        requires empty { C.lists chains ≡ replicate (cown_count program.now.cowns) [] }
+        requires none { (slot : ℕ) → C.place chains slot ≡ None }
+        ensures sound { IfOk result (IsSoundRoster C.lists C.place) }
+        ensures opening { IfOk result (λ m. state (parts_of C.lists C.place m) ≡ opening_state program.now) }
+        ensures program { IfOk result (λ m. m.program.now ≡ program.now) }
+    {
+        let mut chains = chains;
+        let values = initial_values(alloc, program.cowns.as_slice())?;
+        let mut log = RunLog::new(alloc, values.len() as u32)?;
+        log.make_room()?;
+        let mut ready = VecDeque::with_capacity(alloc, 1)?;
+        let mut homes = Vec::with_capacity(alloc, 1)?;
+        let slot = chains.admit(Cowns::new())?;
+        if slot.index > LAST_SLOT {
+            return Err(AllocError);
+        }
+        let mut live = Vec::new(alloc);
+        reach(&mut live, slot.index)?;
+        live[slot.index] = Some(main_behaviour());
+        homes.push_reserved(slot.index as u32);
+        ready.reserve(live.len())?;
+        ready.push_back_reserved(slot.index as u32);
+        log.put(Event::Spawn {
+            row: 0,
+            parent: 0,
+            offset: 0,
+            cowns: Cowns::new(),
+        });
+        Ok(Roster {
+            program,
+            chains,
+            live,
+            homes,
+            ready,
+            log,
+            values,
+            opened: 1,
+            gone: 0,
+            steps: 0,
+        })
+    }
+
+    /// Starts the first behaviour of the ready list, if there is one.
+    pub fn start(&mut self) -> Option<Job<'a>>
+        requires { IsSoundRoster C.lists C.place self.old }
+        ensures sound { IsSoundRoster C.lists C.place self.new }
+        ensures starts { StartsJob (parts_of C.lists C.place self.old) result (parts_of C.lists C.place self.new) }
+    {
+        let slot = self.ready.pop_front()?;
+        let job = begin(&mut self.live[slot as usize], self.program, &self.values);
+        self.log.put(Event::Start { row: job.row });
+        self.steps += 1;
+        Some(job)
+    }
+
+    // The slot of a row's behaviour, if that isn't gone.
+    fn slot_of(&self, row: u32) -> Option<usize>
+        requires { IsSoundRoster C.lists C.place self.now }
+        ensures { MatchOption result
+            ((slot : ℕ) → IsOfRow (parts_of C.lists C.place self.now) slot row → ⊥)
+            (λ slot. IsOfRow (parts_of C.lists C.place self.now) slot row) }
+    {
+        let slot = *self.homes.get(row as usize)?;
+        match self.live.get(slot as usize)? {
+            Some(live) if live.row() == Some(row) => Some(slot as usize),
+            _ => None,
+        }
+    }
+
+    /// The slot of a row's behaviour, where that runs on this body, these arguments and inputs.
+    pub fn running(&self, row: u32, body: &Body, args: &[i64], inputs: &[Input]) -> Option<usize>
+        requires { IsSoundRoster C.lists C.place self.now }
+        ensures { MatchOption result
+            (IsHandedOut (underway (parts_of C.lists C.place self.now)) row body.now args.now inputs.now → ⊥)
+            (λ slot. IsHandedOut (underway (parts_of C.lists C.place self.now)) row body.now args.now inputs.now
+            × IsStageAt (parts_of C.lists C.place self.now) slot (Recorded row phases.Running)) }
+    {
+        let slot = self.slot_of(row)?;
+        match &self.live[slot] {
+            Some(live) if live.runs_on(self.program, &self.values, row, body, args, inputs) => Some(
+                slot,
+            ),
+            _ => None,
+        }
+    }
+
+    /// The frame's last wish, where it is the next to be spawned of the behaviour at a slot, which runs, and nothing is being
+    /// enqueued.
+    pub fn next_wish<'f>(
+        &self,
+        slot: usize,
+        row: u32,
+        frame: &'f Frame<'a>,
+    ) -> Option<&'f SpawnWish>
+        requires sound { IsSoundRoster C.lists C.place self.now }
+        requires runs { IsStageAt (parts_of C.lists C.place self.now) slot (Recorded row phases.Running) }
+        ensures { MatchOption result
+            (IsNextWish (underway (parts_of C.lists C.place self.now)) row frame.now.made → ⊥)
+            (λ wish. IsNextWish (underway (parts_of C.lists C.place self.now)) row frame.now.made
+            × HasInHand (parts_of C.lists C.place self.now) slot None
+            × (Some (wish_of wish.now) ≡ last_wish_of frame.now)) }
+    {
+        match &self.live[slot] {
+            Some(live) if live.opens_next(frame.wishes()) => frame.last_wish(),
+            _ => None,
+        }
+    }
+
+    /// Opens a child of the behaviour of a row, which is at a slot, as that wishes for it. All memory is taken here that the
+    /// child will ever need.
+    pub fn open(&mut self, slot: usize, row: u32, child: Live) -> Result<Child, AllocError>
+        requires sound { IsSoundRoster C.lists C.place self.old }
+        requires runs { IsStageAt (parts_of C.lists C.place self.old) slot (Recorded row phases.Running) }
+        requires free { HasInHand (parts_of C.lists C.place self.old) slot None }
+        requires new { IsNew (parts_of C.lists C.place self.old) row child }
+        requires few { self.old.opened < MOST_ROWS }
+        ensures sound { IsSoundRoster C.lists C.place self.new }
+        ensures opens { OpensChild (parts_of C.lists C.place self.old) row result (parts_of C.lists C.place self.new) }
+    {
+        self.homes
+            .reserve(self.opened as usize - self.homes.len() + 1)?;
+        self.log.make_room()?;
+        let own = self.chains.admit(child.cowns.widened())?;
+        if self.make_places(own.index).is_err() {
+            self.chains.dismiss(own);
+            return Err(AllocError);
+        }
+        Ok(self.put_child(slot, own.index as u32, child))
+    }
+
+    // Makes the table long enough for this slot, and the ready list for the table. A slot that has no 32 bits is refused as
+    // memory is.
+    fn make_places(&mut self, slot: usize) -> Result<(), AllocError>
+        requires ready { length self.old.live.items ≤ deque_capacity self.old.ready }
+        requires few { length self.old.live.items ≤ 2 ^ 32 }
+        ensures parts { parts_of C.lists C.place self.new ≡ with_table self.new.live.items (parts_of C.lists C.place self.old) }
+        ensures same { (s : ℕ) → live_at self.new.live.items s ≡ live_at self.old.live.items s }
+        ensures long { OnOk result (slot < length self.new.live.items) }
+        ensures small { OnOk result (slot < 2 ^ 32) }
+        ensures homes { vec_capacity self.new.homes ≡ vec_capacity self.old.homes }
+        ensures ready { length self.new.live.items ≤ deque_capacity self.new.ready }
+        ensures few { length self.new.live.items ≤ 2 ^ 32 }
+    {
+        if slot > LAST_SLOT {
+            return Err(AllocError);
+        }
+        self.ready
+            .reserve((slot + 1).saturating_sub(self.ready.len()))?;
+        reach(&mut self.live, slot)
+    }
+
+    // Puts a child of the behaviour at a slot into its own slot, where there is room for it.
+    fn put_child(&mut self, parent: usize, slot: u32, child: Live) -> Child
+        requires { MayPut (parts_of C.lists C.place self.old) (vec_capacity self.old.homes) parent slot child }
+        ensures token { (result.number ≡ child.number) × (result.row ≡ child.parent) }
+        ensures puts { (this : Live) → live_at self.old.live.items parent ≡ Some this
+            → Puts (parts_of C.lists C.place self.old) parent slot child this (parts_of C.lists C.place self.new) }
+        ensures homes { vec_capacity self.new.homes ≡ vec_capacity self.old.homes }
+        ensures ready { deque_capacity self.new.ready ≡ deque_capacity self.old.ready }
+    {
+        let token = Child {
+            number: child.number,
+            row: child.parent,
+        };
+        let is_settled = child.cowns.as_slice().is_empty();
+        put(&mut self.live, slot as usize, child);
+        begin_child(&mut self.live[parent], slot);
+        self.opened += 1;
+        self.step_asking(parent, slot, is_settled);
+        token
+    }
+
+    // One step is made. Where the requests of the behaviour at a slot are all settled, its spawn is recorded by its parent's.
+    fn step_asking(&mut self, parent: usize, slot: u32, is_settled: bool)
+        requires fits { self.old.steps + 1 < 2 ^ 64 }
+        requires may { is_settled ≡ true → MayRecord (parts_of C.lists C.place self.old) (vec_capacity self.old.homes) parent slot }
+        ensures asks { is_settled ≡ false → parts_of C.lists C.place self.new ≡ counted (parts_of C.lists C.place self.old) }
+        ensures records { is_settled ≡ true → Records (counted (parts_of C.lists C.place self.old)) parent slot (parts_of C.lists C.place self.new) }
+        ensures homes { vec_capacity self.new.homes ≡ vec_capacity self.old.homes }
+        ensures ready { deque_capacity self.new.ready ≡ deque_capacity self.old.ready }
+    {
+        self.steps += 1;
+        if is_settled {
+            self.record_spawn(parent, slot);
+        }
+    }
+
+    // Records the spawn of the behaviour at a slot by its parent's.
+    fn record_spawn(&mut self, parent: usize, slot: u32)
+        requires { MayRecord (parts_of C.lists C.place self.old) (vec_capacity self.old.homes) parent slot }
+        ensures records { Records (parts_of C.lists C.place self.old) parent slot (parts_of C.lists C.place self.new) }
+        ensures homes { vec_capacity self.new.homes ≡ vec_capacity self.old.homes }
+        ensures ready { deque_capacity self.new.ready ≡ deque_capacity self.old.ready }
+    {
+        count_spawn(&mut self.live[parent]);
+        let event = record(&mut self.live[slot as usize], self.homes.len() as u32);
+        self.log.put(event);
+        self.homes.push_reserved(slot);
+    }
+
+    /// The open enqueue with this token.
+    pub fn enqueue_of(&self, child: &Child) -> Option<Enqueue>
+        requires { IsSoundRoster C.lists C.place self.now }
+        ensures { MatchOption result
+            (IsEnqueueOf (state (parts_of C.lists C.place self.now)) child.now.number child.now.row → ⊥)
+            (IsFoundEnqueue (parts_of C.lists C.place self.now) child.now.number child.now.row) }
+    {
+        let parent = self.slot_of(child.row)?;
+        let slot = match &self.live[parent] {
+            Some(live) => live.child?,
+            None => return None,
+        };
+        match &self.live[slot as usize] {
+            Some(live) if live.number == child.number => Some(Enqueue {
+                parent,
+                slot,
+                stage: live.stage.stage(),
+            }),
+            _ => None,
+        }
+    }
+
+    /// Exchanges this request of the behaviour at a slot.
+    pub fn swap(&mut self, slot: usize, request: usize) -> Advanced
+        requires sound { IsSoundRoster C.lists C.place self.old }
+        requires due { IsStageAt (parts_of C.lists C.place self.old) slot (Asking request false) }
+        ensures sound { IsSoundRoster C.lists C.place self.new }
+        ensures moved { result ≡ advanced.Moved (steps.Swap request) }
+        ensures swaps { (l : Live) → IsAtStage (parts_of C.lists C.place self.old) slot l (Asking request false)
+            → GoesOn (λ s t. Swaps s l.number request t) (parts_of C.lists C.place self.old) (parts_of C.lists C.place self.new) }
+    {
+        self.chains.swap(Slot { index: slot }, request);
+        ask(&mut self.live[slot], request);
+        self.steps += 1;
+        Advanced::Moved(Step::Swap(request))
+    }
+
+    /// Settles this request of the behaviour at a slot, unless that is blocked. With the last one its spawn is recorded.
+    pub fn settle(&mut self, parent: usize, slot: u32, request: usize) -> Advanced
+        requires sound { IsSoundRoster C.lists C.place self.old }
+        requires due { IsStageAt (parts_of C.lists C.place self.old) slot (Asking request true) }
+        requires held { HasInHand (parts_of C.lists C.place self.old) parent (Some slot) }
+        ensures sound { IsSoundRoster C.lists C.place self.new }
+        ensures settles { (l : Live) → IsAtStage (parts_of C.lists C.place self.old) slot l (Asking request true)
+            → SettlesNext (parts_of C.lists C.place self.old) l.number request result (parts_of C.lists C.place self.new) }
+    {
+        let granted = match self.chains.settle(
+            Slot {
+                index: slot as usize,
+            },
+            request,
+        ) {
+            Settled::Blocked => return Advanced::Blocked,
+            Settled::Lone => 1,
+            Settled::Linked => 0,
+        };
+        let is_last = settle_next(&mut self.live[slot as usize], request, granted);
+        self.step_asking(parent, slot, is_last);
+        Advanced::Moved(Step::Settle(request))
+    }
+
+    /// Flags this request of the behaviour at a slot.
+    pub fn flag(&mut self, slot: usize, row: u32, request: usize) -> Advanced
+        requires sound { IsSoundRoster C.lists C.place self.old }
+        requires due { IsStageAt (parts_of C.lists C.place self.old) slot (Recorded row (phases.Flagging request)) }
+        ensures sound { IsSoundRoster C.lists C.place self.new }
+        ensures moved { result ≡ advanced.Moved (steps.Flag request) }
+        ensures flags { (l : Live) → IsAtStage (parts_of C.lists C.place self.old) slot l (Recorded row (phases.Flagging request))
+            → GoesOn (λ s t. Flags s l.number request t) (parts_of C.lists C.place self.old) (parts_of C.lists C.place self.new) }
+    {
+        self.chains.flag(Slot { index: slot }, request);
+        flag_next(&mut self.live[slot], row, request);
+        self.steps += 1;
+        Advanced::Moved(Step::Flag(request))
+    }
+
+    /// Ends the enqueue of the behaviour at a slot, which its parent has in hand: it is ready, or waits.
+    pub fn own(&mut self, parent: usize, slot: u32, row: u32) -> Advanced
+        requires sound { IsSoundRoster C.lists C.place self.old }
+        requires due { IsStageAt (parts_of C.lists C.place self.old) slot (Recorded row phases.Owning) }
+        requires held { HasInHand (parts_of C.lists C.place self.old) parent (Some slot) }
+        ensures sound { IsSoundRoster C.lists C.place self.new }
+        ensures enqueued { result ≡ advanced.Enqueued }
+        ensures owns { (l : Live) → IsAtStage (parts_of C.lists C.place self.old) slot l (Recorded row phases.Owning)
+            → GoesOn (λ s t. Owns s l.number t) (parts_of C.lists C.place self.old) (parts_of C.lists C.place self.new) }
+    {
+        end_child(&mut self.live[parent]);
+        wait(&mut self.live[slot as usize], row);
+        self.grant(slot);
+        self.steps += 1;
+        Advanced::Enqueued
+    }
+
+    // The behaviour at a slot awaits one thing less. Where it awaits nothing more it joins the ready list.
+    fn grant(&mut self, slot: u32)
+        requires { MayBeGranted (parts_of C.lists C.place self.old) slot (deque_capacity self.old.ready) }
+        ensures granted { parts_of C.lists C.place self.new ≡ with_granted slot (parts_of C.lists C.place self.old) }
+        ensures rooms { (self.new.homes ≡ self.old.homes) × (deque_capacity self.new.ready ≡ deque_capacity self.old.ready) }
+    {
+        if grant_one(&mut self.live[slot as usize]) {
+            self.ready.push_back_reserved(slot);
+        }
+    }
+
+    /// So many wishes of the behaviour at a slot, which runs, were all spawned, and nothing is being enqueued.
+    pub fn has_spawned(&self, slot: usize, row: u32, wishes: u32) -> bool
+        requires sound { IsSoundRoster C.lists C.place self.now }
+        requires runs { IsStageAt (parts_of C.lists C.place self.now) slot (Recorded row phases.Running) }
+        ensures { IsTrue result ↔ HasSpawnedAll (underway (parts_of C.lists C.place self.now)) row wishes }
+    {
+        match &self.live[slot] {
+            Some(live) => live.has_spawned(wishes),
+            None => false,
+        }
+    }
+
+    /// Ends the running behaviour of a row, which is at a slot, as its body did. Answers whether it has cowns to release.
+    pub fn finish(&mut self, slot: usize, row: u32, outcome: &Outcome<'a>) -> bool
+        requires sound { IsSoundRoster C.lists C.place self.old }
+        requires runs { IsStageAt (parts_of C.lists C.place self.old) slot (Recorded row phases.Running) }
+        requires handed { IsHandedOut (underway (parts_of C.lists C.place self.old)) row outcome.now.body outcome.now.args outcome.now.inputs }
+        requires spawned { HasSpawnedAll (underway (parts_of C.lists C.place self.old)) row outcome.now.wishes }
+        ensures sound { IsSoundRoster C.lists C.place self.new }
+        ensures ends { (l : Live) → IsAtStage (parts_of C.lists C.place self.old) slot l (Recorded row phases.Running)
+            → EndsBehaviour (parts_of C.lists C.place self.old) l.number row result (parts_of C.lists C.place self.new) }
+    {
+        let has_cowns = end(
+            &mut self.live[slot],
+            row,
+            &mut self.values,
+            outcome.outputs(),
+        );
+        self.log.put(end_event(row, outcome));
+        self.steps += 1;
+        if has_cowns {
+            return true;
+        }
+        self.remove(slot);
+        false
+    }
+
+    // The behaviour at a slot is gone.
+    fn remove(&mut self, slot: usize)
+        requires there { slot < vec_len self.old.live }
+        requires admitted { IsSome (C.place self.old.chains slot) }
+        requires empty { (c : ℕ) → times slot (slots (list (C.lists self.old.chains) c)) ≡ 0 }
+        requires few { self.old.gone + 1 < 2 ^ 32 }
+        ensures removed { IsRemoved (parts_of C.lists C.place self.old) slot (parts_of C.lists C.place self.new) }
+        ensures rooms { (self.new.homes ≡ self.old.homes) × (self.new.ready ≡ self.old.ready) }
+    {
+        self.live[slot] = None;
+        self.chains.dismiss(Slot { index: slot });
+        self.gone += 1;
+    }
+
+    /// The slot of a row's behaviour that releases its cowns, and which request it releases next.
+    pub fn leaving(&self, row: u32) -> Option<(usize, usize)>
+        requires { IsSoundRoster C.lists C.place self.now }
+        ensures { MatchOption result
+            (IsLeaving (state (parts_of C.lists C.place self.now)) row → ⊥)
+            (λ found. IsFoundLeaving (parts_of C.lists C.place self.now) row found.0 found.1) }
+    {
+        let slot = self.slot_of(row)?;
+        match &self.live[slot] {
+            Some(live) => Some((slot, live.leaving(row)?)),
+            None => None,
+        }
+    }
+
+    /// Releases this request of the leaving behaviour of a row, which is at a slot, unless that is blocked.
+    pub fn leave(&mut self, slot: usize, row: u32, request: usize) -> Left
+        requires sound { IsSoundRoster C.lists C.place self.old }
+        requires due { IsStageAt (parts_of C.lists C.place self.old) slot (Recorded row (phases.Leaving request)) }
+        ensures sound { IsSoundRoster C.lists C.place self.new }
+        ensures releases { (l : Live) → IsAtStage (parts_of C.lists C.place self.old) slot l (Recorded row (phases.Leaving request))
+            → ReleasesNext (parts_of C.lists C.place self.old) l.number row result (parts_of C.lists C.place self.new) }
+    {
+        match self.chains.leave(Slot { index: slot }, request) {
+            Released::Blocked => Left::Blocked,
+            Released::Unhooked => self.leave_on(slot, row, request, Step::Unhook(request)),
+            Released::Passed(next) => {
+                self.grant(next.index as u32);
+                self.leave_on(slot, row, request, Step::Pass(request))
+            }
+        }
+    }
+
+    // This request of the leaving behaviour of a row, which is at a slot, is released by this step: it goes on with the next
+    // one, or is gone.
+    #[inline(always)]
+    fn leave_on(&mut self, slot: usize, row: u32, request: usize, step: Step) -> Left
+        requires { IsReleased slot row request (parts_of C.lists C.place self.old)
+            (vec_capacity self.old.homes) (deque_capacity self.old.ready) }
+        ensures sound { IsSoundRoster C.lists C.place self.new }
+        ensures left { (l : Live) → live_at (parts_of C.lists C.place self.old).live slot ≡ Some l
+            → LeftAs (parts_of C.lists C.place self.old) row l (suc request) step result (parts_of C.lists C.place self.new) }
+    {
+        self.steps += 1;
+        if leave_next(&mut self.live[slot], row, request) {
+            self.remove(slot);
+            Left::Gone(step)
+        } else {
+            Left::Moved(step)
+        }
+    }
+}

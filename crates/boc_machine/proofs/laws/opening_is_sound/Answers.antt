@@ -1,5 +1,0 @@
-use Rattle.boc_machine.proofs.Every.{opening_sound}
-use Rattle.boc_machine.proofs.laws.opening_is_sound.Goals as goal
-
-pub returns : goal.returns
-returns c = opening_sound

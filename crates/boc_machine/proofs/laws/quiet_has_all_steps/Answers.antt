@@ -1,5 +1,0 @@
-use Rattle.boc_machine.proofs.Every.{all_steps}
-use Rattle.boc_machine.proofs.laws.quiet_has_all_steps.Goals as goal
-
-pub returns : goal.returns
-returns c = all_steps

@@ -1,5 +1,0 @@
-use Rattle.boc_machine.proofs.Allowing.{some_step}
-use Rattle.boc_machine.proofs.laws.some_step_is_allowed.Goals as goal
-
-pub returns : goal.returns
-returns c = some_step

@@ -1,5 +1,0 @@
-use Rattle.boc_machine.proofs.Serially.{values_at_end}
-use Rattle.boc_machine.proofs.laws.values_are_serial.Goals as goal
-
-pub returns : goal.returns
-returns c = values_at_end

@@ -1,5 +1,0 @@
-use Rattle.boc_machine.proofs.Records.{whole_is_complete}
-use Rattle.boc_machine.proofs.laws.whole_is_complete.Goals as goal
-
-pub returns : goal.returns
-returns c = whole_is_complete

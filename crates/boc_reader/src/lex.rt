@@ -157,7 +157,7 @@ fn begins_with_digit(run: &[u8]) -> bool
 const LONGEST_NAME: usize = 32;
 
 // What a run of name bytes is.
-#[tactic(auto, unfolding(boc_reader::specs::Tokens::token_of_run))]
+#[tactic(auto, unfolding(crate::specs::Tokens::token_of_run))]
 fn token_of_run<'a>(run: &'a [u8]) -> Result<Token<'a>, TokenFault>
     requires { IsAscii run.now }
     ensures { MatchResult result (λ t. token_of_run run.now ≡ Some (token_of t)) (λ _. token_of_run run.now ≡ None) }

@@ -16,7 +16,7 @@ returns-then-accept-2-clause-answers c =
     let taken = c.if-accept-2.ensures.taken in
     read_last expr_phrase Semicolon _ _ c.expr.new.cursor c.accept-in-exprs.new.self _ _ _ c.exprs.invariant item.0 item.1 c.in_ok-expr.ensures.shorter taken.0
     taken.1
-    (omega (arith, length-map c.exprs.all.items expr_of, c.if-len-eq-LISTED.false, c.len.ensures, c.exprs.invariant.few))
+    (omega (arith, length-map c.exprs.all.items expr_of, c.if-len-eq-MOST_LISTED.false, c.len.ensures, c.exprs.invariant.few))
     (ap (map expr_of) c.in_ok-push.ensures.items ∙ map_push expr_of c.exprs.all.items c.in_ok-expr.field-0)
 
 pub exprs-preserved : goal.exprs-preserved
@@ -25,11 +25,11 @@ exprs-preserved c =
     let same = c.if-accept-2.ensures.stays.0 in
     read_comma expr_phrase _ _ c.expr.new.cursor _ _ _ _ c.exprs.invariant item.0 item.1 c.in_ok-expr.ensures.shorter
     (ap (λ (a : Ahead). a.tokens) (sym same) ∙ c.in_ok-take.ensures.0) (c.in_ok-take.ensures.1 ∙ ap (λ (a : Ahead). a.room) same)
-    (omega (arith, length-map c.exprs.all.items expr_of, c.if-len-eq-LISTED.false, c.len.ensures, c.exprs.invariant.few))
+    (omega (arith, length-map c.exprs.all.items expr_of, c.if-len-eq-MOST_LISTED.false, c.len.ensures, c.exprs.invariant.few))
     (ap (map expr_of) c.in_ok-push.ensures.items ∙ map_push expr_of c.exprs.all.items c.in_ok-expr.field-0)
 
-pub returns-then-len-eq-LISTED-clause-answers : goal.returns-then-len-eq-LISTED-clause-answers
-returns-then-len-eq-LISTED-clause-answers c =
+pub returns-then-len-eq-MOST_LISTED-clause-answers : goal.returns-then-len-eq-MOST_LISTED-clause-answers
+returns-then-len-eq-MOST_LISTED-clause-answers c =
     tells c.ninth_argument.result (no_ninth expr_phrase Semicolon exprs_readable _ _ _ c.exprs.invariant c.if-accept.ensures.stays.1
     (length-map c.exprs.all.items expr_of ∙ omega (arith, c.exprs.all.ok.0)))
 

@@ -15,7 +15,7 @@ returns-then-accept-2-clause-answers c =
     read_last name_phrase c.args.close _ _ c.name.new.self c.accept-in-names.new.self _ _ _ c.names.invariant
     (record { tokens = c.in_ok-name.ensures.0; ends = tt; fits = omega arith; small = tt })
     (omega (arith, c.in_ok-name.ensures.1)) (omega (arith, ap length c.in_ok-name.ensures.0)) taken.0 taken.1
-    (omega (arith, length-map c.names.all.items name_of, c.if-len-eq-LISTED.false, c.len.ensures, c.names.invariant.few))
+    (omega (arith, length-map c.names.all.items name_of, c.if-len-eq-MOST_LISTED.false, c.len.ensures, c.names.invariant.few))
     (ap (map name_of) c.in_ok-push.ensures.items ∙ map_push name_of c.names.all.items c.in_ok-name.field-0)
 
 pub names-preserved : goal.names-preserved
@@ -25,11 +25,11 @@ names-preserved c =
     (record { tokens = c.in_ok-name.ensures.0; ends = tt; fits = omega arith; small = tt })
     (omega (arith, c.in_ok-name.ensures.1)) (omega (arith, ap length c.in_ok-name.ensures.0))
     (ap (λ (a : Ahead). a.tokens) (sym same) ∙ c.in_ok-take.ensures.0) (c.in_ok-take.ensures.1 ∙ ap (λ (a : Ahead). a.room) same)
-    (omega (arith, length-map c.names.all.items name_of, c.if-len-eq-LISTED.false, c.len.ensures, c.names.invariant.few))
+    (omega (arith, length-map c.names.all.items name_of, c.if-len-eq-MOST_LISTED.false, c.len.ensures, c.names.invariant.few))
     (ap (map name_of) c.in_ok-push.ensures.items ∙ map_push name_of c.names.all.items c.in_ok-name.field-0)
 
-pub returns-then-len-eq-LISTED-clause-answers : goal.returns-then-len-eq-LISTED-clause-answers
-returns-then-len-eq-LISTED-clause-answers c =
+pub returns-then-len-eq-MOST_LISTED-clause-answers : goal.returns-then-len-eq-MOST_LISTED-clause-answers
+returns-then-len-eq-MOST_LISTED-clause-answers c =
     tells c.ninth.result (no_ninth name_phrase c.args.close (names_readable c.args.close c.requires) _ _ _ c.names.invariant c.if-accept.ensures.stays.1
     (length-map c.names.all.items name_of ∙ omega (arith, c.names.all.ok.0)))
 

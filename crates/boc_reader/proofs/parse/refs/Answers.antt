@@ -16,7 +16,7 @@ returns-then-accept-2-clause-answers c =
     let taken = c.if-accept-2.ensures.taken in
     read_last ref_phrase Close _ _ c.reference.new.cursor c.accept-in-refs.new.self _ _ _ c.refs.invariant item.0 item.1 c.in_ok-reference.ensures.shorter
     taken.0 taken.1
-    (omega (arith, length-map c.refs.all.items named_cown_of, c.if-len-eq-LISTED.false, c.len.ensures, c.refs.invariant.few))
+    (omega (arith, length-map c.refs.all.items named_cown_of, c.if-len-eq-MOST_LISTED.false, c.len.ensures, c.refs.invariant.few))
     (ap (map named_cown_of) c.in_ok-push.ensures.items ∙ map_push named_cown_of c.refs.all.items c.in_ok-reference.field-0)
 
 pub refs-preserved : goal.refs-preserved
@@ -25,11 +25,11 @@ refs-preserved c =
     let same = c.if-accept-2.ensures.stays.0 in
     read_comma ref_phrase _ _ c.reference.new.cursor _ _ _ _ c.refs.invariant item.0 item.1 c.in_ok-reference.ensures.shorter
     (ap (λ (a : Ahead). a.tokens) (sym same) ∙ c.in_ok-take.ensures.0) (c.in_ok-take.ensures.1 ∙ ap (λ (a : Ahead). a.room) same)
-    (omega (arith, length-map c.refs.all.items named_cown_of, c.if-len-eq-LISTED.false, c.len.ensures, c.refs.invariant.few))
+    (omega (arith, length-map c.refs.all.items named_cown_of, c.if-len-eq-MOST_LISTED.false, c.len.ensures, c.refs.invariant.few))
     (ap (map named_cown_of) c.in_ok-push.ensures.items ∙ map_push named_cown_of c.refs.all.items c.in_ok-reference.field-0)
 
-pub returns-then-len-eq-LISTED-clause-answers : goal.returns-then-len-eq-LISTED-clause-answers
-returns-then-len-eq-LISTED-clause-answers c =
+pub returns-then-len-eq-MOST_LISTED-clause-answers : goal.returns-then-len-eq-MOST_LISTED-clause-answers
+returns-then-len-eq-MOST_LISTED-clause-answers c =
     tells c.ninth.result (no_ninth ref_phrase Close refs_readable _ _ _ c.refs.invariant c.if-accept.ensures.stays.1
     (length-map c.refs.all.items named_cown_of ∙ omega (arith, c.refs.all.ok.0)))
 

@@ -1,4 +1,3 @@
-pub mod Unfit
 pub mod Asked
 pub mod Promised
 pub mod Passed

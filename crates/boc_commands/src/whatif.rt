@@ -12,7 +12,7 @@ use boc_plans::sharing::Sharing;
 use boc_plans::workers::Workers;
 use boc_record::read_rows;
 use boc_text::{Sink, Source};
-use boc_whatif::WhatIf;
+use boc_whatif::{Unfit, WhatIf};
 use std::alloc::Global;
 
 /// Reads the text of a record, has its rows take other ticks, edit by edit, and writes the report on them, as the
@@ -50,11 +50,8 @@ fn edit_all(question: &mut WhatIf, edits: &[Edit]) -> Result<(), Fault>
     ensures sharing { question.new.sharing ≡ question.old.sharing }
     ensures unfit { IfErr result (IsOfEdits question.old.rows edits.now) }
 {
-    for (index, edit) in edits.iter().enumerate() {
-        if let Err(fault) = question.edit(edit.row, edit.ticks) {
-            let number = index + 1;
-            return Err(Fault::Edit { number, fault });
-        }
+    match question.edit_all(edits) {
+        Ok(()) => Ok(()),
+        Err(Unfit { number, fault }) => Err(Fault::Edit { number, fault }),
     }
-    Ok(())
 }

@@ -25,9 +25,9 @@ pub record IsDue (rows : List Row) (s : Simulation) (r : ℕ) : Type 0 where
   pub there : r < length rows
   pub under_way : IsAt s.frontier.stages.items r UnderWay
   pub early : start_of s.starts.items r + MOST_TICKS < later
-  pub listed : r < length s.family.first.items
-  pub unspawned : slice_index (children_of s.family.first.items) r < length rows
-      → IsAt s.frontier.stages.items (slice_index (children_of s.family.first.items) r) Unspawned
+  pub listed : r < length s.first.items
+  pub unspawned : slice_index (children_of s.first.items) r < length rows
+      → IsAt s.frontier.stages.items (slice_index (children_of s.first.items) r) Unspawned
 
 pub is_due : (rows : List Row) → IsRows rows → (s : Simulation) (r : ℕ) → IsStepping rows s → IsOnTop (heap_items s.queue) s.tick r → IsDue rows s r
 is_due rows hr s r i top =
@@ -46,7 +46,7 @@ is_due rows hr s r i top =
 
 -- where that row spawns a child, what comes after that
 pub record IsSpawning (rows : List Row) (s : Simulation) (r : ℕ) (change next : Change) : Type 0 where
-  pub child : slice_index (children_of s.family.first.items) r ≡ change.child
+  pub child : slice_index (children_of s.first.items) r ≡ change.child
   pub is_child : IsChild rows r change.child
   pub next_child : IsNextChild rows (parent_of rows change.child) (change.child + 1) next.child
   pub timed : IsTimed rows r next.child next.after
@@ -55,31 +55,31 @@ pub record IsSpawning (rows : List Row) (s : Simulation) (r : ℕ) (change next 
 
 module _ (rows : List Row) (hr : IsRows rows) (s : Simulation) (r : ℕ) (i : IsStepping rows s) (top : IsOnTop (heap_items s.queue) s.tick r)
     (change next : Change)
-    (read : change ≡ get_or s.family.first.items r change) (there : change.child < length rows)
-    (next_read : next ≡ get_or s.family.next.items change.child next) where
+    (read : change ≡ get_or s.first.items r change) (there : change.child < length rows)
+    (next_read : next ≡ get_or s.family.now.next.items change.child next) where
   d : IsDue rows s r
   d = is_due rows hr s r i top
 
-  child_is : slice_index (children_of s.family.first.items) r ≡ change.child
-  child_is = child_at s.family.first.items r change d.listed read
+  child_is : slice_index (children_of s.first.items) r ≡ change.child
+  child_is = child_at s.first.items r change d.listed read
 
   was : IsTimed rows r change.child change.after
-  was = rw (child_is, time_at s.family.first.items r change d.listed read) at (i.are_timed r d.there)
+  was = rw (child_is, time_at s.first.items r change d.listed read) at (i.are_timed r d.there)
 
   is : IsChild rows r change.child
   is = rw child_is at (i.kept.staged.left r d.there).child_is there
 
-  next_there : change.child < length s.family.next.items
+  next_there : change.child < length s.family.now.next.items
   next_there = omega (arith, there, simp length-map at i.are_next.whole)
 
-  next_is : slice_index (children_of s.family.next.items) change.child ≡ next.child
-  next_is = child_at s.family.next.items change.child next next_there next_read
+  next_is : slice_index (children_of s.family.now.next.items) change.child ≡ next.child
+  next_is = child_at s.family.now.next.items change.child next next_there next_read
 
   follows : IsNextChild rows (parent_of rows change.child) (change.child + 1) next.child
   follows = rw next_is at (i.are_next.child change.child is.not_main there)
 
   comes : IsTimed rows r next.child next.after
-  comes = rw (next_is, time_at s.family.next.items change.child next next_there next_read, is.parent) at (i.are_next.timed change.child is.not_main there)
+  comes = rw (next_is, time_at s.family.now.next.items change.child next next_there next_read, is.parent) at (i.are_next.timed change.child is.not_main there)
 
   pub is_spawning : IsSpawning rows s r change next
   is_spawning = record {

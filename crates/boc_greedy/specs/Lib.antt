@@ -2,6 +2,7 @@ pub mod Stages
 pub mod RowSets
 pub mod Frontier
 pub mod Families
+pub mod Consequences
 pub mod Simulating
 pub mod Stepping
 pub mod Queues

@@ -12,7 +12,7 @@ use Rattle.boc_greedy.specs.Simulating.{later, Kept, Given, IsFresh, HasPassed, 
 
 -- the simulation keeps what it has to keep
 abbrev pub IsSimulated : List Row → Simulation → Type 0
-IsSimulated rows s = Kept rows s.p later s.starts.items s.workers.items s.frontier.stages.items (children_of s.family.first.items) (heap_items s.queue) s.idle
+IsSimulated rows s = Kept rows s.p later s.starts.items s.workers.items s.frontier.stages.items (children_of s.first.items) (heap_items s.queue) s.idle
     s.tick
 
 -- the moments so far are counted
@@ -29,8 +29,8 @@ pub record IsStepping (rows : List Row) (s : Simulation) : Type 0 where
   pub frontier : IsFrontier rows s.frontier
   pub kept : IsSimulated rows s
   pub fresh : IsFresh rows s.starts.items s.tick
-  pub are_timed : AreTimed rows (children_of s.family.first.items) (times_of s.family.first.items)
-  pub are_next : AreNext rows (children_of s.family.next.items) (times_of s.family.next.items)
+  pub are_timed : AreTimed rows (children_of s.first.items) (times_of s.first.items)
+  pub are_next : AreNext rows (children_of s.family.now.next.items) (times_of s.family.now.next.items)
   pub queue : IsQueue (heap_items s.queue)
   pub counted : IsCounted rows s.starts.items s.tick s.moments
 
@@ -40,8 +40,8 @@ pub record IsGiving (rows : List Row) (s : Simulation) : Type 0 where
   pub kept : IsSimulated rows s
   pub given : Given rows s.p s.starts.items s.workers.items s.frontier.stages.items s.idle s.tick
   pub passed : HasPassed (heap_items s.queue) s.tick
-  pub are_timed : AreTimed rows (children_of s.family.first.items) (times_of s.family.first.items)
-  pub are_next : AreNext rows (children_of s.family.next.items) (times_of s.family.next.items)
+  pub are_timed : AreTimed rows (children_of s.first.items) (times_of s.first.items)
+  pub are_next : AreNext rows (children_of s.family.now.next.items) (times_of s.family.now.next.items)
   pub queue : IsQueue (heap_items s.queue)
   pub counted : IsCounted rows s.starts.items s.tick s.moments
   pub low : IsLow rows s

@@ -6,11 +6,13 @@ ghost use Rattle.boc_plans.specs.Seen.{seen};
 ghost use Rattle.boc_plans.specs.Plans.{HasEnds, end_of, work_of};
 ghost use Rattle.boc_plans.specs.Greedy.{IsSpan};
 ghost use Rattle.boc_order.specs.Waits.{AreWaits};
+ghost use Rattle.boc_greedy.specs.Consequences.{AreConsequences};
 ghost use Rattle.boc_greedy.specs.Plans.{IsGreedyPlanOf};
 
+use crate::consequences::Consequences;
 use crate::report::Greedy;
 use crate::simulation::Simulation;
-use boc_order::{Links, followers, last_end, waits_and_plan};
+use boc_order::{Links, last_end, waits_and_plan};
 use boc_plans::sharing::{SeenRows, Sharing};
 use boc_plans::workers::Workers;
 use boc_runs::rows::Rows;
@@ -29,27 +31,28 @@ fn ends_of(alloc: Global, rows: &SeenRows, starts: &[u64]) -> Result<Vec<u64>, A
     Ok(ends)
 }
 
-/// The greedy plan of the rows for p workers, as `greedy` has it, for a caller who knows which rows they wait for, their
-/// work and their span.
+/// The greedy plan of the rows for p workers, as `greedy` has it, for a caller who knows which rows they wait for, what
+/// follows from each, their work and their span.
 ///
 /// It answers all that `greedy` answers. `AllocError` says that memory was refused.
 pub fn greedy_over(
     alloc: Global,
     rows: &SeenRows,
     waits: &Links,
+    consequences: &Consequences,
     workers: Workers,
     work: u64,
     span: u64,
 ) -> Result<Greedy, AllocError>
     requires shape { IsRows rows.now }
     requires waits { AreWaits rows.now waits.now }
+    requires consequences { AreConsequences rows.now waits.now consequences.now }
     requires work { work ≡ work_of rows.now }
     requires span { IsSpan rows.now span }
     ensures { IfOk result (λ plan. IsGreedyPlanOf rows.now workers plan) }
 {
     let p = workers.number();
-    let followers = followers(alloc, waits)?;
-    let mut simulation = Simulation::new(alloc, rows, waits, &followers, p)?;
+    let mut simulation = Simulation::new(alloc, rows, waits, consequences, p)?;
     simulation.give_all(rows)?;
     while let Some((tick, row)) = simulation.next_change() {
         simulation.advance(rows, tick, row);
@@ -57,7 +60,7 @@ pub fn greedy_over(
         simulation.give_all(rows)?;
     }
     // The changes are needed no more, and make room for the ends.
-    drop(simulation.family);
+    drop(simulation.first);
     let ends = ends_of(alloc, rows, &simulation.starts)?;
     let ends_at = last_end(&ends);
     Ok(Greedy {
@@ -91,5 +94,14 @@ pub fn greedy(
     let work = boc_order::work(rows.as_slice());
     let rows = SeenRows::new(rows, sharing);
     let (waits, plan) = waits_and_plan(alloc, &rows)?;
-    greedy_over(alloc, &rows, &waits, workers, work, plan.span())
+    let consequences = Consequences::of(alloc, &rows, &waits)?;
+    greedy_over(
+        alloc,
+        &rows,
+        &waits,
+        &consequences,
+        workers,
+        work,
+        plan.span(),
+    )
 }

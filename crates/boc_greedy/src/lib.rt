@@ -6,6 +6,7 @@
 
 mod bits;
 mod children;
+mod consequences;
 mod entry;
 mod frontier;
 pub mod laws;
@@ -13,5 +14,6 @@ mod report;
 mod row_set;
 mod simulation;
 
+pub use consequences::Consequences;
 pub use entry::{greedy, greedy_over};
 pub use report::Greedy;

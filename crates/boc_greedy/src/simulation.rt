@@ -3,13 +3,15 @@
 ghost use Rattle.std.specs.Prelude.{◌≡◌, ℕ, ◌+◌, ◌<◌, ◌≤◌, [], length, IfOk, IfSome, IfNone, OnOk, true, false};
 ghost use Rattle.std.specs.BinaryHeap.{heap_items};
 ghost use Rattle.boc_runs.specs.Rows.{IsRows};
-ghost use Rattle.boc_order.specs.Waits.{AreWaits, AreFollowers};
+ghost use Rattle.boc_order.specs.Waits.{AreWaits};
+ghost use Rattle.boc_greedy.specs.Consequences.{AreConsequences};
 ghost use Rattle.boc_greedy.specs.Queues.{IsQueue, IsIn, IsOnTop, IsPutOff};
 ghost use Rattle.boc_greedy.specs.Simulating.{later, IsLeastIdle, steps_of_all};
 ghost use Rattle.boc_greedy.specs.Stepping.{IsStepping, IsGiving, IsSettled, IsLow};
 
 use crate::bits::{with_bit, without_bit};
-use crate::children::{Family, family_of};
+use crate::children::{Change, Family};
+use crate::consequences::Consequences;
 use crate::frontier::Frontier;
 use boc_order::Links;
 use boc_plans::sharing::SeenRows;
@@ -42,8 +44,10 @@ pub struct Simulation<'a> {
     pub workers: Vec<u32>,
     /// How far the rows are.
     pub frontier: Frontier<'a>,
-    /// What rows come to next.
-    pub family: Family,
+    /// The first change of each row, of those that are left.
+    pub first: Vec<Change>,
+    /// What rows come to while they are under way.
+    family: &'a Family,
     /// For each row that is under way the tick at which it next spawns a child or ends. The earliest is on top.
     pub queue: BinaryHeap<Reverse<(u64, u32)>>,
     /// A bit for each worker, set for those that are idle.
@@ -60,12 +64,12 @@ impl<'a> Simulation<'a> {
         alloc: Global,
         rows: &SeenRows,
         waits: &Links,
-        followers: &'a Links,
+        consequences: &'a Consequences,
         p: u32,
     ) -> Result<Simulation<'a>, AllocError>
         requires shape { IsRows rows.now }
         requires waits { AreWaits rows.now waits.now }
-        requires followers { AreFollowers waits.now followers.now }
+        requires consequences { AreConsequences rows.now waits.now consequences.now }
         requires some { 0 < p }
         requires few { p ≤ 64 }
         ensures workers { IfOk result (λ s. s.p ≡ p) }
@@ -73,13 +77,15 @@ impl<'a> Simulation<'a> {
     {
         let starts = vec![in alloc; LATER; rows.len()]?;
         let workers = vec![in alloc; 0; rows.len()]?;
-        let frontier = Frontier::new(alloc, rows, waits, followers)?;
-        let family = family_of(alloc, rows)?;
+        let frontier = Frontier::new(alloc, rows, waits, &consequences.followers)?;
+        let family = &consequences.family;
+        let first = Vec::from_slice(alloc, &family.first)?;
         Ok(Simulation {
             p,
             starts,
             workers,
             frontier,
+            first,
             family,
             queue: BinaryHeap::with_capacity(alloc, p as usize)?,
             idle: u64::MAX >> (64 - p),
@@ -101,7 +107,7 @@ impl<'a> Simulation<'a> {
     {
         match self.frontier.start_least(rows) {
             Some(row) => {
-                let change = self.family.first[row as usize];
+                let change = self.first[row as usize];
                 let tick = self.tick + u64::from(change.after);
                 self.queue.push(Reverse((tick, row)))?;
                 self.starts[row as usize] = self.tick;
@@ -140,11 +146,11 @@ impl<'a> Simulation<'a> {
         ensures stepping { IsStepping rows.now self.new }
         ensures fewer { steps_of_all self.new.frontier.stages.items < steps_of_all self.old.frontier.stages.items }
     {
-        let change = self.family.first[row as usize];
+        let change = self.first[row as usize];
         if (change.child as usize) < rows.len() {
             self.frontier.spawn(rows, change.child);
             let next = self.family.next[change.child as usize];
-            self.family.first[row as usize] = next;
+            self.first[row as usize] = next;
             let tick = self.tick + u64::from(next.after - change.after);
             put_off(&mut self.queue, tick);
         } else {

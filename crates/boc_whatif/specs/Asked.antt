@@ -1,7 +1,9 @@
 -- Rows about which is asked.
-use Rattle.std.specs.Prelude.{ℕ, List, length}
+use Rattle.std.specs.Prelude.{◌≡◌, ℕ, ◌-◌, min, List, [], ◌∷◌, length, take, Result, Ok, Err}
 use Rattle.boc_runs.specs.declared.rows.Row.{Row}
+use Rattle.boc_plans.specs.declared.edit.Edit.{Edit}
 use Rattle.boc_plans.specs.declared.sharing.Sharing.{Sharing}
+use Rattle.boc_plans.specs.Edits.{AllFit, IsFirstUnfit, all_edited}
 use Rattle.boc_runs.specs.Rows.{IsRows}
 use Rattle.boc_plans.specs.Seen.{seen}
 use Rattle.boc_order.specs.declared.plan.Earliest.{Earliest}
@@ -9,6 +11,7 @@ use Rattle.boc_order.specs.Room.{HasRoom}
 use Rattle.boc_order.specs.Standing.{IsPlanOf}
 use Rattle.boc_order.specs.Waits.{AreWaits}
 use Rattle.boc_sweep.specs.Lasts.{HasLasts}
+use Rattle.boc_whatif.specs.declared.edits.Unfit.{Unfit}
 
 -- the rows as they are edited, how they share cowns, and how many rows the last edit computed again
 pub record Asked : Type 0 where
@@ -23,3 +26,20 @@ pub record IsUpToDate (rows : List Row) (sharing : Sharing) (offsets : List ℕ)
   pub waits_are : AreWaits (seen sharing rows) waits
   pub placed : IsPlanOf (seen sharing rows) plan
   pub room : HasRoom plan (length rows)
+
+-- the least row that the edits change; where they change none, this number
+abbrev pub least_edited : ℕ → List Edit → ℕ
+least_edited none [] = none
+least_edited none (edit ∷ edits) = min edit.row (least_edited none edits)
+
+-- the edits fit, one after the other; these are the rows after them, and this is the least row that they change, or the number of rows
+pub record AreMade (rows : List Row) (edits : List Edit) (after : List Row) (from : ℕ) : Type 0 where
+  pub fit : AllFit rows edits
+  pub rows_are : after ≡ all_edited rows edits
+  pub from_is : from ≡ least_edited (length rows) edits
+
+-- all edits are made; or those before the first that does not fit
+abbrev pub HasMade : List Row → List Edit → List Row → ℕ → Result (Unit {0}) Unfit → Type 0
+HasMade rows edits after from (Ok done) = AreMade rows edits after from
+HasMade rows edits after from (Err unfit) =
+    AreMade rows (take (unfit.number - 1) edits) after from × IsFirstUnfit rows edits unfit.number unfit.fault

@@ -8,6 +8,8 @@
 //! after it again. A sweep computes no row again, and takes little more time than a plan.
 #![tactic(auto)]
 
+mod edits;
 mod what_if;
 
+pub use edits::Unfit;
 pub use what_if::WhatIf;

@@ -1,23 +1,24 @@
 // Rows that are edited one after another.
 
-ghost use Rattle.std.specs.Prelude.{◌≡◌, ◌≤◌, ◌+◌, length, IfOk, IfErr, OnOk, OnErr, MatchResult};
+ghost use Rattle.std.specs.Prelude.{◌≡◌, ◌≤◌, ◌+◌, ◌-◌, length, take, IfOk, IfErr, OnOk, OnErr};
 ghost use Rattle.boc_plans.specs.Plans.{work_of};
 ghost use Rattle.boc_plans.specs.Greedy.{IsSpan};
 ghost use Rattle.boc_runs.specs.Rows.{Fits, edited};
-ghost use Rattle.boc_plans.specs.Edits.{IsEditFault, IsSweep};
+ghost use Rattle.boc_plans.specs.Edits.{AllFit, IsEditFault, IsFirstUnfit, IsSweep, all_edited};
 ghost use Rattle.boc_plans.specs.Seen.{seen};
 ghost use Rattle.boc_order.specs.Profiles.{IsProfileOf};
 ghost use Rattle.boc_greedy.specs.Plans.{IsGreedyPlanOf};
-ghost use Rattle.boc_sweep.specs.Lasts.{HasLasts};
+ghost use Rattle.boc_whatif.specs.Asked.{least_edited};
 
-use boc_greedy::{Greedy, greedy_over};
+use crate::edits::{Unfit, check, make_all};
+use boc_greedy::{Consequences, Greedy, greedy_over};
 use boc_order::{Earliest, Links, Profile, waits_and_plan};
-use boc_plans::edit::EditFault;
+use boc_plans::edit::{Edit, EditFault};
 use boc_plans::sharing::{SeenRows, Sharing};
 use boc_plans::workers::Workers;
-use boc_program::limits::{MOST_ROWS, MOST_TICKS};
-use boc_runs::rows::{Row, Rows};
-use boc_sweep::{last_children, least_ticks, sweep};
+use boc_program::limits::MOST_ROWS;
+use boc_runs::rows::Rows;
+use boc_sweep::{last_children, sweep};
 use std::alloc::{AllocError, Global};
 use std::marker::Model;
 use std::thread::Threads;
@@ -45,23 +46,6 @@ impl Model for WhatIf {
     ghost view = { λ w. record { rows = w.rows; sharing = w.sharing; touched = w.touched } };
 
     ghost invariant = { λ w. IsUpToDate w.rows w.sharing w.lasts.items w.waits w.plan };
-}
-
-// Tests whether a row can take so many ticks.
-fn check(rows: &[Row], lasts: &[u32], row: u32, ticks: u32) -> Result<(), EditFault>
-    requires { HasLasts rows.now lasts.now }
-    ensures { MatchResult result (λ _. Fits rows.now row ticks) (IsEditFault rows.now row ticks) }
-{
-    let number = row as usize;
-    if number >= rows.len() {
-        Err(EditFault::NoRow)
-    } else if ticks < least_ticks(lasts[number]) {
-        Err(EditFault::BelowSpawn)
-    } else if ticks > MOST_TICKS {
-        Err(EditFault::TooManyTicks)
-    } else {
-        Ok(())
-    }
 }
 
 impl WhatIf {
@@ -119,7 +103,27 @@ impl WhatIf {
         Ok(())
     }
 
-    /// How many rows the last edit that was taken computed again: those from its row on. Before the first it is 0.
+    /// Has rows take other ticks, edit by edit, up to the first that they can't take as those before it have made them. Those before it
+    /// are made.
+    ///
+    /// It takes no memory. It computes the least row that is edited and those after it again, once for all edits.
+    pub fn edit_all(&mut self, edits: &[Edit]) -> Result<(), Unfit>
+        ensures fit { OnOk result (AllFit self.old.rows edits.now) }
+        ensures rows { OnOk result (self.new.rows ≡ all_edited self.old.rows edits.now) }
+        ensures touched { OnOk result (self.new.touched + least_edited (length self.old.rows) edits.now ≡ length self.old.rows) }
+        ensures unfit { IfErr result (λ u. IsFirstUnfit self.old.rows edits.now u.number u.fault) }
+        ensures before { IfErr result (λ u. self.new.rows ≡ all_edited self.old.rows (take (u.number - 1) edits.now)) }
+        ensures sharing { self.new.sharing ≡ self.old.sharing }
+    {
+        let (from, answer) = make_all(&mut self.rows, &self.lasts, edits);
+        let rows = SeenRows::new(&self.rows, self.sharing);
+        self.plan.place_from(&rows, &self.waits, from);
+        self.touched = (rows.len() - from) as u64;
+        answer
+    }
+
+    /// How many rows the last edit that was taken computed again: those from its row on, or from the
+    /// least row of several edits that were made at once. Before the first it is 0.
     pub fn touched(&self) -> u64
         ensures { result ≡ self.now.touched }
     {
@@ -180,7 +184,16 @@ impl WhatIf {
         ensures { IfOk result (λ plan. IsGreedyPlanOf (seen self.now.sharing self.now.rows) workers plan) }
     {
         let rows = SeenRows::new(&self.rows, self.sharing);
-        greedy_over(alloc, &rows, &self.waits, workers, self.work(), self.span())
+        let consequences = Consequences::of(alloc, &rows, &self.waits)?;
+        greedy_over(
+            alloc,
+            &rows,
+            &self.waits,
+            &consequences,
+            workers,
+            self.work(),
+            self.span(),
+        )
     }
 
     /// For each row the span that the rows would have if that row alone took the least ticks that it can: the offset

@@ -5,16 +5,8 @@ use Rattle.boc_greedy.specs.Plans.{IsClose}
 use Rattle.boc_greedy.proofs.Bound.{work_high, greatest_is_end, end_within, greedy_keeps, greedy_for_workers, span_le_work, greedy_close, greedy_twice}
 use Rattle.boc_greedy.proofs.FewMoments.{few_moments}
 use Rattle.boc_greedy.proofs.Finishing.{IsDone, done}
-use Rattle.boc_greedy.proofs.Waking.{wait_there}
 use Rattle.boc_greedy.proofs.entry.greedy_over.Goals as goal
-use Rattle.boc_greedy.proofs.entry.greedy_over.Goals.{After-drop-followers-inside-3}
-
-pub followers-requires-clause-few : goal.followers-requires-clause-few
-followers-requires-clause-few c = omega (arith, c.requires.waits.whole, c.requires.shape.not_many)
-
-pub followers-requires-clause-inside : goal.followers-requires-clause-inside
-followers-requires-clause-inside c = λ b a has. (let p = wait_there c.args.rows.now c.args.waits.now c.requires.waits b a has in
-    omega (arith, p.0, p.1, c.requires.waits.whole))
+use Rattle.boc_greedy.proofs.entry.greedy_over.Goals.{After-drop-simulation-5}
 
 pub ends_of-requires-clause-low : goal.ends_of-requires-clause-low
 ends_of-requires-clause-low c =
@@ -38,21 +30,21 @@ overflow_add-result c =
     )
 
 -- what the simulation has made
-all_done : (c : After-drop-followers-inside-3) → IsDone c.args.rows.now c.number-p.result c.loop-tick.simulation
+all_done : (c : After-drop-simulation-5) → IsDone c.args.rows.now c.number-p.result c.loop-tick.simulation
 all_done c = done _ _ c.loop-tick.simulation c.requires.shape c.loop-tick.invariant.settled c.loop-tick.invariant.asked
     (rw c.number-p.ensures.value c.number-p.ensures.some) c.in_default.ensures.none
 
 -- the greatest of the ends is the end of the plan
-is_end : (c : After-drop-followers-inside-3) → IsEnd c.args.rows.now c.loop-tick.simulation.starts.items c.last_end-ends_at.result
+is_end : (c : After-drop-simulation-5) → IsEnd c.args.rows.now c.loop-tick.simulation.starts.items c.last_end-ends_at.result
 is_end c = greatest_is_end _ _ _ _ (rw c.deref.ensures.value at c.in_ok-ends.ensures)
     (rw c.deref-2.ensures.value at c.last_end-ends_at.ensures.none_later) (rw c.deref-2.ensures.value at c.last_end-ends_at.ensures.reached)
 
 -- the plan is close for every span
-close : (c : After-drop-followers-inside-3) → IsClose c.args.rows.now c.number-p.result c.last_end-ends_at.result
+close : (c : After-drop-simulation-5) → IsClose c.args.rows.now c.number-p.result c.last_end-ends_at.result
 close c = λ span s. greedy_close _ c.requires.shape _ (rw c.number-p.ensures.value c.number-p.ensures.some) _ _ (all_done c).greedy _ (is_end c) span s
 
 -- the bound that is answered
-bound_is : (c : After-drop-followers-inside-3) → c.args.work / c.from.result + c.args.span ≡ work_of c.args.rows.now / c.number-p.result + c.args.span
+bound_is : (c : After-drop-simulation-5) → c.args.work / c.from.result + c.args.span ≡ work_of c.args.rows.now / c.number-p.result + c.args.span
 bound_is c = ap (λ (x : ℕ). x / c.from.result + c.args.span) c.requires.work ∙ ap (λ (x : ℕ). work_of c.args.rows.now / x + c.args.span) c.from.ensures
 
 pub returns : goal.returns

@@ -14,18 +14,18 @@ use Rattle.boc_greedy.proofs.simulation.Simulation.change.Goals as goal
 pub index-change-requires : goal.index-change-requires
 index-change-requires c =
     let d = is_due _ c.requires.shape c.args.self.now _ c.requires.stepping c.requires.top in
-    omega (arith, d.listed, c.args.self.now.family.first.ok.0)
+    omega (arith, d.listed, c.args.self.now.first.ok.0)
 
 pub spawn-requires-clause-unspawned : goal.spawn-requires-clause-unspawned
 spawn-requires-clause-unspawned c =
     let d = is_due _ c.requires.shape c.args.self.now _ c.requires.stepping c.requires.top in
-    let child = child_at c.args.self.now.family.first.items c.args.row c.index-change.result.now d.listed c.index-change.ensures in
+    let child = child_at c.args.self.now.first.items c.args.row c.index-change.result.now d.listed c.index-change.ensures in
     (rw child at d.unspawned) (omega (arith, c.if-change-len.true, c.len.ensures.count))
 
 pub index_mut-requires : goal.index_mut-requires
 index_mut-requires c =
     let d = is_due _ c.requires.shape c.args.self.now _ c.requires.stepping c.requires.top in
-    omega (arith, d.listed, c.args.self.now.family.first.ok.0)
+    omega (arith, d.listed, c.args.self.now.first.ok.0)
 
 pub overflow_sub-next : goal.overflow_sub-next
 overflow_sub-next c = (is_spawning _ c.requires.shape c.args.self.now _ c.requires.stepping c.requires.top _ _ c.index-change.ensures
@@ -68,14 +68,14 @@ returns-then-change-len-clause-stepping c =
     let p = is_spawning _ shape s r i c.requires.top change next c.index-change.ensures there c.index-next.ensures in
     let sg = restages s.frontier.stages.items c.spawn.new.self.stages.items change.child Waiting (omega (arith, there, k.staged.stages_whole))
     c.spawn.ensures.stages in
-    let pf = puts_child s.family.first.items r next d.listed in
+    let pf = puts_child s.first.items r next d.listed in
     let po = c.put_off.ensures s.tick r i.queue c.requires.top in
     record {
       frontier = c.spawn.ensures.kept;
       kept = spawning.kept_after _ shape _ later _ _ _ _ _ _ _ k r change.child _ _ _ _ _ d.due p.child there sg pf po p.next_child
           (λ l. omega (arith, p.now, p.rises, p.timed.spawns l, c.from.ensures)) (λ ge. omega (arith, p.now, p.rises, p.timed.ends ge, c.from.ensures));
       fresh = i.fresh;
-      are_timed = timed_after _ _ _ _ _ r next.child next.after i.are_timed pf (puts_time s.family.first.items r next d.listed) p.timed;
+      are_timed = timed_after _ _ _ _ _ r next.child next.after i.are_timed pf (puts_time s.first.items r next d.listed) p.timed;
       are_next = i.are_next;
       queue = po.is_queue;
       counted = i.counted;
@@ -85,7 +85,7 @@ pub returns-then-change-len-clause-fewer : goal.returns-then-change-len-clause-f
 returns-then-change-len-clause-fewer c =
     let s = c.args.self.now in
     let d = is_due _ c.requires.shape s _ c.requires.stepping c.requires.top in
-    let child = child_at s.family.first.items c.args.row c.index-change.result.now d.listed c.index-change.ensures in
+    let child = child_at s.first.items c.args.row c.index-change.result.now d.listed c.index-change.ensures in
     let change : Change = c.index-change.result.now in
     omega (
       arith,
@@ -101,7 +101,7 @@ returns-else-change-len-clause-stepping c =
     let k = i.kept in
     let r : ℕ = c.args.row in
     let d = is_due _ shape s r i c.requires.top in
-    let child = child_at s.family.first.items r c.index-change.result.now d.listed c.index-change.ensures in
+    let child = child_at s.first.items r c.index-change.result.now d.listed c.index-change.ensures in
     let worker = read_at s.workers.items r c.index.result.now (omega (arith, d.there, k.staged.workers_whole)) c.index.ensures in
     let sg = restages s.frontier.stages.items c.end.new.self.stages.items r Over (omega (arith, d.there, k.staged.stages_whole)) c.end.ensures.stages in
     let po = popped _ _ c.pop.result _ s.tick r i.queue c.requires.top s.queue.data.ok.0 c.pop.ensures.top c.pop.ensures.permutation c.pop.ensures.heap_order

@@ -22,7 +22,7 @@ overflow_add-tick c =
     let s = c.args.self.now in
     let x : ℕ = c.in-Some.row in
     let h : x < length c.args.rows.now = there _ c.requires.shape _ _ _ _ _ _ _ _ _ g.kept x Waiting c.in-Some.ensures.can.waits in
-    let time = time_at s.family.first.items x c.index-change.result.now (omega (arith, h, simp length-map at g.kept.staged.first_whole))
+    let time = time_at s.first.items x c.index-change.result.now (omega (arith, h, simp length-map at g.kept.staged.first_whole))
     c.index-change.ensures in
     omega (arith, time, timed_low _ c.requires.shape x _ _ h (g.are_timed x h), g.kept.early, c.from.ensures)
 
@@ -36,8 +36,8 @@ returns-in_ok-push-in-Some-clause-giving c =
     let w : ℕ = c.args.worker in
     let can : CanStart c.args.rows.now s.frontier.stages.items x = c.in-Some.ensures.can in
     let h : x < length c.args.rows.now = there _ shape _ _ _ _ _ _ _ _ _ k x Waiting can.waits in
-    let listed : x < length s.family.first.items = omega (arith, h, simp length-map at k.staged.first_whole) in
-    let time = time_at s.family.first.items x c.index-change.result.now listed c.index-change.ensures in
+    let listed : x < length s.first.items = omega (arith, h, simp length-map at k.staged.first_whole) in
+    let time = time_at s.first.items x c.index-change.result.now listed c.index-change.ensures in
     let timed = g.are_timed x h in
     let ps = puts s.starts.items x s.tick (omega (arith, h, k.staged.starts_whole)) in
     let pw = puts s.workers.items x w (omega (arith, h, k.staged.workers_whole)) in
@@ -48,7 +48,7 @@ returns-in_ok-push-in-Some-clause-giving c =
     let pq = pushed _ _ (s.tick + c.from.result) x g.queue.once (none_counts _ x none) (c.in_ok-push-in-Some.ensures.heap_order g.queue.ordered)
     c.in_ok-push-in-Some.ensures.permutation in
     let idle = c.requires.idle in
-    let child : ℕ = slice_index (children_of s.family.first.items) x in
+    let child : ℕ = slice_index (children_of s.first.items) x in
     let spawns : child < length c.args.rows.now → s.tick + c.from.result ≡ s.tick + offset_of c.args.rows.now child =
     λ l. omega (arith, timed.spawns l, time, c.from.ensures) in
     let ends : length c.args.rows.now ≤ child → s.tick + c.from.result ≡ s.tick + ticks_of c.args.rows.now x =

@@ -1,2 +1,2 @@
-pub mod Unfit
+pub mod Successive
 pub mod Keeping

@@ -109,8 +109,8 @@ fn next_item<S: Source>(
 ) -> Result<Option<Event>, RecordFaultKind>
     requires failures { S.failures source.old < u64.MAX }
     requires open { lines.old.is_over ≡ false }
-    ensures item { ReadsItem (spelling version) judge.now.rows result (to_come lines.old (S.remaining source.old)) (to_come lines.new (S.remaining source.new))
-        }
+    ensures item { ReadsItem (spelling version) judge.now.rows result (to_come lines.old (S.remaining source.old))
+        (to_come lines.new (S.remaining source.new)) }
     ensures within { StopsWithin result (to_come lines.old (S.remaining source.old)) (S.remaining source.new) }
     ensures open { OnOk result (lines.new.is_over ≡ false) }
     ensures ahead { length lines.new.buffered ≤ CAPACITY }

@@ -1,6 +1,6 @@
 -- What is kept beside the rows, once a row takes other ticks.
-use Rattle.std.proofs.Common.{◌≡◌, ℕ, suc, zero, ◌-◌, ◌<◌, ◌≤◌, List, [], ◌∷◌, length, take, get_or, ap, sym, refl, ◌∙◌, subst, inl, inr, arith}
-use Rattle.std.specs.Prelude.{min, Ok, Err, Result}
+use Rattle.std.proofs.Common.{◌≡◌, ℕ, suc, zero, ◌+◌, ◌-◌, ◌<◌, ◌≤◌, List, [], ◌∷◌, length, take, get_or, ap, sym, refl, ◌∙◌, subst, inl, inr, arith}
+use Rattle.std.specs.Prelude.{min, Ok, Err, Result, OnOk}
 use Rattle.std.proofs.lemmas.List.{take-take}
 use Rattle.boc_runs.specs.declared.rows.Row.{Row}
 use Rattle.boc_plans.specs.declared.sharing.Sharing.{Sharing}
@@ -165,13 +165,31 @@ stands_all rows s offsets waits plan n (edit ∷ edits) k fit =
     (stands_more rows s offsets waits plan n edit.row edit.ticks k fit.0)
     fit.1)
 
+least_more : (n from : ℕ) (edits : List Edit) (i : ℕ) (d : Edit) → i < length edits → from ≡ least_edited n (take i edits)
+    → min from (get_or edits i d).row ≡ least_edited n (take (suc i) edits)
+least_more n from [] i d h is = absurd (omega (arith, h))
+least_more n from (edit ∷ edits) zero d h is = omega (arith, is)
+least_more n from (edit ∷ edits) (suc i) d h is =
+    omega (arith, is, least_more n (least_edited n (take i edits)) edits i d (omega (arith, h)) refl)
+
+add_one : (i : ℕ) → suc i ≡ i + 1
+add_one i = omega arith
+
 -- one edit more has the lesser of the two rows
 pub least_next : (n from : ℕ) (edits : List Edit) (i : ℕ) (d : Edit) → i < length edits → from ≡ least_edited n (take i edits)
-    → min from (get_or edits i d).row ≡ least_edited n (take (suc i) edits)
-least_next n from [] i d h is = absurd (omega (arith, h))
-least_next n from (edit ∷ edits) zero d h is = omega (arith, is)
-least_next n from (edit ∷ edits) (suc i) d h is =
-    omega (arith, is, least_next n (least_edited n (take i edits)) edits i d (omega (arith, h)) refl)
+    → min from (get_or edits i d).row ≡ least_edited n (take (i + 1) edits)
+least_next n from edits i d h is = least_more n from edits i d h is ∙ ap (λ k. least_edited n (take k edits)) (add_one i)
+
+-- there are as many rows
+length-all_edited : (rows : List Row) (edits : List Edit) → length (all_edited rows edits) ≡ length rows
+length-all_edited rows [] = refl
+length-all_edited rows (edit ∷ edits) = length-all_edited (edited rows edit.row edit.ticks) edits ∙ length-edited rows edit.row edit.ticks
+
+-- so many rows are placed anew where all edits are made
+pub touched_made : (rows : List Row) (edits : List Edit) (after : List Row) (from : ℕ) (answer : Result (Unit {0}) Unfit) (count : ℕ)
+    → HasMade rows edits after from answer → count + from ≡ length rows → OnOk answer (count + least_edited (length rows) edits ≡ length rows)
+touched_made rows edits after from (Ok done) count m is = subst (λ n. count + n ≡ length rows) m.from_is is
+touched_made rows edits after from (Err unfit) count m is = tt
 
 -- some edits are made: all of them, or those before the first that does not fit
 some_made : (rows : List Row) (edits : List Edit) (after : List Row) (from : ℕ) (answer : Result (Unit {0}) Unfit) → HasMade rows edits after from answer
@@ -185,10 +203,17 @@ module _ (rows after list : List Row) (s : Sharing) (offsets : List ℕ) (waits 
     stands : Stands after s offsets waits plan from
     stands =
         let made = some_made rows edits after from answer m in
-        rw (made.1.rows_are, made.1.from_is) (stands_all rows s offsets waits plan (length rows) made.0 (stands_whole rows s offsets waits plan kept) made.1.fit)
+        let all = stands_all rows s offsets waits plan (length rows) made.0 (stands_whole rows s offsets waits plan kept) made.1.fit in
+        subst (Stands after s offsets waits plan) (sym made.1.from_is)
+        (subst (λ (xs : List Row). Stands xs s offsets waits plan (least_edited (length rows) made.0)) (sym made.1.rows_are) all)
 
     pub whole_made : length list ≡ length after
     whole_made = ap (length {A = Row}) seen_is ∙ length-seen s after
+
+    pub count_made : length list ≡ length rows
+    count_made =
+        let made = some_made rows edits after from answer m in
+        whole_made ∙ ap (length {A = Row}) made.1.rows_are ∙ length-all_edited rows made.0
 
     pub room_made : HasRoom plan (length list)
     room_made = rw whole_made stands.room

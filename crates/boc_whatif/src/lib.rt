@@ -5,7 +5,8 @@
 //! are of plans in which rows share cowns as was said at the start.
 //!
 //! An edit takes no memory, and time that grows with the number of rows behind its own: it computes its row and those
-//! after it again. A sweep computes no row again, and takes little more time than a plan.
+//! after it again. Several edits that are made at once compute the least of their rows and those after it again, once. A
+//! sweep computes no row again, and takes little more time than a plan.
 #![tactic(auto)]
 
 mod edits;

@@ -4,6 +4,7 @@ use Rattle.clap.proofs.OnLiterals.{clap_on_literals}
 use Rattle.clap.specs.Words.{Text, fault_of, is_simple, is_simple_and_free, subcommand_of}
 use Rattle.clap.specs.declared.error.kind.ErrorKind.TheVariants as kinds
 use Rattle.boc_words.specs.Words.{AreEdits, AreRunners, AreShared, AreTaken, AreWorkers, Names, command_line}
+use Rattle.boc_words.specs.declared.commands.Kind.TheVariants as called
 use Rattle.boc_plans.specs.declared.sharing.Sharing.TheVariants.{Exclusive, SharedReads}
 use Rattle.std.specs.Fmt.{digits}
 
@@ -23,7 +24,7 @@ pub whatif_taken : AreTaken whatif_words
 unfolding clap_on_literals
 whatif_taken = refl
 
-pub whatif_named : Names (subcommand_of command_line whatif_words) (codes "whatif") (λ rows.
+pub whatif_named : Names (subcommand_of command_line whatif_words) called.WhatIf (λ rows.
     AreEdits rows (record { row = 2; ticks = 1 } ∷ record { row = 0; ticks = 30 } ∷ []) × AreWorkers rows (Some 2))
 unfolding clap_on_literals digits
 whatif_named = (_, refl, (refl, record { text = codes "+2"; alone = refl; numeral = (lit≤ tt, (lit≤ tt, tt)); value = refl }))
@@ -35,14 +36,14 @@ pub sweep_taken : AreTaken sweep_words
 unfolding clap_on_literals
 sweep_taken = refl
 
-pub sweep_named : Names (subcommand_of command_line sweep_words) (codes "sweep") (λ rows. AreShared rows SharedReads)
+pub sweep_named : Names (subcommand_of command_line sweep_words) called.Sweep (λ rows. AreShared rows SharedReads)
 unfolding clap_on_literals
 sweep_named = (_, refl, refl)
 
 abbrev profile_words : List Text
 profile_words = codes "boc" ∷ codes "profile" ∷ []
 
-pub profile_named : Names (subcommand_of command_line profile_words) (codes "profile") (λ rows. AreWorkers rows None × AreShared rows Exclusive)
+pub profile_named : Names (subcommand_of command_line profile_words) called.Profile (λ rows. AreWorkers rows None × AreShared rows Exclusive)
 unfolding clap_on_literals
 profile_named = (_, refl, (refl, λ e. cc))
 
@@ -53,7 +54,7 @@ pub time_taken : AreTaken time_words
 unfolding clap_on_literals
 time_taken = refl
 
-pub time_named : Names (subcommand_of command_line time_words) (codes "time") (λ rows. AreRunners rows 16 × AreWorkers rows (Some 3))
+pub time_named : Names (subcommand_of command_line time_words) called.Time (λ rows. AreRunners rows 16 × AreWorkers rows (Some 3))
 unfolding clap_on_literals digits
 time_named = (
   _,
@@ -67,7 +68,7 @@ time_named = (
 abbrev run_words : List Text
 run_words = codes "boc" ∷ codes "run" ∷ []
 
-pub run_named : Names (subcommand_of command_line run_words) (codes "run") (λ rows. AreRunners rows 1)
+pub run_named : Names (subcommand_of command_line run_words) called.Run (λ rows. AreRunners rows 1)
 unfolding clap_on_literals
 run_named = (_, refl, inl (refl, refl))
 

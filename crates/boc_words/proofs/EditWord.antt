@@ -29,13 +29,15 @@ without_sign w h row ticks small _ e = split_after 61 w (decimal row) (decimal t
 -- what stands before the sign is the row
 pub without_row : (w : List ℕ) (x : Bor (List ℕ) × Bor (List ℕ)) → IsSplitOnceResult 61 w (Some x) → ((n : ℕ) → n < 2 ^ 32 → x.0.now ≡ decimal n → ⊥)
     → (row ticks : ℕ) → row < 2 ^ 32 → ticks < 2 ^ 32 → w ≡ edit_word row ticks → ⊥
-without_row w x h none row ticks small _ e = none row small
+without_row w x h none row ticks small _ e =
+    none row small
     (split_after 61 w (decimal row) (decimal ticks) (Some x) h (omega arith) (e ∙ shape row ticks) (no_sign row small)).0
 
 -- what stands behind the sign are the ticks
 pub without_ticks : (w : List ℕ) (x : Bor (List ℕ) × Bor (List ℕ)) → IsSplitOnceResult 61 w (Some x) → ((n : ℕ) → n < 2 ^ 32 → x.1.now ≡ decimal n → ⊥)
     → (row ticks : ℕ) → row < 2 ^ 32 → ticks < 2 ^ 32 → w ≡ edit_word row ticks → ⊥
-without_ticks w x h none row ticks small few e = none ticks few
+without_ticks w x h none row ticks small few e =
+    none ticks few
     (split_after 61 w (decimal row) (decimal ticks) (Some x) h (omega arith) (e ∙ shape row ticks) (no_sign row small)).1
 
 -- the two numbers round the sign

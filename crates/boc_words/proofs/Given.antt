@@ -1,15 +1,15 @@
 -- What was found for an argument.
-use Rattle.std.proofs.Common.{zero, suc, ◌≡◌, ◌∙◌, ◌+◌, ◌<◌, ◌≤◌, ℕ, List, [], ◌∷◌, ◌++◌, map, take, drop, length, get_or, Option, Some, None, Bool, true}
+use Rattle.std.proofs.Common.{zero, suc, ◌≡◌, ◌∙◌, ◌+◌, ◌<◌, ◌≤◌, ℕ, List, [], ◌∷◌, ◌++◌, map, take, drop, length, get_or, Option, Some, None, Bool}
 use Rattle.std.proofs.Common.{false, sym, ap, refl, subst, arith, Bor}
-use Rattle.std.specs.Prelude.{option_map, unwrap_or, codes, ◌^◌, ◌==◌, ◌↔◌, IsTrue}
+use Rattle.std.specs.Prelude.{option_map, unwrap_or, ◌^◌, ◌==◌, ◌↔◌, IsTrue}
 use Rattle.std.specs.Str.{bytes_eq}
 use Rattle.std.proofs.lemmas.Slice.Eq.{bytes_eq-Decides}
 use Rattle.std.specs.Option.{UnwrapsOrElse}
 use Rattle.std.specs.List.{All}
 use Rattle.std.proofs.lemmas.List.Elements.{All-push}
 use Rattle.clap.specs.Words.{Row}
-use Rattle.std.specs.Str.Parse.{digits_value, without_leading_plus}
 use Rattle.boc_plans.specs.declared.edit.Edit.{Edit}
+use Rattle.boc_words.specs.Commands.{IsNumberOf, NumberOption}
 use Rattle.boc_words.specs.EditWords.{edit_word}
 use Rattle.boc_words.specs.Words.{HasNoNumber, IsEditWord, IsFirstMisspelt, IsGiven, values_at}
 
@@ -19,27 +19,21 @@ pub read : (found : Option (Bor (List (Bor (List ℕ))))) (r : Bor (List (Bor (L
     → UnwrapsOrElse found IsDefault r → option_map (λ s. map (λ v. v.now) s.now) found ≡ all
     → map (λ v. v.now) r.now ≡ unwrap_or all []
 read None r IsDefault all empty h e = ap (map (λ v. v.now)) (empty r h) ∙ ap (λ (o : Option (List (List ℕ))). unwrap_or o []) e
-read (Some x) r IsDefault all empty h e = ap (λ (s : Bor (List (Bor (List ℕ)))). map (λ v. v.now) s.now) h
-    ∙ ap (λ (o : Option (List (List ℕ))). unwrap_or o []) e
+read (Some x) r IsDefault all empty h e =
+    ap (λ (s : Bor (List (Bor (List ℕ)))). map (λ v. v.now) s.now) h ∙ ap (λ (o : Option (List (List ℕ))). unwrap_or o []) e
 
 some_text : (texts : List (Bor (List ℕ))) → (length texts == 0) ≡ false → map (λ t. t.now) texts ≡ [] → ⊥
 some_text [] some empty = cc
 some_text (text ∷ texts) some empty = cc
 
--- texts that are there, and no number from 1 to this
-pub no_number : (id : List ℕ) (most : ℕ) (rows : List Row) (texts : List (Bor (List ℕ))) → map (λ t. t.now) texts ≡ values_at rows id
-    → (length texts == 0) ≡ false
-    → ((number : ℕ) → 0 < number → number ≤ most → IsGiven (map (λ t. t.now) texts) number → ⊥) → HasNoNumber id most rows
-no_number id most rows texts is some none = record {
+-- texts that are there, and no number that the option takes
+pub no_number : (option : NumberOption) (rows : List Row) (texts : List (Bor (List ℕ))) → map (λ t. t.now) texts ≡ values_at rows option.id
+    → (length texts == 0) ≡ false → ((number : ℕ) → IsNumberOf option.numbers number → IsGiven (map (λ t. t.now) texts) number → ⊥)
+    → HasNoNumber option rows
+no_number option rows texts is some none = record {
   given = λ empty. some_text texts some (is ∙ empty);
-  none = λ number low high given. none number low high (subst (λ (l : List (List ℕ)). IsGiven l number) (sym is) given);
+  none = λ number taken given. none number taken (subst (λ (l : List (List ℕ)). IsGiven l number) (sym is) given);
 }
-
--- texts give one number at most
-pub one_number : (texts : List (List ℕ)) (n m : ℕ) → IsGiven texts n → IsGiven texts m → n ≡ m
-one_number texts n m a b =
-    let same : a.text ≡ b.text = cc in
-    sym a.value ∙ ap (λ text. digits_value 10 (without_leading_plus text)) same ∙ b.value
 
 -- the texts up to one more
 texts_more : (words : List (Bor (List ℕ))) (i : ℕ) (d : Bor (List ℕ)) → i < length words

@@ -6,5 +6,7 @@ pub mod Given
 pub mod Walks
 pub mod Stops
 pub mod Numbers
+pub mod Uses
 pub mod Named
 pub mod Refused
+pub mod Listed

@@ -1,5 +1,5 @@
--- The rows of a command hold at most one number for an option, from 1 up to the most that it may be.
-use Rattle.std.proofs.Common.{◌≡◌, ◌∙◌, ◌||◌, ◌<◌, ◌≤◌, ◌++◌, ℕ, Bool, true, false, List, [], ◌∷◌, Option, Some, None, pos, refl, ap, sym, codes, arith}
+-- The rows of a command hold at most one number for an option, which is one that the option takes.
+use Rattle.std.proofs.Common.{◌≡◌, ◌∙◌, ◌||◌, ◌++◌, ℕ, Bool, true, false, List, [], ◌∷◌, Option, Some, None, pos, refl, ap, sym, inl, inr, arith}
 use Rattle.std.specs.Prelude.{find, option_map, unwrap_or, if◌then◌else◌}
 use Rattle.std.specs.Str.{bytes_eq}
 use Rattle.std.specs.Str.Parse.{IsNumeral, digits_value, starts_with_minus, without_leading_plus}
@@ -10,15 +10,23 @@ use Rattle.clap.specs.Values.{IsSignedIn}
 use Rattle.clap.proofs.ValueTestLemmas.{accepts-Accepts}
 use Rattle.clap.specs.declared.builder.value_parser.ValueParser.TheVariants as parsers
 use Rattle.clap.specs.Walk.{Row, Text, all_of, at_row, has_row}
-use Rattle.boc_words.specs.Words.{HasNoNumber, IsGiven}
+use Rattle.boc_words.specs.declared.arguments.Numbers.{Numbers}
+use Rattle.boc_words.specs.declared.arguments.Numbers.TheVariants.{UpTo, Every}
+use Rattle.boc_words.specs.Commands.{IsNumberOf, NumberOption, parser_of}
+use Rattle.boc_words.specs.Words.{HasNoNumber, IsGiven, MissesNumber}
 
--- one text, which is a number from 1 to this
-abbrev pub IsOne : ℕ → Option (List Text) → Type 0
-IsOne most None = Unit {0}
-IsOne most (Some values) = (text : Text) × (values ≡ text ∷ []) × (accepts false (parsers.Signed (pos 1) (pos most)) text ≡ true)
+-- no text, or one that the parser of these numbers takes
+abbrev pub IsOne : Numbers → Option (List Text) → Type 0
+IsOne numbers None = Unit {0}
+IsOne numbers (Some values) = (text : Text) × (values ≡ text ∷ []) × (accepts false (parser_of numbers) text ≡ true)
 
-abbrev pub HasOne : Text → ℕ → List Row → Type 0
-HasOne id most rows = IsOne most (all_of id rows)
+abbrev pub HasOne : NumberOption → List Row → Type 0
+HasOne option rows = IsOne option.numbers (all_of option.id rows)
+
+-- the same of each of these options
+abbrev pub HaveOne : List NumberOption → List Row → Type 0
+HaveOne [] rows = Unit {0}
+HaveOne (option ∷ more) rows = HasOne option rows × HaveOne more rows
 
 -- a row more, at the end, of an id that none has
 pub row_added : (id : Text) (change : Row → List Row) (missing rows : List Row) → has_row id rows ≡ false → at_row id change missing rows ≡ rows ++ missing
@@ -73,13 +81,18 @@ other_rows other id change missing (r ∷ rs) differs is keeps = go (bytes_eq r.
         ∙ sym (ap (λ (b : Bool). option_map (λ r. r.values) (if b then Some r else find (λ x. bytes_eq x.id other) rs)) here)
     go false same below = rest (bytes_eq r.id other) below
 
--- a text that passes is a number from 1 to this
-number_of : (most : ℕ) (text : Text) → IsSignedIn (pos 1) (pos most) text
-    → (number : ℕ) × (0 < number) × (number ≤ most) × IsNumeral 10 (without_leading_plus text) × (digits_value 10 (without_leading_plus text) ≡ number)
-number_of most text passed = go (starts_with_minus text) refl
+-- the number that a text spells is one of these
+record Spells (numbers : Numbers) (text : Text) : Type 0 where
+  value : ℕ
+  taken : IsNumberOf numbers value
+  numeral : IsNumeral 10 (without_leading_plus text)
+  value_is : digits_value 10 (without_leading_plus text) ≡ value
+
+-- a text that passes spells a number from 1 to this
+signed : (most : ℕ) (text : Text) → IsSignedIn (pos 1) (pos most) text → Spells (UpTo most) text
+signed most text passed = go (starts_with_minus text) refl
   where
-    go : (b : Bool) → starts_with_minus text ≡ b
-        → (number : ℕ) × (0 < number) × (number ≤ most) × IsNumeral 10 (without_leading_plus text) × (digits_value 10 (without_leading_plus text) ≡ number)
+    go : (b : Bool) → starts_with_minus text ≡ b → Spells (UpTo most) text
     go true minus =
         let low = rw minus at passed.2 in
         absurd (omega (arith, ints))
@@ -87,15 +100,39 @@ number_of most text passed = go (starts_with_minus text) refl
         let numeral = rw minus at passed.0 in
         let low = rw minus at passed.2 in
         let high = rw minus at passed.3 in
-        (digits_value 10 (without_leading_plus text), omega (arith, ints), omega (arith, ints), numeral, refl)
+        record {
+          value = digits_value 10 (without_leading_plus text);
+          taken = (omega (arith, ints), omega (arith, ints));
+          numeral = numeral;
+          value_is = refl;
+        }
+
+-- and one that passes spells a number that is taken
+spells : (numbers : Numbers) (text : Text) → accepts false (parser_of numbers) text ≡ true → Spells numbers text
+spells (UpTo most) text passed = signed most text (accepts-Accepts false (parsers.Signed (pos 1) (pos most)) text passed)
+spells Every text passed =
+    let is = accepts-Accepts false (parsers.Unsigned 0 18446744073709551615) text passed in
+    record { value = digits_value 10 (without_leading_plus text); taken = is.1; numeral = is.0; value_is = refl }
 
 -- rows with at most one such number do not miss it
-pub some_number : (id : Text) (most : ℕ) (rows : List Row) → HasOne id most rows → HasNoNumber id most rows → ⊥
-some_number id most rows one misses = go (all_of id rows) one misses.given misses.none
+pub some_number : (option : NumberOption) (rows : List Row) → HasOne option rows → HasNoNumber option rows → ⊥
+some_number option rows one misses = go (all_of option.id rows) one misses.given misses.none
   where
-    go : (o : Option (List Text)) → IsOne most o
-        → (unwrap_or o [] ≡ [] → ⊥) → ((number : ℕ) → 0 < number → number ≤ most → IsGiven (unwrap_or o []) number → ⊥) → ⊥
+    go : (o : Option (List Text)) → IsOne option.numbers o
+        → (unwrap_or o [] ≡ [] → ⊥) → ((n : ℕ) → IsNumberOf option.numbers n → IsGiven (unwrap_or o []) n → ⊥) → ⊥
     go None is given none = given refl
     go (Some values) is given none =
-        let n = number_of most is.0 (accepts-Accepts false (parsers.Signed (pos 1) (pos most)) is.0 is.2) in
-        none n.0 n.1 n.2 (record { text = is.0; alone = is.1; numeral = n.3; value = n.4 })
+        let spelled = spells option.numbers is.0 is.2 in
+        none spelled.value spelled.taken (record {
+          text = is.0;
+          alone = is.1;
+          numeral = spelled.numeral;
+          value = spelled.value_is;
+        })
+
+pub some_numbers : (options : List NumberOption) (rows : List Row) → HaveOne options rows → MissesNumber options rows → ⊥
+some_numbers [] rows one misses = misses
+some_numbers (option ∷ more) rows one misses = elim misses [
+  | inl here ↦ some_number option rows one.0 here
+  | inr below ↦ some_numbers more rows one.1 below
+]

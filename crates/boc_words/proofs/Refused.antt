@@ -1,39 +1,32 @@
 -- Why the words are refused.
-use Rattle.std.proofs.Common.{◌≡◌, ℕ, List, Option, Some, inl, inr, refl, subst, codes}
+use Rattle.std.proofs.Common.{◌≡◌, ℕ, List, [], ◌∷◌, Option, Some, inl, inr, refl, subst}
 use Rattle.clap.specs.Words.{Row, Text, subcommand_of}
 use Rattle.boc_words.specs.declared.fault.WordsFault.{WordsFault}
 use Rattle.boc_words.specs.declared.fault.WordsFault.TheVariants as faults
-use Rattle.boc_words.specs.Words.{AreTaken, HasNoNumbers, IsMisnamed, IsRefused, IsUnknown, command_line}
+use Rattle.boc_words.specs.Commands.{Argument, commands_of_boc, number_options}
+use Rattle.boc_words.specs.Words.{AreTaken, HasNoNumbers, IsMisnamed, IsNoneOf, IsRefused, IsUnknown, command_line}
 use Rattle.boc_words.proofs.Named.{HasNumbers, IsCommand, IsKnown, named}
-use Rattle.boc_words.proofs.Numbers.{HasOne, some_number}
+use Rattle.boc_words.proofs.Numbers.{HaveOne, some_numbers}
+
+-- one of these commands is not none of them
+one_of : (name : Text) (commands : List (Text × List Argument)) → IsKnown name commands → IsNoneOf name commands → ⊥
+one_of name [] is none = is
+one_of name (command ∷ more) is none = elim is [ inl here ↦ none.0 here | inr below ↦ one_of name more below none.1 ]
 
 -- a command that was found is known
-known : (found : Text × List Row) → IsKnown found.0 → IsUnknown (Some found) → ⊥
-known found is unknown =
-    let none = unknown found.0 found.1 refl in
-    elim is [
-      | inl values ↦ none.0 values
-      | inr (inl check) ↦ none.1 check
-      | inr (inr (inl run)) ↦ none.2 run
-      | inr (inr (inr (inl profile))) ↦ none.3 profile
-      | inr (inr (inr (inr (inl time)))) ↦ none.4 time
-      | inr (inr (inr (inr (inr (inl whatif))))) ↦ none.5 whatif
-      | inr (inr (inr (inr (inr (inr sweep))))) ↦ none.6 sweep
-    ]
+known : (found : Text × List Row) → IsKnown found.0 commands_of_boc → IsUnknown (Some found) → ⊥
+known found is unknown = one_of found.0 commands_of_boc is (unknown found.0 found.1 refl)
 
 -- and misses no number
 has_numbers : (found : Text × List Row) → HasNumbers found.1 → HasNoNumbers (Some found) → ⊥
 has_numbers found is misses =
     let named = misses.1 in
     let rows : found.1 ≡ named.0 = cc in
-    elim named.2 [
-      | inl runners ↦ some_number (codes "workers") 16 named.0 (subst (HasOne (codes "workers") 16) rows is.0) runners
-      | inr workers ↦ some_number (codes "p") 64 named.0 (subst (HasOne (codes "p") 64) rows is.1) workers
-    ]
+    some_numbers number_options named.0 (subst (HaveOne number_options) rows is) named.2
 
 -- what the parser takes has no fault but a misspelt edit
-pub misnamed : (words : List (List ℕ)) (asked : Option (Text × List Row)) (fault : WordsFault) → AreTaken words → asked ≡ subcommand_of command_line words
-    → IsMisnamed asked fault → IsRefused words fault
+pub misnamed : (words : List (List ℕ)) (asked : Option (Text × List Row)) (fault : WordsFault) → AreTaken words
+    → asked ≡ subcommand_of command_line words → IsMisnamed asked fault → IsRefused words fault
 misnamed words asked fault taken is h = go fault (named words taken) (subst (λ (n : Option (Text × List Row)). IsMisnamed n fault) is h)
   where
     go : (f : WordsFault) → ((found : Text × List Row) × (subcommand_of command_line words ≡ Some found) × IsCommand found)

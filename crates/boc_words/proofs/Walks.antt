@@ -8,11 +8,11 @@ use Rattle.clap.specs.Lexer.{long_of, short_of}
 use Rattle.clap.specs.Simple.{Shape}
 use Rattle.clap.specs.declared.error.kind.ErrorKind.TheVariants as kind
 use Rattle.clap.specs.Walk.{Held, Names, Outcome, Row, Rule, Step, Text, Waiting, Walk, after_flag, after_step, arg_by_id, arg_by_index, arg_by_long}
-use Rattle.clap.specs.Walk.{arg_by_short, attached_value, bundle, bundle_met, bundle_step, done, flag_met, idle, is_pending, long_met, long_or_other, long_word}
-use Rattle.clap.specs.Walk.{nothing_held, option, option_met, option_word, plain, plain_word, positional, positional_held, reacted, refused, settled}
-use Rattle.clap.specs.Walk.{settled_rows, short_met, short_or_plain, subcommand, subcommand_met, subcommand_or_other, default_rows, has_row, reading_by}
-use Rattle.clap.specs.Walk.{rows_after, trailing, with_default, next, takes_several, takes_values, to_positional, used, used_by_id, value, waits, walk}
-use Rattle.clap.specs.Walk.{walk_from, walked, walked_from, word_met}
+use Rattle.clap.specs.Walk.{arg_by_short, attached_value, bundle, bundle_met, bundle_step, done, flag_met, idle, is_pending, long_met, long_or_other}
+use Rattle.clap.specs.Walk.{long_word, nothing_held, option, option_met, option_word, plain, plain_word, positional, positional_held, reacted, refused}
+use Rattle.clap.specs.Walk.{settled, settled_rows, short_met, short_or_plain, subcommand, subcommand_met, subcommand_or_other, default_rows, has_row}
+use Rattle.clap.specs.Walk.{reading_by, rows_after, trailing, with_default, next, takes_several, takes_values, to_positional, used, used_by_id, value, waits}
+use Rattle.clap.specs.Walk.{walk, walk_from, walked, walked_from, word_met}
 use Rattle.clap.specs.Faults.{bundle_fault, bundle_step_fault, flag_word_fault, flags_fault, long_fault, option_fault, other_fault, positional_fault}
 use Rattle.clap.specs.Faults.{react_fault, settle_fault, short_fault, step_fault, stray_fault, turn_fault, use_fault, walk_fault, word_fault, level_fault}
 
@@ -29,7 +29,15 @@ abbrev pub AllFine : (List Row → Type 0) → Bool → List Rule → Type 0
 AllFine Good again [] = Unit {0}
 AllFine Good again (a ∷ rules) = Fine Good again a × AllFine Good again rules
 
--- and so does that of an argument that is found
+-- what an argument that was not used has for a default keeps what holds of the rows
+abbrev pub KeepsDefault : (List Row → Type 0) → Rule → Type 0
+KeepsDefault Good a = (rows : List Row) → Good rows → Good (with_default rows a)
+
+abbrev pub AllKeep : (List Row → Type 0) → List Rule → Type 0
+AllKeep Good [] = Unit {0}
+AllKeep Good (a ∷ rules) = KeepsDefault Good a × AllKeep Good rules
+
+-- and so does a use of an argument that is found
 fine_found : (Good : List Row → Type 0) (again : Bool) (p : Rule → Bool) (rules : List Rule) → AllFine Good again rules
     → IfSome (find p rules) (Fine Good again)
 fine_found Good again p [] fine = tt
@@ -85,8 +93,9 @@ module _ (Good : List Row → Type 0) (again : Bool) (c : List Rule) (fine : All
   short_good None f rest h onward next_fault keeps none good = good
   short_good (Some a) f rest h onward next_fault keeps none good = go (takes_values a) none
     where
-      go : (b : Bool) → (if b then option_fault c again a (attached_value rest) h else or_else (react_fault c again a [] h) (next_fault (reacted c a [] h)))
-          ≡ []
+      go : (b : Bool)
+          → (if b then option_fault c again a (attached_value rest) h
+          else or_else (react_fault c again a [] h) (next_fault (reacted c a [] h))) ≡ []
           → Good (if b then option_met c a (attached_value rest) h else onward (reacted c a [] h)).0.rows
       go true clear = option_good a f (attached_value rest) h clear good
       go false clear =
@@ -203,21 +212,13 @@ module _ (Good : List Row → Type 0) (s : Shape) (fine : AllFine Good s.args_ov
       let both = neither (turn_fault s names w word) (walk_fault s names (walked s.rules names w word) words) none in
       walk_good names words (walked s.rules names w word) both.1 (turn_good names w word both.0 good)
 
-  -- what an argument that was not used has for a default keeps what holds of the rows
-  abbrev pub KeepsDefault : Rule → Type 0
-  KeepsDefault a = (rows : List Row) → Good rows → Good (with_default rows a)
-
-  abbrev pub AllKeep : List Rule → Type 0
-  AllKeep [] = Unit {0}
-  AllKeep (a ∷ rules) = KeepsDefault a × AllKeep rules
-
-  defaults_good : (rules : List Rule) (rows : List Row) → AllKeep rules → Good rows → Good (fold with_default rows rules)
+  defaults_good : (rules : List Rule) (rows : List Row) → AllKeep Good rules → Good rows → Good (fold with_default rows rules)
   defaults_good [] rows keep good = good
   defaults_good (a ∷ rules) rows keep good = defaults_good rules (with_default rows a) keep.1 (keep.0 rows good)
 
   -- what holds of no rows holds of those of words with no fault
-  pub level_good : (words : List Text) (kinds : Kinds) → AllKeep s.rules → level_fault s [] nothing_held words false kinds ≡ [] → Good []
-      → Good (rows_after s.rules [] words)
+  pub level_good : (words : List Text) (kinds : Kinds) → AllKeep Good s.rules → level_fault s [] nothing_held words false kinds ≡ []
+      → Good [] → Good (rows_after s.rules [] words)
   level_good words kinds keep none good =
       let end = (walk s.rules [] nothing_held words).held in
       let walks = neither (walk_fault s [] (walk_from nothing_held) words) _ none in

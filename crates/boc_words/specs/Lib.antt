@@ -1,2 +1,4 @@
+pub mod Commands
 pub mod EditWords
+pub mod Tables
 pub mod Words

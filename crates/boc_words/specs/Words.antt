@@ -1,80 +1,29 @@
 -- What the words of a command line ask for.
-use Rattle.std.specs.Prelude.{◌≡◌, ◌<◌, ◌≤◌, ◌+◌, ◌^◌, ◌++◌, ◌⊎◌, ◌≢◌, ℕ, List, [], ◌∷◌, Option, Some, None, true, false, map, fold, unwrap_or, pos, length}
-use Rattle.std.specs.Prelude.{codes}
+use Rattle.std.specs.Prelude.{◌≡◌, ◌<◌, ◌+◌, ◌^◌, ◌++◌, ◌⊎◌, ◌≢◌, ℕ, List, [], ◌∷◌, Option, Some, None, true, false, map, fold, unwrap_or, length, codes}
 use Rattle.std.specs.List.{All}
 use Rattle.std.specs.Str.Parse.{IsNumeral, digits_value, without_leading_plus}
-use Rattle.clap.specs.Lexer.{usize_max}
 use Rattle.clap.specs.Kinds.{IsAmong}
 use Rattle.clap.specs.Simple.{on_top}
-use Rattle.clap.specs.Words.{App, Row, Rule, app_of, all_of, fault_of, kind_of, new_app, new_rule, subcommand_of, with_rule, with_subcommand}
+use Rattle.clap.specs.Words.{App, Row, Text, app_of, all_of, fault_of, kind_of, new_app, subcommand_of, with_subcommand}
 use Rattle.clap.specs.declared.builder.command.Command.{Command as Parser}
 use Rattle.clap.specs.declared.builder.command.Command.TheViews.{out-Command}
 use Rattle.clap.specs.declared.error.Error.{Error}
 use Rattle.clap.specs.declared.error.kind.ErrorKind.{ErrorKind}
 use Rattle.clap.specs.declared.error.kind.ErrorKind.TheVariants as kinds
-use Rattle.clap.specs.declared.builder.action.ArgAction.TheVariants as actions
-use Rattle.clap.specs.declared.builder.value_parser.ValueParser.TheVariants as parsers
 use Rattle.boc_plans.specs.declared.edit.Edit.{Edit}
-use Rattle.boc_program.specs.declared.limits.TheConstants.{MOST_RUNNERS, MOST_WORKERS}
 use Rattle.boc_plans.specs.declared.sharing.Sharing.{Sharing}
 use Rattle.boc_plans.specs.declared.sharing.Sharing.TheVariants.{Exclusive, SharedReads}
 use Rattle.boc_words.specs.declared.fault.WordsFault.{WordsFault}
 use Rattle.boc_words.specs.declared.fault.WordsFault.TheVariants as faults
 use Rattle.boc_words.specs.declared.words.Command.{Command}
 use Rattle.boc_words.specs.declared.words.Command.TheVariants as commands
+use Rattle.boc_words.specs.declared.commands.Kind.{Kind}
+use Rattle.boc_words.specs.declared.commands.Kind.TheVariants as called
+use Rattle.boc_words.specs.Commands.{Argument, IsNumberOf, NumberOption, commands_of_boc, number_options, runners_option, shape_of_command, signature_of}
+use Rattle.boc_words.specs.Commands.{workers_option}
 use Rattle.boc_words.specs.EditWords.{edit_word}
 
 -- ---- what the parser is told
-
--- an option with a number from 1 on, `--ID NUMBER`
-abbrev pub number_option : List ℕ → ℕ → Rule
-number_option id most = record (new_rule id) {
-  long = Some id;
-  value_names = 1;
-  parser = Some (parsers.Signed (pos 1) (pos most));
-}
-
--- the option `--p P`, where P is a number from 1 to 64
-abbrev pub workers_option : Rule
-workers_option = number_option (codes "p") MOST_WORKERS
-
--- the option `--workers N`, where N is a number from 1 to 16
-abbrev pub runners_option : Rule
-runners_option = number_option (codes "workers") MOST_RUNNERS
-
--- the edits: any number of words
-abbrev pub edits_operand : Rule
-edits_operand = record (new_rule (codes "edits")) {
-  value_names = 1;
-  range = Some (record { start_inclusive = 0; end_inclusive = usize_max });
-}
-
--- the flag `--shared-reads`
-abbrev pub sharing_flag : Rule
-sharing_flag = record (new_rule (codes "shared-reads")) {
-  long = Some (codes "shared-reads");
-  action = Some actions.SetTrue;
-}
-
--- `run`, with `--workers N`
-abbrev pub run_command : App
-run_command = with_rule (new_app (codes "run")) runners_option
-
--- `profile`, with `--p P` and `--shared-reads`
-abbrev pub profile_command : App
-profile_command = with_rule (with_rule (new_app (codes "profile")) workers_option) sharing_flag
-
--- `time`, with `--workers N`, `--p P` and `--shared-reads`
-abbrev pub time_command : App
-time_command = with_rule (with_rule (with_rule (new_app (codes "time")) runners_option) workers_option) sharing_flag
-
--- `whatif`, with `--p P`, `--shared-reads` and edits
-abbrev pub whatif_command : App
-whatif_command = with_rule (with_rule (with_rule (new_app (codes "whatif")) workers_option) sharing_flag) edits_operand
-
--- `sweep`, with `--shared-reads`
-abbrev pub sweep_command : App
-sweep_command = with_rule (new_app (codes "sweep")) sharing_flag
 
 -- `boc`, which has a version and wants one of its commands
 abbrev pub without_commands : App
@@ -84,14 +33,9 @@ without_commands = on_top (λ shape. record shape {
   arg_required_else_help = true;
 }) (new_app (codes "boc"))
 
--- the seven commands
-abbrev pub commands_of_boc : List App
-commands_of_boc = new_app (codes "values") ∷ new_app (codes "check") ∷ run_command ∷ profile_command ∷ time_command
-    ∷ whatif_command ∷ sweep_command ∷ []
-
 -- `boc` with its commands
 abbrev pub command_line : App
-command_line = fold (λ app command. with_subcommand app command.top) without_commands commands_of_boc
+command_line = fold with_subcommand without_commands (map shape_of_command commands_of_boc)
 
 -- what a parser was told so far is this, and no argument of it is one of all commands
 pub record Told (command : Parser) (app : App) : Type 0 where
@@ -111,32 +55,33 @@ pub record IsGiven (texts : List (List ℕ)) (number : ℕ) : Type 0 where
   pub numeral : IsNumeral 10 (without_leading_plus text)
   pub value : digits_value 10 (without_leading_plus text) ≡ number
 
+-- the option was not given, or it was, with this number
+abbrev pub GivesNumber : NumberOption → List Row → Option ℕ → Type 0
+GivesNumber option rows None = values_at rows option.id ≡ []
+GivesNumber option rows (Some number) = IsGiven (values_at rows option.id) number
+
 -- no `--p` was given, or one with this number
 abbrev pub AreWorkers : List Row → Option ℕ → Type 0
-AreWorkers rows None = values_at rows (codes "p") ≡ []
-AreWorkers rows (Some number) = IsGiven (values_at rows (codes "p")) number
+AreWorkers rows workers = GivesNumber workers_option rows workers
 
 -- no `--workers` was given, and it is 1, or one with this number
 abbrev pub AreRunners : List Row → ℕ → Type 0
-AreRunners rows number = ((values_at rows (codes "workers") ≡ []) × (number ≡ 1)) ⊎ IsGiven (values_at rows (codes "workers")) number
+AreRunners rows number = (GivesNumber runners_option rows None × (number ≡ 1)) ⊎ GivesNumber runners_option rows (Some number)
 
 -- `--shared-reads` was given, and what was only read is shared, or it was not, and cowns are exclusive
 abbrev pub AreShared : List Row → Sharing → Type 0
 AreShared rows SharedReads = values_at rows (codes "shared-reads") ≡ codes "true" ∷ []
 AreShared rows Exclusive = values_at rows (codes "shared-reads") ≢ codes "true" ∷ []
 
--- the option was given, and there is no one number from 1 to this with it
-pub record HasNoNumber (id : List ℕ) (most : ℕ) (rows : List Row) : Type 0 where
-  pub given : values_at rows id ≡ [] → ⊥
-  pub none : (number : ℕ) → 0 < number → number ≤ most → IsGiven (values_at rows id) number → ⊥
+-- the option was given, and there is no one number that it takes with it
+pub record HasNoNumber (option : NumberOption) (rows : List Row) : Type 0 where
+  pub given : values_at rows option.id ≡ [] → ⊥
+  pub none : (number : ℕ) → IsNumberOf option.numbers number → IsGiven (values_at rows option.id) number → ⊥
 
--- a `--p` was given, and there is no one number from 1 to 64 with it
-abbrev pub HasNoWorkers : List Row → Type 0
-HasNoWorkers rows = HasNoNumber (codes "p") MOST_WORKERS rows
-
--- a `--workers` was given, and there is no one number from 1 to 16 with it
-abbrev pub HasNoRunners : List Row → Type 0
-HasNoRunners rows = HasNoNumber (codes "workers") MOST_RUNNERS rows
+-- one of these options was given, and there is no one number that it takes with it
+abbrev pub MissesNumber : List NumberOption → List Row → Type 0
+MissesNumber [] rows = ⊥
+MissesNumber (option ∷ more) rows = HasNoNumber option rows ⊎ MissesNumber more rows
 
 -- the words given as edits are those of these edits, in their order
 abbrev pub AreEdits : List Row → List Edit → Type 0
@@ -161,10 +106,10 @@ pub record IsFirstMisspelt (words : List (List ℕ)) (number : ℕ) : Type 0 whe
   pub misspelt : IsEditWord word → ⊥
 
 -- the fault says that the number behind an option cannot be read, or that memory was refused
-abbrev pub IsOfNumber : List ℕ → ℕ → List Row → WordsFault → Type 0
-IsOfNumber id most rows (faults.Parser e) = HasNoNumber id most rows
-IsOfNumber id most rows faults.Memory = Unit {0}
-IsOfNumber id most rows _ = ⊥
+abbrev pub IsOfNumber : NumberOption → List Row → WordsFault → Type 0
+IsOfNumber option rows (faults.Parser e) = HasNoNumber option rows
+IsOfNumber option rows faults.Memory = Unit {0}
+IsOfNumber option rows _ = ⊥
 
 -- the fault names the first word that is no edit, or says that memory was refused
 abbrev pub IsOfEditWords : List Row → WordsFault → Type 0
@@ -174,44 +119,52 @@ IsOfEditWords rows _ = ⊥
 
 -- ---- what a command that was named asks for
 
--- a command of this name was named, and this holds of what was found for it
-abbrev pub Names : Option (List ℕ × List Row) → List ℕ → (List Row → Type 0) → Type 0
-Names named name Holds = (rows : List Row) × (named ≡ Some (name, rows)) × Holds rows
+-- this command was named, and this holds of what was found for it
+abbrev pub Names : Option (List ℕ × List Row) → Kind → (List Row → Type 0) → Type 0
+Names named kind Holds = (rows : List Row) × (named ≡ Some ((signature_of kind).0, rows)) × Holds rows
 
--- nothing more is asked of what was found
-abbrev pub Anything : List Row → Type 0
-Anything rows = Unit {0}
+-- with what was found for it this command asks for this
+abbrev pub Asks : Kind → List Row → Command → Type 0
+Asks kind rows commands.Values = kind ≡ called.Values
+Asks kind rows commands.Check = kind ≡ called.Check
+Asks kind rows (commands.Run runners) = (kind ≡ called.Run) × AreRunners rows runners
+Asks kind rows (commands.Profile workers sharing) = (kind ≡ called.Profile) × AreWorkers rows workers × AreShared rows sharing
+Asks kind rows (commands.Time runners workers sharing) =
+    (kind ≡ called.Time) × AreRunners rows runners × AreWorkers rows workers × AreShared rows sharing
+Asks kind rows (commands.WhatIf edits workers sharing) =
+    (kind ≡ called.WhatIf) × AreEdits rows edits.items × AreWorkers rows workers × AreShared rows sharing
+Asks kind rows (commands.Sweep sharing) = (kind ≡ called.Sweep) × AreShared rows sharing
+Asks kind rows (commands.Help text) = ⊥
+Asks kind rows commands.Version = ⊥
 
--- what was named is this command
+-- what was named asks for this
 abbrev pub IsNamed : Option (List ℕ × List Row) → Command → Type 0
-IsNamed named commands.Values = Names named (codes "values") Anything
-IsNamed named commands.Check = Names named (codes "check") Anything
-IsNamed named (commands.Run runners) = Names named (codes "run") (λ rows. AreRunners rows runners)
-IsNamed named (commands.Profile workers sharing) =
-    Names named (codes "profile") (λ rows. AreWorkers rows workers × AreShared rows sharing)
-IsNamed named (commands.Time runners workers sharing) =
-    Names named (codes "time") (λ rows. AreRunners rows runners × AreWorkers rows workers × AreShared rows sharing)
-IsNamed named (commands.WhatIf edits workers sharing) =
-    Names named (codes "whatif") (λ rows. AreEdits rows edits.items × AreWorkers rows workers × AreShared rows sharing)
-IsNamed named (commands.Sweep sharing) = Names named (codes "sweep") (λ rows. AreShared rows sharing)
-IsNamed named (commands.Help text) = ⊥
-IsNamed named commands.Version = ⊥
+IsNamed named command = (kind : Kind) × Names named kind (λ rows. Asks kind rows command)
+
+-- the name is that of none of these commands
+abbrev pub IsNoneOf : Text → List (Text × List Argument) → Type 0
+IsNoneOf name [] = Unit {0}
+IsNoneOf name (command ∷ more) = (name ≢ command.0) × IsNoneOf name more
 
 -- what was named is none of the commands
 abbrev pub IsUnknown : Option (List ℕ × List Row) → Type 0
-IsUnknown named = (name : List ℕ) (rows : List Row) → named ≡ Some (name, rows)
-    → (name ≢ codes "values") × (name ≢ codes "check") × (name ≢ codes "run") × (name ≢ codes "profile")
-    × (name ≢ codes "time") × (name ≢ codes "whatif") × (name ≢ codes "sweep")
+IsUnknown named = (name : List ℕ) (rows : List Row) → named ≡ Some (name, rows) → IsNoneOf name commands_of_boc
 
 -- an option of the command that was named has no number that can be read
 abbrev pub HasNoNumbers : Option (List ℕ × List Row) → Type 0
-HasNoNumbers named = (name : List ℕ) × Names named name (λ rows. HasNoRunners rows ⊎ HasNoWorkers rows)
+HasNoNumbers named = (kind : Kind) × Names named kind (MissesNumber number_options)
+
+-- of a command that was named an option has no number that can be read, or of the edits the first is misspelt
+abbrev pub IsUnread : Kind → List Row → WordsFault → Type 0
+IsUnread kind rows (faults.Parser e) = MissesNumber number_options rows
+IsUnread kind rows (faults.EditWord number) = (kind ≡ called.WhatIf) × IsFirstMisspelt (values_at rows (codes "edits")) number
+IsUnread kind rows faults.Memory = Unit {0}
 
 -- what was named is no command that can be done
 abbrev pub IsMisnamed : Option (List ℕ × List Row) → WordsFault → Type 0
 IsMisnamed named (faults.Parser e) = IsUnknown named ⊎ HasNoNumbers named
 IsMisnamed named (faults.EditWord number) =
-    Names named (codes "whatif") (λ rows. IsFirstMisspelt (values_at rows (codes "edits")) number)
+    Names named called.WhatIf (λ rows. IsFirstMisspelt (values_at rows (codes "edits")) number)
 IsMisnamed named faults.Memory = Unit {0}
 
 -- ---- what a refusal of the parser comes to
@@ -255,5 +208,5 @@ IsAsked words command = AreTaken words × IsNamed (subcommand_of command_line wo
 abbrev pub IsRefused : List (List ℕ) → WordsFault → Type 0
 IsRefused words (faults.Parser e) = IsAmong (kind_of e) (fault_of command_line words) × IsNoCall (kind_of e)
 IsRefused words (faults.EditWord number) = AreTaken words
-    × Names (subcommand_of command_line words) (codes "whatif") (λ rows. IsFirstMisspelt (values_at rows (codes "edits")) number)
+    × Names (subcommand_of command_line words) called.WhatIf (λ rows. IsFirstMisspelt (values_at rows (codes "edits")) number)
 IsRefused words faults.Memory = Unit {0}

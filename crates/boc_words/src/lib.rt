@@ -1,6 +1,8 @@
 //! The words of a command line, and what they ask for.
 #![tactic(auto)]
 
+mod arguments;
+mod commands;
 mod edit_word;
 mod fault;
 mod runners;

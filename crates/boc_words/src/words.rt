@@ -1,23 +1,24 @@
 // The words of the command line.
 
-ghost use Rattle.boc_words.specs.Words.{AreEdits, AreRunners, AreShared, AreTaken, AreWorkers, IsAsked, IsGiven, IsMisnamed, IsNamed, IsOfEditWords, IsOfError};
-ghost use Rattle.boc_words.specs.Words.{IsOfNoText, IsOfNumber, IsRefused, IsTextOfKind, Told, command_line, edits_operand, profile_command as profile_as_told};
-ghost use Rattle.boc_words.specs.Words.{run_command as run_as_told, runners_option, sharing_flag, sweep_command as sweep_as_told, time_command as time_as_told};
-ghost use Rattle.boc_words.specs.Words.{values_at, whatif_command as whatif_as_told, without_commands, workers_option};
+ghost use Rattle.boc_words.specs.Commands.{IsNumberOf, runners_option, workers_option};
+ghost use Rattle.boc_words.specs.Tables.{option_of};
+ghost use Rattle.boc_words.specs.Words.{AreEdits, AreRunners, AreShared, AreTaken, AreWorkers, Asks, GivesNumber, IsAsked, IsGiven};
+ghost use Rattle.boc_words.specs.Words.{IsMisnamed, IsNamed, IsOfEditWords, IsOfError, IsOfNoText, IsOfNumber, IsRefused, IsTextOfKind, IsUnread};
+ghost use Rattle.boc_words.specs.Words.{command_line, values_at};
 ghost use Rattle.clap.specs.Kinds.{HasKind};
-ghost use Rattle.clap.specs.Words.{app_of, fault_of, found_of, kind_of, new_app, rows_of, rule_of, subcommand_of, subcommand_rows_of};
-ghost use Rattle.std.specs.Prelude.{◌≡◌, ◌<◌, ◌≤◌, ◌^◌, ◌∷◌, ◌↔◌, [], ℕ, IfErr, IfOk, IsTrue, MatchOption, codes, false, map, string_bytes};
+ghost use Rattle.clap.specs.Words.{fault_of, found_of, kind_of, rows_of, subcommand_of, subcommand_rows_of};
+ghost use Rattle.std.specs.Prelude.{◌≡◌, ◌∷◌, ◌↔◌, [], ℕ, IfErr, IfNone, IfOk, IfSome, IsTrue, codes, map, string_bytes};
 
+use crate::arguments::{NumberOption, Numbers, RUNNERS, WORKERS};
+use crate::commands::{Kind, kind_of, parser};
 use crate::edit_word::edit_of;
 use crate::fault::WordsFault;
 use crate::runners::Runners;
-use crate::version::VERSION;
 use boc_plans::edit::Edit;
 use boc_plans::sharing::Sharing;
 use boc_plans::workers::Workers;
-use boc_program::limits::{MOST_RUNNERS, MOST_WORKERS};
+use clap::ArgMatches;
 use clap::error::ErrorKind;
-use clap::{Arg, ArgAction, ArgMatches, value_parser};
 use std::alloc::{AllocError, Global};
 
 /// What the words ask for.
@@ -53,7 +54,7 @@ pub enum Command {
     Sweep(Sharing),
     /// The parser's own text, for standard output.
     Help(String),
-    /// The version of the program, which is [`VERSION`].
+    /// The version of the program, which is [`VERSION`](crate::VERSION).
     Version,
 }
 
@@ -89,149 +90,6 @@ fn error_of_words(alloc: Global, kind: ErrorKind, text: &str) -> Result<clap::Er
     parser.error(kind, text)
 }
 
-// What the parser accepts.
-fn parser<'a>(alloc: Global) -> Result<clap::Command<'a>, AllocError>
-    ensures { IfOk result (λ parser. app_of parser ≡ command_line) }
-{
-    let recorded = run_subcommand(alloc)?;
-    let profile = profile_command(alloc)?;
-    let timed = time_subcommand(alloc)?;
-    let whatif = whatif_command(alloc)?;
-    let sweep = sweep_command(alloc)?;
-    boc_command(alloc)
-        .subcommand(values_command(alloc))?
-        .subcommand(check_command(alloc))?
-        .subcommand(recorded)?
-        .subcommand(profile)?
-        .subcommand(timed)?
-        .subcommand(whatif)?
-        .subcommand(sweep)
-}
-
-// The program, which wants one of its commands.
-fn boc_command<'a>(alloc: Global) -> clap::Command<'a>
-    ensures { Told result without_commands }
-{
-    clap::Command::new(alloc, "boc")
-        .about("Runs and profiles programs under behaviour-oriented concurrency")
-        .version(VERSION)
-        .subcommand_required(true)
-        .arg_required_else_help(true)
-}
-
-fn values_command<'a>(alloc: Global) -> clap::Command<'a>
-    ensures { Told result (new_app (codes "values")) }
-{
-    clap::Command::new(alloc, "values").about(
-        "Reads a program, runs it serially, and prints the values of its cowns",
-    )
-}
-
-fn check_command<'a>(alloc: Global) -> clap::Command<'a>
-    ensures { Told result (new_app (codes "check")) }
-{
-    clap::Command::new(alloc, "check").about(
-        "Reads the record of a run, checks that it keeps the rules, and prints how many rows it has",
-    )
-}
-
-fn run_subcommand<'a>(alloc: Global) -> Result<clap::Command<'a>, AllocError>
-    ensures { IfOk result (λ command. Told command run_as_told) }
-{
-    clap::Command::new(alloc, "run")
-        .about("Reads a program, runs it by several threads, and prints the record of the run")
-        .arg(runners_arg(alloc))
-}
-
-fn profile_command<'a>(alloc: Global) -> Result<clap::Command<'a>, AllocError>
-    ensures { IfOk result (λ command. Told command profile_as_told) }
-{
-    clap::Command::new(alloc, "profile")
-        .about(
-            "Reads the record of a run, and prints its work, its span, its costliest chain and its earliest plan",
-        )
-        .arg(workers_arg(alloc))?
-        .arg(sharing_arg(alloc))
-}
-
-fn time_subcommand<'a>(alloc: Global) -> Result<clap::Command<'a>, AllocError>
-    ensures { IfOk result (λ command. Told command time_as_told) }
-{
-    clap::Command::new(alloc, "time")
-        .about("Reads a program, runs it by several threads, and prints the profile of the run")
-        .arg(runners_arg(alloc))?
-        .arg(workers_arg(alloc))?
-        .arg(sharing_arg(alloc))
-}
-
-fn whatif_command<'a>(alloc: Global) -> Result<clap::Command<'a>, AllocError>
-    ensures { IfOk result (λ command. Told command whatif_as_told) }
-{
-    clap::Command::new(alloc, "whatif")
-        .about(
-            "Reads the record of a run, and prints the profile that it would have with other ticks",
-        )
-        .arg(workers_arg(alloc))?
-        .arg(sharing_arg(alloc))?
-        .arg(edits_arg(alloc))
-}
-
-fn sweep_command<'a>(alloc: Global) -> Result<clap::Command<'a>, AllocError>
-    ensures { IfOk result (λ command. Told command sweep_as_told) }
-{
-    clap::Command::new(alloc, "sweep")
-        .about(
-            "Reads the record of a run, and prints for each row the span with that row alone at its least ticks",
-        )
-        .arg(sharing_arg(alloc))
-}
-
-// The number of threads of a run.
-fn runners_arg<'a>(alloc: Global) -> Arg<'a>
-    ensures rule { rule_of result ≡ runners_option }
-    ensures local { result.global ≡ false }
-{
-    Arg::new(alloc, "workers")
-        .long("workers")
-        .value_name("N")
-        .value_parser(value_parser!(u32).range(1..=MOST_RUNNERS as i64))
-        .help("Runs the program by N threads, 1 to 16; 1 if not given")
-}
-
-// The number of workers for a greedy plan.
-fn workers_arg<'a>(alloc: Global) -> Arg<'a>
-    ensures rule { rule_of result ≡ workers_option }
-    ensures local { result.global ≡ false }
-{
-    Arg::new(alloc, "p")
-        .long("p")
-        .value_name("P")
-        .value_parser(value_parser!(u32).range(1..=i64::from(MOST_WORKERS)))
-        .help("Prints the greedy plan for P workers too, 1 to 64, with its end and its bound")
-}
-
-// Whether plans share what was only read.
-fn sharing_arg<'a>(alloc: Global) -> Arg<'a>
-    ensures rule { rule_of result ≡ sharing_flag }
-    ensures local { result.global ≡ false }
-{
-    Arg::new(alloc, "shared-reads")
-        .long("shared-reads")
-        .action(ArgAction::SetTrue)
-        .help("Lets behaviours that only read a cown share it, in plans")
-}
-
-// The edits of `whatif`.
-fn edits_arg<'a>(alloc: Global) -> Arg<'a>
-    ensures rule { rule_of result ≡ edits_operand }
-    ensures local { result.global ≡ false }
-{
-    Arg::new(alloc, "edits")
-        .value_name("ROW=TICKS")
-        .num_args(0..)
-        .help("Has a row take so many ticks; edits are made in their order")
-}
-
 // What the parser finds in the words.
 fn found<'a>(alloc: Global, words: &'a [String]) -> Result<ArgMatches<'a>, clap::Error>
     ensures taken { IfOk result (λ matches. AreTaken (map string_bytes words.now)) }
@@ -242,50 +100,50 @@ fn found<'a>(alloc: Global, words: &'a [String]) -> Result<ArgMatches<'a>, clap:
     parser.try_get_matches_from_mut(words)
 }
 
-// The command that the parser has found. What the parser takes names one, with no number of workers but 1 to 64: the
-// faults of words below are for other matches.
+// The command that the parser has found. What the parser takes names one, with no numbers but those that its options
+// take: the faults of words here and below are for other matches.
 fn command_of(alloc: Global, matches: &ArgMatches) -> Result<Command, WordsFault>
     ensures named { IfOk result (IsNamed (subcommand_rows_of matches.now)) }
     ensures misnamed { IfErr result (IsMisnamed (subcommand_rows_of matches.now)) }
 {
-    match matches.subcommand() {
-        Some(("values", _)) => Ok(Command::Values),
-        Some(("check", _)) => Ok(Command::Check),
-        Some(("run", matches)) => {
-            let runners = runners_asked(alloc, matches)?;
-            Ok(Command::Run { runners })
-        }
-        Some(("profile", matches)) => {
-            let workers = workers_asked(alloc, matches)?;
-            let sharing = sharing_asked(matches);
-            Ok(Command::Profile { workers, sharing })
-        }
-        Some(("time", matches)) => {
-            let runners = runners_asked(alloc, matches)?;
-            let workers = workers_asked(alloc, matches)?;
-            let sharing = sharing_asked(matches);
-            Ok(Command::Time {
-                runners,
-                workers,
-                sharing,
-            })
-        }
-        Some(("whatif", matches)) => {
-            let edits = edits_asked(alloc, matches)?;
-            let workers = workers_asked(alloc, matches)?;
-            let sharing = sharing_asked(matches);
-            Ok(Command::WhatIf {
-                edits,
-                workers,
-                sharing,
-            })
-        }
-        Some(("sweep", matches)) => Ok(Command::Sweep(sharing_asked(matches))),
-        _ => Err(WordsFault::Parser(error_of_words(
-            alloc,
-            ErrorKind::MissingSubcommand,
-            "no command is named",
-        )?)),
+    if let Some((name, matches)) = matches.subcommand()
+        && let Some(kind) = kind_of(name)
+    {
+        return asked(alloc, kind, matches);
+    }
+    Err(WordsFault::Parser(error_of_words(
+        alloc,
+        ErrorKind::MissingSubcommand,
+        "no command is named",
+    )?))
+}
+
+// What a command is asked for, by what was found for it.
+fn asked(alloc: Global, kind: Kind, matches: &ArgMatches) -> Result<Command, WordsFault>
+    ensures asked { IfOk result (Asks kind (rows_of (found_of matches.now))) }
+    ensures refused { IfErr result (IsUnread kind (rows_of (found_of matches.now))) }
+{
+    match kind {
+        Kind::Values => Ok(Command::Values),
+        Kind::Check => Ok(Command::Check),
+        Kind::Run => Ok(Command::Run {
+            runners: runners_asked(alloc, matches)?,
+        }),
+        Kind::Profile => Ok(Command::Profile {
+            workers: workers_asked(alloc, matches)?,
+            sharing: sharing_asked(matches),
+        }),
+        Kind::Time => Ok(Command::Time {
+            runners: runners_asked(alloc, matches)?,
+            workers: workers_asked(alloc, matches)?,
+            sharing: sharing_asked(matches),
+        }),
+        Kind::WhatIf => Ok(Command::WhatIf {
+            edits: edits_asked(alloc, matches)?,
+            workers: workers_asked(alloc, matches)?,
+            sharing: sharing_asked(matches),
+        }),
+        Kind::Sweep => Ok(Command::Sweep(sharing_asked(matches))),
     }
 }
 
@@ -316,37 +174,45 @@ fn edits_asked(alloc: Global, matches: &ArgMatches) -> Result<Vec<Edit>, WordsFa
 // The threads that the words ask for, one where they have no `--workers`.
 fn runners_asked(alloc: Global, matches: &ArgMatches) -> Result<Runners, WordsFault>
     ensures asked { IfOk result (λ runners. AreRunners (rows_of (found_of matches.now)) runners) }
-    ensures refused { IfErr result (IsOfNumber (codes "workers") MOST_RUNNERS (rows_of (found_of matches.now))) }
+    ensures refused { IfErr result (IsOfNumber runners_option (rows_of (found_of matches.now))) }
 {
-    let texts = texts_at(matches, "workers");
-    if texts.is_empty() {
-        return Ok(Runners::one());
-    }
-    match runners_of(texts) {
-        Some(runners) => Ok(runners),
-        None => Err(WordsFault::Parser(error_of_words(
-            alloc,
-            ErrorKind::ValueValidation,
-            "`--workers` is no number from 1 to 16",
-        )?)),
+    match number_asked(alloc, matches, &RUNNERS)? {
+        Some(number) => Ok(Runners::new(number as u32).unwrap()),
+        None => Ok(Runners::one()),
     }
 }
 
 // The workers that the words ask for, none where they have no `--p`.
 fn workers_asked(alloc: Global, matches: &ArgMatches) -> Result<Option<Workers>, WordsFault>
     ensures asked { IfOk result (AreWorkers (rows_of (found_of matches.now))) }
-    ensures refused { IfErr result (IsOfNumber (codes "p") MOST_WORKERS (rows_of (found_of matches.now))) }
+    ensures refused { IfErr result (IsOfNumber workers_option (rows_of (found_of matches.now))) }
 {
-    let texts = texts_at(matches, "p");
+    match number_asked(alloc, matches, &WORKERS)? {
+        Some(number) => Ok(Workers::new(number as u32)),
+        None => Ok(None),
+    }
+}
+
+// The number that the words give for an option, none where they don't have the option.
+fn number_asked(
+    alloc: Global,
+    matches: &ArgMatches,
+    option: &NumberOption,
+) -> Result<Option<u64>, WordsFault>
+    ensures asked { IfOk result (GivesNumber (option_of option.now) (rows_of (found_of matches.now))) }
+    ensures taken { IfOk result (λ number. IfSome number (IsNumberOf option.now.numbers)) }
+    ensures refused { IfErr result (IsOfNumber (option_of option.now) (rows_of (found_of matches.now))) }
+{
+    let texts = texts_at(matches, option.id);
     if texts.is_empty() {
         return Ok(None);
     }
-    match workers_of(texts) {
-        Some(workers) => Ok(Some(workers)),
+    match number_of(texts, option.numbers) {
+        Some(number) => Ok(Some(number)),
         None => Err(WordsFault::Parser(error_of_words(
             alloc,
             ErrorKind::ValueValidation,
-            "`--p` is no number from 1 to 64",
+            "an option has no number that it takes",
         )?)),
     }
 }
@@ -372,36 +238,18 @@ fn is_set(texts: &[&str]) -> bool
     *text == "true"
 }
 
-// The threads that one text is the number of.
-fn runners_of(texts: &[&str]) -> Option<Runners>
-    ensures { MatchOption result
-        ((number : ℕ) → 0 < number → number ≤ MOST_RUNNERS → IsGiven (map (λ text. text.now) texts.now) number → ⊥)
-        (λ runners. IsGiven (map (λ text. text.now) texts.now) runners) }
-{
-    let number = number_of(texts)?;
-    Runners::new(number)
-}
-
-// The workers that one text is the number of.
-fn workers_of(texts: &[&str]) -> Option<Workers>
-    ensures { MatchOption result
-        ((number : ℕ) → 0 < number → number ≤ MOST_WORKERS → IsGiven (map (λ text. text.now) texts.now) number → ⊥)
-        (λ workers. IsGiven (map (λ text. text.now) texts.now) workers) }
-{
-    let number = number_of(texts)?;
-    Workers::new(number)
-}
-
-// The number that one text is, in decimal digits.
-fn number_of(texts: &[&str]) -> Option<u32>
-    ensures { MatchOption result
-        ((number : ℕ) → number < 2 ^ 32 → IsGiven (map (λ text. text.now) texts.now) number → ⊥)
-        (λ number. IsGiven (map (λ text. text.now) texts.now) number) }
+// The one of these numbers that one text is, in decimal digits.
+fn number_of(texts: &[&str], numbers: Numbers) -> Option<u64>
+    ensures none { IfNone result
+        ((number : ℕ) → IsNumberOf numbers number → IsGiven (map (λ text. text.now) texts.now) number → ⊥) }
+    ensures given { IfSome result (IsGiven (map (λ text. text.now) texts.now)) }
+    ensures taken { IfSome result (IsNumberOf numbers) }
 {
     let [text] = texts else {
         return None;
     };
-    text.parse::<u32>().ok()
+    let number = text.parse::<u64>().ok()?;
+    numbers.contains(number).then_some(number)
 }
 
 // What becomes of words that have no matches: a call for help or for the version is answered.

@@ -1,4 +1,4 @@
-use Rattle.std.proofs.Common.{◌≤◌, ◌<◌, length, codes, arith}
+use Rattle.std.proofs.Common.{codes, arith}
 use Rattle.boc_words.proofs.Given.{one_text_is}
 use Rattle.boc_words.proofs.words.is_set.Goals as goal
 

@@ -5,5 +5,6 @@ use Rattle.boc_words.proofs.Given.{read}
 use Rattle.boc_words.proofs.words.texts_at.Goals as goal
 
 pub returns : goal.returns
-returns c = read c.get_strs.result c.unwrap_or_default.result _ _ (λ x h. h) c.unwrap_or_default.ensures
+returns c =
+    read c.get_strs.result c.unwrap_or_default.result _ _ (λ x h. h) c.unwrap_or_default.ensures
     (c.get_strs.ensures ∙ raw_values-rows (found_of c.args.matches.now) c.args.id.now)

@@ -1,0 +1,100 @@
+-- The commands, and which arguments each takes.
+use Rattle.std.specs.Prelude.{◌<◌, ◌≤◌, ◌^◌, ℕ, List, [], ◌∷◌, Some, map, pos, codes}
+use Rattle.clap.specs.Lexer.{usize_max}
+use Rattle.clap.specs.Simple.{new_shape}
+use Rattle.clap.specs.Words.{App, Rule, Shape, Text, new_rule}
+use Rattle.clap.specs.declared.builder.action.ArgAction.TheVariants as actions
+use Rattle.clap.specs.declared.builder.value_parser.ValueParser.{ValueParser}
+use Rattle.clap.specs.declared.builder.value_parser.ValueParser.TheVariants as parsers
+use Rattle.boc_program.specs.declared.limits.TheConstants.{MOST_RUNNERS, MOST_WORKERS}
+use Rattle.boc_words.specs.declared.arguments.Numbers.{Numbers}
+use Rattle.boc_words.specs.declared.arguments.Numbers.TheVariants.{UpTo, Every}
+use Rattle.boc_words.specs.declared.commands.Kind.{Kind}
+use Rattle.boc_words.specs.declared.commands.Kind.TheVariants.{Values, Check, Run, Profile, Time, WhatIf, Sweep}
+
+-- ---- what a command may take
+
+-- an option with a number, `--ID NUMBER`, and which numbers it takes
+pub record NumberOption : Type 0 where
+  pub id : Text
+  pub numbers : Numbers
+
+-- an argument: an option with a number; a flag, `--ID`; or any number of words
+pub data Argument : Type 0 where
+  number : NumberOption → Argument
+  flag : Text → Argument
+  operands : Text → Argument
+
+-- `--workers N`, of so many threads that run a program
+abbrev pub runners_option : NumberOption
+runners_option = record { id = codes "workers"; numbers = UpTo MOST_RUNNERS }
+
+-- `--p P`, of so many workers of a greedy plan
+abbrev pub workers_option : NumberOption
+workers_option = record { id = codes "p"; numbers = UpTo MOST_WORKERS }
+
+-- every option with a number
+abbrev pub number_options : List NumberOption
+number_options = runners_option ∷ workers_option ∷ []
+
+-- `--shared-reads`
+abbrev pub sharing_flag : Argument
+sharing_flag = flag (codes "shared-reads")
+
+-- the words of edits
+abbrev pub edits_operands : Argument
+edits_operands = operands (codes "edits")
+
+-- ---- the commands
+
+-- the name of a command, and which arguments it takes
+abbrev pub signature_of : Kind → Text × List Argument
+signature_of Values = (codes "values", [])
+signature_of Check = (codes "check", [])
+signature_of Run = (codes "run", number runners_option ∷ [])
+signature_of Profile = (codes "profile", number workers_option ∷ sharing_flag ∷ [])
+signature_of Time = (codes "time", number runners_option ∷ number workers_option ∷ sharing_flag ∷ [])
+signature_of WhatIf = (codes "whatif", number workers_option ∷ sharing_flag ∷ edits_operands ∷ [])
+signature_of Sweep = (codes "sweep", sharing_flag ∷ [])
+
+-- every command, in the order of help
+abbrev pub every_kind : List Kind
+every_kind = Values ∷ Check ∷ Run ∷ Profile ∷ Time ∷ WhatIf ∷ Sweep ∷ []
+
+abbrev pub commands_of_boc : List (Text × List Argument)
+commands_of_boc = map signature_of every_kind
+
+-- ---- what the parser has of them
+
+-- the number is one of these: from 1 up to the most, or any of 64 bits
+abbrev pub IsNumberOf : Numbers → ℕ → Type 0
+IsNumberOf (UpTo most) n = (0 < n) × (n ≤ most)
+IsNumberOf Every n = n < 2 ^ 64
+
+-- the parser of these numbers
+abbrev pub parser_of : Numbers → ValueParser
+parser_of (UpTo most) = parsers.Signed (pos 1) (pos most)
+parser_of Every = parsers.Unsigned 0 18446744073709551615
+
+-- the argument by itself
+abbrev pub rule_at : Argument → Rule
+rule_at (number option) = record (new_rule option.id) {
+  long = Some option.id;
+  value_names = 1;
+  parser = Some (parser_of option.numbers);
+}
+rule_at (flag id) = record (new_rule id) {
+  long = Some id;
+  action = Some actions.SetTrue;
+}
+rule_at (operands id) = record (new_rule id) {
+  value_names = 1;
+  range = Some (record { start_inclusive = 0; end_inclusive = usize_max });
+}
+
+-- the command by itself
+abbrev pub shape_of_command : Text × List Argument → Shape
+shape_of_command command = record (new_shape command.0) { rules = map rule_at command.1 }
+
+abbrev pub app_of_command : Text × List Argument → App
+app_of_command command = record { top = shape_of_command command; subs = [] }

@@ -1,0 +1,22 @@
+-- What stands in the tables of the sources.
+use Rattle.std.specs.Prelude.{List, map}
+use Rattle.clap.specs.Words.{Text}
+use Rattle.boc_words.specs.declared.arguments.Argument.{Argument as Listed}
+use Rattle.boc_words.specs.declared.arguments.Argument.TheVariants as listed
+use Rattle.boc_words.specs.declared.arguments.NumberOption.{NumberOption as ListedOption}
+use Rattle.boc_words.specs.declared.commands.Entry.{Entry}
+use Rattle.boc_words.specs.Commands.{Argument, NumberOption, flag, number, operands}
+
+-- the option that is listed
+abbrev pub option_of : ListedOption → NumberOption
+option_of option = record { id = option.id.now; numbers = option.numbers }
+
+-- the argument that is listed
+abbrev pub argument_of : Listed → Argument
+argument_of (listed.Number option) = number (option_of option)
+argument_of (listed.Flag id help) = flag id.now
+argument_of (listed.Words id value_name help) = operands id.now
+
+-- the command that is listed: its name, and which arguments it takes
+abbrev pub command_of_entry : Entry → Text × List Argument
+command_of_entry entry = (entry.name.now, map argument_of entry.takes.now)

@@ -1,0 +1,133 @@
+// The arguments that commands take.
+
+ghost use Rattle.std.specs.Prelude.{◌≡◌, ◌↔◌, IsTrue, false};
+ghost use Rattle.clap.specs.Words.{rule_of};
+ghost use Rattle.boc_words.specs.Commands.{IsNumberOf, parser_of, rule_at};
+ghost use Rattle.boc_words.specs.Tables.{argument_of};
+
+use boc_program::limits::{MOST_RUNNERS, MOST_WORKERS};
+use clap::builder::ValueParser;
+use clap::{Arg, ArgAction, value_parser};
+use std::alloc::Global;
+
+/// The numbers that an option takes.
+#[derive(Clone, Copy)]
+pub(crate) enum Numbers {
+    /// From 1 up to this.
+    UpTo(u32),
+    /// Any of 64 bits.
+    Every,
+}
+
+/// An option with a number: its name, what help calls the number, the numbers that it takes, and what help says of it.
+#[derive(Clone, Copy)]
+pub(crate) struct NumberOption {
+    pub(crate) id: &'static str,
+    pub(crate) value_name: &'static str,
+    pub(crate) numbers: Numbers,
+    pub(crate) help: &'static str,
+}
+
+/// An argument of a command, with what help says of it.
+#[derive(Clone, Copy)]
+pub(crate) enum Argument {
+    /// An option with a number.
+    Number(NumberOption),
+    /// A flag: an option by itself.
+    Flag {
+        id: &'static str,
+        help: &'static str,
+    },
+    /// Any number of words, and what help calls one.
+    Words {
+        id: &'static str,
+        value_name: &'static str,
+        help: &'static str,
+    },
+}
+
+// An option with a number is one of these, an entry of `number_options`, and `number_asked` where it is read.
+
+/// How many threads run a program.
+pub(crate) const RUNNERS: NumberOption = NumberOption {
+    id: "workers",
+    value_name: "N",
+    numbers: Numbers::UpTo(MOST_RUNNERS as u32),
+    help: "Runs the program by N threads, 1 to 16; 1 if not given",
+};
+
+/// How many workers carry out a greedy plan.
+pub(crate) const WORKERS: NumberOption = NumberOption {
+    id: "p",
+    value_name: "P",
+    numbers: Numbers::UpTo(MOST_WORKERS),
+    help: "Prints the greedy plan for P workers too, 1 to 64, with its end and its bound",
+};
+
+/// Whether plans share what was only read.
+pub(crate) const SHARING: Argument = Argument::Flag {
+    id: "shared-reads",
+    help: "Lets behaviours that only read a cown share it, in plans",
+};
+
+/// The edits of `whatif`.
+pub(crate) const EDITS: Argument = Argument::Words {
+    id: "edits",
+    value_name: "ROW=TICKS",
+    help: "Has a row take so many ticks; edits are made in their order",
+};
+
+// The help of `--workers` and of `--p` names these numbers.
+const _: () = prove!(MOST_RUNNERS == 16);
+
+const _: () = prove!(MOST_WORKERS == 64);
+
+impl Numbers {
+    /// Whether a number is one of these.
+    pub(crate) fn contains(self, number: u64) -> bool
+        ensures { IsTrue result ↔ IsNumberOf self number }
+    {
+        match self {
+            Numbers::UpTo(most) => (1..=u64::from(most)).contains(&number),
+            Numbers::Every => true,
+        }
+    }
+
+    // The parser of these numbers.
+    fn parser<'a>(self) -> ValueParser<'a>
+        ensures { result ≡ parser_of self }
+    {
+        match self {
+            Numbers::UpTo(most) => value_parser!(u32).range(1..=i64::from(most)),
+            Numbers::Every => value_parser!(u64),
+        }
+    }
+}
+
+impl Argument {
+    /// The argument as the parser takes it.
+    pub(crate) fn arg<'a>(&self, alloc: Global) -> Arg<'a>
+        ensures rule { rule_of result ≡ rule_at (argument_of self.now) }
+        ensures local { result.global ≡ false }
+    {
+        match *self {
+            Argument::Number(option) => Arg::new(alloc, option.id)
+                .long(option.id)
+                .value_name(option.value_name)
+                .value_parser(option.numbers.parser())
+                .help(option.help),
+            Argument::Flag { id, help } => Arg::new(alloc, id)
+                .long(id)
+                .action(ArgAction::SetTrue)
+                .help(help),
+            Argument::Words {
+                id,
+                value_name,
+                help,
+            } => Arg::new(alloc, id)
+                .value_name(value_name)
+                .num_args(0..)
+                .help(help),
+        }
+    }
+}

@@ -4,6 +4,7 @@
 
 use boc_dispatch::{Dispatcher, OpenFault, Refusal, Turn, Worker};
 use boc_plans::sharing::Sharing;
+use boc_program::limits::MOST_COWNS;
 use boc_program::program::Program;
 use boc_reader::read_program;
 use boc_record::put_events;
@@ -72,7 +73,7 @@ fn driven(alloc: Global, program: &Program) -> Option<Dispatcher<'_>> {
 
 // Rules over so many cowns, made once more where memory was refused.
 fn rules(alloc: Global, cowns: u32) -> Option<Rules> {
-    if cowns > 256 {
+    if cowns as usize > MOST_COWNS {
         return None;
     }
     match Rules::new(alloc, cowns) {

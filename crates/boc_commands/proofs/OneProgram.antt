@@ -32,29 +32,24 @@ same_body a b e = λ i. record {
   resolved = over (λ k. IsTrue (fits (record { slots = (e k).slots; cowns = (e k).cown_params }) (e k).code)) true_prop a.resolved b.resolved i;
 }
 
-same_bodies : (xs ys : List Body) → map plain_body xs ≡ map plain_body ys → xs ≡ ys
-same_bodies [] [] e = refl
-same_bodies [] (y ∷ ys) e = absurd cc
-same_bodies (x ∷ xs) [] e = absurd cc
-same_bodies (x ∷ xs) (y ∷ ys) e =
-    let first : plain_body x ≡ plain_body y = cc in
-    let rest : map plain_body xs ≡ map plain_body ys = cc in
-    λ i. same_body x y first i ∷ same_bodies xs ys rest i
+-- the facts of a declared cown are all plain
+same_cown : (a b : Cown) → plain_declared a ≡ plain_declared b → a ≡ b
+same_cown a b e = λ i. record { name = (e i).name; size = (e i).size; initial = (e i).initial }
 
-same_cowns : (xs ys : List Cown) → map plain_declared xs ≡ map plain_declared ys → xs ≡ ys
-same_cowns [] [] e = refl
-same_cowns [] (y ∷ ys) e = absurd cc
-same_cowns (x ∷ xs) [] e = absurd cc
-same_cowns (x ∷ xs) (y ∷ ys) e =
-    let first : plain_declared x ≡ plain_declared y = cc in
-    let rest : map plain_declared xs ≡ map plain_declared ys = cc in
-    let cown : x ≡ y = λ i. record { name = (first i).name; size = (first i).size; initial = (first i).initial } in
-    λ i. cown i ∷ same_cowns xs ys rest i
+-- lists are the same where they plainly are, if that is so of their items
+same_items : {A B : Type 0} (plain : A → B) → ((a b : A) → plain a ≡ plain b → a ≡ b) → (xs ys : List A) → map plain xs ≡ map plain ys → xs ≡ ys
+same_items plain same [] [] e = refl
+same_items plain same [] (y ∷ ys) e = absurd cc
+same_items plain same (x ∷ xs) [] e = absurd cc
+same_items plain same (x ∷ xs) (y ∷ ys) e =
+    let first : plain x ≡ plain y = cc in
+    let rest : map plain xs ≡ map plain ys = cc in
+    λ i. same x y first i ∷ same_items plain same xs ys rest i
 
 pub same_program : (p q : Program) → plain_program p ≡ plain_program q → p ≡ q
 same_program p q e =
-    let cowns : p.cowns ≡ q.cowns = same_cowns p.cowns q.cowns (λ i. (e i).cowns) in
-    let bodies : p.bodies ≡ q.bodies = same_bodies p.bodies q.bodies (λ i. (e i).bodies) in
+    let cowns : p.cowns ≡ q.cowns = same_items plain_declared same_cown p.cowns q.cowns (λ i. (e i).cowns) in
+    let bodies : p.bodies ≡ q.bodies = same_items plain_body same_body p.bodies q.bodies (λ i. (e i).bodies) in
     λ i. record {
       cowns = cowns i;
       bodies = bodies i;

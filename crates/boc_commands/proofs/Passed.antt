@@ -1,18 +1,40 @@
 -- A fault that a part of a command passes on.
-use Rattle.std.proofs.Common.{◌≡◌, ◌+◌, ℕ, List, Option, Result, Ok, Err, MatchResult, sym, subst}
+use Rattle.std.proofs.Common.{◌≡◌, ◌+◌, ℕ, List, Option, Result, Ok, Err, MatchResult, refl, sym, subst}
 use Rattle.std.specs.Result.{IsErrAnd}
 use Rattle.boc_text.specs.Streams.{ReadsWhole}
 use Rattle.boc_program.specs.declared.limits.TheConstants.{MOST_TEXT}
 use Rattle.boc_commands.specs.declared.fault.Fault.{Fault}
 use Rattle.boc_commands.specs.declared.fault.Fault.TheVariants as faults
+use Rattle.boc_commands.specs.Faults.{of_read}
+use Rattle.boc_reader.specs.FaultMeanings.{IsRefusalOf}
+use Rattle.boc_reader.specs.declared.fault.ReadFault.{ReadFault}
+use Rattle.boc_reader.specs.declared.fault.ReadFaultKind.{ReadFaultKind}
+use Rattle.boc_reader.specs.declared.fault.ReadFaultKind.TheVariants as kinds
 use Rattle.boc_plans.specs.declared.edit.Edit.{Edit}
-use Rattle.boc_commands.specs.Commands.{IsOfRun, RefusesNothing, RefusesRecord, RefusesEdits, RefusesRun}
+use Rattle.boc_commands.specs.Commands.{IsOfRun, IsWrongWith, RefusesNothing, RefusesRecord, RefusesEdits, RefusesRun}
 
 -- where a result is a fault, what holds of that fault holds of it
 pub passed_on : {A : Type 0} (Is : A → Type 0) (IsWrong : Fault → Type 0) (result : Result A Fault) (fault : Fault)
     → IsErrAnd result (λ f. f ≡ fault) → IsWrong fault → MatchResult result Is IsWrong
 passed_on Is IsWrong (Ok done) fault h wrong = absurd h
 passed_on Is IsWrong (Err f) fault h wrong = subst IsWrong (sym h) wrong
+
+-- why a program text is refused is why the command refuses it; want of memory refuses no text
+pub refused_text : (IsWrong : Fault → Type 0) (text : List ℕ) (r : ReadFault) → IsWrong faults.Memory → (IsWrongWith text r → IsWrong (faults.Program r))
+    → IsRefusalOf r text → IsWrong (of_read r r.kind)
+refused_text IsWrong text r memory program is = go r.kind refl
+  where
+    go : (kind : ReadFaultKind) → r.kind ≡ kind → IsWrong (of_read r kind)
+    go kinds.Memory same = memory
+    go kinds.NotAscii same = program (is, λ other. cc)
+    go kinds.BadToken same = program (is, λ other. cc)
+    go kinds.Unexpected same = program (is, λ other. cc)
+    go kinds.NumberTooLarge same = program (is, λ other. cc)
+    go kinds.UnknownName same = program (is, λ other. cc)
+    go kinds.NameTaken same = program (is, λ other. cc)
+    go kinds.WrongCount same = program (is, λ other. cc)
+    go kinds.TooMany same = program (is, λ other. cc)
+    go kinds.TooLong same = program (is, λ other. cc)
 
 -- a run by threads is refused for the text that was taken
 pub refused_run : (always_on : Type 0) (result : Result (Unit {0}) Fault) (fault : Fault) (text : List ℕ) (before after : Option (List ℕ))

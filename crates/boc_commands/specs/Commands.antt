@@ -1,5 +1,5 @@
 -- What a command does to its source and its sink.
-use Rattle.std.specs.Prelude.{◌≡◌, ℕ, ◌+◌, Bool, true, false, List, Option, Some, None, IfSome, Result, Ok, Err, string_bytes}
+use Rattle.std.specs.Prelude.{◌≡◌, ◌≢◌, ℕ, ◌+◌, Bool, true, false, List, Option, Some, None, IfSome, Result, Ok, Err, string_bytes}
 use Rattle.std.specs.Io.KnownBytes.{Consumes, IsAtEnd, Appends, Keeps}
 use Rattle.boc_commands.specs.declared.fault.Fault.{Fault}
 use Rattle.boc_commands.specs.declared.fault.Fault.TheVariants as faults
@@ -7,8 +7,8 @@ use Rattle.boc_words.specs.declared.version.TheConstants.{VERSION}
 use Rattle.boc_words.specs.declared.words.Command.{Command}
 use Rattle.boc_words.specs.declared.words.Command.TheVariants as commands
 use Rattle.boc_commands.specs.Faults.{matter_of, IsWant, is_source, gone_of}
-use Rattle.boc_reader.specs.FaultMeanings.{SaysOf}
-use Rattle.boc_reader.specs.declared.fault.ReadFaultKind.{ReadFaultKind}
+use Rattle.boc_reader.specs.FaultMeanings.{IsRefusalOf}
+use Rattle.boc_reader.specs.declared.fault.ReadFault.{ReadFault}
 use Rattle.boc_reader.specs.declared.fault.ReadFaultKind.TheVariants as read_kinds
 use Rattle.boc_record.specs.declared.fault.RecordFault.{RecordFault}
 use Rattle.boc_program.specs.declared.limits.TheConstants.{MOST_TEXT}
@@ -76,10 +76,9 @@ abbrev pub RefusesNothing : {A : Type 0} → Result A Fault → Type 0
 RefusesNothing (Ok done) = Unit {0}
 RefusesNothing (Err fault) = IsWant (matter_of fault)
 
--- the kind of a refusal says what is wrong with a program text; want of memory is no refusal
-abbrev pub IsWrongWith : List ℕ → ReadFaultKind → Type 0
-IsWrongWith text read_kinds.Memory = ⊥
-IsWrongWith text kind = SaysOf kind text
+-- a refusal says what is wrong with a program text, and in which line; want of memory is no refusal
+abbrev pub IsWrongWith : List ℕ → ReadFault → Type 0
+IsWrongWith text fault = IsRefusalOf fault text × (fault.kind ≢ read_kinds.Memory)
 
 -- the text spells a program whose own order has too many behaviours
 pub record RunsOver (text : List ℕ) : Type 0 where
@@ -87,9 +86,9 @@ pub record RunsOver (text : List ℕ) : Type 0 where
   pub spells : Spells text program
   pub many : HasTooMany program
 
--- a fault of a program text: what is wrong with it, or that its program has too many behaviours; no device failed
+-- a fault of a program text: what is wrong with it and where, or that its program has too many behaviours; no device failed
 abbrev pub IsOfText : List ℕ → Fault → Type 0
-IsOfText text (faults.Program r) = IsWrongWith text r.kind
+IsOfText text (faults.Program r) = IsWrongWith text r
 IsOfText text faults.Behaviours = RunsOver text
 IsOfText text faults.Memory = Unit {0}
 IsOfText text _ = ⊥
@@ -103,7 +102,7 @@ pub record TakesText (Known : List ℕ → Type 0) (before after : Option (List 
 -- a program is refused for what was taken of the source: a wrong text, or one whose program has too many behaviours
 abbrev pub RefusesProgram : {A : Type 0} → Result A Fault → Option (List ℕ) → Option (List ℕ) → Type 0
 RefusesProgram (Ok done) before after = Unit {0}
-RefusesProgram (Err (faults.Program r)) before after = TakesText (λ text. IsWrongWith text r.kind) before after
+RefusesProgram (Err (faults.Program r)) before after = TakesText (λ text. IsWrongWith text r) before after
 RefusesProgram (Err faults.Behaviours) before after = TakesText RunsOver before after
 RefusesProgram (Err fault) before after = IsWant (matter_of fault)
 
@@ -117,10 +116,10 @@ pub record CanRunOver (text : List ℕ) : Type 0 where
   pub spells : Spells text program
   pub full : CanReachLimit program
 
--- a fault of a run by threads: what is wrong with the program text, or what became of the run of its program; a gate that is always on
+-- a fault of a run by threads: what is wrong with the program text and where, or what became of the run of its program; a gate that is always on
 -- holds nobody
 abbrev pub IsOfRun : Type 0 → List ℕ → Fault → Type 0
-IsOfRun always_on text (faults.Program r) = IsWrongWith text r.kind
+IsOfRun always_on text (faults.Program r) = IsWrongWith text r
 IsOfRun always_on text faults.Behaviours = CanRunOver text
 IsOfRun always_on text faults.Held = IsProgram text × (always_on → ⊥)
 IsOfRun always_on text faults.NoThread = IsProgram text

@@ -18,9 +18,9 @@ use std::thread::Threads;
 
 /// Reads a program, runs it by so many threads, and writes the record of the run.
 ///
-/// A program text is refused only where it spells no program, and a run for having too many behaviours only where the
-/// program can come to as many as there may be. A gate that is always on holds nobody. Nothing is written unless the
-/// whole answer stands. After a failing write a beginning of it went out.
+/// A program text is refused only where it spells no program, for what is wrong with it and where, and a run for having too
+/// many behaviours only where the program can come to as many as there may be. A gate that is always on holds nobody. Nothing
+/// is written unless the whole answer stands. After a failing write a beginning of it went out.
 pub fn run_cmd<R: Threads + Wait + Sync, G: Gate, S: Source, W: Sink>(
     rt: &R,
     alloc: Global,

@@ -18,9 +18,9 @@ pub(crate) const MOST_TAKEN: usize = MOST_TEXT + 1;
 /// Reads a program, runs its behaviours one at a time, main first and the others in the order in which
 /// they are spawned, and writes the cowns' values at the end, a line each.
 ///
-/// A program text is refused only where it spells no program, and a run only where the program has too many behaviours.
-/// Nothing is written unless the whole output
-/// stands. After a failing write a beginning of it went out.
+/// A program text is refused only where it spells no program, for what is wrong with it and where, and a run only where the
+/// program has too many behaviours. Nothing is written unless the whole output stands. After a failing write a beginning of it
+/// went out.
 pub fn values_cmd<S: Source, W: Sink>(
     alloc: Global,
     source: &mut S,

@@ -82,6 +82,36 @@ module _ (rows : List Row) (hr : IsRows rows) (p : ℕ) where
                 ])
           ]
 
+  -- where two plans start the same of the first rows at a tick, they do so of one row more
+  row_too : (plan workers other others : List ℕ) (t n : ℕ) → AreSameBefore rows plan workers other others t → AreSameBefore rows other others plan workers t
+      → IsGreedyAt rows p plan workers t → IsGreedyAt rows p other others t → AreSameAt rows plan workers other others t n
+      → AreSameAt rows other others plan workers t n → AreSameAt rows plan workers other others t (suc n)
+  row_too plan workers other others t n same back one two so_far so_back = λ r h there at. elim (cases_eq r n) [
+    | inr ne ↦ so_far r (omega (arith, h, ne)) there at
+    | inl e ↦ (
+        let ahead : AreSameAt rows other others plan workers t r = λ a k. so_back a (omega (arith, k, e)) in
+        let behind : AreSameAt rows plan workers other others t r = λ a k. so_far a (omega (arith, k, e)) in
+        let too : start_of other r ≡ t = starts_too plan workers other others t same back one two r there ahead at in (
+          too,
+          omega (
+            arith,
+            no_greater_worker plan workers other others t same back one two r there ahead at too,
+            no_greater_worker other others plan workers t back same two one r there behind too at,
+          ),
+        ))
+  ]
+
+  -- where two plans are the same before a tick and start the same rows at it, they are the same before the next
+  tick_too : (plan workers other others : List ℕ) (t : ℕ) → AreSameBefore rows plan workers other others t
+      → AreSameAt rows plan workers other others t (length rows) → AreSameBefore rows plan workers other others (suc t)
+  tick_too plan workers other others t same now = λ r there h. elim (cases_lt (start_of plan r) t) [
+    | inl early ↦ same r there early
+    | inr late ↦ (
+        let at : start_of plan r ≡ t = omega (arith, h, late) in
+        let is = now r there there at in
+        (is.0 ∙ sym at, is.1))
+  ]
+
   module _ (plan workers other others : List ℕ) (one : IsGreedy rows p plan workers) (two : IsGreedy rows p other others) where
     -- row after row, the two start the same ones at a tick
     same_at : (t : ℕ) → AreSameBefore rows plan workers other others t → AreSameBefore rows other others plan workers t → (n : ℕ) →
@@ -89,34 +119,8 @@ module _ (rows : List Row) (hr : IsRows rows) (p : ℕ) where
     same_at t same back zero = (λ r h. absurd (omega (arith, h)), λ r h. absurd (omega (arith, h)))
     same_at t same back (suc n) =
         let ih = same_at t same back n in (
-          λ r h there at. elim (cases_eq r n) [
-            | inr ne ↦ ih.0 r (omega (arith, h, ne)) there at
-            | inl e ↦ (
-                let ahead : AreSameAt rows other others plan workers t r = λ a k. ih.1 a (omega (arith, k, e)) in
-                let behind : AreSameAt rows plan workers other others t r = λ a k. ih.0 a (omega (arith, k, e)) in
-                let too : start_of other r ≡ t = starts_too plan workers other others t same back (one.at t) (two.at t) r there ahead at in (
-                  too,
-                  omega (
-                    arith,
-                    no_greater_worker plan workers other others t same back (one.at t) (two.at t) r there ahead at too,
-                    no_greater_worker other others plan workers t back same (two.at t) (one.at t) r there behind too at,
-                  ),
-                ))
-          ],
-          λ r h there at. elim (cases_eq r n) [
-            | inr ne ↦ ih.1 r (omega (arith, h, ne)) there at
-            | inl e ↦ (
-                let ahead : AreSameAt rows other others plan workers t r = λ a k. ih.1 a (omega (arith, k, e)) in
-                let behind : AreSameAt rows plan workers other others t r = λ a k. ih.0 a (omega (arith, k, e)) in
-                let too : start_of plan r ≡ t = starts_too other others plan workers t back same (two.at t) (one.at t) r there behind at in (
-                  too,
-                  omega (
-                    arith,
-                    no_greater_worker other others plan workers t back same (two.at t) (one.at t) r there behind at too,
-                    no_greater_worker plan workers other others t same back (one.at t) (two.at t) r there ahead too at,
-                  ),
-                ))
-          ],
+          row_too plan workers other others t n same back (one.at t) (two.at t) ih.0 ih.1,
+          row_too other others plan workers t n back same (two.at t) (one.at t) ih.1 ih.0,
         )
 
     -- tick after tick, the two start the same rows
@@ -124,22 +128,8 @@ module _ (rows : List Row) (hr : IsRows rows) (p : ℕ) where
     same_before zero = (λ r there h. absurd (omega (arith, h)), λ r there h. absurd (omega (arith, h)))
     same_before (suc t) =
         let ih = same_before t in
-        let now = same_at t ih.0 ih.1 (length rows) in (
-          λ r there h. elim (cases_lt (start_of plan r) t) [
-            | inl early ↦ ih.0 r there early
-            | inr late ↦ (
-                let at : start_of plan r ≡ t = omega (arith, h, late) in
-                let is = now.0 r there there at in
-                (is.0 ∙ sym at, is.1))
-          ],
-          λ r there h. elim (cases_lt (start_of other r) t) [
-            | inl early ↦ ih.1 r there early
-            | inr late ↦ (
-                let at : start_of other r ≡ t = omega (arith, h, late) in
-                let is = now.1 r there there at in
-                (is.0 ∙ sym at, is.1))
-          ],
-        )
+        let now = same_at t ih.0 ih.1 (length rows) in
+        (tick_too plan workers other others t ih.0 now.0, tick_too other others plan workers t ih.1 now.1)
 
     same_row : (r : ℕ) → r < length rows → (start_of other r ≡ start_of plan r) × (worker_of others r ≡ worker_of workers r)
     same_row r there = (same_before (suc (start_of plan r))).0 r there (omega arith)

@@ -20,6 +20,21 @@ use rayon::prelude::*;
 use std::alloc::{AllocError, Global};
 use std::thread::Threads;
 
+// What the span of each row is read from.
+#[derive(Clone, Copy)]
+struct Parts<'a> {
+    // The earliest plan.
+    plan: &'a Earliest,
+    // The heaviest ways to the end of all.
+    tails: &'a Tails,
+    // The offset of each row's last child.
+    lasts: &'a [u32],
+    // The heaviest way over each row's cut by a spawn or a wait.
+    tops: &'a [u64],
+    // The latest end before each row.
+    latest: &'a [u64],
+}
+
 // The fewest rows that are worth a thread. A row's span is found so fast that even as many rows as there can be stay with one.
 const LEAST_PIECE: usize = MOST_ROWS + 1;
 
@@ -110,19 +125,18 @@ fn latest_ends(alloc: Global, rows: &SeenRows, plan: &Earliest) -> Result<Vec<u6
 }
 
 // The span with one row at its least ticks.
-fn span_of(
-    rows: &SeenRows,
-    plan: &Earliest,
-    tails: &Tails,
-    lasts: &[u32],
-    tops: &[u64],
-    latest: &[u64],
-    row: usize,
-) -> u64
+fn span_of(rows: &SeenRows, parts: Parts<'_>, row: usize) -> u64
     requires there { row < length rows.now }
-    requires parts { AreParts rows.now plan.now tails.now lasts.now tops.now latest.now }
+    requires parts { AreParts rows.now parts }
     ensures { IsLeastSpan rows.now row result }
 {
+    let Parts {
+        plan,
+        tails,
+        lasts,
+        tops,
+        latest,
+    } = parts;
     let own = plan.starts[row] + u64::from(least_ticks(lasts[row])) + tails.ends[row];
     own.max(tops[row]).max(latest[row])
 }
@@ -132,13 +146,9 @@ fn spans(
     rt: &(impl Threads + Sync),
     alloc: Global,
     rows: &SeenRows,
-    plan: &Earliest,
-    tails: &Tails,
-    lasts: &[u32],
-    tops: &[u64],
-    latest: &[u64],
+    parts: Parts<'_>,
 ) -> Result<Vec<u64>, AllocError>
-    requires { AreParts rows.now plan.now tails.now lasts.now tops.now latest.now }
+    requires { AreParts rows.now parts }
     ensures { IfOk result (λ s. IsSweep rows.now s.items) }
 {
     (0..rows.len())
@@ -146,9 +156,9 @@ fn spans(
         .with_min_len(LEAST_PIECE)
         .map(
             |row: usize| -> u64
-                requires { (row < length rows.now) × AreParts rows.now plan.now tails.now lasts.now tops.now latest.now }
+                requires { (row < length rows.now) × AreParts rows.now parts }
                 ensures { IsLeastSpan rows.entry.now row result }
-            { span_of(rows, plan, tails, lasts, tops, latest, row) },
+            { span_of(rows, parts, row) },
         )
         .collect(rt, alloc)
 }
@@ -176,5 +186,12 @@ pub fn sweep(
     let stretches = all_stretches(alloc, rows, waits, plan, &tails)?;
     let tops = all_tops(alloc, &stretches, rows.len())?;
     let latest = latest_ends(alloc, rows, plan)?;
-    spans(rt, alloc, rows, plan, &tails, lasts, &tops, &latest)
+    let parts = Parts {
+        plan,
+        tails: &tails,
+        lasts,
+        tops: &tops,
+        latest: &latest,
+    };
+    spans(rt, alloc, rows, parts)
 }

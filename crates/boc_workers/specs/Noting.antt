@@ -1,5 +1,5 @@
 -- What a turn counts, and which faults are noted.
-use Rattle.std.specs.Prelude.{◌≡◌, ℕ, ◌+◌, Option, Some, None}
+use Rattle.std.specs.Prelude.{ℕ, Option, Some, None}
 use Rattle.boc_program.specs.declared.program.Program.{Program}
 use Rattle.boc_runs.specs.machine.Schedules.{Reaches}
 use Rattle.boc_runs.specs.machine.Steps.{State, opening_state}

@@ -1,4 +1,8 @@
-// Who waits, and whom a step may let go on. No contract rests on any of this.
+// Who waits, and whom a step may let go on. Clauses say who is called for which counts; that the counts are right, and that who is
+// called comes, no clause says.
+
+ghost use Rattle.std.specs.Prelude.{◌≡◌, ◌<◌, true, false};
+ghost use Rattle.boc_workers.specs.Calling.{MayFollow};
 
 use crate::gate::Gate;
 use crate::shared::Shared;
@@ -8,7 +12,7 @@ use std::sync::ledger::Ledger;
 
 /// Who is called after a turn.
 #[derive(Clone, Copy, PartialEq, Eq, Debug)]
-pub enum Call {
+pub(crate) enum Call {
     Nobody,
     /// All who are blocked.
     Blocked,
@@ -22,7 +26,7 @@ pub enum Call {
 
 /// How many workers wait in each way. The counts change and are read under the lock alone.
 #[derive(Drop)]
-pub struct Waiters {
+pub(crate) struct Waiters {
     /// Until a request before their own is flagged, or one behind it is settled.
     pub blocked: AtomicU64,
     /// Until a row is ready, and look for it.
@@ -33,7 +37,7 @@ pub struct Waiters {
 
 impl Waiters {
     /// Nobody waits.
-    pub fn new() -> Waiters {
+    pub(crate) fn new() -> Waiters {
         Waiters {
             blocked: AtomicU64::new(0),
             looking: AtomicU64::new(0),
@@ -44,38 +48,55 @@ impl Waiters {
     /// Who is to be called after a turn. A flag lets the request behind settle, and a settle lets the one before leave. Rows
     /// become ready by Own and by Pass; where one is left at a Start, a further worker can start it. Whoever finds that the
     /// run is over tells all others.
-    pub fn call_after<L: Ledger, G: Gate>(
+    pub(crate) fn call_after<L: Ledger, G: Gate>(
         &self,
         shared: &Shared<'_, '_, L, G>,
         turn: Option<Turn>,
-    ) -> Call {
+    ) -> Call
+        ensures { MayFollow turn shared.now.dispatcher.state.ready result }
+    {
         match turn {
-            Some(Turn::Moved(Step::Settle(_) | Step::Flag(_))) => self.call_blocked(),
-            Some(Turn::Moved(Step::Own | Step::Pass(_) | Step::Start)) => self.call_for_row(shared),
+            Some(Turn::Moved(Step::Settle(_) | Step::Flag(_))) => {
+                call_for_requests(self.blocked.load(Ordering::SeqCst))
+            }
+            Some(Turn::Moved(Step::Own | Step::Pass(_) | Step::Start)) => call_for_row(
+                shared.has_ready(),
+                self.looking.load(Ordering::SeqCst),
+                self.sleeping.load(Ordering::SeqCst),
+            ),
             Some(Turn::Moved(_)) => Call::Nobody,
             _ => Call::Everybody,
         }
     }
+}
 
-    // Who is to be called where a request was settled or flagged.
-    fn call_blocked(&self) -> Call {
-        if self.blocked.load(Ordering::SeqCst) > 0 {
-            Call::Blocked
-        } else {
-            Call::Nobody
-        }
+// Who is to be called where a request was settled or flagged, and so many are blocked.
+fn call_for_requests(blocked: u64) -> Call
+    ensures some { 0 < blocked → result ≡ Call.Blocked }
+    ensures none { blocked ≡ 0 → result ≡ Call.Nobody }
+{
+    if blocked > 0 {
+        Call::Blocked
+    } else {
+        Call::Nobody
     }
+}
 
-    // Who is to be called for the first of the ready rows. Who looks for a row comes by itself.
-    fn call_for_row<L: Ledger, G: Gate>(&self, shared: &Shared<'_, '_, L, G>) -> Call {
-        if !shared.has_ready() {
-            Call::Nobody
-        } else if self.looking.load(Ordering::SeqCst) > 0 {
-            Call::Lookers
-        } else if self.sleeping.load(Ordering::SeqCst) > 0 {
-            Call::Sleeper
-        } else {
-            Call::Nobody
-        }
+// Who is to be called for the first of the ready rows, where so many look for one and so many sleep. Who looks for a row comes by
+// itself.
+fn call_for_row(has_ready: bool, looking: u64, sleeping: u64) -> Call
+    ensures not_ready { has_ready ≡ false → result ≡ Call.Nobody }
+    ensures lookers { has_ready ≡ true → 0 < looking → result ≡ Call.Lookers }
+    ensures sleeper { has_ready ≡ true → looking ≡ 0 → 0 < sleeping → result ≡ Call.Sleeper }
+    ensures none { has_ready ≡ true → looking ≡ 0 → sleeping ≡ 0 → result ≡ Call.Nobody }
+{
+    if !has_ready {
+        Call::Nobody
+    } else if looking > 0 {
+        Call::Lookers
+    } else if sleeping > 0 {
+        Call::Sleeper
+    } else {
+        Call::Nobody
     }
 }

@@ -6,8 +6,13 @@ use Rattle.boc_workers.specs.declared.fault.RunFault.TheVariants as runs
 use Rattle.boc_workers.specs.Noting.{CanReachLimit}
 use Rattle.boc_commands.specs.Faults.{of_run}
 use Rattle.boc_commands.specs.Commands.{IsOfRun}
-use Rattle.boc_commands.proofs.Passed.{passed_on}
+use Rattle.boc_commands.proofs.Passed.{passed_on, refused_text}
 use Rattle.boc_commands.proofs.run.run_text.Goals as goal
+
+pub returns-in_err-program : goal.returns-in_err-program
+returns-in_err-program g c =
+    passed_on _ (IsOfRun g.G.Gate.always_on c.args.text.now) _ _ c.from_residual.ensures.1
+    (refused_text (IsOfRun g.G.Gate.always_on c.args.text.now) c.args.text.now c.in_err-program.field-0.0 tt (λ wrong. wrong) c.in_err-program.ensures)
 
 -- what became of a run of the program that a text spells
 refused : (always_on : Type 0) (text : List ℕ) (program : Program) (fault : RunFault) → Spells text program → (always_on → fault ≢ runs.Held)

@@ -7,7 +7,7 @@ use Rattle.boc_eval.specs.declared.serial.SerialFault.TheVariants as serial
 use Rattle.boc_commands.specs.Faults.{of_serial}
 use Rattle.boc_commands.specs.Commands.{IsOfText}
 use Rattle.boc_commands.specs.Answers.{IsValuesAnswer}
-use Rattle.boc_commands.proofs.Passed.{passed_on}
+use Rattle.boc_commands.proofs.Passed.{passed_on, refused_text}
 use Rattle.boc_commands.proofs.values.values_answer.Goals as goal
 
 pub returns : goal.returns
@@ -20,6 +20,11 @@ returns c =
       ends = c.in_ok-values.ensures.values;
       text = search rules;
     } in (answer, spelled.short)
+
+pub returns-in_err-program : goal.returns-in_err-program
+returns-in_err-program c =
+    passed_on _ (IsOfText c.args.text.now) _ _ c.from_residual.ensures.1
+    (refused_text (IsOfText c.args.text.now) c.args.text.now c.in_err-program.field-0.0 tt (λ wrong. wrong) c.in_err-program.ensures)
 
 -- a run that needs too many behaviours is refused as that, and want of memory refuses nothing
 refused : {A : Type 0} (text : List ℕ) (program : Program) (run : Result A SerialFault) (fault : SerialFault) → Spells text program → run ≡ Err fault

@@ -1,6 +1,6 @@
 -- Settling a request that has one before it.
 use Rattle.std.proofs.Common.{◌≡◌, ◌≢◌, ℕ, Bool, true, false, cond, List, sym, ◌∙◌, ap}
-use Rattle.std.specs.Prelude.{Option, Some}
+use Rattle.std.specs.Prelude.{Some}
 use Rattle.std.specs.Option.{option_map}
 use Rattle.slab.specs.Slab.{Slab}
 use Rattle.boc_chain.specs.declared.request.Request.{Request}
@@ -9,7 +9,6 @@ use Rattle.boc_chain.specs.declared.linked.Node.{Node}
 use Rattle.boc_chain.specs.declared.linked.Link.{Link}
 use Rattle.boc_chain.specs.KeptLinks.{Linked}
 use Rattle.boc_chain.specs.Chain.{before, answer_behind, cowns_of, settle_answer, after_settle}
-use Rattle.boc_chain.specs.Links.{Tie}
 use Rattle.boc_chain.specs.Linked.{stored, seen, links, place_at, IsAt, IsSpelled, IsPlaced, Holds}
 use Rattle.boc_chain.proofs.Steps.{behind_answer, linked_spelled, blocked_spelled, far_before}
 use Rattle.boc_chain.proofs.Placed.{Neighbour, at_kept, before_it, linked_placed}

@@ -6,6 +6,7 @@ pub mod Lines
 pub mod Links
 pub mod Places
 pub mod Spelled
+pub mod Covered
 pub mod Placed
 pub mod Settles
 pub mod Fuel

@@ -100,8 +100,8 @@ impl LinkChains {
 }
 
 impl Chains for LinkChains {
-    ghost use Rattle.std.specs.Prelude.{◌≢◌, ◌<◌, OnOk, OnErr, IsSome};
-    ghost use Rattle.boc_chain.specs.Chain.{IsGranted, StandsIn, times, slots as slots_in, cowns_of, exchanged_of, one_more, list, list_for};
+    ghost use Rattle.std.specs.Prelude.{◌≢◌, ◌<◌, ◌^◌, List, OnOk, OnErr, IsSome};
+    ghost use Rattle.boc_chain.specs.Chain.{HoldsAmong, IsGranted, StandsIn, times, slots as slots_in, cowns_of, exchanged_of, one_more, list, list_for};
     ghost use Rattle.boc_chain.specs.Chain.{with_change, with_fresh, last_slot, settle_answer, after_settle, with_flagged, leave_answer, after_leave};
     ghost use Rattle.boc_chain.specs.LinkViews.{HoldsOneMore, HoldsAsMany, HoldsOneLess};
     ghost use Rattle.boc_chain.specs.LinkViews.{lists as link_lists, place as link_place};
@@ -116,6 +116,7 @@ impl Chains for LinkChains {
         ensures fresh { IfOk result (λ slot. link_place self.old slot.index ≡ None) }
         ensures here { IfOk result (λ slot. link_place self.new slot.index ≡ Some (record { cowns = cowns.items; exchanged = 0 })) }
         ensures other_places { IfOk result (λ slot. (s : ℕ) → s ≢ slot.index → link_place self.new s ≡ link_place self.old s) }
+        ensures short { IfOk result (λ slot. (held : List ℕ) → HoldsAmong (link_place self.old) held → length held < 2 ^ 32 → slot.index < 2 ^ 32) }
         ensures err { OnErr result ((s : ℕ) → link_place self.new s ≡ link_place self.old s) }
         ensures lists { link_lists self.new ≡ link_lists self.old }
         ensures one_more { OnOk result (HoldsOneMore self.old self.new) }

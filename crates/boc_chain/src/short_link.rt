@@ -1,6 +1,6 @@
 // Links as they are kept.
 
-ghost use Rattle.std.specs.Prelude.{◌≡◌};
+ghost use Rattle.std.specs.Prelude.{◌≡◌, None, false};
 ghost use Rattle.boc_chain.specs.ShortLinks.{changed, has_before, has_next, has_settled, is_scheduled, node_if};
 
 use crate::linked::{Change, Link, Node};
@@ -199,7 +199,9 @@ impl ShortLink {
     }
 
     /// What stands where there is no link yet.
-    pub fn blank() -> ShortLink {
+    pub fn blank() -> ShortLink
+        ensures { result ≡ record { settled = false; scheduled = false; before = None; next = None } }
+    {
         ShortLink::of(Link {
             settled: false,
             scheduled: false,

@@ -18,7 +18,7 @@ use Rattle.boc_runs.specs.Run.{state_of, next_wish}
 use Rattle.boc_runs.specs.machine.Stages.{OpenBehaviour, parent_of, cowns_of, row_of, settled_at, flagged_at, row_at, asks_at, enqueues_at, waits_at, life}
 use Rattle.boc_runs.specs.machine.Stages.{life_at, settled, enqueues, asks}
 use Rattle.boc_runs.specs.machine.Queues.{times, is_granted, is_first}
-use Rattle.boc_runs.specs.machine.Steps.{State, at, queue, members, opened, unrecorded, stepped, with_stage, asking_on, HasNoEnqueue, MayOpen, Opens}
+use Rattle.boc_runs.specs.machine.Steps.{State, at, queue, members, opened, unrecorded, stepped, with_stage, asking_on, MayOpen, Opens}
 use Rattle.boc_runs.specs.machine.Steps as steps
 use Rattle.boc_runs.specs.machine.Sound.{IsSound}
 use Rattle.boc_machine_laws.proofs.Lists.{same_or_not, read_pushed, read_front}
@@ -27,7 +27,6 @@ use Rattle.boc_machine_laws.proofs.Keeps.{keeps_opens}
 use Rattle.boc_machine_laws.proofs.Rows.{life_there}
 use Rattle.boc_chain.specs.declared.request.Request.{Request}
 use Rattle.boc_chain.specs.Chain.{Place}
-use Rattle.boc_chain.specs.Chain.{times as times_in}
 use Rattle.boc_dispatch.specs.declared.live.Live.{Live}
 use Rattle.boc_dispatch.specs.Inside.{live_at, open_of, place_of, exchanged_at, number_at, behaviours_of, row_or_0, is_taken, Parts, IsKept, HasRooms, state}
 use Rattle.boc_dispatch.specs.Inside.{IsAtStage, IsNew, AreNumbered, AreInHand, IsChildOf, IsParentOf, AreOfRun, IsMember, IsWished, IsRequestOf, AreCounted}
@@ -44,7 +43,7 @@ use Rattle.boc_dispatch.proofs.Tables.{SamePlaces, live_there, live_here, live_o
 use Rattle.boc_dispatch.proofs.Tables.{numbered_changed, numbered_added, behaviours_changed, behaviours_added, taken_changed, taken_added, taken_placed}
 use Rattle.boc_dispatch.proofs.Tables.{at_slot, queues_same, queues_length, rows_alike}
 
-same_times : (x : ℕ) (xs : List ℕ) → times_in x xs ≡ times x xs
+same_times : (x : ℕ) (xs : List ℕ) → times x xs ≡ times x xs
 same_times x [] = refl
 same_times x (y ∷ xs) = ap (λ n. cond (eqb y x) 1 0 + n) (same_times x xs)
 
@@ -142,10 +141,10 @@ module _ (d : Parts) (k : IsKept d) (row slot : ℕ) (p : Live) (it : IsAtStage 
       (steps.with_spawn d.program base (opened s) b) (λ h. refl) (λ h. refl)
 
   -- what the chains ask for
-  pub admit_distinct : (c : ℕ) → times_in c cs ≤ 1
+  pub admit_distinct : (c : ℕ) → times c cs ≤ 1
   admit_distinct c = omega (arith, same_times c cs, subst (λ (z : List ℕ). times c z ≤ 1) cowns_T (sound_T.lawful.once (opened s) c))
 
-  pub admit_in : (c : ℕ) → 0 < times_in c cs → c < length d.lists
+  pub admit_in : (c : ℕ) → 0 < times c cs → c < length d.lists
   admit_in c h =
       let r = sound_T.in_range (opened s) c (subst (λ (z : List ℕ). 0 < times c z) (sym cowns_T) (omega (arith, same_times c cs, h))) in
       omega (arith, r, ap (λ z. length z) queues_T, queues_length d.live d.lists)

@@ -1,6 +1,6 @@
 -- Finish: a running behaviour ends as its body did.
-use Rattle.std.proofs.Common.{◌≡◌, ℕ, zero, suc, ◌+◌, ◌<◌, ◌≤◌, inl, inr, Bool, true, false, List, [], ◌∷◌, ◌++◌, length, set, get_or, refl, sym, ◌∙◌, ap}
-use Rattle.std.proofs.Common.{subst, arith, ℤ}
+use Rattle.std.proofs.Common.{◌≡◌, ℕ, zero, suc, ◌+◌, ◌<◌, ◌≤◌, inl, inr, Bool, true, false, List, [], ◌∷◌, ◌++◌, length, set, refl, sym, ◌∙◌, ap, subst, arith}
+use Rattle.std.proofs.Common.{ℤ}
 use Rattle.std.specs.Prelude.{slice_get, nat_lt, Option, Some, None}
 use Rattle.std.specs.Option.{option_map}
 use Rattle.std.specs.Vec.{vec_len, with_items}
@@ -38,8 +38,8 @@ use Rattle.boc_dispatch.specs.Calls.{IsHandedOut, HasSpawnedAll}
 use Rattle.boc_dispatch.specs.Grants.{IsRemoved, Tied, Released}
 use Rattle.boc_dispatch.specs.Inside.{Parts, state, underway, live_at, open_of, AreOfRun, IsKept, IsAtStage, IsOfRow}
 use Rattle.boc_dispatch.specs.Moves.{EndsBehaviour}
-use Rattle.boc_dispatch.specs.Places.{Has, in_phase}
-use Rattle.boc_dispatch.proofs.Tables.{at_slot, read_place}
+use Rattle.boc_dispatch.specs.Places.{in_phase}
+use Rattle.boc_dispatch.proofs.Tables.{at_slot, live_same}
 use Rattle.boc_dispatch.proofs.Fits.{allowed_last}
 use Rattle.boc_dispatch.proofs.Homes.{row_at_slot, childless, fits_row, params_below}
 use Rattle.boc_dispatch.proofs.Outputs.{output_for_each}
@@ -259,19 +259,18 @@ module _ (d : Parts) (slot row : ℕ) (l : Live) (o : Ran) (written : ArrayVec �
 -- ---- what the calls read and leave
 
 -- the behaviour's place, the values and the log
-pub record FinishCalls (d : Parts) (slot row : ℕ) (o : Ran) (written : ArrayVec ℕ) (p p' : Option Live) (values : List ℤ) (log : Log) (has_cowns : Bool) : Type
-    0 where
-  pub reads : p ≡ get_or d.live slot p
-  pub ends : p' ≡ option_map (in_phase row (phases.Leaving 0)) p
-  pub writes : Has p (λ l. values ≡ after_outputs d.values l.params.items o.outputs)
+pub record FinishCalls (d : Parts) (slot row : ℕ) (o : Ran) (written : ArrayVec ℕ) (p p' : Live) (values : List ℤ) (log : Log) (has_cowns : Bool) : Type 0 where
+  pub is : live_at d.live slot ≡ Some p
+  pub ends : p' ≡ in_phase row (phases.Leaving 0) p
+  pub writes : values ≡ after_outputs d.values p.params.items o.outputs
   pub notes : log ≡ grown d.log (End row o.ticks o.status written)
-  pub tells : Has p (λ l. has_cowns ≡ nat_lt 0 (length l.cowns.items))
+  pub tells : has_cowns ≡ nat_lt 0 (length p.cowns.items)
 
-module _ (d : Parts) (slot row : ℕ) (l : Live) (o : Ran) (written : ArrayVec ℕ) (f : Ending d slot row l o written) (p p' : Option Live) (values : List ℤ)
-    (log : Log) (has_cowns : Bool)
+module _ (d : Parts) (slot row : ℕ) (l : Live) (o : Ran) (written : ArrayVec ℕ) (f : Ending d slot row l o written)
+    (p p' : Live) (values : List ℤ) (log : Log) (has_cowns : Bool)
     (k : FinishCalls d slot row o written p p' values log has_cowns) where
-  read : p ≡ Some l
-  read = read_place d.live slot l p f.is k.reads
+  read : p ≡ l
+  read = live_same d.live slot l p f.is k.is
 
   abbrev e : Parts
   e = ended d slot row l o written f
@@ -279,16 +278,16 @@ module _ (d : Parts) (slot row : ℕ) (l : Live) (o : Ran) (written : ArrayVec �
   abbrev next : Parts
   next = gone_on d slot row l 0 (ended d slot row l o written f) (released d slot row l o written f)
 
-  pub finished_parts : record d { live = set d.live slot p'; log = log; values = values; steps = d.steps + 1 }
+  pub finished_parts : record d { live = set d.live slot (Some p'); log = log; values = values; steps = d.steps + 1 }
       ≡ gone_on d slot row l 0 (ended d slot row l o written f) (released d slot row l o written f)
   finished_parts =
-      let put : p' ≡ Some (in_phase row (phases.Leaving 0) l) = k.ends ∙ ap (option_map (in_phase row (phases.Leaving 0))) read in
+      let put : p' ≡ in_phase row (phases.Leaving 0) l = k.ends ∙ ap (in_phase row (phases.Leaving 0)) read in
       let wrote : values ≡ after_outputs d.values l.params.items o.outputs =
-      subst (λ (z : Option Live). Has z (λ x. values ≡ after_outputs d.values x.params.items o.outputs)) read k.writes in
-      λ i. record d { live = set d.live slot (put i); log = k.notes i; values = wrote i; steps = d.steps + 1 }
+      k.writes ∙ ap (λ (x : Live). after_outputs d.values x.params.items o.outputs) read in
+      λ i. record d { live = set d.live slot (Some (put i)); log = k.notes i; values = wrote i; steps = d.steps + 1 }
 
   told : has_cowns ≡ nat_lt 0 (length l.cowns.items)
-  told = subst (λ (z : Option Live). Has z (λ x. has_cowns ≡ nat_lt 0 (length x.cowns.items))) read k.tells
+  told = k.tells ∙ ap (λ (x : Live). nat_lt 0 (length x.cowns.items)) read
 
   pub has_more : has_cowns ≡ true → 0 < length l.cowns.items
   has_more h = (Decides-ltb 0 (length l.cowns.items)).0 (sym told ∙ h)
@@ -321,12 +320,9 @@ module _ (d : Parts) (slot row : ℕ) (l : Live) (o : Ran) (written : ArrayVec �
       }
 
 -- as many values are written as there were
-pub written_long : (d : Parts) (slot : ℕ) (l : Live) (o : Ran) (p : Option Live) (values : List ℤ) → live_at d.live slot ≡ Some l → p ≡ get_or d.live slot p
-    → Has p (λ x. values ≡ after_outputs d.values x.params.items o.outputs) → length values ≡ length d.values
-written_long d slot l o p values is reads writes =
-    ap (length {A = ℤ}) (subst (λ (z : Option Live). Has z (λ x. values ≡ after_outputs d.values x.params.items o.outputs))
-    (read_place d.live slot l p is reads) writes)
-    ∙ length-after_outputs d.values l.params.items o.outputs
+pub written_long : (d : Parts) (l : Live) (o : Ran) (values : List ℤ) → values ≡ after_outputs d.values l.params.items o.outputs
+    → length values ≡ length d.values
+written_long d l o values writes = ap (length {A = ℤ}) writes ∙ length-after_outputs d.values l.params.items o.outputs
 
 -- ---- as the code tells it
 
@@ -344,23 +340,21 @@ ending d slot row l o kept it means handed spawned = record {
   written_is = refl;
 }
 
--- what its calls read and leave, where they were handed the values and the outputs as these
-pub finish_calls : (d : Parts) (slot row : ℕ) (l : Live) (o : Ran) (f : Ending d slot row l o (record { items = o.written })) (p p' : Option Live)
+-- what its calls find and leave, where they were handed the values and the outputs as these
+pub finish_calls : (d : Parts) (slot row : ℕ) (l : Live) (o : Ran) (f : Ending d slot row l o (record { items = o.written })) (p p' : Live)
     (held outputs wrote : List ℤ) (values : Vec ℤ Global) (said : Event) (log : Log) (has_cowns : Bool)
-    → p ≡ get_or d.live slot p → p' ≡ option_map (in_phase row (phases.Leaving 0)) p → outputs ≡ o.outputs → held ≡ d.values → length held ≡ vec_len values
-    → Has p (λ x. wrote ≡ after_outputs held x.params.items outputs) → said ≡ End row o.ticks o.status (record { items = o.written }) → log ≡ grown d.log said
-    → Has p (λ x. has_cowns ≡ nat_lt 0 (length x.cowns.items))
+    → live_at d.live slot ≡ Some p → p' ≡ in_phase row (phases.Leaving 0) p → outputs ≡ o.outputs → held ≡ d.values → length held ≡ vec_len values
+    → wrote ≡ after_outputs held p.params.items outputs → said ≡ End row o.ticks o.status (record { items = o.written }) → log ≡ grown d.log said
+    → has_cowns ≡ nat_lt 0 (length p.cowns.items)
     → FinishCalls d slot row o (record { items = o.written }) p p' (with_items values wrote).items log has_cowns
-finish_calls d slot row l o f p p' held outputs wrote values said log has_cowns reads ends outputs_are held_is long writes said_is notes tells =
-    let written : Has p (λ x. wrote ≡ after_outputs d.values x.params.items o.outputs) =
-    subst (λ (os : List ℤ). Has p (λ x. wrote ≡ after_outputs d.values x.params.items os)) outputs_are
-    (subst (λ (vs : List ℤ). Has p (λ x. wrote ≡ after_outputs vs x.params.items outputs)) held_is writes) in
+finish_calls d slot row l o f p p' held outputs wrote values said log has_cowns is ends outputs_are held_is long writes said_is notes tells =
+    let written : wrote ≡ after_outputs d.values p.params.items o.outputs = writes ∙ (λ i. after_outputs (held_is i) p.params.items (outputs_are i)) in
     let same : (with_items values wrote).items ≡ wrote = with_items_is values wrote
-    (written_long d slot l o p wrote f.is reads written ∙ ap (length {A = ℤ}) (sym held_is) ∙ long) in
+    (written_long d p o wrote written ∙ ap (length {A = ℤ}) (sym held_is) ∙ long) in
     record {
-      reads = reads;
+      is = is;
       ends = ends;
-      writes = subst (λ (vs : List ℤ). Has p (λ x. vs ≡ after_outputs d.values x.params.items o.outputs)) (sym same) written;
+      writes = same ∙ written;
       notes = notes ∙ ap (grown d.log) said_is;
       tells = tells;
     }

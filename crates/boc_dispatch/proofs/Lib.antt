@@ -27,6 +27,8 @@ pub mod Quiet
 pub mod Movable
 pub mod Answered
 pub mod Starting
+pub mod Taken
+pub mod Alike
 pub mod Opened
 pub mod Opening
 pub mod ChildOpened

@@ -11,8 +11,7 @@ use Rattle.boc_runs.specs.machine.Sound.{IsSound}
 use Rattle.boc_rules.specs.Log.{Log}
 use Rattle.boc_machine_laws.proofs.Lists.{same_or_not}
 use Rattle.boc_chain.specs.declared.request.Request.{Request}
-use Rattle.boc_chain.specs.Chain.{Place, slots}
-use Rattle.boc_chain.specs.Chain.{times as times_in}
+use Rattle.boc_chain.specs.Chain.{Place, slots, times}
 use Rattle.boc_chain.proofs.Spelled.{times_other}
 use Rattle.boc_dispatch.specs.declared.live.Live.{Live}
 use Rattle.boc_dispatch.specs.Inside.{live_at, place_of, Parts, IsKept, HasRooms, state, underway, IsAtStage, HasInHand, IsNew, AreCounted}
@@ -29,7 +28,7 @@ pub homes_left : (d : Parts) → IsKept d → length d.homes + unrecorded (state
 homes_left d k = let a = k.homes_are in let b = k.sound.counted in let c = behaviours_length d.live d.opened in omega (arith, a, b, c)
 
 -- no request is of a slot at which nobody is
-none_there : (live : List (Option Live)) (q : List Request) (own : ℕ) → AreLive live q → live_at live own ≡ None → times_in own (slots q) ≡ 0
+none_there : (live : List (Option Live)) (q : List Request) (own : ℕ) → AreLive live q → live_at live own ≡ None → times own (slots q) ≡ 0
 none_there live [] own all vacant = refl
 none_there live (r ∷ q) own all vacant =
     let h = all zero r refl in
@@ -37,7 +36,7 @@ none_there live (r ∷ q) own all vacant =
     let rest = none_there live q own (λ j. all (suc j)) vacant in
     omega (arith, times_other own r.slot (slots q) other, rest)
 
-pub vacant_empty : (d : Parts) → IsKept d → (own : ℕ) → live_at d.live own ≡ None → (c : ℕ) → times_in own (slots (slice_index_or d.lists c [])) ≡ 0
+pub vacant_empty : (d : Parts) → IsKept d → (own : ℕ) → live_at d.live own ≡ None → (c : ℕ) → times own (slots (slice_index_or d.lists c [])) ≡ 0
 vacant_empty d k own vacant c = none_there d.live (slice_index_or d.lists c []) own (lists_live d k c) vacant
 
 -- nobody is where nothing was admitted

@@ -1,9 +1,8 @@
 -- Own: an enqueue ends, and the behaviour waits or is ready.
-use Rattle.std.proofs.Common.{◌≡◌, ◌≢◌, ℕ, ◌+◌, ◌≤◌, inl, inr, true, false, cond, List, length, set, get_or, refl, sym, ◌∙◌, ap, subst, arith, get_or-set_other}
+use Rattle.std.proofs.Common.{◌≡◌, ◌≢◌, ℕ, ◌+◌, ◌≤◌, inl, inr, true, false, cond, List, length, set, refl, sym, ◌∙◌, ap, subst, arith, get_or-set_other}
 use Rattle.std.proofs.Common.{length-set}
 use Rattle.std.specs.Prelude.{slice_get, ◌||◌, Option, Some, None}
 use Rattle.std.specs.List.{count_by}
-use Rattle.std.specs.Option.{option_map}
 use Rattle.std.proofs.lemmas.List.{set-set}
 use Rattle.boc_program.specs.declared.program.Program.{Program}
 use Rattle.boc_runs.specs.declared.stage.Phase.TheVariants as phases
@@ -28,7 +27,7 @@ use Rattle.boc_dispatch.specs.Inside.{IsKept, HasRooms, GoesOn}
 use Rattle.boc_dispatch.specs.Places.{in_phase, with_child}
 use Rattle.boc_dispatch.proofs.Counts.{waited_same}
 use Rattle.boc_dispatch.proofs.Onward.{Onward, onward_at, Follows, follows_set, follows_then, stays}
-use Rattle.boc_dispatch.proofs.Tables.{live_there, live_here, live_other, live_new, at_slot, numbered_changed, taken_changed, read_place}
+use Rattle.boc_dispatch.proofs.Tables.{live_there, live_here, live_other, live_new, at_slot, numbered_changed, taken_changed, live_same}
 use Rattle.boc_dispatch.proofs.Standing.{ready_fits}
 use Rattle.boc_dispatch.proofs.Granting.{tied_of, tied_on, ready_put, put_live, state_put, state_same, CountedBut, awaits_same, Grants, grants, with_behaviours}
 use Rattle.boc_dispatch.proofs.Granting.{granted_stays, granted_length, stepped_on, tied_stepped, kept_of, rooms_stay}
@@ -324,31 +323,30 @@ module _ (d : Parts) (parent slot row : ℕ) (holder l : Live) (o : Owning d par
     room = omega (arith, h, ready_fits d o.kept slot l o.is (ap ready_row_at o.stage_is));
   }
 
--- what the calls read and leave in the table's places
-pub record OwnCalls (d : Parts) (parent slot row : ℕ) (p p' q q' : Option Live) : Type 0 where
-  pub reads : p ≡ get_or d.live parent p
-  pub frees : p' ≡ option_map (with_child None) p
-  pub reads_own : q ≡ get_or (set d.live parent p') slot q
-  pub waits : q' ≡ option_map (in_phase row phases.Waiting) q
+-- the behaviours that the calls find, and what they leave at their slots
+pub record OwnCalls (d : Parts) (parent slot row : ℕ) (p p' q q' : Live) : Type 0 where
+  pub holder : live_at d.live parent ≡ Some p
+  pub frees : p' ≡ with_child None p
+  pub own : live_at (set d.live parent (Some p')) slot ≡ Some q
+  pub waits : q' ≡ in_phase row phases.Waiting q
 
-freed_place : (d : Parts) (parent : ℕ) (holder : Live) (p p' : Option Live) → live_at d.live parent ≡ Some holder → p ≡ get_or d.live parent p
-    → p' ≡ option_map (with_child None) p
-    → p' ≡ Some (with_child None holder)
-freed_place d parent holder p p' is reads frees = frees ∙ ap (option_map (with_child None)) (read_place d.live parent holder p is reads)
+freed_is : (d : Parts) (parent : ℕ) (holder p p' : Live) → live_at d.live parent ≡ Some holder → live_at d.live parent ≡ Some p → p' ≡ with_child None p
+    → p' ≡ with_child None holder
+freed_is d parent holder p p' is read frees = frees ∙ ap (with_child None) (live_same d.live parent holder p is read)
 
--- the slot's own place is read as it was
-pub own_place : (d : Parts) (parent slot row : ℕ) (holder l : Live) (p p' q : Option Live) → Owning d parent slot row holder l → p ≡ get_or d.live parent p
-    → p' ≡ option_map (with_child None) p
-    → q ≡ get_or (set d.live parent p') slot q → q ≡ Some l
-own_place d parent slot row holder l p p' q o reads frees own =
-    let f = freed_place d parent holder p p' o.holder_is reads frees in
-    read_place (set d.live parent p') slot l q (ap (λ z. live_at (set d.live parent z) slot) f ∙ still_there d parent slot row holder l o) own
+-- the slot's own behaviour stands there as it did
+pub own_there : (d : Parts) (parent slot row : ℕ) (holder l p p' : Live) → Owning d parent slot row holder l → live_at d.live parent ≡ Some p
+    → p' ≡ with_child None p
+    → live_at (set d.live parent (Some p')) slot ≡ Some l
+own_there d parent slot row holder l p p' o read frees =
+    ap (λ (x : Live). live_at (set d.live parent (Some x)) slot) (freed_is d parent holder p p' o.holder_is read frees)
+    ∙ still_there d parent slot row holder l o
 
-pub own_parts : (d : Parts) (parent slot row : ℕ) (holder l : Live) (p p' q q' : Option Live) → Owning d parent slot row holder l
-    → OwnCalls d parent slot row p p' q q'
-    → record d { live = set (set d.live parent p') slot q' } ≡ after_own d parent slot row holder l
+pub own_parts : (d : Parts) (parent slot row : ℕ) (holder l p p' q q' : Live) → Owning d parent slot row holder l → OwnCalls d parent slot row p p' q q'
+    → record d { live = set (set d.live parent (Some p')) slot (Some q') } ≡ after_own d parent slot row holder l
 own_parts d parent slot row holder l p p' q q' o k =
-    let e = freed_place d parent holder p p' o.holder_is k.reads k.frees in
-    let f : q' ≡ Some (in_phase row phases.Waiting l) =
-    k.waits ∙ ap (option_map (in_phase row phases.Waiting)) (own_place d parent slot row holder l p p' q o k.reads k.frees k.reads_own) in
-    λ i. record d { live = set (set d.live parent (e i)) slot (f i) }
+    let e = freed_is d parent holder p p' o.holder_is k.holder k.frees in
+    let f : q' ≡ in_phase row phases.Waiting l =
+    k.waits ∙ ap (in_phase row phases.Waiting)
+    (live_same (set d.live parent (Some p')) slot l q (own_there d parent slot row holder l p p' o k.holder k.frees) k.own) in
+    λ i. record d { live = set (set d.live parent (Some (e i))) slot (Some (f i)) }

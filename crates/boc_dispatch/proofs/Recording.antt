@@ -21,7 +21,7 @@ use Rattle.boc_runs.specs.Run.{Member, opening, next_wish, wish_at, waiting, IsR
 use Rattle.boc_runs.specs.Serial as serial
 use Rattle.boc_runs.specs.machine.Stages.{OpenBehaviour, settled_at, flagged_at, row_at, asks_at, enqueues_at, asks}
 use Rattle.boc_runs.specs.machine.Queues.{times}
-use Rattle.boc_runs.specs.machine.Steps.{State, at, members, unrecorded, flagging}
+use Rattle.boc_runs.specs.machine.Steps.{at, members, unrecorded}
 use Rattle.boc_runs.specs.machine.Steps.{recorded as recorded_rows}
 use Rattle.boc_runs.specs.machine.Steps as steps
 use Rattle.boc_program.proofs.ChangedItems.{last_item, front_item, length-changed, set_same, set_other, place_below, changed_there}

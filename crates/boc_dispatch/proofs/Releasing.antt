@@ -1,6 +1,6 @@
 -- A request was released, and whoever came behind it may have been granted: the behaviour that leaves goes on, or is gone.
-use Rattle.std.proofs.Common.{◌≡◌, ◌≢◌, ℕ, zero, suc, ◌+◌, ◌^◌, ◌<◌, ◌≤◌, Bool, true, false, cond, List, [], ◌∷◌, length, map, set, get_or, refl, sym, ◌∙◌, ap}
-use Rattle.std.proofs.Common.{subst, arith, get_or-set_other, length-set}
+use Rattle.std.proofs.Common.{◌≡◌, ◌≢◌, ℕ, zero, suc, ◌+◌, ◌^◌, ◌<◌, ◌≤◌, Bool, true, false, cond, List, [], ◌∷◌, length, map, set, refl, sym, ◌∙◌, ap, subst}
+use Rattle.std.proofs.Common.{arith, get_or-set_other, length-set}
 use Rattle.std.specs.Prelude.{slice_get, slice_index_or, nat_lt, ◌||◌, ◌==◌, IsSome, Option, Some, None}
 use Rattle.std.specs.Option.{option_map, option_map_or}
 use Rattle.std.specs.List.{count_by}
@@ -20,15 +20,14 @@ use Rattle.boc_machine_laws.proofs.Lists.{not_true, times-here}
 use Rattle.boc_machine_laws.proofs.Core.{put_here}
 use Rattle.boc_chain.specs.declared.request.Request.{Request}
 use Rattle.boc_chain.specs.Chain.{Place, slots}
-use Rattle.boc_chain.specs.Chain.{times as times_in}
 use Rattle.boc_runs.specs.declared.step.Step.{Step}
 use Rattle.boc_dispatch.specs.declared.calls.Left.TheVariants as lefts
 use Rattle.boc_dispatch.specs.declared.live.Live.{Live}
 use Rattle.boc_dispatch.specs.Grants.{IsRemoved, IsStarted, IsReleased, LeftAs, Tied, SameRows, Released}
 use Rattle.boc_dispatch.specs.Inside.{Parts, state, live_at, open_of, behaviours_of, number_at, place_of, is_taken, AreCounted, IsKept, HasRooms}
-use Rattle.boc_dispatch.specs.Places.{Has, in_phase}
+use Rattle.boc_dispatch.specs.Places.{in_phase}
 use Rattle.boc_dispatch.proofs.Onward.{Steady, onward_at}
-use Rattle.boc_dispatch.proofs.Tables.{live_there, live_here, at_slot, queue_at, behaviours_length, read_place}
+use Rattle.boc_dispatch.proofs.Tables.{live_there, live_here, at_slot, queue_at, behaviours_length, live_same}
 use Rattle.boc_dispatch.proofs.Fits.{steps_fit}
 use Rattle.boc_dispatch.proofs.Standing.{times_slots}
 use Rattle.boc_dispatch.proofs.Granting.{kept_of, tied_steady, tied_stepped, put_live, stepped_on, state_put, with_behaviours, rooms_stay}
@@ -181,7 +180,7 @@ module _ (d : Parts) (slot row : ℕ) (l : Live) (request : ℕ) (e : Parts) (h 
     pub may_admitted : IsSome ((gone_on).place slot)
     may_admitted = subst (λ (o : Option Place). IsSome o) (sym ((on_tied).chained.places slot ∙ ap (option_map place_of) on_here)) refl
 
-    pub may_empty : (c : ℕ) → times_in slot (slots (slice_index_or (gone_on).lists c [])) ≡ 0
+    pub may_empty : (c : ℕ) → times slot (slots (slice_index_or (gone_on).lists c [])) ≡ 0
     may_empty c =
         sym (times_slots (gone_on).live e.opened slot next (on_tied).numbered on_here (slice_index_or e.lists c [])
         (λ k r g. let q = (on_tied).chained.requests c k r g in (q.this, q.is)))
@@ -245,20 +244,19 @@ module _ (e : Parts) (slot row request homes room : ℕ) (r : IsReleased slot ro
       let same = leaving_same (λ z. z.steps) (state e) r.this.number (open_of r.this) row (suc request) refl refl in
       omega (arith, fits, same)
 
-  module _ (p p' : Option Live) (reads : p ≡ get_or e.live slot p) (released : p' ≡ option_map (in_phase row (phases.Leaving (suc request))) p) where
-    read : p ≡ Some r.this
-    read = read_place e.live slot r.this p r.released.here reads
+  module _ (p p' : Live) (is : live_at e.live slot ≡ Some p) (released : p' ≡ in_phase row (phases.Leaving (suc request)) p) where
+    read : p ≡ r.this
+    read = live_same e.live slot r.this p r.released.here is
 
-    pub place_then : record (stepped_on e) { live = set e.live slot p' } ≡ gone_on r.before slot row r.this (suc request) e r.released
+    pub place_then : record (stepped_on e) { live = set e.live slot (Some p') } ≡ gone_on r.before slot row r.this (suc request) e r.released
     place_then =
-        let put : p' ≡ Some (in_phase row (phases.Leaving (suc request)) r.this) =
-        released ∙ ap (option_map (in_phase row (phases.Leaving (suc request)))) read in
-        λ i. record (stepped_on e) { live = set e.live slot (put i) }
+        let put : p' ≡ in_phase row (phases.Leaving (suc request)) r.this = released ∙ ap (in_phase row (phases.Leaving (suc request))) read in
+        λ i. record (stepped_on e) { live = set e.live slot (Some (put i)) }
 
     -- the test whether that was the last
-    module _ (answer : Bool) (test : Has p (λ l. answer ≡ (suc request == length l.cowns.items))) where
+    module _ (answer : Bool) (test : answer ≡ (suc request == length p.cowns.items)) where
       tested : answer ≡ (suc request == length r.this.cowns.items)
-      tested = subst (λ (o : Option Live). Has o (λ l. answer ≡ (suc request == length l.cowns.items))) read test
+      tested = test ∙ ap (λ (l : Live). suc request == length l.cowns.items) read
 
       pub was_last : answer ≡ true → length r.this.cowns.items ≤ suc request
       was_last ends_so = let h = (Decides-eqb (suc request) (length r.this.cowns.items)).0 (sym tested ∙ ends_so) in omega arith

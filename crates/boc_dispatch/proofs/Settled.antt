@@ -18,7 +18,6 @@ use Rattle.boc_machine_laws.proofs.Lawful.{times-take-le}
 use Rattle.boc_chain.proofs.Spelled.{times_same}
 use Rattle.boc_chain.specs.declared.request.Request.{Request}
 use Rattle.boc_chain.specs.Chain.{Place, cowns_of, list_for, with_change, after_settle, settle_one, before, slots, StandsIn}
-use Rattle.boc_chain.specs.Chain.{times as times_in}
 use Rattle.boc_dispatch.specs.declared.live.Live.{Live}
 use Rattle.boc_dispatch.specs.Inside.{live_at, open_of, place_of, number_at, Parts, IsKept, state, IsAtStage, AreCounted, AreChained, IsRequestOf, queues_of}
 use Rattle.boc_dispatch.specs.Inside.{exchanged_at}
@@ -95,20 +94,20 @@ module _ (d : Parts) (k : IsKept d) (slot : ℕ) (l : Live) (request : ℕ) (it 
   pub settle_there : request < length (cowns_of (d.place slot))
   settle_there = subst (λ (z : Option Place). request < length (cowns_of z)) (sym (place_is d k slot l it.is)) settle_next
 
-  stands_is : times_in slot (slots requests) ≡ times c0 (take (suc request) cs)
+  stands_is : times slot (slots requests) ≡ times c0 (take (suc request) cs)
   stands_is = stands_in d k slot c0 l it.is ∙ ap (λ z. times c0 (standing_at z cs)) it.stage_is
 
-  stands_some : 0 < times_in slot (slots requests)
+  stands_some : 0 < times slot (slots requests)
   stands_some = omega (arith, stands_is, taken_has cs request c0 cown_is)
 
-  stands_once : times_in slot (slots requests) ≤ 1
+  stands_once : times slot (slots requests) ≤ 1
   stands_once = omega (arith, stands_is, times-take-le c0 (suc request) cs, cown_once d k slot c0 l it.is)
 
   pub list_is : list_for d.lists (d.place slot) request ≡ requests
   list_is = ap (λ z. list_for d.lists z request) (place_is d k slot l it.is)
 
   pub settle_stands : StandsIn (list_for d.lists (d.place slot) request) slot
-  settle_stands = subst (λ (z : List Request). 0 < times_in slot (slots z)) (sym list_is) stands_some
+  settle_stands = subst (λ (z : List Request). 0 < times slot (slots z)) (sym list_is) stands_some
 
   -- the request of who is there, and that behaviour
   flagged_there : (r : Request) (j : ℕ) → slice_get requests j ≡ Some r → nat_lt 0 (times c0 (flagged (at s (number_at d.live r.slot)))) ≡ r.flagged
@@ -171,7 +170,7 @@ module _ (d : Parts) (k : IsKept d) (slot : ℕ) (l : Live) (request : ℕ) (it 
       let first' : eqb (number_at d.live r.slot) l.number ≡ true =
       sym (ap (is_first l.number) (queue_at d.live d.lists c0 ∙ ap (map (λ z. number_at d.live z.slot)) is)) ∙ first in
       let e = slot_of r 0 (ap (λ q. slice_get q 0) is) ((Decides-eqb (number_at d.live r.slot) l.number).0 first') in
-      let one : times_in slot (slots (r ∷ (x ∷ behind))) ≤ 1 = subst (λ (z : List Request). times_in slot (slots z) ≤ 1) is stands_once in
+      let one : times slot (slots (r ∷ (x ∷ behind))) ≤ 1 = subst (λ (z : List Request). times slot (slots z) ≤ 1) is stands_once in
       let a = times_same slot r.slot (x.slot ∷ slots behind) e in
       let b = times_same slot x.slot (slots behind) same in
       absurd (omega arith)
@@ -179,7 +178,7 @@ module _ (d : Parts) (k : IsKept d) (slot : ℕ) (l : Live) (request : ℕ) (it 
       let first' : eqb (number_at d.live y.slot) l.number ≡ true =
       sym (ap (is_first l.number) (queue_at d.live d.lists c0 ∙ ap (map (λ z. number_at d.live z.slot)) is)) ∙ first in
       let e = slot_of y 0 (ap (λ q. slice_get q 0) is) ((Decides-eqb (number_at d.live y.slot) l.number).0 first') in
-      let one : times_in slot (slots (y ∷ (ahead ++ (r ∷ (x ∷ behind))))) ≤ 1 = subst (λ (z : List Request). times_in slot (slots z) ≤ 1) is stands_once in
+      let one : times slot (slots (y ∷ (ahead ++ (r ∷ (x ∷ behind))))) ≤ 1 = subst (λ (z : List Request). times slot (slots z) ≤ 1) is stands_once in
       let a = times_same slot y.slot (slots (ahead ++ (r ∷ (x ∷ behind)))) e in
       let b = stands_behind slot ahead r x behind same in
       absurd (omega arith)

@@ -1,18 +1,16 @@
 -- Whose requests stand in the lists: by slots, and by numbers.
-use Rattle.std.proofs.Common.{◌≡◌, ◌≢◌, ℕ, zero, suc, ◌+◌, ◌<◌, ◌≤◌, inl, inr, cond, List, [], ◌∷◌, length, map, set, refl, sym, ◌∙◌, ap, subst, arith}
+use Rattle.std.proofs.Common.{◌≡◌, ℕ, zero, suc, ◌+◌, ◌<◌, ◌≤◌, inl, inr, List, [], ◌∷◌, length, map, set, refl, sym, ◌∙◌, ap, subst, arith}
 use Rattle.std.specs.Prelude.{slice_get, slice_index_or, Option, Some, None}
 use Rattle.std.specs.Option.{option_map, option_map_or}
 use Rattle.std.proofs.lemmas.Bool.{cases_lt}
-use Rattle.std.proofs.lemmas.Bool.Decides.{Decides-eqb}
 use Rattle.boc_runs.specs.declared.stage.Phase.TheVariants as phases
 use Rattle.boc_runs.specs.declared.stage.Stage.TheVariants.{Recorded}
 use Rattle.boc_runs.specs.machine.Stages.{OpenBehaviour, cowns_of, standing, standing_at, ready_row, ready_row_at}
 use Rattle.boc_runs.specs.machine.Queues.{times}
 use Rattle.boc_runs.specs.machine.Steps.{at}
-use Rattle.boc_machine_laws.proofs.Lists.{same_or_not, not_eq, times-here, times-other}
+use Rattle.boc_machine_laws.proofs.Lists.{same_or_not, times-here, times-other}
 use Rattle.boc_chain.specs.declared.request.Request.{Request}
 use Rattle.boc_chain.specs.Chain.{slots}
-use Rattle.boc_chain.specs.Chain.{times as times_in}
 use Rattle.boc_dispatch.specs.declared.live.Live.{Live}
 use Rattle.boc_dispatch.specs.Inside.{live_at, open_of, number_at, row_or_0, rows_at, place_of, Parts, IsKept, state, AreNumbered}
 use Rattle.boc_dispatch.proofs.Tables.{at_slot, queue_at, queues_length, live_there, live_other, rows_same}
@@ -22,15 +20,9 @@ use Rattle.boc_dispatch.proofs.Fits.{no_more_than}
 abbrev pub AreLive : List (Option Live) → List Request → Type 0
 AreLive live q = (k : ℕ) (r : Request) → slice_get q k ≡ Some r → (l : Live) × (live_at live r.slot ≡ Some l)
 
-here_in : (x : ℕ) (xs : List ℕ) → times_in x (x ∷ xs) ≡ 1 + times_in x xs
-here_in x xs = ap (λ b. cond b 1 0 + times_in x xs) ((Decides-eqb x x).1 refl)
-
-other_in : (x y : ℕ) (xs : List ℕ) → y ≢ x → times_in x (y ∷ xs) ≡ times_in x xs
-other_in x y xs n = let e : 0 + times_in x xs ≡ times_in x xs = omega arith in ap (λ b. cond b 1 0 + times_in x xs) (not_eq y x n) ∙ e
-
 -- a behaviour's number stands as often in a list as its slot
 pub times_slots : (live : List (Option Live)) (n slot : ℕ) (l : Live) → AreNumbered live n → live_at live slot ≡ Some l → (q : List Request) → AreLive live q
-    → times l.number (map (λ r. number_at live r.slot) q) ≡ times_in slot (slots q)
+    → times l.number (map (λ r. number_at live r.slot) q) ≡ times slot (slots q)
 times_slots live n slot l k is [] all = refl
 times_slots live n slot l k is (r ∷ q) all =
     let rest = times_slots live n slot l k is q (λ j. all (suc j)) in
@@ -42,10 +34,10 @@ times_slots live n slot l k is (r ∷ q) all =
       | inl e ↦
           let here : x ≡ l.number = ap (λ o. option_map_or (λ z. z.number) o 0) (ap (live_at live) e ∙ is) in
           ap (λ z. times l.number (z ∷ xs)) here ∙ times-here l.number xs ∙ ap (λ z. 1 + z) rest
-          ∙ sym (ap (λ z. times_in slot (z ∷ slots q)) e ∙ here_in slot (slots q))
+          ∙ sym (ap (λ z. times slot (z ∷ slots q)) e ∙ times-here slot (slots q))
       | inr d ↦
           times-other l.number x xs (λ e. d (k.once r.slot slot there.0 l there.1 is (sym x_is ∙ e))) ∙ rest
-          ∙ sym (other_in slot r.slot (slots q) d)
+          ∙ sym (times-other slot r.slot (slots q) d)
     ]
 
 -- ---- in what is kept
@@ -65,7 +57,7 @@ module _ (d : Parts) (k : IsKept d) where
 
   -- how often a behaviour's slot stands in a list
   pub stands_in : (slot c : ℕ) (l : Live) → live_at d.live slot ≡ Some l
-      → times_in slot (slots (slice_index_or d.lists c [])) ≡ times c (standing_at l.stage l.cowns.items)
+      → times slot (slots (slice_index_or d.lists c [])) ≡ times c (standing_at l.stage l.cowns.items)
   stands_in slot c l is =
       sym (times_slots d.live d.opened slot l k.numbered is (slice_index_or d.lists c []) (lists_live c))
       ∙ ap (times l.number) (sym (queue_at d.live d.lists c))

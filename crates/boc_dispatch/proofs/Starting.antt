@@ -1,6 +1,6 @@
 -- The first of the ready list starts: the state that follows, and what is kept.
-use Rattle.std.proofs.Common.{◌≡◌, ◌≢◌, ℕ, zero, suc, ◌+◌, ◌<◌, ◌≤◌, ◌⊎◌, inl, inr, true, false, ◌||◌, List, [], ◌∷◌, ◌++◌, length, map, set, get_or, refl, sym}
-use Rattle.std.proofs.Common.{◌∙◌, ap, subst, arith, length-set}
+use Rattle.std.proofs.Common.{◌≡◌, ◌≢◌, ℕ, zero, suc, ◌+◌, ◌<◌, ◌≤◌, ◌⊎◌, inl, inr, true, false, ◌||◌, List, [], ◌∷◌, ◌++◌, length, map, set, refl, sym, ◌∙◌}
+use Rattle.std.proofs.Common.{ap, subst, arith, length-set}
 use Rattle.std.specs.Prelude.{slice_get, slice_index_or, Option, Some, None}
 use Rattle.std.specs.Option.{option_map, option_map_or}
 use Rattle.boc_runs.specs.declared.event.Event.TheVariants.{Start}
@@ -21,11 +21,11 @@ use Rattle.boc_machine_laws.proofs.Rows.{config_more}
 use Rattle.boc_machine_laws.proofs.Keeps.{keeps_starts}
 use Rattle.boc_rules.specs.Log.{Log, grown}
 use Rattle.boc_dispatch.specs.declared.live.Live.{Live}
-use Rattle.boc_dispatch.specs.Places.{Has, begun}
+use Rattle.boc_dispatch.specs.Places.{begun}
 use Rattle.boc_dispatch.specs.Inside.{Parts, state, live_at, open_of, place_of, exchanged_at, queues_of, rows_at, row_or_0, IsKept, HasRooms, AreInHand}
 use Rattle.boc_dispatch.specs.Inside.{AreCounted, IsMember, IsWished}
-use Rattle.boc_dispatch.proofs.Tables.{read_place, live_there, live_here, live_other, live_new, at_slot, behaviours_length, numbered_changed}
-use Rattle.boc_dispatch.proofs.Tables.{behaviours_changed, number_changed, taken_changed}
+use Rattle.boc_dispatch.proofs.Tables.{live_same, live_there, live_here, live_other, live_new, at_slot, behaviours_length, numbered_changed, behaviours_changed}
+use Rattle.boc_dispatch.proofs.Tables.{number_changed, taken_changed}
 use Rattle.boc_dispatch.proofs.Standing.{open_is, ready_distinct}
 use Rattle.boc_dispatch.proofs.Going.{awaits_same, granted_same}
 use Rattle.boc_dispatch.proofs.Onward.{Follows, follows_set, in_hand_by, request_by}
@@ -68,27 +68,20 @@ read_stands (x ∷ xs) (suc i) s e =
       | inr n ↦ (let same = times-other s x xs n in omega arith)
     ]
 
--- the first of the ready list, as a call read it
-pub record FirstReady (d : Parts) (slot row : ℕ) (p : Option Live) : Type 0 where
-  pub this : Live
-  pub is : live_at d.live slot ≡ Some this
-  pub stage_is : this.stage ≡ Recorded row phases.Ready
-  pub read : p ≡ Some this
-
-pub first_ready : (d : Parts) → IsKept d → (slot : ℕ) (rest : List ℕ) → d.ready ≡ slot ∷ rest → (p : Option Live) → p ≡ get_or d.live slot p
-    → (row : ℕ) × FirstReady d slot row p
-first_ready d k slot rest head p reads =
+-- the first of the ready list, which stands there, is ready
+pub first_ready : (d : Parts) → IsKept d → (slot : ℕ) (rest : List ℕ) → d.ready ≡ slot ∷ rest → (l : Live) → live_at d.live slot ≡ Some l
+    → (row : ℕ) × (l.stage ≡ Recorded row phases.Ready)
+first_ready d k slot rest head l is =
     let first = k.ready_there 0 slot (ap (λ (xs : List ℕ). slice_get xs 0) head) in
-    (first.1, record { this = first.0; is = first.2; stage_is = first.3; read = read_place d.live slot first.0 p first.2 reads })
+    (first.1, ap (λ (x : Live). x.stage) (live_same d.live slot first.0 l first.2 is) ∙ first.3)
 
 -- under the row that the call told
-pub first_told : (d : Parts) → IsKept d → (slot : ℕ) (rest : List ℕ) → d.ready ≡ slot ∷ rest → (p : Option Live) → p ≡ get_or d.live slot p
-    → (row : ℕ) → Has p (λ l. row_at l.stage ≡ Some row) → FirstReady d slot row p
-first_told d k slot rest head p reads row told =
-    let f = first_ready d k slot rest head p reads in
-    let row_is : row_at f.1.this.stage ≡ Some row = subst (λ (o : Option Live). Has o (λ l. row_at l.stage ≡ Some row)) f.1.read told in
-    let same : f.0 ≡ row = (let e : Some f.0 ≡ Some row = sym (ap row_at f.1.stage_is) ∙ row_is in cc) in
-    subst (λ (r : ℕ). FirstReady d slot r p) same f.1
+pub first_told : (d : Parts) → IsKept d → (slot : ℕ) (rest : List ℕ) → d.ready ≡ slot ∷ rest → (l : Live) → live_at d.live slot ≡ Some l
+    → (row : ℕ) → row_at l.stage ≡ Some row → l.stage ≡ Recorded row phases.Ready
+first_told d k slot rest head l is row told =
+    let f = first_ready d k slot rest head l is in
+    let same : f.0 ≡ row = (let e : Some f.0 ≡ Some row = sym (ap row_at f.1) ∙ told in cc) in
+    subst (λ (r : ℕ). l.stage ≡ Recorded r phases.Ready) same f.1
 
 -- what a dispatcher has in hand once the first of its ready list started
 abbrev pub started_parts : Parts → ℕ → Option Live → List ℕ → Log → Parts

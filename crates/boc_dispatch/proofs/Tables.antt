@@ -176,22 +176,15 @@ behaviours_put live live' (suc n) k h same =
 
 -- ---- a behaviour changed, which keeps its number
 
--- what a mutable place holds that was read with a default
-pub read_place : (live : List (Option Live)) (slot : ℕ) (l : Live) (place : Option Live) → live_at live slot ≡ Some l → place ≡ get_or live slot place
-    → place ≡ Some l
-read_place [] slot l place is e = absurd (let f : None ≡ Some l = is in cc)
-read_place (p ∷ live) zero l place is e = e ∙ is
-read_place (p ∷ live) (suc slot) l place is e = read_place live slot l place is e
+-- one behaviour stands at a slot
+pub live_same : (live : List (Option Live)) (slot : ℕ) (l m : Live) → live_at live slot ≡ Some l → live_at live slot ≡ Some m → m ≡ l
+live_same live slot l m is was = let f : Some m ≡ Some l = sym was ∙ is in cc
 
--- whom it is matched as
-pub read_some : (live : List (Option Live)) (slot : ℕ) (l m : Live) (place : Option Live) → live_at live slot ≡ Some l → place ≡ get_or live slot place
-    → place ≡ Some m → m ≡ l
-read_some live slot l m place is e was = let f : Some m ≡ Some l = sym was ∙ read_place live slot l place is e in cc
-
--- and what it holds once it is changed
-pub read_changed : (change : Live → Live) (live : List (Option Live)) (slot : ℕ) (l : Live) (place new : Option Live) → live_at live slot ≡ Some l
-    → place ≡ get_or live slot place → new ≡ option_map change place → Some (change l) ≡ new
-read_changed change live slot l place new is e f = sym (f ∙ ap (option_map change) (read_place live slot l place is e))
+-- and what stands there once it is changed
+pub live_changed : (change : Live → Live) (live : List (Option Live)) (slot : ℕ) (l m new : Live) → live_at live slot ≡ Some l → live_at live slot ≡ Some m
+    → new ≡ change m
+    → Some (change l) ≡ Some new
+live_changed change live slot l m new is was e = sym (ap (λ (x : Live). Some x) (e ∙ ap change (live_same live slot l m is was)))
 
 module _ (live : List (Option Live)) (n slot : ℕ) (l m : Live) (k : AreNumbered live n) (is : live_at live slot ≡ Some l) (same : m.number ≡ l.number) where
   pub changed_once : OneEach (set live slot (Some m))

@@ -1,6 +1,7 @@
 pub mod Underway
 pub mod Calls
 pub mod Inside
+pub mod Lending
 pub mod Moves
 pub mod Places
 pub mod Codes

@@ -1,5 +1,5 @@
--- What a step does to the behaviour at a slot.
-use Rattle.std.specs.Prelude.{ℕ, suc, ◌+◌, ◌-◌, true, false, if◌then◌else◌, nat_eq, Option, Some, None}
+-- What a step does to a behaviour.
+use Rattle.std.specs.Prelude.{ℕ, suc, ◌+◌, ◌-◌, true, false, if◌then◌else◌, nat_eq, Option}
 use Rattle.boc_runs.specs.declared.event.Event.{Event}
 use Rattle.boc_runs.specs.declared.event.Event.TheVariants.{Spawn}
 use Rattle.boc_runs.specs.declared.stage.Phase.{Phase}
@@ -7,11 +7,6 @@ use Rattle.boc_runs.specs.declared.stage.Phase.TheVariants as phases
 use Rattle.boc_runs.specs.declared.stage.Stage.TheVariants.{Asking, Recorded}
 use Rattle.boc_runs.specs.machine.Steps.{flagging}
 use Rattle.boc_dispatch.specs.declared.live.Live.{Live}
-
--- there is a behaviour, and it is so
-abbrev pub Has : Option Live → (Live → Type 0) → Type 0
-Has None IsSo = ⊥
-Has (Some l) IsSo = IsSo l
 
 -- the behaviour in this phase of a row
 abbrev pub in_phase : ℕ → Phase → Live → Live

@@ -6,6 +6,7 @@ mod dispatcher;
 mod interleaving;
 mod kept_args;
 mod kept_stage;
+pub mod laws;
 mod live;
 mod movers;
 mod moves;

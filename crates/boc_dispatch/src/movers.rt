@@ -7,8 +7,7 @@ ghost use Rattle.boc_dispatch.specs.Inside.{parts_of, underway, live_at, state, 
 ghost use Rattle.boc_dispatch.specs.Moves.{MovesOrNot, MovesAtOrNot, NamesWorker};
 
 use crate::calls::{Child, Leaving, Mover};
-use crate::live::Live;
-use crate::moves::recorded_row;
+use crate::live::{Live, live_ref};
 use crate::roster::Roster;
 use boc_chain::{Chains, Slot};
 use boc_runs::stage::{Phase, Stage};
@@ -98,6 +97,7 @@ impl<'a, C: Chains + Drop> Roster<'a, C> {
         ensures { NamesMover (underway (parts_of C.lists C.place self.now)) result }
     {
         let slot = *self.ready.front()?;
-        Some(Mover::Ready(recorded_row(&self.live[slot as usize])))
+        let row = live_ref(&self.live, slot as usize).recorded_row();
+        Some(Mover::Ready(row))
     }
 }

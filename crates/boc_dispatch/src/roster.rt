@@ -6,11 +6,7 @@ ghost use Rattle.std.specs.VecDeque.{deque_capacity};
 ghost use Rattle.boc_dispatch.specs.Inside.{live_at};
 
 use crate::calls::{Advanced, Child, Job, Left};
-use crate::live::{Live, main_behaviour};
-use crate::moves::{
-    ask, begin, begin_child, count_spawn, end, end_child, flag_next, grant_one, leave_next, record,
-    settle_next, wait,
-};
+use crate::live::{Live, live_mut, live_ref, main_behaviour};
 use boc_chain::{Chains, Released, Settled, Slot};
 use boc_eval::{Frame, Outcome, SpawnWish};
 use boc_program::body::Body;
@@ -53,9 +49,6 @@ pub struct Enqueue {
     pub slot: u32,
     pub stage: Stage,
 }
-
-// The last slot that is kept, in 32 bits.
-const LAST_SLOT: usize = u32::MAX as usize;
 
 // Makes a table long enough to have this slot, and no longer than that.
 fn reach(live: &mut Vec<Option<Live>>, slot: usize) -> Result<(), AllocError>
@@ -104,7 +97,7 @@ impl<'a, C: Chains + Drop> Roster<'a, C> {
     ghost use Rattle.boc_dispatch.specs.declared.calls.Advanced.TheVariants as advanced;
     ghost use Rattle.boc_dispatch.specs.Calls.{IsHandedOut, IsNextWish, HasSpawnedAll, IsLeaving};
     ghost use Rattle.boc_chain.specs.Chain.{times, slots, list};
-    ghost use Rattle.boc_dispatch.specs.Inside.{parts_of, state, underway, IsSoundRoster, IsAtStage, IsStageAt, IsOfRow, HasInHand, GoesOn, Stays, IsNew};
+    ghost use Rattle.boc_dispatch.specs.Inside.{parts_of, state, underway, IsSoundRoster, IsAtStage, IsStageAt, IsOfRow, HasInHand, GoesOn, IsNew};
     ghost use Rattle.boc_dispatch.specs.Grants.{MayBeGranted, with_granted, IsRemoved, IsReleased, LeftAs};
     ghost use Rattle.boc_dispatch.specs.Moves.{MayPut, Puts, with_table, MayRecord, Records, counted, StartsJob, OpensChild, IsFoundEnqueue, SettlesNext};
     ghost use Rattle.boc_dispatch.specs.Moves.{EndsBehaviour, ReleasesNext, IsFoundLeaving};
@@ -124,9 +117,6 @@ impl<'a, C: Chains + Drop> Roster<'a, C> {
         let mut ready = VecDeque::with_capacity(alloc, 1)?;
         let mut homes = Vec::with_capacity(alloc, 1)?;
         let slot = chains.admit(Cowns::new())?;
-        if slot.index > LAST_SLOT {
-            return Err(AllocError);
-        }
         let mut live = Vec::new(alloc);
         reach(&mut live, slot.index)?;
         live[slot.index] = Some(main_behaviour());
@@ -160,7 +150,7 @@ impl<'a, C: Chains + Drop> Roster<'a, C> {
         ensures starts { StartsJob (parts_of C.lists C.place self.old) result (parts_of C.lists C.place self.new) }
     {
         let slot = self.ready.pop_front()?;
-        let job = begin(&mut self.live[slot as usize], self.program, &self.values);
+        let job = live_mut(&mut self.live, slot as usize).begin(self.program, &self.values);
         self.log.put(Event::Start { row: job.row });
         self.steps += 1;
         Some(job)
@@ -189,11 +179,11 @@ impl<'a, C: Chains + Drop> Roster<'a, C> {
             × IsStageAt (parts_of C.lists C.place self.now) slot (Recorded row phases.Running)) }
     {
         let slot = self.slot_of(row)?;
-        match &self.live[slot] {
-            Some(live) if live.runs_on(self.program, &self.values, row, body, args, inputs) => Some(
-                slot,
-            ),
-            _ => None,
+        let live = live_ref(&self.live, slot);
+        if live.runs_on(self.program, &self.values, row, body, args, inputs) {
+            Some(slot)
+        } else {
+            None
         }
     }
 
@@ -213,9 +203,10 @@ impl<'a, C: Chains + Drop> Roster<'a, C> {
             × HasInHand (parts_of C.lists C.place self.now) slot None
             × (Some (wish_of wish.now) ≡ last_wish_of frame.now)) }
     {
-        match &self.live[slot] {
-            Some(live) if live.opens_next(frame.wishes()) => frame.last_wish(),
-            _ => None,
+        if live_ref(&self.live, slot).opens_next(frame.wishes()) {
+            frame.last_wish()
+        } else {
+            None
         }
     }
 
@@ -241,22 +232,18 @@ impl<'a, C: Chains + Drop> Roster<'a, C> {
         Ok(self.put_child(slot, own.index as u32, child))
     }
 
-    // Makes the table long enough for this slot, and the ready list for the table. A slot that has no 32 bits is refused as
-    // memory is.
+    // Makes the table long enough for this slot, and the ready list for the table.
     fn make_places(&mut self, slot: usize) -> Result<(), AllocError>
         requires ready { length self.old.live.items ≤ deque_capacity self.old.ready }
         requires few { length self.old.live.items ≤ 2 ^ 32 }
+        requires small { slot < 2 ^ 32 }
         ensures parts { parts_of C.lists C.place self.new ≡ with_table self.new.live.items (parts_of C.lists C.place self.old) }
         ensures same { (s : ℕ) → live_at self.new.live.items s ≡ live_at self.old.live.items s }
         ensures long { OnOk result (slot < length self.new.live.items) }
-        ensures small { OnOk result (slot < 2 ^ 32) }
         ensures homes { vec_capacity self.new.homes ≡ vec_capacity self.old.homes }
         ensures ready { length self.new.live.items ≤ deque_capacity self.new.ready }
         ensures few { length self.new.live.items ≤ 2 ^ 32 }
     {
-        if slot > LAST_SLOT {
-            return Err(AllocError);
-        }
         self.ready
             .reserve((slot + 1).saturating_sub(self.ready.len()))?;
         reach(&mut self.live, slot)
@@ -277,7 +264,7 @@ impl<'a, C: Chains + Drop> Roster<'a, C> {
         };
         let is_settled = child.cowns.as_slice().is_empty();
         put(&mut self.live, slot as usize, child);
-        begin_child(&mut self.live[parent], slot);
+        live_mut(&mut self.live, parent).begin_child(slot);
         self.opened += 1;
         self.step_asking(parent, slot, is_settled);
         token
@@ -305,8 +292,9 @@ impl<'a, C: Chains + Drop> Roster<'a, C> {
         ensures homes { vec_capacity self.new.homes ≡ vec_capacity self.old.homes }
         ensures ready { deque_capacity self.new.ready ≡ deque_capacity self.old.ready }
     {
-        count_spawn(&mut self.live[parent]);
-        let event = record(&mut self.live[slot as usize], self.homes.len() as u32);
+        live_mut(&mut self.live, parent).count_spawn();
+        let row = self.homes.len() as u32;
+        let event = live_mut(&mut self.live, slot as usize).record(row);
         self.log.put(event);
         self.homes.push_reserved(slot);
     }
@@ -319,17 +307,16 @@ impl<'a, C: Chains + Drop> Roster<'a, C> {
             (IsFoundEnqueue (parts_of C.lists C.place self.now) child.now.number child.now.row) }
     {
         let parent = self.slot_of(child.row)?;
-        let slot = match &self.live[parent] {
-            Some(live) => live.child?,
-            None => return None,
-        };
-        match &self.live[slot as usize] {
-            Some(live) if live.number == child.number => Some(Enqueue {
+        let slot = live_ref(&self.live, parent).child?;
+        let live = live_ref(&self.live, slot as usize);
+        if live.number == child.number {
+            Some(Enqueue {
                 parent,
                 slot,
                 stage: live.stage.stage(),
-            }),
-            _ => None,
+            })
+        } else {
+            None
         }
     }
 
@@ -343,7 +330,7 @@ impl<'a, C: Chains + Drop> Roster<'a, C> {
             → GoesOn (λ s t. Swaps s l.number request t) (parts_of C.lists C.place self.old) (parts_of C.lists C.place self.new) }
     {
         self.chains.swap(Slot { index: slot }, request);
-        ask(&mut self.live[slot], request);
+        live_mut(&mut self.live, slot).ask(request);
         self.steps += 1;
         Advanced::Moved(Step::Swap(request))
     }
@@ -367,7 +354,7 @@ impl<'a, C: Chains + Drop> Roster<'a, C> {
             Settled::Lone => 1,
             Settled::Linked => 0,
         };
-        let is_last = settle_next(&mut self.live[slot as usize], request, granted);
+        let is_last = live_mut(&mut self.live, slot as usize).settle_next(request, granted);
         self.step_asking(parent, slot, is_last);
         Advanced::Moved(Step::Settle(request))
     }
@@ -382,7 +369,7 @@ impl<'a, C: Chains + Drop> Roster<'a, C> {
             → GoesOn (λ s t. Flags s l.number request t) (parts_of C.lists C.place self.old) (parts_of C.lists C.place self.new) }
     {
         self.chains.flag(Slot { index: slot }, request);
-        flag_next(&mut self.live[slot], row, request);
+        live_mut(&mut self.live, slot).flag_next(row, request);
         self.steps += 1;
         Advanced::Moved(Step::Flag(request))
     }
@@ -397,8 +384,8 @@ impl<'a, C: Chains + Drop> Roster<'a, C> {
         ensures owns { (l : Live) → IsAtStage (parts_of C.lists C.place self.old) slot l (Recorded row phases.Owning)
             → GoesOn (λ s t. Owns s l.number t) (parts_of C.lists C.place self.old) (parts_of C.lists C.place self.new) }
     {
-        end_child(&mut self.live[parent]);
-        wait(&mut self.live[slot as usize], row);
+        live_mut(&mut self.live, parent).end_child();
+        live_mut(&mut self.live, slot as usize).wait(row);
         self.grant(slot);
         self.steps += 1;
         Advanced::Enqueued
@@ -410,7 +397,7 @@ impl<'a, C: Chains + Drop> Roster<'a, C> {
         ensures granted { parts_of C.lists C.place self.new ≡ with_granted slot (parts_of C.lists C.place self.old) }
         ensures rooms { (self.new.homes ≡ self.old.homes) × (deque_capacity self.new.ready ≡ deque_capacity self.old.ready) }
     {
-        if grant_one(&mut self.live[slot as usize]) {
+        if live_mut(&mut self.live, slot as usize).grant_one() {
             self.ready.push_back_reserved(slot);
         }
     }
@@ -421,10 +408,7 @@ impl<'a, C: Chains + Drop> Roster<'a, C> {
         requires runs { IsStageAt (parts_of C.lists C.place self.now) slot (Recorded row phases.Running) }
         ensures { IsTrue result ↔ HasSpawnedAll (underway (parts_of C.lists C.place self.now)) row wishes }
     {
-        match &self.live[slot] {
-            Some(live) => live.has_spawned(wishes),
-            None => false,
-        }
+        live_ref(&self.live, slot).has_spawned(wishes)
     }
 
     /// Ends the running behaviour of a row, which is at a slot, as its body did. Answers whether it has cowns to release.
@@ -437,12 +421,8 @@ impl<'a, C: Chains + Drop> Roster<'a, C> {
         ensures ends { (l : Live) → IsAtStage (parts_of C.lists C.place self.old) slot l (Recorded row phases.Running)
             → EndsBehaviour (parts_of C.lists C.place self.old) l.number row result (parts_of C.lists C.place self.new) }
     {
-        let has_cowns = end(
-            &mut self.live[slot],
-            row,
-            &mut self.values,
-            outcome.outputs(),
-        );
+        let live = live_mut(&mut self.live, slot);
+        let has_cowns = live.end(row, &mut self.values, outcome.outputs());
         self.log.put(end_event(row, outcome));
         self.steps += 1;
         if has_cowns {
@@ -474,10 +454,8 @@ impl<'a, C: Chains + Drop> Roster<'a, C> {
             (λ found. IsFoundLeaving (parts_of C.lists C.place self.now) row found.0 found.1) }
     {
         let slot = self.slot_of(row)?;
-        match &self.live[slot] {
-            Some(live) => Some((slot, live.leaving(row)?)),
-            None => None,
-        }
+        let request = live_ref(&self.live, slot).leaving(row)?;
+        Some((slot, request))
     }
 
     /// Releases this request of the leaving behaviour of a row, which is at a slot, unless that is blocked.
@@ -509,7 +487,7 @@ impl<'a, C: Chains + Drop> Roster<'a, C> {
             → LeftAs (parts_of C.lists C.place self.old) row l (suc request) step result (parts_of C.lists C.place self.new) }
     {
         self.steps += 1;
-        if leave_next(&mut self.live[slot], row, request) {
+        if live_mut(&mut self.live, slot).leave_next(row, request) {
             self.remove(slot);
             Left::Gone(step)
         } else {

@@ -32,14 +32,17 @@ returns-in_err-reserve-clause-lists c =
     let s = c.args.self.now in
     (grown s.last.items s.slots c.reserve.new.self s.peak c.reserve.new.self.capacity s.linked c.reserve.ensures.rest_kept).1
 
+-- the slot is the key that was vacant
+key_is : (c : After-max-self) → c.insert_reserved-index.result ≡ c.args.self.now.slots.vacant_key
+key_is c = c.insert_reserved-index.ensures.key ∙ ap (λ (x : Slab Linked). x.vacant_key) c.reserve.ensures.rest_kept
+
 -- what the links keep, and the lists, with the cowns admitted
 admitted : (c : After-max-self) → IsLinked c.args.self.now.last.items c.insert_reserved-index.new.self c.max-self.result
     × (lists_of c.args.self.now.last.items c.insert_reserved-index.new.self ≡ lists c.args.self.now)
 admitted c =
     let s = c.args.self.now in
     let few : slab_len c.insert_reserved-index.new.self ≤ c.max-self.result = omega arith in
-    let key : c.insert_reserved-index.result ≡ s.slots.vacant_key =
-    c.insert_reserved-index.ensures.key ∙ ap (λ (x : Slab Linked). x.vacant_key) c.reserve.ensures.rest_kept in
+    let key = key_is c in
     let kept = c.in_ok-linked.linked.cowns in
     let same : kept ≡ c.args.cowns = c.in_ok-linked.ensures.cowns ∙ c.of.ensures in
     let distinct = subst (λ (cs : ArrayVec ℕ). (n : ℕ) → times n cs.items ≤ 1) (sym same) c.requires.distinct in
@@ -55,3 +58,6 @@ invariant_of-self-2 c = record { few = c.args.self.now.few; linked = (admitted (
 
 pub returns-clause-lists : goal.returns-clause-lists
 returns-clause-lists c = (admitted (goal.at.returns-clause-lists c).After-max-self).1
+
+pub returns-clause-short : goal.returns-clause-short
+returns-clause-short c = λ held among few. omega (arith, key_is (goal.at.returns-clause-short c).After-max-self)

@@ -1,5 +1,5 @@
-use Rattle.std.proofs.Common.{◌≡◌, ◌≢◌, subst, List, ℕ, ◌+◌}
-use Rattle.std.specs.Prelude.{Option}
+use Rattle.std.proofs.Common.{◌≡◌, ◌≢◌, subst, List, ℕ, ◌+◌, arith}
+use Rattle.std.specs.Prelude.{Option, IsSome}
 use Rattle.std.specs.List.{sum_by}
 use Rattle.boc_chain.specs.declared.held.Held.{Held}
 use Rattle.boc_chain.specs.Chain.{times}
@@ -23,3 +23,8 @@ invariant_of-self-2 c =
           (subst (λ (ps : List (Option Held)). (k : ℕ) → sum_by (awaits k) c.hold-index.new.places.items ≡ sum_by (awaits k) ps + times k c.args.cowns.items)
           c.reserve.ensures.items c.hold-index.ensures.awaited);
     }
+
+pub returns-clause-short : goal.returns-clause-short
+returns-clause-short c = λ held among few.
+    let low = c.hold-index.ensures.low held (λ s there. among s (subst (λ (ps : List (Option Held)). IsSome (place_at ps s)) c.reserve.ensures.items there)) in
+    omega (arith, low, few)

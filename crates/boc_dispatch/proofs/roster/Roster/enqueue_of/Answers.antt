@@ -1,10 +1,10 @@
-use Rattle.std.proofs.Common.{◌≡◌, ◌∙◌, ℕ, ap, subst, sym, MatchOption, arith}
-use Rattle.std.specs.Prelude.{Option, Some, None}
+use Rattle.std.proofs.Common.{◌≡◌, ◌∙◌, ℕ, ap, subst, sym, MatchOption}
+use Rattle.std.specs.Prelude.{Option, Some, None, is_some}
 use Rattle.boc_runs.specs.machine.Turns.{IsEnqueueOf}
 use Rattle.boc_dispatch.specs.declared.live.Live.{Live}
 use Rattle.boc_dispatch.specs.Inside.{parts_of, state, live_at}
 use Rattle.boc_dispatch.specs.Moves.{IsFoundEnqueue}
-use Rattle.boc_dispatch.proofs.Tables.{read_place, read_some, live_there}
+use Rattle.boc_dispatch.proofs.Tables.{live_same}
 use Rattle.boc_runs.specs.machine.Stages.{enqueues_at}
 use Rattle.boc_dispatch.specs.declared.roster.Enqueue.{Enqueue}
 use Rattle.boc_dispatch.proofs.Homes.{enqueue_found, one_behaviour}
@@ -18,39 +18,38 @@ returns-in_err-parent g c =
     (sym c.from_residual.ensures)
     (λ q. let f = enqueue_found d c.requires.kept child.row child.number q in c.in_err-parent.ensures f.1 f.3)
 
-pub returns-in_err-slot-in-Some : goal.returns-in_err-slot-in-Some
-returns-in_err-slot-in-Some g c =
+pub returns-in_err-slot : goal.returns-in_err-slot
+returns-in_err-slot g c =
     let d = parts_of g.C.Chains.lists g.C.Chains.place c.args.self.now in
     let child = c.args.child.now in
     let x = c.in_ok-parent.ensures in
-    let same = read_some c.args.self.now.live.items c.in_ok-parent.parent x.this c.in-Some.live c.index.result.now x.is c.index.ensures c.in-Some.is in
+    let same = live_same d.live c.in_ok-parent.parent x.this c.live_ref.result.now x.is c.live_ref.ensures in
     subst (λ (o : Option Enqueue). MatchOption o (IsEnqueueOf (state d) child.number child.row → ⊥) (IsFoundEnqueue d child.number child.row))
-    (sym c.from_residual-in_err-slot-in-Some.ensures)
+    (sym c.from_residual-in_err-slot.ensures)
     (λ q.
     (let f = enqueue_found d c.requires.kept child.row child.number q in
     let knows = ap (λ (l : Live). l.child) (same ∙ one_behaviour d c.requires.kept c.in_ok-parent.parent f.1 child.row x f.3) ∙ f.4 in
-    absurd (let e : None ≡ Some f.0 = sym c.in_err-slot-in-Some.was ∙ knows in cc)))
+    absurd (let e : None ≡ Some f.0 = sym c.in_err-slot.was ∙ knows in cc)))
 
-pub index-requires-2 : goal.index-requires-2
-index-requires-2 g c =
+pub live_ref-live-requires : goal.live_ref-live-requires
+live_ref-live-requires g c =
     let d = parts_of g.C.Chains.lists g.C.Chains.place c.args.self.now in
     let x = c.in_ok-parent.ensures in
-    let same = read_some c.args.self.now.live.items c.in_ok-parent.parent x.this c.in-Some.live c.index.result.now x.is c.index.ensures c.in-Some.is in
-    let down = c.requires.kept.in_hand.children c.in_ok-parent.parent c.in_ok-slot-in-Some.slot x.this x.is
-    (ap (λ (l : Live). l.child) (sym same) ∙ c.in_ok-slot-in-Some.was) in
-    let below = live_there c.args.self.now.live.items c.in_ok-slot-in-Some.slot down.child down.is in
-    omega (arith, c.args.self.now.live.ok.0)
+    let same = live_same d.live c.in_ok-parent.parent x.this c.live_ref.result.now x.is c.live_ref.ensures in
+    let down = c.requires.kept.in_hand.children c.in_ok-parent.parent c.in_ok-slot.slot x.this x.is
+    (ap (λ (l : Live). l.child) (sym same) ∙ c.in_ok-slot.was) in
+    ap (λ (o : Option Live). is_some o) down.is
 
-pub returns-in-Some-index : goal.returns-in-Some-index
-returns-in-Some-index g c =
+pub returns-then-live-child : goal.returns-then-live-child
+returns-then-live-child g c =
     let d = parts_of g.C.Chains.lists g.C.Chains.place c.args.self.now in
     let child = c.args.child.now in
-    let slot : ℕ = c.in_ok-slot-in-Some.slot in
+    let slot : ℕ = c.in_ok-slot.slot in
     let x = c.in_ok-parent.ensures in
-    let same = read_some c.args.self.now.live.items c.in_ok-parent.parent x.this c.in-Some.live c.index.result.now x.is c.index.ensures c.in-Some.is in
-    let knows = ap (λ (l : Live). l.child) (sym same) ∙ c.in_ok-slot-in-Some.was in
+    let same = live_same d.live c.in_ok-parent.parent x.this c.live_ref.result.now x.is c.live_ref.ensures in
+    let knows = ap (λ (l : Live). l.child) (sym same) ∙ c.in_ok-slot.was in
     let down = c.requires.kept.in_hand.children c.in_ok-parent.parent slot x.this x.is knows in
-    let own = read_some c.args.self.now.live.items slot down.child c.in-Some-index.live c.index-2.result.now down.is c.index-2.ensures c.in-Some-index.is in
+    let own = live_same d.live slot down.child c.live_ref-live.result.now down.is c.live_ref-live.ensures in
     record {
       this = down.child;
       is = record { is = down.is; stage_is = ap (λ (l : Live). l.stage) (sym own) ∙ sym c.stage.ensures };
@@ -60,29 +59,17 @@ returns-in-Some-index g c =
       held = record { this = x.this; is = x.is; child_is = knows };
     }
 
-pub returns-in_default : goal.returns-in_default
-returns-in_default g c =
+pub returns-else-live-child : goal.returns-else-live-child
+returns-else-live-child g c =
     let d = parts_of g.C.Chains.lists g.C.Chains.place c.args.self.now in
     let child = c.args.child.now in
-    let slot : ℕ = c.in_ok-slot-in-Some.slot in
+    let slot : ℕ = c.in_ok-slot.slot in
     let x = c.in_ok-parent.ensures in
-    let same = read_some c.args.self.now.live.items c.in_ok-parent.parent x.this c.in-Some.live c.index.result.now x.is c.index.ensures c.in-Some.is in
+    let same = live_same d.live c.in_ok-parent.parent x.this c.live_ref.result.now x.is c.live_ref.ensures in
     λ q.
     (let f = enqueue_found d c.requires.kept child.row child.number q in
     let knows = ap (λ (l : Live). l.child) (same ∙ one_behaviour d c.requires.kept c.in_ok-parent.parent f.1 child.row x f.3) ∙ f.4 in
-    let there : f.0 ≡ slot = (let e : Some f.0 ≡ Some slot = sym knows ∙ c.in_ok-slot-in-Some.was in cc) in
+    let there : f.0 ≡ slot = (let e : Some f.0 ≡ Some slot = sym knows ∙ c.in_ok-slot.was in cc) in
     let child_at = subst (λ (s : ℕ). live_at d.live s ≡ Some f.2.this) there f.2.is in
-    let own = read_some c.args.self.now.live.items slot f.2.this c.in-Some-index.live c.index-2.result.now child_at c.index-2.ensures c.in-Some-index.is in
+    let own = live_same d.live slot f.2.this c.live_ref-live.result.now child_at c.live_ref-live.ensures in
     absurd (c.if-live-child.false (ap (λ (l : Live). l.number) own ∙ f.2.number_is)))
-
-pub returns-in_default-2 : goal.returns-in_default-2
-returns-in_default-2 g c =
-    let d = parts_of g.C.Chains.lists g.C.Chains.place c.args.self.now in
-    let slot : ℕ = c.in_ok-slot-in-Some.slot in
-    let x = c.in_ok-parent.ensures in
-    let same = read_some c.args.self.now.live.items c.in_ok-parent.parent x.this c.in-Some.live c.index.result.now x.is c.index.ensures c.in-Some.is in
-    let knows = ap (λ (l : Live). l.child) (sym same) ∙ c.in_ok-slot-in-Some.was in
-    let down = c.requires.kept.in_hand.children c.in_ok-parent.parent slot x.this x.is knows in
-    let read_child : c.index-2.result.now ≡ Some down.child =
-    read_place c.args.self.now.live.items slot down.child c.index-2.result.now down.is c.index-2.ensures in
-    λ q. absurd (let e : None ≡ Some down.child = sym c.in_default.is ∙ read_child in cc)

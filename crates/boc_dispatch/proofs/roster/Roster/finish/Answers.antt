@@ -1,5 +1,5 @@
 use Rattle.std.proofs.Common.{◌≡◌, true, List, length, sym, ap, subst, arith, ℤ}
-use Rattle.std.specs.Prelude.{Option, vec_capacity}
+use Rattle.std.specs.Prelude.{vec_capacity}
 use Rattle.std.specs.VecDeque.{deque_capacity}
 use Rattle.boc_runs.specs.declared.event.Event.{Event}
 use Rattle.boc_program.specs.Signatures.{AllBelow}
@@ -8,9 +8,8 @@ use Rattle.boc_dispatch.specs.declared.live.Live.{Live}
 use Rattle.boc_dispatch.specs.Grants.{IsRemoved}
 use Rattle.boc_dispatch.specs.Inside.{Parts, parts_of, state, IsKept, HasRooms}
 use Rattle.boc_dispatch.specs.Moves.{EndsBehaviour}
-use Rattle.boc_dispatch.specs.Places.{Has}
 use Rattle.boc_dispatch.proofs.Fits.{steps_fit}
-use Rattle.boc_dispatch.proofs.Tables.{read_place}
+use Rattle.boc_dispatch.proofs.Tables.{live_same}
 use Rattle.boc_dispatch.proofs.Releasing.{may_empty, moved_kept, moved_rooms, gone_kept, gone_rooms}
 use Rattle.boc_dispatch.proofs.Finishing.{ending, finish_calls, released, allowed, below, both, finished_parts, has_more, has_none, ends_with_cowns}
 use Rattle.boc_dispatch.proofs.Finishing.{ends_without}
@@ -22,8 +21,8 @@ end-has_cowns-requires-clause-below g c =
     let f = ending d c.args.slot c.args.row c.requires.runs.0 c.args.outcome.now c.requires.sound.kept c.requires.runs.1 c.outputs.ensures.meaning
     c.requires.handed c.requires.spawned in
     let low = subst (λ (vs : List ℤ). AllBelow (length vs) c.requires.runs.0.params.items) (sym c.deref_mut.ensures.value) (below _ _ _ _ _ _ f) in
-    subst (λ (z : Option Live). Has z (λ x. AllBelow (length c.deref_mut.result.now) x.params.items))
-    (sym (read_place d.live c.args.slot c.requires.runs.0 c.index_mut.result.now f.is c.index_mut.ensures.value)) low
+    subst (λ (x : Live). AllBelow (length c.deref_mut.result.now) x.params.items)
+    (sym (live_same d.live c.args.slot c.requires.runs.0 c.live_mut-live.result.now f.is c.live_mut-live.ensures.value)) low
 
 pub end-has_cowns-requires-clause-both : goal.end-has_cowns-requires-clause-both
 end-has_cowns-requires-clause-both g c =
@@ -31,8 +30,8 @@ end-has_cowns-requires-clause-both g c =
     let f = ending d c.args.slot c.args.row c.requires.runs.0 c.args.outcome.now c.requires.sound.kept c.requires.runs.1 c.outputs.ensures.meaning
     c.requires.handed c.requires.spawned in
     let same = subst (λ (os : List ℤ). length c.requires.runs.0.params.items ≡ length os) (sym c.outputs.ensures.value) (both _ _ _ _ _ _ f) in
-    subst (λ (z : Option Live). Has z (λ x. length x.params.items ≡ length c.outputs.result.now))
-    (sym (read_place d.live c.args.slot c.requires.runs.0 c.index_mut.result.now f.is c.index_mut.ensures.value)) same
+    subst (λ (x : Live). length x.params.items ≡ length c.outputs.result.now)
+    (sym (live_same d.live c.args.slot c.requires.runs.0 c.live_mut-live.result.now f.is c.live_mut-live.ensures.value)) same
 
 pub put-requires-clause-allowed : goal.put-requires-clause-allowed
 put-requires-clause-allowed g c =
@@ -53,9 +52,9 @@ returns-then-has_cowns-clause-sound g c =
     let d = parts_of g.C.Chains.lists g.C.Chains.place c.args.self.now in
     let f = ending d c.args.slot c.args.row c.requires.runs.0 c.args.outcome.now c.requires.sound.kept c.requires.runs.1 c.outputs.ensures.meaning
     c.requires.handed c.requires.spawned in
-    let k = finish_calls d c.args.slot c.args.row c.requires.runs.0 c.args.outcome.now f c.index_mut.result.now c.end-has_cowns.new.place c.deref_mut.result.now
-    c.outputs.result.now c.end-has_cowns.new.values c.args.self.now.values c.end_event.result c.put.new.self c.end-has_cowns.result
-    c.index_mut.ensures.value c.end-has_cowns.ensures.ended c.outputs.ensures.value c.deref_mut.ensures.value c.deref_mut.ensures.len
+    let k = finish_calls d c.args.slot c.args.row c.requires.runs.0 c.args.outcome.now f c.live_mut-live.result.now c.end-has_cowns.new.self
+    c.deref_mut.result.now c.outputs.result.now c.end-has_cowns.new.values c.args.self.now.values c.end_event.result c.put.new.self c.end-has_cowns.result
+    c.live_mut-live.ensures.value c.end-has_cowns.ensures.ended c.outputs.ensures.value c.deref_mut.ensures.value c.deref_mut.ensures.len
     c.end-has_cowns.ensures.values c.end_event.ensures c.put.ensures c.end-has_cowns.ensures.cowns in
     let more = has_more _ _ _ _ _ _ f _ _ _ _ _ k c.if-has_cowns.true in
     let same = finished_parts _ _ _ _ _ _ f _ _ _ _ _ k in
@@ -71,9 +70,9 @@ returns-then-has_cowns-clause-ends g c this at_stage =
     let d = parts_of g.C.Chains.lists g.C.Chains.place c.args.self.now in
     let f = ending d c.args.slot c.args.row this c.args.outcome.now c.requires.sound.kept at_stage c.outputs.ensures.meaning c.requires.handed
     c.requires.spawned in
-    let k = finish_calls d c.args.slot c.args.row this c.args.outcome.now f c.index_mut.result.now c.end-has_cowns.new.place c.deref_mut.result.now
+    let k = finish_calls d c.args.slot c.args.row this c.args.outcome.now f c.live_mut-live.result.now c.end-has_cowns.new.self c.deref_mut.result.now
     c.outputs.result.now c.end-has_cowns.new.values c.args.self.now.values c.end_event.result c.put.new.self c.end-has_cowns.result
-    c.index_mut.ensures.value c.end-has_cowns.ensures.ended c.outputs.ensures.value c.deref_mut.ensures.value c.deref_mut.ensures.len
+    c.live_mut-live.ensures.value c.end-has_cowns.ensures.ended c.outputs.ensures.value c.deref_mut.ensures.value c.deref_mut.ensures.len
     c.end-has_cowns.ensures.values c.end_event.ensures c.put.ensures c.end-has_cowns.ensures.cowns in
     let more = has_more _ _ _ _ _ _ f _ _ _ _ _ k c.if-has_cowns.true in
     subst (λ (z : Parts). EndsBehaviour d this.number c.args.row true z) (sym (finished_parts _ _ _ _ _ _ f _ _ _ _ _ k))
@@ -84,9 +83,9 @@ remove-requires-clause-empty g c cown =
     let d = parts_of g.C.Chains.lists g.C.Chains.place c.args.self.now in
     let f = ending d c.args.slot c.args.row c.requires.runs.0 c.args.outcome.now c.requires.sound.kept c.requires.runs.1 c.outputs.ensures.meaning
     c.requires.handed c.requires.spawned in
-    let k = finish_calls d c.args.slot c.args.row c.requires.runs.0 c.args.outcome.now f c.index_mut.result.now c.end-has_cowns.new.place c.deref_mut.result.now
-    c.outputs.result.now c.end-has_cowns.new.values c.args.self.now.values c.end_event.result c.put.new.self c.end-has_cowns.result
-    c.index_mut.ensures.value c.end-has_cowns.ensures.ended c.outputs.ensures.value c.deref_mut.ensures.value c.deref_mut.ensures.len
+    let k = finish_calls d c.args.slot c.args.row c.requires.runs.0 c.args.outcome.now f c.live_mut-live.result.now c.end-has_cowns.new.self
+    c.deref_mut.result.now c.outputs.result.now c.end-has_cowns.new.values c.args.self.now.values c.end_event.result c.put.new.self c.end-has_cowns.result
+    c.live_mut-live.ensures.value c.end-has_cowns.ensures.ended c.outputs.ensures.value c.deref_mut.ensures.value c.deref_mut.ensures.len
     c.end-has_cowns.ensures.values c.end_event.ensures c.put.ensures c.end-has_cowns.ensures.cowns in
     let last = has_none _ _ _ _ _ _ f _ _ _ _ _ k c.if-has_cowns.false in
     may_empty _ _ _ _ 0 _ (released _ _ _ _ _ _ f) last cown
@@ -96,9 +95,9 @@ returns-clause-sound g c =
     let d = parts_of g.C.Chains.lists g.C.Chains.place c.args.self.now in
     let f = ending d c.args.slot c.args.row c.requires.runs.0 c.args.outcome.now c.requires.sound.kept c.requires.runs.1 c.outputs.ensures.meaning
     c.requires.handed c.requires.spawned in
-    let k = finish_calls d c.args.slot c.args.row c.requires.runs.0 c.args.outcome.now f c.index_mut.result.now c.end-has_cowns.new.place c.deref_mut.result.now
-    c.outputs.result.now c.end-has_cowns.new.values c.args.self.now.values c.end_event.result c.put.new.self c.end-has_cowns.result
-    c.index_mut.ensures.value c.end-has_cowns.ensures.ended c.outputs.ensures.value c.deref_mut.ensures.value c.deref_mut.ensures.len
+    let k = finish_calls d c.args.slot c.args.row c.requires.runs.0 c.args.outcome.now f c.live_mut-live.result.now c.end-has_cowns.new.self
+    c.deref_mut.result.now c.outputs.result.now c.end-has_cowns.new.values c.args.self.now.values c.end_event.result c.put.new.self c.end-has_cowns.result
+    c.live_mut-live.ensures.value c.end-has_cowns.ensures.ended c.outputs.ensures.value c.deref_mut.ensures.value c.deref_mut.ensures.len
     c.end-has_cowns.ensures.values c.end_event.ensures c.put.ensures c.end-has_cowns.ensures.cowns in
     let last = has_none _ _ _ _ _ _ f _ _ _ _ _ k c.if-has_cowns.false in
     let after = parts_of g.C.Chains.lists g.C.Chains.place c.remove.new.self in
@@ -120,9 +119,9 @@ returns-clause-ends g c this at_stage =
     let d = parts_of g.C.Chains.lists g.C.Chains.place c.args.self.now in
     let f = ending d c.args.slot c.args.row this c.args.outcome.now c.requires.sound.kept at_stage c.outputs.ensures.meaning c.requires.handed
     c.requires.spawned in
-    let k = finish_calls d c.args.slot c.args.row this c.args.outcome.now f c.index_mut.result.now c.end-has_cowns.new.place c.deref_mut.result.now
+    let k = finish_calls d c.args.slot c.args.row this c.args.outcome.now f c.live_mut-live.result.now c.end-has_cowns.new.self c.deref_mut.result.now
     c.outputs.result.now c.end-has_cowns.new.values c.args.self.now.values c.end_event.result c.put.new.self c.end-has_cowns.result
-    c.index_mut.ensures.value c.end-has_cowns.ensures.ended c.outputs.ensures.value c.deref_mut.ensures.value c.deref_mut.ensures.len
+    c.live_mut-live.ensures.value c.end-has_cowns.ensures.ended c.outputs.ensures.value c.deref_mut.ensures.value c.deref_mut.ensures.len
     c.end-has_cowns.ensures.values c.end_event.ensures c.put.ensures c.end-has_cowns.ensures.cowns in
     let last = has_none _ _ _ _ _ _ f _ _ _ _ _ k c.if-has_cowns.false in
     let after = parts_of g.C.Chains.lists g.C.Chains.place c.remove.new.self in

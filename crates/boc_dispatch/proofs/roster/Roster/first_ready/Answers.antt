@@ -1,13 +1,13 @@
 use Rattle.std.proofs.Common.{◌≡◌, ◌<◌, ap, sym, subst, refl, length, arith, false, true, List, [], ◌∷◌}
-use Rattle.std.specs.Prelude.{Option, Some, slice_get, slice_index_or, ℕ}
+use Rattle.std.specs.Prelude.{Option, is_some, slice_get, slice_index_or, ℕ}
+use Rattle.boc_runs.specs.declared.stage.Stage.{Stage}
 use Rattle.boc_runs.specs.machine.Stages.{row_at}
 use Rattle.boc_dispatch.specs.declared.calls.Mover.TheVariants as movers
 use Rattle.boc_dispatch.specs.declared.live.Live.{Live}
 use Rattle.boc_dispatch.specs.Calls.{NamesMover}
 use Rattle.boc_dispatch.specs.Inside.{parts_of, underway}
-use Rattle.boc_dispatch.specs.Places.{Has}
 use Rattle.boc_dispatch.proofs.Movable.{none_ready, starts_first, not_quiet}
-use Rattle.boc_dispatch.proofs.Tables.{read_place, live_there}
+use Rattle.boc_dispatch.proofs.Starting.{first_ready}
 use Rattle.boc_dispatch.proofs.roster.Roster.first_ready.Goals as goal
 
 empty : (xs : List ℕ) → (0 < length xs → ⊥) → xs ≡ []
@@ -26,32 +26,27 @@ returns-in_err-slot g c =
     (none_ready d c.requires.sound.kept c.requires.idle
     (empty c.args.self.now.ready.items (λ h. let f : false ≡ true = c.in_err-slot.ensures.variant.1 (omega (arith, h, c.args.self.now.ready.ok)) in cc)))
 
-pub index-requires : goal.index-requires
-index-requires g c =
-    let d = parts_of g.C.Chains.lists g.C.Chains.place c.args.self.now in
+pub live_ref-requires : goal.live_ref-requires
+live_ref-requires g c =
     let front = front_is c.args.self.now.ready.items c.in_ok-slot.field-0.now (omega (arith, c.in_ok-slot.ensures.variant.0 refl, c.args.self.now.ready.ok))
     c.in_ok-slot.ensures.lookup in
     let first = c.requires.sound.kept.ready_there 0 c.in_ok-slot.field-0.now (ap (λ (xs : List ℕ). slice_get xs 0) front.1) in
-    let below = live_there c.args.self.now.live.items c.in_ok-slot.field-0.now first.0 first.2 in
-    omega (arith, c.args.self.now.live.ok.0)
+    ap (λ (o : Option Live). is_some o) first.2
 
-pub recorded_row-requires : goal.recorded_row-requires
-recorded_row-requires g c =
+pub recorded_row-row-requires : goal.recorded_row-row-requires
+recorded_row-row-requires g c =
     let d = parts_of g.C.Chains.lists g.C.Chains.place c.args.self.now in
-    let front = front_is c.args.self.now.ready.items c.in_ok-slot.field-0.now (omega (arith, c.in_ok-slot.ensures.variant.0 refl, c.args.self.now.ready.ok))
+    let front = front_is d.ready c.in_ok-slot.field-0.now (omega (arith, c.in_ok-slot.ensures.variant.0 refl, c.args.self.now.ready.ok))
     c.in_ok-slot.ensures.lookup in
-    let first = c.requires.sound.kept.ready_there 0 c.in_ok-slot.field-0.now (ap (λ (xs : List ℕ). slice_get xs 0) front.1) in
-    let read = read_place c.args.self.now.live.items c.in_ok-slot.field-0.now first.0 c.index.result.now first.2 c.index.ensures in
-    subst (λ (o : Option Live). Has o (λ l. (row : ℕ) × (row_at l.stage ≡ Some row))) (sym read) (first.1, ap row_at first.3)
+    let ready = first_ready d c.requires.sound.kept c.in_ok-slot.field-0.now front.0 front.1 c.live_ref.result.now c.live_ref.ensures in
+    ap (λ (s : Stage). is_some (row_at s)) ready.1
 
 pub returns : goal.returns
 returns g c =
     let d = parts_of g.C.Chains.lists g.C.Chains.place c.args.self.now in
-    let front = front_is c.args.self.now.ready.items c.in_ok-slot.field-0.now (omega (arith, c.in_ok-slot.ensures.variant.0 refl, c.args.self.now.ready.ok))
+    let row = c.recorded_row-row.result in
+    let front = front_is d.ready c.in_ok-slot.field-0.now (omega (arith, c.in_ok-slot.ensures.variant.0 refl, c.args.self.now.ready.ok))
     c.in_ok-slot.ensures.lookup in
-    let first = c.requires.sound.kept.ready_there 0 c.in_ok-slot.field-0.now (ap (λ (xs : List ℕ). slice_get xs 0) front.1) in
-    let read = read_place c.args.self.now.live.items c.in_ok-slot.field-0.now first.0 c.index.result.now first.2 c.index.ensures in
-    let row_is : row_at first.0.stage ≡ Some c.recorded_row.result =
-    subst (λ (o : Option Live). Has o (λ l. row_at l.stage ≡ Some c.recorded_row.result)) read c.recorded_row.ensures in
-    let can = starts_first d c.requires.sound.kept c.requires.idle c.in_ok-slot.field-0.now front.0 first.0 c.recorded_row.result front.1 first.2 row_is in
-    (can, not_quiet d c.requires.sound.kept (movers.Ready c.recorded_row.result) can)
+    let can = starts_first d c.requires.sound.kept c.requires.idle c.in_ok-slot.field-0.now front.0 c.live_ref.result.now row front.1 c.live_ref.ensures
+    c.recorded_row-row.ensures in
+    (can, not_quiet d c.requires.sound.kept (movers.Ready row) can)

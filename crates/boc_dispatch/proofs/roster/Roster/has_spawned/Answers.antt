@@ -5,16 +5,15 @@ use Rattle.boc_runs.specs.Run.{Member}
 use Rattle.boc_dispatch.specs.declared.live.Live.{Live}
 use Rattle.boc_dispatch.specs.Inside.{parts_of, IsOfRow}
 use Rattle.boc_dispatch.proofs.Homes.{none_open, childless, row_at_slot}
-use Rattle.boc_dispatch.proofs.Tables.{read_place}
+use Rattle.boc_dispatch.proofs.Tables.{live_same}
 use Rattle.boc_dispatch.proofs.roster.Roster.has_spawned.Goals as goal
 
-pub returns-in-Some : goal.returns-in-Some
-returns-in-Some g c =
+pub returns : goal.returns
+returns g c =
     let d = parts_of g.C.Chains.lists g.C.Chains.place c.args.self.now in
     let k = c.requires.sound.kept in
     let runs = c.requires.runs in
-    let at_slot = read_place c.args.self.now.live.items c.args.slot runs.0 c.index.result.now runs.1.is c.index.ensures in
-    let same : runs.0 ≡ c.in-Some.live = (let e : Some runs.0 ≡ Some c.in-Some.live = sym at_slot ∙ c.in-Some.is in cc) in
+    let same = live_same d.live c.args.slot c.live_ref.result.now runs.0 c.live_ref.ensures runs.1.is in
     let x : IsOfRow d c.args.slot c.args.row = record { this = runs.0; is = runs.1.is; row_is = ap row_at runs.1.stage_is } in
     let r = row_at_slot d k c.args.slot c.args.row runs.0 runs.1.is x.row_is in (
       λ yes_is.

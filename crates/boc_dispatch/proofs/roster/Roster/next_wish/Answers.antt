@@ -9,18 +9,17 @@ use Rattle.boc_eval.specs.declared.wish.SpawnWish.{SpawnWish}
 use Rattle.boc_dispatch.specs.declared.live.Live.{Live}
 use Rattle.boc_dispatch.specs.Calls.{IsNextWish}
 use Rattle.boc_dispatch.specs.Inside.{parts_of, underway, IsOfRow, HasInHand}
-use Rattle.boc_dispatch.proofs.Tables.{read_place, read_some}
+use Rattle.boc_dispatch.proofs.Tables.{live_same}
 use Rattle.boc_dispatch.proofs.Homes.{has_next_wish, next_wish_means, last_there}
-use Rattle.boc_dispatch.proofs.roster.Roster.next_wish.Goals.{in_default-via-in-Some+else-opens_next, in_default-via-in_default}
 use Rattle.boc_dispatch.proofs.roster.Roster.next_wish.Goals as goal
 
-pub returns-in-Some : goal.returns-in-Some
-returns-in-Some g c =
+pub returns-then-opens_next : goal.returns-then-opens_next
+returns-then-opens_next g c =
     let d = parts_of g.C.Chains.lists g.C.Chains.place c.args.self.now in
     let runs = c.requires.runs in
     let f = c.args.frame.now in
     let x : IsOfRow d c.args.slot c.args.row = record { this = runs.0; is = runs.1.is; row_is = ap row_at runs.1.stage_is } in
-    let same = read_some c.args.self.now.live.items c.args.slot runs.0 c.in-Some.live c.index.result.now runs.1.is c.index.ensures c.in-Some.is in
+    let same = live_same d.live c.args.slot runs.0 c.live_ref.result.now runs.1.is c.live_ref.ensures in
     let next = c.opens_next.ensures.0 c.if-opens_next.true in
     let none : runs.0.child ≡ None = ap (λ (l : Live). l.child) (sym same) ∙ next.0 in
     let made : f.made ≡ runs.0.spawned + 1 = sym c.wishes.ensures.value ∙ next.1 ∙ ap (λ (l : Live). l.spawned + 1) same in
@@ -37,21 +36,14 @@ returns-in-Some g c =
       )
     ] c.last_wish.ensures
 
-pub returns-in_default : goal.returns-in_default
-returns-in_default g c =
+pub returns-else-opens_next : goal.returns-else-opens_next
+returns-else-opens_next g c =
     let d = parts_of g.C.Chains.lists g.C.Chains.place c.args.self.now in
     let runs = c.requires.runs in
     let x : IsOfRow d c.args.slot c.args.row = record { this = runs.0; is = runs.1.is; row_is = ap row_at runs.1.stage_is } in
-    let read : c.index.result.now ≡ Some runs.0 = read_place c.args.self.now.live.items c.args.slot runs.0 c.index.result.now runs.1.is c.index.ensures in
-    elim c.in_default.branch [
-      | in_default-via-in-Some+else-opens_next w ↦ λ n.
-          (let means = next_wish_means d c.requires.sound.kept c.args.slot c.args.row c.args.frame.now.made x n in
-          let same = read_some c.args.self.now.live.items c.args.slot runs.0 w.in-Some.live c.index.result.now runs.1.is c.index.ensures w.in-Some.is in
-          let yes = w.opens_next.ensures.1 (
-            ap (λ (l : Live). l.child) same ∙ means.0,
-            w.wishes.ensures.value ∙ means.1
-                ∙ ap (λ (l : Live). l.spawned + 1) (sym same),
-          ) in
-          absurd (let e : false ≡ true = sym w.if-opens_next.false ∙ yes in cc))
-      | in_default-via-in_default w ↦ λ n. absurd (let e : None ≡ Some runs.0 = sym w.in_default.is ∙ read in cc)
-    ]
+    let same = live_same d.live c.args.slot runs.0 c.live_ref.result.now runs.1.is c.live_ref.ensures in
+    λ n.
+    (let means = next_wish_means d c.requires.sound.kept c.args.slot c.args.row c.args.frame.now.made x n in
+    let yes = c.opens_next.ensures.1
+    (ap (λ (l : Live). l.child) same ∙ means.0, c.wishes.ensures.value ∙ means.1 ∙ ap (λ (l : Live). l.spawned + 1) (sym same)) in
+    absurd (let e : false ≡ true = sym c.if-opens_next.false ∙ yes in cc))

@@ -9,6 +9,7 @@ use Rattle.boc_dispatch.proofs.ChildOpened.{admit_distinct, admit_in}
 use Rattle.boc_dispatch.proofs.Opening.{roomier, homes_left, vacant_of, vacant_empty, prepared, free_of, on_success, dismissed, longer_kept, longer_rooms}
 use Rattle.boc_dispatch.proofs.Opening.{longer_stays, may_be_put, put_kept, put_rooms, put_opens}
 use Rattle.boc_dispatch.proofs.Settling.{rooms_in}
+use Rattle.boc_dispatch.proofs.Taken.{taken_from, held_among, few_taken}
 use Rattle.boc_dispatch.proofs.roster.Roster.open.Given.{Over}
 use Rattle.boc_dispatch.proofs.roster.Roster.open.Goals.{After-make_places}
 use Rattle.boc_dispatch.proofs.roster.Roster.open.Goals as goal
@@ -68,6 +69,13 @@ homes_fit g c = omega (
   c.args.self.now.homes.ok.0,
   c.reserve.ensures.len,
 )
+
+-- the slot has 32 bits, since few are taken
+pub make_places-requires-clause-small : goal.make_places-requires-clause-small
+make_places-requires-clause-small g c =
+    let d = parts_of g.C.Chains.lists g.C.Chains.place c.args.self.now in
+    let k = c.requires.sound.kept in
+    c.in_ok-own.ensures.short (taken_from 0 d.live) (held_among d k) (few_taken d k c.requires.few)
 
 pub dismiss-requires-clause-empty : goal.dismiss-requires-clause-empty
 dismiss-requires-clause-empty g c n =

@@ -1,11 +1,11 @@
-use Rattle.std.proofs.Common.{◌≡◌, ◌≢◌, ◌∷◌, ◌++◌, [], ◌∙◌, ◌+◌, ◌^◌, ◌≤◌, ℕ, set, List, ap, subst, sym, arith, length, replicate}
-use Rattle.std.specs.Prelude.{Option, Some, None, vec_capacity}
+use Rattle.std.proofs.Common.{◌≡◌, ◌≢◌, ◌∷◌, ◌++◌, [], ◌∙◌, ◌+◌, ◌^◌, ◌<◌, ◌≤◌, ℕ, true, false, set, List, ap, subst, sym, arith, length, replicate}
+use Rattle.std.specs.Prelude.{Option, Some, None, is_some, vec_capacity}
 use Rattle.std.specs.VecDeque.{deque_capacity, deque_len}
 use Rattle.boc_program.specs.Programs.{cown_count, initial_values}
 use Rattle.boc_runs.proofs.Behaviours.{initial-length}
 use Rattle.boc_runs.specs.declared.event.Event.{Event}
 use Rattle.boc_runs.specs.declared.event.Event.TheVariants.{Spawn}
-use Rattle.boc_chain.specs.Chain.{Place}
+use Rattle.boc_chain.specs.Chain.{HoldsAmong, Place}
 use Rattle.boc_rules.specs.Log.{Log, grown}
 use Rattle.boc_dispatch.specs.declared.live.Live.{Live}
 use Rattle.boc_dispatch.specs.Inside.{Parts, state, live_at, IsKept, HasRooms}
@@ -95,6 +95,13 @@ made_is g c =
     ∙ (λ i. record { cowns = count i; events = Spawn 0 0 0 (record { items = event_cowns i }) ∷ []; rooms = 0 }) in
     λ i. record (made g c) { lists = lists_are i; homes = homes_are i; ready = ready_are i; log = log_is i; values = values_are i }
 
+-- the slot has 32 bits, since none is held
+short : (g : Over) (c : After-put g) → c.in_ok-slot.slot.index < 2 ^ 32
+short g c =
+    let none_held : HoldsAmong (g.C.Chains.place c.args.chains) [] =
+    λ s there. absurd (let f : false ≡ true = sym (ap (λ o. is_some o) (c.requires.none s)) ∙ there in cc) in
+    c.in_ok-slot.ensures.short [] none_held (omega arith)
+
 pub returns-clause-sound : goal.returns-clause-sound
 returns-clause-sound g c =
     let s = (goal.at.returns-clause-sound g c).After-put in
@@ -108,7 +115,7 @@ returns-clause-sound g c =
     let long : c.len-2.result ≡ c.reach.new.live.len = c.len-2.ensures in
     let one : 1 ≤ homes = omega arith in
     let wide : length table ≤ ready = omega (arith, c.reach.new.live.ok.0) in
-    let few : length table ≤ 2 ^ 32 = omega (arith, c.in_ok-reach.ensures.no_longer, ap length (nothing g s)) in
+    let few : length table ≤ 2 ^ 32 = omega (arith, c.in_ok-reach.ensures.no_longer, ap length (nothing g s), short g s) in
     record {
       kept = subst IsKept (sym (made_is g s)) (opened_keeps c.args.program.now (place g s) table c.in_ok-slot.slot.index c.main_behaviour.result (main g s)
           (free g s) c.in_ok-reach.ensures.long (here g s) (others g s));

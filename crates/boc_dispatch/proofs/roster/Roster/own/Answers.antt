@@ -1,32 +1,24 @@
 use Rattle.std.proofs.Common.{◌≡◌, set, refl, sym, ◌∙◌, ap, subst, arith}
-use Rattle.std.specs.Prelude.{Option, vec_capacity}
+use Rattle.std.specs.Prelude.{Option, Some, is_some, vec_capacity}
 use Rattle.std.specs.VecDeque.{deque_capacity}
 use Rattle.boc_runs.specs.machine.Steps.{Owns}
 use Rattle.boc_dispatch.specs.declared.live.Live.{Live}
 use Rattle.boc_dispatch.specs.Grants.{with_granted, MayBeGranted}
 use Rattle.boc_dispatch.specs.Inside.{Parts, parts_of, state, IsKept, HasRooms, GoesOn}
-use Rattle.boc_dispatch.specs.Places.{Has}
 use Rattle.boc_dispatch.proofs.Fits.{steps_fit}
-use Rattle.boc_dispatch.proofs.Tables.{read_place}
 use Rattle.boc_dispatch.proofs.Granting.{stepped_on, granted_stays}
-use Rattle.boc_dispatch.proofs.Owning.{Owning, own_place, own_parts, own_may, own_kept, own_rooms, own_goes}
+use Rattle.boc_dispatch.proofs.Owning.{Owning, own_there, own_parts, own_may, own_kept, own_rooms, own_goes}
 use Rattle.boc_dispatch.proofs.roster.Roster.own.Goals as goal
 
-pub end_child-requires : goal.end_child-requires
-end_child-requires g c =
-    let held = c.requires.held in
-    subst (λ (o : Option Live). Has o (λ l. Unit {0})) (sym
-    (read_place c.args.self.now.live.items c.args.parent held.this c.index_mut.result.now held.is c.index_mut.ensures.value)) tt
-
-pub wait-requires : goal.wait-requires
-wait-requires g c =
+pub live_mut-requires-2 : goal.live_mut-requires-2
+live_mut-requires-2 g c =
     let d = parts_of g.C.Chains.lists g.C.Chains.place c.args.self.now in
     let r = c.requires in
     let o : Owning d c.args.parent c.args.slot c.args.row r.held.this r.due.0 =
     record { kept = r.sound.kept; is = r.due.1.is; stage_is = r.due.1.stage_is; holder_is = r.held.is; holds = r.held.child_is } in
-    subst (λ (z : Option Live). Has z (λ l. Unit {0}))
-    (sym (own_place d c.args.parent c.args.slot c.args.row r.held.this r.due.0 c.index_mut.result.now c.end_child.new.place c.index_mut-2.result.now o
-    c.index_mut.ensures.value c.end_child.ensures c.index_mut-2.ensures.value)) tt
+    ap (λ (x : Option Live). is_some x)
+    (own_there d c.args.parent c.args.slot c.args.row r.held.this r.due.0 c.live_mut.result.now c.end_child.new.self o c.live_mut.ensures.value
+    c.end_child.ensures)
 
 pub grant-requires : goal.grant-requires
 grant-requires g c =
@@ -34,9 +26,9 @@ grant-requires g c =
     let r = c.requires in
     let o : Owning d c.args.parent c.args.slot c.args.row r.held.this r.due.0 =
     record { kept = r.sound.kept; is = r.due.1.is; stage_is = r.due.1.stage_is; holder_is = r.held.is; holds = r.held.child_is } in
-    let e = own_parts d c.args.parent c.args.slot c.args.row r.held.this r.due.0 c.index_mut.result.now c.end_child.new.place c.index_mut-2.result.now
-    c.wait.new.place o
-    (record { reads = c.index_mut.ensures.value; frees = c.end_child.ensures; reads_own = c.index_mut-2.ensures.value; waits = c.wait.ensures }) in
+    let e = own_parts d c.args.parent c.args.slot c.args.row r.held.this r.due.0 c.live_mut.result.now c.end_child.new.self c.live_mut-2.result.now
+    c.wait.new.self o
+    (record { holder = c.live_mut.ensures.value; frees = c.end_child.ensures; own = c.live_mut-2.ensures.value; waits = c.wait.ensures }) in
     let room = deque_capacity c.args.self.now.ready in
     subst (λ (z : Parts). MayBeGranted z c.args.slot room) (sym e)
     (own_may d c.args.parent c.args.slot c.args.row r.held.this r.due.0 o room r.sound.rooms.ready)
@@ -44,7 +36,7 @@ grant-requires g c =
 pub overflow_add-self : goal.overflow_add-self
 overflow_add-self g c =
     let d = parts_of g.C.Chains.lists g.C.Chains.place c.args.self.now in
-    let before : Parts = record d { live = set (set d.live c.args.parent c.end_child.new.place) c.args.slot c.wait.new.place } in
+    let before : Parts = record d { live = set (set d.live c.args.parent (Some c.end_child.new.self)) c.args.slot (Some c.wait.new.self) } in
     let same : c.grant.new.self.steps ≡ d.steps =
     ap (λ (z : Parts). z.steps) c.grant.ensures.granted ∙ granted_stays (λ z. z.steps) before c.args.slot (λ live ready. refl) in
     omega (arith, steps_fit d.program (state d) c.requires.sound.kept.sound, same)
@@ -55,9 +47,9 @@ returns-clause-sound g c =
     let r = c.requires in
     let o : Owning d c.args.parent c.args.slot c.args.row r.held.this r.due.0 =
     record { kept = r.sound.kept; is = r.due.1.is; stage_is = r.due.1.stage_is; holder_is = r.held.is; holds = r.held.child_is } in
-    let e = own_parts d c.args.parent c.args.slot c.args.row r.held.this r.due.0 c.index_mut.result.now c.end_child.new.place c.index_mut-2.result.now
-    c.wait.new.place o
-    (record { reads = c.index_mut.ensures.value; frees = c.end_child.ensures; reads_own = c.index_mut-2.ensures.value; waits = c.wait.ensures }) in
+    let e = own_parts d c.args.parent c.args.slot c.args.row r.held.this r.due.0 c.live_mut.result.now c.end_child.new.self c.live_mut-2.result.now
+    c.wait.new.self o
+    (record { holder = c.live_mut.ensures.value; frees = c.end_child.ensures; own = c.live_mut-2.ensures.value; waits = c.wait.ensures }) in
     let f = ap stepped_on (c.grant.ensures.granted ∙ ap (with_granted c.args.slot) e) in
     let homes = vec_capacity c.args.self.now.homes in
     let room = deque_capacity c.args.self.now.ready in
@@ -80,8 +72,7 @@ returns-clause-owns g c l at_stage =
     let r = c.requires in
     let o : Owning d c.args.parent c.args.slot c.args.row r.held.this l =
     record { kept = r.sound.kept; is = at_stage.is; stage_is = at_stage.stage_is; holder_is = r.held.is; holds = r.held.child_is } in
-    let e = own_parts d c.args.parent c.args.slot c.args.row r.held.this l c.index_mut.result.now c.end_child.new.place c.index_mut-2.result.now
-    c.wait.new.place o
-    (record { reads = c.index_mut.ensures.value; frees = c.end_child.ensures; reads_own = c.index_mut-2.ensures.value; waits = c.wait.ensures }) in
+    let e = own_parts d c.args.parent c.args.slot c.args.row r.held.this l c.live_mut.result.now c.end_child.new.self c.live_mut-2.result.now c.wait.new.self o
+    (record { holder = c.live_mut.ensures.value; frees = c.end_child.ensures; own = c.live_mut-2.ensures.value; waits = c.wait.ensures }) in
     let f = ap stepped_on (c.grant.ensures.granted ∙ ap (with_granted c.args.slot) e) in
     subst (λ (z : Parts). GoesOn (λ s t. Owns s l.number t) d z) (sym f) (own_goes d c.args.parent c.args.slot c.args.row r.held.this l o)

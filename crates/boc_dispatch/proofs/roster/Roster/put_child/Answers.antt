@@ -6,7 +6,7 @@ use Rattle.boc_dispatch.specs.declared.live.Live.{Live}
 use Rattle.boc_dispatch.specs.Inside.{Parts, live_at, parts_of}
 use Rattle.boc_dispatch.specs.Moves.{Records}
 use Rattle.boc_dispatch.specs.Places.{with_child}
-use Rattle.boc_dispatch.proofs.Tables.{live_other, read_changed}
+use Rattle.boc_dispatch.proofs.Tables.{live_other, live_changed}
 use Rattle.boc_dispatch.proofs.roster.Roster.put_child.Goals as goal
 
 -- with this table, but for what is at a parent's slot
@@ -23,7 +23,7 @@ returns-clause-puts g c this is =
     let is_set : table ≡ set d.live slot (Some c.args.child) = c.put.ensures in
     let there : live_at table parent ≡ Some this = ap (λ t. live_at t parent) is_set ∙ live_other d.live slot (Some c.args.child) parent c.requires.apart
     ∙ is in
-    let new_is = read_changed (with_child (Some slot)) table parent this c.index_mut.result.now c.begin_child.new.place there c.index_mut.ensures.value
+    let new_is = live_changed (with_child (Some slot)) table parent this c.live_mut.result.now c.begin_child.new.self there c.live_mut.ensures.value
     c.begin_child.ensures in
     let held = Some (with_child (Some slot) this) in
     let settled : c.is_empty-is_settled.result ≡ eqb (length c.args.child.cowns.items) 0 =

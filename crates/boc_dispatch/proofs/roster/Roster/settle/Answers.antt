@@ -1,18 +1,18 @@
 use Rattle.std.proofs.Common.{◌≡◌, ◌∙◌, ◌<◌, ◌≤◌, suc, eqb, true, false, sym, ap, subst, refl, length}
-use Rattle.std.specs.Prelude.{Option, Some, vec_capacity}
+use Rattle.std.specs.Prelude.{Some, vec_capacity}
 use Rattle.std.specs.VecDeque.{deque_capacity}
 use Rattle.std.proofs.lemmas.Bool.{eqb-true}
 use Rattle.boc_runs.specs.declared.stage.Stage.TheVariants.{Asking}
 use Rattle.boc_dispatch.specs.declared.live.Live.{Live}
 use Rattle.boc_dispatch.specs.Inside.{Parts, parts_of, state, underway, IsKept, HasRooms, IsAtStage}
-use Rattle.boc_dispatch.specs.Places.{Has, settled}
+use Rattle.boc_dispatch.specs.Places.{settled}
 use Rattle.boc_dispatch.proofs.Fits.{steps_fit}
 use Rattle.boc_dispatch.proofs.Settled.{settle_next, settle_there, settle_stands, settle_fits}
 use Rattle.boc_dispatch.proofs.Settling.{IsOutcome, lone_outcome, linked_outcome, may_settle_so, settled_kept, settled_rooms, settled_steps, rooms_in}
 use Rattle.boc_dispatch.proofs.Settling.{blocked_parts, is_blocked}
-use Rattle.boc_dispatch.proofs.Tables.{read_place, read_changed}
+use Rattle.boc_dispatch.proofs.Tables.{live_same, live_changed}
 use Rattle.boc_dispatch.proofs.roster.Roster.settle.Given.{Over}
-use Rattle.boc_dispatch.proofs.roster.Roster.settle.Goals.{After-index_mut, After-settle_next-is_last}
+use Rattle.boc_dispatch.proofs.roster.Roster.settle.Goals.{After-live_mut, After-settle_next-is_last}
 use Rattle.boc_dispatch.proofs.roster.Roster.settle.Goals as goal
 use Rattle.boc_dispatch.proofs.roster.Roster.settle.Goals.{in-Lone, in-Linked}
 
@@ -47,8 +47,8 @@ returns-in-Blocked-clause-settles g c l it =
     (ap underway same, is_blocked d k c.args.slot l c.args.request it answer lists place c.settle.ensures.lists c.settle.ensures.places)
 
 -- whether it is granted is as the chain tells
-out : (g : Over) (c : After-index_mut g) (l : Live) (it : IsAtStage (parts_of g.C.Chains.lists g.C.Chains.place c.args.self.now) c.args.slot l
-    (Asking c.args.request true))
+out : (g : Over) (c : After-live_mut g) (l : Live)
+    (it : IsAtStage (parts_of g.C.Chains.lists g.C.Chains.place c.args.self.now) c.args.slot l (Asking c.args.request true))
     → IsOutcome (parts_of g.C.Chains.lists g.C.Chains.place c.args.self.now) c.requires.sound.kept c.args.slot l c.args.request it c.match-settle.granted
 out g c l it =
     let d = parts_of g.C.Chains.lists g.C.Chains.place c.args.self.now in
@@ -61,29 +61,31 @@ out g c l it =
 
 new_is : (g : Over) (c : After-settle_next-is_last g) (l : Live)
     → IsAtStage (parts_of g.C.Chains.lists g.C.Chains.place c.args.self.now) c.args.slot l (Asking c.args.request true)
-    → Some (settled c.args.request c.match-settle.granted l) ≡ c.settle_next-is_last.new.place
-new_is g c l it = read_changed (settled c.args.request c.match-settle.granted) c.args.self.now.live.items c.args.slot l c.index_mut.result.now
-    c.settle_next-is_last.new.place it.is c.index_mut.ensures.value c.settle_next-is_last.ensures.settles
+    → Some (settled c.args.request c.match-settle.granted l) ≡ Some c.settle_next-is_last.new.self
+new_is g c l it =
+    live_changed (settled c.args.request c.match-settle.granted) c.args.self.now.live.items c.args.slot l c.live_mut.result.now
+    c.settle_next-is_last.new.self it.is c.live_mut.ensures.value c.settle_next-is_last.ensures.settles
 
 is_last : (g : Over) (c : After-settle_next-is_last g) (l : Live)
     → IsAtStage (parts_of g.C.Chains.lists g.C.Chains.place c.args.self.now) c.args.slot l (Asking c.args.request true)
     → c.settle_next-is_last.result ≡ eqb (suc c.args.request) (length l.cowns.items)
 is_last g c l it =
-    subst (λ (o : Option Live). Has o (λ x. c.settle_next-is_last.result ≡ eqb (suc c.args.request) (length x.cowns.items)))
-    (read_place c.args.self.now.live.items c.args.slot l c.index_mut.result.now it.is c.index_mut.ensures.value) c.settle_next-is_last.ensures.last
+    subst (λ (x : Live). c.settle_next-is_last.result ≡ eqb (suc c.args.request) (length x.cowns.items))
+    (live_same c.args.self.now.live.items c.args.slot l c.live_mut.result.now it.is c.live_mut.ensures.value) c.settle_next-is_last.ensures.last
 
 pub settle_next-is_last-requires : goal.settle_next-is_last-requires
 settle_next-is_last-requires g c =
     let d = parts_of g.C.Chains.lists g.C.Chains.place c.args.self.now in
     let l = c.requires.due.0 in
     let it = c.requires.due.1 in
-    let told = out g (goal.at.settle_next-is_last-requires g c).After-index_mut l it in
-    subst (λ (o : Option Live). Has o (λ x. (c.args.request < length x.cowns.items) × (c.match-settle.granted ≤ x.awaited)))
-    (sym (read_place d.live c.args.slot l c.index_mut.result.now it.is c.index_mut.ensures.value)) (
-      settle_next d c.requires.sound.kept c.args.slot l c.args.request it,
-      settle_fits d c.requires.sound.kept c.args.slot l c.args.request it
-          c.match-settle.granted told.granted_is (Asking (suc c.args.request) false) refl refl,
-    )
+    let told = out g (goal.at.settle_next-is_last-requires g c).After-live_mut l it in
+    let back = sym (live_same d.live c.args.slot l c.live_mut.result.now it.is c.live_mut.ensures.value) in
+    record {
+      low = subst (λ (x : Live). c.args.request < length x.cowns.items) back (settle_next d c.requires.sound.kept c.args.slot l c.args.request it);
+      awaited = subst (λ (x : Live). c.match-settle.granted ≤ x.awaited) back
+          (settle_fits d c.requires.sound.kept c.args.slot l c.args.request it c.match-settle.granted told.granted_is
+          (Asking (suc c.args.request) false) refl refl);
+    }
 
 pub step_asking-requires-clause-fits : goal.step_asking-requires-clause-fits
 step_asking-requires-clause-fits g c = steps_fit c.args.self.now.program.now (state (parts_of g.C.Chains.lists g.C.Chains.place c.args.self.now))
@@ -91,18 +93,18 @@ step_asking-requires-clause-fits g c = steps_fit c.args.self.now.program.now (st
 
 pub step_asking-requires-clause-may : goal.step_asking-requires-clause-may
 step_asking-requires-clause-may g c settles =
-    let before = (goal.at.step_asking-requires-clause-may g c).After-index_mut in
+    let before = (goal.at.step_asking-requires-clause-may g c).After-live_mut in
     let s = (goal.at.step_asking-requires-clause-may g c).After-settle_next-is_last in
     may_settle_so (parts_of g.C.Chains.lists g.C.Chains.place c.args.self.now) c.requires.sound.kept c.args.slot c.requires.due.0 c.args.request
     c.requires.due.1 c.match-settle.granted (out g before c.requires.due.0 c.requires.due.1) (g.C.Chains.lists c.settle.new.self)
-    (g.C.Chains.place c.settle.new.self) c.settle.ensures.lists c.settle.ensures.places c.settle_next-is_last.new.place
+    (g.C.Chains.place c.settle.new.self) c.settle.ensures.lists c.settle.ensures.places (Some c.settle_next-is_last.new.self)
     (new_is g s c.requires.due.0 c.requires.due.1)
     (eqb-true (suc c.args.request) (length c.requires.due.0.cowns.items) (sym (is_last g s c.requires.due.0 c.requires.due.1) ∙ settles)) c.args.parent
     c.requires.held (vec_capacity c.args.self.now.homes) (deque_capacity c.args.self.now.ready) c.requires.sound.rooms
 
 pub returns-clause-sound : goal.returns-clause-sound
 returns-clause-sound g c =
-    let before = (goal.at.returns-clause-sound g c).After-index_mut in
+    let before = (goal.at.returns-clause-sound g c).After-live_mut in
     let s = (goal.at.returns-clause-sound g c).After-settle_next-is_last in
     let after = parts_of g.C.Chains.lists g.C.Chains.place c.step_asking.new.self in
     let homes = vec_capacity c.args.self.now.homes in
@@ -110,7 +112,7 @@ returns-clause-sound g c =
     record {
       kept = settled_kept (parts_of g.C.Chains.lists g.C.Chains.place c.args.self.now) c.requires.sound.kept c.args.slot c.requires.due.0 c.args.request
           c.requires.due.1 c.match-settle.granted (out g before c.requires.due.0 c.requires.due.1) (g.C.Chains.lists c.settle.new.self)
-          (g.C.Chains.place c.settle.new.self) c.settle.ensures.lists c.settle.ensures.places c.settle_next-is_last.new.place
+          (g.C.Chains.place c.settle.new.self) c.settle.ensures.lists c.settle.ensures.places (Some c.settle_next-is_last.new.self)
           (new_is g s c.requires.due.0 c.requires.due.1)
           c.args.parent c.requires.held after c.settle_next-is_last.result (is_last g s c.requires.due.0 c.requires.due.1) c.step_asking.ensures.asks
           c.step_asking.ensures.records;
@@ -118,7 +120,7 @@ returns-clause-sound g c =
           c.step_asking.ensures.ready
           (settled_rooms (parts_of g.C.Chains.lists g.C.Chains.place c.args.self.now) c.requires.sound.kept c.args.slot c.requires.due.0 c.args.request
           c.requires.due.1 c.match-settle.granted (out g before c.requires.due.0 c.requires.due.1) (g.C.Chains.lists c.settle.new.self)
-          (g.C.Chains.place c.settle.new.self) c.settle.ensures.lists c.settle.ensures.places c.settle_next-is_last.new.place
+          (g.C.Chains.place c.settle.new.self) c.settle.ensures.lists c.settle.ensures.places (Some c.settle_next-is_last.new.self)
           (new_is g s c.requires.due.0 c.requires.due.1)
           c.args.parent c.requires.held after c.settle_next-is_last.result (is_last g s c.requires.due.0 c.requires.due.1) c.step_asking.ensures.asks
           c.step_asking.ensures.records
@@ -127,11 +129,11 @@ returns-clause-sound g c =
 
 pub returns-clause-settles : goal.returns-clause-settles
 returns-clause-settles g c l it =
-    let before = (goal.at.returns-clause-settles g c).After-index_mut in
+    let before = (goal.at.returns-clause-settles g c).After-live_mut in
     let s = (goal.at.returns-clause-settles g c).After-settle_next-is_last in
     let after = parts_of g.C.Chains.lists g.C.Chains.place c.step_asking.new.self in
     let both = settled_steps (parts_of g.C.Chains.lists g.C.Chains.place c.args.self.now) c.requires.sound.kept c.args.slot l c.args.request it
     c.match-settle.granted (out g before l it) (g.C.Chains.lists c.settle.new.self) (g.C.Chains.place c.settle.new.self) c.settle.ensures.lists
-    c.settle.ensures.places c.settle_next-is_last.new.place (new_is g s l it)
+    c.settle.ensures.places (Some c.settle_next-is_last.new.self) (new_is g s l it)
     c.args.parent c.requires.held after c.settle_next-is_last.result (is_last g s l it) c.step_asking.ensures.asks c.step_asking.ensures.records in
     (refl, both.0, both.1)

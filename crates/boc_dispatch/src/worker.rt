@@ -97,7 +97,7 @@ impl<'a> Worker<'a> {
         Worker {
             number,
             hand: Hand::Nothing,
-            spare: Spare::new(),
+            spare: Spare::default(),
         }
     }
 
@@ -319,7 +319,7 @@ fn clear<'a>(spare: &mut Spare<'a>, hand: &mut Hand<'a>)
     ensures { hand.new ≡ hands.Nothing }
 {
     match std::mem::replace(hand, Hand::Nothing) {
-        Hand::Done(_, outcome) => outcome.leave(spare),
+        Hand::Done(_, outcome) => *spare = Spare::from(outcome),
         _ => unreachable!(),
     }
 }

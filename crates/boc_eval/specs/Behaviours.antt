@@ -1,5 +1,6 @@
 -- The behaviours of a serial run, as its rows tell them.
 use Rattle.std.specs.Prelude.{ℕ, ◌*◌, ◌≤◌, List, [], ◌∷◌, map, length, ℤ, slice_range, slice_index_or}
+use Rattle.boc_program.specs.declared.limits.TheConstants.{MOST_ARGUMENTS, MOST_HELD, MOST_ROWS}
 use Rattle.boc_runs.specs.Serial.{Behaviour, main_behaviour}
 use Rattle.boc_eval.specs.declared.rows.Extent.{Extent}
 use Rattle.boc_eval.specs.declared.rows.Row.{Row}
@@ -33,6 +34,6 @@ RowsFit args cowns (r ∷ rs) = (IsWithin r.args args × IsWithin r.cowns cowns)
 -- there are no more rows than a run may have, and what each row names is there
 pub record IsConsistent (rows : Rows) : Type 0 where
   pub parts : RowsFit (length rows.args.items) (length rows.cowns.items) rows.rows.items
-  pub few_args : length rows.args.items ≤ 8 * length rows.rows.items
-  pub few_cowns : length rows.cowns.items ≤ 8 * length rows.rows.items
-  pub few_rows : length rows.rows.items ≤ 65535
+  pub few_args : length rows.args.items ≤ MOST_ARGUMENTS * length rows.rows.items
+  pub few_cowns : length rows.cowns.items ≤ MOST_HELD * length rows.rows.items
+  pub few_rows : length rows.rows.items ≤ MOST_ROWS

@@ -1,6 +1,7 @@
 // The behaviours of a serial run, in the order in which they were spawned.
 
 ghost use Rattle.std.specs.Prelude.{◌≡◌, ◌<◌, ◌≤◌, [], ◌∷◌, ◌++◌, length, slice_range, OnOk};
+ghost use Rattle.boc_program.specs.declared.limits.TheConstants.{MOST_ARGUMENTS, MOST_HELD, MOST_ROWS};
 ghost use Rattle.boc_runs.specs.Serial.{Behaviour};
 ghost use Rattle.boc_eval.specs.Behaviours.{IsConsistent, IsWithin, behaviour_at, behaviours_of};
 
@@ -65,9 +66,9 @@ impl Rows {
     /// Adds a behaviour behind the others.
     pub fn push(&mut self, kind: usize, args: &[i64], cowns: &[CownNo]) -> Result<(), AllocError>
         requires sound { IsConsistent self.old }
-        requires few { length self.old.rows.items < 65535 }
-        requires few_args { length args.now ≤ 8 }
-        requires few_cowns { length cowns.now ≤ 8 }
+        requires few { length self.old.rows.items < MOST_ROWS }
+        requires few_args { length args.now ≤ MOST_ARGUMENTS }
+        requires few_cowns { length cowns.now ≤ MOST_HELD }
         ensures sound { OnOk result (IsConsistent self.new) }
         ensures behaviours { OnOk result (behaviours_of self.new ≡ behaviours_of self.old
             ++ (let b : Behaviour = record { kind = kind; args = args.now; cowns = cowns.now } in b) ∷ []) }

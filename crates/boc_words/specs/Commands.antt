@@ -61,6 +61,7 @@ signature_of Sweep = (codes "sweep", sharing_flag ∷ [])
 abbrev pub every_kind : List Kind
 every_kind = Values ∷ Check ∷ Run ∷ Profile ∷ Time ∷ WhatIf ∷ Sweep ∷ []
 
+-- the commands with what they take
 abbrev pub commands_of_boc : List (Text × List Argument)
 commands_of_boc = map signature_of every_kind
 
@@ -96,5 +97,6 @@ rule_at (operands id) = record (new_rule id) {
 abbrev pub shape_of_command : Text × List Argument → Shape
 shape_of_command command = record (new_shape command.0) { rules = map rule_at command.1 }
 
+-- the command with no commands of its own
 abbrev pub app_of_command : Text × List Argument → App
 app_of_command command = record { top = shape_of_command command; subs = [] }

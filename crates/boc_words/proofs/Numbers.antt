@@ -111,7 +111,7 @@ signed most text passed = go (starts_with_minus text) refl
 spells : (numbers : Numbers) (text : Text) → accepts false (parser_of numbers) text ≡ true → Spells numbers text
 spells (UpTo most) text passed = signed most text (accepts-Accepts false (parsers.Signed (pos 1) (pos most)) text passed)
 spells Every text passed =
-    let is = accepts-Accepts false (parsers.Unsigned 0 18446744073709551615) text passed in
+    let is = accepts-Accepts false (parser_of Every) text passed in
     record { value = digits_value 10 (without_leading_plus text); taken = is.1; numeral = is.0; value_is = refl }
 
 -- rows with at most one such number do not miss it

@@ -1,5 +1,5 @@
 -- The commands, and which arguments each takes.
-use Rattle.std.specs.Prelude.{◌<◌, ◌≤◌, ◌^◌, ℕ, List, [], ◌∷◌, Some, map, pos, codes}
+use Rattle.std.specs.Prelude.{◌<◌, ◌≤◌, ◌-◌, ◌^◌, ℕ, List, [], ◌∷◌, Some, map, pos, codes}
 use Rattle.clap.specs.Lexer.{usize_max}
 use Rattle.clap.specs.Simple.{new_shape}
 use Rattle.clap.specs.Words.{App, Rule, Shape, Text, new_rule}
@@ -10,7 +10,7 @@ use Rattle.boc_program.specs.declared.limits.TheConstants.{MOST_RUNNERS, MOST_WO
 use Rattle.boc_words.specs.declared.arguments.Numbers.{Numbers}
 use Rattle.boc_words.specs.declared.arguments.Numbers.TheVariants.{UpTo, Every}
 use Rattle.boc_words.specs.declared.commands.Kind.{Kind}
-use Rattle.boc_words.specs.declared.commands.Kind.TheVariants.{Values, Check, Run, Profile, Time, WhatIf, Sweep}
+use Rattle.boc_words.specs.declared.commands.Kind.TheVariants as kinds
 
 -- ---- what a command may take
 
@@ -49,19 +49,19 @@ edits_operands = operands (codes "edits")
 
 -- the name of a command, and which arguments it takes
 abbrev pub signature_of : Kind → Text × List Argument
-signature_of Values = (codes "values", [])
-signature_of Check = (codes "check", [])
-signature_of Run = (codes "run", number runners_option ∷ [])
-signature_of Profile = (codes "profile", number workers_option ∷ sharing_flag ∷ [])
-signature_of Time = (codes "time", number runners_option ∷ number workers_option ∷ sharing_flag ∷ [])
-signature_of WhatIf = (codes "whatif", number workers_option ∷ sharing_flag ∷ edits_operands ∷ [])
-signature_of Sweep = (codes "sweep", sharing_flag ∷ [])
+signature_of kinds.Values = (codes "values", [])
+signature_of kinds.Check = (codes "check", [])
+signature_of kinds.Run = (codes "run", number runners_option ∷ [])
+signature_of kinds.Profile = (codes "profile", number workers_option ∷ sharing_flag ∷ [])
+signature_of kinds.Time = (codes "time", number runners_option ∷ number workers_option ∷ sharing_flag ∷ [])
+signature_of kinds.WhatIf = (codes "whatif", number workers_option ∷ sharing_flag ∷ edits_operands ∷ [])
+signature_of kinds.Sweep = (codes "sweep", sharing_flag ∷ [])
 
 -- every command, in the order of help
 abbrev pub every_kind : List Kind
-every_kind = Values ∷ Check ∷ Run ∷ Profile ∷ Time ∷ WhatIf ∷ Sweep ∷ []
+every_kind = kinds.Values ∷ kinds.Check ∷ kinds.Run ∷ kinds.Profile ∷ kinds.Time ∷ kinds.WhatIf ∷ kinds.Sweep ∷ []
 
--- the commands with what they take
+-- each by its name, with what it takes
 abbrev pub commands_of_boc : List (Text × List Argument)
 commands_of_boc = map signature_of every_kind
 
@@ -75,9 +75,9 @@ IsNumberOf Every n = n < 2 ^ 64
 -- the parser of these numbers
 abbrev pub parser_of : Numbers → ValueParser
 parser_of (UpTo most) = parsers.Signed (pos 1) (pos most)
-parser_of Every = parsers.Unsigned 0 18446744073709551615
+parser_of Every = parsers.Unsigned 0 (2 ^ 64 - 1)
 
--- the argument by itself
+-- the argument, of which the parser has this
 abbrev pub rule_at : Argument → Rule
 rule_at (number option) = record (new_rule option.id) {
   long = Some option.id;
@@ -93,10 +93,10 @@ rule_at (operands id) = record (new_rule id) {
   range = Some (record { start_inclusive = 0; end_inclusive = usize_max });
 }
 
--- the command by itself
+-- the command, of which the parser has this
 abbrev pub shape_of_command : Text × List Argument → Shape
 shape_of_command command = record (new_shape command.0) { rules = map rule_at command.1 }
 
--- the command with no commands of its own
+-- and as a parser of its own
 abbrev pub app_of_command : Text × List Argument → App
 app_of_command command = record { top = shape_of_command command; subs = [] }

@@ -14,8 +14,8 @@ option_of option = record { id = option.id.now; numbers = option.numbers }
 -- the argument that is listed
 abbrev pub argument_of : Listed → Argument
 argument_of (listed.Number option) = number (option_of option)
-argument_of (listed.Flag id help) = flag id.now
-argument_of (listed.Words id value_name help) = operands id.now
+argument_of (listed.Flag option) = flag option.id.now
+argument_of (listed.Words words) = operands words.id.now
 
 -- the command that is listed: its name, and which arguments it takes
 abbrev pub command_of_entry : Entry → Text × List Argument

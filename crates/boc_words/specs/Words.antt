@@ -19,8 +19,8 @@ use Rattle.boc_words.specs.declared.words.Command.{Command}
 use Rattle.boc_words.specs.declared.words.Command.TheVariants as commands
 use Rattle.boc_words.specs.declared.commands.Kind.{Kind}
 use Rattle.boc_words.specs.declared.commands.Kind.TheVariants as called
-use Rattle.boc_words.specs.Commands.{Argument, IsNumberOf, NumberOption, commands_of_boc, number_options, runners_option, shape_of_command, signature_of}
-use Rattle.boc_words.specs.Commands.{workers_option}
+use Rattle.boc_words.specs.Commands.{Argument, IsNumberOf, NumberOption, commands_of_boc, number_options, shape_of_command, signature_of}
+use Rattle.boc_words.specs.Commands.{runners_option, workers_option}
 use Rattle.boc_words.specs.EditWords.{edit_word}
 
 -- ---- what the parser is told

@@ -20,6 +20,8 @@ pub(crate) enum Numbers {
 }
 
 /// An option with a number: its name, what help calls the number, the numbers that it takes, and what help says of it.
+///
+/// One more is a constant here and an entry of `number_options`; `number_asked` reads its number.
 #[derive(Clone, Copy)]
 pub(crate) struct NumberOption {
     pub(crate) id: &'static str,
@@ -28,25 +30,28 @@ pub(crate) struct NumberOption {
     pub(crate) help: &'static str,
 }
 
-/// An argument of a command, with what help says of it.
+/// A flag, which is an option by itself: its name, and what help says of it.
 #[derive(Clone, Copy)]
-pub(crate) enum Argument {
-    /// An option with a number.
-    Number(NumberOption),
-    /// A flag: an option by itself.
-    Flag {
-        id: &'static str,
-        help: &'static str,
-    },
-    /// Any number of words, and what help calls one.
-    Words {
-        id: &'static str,
-        value_name: &'static str,
-        help: &'static str,
-    },
+pub(crate) struct FlagOption {
+    pub(crate) id: &'static str,
+    pub(crate) help: &'static str,
 }
 
-// An option with a number is one of these, an entry of `number_options`, and `number_asked` where it is read.
+/// Any number of words: by what they are found, what help calls one, and what help says of them.
+#[derive(Clone, Copy)]
+pub(crate) struct Operands {
+    pub(crate) id: &'static str,
+    pub(crate) value_name: &'static str,
+    pub(crate) help: &'static str,
+}
+
+/// An argument of a command.
+#[derive(Clone, Copy)]
+pub(crate) enum Argument {
+    Number(NumberOption),
+    Flag(FlagOption),
+    Words(Operands),
+}
 
 /// How many threads run a program.
 pub(crate) const RUNNERS: NumberOption = NumberOption {
@@ -65,21 +70,22 @@ pub(crate) const WORKERS: NumberOption = NumberOption {
 };
 
 /// Whether plans share what was only read.
-pub(crate) const SHARING: Argument = Argument::Flag {
+pub(crate) const SHARING: FlagOption = FlagOption {
     id: "shared-reads",
     help: "Lets behaviours that only read a cown share it, in plans",
 };
 
 /// The edits of `whatif`.
-pub(crate) const EDITS: Argument = Argument::Words {
+pub(crate) const EDITS: Operands = Operands {
     id: "edits",
     value_name: "ROW=TICKS",
     help: "Has a row take so many ticks; edits are made in their order",
 };
 
-// The help of `--workers` and of `--p` names these numbers.
+// So many are named in the help of `--workers`.
 const _: () = prove!(MOST_RUNNERS == 16);
 
+// So many are named in the help of `--p`.
 const _: () = prove!(MOST_WORKERS == 64);
 
 impl Numbers {
@@ -116,18 +122,14 @@ impl Argument {
                 .value_name(option.value_name)
                 .value_parser(option.numbers.parser())
                 .help(option.help),
-            Argument::Flag { id, help } => Arg::new(alloc, id)
-                .long(id)
+            Argument::Flag(option) => Arg::new(alloc, option.id)
+                .long(option.id)
                 .action(ArgAction::SetTrue)
-                .help(help),
-            Argument::Words {
-                id,
-                value_name,
-                help,
-            } => Arg::new(alloc, id)
-                .value_name(value_name)
+                .help(option.help),
+            Argument::Words(operands) => Arg::new(alloc, operands.id)
+                .value_name(operands.value_name)
                 .num_args(0..)
-                .help(help),
+                .help(operands.help),
         }
     }
 }

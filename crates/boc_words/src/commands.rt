@@ -6,7 +6,7 @@ ghost use Rattle.boc_words.specs.Commands.{app_of_command, commands_of_boc, sign
 ghost use Rattle.boc_words.specs.Tables.{command_of_entry};
 ghost use Rattle.boc_words.specs.Words.{IsNoneOf, Told, command_line, without_commands};
 
-use crate::arguments::Argument::Number;
+use crate::arguments::Argument::{Flag, Number, Words};
 use crate::arguments::{Argument, EDITS, RUNNERS, SHARING, WORKERS};
 use crate::version::VERSION;
 use std::alloc::{AllocError, Global};
@@ -31,8 +31,10 @@ struct Entry {
     takes: &'static [Argument],
 }
 
-// Every command, in the order of help. One more is an entry here and in `every_kind`, with its `signature_of`; a variant
-// of `Kind` and of `Command`; an arm of `asked`; and a line of `Asks`.
+// Every command, in the order of help.
+//
+// One more is an entry here and in `every_kind`, with its `signature_of`; a variant of `Kind` and of `Command`; an arm of
+// `asked`; and a line of `Asks`.
 const COMMANDS: &[Entry] = &[
     Entry {
         kind: Kind::Values,
@@ -56,25 +58,25 @@ const COMMANDS: &[Entry] = &[
         kind: Kind::Profile,
         name: "profile",
         about: "Reads the record of a run, and prints its work, its span, its costliest chain and its earliest plan",
-        takes: &[Number(WORKERS), SHARING],
+        takes: &[Number(WORKERS), Flag(SHARING)],
     },
     Entry {
         kind: Kind::Time,
         name: "time",
         about: "Reads a program, runs it by several threads, and prints the profile of the run",
-        takes: &[Number(RUNNERS), Number(WORKERS), SHARING],
+        takes: &[Number(RUNNERS), Number(WORKERS), Flag(SHARING)],
     },
     Entry {
         kind: Kind::WhatIf,
         name: "whatif",
         about: "Reads the record of a run, and prints the profile that it would have with other ticks",
-        takes: &[Number(WORKERS), SHARING, EDITS],
+        takes: &[Number(WORKERS), Flag(SHARING), Words(EDITS)],
     },
     Entry {
         kind: Kind::Sweep,
         name: "sweep",
         about: "Reads the record of a run, and prints for each row the span with that row alone at its least ticks",
-        takes: &[SHARING],
+        takes: &[Flag(SHARING)],
     },
 ];
 

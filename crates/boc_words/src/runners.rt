@@ -5,7 +5,7 @@ ghost use Rattle.std.specs.Prelude.{◌≡◌, ◌<◌, ◌≤◌, ◌↔◌, Is
 use boc_program::limits::MOST_RUNNERS;
 use std::marker::Model;
 
-/// A number of workers that run a program, each in a thread of its own, from 1 to 16.
+/// A number of workers that run a program, each in a thread of its own, from 1 to [`MOST_RUNNERS`].
 #[derive(Clone, Copy, PartialEq, Eq, Debug)]
 pub struct Runners {
     number: u32,
@@ -32,7 +32,7 @@ impl Runners {
         Runners { number: 1 }
     }
 
-    /// So many threads, if there are 1 to 16.
+    /// So many threads, if there are 1 to [`MOST_RUNNERS`].
     pub fn new(number: u32) -> Option<Runners>
         ensures valid { IsSome result ↔ ((0 < number) × (number ≤ MOST_RUNNERS)) }
         ensures value { IfSome result (λ r. r ≡ number) }

@@ -9,7 +9,7 @@ ghost use Rattle.clap.specs.Kinds.{HasKind};
 ghost use Rattle.clap.specs.Words.{fault_of, found_of, kind_of, rows_of, subcommand_of, subcommand_rows_of};
 ghost use Rattle.std.specs.Prelude.{◌≡◌, ◌∷◌, ◌↔◌, [], ℕ, IfErr, IfNone, IfOk, IfSome, IsTrue, codes, map, string_bytes};
 
-use crate::arguments::{NumberOption, Numbers, RUNNERS, WORKERS};
+use crate::arguments::{EDITS, NumberOption, Numbers, RUNNERS, SHARING, WORKERS};
 use crate::commands::{Kind, kind_of, parser};
 use crate::edit_word::edit_of;
 use crate::fault::WordsFault;
@@ -159,7 +159,7 @@ fn edits_asked(alloc: Global, matches: &ArgMatches) -> Result<Vec<Edit>, WordsFa
     ensures asked { IfOk result (λ edits. AreEdits (rows_of (found_of matches.now)) edits.items) }
     ensures refused { IfErr result (IsOfEditWords (rows_of (found_of matches.now))) }
 {
-    let words = texts_at(matches, "edits");
+    let words = texts_at(matches, EDITS.id);
     let mut edits = Vec::new(alloc);
     for (index, word) in words.iter().enumerate() {
         let Some(edit) = edit_of(word) else {
@@ -221,7 +221,7 @@ fn number_asked(
 fn sharing_asked(matches: &ArgMatches) -> Sharing
     ensures { AreShared (rows_of (found_of matches.now)) result }
 {
-    if is_set(texts_at(matches, "shared-reads")) {
+    if is_set(texts_at(matches, SHARING.id)) {
         Sharing::SharedReads
     } else {
         Sharing::Exclusive

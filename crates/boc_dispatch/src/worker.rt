@@ -319,14 +319,9 @@ fn clear<'a>(spare: &mut Spare<'a>, hand: &mut Hand<'a>)
     ensures { hand.new ≡ hands.Nothing }
 {
     match std::mem::replace(hand, Hand::Nothing) {
-        Hand::Done(_, outcome) => keep(spare, outcome),
+        Hand::Done(_, outcome) => outcome.leave(spare),
         _ => unreachable!(),
     }
-}
-
-// The room of this body is there for the next.
-fn keep<'a>(spare: &mut Spare<'a>, outcome: Outcome<'a>) {
-    *spare = Spare::from(outcome);
 }
 
 // The turn of a worker whose row releases its cowns.

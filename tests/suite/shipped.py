@@ -141,6 +141,7 @@ def answers():
         link = os.path.join(copy.room, "link")
         os.symlink(copy.path("bin/boc"), link)
         yield "through a link", fault_of(ANSWER, copy.transfer(command=link))
+        yield "help names the program", fault_of_help(copy)
         os.utime(copy.path(SOURCE))
         yield "after a touch", fault_of(ANSWER, copy.transfer(kit=True))
         yield "no proof is begun", "rt was called" if copy.was_called() else None
@@ -153,6 +154,12 @@ def answers():
         with copied() as copy:
             yield "a tree that can't be written to", fault_of(ANSWER, copy.transfer(user=NOBODY, group=NOBODY, extra_groups=[]))
             yield "nothing is noted there", "a note was left" if os.path.exists(copy.path(".boc-checked")) else None
+
+
+def fault_of_help(copy):
+    """Help calls the program `boc`, and not as its file is named."""
+    told = subprocess.run([copy.path("bin/boc"), "sweep", "--help"], capture_output=True, env={"PATH": copy.tools}, timeout=SECONDS, check=False)
+    return None if b"Usage: boc sweep" in told.stdout else f"it says {told.stdout!r}"
 
 
 def changed_trees():

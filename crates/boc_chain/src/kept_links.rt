@@ -10,6 +10,7 @@ use crate::linked::{Change, Link};
 use crate::short_link::ShortLink;
 use boc_program::held::HeldCowns;
 use boc_program::limits::MOST_HELD;
+use boc_program::short::HeldCown;
 use std::alloc::{AllocError, Global};
 use std::marker::Model;
 
@@ -187,7 +188,7 @@ impl Linked {
 
     /// The cowns, in the order of their requests.
     #[inline(always)]
-    pub fn cowns(&self) -> &[u8]
+    pub fn cowns(&self) -> &[HeldCown]
         ensures { result.now ≡ self.now.cowns.items }
     {
         self.kept.head().cowns.as_slice()

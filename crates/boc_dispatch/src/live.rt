@@ -23,7 +23,7 @@ use boc_program::cowns::{are_cowns, rising_cowns};
 use boc_program::held::HeldCowns;
 use boc_program::limits::MOST_COWNS;
 use boc_program::program::Program;
-use boc_program::short::{Cowns, Input};
+use boc_program::short::{CownNo, Cowns, HeldCown, Input};
 use boc_runs::stage::{Phase, Stage};
 use std::alloc::{AllocError, Global};
 
@@ -128,14 +128,14 @@ pub fn wished_behaviour(
 }
 
 // These are the cowns, with these values.
-fn are_inputs_of(inputs: &[Input], cowns: &[u8], values: &[i64]) -> bool
+fn are_inputs_of(inputs: &[Input], cowns: &[HeldCown], values: &[i64]) -> bool
     requires { AllBelow (length values.now) cowns.now }
     ensures { IsTrue result ↔ (inputs.now ≡ inputs_at cowns.now values.now) }
 {
     match (inputs, cowns) {
         ([], []) => true,
         ([input, more @ ..], [cown, others @ ..]) => {
-            input.cown == u32::from(*cown)
+            input.cown == CownNo::from(*cown)
                 && input.value == values[*cown as usize]
                 && are_inputs_of(more, others, values)
         }

@@ -8,10 +8,11 @@ ghost use Rattle.boc_plans.specs.Chains.{IsLink, IsChain, IsFirstFalse, weight_o
 
 use boc_plans::chain::{Chain, ChainStep, Via};
 use boc_plans::sharing::{SeenRows, Sharing};
+use boc_program::short::HeldCown;
 use boc_runs::rows::Rows;
 
 // Whether two rows conflict on a cown of the first.
-fn conflict_on(rows: &SeenRows, cown: u8, a: usize, b: usize) -> bool
+fn conflict_on(rows: &SeenRows, cown: HeldCown, a: usize, b: usize) -> bool
     requires first { a < length rows.now }
     requires second { b < length rows.now }
     requires own { Contains (cowns_of rows.now a) cown }

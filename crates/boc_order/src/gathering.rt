@@ -10,6 +10,7 @@ ghost use Rattle.boc_order.specs.Uses.{IsUse, AreUses, AddsNearOn, AddsNear};
 use crate::links::{Links, end_of};
 use boc_plans::sharing::SeenRows;
 use boc_program::limits::{MOST_COWNS, MOST_HELD, MOST_ROWS};
+use boc_program::short::HeldCown;
 use std::alloc::{AllocError, Global};
 
 /// The last row that wrote a cown, and the rows that have only read it since.
@@ -40,7 +41,7 @@ pub(crate) fn unused(alloc: Global) -> Result<Vec<Use>, AllocError>
 fn add_waits(
     rows: &SeenRows,
     row: usize,
-    cown: u8,
+    cown: HeldCown,
     used: &Use,
     list: &mut Vec<u32>,
 ) -> Result<(), AllocError>
@@ -59,7 +60,7 @@ fn add_waits(
 }
 
 // Notes that a row uses one of its cowns.
-fn note_use(rows: &SeenRows, row: usize, cown: u8, used: &mut Use) -> Result<(), AllocError>
+fn note_use(rows: &SeenRows, row: usize, cown: HeldCown, used: &mut Use) -> Result<(), AllocError>
     requires shape { IsRows rows.now }
     requires there { row < length rows.now }
     requires own { Contains (cowns_of rows.now row) cown }

@@ -2,6 +2,7 @@
 
 ghost use Rattle.std.specs.Prelude.{◌↔◌, IsTrue, Contains};
 
+use boc_program::short::HeldCown;
 use boc_runs::rows::{Row, Rows};
 use std::marker::Model;
 
@@ -36,7 +37,7 @@ impl<'a> Model for SeenRows<'a> {
 }
 
 // The cown is one of these.
-fn is_among(cowns: &[u8], cown: u8) -> bool
+fn is_among(cowns: &[HeldCown], cown: HeldCown) -> bool
     ensures { IsTrue result ↔ Contains cowns.now cown }
 {
     cowns.contains(&cown)
@@ -103,7 +104,7 @@ impl<'a> SeenRows<'a> {
     }
 
     /// The cowns of a row, which rise strictly.
-    pub fn cowns(&self, row: usize) -> &[u8]
+    pub fn cowns(&self, row: usize) -> &[HeldCown]
         requires { row < length self.now }
         ensures { result.now ≡ cowns_of self.now row }
     {
@@ -111,7 +112,7 @@ impl<'a> SeenRows<'a> {
     }
 
     /// Whether a row counts as writing one of its cowns.
-    pub fn writes(&self, row: usize, cown: u8) -> bool
+    pub fn writes(&self, row: usize, cown: HeldCown) -> bool
         requires there { row < length self.now }
         requires own { Contains (cowns_of self.now row) cown }
         ensures { IsTrue result ↔ Contains (written_of self.now row) cown }

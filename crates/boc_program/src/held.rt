@@ -4,14 +4,14 @@ ghost use Rattle.std.specs.Prelude.{◌≡◌, ◌<◌, ◌≤◌, [], length, A
 ghost use Rattle.boc_program.specs.declared.limits.TheConstants.{MOST_COWNS, MOST_HELD};
 
 use crate::limits::{MOST_COWNS, MOST_HELD};
-use crate::short::{CownNo, Cowns};
+use crate::short::{CownNo, Cowns, HeldCown};
 use std::marker::Model;
 
 /// At most eight cowns, each below 256, a byte for each. Contracts see them as those of `Cowns`.
 #[derive(Drop, Debug)]
 pub struct HeldCowns {
     /// The cowns stand first. What stands behind them is not looked at.
-    numbers: [u8; MOST_HELD],
+    numbers: [HeldCown; MOST_HELD],
     /// How many cowns there are.
     count: u8,
 }
@@ -46,7 +46,7 @@ impl HeldCowns {
     {
         let mut numbers = [0; MOST_HELD];
         for (place, cown) in cowns.iter().enumerate() {
-            numbers[place] = *cown as u8;
+            numbers[place] = *cown as HeldCown;
         }
         HeldCowns {
             numbers,
@@ -78,7 +78,7 @@ impl HeldCowns {
     }
 
     /// The cowns, in their order.
-    pub fn as_slice(&self) -> &[u8]
+    pub fn as_slice(&self) -> &[HeldCown]
         ensures value { result.now ≡ self.now.items }
         ensures few { length result.now ≤ MOST_HELD }
     {

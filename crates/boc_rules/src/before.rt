@@ -6,6 +6,7 @@ ghost use Rattle.boc_rules.specs.declared.stage.Life.TheVariants.{Pending};
 ghost use Rattle.boc_rules.specs.Before.{noted};
 
 use crate::stage::{Life, Stage};
+use boc_program::short::HeldCown;
 use std::marker::Model;
 
 /// A number that no row has.
@@ -60,7 +61,7 @@ impl MaybeRow {
 }
 
 // Puts the latest row on each of the cowns, in their order, behind those found.
-fn find(found: &mut Vec<MaybeRow>, latest: &[MaybeRow], cowns: &[u8])
+fn find(found: &mut Vec<MaybeRow>, latest: &[MaybeRow], cowns: &[HeldCown])
     requires cowns { All (λ c. c < length latest.now) cowns.now }
     requires room { vec_len found.old + length cowns.now ≤ vec_capacity found.old }
     ensures found { found.new.items ≡ found.old.items ++ map (λ c. slice_index_or latest.now c None) cowns.now }
@@ -72,7 +73,7 @@ fn find(found: &mut Vec<MaybeRow>, latest: &[MaybeRow], cowns: &[u8])
 }
 
 // Makes this row the latest on each of the cowns.
-fn note(latest: &mut Vec<MaybeRow>, cowns: &[u8], row: u32)
+fn note(latest: &mut Vec<MaybeRow>, cowns: &[HeldCown], row: u32)
     requires cowns { All (λ c. c < length latest.old.items) cowns.now }
     requires row { row < MOST_ROWS }
     ensures { latest.new.items ≡ noted latest.old.items cowns.now row }
@@ -87,7 +88,7 @@ fn note(latest: &mut Vec<MaybeRow>, cowns: &[u8], row: u32)
 pub fn first_stage(
     found: &mut Vec<MaybeRow>,
     latest: &mut Vec<MaybeRow>,
-    cowns: &[u8],
+    cowns: &[HeldCown],
     row: u32,
 ) -> Stage
     requires cowns { All (λ c. c < length latest.old.items) cowns.now }

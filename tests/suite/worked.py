@@ -4,11 +4,14 @@ from .running import done, fault_of
 
 VALUES = {
     "accounts.boc": "account[0] 20\naccount[1] 250\nrefused 2\n",
+    "anomaly_three_workers.boc": "a 0\nb 0\n",
+    "anomaly_two_workers.boc": "",
     "transfer.boc": "a 12\nb 4\n",
     "countdown.boc": "a 3\n",
     "four_squares.boc": "c[0] 1\nc[1] 4\nc[2] 9\nc[3] 16\n",
     "overflow.boc": "a 9223372036854775807\n",
     "same_cown_twice.boc": "a 10\nb 0\n",
+    "scaling.boc": "log 24\n",
     "two_orders.boc": "a 2\nb 1\np 0\nq 0\n",
 }
 

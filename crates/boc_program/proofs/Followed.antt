@@ -7,7 +7,7 @@ use Rattle.boc_program.specs.declared.body.Stmt.TheVariants as stmt
 use Rattle.boc_program.specs.Syntax.{Code, Done, code_size}
 use Rattle.boc_program.specs.Signatures.{Test, whens_pass}
 use Rattle.boc_program.specs.memory.View.{before, slot_expr_of, cown_ref_of}
-use Rattle.boc_program.specs.memory.Words.{words_of, stmt_words}
+use Rattle.boc_program.specs.memory.Cells.{cells_of, stmt_cells}
 
 -- a statement and what follows it count together, in size and in nodes
 then_counts : (s : Stmt) (rest : Code) → (code_size (before s rest) ≡ code_size (before s Done) + code_size rest)
@@ -31,13 +31,13 @@ then_positive (stmt.When kind args refs) = omega arith
 pub nodes_before : (s : Stmt) (rest : Code) → nodes (before s rest) ≡ nodes (before s Done) + nodes rest
 nodes_before s rest = (then_counts s rest).1
 
--- the words of a statement stand before those of what follows
-pub words_before : (s : Stmt) (rest : Code) → words_of (before s rest) ≡ stmt_words s ++ words_of rest
-words_before (stmt.Assign slot e) rest = refl
-words_before (stmt.Work e) rest = refl
-words_before (stmt.If e a b) rest = simp append_assoc refl
-words_before (stmt.Repeat e a) rest = simp append_assoc refl
-words_before (stmt.When kind args refs) rest = simp append_assoc refl
+-- the cells of a statement stand before those of what follows
+pub cells_before : (s : Stmt) (rest : Code) → cells_of (before s rest) ≡ stmt_cells s ++ cells_of rest
+cells_before (stmt.Assign slot e) rest = refl
+cells_before (stmt.Work e) rest = refl
+cells_before (stmt.If e a b) rest = simp append_assoc refl
+cells_before (stmt.Repeat e a) rest = simp append_assoc refl
+cells_before (stmt.When kind args refs) rest = simp append_assoc refl
 
 and_swap : (x r : Bool) → (x && r) ≡ ((x && true) && r)
 and_swap true r = refl

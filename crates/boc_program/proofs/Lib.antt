@@ -7,4 +7,4 @@ pub mod ChangedItems
 pub mod Fitting
 pub mod Samples
 pub mod Transfer
-pub mod WordsLaw
+pub mod CellsLaw

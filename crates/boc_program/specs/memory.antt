@@ -3,4 +3,4 @@ pub mod Stored
 pub mod Falls
 pub mod Same
 pub mod Spent
-pub mod Words
+pub mod Cells

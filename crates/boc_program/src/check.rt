@@ -158,7 +158,7 @@ fn after_stmt(stmt: &Stmt, left: usize) -> Option<usize>
 impl Body {
     /// A body of these parts, which fit together. This is the one place that makes a body.
     ///
-    /// `slots` counts the value parameters, the cown parameters and the locals. It takes memory for the words
+    /// `slots` counts the value parameters, the cown parameters and the locals. It takes memory for the cells
     /// of the block.
     pub fn new(
         alloc: Global,

@@ -5,6 +5,7 @@
 
 pub mod body;
 mod calls;
+mod cells;
 mod check;
 pub mod cown;
 pub mod cowns;
@@ -18,4 +19,3 @@ mod same;
 pub mod script;
 pub mod short;
 pub mod text;
-mod words;

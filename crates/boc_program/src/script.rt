@@ -1,24 +1,24 @@
-// A block with its words beside it.
+// A block with its cells beside it.
 
 ghost use Rattle.std.specs.Prelude.{◌≡◌, ◌↔◌, IsTrue, IfOk};
 
 use crate::body::{Block, Stmt};
-use crate::words::put_stmts;
+use crate::cells::put_stmts;
 use std::alloc::{AllocError, Global};
 use std::marker::Model;
 
-/// A block, and beside it what it says as a flat list of words, by which two are compared.
+/// A block, and beside it what it says as a flat list of cells, by which two are compared.
 #[derive(Drop, Debug)]
 pub struct Script {
     block: Block,
-    words: Vec<u64>,
+    cells: Vec<u64>,
 }
 
 impl Model for Script {
     ghost use Rattle.std.specs.Prelude.{◌≡◌};
     ghost use Rattle.boc_program.specs.Syntax.{Code};
     ghost use Rattle.boc_program.specs.memory.Stored.{coded_Code};
-    ghost use Rattle.boc_program.specs.memory.Words.{words_of};
+    ghost use Rattle.boc_program.specs.memory.Cells.{cells_of};
 
     ghost Value = { Code };
 
@@ -26,19 +26,19 @@ impl Model for Script {
 
     ghost view = { λ a. a.block };
 
-    ghost invariant = { λ a. a.words.items ≡ words_of a.block };
+    ghost invariant = { λ a. a.cells.items ≡ cells_of a.block };
 }
 
 impl Script {
     ghost use Rattle.boc_program.specs.memory.View.{code_of};
 
-    /// This block, with its words.
+    /// This block, with its cells.
     pub(crate) fn new(alloc: Global, block: Block) -> Result<Script, AllocError>
         ensures { IfOk result (λ script. script ≡ block) }
     {
-        let mut words = Vec::new(alloc);
-        put_stmts(&mut words, block.as_slice())?;
-        Ok(Script { block, words })
+        let mut cells = Vec::new(alloc);
+        put_stmts(&mut cells, block.as_slice())?;
+        Ok(Script { block, cells })
     }
 
     /// The statements.
@@ -49,17 +49,17 @@ impl Script {
     }
 
     /// The blocks are the same.
-    #[tactic(auto, using(crate::proofs::WordsLaw::same_code))]
+    #[tactic(auto, using(crate::proofs::CellsLaw::same_code))]
     pub(crate) fn same(&self, other: &Script) -> bool
         ensures { IsTrue result ↔ (self.now ≡ other.now) }
     {
-        same_words(&self.words, &other.words)
+        same_cells(&self.cells, &other.cells)
     }
 }
 
-// The words are the same. It looks at each of them, also behind one that differs: the loop has no early end, so
-// that a machine can take several words at once.
-fn same_words(a: &[u64], b: &[u64]) -> bool
+// The cells are the same. It looks at each of them, also behind one that differs: the loop has no early end, so
+// that a machine can take several cells at once.
+fn same_cells(a: &[u64], b: &[u64]) -> bool
     ensures { IsTrue result ↔ (a.now ≡ b.now) }
 {
     if a.len() != b.len() {

@@ -1,7 +1,7 @@
 use Rattle.std.specs.Prelude.{◌+◌, ◌*◌}
 use Rattle.boc_program.specs.Syntax.{Done, code_size}
 use Rattle.boc_program.specs.memory.View.{code_of, before}
-use Rattle.boc_program.proofs.words.+put.Given as goal
+use Rattle.boc_program.proofs.cells.+put.Given as goal
 
 abbrev pub decreases-put_stmts : goal.decreases-put_stmts
 decreases-put_stmts l = 2 * code_size (code_of l.stmts.now) + 1

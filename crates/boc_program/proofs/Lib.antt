@@ -5,6 +5,5 @@ pub mod Rising
 pub mod RisingNumbers
 pub mod ChangedItems
 pub mod Fitting
-pub mod Samples
-pub mod Transfer
 pub mod CellsLaw
+pub mod examples

@@ -6,7 +6,7 @@ use Rattle.boc_reader.specs.Shape.{tree_tokens}
 use Rattle.boc_reader.specs.Tokens.{tokens_of_text, cut, token_of_run}
 use Rattle.boc_reader.specs.Names.{tree_names}
 use Rattle.boc_reader.specs.Spells.{plain_program}
-use Rattle.boc_program.proofs.Transfer.{program}
+use Rattle.boc_program.proofs.examples.Transfer.{program}
 
 abbrev text : List ℕ
 text =

@@ -10,9 +10,9 @@ use Rattle.boc_program.specs.Changed.{changed}
 use Rattle.boc_runs.specs.Legal.{Entry}
 use Rattle.boc_runs.specs.Records.{AreRowsOf}
 use Rattle.arrayvec.specs.ArrayVec.{ArrayVec}
-use Rattle.boc_rules.specs.declared.stage.Life.{Life}
-use Rattle.boc_rules.specs.declared.stage.Life.TheVariants.{Pending, Running, Ended}
-use Rattle.boc_rules.specs.declared.stage.Stage.{Stage}
+use Rattle.boc_rules.specs.declared.standing.Life.{Life}
+use Rattle.boc_rules.specs.declared.standing.Life.TheVariants.{Pending, Running, Ended}
+use Rattle.boc_rules.specs.declared.standing.Standing.{Standing}
 use Rattle.boc_rules.specs.declared.so_far.RunSoFar.{RunSoFar}
 use Rattle.boc_rules.specs.Course.{AreLegal}
 use Rattle.boc_rules.specs.Before.{IsLatest, AreBefore, noted}
@@ -23,22 +23,22 @@ meant Pending = lives.Pending
 meant Running = lives.Running
 meant Ended = lives.Ended
 
--- the stage of a row
-pub record IsStageOf (entry : Entry) (stage : Stage) : Type 0 where
-  pub life : meant stage.life ≡ entry.life
-  pub last : stage.last ≡ entry.last
+-- the standing of a row
+pub record IsStandingOf (entry : Entry) (standing : Standing) : Type 0 where
+  pub life : meant standing.life ≡ entry.life
+  pub last : standing.last ≡ entry.last
 
--- the stages of a run's rows, one for each
-pub record AreStagesOf (run : List Entry) (stages : List Stage) : Type 0 where
-  pub all : length stages ≡ length run
-  pub each : (r : ℕ) (entry : Entry) (stage : Stage) → slice_get run r ≡ Some entry → slice_get stages r ≡ Some stage → IsStageOf entry stage
+-- the standings of a run's rows, one for each
+pub record AreStandingsOf (run : List Entry) (standings : List Standing) : Type 0 where
+  pub all : length standings ≡ length run
+  pub each : (r : ℕ) (entry : Entry) (standing : Standing) → slice_get run r ≡ Some entry → slice_get standings r ≡ Some standing → IsStandingOf entry standing
 
 -- what was found for each row: the rows before it on its cowns
-pub record AreFound (run : List Entry) (stages : List Stage) (found : List (Option ℕ)) : Type 0 where
+pub record AreFound (run : List Entry) (standings : List Standing) (found : List (Option ℕ)) : Type 0 where
   pub few : length found ≤ MOST_HELD * length run
-  pub ordered : (r : ℕ) (stage : Stage) → slice_get stages r ≡ Some stage → stage.from ≤ stage.to
-  pub within : (r : ℕ) (stage : Stage) → slice_get stages r ≡ Some stage → stage.to ≤ length found
-  pub before : (r : ℕ) (stage : Stage) → slice_get stages r ≡ Some stage → AreBefore run r (slice_range found stage.from stage.to)
+  pub ordered : (r : ℕ) (standing : Standing) → slice_get standings r ≡ Some standing → standing.from ≤ standing.to
+  pub within : (r : ℕ) (standing : Standing) → slice_get standings r ≡ Some standing → standing.to ≤ length found
+  pub before : (r : ℕ) (standing : Standing) → slice_get standings r ≡ Some standing → AreBefore run r (slice_range found standing.from standing.to)
 
 -- the latest row of a run on each of so many cowns
 pub record AreLatest (run : List Entry) (cowns : ℕ) (latest : List (Option ℕ)) : Type 0 where
@@ -56,52 +56,52 @@ over [] = 0
 over (entry ∷ entries) = over_one entry.life + over entries
 
 -- a row of a run under way, of what is kept of it
-abbrev pub entry_of : Row → Stage → Entry
-entry_of row stage = record {
+abbrev pub entry_of : Row → Standing → Entry
+entry_of row standing = record {
   parent = row.parent;
   offset = row.offset;
   cowns = row.cowns.items;
-  life = meant stage.life;
-  last = stage.last;
+  life = meant standing.life;
+  last = standing.last;
   ticks = row.ticks;
   status = row.status;
   written = row.written.items;
 }
 
--- rows with their stages
-abbrev pub entries_of : List Row → List Stage → List Entry
-entries_of [] stages = []
+-- rows with their standings
+abbrev pub entries_of : List Row → List Standing → List Entry
+entries_of [] standings = []
 entries_of (row ∷ rows) [] = []
-entries_of (row ∷ rows) (stage ∷ stages) = entry_of row stage ∷ entries_of rows stages
+entries_of (row ∷ rows) (standing ∷ standings) = entry_of row standing ∷ entries_of rows standings
 
 -- the rows of a run so far, with what has become of each
 abbrev pub so_far : RunSoFar → List Entry
-so_far run = entries_of run.rows.items run.stages.items
+so_far run = entries_of run.rows.items run.standings.items
 
 -- what is kept is that of the rows of a legal log
-pub record AreParts (cowns : ℕ) (run : List Entry) (rows : List Row) (stages : List Stage) (found latest : List (Option ℕ)) (ended : ℕ) : Type 0 where
+pub record AreParts (cowns : ℕ) (run : List Entry) (rows : List Row) (standings : List Standing) (found latest : List (Option ℕ)) (ended : ℕ) : Type 0 where
   pub legal : AreLegal cowns run
   pub rows_are : AreRowsOf run rows
-  pub stages_are : AreStagesOf run stages
-  pub found_are : AreFound run stages found
+  pub standings_are : AreStandingsOf run standings
+  pub found_are : AreFound run standings found
   pub latest_are : AreLatest run cowns latest
   pub ended_is : ended ≡ over run
 
 -- what is kept of a run is that of the rows of a legal log
 abbrev pub IsRunSoFar : RunSoFar → Type 0
-IsRunSoFar run = AreParts run.cowns (so_far run) run.rows.items run.stages.items run.found.items run.latest.items run.ended
+IsRunSoFar run = AreParts run.cowns (so_far run) run.rows.items run.standings.items run.found.items run.latest.items run.ended
 
 -- there is room for so many more rows
 pub record HasRooms (run : RunSoFar) : Type 0 where
   pub rows : vec_len run.rows + run.rooms ≤ vec_capacity run.rows
-  pub stages : vec_len run.stages + run.rooms ≤ vec_capacity run.stages
+  pub standings : vec_len run.standings + run.rooms ≤ vec_capacity run.standings
   pub found : vec_len run.found + MOST_HELD * run.rooms ≤ vec_capacity run.found
 
 -- the same run, whose lists may have more room
 pub record IsSameRun (old new : RunSoFar) : Type 0 where
   pub cowns : new.cowns ≡ old.cowns
   pub rows : new.rows.items ≡ old.rows.items
-  pub stages : new.stages.items ≡ old.stages.items
+  pub standings : new.standings.items ≡ old.standings.items
   pub found : new.found.items ≡ old.found.items
   pub latest : new.latest.items ≡ old.latest.items
   pub ended : new.ended ≡ old.ended
@@ -121,8 +121,8 @@ new_row parent offset cowns = record {
 pub record IsSpawned (old new : RunSoFar) (row parent offset : ℕ) (cowns : ArrayVec ℕ) : Type 0 where
   pub cowns_stay : new.cowns ≡ old.cowns
   pub rows : new.rows.items ≡ old.rows.items ++ new_row parent offset cowns ∷ []
-  pub stages : new.stages.items ≡
-      changed old.stages.items parent (λ s. record s { last = offset }) (slice_get old.stages.items parent)
+  pub standings : new.standings.items ≡
+      changed old.standings.items parent (λ s. record s { last = offset }) (slice_get old.standings.items parent)
       ++ record { life = Pending; last = 0; from = length old.found.items; to = length old.found.items + length cowns.items } ∷ []
   pub found : new.found.items ≡ old.found.items ++ map (λ c. slice_index_or old.latest.items c None) cowns.items
   pub latest : new.latest.items ≡ noted old.latest.items cowns.items row
@@ -133,7 +133,7 @@ pub record IsSpawned (old new : RunSoFar) (row parent offset : ℕ) (cowns : Arr
 pub record IsStarted (old new : RunSoFar) (row : ℕ) : Type 0 where
   pub cowns_stay : new.cowns ≡ old.cowns
   pub rows_stay : new.rows.items ≡ old.rows.items
-  pub stages : new.stages.items ≡ changed old.stages.items row (λ s. record s { life = Running }) (slice_get old.stages.items row)
+  pub standings : new.standings.items ≡ changed old.standings.items row (λ s. record s { life = Running }) (slice_get old.standings.items row)
   pub found_stays : new.found.items ≡ old.found.items
   pub latest_stay : new.latest.items ≡ old.latest.items
   pub ended : new.ended ≡ old.ended
@@ -143,7 +143,7 @@ pub record IsStarted (old new : RunSoFar) (row : ℕ) : Type 0 where
 pub record IsEnded (old new : RunSoFar) (row ticks : ℕ) (status : EndStatus) (written : ArrayVec ℕ) : Type 0 where
   pub cowns_stay : new.cowns ≡ old.cowns
   pub rows : new.rows.items ≡ changed old.rows.items row (λ x. record x { ticks = ticks; status = status; written = written }) (slice_get old.rows.items row)
-  pub stages : new.stages.items ≡ changed old.stages.items row (λ s. record s { life = Ended }) (slice_get old.stages.items row)
+  pub standings : new.standings.items ≡ changed old.standings.items row (λ s. record s { life = Ended }) (slice_get old.standings.items row)
   pub found_stays : new.found.items ≡ old.found.items
   pub latest_stay : new.latest.items ≡ old.latest.items
   pub ended : new.ended ≡ old.ended + 1

@@ -9,7 +9,7 @@ mod rows;
 mod rules;
 mod run_log;
 mod so_far;
-mod stage;
+mod standing;
 
 pub use fault::RuleFault;
 pub use judge::Judge;

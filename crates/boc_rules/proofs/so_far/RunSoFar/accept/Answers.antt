@@ -13,8 +13,8 @@ spawn-requires-clause-row c = (spawn_finds c.args.self.now c.in-Spawn.is c.requi
 pub spawn-requires-clause-few : goal.spawn-requires-clause-few
 spawn-requires-clause-few c = (spawn_finds c.args.self.now c.in-Spawn.is c.requires.kept c.requires.allowed).few
 
-pub start-requires-clause-staged : goal.start-requires-clause-staged
-start-requires-clause-staged c = start_finds c.args.self.now c.in-Start.is c.requires.kept c.requires.allowed
+pub start-requires-clause-kept : goal.start-requires-clause-kept
+start-requires-clause-kept c = start_finds c.args.self.now c.in-Start.is c.requires.kept c.requires.allowed
 
 pub of-requires-in-End : goal.of-requires-in-End
 of-requires-in-End c = (end_finds c.args.self.now c.in-End.is c.requires.kept c.requires.allowed).small
@@ -22,7 +22,7 @@ of-requires-in-End c = (end_finds c.args.self.now c.in-End.is c.requires.kept c.
 pub end-requires : goal.end-requires
 end-requires c =
     let found = end_finds c.args.self.now c.in-End.is c.requires.kept c.requires.allowed in
-    record { staged = found.staged; placed = found.placed; few = found.few; has = c.requires.has }
+    record { kept = found.kept; placed = found.placed; few = found.few; has = c.requires.has }
 
 pub returns-in-Spawn-clause-kept : goal.returns-in-Spawn-clause-kept
 returns-in-Spawn-clause-kept c = (kept_spawn c.in-Spawn.is c.requires.kept c.requires.allowed c.of.ensures c.spawn.ensures.spawned).kept

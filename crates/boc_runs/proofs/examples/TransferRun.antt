@@ -9,8 +9,8 @@ use Rattle.boc_program.specs.Meaning.{Meaning, meaning}
 use Rattle.boc_runs.specs.Lives.{Life, Pending, Running, Ended, MayStart}
 use Rattle.boc_runs.specs.Legal.{IsLegal}
 use Rattle.boc_runs.specs.Run.{Member, config_of, state_of, member_cowns, meaning_of, IsRun, IsWholeRun}
-use Rattle.boc_runs.proofs.TransferLog.{log, over}
-use Rattle.boc_program.proofs.Transfer.{program, main_body, add_body, move_body}
+use Rattle.boc_runs.proofs.examples.TransferLog.{log, over}
+use Rattle.boc_program.proofs.examples.Transfer.{program, main_body, add_body, move_body}
 use Rattle.boc_runs.proofs.RunsAreLegal.{run_is_legal}
 
 -- ---- rows of which none runs, or none waits before one

@@ -9,7 +9,7 @@ use Rattle.boc_runs.specs.Legal.{Entry, entries}
 use Rattle.boc_runs.specs.Run.{Member, config_of}
 use Rattle.boc_runs.specs.Serial.{serial_along}
 use Rattle.boc_runs.specs.OwnOrder.{IsOwnOrder}
-use Rattle.boc_program.proofs.Transfer.{program}
+use Rattle.boc_program.proofs.examples.Transfer.{program}
 
 -- main's three wishes are the next rows, and nothing is left to do after them
 pub own : IsOwnOrder program (0 ∷ 0 ∷ 0 ∷ 0 ∷ []) []

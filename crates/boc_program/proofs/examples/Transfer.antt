@@ -5,7 +5,7 @@ use Rattle.boc_program.specs.declared.body.Body.{Body}
 use Rattle.boc_program.specs.declared.cown.Cown.{Cown}
 use Rattle.boc_program.specs.declared.program.Program.{Program}
 use Rattle.boc_program.specs.Syntax as resolved
-use Rattle.boc_program.proofs.Samples.{body_of, program_of}
+use Rattle.boc_program.proofs.examples.Samples.{body_of, program_of}
 
 abbrev pub cowns : List Cown
 cowns = (record { name = codes "a"; size = None; initial = pos 10 }) ∷ (record { name = codes "b"; size = None; initial = pos 0 }) ∷ []

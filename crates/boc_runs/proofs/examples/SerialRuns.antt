@@ -8,8 +8,8 @@ use Rattle.boc_program.specs.Syntax.{Number, Slot, Binary, Held, Single, Done, A
 use Rattle.boc_runs.specs.Serial.{serial_along}
 use Rattle.boc_runs.specs.OwnOrder.{IsOwnOrder, EndsWith, HasTooMany}
 use Rattle.boc_runs.proofs.OwnOrders.{ends_once, not_too_many}
-use Rattle.boc_program.proofs.Samples.{body_of, program_of}
-use Rattle.boc_program.proofs.Transfer.{main_body, add_body}
+use Rattle.boc_program.proofs.examples.Samples.{body_of, program_of}
+use Rattle.boc_program.proofs.examples.Transfer.{main_body, add_body}
 
 -- cown a = 0; def down(n; x) { x = x + n; if n > 0 { when down(n - 1; x); } } main { when down(2; a); }
 abbrev countdown_main : Body

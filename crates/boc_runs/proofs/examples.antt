@@ -1,0 +1,3 @@
+pub mod SerialRuns
+pub mod TransferLog
+pub mod TransferRun

@@ -1,4 +1,4 @@
--- What a standing says of its row, and what a legal event finds there.
+-- What a kept_row says of its row, and what a legal event finds there.
 use Rattle.std.proofs.Common.{◌≡◌, ℕ, ◌*◌, ◌<◌, ◌≤◌, ◌↔◌, List, [], ◌∷◌, length, get_or, refl, sym, ◌∙◌, ap, subst, arith}
 use Rattle.std.proofs.Math.ListN.{length-set}
 use Rattle.std.specs.Prelude.{slice_get, slice_set, slice_range, Option, Some, All}
@@ -16,13 +16,13 @@ use Rattle.boc_runs.specs.Lives.{MayStart}
 use Rattle.boc_runs.specs.Legal.{Entry, after, life_of, entry_cowns, last_of, MayEnd, MayNeed, IsAllowed}
 use Rattle.boc_runs.specs.Rows.{IsRows}
 use Rattle.boc_runs.proofs.RunsAreLegal.{smaller, among_below}
-use Rattle.boc_rules.specs.declared.standing.Life.TheVariants.{Pending, Running, Ended}
-use Rattle.boc_rules.specs.declared.standing.Life.{Life}
-use Rattle.boc_rules.specs.declared.standing.Standing.{Standing}
+use Rattle.boc_rules.specs.declared.kept_row.Life.TheVariants.{Pending, Running, Ended}
+use Rattle.boc_rules.specs.declared.kept_row.Life.{Life}
+use Rattle.boc_rules.specs.declared.kept_row.KeptRow.{KeptRow}
 use Rattle.boc_rules.specs.declared.so_far.RunSoFar.{RunSoFar}
 use Rattle.boc_rules.specs.Course.{AreLegal, IsOver}
 use Rattle.boc_rules.specs.Before.{IsOverAt}
-use Rattle.boc_rules.specs.SoFar.{meant, IsStandingOf, AreStandingsOf, over_one, over, so_far, IsRunSoFar, IsSpawned, IsStarted, IsEnded}
+use Rattle.boc_rules.specs.SoFar.{meant, IsKeptRowOf, AreKeptRowsOf, over_one, over, so_far, IsRunSoFar, IsSpawned, IsStarted, IsEnded}
 use Rattle.boc_rules.proofs.Lists.{got_in}
 use Rattle.boc_rules.proofs.Next.{living, cowns_at, life_at, last_at, well_log, not_pending_running, not_pending_ended}
 use Rattle.boc_rules.proofs.Starts.{starts, over_before}
@@ -35,42 +35,42 @@ use Rattle.boc_rules.proofs.Finished.{over_few, all_over, over_all, is_rows}
 pub well_rows : (cowns : ℕ) (rows : List Entry) → AreLegal cowns rows → IsWell cowns rows
 well_rows cowns rows l = subst (IsWell cowns) (sym l.rows_are) (well_log cowns l.log l.legal)
 
--- the entry of a standing that was read
-pub record IsReadAt (run : List Entry) (standings : List Standing) (r : ℕ) (standing : Standing) : Type 0 where
+-- the entry of a kept_row that was read
+pub record IsReadAt (run : List Entry) (kept_rows : List KeptRow) (r : ℕ) (kept_row : KeptRow) : Type 0 where
   pub entry : Entry
   pub was : slice_get run r ≡ Some entry
-  pub at : slice_get standings r ≡ Some standing
-  pub is : IsStandingOf entry standing
+  pub at : slice_get kept_rows r ≡ Some kept_row
+  pub is : IsKeptRowOf entry kept_row
 
-pub read_at : (run : List Entry) (standings : List Standing) (r : ℕ) (standing : Standing) → AreStandingsOf run standings → r < length standings → standing ≡ get_or standings r standing
-    → IsReadAt run standings r standing
-read_at run standings r standing are less read =
-    let at = slice_get_read standings (length standings) r standing refl less read in
+pub read_at : (run : List Entry) (kept_rows : List KeptRow) (r : ℕ) (kept_row : KeptRow) → AreKeptRowsOf run kept_rows → r < length kept_rows → kept_row ≡ get_or kept_rows r kept_row
+    → IsReadAt run kept_rows r kept_row
+read_at run kept_rows r kept_row are less read =
+    let at = slice_get_read kept_rows (length kept_rows) r kept_row refl less read in
     let e = got_in run r (omega (arith, are.all, less)) in
-    record { entry = e.0; was = e.1; at = at; is = are.each r e.0 standing e.1 at }
+    record { entry = e.0; was = e.1; at = at; is = are.each r e.0 kept_row e.1 at }
 
-pub last_read : (run : List Entry) (standings : List Standing) (r : ℕ) (standing : Standing) → AreStandingsOf run standings → r < length standings → standing ≡ get_or standings r standing
-    → standing.last ≡ last_of run r
-last_read run standings r standing are less read =
-    let h = read_at run standings r standing are less read in
+pub last_read : (run : List Entry) (kept_rows : List KeptRow) (r : ℕ) (kept_row : KeptRow) → AreKeptRowsOf run kept_rows → r < length kept_rows → kept_row ≡ get_or kept_rows r kept_row
+    → kept_row.last ≡ last_of run r
+last_read run kept_rows r kept_row are less read =
+    let h = read_at run kept_rows r kept_row are less read in
     h.is.last ∙ sym (last_at run r h.entry h.was)
 
-pub last_past : (run : List Entry) (standings : List Standing) (r : ℕ) → AreStandingsOf run standings → length standings ≤ r → 0 ≡ last_of run r
-last_past run standings r are past = sym (ap (λ (o : Option Entry). option_map_or (λ (x : Entry). x.last) o 0)
+pub last_past : (run : List Entry) (kept_rows : List KeptRow) (r : ℕ) → AreKeptRowsOf run kept_rows → length kept_rows ≤ r → 0 ≡ last_of run r
+last_past run kept_rows r are past = sym (ap (λ (o : Option Entry). option_map_or (λ (x : Entry). x.last) o 0)
     (slice_get_past run r (omega (arith, are.all, past))))
 
 -- a pending row may start where the rows before it on its cowns are over
-pub pending_may_start : (run : RunSoFar) (r : ℕ) (standing : Standing) (before : List (Option ℕ)) → IsRunSoFar run → r < length run.standings.items
-    → standing ≡ get_or run.standings.items r standing → standing.life ≡ Pending → before ≡ slice_range run.found.items standing.from standing.to
+pub pending_may_start : (run : RunSoFar) (r : ℕ) (kept_row : KeptRow) (before : List (Option ℕ)) → IsRunSoFar run → r < length run.kept_rows.items
+    → kept_row ≡ get_or run.kept_rows.items r kept_row → kept_row.life ≡ Pending → before ≡ slice_range run.found.items kept_row.from kept_row.to
     → All (IsOverAt (so_far run)) before ↔ MayStart (life_of (so_far run)) (entry_cowns (so_far run)) r
-pending_may_start run r standing before k less read waits same =
+pending_may_start run r kept_row before k less read waits same =
     let rows = so_far run in
-    let h = read_at rows run.standings.items r standing k.standings_are less read in
+    let h = read_at rows run.kept_rows.items r kept_row k.kept_rows_are less read in
     let life : life_of rows r ≡ Some lives.Pending = life_at rows r h.entry h.was ∙ ap (λ (l : lives.Life). Some l) (sym h.is.life ∙ ap meant waits) in
-    let are = k.found_are.before r standing h.at in (
-      λ over. starts run.cowns rows r (slice_range run.found.items standing.from standing.to) (well_rows run.cowns (so_far run) k.legal) life are
+    let are = k.found_are.before r kept_row h.at in (
+      λ over. starts run.cowns rows r (slice_range run.found.items kept_row.from kept_row.to) (well_rows run.cowns (so_far run) k.legal) life are
           (subst (λ (b : List (Option ℕ)). All (IsOverAt rows) b) same over),
-      λ may. subst (λ (b : List (Option ℕ)). All (IsOverAt rows) b) (sym same) (over_before rows r (slice_range run.found.items standing.from standing.to) may are),
+      λ may. subst (λ (b : List (Option ℕ)). All (IsOverAt rows) b) (sym same) (over_before rows r (slice_range run.found.items kept_row.from kept_row.to) may are),
     )
 
 meant_pending : (l : Life) → meant l ≡ lives.Pending → l ≡ Pending
@@ -79,14 +79,14 @@ meant_pending Running e = absurd (not_pending_running (sym e))
 meant_pending Ended e = absurd (not_pending_ended (sym e))
 
 -- and no other row may
-pub others_may_not : (run : RunSoFar) (r : ℕ) (standing : Standing) → IsRunSoFar run → r < length run.standings.items → standing ≡ get_or run.standings.items r standing
-    → MayStart (life_of (so_far run)) (entry_cowns (so_far run)) r → standing.life ≡ Pending
-others_may_not run r standing k less read may =
+pub others_may_not : (run : RunSoFar) (r : ℕ) (kept_row : KeptRow) → IsRunSoFar run → r < length run.kept_rows.items → kept_row ≡ get_or run.kept_rows.items r kept_row
+    → MayStart (life_of (so_far run)) (entry_cowns (so_far run)) r → kept_row.life ≡ Pending
+others_may_not run r kept_row k less read may =
     let rows = so_far run in
-    let h = read_at rows run.standings.items r standing k.standings_are less read in
+    let h = read_at rows run.kept_rows.items r kept_row k.kept_rows_are less read in
     let e : Some h.entry.life ≡ Some lives.Pending = sym (life_at rows r h.entry h.was) ∙ may.waits in
     let f : h.entry.life ≡ lives.Pending = cc in
-    meant_pending standing.life (h.is.life ∙ f)
+    meant_pending kept_row.life (h.is.life ∙ f)
 
 need_below : (count : ℕ) (rows : List Entry) (cowns : List ℕ) → MayNeed count rows cowns → All (λ c. c < count) cowns
 need_below count [] cowns m = subst (λ (cs : List ℕ). All (λ c. c < count) cs) (sym m) (λ k d h. absurd (omega arith))
@@ -128,15 +128,15 @@ pub there : (rows : List Entry) (r : ℕ) (l : lives.Life) → life_of rows r �
 there rows r l h = let e = living rows r l h in slice_get_within rows r e.0 e.1
 
 pub start_finds : (run : RunSoFar) {event : Event} {row : ℕ} → event ≡ Start row → IsRunSoFar run → IsAllowed run.cowns (so_far run) event
-    → row < length run.standings.items
+    → row < length run.kept_rows.items
 start_finds run {row = row} is k allowed =
     let a = subst (IsAllowed run.cowns (so_far run)) is allowed in
     let may : MayStart (life_of (so_far run)) (entry_cowns (so_far run)) row = a.keeps rules.StartNotAllowed in
-    omega (arith, k.standings_are.all, there (so_far run) row lives.Pending may.waits)
+    omega (arith, k.kept_rows_are.all, there (so_far run) row lives.Pending may.waits)
 
 -- what the end of a row needs
 pub record IsEndable (run : RunSoFar) (row : ℕ) (written : ArrayVec ℕ) : Type 0 where
-  pub kept : row < length run.standings.items
+  pub kept : row < length run.kept_rows.items
   pub placed : row < length run.rows.items
   pub small : All (λ c. c < MOST_COWNS) written.items
   pub few : run.ended < MOST_ROWS
@@ -151,7 +151,7 @@ end_finds run {row = row} {ticks = ticks} {status = status} {written = written} 
     let v : Entry = record e.0 { life = lives.Ended } in
     let inside = slice_get_within rows row e.0 e.1 in
     let w = well_rows run.cowns (so_far run) k.legal in record {
-      kept = omega (arith, k.standings_are.all, inside);
+      kept = omega (arith, k.kept_rows_are.all, inside);
       placed = omega (arith, k.rows_are.all, inside);
       small = written_small run.cowns rows row ticks status written k.legal a;
       few = omega (arith, k.ended_is, over_set rows row e.0 v e.1, ap over_one e.2, over_few (slice_set rows row v), length-set rows row v, w.few);
@@ -159,24 +159,24 @@ end_finds run {row = row} {ticks = ticks} {status = status} {written = written} 
 
 -- what is kept of a run is that of these rows
 abbrev pub HasGone : RunSoFar → List Entry → Type 0
-HasGone run later = Goes run.cowns later run.rows.items run.standings.items run.found.items run.latest.items run.ended
+HasGone run later = Goes run.cowns later run.rows.items run.kept_rows.items run.found.items run.latest.items run.ended
 
 -- so it is after an event, where these rows are kept
-gone_as : (old new : RunSoFar) {event given : Event} {rows : List Row} {standings : List Standing} {found latest : List (Option ℕ)} {ended : ℕ} → event ≡ given
+gone_as : (old new : RunSoFar) {event given : Event} {rows : List Row} {kept_rows : List KeptRow} {found latest : List (Option ℕ)} {ended : ℕ} → event ≡ given
     → IsAllowed old.cowns (so_far old) event → (IsAllowed old.cowns (so_far old) given
-    → Goes old.cowns (after (so_far old) given) rows standings found latest ended)
-    → new.cowns ≡ old.cowns → new.rows.items ≡ rows → new.standings.items ≡ standings → new.found.items ≡ found → new.latest.items ≡ latest → new.ended ≡ ended
+    → Goes old.cowns (after (so_far old) given) rows kept_rows found latest ended)
+    → new.cowns ≡ old.cowns → new.rows.items ≡ rows → new.kept_rows.items ≡ kept_rows → new.found.items ≡ found → new.latest.items ≡ latest → new.ended ≡ ended
     → HasGone new (after (so_far old) event)
-gone_as old new {given = given} {rows = rows} {standings = standings} {found = found} {latest = latest} {ended = ended} is allowed goes a c d g e f =
+gone_as old new {given = given} {rows = rows} {kept_rows = kept_rows} {found = found} {latest = latest} {ended = ended} is allowed goes a c d g e f =
     let later = after (so_far old) given in
     let k = goes (subst (IsAllowed old.cowns (so_far old)) is allowed) in
     subst (λ (x : Event). HasGone new (after (so_far old) x)) (sym is)
-    (subst (λ (x : ℕ). Goes x later new.rows.items new.standings.items new.found.items new.latest.items new.ended) (sym a)
-    (subst (λ (x : List Row). Goes old.cowns later x new.standings.items new.found.items new.latest.items new.ended) (sym c)
-    (subst (λ (x : List Standing). Goes old.cowns later rows x new.found.items new.latest.items new.ended) (sym d)
-    (subst (λ (x : List (Option ℕ)). Goes old.cowns later rows standings x new.latest.items new.ended) (sym g)
-    (subst (λ (x : List (Option ℕ)). Goes old.cowns later rows standings found x new.ended) (sym e)
-    (subst (λ (x : ℕ). Goes old.cowns later rows standings found latest x) (sym f) k))))))
+    (subst (λ (x : ℕ). Goes x later new.rows.items new.kept_rows.items new.found.items new.latest.items new.ended) (sym a)
+    (subst (λ (x : List Row). Goes old.cowns later x new.kept_rows.items new.found.items new.latest.items new.ended) (sym c)
+    (subst (λ (x : List KeptRow). Goes old.cowns later rows x new.found.items new.latest.items new.ended) (sym d)
+    (subst (λ (x : List (Option ℕ)). Goes old.cowns later rows kept_rows x new.latest.items new.ended) (sym g)
+    (subst (λ (x : List (Option ℕ)). Goes old.cowns later rows kept_rows found x new.ended) (sym e)
+    (subst (λ (x : ℕ). Goes old.cowns later rows kept_rows found latest x) (sym f) k))))))
 
 -- The run is kept after an event.
 pub kept_spawn : {old new : RunSoFar} {event : Event} {row parent offset : ℕ} {cowns given : ArrayVec ℕ} → event ≡ Spawn row parent offset cowns
@@ -184,24 +184,24 @@ pub kept_spawn : {old new : RunSoFar} {event : Event} {row parent offset : ℕ} 
     → given ≡ cowns → IsSpawned old new row parent offset given → HasGone new (after (so_far old) event)
 kept_spawn {old = old} {new = new} {row = row} {parent = parent} {offset = offset} {cowns = cowns} is k allowed same spawned =
     let h = subst (IsSpawned old new row parent offset) same spawned in
-    gone_as old new is allowed (keeps_spawn old.cowns (so_far old) old.rows.items old.standings.items old.found.items old.latest.items old.ended row parent offset
+    gone_as old new is allowed (keeps_spawn old.cowns (so_far old) old.rows.items old.kept_rows.items old.found.items old.latest.items old.ended row parent offset
     cowns k)
-    h.cowns_stay h.rows h.standings h.found h.latest h.ended
+    h.cowns_stay h.rows h.kept_rows h.found h.latest h.ended
 
 pub kept_start : {old new : RunSoFar} {event : Event} {row : ℕ} → event ≡ Start row → IsRunSoFar old → IsAllowed old.cowns (so_far old) event
     → IsStarted old new row → HasGone new (after (so_far old) event)
 kept_start {old = old} {new = new} {row = row} is k allowed h =
-    gone_as old new is allowed (keeps_start old.cowns (so_far old) old.rows.items old.standings.items old.found.items old.latest.items old.ended row k)
-    h.cowns_stay h.rows_stay h.standings h.found_stays h.latest_stay h.ended
+    gone_as old new is allowed (keeps_start old.cowns (so_far old) old.rows.items old.kept_rows.items old.found.items old.latest.items old.ended row k)
+    h.cowns_stay h.rows_stay h.kept_rows h.found_stays h.latest_stay h.ended
 
 pub kept_end : {old new : RunSoFar} {event : Event} {row ticks : ℕ} {status : EndStatus} {written given : ArrayVec ℕ} → event ≡ End row ticks status written
     → IsRunSoFar old → IsAllowed old.cowns (so_far old) event
     → given ≡ written → IsEnded old new row ticks status given → HasGone new (after (so_far old) event)
 kept_end {old = old} {new = new} {row = row} {ticks = ticks} {status = status} {written = written} is k allowed same ended =
     let h = subst (IsEnded old new row ticks status) same ended in
-    gone_as old new is allowed (keeps_end old.cowns (so_far old) old.rows.items old.standings.items old.found.items old.latest.items old.ended row ticks status
+    gone_as old new is allowed (keeps_end old.cowns (so_far old) old.rows.items old.kept_rows.items old.found.items old.latest.items old.ended row ticks status
     written k)
-    h.cowns_stay h.rows h.standings h.found_stays h.latest_stay h.ended
+    h.cowns_stay h.rows h.kept_rows h.found_stays h.latest_stay h.ended
 
 -- A run is over where all of its rows are.
 pub over_is : (rows : List Entry) → 0 < length rows → (over rows ≡ length rows) ↔ IsOver rows

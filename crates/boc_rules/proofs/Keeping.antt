@@ -10,9 +10,9 @@ use Rattle.std.proofs.lemmas.Option.{slice_get_within}
 use Rattle.std.proofs.lemmas.Bool.{cases_eq, cases_order}
 use Rattle.boc_program.specs.declared.limits.TheConstants.{MOST_HELD}
 use Rattle.boc_runs.specs.Legal.{Entry, entry_cowns}
-use Rattle.boc_rules.specs.declared.standing.Standing.{Standing}
+use Rattle.boc_rules.specs.declared.kept_row.KeptRow.{KeptRow}
 use Rattle.boc_rules.specs.Before.{IsLatest, AreBefore, noted}
-use Rattle.boc_rules.specs.SoFar.{IsStandingOf, AreStandingsOf, AreFound, AreLatest, over_one, over}
+use Rattle.boc_rules.specs.SoFar.{IsKeptRowOf, AreKeptRowsOf, AreFound, AreLatest, over_one, over}
 use Rattle.boc_program.proofs.ChangedItems.{set_other, range_stays, range_behind}
 use Rattle.boc_rules.proofs.Lists.{got_set, set_same, got_push, push_below, push_last, got_at}
 use Rattle.boc_rules.proofs.Next.{cowns_at}
@@ -78,44 +78,44 @@ same_set run r e v n h = record {
       ];
 }
 
-standing_case : (run : List Entry) (standings : List Standing) (r : ℕ) (v : Entry) (y : Standing) → AreStandingsOf run standings → IsStandingOf v y → (k : ℕ) (f : Entry) (z : Standing)
-    → ((k ≡ r) × (v ≡ f)) ⊎ ((k ≢ r) × (slice_get run k ≡ Some f)) → ((k ≡ r) × (y ≡ z)) ⊎ ((k ≢ r) × (slice_get standings k ≡ Some z)) → IsStandingOf f z
-standing_case run standings r v y are is k f z (inl p) (inl q) = subst (λ (a : Entry). IsStandingOf a z) p.1 (subst (IsStandingOf v) q.1 is)
-standing_case run standings r v y are is k f z (inl p) (inr q) = absurd (q.0 p.0)
-standing_case run standings r v y are is k f z (inr p) (inl q) = absurd (p.0 q.0)
-standing_case run standings r v y are is k f z (inr p) (inr q) = are.each k f z p.1 q.1
+kept_row_case : (run : List Entry) (kept_rows : List KeptRow) (r : ℕ) (v : Entry) (y : KeptRow) → AreKeptRowsOf run kept_rows → IsKeptRowOf v y → (k : ℕ) (f : Entry) (z : KeptRow)
+    → ((k ≡ r) × (v ≡ f)) ⊎ ((k ≢ r) × (slice_get run k ≡ Some f)) → ((k ≡ r) × (y ≡ z)) ⊎ ((k ≢ r) × (slice_get kept_rows k ≡ Some z)) → IsKeptRowOf f z
+kept_row_case run kept_rows r v y are is k f z (inl p) (inl q) = subst (λ (a : Entry). IsKeptRowOf a z) p.1 (subst (IsKeptRowOf v) q.1 is)
+kept_row_case run kept_rows r v y are is k f z (inl p) (inr q) = absurd (q.0 p.0)
+kept_row_case run kept_rows r v y are is k f z (inr p) (inl q) = absurd (p.0 q.0)
+kept_row_case run kept_rows r v y are is k f z (inr p) (inr q) = are.each k f z p.1 q.1
 
-pub standings_set : (run : List Entry) (standings : List Standing) (r : ℕ) (e v : Entry) (x y : Standing) → AreStandingsOf run standings → IsSet run r e v
-    → slice_get standings r ≡ Some x → IsStandingOf v y → AreStandingsOf (slice_set run r v) (slice_set standings r y)
-standings_set run standings r e v x y are h at is = record {
-  all = length-set standings r y ∙ are.all ∙ sym (length-set run r v);
-  each = λ k f z g i. standing_case run standings r v y are is k f z (got_set run r k v f g) (got_set standings r k y z i);
+pub kept_rows_set : (run : List Entry) (kept_rows : List KeptRow) (r : ℕ) (e v : Entry) (x y : KeptRow) → AreKeptRowsOf run kept_rows → IsSet run r e v
+    → slice_get kept_rows r ≡ Some x → IsKeptRowOf v y → AreKeptRowsOf (slice_set run r v) (slice_set kept_rows r y)
+kept_rows_set run kept_rows r e v x y are h at is = record {
+  all = length-set kept_rows r y ∙ are.all ∙ sym (length-set run r v);
+  each = λ k f z g i. kept_row_case run kept_rows r v y are is k f z (got_set run r k v f g) (got_set kept_rows r k y z i);
 }
 
--- a standing of the changed list has the part of one that was there
-pub record HasPart (standings : List Standing) (k : ℕ) (z : Standing) : Type 0 where
-  pub old : Standing
-  pub was : slice_get standings k ≡ Some old
+-- a kept_row of the changed list has the part of one that was there
+pub record HasPart (kept_rows : List KeptRow) (k : ℕ) (z : KeptRow) : Type 0 where
+  pub old : KeptRow
+  pub was : slice_get kept_rows k ≡ Some old
   pub from : old.from ≡ z.from
   pub to : old.to ≡ z.to
 
-part_set : (standings : List Standing) (r : ℕ) (x y : Standing) → slice_get standings r ≡ Some x → x.from ≡ y.from → x.to ≡ y.to → (k : ℕ) (z : Standing)
-    → slice_get (slice_set standings r y) k ≡ Some z → HasPart standings k z
-part_set standings r x y at from to k z i =
-    elim (got_set standings r k y z i) [
-      | inl p ↦ record { old = x; was = got_at standings k r x p.0 at; from = from ∙ ap (λ (a : Standing). a.from) p.1; to = to ∙ ap (λ (a : Standing). a.to) p.1 }
+part_set : (kept_rows : List KeptRow) (r : ℕ) (x y : KeptRow) → slice_get kept_rows r ≡ Some x → x.from ≡ y.from → x.to ≡ y.to → (k : ℕ) (z : KeptRow)
+    → slice_get (slice_set kept_rows r y) k ≡ Some z → HasPart kept_rows k z
+part_set kept_rows r x y at from to k z i =
+    elim (got_set kept_rows r k y z i) [
+      | inl p ↦ record { old = x; was = got_at kept_rows k r x p.0 at; from = from ∙ ap (λ (a : KeptRow). a.from) p.1; to = to ∙ ap (λ (a : KeptRow). a.to) p.1 }
       | inr p ↦ record { old = z; was = p.1; from = refl; to = refl }
     ]
 
-pub found_set : (run : List Entry) (standings : List Standing) (found : List (Option ℕ)) (r : ℕ) (e v : Entry) (x y : Standing) → AreFound run standings found
-    → IsSet run r e v → slice_get standings r ≡ Some x → x.from ≡ y.from → x.to ≡ y.to
-    → AreFound (slice_set run r v) (slice_set standings r y) found
-found_set run standings found r e v x y are h at from to = record {
+pub found_set : (run : List Entry) (kept_rows : List KeptRow) (found : List (Option ℕ)) (r : ℕ) (e v : Entry) (x y : KeptRow) → AreFound run kept_rows found
+    → IsSet run r e v → slice_get kept_rows r ≡ Some x → x.from ≡ y.from → x.to ≡ y.to
+    → AreFound (slice_set run r v) (slice_set kept_rows r y) found
+found_set run kept_rows found r e v x y are h at from to = record {
   few = subst (λ (n : ℕ). length found ≤ MOST_HELD * n) (sym (length-set run r v)) are.few;
-  ordered = λ k z i. let p = part_set standings r x y at from to k z i in omega (arith, p.from, p.to, are.ordered k p.old p.was);
-  within = λ k z i. let p = part_set standings r x y at from to k z i in omega (arith, p.to, are.within k p.old p.was);
+  ordered = λ k z i. let p = part_set kept_rows r x y at from to k z i in omega (arith, p.from, p.to, are.ordered k p.old p.was);
+  within = λ k z i. let p = part_set kept_rows r x y at from to k z i in omega (arith, p.to, are.within k p.old p.was);
   before = λ k z i.
-      let p = part_set standings r x y at from to k z i in
+      let p = part_set kept_rows r x y at from to k z i in
       before_same run (slice_set run r v) k (slice_range found z.from z.to) (same_set run r e v (suc k) h)
       (subst (λ (n : ℕ). AreBefore run k (slice_range found n z.to)) p.from
       (subst (λ (n : ℕ). AreBefore run k (slice_range found p.old.from n)) p.to (are.before k p.old p.was)));
@@ -141,12 +141,12 @@ over_set (x ∷ run) (suc r) e v g = omega (arith, over_set run r e v g)
 pub same_push : (run : List Entry) (v : Entry) (n : ℕ) → n ≤ length run → SameBelow run (run ++ (v ∷ [])) n
 same_push run v n h = record { cowns = λ k less. ap (λ (o : Option Entry). option_map_or (λ (x : Entry). x.cowns) o []) (push_below run k v (omega arith)) }
 
-standing_push_case : (run : List Entry) (standings : List Standing) (v : Entry) (y : Standing) → AreStandingsOf run standings → IsStandingOf v y → (k : ℕ) (f : Entry) (z : Standing)
-    → (slice_get run k ≡ Some f) ⊎ ((k ≡ length run) × (v ≡ f)) → (slice_get standings k ≡ Some z) ⊎ ((k ≡ length standings) × (y ≡ z)) → IsStandingOf f z
-standing_push_case run standings v y are is k f z (inl p) (inl q) = are.each k f z p q
-standing_push_case run standings v y are is k f z (inl p) (inr q) = absurd (omega (arith, q.0, are.all, slice_get_within run k f p))
-standing_push_case run standings v y are is k f z (inr p) (inl q) = absurd (omega (arith, p.0, are.all, slice_get_within standings k z q))
-standing_push_case run standings v y are is k f z (inr p) (inr q) = subst (λ (a : Entry). IsStandingOf a z) p.1 (subst (IsStandingOf v) q.1 is)
+kept_row_push_case : (run : List Entry) (kept_rows : List KeptRow) (v : Entry) (y : KeptRow) → AreKeptRowsOf run kept_rows → IsKeptRowOf v y → (k : ℕ) (f : Entry) (z : KeptRow)
+    → (slice_get run k ≡ Some f) ⊎ ((k ≡ length run) × (v ≡ f)) → (slice_get kept_rows k ≡ Some z) ⊎ ((k ≡ length kept_rows) × (y ≡ z)) → IsKeptRowOf f z
+kept_row_push_case run kept_rows v y are is k f z (inl p) (inl q) = are.each k f z p q
+kept_row_push_case run kept_rows v y are is k f z (inl p) (inr q) = absurd (omega (arith, q.0, are.all, slice_get_within run k f p))
+kept_row_push_case run kept_rows v y are is k f z (inr p) (inl q) = absurd (omega (arith, p.0, are.all, slice_get_within kept_rows k z q))
+kept_row_push_case run kept_rows v y are is k f z (inr p) (inr q) = subst (λ (a : Entry). IsKeptRowOf a z) p.1 (subst (IsKeptRowOf v) q.1 is)
 
 -- what is found on the cowns of the new row
 before_new : (run : List Entry) (v : Entry) (cowns : ℕ) (latest : List (Option ℕ)) → AreLatest run cowns latest → All (λ c. c < cowns) v.cowns
@@ -163,41 +163,41 @@ before_new run v cowns latest are below =
           (latest_same run new c (length run) (get_or latest c None) (same_push run v (length run) (omega arith)) (are.each c (below k 0 inside))));
     }
 
-pub standings_push : (run : List Entry) (standings : List Standing) (v : Entry) (y : Standing) → AreStandingsOf run standings → IsStandingOf v y
-    → AreStandingsOf (run ++ (v ∷ [])) (standings ++ (y ∷ []))
-standings_push run standings v y are is = record {
-  all = omega (arith, length-append standings (y ∷ []), length-append run (v ∷ []), are.all);
-  each = λ k f z g i. standing_push_case run standings v y are is k f z (got_push run k v f g) (got_push standings k y z i);
+pub kept_rows_push : (run : List Entry) (kept_rows : List KeptRow) (v : Entry) (y : KeptRow) → AreKeptRowsOf run kept_rows → IsKeptRowOf v y
+    → AreKeptRowsOf (run ++ (v ∷ [])) (kept_rows ++ (y ∷ []))
+kept_rows_push run kept_rows v y are is = record {
+  all = omega (arith, length-append kept_rows (y ∷ []), length-append run (v ∷ []), are.all);
+  each = λ k f z g i. kept_row_push_case run kept_rows v y are is k f z (got_push run k v f g) (got_push kept_rows k y z i);
 }
 
-pub found_push : (run : List Entry) (standings : List Standing) (found : List (Option ℕ)) (v : Entry) (y : Standing) (cowns : ℕ) (latest : List (Option ℕ))
-    → AreStandingsOf run standings → AreFound run standings found → AreLatest run cowns latest → All (λ c. c < cowns) v.cowns → length v.cowns ≤ MOST_HELD
+pub found_push : (run : List Entry) (kept_rows : List KeptRow) (found : List (Option ℕ)) (v : Entry) (y : KeptRow) (cowns : ℕ) (latest : List (Option ℕ))
+    → AreKeptRowsOf run kept_rows → AreFound run kept_rows found → AreLatest run cowns latest → All (λ c. c < cowns) v.cowns → length v.cowns ≤ MOST_HELD
     → y.from ≡ length found → y.to ≡ length found + length v.cowns
-    → AreFound (run ++ (v ∷ [])) (standings ++ (y ∷ [])) (found ++ map (λ c. get_or latest c None) v.cowns)
-found_push run standings found v y cowns latest standings_are are on below held from to =
+    → AreFound (run ++ (v ∷ [])) (kept_rows ++ (y ∷ [])) (found ++ map (λ c. get_or latest c None) v.cowns)
+found_push run kept_rows found v y cowns latest kept_rows_are are on below held from to =
     let more = map (λ c. get_or latest c None) v.cowns in
     let long = length-append found more in
     let new : length more ≡ length v.cowns = length-map v.cowns (λ c. get_or latest c None) in record {
       few = omega (arith, are.few, length-append run (v ∷ []), long, new, held);
-      ordered = λ k z i. elim (got_push standings k y z i) [
+      ordered = λ k z i. elim (got_push kept_rows k y z i) [
         | inl p ↦ are.ordered k z p
-        | inr p ↦ omega (arith, ap (λ (a : Standing). a.from) p.1, ap (λ (a : Standing). a.to) p.1, from, to)
+        | inr p ↦ omega (arith, ap (λ (a : KeptRow). a.from) p.1, ap (λ (a : KeptRow). a.to) p.1, from, to)
       ];
-      within = λ k z i. elim (got_push standings k y z i) [
+      within = λ k z i. elim (got_push kept_rows k y z i) [
         | inl p ↦ omega (arith, are.within k z p, long)
-        | inr p ↦ omega (arith, ap (λ (a : Standing). a.to) p.1, to, long, new)
+        | inr p ↦ omega (arith, ap (λ (a : KeptRow). a.to) p.1, to, long, new)
       ];
-      before = λ k z i. elim (got_push standings k y z i) [
+      before = λ k z i. elim (got_push kept_rows k y z i) [
         | inl p ↦
-            let inside = slice_get_within standings k z p in
-            before_same run (run ++ (v ∷ [])) k (slice_range (found ++ more) z.from z.to) (same_push run v (suc k) (omega (arith, standings_are.all, inside)))
+            let inside = slice_get_within kept_rows k z p in
+            before_same run (run ++ (v ∷ [])) k (slice_range (found ++ more) z.from z.to) (same_push run v (suc k) (omega (arith, kept_rows_are.all, inside)))
             (subst (AreBefore run k) (sym (range_stays found more z.from z.to (are.ordered k z p) (are.within k z p))) (are.before k z p))
         | inr p ↦
             let part : slice_range (found ++ more) z.from z.to ≡ more =
-            range_behind found more z.from z.to (sym (ap (λ (a : Standing). a.from) p.1) ∙ from)
-            (sym (ap (λ (a : Standing). a.to) p.1) ∙ to ∙ ap (λ (n : ℕ). length found + n) (sym new)) in
+            range_behind found more z.from z.to (sym (ap (λ (a : KeptRow). a.from) p.1) ∙ from)
+            (sym (ap (λ (a : KeptRow). a.to) p.1) ∙ to ∙ ap (λ (n : ℕ). length found + n) (sym new)) in
             subst (AreBefore (run ++ (v ∷ [])) k) (sym part)
-            (subst (λ (m : ℕ). AreBefore (run ++ (v ∷ [])) m more) (sym (p.0 ∙ standings_are.all)) (before_new run v cowns latest on below))
+            (subst (λ (m : ℕ). AreBefore (run ++ (v ∷ [])) m more) (sym (p.0 ∙ kept_rows_are.all)) (before_new run v cowns latest on below))
       ];
     }
 

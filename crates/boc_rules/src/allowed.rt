@@ -4,8 +4,8 @@ ghost use Rattle.std.specs.Prelude.{◌≡◌, ◌<◌, ◌≤◌, ◌↔◌, Al
 ghost use Rattle.std.specs.Option.{option_map};
 
 use crate::before::MaybeRow;
+use crate::kept_row::Life;
 use crate::so_far::RunSoFar;
-use crate::standing::Life;
 use boc_program::cowns::{are_among, are_cowns};
 use boc_program::held::HeldCowns;
 use boc_program::limits::{MOST_ROWS, MOST_TICKS};
@@ -102,7 +102,7 @@ impl RunSoFar {
         requires { IsRunSoFar self.now }
         ensures { option_map meant result ≡ life_of (so_far self.now) row }
     {
-        Some(self.standings.get(row as usize)?.life)
+        Some(self.kept_rows.get(row as usize)?.life)
     }
 
     // The offset of the row's last child; 0 where it has none, or isn't there.
@@ -110,8 +110,8 @@ impl RunSoFar {
         requires { IsRunSoFar self.now }
         ensures { result ≡ last_of (so_far self.now) row }
     {
-        match self.standings.get(row as usize) {
-            Some(standing) => standing.last,
+        match self.kept_rows.get(row as usize) {
+            Some(kept_row) => kept_row.last,
             None => 0,
         }
     }
@@ -129,7 +129,7 @@ impl RunSoFar {
         requires { IsRunSoFar self.now }
         ensures { IsTrue result ↔ IsParent (so_far self.now) parent }
     {
-        if self.standings.is_empty() {
+        if self.kept_rows.is_empty() {
             parent == 0
         } else {
             self.is_running(parent)
@@ -141,7 +141,7 @@ impl RunSoFar {
         requires { IsRunSoFar self.now }
         ensures { IsTrue result ↔ IsOffset (so_far self.now) parent offset }
     {
-        if self.standings.is_empty() {
+        if self.kept_rows.is_empty() {
             offset == 0
         } else {
             self.last(parent) < offset && offset <= MOST_TICKS
@@ -153,7 +153,7 @@ impl RunSoFar {
         requires { IsRunSoFar self.now }
         ensures { IsTrue result ↔ MayNeed self.now.cowns (so_far self.now) cowns.now }
     {
-        if self.standings.is_empty() {
+        if self.kept_rows.is_empty() {
             cowns.is_empty()
         } else {
             are_cowns(cowns, self.cowns)
@@ -165,12 +165,12 @@ impl RunSoFar {
         requires { IsRunSoFar self.now }
         ensures { IsTrue result ↔ MayStart (life_of (so_far self.now)) (entry_cowns (so_far self.now)) row }
     {
-        let Some(standing) = self.standings.get(row as usize) else {
+        let Some(kept_row) = self.kept_rows.get(row as usize) else {
             return false;
         };
-        match standing.life {
+        match kept_row.life {
             Life::Pending => self.are_over(
-                &self.found[standing.from as usize..standing.to as usize],
+                &self.found[kept_row.from as usize..kept_row.to as usize],
             ),
             Life::Running | Life::Ended => false,
         }

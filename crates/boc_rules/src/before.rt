@@ -2,10 +2,10 @@
 
 ghost use Rattle.std.specs.Prelude.{◌≡◌, ◌+◌, ◌*◌, ◌<◌, ◌≤◌, ◌++◌, All, None, Some, length, map, slice_index_or, vec_len, vec_capacity};
 ghost use Rattle.boc_program.specs.declared.limits.TheConstants.{MOST_HELD, MOST_ROWS};
-ghost use Rattle.boc_rules.specs.declared.standing.Life.TheVariants.{Pending};
+ghost use Rattle.boc_rules.specs.declared.kept_row.Life.TheVariants.{Pending};
 ghost use Rattle.boc_rules.specs.Before.{noted};
 
-use crate::standing::{Life, Standing};
+use crate::kept_row::{KeptRow, Life};
 use boc_program::short::HeldCown;
 use std::marker::Model;
 
@@ -83,14 +83,14 @@ fn note(latest: &mut Vec<MaybeRow>, cowns: &[HeldCown], row: u32)
     }
 }
 
-/// The standing of a new row over these cowns. The latest row on each of them is put behind those found, and the new row
+/// The kept_row of a new row over these cowns. The latest row on each of them is put behind those found, and the new row
 /// is the latest from now on.
-pub fn first_standing(
+pub fn first_kept_row(
     found: &mut Vec<MaybeRow>,
     latest: &mut Vec<MaybeRow>,
     cowns: &[HeldCown],
     row: u32,
-) -> Standing
+) -> KeptRow
     requires cowns { All (λ c. c < length latest.old.items) cowns.now }
     requires held { length cowns.now ≤ MOST_HELD }
     requires row { row < MOST_ROWS }
@@ -98,13 +98,13 @@ pub fn first_standing(
     requires room { vec_len found.old + length cowns.now ≤ vec_capacity found.old }
     ensures found { found.new.items ≡ found.old.items ++ map (λ c. slice_index_or latest.old.items c None) cowns.now }
     ensures latest { latest.new.items ≡ noted latest.old.items cowns.now row }
-    ensures standing { result ≡ record { life = Pending; last = 0; from = length found.old.items; to = length found.old.items + length cowns.now } }
+    ensures kept_row { result ≡ record { life = Pending; last = 0; from = length found.old.items; to = length found.old.items + length cowns.now } }
     ensures room { vec_capacity found.new ≡ vec_capacity found.old }
 {
     let from = found.len() as u32;
     find(found, latest.as_slice(), cowns);
     note(latest, cowns, row);
-    Standing {
+    KeptRow {
         life: Life::Pending,
         last: 0,
         from,

@@ -5,11 +5,11 @@ mod allowed;
 mod before;
 mod fault;
 mod judge;
+mod kept_row;
 mod rows;
 mod rules;
 mod run_log;
 mod so_far;
-mod standing;
 
 pub use fault::RuleFault;
 pub use judge::Judge;

@@ -2,9 +2,9 @@
 
 ghost use Rattle.std.specs.Prelude.{◌≡◌, ◌+◌, ◌*◌, ◌≤◌, ◌<◌, [], All, IfOk, OnOk, OnErr, length};
 
-use crate::before::{MaybeRow, first_standing};
+use crate::before::{MaybeRow, first_kept_row};
+use crate::kept_row::{KeptRow, Life};
 use crate::rows::{FIRST_ROWS, end_row, pending_row};
-use crate::standing::{Life, Standing};
 use boc_program::body::EndStatus;
 use boc_program::held::HeldCowns;
 use boc_program::limits::MOST_HELD;
@@ -18,8 +18,8 @@ pub struct RunSoFar {
     pub cowns: u32,
     /// The rows in the order of their spawns. A row that hasn't ended has 0 ticks, the status `Done`, and wrote nothing.
     pub rows: Vec<Row>,
-    /// A standing for each row.
-    pub standings: Vec<Standing>,
+    /// A kept_row for each row.
+    pub kept_rows: Vec<KeptRow>,
     /// For each cown of each row, one row after another, the latest row before it with this cown, if there is one.
     pub found: Vec<MaybeRow>,
     /// The latest row on each cown, if there is one.
@@ -48,7 +48,7 @@ impl RunSoFar {
         Ok(RunSoFar {
             cowns,
             rows: Vec::with_capacity(alloc, FIRST_ROWS)?,
-            standings: Vec::with_capacity(alloc, FIRST_ROWS)?,
+            kept_rows: Vec::with_capacity(alloc, FIRST_ROWS)?,
             found: Vec::with_capacity(alloc, MOST_HELD * FIRST_ROWS)?,
             latest,
             ended: 0,
@@ -67,7 +67,7 @@ impl RunSoFar {
     {
         let rooms = self.rooms + 1;
         self.rows.reserve(rooms)?;
-        self.standings.reserve(rooms)?;
+        self.kept_rows.reserve(rooms)?;
         self.found.reserve(MOST_HELD * rooms)?;
         self.rooms = rooms;
         Ok(())
@@ -113,35 +113,35 @@ impl RunSoFar {
         ensures spawned { IsSpawned self.old self.new row parent offset cowns }
         ensures has { HasRooms self.new }
     {
-        if (parent as usize) < self.standings.len() {
-            self.standings[parent as usize].last = offset;
+        if (parent as usize) < self.kept_rows.len() {
+            self.kept_rows[parent as usize].last = offset;
         }
-        let standing = first_standing(&mut self.found, &mut self.latest, cowns.as_slice(), row);
-        self.standings.push_reserved(standing);
+        let kept_row = first_kept_row(&mut self.found, &mut self.latest, cowns.as_slice(), row);
+        self.kept_rows.push_reserved(kept_row);
         self.rows.push_reserved(pending_row(parent, offset, cowns));
         self.rooms -= 1;
     }
 
     // The row holds its cowns from now on.
     fn start(&mut self, row: u32)
-        requires kept { row < length self.old.standings.items }
+        requires kept { row < length self.old.kept_rows.items }
         requires has { HasRooms self.old }
         ensures started { IsStarted self.old self.new row }
         ensures has { HasRooms self.new }
     {
-        self.standings[row as usize].life = Life::Running;
+        self.kept_rows[row as usize].life = Life::Running;
     }
 
     // The row is over.
     fn end(&mut self, row: u32, ticks: u32, status: EndStatus, written: HeldCowns)
-        requires kept { row < length self.old.standings.items }
+        requires kept { row < length self.old.kept_rows.items }
         requires placed { row < length self.old.rows.items }
         requires few { self.old.ended < MOST_ROWS }
         requires has { HasRooms self.old }
         ensures ended { IsEnded self.old self.new row ticks status written }
         ensures has { HasRooms self.new }
     {
-        self.standings[row as usize].life = Life::Ended;
+        self.kept_rows[row as usize].life = Life::Ended;
         end_row(&mut self.rows[row as usize], ticks, status, written);
         self.ended += 1;
     }

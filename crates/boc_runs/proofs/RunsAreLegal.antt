@@ -27,9 +27,9 @@ use Rattle.boc_runs.specs.Serial.{Behaviour, behaviour_of, main_behaviour, input
 use Rattle.boc_program.specs.Changed.{changed}
 use Rattle.boc_runs.specs.Lives.{Life, Pending, Running, Ended, Overlap, MayStart}
 use Rattle.boc_program.specs.Cowns.{AreCowns}
-use Rattle.boc_runs.specs.Legal.{Entry, HasBounds, pending, after, life_of, entry_cowns, last_of, IsParent, IsOffset, MayNeed, MayEnd, KeepsRule, IsAllowed}
+use Rattle.boc_runs.specs.Legal.{Entry, HasBounds, pending, after, life_of, entry_cowns, last_of, IsParent, IsOffset, MayNeed, MayEnd, KeepsRule, IsAllowed, after_all, entries}
 use Rattle.boc_runs.specs.Legal.{IsLegalFrom, IsLegal}
-use Rattle.boc_runs.specs.Run.{Member, Config, waiting, meaning_of, wish_at, next_wish, spawned_by, members_after_spawn, started_on, config_after, opening}
+use Rattle.boc_runs.specs.Run.{Member, Config, waiting, meaning_of, wish_at, next_wish, spawned_by, members_after_spawn, started_on, config_after, opening, config_after_all, config_of}
 use Rattle.boc_runs.specs.Run.{state_of, member_cowns, SpawnsWish, MaySpawn, CanEnd, MayHappen, IsRunFrom, IsRun}
 use Rattle.boc_program.proofs.Rising.{meaning_rises}
 use Rattle.boc_program.proofs.Fitting.{meaning_fits}
@@ -248,7 +248,7 @@ is_there ms r life h = elim (cases_lt r (length ms)) [
   | inr ge ↦ absurd (let e : state_of ms r ≡ None = ap (λ o. option_map (λ (m : Member). m.life) o) (none_past ms r ge) in cc)
 ]
 
-same_life : (p : Program) (ms : List Member) (es : List Entry) → AreTwins p ms es → (r : ℕ) → life_of es r ≡ state_of ms r
+pub same_life : (p : Program) (ms : List Member) (es : List Entry) → AreTwins p ms es → (r : ℕ) → life_of es r ≡ state_of ms r
 same_life p ms es h r = elim (cases_lt r (length ms)) [
   | inl l ↦ (
       let b = beside p ms es h r l in
@@ -257,7 +257,7 @@ same_life p ms es h r = elim (cases_lt r (length ms)) [
       ∙ sym (ap (λ o. option_map (λ (m : Member). m.life) o) (none_past ms r ge))
 ]
 
-same_cowns : (p : Program) (ms : List Member) (es : List Entry) → AreTwins p ms es → (r : ℕ) → entry_cowns es r ≡ rising (member_cowns ms r)
+pub same_cowns : (p : Program) (ms : List Member) (es : List Entry) → AreTwins p ms es → (r : ℕ) → entry_cowns es r ≡ rising (member_cowns ms r)
 same_cowns p ms es h r = elim (cases_lt r (length ms)) [
   | inl l ↦ (
       let b = beside p ms es h r l in
@@ -578,7 +578,7 @@ pending_of ms r m is waits =
 
 -- ---- the law
 
-next_allowed : (p : Program) (c : Config) (es : List Entry) (event : Event) → AreTwins p c.members es → MayHappen p c event
+pub next_allowed : (p : Program) (c : Config) (es : List Entry) (event : Event) → AreTwins p c.members es → MayHappen p c event
     → IsAllowed (cown_count p.cowns) es event
 next_allowed p c es (Spawn row parent offset cowns) h may = spawn_allowed p c.members es h row parent offset cowns may.0 may.1 may.2
 next_allowed p c es (Start row) h may = start_allowed p c.members es h row may
@@ -602,3 +602,12 @@ legal_from p c es (event ∷ events) h run =
 
 pub run_is_legal : (p : Program) (log : List Event) → IsRun p log → IsLegal (cown_count p.cowns) log
 run_is_legal p log run = legal_from p (opening p) [] log (none_twins p) run
+
+twins_from : (p : Program) (c : Config) (es : List Entry) (log : List Event) → IsRunFrom p c log → AreTwins p c.members es
+    → AreTwins p (config_after_all p c log).members (after_all es log)
+twins_from p c es [] run h = h
+twins_from p c es (event ∷ events) run h = twins_from p (config_after p c event) (after es event) events run.1 (next_twins p c es event h run.0)
+
+-- the behaviours of a run are beside the rows of its log
+pub run_twins : (p : Program) (log : List Event) → IsRun p log → AreTwins p (config_of p log).members (entries log)
+run_twins p log run = twins_from p (opening p) [] log run (none_twins p)

@@ -10,7 +10,7 @@ pub enum Life {
 
 /// What is kept of a row until its run is over.
 #[derive(Drop, Debug)]
-pub struct Standing {
+pub struct KeptRow {
     pub life: Life,
     /// The offset of its last child; 0 where it has none.
     pub last: u32,

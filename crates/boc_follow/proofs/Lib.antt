@@ -1,0 +1,11 @@
+pub mod Changes
+pub mod Outputs
+pub mod Members
+pub mod Besides
+pub mod Nexts
+pub mod Wishing
+pub mod Standing
+pub mod Goes
+pub mod Logs
+pub mod Refusals
+pub mod OnePlace

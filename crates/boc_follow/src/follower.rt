@@ -1,0 +1,247 @@
+// A run of a program, followed event by event.
+
+ghost use Rattle.std.specs.Prelude.{◌≡◌, ◌<◌, ◌≤◌, ◌↔◌, [], IfOk, IsTrue, MatchOption, OnOk, length, vec_len, vec_capacity};
+ghost use Rattle.boc_follow.specs.declared.follower.TakeFault.TheVariants.{Memory};
+
+use crate::row::{FollowedRow, child_of, end_row, put_child, start_row};
+use boc_eval::Spare;
+use boc_program::body::EndStatus;
+use boc_program::program::Program;
+use boc_program::short::{CownNo, Cowns};
+use boc_rules::Rules;
+use boc_runs::event::Event;
+use boc_runs::events::Events;
+use boc_runs::values::initial_values;
+use std::alloc::{AllocError, Global};
+use std::marker::Model;
+use thiserror::Error;
+
+/// Why an event is not taken.
+#[derive(Clone, Copy, PartialEq, Eq, Debug, Error)]
+pub enum TakeFault {
+    /// The rule of runs does not allow it next.
+    #[error("not allowed")]
+    NotAllowed,
+    /// It may come next, but memory ran out.
+    #[error("out of memory")]
+    Memory,
+}
+
+impl From<AllocError> for TakeFault {
+    ghost from_gives = { λ _ fault. fault ≡ Memory };
+
+    fn from(_error: AllocError) -> TakeFault {
+        TakeFault::Memory
+    }
+}
+
+/// A program, and the events so far of a run of it. It knows what each behaviour is, what those that run do, and the
+/// values of the cowns.
+#[derive(Drop)]
+pub struct Follower<'a> {
+    program: &'a Program,
+    rules: Rules,
+    rows: Vec<FollowedRow>,
+    values: Vec<i64>,
+    spare: Spare<'a>,
+}
+
+impl<'a> Model for Follower<'a> {
+    ghost use Rattle.boc_follow.specs.Following.{Following};
+    ghost use Rattle.boc_follow.specs.Codes.{coded_following};
+    ghost use Rattle.std.specs.Coded.{codes};
+
+    ghost Value = { Following };
+
+    ghost coded = { Prim.hlevel (codes, coded_following) };
+
+    ghost use Rattle.boc_follow.specs.Following.{IsFollowing};
+
+    ghost view = { λ f. let v : Following = record { program = f.program.now; log = f.rules.events } in v };
+
+    ghost invariant = { λ f. IsFollowing f.program.now f.rules.cowns f.rules.events f.rows.items f.values.items };
+}
+
+/// What a row of a followed run is.
+#[derive(Clone, Copy, Debug)]
+pub struct Named<'f> {
+    /// The place of its body among the program's bodies.
+    pub kind: usize,
+    /// The values of its value parameters.
+    pub args: &'f [i64],
+    /// Its cowns in the order of its cown parameters.
+    pub cowns: &'f [CownNo],
+}
+
+// Makes room for one more row, if there is none.
+fn make_room(rules: &mut Rules, rows: &mut Vec<FollowedRow>) -> Result<(), AllocError>
+    ensures log { rules.new ≡ record rules.old { rooms = rules.new.rooms } }
+    ensures rows { rows.new.items ≡ rows.old.items }
+    ensures event_room { OnOk result (0 < rules.new.rooms) }
+    ensures row_room { OnOk result (vec_len rows.new < vec_capacity rows.new) }
+{
+    rows.reserve(1)?;
+    if rules.rooms() == 0 {
+        rules.make_room()?;
+    }
+    Ok(())
+}
+
+impl<'a> Follower<'a> {
+    ghost use Rattle.boc_runs.specs.declared.event.Event.TheVariants as events;
+    ghost use Rattle.boc_program.specs.Programs.{cown_count};
+    ghost use Rattle.boc_runs.specs.Legal.{entries, IsAllowed};
+    ghost use Rattle.boc_runs.specs.Run.{config_of, IsRun, IsWholeRun};
+    ghost use Rattle.boc_follow.specs.Takes.{Takes, IsSpawn, IsNamed};
+
+    /// A run of a program with no events yet.
+    pub fn new(alloc: Global, program: &'a Program) -> Result<Follower<'a>, AllocError>
+        ensures { IfOk result (λ f. f ≡ record { program = program.now; log = [] }) }
+    {
+        let values = initial_values(alloc, program.cowns.as_slice())?;
+        let rules = Rules::new(alloc, values.len() as u32)?;
+        Ok(Follower {
+            program,
+            rules,
+            rows: Vec::new(alloc),
+            values,
+            spare: Spare::default(),
+        })
+    }
+
+    /// Takes the event if it may come next. Nothing changes where it is not taken.
+    pub fn take(&mut self, event: &Event) -> Result<(), TakeFault>
+        ensures { Takes self.old event.now result self.new }
+    {
+        if self.rules.judge().judge(event).is_err() {
+            return Err(TakeFault::NotAllowed);
+        }
+        match event {
+            Event::Spawn {
+                parent,
+                offset,
+                cowns,
+                ..
+            } => self.spawn(event, *parent, *offset, cowns),
+            Event::Start { row } => self.start(event, *row),
+            Event::End {
+                row,
+                ticks,
+                status,
+                written,
+            } => self.end(event, *row, *ticks, *status, written),
+        }
+    }
+
+    // Takes the spawn of a row, if its behaviour is the one that comes next.
+    fn spawn(
+        &mut self,
+        event: &Event,
+        parent: u32,
+        offset: u32,
+        cowns: &Cowns,
+    ) -> Result<(), TakeFault>
+        requires is { IsSpawn event.now parent offset cowns.now }
+        requires allowed { IsAllowed (cown_count self.old.program.cowns) (entries self.old.log) event.now }
+        ensures { Takes self.old event.now result self.new }
+    {
+        let Some(child) = child_of(&self.rows, parent, offset, cowns.as_slice()) else {
+            return Err(TakeFault::NotAllowed);
+        };
+        make_room(&mut self.rules, &mut self.rows)?;
+        self.rules.put(event.duplicate());
+        put_child(&mut self.rows, parent, child);
+        Ok(())
+    }
+
+    // Takes the start of a row, and finds what its body does.
+    fn start(&mut self, event: &Event, row: u32) -> Result<(), TakeFault>
+        requires is { event.now ≡ events.Start row }
+        requires allowed { IsAllowed (cown_count self.old.program.cowns) (entries self.old.log) event.now }
+        ensures { Takes self.old event.now result self.new }
+    {
+        let alloc = *self.rows.allocator();
+        start_row(
+            alloc,
+            &mut self.spare,
+            self.program,
+            &mut self.rows,
+            row,
+            &self.values,
+        )?;
+        self.rules.put(event.duplicate());
+        Ok(())
+    }
+
+    // Takes the end of a row, if its body ends so.
+    fn end(
+        &mut self,
+        event: &Event,
+        row: u32,
+        ticks: u32,
+        status: EndStatus,
+        written: &Cowns,
+    ) -> Result<(), TakeFault>
+        requires is { event.now ≡ events.End row ticks status written.now }
+        requires allowed { IsAllowed (cown_count self.old.program.cowns) (entries self.old.log) event.now }
+        ensures { Takes self.old event.now result self.new }
+    {
+        if !self.rows[row as usize].ends_so(ticks, status, written.as_slice()) {
+            return Err(TakeFault::NotAllowed);
+        }
+        self.rules.put(event.duplicate());
+        end_row(&mut self.rows, row, &mut self.values);
+        Ok(())
+    }
+
+    /// There is a row, and every row has ended: the events are a whole run of the program.
+    pub fn is_complete(&self) -> bool
+        ensures { IsTrue result ↔ IsWholeRun self.now.program self.now.log }
+    {
+        self.rules.is_complete()
+    }
+
+    /// The program.
+    pub fn program(&self) -> &'a Program
+        ensures value { result.now ≡ self.now.program }
+        ensures run { IsRun self.now.program self.now.log }
+    {
+        self.program
+    }
+
+    /// How many cowns the program has.
+    pub fn cowns(&self) -> u32
+        ensures { result ≡ cown_count self.now.program.cowns }
+    {
+        self.rules.cowns()
+    }
+
+    /// The events so far.
+    pub fn events(&self) -> Events<'_>
+        ensures value { result ≡ self.now.log }
+        ensures run { IsRun self.now.program self.now.log }
+    {
+        self.rules.events()
+    }
+
+    /// The values of the cowns, in the order of their numbers. They change only as rows end.
+    pub fn values(&self) -> &[i64]
+        ensures { result.now ≡ (config_of self.now.program self.now.log).values }
+    {
+        &self.values
+    }
+
+    /// What a row is, if it is there.
+    pub fn named(&self, row: u32) -> Option<Named<'_>>
+        ensures { MatchOption result
+            (length (config_of self.now.program self.now.log).members ≤ row)
+            (λ named. IsNamed (config_of self.now.program self.now.log).members row named.kind named.args.now named.cowns.now) }
+    {
+        let row = self.rows.get(row as usize)?;
+        Some(Named {
+            kind: row.kind,
+            args: row.args.as_slice(),
+            cowns: row.cowns.as_slice(),
+        })
+    }
+}

@@ -10,7 +10,7 @@ use Rattle.boc_runs.specs.declared.rows.Row.{Row}
 use Rattle.boc_runs.specs.Rows.{IsRows, edited}
 use Rattle.boc_runs.proofs.Editing.{one_last, least_fits, rows_edited}
 use Rattle.boc_plans.specs.Plans.{work_of, IsEnd, Keeps}
-use Rattle.boc_plans.specs.Greedy.{IsForWorkers, IsSpan}
+use Rattle.boc_plans.specs.Greedy.{IsForWorkers}
 use Rattle.boc_plans.specs.Sweeps.{IsGreedyEnd, IsLeastGreedyEnd, IsGreedySweep}
 use Rattle.boc_plans.proofs.Numbered.{range_long, range_at}
 use Rattle.boc_order.proofs.Alone.{one_end, one_span, one_bound}

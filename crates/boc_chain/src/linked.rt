@@ -46,6 +46,8 @@ pub enum Change {
     Lead,
 }
 
+// What `kept_links` says by places, said by cowns, from which what is said of all slots below follows of itself. A call more
+// costs nothing, since it is inlined.
 impl Linked {
     // Adds the link of the next request.
     #[inline(always)]

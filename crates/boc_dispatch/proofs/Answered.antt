@@ -246,10 +246,7 @@ step_seen d e k u child found f step told other makes is same =
 pub owning : (row : ℕ) (phase : Phase) → enqueues_at (Recorded row phase) ≡ true → ((request : ℕ) → phase ≡ phases.Flagging request → ⊥) → phase ≡ phases.Owning
 owning row (phases.Flagging request) open_is other = absurd (other request refl)
 owning row phases.Owning open_is other = refl
-owning row phases.Waiting open_is other = absurd (let h : false ≡ true = open_is in cc)
-owning row phases.Ready open_is other = absurd (let h : false ≡ true = open_is in cc)
-owning row phases.Running open_is other = absurd (let h : false ≡ true = open_is in cc)
-owning row (phases.Leaving request) open_is other = absurd (let h : false ≡ true = open_is in cc)
+owning row _ open_is other = absurd (let h : false ≡ true = open_is in cc)
 
 -- ---- finish
 

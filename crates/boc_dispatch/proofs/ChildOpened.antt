@@ -15,7 +15,7 @@ use Rattle.boc_program.specs.Meaning.{Wish}
 use Rattle.boc_program.specs.Rising.{rising}
 use Rattle.boc_runs.specs.Lives.{Running}
 use Rattle.boc_runs.specs.Run.{state_of, next_wish}
-use Rattle.boc_runs.specs.machine.Stages.{OpenBehaviour, parent_of, cowns_of, row_of, settled_at, flagged_at, row_at, asks_at, enqueues_at, waits_at, life}
+use Rattle.boc_runs.specs.machine.Stages.{OpenBehaviour, parent_of, cowns_of, row_of, settled_at, row_at, asks_at, enqueues_at, waits_at, life}
 use Rattle.boc_runs.specs.machine.Stages.{life_at, settled, enqueues, asks}
 use Rattle.boc_runs.specs.machine.Queues.{times, is_granted, is_first}
 use Rattle.boc_runs.specs.machine.Steps.{State, at, queue, members, opened, unrecorded, stepped, with_stage, asking_on, MayOpen, Opens}
@@ -25,18 +25,18 @@ use Rattle.boc_machine_laws.proofs.Lists.{same_or_not, read_pushed, read_front}
 use Rattle.boc_machine_laws.proofs.Counting.{by_test}
 use Rattle.boc_machine_laws.proofs.Keeps.{keeps_opens}
 use Rattle.boc_machine_laws.proofs.Rows.{life_there}
-use Rattle.boc_chain.specs.declared.request.Request.{Request}
 use Rattle.boc_chain.specs.Chain.{Place}
 use Rattle.boc_dispatch.specs.declared.live.Live.{Live}
 use Rattle.boc_dispatch.specs.Inside.{live_at, open_of, place_of, exchanged_at, number_at, behaviours_of, row_or_0, is_taken, Parts, IsKept, HasRooms, state}
-use Rattle.boc_dispatch.specs.Inside.{IsAtStage, IsNew, AreNumbered, AreInHand, IsChildOf, IsParentOf, AreOfRun, IsMember, IsWished, IsRequestOf, AreCounted}
+use Rattle.boc_dispatch.specs.Inside.{IsAtStage, IsNew, AreNumbered, AreInHand, AreOfRun, IsMember, IsWished, AreCounted}
 use Rattle.boc_dispatch.specs.Inside.{awaits}
 use Rattle.boc_dispatch.specs.Moves.{recorded, with_new_child, MayRecord}
 use Rattle.boc_dispatch.specs.Places.{with_child, with_row}
 use Rattle.boc_dispatch.proofs.Counts.{failing}
 use Rattle.boc_dispatch.proofs.Flagged.{flagging_each, place_with}
 use Rattle.boc_dispatch.proofs.Going.{awaits_same, granted_same}
-use Rattle.boc_dispatch.proofs.Granting.{Tied, AreReady, kept_of}
+use Rattle.boc_dispatch.proofs.Granting.{Tied, kept_of}
+use Rattle.boc_dispatch.proofs.Onward.{Leads, Further, further, child_led, parent_led, requests_led, ready_led}
 use Rattle.boc_dispatch.proofs.Recording.{asks_no_row, tied_after, state_after, may_record, rooms_after, e_is}
 use Rattle.boc_dispatch.proofs.Standing.{open_is}
 use Rattle.boc_dispatch.proofs.Tables.{SamePlaces, live_there, live_here, live_other, live_new, slot_of_open, behaviours_length, behaviours_placed}
@@ -210,33 +210,23 @@ module _ (d : Parts) (k : IsKept d) (row slot : ℕ) (p : Live) (it : IsAtStage 
       numbered_half : AreNumbered half (d.opened + 1)
       numbered_half = numbered_added live2 d.opened own child numbered2 (same own ∙ vacant) room new.number_is
 
-      child_after : (r : ℕ) (x : Live) → IsChildOf d.live r x → IsChildOf E.live r x
-      child_after r x h =
+      -- whoever was there goes on as who that was
+      led : Leads Further d.live E.live
+      led r x is =
           elim (same_or_not r slot) [
-            | inl e ↦
-                let this = p_only h.child r e h.is in
-                record {
-                  child = p';
-                  is = ap (live_at E.live) e ∙ e_slot;
-                  enqueued = ap (λ z. enqueues_at z.stage) (sym this) ∙ h.enqueued;
-                  parent_is = h.parent_is ∙ ap (λ z. Some z.parent) this;
-                }
-            | inr n ↦ record { child = h.child; is = e_other r (not_own r h.child h.is) n ∙ h.is; enqueued = h.enqueued; parent_is = h.parent_is }
-          ]
-
-      parent_after : (r : ℕ) (x : Live) → IsParentOf d.live r x → IsParentOf E.live r x
-      parent_after r x h =
-          elim (same_or_not h.home slot) [
-            | inl e ↦
-                let this = p_only h.parent h.home e h.is in
-                absurd (let f : Some r ≡ None = sym h.knows ∙ ap (λ z. z.child) this ∙ free in cc)
-            | inr n ↦ record {
-              home = h.home;
-              parent = h.parent;
-              is = e_other h.home (not_own h.home h.parent h.is) n ∙ h.is;
-              row_is = h.row_is;
-              knows = h.knows;
-            }
+            | inl e ↦ subst (λ (z : Live). (y : Live) × (live_at E.live r ≡ Some y) × Further z y) (sym (p_only x r e is)) (
+              p',
+              ap (live_at E.live) e ∙ e_slot,
+              record {
+                parent = refl;
+                row = λ q h. h;
+                enqueues = λ h. h;
+                child = λ q h. absurd (let f : None ≡ Some q = sym free ∙ h in cc);
+                marks = λ c. (refl, refl);
+                ready = λ q h. h;
+              },
+            )
+            | inr n ↦ (x, e_other r (not_own r x is) n ∙ is, further x)
           ]
 
       in_hand_after : AreInHand E.live
@@ -253,7 +243,7 @@ module _ (d : Parts) (k : IsKept d) (row slot : ℕ) (p : Live) (it : IsAtStage 
                   enqueued = ap enqueues_at new.stage_is;
                   parent_is = ap (λ z. row_at z.stage) u.1 ∙ row_is ∙ ap (λ (z : ℕ). Some z) (sym new.parent_is);
                 }
-            | inr u ↦ child_after r x (k.in_hand.children home r x u.1 has)
+            | inr u ↦ child_led d.live E.live led r x (k.in_hand.children home r x u.1 has)
           ]
         ];
         parents = λ r x a enqueued. elim (cases r x a) [
@@ -266,24 +256,10 @@ module _ (d : Parts) (k : IsKept d) (row slot : ℕ) (p : Live) (it : IsAtStage 
           }
           | inr v ↦ elim v [
             | inl u ↦ absurd (let f : false ≡ true = sym (ap enqueues_at it.stage_is) ∙ ap (λ z. enqueues_at z.stage) (sym u.1) ∙ enqueued in cc)
-            | inr u ↦ parent_after r x (k.in_hand.parents r x u.1 enqueued)
+            | inr u ↦ parent_led d.live E.live led r x (k.in_hand.parents r x u.1 enqueued)
           ]
         ];
       }
-
-      request_after : (c : ℕ) (r : Request) → IsRequestOf d.live c r → IsRequestOf E.live c r
-      request_after c r h =
-          elim (same_or_not r.slot slot) [
-            | inl e ↦
-                let this = p_only h.this r.slot e h.is in
-                record {
-                  this = p';
-                  is = ap (live_at E.live) e ∙ e_slot;
-                  settled_is = h.settled_is ∙ ap (λ z. nat_lt 0 (times c (settled_at z.stage z.cowns.items))) this;
-                  flagged_is = h.flagged_is ∙ ap (λ z. nat_lt 0 (times c (flagged_at z.stage z.cowns.items))) this;
-                }
-            | inr n ↦ record { this = h.this; is = e_other r.slot (not_own r.slot h.this h.is) n ∙ h.is; settled_is = h.settled_is; flagged_is = h.flagged_is }
-          ]
 
       places_after : (r : ℕ) → place r ≡ option_map place_of (live_at E.live r)
       places_after r =
@@ -320,16 +296,6 @@ module _ (d : Parts) (k : IsKept d) (row slot : ℕ) (p : Live) (it : IsAtStage 
         ];
       }
 
-      ready_after : AreReady E.live d.ready
-      ready_after j r a =
-          let q = k.ready_there j r a in
-          elim (same_or_not r slot) [
-            | inl e ↦
-                let this = p_only q.0 r e q.2 in
-                (p', q.1, ap (live_at E.live) e ∙ e_slot, ap (λ z. z.stage) (sym this) ∙ q.3)
-            | inr n ↦ (q.0, q.1, e_other r (not_own r q.0 q.2) n ∙ q.2, q.3)
-          ]
-
       taken_after : count_by is_taken E.live ≡ count_by is_taken d.live + 1
       taken_after =
           taken_changed half (d.opened + 1) slot p p' numbered_half half_slot refl
@@ -349,9 +315,9 @@ module _ (d : Parts) (k : IsKept d) (row slot : ℕ) (p : Live) (it : IsAtStage 
           ]
         ];
         in_hand = in_hand_after;
-        chained = record { requests = λ c j r a. request_after c r (k.chained.requests c j r a); places = places_after };
+        chained = record { requests = requests_led d.live E.live led d.lists d.place k.chained; places = places_after };
         of_run = of_run_after;
-        ready_there = ready_after;
+        ready_there = ready_led d.live E.live led d.ready k.ready_there;
         left = let t = taken_after in let l = k.left in omega (arith, t, l);
       }
 

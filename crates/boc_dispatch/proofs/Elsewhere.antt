@@ -241,11 +241,8 @@ module _ (p : Program) (s : State) (row other : ℕ) (differ : row ≢ other) wh
       let same = same_owned p row s who b m.row m.is
       (child_apart row other b (parent_is who b q m.is) differ (not_ended (life_at b.stage) (ap life_at m.stage_is))) in
       subst (SameFor p row s) (sym m.gives) (record { member = same.member; kept = same.kept; no_new = same.no_new })
-  same_advanced who steps.Open t q m = absurd m
-  same_advanced who steps.Start t q m = absurd m
-  same_advanced who steps.Finish t q m = absurd m
   same_advanced who (steps.Unhook i) t q m = absurd m
-  same_advanced who (steps.Pass i) t q m = absurd m
+  same_advanced who _ t q m = absurd m
 
   same_opened : (t : State) → Opens p s other t → SameFor p row s t
   same_opened t m =
@@ -303,13 +300,8 @@ module _ (p : Program) (s : State) (row other : ℕ) (differ : row ≢ other) wh
       let first = same_leaving p row other differ v who b (suc i) m.due.is (ap enqueues_at m.due.stage_is) (ap row_at m.due.stage_is) in
       let same = same_then p row v u (woken u m.next) first (same_woken p row u m.next) in
       subst (SameFor p row s) (sym m.gives) (record { member = same.member; kept = same.kept; no_new = same.no_new })
-  same_left who steps.Open t m = absurd m
   same_left who (steps.Swap i) t m = absurd m
-  same_left who (steps.Settle i) t m = absurd m
-  same_left who (steps.Flag i) t m = absurd m
-  same_left who steps.Own t m = absurd m
-  same_left who steps.Start t m = absurd m
-  same_left who steps.Finish t m = absurd m
+  same_left who _ t m = absurd m
 
 -- ---- a turn
 

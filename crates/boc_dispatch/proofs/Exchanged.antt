@@ -195,10 +195,9 @@ module _ (d : Parts) (k : IsKept d) (slot : ℕ) (l : Live) (request : ℕ) (it 
 
     pub swap_keeps : IsKept after
     swap_keeps =
-        kept_on d k slot l it.is stage l.awaited lists place
-        (keeps_swaps d.program s l.number request (state after) k.sound swap_steps)
+        kept_on d k slot l it.is stage l.awaited lists place (sym (ap row_at it.stage_is)) (sym (ap asks_at it.stage_is)) (sym (ap enqueues_at it.stage_is))
+        (ap ready_row_at it.stage_is) chained_after (keeps_swaps d.program s l.number request (state after) k.sound swap_steps)
         (subst (λ (z : State). AreCounted z table) (sym state_after) counted_after)
-        chained_after (sym (ap row_at it.stage_is)) (sym (ap asks_at it.stage_is)) (sym (ap enqueues_at it.stage_is)) (ap ready_row_at it.stage_is)
 
     pub swap_rooms : (homes ready : ℕ) → HasRooms d homes ready → HasRooms after homes ready
     swap_rooms homes ready h = rooms_on d k slot l it.is stage l.awaited lists place (sym (ap asks_at it.stage_is)) homes ready h

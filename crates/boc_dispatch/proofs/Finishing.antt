@@ -44,6 +44,7 @@ use Rattle.boc_dispatch.proofs.Fits.{allowed_last}
 use Rattle.boc_dispatch.proofs.Homes.{row_at_slot, childless, fits_row, params_below}
 use Rattle.boc_dispatch.proofs.Outputs.{output_for_each}
 use Rattle.boc_dispatch.proofs.Granting.{tied_of}
+use Rattle.boc_dispatch.proofs.Onward.{wished_still}
 use Rattle.boc_dispatch.proofs.Releasing.{leaving_same, gone_on, moved_state, moved_there, gone_state, gone_not_there}
 
 -- ---- rows of which one has ended
@@ -94,16 +95,7 @@ of_run_then p rows row live k = record {
         behaviour_is = n.2 ∙ q.behaviour_is;
         spawned_is = n.4 ∙ q.spawned_is;
       };
-  asking = λ s l is e.
-      let q = k.asking s l is e in
-      record {
-        wish = q.wish;
-        next = wish_then p rows row l.parent ∙ q.next;
-        kind_is = q.kind_is;
-        args_are = q.args_are;
-        cowns_are = q.cowns_are;
-        new = q.new;
-      };
+  asking = λ s l is e. wished_still p rows (rows_ended rows row) l (wish_then p rows row l.parent) (k.asking s l is e);
 }
 
 -- ---- the end of a behaviour

@@ -1,5 +1,5 @@
 -- A request is flagged.
-use Rattle.std.proofs.Common.{◌≡◌, ℕ, zero, suc, ◌+◌, ◌<◌, ◌≤◌, inl, inr, Bool, true, false, cond, ◌||◌, ltb, List, [], ◌∷◌, length, map, set, take, get_or}
+use Rattle.std.proofs.Common.{◌≡◌, ℕ, zero, suc, ◌+◌, ◌<◌, ◌≤◌, Bool, true, false, cond, ◌||◌, ltb, List, [], ◌∷◌, length, map, set, take, get_or}
 use Rattle.std.proofs.Common.{refl, sym, ◌∙◌, ap, subst, arith}
 use Rattle.std.specs.Prelude.{slice_get, slice_index_or, nat_lt, Option, Some, None}
 use Rattle.std.specs.Option.{option_map}
@@ -14,7 +14,7 @@ use Rattle.boc_runs.specs.machine.Stages.{standing_at, settled_at, flagged_at, r
 use Rattle.boc_runs.specs.machine.Queues.{times, is_granted}
 use Rattle.boc_runs.specs.machine.Steps.{State, at, queue, stepped, with_stage, flagging, Flags}
 use Rattle.boc_runs.specs.machine.Sound.{HasNextRequest}
-use Rattle.boc_machine_laws.proofs.Lists.{same_or_not, not_eq, times-here}
+use Rattle.boc_machine_laws.proofs.Lists.{not_eq, times-here}
 use Rattle.boc_machine_laws.proofs.Asking.{taken_there, take_whole, among}
 use Rattle.boc_machine_laws.proofs.Counting.{by_test}
 use Rattle.boc_machine_laws.proofs.Core.{put_here, put_others}
@@ -25,9 +25,8 @@ use Rattle.boc_dispatch.specs.declared.live.Live.{Live}
 use Rattle.boc_dispatch.specs.Inside.{live_at, open_of, place_of, Parts, IsKept, HasRooms, state, IsAtStage, AreCounted, AreChained, IsRequestOf, queues_of}
 use Rattle.boc_dispatch.specs.Inside.{exchanged_at}
 use Rattle.boc_dispatch.proofs.Standing.{open_is, place_is, stands_in, cown_there}
-use Rattle.boc_dispatch.proofs.Going.{granted_same, awaits_same, queues_mapped, gone_on, table_on, here_on, counted_on, requests_on, parts_on, state_on}
-use Rattle.boc_dispatch.proofs.Going.{rooms_on, kept_on}
-use Rattle.boc_dispatch.proofs.Tables.{live_other}
+use Rattle.boc_dispatch.proofs.Going.{granted_same, awaits_same, queues_mapped, gone_on, table_on, counted_on, places_on, requests_on, parts_on}
+use Rattle.boc_dispatch.proofs.Going.{state_on, rooms_on, kept_on}
 
 -- ---- a list and its places
 
@@ -120,14 +119,7 @@ module _ (d : Parts) (k : IsKept d) (slot : ℕ) (l : Live) (row request : ℕ) 
       ∙ sym (awaits_same s t (gone_on d k slot l it.is stage l.awaited) granted_here))
 
   same_places : (r : ℕ) → option_map place_of (live_at d.live r) ≡ option_map place_of (live_at (table_on d k slot l it.is stage l.awaited) r)
-  same_places r =
-      elim (same_or_not r slot) [
-        | inl e ↦
-            ap (option_map place_of) (ap (live_at d.live) e ∙ it.is)
-            ∙ ap (λ n. Some (place_with cs n)) (ap (λ z. exchanged_at z cs) it.stage_is)
-            ∙ sym (ap (option_map place_of) (ap (live_at (table_on d k slot l it.is stage l.awaited)) e ∙ here_on d k slot l it.is stage l.awaited))
-        | inr n ↦ sym (ap (option_map place_of) (live_other d.live slot (Some (gone_on d k slot l it.is stage l.awaited)) r n))
-      ]
+  same_places = places_on d k slot l it.is stage l.awaited (ap (place_with cs) (sym (ap (λ z. exchanged_at z cs) it.stage_is)))
 
   module _ (lists : List (List Request)) (place : ℕ → Option Place) (lists_are : lists ≡ with_change (with_flagged slot) d.lists (d.place slot) request)
       (places_are : (r : ℕ) → place r ≡ d.place r) where
@@ -172,10 +164,9 @@ module _ (d : Parts) (k : IsKept d) (slot : ℕ) (l : Live) (row request : ℕ) 
 
     pub flag_keeps : IsKept after
     flag_keeps =
-        kept_on d k slot l it.is stage l.awaited lists place
-        (keeps_flags d.program s l.number request (state after) k.sound flag_steps)
+        kept_on d k slot l it.is stage l.awaited lists place (sym (ap row_at it.stage_is)) (sym (ap asks_at it.stage_is)) enqueues_same
+        (ap ready_row_at it.stage_is) chained_after (keeps_flags d.program s l.number request (state after) k.sound flag_steps)
         (subst (λ (z : State). AreCounted z (table_on d k slot l it.is stage l.awaited)) (sym state_after) counted_after)
-        chained_after (sym (ap row_at it.stage_is)) (sym (ap asks_at it.stage_is)) enqueues_same (ap ready_row_at it.stage_is)
 
     pub flag_rooms : (homes ready : ℕ) → HasRooms d homes ready → HasRooms after homes ready
     flag_rooms homes ready h = rooms_on d k slot l it.is stage l.awaited lists place (sym (ap asks_at it.stage_is)) homes ready h

@@ -60,22 +60,15 @@ with_queues s queues = record s { queues = queues }
 
 -- who doesn't hold its cowns enqueues or waits, and isn't ready
 pending_at : (st : Stage) → holds_at st ≡ false → (enqueues_at st || waits_at st) ≡ true
-pending_at (Asking i e) h = refl
-pending_at (Recorded r (phases.Flagging i)) h = refl
-pending_at (Recorded r phases.Owning) h = refl
-pending_at (Recorded r phases.Waiting) h = refl
 pending_at (Recorded r phases.Ready) h = absurd (let f : true ≡ false = h in cc)
 pending_at (Recorded r phases.Running) h = absurd (let f : true ≡ false = h in cc)
 pending_at (Recorded r (phases.Leaving i)) h = absurd (let f : true ≡ false = h in cc)
+pending_at _ h = refl
 
 unready_at : (st : Stage) → holds_at st ≡ false → ready_row_at st ≡ None
-unready_at (Asking i e) h = refl
 unready_at (Recorded r (phases.Flagging i)) h = refl
-unready_at (Recorded r phases.Owning) h = refl
-unready_at (Recorded r phases.Waiting) h = refl
 unready_at (Recorded r phases.Ready) h = absurd (let f : true ≡ false = h in cc)
-unready_at (Recorded r phases.Running) h = refl
-unready_at (Recorded r (phases.Leaving i)) h = refl
+unready_at _ h = refl
 
 waits_row : (st : Stage) → enqueues_at st ≡ false → holds_at st ≡ false → (row : ℕ) × (row_at st ≡ Some row)
 waits_row (Asking i e) g h = absurd (let f : true ≡ false = g in cc)

@@ -2,23 +2,23 @@
 use Rattle.std.proofs.Common.{◌≡◌, ◌≢◌, ℕ, zero, suc, ◌+◌, ◌<◌, ◌⊎◌, inl, inr, Bool, true, false, cond, ◌&&◌, ◌||◌, List, [], ◌∷◌, length, map, set, get_or}
 use Rattle.std.proofs.Common.{refl, sym, ◌∙◌, ap, subst, arith, get_or-set_other, get_or-set_same, length-set}
 use Rattle.std.specs.Prelude.{slice_get, slice_index_or, nat_lt, Option, Some, None}
+use Rattle.std.specs.Option.{option_map}
 use Rattle.std.specs.List.{count_by}
 use Rattle.std.proofs.lemmas.List.{set-get_or}
-use Rattle.boc_runs.specs.declared.stage.Phase.TheVariants.{Ready}
 use Rattle.boc_runs.specs.declared.stage.Stage.{Stage}
-use Rattle.boc_runs.specs.declared.stage.Stage.TheVariants.{Recorded}
 use Rattle.boc_runs.specs.machine.Stages.{settled_at, flagged_at, row_at, ready_row_at, asks_at, enqueues_at, waits_at, settled, asks}
 use Rattle.boc_runs.specs.machine.Queues.{times, is_granted, is_first}
-use Rattle.boc_runs.specs.machine.Steps.{State, at, queue, members, unrecorded, stepped, with_stage}
+use Rattle.boc_runs.specs.machine.Steps.{State, at, queue, unrecorded, stepped, with_stage}
 use Rattle.boc_runs.specs.machine.Sound.{IsSound}
 use Rattle.boc_machine_laws.proofs.Core.{put_sum}
 use Rattle.boc_machine_laws.proofs.Lists.{same_or_not}
 use Rattle.boc_chain.specs.declared.request.Request.{Request}
 use Rattle.boc_chain.specs.Chain.{Place}
 use Rattle.boc_dispatch.specs.declared.live.Live.{Live}
-use Rattle.boc_dispatch.specs.Inside.{live_at, open_of, number_at, HasRooms, queues_of, Parts, IsKept, state, AreAtHome, AreInHand, IsChildOf, IsParentOf}
-use Rattle.boc_dispatch.specs.Inside.{AreOfRun, IsMember, IsWished, AreCounted, awaits, AreChained, IsRequestOf}
-use Rattle.boc_dispatch.proofs.Tables.{live_there, live_here, live_other, live_new, queue_at, queues_put, queues_same, number_changed, numbered_changed}
+use Rattle.boc_dispatch.specs.Inside.{live_at, open_of, place_of, number_at, HasRooms, queues_of, Parts, IsKept, state, AreCounted, awaits, AreChained, IsRequestOf}
+use Rattle.boc_dispatch.proofs.Granting.{Tied, StaysReady, ready_put, kept_of, tied_of, tied_on, tied_stepped}
+use Rattle.boc_dispatch.proofs.Onward.{Same, Known, Marked, follows_set, same_self, known, read_on, request_led, in_hand_on}
+use Rattle.boc_dispatch.proofs.Tables.{live_there, live_here, live_other, live_new, queue_at, queues_put, queues_same, number_changed}
 use Rattle.boc_dispatch.proofs.Tables.{behaviours_changed, taken_changed}
 use Rattle.boc_dispatch.proofs.Standing.{open_is, unready_rows}
 
@@ -81,100 +81,6 @@ module _ (d : Parts) (k : IsKept d) (slot : ℕ) (l : Live) (is : live_at d.live
         | inr u ↦ inr u
       ]
 
-  pub at_home_on : row_at stage ≡ row_at l.stage → AreAtHome table_on d.homes
-  at_home_on same s row x a b =
-      elim (new_on s x a) [
-        | inl u ↦ k.at_home slot row l is (sym same ∙ ap (λ z. row_at z.stage) (sym u.1) ∙ b) ∙ ap (λ (z : ℕ). Some z) (sym u.0)
-        | inr u ↦ k.at_home s row x u.1 b
-      ]
-
-  -- whoever was a child or had one is one or has one still
-  module _ (enqueues_same : enqueues_at stage ≡ enqueues_at l.stage) (row_kept : (r : ℕ) → row_at l.stage ≡ Some r → row_at stage ≡ Some r) where
-    child_on : (s : ℕ) (x : Live) → IsChildOf d.live s x → IsChildOf table_on s x
-    child_on s x h =
-        elim (same_or_not s slot) [
-          | inl e ↦
-              let this : h.child ≡ l = (let f : Some h.child ≡ Some l = sym h.is ∙ ap (live_at d.live) e ∙ is in cc) in
-              record {
-                child = gone_on;
-                is = ap (live_at table_on) e ∙ here_on;
-                enqueued = enqueues_same ∙ ap (λ z. enqueues_at z.stage) (sym this) ∙ h.enqueued;
-                parent_is = h.parent_is ∙ ap (λ z. Some z.parent) this;
-              }
-          | inr n ↦ record {
-            child = h.child;
-            is = live_other d.live slot (Some gone_on) s n ∙ h.is;
-            enqueued = h.enqueued;
-            parent_is = h.parent_is;
-          }
-        ]
-
-    parent_on : (s : ℕ) (x : Live) → IsParentOf d.live s x → IsParentOf table_on s x
-    parent_on s x h =
-        elim (same_or_not h.home slot) [
-          | inl e ↦
-              let this : h.parent ≡ l = (let f : Some h.parent ≡ Some l = sym h.is ∙ ap (live_at d.live) e ∙ is in cc) in
-              record {
-                home = h.home;
-                parent = gone_on;
-                is = ap (live_at table_on) e ∙ here_on;
-                row_is = row_kept x.parent (ap (λ z. row_at z.stage) (sym this) ∙ h.row_is);
-                knows = ap (λ z. z.child) (sym this) ∙ h.knows;
-              }
-          | inr n ↦ record {
-            home = h.home;
-            parent = h.parent;
-            is = live_other d.live slot (Some gone_on) h.home n ∙ h.is;
-            row_is = h.row_is;
-            knows = h.knows;
-          }
-        ]
-
-    pub in_hand_on : AreInHand table_on
-    in_hand_on = record {
-      children = λ home s x a knows. elim (new_on home x a) [
-        | inl u ↦
-            let h = child_on s l (k.in_hand.children slot s l is (ap (λ z. z.child) (sym u.1) ∙ knows)) in
-            record {
-              child = h.child;
-              is = h.is;
-              enqueued = h.enqueued;
-              parent_is = ap (λ z. row_at z.stage) u.1 ∙ row_kept h.child.parent h.parent_is;
-            }
-        | inr u ↦ child_on s x (k.in_hand.children home s x u.1 knows)
-      ];
-      parents = λ s x a enqueued. elim (new_on s x a) [
-        | inl u ↦
-            let h = parent_on slot l (k.in_hand.parents slot l is (sym enqueues_same ∙ ap (λ z. enqueues_at z.stage) (sym u.1) ∙ enqueued)) in
-            record {
-              home = h.home;
-              parent = h.parent;
-              is = h.is;
-              row_is = h.row_is ∙ ap (λ z. Some z.parent) (sym u.1);
-              knows = h.knows ∙ ap (λ (z : ℕ). Some z) (sym u.0);
-            }
-        | inr u ↦ parent_on s x (k.in_hand.parents s x u.1 enqueued)
-      ];
-    }
-
-  pub of_run_on : row_at stage ≡ row_at l.stage → asks_at stage ≡ asks_at l.stage → AreOfRun d.program (members d.program (state d)) table_on
-  of_run_on same_row same_asks = record {
-    recorded = λ s row x a b. elim (new_on s x a) [
-      | inl u ↦
-          let h = k.of_run.recorded slot row l is (sym same_row ∙ ap (λ z. row_at z.stage) (sym u.1) ∙ b) in
-          subst (λ (z : Live). IsMember (members d.program (state d)) z row) (sym u.1)
-          (record { member = h.member; is = h.is; behaviour_is = h.behaviour_is; spawned_is = h.spawned_is })
-      | inr u ↦ k.of_run.recorded s row x u.1 b
-    ];
-    asking = λ s x a b. elim (new_on s x a) [
-      | inl u ↦
-          let h = k.of_run.asking slot l is (sym same_asks ∙ ap (λ z. asks_at z.stage) (sym u.1) ∙ b) in
-          subst (λ (z : Live). IsWished d.program (members d.program (state d)) z) (sym u.1)
-          (record { wish = h.wish; next = h.next; kind_is = h.kind_is; args_are = h.args_are; cowns_are = h.cowns_are; new = h.new })
-      | inr u ↦ k.of_run.asking s x u.1 b
-    ];
-  }
-
   pub counted_on : (t : State) → ((who c : ℕ) → who ≢ l.number → is_granted (at t) (queue t) who c ≡ is_granted (at (state d)) (queue (state d)) who c)
       → ((enqueues_at stage || waits_at stage) ≡ true → awaited ≡ awaits t gone_on) → AreCounted t table_on
   counted_on t same own s x a h =
@@ -186,45 +92,21 @@ module _ (d : Parts) (k : IsKept d) (slot : ℕ) (l : Live) (is : live_at d.live
             ∙ sym (awaits_same (state d) t x (λ c. same x.number c (λ e. u.0 (k.numbered.once s slot x l u.1 is e))))
       ]
 
-  pub ready_on : ready_row_at l.stage ≡ None → (j s : ℕ) → slice_get d.ready j ≡ Some s
-      → (x : Live) × (row : ℕ) × (live_at table_on s ≡ Some x) × (x.stage ≡ Recorded row Ready)
-  ready_on not j s there =
-      let q = k.ready_there j s there in
-      let other : s ≢ slot = (λ e.
-      let same : l ≡ q.0 = (let f : Some l ≡ Some q.0 = sym is ∙ ap (live_at d.live) (sym e) ∙ q.2 in cc) in
-      let f : None ≡ Some q.1 = sym not ∙ ap (λ z. ready_row_at z.stage) same ∙ ap ready_row_at q.3 in
-      absurd cc) in
-      (q.0, q.1, live_other d.live slot (Some gone_on) s other ∙ q.2, q.3)
-
   -- a request stays that of its behaviour, where the same are settled and flagged
-  marks_at : (c : ℕ) → (times c (settled_at stage l.cowns.items) ≡ times c (settled_at l.stage l.cowns.items))
-      × (times c (flagged_at stage l.cowns.items) ≡ times c (flagged_at l.stage l.cowns.items))
-      → (r : Request) → IsRequestOf d.live c r → IsRequestOf table_on c r
-  marks_at c same r h =
-      elim (same_or_not r.slot slot) [
-        | inl e ↦
-            let this : h.this ≡ l = (let g : Some h.this ≡ Some l = sym h.is ∙ ap (live_at d.live) e ∙ is in cc) in
-            record {
-              this = gone_on;
-              is = ap (live_at table_on) e ∙ here_on;
-              settled_is = h.settled_is ∙ ap (λ z. nat_lt 0 (times c (settled_at z.stage z.cowns.items))) this ∙ ap (nat_lt 0) (sym same.0);
-              flagged_is = h.flagged_is ∙ ap (λ z. nat_lt 0 (times c (flagged_at z.stage z.cowns.items))) this ∙ ap (nat_lt 0) (sym same.1);
-            }
-        | inr n ↦ record { this = h.this; is = live_other d.live slot (Some gone_on) r.slot n ∙ h.is; settled_is = h.settled_is; flagged_is = h.flagged_is }
-      ]
+  pub same_marks : ((c : ℕ) → Marked c l gone_on) → (c : ℕ) (r : Request) → IsRequestOf d.live c r → IsRequestOf table_on c r
+  same_marks same c r h = request_led d.live table_on c (follows_set (Marked c) (λ x. (refl, refl)) d.live slot l gone_on is (same c)).after r h
 
-  pub same_marks : ((c : ℕ) → (times c (settled_at stage l.cowns.items) ≡ times c (settled_at l.stage l.cowns.items))
-      × (times c (flagged_at stage l.cowns.items) ≡ times c (flagged_at l.stage l.cowns.items)))
-      → (c : ℕ) (r : Request) → IsRequestOf d.live c r → IsRequestOf table_on c r
-  same_marks same c r h = marks_at c (same c) r h
+  -- what its slot was admitted with stays, where as many requests are exchanged
+  pub places_on : place_of gone_on ≡ place_of l → (r : ℕ) → option_map place_of (live_at d.live r) ≡ option_map place_of (live_at table_on r)
+  places_on same r = sym (read_on (λ x y. place_of y ≡ place_of x) (option_map place_of) d.live table_on
+      (follows_set (λ x y. place_of y ≡ place_of x) (λ x. refl) d.live slot l gone_on is same) (λ x y e. ap (λ z. Some z) e) r)
 
   -- the requests of one list are changed by f, which changes only those of this slot
   module _ (c0 : ℕ) (f : Request → Request) (keeps : KeepsSlots f) (alone : (r : Request) → r.slot ≢ slot → f r ≡ r)
       (marks : (r : Request) → r.settled ≡ nat_lt 0 (times c0 (settled_at l.stage l.cowns.items))
       → r.flagged ≡ nat_lt 0 (times c0 (flagged_at l.stage l.cowns.items)) → r.slot ≡ slot
       → ((f r).settled ≡ nat_lt 0 (times c0 (settled_at stage l.cowns.items))) × ((f r).flagged ≡ nat_lt 0 (times c0 (flagged_at stage l.cowns.items))))
-      (elsewhere : (c : ℕ) → c ≢ c0 → (times c (settled_at stage l.cowns.items) ≡ times c (settled_at l.stage l.cowns.items))
-      × (times c (flagged_at stage l.cowns.items) ≡ times c (flagged_at l.stage l.cowns.items)))
+      (elsewhere : (c : ℕ) → c ≢ c0 → Marked c l gone_on)
       (there : c0 < length d.lists) where
     changed_request : (r : Request) → IsRequestOf d.live c0 r → IsRequestOf table_on c0 (f r)
     changed_request r h =
@@ -240,7 +122,7 @@ module _ (d : Parts) (k : IsKept d) (slot : ℕ) (l : Live) (is : live_at d.live
         ]
 
     same_request : (c : ℕ) → c ≢ c0 → (r : Request) → IsRequestOf d.live c r → IsRequestOf table_on c r
-    same_request c other r h = marks_at c (elsewhere c other) r h
+    same_request c other r h = request_led d.live table_on c (follows_set (Marked c) (λ x. (refl, refl)) d.live slot l gone_on is (elsewhere c other)).after r h
 
     pub requests_on : (c j : ℕ) (r : Request) → slice_get (slice_index_or (set d.lists c0 (map f (get_or d.lists c0 []))) c []) j ≡ Some r
         → IsRequestOf table_on c r
@@ -294,20 +176,24 @@ module _ (d : Parts) (k : IsKept d) (slot : ℕ) (l : Live) (is : live_at d.live
           few = omega (arith, length-set d.live slot (Some gone_on), h.few);
         }
 
-    pub kept_on : IsSound d.program (state parts_on) → AreCounted (state parts_on) table_on → AreChained table_on lists place
-        → row_at stage ≡ row_at l.stage → asks_at stage ≡ asks_at l.stage → enqueues_at stage ≡ enqueues_at l.stage → ready_row_at l.stage ≡ None
-        → IsKept parts_on
-    kept_on sound counted chained same_row same_asks same_enqueues not = record {
-      sound = sound;
-      cowns_are = k.cowns_are;
-      values_are = k.values_are;
-      homes_are = k.homes_are;
-      numbered = numbered_changed d.live d.opened slot l gone_on k.numbered is refl;
-      at_home = at_home_on same_row;
-      in_hand = in_hand_on same_enqueues (λ r h. same_row ∙ h);
-      chained = chained;
-      of_run = of_run_on same_row same_asks;
-      counted = counted;
-      ready_there = ready_on not;
-      left = ap (λ n. n + d.gone) (taken_changed d.live d.opened slot l gone_on k.numbered is refl) ∙ k.left;
-    }
+    -- under the same row, with its enqueue open as before
+    module _ (same_row : row_at stage ≡ row_at l.stage) (same_asks : asks_at stage ≡ asks_at l.stage) (same_enqueues : enqueues_at stage ≡ enqueues_at l.stage)
+        (not_ready : ready_row_at l.stage ≡ None) (chained : AreChained table_on lists place) where
+      same_on : Same l gone_on
+      same_on = record { number = refl; parent = refl; behaviour = refl; spawned = refl; row = same_row; asks = same_asks }
+
+      known_on : Known l gone_on
+      known_on = record { same = same_on; child = refl; enqueues = same_enqueues }
+
+      not_this : StaysReady l gone_on
+      not_this r e = absurd (let f : None ≡ Some r = sym not_ready ∙ ap ready_row_at e in cc)
+
+      pub tied_gone : Tied parts_on
+      tied_gone = tied_stepped (record d { lists = lists; place = place; live = table_on })
+          (tied_on d table_on lists place (tied_of d k) (follows_set Same same_self d.live slot l gone_on is same_on) chained
+          (ready_put d.live d.ready slot l gone_on is not_this k.ready_there)
+          (in_hand_on d.live table_on (follows_set Known known d.live slot l gone_on is known_on) k.in_hand)
+          (taken_changed d.live d.opened slot l gone_on k.numbered is refl))
+
+      pub kept_on : IsSound d.program (state parts_on) → AreCounted (state parts_on) table_on → IsKept parts_on
+      kept_on sound counted = kept_of parts_on tied_gone sound counted

@@ -16,6 +16,7 @@ use Rattle.boc_runs.specs.machine.Steps.{State, at, queue, members, unrecorded, 
 use Rattle.boc_machine_laws.proofs.Lists.{same_or_not, not_eq}
 use Rattle.boc_machine_laws.proofs.Core.{one_if}
 use Rattle.boc_chain.specs.declared.request.Request.{Request}
+use Rattle.boc_chain.specs.Chain.{Place}
 use Rattle.boc_dispatch.specs.declared.live.Live.{Live}
 use Rattle.boc_dispatch.specs.Grants.{granted_if, with_granted, SameRows}
 pub use Rattle.boc_dispatch.specs.Grants.{AreReady, Tied}
@@ -23,8 +24,8 @@ use Rattle.boc_dispatch.specs.Inside.{Parts, state, live_at, open_of, behaviours
 use Rattle.boc_dispatch.specs.Inside.{AreChained, AreCounted, IsKept, HasRooms}
 use Rattle.boc_dispatch.specs.Places.{granted}
 use Rattle.boc_dispatch.proofs.Counts.{waited_same, all_are_granted}
-use Rattle.boc_dispatch.proofs.Onward.{Onward, Steady, Follows, follows_set, follows_on, stays, steady, onward_at, numbered_on, home_on, queues_on, rows_on}
-use Rattle.boc_dispatch.proofs.Onward.{chained_on, of_run_on, in_hand_on}
+use Rattle.boc_dispatch.proofs.Onward.{Same, Onward, Known, Steady, Follows, follows_set, follows_as, same_self, steady, onward_at, numbered_on, home_on, queues_on}
+use Rattle.boc_dispatch.proofs.Onward.{rows_on, chained_on, of_run_on, in_hand_on}
 use Rattle.boc_dispatch.proofs.Tables.{live_there, live_here, live_other, live_new, at_slot, behaviours_changed, taken_changed, behaviours_length}
 
 -- ---- what is kept, but for the state that is sound and for what each counts
@@ -60,17 +61,18 @@ ready_put live ready slot l m is still k i s e =
       | inr n ↦ (r.0, r.1, live_other live slot (Some m) s n ∙ r.2, r.3)
     ]
 
--- all of it stays where each behaviour goes on
-pub tied_on : (d : Parts) (live' : List (Option Live)) → Tied d → Follows Onward d.live live' → AreReady live' d.ready → AreInHand live'
-    → count_by is_taken live' ≡ count_by is_taken d.live → Tied (record d { live = live' })
-tied_on d live' k f ready hand taken = record {
+-- all of it stays where each behaviour goes on, and the chains with them
+pub tied_on : (d : Parts) (live' : List (Option Live)) (lists : List (List Request)) (place : ℕ → Option Place) → Tied d → Follows Same d.live live'
+    → AreChained live' lists place → AreReady live' d.ready → AreInHand live' → count_by is_taken live' ≡ count_by is_taken d.live
+    → Tied (record d { lists = lists; place = place; live = live' })
+tied_on d live' lists place k f chained ready hand taken = record {
   cowns_are = k.cowns_are;
   values_are = k.values_are;
   homes_are = k.homes_are;
   numbered = numbered_on d.live live' f d.opened k.numbered;
   at_home = home_on d.live live' f d.homes k.at_home;
   in_hand = hand;
-  chained = chained_on d.live live' f d.lists d.place k.chained;
+  chained = chained;
   of_run = of_run_on d.live live' f d.program (members d.program (state d)) k.of_run;
   ready_there = ready;
   left = ap (λ n. n + d.gone) taken ∙ k.left;
@@ -80,15 +82,20 @@ pub tied_steady : (d : Parts) (slot : ℕ) (l m : Live) → Tied d → live_at d
 tied_steady d slot l m k is on still =
     let live' = set d.live slot (Some m) in
     let f : Follows Steady d.live live' = follows_set Steady steady d.live slot l m is on in
-    tied_on d live' k (follows_on d.live live' f) (ready_put d.live d.ready slot l m is still k.ready_there) (in_hand_on d.live live' f k.in_hand)
-    (taken_changed d.live d.opened slot l m k.numbered is on.on.number)
+    tied_on d live' d.lists d.place k (follows_as Steady Same (λ x y r. r.on.same) d.live live' f)
+    (chained_on d.live live' (follows_as Steady Onward (λ x y r. r.on) d.live live' f) d.lists d.place k.chained)
+    (ready_put d.live d.ready slot l m is still k.ready_there)
+    (in_hand_on d.live live' (follows_as Steady Known known_of d.live live' f) k.in_hand) (taken_changed d.live d.opened slot l m k.numbered is on.on.same.number)
+  where
+    known_of : (x y : Live) → Steady x y → Known x y
+    known_of x y r = record { same = r.on.same; child = r.child; enqueues = r.enqueues }
 
 -- the state then
-pub state_put : (d : Parts) (slot : ℕ) (l m : Live) → AreNumbered d.live d.opened → live_at d.live slot ≡ Some l → Onward l m
+pub state_put : (d : Parts) (slot : ℕ) (l m : Live) → AreNumbered d.live d.opened → live_at d.live slot ≡ Some l → Same l m
     → state (put_live d slot m) ≡ with_behaviour (state d) l.number (Some (open_of m))
 state_put d slot l m k is on =
     let live' = set d.live slot (Some m) in
-    let f : Follows Onward d.live live' = follows_set Onward stays d.live slot l m is on in
+    let f : Follows Same d.live live' = follows_set Same same_self d.live slot l m is on in
     λ i. record {
       log = d.log.events;
       behaviours = behaviours_changed d.live d.opened slot l m k is on.number i;
@@ -101,7 +108,7 @@ abbrev pub with_behaviours : State → List (Option OpenBehaviour) → State
 with_behaviours s bs = record s { behaviours = bs }
 
 -- the same open behaviour changes nothing of it
-pub state_same : (d : Parts) (slot : ℕ) (l m : Live) → AreNumbered d.live d.opened → live_at d.live slot ≡ Some l → Onward l m → open_of m ≡ open_of l
+pub state_same : (d : Parts) (slot : ℕ) (l m : Live) → AreNumbered d.live d.opened → live_at d.live slot ≡ Some l → Same l m → open_of m ≡ open_of l
     → state (put_live d slot m) ≡ state d
 state_same d slot l m k is on same =
     state_put d slot l m k is on
@@ -146,19 +153,12 @@ woken_enqueues : (s : State) (who : ℕ) (b : OpenBehaviour) (st : Stage) → en
 woken_enqueues s who b (Asking i e) h = refl
 woken_enqueues s who b (Recorded r (phases.Flagging i)) h = refl
 woken_enqueues s who b (Recorded r phases.Owning) h = refl
-woken_enqueues s who b (Recorded r phases.Waiting) h = absurd (let f : false ≡ true = h in cc)
-woken_enqueues s who b (Recorded r phases.Ready) h = absurd (let f : false ≡ true = h in cc)
-woken_enqueues s who b (Recorded r phases.Running) h = absurd (let f : false ≡ true = h in cc)
-woken_enqueues s who b (Recorded r (phases.Leaving i)) h = absurd (let f : false ≡ true = h in cc)
+woken_enqueues s who b _ h = absurd (let f : false ≡ true = h in cc)
 
 pub waits_stage : (st : Stage) → waits_at st ≡ true → (row : ℕ) × (st ≡ Recorded row phases.Waiting)
-waits_stage (Asking i e) h = absurd (let f : false ≡ true = h in cc)
 waits_stage (Recorded r (phases.Flagging i)) h = absurd (let f : false ≡ true = h in cc)
-waits_stage (Recorded r phases.Owning) h = absurd (let f : false ≡ true = h in cc)
 waits_stage (Recorded r phases.Waiting) h = (r, refl)
-waits_stage (Recorded r phases.Ready) h = absurd (let f : false ≡ true = h in cc)
-waits_stage (Recorded r phases.Running) h = absurd (let f : false ≡ true = h in cc)
-waits_stage (Recorded r (phases.Leaving i)) h = absurd (let f : false ≡ true = h in cc)
+waits_stage _ h = absurd (let f : false ≡ true = h in cc)
 
 -- the state with this behaviour for who, and a row behind the ready ones
 abbrev readied : State → ℕ → OpenBehaviour → ℕ → State
@@ -182,24 +182,9 @@ module _ (d : Parts) (slot : ℕ) (l : Live) (k : Tied d) (is : live_at d.live s
   still : eqb l.awaited 1 ≡ false → woken (state d) l.number ≡ state d → Grants d l.number (granted_by false l slot d)
   still more same =
       let m : Live = record l { awaited = l.awaited - 1 } in
-      let on : Steady l m = record {
-        on = record {
-          number = refl;
-          parent = refl;
-          behaviour = refl;
-          spawned = refl;
-          cowns = refl;
-          row = refl;
-          asks = refl;
-          settles = refl;
-          flags = refl;
-          exchanges = refl;
-        };
-        child = refl;
-        enqueues = refl;
-      } in
+      let on : Steady l m = search rules in
       let e = put_live d slot m in
-      let gives : state e ≡ state d = state_same d slot l m k.numbered is on.on refl in
+      let gives : state e ≡ state d = state_same d slot l m k.numbered is on.on.same refl in
       record {
         tied = tied_steady d slot l m k is on (λ row h. h);
         gives = gives ∙ sym same;
@@ -234,7 +219,7 @@ module _ (d : Parts) (slot : ℕ) (l : Live) (k : Tied d) (is : live_at d.live s
       map-append (λ (x : ℕ). option_map_or (λ (z : Live). row_or_0 z.stage) (live_at e1.live x) 0) d.ready (slot ∷ [])
       ∙ ap (λ o. rows_at e1.live d.ready ++ option_map_or (λ (z : Live). row_or_0 z.stage) o 0 ∷ []) here
       ∙ ap (λ z. rows_at e1.live d.ready ++ row_or_0 z ∷ []) stage_is in
-      let put : state e1 ≡ with_behaviour (state d) l.number (Some (open_of m)) = state_put d slot l m k.numbered is on.on in
+      let put : state e1 ≡ with_behaviour (state d) l.number (Some (open_of m)) = state_put d slot l m k.numbered is on.on.same in
       let e = granted_by true l slot d in
       let gives : state e ≡ made_ready (state d) l.number (open_of l) row =
       ap (with_ready (state e1)) rows

@@ -17,7 +17,7 @@ use Rattle.boc_eval.specs.Frames.{UnderWay as Framed, last_of, last_wish_of, wis
 use Rattle.boc_dispatch.specs.Calls.{IsHandedOut, IsNextWish, IsLeaving}
 use Rattle.boc_runs.specs.declared.stage.Phase.TheVariants as phases
 use Rattle.boc_runs.specs.declared.stage.Stage.{Stage}
-use Rattle.boc_runs.specs.declared.stage.Stage.TheVariants.{Asking, Recorded}
+use Rattle.boc_runs.specs.declared.stage.Stage.TheVariants.{Recorded}
 use Rattle.boc_runs.specs.Lives.{Pending, Running, Ended}
 use Rattle.boc_runs.specs.Run.{Member}
 use Rattle.boc_runs.specs.machine.Stages.{OpenBehaviour, row_at, row_of, life_at, life, enqueues, enqueues_at, parent_of}
@@ -41,14 +41,10 @@ pub record IsNumbered (d : Parts) (slot number : ℕ) : Type 0 where
   pub number_is : this.number ≡ number
 
 pub running_stage : (row : ℕ) (stage : Stage) → row_at stage ≡ Some row → life_at stage ≡ Running → stage ≡ Recorded row phases.Running
-running_stage row (Asking request exchanged) is runs = absurd (let h : Pending ≡ Running = runs in cc)
-running_stage row (Recorded own (phases.Flagging request)) is runs = absurd (let h : Pending ≡ Running = runs in cc)
-running_stage row (Recorded own phases.Owning) is runs = absurd (let h : Pending ≡ Running = runs in cc)
-running_stage row (Recorded own phases.Waiting) is runs = absurd (let h : Pending ≡ Running = runs in cc)
-running_stage row (Recorded own phases.Ready) is runs = absurd (let h : Pending ≡ Running = runs in cc)
 running_stage row (Recorded own phases.Running) is runs =
     (let h : Some own ≡ Some row = is in let same : own ≡ row = cc in ap (λ r. Recorded r phases.Running) same)
 running_stage row (Recorded own (phases.Leaving request)) is runs = absurd (let h : Ended ≡ Running = runs in cc)
+running_stage row _ is runs = absurd (let h : Pending ≡ Running = runs in cc)
 
 -- an open behaviour with a row is there
 open_with_row : (o : Option OpenBehaviour) (row : ℕ) → row_of o ≡ Some row → (b : OpenBehaviour) × (o ≡ Some b) × (row_at b.stage ≡ Some row)

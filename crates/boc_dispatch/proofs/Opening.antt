@@ -18,7 +18,7 @@ use Rattle.boc_dispatch.specs.Inside.{live_at, place_of, Parts, IsKept, HasRooms
 use Rattle.boc_dispatch.specs.Moves.{with_table, MayPut, Puts}
 use Rattle.boc_dispatch.specs.Places.{with_child}
 use Rattle.boc_dispatch.proofs.Fits.{steps_fit}
-use Rattle.boc_dispatch.proofs.ChildOpened.{E, end, apart, p2_is, e_own, e_slot, opened_rooms, may_put, asking_kept, recorded_kept, end_rooms, opens_asking}
+use Rattle.boc_dispatch.proofs.ChildOpened.{E, apart, p2_is, e_own, e_slot, opened_rooms, may_put, asking_kept, recorded_kept, end_rooms, opens_asking}
 use Rattle.boc_dispatch.proofs.ChildOpened.{opens_recorded}
 use Rattle.boc_dispatch.proofs.Standing.{AreLive, lists_live}
 use Rattle.boc_dispatch.proofs.Tables.{SamePlaces, behaviours_length, behaviours_placed, queues_placed, rows_placed, taken_placed}
@@ -115,6 +115,18 @@ module _ (d : Parts) (k : IsKept d) (live2 : List (Option Live)) (same : SamePla
 
 -- ---- the child is put in
 
+-- what follows
+pub record IsPut (d : Parts) (row homes ready : ℕ) (e : Parts) : Type 0 where
+  pub kept : IsKept e
+  pub rooms : HasRooms e homes ready
+  pub opens : Opens d.program (state d) row (state e)
+  pub same : e.program ≡ d.program
+
+-- it may be, and that follows
+pub record IsPutting (d : Parts) (row slot own : ℕ) (child : Live) (before : Parts) (homes ready : ℕ) : Type 0 where
+  pub may : MayPut before homes slot own child
+  pub put : (e : Parts) → ((this : Live) → live_at before.live slot ≡ Some this → Puts before slot own child this e) → IsPut d row homes ready e
+
 module _ (d : Parts) (k : IsKept d) (row slot : ℕ) (p : Live) (it : IsAtStage d slot p (Recorded row phases.Running)) (free : p.child ≡ None) (child : Live)
     (new : IsNew d row child) (few : d.opened < MOST_ROWS)
     (live2 : List (Option Live)) (same : SamePlaces d.live live2) (own : ℕ) (vacant : live_at d.live own ≡ None) (room : own < length live2)
@@ -130,7 +142,7 @@ module _ (d : Parts) (k : IsKept d) (row slot : ℕ) (p : Live) (it : IsAtStage 
   opened_fit = opened_rooms d k row slot p it free child new few live2 same own vacant room place place_own place_other homes ready rooms homes_fit ready_fit
       slots_fit
 
-  pub may_be_put : MayPut before homes slot own child
+  may_be_put : MayPut before homes slot own child
   may_be_put = subst (λ (z : Parts). MayPut z homes slot own child) (sym before_is) (record {
     this = p;
     is = p2_is d k row slot p it free child new few live2 same own vacant room place place_own place_other;
@@ -141,37 +153,33 @@ module _ (d : Parts) (k : IsKept d) (row slot : ℕ) (p : Live) (it : IsAtStage 
     may = λ empty. may_put d k row slot p it free child new few live2 same own vacant room place place_own place_other empty homes ready opened_fit;
   })
 
-  module _ (e : Parts) (puts : (this : Live) → live_at before.live slot ≡ Some this → Puts before slot own child this e) where
-    done : Puts (record d { place = place; live = live2; log = roomier d.log }) slot own child p e
-    done = subst (λ (z : Parts). Puts z slot own child p e) before_is
-        (puts p (ap (λ z. live_at z.live slot) before_is ∙ p2_is d k row slot p it free child new few live2 same own vacant room place place_own place_other))
+  -- it asks, or has no cowns, and its spawn is recorded
+  put : (e : Parts) → ((this : Live) → live_at before.live slot ≡ Some this → Puts before slot own child this e) → IsPut d row homes ready e
+  put e puts =
+      let done : Puts (record d { place = place; live = live2; log = roomier d.log }) slot own child p e =
+      subst (λ (z : Parts). Puts z slot own child p e) before_is
+      (puts p (ap (λ z. live_at z.live slot) before_is ∙ p2_is d k row slot p it free child new few live2 same own vacant room place place_own place_other)) in
+      elim (cases_lt 0 (length child.cowns.items)) [
+        | inl more ↦ subst (IsPut d row homes ready) (sym (done.asks more)) (record {
+          kept = asking_kept d k row slot p it free child new few live2 same own vacant room place place_own place_other more;
+          rooms = opened_fit;
+          opens = opens_asking d k row slot p it free child new few live2 same own vacant room place place_own place_other more;
+          same = refl;
+        })
+        | inr none ↦
+            let empty : length child.cowns.items ≡ 0 = omega (arith, none) in
+            subst (IsPut d row homes ready) (sym (done.records empty (with_child (Some own) p) child
+            (e_slot d k row slot p it free child new few live2 same own vacant room place place_own place_other)
+            (e_own d k row slot p it free child new few live2 same own vacant room place place_own place_other))) (record {
+              kept = recorded_kept d k row slot p it free child new few live2 same own vacant room place place_own place_other empty;
+              rooms = end_rooms d k row slot p it free child new few live2 same own vacant room place place_own place_other empty homes ready opened_fit;
+              opens = opens_recorded d k row slot p it free child new few live2 same own vacant room place place_own place_other empty;
+              same = refl;
+            })
+      ]
 
-    either : (P : Parts → Type 0) → (0 < length child.cowns.items → P opened_parts)
-        → ((empty : length child.cowns.items ≡ 0) → P (end d k row slot p it free child new few live2 same own vacant room place place_own place_other empty))
-        → P e
-    either P more over =
-        elim (cases_lt 0 (length child.cowns.items)) [
-          | inl h ↦ subst P (sym (done.asks h)) (more h)
-          | inr h ↦
-              let empty : length child.cowns.items ≡ 0 = omega (arith, h) in
-              subst P (sym (done.records empty (with_child (Some own) p) child
-              (e_slot d k row slot p it free child new few live2 same own vacant room place place_own place_other)
-              (e_own d k row slot p it free child new few live2 same own vacant room place place_own place_other))) (over empty)
-        ]
-
-    pub put_kept : IsKept e
-    put_kept = either IsKept
-        (λ more. asking_kept d k row slot p it free child new few live2 same own vacant room place place_own place_other more)
-        (λ empty. recorded_kept d k row slot p it free child new few live2 same own vacant room place place_own place_other empty)
-
-    pub put_rooms : HasRooms e homes ready
-    put_rooms = either (λ z. HasRooms z homes ready) (λ more. opened_fit)
-        (λ empty. end_rooms d k row slot p it free child new few live2 same own vacant room place place_own place_other empty homes ready opened_fit)
-
-    pub put_opens : Opens d.program (state d) row (state e) × (e.program ≡ d.program)
-    put_opens = either (λ z. Opens d.program (state d) row (state z) × (z.program ≡ d.program))
-        (λ more. (opens_asking d k row slot p it free child new few live2 same own vacant room place place_own place_other more, refl))
-        (λ empty. (opens_recorded d k row slot p it free child new few live2 same own vacant room place place_own place_other empty, refl))
+  pub putting : IsPutting d row slot own child before homes ready
+  putting = record { may = may_be_put; put = put }
 
 -- ---- as the code tells it
 

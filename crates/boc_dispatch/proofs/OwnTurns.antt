@@ -236,11 +236,8 @@ module _ (u : Underway) (f : Framed) (who row : ℕ) where
       (ap (λ z. at z who) m.gives ∙ put_here u.state who m.this (Some b') m.due.is) (flagging_enqueues m.row (suc i) m.this.cowns)
       (sym (ap asks_at m.due.stage_is))
   advanced_fits steps.Own t sound other h m = absurd (other refl)
-  advanced_fits steps.Open t sound other h m = absurd m
-  advanced_fits steps.Start t sound other h m = absurd m
-  advanced_fits steps.Finish t sound other h m = absurd m
   advanced_fits (steps.Unhook i) t sound other h m = absurd m
-  advanced_fits (steps.Pass i) t sound other h m = absurd m
+  advanced_fits _ t sound other h m = absurd m
 
   -- ---- it is over
 
@@ -372,13 +369,8 @@ left_leaving p s who row (steps.Pass i) t m stays =
     (λ n. stays (ap (λ z. at z who) m.gives ∙ woken_if_stays w who m.next (at w m.next) n refl)) in
     subst (λ (z : State). IsLeaving z row) (sym m.gives)
     (stepped_leaving (woken w m.next) row (releases_on (record { program = p; state = w }) (woken w m.next) row (same_woken p row w m.next) leaves))
-left_leaving p s who row steps.Open t m stays = absurd m
 left_leaving p s who row (steps.Swap i) t m stays = absurd m
-left_leaving p s who row (steps.Settle i) t m stays = absurd m
-left_leaving p s who row (steps.Flag i) t m stays = absurd m
-left_leaving p s who row steps.Own t m stays = absurd m
-left_leaving p s who row steps.Start t m stays = absurd m
-left_leaving p s who row steps.Finish t m stays = absurd m
+left_leaving p s who row _ t m stays = absurd m
 
 pub leaves_fits : (u v : Underway) (token : Token) (step : Step) → LeavesCown u token (left.Moved step) v → HandFits v (hands.Leaving token)
 leaves_fits u v token step a =
@@ -391,9 +383,7 @@ stays_fits u v h same fits = subst (λ (x : Underway). HandFits x h) (sym same) 
 
 pub refused_open : (u v : Underway) (f : Framed) (row : ℕ) (fault : OpenFault) → OpensWish u f row (Err fault) v → v ≡ u
 refused_open u v f row open_faults.Stranger o = o.0
-refused_open u v f row open_faults.OutOfTurn o = o.0
-refused_open u v f row open_faults.Behaviours o = o.0
-refused_open u v f row open_faults.Memory o = o.0
+refused_open u v f row _ o = o.0
 
 pub refused_finish : (u v : Underway) (row : ℕ) (o same : Ran) (fault : FinishFault) → FinishesRow u row o (Err (same, fault)) v → (v ≡ u) × (same ≡ o)
 refused_finish u v row o same finish_faults.Stranger f = (f.0, f.1)

@@ -1,13 +1,13 @@
 -- Own: an enqueue ends, and the behaviour waits or is ready.
 use Rattle.std.proofs.Common.{◌≡◌, ◌≢◌, ℕ, ◌+◌, ◌≤◌, inl, inr, true, false, cond, List, length, set, refl, sym, ◌∙◌, ap, subst, arith, get_or-set_other}
-use Rattle.std.proofs.Common.{length-set}
+use Rattle.std.proofs.Common.{length-set, rules}
 use Rattle.std.specs.Prelude.{slice_get, ◌||◌, Option, Some, None}
 use Rattle.std.specs.List.{count_by}
 use Rattle.std.proofs.lemmas.List.{set-set}
 use Rattle.boc_program.specs.declared.program.Program.{Program}
 use Rattle.boc_runs.specs.declared.stage.Phase.TheVariants as phases
 use Rattle.boc_runs.specs.declared.stage.Stage.{Stage}
-use Rattle.boc_runs.specs.declared.stage.Stage.TheVariants.{Asking, Recorded}
+use Rattle.boc_runs.specs.declared.stage.Stage.TheVariants.{Recorded}
 use Rattle.boc_runs.specs.Lives.{Pending, Running, Ended}
 use Rattle.boc_runs.specs.Run.{state_of as state_of_run}
 use Rattle.boc_runs.specs.machine.Stages.{OpenBehaviour, cowns_of, settled, settled_at, row_of, row_at, life, life_at, enqueues, enqueues_at, waits_at}
@@ -23,10 +23,10 @@ use Rattle.boc_machine_laws.proofs.Keeps.{keeps_owns}
 use Rattle.boc_dispatch.specs.declared.live.Live.{Live}
 use Rattle.boc_dispatch.specs.Grants.{with_granted, MayBeGranted, Tied, AreReady}
 use Rattle.boc_dispatch.specs.Inside.{Parts, state, live_at, open_of, behaviours_of, ungranted, awaits, is_taken, AreNumbered, AreInHand, IsChildOf, IsParentOf}
-use Rattle.boc_dispatch.specs.Inside.{IsKept, HasRooms, GoesOn}
+use Rattle.boc_dispatch.specs.Inside.{AreChained, IsKept, HasRooms, GoesOn}
 use Rattle.boc_dispatch.specs.Places.{in_phase, with_child}
 use Rattle.boc_dispatch.proofs.Counts.{waited_same}
-use Rattle.boc_dispatch.proofs.Onward.{Onward, onward_at, Follows, follows_set, follows_then, stays}
+use Rattle.boc_dispatch.proofs.Onward.{Same, Onward, onward_at, Follows, follows_set, follows_then, same_self, stays, chained_on}
 use Rattle.boc_dispatch.proofs.Tables.{live_there, live_here, live_other, live_new, at_slot, numbered_changed, taken_changed, live_same}
 use Rattle.boc_dispatch.proofs.Standing.{ready_fits}
 use Rattle.boc_dispatch.proofs.Granting.{tied_of, tied_on, ready_put, put_live, state_put, state_same, CountedBut, awaits_same, Grants, grants, with_behaviours}
@@ -61,13 +61,9 @@ pub record Owning (d : Parts) (parent slot row : ℕ) (holder l : Live) : Type 0
 
 -- whoever runs neither enqueues nor waits
 runs_pending : (st : Stage) → life_at st ≡ Running → (enqueues_at st || waits_at st) ≡ true → ⊥
-runs_pending (Asking i e) h p = let f : Pending ≡ Running = h in cc
-runs_pending (Recorded r (phases.Flagging i)) h p = let f : Pending ≡ Running = h in cc
-runs_pending (Recorded r phases.Owning) h p = let f : Pending ≡ Running = h in cc
-runs_pending (Recorded r phases.Waiting) h p = let f : Pending ≡ Running = h in cc
-runs_pending (Recorded r phases.Ready) h p = let f : Pending ≡ Running = h in cc
 runs_pending (Recorded r phases.Running) h p = let f : false ≡ true = p in cc
 runs_pending (Recorded r (phases.Leaving i)) h p = let f : Ended ≡ Running = h in cc
+runs_pending _ h p = let f : Pending ≡ Running = h in cc
 
 module _ (d : Parts) (parent slot row : ℕ) (holder l : Live) (o : Owning d parent slot row holder l) where
   abbrev freed : Live
@@ -103,25 +99,19 @@ module _ (d : Parts) (parent slot row : ℕ) (holder l : Live) (o : Owning d par
   still_there = live_other d.live parent (Some freed) slot apart ∙ o.is
 
   freed_on : Onward holder freed
-  freed_on = record {
-    number = refl;
-    parent = refl;
-    behaviour = refl;
-    spawned = refl;
-    cowns = refl;
-    row = refl;
-    asks = refl;
-    settles = refl;
-    flags = refl;
-    exchanges = refl;
-  }
+  freed_on = search rules
 
   waiting_on : Onward l waiting
   waiting_on = onward_at l l.awaited (Recorded row phases.Owning) (Recorded row phases.Waiting) o.stage_is refl refl refl refl refl
 
-  on : Follows Onward d.live enqueued
-  on = follows_then d.live alone enqueued (follows_set Onward stays d.live parent holder freed o.holder_is freed_on)
-      (follows_set Onward stays alone slot l waiting still_there waiting_on)
+  on : Follows Same d.live enqueued
+  on = follows_then d.live alone enqueued (follows_set Same same_self d.live parent holder freed o.holder_is (freed_on).same)
+      (follows_set Same same_self alone slot l waiting still_there (waiting_on).same)
+
+  chained : AreChained enqueued d.lists d.place
+  chained =
+      chained_on alone enqueued (follows_set Onward stays alone slot l waiting still_there waiting_on) d.lists d.place
+      (chained_on d.live alone (follows_set Onward stays d.live parent holder freed o.holder_is freed_on) d.lists d.place o.kept.chained)
 
   -- who else is there was there, or is the parent
   data Was (s : ℕ) (x : Live) : Type 0 where
@@ -221,15 +211,15 @@ module _ (d : Parts) (parent slot row : ℕ) (holder l : Live) (o : Owning d par
       ∙ taken_changed d.live d.opened parent holder freed o.kept.numbered o.holder_is refl
 
   tied : Tied after
-  tied = tied_on d enqueued (tied_of d o.kept) on ready hand taken
+  tied = tied_on d enqueued d.lists d.place (tied_of d o.kept) on chained ready hand taken
 
   abbrev waits : State
   waits = with_stage (state d) l.number (open_of l) (Recorded row phases.Waiting)
 
   gives : state after ≡ with_stage (state d) l.number (open_of l) (Recorded row phases.Waiting)
   gives =
-      state_put (put_live d parent freed) slot l waiting alone_numbered still_there waiting_on
-      ∙ ap (λ z. with_stage z l.number (open_of l) (Recorded row phases.Waiting)) (state_same d parent holder freed o.kept.numbered o.holder_is freed_on refl)
+      state_put (put_live d parent freed) slot l waiting alone_numbered still_there (waiting_on).same
+      ∙ ap (λ z. with_stage z l.number (open_of l) (Recorded row phases.Waiting)) (state_same d parent holder freed o.kept.numbered o.holder_is (freed_on).same refl)
 
   open_is : at (state d) l.number ≡ Some (open_of l)
   open_is = at_slot d.live d.opened slot l o.kept.numbered o.is

@@ -9,7 +9,7 @@ use Rattle.boc_program.specs.declared.limits.TheConstants.{MOST_ROWS}
 use Rattle.boc_program.specs.declared.program.Program.{Program}
 use Rattle.boc_runs.specs.declared.stage.Phase.TheVariants as phases
 use Rattle.boc_runs.specs.declared.stage.Stage.{Stage}
-use Rattle.boc_runs.specs.declared.stage.Stage.TheVariants.{Asking, Recorded}
+use Rattle.boc_runs.specs.declared.stage.Stage.TheVariants.{Recorded}
 use Rattle.boc_runs.specs.Lives.{Pending, Running, Ended}
 use Rattle.boc_runs.specs.Run.{Member, state_of}
 use Rattle.boc_runs.specs.machine.Stages.{OpenBehaviour, row_of, life, life_at}
@@ -193,13 +193,10 @@ nobody_there p workers choices u crew h none =
 -- ---- who serves who can step
 
 running_works_at : (st : Stage) → life_at st ≡ Running → works_at st ≡ true
-running_works_at (Asking i x) h = refl
 running_works_at (Recorded r (phases.Flagging i)) h = refl
-running_works_at (Recorded r phases.Owning) h = refl
 running_works_at (Recorded r phases.Waiting) h = absurd (let f : Pending ≡ Running = h in cc)
 running_works_at (Recorded r phases.Ready) h = absurd (let f : Pending ≡ Running = h in cc)
-running_works_at (Recorded r phases.Running) h = refl
-running_works_at (Recorded r (phases.Leaving i)) h = refl
+running_works_at _ h = refl
 
 running_works : (o : Option OpenBehaviour) → life o ≡ Running → works o ≡ true
 running_works None h = absurd (let f : Ended ≡ Running = h in cc)

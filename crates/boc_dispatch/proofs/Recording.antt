@@ -1,7 +1,7 @@
 -- A spawn is recorded.
 use Rattle.std.proofs.Common.{◌≡◌, ◌≢◌, ℕ, zero, suc, ◌+◌, ◌^◌, ◌<◌, ◌⊎◌, inl, inr, true, false, cond, List, [], ◌∷◌, ◌++◌, length, set, refl, sym, ◌∙◌, ap}
-use Rattle.std.proofs.Common.{subst, arith, length-set, length-append}
-use Rattle.std.specs.Prelude.{slice_get, nat_lt, Option, Some, None}
+use Rattle.std.proofs.Common.{subst, arith, length-set, length-append, rules}
+use Rattle.std.specs.Prelude.{slice_get, Option, Some, None}
 use Rattle.std.specs.Option.{option_map, option_map_or}
 use Rattle.std.specs.List.{count_by}
 use Rattle.std.proofs.lemmas.List.{set-get_or}
@@ -29,15 +29,15 @@ use Rattle.boc_machine_laws.proofs.Lists.{same_or_not, read_there}
 use Rattle.boc_machine_laws.proofs.Asking.{take_whole}
 use Rattle.boc_machine_laws.proofs.Rows.{after_spawn, config_more, with_one_more}
 use Rattle.boc_machine_laws.proofs.Core.{put_sum}
-use Rattle.boc_chain.specs.declared.request.Request.{Request}
 use Rattle.boc_dispatch.specs.declared.live.Live.{Live}
 use Rattle.boc_dispatch.specs.Inside.{HasRooms, live_at, open_of, place_of, exchanged_at, number_at, behaviours_of, rows_at, row_or_0, is_taken, Parts, state}
-use Rattle.boc_dispatch.specs.Inside.{AreNumbered, AreAtHome, AreInHand, IsChildOf, IsParentOf, AreOfRun, IsMember, IsWished, IsRequestOf}
+use Rattle.boc_dispatch.specs.Inside.{AreNumbered, AreAtHome, AreInHand, AreOfRun, IsMember, IsWished}
 use Rattle.boc_dispatch.specs.Moves.{recorded, MayRecord}
 use Rattle.boc_dispatch.specs.Places.{with_spawn, with_row, spawn_of}
 use Rattle.boc_dispatch.proofs.Flagged.{flagging_each, place_with}
 use Rattle.boc_dispatch.proofs.Fits.{allowed_last}
-use Rattle.boc_dispatch.proofs.Granting.{Tied, AreReady}
+use Rattle.boc_dispatch.proofs.Granting.{Tied}
+use Rattle.boc_dispatch.proofs.Onward.{Leads, Further, further, child_led, parent_led, requests_led, ready_led, wished_still}
 use Rattle.boc_dispatch.proofs.Tables.{live_there, live_here, live_other, live_new, numbered_changed, behaviours_changed, number_changed, taken_changed}
 use Rattle.boc_dispatch.proofs.Tables.{at_slot, queues_same, rows_alike}
 
@@ -216,44 +216,36 @@ module _ (d : Parts) (k : Tied d) (some : 0 < length (members d.program (state d
   enqueues_after : enqueues_at l'.stage ≡ true
   enqueues_after = flagging_each n (λ z. enqueues_at z ≡ true) cs 0 (λ h. refl) (λ h. refl)
 
-  child_after : (s : ℕ) (x : Live) → IsChildOf d.live s x → IsChildOf e.live s x
-  child_after s x h =
+  flagged_none : flagged_at l'.stage cs ≡ []
+  flagged_none = flagging_each n (λ z. flagged_at z cs ≡ []) cs 0 (λ h. refl) (λ h. sym (take_whole cs 0 h))
+
+  settled_all : settled_at l.stage cs ≡ cs
+  settled_all = ap (λ z. settled_at z cs) asks_is ∙ take_whole cs (length cs) (omega arith)
+
+  -- the two go on as who they were
+  led : Leads Further d.live e.live
+  led s x is =
       elim (same_or_not s slot) [
-        | inl f ↦
-            let this = l_only h.child (ap (live_at d.live) (sym f) ∙ h.is) in
-            record { child = l'; is = ap (live_at e.live) f ∙ e_slot; enqueued = enqueues_after; parent_is = h.parent_is ∙ ap (λ z. Some z.parent) this }
+        | inl f ↦ subst (λ (z : Live). (y : Live) × (live_at e.live s ≡ Some y) × Further z y) (sym (l_only x (ap (live_at d.live) (sym f) ∙ is))) (
+          l',
+          ap (live_at e.live) f ∙ e_slot,
+          record {
+            parent = refl;
+            row = λ r h. absurd (asks_no_row l.stage r asks_here h);
+            enqueues = λ h. enqueues_after;
+            child = λ r h. h;
+            marks = λ c. (ap (times c) (sym settled_all), ap (times c) (flagged_none ∙ sym (ap (λ z. flagged_at z cs) asks_is)));
+            ready = λ r h. absurd (asks_no_row l.stage r asks_here (ap row_at h));
+          },
+        )
         | inr a ↦
             elim (same_or_not s parent) [
-              | inl f ↦
-                  let this = p_only h.child (ap (live_at d.live) (sym f) ∙ h.is) in
-                  record {
-                    child = p';
-                    is = ap (live_at e.live) f ∙ e_parent;
-                    enqueued = ap (λ z. enqueues_at z.stage) (sym this) ∙ h.enqueued;
-                    parent_is = h.parent_is ∙ ap (λ z. Some z.parent) this;
-                  }
-              | inr b ↦ record { child = h.child; is = e_other s a b ∙ h.is; enqueued = h.enqueued; parent_is = h.parent_is }
-            ]
-      ]
-
-  parent_after : (s : ℕ) (x : Live) → IsParentOf d.live s x → IsParentOf e.live s x
-  parent_after s x h =
-      elim (same_or_not h.home slot) [
-        | inl f ↦
-            let this = l_only h.parent (ap (live_at d.live) (sym f) ∙ h.is) in
-            absurd (asks_no_row l.stage x.parent asks_here (ap (λ z. row_at z.stage) (sym this) ∙ h.row_is))
-        | inr a ↦
-            elim (same_or_not h.home parent) [
-              | inl f ↦
-                  let this = p_only h.parent (ap (live_at d.live) (sym f) ∙ h.is) in
-                  record {
-                    home = h.home;
-                    parent = p';
-                    is = ap (live_at e.live) f ∙ e_parent;
-                    row_is = ap (λ z. row_at z.stage) (sym this) ∙ h.row_is;
-                    knows = ap (λ z. z.child) (sym this) ∙ h.knows;
-                  }
-              | inr b ↦ record { home = h.home; parent = h.parent; is = e_other h.home a b ∙ h.is; row_is = h.row_is; knows = h.knows }
+              | inl f ↦ subst (λ (z : Live). (y : Live) × (live_at e.live s ≡ Some y) × Further z y) (sym (p_only x (ap (live_at d.live) (sym f) ∙ is))) (
+                p',
+                ap (live_at e.live) f ∙ e_parent,
+                search rules,
+              )
+              | inr b ↦ (x, e_other s a b ∙ is, further x)
             ]
       ]
 
@@ -265,9 +257,9 @@ module _ (d : Parts) (k : Tied d) (some : 0 < length (members d.program (state d
           absurd (asks_no_row l.stage h.child.parent asks_here h.parent_is)
       | inr v ↦ elim v [
         | inl u ↦
-            let h = child_after s p (k.in_hand.children parent s p p_is (ap (λ z. z.child) (sym u.1) ∙ has)) in
+            let h = child_led d.live e.live led s p (k.in_hand.children parent s p p_is (ap (λ z. z.child) (sym u.1) ∙ has)) in
             record { child = h.child; is = h.is; enqueued = h.enqueued; parent_is = ap (λ z. row_at z.stage) u.1 ∙ h.parent_is }
-        | inr u ↦ child_after s x (k.in_hand.children home s x u.2 has)
+        | inr u ↦ child_led d.live e.live led s x (k.in_hand.children home s x u.2 has)
       ]
     ];
     parents = λ s x a enqueued. elim (e_is s x a) [
@@ -280,7 +272,7 @@ module _ (d : Parts) (k : Tied d) (some : 0 < length (members d.program (state d
       }
       | inr v ↦ elim v [
         | inl u ↦
-            let h = parent_after parent p (k.in_hand.parents parent p p_is (ap (λ z. enqueues_at z.stage) (sym u.1) ∙ enqueued)) in
+            let h = parent_led d.live e.live led parent p (k.in_hand.parents parent p p_is (ap (λ z. enqueues_at z.stage) (sym u.1) ∙ enqueued)) in
             record {
               home = h.home;
               parent = h.parent;
@@ -288,42 +280,10 @@ module _ (d : Parts) (k : Tied d) (some : 0 < length (members d.program (state d
               row_is = h.row_is ∙ ap (λ z. Some z.parent) (sym u.1);
               knows = h.knows ∙ ap (λ (z : ℕ). Some z) (sym u.0);
             }
-        | inr u ↦ parent_after s x (k.in_hand.parents s x u.2 enqueued)
+        | inr u ↦ parent_led d.live e.live led s x (k.in_hand.parents s x u.2 enqueued)
       ]
     ];
   }
-
-  flagged_none : flagged_at l'.stage cs ≡ []
-  flagged_none = flagging_each n (λ z. flagged_at z cs ≡ []) cs 0 (λ h. refl) (λ h. sym (take_whole cs 0 h))
-
-  settled_all : settled_at l.stage cs ≡ cs
-  settled_all = ap (λ z. settled_at z cs) asks_is ∙ take_whole cs (length cs) (omega arith)
-
-  request_after : (c : ℕ) (r : Request) → IsRequestOf d.live c r → IsRequestOf e.live c r
-  request_after c r h =
-      elim (same_or_not r.slot slot) [
-        | inl f ↦
-            let this = l_only h.this (ap (live_at d.live) (sym f) ∙ h.is) in
-            record {
-              this = l';
-              is = ap (live_at e.live) f ∙ e_slot;
-              settled_is = h.settled_is ∙ ap (λ z. nat_lt 0 (times c (settled_at z.stage z.cowns.items))) this ∙ ap (λ z. nat_lt 0 (times c z)) settled_all;
-              flagged_is = h.flagged_is ∙ ap (λ z. nat_lt 0 (times c (flagged_at z.stage z.cowns.items))) this
-                  ∙ ap (λ z. nat_lt 0 (times c (flagged_at z cs))) asks_is ∙ ap (λ z. nat_lt 0 (times c z)) (sym flagged_none);
-            }
-        | inr a ↦
-            elim (same_or_not r.slot parent) [
-              | inl f ↦
-                  let this = p_only h.this (ap (live_at d.live) (sym f) ∙ h.is) in
-                  record {
-                    this = p';
-                    is = ap (live_at e.live) f ∙ e_parent;
-                    settled_is = h.settled_is ∙ ap (λ z. nat_lt 0 (times c (settled_at z.stage z.cowns.items))) this;
-                    flagged_is = h.flagged_is ∙ ap (λ z. nat_lt 0 (times c (flagged_at z.stage z.cowns.items))) this;
-                  }
-              | inr b ↦ record { this = h.this; is = e_other r.slot a b ∙ h.is; settled_is = h.settled_is; flagged_is = h.flagged_is }
-            ]
-      ]
 
   places_after : (s : ℕ) → option_map place_of (live_at d.live s) ≡ option_map place_of (live_at e.live s)
   places_after s =
@@ -381,14 +341,7 @@ module _ (d : Parts) (k : Tied d) (some : 0 < length (members d.program (state d
             let this = p_only q.parent (ap (live_at d.live) (sym home) ∙ q.is) in
             let g : Some s ≡ Some slot = sym q.knows ∙ ap (λ z. z.child) this ∙ knows in
             u.0 (cc)) in
-            record {
-              wish = h.wish;
-              next = ap (next_wish d.program) (row_old x.parent m.0 other m.1 ∙ sym m.1) ∙ h.next;
-              kind_is = h.kind_is;
-              args_are = h.args_are;
-              cowns_are = h.cowns_are;
-              new = h.new;
-            }
+            wished_still d.program rows rows' x (ap (next_wish d.program) (row_old x.parent m.0 other m.1 ∙ sym m.1)) h
       ]
     ];
   }
@@ -408,14 +361,6 @@ module _ (d : Parts) (k : Tied d) (some : 0 < length (members d.program (state d
             ]
       ]
 
-  ready_after : AreReady e.live d.ready
-  ready_after j s a =
-      let q = k.ready_there j s a in
-      elim (who_is_ready j s a) [
-        | inl f ↦ (p', q.1, ap (live_at e.live) f.0 ∙ e_parent, ap (λ z. z.stage) (sym f.1) ∙ q.3)
-        | inr n ↦ (q.0, q.1, e_other s n.0 n.1 ∙ q.2, q.3)
-      ]
-
   taken_after : count_by is_taken e.live ≡ count_by is_taken d.live
   taken_after = taken_changed half d.opened slot l l' numbered_half half_slot refl ∙ taken_changed d.live d.opened parent p p' k.numbered p_is refl
 
@@ -427,9 +372,9 @@ module _ (d : Parts) (k : Tied d) (some : 0 < length (members d.program (state d
     numbered = numbered_after;
     at_home = at_home_after;
     in_hand = in_hand_after;
-    chained = record { requests = λ c j r a. request_after c r (k.chained.requests c j r a); places = λ s. k.chained.places s ∙ places_after s };
+    chained = record { requests = requests_led d.live e.live led d.lists d.place k.chained; places = λ s. k.chained.places s ∙ places_after s };
     of_run = of_run_after;
-    ready_there = ready_after;
+    ready_there = ready_led d.live e.live led d.ready k.ready_there;
     left = ap (λ z. z + d.gone) taken_after ∙ k.left;
   }
 

@@ -10,7 +10,7 @@ use Rattle.boc_program.specs.declared.program.Program.{Program}
 use Rattle.boc_runs.specs.declared.stage.Phase.{Phase}
 use Rattle.boc_runs.specs.declared.stage.Phase.TheVariants as phases
 use Rattle.boc_runs.specs.declared.stage.Stage.{Stage}
-use Rattle.boc_runs.specs.declared.stage.Stage.TheVariants.{Asking, Recorded}
+use Rattle.boc_runs.specs.declared.stage.Stage.TheVariants.{Recorded}
 use Rattle.boc_program.specs.declared.limits.TheConstants.{MOST_ROWS}
 use Rattle.boc_runs.specs.machine.Stages.{OpenBehaviour, standing, flagged_at, row_at, enqueues_at, waits_at}
 use Rattle.boc_runs.specs.machine.Queues.{times}
@@ -43,17 +43,13 @@ pub record HasStarted (stage : Stage) (row : ℕ) : Type 0 where
   pub not_ready : (r : ℕ) → stage ≢ Recorded r phases.Ready
 
 pub started_stage : (stage : Stage) (row : ℕ) → IsStarted stage → row_at stage ≡ Some row → HasStarted stage row
-started_stage (Asking i e) row h r = absurd (h refl)
-started_stage (Recorded q (phases.Flagging i)) row h r = absurd (h refl)
-started_stage (Recorded q phases.Owning) row h r = absurd (h refl)
-started_stage (Recorded q phases.Waiting) row h r = absurd (h refl)
-started_stage (Recorded q phases.Ready) row h r = absurd (h refl)
 started_stage (Recorded q phases.Running) row h r =
     let e : q ≡ row = (let f : Some q ≡ Some row = r in cc) in
     record { phase = phases.Running; stage_is = ap (λ z. Recorded z phases.Running) e; flags = λ cs. refl; enqueues = refl; not_ready = λ x g. absurd cc }
 started_stage (Recorded q (phases.Leaving i)) row h r =
     let e : q ≡ row = (let f : Some q ≡ Some row = r in cc) in
     record { phase = phases.Leaving i; stage_is = ap (λ z. Recorded z (phases.Leaving i)) e; flags = λ cs. refl; enqueues = refl; not_ready = λ x g. absurd cc }
+started_stage _ row h r = absurd (h refl)
 
 mapped_times : (live : List (Option Live)) (n : ℕ) (q : List Request) (k : ℕ) (r : Request) → slice_get q k ≡ Some r → number_at live r.slot ≡ n
     → 0 < times n (map (λ x. number_at live x.slot) q)
@@ -91,7 +87,7 @@ module _ (d : Parts) (slot row : ℕ) (l : Live) (request : ℕ) (e : Parts) (h 
   left = with_stage (state e) l.number (open_of l) (Recorded row (phases.Leaving request))
 
   pub on_state : state gone_on ≡ stepped (with_stage (state e) l.number (open_of l) (Recorded row (phases.Leaving request)))
-  on_state = ap stepped (state_put e slot l next h.tied.numbered h.here (on).on)
+  on_state = ap stepped (state_put e slot l next h.tied.numbered h.here (on).on.same)
 
   pub on_here : live_at (gone_on).live slot ≡ Some next
   on_here = live_here e.live slot (Some next) (live_there e.live slot l h.here)

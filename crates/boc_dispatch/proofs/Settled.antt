@@ -23,10 +23,10 @@ use Rattle.boc_dispatch.specs.Inside.{live_at, open_of, place_of, number_at, Par
 use Rattle.boc_dispatch.specs.Inside.{exchanged_at}
 use Rattle.boc_dispatch.proofs.Counts.{failing, fails_less}
 use Rattle.boc_dispatch.proofs.Flagged.{place_with, got_there, taken_has, has_some, or_none, or_all}
-use Rattle.boc_dispatch.proofs.Going.{granted_same, queues_mapped, gone_on, table_on, here_on, counted_on, requests_on}
+use Rattle.boc_dispatch.proofs.Going.{granted_same, queues_mapped, gone_on, table_on, counted_on, places_on, requests_on}
 use Rattle.boc_dispatch.proofs.Priors.{IsFree, none_before, one_before, before_split, free_list, stands_behind}
 use Rattle.boc_dispatch.proofs.Standing.{open_is, place_is, stands_in, lists_live, cown_there, cown_once}
-use Rattle.boc_dispatch.proofs.Tables.{live_other, queue_at}
+use Rattle.boc_dispatch.proofs.Tables.{queue_at}
 
 -- ---- a split of a mapped list
 
@@ -291,14 +291,7 @@ module _ (d : Parts) (k : IsKept d) (slot : ℕ) (l : Live) (request : ℕ) (it 
     settled_queues = ap (queues_of d.live) lists_after ∙ queues_mapped d.live d.lists c0 (settle_one slot) (λ r. refl)
 
     same_places : (r : ℕ) → option_map place_of (live_at d.live r) ≡ option_map place_of (live_at (table_on d k slot l it.is asking awaited) r)
-    same_places r =
-        elim (same_or_not r slot) [
-          | inl e ↦
-              ap (option_map place_of) (ap (live_at d.live) e ∙ it.is)
-              ∙ ap (λ z. Some (place_with cs (exchanged_at z cs))) it.stage_is
-              ∙ sym (ap (option_map place_of) (ap (live_at (table_on d k slot l it.is asking awaited)) e ∙ here_on d k slot l it.is asking awaited))
-          | inr n ↦ sym (ap (option_map place_of) (live_other d.live slot (Some (gone_on d k slot l it.is asking awaited)) r n))
-        ]
+    same_places = places_on d k slot l it.is asking awaited (ap (λ z. place_with cs (exchanged_at z cs)) (sym it.stage_is))
 
     pub settled_chained : AreChained (table_on d k slot l it.is asking awaited) lists place
     settled_chained = record {

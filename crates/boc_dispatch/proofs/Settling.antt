@@ -17,18 +17,18 @@ use Rattle.boc_chain.specs.declared.request.Request.{Request}
 use Rattle.boc_chain.specs.declared.request.Settled.TheVariants.{Lone, Linked, Blocked}
 use Rattle.boc_chain.specs.Chain.{Place, list_for, with_change, after_settle, settle_answer, settled_behind, before}
 use Rattle.boc_dispatch.specs.declared.live.Live.{Live}
-use Rattle.boc_dispatch.specs.Inside.{live_at, open_of, Parts, IsKept, HasRooms, state, IsAtStage, HasInHand, AreCounted, awaits}
+use Rattle.boc_dispatch.specs.Inside.{live_at, open_of, Parts, IsKept, HasRooms, state, IsAtStage, HasInHand, AreChained, AreCounted, awaits}
 use Rattle.boc_dispatch.specs.Moves.{recorded, counted, MayRecord, Records}
 use Rattle.boc_dispatch.specs.Places.{settled, with_row}
 use Rattle.boc_dispatch.proofs.Flagged.{flagging_each}
 use Rattle.boc_dispatch.proofs.Granting.{Tied, kept_of}
-use Rattle.boc_dispatch.proofs.Going.{gone_on, table_on, here_on, at_home_on, in_hand_on, of_run_on, ready_on, parts_on, state_on, rooms_on, kept_on}
+use Rattle.boc_dispatch.proofs.Going.{gone_on, table_on, here_on, parts_on, state_on, rooms_on, tied_gone, kept_on}
 use Rattle.boc_dispatch.proofs.Priors.{IsFree, lone_none, linked_some, blocked_some, blocked_list}
 use Rattle.boc_dispatch.proofs.Recording.{asks_no_row, tied_after, state_after, may_record, rooms_after, e_is}
 use Rattle.boc_dispatch.proofs.Settled.{requests, first, due, list_is, free_before, first_alone, first_not, blocked, settle_next, settled_counts}
 use Rattle.boc_dispatch.proofs.Settled.{settled_queues, settled_chained}
 use Rattle.boc_dispatch.proofs.Standing.{place_is}
-use Rattle.boc_dispatch.proofs.Tables.{live_there, live_here, live_other, numbered_changed, taken_changed}
+use Rattle.boc_dispatch.proofs.Tables.{live_other}
 
 set_set : {A : Type 0} (xs : List A) (i : ℕ) (a b : A) → set (set xs i a) i b ≡ set xs i b
 set_set [] i a b = refl
@@ -54,10 +54,33 @@ module _ (d : Parts) (k : IsKept d) (slot : ℕ) (l : Live) (request : ℕ) (it 
       let one : Bool → ℕ = λ x. cond x 1 0 in
       record { free = subst IsFree (sym b.1) b.2; granted_is = g ∙ ap one (sym (first_not d k slot l request it b.0 b.1)) }
 
-module _ (d : Parts) (k : IsKept d) (slot : ℕ) (l : Live) (request : ℕ) (it : IsAtStage d slot l (Asking request true)) (granted : ℕ)
-    (out : IsOutcome d k slot l request it granted)
-    (lists : List (List Request)) (place : ℕ → Option Place) (lists_are : lists ≡ with_change (after_settle slot) d.lists (d.place slot) request)
-    (places_are : (r : ℕ) → place r ≡ d.place r) where
+-- the parts once the chains and one place of the table have changed, before the step is counted
+abbrev pub changed_parts : Parts → List (List Request) → (ℕ → Option Place) → ℕ → Option Live → Parts
+changed_parts d lists place slot new = record d { lists = lists; place = place; live = set d.live slot new }
+
+-- a request that its chain settled: what the chains have then, and what its behaviour is
+pub record SettledRequest : Type 0 where
+  pub d : Parts
+  pub k : IsKept d
+  pub slot : ℕ
+  pub l : Live
+  pub request : ℕ
+  pub it : IsAtStage d slot l (Asking request true)
+  pub granted : ℕ
+  pub out : IsOutcome d k slot l request it granted
+  pub lists : List (List Request)
+  pub place : ℕ → Option Place
+  pub lists_are : lists ≡ with_change (after_settle slot) d.lists (d.place slot) request
+  pub places_are : (r : ℕ) → place r ≡ d.place r
+  pub new : Option Live
+  pub new_is : Some (settled request granted l) ≡ new
+
+module _ (x : SettledRequest) where
+  open x use {d, k, slot, l, request, it, granted, out, lists, place, lists_are, places_are, new, new_is}
+
+  abbrev changed : Parts
+  changed = changed_parts d lists place slot new
+
   abbrev cs : List ℕ
   cs = l.cowns.items
 
@@ -92,6 +115,9 @@ module _ (d : Parts) (k : IsKept d) (slot : ℕ) (l : Live) (request : ℕ) (it 
     gives = gives;
   }
 
+  chained_on : AreChained (table_on d k slot l it.is asking awaited) lists place
+  chained_on = settled_chained d k slot l request it awaited out.free lists place lists_are places_are
+
   -- ---- it wasn't the last
 
   module _ (more : suc request < length cs) where
@@ -101,28 +127,17 @@ module _ (d : Parts) (k : IsKept d) (slot : ℕ) (l : Live) (request : ℕ) (it 
 
     pub settled_on_kept : IsKept mid
     settled_on_kept =
-        kept_on d k slot l it.is asking awaited lists place (keeps_settles d.program s l.number request (state mid) k.sound settles_on)
+        kept_on d k slot l it.is asking awaited lists place (sym (ap row_at it.stage_is)) (sym (ap asks_at it.stage_is)) (sym (ap enqueues_at it.stage_is))
+        (ap ready_row_at it.stage_is) chained_on (keeps_settles d.program s l.number request (state mid) k.sound settles_on)
         (subst (λ (z : State). AreCounted z (table_on d k slot l it.is asking awaited)) (sym mid_state)
         (settled_counts d k slot l request it granted out.granted_is asking refl refl))
-        (settled_chained d k slot l request it awaited out.free lists place lists_are places_are)
-        (sym (ap row_at it.stage_is)) (sym (ap asks_at it.stage_is)) (sym (ap enqueues_at it.stage_is)) (ap ready_row_at it.stage_is)
 
   pub mid_rooms : (homes ready : ℕ) → HasRooms d homes ready → HasRooms mid homes ready
   mid_rooms homes ready h = rooms_on d k slot l it.is asking awaited lists place (sym (ap asks_at it.stage_is)) homes ready h
 
   mid_tied : Tied mid
-  mid_tied = record {
-    cowns_are = k.cowns_are;
-    values_are = k.values_are;
-    homes_are = k.homes_are;
-    numbered = numbered_changed d.live d.opened slot l on k.numbered it.is refl;
-    at_home = at_home_on d k slot l it.is asking awaited (sym (ap row_at it.stage_is));
-    in_hand = in_hand_on d k slot l it.is asking awaited (sym (ap enqueues_at it.stage_is)) (λ r h. ap row_at (sym it.stage_is) ∙ h);
-    chained = settled_chained d k slot l request it awaited out.free lists place lists_are places_are;
-    of_run = of_run_on d k slot l it.is asking awaited (sym (ap row_at it.stage_is)) (sym (ap asks_at it.stage_is));
-    ready_there = ready_on d k slot l it.is asking awaited (ap ready_row_at it.stage_is);
-    left = ap (λ n. n + d.gone) (taken_changed d.live d.opened slot l on k.numbered it.is refl) ∙ k.left;
-  }
+  mid_tied = tied_gone d k slot l it.is asking awaited lists place (sym (ap row_at it.stage_is)) (sym (ap asks_at it.stage_is)) (sym (ap enqueues_at it.stage_is))
+      (ap ready_row_at it.stage_is) chained_on
 
   -- ---- it was the last, and its parent has it in hand
 
@@ -177,8 +192,16 @@ module _ (d : Parts) (k : IsKept d) (slot : ℕ) (l : Live) (request : ℕ) (it 
     sound_end : IsSound d.program (state end)
     sound_end = keeps_settles d.program s l.number request (state end) k.sound settles_last
 
-    pub may_settle : (homes ready : ℕ) → HasRooms d homes ready → MayRecord mid homes parent slot
-    may_settle homes ready h = may_record mid mid_tied some parent slot p on p_is l_is held.child_is asks_is homes ready (mid_rooms homes ready h) sound_end.run
+    pub may_settle : (homes ready : ℕ) → HasRooms d homes ready → MayRecord changed homes parent slot
+    may_settle homes ready h =
+        let m = may_record mid mid_tied some parent slot p on p_is l_is held.child_is asks_is homes ready (mid_rooms homes ready h) sound_end.run in
+        subst (λ (o : Option Live). MayRecord (changed_parts d lists place slot o) homes parent slot) new_is (search rules)
+
+    last_parts : (e : Parts) → Records (counted changed) parent slot e → e ≡ end
+    last_parts e h =
+        let r : Records (counted (changed_parts d lists place slot (Some on))) parent slot e =
+        subst (λ (o : Option Live). Records (counted (changed_parts d lists place slot o)) parent slot e) (sym new_is) h in
+        r p on p_is l_is
 
     pub end_rooms : (homes ready : ℕ) → HasRooms d homes ready → HasRooms end homes ready
     end_rooms homes ready h = rooms_after mid mid_tied some parent slot p on p_is l_is held.child_is asks_is homes ready (mid_rooms homes ready h)
@@ -208,70 +231,31 @@ module _ (d : Parts) (k : IsKept d) (slot : ℕ) (l : Live) (request : ℕ) (it 
         kept_of end (tied_after mid mid_tied some parent slot p on p_is l_is held.child_is asks_is) sound_end
         (subst (λ (z : State). AreCounted z end.live) (ap with_row_of k.homes_are ∙ sym end_state) counted_end)
 
--- ---- as the code has it
+  -- ---- it asks on, or its spawn is recorded
 
--- the parts once the chains and one place of the table have changed, before the step is counted
-abbrev pub changed_parts : Parts → List (List Request) → (ℕ → Option Place) → ℕ → Option Live → Parts
-changed_parts d lists place slot new = record d { lists = lists; place = place; live = set d.live slot new }
-
-module _ (d : Parts) (k : IsKept d) (slot : ℕ) (l : Live) (request : ℕ) (it : IsAtStage d slot l (Asking request true)) (granted : ℕ)
-    (out : IsOutcome d k slot l request it granted)
-    (lists : List (List Request)) (place : ℕ → Option Place) (lists_are : lists ≡ with_change (after_settle slot) d.lists (d.place slot) request)
-    (places_are : (r : ℕ) → place r ≡ d.place r)
-    (new : Option Live) (new_is : Some (settled request granted l) ≡ new) where
-  abbrev mid' : Parts
-  mid' = mid d k slot l request it granted out lists place lists_are places_are
-
-  pub on_parts : (e : Parts) → e ≡ counted (changed_parts d lists place slot new) → e ≡ mid'
-  on_parts e h = h ∙ ap (λ o. counted (changed_parts d lists place slot o)) (sym new_is)
-
-  module _ (last : suc request ≡ length l.cowns.items) (parent : ℕ) (held : HasInHand d parent (Some slot)) where
-    pub may_settle_so : (homes ready : ℕ) → HasRooms d homes ready → MayRecord (changed_parts d lists place slot new) homes parent slot
-    may_settle_so homes ready h =
-        let m = may_settle d k slot l request it granted out lists place lists_are places_are last parent held homes ready h in
-        subst (λ (o : Option Live). MayRecord (changed_parts d lists place slot o) homes parent slot) new_is (search rules)
-
-    pub last_parts : (e : Parts) → Records (counted (changed_parts d lists place slot new)) parent slot e
-        → e ≡ end d k slot l request it granted out lists place lists_are places_are last parent held
-    last_parts e h =
-        let r : Records (counted (changed_parts d lists place slot (Some (settled request granted l)))) parent slot e =
-        subst (λ (o : Option Live). Records (counted (changed_parts d lists place slot o)) parent slot e) (sym new_is) h in
-        r held.this (settled request granted l)
-        (live_other d.live slot (Some (settled request granted l)) parent
-        (apart_from d k slot l request it granted out lists place lists_are places_are last parent held) ∙ held.is)
-        (live_here d.live slot (Some (settled request granted l)) (live_there d.live slot l it.is))
-
-  -- it asks on, or its spawn is recorded
-  module _ (parent : ℕ) (held : HasInHand d parent (Some slot)) (e : Parts) (is_last : Bool) (last_is : is_last ≡ eqb (suc request) (length l.cowns.items))
-      (asks : is_last ≡ false → e ≡ counted (changed_parts d lists place slot new))
-      (records : is_last ≡ true → Records (counted (changed_parts d lists place slot new)) parent slot e) where
-    either : (P : Parts → Type 0) → (suc request < length l.cowns.items → P mid')
-        → ((last : suc request ≡ length l.cowns.items) → P (end d k slot l request it granted out lists place lists_are places_are last parent held)) → P e
+  module _ (parent : ℕ) (held : HasInHand d parent (Some slot)) (e : Parts) (is_last : Bool) (last_is : is_last ≡ eqb (suc request) (length cs))
+      (asks : is_last ≡ false → e ≡ counted changed) (records : is_last ≡ true → Records (counted changed) parent slot e) where
+    either : (P : Parts → Type 0) → (suc request < length cs → P mid) → ((last : suc request ≡ length cs) → P (end last parent held)) → P e
     either P more over =
         elim is_last as (λ b. is_last ≡ b → P e) [
           | true ↦ λ f.
-              let last = eqb-true (suc request) (length l.cowns.items) (sym last_is ∙ f) in
+              let last = eqb-true (suc request) (length cs) (sym last_is ∙ f) in
               subst P (sym (last_parts last parent held e (records f))) (over last)
           | false ↦ λ f.
-              let other = eqb-false (suc request) (length l.cowns.items) (sym last_is ∙ f) in
+              let other = eqb-false (suc request) (length cs) (sym last_is ∙ f) in
               let low = settle_next d k slot l request it in
-              subst P (sym (on_parts e (asks f))) (more (omega arith))
+              subst P (sym (asks f ∙ ap (λ o. counted (changed_parts d lists place slot o)) (sym new_is))) (more (omega arith))
         ] refl
 
     pub settled_kept : IsKept e
-    settled_kept = either IsKept
-        (λ more. settled_on_kept d k slot l request it granted out lists place lists_are places_are more)
-        (λ last. settled_last_kept d k slot l request it granted out lists place lists_are places_are last parent held)
+    settled_kept = either IsKept settled_on_kept (λ last. settled_last_kept last parent held)
 
     pub settled_rooms : (homes ready : ℕ) → HasRooms d homes ready → HasRooms e homes ready
-    settled_rooms homes ready h = either (λ x. HasRooms x homes ready)
-        (λ more. mid_rooms d k slot l request it granted out lists place lists_are places_are homes ready h)
-        (λ last. end_rooms d k slot l request it granted out lists place lists_are places_are last parent held homes ready h)
+    settled_rooms homes ready h = either (λ z. HasRooms z homes ready) (λ more. mid_rooms homes ready h) (λ last. end_rooms last parent held homes ready h)
 
-    pub settled_steps : Settles d.program (state d) l.number request (state e) × (e.program ≡ d.program)
-    settled_steps = either (λ x. Settles d.program (state d) l.number request (state x) × (x.program ≡ d.program))
-        (λ more. (settles_on d k slot l request it granted out lists place lists_are places_are more, refl))
-        (λ last. (settles_last d k slot l request it granted out lists place lists_are places_are last parent held, refl))
+    pub settled_steps : Settles d.program s l.number request (state e) × (e.program ≡ d.program)
+    settled_steps = either (λ z. Settles d.program s l.number request (state z) × (z.program ≡ d.program)) (λ more. (settles_on more, refl))
+        (λ last. (settles_last last parent held, refl))
 
 -- with the rooms of the code's own vectors
 pub rooms_in : (e : Parts) (homes ready homes' ready' : ℕ) → homes' ≡ homes → ready' ≡ ready → HasRooms e homes ready → HasRooms e homes' ready'

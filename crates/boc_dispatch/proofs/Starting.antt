@@ -1,17 +1,16 @@
 -- The first of the ready list starts: the state that follows, and what is kept.
-use Rattle.std.proofs.Common.{◌≡◌, ◌≢◌, ℕ, zero, suc, ◌+◌, ◌<◌, ◌≤◌, ◌⊎◌, inl, inr, true, false, ◌||◌, List, [], ◌∷◌, ◌++◌, length, map, set, refl, sym, ◌∙◌}
+use Rattle.std.proofs.Common.{◌≡◌, ◌≢◌, ℕ, zero, suc, ◌+◌, ◌<◌, ◌≤◌, ◌⊎◌, inl, inr, true, false, ◌||◌, List, [], ◌∷◌, ◌++◌, length, set, refl, sym, ◌∙◌}
 use Rattle.std.proofs.Common.{ap, subst, arith, length-set}
 use Rattle.std.specs.Prelude.{slice_get, slice_index_or, Option, Some, None}
 use Rattle.std.specs.Option.{option_map, option_map_or}
 use Rattle.boc_runs.specs.declared.event.Event.TheVariants.{Start}
 use Rattle.boc_runs.specs.declared.stage.Phase.TheVariants as phases
-use Rattle.boc_runs.specs.declared.stage.Stage.{Stage}
-use Rattle.boc_runs.specs.declared.stage.Stage.TheVariants.{Asking, Recorded}
+use Rattle.boc_runs.specs.declared.stage.Stage.TheVariants.{Recorded}
 use Rattle.boc_program.specs.Changed.{changed}
 use Rattle.boc_runs.specs.Lives.{Pending, Running}
 use Rattle.boc_runs.specs.Legal.{IsAllowed, entries}
 use Rattle.boc_runs.specs.Run.{Member, Config, config_of, opening, next_wish, started_on, state_of}
-use Rattle.boc_runs.specs.machine.Stages.{settled_at, flagged_at, row_at, life_at, asks_at, enqueues_at, waits_at, settled, enqueues, parent_of}
+use Rattle.boc_runs.specs.machine.Stages.{row_at, life_at, asks_at, enqueues_at, waits_at, settled, enqueues, parent_of}
 use Rattle.boc_runs.specs.machine.Queues.{times}
 use Rattle.boc_runs.specs.machine.Steps.{State, at, members, stepped, noted, with_stage, Starts}
 use Rattle.boc_runs.specs.machine.Sound.{IsSound}
@@ -22,37 +21,17 @@ use Rattle.boc_machine_laws.proofs.Keeps.{keeps_starts}
 use Rattle.boc_rules.specs.Log.{Log, grown}
 use Rattle.boc_dispatch.specs.declared.live.Live.{Live}
 use Rattle.boc_dispatch.specs.Places.{begun}
-use Rattle.boc_dispatch.specs.Inside.{Parts, state, live_at, open_of, place_of, exchanged_at, queues_of, rows_at, row_or_0, IsKept, HasRooms, AreInHand}
+use Rattle.boc_dispatch.specs.Inside.{Parts, state, live_at, open_of, queues_of, rows_at, row_or_0, IsKept, HasRooms}
 use Rattle.boc_dispatch.specs.Inside.{AreCounted, IsMember, IsWished}
-use Rattle.boc_dispatch.proofs.Tables.{live_same, live_there, live_here, live_other, live_new, at_slot, behaviours_length, numbered_changed, behaviours_changed}
-use Rattle.boc_dispatch.proofs.Tables.{number_changed, taken_changed}
+use Rattle.boc_dispatch.proofs.Tables.{live_same, live_other, live_new, at_slot, behaviours_length, numbered_changed, behaviours_changed}
+use Rattle.boc_dispatch.proofs.Tables.{taken_changed}
 use Rattle.boc_dispatch.proofs.Standing.{open_is, ready_distinct}
 use Rattle.boc_dispatch.proofs.Going.{awaits_same, granted_same}
-use Rattle.boc_dispatch.proofs.Onward.{Follows, follows_set, in_hand_by, request_by}
+use Rattle.boc_dispatch.proofs.Onward.{Same, Onward, Known, Follows, follows_set, follows_as, stays, known, onward_at, queues_on, rows_on, home_on, chained_on}
+use Rattle.boc_dispatch.proofs.Onward.{in_hand_on, wished_still}
 use Rattle.boc_dispatch.proofs.Fits.{allowed_last}
+use Rattle.boc_dispatch.proofs.Recording.{asks_enqueue}
 use Rattle.boc_dispatch.proofs.Homes.{IsRowAt, row_at_slot}
-
--- the same behaviour under the same row, with the same requests and the same child
-record Like (x y : Live) : Type 0 where
-  number : y.number ≡ x.number
-  parent : y.parent ≡ x.parent
-  child : y.child ≡ x.child
-  row : row_at y.stage ≡ row_at x.stage
-  enqueues : enqueues_at y.stage ≡ enqueues_at x.stage
-  settles : settled_at y.stage y.cowns.items ≡ settled_at x.stage x.cowns.items
-  flags : flagged_at y.stage y.cowns.items ≡ flagged_at x.stage x.cowns.items
-  place : place_of y ≡ place_of x
-
-like_self : (x : Live) → Like x x
-like_self x = record { number = refl; parent = refl; child = refl; row = refl; enqueues = refl; settles = refl; flags = refl; place = refl }
-
-in_hand_like : (live live' : List (Option Live)) → Follows Like live live' → AreInHand live → AreInHand live'
-in_hand_like live live' fs k = in_hand_by Like (λ l m r. r.child) (λ l m r. r.row) (λ l m r. r.parent) (λ l m r. r.enqueues) live live' fs k
-
--- who asks has an open enqueue
-enqueues_if_asks : (stage : Stage) → asks_at stage ≡ true → enqueues_at stage ≡ true
-enqueues_if_asks (Asking request exchanged) asks = refl
-enqueues_if_asks (Recorded row phase) asks = absurd (let h : false ≡ true = asks in cc)
 
 -- who is read from a list stands in it
 read_stands : (xs : List ℕ) (i s : ℕ) → slice_get xs i ≡ Some s → 0 < times s xs
@@ -101,30 +80,17 @@ module _ (d : Parts) (k : IsKept d) (slot : ℕ) (rest : List ℕ) (head : d.rea
   row_is : row_at l.stage ≡ Some row
   row_is = ap row_at stage_is
 
-  follows : Follows Like d.live table
-  follows = follows_set Like like_self d.live slot l m is (record {
-    number = refl;
-    parent = refl;
-    child = refl;
-    row = sym row_is;
-    enqueues = sym (ap enqueues_at stage_is);
-    settles = sym (ap (λ st. settled_at st l.cowns.items) stage_is);
-    flags = sym (ap (λ st. flagged_at st l.cowns.items) stage_is);
-    place = (λ i. record { cowns = l.cowns.items; exchanged = sym (ap (λ st. exchanged_at st l.cowns.items) stage_is) i });
-  })
+  on : Onward l m
+  on = onward_at l l.awaited (Recorded row phases.Ready) (Recorded row phases.Running) stage_is refl refl refl refl refl
 
-  row_same : (s : ℕ) → option_map_or (λ (x : Live). row_or_0 x.stage) (live_at table s) 0 ≡ option_map_or (λ (x : Live). row_or_0 x.stage) (live_at d.live s) 0
-  row_same s =
-      elim (same_or_not s slot) [
-        | inl h ↦
-            ap (λ o. option_map_or (λ (x : Live). row_or_0 x.stage) o 0) (ap (live_at table) h ∙ live_here d.live slot (Some m) (live_there d.live slot l is))
-            ∙ ap row_or_0 (sym stage_is)
-            ∙ sym (ap (λ o. option_map_or (λ (x : Live). row_or_0 x.stage) o 0) (ap (live_at d.live) h ∙ is))
-        | inr n ↦ ap (λ o. option_map_or (λ (x : Live). row_or_0 x.stage) o 0) (live_other d.live slot (Some m) s n)
-      ]
+  follows : Follows Onward d.live table
+  follows = follows_set Onward stays d.live slot l m is on
+
+  follows_same : Follows Same d.live table
+  follows_same = follows_as Onward Same (λ x y r. r.same) d.live table follows
 
   queues_same_now : queues_of table d.lists ≡ queues_of d.live d.lists
-  queues_same_now = λ i. map (λ requests. map (λ r. number_changed d.live d.opened slot l m k.numbered is refl r.slot i) requests) d.lists
+  queues_same_now = queues_on d.live table follows_same d.lists
 
   abbrev t : State
   t = stepped (record (noted (with_stage (state d) l.number (open_of l) (Recorded row phases.Running)) (Start row)) { ready = rows_at d.live rest })
@@ -134,7 +100,7 @@ module _ (d : Parts) (k : IsKept d) (slot : ℕ) (rest : List ℕ) (head : d.rea
     log = d.log.events ++ Start row ∷ [];
     behaviours = behaviours_changed d.live d.opened slot l m k.numbered is refl i;
     queues = queues_same_now i;
-    ready = map (λ s. row_same s i) rest;
+    ready = rows_on d.live table follows_same rest i;
     steps = d.steps + 1;
   }
 
@@ -225,18 +191,11 @@ module _ (d : Parts) (k : IsKept d) (slot : ℕ) (rest : List ℕ) (head : d.rea
             let open_now = at_slot d.live d.opened s x k.numbered u.1 in
             let runs : state_of ms x.parent ≡ Some Running =
             subst (λ (n : ℕ). state_of ms n ≡ Some Running) (ap parent_of open_now)
-            (k.sound.fits.parents x.number (ap enqueues open_now ∙ enqueues_if_asks x.stage b)) in
+            (k.sound.fits.parents x.number (ap enqueues open_now ∙ asks_enqueue x.stage b)) in
             let other : x.parent ≢ row = (λ h. absurd (let f : Some Pending ≡ Some Running =
             ap Some (sym (own_row.life_is ∙ ap life_at stage_is)) ∙ sym (ap (λ o. option_map (λ (z : Member). z.life) o) own_row.is) ∙ ap (state_of ms) (sym h)
             ∙ runs in cc)) in
-            record {
-              wish = q.wish;
-              next = ap (next_wish d.program) (member_other x.parent other) ∙ q.next;
-              kind_is = q.kind_is;
-              args_are = q.args_are;
-              cowns_are = q.cowns_are;
-              new = q.new;
-            })
+            wished_still d.program ms (members d.program (state e)) x (ap (next_wish d.program) (member_other x.parent other)) q)
       ]
 
   counted_then : AreCounted (state e) table
@@ -267,27 +226,15 @@ module _ (d : Parts) (k : IsKept d) (slot : ℕ) (rest : List ℕ) (head : d.rea
     values_are = k.values_are ∙ sym values_then;
     homes_are = k.homes_are ∙ sym (ap length members_then ∙ length-changed ms row start_it (slice_get ms row));
     numbered = numbered_changed d.live d.opened slot l m k.numbered is refl;
-    at_home = λ s r x a b. (let y = follows.before s x a in k.at_home s r y.0 y.1 (sym y.2.row ∙ b));
-    in_hand = in_hand_like d.live table follows k.in_hand;
-    chained = record {
-      requests = λ c j r a. request_by Like (λ x y h. h.settles) (λ x y h. h.flags) d.live table follows c r (k.chained.requests c j r a);
-      places = λ s. k.chained.places s ∙ sym (places_then s);
-    };
+    at_home = home_on d.live table follows_same d.homes k.at_home;
+    in_hand = in_hand_on d.live table (follows_set Known known d.live slot l m is (record { same = (on).same; child = refl; enqueues = sym (ap enqueues_at stage_is) }))
+        k.in_hand;
+    chained = chained_on d.live table follows d.lists d.place k.chained;
     of_run = record { recorded = recorded_then; asking = asking_then };
     counted = counted_then;
     ready_there = ready_then;
     left = ap (λ n. n + d.gone) (taken_changed d.live d.opened slot l m k.numbered is refl) ∙ k.left;
   }
-    where
-      places_then : (s : ℕ) → option_map place_of (live_at table s) ≡ option_map place_of (live_at d.live s)
-      places_then s =
-          elim (same_or_not s slot) [
-            | inl h ↦
-                ap (option_map place_of) (ap (live_at table) h ∙ live_here d.live slot (Some m) (live_there d.live slot l is))
-                ∙ (λ i. Some (record { cowns = l.cowns.items; exchanged = sym (ap (λ st. exchanged_at st l.cowns.items) stage_is) i }))
-                ∙ sym (ap (option_map place_of) (ap (live_at d.live) h ∙ is))
-            | inr n ↦ ap (option_map place_of) (live_other d.live slot (Some m) s n)
-          ]
 
   pub start_rooms : (homes ready : ℕ) → HasRooms d homes ready → HasRooms e homes ready
   start_rooms homes ready rooms =

@@ -139,18 +139,12 @@ stopped u v h was k x refusal fits t w = says u v h was k x (turns.Refused refus
 pub one_reason : (refusal : Refusal) (a b : DriveFault) → EndsFor refusal a → EndsFor refusal b → a ≡ b
 one_reason (refusals.Open open_faults.Behaviours) a b e f = e ∙ sym f
 one_reason (refusals.Open open_faults.Memory) a b e f = e ∙ sym f
-one_reason (refusals.Open open_faults.Stranger) a b e f = absurd e
-one_reason (refusals.Open open_faults.OutOfTurn) a b e f = absurd e
-one_reason (refusals.Finish fault) a b e f = absurd e
-one_reason refusals.Unknown a b e f = absurd e
+one_reason _ a b e f = absurd e
 
 pub never_no_worker : (refusal : Refusal) (place : ℕ) → EndsFor refusal (drive_faults.NoSuchWorker place) → ⊥
 never_no_worker (refusals.Open open_faults.Behaviours) place e = (let f : drive_faults.NoSuchWorker place ≡ drive_faults.Behaviours = e in cc)
 never_no_worker (refusals.Open open_faults.Memory) place e = (let f : drive_faults.NoSuchWorker place ≡ drive_faults.Memory = e in cc)
-never_no_worker (refusals.Open open_faults.Stranger) place e = e
-never_no_worker (refusals.Open open_faults.OutOfTurn) place e = e
-never_no_worker (refusals.Finish fault) place e = e
-never_no_worker refusals.Unknown place e = e
+never_no_worker _ place e = e
 
 -- ---- turns, one more at the end
 

@@ -54,14 +54,10 @@ some_or_zero (suc n) = inl (omega arith)
 
 -- one that runs is at that stage
 running_stage : (st : Stage) (row : ℕ) → row_at st ≡ Some row → life_at st ≡ RunningLife → st ≡ Recorded row Running
-running_stage (Asking i x) row e runs = absurd (let h : Pending ≡ RunningLife = runs in cc)
-running_stage (Recorded own (Flagging i)) row e runs = absurd (let h : Pending ≡ RunningLife = runs in cc)
-running_stage (Recorded own Owning) row e runs = absurd (let h : Pending ≡ RunningLife = runs in cc)
-running_stage (Recorded own Waiting) row e runs = absurd (let h : Pending ≡ RunningLife = runs in cc)
-running_stage (Recorded own Ready) row e runs = absurd (let h : Pending ≡ RunningLife = runs in cc)
 running_stage (Recorded own Running) row e runs =
     let h : Some own ≡ Some row = e in let same : own ≡ row = cc in ap (λ r. Recorded r Running) same
 running_stage (Recorded own (Leaving i)) row e runs = absurd (let h : Ended ≡ RunningLife = runs in cc)
+running_stage _ row e runs = absurd (let h : Pending ≡ RunningLife = runs in cc)
 
 module _ (p : Program) (s : State) (k : IsSound p s) where
   below_opened : (who : ℕ) (b : OpenBehaviour) → at s who ≡ Some b → who < length s.behaviours
@@ -119,10 +115,7 @@ module _ (p : Program) (s : State) (k : IsSound p s) where
       ]
   advance_at_stage who b (Recorded row (Flagging i)) is st = inl (b.parent, can_flag p s k who row i b is st)
   advance_at_stage who b (Recorded row Owning) is st = inl (b.parent, can_own p s k who row b is st)
-  advance_at_stage who b (Recorded row Waiting) is st = inr (no_enqueue who (ap enqueues is ∙ ap enqueues_at st))
-  advance_at_stage who b (Recorded row Ready) is st = inr (no_enqueue who (ap enqueues is ∙ ap enqueues_at st))
-  advance_at_stage who b (Recorded row Running) is st = inr (no_enqueue who (ap enqueues is ∙ ap enqueues_at st))
-  advance_at_stage who b (Recorded row (Leaving i)) is st = inr (no_enqueue who (ap enqueues is ∙ ap enqueues_at st))
+  advance_at_stage who b _ is st = inr (no_enqueue who (ap enqueues is ∙ ap enqueues_at st))
 
   advance_or_not : (who : ℕ) → Advances who ⊎ (Advances who → ⊥)
   advance_or_not who =

@@ -10,7 +10,7 @@ use Rattle.boc_runs.specs.declared.stage.Phase.{Phase}
 use Rattle.boc_runs.specs.declared.stage.Phase.TheVariants as phases
 use Rattle.boc_runs.specs.declared.stage.Phase.TheVariants.{Flagging, Owning, Waiting, Ready, Leaving}
 use Rattle.boc_runs.specs.declared.stage.Stage.{Stage}
-use Rattle.boc_runs.specs.declared.stage.Stage.TheVariants.{Asking, Recorded}
+use Rattle.boc_runs.specs.declared.stage.Stage.TheVariants.{Recorded}
 use Rattle.boc_program.specs.Changed.{changed}
 use Rattle.boc_runs.specs.Lives.{Pending, Running, Ended}
 use Rattle.boc_runs.specs.Run.{Member, Config, config_of, config_after, opening, started_on, state_of, CanEnd, MayHappen}
@@ -36,13 +36,9 @@ use Rattle.boc_machine_laws.proofs.Core.{Core, put_here, put_others, once_kept, 
 
 -- a ready behaviour has its row
 ready_at_row : (st : Stage) (q : ℕ) → ready_row_at st ≡ Some q → row_at st ≡ Some q
-ready_at_row (Asking i e) q h = absurd (let f : None ≡ Some q = h in cc)
 ready_at_row (Recorded r (Flagging i)) q h = absurd (let f : None ≡ Some q = h in cc)
-ready_at_row (Recorded r Owning) q h = absurd (let f : None ≡ Some q = h in cc)
-ready_at_row (Recorded r Waiting) q h = absurd (let f : None ≡ Some q = h in cc)
 ready_at_row (Recorded r Ready) q h = h
-ready_at_row (Recorded r phases.Running) q h = absurd (let f : None ≡ Some q = h in cc)
-ready_at_row (Recorded r (Leaving i)) q h = absurd (let f : None ≡ Some q = h in cc)
+ready_at_row _ q h = absurd (let f : None ≡ Some q = h in cc)
 
 pub ready_has_row : (b : Option OpenBehaviour) (q : ℕ) → ready_row b ≡ Some q → row_of b ≡ Some q
 ready_has_row None q h = absurd (let f : None ≡ Some q = h in cc)

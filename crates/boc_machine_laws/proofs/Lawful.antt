@@ -4,7 +4,7 @@ use Rattle.std.proofs.Common.{◌≡◌, ℕ, zero, suc, ◌+◌, ◌<◌, ◌�
 use Rattle.std.proofs.Common.{arith, rules, append_assoc}
 use Rattle.std.specs.Prelude.{slice_get, nat_lt, ◌&&◌, Option, Some, None}
 use Rattle.std.specs.List.{list_all}
-use Rattle.boc_runs.specs.declared.stage.Phase.TheVariants.{Flagging, Owning, Waiting, Ready, Running, Leaving}
+use Rattle.boc_runs.specs.declared.stage.Phase.TheVariants.{Leaving}
 use Rattle.boc_runs.specs.declared.stage.Stage.{Stage}
 use Rattle.boc_runs.specs.declared.stage.Stage.TheVariants.{Asking, Recorded}
 use Rattle.boc_runs.specs.machine.Queues.{times, is_first, is_granted, all_granted, InOrder, Lawful}
@@ -82,12 +82,8 @@ times-drop-le c (suc i) (d ∷ cs) = omega (arith, times-drop-le c i cs)
 standing_at_le : (c : ℕ) (s : Stage) (cs : List ℕ) → times c (standing_at s cs) ≤ times c cs
 standing_at_le c (Asking i true) cs = times-take-le c (suc i) cs
 standing_at_le c (Asking i false) cs = times-take-le c i cs
-standing_at_le c (Recorded r (Flagging i)) cs = omega arith
-standing_at_le c (Recorded r Owning) cs = omega arith
-standing_at_le c (Recorded r Waiting) cs = omega arith
-standing_at_le c (Recorded r Ready) cs = omega arith
-standing_at_le c (Recorded r Running) cs = omega arith
 standing_at_le c (Recorded r (Leaving i)) cs = times-drop-le c i cs
+standing_at_le c _ cs = omega arith
 
 pub standing_le : (c : ℕ) (b : Option OpenBehaviour) → times c (standing b) ≤ times c (cowns_of b)
 standing_le c None = omega arith

@@ -24,6 +24,4 @@ mod Allowing
 pub mod Serving
 pub mod Bounds
 pub mod Records
-mod TwoOrders
-mod TwoOrdersTurns
-mod TwoOrdersRefused
+mod examples

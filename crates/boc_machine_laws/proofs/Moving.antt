@@ -176,11 +176,8 @@ module _ (p : Program) (s : State) (k : IsSound p s) where
               (omega (arith, h, taken_there b.cowns i it.0 c it.1 (λ e. n (sym e))))) asks)
         ]
     flagged_at_stage c w b (Recorded r (Flagging i)) later same is st h = absurd (stuck w b.parent (can_flag w r i b is st))
-    flagged_at_stage c w b (Recorded r Owning) later same is st h = h
-    flagged_at_stage c w b (Recorded r Waiting) later same is st h = h
-    flagged_at_stage c w b (Recorded r Ready) later same is st h = h
-    flagged_at_stage c w b (Recorded r Running) later same is st h = h
     flagged_at_stage c w b (Recorded r (Leaving i)) later same is st h = omega (arith, h, times-drop-le c i b.cowns)
+    flagged_at_stage c w b _ later same is st h = h
 
     flagged_ahead : (c w : ℕ) → ((d : ℕ) → c < d → AsksAt s w d → ⊥) → (AsksAt s w c → ⊥) → 0 < times w (queue s c)
         → 0 < times c (flagged (at s w))
@@ -228,10 +225,7 @@ module _ (p : Program) (s : State) (k : IsSound p s) where
         (record { this = b; request = i; due = record { is = is; stage_is = st; cown = it.1 } }))
     none_open_at who b (Recorded r (Flagging i)) is st = absurd (stuck who b.parent (can_flag who r i b is st))
     none_open_at who b (Recorded r Owning) is st = absurd (stuck who b.parent (can_own who r b is st))
-    none_open_at who b (Recorded r Waiting) is st = refl
-    none_open_at who b (Recorded r Ready) is st = refl
-    none_open_at who b (Recorded r Running) is st = refl
-    none_open_at who b (Recorded r (Leaving i)) is st = refl
+    none_open_at who b _ is st = refl
 
     pub none_open : (who : ℕ) → enqueues (at s who) ≡ false
     none_open who =
@@ -245,12 +239,8 @@ module _ (p : Program) (s : State) (k : IsSound p s) where
   settled_at_stage : (c : ℕ) (st : Stage) (cs : List ℕ) → enqueues_at st ≡ false → 0 < times c (standing_at st cs)
       → 0 < times c (settled_at st cs)
   settled_at_stage c (Asking i x) cs e h = absurd (let f : true ≡ false = e in cc)
-  settled_at_stage c (Recorded r (Flagging i)) cs e h = h
-  settled_at_stage c (Recorded r Owning) cs e h = h
-  settled_at_stage c (Recorded r Waiting) cs e h = h
-  settled_at_stage c (Recorded r Ready) cs e h = h
-  settled_at_stage c (Recorded r Running) cs e h = h
   settled_at_stage c (Recorded r (Leaving i)) cs e h = omega (arith, h, times-drop-le c i cs)
+  settled_at_stage c _ cs e h = h
 
   settled_there : (c : ℕ) (o : Option OpenBehaviour) → enqueues o ≡ false → 0 < times c (standing o)
       → 0 < times c (settled o)
@@ -336,17 +326,13 @@ module _ (p : Program) (s : State) (k : IsSound p s) where
   ready_at_stage : (who row : ℕ) (b : OpenBehaviour) (st : Stage) → at s who ≡ Some b → b.stage ≡ st
       → row_at st ≡ Some row → works_at st ≡ false
       → ((w r : ℕ) → r < row → row_of (at s w) ≡ Some r → SomeReady) → SomeReady
-  ready_at_stage who row b (Asking i x) is st h idle earlier = absurd (let f : true ≡ false = idle in cc)
-  ready_at_stage who row b (Recorded r (Flagging i)) is st h idle earlier = absurd (let f : true ≡ false = idle in cc)
-  ready_at_stage who row b (Recorded r Owning) is st h idle earlier = absurd (let f : true ≡ false = idle in cc)
-  ready_at_stage who row b (Recorded r Running) is st h idle earlier = absurd (let f : true ≡ false = idle in cc)
-  ready_at_stage who row b (Recorded r (Leaving i)) is st h idle earlier = absurd (let f : true ≡ false = idle in cc)
   ready_at_stage who row b (Recorded r Waiting) is st h idle earlier =
       let same : r ≡ row = (let f : Some r ≡ Some row = h in cc) in
       let ahead = waits_behind who r b is st in
       earlier ahead.who ahead.own (omega (arith, ahead.less, same)) ahead.is
   ready_at_stage who row b (Recorded r Ready) is st h idle earlier =
       (r, omega (arith, k.ready_once who r (ap ready_row is ∙ ap ready_row_at st)))
+  ready_at_stage who row b _ is st h idle earlier = absurd (let f : true ≡ false = idle in cc)
 
   one_ready : NobodyWorks s → (n who row : ℕ) → row < n → row_of (at s who) ≡ Some row → SomeReady
   one_ready idle zero who row l is = absurd (omega arith)
@@ -372,13 +358,9 @@ module _ (p : Program) (s : State) (k : IsSound p s) where
       ]
 
   ready_stage : (st : Stage) (row : ℕ) → ready_row_at st ≡ Some row → st ≡ Recorded row Ready
-  ready_stage (Asking i x) row h = absurd (let f : None ≡ Some row = h in cc)
   ready_stage (Recorded r (Flagging i)) row h = absurd (let f : None ≡ Some row = h in cc)
-  ready_stage (Recorded r Owning) row h = absurd (let f : None ≡ Some row = h in cc)
-  ready_stage (Recorded r Waiting) row h = absurd (let f : None ≡ Some row = h in cc)
-  ready_stage (Recorded r Running) row h = absurd (let f : None ≡ Some row = h in cc)
-  ready_stage (Recorded r (Leaving i)) row h = absurd (let f : None ≡ Some row = h in cc)
   ready_stage (Recorded r Ready) row h = let f : Some r ≡ Some row = h in let g : r ≡ row = cc in ap (λ z. Recorded z Ready) g
+  ready_stage _ row h = absurd (let f : None ≡ Some row = h in cc)
 
   pub can_start : NobodyWorks s → (row : ℕ) (rest : List ℕ) → s.ready ≡ row ∷ rest → CanStart s row
   can_start idle row rest head =

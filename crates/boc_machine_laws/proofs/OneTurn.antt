@@ -68,11 +68,7 @@ advance_is p s who (steps.Flag i) t m = m.gives
     ∙ sym (advance_due p s who m.this (Recorded m.row (Flagging i)) (Some m.c) m.due.is m.due.stage_is m.due.cown)
 advance_is p s who steps.Own t m = m.gives ∙ sym
     (advance_due p s who m.this (Recorded m.row Owning) (slice_get m.this.cowns 0) m.is m.stage_is refl)
-advance_is p s who steps.Open t m = absurd m
-advance_is p s who steps.Start t m = absurd m
-advance_is p s who steps.Finish t m = absurd m
-advance_is p s who (steps.Unhook i) t m = absurd m
-advance_is p s who (steps.Pass i) t m = absurd m
+advance_is p s who _ t m = absurd m
 
 -- the next release, with this list of the cown
 abbrev leave_list : State → ℕ → OpenBehaviour → ℕ → ℕ → ℕ → List ℕ → State
@@ -104,13 +100,7 @@ leaves_either : (X : Type 0) (s : State) (who row : ℕ) (step : Step) (t : Stat
     → ((i : ℕ) → Unhooks s who row i t → X) → ((i : ℕ) → Passes s who row i t → X) → X
 leaves_either X s who row (steps.Unhook i) t m unhooks passes = unhooks i m
 leaves_either X s who row (steps.Pass i) t m unhooks passes = passes i m
-leaves_either X s who row steps.Open t m unhooks passes = absurd m
-leaves_either X s who row (steps.Swap i) t m unhooks passes = absurd m
-leaves_either X s who row (steps.Settle i) t m unhooks passes = absurd m
-leaves_either X s who row (steps.Flag i) t m unhooks passes = absurd m
-leaves_either X s who row steps.Own t m unhooks passes = absurd m
-leaves_either X s who row steps.Start t m unhooks passes = absurd m
-leaves_either X s who row steps.Finish t m unhooks passes = absurd m
+leaves_either X s who row _ t m unhooks passes = absurd m
 
 leave_is : (s : State) (who row : ℕ) (step : Step) (t : State) → Leaves s who row step t → t ≡ leave_of s who (at s who)
 leave_is s who row step t m = leaves_either (t ≡ leave_of s who (at s who)) s who row step t m
@@ -168,11 +158,8 @@ blocked_asking p s who (steps.Flag i) t m k =
 blocked_asking p s who steps.Own t m k = asks_not_recorded k.request m.row true Owning
     (stage_of_due s who k.this m.this (Asking k.request true)
     (Recorded m.row Owning) k.due.is k.due.stage_is m.is m.stage_is)
-blocked_asking p s who steps.Open t m k = m
-blocked_asking p s who steps.Start t m k = m
-blocked_asking p s who steps.Finish t m k = m
 blocked_asking p s who (steps.Unhook i) t m k = m
-blocked_asking p s who (steps.Pass i) t m k = m
+blocked_asking p s who _ t m k = m
 
 leaving_cown : (s : State) (who row : ℕ) (b b' : OpenBehaviour) (i j c d : ℕ)
     → IsDue s who b (Recorded row (Leaving i)) i c → IsDue s who b' (Recorded row (Leaving j)) j d → c ≡ d
@@ -196,13 +183,8 @@ blocked_leaving s who row (steps.Pass i) t m k =
     subst (λ (z : ℕ). 0 < times z (settled (at s k.next))) same
     (subst (λ (z : ℕ). 0 < times m.c (settled (at s z))) g m.settled_next) in
     omega (arith, some, k.unsettled)
-blocked_leaving s who row steps.Open t m k = m
 blocked_leaving s who row (steps.Swap i) t m k = m
-blocked_leaving s who row (steps.Settle i) t m k = m
-blocked_leaving s who row (steps.Flag i) t m k = m
-blocked_leaving s who row steps.Own t m k = m
-blocked_leaving s who row steps.Start t m k = m
-blocked_leaving s who row steps.Finish t m k = m
+blocked_leaving s who row _ t m k = m
 
 -- ---- one step of each kind
 
@@ -442,34 +424,22 @@ advance_makes p s who (steps.Swap i) t m = (who, m)
 advance_makes p s who (steps.Settle i) t m = (who, m)
 advance_makes p s who (steps.Flag i) t m = (who, m)
 advance_makes p s who steps.Own t m = (who, m)
-advance_makes p s who steps.Open t m = absurd m
-advance_makes p s who steps.Start t m = absurd m
-advance_makes p s who steps.Finish t m = absurd m
-advance_makes p s who (steps.Unhook i) t m = absurd m
-advance_makes p s who (steps.Pass i) t m = absurd m
+advance_makes p s who _ t m = absurd m
 
 pub leave_makes : (p : Program) (s : State) (who row : ℕ) (step : Step) (t : State) → Leaves s who row step t
     → Makes p s step t
 leave_makes p s who row (steps.Unhook i) t m = (who, row, m)
 leave_makes p s who row (steps.Pass i) t m = (who, row, m)
-leave_makes p s who row steps.Open t m = absurd m
-leave_makes p s who row (steps.Swap i) t m = absurd m
-leave_makes p s who row (steps.Settle i) t m = absurd m
-leave_makes p s who row (steps.Flag i) t m = absurd m
-leave_makes p s who row steps.Own t m = absurd m
-leave_makes p s who row steps.Start t m = absurd m
-leave_makes p s who row steps.Finish t m = absurd m
+leave_makes p s who row _ t m = absurd m
 
 pub turn_reaches : (p : Program) (s : State) (o : Option ℕ) (t : State) (x : Option ℕ) → TakesTurn p s o t x
     → Reaches p s t
 turn_reaches p s o t x (Begins who row t1 m) = Then steps.Start s t Here (who, row, m)
-turn_reaches p s o t x (NoneReady e) = Here
 turn_reaches p s o t x (Advanced row who step t1 q m) = Then step s t Here (advance_makes p s who step t m)
-turn_reaches p s o t x (WaitsToSettle row who q m) = Here
 turn_reaches p s o t x (Opened row t1 m) = Then steps.Open s t Here (row, m)
 turn_reaches p s o t x (Finished row who t1 m) = Then steps.Finish s t Here (who, row, m)
 turn_reaches p s o t x (Left row who step t1 m) = Then step s t Here (leave_makes p s who row step t m)
-turn_reaches p s o t x (WaitsToLeave row who m) = Here
+turn_reaches p s o t x _ = Here
 
 -- ---- the laws
 

@@ -184,11 +184,8 @@ module _ (p : Program) (s : State) (k : IsSound p s) where
   none_advanced who steps.Own t m w row a =
       let b = subst (λ (z : State). IsActive z w row) m.gives a in
       none_owned s who m.this m.row m.is w row (record { row_is = b.row_is; lives = b.lives })
-  none_advanced who steps.Open t m w row a = absurd m
-  none_advanced who steps.Start t m w row a = absurd m
-  none_advanced who steps.Finish t m w row a = absurd m
   none_advanced who (steps.Unhook i) t m w row a = absurd m
-  none_advanced who (steps.Pass i) t m w row a = absurd m
+  none_advanced who _ t m w row a = absurd m
 
   none_opened : (own : ℕ) (t : State) → Opens p s own t → NoneNew s t
   none_opened own t m w row a =
@@ -221,13 +218,8 @@ module _ (p : Program) (s : State) (k : IsSound p s) where
         | inl e ↦ inl e
         | inr n ↦ inr (n.0, record { row_is = n.1.row_is; lives = n.1.lives })
       ]
-  leaves_goes who own steps.Open t m w row a = absurd m
   leaves_goes who own (steps.Swap i) t m w row a = absurd m
-  leaves_goes who own (steps.Settle i) t m w row a = absurd m
-  leaves_goes who own (steps.Flag i) t m w row a = absurd m
-  leaves_goes who own steps.Own t m w row a = absurd m
-  leaves_goes who own steps.Start t m w row a = absurd m
-  leaves_goes who own steps.Finish t m w row a = absurd m
+  leaves_goes who own _ t m w row a = absurd m
 
   turn_serves : (before : Option ℕ) (t : State) (after : Option ℕ) → TakesTurn p s before t after → (w row : ℕ) → IsActive t w row
       → ServedOrOther s before after w row

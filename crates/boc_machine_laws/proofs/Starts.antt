@@ -4,7 +4,7 @@ use Rattle.std.specs.Prelude.{slice_get, Option, Some, None}
 use Rattle.std.specs.Option.{option_map_or}
 use Rattle.std.specs.List.{Contains}
 use Rattle.boc_program.specs.declared.program.Program.{Program}
-use Rattle.boc_runs.specs.declared.stage.Phase.TheVariants.{Flagging, Owning, Waiting, Ready, Running as RunningPhase, Leaving}
+use Rattle.boc_runs.specs.declared.stage.Phase.TheVariants.{Ready, Running as RunningPhase, Leaving}
 use Rattle.boc_runs.specs.declared.stage.Stage.{Stage}
 use Rattle.boc_runs.specs.declared.stage.Stage.TheVariants.{Asking, Recorded}
 use Rattle.boc_program.specs.Rising.{rising}
@@ -20,12 +20,8 @@ use Rattle.boc_machine_laws.proofs.Rows.{with_life, life_there}
 
 stands_at_all : (s : Stage) (cs : List ℕ) (r : ℕ) → row_at s ≡ Some r → life_at s ≢ Ended → standing_at s cs ≡ cs
 stands_at_all (Asking i e) cs r h n = absurd (let f : None ≡ Some r = h in cc)
-stands_at_all (Recorded q (Flagging i)) cs r h n = refl
-stands_at_all (Recorded q Owning) cs r h n = refl
-stands_at_all (Recorded q Waiting) cs r h n = refl
-stands_at_all (Recorded q Ready) cs r h n = refl
-stands_at_all (Recorded q RunningPhase) cs r h n = refl
 stands_at_all (Recorded q (Leaving i)) cs r h n = absurd (n refl)
+stands_at_all _ cs r h n = refl
 
 -- a recorded behaviour that has not ended stands for all its cowns
 pub stands_for_all : (b : Option OpenBehaviour) (r : ℕ) → row_of b ≡ Some r → life b ≢ Ended → standing b ≡ cowns_of b
@@ -33,13 +29,10 @@ stands_for_all None r h n = absurd (let f : None ≡ Some r = h in cc)
 stands_for_all (Some b) r h n = stands_at_all b.stage b.cowns r h n
 
 running_holds_at : (s : Stage) → life_at s ≡ Running → holds_at s ≡ true
-running_holds_at (Asking i e) h = absurd (let f : Pending ≡ Running = h in cc)
-running_holds_at (Recorded q (Flagging i)) h = absurd (let f : Pending ≡ Running = h in cc)
-running_holds_at (Recorded q Owning) h = absurd (let f : Pending ≡ Running = h in cc)
-running_holds_at (Recorded q Waiting) h = absurd (let f : Pending ≡ Running = h in cc)
 running_holds_at (Recorded q Ready) h = refl
 running_holds_at (Recorded q RunningPhase) h = refl
 running_holds_at (Recorded q (Leaving i)) h = absurd (let f : Ended ≡ Running = h in cc)
+running_holds_at _ h = absurd (let f : Pending ≡ Running = h in cc)
 
 pub running_holds : (b : Option OpenBehaviour) → life b ≡ Running → holds b ≡ true
 running_holds None h = absurd (let f : Ended ≡ Running = h in cc)

@@ -209,12 +209,7 @@ rule_fault rules.TooMany v cowns events text rest b e w = inr (wrong_line kinds.
 -- a rule that is broken is no failure of the source
 no_failure : (rule : BrokenRule) (number : ℕ) (whole after : Option (List ℕ)) → StopIn (kind_of_rule rule) number whole after
 no_failure rules.NumberNotNext number whole after = tt
-no_failure rules.ParentNotRunning number whole after = tt
-no_failure rules.Offset number whole after = tt
-no_failure rules.Cowns number whole after = tt
-no_failure rules.StartNotAllowed number whole after = tt
-no_failure rules.EndNotAllowed number whole after = tt
-no_failure rules.TooMany number whole after = tt
+no_failure _ number whole after = tt
 
 rule_faults : (rule : BrokenRule) (v : Version) (whole now next : Option (List ℕ)) (cowns : ℕ) (events : List Event) (event : Event) → HasBegun v cowns events
     → Consumes whole now (begun v cowns events) → TakesEvent v (entries events) event now next → IsFirstBroken cowns (entries events) event rule

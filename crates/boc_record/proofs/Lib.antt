@@ -11,4 +11,4 @@ pub mod OneFault
 pub mod Wrote
 pub mod Handing
 pub mod Sending
-pub mod TransferRecord
+mod examples

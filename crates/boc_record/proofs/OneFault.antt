@@ -2,8 +2,6 @@
 use Rattle.std.proofs.Common.{◌≡◌, ◌⊎◌, ℕ, suc, List, [], ◌∷◌, ◌++◌, length, get_or, refl, sym, ◌∙◌, ap, subst, inl, inr, arith, append_assoc}
 use Rattle.std.specs.Prelude.{codes}
 use Rattle.std.proofs.lemmas.List.{append-nil}
-use Rattle.arrayvec.specs.ArrayVec.{ArrayVec}
-use Rattle.boc_program.specs.declared.body.EndStatus.{EndStatus}
 use Rattle.boc_runs.specs.declared.event.Event.{Event}
 use Rattle.boc_runs.specs.declared.event.BrokenRule.{BrokenRule}
 use Rattle.boc_runs.specs.declared.event.BrokenRule.TheVariants as rules
@@ -66,12 +64,7 @@ all_rules = rules.NumberNotNext ∷ rules.TooMany ∷ rules.ParentNotRunning ∷
 
 rule_at : (a : BrokenRule) → get_or all_rules (place_of_rule a) rules.NumberNotNext ≡ a
 rule_at rules.NumberNotNext = refl
-rule_at rules.TooMany = refl
-rule_at rules.ParentNotRunning = refl
-rule_at rules.Offset = refl
-rule_at rules.Cowns = refl
-rule_at rules.StartNotAllowed = refl
-rule_at rules.EndNotAllowed = refl
+rule_at _ = refl
 
 one_place : (a b : BrokenRule) → place_of_rule a ≡ place_of_rule b → a ≡ b
 one_place a b e = sym (rule_at a) ∙ ap (λ n. get_or all_rules n rules.NumberNotNext) e ∙ rule_at b
@@ -301,17 +294,15 @@ pub never_both : (text : List ℕ) (r : Recorded) (n : ℕ) (k : RecordFaultKind
 never_both text r n k t f = ends_faulty text n k (text_ends text r t) (faulty text n k f)
 
 -- the rows of a run are one list
-six_same : (f : ℕ → ℕ → ArrayVec ℕ → ℕ → EndStatus → ArrayVec ℕ → Row) (a b p q : ℕ) (c d : ArrayVec ℕ) (t u : ℕ) (s r : EndStatus) (v w : ArrayVec ℕ) → a ≡ b
-    → p ≡ q → c ≡ d → t ≡ u → s ≡ r → v ≡ w → f a p c t s v ≡ f b q d u r w
-six_same f a b p q c d t u s r v w h i j k l m = cc
-
 one_row : (e : Entry) (x y : Row) → IsRowOf e x → IsRowOf e y → x ≡ y
-one_row e x y p q =
-    six_same (λ parent offset cowns ticks status written. record
-    { parent = parent; offset = offset; cowns = cowns; ticks = ticks; status = status; written = written })
-    x.parent y.parent x.offset y.offset x.cowns y.cowns x.ticks y.ticks x.status y.status x.written y.written (p.parent ∙ sym q.parent)
-    (p.offset ∙ sym q.offset) (one_items x.cowns y.cowns (p.cowns ∙ sym q.cowns))
-    (p.ticks ∙ sym q.ticks) (p.status ∙ sym q.status) (one_items x.written y.written (p.written ∙ sym q.written))
+one_row e x y p q = λ i. record {
+  parent = (p.parent ∙ sym q.parent) i;
+  offset = (p.offset ∙ sym q.offset) i;
+  cowns = one_items x.cowns y.cowns (p.cowns ∙ sym q.cowns) i;
+  ticks = (p.ticks ∙ sym q.ticks) i;
+  status = (p.status ∙ sym q.status) i;
+  written = one_items x.written y.written (p.written ∙ sym q.written) i;
+}
 
 next_rows : (e : Entry) (run : List Entry) (x : Row) (xs : List Row) → AreRowsOf (e ∷ run) (x ∷ xs) → AreRowsOf run xs
 next_rows e run x xs h = record { all = omega (arith, h.all); each = λ r f y g i. h.each (suc r) f y g i }
@@ -326,9 +317,6 @@ one_rows (e ∷ run) (x ∷ xs) (y ∷ ys) p q =
     ap (λ (z : Row). z ∷ xs) (one_row e x y (p.each 0 e x refl refl) (q.each 0 e y refl refl))
     ∙ ap (λ zs. y ∷ zs) (one_rows run xs ys (next_rows e run x xs p) (next_rows e run y ys q))
 
-three_same : (f : ℕ → List Event → List Row → Recorded) (a b : ℕ) (c d : List Event) (x y : List Row) → a ≡ b → c ≡ d → x ≡ y → f a c x ≡ f b d y
-three_same f a b c d x y p q r = cc
-
 -- a text is that of one record at most
 pub one_record : (text : List ℕ) (r s : Recorded) → IsTextOf text r → IsTextOf text s → r ≡ s
 one_record text r s t u =
@@ -336,4 +324,4 @@ one_record text r s t u =
     let e : r.events ≡ s.events = one.events in
     let x : r.rows ≡ s.rows = one_rows (entries r.events) r.rows s.rows t.record_is.rows_are
     (subst (λ (es : List Event). AreRowsOf (entries es) s.rows) (sym e) u.record_is.rows_are) in
-    three_same (λ cowns events rows. record { cowns = cowns; events = events; rows = rows }) r.cowns s.cowns r.events s.events r.rows s.rows one.cowns e x
+    λ i. record { cowns = one.cowns i; events = e i; rows = x i }

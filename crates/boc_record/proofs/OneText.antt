@@ -49,12 +49,7 @@ all_statuses = statuses.Done ∷ statuses.Overflow ∷ statuses.ZeroDivisor ∷ 
 
 status_at : (s : EndStatus) → get_or all_statuses (status_number s) statuses.Done ≡ s
 status_at statuses.Done = refl
-status_at statuses.Overflow = refl
-status_at statuses.ZeroDivisor = refl
-status_at statuses.OutOfRange = refl
-status_at statuses.SameCown = refl
-status_at statuses.Negative = refl
-status_at statuses.TickCap = refl
+status_at _ = refl
 
 one_status : (s t : EndStatus) → status_number s ≡ status_number t → s ≡ t
 one_status s t e = sym (status_at s) ∙ ap (λ n. get_or all_statuses n statuses.Done) e ∙ status_at t

@@ -95,12 +95,7 @@ own_few count rows row written few w among = λ k d less.
 
 status_few : (s : EndStatus) → status_number s ≤ 9
 status_few statuses.Done = omega arith
-status_few statuses.Overflow = omega arith
-status_few statuses.ZeroDivisor = omega arith
-status_few statuses.OutOfRange = omega arith
-status_few statuses.SameCown = omega arith
-status_few statuses.Negative = omega arith
-status_few statuses.TickCap = omega arith
+status_few _ = omega arith
 
 written_few : (v : Version) (written : List ℕ) → All (λ c. c < MOST_COWNS) written → length written ≤ MOST_HELD
     → length (fields (written_fields v written)) ≤ 32

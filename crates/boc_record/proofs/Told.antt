@@ -24,12 +24,7 @@ nothing_small k d h = absurd (omega (arith, h))
 
 small_status : (status : EndStatus) → status_number status < 2 ^ 32
 small_status statuses.Done = omega arith
-small_status statuses.Overflow = omega arith
-small_status statuses.ZeroDivisor = omega arith
-small_status statuses.OutOfRange = omega arith
-small_status statuses.SameCown = omega arith
-small_status statuses.Negative = omega arith
-small_status statuses.TickCap = omega arith
+small_status _ = omega arith
 
 -- a text is that of small numbers
 pub record IsOfNumbers (text ns : List ℕ) : Type 0 where

@@ -1,4 +1,6 @@
-// The line of an event at the front of bytes that are taken in, read without looking for its end first.
+// The line of an event at the front of bytes that are taken in, read without looking for its end first. There are two
+// readers of events: this one is the faster, and finds most; `line` has the others, with longer numbers or near the end of
+// the bytes, and tells which lines are none.
 
 ghost use Rattle.std.specs.Prelude.{◌≡◌, ◌<◌, ◌≤◌, length, IfSome};
 ghost use Rattle.boc_program.specs.declared.limits.TheConstants.{MOST_HELD};

@@ -1,4 +1,4 @@
-// The lines of a record.
+// The lines of a record: each is read, or refused. Most lines of events are found by `ahead` before it comes to that.
 
 ghost use Rattle.std.specs.Prelude.{◌≡◌, ◌≤◌, ◌++◌, ℕ, List, codes, length, MatchOption};
 ghost use Rattle.boc_program.specs.declared.limits.TheConstants.{MOST_COWNS, MOST_HELD};

@@ -76,14 +76,9 @@ later_more count rows (End row ticks status written) a =
     let runs = same_life rows row e Running at may.runs in
     record { parent = refl; offset = refl; cowns = refl; over = λ h. refl; same = λ h. absurd (not_running_ended (sym runs ∙ h)) })
 
-spawn_same : (n p p2 o o2 : ℕ) (c c2 : List ℕ) → p2 ≡ p → o2 ≡ o → c2 ≡ c → Spawn n p2 o2 (record { items = c2 }) ≡ Spawn n p o (record { items = c })
-spawn_same n p p2 o o2 c c2 e f g =
-    ap (λ x. Spawn n x o2 (record { items = c2 })) e ∙ ap (λ x. Spawn n p x (record { items = c2 })) f
-    ∙ ap (λ (x : List ℕ). Spawn n p o (record { items = x })) g
-
 tells_same : (n : ℕ) (d : Deed) (old new : Entry) → IsLater old new → (d ≡ deeds.Ended → old.life ≡ Ended)
     → event_of n (row_of new) d ≡ event_of n (row_of old) d
-tells_same n deeds.Spawned old new l over = spawn_same n old.parent new.parent old.offset new.offset old.cowns new.cowns l.parent l.offset l.cowns
+tells_same n deeds.Spawned old new l over = λ i. Spawn n (l.parent i) (l.offset i) (record { items = l.cowns i })
 tells_same n deeds.Started old new l over = refl
 tells_same n deeds.Ended old new l over = ap (λ (x : Row). event_of n x deeds.Ended) (l.same (over refl))
 

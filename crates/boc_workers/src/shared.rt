@@ -70,7 +70,6 @@ impl<'a, 'g, L: Ledger, G: Gate> Shared<'a, 'g, L, G> {
             fault,
             gate: _,
         } = self;
-        let _steps = dispatcher.steps();
         let turn = worker.turn(dispatcher);
         match turn {
             Turn::Moved(_) => made.enter(book),

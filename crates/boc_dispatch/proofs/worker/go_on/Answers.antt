@@ -23,10 +23,8 @@ ended row f g due (hands.Done own o) ends gives = (
     means = gives.5;
   },
 )
-ended row f g due hands.Nothing ends gives = absurd gives
 ended row f g due (hands.Started job) ends gives = absurd gives
-ended row f g due (hands.Framed own h other) ends gives = absurd gives
-ended row f g due (hands.Leaving l) ends gives = absurd gives
+ended row f g due _ ends gives = absurd gives
 
 pub returns-else-has_wish : goal.returns-else-has_wish
 returns-else-has_wish c row f is =

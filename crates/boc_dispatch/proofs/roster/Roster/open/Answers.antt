@@ -1,5 +1,5 @@
 use Rattle.std.proofs.Common.{◌≡◌, ◌∙◌, ◌+◌, ◌<◌, ◌≤◌, ℕ, List, [], length, sym, ap, subst, arith}
-use Rattle.std.specs.Prelude.{Some, None, slice_index_or, vec_capacity}
+use Rattle.std.specs.Prelude.{Some, None, is_err, false, slice_index_or, vec_capacity}
 use Rattle.std.specs.VecDeque.{deque_capacity}
 use Rattle.arrayvec.specs.ArrayVec.{ArrayVec}
 use Rattle.boc_runs.specs.machine.Steps.{unrecorded}
@@ -7,7 +7,7 @@ use Rattle.boc_chain.specs.Chain.{times, slots}
 use Rattle.boc_dispatch.specs.Inside.{Parts, parts_of, state, underway, live_at, IsKept, HasRooms}
 use Rattle.boc_dispatch.proofs.ChildOpened.{admit_distinct, admit_in}
 use Rattle.boc_dispatch.proofs.Opening.{roomier, homes_left, vacant_of, vacant_empty, prepared, free_of, on_success, dismissed, longer_kept, longer_rooms}
-use Rattle.boc_dispatch.proofs.Opening.{longer_stays, may_be_put, put_kept, put_rooms, put_opens}
+use Rattle.boc_dispatch.proofs.Opening.{longer_stays, IsPutting, putting}
 use Rattle.boc_dispatch.proofs.Settling.{rooms_in}
 use Rattle.boc_dispatch.proofs.Taken.{taken_from, held_among, few_taken}
 use Rattle.boc_dispatch.proofs.roster.Roster.open.Given.{Over}
@@ -70,6 +70,18 @@ homes_fit g c = omega (
   c.reserve.ensures.len,
 )
 
+-- the child may be put in where there was memory for its place, and what follows
+put : (g : Over) (c : After-make_places g) → is_err c.make_places.result ≡ false
+    → IsPutting (was g c) c.args.row c.args.slot c.in_ok-own.own.index c.args.child (before g c) (vec_capacity c.make_places.new.self.homes)
+    (deque_capacity c.make_places.new.self.ready)
+put g c fine =
+    putting (was g c) c.requires.sound.kept c.args.row c.args.slot c.requires.runs.0 c.requires.runs.1 (free g c) c.args.child c.requires.new c.requires.few
+    c.make_places.new.self.live.items c.make_places.ensures.same c.in_ok-own.own.index (vacant g c)
+    (on_success c.make_places.result (c.in_ok-own.own.index < length c.make_places.new.self.live.items) c.make_places.ensures.long fine)
+    (g.C.Chains.place c.admit.new.self) (place_own g c) c.in_ok-own.ensures.other_places (vec_capacity c.make_places.new.self.homes)
+    (deque_capacity c.make_places.new.self.ready) c.requires.sound.rooms.rooms (homes_fit g c) c.make_places.ensures.ready c.make_places.ensures.few
+    (before g c) (before_is g c)
+
 -- the slot has 32 bits, since few are taken
 pub make_places-requires-clause-small : goal.make_places-requires-clause-small
 make_places-requires-clause-small g c =
@@ -84,48 +96,23 @@ dismiss-requires-clause-empty g c n =
     (vacant_empty (was g s) c.requires.sound.kept c.in_ok-own.own.index (vacant g s) n)
 
 pub put_child-requires : goal.put_child-requires
-put_child-requires g c =
-    let s = (goal.at.put_child-requires g c).After-make_places in
-    let room = on_success c.make_places.result (c.in_ok-own.own.index < length c.make_places.new.self.live.items) c.make_places.ensures.long
-    (sym c.is_err.ensures.value ∙ c.if-is_err.false) in
-    may_be_put (was g s) c.requires.sound.kept c.args.row c.args.slot c.requires.runs.0 c.requires.runs.1 (free g s) c.args.child c.requires.new c.requires.few
-    c.make_places.new.self.live.items c.make_places.ensures.same c.in_ok-own.own.index (vacant g s) room
-    (g.C.Chains.place c.admit.new.self) (place_own g s) c.in_ok-own.ensures.other_places (vec_capacity c.make_places.new.self.homes)
-    (deque_capacity c.make_places.new.self.ready) c.requires.sound.rooms.rooms (homes_fit g s) c.make_places.ensures.ready c.make_places.ensures.few
-    (before g s) (before_is g s)
+put_child-requires g c = (put g (goal.at.put_child-requires g c).After-make_places (sym c.is_err.ensures.value ∙ c.if-is_err.false)).may
 
 pub returns-clause-sound : goal.returns-clause-sound
 returns-clause-sound g c =
-    let s = (goal.at.returns-clause-sound g c).After-make_places in
-    let room = on_success c.make_places.result (c.in_ok-own.own.index < length c.make_places.new.self.live.items) c.make_places.ensures.long
-    (sym c.is_err.ensures.value ∙ c.if-is_err.false) in
     let after = parts_of g.C.Chains.lists g.C.Chains.place c.put_child.new.self in
+    let q = (put g (goal.at.returns-clause-sound g c).After-make_places (sym c.is_err.ensures.value ∙ c.if-is_err.false)).put after c.put_child.ensures.puts in
     record {
-      kept = put_kept (was g s) c.requires.sound.kept c.args.row c.args.slot c.requires.runs.0 c.requires.runs.1 (free g s) c.args.child c.requires.new
-          c.requires.few c.make_places.new.self.live.items c.make_places.ensures.same c.in_ok-own.own.index (vacant g s) room
-          (g.C.Chains.place c.admit.new.self) (place_own g s) c.in_ok-own.ensures.other_places (vec_capacity c.make_places.new.self.homes)
-          (deque_capacity c.make_places.new.self.ready) c.requires.sound.rooms.rooms (homes_fit g s) c.make_places.ensures.ready c.make_places.ensures.few
-          (before g s) (before_is g s) after c.put_child.ensures.puts;
+      kept = q.kept;
       rooms = rooms_in after (vec_capacity c.make_places.new.self.homes) (deque_capacity c.make_places.new.self.ready) (vec_capacity c.put_child.new.self.homes)
-          (deque_capacity c.put_child.new.self.ready) c.put_child.ensures.homes c.put_child.ensures.ready
-          (put_rooms (was g s) c.requires.sound.kept c.args.row c.args.slot c.requires.runs.0 c.requires.runs.1 (free g s) c.args.child c.requires.new
-          c.requires.few c.make_places.new.self.live.items c.make_places.ensures.same c.in_ok-own.own.index (vacant g s) room
-          (g.C.Chains.place c.admit.new.self) (place_own g s) c.in_ok-own.ensures.other_places (vec_capacity c.make_places.new.self.homes)
-          (deque_capacity c.make_places.new.self.ready) c.requires.sound.rooms.rooms (homes_fit g s) c.make_places.ensures.ready c.make_places.ensures.few
-          (before g s) (before_is g s) after c.put_child.ensures.puts);
+          (deque_capacity c.put_child.new.self.ready) c.put_child.ensures.homes c.put_child.ensures.ready q.rooms;
     }
 
 pub returns-clause-opens : goal.returns-clause-opens
 returns-clause-opens g c =
-    let s = (goal.at.returns-clause-opens g c).After-make_places in
-    let room = on_success c.make_places.result (c.in_ok-own.own.index < length c.make_places.new.self.live.items) c.make_places.ensures.long
-    (sym c.is_err.ensures.value ∙ c.if-is_err.false) in
-    let both = put_opens (was g s) c.requires.sound.kept c.args.row c.args.slot c.requires.runs.0 c.requires.runs.1 (free g s) c.args.child c.requires.new
-    c.requires.few c.make_places.new.self.live.items c.make_places.ensures.same c.in_ok-own.own.index (vacant g s) room
-    (g.C.Chains.place c.admit.new.self) (place_own g s) c.in_ok-own.ensures.other_places (vec_capacity c.make_places.new.self.homes)
-    (deque_capacity c.make_places.new.self.ready) c.requires.sound.rooms.rooms (homes_fit g s) c.make_places.ensures.ready c.make_places.ensures.few
-    (before g s) (before_is g s) (parts_of g.C.Chains.lists g.C.Chains.place c.put_child.new.self) c.put_child.ensures.puts in
-    (both.0, both.1, c.put_child.ensures.token.0 ∙ c.requires.new.number_is, c.put_child.ensures.token.1 ∙ c.requires.new.parent_is)
+    let q = (put g (goal.at.returns-clause-opens g c).After-make_places (sym c.is_err.ensures.value ∙ c.if-is_err.false)).put
+    (parts_of g.C.Chains.lists g.C.Chains.place c.put_child.new.self) c.put_child.ensures.puts in
+    (q.opens, q.same, c.put_child.ensures.token.0 ∙ c.requires.new.number_is, c.put_child.ensures.token.1 ∙ c.requires.new.parent_is)
 
 pub returns-then-is_err-clause-sound : goal.returns-then-is_err-clause-sound
 returns-then-is_err-clause-sound g c =

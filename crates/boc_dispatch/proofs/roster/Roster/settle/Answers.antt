@@ -8,7 +8,7 @@ use Rattle.boc_dispatch.specs.Inside.{Parts, parts_of, state, underway, IsKept, 
 use Rattle.boc_dispatch.specs.Places.{settled}
 use Rattle.boc_dispatch.proofs.Fits.{steps_fit}
 use Rattle.boc_dispatch.proofs.Settled.{settle_next, settle_there, settle_stands, settle_fits}
-use Rattle.boc_dispatch.proofs.Settling.{IsOutcome, lone_outcome, linked_outcome, may_settle_so, settled_kept, settled_rooms, settled_steps, rooms_in}
+use Rattle.boc_dispatch.proofs.Settling.{IsOutcome, SettledRequest, lone_outcome, linked_outcome, may_settle, settled_kept, settled_rooms, settled_steps, rooms_in}
 use Rattle.boc_dispatch.proofs.Settling.{blocked_parts, is_blocked}
 use Rattle.boc_dispatch.proofs.Tables.{live_same, live_changed}
 use Rattle.boc_dispatch.proofs.roster.Roster.settle.Given.{Over}
@@ -73,6 +73,28 @@ is_last g c l it =
     subst (λ (x : Live). c.settle_next-is_last.result ≡ eqb (suc c.args.request) (length x.cowns.items))
     (live_same c.args.self.now.live.items c.args.slot l c.live_mut.result.now it.is c.live_mut.ensures.value) c.settle_next-is_last.ensures.last
 
+-- what its step does
+abbrev given : (g : Over) (c : After-settle_next-is_last g) (l : Live)
+    (it : IsAtStage (parts_of g.C.Chains.lists g.C.Chains.place c.args.self.now) c.args.slot l (Asking c.args.request true))
+    → IsOutcome (parts_of g.C.Chains.lists g.C.Chains.place c.args.self.now) c.requires.sound.kept c.args.slot l c.args.request it c.match-settle.granted
+    → SettledRequest
+given g c l it told = record {
+  d = parts_of g.C.Chains.lists g.C.Chains.place c.args.self.now;
+  k = c.requires.sound.kept;
+  slot = c.args.slot;
+  l = l;
+  request = c.args.request;
+  it = it;
+  granted = c.match-settle.granted;
+  out = told;
+  lists = g.C.Chains.lists c.settle.new.self;
+  place = g.C.Chains.place c.settle.new.self;
+  lists_are = c.settle.ensures.lists;
+  places_are = c.settle.ensures.places;
+  new = Some c.settle_next-is_last.new.self;
+  new_is = new_is g c l it;
+}
+
 pub settle_next-is_last-requires : goal.settle_next-is_last-requires
 settle_next-is_last-requires g c =
     let d = parts_of g.C.Chains.lists g.C.Chains.place c.args.self.now in
@@ -93,47 +115,35 @@ step_asking-requires-clause-fits g c = steps_fit c.args.self.now.program.now (st
 
 pub step_asking-requires-clause-may : goal.step_asking-requires-clause-may
 step_asking-requires-clause-may g c settles =
-    let before = (goal.at.step_asking-requires-clause-may g c).After-live_mut in
     let s = (goal.at.step_asking-requires-clause-may g c).After-settle_next-is_last in
-    may_settle_so (parts_of g.C.Chains.lists g.C.Chains.place c.args.self.now) c.requires.sound.kept c.args.slot c.requires.due.0 c.args.request
-    c.requires.due.1 c.match-settle.granted (out g before c.requires.due.0 c.requires.due.1) (g.C.Chains.lists c.settle.new.self)
-    (g.C.Chains.place c.settle.new.self) c.settle.ensures.lists c.settle.ensures.places (Some c.settle_next-is_last.new.self)
-    (new_is g s c.requires.due.0 c.requires.due.1)
-    (eqb-true (suc c.args.request) (length c.requires.due.0.cowns.items) (sym (is_last g s c.requires.due.0 c.requires.due.1) ∙ settles)) c.args.parent
-    c.requires.held (vec_capacity c.args.self.now.homes) (deque_capacity c.args.self.now.ready) c.requires.sound.rooms
+    let l = c.requires.due.0 in
+    let it = c.requires.due.1 in
+    may_settle (given g s l it (out g (goal.at.step_asking-requires-clause-may g c).After-live_mut l it))
+    (eqb-true (suc c.args.request) (length l.cowns.items) (sym (is_last g s l it) ∙ settles)) c.args.parent c.requires.held
+    (vec_capacity c.args.self.now.homes) (deque_capacity c.args.self.now.ready) c.requires.sound.rooms
 
 pub returns-clause-sound : goal.returns-clause-sound
 returns-clause-sound g c =
-    let before = (goal.at.returns-clause-sound g c).After-live_mut in
     let s = (goal.at.returns-clause-sound g c).After-settle_next-is_last in
+    let l = c.requires.due.0 in
+    let it = c.requires.due.1 in
+    let x = given g s l it (out g (goal.at.returns-clause-sound g c).After-live_mut l it) in
     let after = parts_of g.C.Chains.lists g.C.Chains.place c.step_asking.new.self in
     let homes = vec_capacity c.args.self.now.homes in
     let ready = deque_capacity c.args.self.now.ready in
     record {
-      kept = settled_kept (parts_of g.C.Chains.lists g.C.Chains.place c.args.self.now) c.requires.sound.kept c.args.slot c.requires.due.0 c.args.request
-          c.requires.due.1 c.match-settle.granted (out g before c.requires.due.0 c.requires.due.1) (g.C.Chains.lists c.settle.new.self)
-          (g.C.Chains.place c.settle.new.self) c.settle.ensures.lists c.settle.ensures.places (Some c.settle_next-is_last.new.self)
-          (new_is g s c.requires.due.0 c.requires.due.1)
-          c.args.parent c.requires.held after c.settle_next-is_last.result (is_last g s c.requires.due.0 c.requires.due.1) c.step_asking.ensures.asks
+      kept = settled_kept x c.args.parent c.requires.held after c.settle_next-is_last.result (is_last g s l it) c.step_asking.ensures.asks
           c.step_asking.ensures.records;
       rooms = rooms_in after homes ready (vec_capacity c.step_asking.new.self.homes) (deque_capacity c.step_asking.new.self.ready) c.step_asking.ensures.homes
           c.step_asking.ensures.ready
-          (settled_rooms (parts_of g.C.Chains.lists g.C.Chains.place c.args.self.now) c.requires.sound.kept c.args.slot c.requires.due.0 c.args.request
-          c.requires.due.1 c.match-settle.granted (out g before c.requires.due.0 c.requires.due.1) (g.C.Chains.lists c.settle.new.self)
-          (g.C.Chains.place c.settle.new.self) c.settle.ensures.lists c.settle.ensures.places (Some c.settle_next-is_last.new.self)
-          (new_is g s c.requires.due.0 c.requires.due.1)
-          c.args.parent c.requires.held after c.settle_next-is_last.result (is_last g s c.requires.due.0 c.requires.due.1) c.step_asking.ensures.asks
-          c.step_asking.ensures.records
-          homes ready c.requires.sound.rooms);
+          (settled_rooms x c.args.parent c.requires.held after c.settle_next-is_last.result (is_last g s l it) c.step_asking.ensures.asks
+          c.step_asking.ensures.records homes ready c.requires.sound.rooms);
     }
 
 pub returns-clause-settles : goal.returns-clause-settles
 returns-clause-settles g c l it =
-    let before = (goal.at.returns-clause-settles g c).After-live_mut in
     let s = (goal.at.returns-clause-settles g c).After-settle_next-is_last in
-    let after = parts_of g.C.Chains.lists g.C.Chains.place c.step_asking.new.self in
-    let both = settled_steps (parts_of g.C.Chains.lists g.C.Chains.place c.args.self.now) c.requires.sound.kept c.args.slot l c.args.request it
-    c.match-settle.granted (out g before l it) (g.C.Chains.lists c.settle.new.self) (g.C.Chains.place c.settle.new.self) c.settle.ensures.lists
-    c.settle.ensures.places (Some c.settle_next-is_last.new.self) (new_is g s l it)
-    c.args.parent c.requires.held after c.settle_next-is_last.result (is_last g s l it) c.step_asking.ensures.asks c.step_asking.ensures.records in
+    let both = settled_steps (given g s l it (out g (goal.at.returns-clause-settles g c).After-live_mut l it)) c.args.parent c.requires.held
+    (parts_of g.C.Chains.lists g.C.Chains.place c.step_asking.new.self) c.settle_next-is_last.result (is_last g s l it) c.step_asking.ensures.asks
+    c.step_asking.ensures.records in
     (refl, both.0, both.1)

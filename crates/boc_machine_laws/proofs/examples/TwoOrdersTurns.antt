@@ -28,14 +28,14 @@ use Rattle.std.proofs.lemmas.Bool.{ltb-true}
 use Rattle.boc_machine_laws.proofs.Lists.{and_true, same_numbers}
 use Rattle.boc_machine_laws.proofs.Every.{opening_sound, whole_run}
 use Rattle.boc_machine_laws.proofs.OneTurn.{turns_keep}
-use Rattle.boc_machine_laws.proofs.TwoOrders.{program, log, main_body, one_body, two_body, left_body, right_body, main_at, left_at, right_at, one_at, two_at}
-use Rattle.boc_machine_laws.proofs.TwoOrders.{state_0, state_1, state_2, state_3, state_4, state_5, state_6, state_7, state_8, state_9, state_10, state_11}
-use Rattle.boc_machine_laws.proofs.TwoOrders.{state_12}
-use Rattle.boc_machine_laws.proofs.TwoOrders.{state_13, state_14, state_15, state_16, state_17, state_18, state_20, state_21, state_22, state_24, state_25}
-use Rattle.boc_machine_laws.proofs.TwoOrders.{state_26}
-use Rattle.boc_machine_laws.proofs.TwoOrders.{state_27, state_28, state_29, state_30, state_31, state_32, state_33, state_34, state_35, state_36, state_37}
-use Rattle.boc_machine_laws.proofs.TwoOrders.{state_38}
-use Rattle.boc_machine_laws.proofs.TwoOrders.{state_39, state_40}
+use Rattle.boc_machine_laws.proofs.examples.TwoOrders.{program, log, main_body, one_body, two_body, left_body, right_body, main_at, left_at, right_at, one_at, two_at}
+use Rattle.boc_machine_laws.proofs.examples.TwoOrders.{state_0, state_1, state_2, state_3, state_4, state_5, state_6, state_7, state_8, state_9, state_10, state_11}
+use Rattle.boc_machine_laws.proofs.examples.TwoOrders.{state_12}
+use Rattle.boc_machine_laws.proofs.examples.TwoOrders.{state_13, state_14, state_15, state_16, state_17, state_18, state_20, state_21, state_22, state_24, state_25}
+use Rattle.boc_machine_laws.proofs.examples.TwoOrders.{state_26}
+use Rattle.boc_machine_laws.proofs.examples.TwoOrders.{state_27, state_28, state_29, state_30, state_31, state_32, state_33, state_34, state_35, state_36, state_37}
+use Rattle.boc_machine_laws.proofs.examples.TwoOrders.{state_38}
+use Rattle.boc_machine_laws.proofs.examples.TwoOrders.{state_39, state_40}
 
 -- ---- tests by which conditions over all numbers are shown
 
@@ -397,12 +397,8 @@ pub sound_40 : IsSound program state_40
 sound_40 = turns_keep program driven_25 driven_40 last_choices sound_25 turns_to_40
 
 all_gone : IsQuiet state_40
-all_gone zero = refl
-all_gone (suc zero) = refl
-all_gone (suc (suc zero)) = refl
-all_gone (suc (suc (suc zero))) = refl
-all_gone (suc (suc (suc (suc zero)))) = refl
 all_gone (suc (suc (suc (suc (suc who))))) = refl
+all_gone _ = refl
 
 pub whole : IsWholeRun program log
 whole = whole_run program state_40 sound_40 all_gone

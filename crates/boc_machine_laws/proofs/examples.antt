@@ -1,0 +1,3 @@
+mod TwoOrders
+mod TwoOrdersTurns
+mod TwoOrdersRefused

@@ -1,7 +1,7 @@
 //! The program `boc`: commands over programs of behaviours, from standard input to standard output.
 #![tactic(auto)]
 
-use boc_commands::{Fault, not_text, read_words, run_command};
+use boc_commands::{Fault, WordsFault, not_text, read_words, run_command};
 use boc_text::Counted;
 use boc_workers::OpenGate;
 use std::process::ExitCode;
@@ -37,11 +37,11 @@ fn run(rt: HostRuntime, threads: &(impl Threads + Wait + Sync)) -> Result<(), Fa
 }
 
 // The words of the command line, the program's own name first.
-fn words_given(rt: HostRuntime) -> Result<Vec<String>, Fault> {
+fn words_given(rt: HostRuntime) -> Result<Vec<String>, WordsFault> {
     let args = match env::args(&rt) {
         Ok(args) => args,
-        Err(error) if error.kind() == io::ErrorKind::OutOfMemory => return Err(Fault::Memory),
-        Err(_) => return Err(Fault::from(not_text(rt.alloc()))),
+        Err(error) if error.kind() == io::ErrorKind::OutOfMemory => return Err(WordsFault::Memory),
+        Err(_) => return Err(not_text(rt.alloc())),
     };
     let mut words = Vec::new(rt.alloc());
     for word in args {

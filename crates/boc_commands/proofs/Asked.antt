@@ -6,13 +6,14 @@ use Rattle.boc_text.specs.Streams.{ReadsWhole, StopsAt}
 use Rattle.boc_program.specs.declared.limits.TheConstants.{MOST_TEXT}
 use Rattle.boc_commands.specs.declared.fault.Fault.{Fault}
 use Rattle.boc_commands.specs.declared.fault.Fault.TheVariants as faults
+use Rattle.boc_commands.specs.declared.fault.Want.TheVariants as means
 use Rattle.boc_commands.specs.Faults.{gone_of, of_write}
 use Rattle.boc_text.specs.Writing.{Writes}
 use Rattle.boc_text.specs.declared.fault.WriteFault.{WriteFault}
 use Rattle.boc_text.specs.declared.fault.WriteFault.TheVariants as writes
 use Rattle.std.specs.Prelude.{IfSome, Some, None}
 use Rattle.std.specs.Io.KnownBytes.{Consumes, IsAtEnd}
-use Rattle.boc_commands.specs.Commands.{AnswersInput, Leaves, LeavesAfter, IsOfEdits, RefusesEdits}
+use Rattle.boc_commands.specs.Commands.{AnswersInput, Leaves, LeavesAfter}
 use Rattle.boc_runs.specs.declared.rows.Row.{Row}
 use Rattle.boc_plans.specs.declared.edit.Edit.{Edit}
 use Rattle.boc_plans.specs.declared.sharing.Sharing.{Sharing}
@@ -22,7 +23,7 @@ use Rattle.boc_order.specs.Profiles.{IsProfileOf}
 use Rattle.boc_greedy.specs.declared.report.Greedy.{Greedy}
 use Rattle.boc_report.specs.Parts.{part_of}
 use Rattle.boc_commands.specs.Answers.{IsAskedPart, IsCheckAnswer, IsReport, IsProfileAnswer, IsWhatIfAnswer, IsSweepAnswer}
-use Rattle.boc_plans.specs.Edits.{AllFit, IsFirstUnfit, IsSweep, all_edited}
+use Rattle.boc_plans.specs.Edits.{AllFit, IsSweep, all_edited}
 use Rattle.boc_commands.specs.ValueTexts.{check_text}
 use Rattle.boc_report.specs.Texts.{report_text, sweep_lines}
 use Rattle.boc_runs.specs.Records.{Recorded}
@@ -57,7 +58,7 @@ swept sharing kept input r rows spans read made output spells same way sweep are
 
 -- the sink failed after a beginning of the answer
 pub stopped : (IsText : List ℕ → Type 0) (r : Result (Unit {0}) Fault) (gone : ℕ) (text : List ℕ) (old new : Option (List ℕ))
-    → IsErrAnd r (λ f. f ≡ faults.Sink gone) → IsText text → StopsAt gone text old new → Leaves IsText r old new
+    → IsErrAnd r (λ f. f ≡ faults.Means (means.Sink gone)) → IsText text → StopsAt gone text old new → Leaves IsText r old new
 stopped IsText (Ok done) gone text old new h is stops = absurd h
 stopped IsText (Err f) gone text old new h is stops = subst (λ x. Leaves {A = Unit {0}} IsText (Err x) old new) (sym h) (text, is, stops)
 
@@ -83,23 +84,6 @@ pub told : (P : List ℕ → Type 0) (before after : Option (List ℕ)) (text : 
 told P None after text taken over h = tt
 told P (Some xs) None text taken over h = absurd taken
 told P (Some xs) (Some ys) text taken over h = subst P (sym (taken ∙ ap (λ zs. text ++ zs) over ∙ append-nil text)) h
-
--- edits are refused for the first that the rows of a record that was read cannot take
-pub refused_edits : (fault : Fault) (edits : List Edit) (rows : List Row) (r : Recorded) (before : Option (List ℕ)) → IsOfEdits rows edits fault → rows ≡ r.rows
-    → IfSome before (λ text. IsTextOf text r) → RefusesEdits {A = Unit {0}} edits (Err fault) before
-refused_edits (faults.Edit number unfit) edits rows r before h same spells =
-    record { recorded = r; spells = spells; unfit = subst (λ xs. IsFirstUnfit xs edits number unfit) same h }
-refused_edits (faults.Words e) edits rows r before h same spells = absurd h
-refused_edits (faults.Program x) edits rows r before h same spells = absurd h
-refused_edits (faults.Record x) edits rows r before h same spells = absurd h
-refused_edits faults.Behaviours edits rows r before h same spells = absurd h
-refused_edits faults.Held edits rows r before h same spells = absurd h
-refused_edits faults.NoThread edits rows r before h same spells = absurd h
-refused_edits faults.Stranger edits rows r before h same spells = absurd h
-refused_edits faults.Unfinished edits rows r before h same spells = absurd h
-refused_edits faults.Memory edits rows r before h same spells = absurd h
-refused_edits faults.Source edits rows r before h same spells = absurd h
-refused_edits (faults.Sink gone) edits rows r before h same spells = absurd h
 
 -- the report on a profile and the greedy plan that was made, as it is passed on to be written
 pub is_report : (rows : List Row) (asked : Option ℕ) (profile : Profile) (made plan : Option Greedy) → IsProfileOf rows profile
@@ -127,13 +111,6 @@ reported sharing asked text r rows made output spells same report is = record {
   spells = spells;
   report = subst (λ t. IsReport (seen sharing r.rows) asked t) (sym is) (subst (λ xs. IsReport (seen sharing xs) asked made) same report);
 }
-
--- so a result that is this fault refuses edits
-pub refuses_as : (result : Result (Unit {0}) Fault) (fault : Fault) (edits : List Edit) (before : Option (List ℕ)) → IsErrAnd result (λ f. f ≡ fault)
-    → RefusesEdits {A = Unit {0}} edits (Err fault) before
-    → RefusesEdits edits result before
-refuses_as (Ok done) fault edits before h refused = absurd h
-refuses_as (Err f) fault edits before h refused = subst (λ x. RefusesEdits {A = Unit {0}} edits (Err x) before) (sym h) refused
 
 -- a text that could not be written leaves a beginning of it, or nothing
 pub unwritten : (IsText : List ℕ → Type 0) (r : Result (Unit {0}) Fault) (fault : WriteFault) (text : List ℕ) (old new : Option (List ℕ))

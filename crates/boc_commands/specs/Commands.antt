@@ -3,17 +3,19 @@ use Rattle.std.specs.Prelude.{◌≡◌, ◌≢◌, ℕ, ◌+◌, Bool, true, fa
 use Rattle.std.specs.Io.KnownBytes.{Consumes, IsAtEnd, Appends, Keeps}
 use Rattle.boc_commands.specs.declared.fault.Fault.{Fault}
 use Rattle.boc_commands.specs.declared.fault.Fault.TheVariants as faults
+use Rattle.boc_commands.specs.declared.fault.InputFault.TheVariants as inputs
+use Rattle.boc_commands.specs.declared.fault.Want.TheVariants as wants
+use Rattle.boc_workers.specs.declared.fault.RunFault.TheVariants as runs
 use Rattle.boc_words.specs.declared.version.TheConstants.{VERSION}
 use Rattle.boc_words.specs.declared.words.Command.{Command}
 use Rattle.boc_words.specs.declared.words.Command.TheVariants as commands
-use Rattle.boc_commands.specs.Faults.{matter_of, IsWant, is_source, gone_of}
+use Rattle.boc_commands.specs.Faults.{IsWant, is_source, gone_of}
 use Rattle.boc_reader.specs.FaultMeanings.{IsRefusalOf}
 use Rattle.boc_reader.specs.declared.fault.ReadFault.{ReadFault}
 use Rattle.boc_reader.specs.declared.fault.ReadFaultKind.TheVariants as read_kinds
 use Rattle.boc_record.specs.declared.fault.RecordFault.{RecordFault}
 use Rattle.boc_program.specs.declared.limits.TheConstants.{MOST_TEXT}
 use Rattle.boc_program.specs.declared.program.Program.{Program}
-use Rattle.boc_runs.specs.declared.rows.Row.{Row}
 use Rattle.boc_plans.specs.declared.edit.Edit.{Edit}
 use Rattle.boc_plans.specs.declared.edit.EditFault.{EditFault}
 use Rattle.boc_record.specs.declared.verdict.RecordFaultKind.{RecordFaultKind}
@@ -74,7 +76,7 @@ CountsSink (Err fault) old new = CountsGone (gone_of fault) old new
 -- nothing is refused: a fault is want of memory or of a device
 abbrev pub RefusesNothing : {A : Type 0} → Result A Fault → Type 0
 RefusesNothing (Ok done) = Unit {0}
-RefusesNothing (Err fault) = IsWant (matter_of fault)
+RefusesNothing (Err fault) = IsWant fault
 
 -- a refusal says what is wrong with a program text, and in which line; want of memory is no refusal
 abbrev pub IsWrongWith : List ℕ → ReadFault → Type 0
@@ -88,9 +90,9 @@ pub record RunsOver (text : List ℕ) : Type 0 where
 
 -- a fault of a program text: what is wrong with it and where, or that its program has too many behaviours; no device failed
 abbrev pub IsOfText : List ℕ → Fault → Type 0
-IsOfText text (faults.Program r) = IsWrongWith text r
-IsOfText text faults.Behaviours = RunsOver text
-IsOfText text faults.Memory = Unit {0}
+IsOfText text (faults.Input (inputs.Program r)) = IsWrongWith text r
+IsOfText text (faults.Run runs.Behaviours) = RunsOver text
+IsOfText text (faults.Means wants.Memory) = Unit {0}
 IsOfText text _ = ⊥
 
 -- a program text was taken, up to one byte more than it may have, of which this is known
@@ -102,9 +104,9 @@ pub record TakesText (Known : List ℕ → Type 0) (before after : Option (List 
 -- a program is refused for what was taken of the source: a wrong text, or one whose program has too many behaviours
 abbrev pub RefusesProgram : {A : Type 0} → Result A Fault → Option (List ℕ) → Option (List ℕ) → Type 0
 RefusesProgram (Ok done) before after = Unit {0}
-RefusesProgram (Err (faults.Program r)) before after = TakesText (λ text. IsWrongWith text r) before after
-RefusesProgram (Err faults.Behaviours) before after = TakesText RunsOver before after
-RefusesProgram (Err fault) before after = IsWant (matter_of fault)
+RefusesProgram (Err (faults.Input (inputs.Program r))) before after = TakesText (λ text. IsWrongWith text r) before after
+RefusesProgram (Err (faults.Run runs.Behaviours)) before after = TakesText RunsOver before after
+RefusesProgram (Err fault) before after = IsWant fault
 
 -- the text spells a program
 abbrev pub IsProgram : List ℕ → Type 0
@@ -119,21 +121,18 @@ pub record CanRunOver (text : List ℕ) : Type 0 where
 -- a fault of a run by threads: what is wrong with the program text and where, or what became of the run of its program; a gate that is always on
 -- holds nobody
 abbrev pub IsOfRun : Type 0 → List ℕ → Fault → Type 0
-IsOfRun always_on text (faults.Program r) = IsWrongWith text r
-IsOfRun always_on text faults.Behaviours = CanRunOver text
-IsOfRun always_on text faults.Held = IsProgram text × (always_on → ⊥)
-IsOfRun always_on text faults.NoThread = IsProgram text
-IsOfRun always_on text faults.Stranger = IsProgram text
-IsOfRun always_on text faults.Unfinished = IsProgram text
-IsOfRun always_on text faults.Memory = Unit {0}
+IsOfRun always_on text (faults.Input (inputs.Program r)) = IsWrongWith text r
+IsOfRun always_on text (faults.Run runs.Behaviours) = CanRunOver text
+IsOfRun always_on text (faults.Run runs.Held) = IsProgram text × (always_on → ⊥)
+IsOfRun always_on text (faults.Run runs.Memory) = ⊥
+IsOfRun always_on text (faults.Run r) = IsProgram text
+IsOfRun always_on text (faults.Means wants.Memory) = Unit {0}
 IsOfRun always_on text _ = ⊥
 
 -- a run by threads is refused for what was taken of the source
 abbrev pub RefusesRun : {A : Type 0} → Type 0 → Result A Fault → Option (List ℕ) → Option (List ℕ) → Type 0
 RefusesRun always_on (Ok done) before after = Unit {0}
-RefusesRun always_on (Err faults.Memory) before after = Unit {0}
-RefusesRun always_on (Err faults.Source) before after = Unit {0}
-RefusesRun always_on (Err (faults.Sink gone)) before after = Unit {0}
+RefusesRun always_on (Err (faults.Means w)) before after = Unit {0}
 RefusesRun always_on (Err fault) before after = TakesText (λ text. IsOfRun always_on text fault) before after
 
 -- the kind of a refusal is the first fault of the text, where the source told it; want of memory or of a device is no refusal
@@ -145,8 +144,8 @@ IsRecordRefusal r kind before = IfSome before (λ text. IsFirstFault text r.line
 -- the text of a record is refused for its first fault
 abbrev pub RefusesRecord : {A : Type 0} → Result A Fault → Option (List ℕ) → Type 0
 RefusesRecord (Ok done) before = Unit {0}
-RefusesRecord (Err (faults.Record r)) before = IsRecordRefusal r r.kind before
-RefusesRecord (Err fault) before = IsWant (matter_of fault)
+RefusesRecord (Err (faults.Input (inputs.Record r))) before = IsRecordRefusal r r.kind before
+RefusesRecord (Err fault) before = IsWant fault
 
 -- the source told the text of a record, if it told any, and of these edits this is the first that the record's rows cannot take
 pub record RefusesEdit (edits : List Edit) (number : ℕ) (fault : EditFault) (before : Option (List ℕ)) : Type 0 where
@@ -157,14 +156,9 @@ pub record RefusesEdit (edits : List Edit) (number : ℕ) (fault : EditFault) (b
 -- edits are refused for the first that the rows cannot take, and the text of a record for its first fault
 abbrev pub RefusesEdits : {A : Type 0} → List Edit → Result A Fault → Option (List ℕ) → Type 0
 RefusesEdits edits (Ok done) before = Unit {0}
-RefusesEdits edits (Err (faults.Record r)) before = IsRecordRefusal r r.kind before
-RefusesEdits edits (Err (faults.Edit number fault)) before = RefusesEdit edits number fault before
-RefusesEdits edits (Err fault) before = IsWant (matter_of fault)
-
--- the fault names the first of the edits that these rows cannot take
-abbrev pub IsOfEdits : List Row → List Edit → Fault → Type 0
-IsOfEdits rows edits (faults.Edit number fault) = IsFirstUnfit rows edits number fault
-IsOfEdits rows edits _ = ⊥
+RefusesEdits edits (Err (faults.Input (inputs.Record r))) before = IsRecordRefusal r r.kind before
+RefusesEdits edits (Err (faults.Input (inputs.Edit number fault))) before = RefusesEdit edits number fault before
+RefusesEdits edits (Err fault) before = IsWant fault
 
 -- ---- every command
 

@@ -2,6 +2,10 @@
 use Rattle.std.specs.Prelude.{◌≡◌, ℕ, Bool, true, false, List, ◌++◌, Option, Some, None, codes, decimal}
 use Rattle.boc_commands.specs.declared.fault.Fault.{Fault}
 use Rattle.boc_commands.specs.declared.fault.Fault.TheVariants as faults
+use Rattle.boc_commands.specs.declared.fault.InputFault.{InputFault}
+use Rattle.boc_commands.specs.declared.fault.InputFault.TheVariants as inputs
+use Rattle.boc_commands.specs.declared.fault.Want.{Want}
+use Rattle.boc_commands.specs.declared.fault.Want.TheVariants as wants
 use Rattle.boc_plans.specs.declared.edit.EditFault.{EditFault}
 use Rattle.boc_plans.specs.declared.edit.EditFault.TheVariants as edits
 use Rattle.boc_text.specs.declared.whole.TextFault.{TextFault}
@@ -23,99 +27,78 @@ use Rattle.boc_reader.specs.declared.fault.ReadFaultKind.TheVariants as kinds
 use Rattle.boc_reader.specs.FaultTexts.{kind_text}
 use Rattle.boc_record.specs.Faults.{kind_line}
 
--- what was refused: the words, the input or the run; or what was wanting: memory, or a device that works
-pub data Matter : Type 0 where
-  words : Matter
-  input : Matter
-  run : Matter
-  means : Matter
-
--- what a fault is about
-abbrev pub matter_of : Fault → Matter
-matter_of (faults.Words w) = words
-matter_of (faults.Program r) = input
-matter_of (faults.Record r) = input
-matter_of (faults.Edit number fault) = input
-matter_of faults.Behaviours = run
-matter_of faults.Held = run
-matter_of faults.NoThread = run
-matter_of faults.Stranger = run
-matter_of faults.Unfinished = run
-matter_of faults.Memory = means
-matter_of faults.Source = means
-matter_of (faults.Sink gone) = means
-
--- the status that goes with it
-abbrev pub status_of_matter : Matter → ℕ
-status_of_matter words = 2
-status_of_matter input = 3
-status_of_matter run = 4
-status_of_matter means = 5
-
--- the status of the program
+-- the status of the program: the words were refused, the input, or the run; or memory or a device that works was wanting
 abbrev pub status_of : Fault → ℕ
-status_of fault = status_of_matter (matter_of fault)
+status_of (faults.Words w) = 2
+status_of (faults.Input i) = 3
+status_of (faults.Run r) = 4
+status_of (faults.Means w) = 5
 
 -- the fault is want of memory or of a device
-abbrev pub IsWant : Matter → Type 0
-IsWant means = Unit {0}
+abbrev pub IsWant : Fault → Type 0
+IsWant (faults.Means w) = Unit {0}
 IsWant _ = ⊥
 
 -- the source failed
 abbrev pub is_source : Fault → Bool
-is_source faults.Source = true
+is_source (faults.Means wants.Source) = true
 is_source _ = false
 
 -- how much went out before the sink failed
 abbrev pub gone_of : Fault → Option ℕ
-gone_of (faults.Sink gone) = Some gone
+gone_of (faults.Means (wants.Sink gone)) = Some gone
 gone_of _ = None
 
 -- want of memory is no refusal of the words
 abbrev pub of_words : WordsFault → Fault
-of_words asked.Memory = faults.Memory
+of_words asked.Memory = faults.Means wants.Memory
 of_words w = faults.Words w
 
 -- the fault of an input that could not be taken in
 abbrev pub of_text : TextFault → Fault
-of_text texts.Memory = faults.Memory
-of_text texts.Device = faults.Source
+of_text texts.Memory = faults.Means wants.Memory
+of_text texts.Device = faults.Means wants.Source
 
 -- want of memory is no refusal of the text
 abbrev pub of_read : ReadFault → ReadFaultKind → Fault
-of_read r kinds.Memory = faults.Memory
-of_read r _ = faults.Program r
+of_read r kinds.Memory = faults.Means wants.Memory
+of_read r _ = faults.Input (inputs.Program r)
 
 -- want of memory and a failing source are no refusal of a record
 abbrev pub of_record : RecordFault → RecordFaultKind → Fault
-of_record r records.Memory = faults.Memory
-of_record r records.Device = faults.Source
-of_record r _ = faults.Record r
+of_record r records.Memory = faults.Means wants.Memory
+of_record r records.Device = faults.Means wants.Source
+of_record r _ = faults.Input (inputs.Record r)
 
 -- the fault of a serial run
 abbrev pub of_serial : SerialFault → Fault
-of_serial serial.Memory = faults.Memory
-of_serial serial.Behaviours = faults.Behaviours
+of_serial serial.Memory = faults.Means wants.Memory
+of_serial serial.Behaviours = faults.Run runs.Behaviours
 
--- the fault of a run by threads
+-- want of memory is no fault of a run by threads
 abbrev pub of_run : RunFault → Fault
-of_run runs.Memory = faults.Memory
-of_run runs.Behaviours = faults.Behaviours
-of_run runs.Held = faults.Held
-of_run runs.NoThread = faults.NoThread
-of_run runs.Stranger = faults.Stranger
-of_run runs.Unfinished = faults.Unfinished
+of_run runs.Memory = faults.Means wants.Memory
+of_run r = faults.Run r
 
 -- the fault of a text that could not be written
 abbrev pub of_write : WriteFault → Fault
-of_write writes.Memory = faults.Memory
-of_write (writes.Device gone) = faults.Sink gone
+of_write writes.Memory = faults.Means wants.Memory
+of_write (writes.Device gone) = faults.Means (wants.Sink gone)
 
 -- the number and the name of what is wrong with an edit
 abbrev pub edit_line : EditFault → List ℕ
 edit_line edits.NoRow = codes "1 NoRow"
 edit_line edits.BelowSpawn = codes "2 BelowSpawn"
 edit_line edits.TooManyTicks = codes "3 TooManyTicks"
+
+-- the number and the name of what became of a run
+abbrev pub run_line : RunFault → List ℕ
+run_line runs.Memory = codes "1 Memory"
+run_line runs.Behaviours = codes "2 Behaviours"
+run_line runs.Held = codes "3 Held"
+run_line runs.NoThread = codes "4 NoThread"
+run_line runs.Stranger = codes "5 Stranger"
+run_line runs.Unfinished = codes "6 Unfinished"
 
 -- ---- the lines of standard error
 
@@ -129,20 +112,24 @@ words_line (asked.Parser error) = None
 words_line (asked.EditWord number) = Some (numbered (codes "boc: edit ") number (codes "not ROW=TICKS"))
 words_line asked.Memory = Some (codes "boc: memory")
 
+-- the line of a refused input
+abbrev pub input_line : InputFault → List ℕ
+input_line (inputs.Program r) = numbered (codes "boc: line ") r.line (kind_text r.kind)
+input_line (inputs.Record r) = numbered (codes "boc: line ") r.line (kind_line r.kind)
+input_line (inputs.Edit number fault) = numbered (codes "boc: edit ") number (edit_line fault)
+
+-- the line of what was wanting
+abbrev pub want_line : Want → List ℕ
+want_line wants.Memory = codes "boc: memory"
+want_line wants.Source = codes "boc: device"
+want_line (wants.Sink gone) = codes "boc: device"
+
 -- the line of a fault without its line feed, where it is the program's own
 abbrev pub fault_line : Fault → Option (List ℕ)
 fault_line (faults.Words w) = words_line w
-fault_line (faults.Program r) = Some (numbered (codes "boc: line ") r.line (kind_text r.kind))
-fault_line (faults.Record r) = Some (numbered (codes "boc: line ") r.line (kind_line r.kind))
-fault_line (faults.Edit number fault) = Some (numbered (codes "boc: edit ") number (edit_line fault))
-fault_line faults.Behaviours = Some (codes "boc: run: 2 Behaviours")
-fault_line faults.Held = Some (codes "boc: run: 3 Held")
-fault_line faults.NoThread = Some (codes "boc: run: 4 NoThread")
-fault_line faults.Stranger = Some (codes "boc: run: 5 Stranger")
-fault_line faults.Unfinished = Some (codes "boc: run: 6 Unfinished")
-fault_line faults.Memory = Some (codes "boc: memory")
-fault_line faults.Source = Some (codes "boc: device")
-fault_line (faults.Sink gone) = Some (codes "boc: device")
+fault_line (faults.Input i) = Some (input_line i)
+fault_line (faults.Run r) = Some (codes "boc: run: " ++ run_line r)
+fault_line (faults.Means w) = Some (want_line w)
 
 -- a text is the line, where there is one
 abbrev pub IsLine : Option (List ℕ) → List ℕ → Type 0

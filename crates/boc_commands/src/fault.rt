@@ -4,7 +4,7 @@ ghost use Rattle.std.specs.Prelude.{◌≡◌, ◌+◌, ◌≤◌, ◌++◌, IfO
 ghost use Rattle.std.specs.Option.{option_map};
 ghost use Rattle.boc_text.specs.declared.decimal.TheConstants.{MOST_DIGITS};
 ghost use Rattle.boc_commands.specs.declared.fault.TheConstants.{MOST_FAULT_LINE};
-ghost use Rattle.boc_commands.specs.Faults.{edit_line};
+ghost use Rattle.boc_commands.specs.Faults.{edit_line, input_line, run_line, want_line};
 
 use arrayvec::ArrayString;
 use boc_eval::SerialFault;
@@ -15,7 +15,7 @@ use boc_text::{Stopped, TextFault};
 use boc_words::WordsFault;
 use boc_workers::RunFault;
 use itoa::Buffer;
-use std::alloc::{AllocError, AllocFailed, Global};
+use std::alloc::{AllocError, Global};
 use thiserror::Error;
 
 /// The most bytes of a line that is the program's own.
@@ -28,25 +28,31 @@ pub type Line = ArrayString<MOST_FAULT_LINE>;
 #[derive(Debug, Drop, Error)]
 #[error("{}", self.own_line().unwrap_or_default())]
 pub enum Fault {
-    /// The words of the command line.
+    /// The words of the command line were refused.
     #[error("{0}")]
     Words(WordsFault),
+    /// The input was refused.
+    Input(InputFault),
+    /// The run was given up.
+    Run(RunFault),
+    /// Memory was refused, or a device failed.
+    Means(Want),
+}
+
+/// Why an input was refused.
+#[derive(Clone, Copy, PartialEq, Eq, Debug)]
+pub enum InputFault {
     /// The program text.
     Program(ReadFault),
     /// The text of a record.
     Record(RecordFault),
     /// An edit that the rows can't take, counted from 1.
     Edit { number: usize, fault: EditFault },
-    /// The run would need more behaviours than a run may have.
-    Behaviours,
-    /// A gate stopped a thread of the run.
-    Held,
-    /// A thread of the run could not be started.
-    NoThread,
-    /// The dispatcher of the run doesn't know what a worker came with.
-    Stranger,
-    /// All threads of the run have ended, and some behaviour isn't gone yet.
-    Unfinished,
+}
+
+/// What was wanting.
+#[derive(Clone, Copy, PartialEq, Eq, Debug)]
+pub enum Want {
     /// Memory was refused.
     Memory,
     /// The source failed.
@@ -66,13 +72,9 @@ impl Fault {
     {
         match self {
             Fault::Words(_) => 2,
-            Fault::Program(_) | Fault::Record(_) | Fault::Edit { .. } => 3,
-            Fault::Behaviours
-            | Fault::Held
-            | Fault::NoThread
-            | Fault::Stranger
-            | Fault::Unfinished => 4,
-            Fault::Memory | Fault::Source | Fault::Sink { .. } => 5,
+            Fault::Input(_) => 3,
+            Fault::Run(_) => 4,
+            Fault::Means(_) => 5,
         }
     }
 
@@ -81,7 +83,7 @@ impl Fault {
         ensures { result ≡ gone_of self.now }
     {
         match self {
-            Fault::Sink { gone } => Some(*gone),
+            Fault::Means(Want::Sink { gone }) => Some(*gone),
             _ => None,
         }
     }
@@ -98,25 +100,10 @@ impl Fault {
                 *number as u64,
                 "not ROW=TICKS",
             )),
-            Fault::Words(WordsFault::Memory) => Some(plain("boc: memory")),
-            Fault::Program(fault) => Some(numbered(
-                "boc: line ",
-                u64::from(fault.line),
-                fault.kind.text(),
-            )),
-            Fault::Record(fault) => Some(numbered("boc: line ", fault.line, fault.kind_text())),
-            Fault::Edit { number, fault } => Some(numbered(
-                "boc: edit ",
-                *number as u64,
-                edit_fault_text(*fault),
-            )),
-            Fault::Behaviours => Some(plain("boc: run: 2 Behaviours")),
-            Fault::Held => Some(plain("boc: run: 3 Held")),
-            Fault::NoThread => Some(plain("boc: run: 4 NoThread")),
-            Fault::Stranger => Some(plain("boc: run: 5 Stranger")),
-            Fault::Unfinished => Some(plain("boc: run: 6 Unfinished")),
-            Fault::Memory => Some(plain("boc: memory")),
-            Fault::Source | Fault::Sink { .. } => Some(plain("boc: device")),
+            Fault::Words(WordsFault::Memory) => Some(want_text(Want::Memory)),
+            Fault::Input(fault) => Some(input_text(fault)),
+            Fault::Run(fault) => Some(joined("boc: run: ", run_text(*fault))),
+            Fault::Means(want) => Some(want_text(*want)),
         }
     }
 
@@ -131,13 +118,39 @@ impl Fault {
     }
 }
 
+// The line of a refused input.
+fn input_text(fault: &InputFault) -> Line
+    ensures { result.bytes ≡ input_line fault.now }
+{
+    match fault {
+        InputFault::Program(fault) => {
+            numbered("boc: line ", u64::from(fault.line), fault.kind.text())
+        }
+        InputFault::Record(fault) => numbered("boc: line ", fault.line, fault.kind_text()),
+        InputFault::Edit { number, fault } => {
+            numbered("boc: edit ", *number as u64, edit_text(*fault))
+        }
+    }
+}
+
+// The line of what was wanting.
+fn want_text(want: Want) -> Line
+    ensures { result.bytes ≡ want_line want }
+{
+    match want {
+        Want::Memory => joined("boc: ", "memory"),
+        Want::Source | Want::Sink { .. } => joined("boc: ", "device"),
+    }
+}
+
 // A line without a number.
-fn plain(text: &str) -> Line
-    requires { length text.now ≤ MOST_FAULT_LINE }
-    ensures { result.bytes ≡ text.now }
+fn joined(front: &str, said: &str) -> Line
+    requires { length front.now + length said.now ≤ MOST_FAULT_LINE }
+    ensures { result.bytes ≡ front.now ++ said.now }
 {
     let mut line = Line::new();
-    line.push_str(text);
+    line.push_str(front);
+    line.push_str(said);
     line
 }
 
@@ -155,13 +168,27 @@ fn numbered(front: &str, number: u64, said: &str) -> Line
 }
 
 // The number and the name of what is wrong with an edit.
-fn edit_fault_text(fault: EditFault) -> &'static str
+fn edit_text(fault: EditFault) -> &'static str
     ensures { result.now ≡ edit_line fault }
 {
     match fault {
         EditFault::NoRow => "1 NoRow",
         EditFault::BelowSpawn => "2 BelowSpawn",
         EditFault::TooManyTicks => "3 TooManyTicks",
+    }
+}
+
+// The number and the name of what became of a run.
+fn run_text(fault: RunFault) -> &'static str
+    ensures { result.now ≡ run_line fault }
+{
+    match fault {
+        RunFault::Memory => "1 Memory",
+        RunFault::Behaviours => "2 Behaviours",
+        RunFault::Held => "3 Held",
+        RunFault::NoThread => "4 NoThread",
+        RunFault::Stranger => "5 Stranger",
+        RunFault::Unfinished => "6 Unfinished",
     }
 }
 
@@ -173,7 +200,7 @@ impl From<WordsFault> for Fault {
 
     fn from(fault: WordsFault) -> Fault {
         match fault {
-            WordsFault::Memory => Fault::Memory,
+            WordsFault::Memory => Fault::Means(Want::Memory),
             other => Fault::Words(other),
         }
     }
@@ -187,8 +214,8 @@ impl From<TextFault> for Fault {
 
     fn from(fault: TextFault) -> Fault {
         match fault {
-            TextFault::Memory => Fault::Memory,
-            TextFault::Device => Fault::Source,
+            TextFault::Memory => Fault::Means(Want::Memory),
+            TextFault::Device => Fault::Means(Want::Source),
         }
     }
 }
@@ -201,8 +228,8 @@ impl From<ReadFault> for Fault {
 
     fn from(fault: ReadFault) -> Fault {
         match fault.kind {
-            ReadFaultKind::Memory => Fault::Memory,
-            _ => Fault::Program(fault),
+            ReadFaultKind::Memory => Fault::Means(Want::Memory),
+            _ => Fault::Input(InputFault::Program(fault)),
         }
     }
 }
@@ -215,9 +242,9 @@ impl From<RecordFault> for Fault {
 
     fn from(fault: RecordFault) -> Fault {
         match fault.kind {
-            RecordFaultKind::Memory => Fault::Memory,
-            RecordFaultKind::Device => Fault::Source,
-            _ => Fault::Record(fault),
+            RecordFaultKind::Memory => Fault::Means(Want::Memory),
+            RecordFaultKind::Device => Fault::Means(Want::Source),
+            _ => Fault::Input(InputFault::Record(fault)),
         }
     }
 }
@@ -230,8 +257,8 @@ impl From<SerialFault> for Fault {
 
     fn from(fault: SerialFault) -> Fault {
         match fault {
-            SerialFault::Memory => Fault::Memory,
-            SerialFault::Behaviours => Fault::Behaviours,
+            SerialFault::Memory => Fault::Means(Want::Memory),
+            SerialFault::Behaviours => Fault::Run(RunFault::Behaviours),
         }
     }
 }
@@ -244,12 +271,8 @@ impl From<RunFault> for Fault {
 
     fn from(fault: RunFault) -> Fault {
         match fault {
-            RunFault::Memory => Fault::Memory,
-            RunFault::Behaviours => Fault::Behaviours,
-            RunFault::Held => Fault::Held,
-            RunFault::NoThread => Fault::NoThread,
-            RunFault::Stranger => Fault::Stranger,
-            RunFault::Unfinished => Fault::Unfinished,
+            RunFault::Memory => Fault::Means(Want::Memory),
+            other => Fault::Run(other),
         }
     }
 }
@@ -262,41 +285,32 @@ impl From<WriteFault> for Fault {
 
     fn from(fault: WriteFault) -> Fault {
         match fault {
-            WriteFault::Memory => Fault::Memory,
-            WriteFault::Device { gone } => Fault::Sink { gone },
+            WriteFault::Memory => Fault::Means(Want::Memory),
+            WriteFault::Device { gone } => Fault::Means(Want::Sink { gone }),
         }
     }
 }
 
 impl From<Stopped> for Fault {
     ghost use Rattle.std.specs.Prelude.{◌≡◌};
-    ghost use Rattle.boc_commands.specs.declared.fault.Fault.TheVariants.{Sink};
+    ghost use Rattle.boc_commands.specs.declared.fault.Fault.TheVariants.{Means};
+    ghost use Rattle.boc_commands.specs.declared.fault.Want.TheVariants.{Sink};
 
-    ghost from_gives = { λ s f. f ≡ Sink s.gone };
+    ghost from_gives = { λ s f. f ≡ Means (Sink s.gone) };
 
     fn from(stopped: Stopped) -> Fault {
-        Fault::Sink { gone: stopped.gone }
+        Fault::Means(Want::Sink { gone: stopped.gone })
     }
 }
 
 impl From<AllocError> for Fault {
     ghost use Rattle.std.specs.Prelude.{◌≡◌};
-    ghost use Rattle.boc_commands.specs.declared.fault.Fault.TheVariants.{Memory};
+    ghost use Rattle.boc_commands.specs.declared.fault.Fault.TheVariants.{Means};
+    ghost use Rattle.boc_commands.specs.declared.fault.Want.TheVariants.{Memory};
 
-    ghost from_gives = { λ _ f. f ≡ Memory };
+    ghost from_gives = { λ _ f. f ≡ Means Memory };
 
     fn from(_error: AllocError) -> Fault {
-        Fault::Memory
-    }
-}
-
-impl<T: Drop> From<AllocFailed<T>> for Fault {
-    ghost use Rattle.std.specs.Prelude.{◌≡◌};
-    ghost use Rattle.boc_commands.specs.declared.fault.Fault.TheVariants.{Memory};
-
-    ghost from_gives = { λ _ f. f ≡ Memory };
-
-    fn from(_error: AllocFailed<T>) -> Fault {
-        Fault::Memory
+        Fault::Means(Want::Memory)
     }
 }

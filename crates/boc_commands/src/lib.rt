@@ -16,7 +16,7 @@ mod whatif;
 
 pub use check::check_cmd;
 pub use command::run_command;
-pub use fault::{Fault, Line};
+pub use fault::{Fault, InputFault, Line, Want};
 pub use profile::profile_cmd;
 pub use run::run_cmd;
 pub use sweep::sweep_cmd;

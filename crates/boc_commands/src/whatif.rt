@@ -1,11 +1,10 @@
 // The command `whatif`.
 
-ghost use Rattle.std.specs.Prelude.{◌≡◌, ◌<◌, IfErr, OnOk};
+ghost use Rattle.std.specs.Prelude.{◌<◌};
 ghost use Rattle.boc_commands.specs.Answers.{IsWhatIfAnswer};
-ghost use Rattle.boc_plans.specs.Edits.{AllFit, all_edited};
-ghost use Rattle.boc_commands.specs.Commands.{AnswersInput, Leaves, CountsSource, CountsSink, IsOfEdits, RefusesEdits};
+ghost use Rattle.boc_commands.specs.Commands.{AnswersInput, Leaves, CountsSource, CountsSink, RefusesEdits};
 
-use crate::fault::Fault;
+use crate::fault::{Fault, InputFault};
 use crate::report::report_after;
 use boc_plans::edit::Edit;
 use boc_plans::sharing::Sharing;
@@ -39,19 +38,8 @@ pub fn whatif_cmd<S: Source, W: Sink>(
 {
     let rows = read_rows(alloc, source)?;
     let mut question = WhatIf::of(alloc, rows, sharing)?;
-    edit_all(&mut question, edits)?;
-    report_after(alloc, workers, question, sink)
-}
-
-// Makes all edits, one after the other, up to the first that the rows can't take.
-fn edit_all(question: &mut WhatIf, edits: &[Edit]) -> Result<(), Fault>
-    ensures fit { OnOk result (AllFit question.old.rows edits.now) }
-    ensures rows { OnOk result (question.new.rows ≡ all_edited question.old.rows edits.now) }
-    ensures sharing { question.new.sharing ≡ question.old.sharing }
-    ensures unfit { IfErr result (IsOfEdits question.old.rows edits.now) }
-{
     match question.edit_all(edits) {
-        Ok(()) => Ok(()),
-        Err(Unfit { number, fault }) => Err(Fault::Edit { number, fault }),
+        Ok(()) => report_after(alloc, workers, question, sink),
+        Err(Unfit { number, fault }) => Err(Fault::Input(InputFault::Edit { number, fault })),
     }
 }

@@ -1,7 +1,7 @@
 //! Commands whose source or sink fails. What each command answers is in the program's own tests.
 
 use crate::runs::{GREEDY, RECORD, REPORT, TRANSFER, bytes};
-use boc_commands::{Command, Fault, Runners, VERSION, run_command};
+use boc_commands::{Command, Fault, Runners, VERSION, Want, run_command};
 use boc_plans::edit::Edit;
 use boc_plans::sharing::Sharing;
 use boc_plans::workers::Workers;
@@ -151,7 +151,7 @@ fn one_read_fails(rt: HostRuntime) -> Result<(), Fail> {
                     }
                     Err(fault) => {
                         assert!(rt; k <= reads);
-                        assert!(rt; matches!(fault, Fault::Source), "{k}");
+                        assert!(rt; matches!(fault, Fault::Means(Want::Source)), "{k}");
                         assert_eq!(rt; fault.line(alloc)?.as_str(), "boc: device");
                         assert_eq!(rt; fault.status(), 5);
                         assert_eq!(rt; sink.bytes.len(), 0);
@@ -180,7 +180,7 @@ fn one_write_fails(rt: HostRuntime) -> Result<(), Fail> {
                 }
                 Err(fault) => {
                     assert!(rt; k <= writes);
-                    assert!(rt; matches!(fault, Fault::Sink { .. }), "{k}");
+                    assert!(rt; matches!(fault, Fault::Means(Want::Sink { .. })), "{k}");
                     assert_eq!(rt; fault.line(alloc)?.as_str(), "boc: device");
                     assert_eq!(rt; fault.status(), 5);
                     assert_eq!(rt; fault.gone(), Some(7 * (k - 1)));

@@ -1,7 +1,7 @@
 use Rattle.std.proofs.Common.{ℕ, refl, subst}
-use Rattle.boc_commands.specs.Commands.{CountsSource}
+use Rattle.boc_commands.specs.Commands.{CountsSource, RefusesRecord}
 use Rattle.boc_commands.proofs.Asked.{leaves_read, reported}
-use Rattle.boc_commands.proofs.Passed.{wants_record}
+use Rattle.boc_commands.proofs.Passed.{refuses_nothing}
 use Rattle.boc_commands.proofs.profile.profile_cmd.Goals as goal
 
 pub returns-clause-written : goal.returns-clause-written
@@ -11,7 +11,8 @@ returns-clause-written g c =
     asked.1.text_of asked.2 report refl) c.report_on.ensures.written
 
 pub returns-clause-refused : goal.returns-clause-refused
-returns-clause-refused g c = wants_record c.report_on.result _ c.report_on.ensures.refused
+returns-clause-refused g c =
+    refuses_nothing (λ r. RefusesRecord r (g.S.Source.remaining c.args.source.now)) tt (λ w. tt) c.report_on.result c.report_on.ensures.refused
 
 pub returns-clause-source : goal.returns-clause-source
 returns-clause-source g c =

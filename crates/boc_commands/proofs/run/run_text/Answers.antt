@@ -20,9 +20,7 @@ refused : (always_on : Type 0) (text : List ℕ) (program : Program) (fault : Ru
 refused always_on text program runs.Memory spells held full = tt
 refused always_on text program runs.Behaviours spells held full = record { program = program; spells = spells; full = full refl }
 refused always_on text program runs.Held spells held full = ((program, spells), λ on. held on refl)
-refused always_on text program runs.NoThread spells held full = (program, spells)
-refused always_on text program runs.Stranger spells held full = (program, spells)
-refused always_on text program runs.Unfinished spells held full = (program, spells)
+refused always_on text program _ spells held full = (program, spells)
 
 pub returns-in_err-answer : goal.returns-in_err-answer
 returns-in_err-answer g c =

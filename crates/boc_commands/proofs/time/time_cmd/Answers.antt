@@ -1,10 +1,10 @@
 use Rattle.std.proofs.Common.{ℕ, List, refl, subst}
-use Rattle.boc_commands.specs.Commands.{CountsSource, IsOfRun}
+use Rattle.boc_commands.specs.Commands.{CountsSource, IsOfRun, RefusesRun}
 use Rattle.boc_runs.specs.declared.rows.Row.{Row}
 use Rattle.boc_plans.specs.Seen.{seen}
 use Rattle.boc_commands.specs.Promises.{IsTimeAnswer, IsTrueReport}
 use Rattle.boc_commands.proofs.Asked.{answers_text, leaves_as}
-use Rattle.boc_commands.proofs.Passed.{refused_run, wants_run}
+use Rattle.boc_commands.proofs.Passed.{refused_run, refuses_nothing}
 use Rattle.boc_commands.proofs.time.time_cmd.Goals as goal
 
 pub returns-in_err-answer-clause-refused : goal.returns-in_err-answer-clause-refused
@@ -25,7 +25,10 @@ returns-clause-written g c =
     }) run.1) c.true_report.ensures.written
 
 pub returns-clause-refused : goal.returns-clause-refused
-returns-clause-refused g c = wants_run _ c.true_report.result _ _ c.true_report.ensures.refused
+returns-clause-refused g c =
+    refuses_nothing
+    (λ r. RefusesRun g.G.Gate.always_on r (g.S.Source.remaining c.args.source.now) (g.S.Source.remaining c.read_all.new.source)) tt (λ w. tt)
+    c.true_report.result c.true_report.ensures.refused
 
 pub returns-clause-source : goal.returns-clause-source
 returns-clause-source g c =

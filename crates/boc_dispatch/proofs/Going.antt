@@ -15,7 +15,8 @@ use Rattle.boc_machine_laws.proofs.Lists.{same_or_not}
 use Rattle.boc_chain.specs.declared.request.Request.{Request}
 use Rattle.boc_chain.specs.Chain.{Place}
 use Rattle.boc_dispatch.specs.declared.live.Live.{Live}
-use Rattle.boc_dispatch.specs.Inside.{live_at, open_of, place_of, number_at, HasRooms, queues_of, Parts, IsKept, state, AreCounted, awaits, AreChained, IsRequestOf}
+use Rattle.boc_dispatch.specs.Inside.{live_at, open_of, place_of, number_at, HasRooms, queues_of}
+use Rattle.boc_dispatch.specs.Inside.{Parts, IsKept, state, AreCounted, awaits, AreChained, IsRequestOf}
 use Rattle.boc_dispatch.proofs.Granting.{Tied, StaysReady, ready_put, kept_of, tied_of, tied_on, tied_stepped}
 use Rattle.boc_dispatch.proofs.Onward.{Same, Known, Marked, follows_set, same_self, known, read_on, request_led, in_hand_on}
 use Rattle.boc_dispatch.proofs.Tables.{live_there, live_here, live_other, live_new, queue_at, queues_put, queues_same, number_changed}

@@ -24,7 +24,8 @@ use Rattle.boc_dispatch.specs.Inside.{Parts, state, live_at, open_of, behaviours
 use Rattle.boc_dispatch.specs.Inside.{AreChained, AreCounted, IsKept, HasRooms}
 use Rattle.boc_dispatch.specs.Places.{granted}
 use Rattle.boc_dispatch.proofs.Counts.{waited_same, all_are_granted}
-use Rattle.boc_dispatch.proofs.Onward.{Same, Onward, Known, Steady, Follows, follows_set, follows_as, same_self, steady, onward_at, numbered_on, home_on, queues_on}
+use Rattle.boc_dispatch.proofs.Onward.{Same, Onward, Known, Steady, Follows, follows_set}
+use Rattle.boc_dispatch.proofs.Onward.{follows_as, same_self, steady, onward_at, numbered_on, home_on, queues_on}
 use Rattle.boc_dispatch.proofs.Onward.{rows_on, chained_on, of_run_on, in_hand_on}
 use Rattle.boc_dispatch.proofs.Tables.{live_there, live_here, live_other, live_new, at_slot, behaviours_changed, taken_changed, behaviours_length}
 
@@ -85,7 +86,8 @@ tied_steady d slot l m k is on still =
     tied_on d live' d.lists d.place k (follows_as Steady Same (λ x y r. r.on.same) d.live live' f)
     (chained_on d.live live' (follows_as Steady Onward (λ x y r. r.on) d.live live' f) d.lists d.place k.chained)
     (ready_put d.live d.ready slot l m is still k.ready_there)
-    (in_hand_on d.live live' (follows_as Steady Known known_of d.live live' f) k.in_hand) (taken_changed d.live d.opened slot l m k.numbered is on.on.same.number)
+    (in_hand_on d.live live' (follows_as Steady Known known_of d.live live' f) k.in_hand)
+    (taken_changed d.live d.opened slot l m k.numbered is on.on.same.number)
   where
     known_of : (x y : Live) → Steady x y → Known x y
     known_of x y r = record { same = r.on.same; child = r.child; enqueues = r.enqueues }

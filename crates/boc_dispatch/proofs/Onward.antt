@@ -206,7 +206,8 @@ module _ (live live' : List (Option Live)) (fs : Follows Same live live') where
   rows_on ready = λ i. map (λ s. row_on s i) ready
     where
       row_on : (s : ℕ) → option_map_or (λ (l : Live). row_or_0 l.stage) (live_at live' s) 0 ≡ option_map_or (λ (l : Live). row_or_0 l.stage) (live_at live s) 0
-      row_on s = read_on Same (λ o. option_map_or (λ (l : Live). row_or_0 l.stage) o 0) live live' fs (λ l m r. ap (λ o. option_map_or (λ (x : ℕ). x) o 0) r.row) s
+      row_on s =
+          read_on Same (λ o. option_map_or (λ (l : Live). row_or_0 l.stage) o 0) live live' fs (λ l m r. ap (λ o. option_map_or (λ (x : ℕ). x) o 0) r.row) s
 
   pub of_run_on : (p : Program) (rows : List Member) → AreOfRun p rows live → AreOfRun p rows live'
   of_run_on p rows k = record {

@@ -219,7 +219,8 @@ module _ (d : Parts) (parent slot row : ℕ) (holder l : Live) (o : Owning d par
   gives : state after ≡ with_stage (state d) l.number (open_of l) (Recorded row phases.Waiting)
   gives =
       state_put (put_live d parent freed) slot l waiting alone_numbered still_there (waiting_on).same
-      ∙ ap (λ z. with_stage z l.number (open_of l) (Recorded row phases.Waiting)) (state_same d parent holder freed o.kept.numbered o.holder_is (freed_on).same refl)
+      ∙ ap (λ z. with_stage z l.number (open_of l) (Recorded row phases.Waiting))
+      (state_same d parent holder freed o.kept.numbered o.holder_is (freed_on).same refl)
 
   open_is : at (state d) l.number ≡ Some (open_of l)
   open_is = at_slot d.live d.opened slot l o.kept.numbered o.is

@@ -136,7 +136,8 @@ module _ (x : SettledRequest) where
   mid_rooms homes ready h = rooms_on d k slot l it.is asking awaited lists place (sym (ap asks_at it.stage_is)) homes ready h
 
   mid_tied : Tied mid
-  mid_tied = tied_gone d k slot l it.is asking awaited lists place (sym (ap row_at it.stage_is)) (sym (ap asks_at it.stage_is)) (sym (ap enqueues_at it.stage_is))
+  mid_tied =
+      tied_gone d k slot l it.is asking awaited lists place (sym (ap row_at it.stage_is)) (sym (ap asks_at it.stage_is)) (sym (ap enqueues_at it.stage_is))
       (ap ready_row_at it.stage_is) chained_on
 
   -- ---- it was the last, and its parent has it in hand

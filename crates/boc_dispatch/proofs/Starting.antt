@@ -227,7 +227,9 @@ module _ (d : Parts) (k : IsKept d) (slot : ℕ) (rest : List ℕ) (head : d.rea
     homes_are = k.homes_are ∙ sym (ap length members_then ∙ length-changed ms row start_it (slice_get ms row));
     numbered = numbered_changed d.live d.opened slot l m k.numbered is refl;
     at_home = home_on d.live table follows_same d.homes k.at_home;
-    in_hand = in_hand_on d.live table (follows_set Known known d.live slot l m is (record { same = (on).same; child = refl; enqueues = sym (ap enqueues_at stage_is) }))
+    in_hand =
+        in_hand_on d.live table
+        (follows_set Known known d.live slot l m is (record { same = (on).same; child = refl; enqueues = sym (ap enqueues_at stage_is) }))
         k.in_hand;
     chained = chained_on d.live table follows d.lists d.place k.chained;
     of_run = record { recorded = recorded_then; asking = asking_then };

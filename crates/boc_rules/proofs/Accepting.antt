@@ -51,7 +51,8 @@ same_entry e row kept_row of at =
     ∙ ap (λ x. let y : Entry = record (entry_of row kept_row) { written = x } in y) (sym of.written)
 
 -- rows and their kept_rows tell the run
-entries_same : (run : List Entry) (rows : List Row) (kept_rows : List KeptRow) → AreRowsOf run rows → AreKeptRowsOf run kept_rows → run ≡ entries_of rows kept_rows
+entries_same : (run : List Entry) (rows : List Row) (kept_rows : List KeptRow) → AreRowsOf run rows → AreKeptRowsOf run kept_rows
+    → run ≡ entries_of rows kept_rows
 entries_same [] [] kept_rows of at = refl
 entries_same [] (row ∷ rows) kept_rows of at = absurd (omega (arith, of.all))
 entries_same (e ∷ run) [] kept_rows of at = absurd (omega (arith, of.all))
@@ -76,7 +77,8 @@ pub record Goes (cowns : ℕ) (later : List Entry) (rows : List Row) (kept_rows 
   pub kept : AreParts cowns (entries_of rows kept_rows) rows kept_rows found latest ended
   pub rows_are : entries_of rows kept_rows ≡ later
 
-goes : (cowns : ℕ) (run : List Entry) (event : Event) (rows : List Row) (kept_rows : List KeptRow) (found latest : List (Option ℕ)) (ended : ℕ) → AreLegal cowns run
+goes : (cowns : ℕ) (run : List Entry) (event : Event) (rows : List Row) (kept_rows : List KeptRow) (found latest : List (Option ℕ)) (ended : ℕ)
+    → AreLegal cowns run
     → IsAllowed cowns run event
     → AreRowsOf (after run event) rows → IsThatOf (after run event) cowns kept_rows found latest ended
     → Goes cowns (after run event) rows kept_rows found latest ended
@@ -109,9 +111,11 @@ that_goes_on run cowns kept_rows found latest ended later row from f now t at co
     let counted = over_set run row e.0 v e.1 in
     subst (λ (r : List Entry). IsThatOf r cowns (changed kept_rows row (λ s. record s { life = now }) (slice_get kept_rows row)) found latest later)
     (sym (ap (changed run row f) e.1))
-    (subst (λ (s : List KeptRow). IsThatOf (slice_set run row v) cowns s found latest later) (sym (ap (changed kept_rows row (λ s. record s { life = now })) x.1))
+    (subst (λ (s : List KeptRow). IsThatOf (slice_set run row v) cowns s found latest later)
+    (sym (ap (changed kept_rows row (λ s. record s { life = now })) x.1))
     (record {
-      kept_rows_are = kept_rows_set run kept_rows row e.0 v x.0 y t.kept_rows_are h x.1 (record { life = sym (lives e.0); last = was.last ∙ sym (last_stays e.0) });
+      kept_rows_are =
+          kept_rows_set run kept_rows row e.0 v x.0 y t.kept_rows_are h x.1 (record { life = sym (lives e.0); last = was.last ∙ sym (last_stays e.0) });
       found_are = found_set run kept_rows found row e.0 v x.0 y t.found_are h x.1 refl refl;
       latest_are = latest_set run row e.0 v cowns latest t.latest_are h;
       ended_is = omega (arith, counted, ap over_one e.2, ap over_one (lives e.0), counts, t.ended_is);
@@ -223,5 +227,6 @@ keeps_spawn count run rows kept_rows found latest ended row parent offset cowns 
     (changed kept_rows parent (λ s. record s { last = offset }) (slice_get kept_rows parent) ++ (new_kept_row found cowns ∷ []))
     (found ++ map (λ c. get_or latest c None) cowns.items) (noted latest cowns.items row) ended k.legal a
     (rows_go_on run rows (Spawn row parent offset cowns) k.rows_are)
-    (that_spawn run count kept_rows found latest ended row parent offset cowns (that count run rows kept_rows found latest ended k) (a.keeps rules.NumberNotNext)
+    (that_spawn run count kept_rows found latest ended row parent offset cowns (that count run rows kept_rows found latest ended k)
+    (a.keeps rules.NumberNotNext)
     (a.keeps rules.ParentNotRunning) (a.keeps rules.Cowns) a.bounds.4)

@@ -42,14 +42,16 @@ pub record IsReadAt (run : List Entry) (kept_rows : List KeptRow) (r : ℕ) (kep
   pub at : slice_get kept_rows r ≡ Some kept_row
   pub is : IsKeptRowOf entry kept_row
 
-pub read_at : (run : List Entry) (kept_rows : List KeptRow) (r : ℕ) (kept_row : KeptRow) → AreKeptRowsOf run kept_rows → r < length kept_rows → kept_row ≡ get_or kept_rows r kept_row
+pub read_at : (run : List Entry) (kept_rows : List KeptRow) (r : ℕ) (kept_row : KeptRow) → AreKeptRowsOf run kept_rows → r < length kept_rows
+    → kept_row ≡ get_or kept_rows r kept_row
     → IsReadAt run kept_rows r kept_row
 read_at run kept_rows r kept_row are less read =
     let at = slice_get_read kept_rows (length kept_rows) r kept_row refl less read in
     let e = got_in run r (omega (arith, are.all, less)) in
     record { entry = e.0; was = e.1; at = at; is = are.each r e.0 kept_row e.1 at }
 
-pub last_read : (run : List Entry) (kept_rows : List KeptRow) (r : ℕ) (kept_row : KeptRow) → AreKeptRowsOf run kept_rows → r < length kept_rows → kept_row ≡ get_or kept_rows r kept_row
+pub last_read : (run : List Entry) (kept_rows : List KeptRow) (r : ℕ) (kept_row : KeptRow) → AreKeptRowsOf run kept_rows → r < length kept_rows
+    → kept_row ≡ get_or kept_rows r kept_row
     → kept_row.last ≡ last_of run r
 last_read run kept_rows r kept_row are less read =
     let h = read_at run kept_rows r kept_row are less read in
@@ -70,7 +72,8 @@ pending_may_start run r kept_row before k less read waits same =
     let are = k.found_are.before r kept_row h.at in (
       λ over. starts run.cowns rows r (slice_range run.found.items kept_row.from kept_row.to) (well_rows run.cowns (so_far run) k.legal) life are
           (subst (λ (b : List (Option ℕ)). All (IsOverAt rows) b) same over),
-      λ may. subst (λ (b : List (Option ℕ)). All (IsOverAt rows) b) (sym same) (over_before rows r (slice_range run.found.items kept_row.from kept_row.to) may are),
+      λ may. subst (λ (b : List (Option ℕ)). All (IsOverAt rows) b) (sym same)
+          (over_before rows r (slice_range run.found.items kept_row.from kept_row.to) may are),
     )
 
 meant_pending : (l : Life) → meant l ≡ lives.Pending → l ≡ Pending
@@ -79,7 +82,8 @@ meant_pending Running e = absurd (not_pending_running (sym e))
 meant_pending Ended e = absurd (not_pending_ended (sym e))
 
 -- and no other row may
-pub others_may_not : (run : RunSoFar) (r : ℕ) (kept_row : KeptRow) → IsRunSoFar run → r < length run.kept_rows.items → kept_row ≡ get_or run.kept_rows.items r kept_row
+pub others_may_not : (run : RunSoFar) (r : ℕ) (kept_row : KeptRow) → IsRunSoFar run → r < length run.kept_rows.items
+    → kept_row ≡ get_or run.kept_rows.items r kept_row
     → MayStart (life_of (so_far run)) (entry_cowns (so_far run)) r → kept_row.life ≡ Pending
 others_may_not run r kept_row k less read may =
     let rows = so_far run in
@@ -184,7 +188,8 @@ pub kept_spawn : {old new : RunSoFar} {event : Event} {row parent offset : ℕ} 
     → given ≡ cowns → IsSpawned old new row parent offset given → HasGone new (after (so_far old) event)
 kept_spawn {old = old} {new = new} {row = row} {parent = parent} {offset = offset} {cowns = cowns} is k allowed same spawned =
     let h = subst (IsSpawned old new row parent offset) same spawned in
-    gone_as old new is allowed (keeps_spawn old.cowns (so_far old) old.rows.items old.kept_rows.items old.found.items old.latest.items old.ended row parent offset
+    gone_as old new is allowed
+    (keeps_spawn old.cowns (so_far old) old.rows.items old.kept_rows.items old.found.items old.latest.items old.ended row parent offset
     cowns k)
     h.cowns_stay h.rows h.kept_rows h.found h.latest h.ended
 

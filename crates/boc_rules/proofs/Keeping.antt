@@ -78,7 +78,8 @@ same_set run r e v n h = record {
       ];
 }
 
-kept_row_case : (run : List Entry) (kept_rows : List KeptRow) (r : ℕ) (v : Entry) (y : KeptRow) → AreKeptRowsOf run kept_rows → IsKeptRowOf v y → (k : ℕ) (f : Entry) (z : KeptRow)
+kept_row_case : (run : List Entry) (kept_rows : List KeptRow) (r : ℕ) (v : Entry) (y : KeptRow) → AreKeptRowsOf run kept_rows → IsKeptRowOf v y
+    → (k : ℕ) (f : Entry) (z : KeptRow)
     → ((k ≡ r) × (v ≡ f)) ⊎ ((k ≢ r) × (slice_get run k ≡ Some f)) → ((k ≡ r) × (y ≡ z)) ⊎ ((k ≢ r) × (slice_get kept_rows k ≡ Some z)) → IsKeptRowOf f z
 kept_row_case run kept_rows r v y are is k f z (inl p) (inl q) = subst (λ (a : Entry). IsKeptRowOf a z) p.1 (subst (IsKeptRowOf v) q.1 is)
 kept_row_case run kept_rows r v y are is k f z (inl p) (inr q) = absurd (q.0 p.0)
@@ -103,7 +104,8 @@ part_set : (kept_rows : List KeptRow) (r : ℕ) (x y : KeptRow) → slice_get ke
     → slice_get (slice_set kept_rows r y) k ≡ Some z → HasPart kept_rows k z
 part_set kept_rows r x y at from to k z i =
     elim (got_set kept_rows r k y z i) [
-      | inl p ↦ record { old = x; was = got_at kept_rows k r x p.0 at; from = from ∙ ap (λ (a : KeptRow). a.from) p.1; to = to ∙ ap (λ (a : KeptRow). a.to) p.1 }
+      | inl p ↦ record
+          { old = x; was = got_at kept_rows k r x p.0 at; from = from ∙ ap (λ (a : KeptRow). a.from) p.1; to = to ∙ ap (λ (a : KeptRow). a.to) p.1 }
       | inr p ↦ record { old = z; was = p.1; from = refl; to = refl }
     ]
 
@@ -141,7 +143,8 @@ over_set (x ∷ run) (suc r) e v g = omega (arith, over_set run r e v g)
 pub same_push : (run : List Entry) (v : Entry) (n : ℕ) → n ≤ length run → SameBelow run (run ++ (v ∷ [])) n
 same_push run v n h = record { cowns = λ k less. ap (λ (o : Option Entry). option_map_or (λ (x : Entry). x.cowns) o []) (push_below run k v (omega arith)) }
 
-kept_row_push_case : (run : List Entry) (kept_rows : List KeptRow) (v : Entry) (y : KeptRow) → AreKeptRowsOf run kept_rows → IsKeptRowOf v y → (k : ℕ) (f : Entry) (z : KeptRow)
+kept_row_push_case : (run : List Entry) (kept_rows : List KeptRow) (v : Entry) (y : KeptRow) → AreKeptRowsOf run kept_rows → IsKeptRowOf v y
+    → (k : ℕ) (f : Entry) (z : KeptRow)
     → (slice_get run k ≡ Some f) ⊎ ((k ≡ length run) × (v ≡ f)) → (slice_get kept_rows k ≡ Some z) ⊎ ((k ≡ length kept_rows) × (y ≡ z)) → IsKeptRowOf f z
 kept_row_push_case run kept_rows v y are is k f z (inl p) (inl q) = are.each k f z p q
 kept_row_push_case run kept_rows v y are is k f z (inl p) (inr q) = absurd (omega (arith, q.0, are.all, slice_get_within run k f p))

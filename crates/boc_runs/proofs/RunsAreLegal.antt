@@ -27,9 +27,11 @@ use Rattle.boc_runs.specs.Serial.{Behaviour, behaviour_of, main_behaviour, input
 use Rattle.boc_program.specs.Changed.{changed}
 use Rattle.boc_runs.specs.Lives.{Life, Pending, Running, Ended, Overlap, MayStart}
 use Rattle.boc_program.specs.Cowns.{AreCowns}
-use Rattle.boc_runs.specs.Legal.{Entry, HasBounds, pending, after, life_of, entry_cowns, last_of, IsParent, IsOffset, MayNeed, MayEnd, KeepsRule, IsAllowed, after_all, entries}
+use Rattle.boc_runs.specs.Legal.{Entry, HasBounds, pending, after, life_of, entry_cowns, last_of}
+use Rattle.boc_runs.specs.Legal.{IsParent, IsOffset, MayNeed, MayEnd, KeepsRule, IsAllowed, after_all, entries}
 use Rattle.boc_runs.specs.Legal.{IsLegalFrom, IsLegal}
-use Rattle.boc_runs.specs.Run.{Member, Config, waiting, meaning_of, wish_at, next_wish, spawned_by, members_after_spawn, started_on, config_after, opening, config_after_all, config_of}
+use Rattle.boc_runs.specs.Run.{Member, Config, waiting, meaning_of, wish_at, next_wish}
+use Rattle.boc_runs.specs.Run.{spawned_by, members_after_spawn, started_on, config_after, opening, config_after_all, config_of}
 use Rattle.boc_runs.specs.Run.{state_of, member_cowns, SpawnsWish, MaySpawn, CanEnd, MayHappen, IsRunFrom, IsRun}
 use Rattle.boc_program.proofs.Rising.{meaning_rises}
 use Rattle.boc_program.proofs.Fitting.{meaning_fits}

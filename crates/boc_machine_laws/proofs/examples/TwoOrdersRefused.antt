@@ -14,7 +14,8 @@ use Rattle.boc_runs.specs.machine.Steps.{State, at, queue, with_stage, IsBlocked
 use Rattle.boc_runs.specs.machine.Steps.{Unhooks, Passes}
 use Rattle.boc_runs.specs.machine.Turns.{TakesTurn, WaitsToSettle}
 use Rattle.boc_machine_laws.proofs.OneTurn.{takes_one, blocked_settle, same_one}
-use Rattle.boc_machine_laws.proofs.examples.TwoOrders.{program, main_body, left_at, one_at, two_at, state_2, state_3, state_6, state_11, state_18, state_24, state_33}
+use Rattle.boc_machine_laws.proofs.examples.TwoOrders.{program, main_body, left_at, one_at, two_at, state_2}
+use Rattle.boc_machine_laws.proofs.examples.TwoOrders.{state_3, state_6, state_11, state_18, state_24, state_33}
 use Rattle.boc_machine_laws.proofs.examples.TwoOrders.{state_34}
 use Rattle.boc_machine_laws.proofs.examples.TwoOrdersTurns.{sound_18, blocked_at}
 

@@ -28,12 +28,16 @@ use Rattle.std.proofs.lemmas.Bool.{ltb-true}
 use Rattle.boc_machine_laws.proofs.Lists.{and_true, same_numbers}
 use Rattle.boc_machine_laws.proofs.Every.{opening_sound, whole_run}
 use Rattle.boc_machine_laws.proofs.OneTurn.{turns_keep}
-use Rattle.boc_machine_laws.proofs.examples.TwoOrders.{program, log, main_body, one_body, two_body, left_body, right_body, main_at, left_at, right_at, one_at, two_at}
-use Rattle.boc_machine_laws.proofs.examples.TwoOrders.{state_0, state_1, state_2, state_3, state_4, state_5, state_6, state_7, state_8, state_9, state_10, state_11}
+use Rattle.boc_machine_laws.proofs.examples.TwoOrders.{program, log, main_body, one_body, two_body, left_body}
+use Rattle.boc_machine_laws.proofs.examples.TwoOrders.{right_body, main_at, left_at, right_at, one_at, two_at}
+use Rattle.boc_machine_laws.proofs.examples.TwoOrders.{state_0, state_1, state_2, state_3, state_4, state_5}
+use Rattle.boc_machine_laws.proofs.examples.TwoOrders.{state_6, state_7, state_8, state_9, state_10, state_11}
 use Rattle.boc_machine_laws.proofs.examples.TwoOrders.{state_12}
-use Rattle.boc_machine_laws.proofs.examples.TwoOrders.{state_13, state_14, state_15, state_16, state_17, state_18, state_20, state_21, state_22, state_24, state_25}
+use Rattle.boc_machine_laws.proofs.examples.TwoOrders.{state_13, state_14, state_15, state_16, state_17}
+use Rattle.boc_machine_laws.proofs.examples.TwoOrders.{state_18, state_20, state_21, state_22, state_24, state_25}
 use Rattle.boc_machine_laws.proofs.examples.TwoOrders.{state_26}
-use Rattle.boc_machine_laws.proofs.examples.TwoOrders.{state_27, state_28, state_29, state_30, state_31, state_32, state_33, state_34, state_35, state_36, state_37}
+use Rattle.boc_machine_laws.proofs.examples.TwoOrders.{state_27, state_28, state_29, state_30, state_31}
+use Rattle.boc_machine_laws.proofs.examples.TwoOrders.{state_32, state_33, state_34, state_35, state_36, state_37}
 use Rattle.boc_machine_laws.proofs.examples.TwoOrders.{state_38}
 use Rattle.boc_machine_laws.proofs.examples.TwoOrders.{state_39, state_40}
 

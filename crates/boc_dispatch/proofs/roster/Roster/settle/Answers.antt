@@ -8,7 +8,8 @@ use Rattle.boc_dispatch.specs.Inside.{Parts, parts_of, state, underway, IsKept, 
 use Rattle.boc_dispatch.specs.Places.{settled}
 use Rattle.boc_dispatch.proofs.Fits.{steps_fit}
 use Rattle.boc_dispatch.proofs.Settled.{settle_next, settle_there, settle_stands, settle_fits}
-use Rattle.boc_dispatch.proofs.Settling.{IsOutcome, SettledRequest, lone_outcome, linked_outcome, may_settle, settled_kept, settled_rooms, settled_steps, rooms_in}
+use Rattle.boc_dispatch.proofs.Settling.{IsOutcome, SettledRequest, lone_outcome, linked_outcome}
+use Rattle.boc_dispatch.proofs.Settling.{may_settle, settled_kept, settled_rooms, settled_steps, rooms_in}
 use Rattle.boc_dispatch.proofs.Settling.{blocked_parts, is_blocked}
 use Rattle.boc_dispatch.proofs.Tables.{live_same, live_changed}
 use Rattle.boc_dispatch.proofs.roster.Roster.settle.Given.{Over}

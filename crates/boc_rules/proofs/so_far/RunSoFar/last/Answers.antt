@@ -17,4 +17,5 @@ pub returns-in-None : goal.returns-in-None
 returns-in-None c =
     let h = c.in-None.ensures.lookup in
     let run = c.args.self.now in
-    last_past (so_far run) run.kept_rows.items c.args.row c.requires.kept_rows_are (subst (λ (xs : List KeptRow). length xs ≤ c.args.row) c.deref.ensures.value h.3)
+    last_past (so_far run) run.kept_rows.items c.args.row c.requires.kept_rows_are
+    (subst (λ (xs : List KeptRow). length xs ≤ c.args.row) c.deref.ensures.value h.3)

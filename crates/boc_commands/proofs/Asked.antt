@@ -20,7 +20,7 @@ use Rattle.boc_plans.specs.declared.sharing.Sharing.{Sharing}
 use Rattle.boc_plans.specs.Seen.{seen}
 use Rattle.boc_order.specs.declared.report.Profile.{Profile}
 use Rattle.boc_order.specs.Profiles.{IsProfileOf}
-use Rattle.boc_greedy.specs.declared.report.Greedy.{Greedy}
+use Rattle.boc_greedy.specs.declared.plan.Greedy.{Greedy}
 use Rattle.boc_report.specs.Parts.{part_of}
 use Rattle.boc_commands.specs.Answers.{IsAskedPart, IsCheckAnswer, IsReport, IsProfileAnswer, IsWhatIfAnswer, IsSweepAnswer}
 use Rattle.boc_plans.specs.Edits.{AllFit, IsSweep, all_edited}

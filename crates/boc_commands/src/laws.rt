@@ -11,7 +11,7 @@ ghost use Rattle.boc_reader.specs.Spells.{Spells};
 ghost use Rattle.boc_commands.specs.Answers.{IsReport, IsValuesAnswer, IsCheckAnswer, IsProfileAnswer, IsWhatIfAnswer, IsSweepAnswer};
 ghost use Rattle.boc_order.specs.declared.report.Profile.{Profile};
 ghost use Rattle.boc_order.specs.Profiles.{IsProfileOf};
-ghost use Rattle.boc_greedy.specs.declared.report.Greedy.{Greedy};
+ghost use Rattle.boc_greedy.specs.declared.plan.Greedy.{Greedy};
 ghost use Rattle.boc_greedy.specs.Plans.{IsGreedyPlanOf};
 ghost use Rattle.boc_commands.specs.Promises.{IsBest, IsTrueReport, IsWithinBound};
 

@@ -8,8 +8,8 @@ use Rattle.boc_runs.specs.declared.rows.Row.{Row}
 use Rattle.boc_runs.specs.Rows.{IsRows, parent_of}
 use Rattle.boc_plans.specs.Plans.{start_of, IsChild}
 use Rattle.boc_greedy.specs.declared.simulation.Simulation.{Simulation}
-use Rattle.boc_greedy.specs.declared.frontier.Stage.TheVariants.{Unspawned, UnderWay}
-use Rattle.boc_greedy.specs.Stages.{IsAt}
+use Rattle.boc_greedy.specs.declared.frontier.RowState.TheVariants.{Unspawned, UnderWay}
+use Rattle.boc_greedy.specs.RowStates.{IsAt}
 use Rattle.boc_greedy.specs.declared.children.Change.{Change}
 use Rattle.boc_greedy.specs.Families.{IsNextChild, IsTimed, children_of}
 use Rattle.boc_greedy.specs.Queues.{IsIn, IsOnTop}
@@ -23,11 +23,11 @@ use Rattle.boc_greedy.proofs.Standing.{there}
 pub record IsDue (rows : List Row) (s : Simulation) (r : ℕ) : Type 0 where
   pub due : IsIn (heap_items s.queue) s.tick r
   pub there : r < length rows
-  pub under_way : IsAt s.frontier.stages.items r UnderWay
+  pub under_way : IsAt s.frontier.states.items r UnderWay
   pub early : start_of s.starts.items r + MOST_TICKS < later
   pub listed : r < length s.first.items
   pub unspawned : slice_index (children_of s.first.items) r < length rows
-      → IsAt s.frontier.stages.items (slice_index (children_of s.first.items) r) Unspawned
+      → IsAt s.frontier.states.items (slice_index (children_of s.first.items) r) Unspawned
 
 pub is_due : (rows : List Row) → IsRows rows → (s : Simulation) (r : ℕ) → IsStepping rows s → IsOnTop (heap_items s.queue) s.tick r → IsDue rows s r
 is_due rows hr s r i top =
@@ -40,8 +40,8 @@ is_due rows hr s r i top =
       there = h;
       under_way = on;
       early = omega (arith, (k.under_way r on).begun, k.early);
-      listed = omega (arith, h, simp length-map at k.staged.first_whole);
-      unspawned = λ l. (k.staged.left r h).after _ ((k.staged.left r h).child_is l) (omega arith);
+      listed = omega (arith, h, simp length-map at k.states_are.first_whole);
+      unspawned = λ l. (k.states_are.left r h).after _ ((k.states_are.left r h).child_is l) (omega arith);
     }
 
 -- where that row spawns a child, what comes after that
@@ -67,7 +67,7 @@ module _ (rows : List Row) (hr : IsRows rows) (s : Simulation) (r : ℕ) (i : Is
   was = rw (child_is, time_at s.first.items r change d.listed read) at (i.are_timed r d.there)
 
   is : IsChild rows r change.child
-  is = rw child_is at (i.kept.staged.left r d.there).child_is there
+  is = rw child_is at (i.kept.states_are.left r d.there).child_is there
 
   next_there : change.child < length s.family.now.next.items
   next_there = omega (arith, there, simp length-map at i.are_next.whole)

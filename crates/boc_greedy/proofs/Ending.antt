@@ -7,40 +7,40 @@ use Rattle.boc_runs.specs.declared.rows.Row.{Row}
 use Rattle.boc_runs.specs.Rows.{IsRows}
 use Rattle.boc_plans.specs.Plans.{end_of, IsChild}
 use Rattle.boc_plans.specs.Greedy.{worker_of}
-use Rattle.boc_greedy.specs.declared.frontier.Stage.{Stage}
-use Rattle.boc_greedy.specs.declared.frontier.Stage.TheVariants.{Unspawned, Waiting, UnderWay, Over}
-use Rattle.boc_greedy.specs.Stages.{IsAt}
+use Rattle.boc_greedy.specs.declared.frontier.RowState.{RowState}
+use Rattle.boc_greedy.specs.declared.frontier.RowState.TheVariants.{Unspawned, Waiting, UnderWay, Over}
+use Rattle.boc_greedy.specs.RowStates.{IsAt}
 use Rattle.boc_greedy.specs.Queues.{Entry, IsIn}
 use Rattle.boc_greedy.specs.Simulating.{IsOn, IsBusy, Kept}
-use Rattle.boc_greedy.proofs.Puts.{Restages, other_stage, stage_stays, not_same, left_same}
+use Rattle.boc_greedy.proofs.Puts.{ChangesState, other_state, state_stays, not_same, left_same}
 use Rattle.boc_greedy.proofs.Queued.{Taken}
 use Rattle.boc_greedy.proofs.Standing.{there}
 
-module _ (rows : List Row) (hr : IsRows rows) (p end : ℕ) (starts workers : List ℕ) (stages : List Stage) (first : List ℕ) (queue : List Entry) (idle t : ℕ)
-    (k : Kept rows p end starts workers stages first queue idle t)
-    (r : ℕ) (stages' : List Stage) (rest : List Entry) (idle' : ℕ) (due : IsIn queue t r) (none_left : length rows ≤ slice_index first r)
-    (sg : Restages stages stages' r Over) (po : Taken queue rest r) (is_set : bit_at idle' (worker_of workers r) ≡ 1)
+module _ (rows : List Row) (hr : IsRows rows) (p end : ℕ) (starts workers : List ℕ) (states : List RowState) (first : List ℕ) (queue : List Entry) (idle t : ℕ)
+    (k : Kept rows p end starts workers states first queue idle t)
+    (r : ℕ) (states' : List RowState) (rest : List Entry) (idle' : ℕ) (due : IsIn queue t r) (none_left : length rows ≤ slice_index first r)
+    (sg : ChangesState states states' r Over) (po : Taken queue rest r) (is_set : bit_at idle' (worker_of workers r) ≡ 1)
     (others : (v : ℕ) → v ≢ worker_of workers r → bit_at idle' v ≡ bit_at idle v) where
-  is_busy : IsBusy rows starts stages t r (slice_index first r) t
+  is_busy : IsBusy rows starts states t r (slice_index first r) t
   is_busy = k.busy t r due
 
-  was : (b : ℕ) → IsAt stages' b Unspawned → IsAt stages b Unspawned
-  was b e = (other_stage stages stages' r Over sg b Unspawned (λ d. (cc)) e).1
+  was : (b : ℕ) → IsAt states' b Unspawned → IsAt states b Unspawned
+  was b e = (other_state states states' r Over sg b Unspawned (λ d. (cc)) e).1
 
-  stays : (b : ℕ) → IsAt stages b Unspawned → IsAt stages' b Unspawned
-  stays b e = stage_stays stages stages' r Over sg b Unspawned (not_same stages r UnderWay is_busy.under_way b Unspawned (λ d. (cc)) e) e
+  stays : (b : ℕ) → IsAt states b Unspawned → IsAt states' b Unspawned
+  stays b e = state_stays states states' r Over sg b Unspawned (not_same states r UnderWay is_busy.under_way b Unspawned (λ d. (cc)) e) e
 
-  ran : (a : ℕ) → IsAt stages' a UnderWay → (a ≢ r) × IsAt stages a UnderWay
-  ran a e = other_stage stages stages' r Over sg a UnderWay (λ d. (cc)) e
+  ran : (a : ℕ) → IsAt states' a UnderWay → (a ≢ r) × IsAt states a UnderWay
+  ran a e = other_state states states' r Over sg a UnderWay (λ d. (cc)) e
 
-  runs_on : (a : ℕ) → a ≢ r → IsAt stages a UnderWay → IsAt stages' a UnderWay
-  runs_on a ne e = stage_stays stages stages' r Over sg a UnderWay ne e
+  runs_on : (a : ℕ) → a ≢ r → IsAt states a UnderWay → IsAt states' a UnderWay
+  runs_on a ne e = state_stays states states' r Over sg a UnderWay ne e
 
-  on_after : (a : ℕ) → IsAt stages' a UnderWay → IsOn p starts workers rest idle' t a
+  on_after : (a : ℕ) → IsAt states' a UnderWay → IsOn p starts workers rest idle' t a
   on_after a e =
       let old = ran a e in
       let o = k.under_way a old.1 in
-      let other : worker_of workers a ≢ worker_of workers r = λ same. old.0 (k.staged.apart a r old.1 is_busy.under_way same) in
+      let other : worker_of workers a ≢ worker_of workers r = λ same. old.0 (k.states_are.apart a r old.1 is_busy.under_way same) in
       record {
         begun = o.begun;
         below = o.below;
@@ -49,52 +49,52 @@ module _ (rows : List Row) (hr : IsRows rows) (p end : ℕ) (starts workers : Li
         queued = po.stays o.change a old.0 o.queued;
       }
 
-  busy_after : (at q : ℕ) → IsIn rest at q → IsBusy rows starts stages' t q (slice_index first q) at
+  busy_after : (at q : ℕ) → IsIn rest at q → IsBusy rows starts states' t q (slice_index first q) at
   busy_after at q i =
       let m = po.was at q i in
       let y = k.busy at q m.0 in
       record { under_way = runs_on q m.1 y.under_way; ahead = y.ahead; spawns = y.spawns; ends = y.ends }
 
-  over_after : (a : ℕ) → IsAt stages' a Over → end_of rows starts a ≤ t
+  over_after : (a : ℕ) → IsAt states' a Over → end_of rows starts a ≤ t
   over_after a e = elim (cases_eq a r) [
     | inl same ↦ rw same (omega (arith, is_busy.ends none_left))
     | inr ne ↦ k.over a (sym (sg.others a ne) ∙ e)
   ]
 
-  all_after : (a b : ℕ) → IsChild rows a b → IsAt stages' a Over → IsAt stages' b Unspawned → ⊥
+  all_after : (a b : ℕ) → IsChild rows a b → IsAt states' a Over → IsAt states' b Unspawned → ⊥
   all_after a b d o e = elim (cases_eq a r) [
-    | inl same ↦ (k.staged.left r (there rows hr p end starts workers stages first queue idle t k r UnderWay is_busy.under_way)).before b
+    | inl same ↦ (k.states_are.left r (there rows hr p end starts workers states first queue idle t k r UnderWay is_busy.under_way)).before b
         (subst (λ (x : ℕ). IsChild rows x b) same d)
         (omega (arith, d.there, none_left)) (was b e)
-    | inr ne ↦ k.staged.all_spawned a b d (sym (sg.others a ne) ∙ o) (was b e)
+    | inr ne ↦ k.states_are.all_spawned a b d (sym (sg.others a ne) ∙ o) (was b e)
   ]
 
-  held_after : (v : ℕ) → v < p → bit_at idle' v ≢ 1 → (q : ℕ) × IsAt stages' q UnderWay × (worker_of workers q ≡ v)
+  held_after : (v : ℕ) → v < p → bit_at idle' v ≢ 1 → (q : ℕ) × IsAt states' q UnderWay × (worker_of workers q ≡ v)
   held_after v h out =
       let other : v ≢ worker_of workers r = λ e. out (rw e is_set) in
-      let (q, on, at) = k.staged.held v h (λ is. out (others v other ∙ is)) in
+      let (q, on, at) = k.states_are.held v h (λ is. out (others v other ∙ is)) in
       (q, runs_on q (λ e. other (sym at ∙ ap (worker_of workers) e)) on, at)
 
   idle_after : (v : ℕ) → bit_at idle' v ≡ 1 → v < p
   idle_after v is = elim (cases_eq v (worker_of workers r)) [
     | inl e ↦ rw e (k.under_way r is_busy.under_way).below
-    | inr ne ↦ k.staged.idle_below v (sym (others v ne) ∙ is)
+    | inr ne ↦ k.states_are.idle_below v (sym (others v ne) ∙ is)
   ]
 
-  pub kept_after : Kept rows p end starts workers stages' first rest idle' t
+  pub kept_after : Kept rows p end starts workers states' first rest idle' t
   kept_after = record {
-    staged = record {
-      starts_whole = k.staged.starts_whole;
-      workers_whole = k.staged.workers_whole;
-      stages_whole = omega (arith, sg.whole, k.staged.stages_whole);
-      first_whole = k.staged.first_whole;
-      few = k.staged.few;
-      unspawned = λ b e. k.staged.unspawned b (was b e);
-      not_main = λ e. k.staged.not_main (was 0 e);
-      waiting = λ b e. k.staged.waiting b (other_stage stages stages' r Over sg b Waiting (λ d. (cc)) e).1;
+    states_are = record {
+      starts_whole = k.states_are.starts_whole;
+      workers_whole = k.states_are.workers_whole;
+      states_whole = omega (arith, sg.whole, k.states_are.states_whole);
+      first_whole = k.states_are.first_whole;
+      few = k.states_are.few;
+      unspawned = λ b e. k.states_are.unspawned b (was b e);
+      not_main = λ e. k.states_are.not_main (was 0 e);
+      waiting = λ b e. k.states_are.waiting b (other_state states states' r Over sg b Waiting (λ d. (cc)) e).1;
       all_spawned = all_after;
-      left = λ q h. left_same rows stages stages' q _ was (λ b d. stays b) (k.staged.left q h);
-      apart = λ a b ea eb. k.staged.apart a b (ran a ea).1 (ran b eb).1;
+      left = λ q h. left_same rows states states' q _ was (λ b d. stays b) (k.states_are.left q h);
+      apart = λ a b ea eb. k.states_are.apart a b (ran a ea).1 (ran b eb).1;
       held = held_after;
       idle_below = idle_after;
     };

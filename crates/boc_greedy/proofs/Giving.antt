@@ -7,32 +7,32 @@ use Rattle.boc_runs.specs.declared.rows.Row.{Row}
 use Rattle.boc_runs.specs.Rows.{IsRows, offset_of, ticks_of}
 use Rattle.boc_plans.specs.Plans.{start_of}
 use Rattle.boc_plans.specs.Greedy.{worker_of, IsReady, IsFree}
-use Rattle.boc_greedy.specs.declared.frontier.Stage.{Stage}
-use Rattle.boc_greedy.specs.declared.frontier.Stage.TheVariants.{Unspawned, Waiting, UnderWay, Over}
-use Rattle.boc_greedy.specs.Stages.{IsAt, CanStart}
+use Rattle.boc_greedy.specs.declared.frontier.RowState.{RowState}
+use Rattle.boc_greedy.specs.declared.frontier.RowState.TheVariants.{Unspawned, Waiting, UnderWay, Over}
+use Rattle.boc_greedy.specs.RowStates.{IsAt, CanStart}
 use Rattle.boc_greedy.specs.Queues.{Entry, IsIn}
 use Rattle.boc_greedy.specs.Simulating.{IsOn, IsBusy, Kept, Given, HasPassed}
-use Rattle.boc_greedy.proofs.Puts.{Puts, Restages, other_stage, stage_stays, not_same, left_same}
+use Rattle.boc_greedy.proofs.Puts.{Puts, ChangesState, other_state, state_stays, not_same, left_same}
 use Rattle.boc_greedy.proofs.Queued.{Pushed}
 use Rattle.boc_greedy.proofs.Agreeing.{Agree, ready_there, free_there, greedy_there}
 use Rattle.boc_greedy.proofs.Standing.{there, started}
 
-module _ (rows : List Row) (hr : IsRows rows) (p end : ℕ) (starts workers : List ℕ) (stages : List Stage) (first : List ℕ) (queue : List Entry) (idle t : ℕ)
-    (k : Kept rows p end starts workers stages first queue idle t)
-    (x w change : ℕ) (starts' workers' : List ℕ) (stages' : List Stage) (queue' : List Entry) (idle' : ℕ)
-    (ps : Puts starts starts' x t) (pw : Puts workers workers' x w) (sg : Restages stages stages' x UnderWay) (pq : Pushed queue queue' change x)
-    (can : CanStart rows stages x) (is_idle : bit_at idle w ≡ 1) (cleared : bit_at idle' w ≡ 0) (others : (v : ℕ) → v ≢ w → bit_at idle' v ≡ bit_at idle v)
+module _ (rows : List Row) (hr : IsRows rows) (p end : ℕ) (starts workers : List ℕ) (states : List RowState) (first : List ℕ) (queue : List Entry) (idle t : ℕ)
+    (k : Kept rows p end starts workers states first queue idle t)
+    (x w change : ℕ) (starts' workers' : List ℕ) (states' : List RowState) (queue' : List Entry) (idle' : ℕ)
+    (ps : Puts starts starts' x t) (pw : Puts workers workers' x w) (sg : ChangesState states states' x UnderWay) (pq : Pushed queue queue' change x)
+    (can : CanStart rows states x) (is_idle : bit_at idle w ≡ 1) (cleared : bit_at idle' w ≡ 0) (others : (v : ℕ) → v ≢ w → bit_at idle' v ≡ bit_at idle v)
     (spawns : slice_index first x < length rows → change ≡ t + offset_of rows (slice_index first x))
     (ends : length rows ≤ slice_index first x → change ≡ t + ticks_of rows x) where
   x_there : x < length rows
-  x_there = there rows hr p end starts workers stages first queue idle t k x Waiting can.waits
+  x_there = there rows hr p end starts workers states first queue idle t k x Waiting can.waits
 
   x_waits : start_of starts x ≡ end
-  x_waits = k.staged.waiting x can.waits
+  x_waits = k.states_are.waiting x can.waits
 
   change_above : t < change
   change_above = elim (cases_lt (slice_index first x) (length rows)) [
-    | inl l ↦ (let c = (k.staged.left x x_there).child_is l in omega (arith, spawns l, hr.offset_above _ c.not_main c.there))
+    | inl l ↦ (let c = (k.states_are.left x x_there).child_is l in omega (arith, spawns l, hr.offset_above _ c.not_main c.there))
     | inr ge ↦ omega (arith, ends ge, hr.ticks_low x x_there)
   ]
 
@@ -50,27 +50,27 @@ module _ (rows : List Row) (hr : IsRows rows) (p end : ℕ) (starts workers : Li
   }
 
   -- unspawned before and after
-  was_unspawned : (b : ℕ) → IsAt stages' b Unspawned → IsAt stages b Unspawned
-  was_unspawned b e = (other_stage stages stages' x UnderWay sg b Unspawned (λ d. (cc)) e).1
+  was_unspawned : (b : ℕ) → IsAt states' b Unspawned → IsAt states b Unspawned
+  was_unspawned b e = (other_state states states' x UnderWay sg b Unspawned (λ d. (cc)) e).1
 
-  stays_unspawned : (b : ℕ) → IsAt stages b Unspawned → IsAt stages' b Unspawned
-  stays_unspawned b e = stage_stays stages stages' x UnderWay sg b Unspawned (not_same stages x Waiting can.waits b Unspawned (λ d. (cc)) e) e
+  stays_unspawned : (b : ℕ) → IsAt states b Unspawned → IsAt states' b Unspawned
+  stays_unspawned b e = state_stays states states' x UnderWay sg b Unspawned (not_same states x Waiting can.waits b Unspawned (λ d. (cc)) e) e
 
   -- other rows that are under way stay so, on other workers
-  other_on : (r : ℕ) → IsAt stages r UnderWay → (r ≢ x) × IsAt stages' r UnderWay
-  other_on r e = (let n = not_same stages x Waiting can.waits r UnderWay (λ d. (cc)) e in (n, stage_stays stages stages' x UnderWay sg r UnderWay n e))
+  other_on : (r : ℕ) → IsAt states r UnderWay → (r ≢ x) × IsAt states' r UnderWay
+  other_on r e = (let n = not_same states x Waiting can.waits r UnderWay (λ d. (cc)) e in (n, state_stays states states' x UnderWay sg r UnderWay n e))
 
-  was_on : (r : ℕ) → r ≢ x → IsAt stages' r UnderWay → IsOn p starts workers queue idle t r
+  was_on : (r : ℕ) → r ≢ x → IsAt states' r UnderWay → IsOn p starts workers queue idle t r
   was_on r ne e = k.under_way r (sym (sg.others r ne) ∙ e)
 
-  other_worker : (r : ℕ) → r ≢ x → IsAt stages' r UnderWay → worker_of workers' r ≢ w
+  other_worker : (r : ℕ) → r ≢ x → IsAt states' r UnderWay → worker_of workers' r ≢ w
   other_worker r ne e at = (was_on r ne e).taken (rw (sym (pw.others r ne) ∙ at) is_idle)
 
-  on_after : (r : ℕ) → IsAt stages' r UnderWay → IsOn p starts' workers' queue' idle' t r
+  on_after : (r : ℕ) → IsAt states' r UnderWay → IsOn p starts' workers' queue' idle' t r
   on_after r e = elim (cases_eq r x) [
     | inl same ↦ rw same (record {
       begun = omega (arith, ps.at);
-      below = rw pw.at (k.staged.idle_below w is_idle);
+      below = rw pw.at (k.states_are.idle_below w is_idle);
       taken = rw pw.at (λ is. omega (arith, is, cleared));
       change = change;
       queued = pq.here;
@@ -87,7 +87,7 @@ module _ (rows : List Row) (hr : IsRows rows) (p end : ℕ) (starts workers : Li
         })
   ]
 
-  busy_after : (at r : ℕ) → IsIn queue' at r → IsBusy rows starts' stages' t r (slice_index first r) at
+  busy_after : (at r : ℕ) → IsIn queue' at r → IsBusy rows starts' states' t r (slice_index first r) at
   busy_after at r i = elim (pq.was at r i) [
     | inl e ↦ rw (e.0, e.1) (record {
       under_way = sg.at;
@@ -106,7 +106,7 @@ module _ (rows : List Row) (hr : IsRows rows) (p end : ℕ) (starts workers : Li
         })
   ]
 
-  apart_after : (a b : ℕ) → IsAt stages' a UnderWay → IsAt stages' b UnderWay → worker_of workers' a ≡ worker_of workers' b → a ≡ b
+  apart_after : (a b : ℕ) → IsAt states' a UnderWay → IsAt states' b UnderWay → worker_of workers' a ≡ worker_of workers' b → a ≡ b
   apart_after a b ea eb same = elim (cases_eq a x) [
     | inl ax ↦ elim (cases_eq b x) [
       | inl bx ↦ ax ∙ sym bx
@@ -114,41 +114,41 @@ module _ (rows : List Row) (hr : IsRows rows) (p end : ℕ) (starts workers : Li
     ]
     | inr na ↦ elim (cases_eq b x) [
       | inl bx ↦ absurd (other_worker a na ea (same ∙ ap (worker_of workers') bx ∙ pw.at))
-      | inr nb ↦ k.staged.apart a b (sym (sg.others a na) ∙ ea) (sym (sg.others b nb) ∙ eb) (sym (pw.others a na) ∙ same ∙ pw.others b nb)
+      | inr nb ↦ k.states_are.apart a b (sym (sg.others a na) ∙ ea) (sym (sg.others b nb) ∙ eb) (sym (pw.others a na) ∙ same ∙ pw.others b nb)
     ]
   ]
 
-  held_after : (v : ℕ) → v < p → bit_at idle' v ≢ 1 → (r : ℕ) × IsAt stages' r UnderWay × (worker_of workers' r ≡ v)
+  held_after : (v : ℕ) → v < p → bit_at idle' v ≢ 1 → (r : ℕ) × IsAt states' r UnderWay × (worker_of workers' r ≡ v)
   held_after v h out = elim (cases_eq v w) [
     | inl e ↦ (x, sg.at, pw.at ∙ sym e)
-    | inr ne ↦ (let (r, on, at) = k.staged.held v h (λ is. out (others v ne ∙ is)) in let o = other_on r on in (r, o.1, pw.others r o.0 ∙ at))
+    | inr ne ↦ (let (r, on, at) = k.states_are.held v h (λ is. out (others v ne ∙ is)) in let o = other_on r on in (r, o.1, pw.others r o.0 ∙ at))
   ]
 
   -- a worker that is idle is another, and was idle
   was_idle : (v : ℕ) → bit_at idle' v ≡ 1 → (v ≢ w) × (bit_at idle v ≡ 1)
   was_idle v is = (let ne : v ≢ w = λ e. omega (arith, is, cleared, ap (bit_at idle') e) in (ne, sym (others v ne) ∙ is))
 
-  pub kept_after : Kept rows p end starts' workers' stages' first queue' idle' t
+  pub kept_after : Kept rows p end starts' workers' states' first queue' idle' t
   kept_after = record {
-    staged = record {
-      starts_whole = omega (arith, ps.whole, k.staged.starts_whole);
-      workers_whole = omega (arith, pw.whole, k.staged.workers_whole);
-      stages_whole = omega (arith, sg.whole, k.staged.stages_whole);
-      first_whole = k.staged.first_whole;
-      few = k.staged.few;
-      unspawned = λ r e. (let o = other_stage stages stages' x UnderWay sg r Unspawned (λ d. (cc)) e in
-          omega (arith, ps.others r o.0, k.staged.unspawned r o.1));
-      not_main = λ e. k.staged.not_main (was_unspawned 0 e);
-      waiting = λ r e. (let o = other_stage stages stages' x UnderWay sg r Waiting (λ d. (cc)) e in omega (arith, ps.others r o.0, k.staged.waiting r o.1));
-      all_spawned = λ a b c o e. k.staged.all_spawned a b c (other_stage stages stages' x UnderWay sg a Over (λ d. (cc)) o).1 (was_unspawned b e);
-      left = λ r h. left_same rows stages stages' r _ was_unspawned (λ b c. stays_unspawned b) (k.staged.left r h);
+    states_are = record {
+      starts_whole = omega (arith, ps.whole, k.states_are.starts_whole);
+      workers_whole = omega (arith, pw.whole, k.states_are.workers_whole);
+      states_whole = omega (arith, sg.whole, k.states_are.states_whole);
+      first_whole = k.states_are.first_whole;
+      few = k.states_are.few;
+      unspawned = λ r e. (let o = other_state states states' x UnderWay sg r Unspawned (λ d. (cc)) e in
+          omega (arith, ps.others r o.0, k.states_are.unspawned r o.1));
+      not_main = λ e. k.states_are.not_main (was_unspawned 0 e);
+      waiting = λ r e. (let o = other_state states states' x UnderWay sg r Waiting (λ d. (cc)) e in omega (arith, ps.others r o.0, k.states_are.waiting r o.1));
+      all_spawned = λ a b c o e. k.states_are.all_spawned a b c (other_state states states' x UnderWay sg a Over (λ d. (cc)) o).1 (was_unspawned b e);
+      left = λ r h. left_same rows states states' r _ was_unspawned (λ b c. stays_unspawned b) (k.states_are.left r h);
       apart = apart_after;
       held = held_after;
-      idle_below = λ v is. k.staged.idle_below v (was_idle v is).1;
+      idle_below = λ v is. k.states_are.idle_below v (was_idle v is).1;
     };
     early = k.early;
     under_way = on_after;
-    over = λ r e. (let o = other_stage stages stages' x UnderWay sg r Over (λ d. (cc)) e in omega (arith, ps.others r o.0, k.over r o.1));
+    over = λ r e. (let o = other_state states states' x UnderWay sg r Over (λ d. (cc)) e in omega (arith, ps.others r o.0, k.over r o.1));
     spawned = λ a b c out. (
         let s = k.spawned a b c (λ e. out (stays_unspawned b e)) in
         omega (arith, s, ps.others a (not_x a (omega (arith, s)))));
@@ -160,25 +160,25 @@ module _ (rows : List Row) (hr : IsRows rows) (p end : ℕ) (starts workers : Li
   passed_after h at r i = elim (pq.was at r i) [ inl e ↦ omega (arith, e.0, change_above) | inr old ↦ h at r old ]
 
   -- the row and the worker are the least
-  module _ (g : Given rows p starts workers stages idle t)
-      (least : (b : ℕ) → CanStart rows stages b → x ≤ b) (least_idle : (v : ℕ) → v < w → bit_at idle v ≡ 0) where
-    can_before : (b : ℕ) → CanStart rows stages' b → (b ≢ x) × CanStart rows stages b
-    can_before b c = (let o = other_stage stages stages' x UnderWay sg b Waiting (λ d. (cc)) c.waits in
-        (o.0, record { waits = o.1; clear = λ a before. (other_stage stages stages' x UnderWay sg a Over (λ d. (cc)) (c.clear a before)).1 }))
+  module _ (g : Given rows p starts workers states idle t)
+      (least : (b : ℕ) → CanStart rows states b → x ≤ b) (least_idle : (v : ℕ) → v < w → bit_at idle v ≡ 0) where
+    can_before : (b : ℕ) → CanStart rows states' b → (b ≢ x) × CanStart rows states b
+    can_before b c = (let o = other_state states states' x UnderWay sg b Waiting (λ d. (cc)) c.waits in
+        (o.0, record { waits = o.1; clear = λ a before. (other_state states states' x UnderWay sg a Over (λ d. (cc)) (c.clear a before)).1 }))
 
     x_ready : IsReady rows starts t x
     x_ready = record {
       there = x_there;
       waits = omega (arith, x_waits, k.early);
-      spawned = λ a c. k.spawned a x c (λ e. not_same stages x Waiting can.waits x Unspawned (λ d. (cc)) e refl);
+      spawned = λ a c. k.spawned a x c (λ e. not_same states x Waiting can.waits x Unspawned (λ d. (cc)) e refl);
       in_order = λ a o. k.over a (can.clear a o);
     }
 
     -- an idle worker has no row that isn't over
     w_free : IsFree rows p starts workers t w
     w_free = record {
-      below = k.staged.idle_below w is_idle;
-      idle = λ r h on lt. elim (started rows hr p end starts workers stages first queue idle t k r h (omega (arith, lt, k.early))) [
+      below = k.states_are.idle_below w is_idle;
+      idle = λ r h on lt. elim (started rows hr p end starts workers states first queue idle t k r h (omega (arith, lt, k.early))) [
         | inl e ↦ absurd ((k.under_way r e).taken (rw on is_idle))
         | inr e ↦ k.over r e
       ];
@@ -205,7 +205,7 @@ module _ (rows : List Row) (hr : IsRows rows) (p end : ℕ) (starts workers : Li
       ]
     ]
 
-    given_rows : (a b : ℕ) → a < length rows → start_of starts' a ≡ t → CanStart rows stages' b → a < b
+    given_rows : (a b : ℕ) → a < length rows → start_of starts' a ≡ t → CanStart rows states' b → a < b
     given_rows a b h e c =
         let o = can_before b c in
         elim (cases_eq a x) [
@@ -224,7 +224,7 @@ module _ (rows : List Row) (hr : IsRows rows) (p end : ℕ) (starts workers : Li
           | inr ne ↦ omega (arith, pw.others r ne, g.least_workers r v h (was r ne e) o.1)
         ]
 
-    pub given_after : Given rows p starts' workers' stages' idle' t
+    pub given_after : Given rows p starts' workers' states' idle' t
     given_after = record {
       ready = λ r h e. ready_there rows hr p t starts starts' workers workers' agree t (omega arith) r (omega (arith, e)) (ready_before r h e);
       free = λ r h e. free_there rows hr p t starts starts' workers workers' agree t (omega arith) _ (free_before r h e);

@@ -1,7 +1,7 @@
 pub mod WordsAbove
 pub mod Followed
 pub mod Queueing
-pub mod Staging
+pub mod Starting
 pub mod Waking
 pub mod Puts
 pub mod Agreeing

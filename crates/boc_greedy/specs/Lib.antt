@@ -1,4 +1,4 @@
-pub mod Stages
+pub mod RowStates
 pub mod RowSets
 pub mod Frontier
 pub mod Families

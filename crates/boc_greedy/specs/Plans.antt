@@ -4,7 +4,7 @@ use Rattle.boc_program.specs.declared.limits.TheConstants.{MOST_ROWS}
 use Rattle.boc_runs.specs.declared.rows.Row.{Row}
 use Rattle.boc_plans.specs.Plans.{HasEnds, IsEnd, Keeps, work_of}
 use Rattle.boc_plans.specs.Greedy.{IsBound, IsForWorkers, IsGreedy, IsMoment, IsSpan, CountsAll}
-use Rattle.boc_greedy.specs.declared.report.Greedy.{Greedy}
+use Rattle.boc_greedy.specs.declared.plan.Greedy.{Greedy}
 
 -- p times a tick is at most the work, and the span p - 1 times
 abbrev pub IsClose : List Row → ℕ → ℕ → Type 0

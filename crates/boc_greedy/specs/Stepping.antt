@@ -12,7 +12,7 @@ use Rattle.boc_greedy.specs.Simulating.{later, Kept, Given, IsFresh, HasPassed, 
 
 -- the simulation keeps what it has to keep
 abbrev pub IsSimulated : List Row → Simulation → Type 0
-IsSimulated rows s = Kept rows s.p later s.starts.items s.workers.items s.frontier.stages.items (children_of s.first.items) (heap_items s.queue) s.idle
+IsSimulated rows s = Kept rows s.p later s.starts.items s.workers.items s.frontier.states.items (children_of s.first.items) (heap_items s.queue) s.idle
     s.tick
 
 -- the moments so far are counted
@@ -22,7 +22,7 @@ pub record IsCounted (rows : List Row) (starts : List ℕ) (tick moments : ℕ) 
 
 -- each step so far took at most 1,000,000 ticks
 abbrev pub IsLow : List Row → Simulation → Type 0
-IsLow rows s = s.tick + steps_of_all s.frontier.stages.items * MOST_TICKS ≤ length rows * 3000000
+IsLow rows s = s.tick + steps_of_all s.frontier.states.items * MOST_TICKS ≤ length rows * 3000000
 
 -- the changes of this tick are made, one after another, and no row has started at it yet
 pub record IsStepping (rows : List Row) (s : Simulation) : Type 0 where
@@ -38,7 +38,7 @@ pub record IsStepping (rows : List Row) (s : Simulation) : Type 0 where
 pub record IsGiving (rows : List Row) (s : Simulation) : Type 0 where
   pub frontier : IsFrontier rows s.frontier
   pub kept : IsSimulated rows s
-  pub given : Given rows s.p s.starts.items s.workers.items s.frontier.stages.items s.idle s.tick
+  pub given : Given rows s.p s.starts.items s.workers.items s.frontier.states.items s.idle s.tick
   pub passed : HasPassed (heap_items s.queue) s.tick
   pub are_timed : AreTimed rows (children_of s.first.items) (times_of s.first.items)
   pub are_next : AreNext rows (children_of s.family.now.next.items) (times_of s.family.now.next.items)
@@ -49,4 +49,4 @@ pub record IsGiving (rows : List Row) (s : Simulation) : Type 0 where
 -- no more row can start at this tick
 pub record IsSettled (rows : List Row) (s : Simulation) : Type 0 where
   pub giving : IsGiving rows s
-  pub full : IsFull rows s.frontier.stages.items s.idle
+  pub full : IsFull rows s.frontier.states.items s.idle

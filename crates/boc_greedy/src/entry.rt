@@ -14,7 +14,7 @@ ghost use Rattle.boc_greedy.specs.Plans.{IsGreedyPlanOf};
 
 use crate::children::{Family, family_of};
 use crate::consequences::Consequences;
-use crate::report::Greedy;
+use crate::plan::Greedy;
 use crate::simulation::Simulation;
 use boc_order::{Links, last_end, waits_and_plan};
 use boc_plans::sharing::{SeenRows, Sharing};

@@ -4,9 +4,9 @@ ghost use Rattle.std.specs.Prelude.{◌≡◌, ℕ, ◌≤◌, ◌<◌, ◌↔�
 ghost use Rattle.boc_program.specs.declared.limits.TheConstants.{MOST_ROWS};
 ghost use Rattle.boc_runs.specs.Rows.{IsRows};
 ghost use Rattle.boc_order.specs.Waits.{AreWaits, AreFollowers};
-ghost use Rattle.boc_greedy.specs.declared.frontier.Stage.TheVariants.{Unspawned, Waiting, UnderWay, Over};
+ghost use Rattle.boc_greedy.specs.declared.frontier.RowState.TheVariants.{Unspawned, Waiting, UnderWay, Over};
 ghost use Rattle.boc_greedy.specs.RowSets.{IsRowSet, Has};
-ghost use Rattle.boc_greedy.specs.Stages.{IsAt, CanStart};
+ghost use Rattle.boc_greedy.specs.RowStates.{IsAt, CanStart};
 ghost use Rattle.boc_greedy.specs.Frontier.{IsFrontier, CountsReady};
 
 use crate::row_set::RowSet;
@@ -16,7 +16,7 @@ use std::alloc::{AllocError, Global};
 
 /// How far a row is.
 #[derive(Clone, Copy, PartialEq, Eq)]
-pub enum Stage {
+pub enum RowState {
     /// It is not spawned yet.
     Unspawned,
     /// It is spawned, and waits for other rows or for a worker.
@@ -27,13 +27,13 @@ pub enum Stage {
     Over,
 }
 
-/// The stages of the rows, and the rows that can start.
+/// The states of the rows, and the rows that can start.
 #[derive(Drop)]
 pub struct Frontier<'a> {
     /// The rows that wait for each row.
     followers: &'a Links,
     /// How far each row is.
-    pub stages: Vec<Stage>,
+    pub states: Vec<RowState>,
     /// For each row how many links in its list of waits lead to rows that are not over.
     unmet: Vec<u32>,
     /// The rows that are spawned, and wait for nothing but a worker.
@@ -52,11 +52,11 @@ impl<'a> Frontier<'a> {
         requires waits { AreWaits rows.now waits.now }
         requires followers { AreFollowers waits.now followers.now }
         ensures kept { IfOk result (λ f. IsFrontier rows.now f) }
-        ensures stages { IfOk result (λ f. f.stages.items ≡ Waiting ∷ replicate (pred (length rows.now)) Unspawned) }
+        ensures states { IfOk result (λ f. f.states.items ≡ Waiting ∷ replicate (pred (length rows.now)) Unspawned) }
     {
         let count = rows.len();
-        let mut stages = vec![in alloc; Stage::Unspawned; count]?;
-        stages[0] = Stage::Waiting;
+        let mut states = vec![in alloc; RowState::Unspawned; count]?;
+        states[0] = RowState::Waiting;
         let mut unmet = Vec::with_capacity(alloc, count)?;
         for row in 0..count {
             unmet.push_reserved(waits.count(row));
@@ -65,7 +65,7 @@ impl<'a> Frontier<'a> {
         ready.insert(0);
         Ok(Frontier {
             followers,
-            stages,
+            states,
             unmet,
             ready,
         })
@@ -75,11 +75,11 @@ impl<'a> Frontier<'a> {
     pub fn spawn(&mut self, rows: &SeenRows, row: u32)
         requires shape { IsRows rows.now }
         requires frontier { IsFrontier rows.now self.old }
-        requires unspawned { IsAt self.old.stages.items row Unspawned }
+        requires unspawned { IsAt self.old.states.items row Unspawned }
         ensures kept { IsFrontier rows.now self.new }
-        ensures stages { self.new.stages.items ≡ slice_set self.old.stages.items row Waiting }
+        ensures states { self.new.states.items ≡ slice_set self.old.states.items row Waiting }
     {
-        self.stages[row as usize] = Stage::Waiting;
+        self.states[row as usize] = RowState::Waiting;
         self.wake(row);
     }
 
@@ -88,14 +88,14 @@ impl<'a> Frontier<'a> {
         requires shape { IsRows rows.now }
         requires frontier { IsFrontier rows.now self.old }
         ensures kept { IsFrontier rows.now self.new }
-        ensures can { IfSome result (λ row. CanStart rows.now self.old.stages.items row) }
-        ensures least { IfSome result (λ row. (other : ℕ) → CanStart rows.now self.old.stages.items other → row ≤ other) }
-        ensures stages { IfSome result (λ row. self.new.stages.items ≡ slice_set self.old.stages.items row UnderWay) }
-        ensures none { IfNone result ((row : ℕ) → CanStart rows.now self.old.stages.items row → ⊥) }
-        ensures unchanged { IfNone result (self.new.stages.items ≡ self.old.stages.items) }
+        ensures can { IfSome result (λ row. CanStart rows.now self.old.states.items row) }
+        ensures least { IfSome result (λ row. (other : ℕ) → CanStart rows.now self.old.states.items other → row ≤ other) }
+        ensures states { IfSome result (λ row. self.new.states.items ≡ slice_set self.old.states.items row UnderWay) }
+        ensures none { IfNone result ((row : ℕ) → CanStart rows.now self.old.states.items row → ⊥) }
+        ensures unchanged { IfNone result (self.new.states.items ≡ self.old.states.items) }
     {
         let row = self.ready.take_least()?;
-        self.stages[row as usize] = Stage::UnderWay;
+        self.states[row as usize] = RowState::UnderWay;
         Some(row)
     }
 
@@ -103,11 +103,11 @@ impl<'a> Frontier<'a> {
     pub fn end(&mut self, rows: &SeenRows, row: u32)
         requires shape { IsRows rows.now }
         requires frontier { IsFrontier rows.now self.old }
-        requires under_way { IsAt self.old.stages.items row UnderWay }
+        requires under_way { IsAt self.old.states.items row UnderWay }
         ensures kept { IsFrontier rows.now self.new }
-        ensures stages { self.new.stages.items ≡ slice_set self.old.stages.items row Over }
+        ensures states { self.new.states.items ≡ slice_set self.old.states.items row Over }
     {
-        self.stages[row as usize] = Stage::Over;
+        self.states[row as usize] = RowState::Over;
         let followers = self.followers;
         for follower in followers.of(row as usize) {
             self.unmet[*follower as usize] -= 1;
@@ -117,17 +117,17 @@ impl<'a> Frontier<'a> {
 
     // Puts the row into the ready set where it is spawned and has not started, and its count is 0.
     fn wake(&mut self, row: u32)
-        requires there { row < length self.old.stages.items }
-        requires few { length self.old.stages.items ≤ MOST_ROWS }
-        requires whole { length self.old.unmet.items ≡ length self.old.stages.items }
+        requires there { row < length self.old.states.items }
+        requires few { length self.old.states.items ≤ MOST_ROWS }
+        requires whole { length self.old.unmet.items ≡ length self.old.states.items }
         requires set { IsRowSet self.old.ready }
         ensures set { IsRowSet self.new.ready }
-        ensures rows { (r : ℕ) → Has self.new.ready r ↔ (Has self.old.ready r ⊎ ((r ≡ row) × CountsReady self.old.stages.items self.old.unmet.items row)) }
-        ensures stages { self.new.stages.items ≡ self.old.stages.items }
+        ensures rows { (r : ℕ) → Has self.new.ready r ↔ (Has self.old.ready r ⊎ ((r ≡ row) × CountsReady self.old.states.items self.old.unmet.items row)) }
+        ensures states { self.new.states.items ≡ self.old.states.items }
         ensures unmet { self.new.unmet.items ≡ self.old.unmet.items }
         ensures followers { self.new.followers.now ≡ self.old.followers.now }
     {
-        if self.unmet[row as usize] == 0 && self.stages[row as usize] == Stage::Waiting {
+        if self.unmet[row as usize] == 0 && self.states[row as usize] == RowState::Waiting {
             self.ready.insert(row);
         }
     }

@@ -102,9 +102,9 @@ impl<'a> Simulation<'a> {
         requires idle { IsLeastIdle self.old.idle worker }
         ensures workers { self.new.p ≡ self.old.p }
         ensures giving { OnOk result (IsGiving rows.now self.new) }
-        ensures fewer { IfOk result (λ given. given ≡ true → steps_of_all self.new.frontier.stages.items < steps_of_all self.old.frontier.stages.items) }
+        ensures fewer { IfOk result (λ given. given ≡ true → steps_of_all self.new.frontier.states.items < steps_of_all self.old.frontier.states.items) }
         ensures settled { IfOk result (λ given. given ≡ false → IsSettled rows.now self.new) }
-        ensures no_more { IfOk result (λ given. given ≡ false → steps_of_all self.new.frontier.stages.items ≤ steps_of_all self.old.frontier.stages.items) }
+        ensures no_more { IfOk result (λ given. given ≡ false → steps_of_all self.new.frontier.states.items ≤ steps_of_all self.old.frontier.states.items) }
     {
         match self.frontier.start_least(rows) {
             Some(row) => {
@@ -126,7 +126,7 @@ impl<'a> Simulation<'a> {
         requires giving { IsGiving rows.now self.old }
         ensures workers { self.new.p ≡ self.old.p }
         ensures settled { OnOk result (IsSettled rows.now self.new) }
-        ensures no_more { OnOk result (steps_of_all self.new.frontier.stages.items ≤ steps_of_all self.old.frontier.stages.items) }
+        ensures no_more { OnOk result (steps_of_all self.new.frontier.states.items ≤ steps_of_all self.old.frontier.states.items) }
     {
         while self.idle != 0 {
             let worker = self.idle.trailing_zeros();
@@ -145,7 +145,7 @@ impl<'a> Simulation<'a> {
         ensures workers { self.new.p ≡ self.old.p }
         ensures tick { self.new.tick ≡ self.old.tick }
         ensures stepping { IsStepping rows.now self.new }
-        ensures fewer { steps_of_all self.new.frontier.stages.items < steps_of_all self.old.frontier.stages.items }
+        ensures fewer { steps_of_all self.new.frontier.states.items < steps_of_all self.old.frontier.states.items }
     {
         let change = self.first[row as usize];
         if (change.child as usize) < rows.len() {
@@ -179,7 +179,7 @@ impl<'a> Simulation<'a> {
         requires low { IsLow rows.now self.old }
         ensures workers { self.new.p ≡ self.old.p }
         ensures giving { IsGiving rows.now self.new }
-        ensures no_more { steps_of_all self.new.frontier.stages.items ≤ steps_of_all self.old.frontier.stages.items }
+        ensures no_more { steps_of_all self.new.frontier.states.items ≤ steps_of_all self.old.frontier.states.items }
     {
         while let Some((tick, row)) = self.next_change() {
             if tick != self.tick {
@@ -198,7 +198,7 @@ impl<'a> Simulation<'a> {
         ensures workers { self.new.p ≡ self.old.p }
         ensures stepping { IsStepping rows.now self.new }
         ensures low { IsLow rows.now self.new }
-        ensures fewer { steps_of_all self.new.frontier.stages.items < steps_of_all self.old.frontier.stages.items }
+        ensures fewer { steps_of_all self.new.frontier.states.items < steps_of_all self.old.frontier.states.items }
     {
         self.tick = tick;
         self.moments += 1;

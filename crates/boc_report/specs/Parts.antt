@@ -1,6 +1,6 @@
 -- The greedy part of a report.
 use Rattle.std.specs.Prelude.{◌≡◌, ℕ, List, [], length, Option, Some, None}
-use Rattle.boc_greedy.specs.declared.report.Greedy.{Greedy}
+use Rattle.boc_greedy.specs.declared.plan.Greedy.{Greedy}
 use Rattle.boc_report.specs.Texts.{greedy_text}
 
 -- a greedy plan has an end and a worker for each of its starts

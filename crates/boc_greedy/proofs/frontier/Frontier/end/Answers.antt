@@ -5,9 +5,9 @@ use Rattle.std.proofs.lemmas.List.Elements.{Contains-get_or}
 use Rattle.std.proofs.lemmas.Option.{slice_get_within}
 use Rattle.boc_runs.specs.declared.rows.Row.{Row}
 use Rattle.boc_order.specs.Waits.{links_of}
-use Rattle.boc_greedy.specs.declared.frontier.Stage.TheVariants.{UnderWay, Over}
+use Rattle.boc_greedy.specs.declared.frontier.RowState.TheVariants.{UnderWay, Over}
 use Rattle.boc_greedy.specs.declared.frontier.Frontier.{Frontier}
-use Rattle.boc_greedy.specs.Stages.{IsAt}
+use Rattle.boc_greedy.specs.RowStates.{IsAt}
 use Rattle.boc_greedy.specs.Frontier.{IsFrontierBut}
 use Rattle.boc_greedy.proofs.Followed.{times-first}
 use Rattle.boc_greedy.proofs.Queueing.{queued_set}
@@ -17,11 +17,11 @@ use Rattle.boc_greedy.proofs.frontier.Frontier.end.Goals as goal
 
 -- the next follower is there, and its count is not 0
 next_there : (rows : List Row) (old now : Frontier) (row n : ℕ) (items : List ℕ) → IsFrontierBut rows (drop n items) now
-    → now.stages.items ≡ slice_set old.stages.items row Over →
-    now.followers.now ≡ old.followers.now → IsAt old.stages.items row UnderWay → items ≡ links_of old.followers.now row → n < length items →
-    (slice_index items n < length now.stages.items) × (length now.unmet.items ≡ length now.stages.items)
+    → now.states.items ≡ slice_set old.states.items row Over →
+    now.followers.now ≡ old.followers.now → IsAt old.states.items row UnderWay → items ≡ links_of old.followers.now row → n < length items →
+    (slice_index items n < length now.states.items) × (length now.unmet.items ≡ length now.states.items)
     × (0 < slice_index now.unmet.items (slice_index items n))
-next_there rows old now row n items (waits, is) stages followers was of_row h = (
+next_there rows old now row n items (waits, is) states followers was of_row h = (
   there,
   is.are_counted.whole,
   omega (
@@ -32,11 +32,11 @@ next_there rows old now row n items (waits, is) stages followers was of_row h = 
   ),
 )
   where
-    row_there : row < length now.stages.items
-    row_there = omega (arith, slice_get_within old.stages.items row UnderWay was, ap length stages, length-set old.stages.items row Over)
+    row_there : row < length now.states.items
+    row_there = omega (arith, slice_get_within old.states.items row UnderWay was, ap length states, length-set old.states.items row Over)
 
-    there : slice_index items n < length now.stages.items
-    there = follower_there rows waits now.followers.now now.stages.items now.unmet.items now.ready _ row _ is row_there
+    there : slice_index items n < length now.states.items
+    there = follower_there rows waits now.followers.now now.states.items now.unmet.items now.ready _ row _ is row_there
         (rw (followers, sym of_row) (Contains-get_or items n 0 h))
 
 pub loop-follower-init : goal.loop-follower-init
@@ -46,24 +46,24 @@ loop-follower-init c =
     record {
       kept = rw c.of-follower-items.ensures (
         waits,
-        ended c.args.rows.now waits f.followers.now f.stages.items f.unmet.items f.ready c.args.row is
+        ended c.args.rows.now waits f.followers.now f.states.items f.unmet.items f.ready c.args.row is
             c.requires.under_way,
       );
-      stages = refl;
+      states = refl;
       followers = refl;
     }
 
 pub index_mut-requires-in-loop-follower : goal.index_mut-requires-in-loop-follower
 index_mut-requires-in-loop-follower c =
     let i = c.loop-follower.invariant in
-    let t = next_there _ c.args.self.now c.loop-follower.self c.args.row c.loop-follower.follower-index _ i.kept i.stages i.followers c.requires.under_way
+    let t = next_there _ c.args.self.now c.loop-follower.self c.args.row c.loop-follower.follower-index _ i.kept i.states i.followers c.requires.under_way
     c.of-follower-items.ensures c.loop-follower-test.true in
     omega (arith, t.0, t.1, c.loop-follower.self.unmet.ok.0)
 
 pub overflow_sub-index_mut : goal.overflow_sub-index_mut
 overflow_sub-index_mut c =
     let i = c.loop-follower.invariant in
-    let t = next_there _ c.args.self.now c.loop-follower.self c.args.row c.loop-follower.follower-index _ i.kept i.stages i.followers c.requires.under_way
+    let t = next_there _ c.args.self.now c.loop-follower.self c.args.row c.loop-follower.follower-index _ i.kept i.states i.followers c.requires.under_way
     c.of-follower-items.ensures c.loop-follower-test.true in
     omega (
       arith,
@@ -75,7 +75,7 @@ overflow_sub-index_mut c =
 pub wake-requires-clause-there : goal.wake-requires-clause-there
 wake-requires-clause-there c =
     let i = c.loop-follower.invariant in
-    (next_there _ c.args.self.now c.loop-follower.self c.args.row c.loop-follower.follower-index _ i.kept i.stages i.followers c.requires.under_way
+    (next_there _ c.args.self.now c.loop-follower.self c.args.row c.loop-follower.follower-index _ i.kept i.states i.followers c.requires.under_way
     c.of-follower-items.ensures c.loop-follower-test.true).0
 
 pub wake-requires-clause-set : goal.wake-requires-clause-set
@@ -88,19 +88,19 @@ loop-follower-preserved c =
     let w = c.wake.ensures in
     let items = c.of-follower-items.result.now in
     let n : ℕ = c.loop-follower.follower-index in
-    let t = next_there _ c.args.self.now f c.args.row n items i.kept i.stages i.followers c.requires.under_way c.of-follower-items.ensures
+    let t = next_there _ c.args.self.now f c.args.row n items i.kept i.states i.followers c.requires.under_way c.of-follower-items.ensures
     c.loop-follower-test.true in
     let read = read_at f.unmet.items (slice_index items n) c.index_mut-in-loop-follower.result.now (omega (arith, t.0, t.1))
     c.index_mut-in-loop-follower.ensures.value in
     let (waits, is) = i.kept in
     record {
-      kept = rw (w.stages, w.unmet, w.followers) (
+      kept = rw (w.states, w.unmet, w.followers) (
         waits,
-        woken c.args.rows.now waits f.followers.now f.stages.items f.unmet.items f.ready (slice_index items n) (drop (n + 1) items) _ _
+        woken c.args.rows.now waits f.followers.now f.states.items f.unmet.items f.ready (slice_index items n) (drop (n + 1) items) _ _
             (rw (sym (drop_more items n 0 c.loop-follower-test.true)) is) t.0 (ap (λ (x : ℕ). slice_set f.unmet.items (slice_index items n) (x - 1)) (sym read))
             w.set w.rows,
       );
-      stages = w.stages ∙ i.stages;
+      states = w.states ∙ i.states;
       followers = w.followers ∙ i.followers;
     }
 
@@ -110,5 +110,5 @@ returns-clause-kept c =
     let all : drop c.loop-follower.follower-index items ≡ [] = drop_all c.loop-follower.follower-index items (omega (arith, c.loop-follower-test.false)) in
     rw all at c.loop-follower.invariant.kept
 
-pub returns-clause-stages : goal.returns-clause-stages
-returns-clause-stages c = c.loop-follower.invariant.stages
+pub returns-clause-states : goal.returns-clause-states
+returns-clause-states c = c.loop-follower.invariant.states

@@ -10,5 +10,5 @@ returns-clause-kept c =
     let f = c.args.self.now in
     let w = c.wake.ensures in
     let (waits, is) = c.requires.frontier in
-    rw (w.stages, w.unmet, w.followers)
-    (waits, spawned c.args.rows.now waits f.followers.now f.stages.items f.unmet.items f.ready c.args.row _ is c.requires.unspawned w.set w.rows)
+    rw (w.states, w.unmet, w.followers)
+    (waits, spawned c.args.rows.now waits f.followers.now f.states.items f.unmet.items f.ready c.args.row _ is c.requires.unspawned w.set w.rows)

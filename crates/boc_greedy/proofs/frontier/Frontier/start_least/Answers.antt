@@ -1,6 +1,6 @@
 use Rattle.std.proofs.Common.{arith}
 use Rattle.std.proofs.lemmas.Option.{slice_get_within}
-use Rattle.boc_greedy.specs.declared.frontier.Stage.TheVariants.{Waiting}
+use Rattle.boc_greedy.specs.declared.frontier.RowState.TheVariants.{Waiting}
 use Rattle.boc_greedy.proofs.Queueing.{queued_set}
 use Rattle.boc_greedy.proofs.Waking.{had_awaits, had_can, can_had, started}
 use Rattle.boc_greedy.proofs.frontier.Frontier.start_least.Goals as goal
@@ -15,7 +15,7 @@ pub index_mut-requires : goal.index_mut-requires
 index_mut-requires c =
     let f = c.args.self.now in
     let top = had_awaits _ _ _ _ _ _ c.in_ok-row.row c.requires.frontier.1 c.in_ok-row.ensures.had in
-    omega (arith, slice_get_within f.stages.items c.in_ok-row.row Waiting top.waiting, f.stages.ok.0)
+    omega (arith, slice_get_within f.states.items c.in_ok-row.row Waiting top.waiting, f.states.ok.0)
 
 pub returns-clause-kept : goal.returns-clause-kept
 returns-clause-kept c = (

@@ -1,8 +1,8 @@
 use Rattle.std.proofs.Common.{ℕ, ◌<◌, length, sym, arith}
 use Rattle.boc_greedy.specs.declared.children.Change.{Change}
-use Rattle.boc_greedy.specs.declared.frontier.Stage.TheVariants.{Unspawned, Waiting, UnderWay, Over}
+use Rattle.boc_greedy.specs.declared.frontier.RowState.TheVariants.{Unspawned, Waiting, UnderWay, Over}
 use Rattle.boc_greedy.specs.Simulating.{later}
-use Rattle.boc_greedy.proofs.Puts.{restages, weight_set}
+use Rattle.boc_greedy.proofs.Puts.{changes_state, weight_set}
 use Rattle.boc_greedy.proofs.Reading.{read_at}
 use Rattle.boc_greedy.proofs.Timing.{child_at, puts_child, puts_time, timed_low, timed_after}
 use Rattle.boc_greedy.proofs.Changing.{is_due, is_spawning}
@@ -45,14 +45,14 @@ end-requires-clause-under_way c = (is_due _ c.requires.shape c.args.self.now _ c
 pub index-requires : goal.index-requires
 index-requires c =
     let d = is_due _ c.requires.shape c.args.self.now _ c.requires.stepping c.requires.top in
-    omega (arith, d.there, c.requires.stepping.kept.staged.workers_whole, c.args.self.now.workers.ok.0)
+    omega (arith, d.there, c.requires.stepping.kept.states_are.workers_whole, c.args.self.now.workers.ok.0)
 
 pub with_bit-self-requires : goal.with_bit-self-requires
 with_bit-self-requires c =
     let d = is_due _ c.requires.shape c.args.self.now _ c.requires.stepping c.requires.top in
     let k = c.requires.stepping.kept in
-    let worker = read_at c.args.self.now.workers.items c.args.row c.index.result.now (omega (arith, d.there, k.staged.workers_whole)) c.index.ensures in
-    omega (arith, worker, (k.under_way c.args.row d.under_way).below, k.staged.few)
+    let worker = read_at c.args.self.now.workers.items c.args.row c.index.result.now (omega (arith, d.there, k.states_are.workers_whole)) c.index.ensures in
+    omega (arith, worker, (k.under_way c.args.row d.under_way).below, k.states_are.few)
 
 pub returns-then-change-len-clause-stepping : goal.returns-then-change-len-clause-stepping
 returns-then-change-len-clause-stepping c =
@@ -66,8 +66,8 @@ returns-then-change-len-clause-stepping c =
     let there : change.child < length c.args.rows.now = omega (arith, c.if-change-len.true, c.len.ensures.count) in
     let d = is_due _ shape s r i c.requires.top in
     let p = is_spawning _ shape s r i c.requires.top change next c.index-change.ensures there c.index-next.ensures in
-    let sg = restages s.frontier.stages.items c.spawn.new.self.stages.items change.child Waiting (omega (arith, there, k.staged.stages_whole))
-    c.spawn.ensures.stages in
+    let sg = changes_state s.frontier.states.items c.spawn.new.self.states.items change.child Waiting (omega (arith, there, k.states_are.states_whole))
+    c.spawn.ensures.states in
     let pf = puts_child s.first.items r next d.listed in
     let po = c.put_off.ensures s.tick r i.queue c.requires.top in
     record {
@@ -89,8 +89,8 @@ returns-then-change-len-clause-fewer c =
     let change : Change = c.index-change.result.now in
     omega (
       arith,
-      weight_set s.frontier.stages.items c.spawn.new.self.stages.items change.child Unspawned Waiting
-          ((rw child at d.unspawned) (omega (arith, c.if-change-len.true, c.len.ensures.count))) c.spawn.ensures.stages,
+      weight_set s.frontier.states.items c.spawn.new.self.states.items change.child Unspawned Waiting
+          ((rw child at d.unspawned) (omega (arith, c.if-change-len.true, c.len.ensures.count))) c.spawn.ensures.states,
     )
 
 pub returns-else-change-len-clause-stepping : goal.returns-else-change-len-clause-stepping
@@ -102,8 +102,8 @@ returns-else-change-len-clause-stepping c =
     let r : ℕ = c.args.row in
     let d = is_due _ shape s r i c.requires.top in
     let child = child_at s.first.items r c.index-change.result.now d.listed c.index-change.ensures in
-    let worker = read_at s.workers.items r c.index.result.now (omega (arith, d.there, k.staged.workers_whole)) c.index.ensures in
-    let sg = restages s.frontier.stages.items c.end.new.self.stages.items r Over (omega (arith, d.there, k.staged.stages_whole)) c.end.ensures.stages in
+    let worker = read_at s.workers.items r c.index.result.now (omega (arith, d.there, k.states_are.workers_whole)) c.index.ensures in
+    let sg = changes_state s.frontier.states.items c.end.new.self.states.items r Over (omega (arith, d.there, k.states_are.states_whole)) c.end.ensures.states in
     let po = popped _ _ c.pop.result _ s.tick r i.queue c.requires.top s.queue.data.ok.0 c.pop.ensures.top c.pop.ensures.permutation c.pop.ensures.heap_order
     c.pop.ensures.none in
     record {
@@ -121,4 +121,4 @@ pub returns-else-change-len-clause-fewer : goal.returns-else-change-len-clause-f
 returns-else-change-len-clause-fewer c =
     let s = c.args.self.now in
     let d = is_due _ c.requires.shape s _ c.requires.stepping c.requires.top in
-    omega (arith, weight_set s.frontier.stages.items c.end.new.self.stages.items c.args.row UnderWay Over d.under_way c.end.ensures.stages)
+    omega (arith, weight_set s.frontier.states.items c.end.new.self.states.items c.args.row UnderWay Over d.under_way c.end.ensures.states)

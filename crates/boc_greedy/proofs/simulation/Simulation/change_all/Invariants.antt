@@ -8,8 +8,8 @@ invariant-loop-tick l = record {
   workers : l.self.p ≡ l.fn.self.p;
   stepping : IsStepping l.rows l.self;
   tick_stays : l.self.tick ≡ l.fn.self.tick;
-  no_more : steps_of_all l.self.frontier.stages.items ≤ steps_of_all l.fn.self.frontier.stages.items;
+  no_more : steps_of_all l.self.frontier.states.items ≤ steps_of_all l.fn.self.frontier.states.items;
 }
 
 abbrev pub decreases-loop-tick : goal.decreases-loop-tick
-decreases-loop-tick l = steps_of_all l.self.frontier.stages.items
+decreases-loop-tick l = steps_of_all l.self.frontier.states.items

@@ -3,12 +3,12 @@ use Rattle.std.specs.Prelude.{slice_index}
 use Rattle.std.specs.BinaryHeap.{heap_items}
 use Rattle.std.proofs.lemmas.List.{length-map}
 use Rattle.boc_runs.specs.Rows.{offset_of, ticks_of}
-use Rattle.boc_greedy.specs.declared.frontier.Stage.TheVariants.{Waiting, UnderWay}
+use Rattle.boc_greedy.specs.declared.frontier.RowState.TheVariants.{Waiting, UnderWay}
 use Rattle.boc_greedy.specs.Families.{children_of}
-use Rattle.boc_greedy.specs.Stages.{CanStart}
+use Rattle.boc_greedy.specs.RowStates.{CanStart}
 use Rattle.boc_greedy.specs.Queues.{IsIn}
 use Rattle.boc_greedy.specs.Simulating.{later}
-use Rattle.boc_greedy.proofs.Puts.{puts, restages, weight_set, not_same}
+use Rattle.boc_greedy.proofs.Puts.{puts, changes_state, weight_set, not_same}
 use Rattle.boc_greedy.proofs.Timing.{time_at, timed_low}
 use Rattle.boc_greedy.proofs.Queued.{none_counts, pushed}
 use Rattle.boc_greedy.proofs.Standing.{there}
@@ -22,7 +22,7 @@ overflow_add-tick c =
     let s = c.args.self.now in
     let x : ℕ = c.in-Some.row in
     let h : x < length c.args.rows.now = there _ c.requires.shape _ _ _ _ _ _ _ _ _ g.kept x Waiting c.in-Some.ensures.can.waits in
-    let time = time_at s.first.items x c.index-change.result.now (omega (arith, h, simp length-map at g.kept.staged.first_whole))
+    let time = time_at s.first.items x c.index-change.result.now (omega (arith, h, simp length-map at g.kept.states_are.first_whole))
     c.index-change.ensures in
     omega (arith, time, timed_low _ c.requires.shape x _ _ h (g.are_timed x h), g.kept.early, c.from.ensures)
 
@@ -34,15 +34,15 @@ returns-in_ok-push-in-Some-clause-giving c =
     let s = c.args.self.now in
     let x : ℕ = c.in-Some.row in
     let w : ℕ = c.args.worker in
-    let can : CanStart c.args.rows.now s.frontier.stages.items x = c.in-Some.ensures.can in
+    let can : CanStart c.args.rows.now s.frontier.states.items x = c.in-Some.ensures.can in
     let h : x < length c.args.rows.now = there _ shape _ _ _ _ _ _ _ _ _ k x Waiting can.waits in
-    let listed : x < length s.first.items = omega (arith, h, simp length-map at k.staged.first_whole) in
+    let listed : x < length s.first.items = omega (arith, h, simp length-map at k.states_are.first_whole) in
     let time = time_at s.first.items x c.index-change.result.now listed c.index-change.ensures in
     let timed = g.are_timed x h in
-    let ps = puts s.starts.items x s.tick (omega (arith, h, k.staged.starts_whole)) in
-    let pw = puts s.workers.items x w (omega (arith, h, k.staged.workers_whole)) in
-    let sg = restages s.frontier.stages.items c.start_least.new.self.stages.items x UnderWay (omega (arith, h, k.staged.stages_whole))
-    c.in-Some.ensures.stages in
+    let ps = puts s.starts.items x s.tick (omega (arith, h, k.states_are.starts_whole)) in
+    let pw = puts s.workers.items x w (omega (arith, h, k.states_are.workers_whole)) in
+    let sg = changes_state s.frontier.states.items c.start_least.new.self.states.items x UnderWay (omega (arith, h, k.states_are.states_whole))
+    c.in-Some.ensures.states in
     let none : (change q : ℕ) → IsIn (heap_items s.queue) change q → q ≢ x =
     λ change q i. not_same _ x Waiting can.waits q UnderWay (λ d. (cc)) (k.busy change q i).under_way in
     let pq = pushed _ _ (s.tick + c.from.result) x g.queue.once (none_counts _ x none) (c.in_ok-push-in-Some.ensures.heap_order g.queue.ordered)
@@ -71,14 +71,14 @@ returns-in_ok-push-in-Some-clause-giving c =
             _ g.counted.all;
         low = g.counted.low;
       };
-      low = omega (arith, weight_set s.frontier.stages.items c.start_least.new.self.stages.items x Waiting UnderWay can.waits c.in-Some.ensures.stages, g.low);
+      low = omega (arith, weight_set s.frontier.states.items c.start_least.new.self.states.items x Waiting UnderWay can.waits c.in-Some.ensures.states, g.low);
     }
 
 pub returns-in_ok-push-in-Some-clause-fewer : goal.returns-in_ok-push-in-Some-clause-fewer
 returns-in_ok-push-in-Some-clause-fewer c = λ e.
-    (let can : CanStart c.args.rows.now c.args.self.now.frontier.stages.items c.in-Some.row = c.in-Some.ensures.can in
+    (let can : CanStart c.args.rows.now c.args.self.now.frontier.states.items c.in-Some.row = c.in-Some.ensures.can in
     omega (
       arith,
-      weight_set c.args.self.now.frontier.stages.items c.start_least.new.self.stages.items c.in-Some.row Waiting UnderWay can.waits
-          c.in-Some.ensures.stages,
+      weight_set c.args.self.now.frontier.states.items c.start_least.new.self.states.items c.in-Some.row Waiting UnderWay can.waits
+          c.in-Some.ensures.states,
     ))

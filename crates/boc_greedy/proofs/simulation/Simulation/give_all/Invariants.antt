@@ -7,8 +7,8 @@ abbrev pub invariant-loop-self : goal.invariant-loop-self
 invariant-loop-self l = record {
   workers : l.self.p ≡ l.fn.self.p;
   giving : IsGiving l.rows l.self;
-  no_more : steps_of_all l.self.frontier.stages.items ≤ steps_of_all l.fn.self.frontier.stages.items;
+  no_more : steps_of_all l.self.frontier.states.items ≤ steps_of_all l.fn.self.frontier.states.items;
 }
 
 abbrev pub decreases-loop-self : goal.decreases-loop-self
-decreases-loop-self l = steps_of_all l.self.frontier.stages.items
+decreases-loop-self l = steps_of_all l.self.frontier.states.items

@@ -9,6 +9,8 @@
 //! run stands then is written as its log, its steps, and the values of its cowns. Of a `quiet WORKERS`, which is made so too,
 //! it is written who can step then, and the steps and values of the run once it went on until it is quiet. Each drive is
 //! made over linked chains and over plain ones, and what the plain ones give is written too, should it be something else.
+//! A `follow LENGTH` is a program of so many bytes and a record behind it: it is written whether the record is that of a run of the program, with
+//! the values in which that ends, or which event the program doesn't allow, counted from 0.
 #![tactic(auto)]
 
 ghost use Rattle.std.specs.Prelude.{◌<◌, ◌≤◌, length, IfOk, IfSome};
@@ -18,6 +20,7 @@ use boc_chain::{Chains, ListChains};
 use boc_dispatch::{
     Core, DriveFault, cown_count, drive, drive_over, drive_quiet, drive_quiet_over,
 };
+use boc_follow::accept;
 use boc_greedy::{Greedy, greedy};
 use boc_order::profile;
 use boc_plans::sharing::Sharing;
@@ -43,6 +46,7 @@ enum Kind {
     Plan { asked: Asked, sharing: Sharing },
     Drive { workers: u32 },
     Quiet { workers: u32 },
+    Follow { program: usize },
 }
 
 /// What is asked of the plans of a record's rows.
@@ -109,6 +113,10 @@ fn run_kind(words: &str) -> Option<Kind> {
         ("quiet", workers) => {
             let workers = workers.parse().ok()?;
             Some(Kind::Quiet { workers })
+        }
+        ("follow", len) => {
+            let program = len.parse().ok()?;
+            Some(Kind::Follow { program })
         }
         _ => None,
     }
@@ -414,6 +422,43 @@ fn tell_driven(rt: HostRuntime, text: &[u8], workers: u32, until_quiet: bool) ->
     }
 }
 
+// The values in which a run ends.
+fn values_text(alloc: Global, values: &[i64]) -> Result<Vec<u8>, AllocError> {
+    let mut text = Vec::from_slice(alloc, b"a run of it, which ends in")?;
+    if values.is_empty() {
+        text.extend_from_slice(b" no value")?;
+    }
+    for value in values {
+        text.push(b' ')?;
+        put_signed(&mut text, *value)?;
+    }
+    text.push(b'\n')?;
+    Ok(text)
+}
+
+// Writes whether the record behind a program of so many bytes is that of a run of it.
+fn tell_followed(rt: HostRuntime, text: &[u8], len: usize) -> io::Result<()> {
+    if len > text.len() {
+        return println!(rt; "no program");
+    }
+    let (text, behind) = text.split_at(len);
+    let program = match read_program(rt.alloc(), text) {
+        Ok(program) => program,
+        Err(fault) => return println!(rt; "{fault}"),
+    };
+    let record = match record_of(rt, behind)? {
+        Ok(record) => record,
+        Err(fault) => return println!(rt; "{fault}"),
+    };
+    match accept(rt.alloc(), &program, &record) {
+        Ok(run) => {
+            let values = values_text(rt.alloc(), run.values())?;
+            rt.stdout().write_all(&values)
+        }
+        Err(fault) => println!(rt; "{fault}"),
+    }
+}
+
 fn main(rt: HostRuntime) -> io::Result<()> {
     let mut table = Vec::new(rt.alloc());
     rt.stdin().read_to_end(&mut table)?;
@@ -425,6 +470,7 @@ fn main(rt: HostRuntime) -> io::Result<()> {
             Kind::Plan { asked, sharing } => tell_plan(rt, &rt, text, asked, sharing)?,
             Kind::Drive { workers } => tell_driven(rt, text, workers, false)?,
             Kind::Quiet { workers } => tell_driven(rt, text, workers, true)?,
+            Kind::Follow { program } => tell_followed(rt, text, program)?,
         }
         rest = behind;
     }

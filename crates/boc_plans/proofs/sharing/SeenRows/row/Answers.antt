@@ -11,7 +11,8 @@ offset_bounds-rows-row c = omega (arith, bounds-rows-row c, c.self.invariant.0.n
 
 is_row : (c : After-index-rows-row) → IsSeenRow c.args.self.now c.args.row c.index-rows-row.result
 is_row c = subst (IsSeenRow c.args.self.now c.args.row) (sym c.index-rows-row.is)
-    (seen_read c.self.inside.sharing c.self.inside.other c.self.inside.rows.now c.args.self.now (sym c.self.view_is) c.args.row c.requires c.index-rows-row.result)
+    (seen_read c.self.inside.sharing c.self.inside.other c.self.inside.rows.now c.args.self.now (sym c.self.view_is) c.args.row c.requires
+    c.index-rows-row.result)
 
 pub returns-clause-parent : goal.returns-clause-parent
 returns-clause-parent c = (is_row c).parent

@@ -31,8 +31,8 @@ returns-then-other-row c =
 pub returns-else-other-row : goal.returns-else-other-row
 returns-else-other-row c =
     rw (ap (λ (x : Row). x.ticks) c.index-rows-row.is) at
-    (kept_ticks c.self.inside.sharing c.self.inside.other c.self.inside.rows.now _ (sym c.self.view_is) c.args.row c.requires c.index-rows-row.result c.index-rows-row.is
-    c.in-Some.other c.in-Some.is (λ e. omega (arith, c.if-other-row.false, e)))
+    (kept_ticks c.self.inside.sharing c.self.inside.other c.self.inside.rows.now _ (sym c.self.view_is) c.args.row c.requires c.index-rows-row.result
+    c.index-rows-row.is c.in-Some.other c.in-Some.is (λ e. omega (arith, c.if-other-row.false, e)))
 
 pub returns-in-None : goal.returns-in-None
 returns-in-None c =

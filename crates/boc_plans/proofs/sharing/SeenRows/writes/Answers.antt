@@ -8,7 +8,8 @@ use Rattle.boc_plans.proofs.sharing.SeenRows.writes.Goals as goal
 
 pub returns-in-Exclusive : goal.returns-in-Exclusive
 returns-in-Exclusive c = (
-  λ t. written_of-seen c.self.inside.sharing (edited_by c.self.inside.other c.self.inside.rows.now) _ c.args.row c.args.cown (sym c.self.view_is) c.requires.own c.in-Exclusive.is,
+  λ t. written_of-seen c.self.inside.sharing (edited_by c.self.inside.other c.self.inside.rows.now) _ c.args.row c.args.cown (sym c.self.view_is)
+      c.requires.own c.in-Exclusive.is,
   λ h. refl,
 )
 

@@ -4,6 +4,7 @@ use Rattle.boc_runs.specs.declared.rows.Row.{Row}
 use Rattle.boc_runs.specs.Rows.{parent_of, offset_of, ticks_of}
 use Rattle.boc_plans.specs.Plans.{IsChild}
 use Rattle.boc_greedy.specs.declared.children.Change.{Change}
+use Rattle.boc_greedy.specs.declared.children.Family.{Family}
 
 -- the children in some changes; where there is none, the number of rows
 abbrev pub children_of : List Change → List ℕ
@@ -41,3 +42,7 @@ pub record IsFamily (rows : List Row) (first first_times next next_times : List 
   pub child : (a : ℕ) → a < length rows → IsNextChild rows a 1 (slice_index first a)
   pub are_timed : AreTimed rows first first_times
   pub are_next : AreNext rows next next_times
+
+-- the same, where children and times stand side by side
+abbrev pub IsFamilyOf : List Row → Family → Type 0
+IsFamilyOf rows f = IsFamily rows (children_of f.first.items) (times_of f.first.items) (children_of f.next.items) (times_of f.next.items)

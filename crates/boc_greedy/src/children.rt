@@ -2,7 +2,7 @@
 
 ghost use Rattle.std.specs.Prelude.{IfOk};
 ghost use Rattle.boc_runs.specs.Rows.{IsRows};
-ghost use Rattle.boc_greedy.specs.Families.{IsFamily, children_of, times_of};
+ghost use Rattle.boc_greedy.specs.Families.{IsFamilyOf};
 
 use boc_plans::sharing::SeenRows;
 use std::alloc::{AllocError, Global};
@@ -29,7 +29,7 @@ pub struct Family {
 /// The changes of the rows, with all of them left. `AllocError` says that memory was refused.
 pub fn family_of(alloc: Global, rows: &SeenRows) -> Result<Family, AllocError>
     requires { IsRows rows.now }
-    ensures { IfOk result (λ f. IsFamily rows.now (children_of f.first.items) (times_of f.first.items) (children_of f.next.items) (times_of f.next.items)) }
+    ensures { IfOk result (λ f. IsFamilyOf rows.now f) }
 {
     let count = rows.len();
     let none = count as u32;

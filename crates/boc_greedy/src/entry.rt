@@ -9,7 +9,7 @@ ghost use Rattle.boc_plans.specs.Sweeps.{IsGreedyEnd};
 ghost use Rattle.boc_order.specs.Waits.{AreWaits, AreFollowers};
 ghost use Rattle.boc_greedy.specs.Consequences.{AreConsequences};
 ghost use Rattle.boc_greedy.specs.Done.{IsDone};
-ghost use Rattle.boc_greedy.specs.Families.{IsFamily, children_of, times_of};
+ghost use Rattle.boc_greedy.specs.Families.{IsFamilyOf};
 ghost use Rattle.boc_greedy.specs.Plans.{IsGreedyPlanOf};
 
 use crate::children::{Family, family_of};
@@ -62,8 +62,7 @@ fn simulated<'a>(
     requires shape { IsRows rows.now }
     requires waits { AreWaits rows.now waits.now }
     requires followers { AreFollowers waits.now followers.now }
-    requires family { IsFamily rows.now (children_of family.now.first.items) (times_of family.now.first.items) (children_of family.now.next.items)
-        (times_of family.now.next.items) }
+    requires family { IsFamilyOf rows.now family.now }
     requires some { 0 < p }
     requires few { p ≤ 64 }
     ensures { IfOk result (IsDone rows.now p) }
@@ -90,8 +89,7 @@ pub fn end_for(
     requires shape { IsRows rows.now }
     requires waits { AreWaits rows.now waits.now }
     requires followers { AreFollowers waits.now followers.now }
-    requires family { IsFamily rows.now (children_of family.now.first.items) (times_of family.now.first.items) (children_of family.now.next.items)
-        (times_of family.now.next.items) }
+    requires family { IsFamilyOf rows.now family.now }
     requires some { 0 < p }
     requires few { p ≤ 64 }
     ensures { IfOk result (IsGreedyEnd rows.now p) }

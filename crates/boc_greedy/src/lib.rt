@@ -1,4 +1,4 @@
-//! What p workers would make of some rows: the greedy plan, and the tick by which it has ended.
+//! What p workers would make of some rows: the greedy plan, the tick before which no plan ends, and that by which the greedy one has ended.
 //!
 //! The simulation jumps from one tick at which something can change to the next. Its time grows with the number of
 //! rows and of their cowns.

@@ -4,7 +4,7 @@ ghost use Rattle.std.specs.Prelude.{◌≡◌, ℕ, ◌+◌, ◌<◌, ◌≤◌,
 ghost use Rattle.std.specs.BinaryHeap.{heap_items};
 ghost use Rattle.boc_runs.specs.Rows.{IsRows};
 ghost use Rattle.boc_order.specs.Waits.{AreWaits, AreFollowers};
-ghost use Rattle.boc_greedy.specs.Families.{IsFamily, children_of, times_of};
+ghost use Rattle.boc_greedy.specs.Families.{IsFamilyOf};
 ghost use Rattle.boc_greedy.specs.Queues.{IsQueue, IsIn, IsOnTop, IsPutOff};
 ghost use Rattle.boc_greedy.specs.Simulating.{later, IsLeastIdle, steps_of_all};
 ghost use Rattle.boc_greedy.specs.Stepping.{IsStepping, IsGiving, IsSettled, IsLow};
@@ -70,8 +70,7 @@ impl<'a> Simulation<'a> {
         requires shape { IsRows rows.now }
         requires waits { AreWaits rows.now waits.now }
         requires followers { AreFollowers waits.now followers.now }
-        requires family { IsFamily rows.now (children_of family.now.first.items) (times_of family.now.first.items) (children_of family.now.next.items)
-            (times_of family.now.next.items) }
+        requires family { IsFamilyOf rows.now family.now }
         requires some { 0 < p }
         requires few { p ≤ 64 }
         ensures workers { IfOk result (λ s. s.p ≡ p) }

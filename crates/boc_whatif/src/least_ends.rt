@@ -19,8 +19,8 @@ use rayon::prelude::*;
 use std::alloc::{AllocError, Global};
 use std::thread::Threads;
 
-// After so many rows it is told how far the sweep is.
-const STRETCH: usize = 256;
+// After so many plans it is told how far the sweep is.
+const STRETCH: u32 = 256;
 
 /// What all plans of a sweep share.
 #[derive(Drop)]
@@ -51,6 +51,26 @@ fn least_end(alloc: Global, parts: &Parts<'_>, row: usize) -> Result<u64, AllocE
     }
     let seen = SeenRows::with_ticks(parts.rows, parts.sharing, row as u32, least);
     greedy_end(alloc, &seen, parts.waits, parts.followers, parts.workers)
+}
+
+// The row behind a stretch that begins with this one. A stretch has as many rows as it takes for so many plans, or all that are left.
+fn behind_stretch(parts: &Parts<'_>, from: usize) -> usize
+    requires there { from < length parts.now.rows.now }
+    requires parts { AreParts parts.now }
+    ensures further { from < result }
+    ensures within { result ≤ length parts.now.rows.now }
+{
+    let rows = parts.rows.as_slice();
+    let mut plans = 0;
+    for row in from..rows.len() {
+        if rows[row].ticks > least_ticks(parts.lasts[row]) {
+            plans += 1;
+        }
+        if plans == STRETCH {
+            return row + 1;
+        }
+    }
+    rows.len()
 }
 
 // The ends for the rows from one on, up to another one. Threads share them out, row by row.
@@ -92,7 +112,7 @@ fn all_ends(
     let mut all = Vec::with_capacity(alloc, count)?;
     let mut done = 0;
     while done < count {
-        let next = count.min(done + STRETCH);
+        let next = behind_stretch(parts, done);
         let ends = ends_between(rt, alloc, parts, done, next)?;
         all.extend_from_slice(&ends)?;
         done = next;

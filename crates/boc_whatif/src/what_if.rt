@@ -243,7 +243,7 @@ impl WhatIf {
     /// can: the offset of its last child, and 1 at least. `AllocError` says that memory was refused.
     ///
     /// It makes a greedy plan for each row that takes more than its least ticks. Threads share out the rows, and each plan takes memory that
-    /// grows with the number of rows. Progress is told after each 256 rows.
+    /// grows with the number of rows. Progress is told after each 256 plans.
     pub fn greedy_sweep(
         &self,
         rt: &(impl Threads + Sync),

@@ -21,16 +21,16 @@ loop-done-preserved g c =
     let all : List Row = seen parts.sharing parts.rows.now in
     let before : List ℕ = c.loop-done.all.items in
     let more : List ℕ = c.in_ok-ends.ends.items in
-    let n : ℕ = c.min-next.result - c.loop-done.done in
+    let n : ℕ = c.behind_stretch-next.result - c.loop-done.done in
     let count : length c.as_slice-count.result.now ≡ length parts.rows.now = ap (length {A = Row}) c.as_slice-count.ensures.same in
     let there : length before + n ≤ length all =
-    omega (arith, i.so_many, c.min-next.ensures, c.loop-done-test.true, count, length-seen parts.sharing parts.rows.now) in
+    omega (arith, i.so_many, c.behind_stretch-next.ensures.further, c.behind_stretch-next.ensures.within, length-seen parts.sharing parts.rows.now) in
     let next : AllZip (IsLeastGreedyEnd all parts.workers) (range_with_len (length before) n) more =
     subst (λ (k : ℕ). AllZip (IsLeastGreedyEnd all parts.workers) (range_with_len k n) more) (sym i.so_many) c.in_ok-ends.ensures in
     let items : c.extend_from_slice.new.self.items ≡ before ++ more =
     c.in_ok-extend_from_slice.ensures.items ∙ ap (λ (l : List ℕ). before ++ l) c.deref.ensures.value in
     let long = longer all parts.workers before more n i.first there next in
     record {
-      so_many = omega (arith, ap (length {A = ℕ}) items, long, i.so_many, c.min-next.ensures, c.loop-done-test.true);
+      so_many = omega (arith, ap (length {A = ℕ}) items, long, i.so_many, c.behind_stretch-next.ensures.further);
       first = subst (AreFirstEnds all parts.workers) (sym items) (with_next all parts.workers before more n i.first there next);
     }

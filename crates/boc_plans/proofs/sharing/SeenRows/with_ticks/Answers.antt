@@ -6,7 +6,8 @@ use Rattle.boc_plans.proofs.sharing.SeenRows.with_ticks.Goals as goal
 
 pub invariant_of-result : goal.invariant_of-result
 invariant_of-result c =
-    rw c.as_slice.ensures.same (c.as_slice.ensures.shape, rows_edited c.args.rows.now c.as_slice.ensures.shape c.args.row c.args.ticks c.requires)
+    let shape = c.as_slice.ensures.shape in
+    rw c.as_slice.ensures.same (shape, rows_edited c.args.rows.now shape c.args.row c.args.ticks c.requires)
 
 pub returns-clause-shape : goal.returns-clause-shape
 returns-clause-shape c =

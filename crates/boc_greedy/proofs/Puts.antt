@@ -61,7 +61,8 @@ weight_set xs ys i s t at is =
     rw is (rw e at w)
 
 -- another row, at another state, was there before
-pub other_state : (xs ys : List RowState) (i : ℕ) (s : RowState) → ChangesState xs ys i s → (r : ℕ) (q : RowState) → (s ≡ q → ⊥) → IsAt ys r q → (r ≢ i) × IsAt xs r q
+pub other_state : (xs ys : List RowState) (i : ℕ) (s : RowState) → ChangesState xs ys i s → (r : ℕ) (q : RowState) → (s ≡ q → ⊥) → IsAt ys r q
+    → (r ≢ i) × IsAt xs r q
 other_state xs ys i s g r q differs h =
     let ne : r ≢ i = λ e. differs (let a : IsAt ys i q = subst (λ (y : ℕ). IsAt ys y q) e h in let b : IsAt ys i s = g.at in cc) in
     let o : slice_get ys r ≡ slice_get xs r = g.others r ne in

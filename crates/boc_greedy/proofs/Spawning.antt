@@ -76,7 +76,8 @@ module _ (rows : List Row) (hr : IsRows rows) (p end : ℕ) (starts workers : Li
       ]);
       after = λ b d ge. stays b (λ e. omega (arith, e, ge, next_is.above)) (were_left.after b d (omega (arith, ge, next_is.above)));
     })
-    | inr ne ↦ rw (pf.others q ne) (left_same rows states states' q _ (λ b e. (was b e).1) (λ b d. stays b (λ e. ne (parent_is_r q b d e))) (k.states_are.left q h))
+    | inr ne ↦ rw (pf.others q ne)
+        (left_same rows states states' q _ (λ b e. (was b e).1) (λ b d. stays b (λ e. ne (parent_is_r q b d e))) (k.states_are.left q h))
   ]
 
   on_after : (a : ℕ) → IsOn p starts workers queue idle t a → IsOn p starts workers queue' idle t a

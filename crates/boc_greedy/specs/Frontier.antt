@@ -55,12 +55,13 @@ pub record AreInTurn (rows : List Row) (states : List RowState) : Type 0 where
 
 -- What is kept is that of the rows at their states, except that for each time a row stands among those left, one that it waits for has ended and its count
 -- has not fallen yet; until it has, the ready set may lack the row.
-pub record IsKeptBut (rows : List Row) (left : List ℕ) (waits followers : List (List ℕ)) (states : List RowState) (unmet : List ℕ) (ready : RowSet) : Type 0 where
-  pub in_turn : AreInTurn rows states
-  pub are_waits : AreWaits rows waits
-  pub are_followers : AreFollowers waits followers
-  pub are_counted : AreCountedBut left waits states unmet
-  pub are_ready : AreQueuedBut left (AwaitsWorker waits states) ready
+pub record IsKeptBut (rows : List Row) (left : List ℕ) (waits followers : List (List ℕ)) (states : List RowState) (unmet : List ℕ) (ready : RowSet) : Type 0
+  where
+    pub in_turn : AreInTurn rows states
+    pub are_waits : AreWaits rows waits
+    pub are_followers : AreFollowers waits followers
+    pub are_counted : AreCountedBut left waits states unmet
+    pub are_ready : AreQueuedBut left (AwaitsWorker waits states) ready
 
 -- with some lists of waits the frontier is that of the rows at their states, but for these rows, which are left
 abbrev pub IsFrontierBut : List Row → List ℕ → Frontier → Type 0

@@ -60,14 +60,15 @@ pub record HaveStates (rows : List Row) (p end : ℕ) (starts workers : List ℕ
   pub idle_below : (w : ℕ) → bit_at idle w ≡ 1 → w < p
 
 -- at tick t, the rows are at their states, those that are under way stand in the queue, and the plan is greedy before t
-pub record Kept (rows : List Row) (p end : ℕ) (starts workers : List ℕ) (states : List RowState) (first : List ℕ) (queue : List Entry) (idle t : ℕ) : Type 0 where
-  pub states_are : HaveStates rows p end starts workers states first idle
-  pub early : t + MOST_TICKS < end
-  pub under_way : (r : ℕ) → IsAt states r UnderWay → IsOn p starts workers queue idle t r
-  pub over : (r : ℕ) → IsAt states r Over → end_of rows starts r ≤ t
-  pub spawned : (a b : ℕ) → IsChild rows a b → (IsAt states b Unspawned → ⊥) → start_of starts a + offset_of rows b ≤ t
-  pub busy : (change r : ℕ) → IsIn queue change r → IsBusy rows starts states t r (slice_index first r) change
-  pub greedy : (u : ℕ) → u < t → IsGreedyAt rows p starts workers u
+pub record Kept (rows : List Row) (p end : ℕ) (starts workers : List ℕ) (states : List RowState) (first : List ℕ) (queue : List Entry) (idle t : ℕ) : Type 0
+  where
+    pub states_are : HaveStates rows p end starts workers states first idle
+    pub early : t + MOST_TICKS < end
+    pub under_way : (r : ℕ) → IsAt states r UnderWay → IsOn p starts workers queue idle t r
+    pub over : (r : ℕ) → IsAt states r Over → end_of rows starts r ≤ t
+    pub spawned : (a b : ℕ) → IsChild rows a b → (IsAt states b Unspawned → ⊥) → start_of starts a + offset_of rows b ≤ t
+    pub busy : (change r : ℕ) → IsIn queue change r → IsBusy rows starts states t r (slice_index first r) change
+    pub greedy : (u : ℕ) → u < t → IsGreedyAt rows p starts workers u
 
 -- no row starts at tick t
 abbrev pub IsFresh : List Row → List ℕ → ℕ → Type 0

@@ -8,13 +8,8 @@ use Rattle.boc_plans.specs.declared.sharing.Sharing.TheVariants.{Exclusive, Shar
 use Rattle.boc_runs.specs.Rows.{parent_of, offset_of, ticks_of, cowns_of, written_of}
 use Rattle.boc_plans.specs.Seen.{edited_by, seen}
 use Rattle.boc_plans.proofs.Children.{row_read}
-<<<<<<< HEAD
-use Rattle.boc_runs.proofs.Editing.{length-edited, parent_of-edited, offset_of-edited}
-use Rattle.boc_runs.proofs.Editing.{cowns_of-edited, written_of-edited, ticks_of-edited_same, ticks_of-edited_other}
-=======
 use Rattle.boc_runs.proofs.Editing.{length-edited, parent_of-edited, offset_of-edited, cowns_of-edited, written_of-edited}
 use Rattle.boc_runs.proofs.Editing.{ticks_of-edited_same, ticks_of-edited_other}
->>>>>>> 64c7ec01789f13b97019e3bf96a63225729c6377
 use Rattle.boc_plans.proofs.Seeing.{length-seen, parent_of-seen, offset_of-seen, ticks_of-seen, cowns_of-seen}
 
 length-edited_by : (o : Option Edit) (rows : List Row) → length (edited_by o rows) ≡ length rows
@@ -69,13 +64,8 @@ module _ (s : Sharing) (o : Option Edit) (rows all : List Row) (e : all ≡ seen
 
     -- and where another row does
     pub kept_ticks : (x : Row) → x ≡ get_or rows r x → (edit : Edit) → o ≡ Some edit → r ≢ edit.row → x.ticks ≡ ticks_of all r
-<<<<<<< HEAD
-    kept_ticks x is edit some ne =
-        seen_ticks x is (ap (λ (k : Option Edit). ticks_of (edited_by k rows) r) some ∙ ticks_of-edited_other rows edit.row edit.ticks r ne)
-=======
     kept_ticks x is edit some ne = seen_ticks x is
         (ap (λ (k : Option Edit). ticks_of (edited_by k rows) r) some ∙ ticks_of-edited_other rows edit.row edit.ticks r ne)
->>>>>>> 64c7ec01789f13b97019e3bf96a63225729c6377
 
     -- the row that takes other ticks
     pub other_ticks : (edit : Edit) → o ≡ Some edit → r ≡ edit.row → edit.ticks ≡ ticks_of all r
@@ -86,12 +76,7 @@ module _ (s : Sharing) (o : Option Edit) (rows all : List Row) (e : all ≡ seen
 
 -- what a row wrote, where reads are shared
 pub written_read : (s : Sharing) (o : Option Edit) (rows all : List Row) (r : ℕ) (x : Row) → all ≡ seen s (edited_by o rows) → r < length all
-<<<<<<< HEAD
-    → x ≡ get_or rows r x → s ≡ SharedReads →
-    written_of all r ≡ x.written.items
-=======
     → x ≡ get_or rows r x → s ≡ SharedReads → written_of all r ≡ x.written.items
->>>>>>> 64c7ec01789f13b97019e3bf96a63225729c6377
 written_read Exclusive o rows all r x e h is k = absurd (let bad : ⊥ = cc in bad)
 written_read SharedReads o rows all r x e h is k =
     rw e (written_of-edited_by o rows r ∙ (row_read rows r x (row_there SharedReads o rows all e r h) is).written)

@@ -103,7 +103,8 @@ returns-else-change-len-clause-stepping c =
     let d = is_due _ shape s r i c.requires.top in
     let child = child_at s.first.items r c.index-change.result.now d.listed c.index-change.ensures in
     let worker = read_at s.workers.items r c.index.result.now (omega (arith, d.there, k.states_are.workers_whole)) c.index.ensures in
-    let sg = changes_state s.frontier.states.items c.end.new.self.states.items r Over (omega (arith, d.there, k.states_are.states_whole)) c.end.ensures.states in
+    let sg =
+    changes_state s.frontier.states.items c.end.new.self.states.items r Over (omega (arith, d.there, k.states_are.states_whole)) c.end.ensures.states in
     let po = popped _ _ c.pop.result _ s.tick r i.queue c.requires.top s.queue.data.ok.0 c.pop.ensures.top c.pop.ensures.permutation c.pop.ensures.heap_order
     c.pop.ensures.none in
     record {

@@ -32,12 +32,7 @@ pub returns-else-other-row : goal.returns-else-other-row
 returns-else-other-row c =
     rw (ap (λ (x : Row). x.ticks) c.index-rows-row.is) at
     (kept_ticks c.self.inside.sharing c.self.inside.other c.self.inside.rows.now _ (sym c.self.view_is) c.args.row c.requires c.index-rows-row.result
-<<<<<<< HEAD
-    c.index-rows-row.is
-    c.in-Some.other c.in-Some.is (λ e. omega (arith, c.if-other-row.false, e)))
-=======
     c.index-rows-row.is c.in-Some.other c.in-Some.is (λ e. omega (arith, c.if-other-row.false, e)))
->>>>>>> 64c7ec01789f13b97019e3bf96a63225729c6377
 
 pub returns-in-None : goal.returns-in-None
 returns-in-None c =

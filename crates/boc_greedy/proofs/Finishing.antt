@@ -1,22 +1,16 @@
 -- A simulation in which no row can start and every worker is idle has made the greedy plan.
-use Rattle.std.proofs.Common.{◌≡◌, ℕ, ◌<◌, ◌^◌, List, [], length, sym, ap, arith}
-use Rattle.std.specs.Prelude.{slice_index}
+use Rattle.std.proofs.Common.{◌≡◌, ℕ, ◌<◌, List, [], length, sym, ap, arith}
 use Rattle.std.specs.BinaryHeap.{heap_items}
 use Rattle.boc_runs.specs.declared.rows.Row.{Row}
 use Rattle.boc_runs.specs.Rows.{IsRows}
-use Rattle.boc_plans.specs.Greedy.{IsGreedy, IsMoment, CountsAll}
+use Rattle.boc_plans.specs.Greedy.{IsMoment}
 use Rattle.boc_greedy.specs.declared.simulation.Simulation.{Simulation}
+use Rattle.boc_greedy.specs.Done.{IsDone}
 use Rattle.boc_greedy.specs.Simulating.{later, IsPast}
 use Rattle.boc_greedy.specs.Queues.{IsIn}
 use Rattle.boc_greedy.specs.Stepping.{IsSimulated, IsGiving, IsSettled}
 use Rattle.boc_greedy.proofs.Advancing.{over_all, greedy_all, past_all}
 use Rattle.boc_greedy.proofs.Counting.{counts_same}
-
--- what the plan of a simulation that has ended keeps
-pub record IsDone (rows : List Row) (p : ℕ) (s : Simulation) : Type 0 where
-  pub greedy : IsGreedy rows p s.starts.items s.workers.items
-  pub moments : CountsAll s.moments (IsMoment rows s.starts.items)
-  pub low : (r : ℕ) → r < length rows → slice_index s.starts.items r < 2 ^ 62
 
 pub done : (rows : List Row) (p : ℕ) (s : Simulation) → IsRows rows → IsSettled rows s → s.p ≡ p → 0 < p → heap_items s.queue ≡ [] → IsDone rows p s
 done rows p s shape settled asked some empty = rw (sym asked) (record {

@@ -24,3 +24,5 @@ pub mod Busy
 pub mod Bound
 pub mod FewMoments
 pub mod Alone
+pub mod Latest
+pub mod Curving

@@ -7,3 +7,6 @@ pub mod Simulating
 pub mod Stepping
 pub mod Queues
 pub mod Plans
+pub mod Done
+pub mod Curves
+pub mod Known

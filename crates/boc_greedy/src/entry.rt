@@ -1,14 +1,18 @@
 // The greedy plan as a whole.
 
-ghost use Rattle.std.specs.Prelude.{◌≡◌, ℕ, ◌^◌, ◌<◌, length, IfOk};
+ghost use Rattle.std.specs.Prelude.{◌≡◌, ℕ, ◌^◌, ◌<◌, ◌≤◌, length, IfOk};
 ghost use Rattle.boc_runs.specs.Rows.{IsRows};
 ghost use Rattle.boc_plans.specs.Seen.{seen};
-ghost use Rattle.boc_plans.specs.Plans.{HasEnds, end_of, work_of};
+ghost use Rattle.boc_plans.specs.Plans.{HasEnds, IsEnd, end_of, work_of};
 ghost use Rattle.boc_plans.specs.Greedy.{IsSpan};
-ghost use Rattle.boc_order.specs.Waits.{AreWaits};
+ghost use Rattle.boc_plans.specs.Sweeps.{IsGreedyEnd};
+ghost use Rattle.boc_order.specs.Waits.{AreWaits, AreFollowers};
 ghost use Rattle.boc_greedy.specs.Consequences.{AreConsequences};
+ghost use Rattle.boc_greedy.specs.Done.{IsDone};
+ghost use Rattle.boc_greedy.specs.Families.{IsFamily, children_of, times_of};
 ghost use Rattle.boc_greedy.specs.Plans.{IsGreedyPlanOf};
 
+use crate::children::{Family, family_of};
 use crate::consequences::Consequences;
 use crate::report::Greedy;
 use crate::simulation::Simulation;
@@ -29,6 +33,92 @@ fn ends_of(alloc: Global, rows: &SeenRows, starts: &[u64]) -> Result<Vec<u64>, A
         ends.push_reserved(start + u64::from(rows.ticks(row)));
     }
     Ok(ends)
+}
+
+// The tick at which a plan ends.
+fn latest_end(rows: &SeenRows, starts: &[u64]) -> u64
+    requires some { 0 < length rows.now }
+    requires whole { length starts.now ≡ length rows.now }
+    requires low { (r : ℕ) → r < length rows.now → end_of rows.now starts.now r < 2 ^ 64 }
+    ensures { IsEnd rows.now starts.now result }
+{
+    let mut latest = 0;
+    for (row, start) in starts.iter().enumerate() {
+        let end = start + u64::from(rows.ticks(row));
+        latest = end.max(latest);
+    }
+    latest
+}
+
+// A simulation of p workers, to its end.
+fn simulated<'a>(
+    alloc: Global,
+    rows: &SeenRows,
+    waits: &Links,
+    followers: &'a Links,
+    family: &'a Family,
+    p: u32,
+) -> Result<Simulation<'a>, AllocError>
+    requires shape { IsRows rows.now }
+    requires waits { AreWaits rows.now waits.now }
+    requires followers { AreFollowers waits.now followers.now }
+    requires family { IsFamily rows.now (children_of family.now.first.items) (times_of family.now.first.items) (children_of family.now.next.items)
+        (times_of family.now.next.items) }
+    requires some { 0 < p }
+    requires few { p ≤ 64 }
+    ensures { IfOk result (IsDone rows.now p) }
+{
+    let mut simulation = Simulation::new(alloc, rows, waits, followers, family, p)?;
+    simulation.give_all(rows)?;
+    while let Some((tick, row)) = simulation.next_change() {
+        simulation.advance(rows, tick, row);
+        simulation.change_all(rows);
+        simulation.give_all(rows)?;
+    }
+    Ok(simulation)
+}
+
+/// The tick at which the greedy plan of the rows for p workers ends.
+pub fn end_for(
+    alloc: Global,
+    rows: &SeenRows,
+    waits: &Links,
+    followers: &Links,
+    family: &Family,
+    p: u32,
+) -> Result<u64, AllocError>
+    requires shape { IsRows rows.now }
+    requires waits { AreWaits rows.now waits.now }
+    requires followers { AreFollowers waits.now followers.now }
+    requires family { IsFamily rows.now (children_of family.now.first.items) (times_of family.now.first.items) (children_of family.now.next.items)
+        (times_of family.now.next.items) }
+    requires some { 0 < p }
+    requires few { p ≤ 64 }
+    ensures { IfOk result (IsGreedyEnd rows.now p) }
+{
+    let simulation = simulated(alloc, rows, waits, followers, family, p)?;
+    Ok(latest_end(rows, &simulation.starts))
+}
+
+/// The tick at which the greedy plan of the rows for p workers ends, for a caller who knows which rows they wait for, and which
+/// rows wait for them. `AllocError` says that memory was refused.
+///
+/// No row's ticks are in what the caller has to know, so one who asks again, with other ticks, finds it once. When
+/// rows spawn their children and end is found anew each time, in two passes over the rows.
+pub fn greedy_end(
+    alloc: Global,
+    rows: &SeenRows,
+    waits: &Links,
+    followers: &Links,
+    workers: Workers,
+) -> Result<u64, AllocError>
+    requires shape { IsRows rows.now }
+    requires waits { AreWaits rows.now waits.now }
+    requires followers { AreFollowers waits.now followers.now }
+    ensures { IfOk result (IsGreedyEnd rows.now workers) }
+{
+    let family = family_of(alloc, rows)?;
+    end_for(alloc, rows, waits, followers, &family, workers.number())
 }
 
 /// The greedy plan of the rows for p workers, as `greedy` has it, for a caller who knows which rows they wait for, what
@@ -52,13 +142,14 @@ pub fn greedy_over(
     ensures { IfOk result (λ plan. IsGreedyPlanOf rows.now workers plan) }
 {
     let p = workers.number();
-    let mut simulation = Simulation::new(alloc, rows, waits, consequences, p)?;
-    simulation.give_all(rows)?;
-    while let Some((tick, row)) = simulation.next_change() {
-        simulation.advance(rows, tick, row);
-        simulation.change_all(rows);
-        simulation.give_all(rows)?;
-    }
+    let simulation = simulated(
+        alloc,
+        rows,
+        waits,
+        &consequences.followers,
+        &consequences.family,
+        p,
+    )?;
     // The changes are needed no more, and make room for the ends.
     drop(simulation.first);
     let ends = ends_of(alloc, rows, &simulation.starts)?;

@@ -10,10 +10,12 @@ mod consequences;
 mod entry;
 mod frontier;
 pub mod laws;
+mod points;
 mod report;
 mod row_set;
 mod simulation;
 
 pub use consequences::Consequences;
-pub use entry::{greedy, greedy_over};
+pub use entry::{greedy, greedy_end, greedy_over};
+pub use points::{CurvePoint, curve, curve_over};
 pub use report::Greedy;

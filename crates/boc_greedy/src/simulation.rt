@@ -3,15 +3,14 @@
 ghost use Rattle.std.specs.Prelude.{◌≡◌, ℕ, ◌+◌, ◌<◌, ◌≤◌, [], length, IfOk, IfSome, IfNone, OnOk, true, false};
 ghost use Rattle.std.specs.BinaryHeap.{heap_items};
 ghost use Rattle.boc_runs.specs.Rows.{IsRows};
-ghost use Rattle.boc_order.specs.Waits.{AreWaits};
-ghost use Rattle.boc_greedy.specs.Consequences.{AreConsequences};
+ghost use Rattle.boc_order.specs.Waits.{AreWaits, AreFollowers};
+ghost use Rattle.boc_greedy.specs.Families.{IsFamily, children_of, times_of};
 ghost use Rattle.boc_greedy.specs.Queues.{IsQueue, IsIn, IsOnTop, IsPutOff};
 ghost use Rattle.boc_greedy.specs.Simulating.{later, IsLeastIdle, steps_of_all};
 ghost use Rattle.boc_greedy.specs.Stepping.{IsStepping, IsGiving, IsSettled, IsLow};
 
 use crate::bits::{with_bit, without_bit};
 use crate::children::{Change, Family};
-use crate::consequences::Consequences;
 use crate::frontier::Frontier;
 use boc_order::Links;
 use boc_plans::sharing::SeenRows;
@@ -64,12 +63,15 @@ impl<'a> Simulation<'a> {
         alloc: Global,
         rows: &SeenRows,
         waits: &Links,
-        consequences: &'a Consequences,
+        followers: &'a Links,
+        family: &'a Family,
         p: u32,
     ) -> Result<Simulation<'a>, AllocError>
         requires shape { IsRows rows.now }
         requires waits { AreWaits rows.now waits.now }
-        requires consequences { AreConsequences rows.now waits.now consequences.now }
+        requires followers { AreFollowers waits.now followers.now }
+        requires family { IsFamily rows.now (children_of family.now.first.items) (times_of family.now.first.items) (children_of family.now.next.items)
+            (times_of family.now.next.items) }
         requires some { 0 < p }
         requires few { p ≤ 64 }
         ensures workers { IfOk result (λ s. s.p ≡ p) }
@@ -77,8 +79,7 @@ impl<'a> Simulation<'a> {
     {
         let starts = vec![in alloc; LATER; rows.len()]?;
         let workers = vec![in alloc; 0; rows.len()]?;
-        let frontier = Frontier::new(alloc, rows, waits, &consequences.followers)?;
-        let family = &consequences.family;
+        let frontier = Frontier::new(alloc, rows, waits, followers)?;
         let first = Vec::from_slice(alloc, &family.first)?;
         Ok(Simulation {
             p,

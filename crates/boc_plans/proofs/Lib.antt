@@ -2,3 +2,5 @@ pub mod EditedTransfer
 pub mod Children
 pub mod Seeing
 pub mod EditedOrder
+pub mod EditedBy
+pub mod Numbered

@@ -1,11 +1,10 @@
 -- The rows as plans see them: all but what they wrote stays.
-use Rattle.std.proofs.Common.{◌≡◌, ℕ, zero, suc, ◌<◌, List, [], ◌∷◌, length, refl, ap, sym, ◌∙◌, get_or, arith}
+use Rattle.std.proofs.Common.{◌≡◌, ℕ, zero, suc, ◌<◌, List, [], ◌∷◌, length, refl, ap, sym, ◌∙◌, arith}
 use Rattle.std.specs.Option.{option_map_or}
 use Rattle.std.specs.Prelude.{slice_get}
 use Rattle.std.specs.List.{Contains}
 use Rattle.std.specs.List.Sorted.{IsStrictlyIncreasing}
 use Rattle.std.proofs.lemmas.List.Elements.{Contains-get_or}
-use Rattle.std.proofs.lemmas.List.{get_or_default}
 use Rattle.std.proofs.lemmas.List.Sums.{sum_by-cons}
 use Rattle.boc_runs.specs.declared.rows.Row.{Row}
 use Rattle.boc_plans.specs.declared.sharing.Sharing.{Sharing}
@@ -14,7 +13,6 @@ use Rattle.boc_program.specs.Cowns.{AreAmong}
 use Rattle.boc_runs.specs.Rows.{IsRows, parent_of, offset_of, ticks_of, cowns_of, written_of, edited}
 use Rattle.boc_plans.specs.Seen.{writing_all, seen}
 use Rattle.boc_plans.specs.Plans.{work_of}
-use Rattle.boc_plans.proofs.Children.{row_read}
 
 pub length-writing : (rows : List Row) → length (writing_all rows) ≡ length rows
 length-writing [] = refl
@@ -106,39 +104,8 @@ pub written_of-seen : (s : Sharing) (rows all : List Row) (r c : ℕ) → all �
 written_of-seen Exclusive rows all r c same has e = rw (same, written_of-writing rows r) (rw (same, cowns_of-seen Exclusive rows r) at has)
 written_of-seen SharedReads rows all r c same has e = absurd (let bad : ⊥ = cc in bad)
 
--- and else what it wrote
-pub written_read : (s : Sharing) (rows all : List Row) (r : ℕ) (x : Row) → all ≡ seen s rows → r < length all → x ≡ get_or rows r x → s ≡ SharedReads →
-    written_of all r ≡ x.written.items
-written_read Exclusive rows all r x e h is k = absurd (let bad : ⊥ = cc in bad)
-written_read SharedReads rows all r x e h is k = rw e (row_read rows r x (rw e at h) is).written
-
-pub length_is : (s : Sharing) (rows all : List Row) → all ≡ seen s rows → length rows ≡ length all
-length_is s rows all e = omega (arith, ap (length {A = Row}) e, length-seen s rows)
-
 pub shape_is : (s : Sharing) (rows all : List Row) → all ≡ seen s rows → IsRows rows → IsRows all
 shape_is s rows all e hr = rw e (rows_seen s rows hr)
-
--- a row that was read at its number, as it is seen
-pub record IsSeenRow (rows : List Row) (r : ℕ) (x : Row) : Type 0 where
-  pub parent : x.parent ≡ parent_of rows r
-  pub offset : x.offset ≡ offset_of rows r
-  pub ticks : x.ticks ≡ ticks_of rows r
-  pub cowns : x.cowns.items ≡ cowns_of rows r
-
-pub seen_read : (s : Sharing) (rows all : List Row) (r : ℕ) (x : Row) → all ≡ seen s rows → r < length all → IsSeenRow all r (get_or rows r x)
-seen_read s rows all r x e h =
-    let there : r < length rows = omega (arith, h, length-seen s rows, ap (length {A = Row}) e) in
-    let i = row_read rows r (get_or rows r x) there (get_or_default rows r x (get_or rows r x) there) in
-    rw e (record {
-      parent = sym i.parent ∙ sym (parent_of-seen s rows r);
-      offset = sym i.offset ∙ sym (offset_of-seen s rows r);
-      ticks = sym i.ticks ∙ sym (ticks_of-seen s rows r);
-      cowns = sym i.cowns ∙ sym (cowns_of-seen s rows r);
-    })
-
--- as many rows are seen as there are
-pub seen_there : (s : Sharing) (rows all : List Row) (r : ℕ) → all ≡ seen s rows → r < length all → r < length rows
-seen_there s rows all r e h = omega (arith, h, length-seen s rows, ap (length {A = Row}) e)
 
 work_of-writing : (rows : List Row) → work_of (writing_all rows) ≡ work_of rows
 work_of-writing [] = refl

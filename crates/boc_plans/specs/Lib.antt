@@ -3,3 +3,4 @@ pub mod Plans
 pub mod Chains
 pub mod Greedy
 pub mod Edits
+pub mod Sweeps

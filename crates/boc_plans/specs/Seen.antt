@@ -1,6 +1,8 @@
 -- The rows of a record as plans see them.
-use Rattle.std.specs.Prelude.{List, [], ◌∷◌}
+use Rattle.std.specs.Prelude.{List, [], ◌∷◌, Option, Some, None}
 use Rattle.boc_runs.specs.declared.rows.Row.{Row}
+use Rattle.boc_runs.specs.Rows.{edited}
+use Rattle.boc_plans.specs.declared.edit.Edit.{Edit}
 use Rattle.boc_plans.specs.declared.sharing.Sharing.{Sharing}
 use Rattle.boc_plans.specs.declared.sharing.Sharing.TheVariants.{Exclusive, SharedReads}
 
@@ -13,3 +15,8 @@ writing_all (x ∷ rows) = record x { written = x.cowns } ∷ writing_all rows
 abbrev pub seen : Sharing → List Row → List Row
 seen Exclusive rows = writing_all rows
 seen SharedReads rows = rows
+
+-- the rows after an edit, where there is one
+abbrev pub edited_by : Option Edit → List Row → List Row
+edited_by None rows = rows
+edited_by (Some edit) rows = edited rows edit.row edit.ticks

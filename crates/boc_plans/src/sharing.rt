@@ -2,6 +2,7 @@
 
 ghost use Rattle.std.specs.Prelude.{◌↔◌, IsTrue, Contains};
 
+use crate::edit::Edit;
 use boc_program::short::HeldCown;
 use boc_runs::rows::{Row, Rows};
 use std::marker::Model;
@@ -15,11 +16,14 @@ pub enum Sharing {
     SharedReads,
 }
 
-/// The rows of a record as plans see them: where cowns are exclusive, each row counts as writing all its cowns.
+/// The rows of a record as plans see them: where cowns are exclusive, each row counts as writing all its cowns. One of them may
+/// be seen with other ticks than it took.
 #[derive(Drop)]
 pub struct SeenRows<'a> {
     rows: &'a [Row],
     sharing: Sharing,
+    // The row that is seen with other ticks, and these.
+    other: Option<Edit>,
 }
 
 impl<'a> Model for SeenRows<'a> {
@@ -28,12 +32,12 @@ impl<'a> Model for SeenRows<'a> {
 
     ghost Value = { List Row };
 
-    ghost use Rattle.boc_plans.specs.Seen.{seen};
+    ghost use Rattle.boc_plans.specs.Seen.{edited_by, seen};
     ghost use Rattle.boc_runs.specs.Rows.{IsRows};
 
-    ghost view = { λ s. seen s.sharing s.rows.now };
+    ghost view = { λ s. seen s.sharing (edited_by s.other s.rows.now) };
 
-    ghost invariant = { λ s. IsRows s.rows.now };
+    ghost invariant = { λ s. IsRows s.rows.now × IsRows (edited_by s.other s.rows.now) };
 }
 
 // The cown is one of these.
@@ -46,7 +50,7 @@ fn is_among(cowns: &[HeldCown], cown: HeldCown) -> bool
 impl<'a> SeenRows<'a> {
     ghost use Rattle.std.specs.Prelude.{◌≡◌, ◌↔◌, ◌<◌, IsTrue, Contains, length};
     ghost use Rattle.boc_plans.specs.Seen.{seen};
-    ghost use Rattle.boc_runs.specs.Rows.{IsRows, parent_of, offset_of, ticks_of, cowns_of, written_of};
+    ghost use Rattle.boc_runs.specs.Rows.{IsRows, Fits, edited, parent_of, offset_of, ticks_of, cowns_of, written_of};
 
     /// These rows as plans see them. It takes no memory.
     pub fn new(rows: &'a Rows, sharing: Sharing) -> SeenRows<'a>
@@ -56,6 +60,20 @@ impl<'a> SeenRows<'a> {
         SeenRows {
             rows: rows.as_slice(),
             sharing,
+            other: None,
+        }
+    }
+
+    /// These rows as plans see them, one of them with other ticks than it took. It takes no memory, and copies no row.
+    pub fn with_ticks(rows: &'a Rows, sharing: Sharing, row: u32, ticks: u32) -> SeenRows<'a>
+        requires { Fits rows.now row ticks }
+        ensures same { result ≡ seen sharing (edited rows.now row ticks) }
+        ensures shape { IsRows result }
+    {
+        SeenRows {
+            rows: rows.as_slice(),
+            sharing,
+            other: Some(Edit { row, ticks }),
         }
     }
 
@@ -67,12 +85,11 @@ impl<'a> SeenRows<'a> {
         self.rows.len()
     }
 
-    // A row, of which plans may see that it wrote more.
+    // A row, of which plans may see that it wrote more, or that it took other ticks.
     fn row(&self, row: usize) -> &Row
         requires { row < length self.now }
         ensures parent { result.now.parent ≡ parent_of self.now row }
         ensures offset { result.now.offset ≡ offset_of self.now row }
-        ensures ticks { result.now.ticks ≡ ticks_of self.now row }
         ensures cowns { result.now.cowns.items ≡ cowns_of self.now row }
     {
         let rows = self.rows;
@@ -95,12 +112,22 @@ impl<'a> SeenRows<'a> {
         self.row(row).offset
     }
 
-    /// The ticks that a row took.
+    /// The ticks with which a row is seen.
     pub fn ticks(&self, row: usize) -> u32
         requires { row < length self.now }
         ensures { result ≡ ticks_of self.now row }
     {
-        self.row(row).ticks
+        let rows = self.rows;
+        match self.other {
+            Some(other) => {
+                if other.row as usize == row {
+                    other.ticks
+                } else {
+                    rows[row].ticks
+                }
+            }
+            None => rows[row].ticks,
+        }
     }
 
     /// The cowns of a row, which rise strictly.

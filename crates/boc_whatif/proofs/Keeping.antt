@@ -14,7 +14,6 @@ use Rattle.boc_order.specs.Standing.{IsPlanOf, HasFirst}
 use Rattle.boc_order.specs.Waits.{AreWaits}
 use Rattle.boc_plans.specs.declared.edit.Edit.{Edit}
 use Rattle.boc_plans.specs.Edits.{AllFit, all_edited}
-use Rattle.boc_order.specs.Placed.{ArePlaced}
 use Rattle.boc_order.proofs.Placing.{AreSameBefore, same_back}
 use Rattle.boc_order.proofs.Replacing.{edited_first, edited_same, near_same, placed_first}
 use Rattle.boc_sweep.specs.Lasts.{HasLasts}
@@ -46,7 +45,7 @@ lasts_seen s rows list offsets is h = rw is (record {
 })
 
 -- no row waits for others
-waits_edited : (rows : List Row) (row ticks : ℕ) (waits : List (List ℕ)) → AreWaits rows waits → AreWaits (edited rows row ticks) waits
+pub waits_edited : (rows : List Row) (row ticks : ℕ) (waits : List (List ℕ)) → AreWaits rows waits → AreWaits (edited rows row ticks) waits
 waits_edited rows row ticks waits are = record {
   whole = are.whole ∙ sym (length-edited rows row ticks);
   at = λ b there. (let own = are.at b (omega (arith, there, length-edited rows row ticks)) in record {

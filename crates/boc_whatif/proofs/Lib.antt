@@ -1,2 +1,4 @@
 pub mod Successive
 pub mod Keeping
+pub mod Least
+pub mod Ends

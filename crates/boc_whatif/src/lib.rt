@@ -10,7 +10,10 @@
 #![tactic(auto)]
 
 mod edits;
+mod least_ends;
+mod telling;
 mod what_if;
 
 pub use edits::Unfit;
+pub use telling::{Progress, Silent};
 pub use what_if::WhatIf;

@@ -5,13 +5,17 @@ ghost use Rattle.boc_plans.specs.Plans.{work_of};
 ghost use Rattle.boc_plans.specs.Greedy.{IsSpan};
 ghost use Rattle.boc_runs.specs.Rows.{Fits, edited};
 ghost use Rattle.boc_plans.specs.Edits.{AllFit, IsEditFault, IsFirstUnfit, IsSweep, all_edited};
+ghost use Rattle.boc_plans.specs.Sweeps.{IsGreedySweep};
 ghost use Rattle.boc_plans.specs.Seen.{seen};
 ghost use Rattle.boc_order.specs.Profiles.{IsProfileOf};
+ghost use Rattle.boc_greedy.specs.Curves.{IsCurve};
 ghost use Rattle.boc_greedy.specs.Plans.{IsGreedyPlanOf};
 ghost use Rattle.boc_whatif.specs.Asked.{least_edited};
 
 use crate::edits::{Unfit, check, make_all};
-use boc_greedy::{Consequences, Greedy, greedy_over};
+use crate::least_ends::least_ends;
+use crate::telling::Progress;
+use boc_greedy::{Consequences, CurvePoint, Greedy, curve_over, greedy_over};
 use boc_order::{Earliest, Links, Profile, waits_and_plan};
 use boc_plans::edit::{Edit, EditFault};
 use boc_plans::sharing::{SeenRows, Sharing};
@@ -196,6 +200,33 @@ impl WhatIf {
         )
     }
 
+    /// For 1 worker, 2 workers and so on up to the most: the end of the greedy plan of the rows and what it lies between, as
+    /// `boc_greedy::curve` has it. `AllocError` says that memory was refused.
+    ///
+    /// It makes a plan for each number of workers. Threads share them out, and each plan takes memory that grows with the number of rows.
+    pub fn curve(
+        &self,
+        rt: &(impl Threads + Sync),
+        alloc: Global,
+        most: Workers,
+    ) -> Result<Vec<CurvePoint>, AllocError>
+        ensures { IfOk result (λ points. IsCurve (seen self.now.sharing self.now.rows) most points.items) }
+    {
+        let rows = SeenRows::new(&self.rows, self.sharing);
+        let consequences = Consequences::of(alloc, &rows, &self.waits)?;
+        let (work, span) = (self.work(), self.span());
+        curve_over(
+            rt,
+            alloc,
+            &rows,
+            &self.waits,
+            &consequences,
+            work,
+            span,
+            most,
+        )
+    }
+
     /// For each row the span that the rows would have if that row alone took the least ticks that it can: the offset
     /// of its last child, and 1 at least. `AllocError` says that memory was refused.
     ///
@@ -207,5 +238,31 @@ impl WhatIf {
     {
         let rows = SeenRows::new(&self.rows, self.sharing);
         sweep(rt, alloc, &rows, &self.waits, &self.plan, &self.lasts)
+    }
+    /// For each row the end of the greedy plan that the rows would have for so many workers if that row alone took the least ticks that it
+    /// can: the offset of its last child, and 1 at least. `AllocError` says that memory was refused.
+    ///
+    /// It makes a greedy plan for each row that takes more than its least ticks. Threads share out the rows, and each plan takes memory that
+    /// grows with the number of rows. Progress is told after each 256 rows.
+    pub fn greedy_sweep(
+        &self,
+        rt: &(impl Threads + Sync),
+        alloc: Global,
+        workers: Workers,
+        progress: &mut impl Progress,
+    ) -> Result<Vec<u64>, AllocError>
+        ensures sweep { IfOk result (λ ends. IsGreedySweep (seen self.now.sharing self.now.rows) workers ends.items) }
+        ensures few { IfOk result (λ ends. length ends.items ≤ MOST_ROWS) }
+    {
+        least_ends(
+            rt,
+            alloc,
+            &self.rows,
+            self.sharing,
+            &self.waits,
+            &self.lasts,
+            workers,
+            progress,
+        )
     }
 }

@@ -2,6 +2,8 @@
 #![tactic(auto)]
 
 #[cfg(test)]
+mod curve;
+#[cfg(test)]
 mod figures;
 #[cfg(test)]
 mod greedy;

@@ -1,6 +1,5 @@
-use Rattle.std.proofs.Common.{◌≡◌, ◌∙◌, ◌+◌, ◌-◌, length, suc, take, sym, ap, subst, arith}
-use Rattle.boc_sweep.specs.Lasts.{HasLasts}
-use Rattle.boc_whatif.specs.Asked.{AreMade, least_edited}
+use Rattle.std.proofs.Common.{◌≡◌, ◌∙◌, ◌+◌, ◌-◌, length, take, subst, arith}
+use Rattle.boc_whatif.specs.Asked.{AreMade}
 use Rattle.boc_whatif.proofs.Successive.{edited_next, fit_next, first_unfit}
 use Rattle.boc_whatif.proofs.Keeping.{lasts_edited, least_next}
 use Rattle.boc_whatif.proofs.edits.make_all.Goals as goal

@@ -13,11 +13,11 @@ returns-clause-giving c =
     let starts : c.in_ok-starts.starts.items ≡ replicate (length c.args.rows.now) later = search rules in
     let workers : c.in_ok-workers.workers.items ≡ replicate (length c.args.rows.now) 0 = search rules in
     let early : MOST_TICKS < later = omega arith in
-    let next : List Change = c.args.consequences.now.family.next.items in
+    let next : List Change = c.args.family.now.next.items in
     let family : IsFamily c.args.rows.now (children_of c.in_ok-first.first.items) (times_of c.in_ok-first.first.items) (children_of next) (times_of next) =
     subst (λ (xs : List Change). IsFamily c.args.rows.now (children_of xs) (times_of xs) (children_of next) (times_of next))
     (sym (c.in_ok-first.ensures.items ∙ c.deref.ensures.value))
-    c.requires.consequences.family in
+    c.requires.family in
     record {
       frontier = c.in_ok-frontier.ensures.kept;
       kept = kept_first _ c.requires.shape _ later c.requires.few early _ _ _ _ _ _ _ _ _ starts workers c.in_ok-frontier.ensures.stages family

@@ -1,4 +1,4 @@
-use Rattle.std.proofs.Common.{◌≡◌, ℕ, ◌+◌, ◌-◌, ◌≤◌, length, subst, arith, ap}
+use Rattle.std.proofs.Common.{◌≡◌, ℕ, ◌+◌, ◌-◌, length, subst, arith, ap}
 use Rattle.std.specs.Prelude.{OnOk}
 use Rattle.boc_whatif.specs.Asked.{Asked, least_edited}
 use Rattle.boc_whatif.proofs.Keeping.{room_made, from_made, first_made, waits_made, kept_made, count_made, touched_made}

@@ -1,0 +1,123 @@
+// The ends of greedy plans for one, two, three and more workers.
+
+ghost use Rattle.std.specs.Prelude.{◌≡◌, ℕ, ◌+◌, ◌<◌, ◌≤◌, IfOk};
+ghost use Rattle.boc_runs.specs.Rows.{IsRows};
+ghost use Rattle.boc_plans.specs.Seen.{seen};
+ghost use Rattle.boc_plans.specs.Plans.{work_of};
+ghost use Rattle.boc_plans.specs.Greedy.{IsSpan};
+ghost use Rattle.boc_order.specs.Waits.{AreWaits};
+ghost use Rattle.boc_greedy.specs.Consequences.{AreConsequences};
+ghost use Rattle.boc_greedy.specs.Curves.{IsCurve, IsCurvePoint};
+ghost use Rattle.boc_greedy.specs.Known.{IsKnown};
+
+use crate::consequences::Consequences;
+use crate::entry::end_for;
+use boc_order::{Links, waits_and_plan};
+use boc_plans::sharing::{SeenRows, Sharing};
+use boc_plans::workers::Workers;
+use boc_runs::rows::Rows;
+use rayon::prelude::*;
+use std::alloc::{AllocError, Global};
+use std::thread::Threads;
+
+/// What so many workers make of some rows. All but the workers are ticks.
+#[derive(Clone, Copy, PartialEq, Eq, Debug)]
+pub struct CurvePoint {
+    /// How many workers there are.
+    pub workers: u32,
+    /// The end of their greedy plan.
+    pub end: u64,
+    /// No plan for so many workers ends before this tick: the span, or the work divided by the workers, rounded up, if that is greater.
+    pub low: u64,
+    /// The greedy plan has ended by this tick: the work divided by the workers, rounded down, and the span.
+    pub bound: u64,
+}
+
+// The point of p workers.
+fn point_of(
+    alloc: Global,
+    rows: &SeenRows,
+    waits: &Links,
+    consequences: &Consequences,
+    work: u64,
+    span: u64,
+    p: u32,
+) -> Result<CurvePoint, AllocError>
+    requires known { IsKnown rows.now waits.now consequences.now work span }
+    requires some { 0 < p }
+    requires few { p ≤ 64 }
+    ensures { IfOk result (IsCurvePoint rows.now p) }
+{
+    let followers = &consequences.followers;
+    let end = end_for(alloc, rows, waits, followers, &consequences.family, p)?;
+    let share = (work + u64::from(p - 1)) / u64::from(p);
+    let bound = work / u64::from(p) + span;
+    Ok(CurvePoint {
+        workers: p,
+        end,
+        low: span.max(share),
+        bound,
+    })
+}
+
+/// What 1 worker, 2 workers and so on up to the most make of the rows, as `curve` has it, for a caller who knows which rows they
+/// wait for, what follows from each, their work and their span. `AllocError` says that memory was refused.
+pub fn curve_over(
+    rt: &(impl Threads + Sync),
+    alloc: Global,
+    rows: &SeenRows,
+    waits: &Links,
+    consequences: &Consequences,
+    work: u64,
+    span: u64,
+    most: Workers,
+) -> Result<Vec<CurvePoint>, AllocError>
+    requires shape { IsRows rows.now }
+    requires waits { AreWaits rows.now waits.now }
+    requires consequences { AreConsequences rows.now waits.now consequences.now }
+    requires work { work ≡ work_of rows.now }
+    requires span { IsSpan rows.now span }
+    ensures { IfOk result (λ points. IsCurve rows.now most points.items) }
+{
+    let most = most.number();
+    (1..most + 1)
+        .into_par_iter()
+        .with_min_len(1)
+        .map(
+            |p: u32| -> Result<CurvePoint, AllocError>
+                requires { (0 < p) × (p ≤ 64) × IsKnown rows.now waits.now consequences.now work span }
+                ensures { IfOk result (IsCurvePoint rows.entry.now p) }
+            { point_of(alloc, rows, waits, consequences, work, span, p) },
+        )
+        .collect::<Result<Vec<CurvePoint>, AllocError>>(rt, alloc)?
+}
+
+/// For 1 worker, 2 workers and so on up to the most: the end of the greedy plan of the rows, as `greedy` has it, the tick before which
+/// no plan for so many workers ends, and the tick by which the greedy plan has ended. `AllocError` says that memory was refused.
+///
+/// What depends on no number of workers is found once. Threads share out the numbers, and each plan takes memory that grows with the
+/// number of rows.
+pub fn curve(
+    rt: &(impl Threads + Sync),
+    alloc: Global,
+    rows: &Rows,
+    sharing: Sharing,
+    most: Workers,
+) -> Result<Vec<CurvePoint>, AllocError>
+    ensures { IfOk result (λ points. IsCurve (seen sharing rows.now) most points.items) }
+{
+    let work = boc_order::work(rows.as_slice());
+    let rows = SeenRows::new(rows, sharing);
+    let (waits, plan) = waits_and_plan(alloc, &rows)?;
+    let consequences = Consequences::of(alloc, &rows, &waits)?;
+    curve_over(
+        rt,
+        alloc,
+        &rows,
+        &waits,
+        &consequences,
+        work,
+        plan.span(),
+        most,
+    )
+}

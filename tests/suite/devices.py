@@ -16,7 +16,8 @@ from .worked import GREEDY, PROFILE
 
 # The commands that read a program, and those that read a record.
 OF_PROGRAMS = [["values"], ["run"], ["time"], ["time", "--workers", "4", "--p", "2"]]
-OF_RECORDS = [["check"], ["profile"], ["profile", "--p", "2"], ["whatif"], ["whatif", "--p", "2", "2=1"], ["sweep"]]
+OF_RECORDS = [["check"], ["profile"], ["profile", "--p", "2"], ["whatif"], ["whatif", "--p", "2", "2=1"], ["curve"], ["sweep"],
+              ["sweep", "--p", "2"]]
 
 
 def source_of(program, words):

@@ -91,9 +91,11 @@ def records_of_all_sizes(program):
         yield from answers(program, name, source, rows, (1, 2, 7, 64), model.sweep(rows))
         yield from edits(program, name, source, rows)
         yield from many_edits(program, name, source, rows)
+        yield from many_workers(program, name, source, rows)
     rows = tower(100)
     yield from answers(program, "a tower of 100", tower_text(rows), rows, (1, 2, 64), model.sweep(rows))
     yield from edits(program, "a tower of 100", tower_text(rows), rows)
+    yield from many_workers(program, "a tower of 100", tower_text(rows), rows)
 
 
 def edits(program, name, source, rows):
@@ -116,6 +118,14 @@ def many_edits(program, name, source, rows):
     yield f"{name}: {len(rows)} edits", fault_of(done(model.report(after, 2)), program.run(words, source))
 
 
+def many_workers(program, name, source, rows):
+    """The curve up to as many workers as there may be, and sweeps for few workers and for many."""
+    yield f"{name}: curve", fault_of(done(model.curve(rows)), program.run(["curve"], source))
+    for number in (1, 2, 64):
+        words = ["sweep", "--p", str(number)]
+        yield f"{name}: {words}", fault_of(done(model.greedy_sweep(rows, number)), program.run(words, source))
+
+
 def records_of_most_rows(program):
     """As many rows as there may be, apart from one another, all over one cown, and with 8 cowns each."""
     rows = fan(MOST_ROWS)
@@ -125,6 +135,8 @@ def records_of_most_rows(program):
     rows = fan(MOST_ROWS, eight_shifted, lambda number: 1 + number % 3)
     yield from answers(program, "most rows with 8 cowns each", fan_text(256, rows), rows, (1, 64), None)
     yield from edits(program, "most rows with 8 cowns each", fan_text(256, rows), rows)
+    answer = program.run(["curve", "--p", "3"], fan_text(256, rows))
+    yield "most rows with 8 cowns each: curve", fault_of(done(model.curve(rows, 3)), answer)
     rows = tower(MOST_ROWS)
     yield from answers(program, "a tower of most rows", tower_text(rows), rows, (1, 64), None)
 

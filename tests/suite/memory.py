@@ -8,7 +8,7 @@ import tempfile
 from . import model
 from .records import fan, fan_text
 from .running import MEMORY, Answer, done, fault_of, refused
-from .worked import GREEDY, PROFILE, SHORTER, SHORTER_GREEDY, VALUES
+from .worked import CURVE, GREEDY, PROFILE, SHORTER, SHORTER_GREEDY, VALUES
 
 REFUSE = os.path.join(os.path.dirname(os.path.dirname(os.path.abspath(__file__))), "refuse.c")
 
@@ -48,8 +48,12 @@ def runs(program):
     yield ["time", "--workers", "2"], FULL, program.run(["time"], FULL)
     yield ["run", "--workers", "2"], b"main { x = 1; }", refused(3, "boc: line 1: 5 UnknownName")
     yield ["whatif", "--p", "2", "2=1"], record, done((SHORTER + SHORTER_GREEDY).encode())
+    yield ["curve", "--p", "3"], record, done(CURVE.encode())
+    yield ["curve", "--p", "5"], fan_text(3, MANY), done(model.curve(MANY, 5))
     yield ["sweep"], record, done(b"0 9\n1 8\n2 7\n3 8\n")
     yield ["sweep"], fan_text(3, MANY), done(model.sweep(MANY))
+    yield ["sweep", "--p", "1"], record, done(b"0 11\n1 10\n2 9\n3 10\n")
+    yield ["sweep", "--p", "2"], fan_text(3, MANY), done(model.greedy_sweep(MANY, 2))
     yield ["--help"], b"", program.run(["--help"])
     yield ["whatif", "--help"], b"", program.run(["whatif", "--help"])
     yield ["--p", "65"], b"", program.run(["--p", "65"])

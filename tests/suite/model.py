@@ -125,6 +125,10 @@ def greedy_lines(rows, workers):
     return lines + [f"end {max(ends)} bound {bound}"]
 
 
+def greedy_end(rows, workers):
+    return max(ends_of(rows, Greedy(rows, workers).starts))
+
+
 def text(lines):
     return "".join(line + "\n" for line in lines).encode()
 
@@ -156,6 +160,21 @@ def sweep(rows):
     """The text of the sweep over rows, each of its lines computed from scratch."""
     least = least_ticks(rows)
     return text(f"{number} {span(edited(rows, number, least[number]))}" for number in range(len(rows)))
+
+
+def greedy_sweep(rows, workers):
+    """The text of the sweep over rows by greedy plans for so many workers, each of them made from scratch."""
+    least = least_ticks(rows)
+    return text(f"{number} {greedy_end(edited(rows, number, least[number]), workers)}" for number in range(len(rows)))
+
+
+def curve(rows, most=64):
+    """The text of the curve of these rows: for each number of workers the end of the greedy plan, and what it lies between."""
+    work, least = sum(row.ticks for row in rows), span(rows)
+    lines = [f"work {work}", f"span {least}"]
+    for workers in range(1, most + 1):
+        lines.append(f"{workers} {greedy_end(rows, workers)} {max(least, -(-work // workers))} {work // workers + least}")
+    return text(lines)
 
 
 def sweep_of_apart(rows):

@@ -13,6 +13,15 @@ RECORDS = 500
 TWO_AND_ONE = [model.Row(0, 0, (), 4), model.Row(0, 2, (0,), 3), model.Row(0, 3, (1,), 2), model.Row(0, 4, (0, 1), 1)]
 
 
+# Rows whose greedy plan for 3 workers ends later than that for 2.
+RISING = [
+    model.Row(0, 0, (), 7), model.Row(0, 2, (0,), 3), model.Row(1, 3, (1,), 11), model.Row(2, 1, (), 1), model.Row(2, 2, (3,), 3),
+    model.Row(2, 6, (3,), 16), model.Row(4, 1, (), 3), model.Row(5, 3, (1, 2, 3), 1), model.Row(2, 8, (0, 3), 2),
+    model.Row(6, 1, (1, 2, 3), 5), model.Row(5, 7, (0,), 1), model.Row(0, 6, (), 5), model.Row(2, 11, (2, 3), 1),
+    model.Row(11, 3, (1, 2, 3), 5),
+]
+
+
 def ticked(rows, workers):
     """The starts and workers of the greedy plan, looked for at every tick: ended rows free their workers, and then the least
     rows that are ready go to the least free workers."""
@@ -104,10 +113,13 @@ def cases(program):
 
 def greedy_plans(program):
     """The rows of worked examples, and random ones."""
+    ends = [model.greedy_end(RISING, number) for number in (2, 3)]
+    yield "the end rises", None if ends == [41, 42] else f"the ends are {ends}"
     for name, rows in [
         ("two and one", TWO_AND_ONE),
         ("four squares", fan(5, lambda number: (number - 1,), lambda number: 8, 5)[:1]
          + [model.Row(0, number + 1, (number - 1,), 8) for number in range(1, 5)]),
+        ("an end that rises", RISING),
         ("no cowns", [model.Row(0, 0, (), 3), model.Row(0, 2, (), 4), model.Row(0, 3, (), 4)]),
     ]:
         yield from plans_of(program, name, rows, range(1, 9))
@@ -124,6 +136,10 @@ def plans_of(program, name, rows, workers):
     for number in workers:
         expected = done(ticked_report(rows, number))
         yield f"{name}, {number} workers", fault_of(expected, program.run(["profile", "--p", str(number)], source))
+        swept = program.run(["sweep", "--p", str(number)], source)
+        yield f"{name}, swept for {number} workers", fault_of(done(model.greedy_sweep(rows, number)), swept)
+    drawn = program.run(["curve", "--p", "8"], source)
+    yield f"{name}, up to 8 workers", fault_of(done(model.curve(rows, 8)), drawn)
 
 
 def fault_of_wide_sweep(program):

@@ -1,9 +1,9 @@
 """The words of the command line: calls for help, numbers of workers, edits, and words that are refused."""
 from .running import Answer, done, fault_of
-from .worked import GREEDY, PROFILE, SHORTER, SHORTER_GREEDY
+from .worked import CURVE, GREEDY, PROFILE, SHORTER, SHORTER_GREEDY
 
 HELP = [["--help"], ["-h"], ["values", "--help"], ["check", "--help"], ["run", "--help"], ["profile", "--help"],
-        ["time", "--help"], ["whatif", "--help"], ["sweep", "--help"], ["help"], ["help", "whatif"]]
+        ["time", "--help"], ["whatif", "--help"], ["curve", "--help"], ["sweep", "--help"], ["help"], ["help", "whatif"]]
 
 TAKEN = [
     (["profile", "--p=2"], PROFILE + GREEDY),
@@ -13,6 +13,8 @@ TAKEN = [
     (["whatif", "--", "2=1"], SHORTER),
     (["whatif", "2=1", "--shared-reads"], SHORTER),
     (["whatif", "2=3", "--p", "2", "--", "2=1"], SHORTER + SHORTER_GREEDY),
+    (["curve", "--p=+3", "--shared-reads"], CURVE),
+    (["sweep", "--p", "002"], "0 9\n1 8\n2 7\n3 8\n"),
 ]
 
 # Words that ask for a run.
@@ -35,6 +37,12 @@ REFUSED = [
     ["values", "more"],
     ["check", "more"],
     ["sweep", "2=1"],
+    ["sweep", "--p", "0"],
+    ["sweep", "--p", "65"],
+    ["curve", "--p", "0"],
+    ["curve", "--p", "65"],
+    ["curve", "2=1"],
+    ["curve", "--workers", "2"],
     ["profile", "2=1"],
     ["values", "--p", "2"],
     ["profile", "--p"],

@@ -94,6 +94,8 @@ plan
 3 5 10
 """
 
+CURVE = "work 11\nspan 9\n1 11 11 20\n2 9 9 14\n3 9 9 12\n"
+
 COMMANDS = [
     (["check"], "ok 4\n"),
     (["profile"], PROFILE),
@@ -108,7 +110,11 @@ COMMANDS = [
     (["whatif", "3=5", "2=1"], TWO_EDITS),
     (["whatif", "--p", "2", "2=1"], SHORTER + SHORTER_GREEDY),
     (["whatif", "2=1", "--p", "2"], SHORTER + SHORTER_GREEDY),
+    (["curve", "--p", "3"], CURVE),
+    (["curve", "--p", "3", "--shared-reads"], CURVE),
     (["sweep"], "0 9\n1 8\n2 7\n3 8\n"),
+    (["sweep", "--p", "1"], "0 11\n1 10\n2 9\n3 10\n"),
+    (["sweep", "--shared-reads", "--p", "2"], "0 9\n1 8\n2 7\n3 8\n"),
 ]
 
 # Numbers of threads; none is one.
@@ -140,6 +146,8 @@ def cases(program):
         answer = program.run(words, record)
         yield " ".join(words), fault_of(done(text.encode()), answer)
     yield "the model's report", None if model.report(ROWS, 2) == (PROFILE + GREEDY).encode() else "it is another"
+    yield "the model's curve", None if model.curve(ROWS, 3) == CURVE.encode() else "it is another"
+    yield "64 points of a curve", fault_of(done(model.curve(ROWS)), program.run(["curve"], record))
     yield "the model's sweep", None if model.sweep(ROWS) == b"0 9\n1 8\n2 7\n3 8\n" else "it is another"
 
 

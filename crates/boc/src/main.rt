@@ -1,6 +1,9 @@
 //! The program `boc`: commands over programs of behaviours, from standard input to standard output.
 #![tactic(auto)]
 
+mod meter;
+
+use crate::meter::Meter;
 use boc_commands::{Fault, WordsFault, not_text, read_words, run_command};
 use boc_text::Counted;
 use boc_workers::OpenGate;
@@ -26,14 +29,18 @@ fn run(rt: HostRuntime, threads: &(impl Threads + Wait + Sync)) -> Result<(), Fa
     let command = read_words(rt.alloc(), &words)?;
     let mut input = Counted::new(rt.stdin());
     let mut output = Counted::new(rt.stdout());
-    run_command(
+    let mut meter = Meter::new(rt);
+    let done = run_command(
         threads,
         rt.alloc(),
         &OpenGate,
         &command,
+        &mut meter,
         &mut input,
         &mut output,
-    )
+    );
+    meter.wipe();
+    done
 }
 
 // The words of the command line, the program's own name first.

@@ -1,4 +1,4 @@
--- What `whatif` and `sweep` answer.
+-- What `whatif`, `curve` and `sweep` answer.
 use Rattle.std.proofs.Common.{◌≡◌, ℕ, ◌+◌, ◌≤◌, List, ◌++◌, length, Option, Result, Ok, Err, sym, ap, ◌∙◌, subst, arith}
 use Rattle.std.specs.Result.{IsErrAnd}
 use Rattle.std.proofs.lemmas.List.{append-nil}
@@ -22,10 +22,14 @@ use Rattle.boc_order.specs.declared.report.Profile.{Profile}
 use Rattle.boc_order.specs.Profiles.{IsProfileOf}
 use Rattle.boc_greedy.specs.declared.plan.Greedy.{Greedy}
 use Rattle.boc_report.specs.Parts.{part_of}
-use Rattle.boc_commands.specs.Answers.{IsAskedPart, IsCheckAnswer, IsReport, IsProfileAnswer, IsWhatIfAnswer, IsSweepAnswer}
-use Rattle.boc_plans.specs.Edits.{AllFit, IsSweep, all_edited}
+use Rattle.boc_commands.specs.Answers.{AreSwept, IsAskedPart, IsCheckAnswer, IsReport, IsProfileAnswer, IsWhatIfAnswer, IsCurveAnswer, IsSweepAnswer}
+use Rattle.boc_plans.specs.Edits.{AllFit, all_edited}
+use Rattle.boc_plans.specs.Greedy.{IsSpan}
+use Rattle.boc_plans.specs.Plans.{work_of}
+use Rattle.boc_greedy.specs.Curves.{IsCurve}
+use Rattle.boc_greedy.specs.declared.points.CurvePoint.{CurvePoint}
 use Rattle.boc_commands.specs.ValueTexts.{check_text}
-use Rattle.boc_report.specs.Texts.{report_text, sweep_lines}
+use Rattle.boc_report.specs.Texts.{report_text, curve_text, sweep_lines}
 use Rattle.boc_runs.specs.Records.{Recorded}
 use Rattle.boc_record.specs.RecordTexts.{IsTextOf}
 use Rattle.boc_record.specs.Reading.{TakesRecord}
@@ -44,15 +48,29 @@ answered edits sharing kept asked input r before after made output spells same f
       (subst (λ s. IsReport (seen s after) asked made) way report));
 }
 
--- the answer of a sweep, from the rows that were swept
-pub swept : (sharing kept : Sharing) (input : List ℕ) (r : Recorded) (rows : List Row) (spans read made output : List ℕ) → IsTextOf input r → rows ≡ r.rows
-    → kept ≡ sharing
-    → IsSweep (seen kept rows) spans → read ≡ spans → made ≡ sweep_lines 0 read → output ≡ made → IsSweepAnswer sharing input output
-swept sharing kept input r rows spans read made output spells same way sweep are text is = record {
+-- the answer of a curve, from the rows that plans were made for
+pub drawn : (sharing kept : Sharing) (most : ℕ) (input : List ℕ) (r : Recorded) (rows : List Row) (work span : ℕ) (points read : List CurvePoint)
+    (made output : List ℕ) → IsTextOf input r → rows ≡ r.rows → kept ≡ sharing → work ≡ work_of rows → IsSpan (seen kept rows) span
+    → IsCurve (seen kept rows) most points → read ≡ points → made ≡ curve_text work span read → output ≡ made → IsCurveAnswer sharing most input output
+drawn sharing kept most input r rows work span points read made output spells same way work_is span_is curve are text is = record {
   recorded = r;
   spells = spells;
-  spans = spans;
-  sweep = subst (λ s. IsSweep (seen s r.rows) spans) way (subst (λ xs. IsSweep (seen kept xs) spans) same sweep);
+  span = span;
+  span_is = subst (λ s. IsSpan (seen s r.rows) span) way (subst (λ xs. IsSpan (seen kept xs) span) same span_is);
+  points = points;
+  curve = subst (λ s. IsCurve (seen s r.rows) most points) way (subst (λ xs. IsCurve (seen kept xs) most points) same curve);
+  text = is ∙ text ∙ ap (λ w. curve_text w span read) (work_is ∙ ap work_of same) ∙ ap (curve_text (work_of r.rows) span) are;
+}
+
+-- the answer of a sweep, from the rows that were swept
+pub swept : (sharing kept : Sharing) (asked : Option ℕ) (input : List ℕ) (r : Recorded) (rows : List Row) (ends read made output : List ℕ) → IsTextOf input r
+    → rows ≡ r.rows → kept ≡ sharing → AreSwept (seen kept rows) asked ends → read ≡ ends → made ≡ sweep_lines 0 read → output ≡ made
+    → IsSweepAnswer sharing asked input output
+swept sharing kept asked input r rows ends read made output spells same way sweep are text is = record {
+  recorded = r;
+  spells = spells;
+  ends = ends;
+  sweep = subst (λ s. AreSwept (seen s r.rows) asked ends) way (subst (λ xs. AreSwept (seen kept xs) asked ends) same sweep);
   text = is ∙ text ∙ ap (sweep_lines 0) are;
 }
 

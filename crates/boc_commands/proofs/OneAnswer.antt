@@ -10,18 +10,22 @@ use Rattle.boc_runs.specs.Rows.{IsRows, edited}
 use Rattle.boc_plans.specs.Seen.{seen}
 use Rattle.boc_plans.specs.Plans.{work_of, HasEnds, IsEnd}
 use Rattle.boc_plans.specs.Chains.{IsPicked}
-use Rattle.boc_plans.specs.Edits.{AllFit, all_edited, IsSweep}
-use Rattle.boc_commands.specs.Answers.{IsAskedPart, IsGreedyPart, IsReport, IsValuesAnswer, IsCheckAnswer, IsProfileAnswer, IsWhatIfAnswer, IsSweepAnswer}
+use Rattle.boc_plans.specs.Edits.{AllFit, all_edited}
+use Rattle.boc_plans.specs.Greedy.{IsSpan}
+use Rattle.boc_greedy.specs.Curves.{IsCurve}
+use Rattle.boc_commands.specs.Answers.{AreSwept, IsAskedPart, IsGreedyPart, IsReport, IsValuesAnswer, IsCheckAnswer, IsProfileAnswer, IsWhatIfAnswer}
+use Rattle.boc_commands.specs.Answers.{IsCurveAnswer, IsSweepAnswer}
 use Rattle.boc_commands.specs.ValueTexts.{values_text, check_text}
-use Rattle.boc_report.specs.Texts.{report_text, greedy_text, sweep_lines}
+use Rattle.boc_report.specs.Texts.{report_text, greedy_text, curve_text, sweep_lines}
 use Rattle.boc_runs.proofs.Editing.{rows_edited}
 use Rattle.boc_runs.proofs.OwnOrders.{ends_once}
 use Rattle.boc_plans.proofs.Seeing.{rows_seen}
 use Rattle.boc_rules.proofs.Finished.{is_rows}
 use Rattle.boc_rules.proofs.Next.{well_log}
 use Rattle.boc_record.proofs.OneFault.{one_record}
-use Rattle.boc_order.proofs.Alone.{one_bound, one_chain, one_end, one_list_of_ends, one_plan, one_sweep}
+use Rattle.boc_order.proofs.Alone.{one_bound, one_chain, one_end, one_list_of_ends, one_plan, one_span, one_sweep}
 use Rattle.boc_greedy.proofs.Alone.{one_greedy_plan}
+use Rattle.boc_greedy.proofs.Curving.{one_curve, one_greedy_sweep}
 use Rattle.boc_reader.proofs.Spellings.{one_program}
 use Rattle.boc_commands.proofs.OneProgram.{same_program}
 
@@ -90,10 +94,29 @@ one_whatif_answer edits sharing asked input output other a b =
     one_report (seen sharing (all_edited b.recorded.rows edits)) (rows_seen sharing (all_edited b.recorded.rows edits) rows) asked output other
     (subst (λ (r : Recorded). IsReport (seen sharing (all_edited r.rows edits)) asked output) same a.report) b.report
 
-pub one_sweep_answer : (sharing : Sharing) (input output other : List ℕ) → IsSweepAnswer sharing input output → IsSweepAnswer sharing input other
-    → output ≡ other
-one_sweep_answer sharing input output other a b =
+pub one_curve_answer : (sharing : Sharing) (most : ℕ) (input output other : List ℕ) → IsCurveAnswer sharing most input output
+    → IsCurveAnswer sharing most input other → output ≡ other
+one_curve_answer sharing most input output other a b =
     let same : a.recorded ≡ b.recorded = one_record input a.recorded b.recorded a.spells b.spells in
-    let spans : a.spans ≡ b.spans =
-    one_sweep (seen sharing b.recorded.rows) a.spans b.spans (subst (λ (r : Recorded). IsSweep (seen sharing r.rows) a.spans) same a.sweep) b.sweep in
-    a.text ∙ ap (sweep_lines 0) spans ∙ sym b.text
+    let rows : List Row = seen sharing b.recorded.rows in
+    let points : a.points ≡ b.points =
+    one_curve rows (rows_seen sharing b.recorded.rows (rows_are b.recorded b.spells.record_is)) most a.points b.points
+    (subst (λ (r : Recorded). IsCurve (seen sharing r.rows) most a.points) same a.curve) b.curve in
+    let span : a.span ≡ b.span = one_span rows a.span b.span (subst (λ (r : Recorded). IsSpan (seen sharing r.rows) a.span) same a.span_is) b.span_is in
+    let text : curve_text (work_of a.recorded.rows) a.span a.points ≡ curve_text (work_of b.recorded.rows) b.span b.points =
+    λ i. curve_text (work_of (same i).rows) (span i) (points i) in
+    a.text ∙ text ∙ sym b.text
+
+one_swept : (rows : List Row) → IsRows rows → (asked : Option ℕ) (ends others : List ℕ) → AreSwept rows asked ends → AreSwept rows asked others
+    → ends ≡ others
+one_swept rows hr None ends others s t = one_sweep rows ends others s t
+one_swept rows hr (Some p) ends others s t = one_greedy_sweep rows hr p ends others s t
+
+pub one_sweep_answer : (sharing : Sharing) (asked : Option ℕ) (input output other : List ℕ) → IsSweepAnswer sharing asked input output
+    → IsSweepAnswer sharing asked input other → output ≡ other
+one_sweep_answer sharing asked input output other a b =
+    let same : a.recorded ≡ b.recorded = one_record input a.recorded b.recorded a.spells b.spells in
+    let ends : a.ends ≡ b.ends =
+    one_swept (seen sharing b.recorded.rows) (rows_seen sharing b.recorded.rows (rows_are b.recorded b.spells.record_is)) asked a.ends b.ends
+    (subst (λ (r : Recorded). AreSwept (seen sharing r.rows) asked a.ends) same a.sweep) b.sweep in
+    a.text ∙ ap (sweep_lines 0) ends ∙ sym b.text

@@ -6,14 +6,17 @@ use Rattle.boc_runs.specs.declared.rows.Row.{Row}
 use Rattle.boc_plans.specs.declared.chain.ChainStep.{ChainStep}
 use Rattle.boc_plans.specs.Plans.{IsEarliest, IsEnd, HasEnds, work_of}
 use Rattle.boc_plans.specs.Chains.{IsPicked}
-use Rattle.boc_plans.specs.Greedy.{IsGreedy, IsBound}
+use Rattle.boc_plans.specs.Greedy.{IsGreedy, IsBound, IsSpan}
+use Rattle.boc_plans.specs.Sweeps.{IsGreedySweep}
+use Rattle.boc_greedy.specs.declared.points.CurvePoint.{CurvePoint}
+use Rattle.boc_greedy.specs.Curves.{IsCurve}
 use Rattle.boc_runs.specs.OwnOrder.{EndsWith}
 use Rattle.boc_plans.specs.declared.edit.Edit.{Edit}
 use Rattle.boc_plans.specs.declared.sharing.Sharing.{Sharing}
 use Rattle.boc_plans.specs.Seen.{seen}
 use Rattle.boc_plans.specs.Edits.{AllFit, all_edited, IsSweep}
 use Rattle.boc_commands.specs.ValueTexts.{values_text, check_text}
-use Rattle.boc_report.specs.Texts.{report_text, greedy_text, sweep_lines}
+use Rattle.boc_report.specs.Texts.{report_text, greedy_text, curve_text, sweep_lines}
 use Rattle.boc_runs.specs.Records.{Recorded}
 use Rattle.boc_record.specs.RecordTexts.{IsTextOf}
 
@@ -76,10 +79,27 @@ pub record IsWhatIfAnswer (edits : List Edit) (sharing : Sharing) (asked : Optio
   pub fit : AllFit recorded.rows edits
   pub report : IsReport (seen sharing (all_edited recorded.rows edits)) asked output
 
--- the input is the text of a record, and the output tells for each row the span of the rows in which that row takes the least ticks that it can
-pub record IsSweepAnswer (sharing : Sharing) (input output : List ℕ) : Type 0 where
+-- the input is the text of a record, and the output is the curve of its rows, as they are seen: their work, their span, and for each number of
+-- workers up to the most the end of the greedy plan, with the bounds that it lies between
+pub record IsCurveAnswer (sharing : Sharing) (most : ℕ) (input output : List ℕ) : Type 0 where
   pub recorded : Recorded
   pub spells : IsTextOf input recorded
-  pub spans : List ℕ
-  pub sweep : IsSweep (seen sharing recorded.rows) spans
-  pub text : output ≡ sweep_lines 0 spans
+  pub span : ℕ
+  pub span_is : IsSpan (seen sharing recorded.rows) span
+  pub points : List CurvePoint
+  pub curve : IsCurve (seen sharing recorded.rows) most points
+  pub text : output ≡ curve_text (work_of recorded.rows) span points
+
+-- for each row the end of a plan of the rows in which that row takes the least ticks that it can: of the earliest plan, which is the span, or of
+-- the greedy plan for the number of workers that was asked for
+abbrev pub AreSwept : List Row → Option ℕ → List ℕ → Type 0
+AreSwept rows None ends = IsSweep rows ends
+AreSwept rows (Some p) ends = IsGreedySweep rows p ends
+
+-- the input is the text of a record, and the output tells these ends for its rows, as they are seen
+pub record IsSweepAnswer (sharing : Sharing) (asked : Option ℕ) (input output : List ℕ) : Type 0 where
+  pub recorded : Recorded
+  pub spells : IsTextOf input recorded
+  pub ends : List ℕ
+  pub sweep : AreSwept (seen sharing recorded.rows) asked ends
+  pub text : output ≡ sweep_lines 0 ends

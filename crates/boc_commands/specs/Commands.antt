@@ -25,7 +25,7 @@ use Rattle.boc_record.specs.RecordTexts.{IsTextOf, IsFirstFault}
 use Rattle.boc_runs.specs.OwnOrder.{HasTooMany}
 use Rattle.boc_runs.specs.Records.{Recorded}
 use Rattle.boc_plans.specs.Edits.{IsFirstUnfit}
-use Rattle.boc_commands.specs.Answers.{IsValuesAnswer, IsCheckAnswer, IsProfileAnswer, IsWhatIfAnswer, IsSweepAnswer}
+use Rattle.boc_commands.specs.Answers.{IsValuesAnswer, IsCheckAnswer, IsProfileAnswer, IsWhatIfAnswer, IsCurveAnswer, IsSweepAnswer}
 use Rattle.boc_commands.specs.Promises.{IsRunAnswer, IsTimeAnswer}
 use Rattle.boc_workers.specs.Noting.{CanReachLimit}
 use Rattle.boc_text.specs.Streams.{StopsAt, ReadsWhole}
@@ -171,7 +171,8 @@ AnswersCommand (commands.Run runners) before after text = AnswersInput IsRunAnsw
 AnswersCommand (commands.Profile workers sharing) before after text = AnswersInput (IsProfileAnswer sharing workers) before after text
 AnswersCommand (commands.Time runners workers sharing) before after text = AnswersInput (IsTimeAnswer sharing workers) before after text
 AnswersCommand (commands.WhatIf edits workers sharing) before after text = AnswersInput (IsWhatIfAnswer edits.items sharing workers) before after text
-AnswersCommand (commands.Sweep sharing) before after text = AnswersInput (IsSweepAnswer sharing) before after text
+AnswersCommand (commands.Curve most sharing) before after text = AnswersInput (IsCurveAnswer sharing most) before after text
+AnswersCommand (commands.Sweep workers sharing) before after text = AnswersInput (IsSweepAnswer sharing workers) before after text
 AnswersCommand (commands.Help help) before after text = (text ≡ string_bytes help) × Keeps before after
 AnswersCommand commands.Version before after text = (text ≡ VERSION.now) × Keeps before after
 
@@ -183,6 +184,7 @@ RefusesCommand always_on (commands.Run runners) result before after = RefusesRun
 RefusesCommand always_on (commands.Profile workers sharing) result before after = RefusesRecord result before
 RefusesCommand always_on (commands.Time runners workers sharing) result before after = RefusesRun always_on result before after
 RefusesCommand always_on (commands.WhatIf edits workers sharing) result before after = RefusesEdits edits.items result before
-RefusesCommand always_on (commands.Sweep sharing) result before after = RefusesRecord result before
+RefusesCommand always_on (commands.Curve most sharing) result before after = RefusesRecord result before
+RefusesCommand always_on (commands.Sweep workers sharing) result before after = RefusesRecord result before
 RefusesCommand always_on (commands.Help help) result before after = RefusesNothing result
 RefusesCommand always_on commands.Version result before after = RefusesNothing result

@@ -33,7 +33,7 @@ pub enum Fault {
     Words(WordsFault),
     /// The input was refused.
     Input(InputFault),
-    /// The run was given up.
+    /// The run was given up; where memory was refused, that is told as such.
     Run(RunFault),
     /// Memory was refused, or a device failed.
     Means(Want),
@@ -62,7 +62,6 @@ pub enum Want {
 }
 
 impl Fault {
-    ghost use Rattle.std.specs.Prelude.{◌≡◌};
     ghost use Rattle.boc_commands.specs.Faults.{status_of, gone_of, fault_line, IsLineOf};
 
     /// The status of the program: 2 where the words were refused, 3 where the input was, 4 where the
@@ -193,7 +192,6 @@ fn run_text(fault: RunFault) -> &'static str
 }
 
 impl From<WordsFault> for Fault {
-    ghost use Rattle.std.specs.Prelude.{◌≡◌};
     ghost use Rattle.boc_commands.specs.Faults.{of_words};
 
     ghost from_gives = { λ w f. f ≡ of_words w };
@@ -207,7 +205,6 @@ impl From<WordsFault> for Fault {
 }
 
 impl From<TextFault> for Fault {
-    ghost use Rattle.std.specs.Prelude.{◌≡◌};
     ghost use Rattle.boc_commands.specs.Faults.{of_text};
 
     ghost from_gives = { λ t f. f ≡ of_text t };
@@ -221,7 +218,6 @@ impl From<TextFault> for Fault {
 }
 
 impl From<ReadFault> for Fault {
-    ghost use Rattle.std.specs.Prelude.{◌≡◌};
     ghost use Rattle.boc_commands.specs.Faults.{of_read};
 
     ghost from_gives = { λ r f. f ≡ of_read r r.kind };
@@ -235,7 +231,6 @@ impl From<ReadFault> for Fault {
 }
 
 impl From<RecordFault> for Fault {
-    ghost use Rattle.std.specs.Prelude.{◌≡◌};
     ghost use Rattle.boc_commands.specs.Faults.{of_record};
 
     ghost from_gives = { λ r f. f ≡ of_record r r.kind };
@@ -250,7 +245,6 @@ impl From<RecordFault> for Fault {
 }
 
 impl From<SerialFault> for Fault {
-    ghost use Rattle.std.specs.Prelude.{◌≡◌};
     ghost use Rattle.boc_commands.specs.Faults.{of_serial};
 
     ghost from_gives = { λ s f. f ≡ of_serial s };
@@ -264,7 +258,6 @@ impl From<SerialFault> for Fault {
 }
 
 impl From<RunFault> for Fault {
-    ghost use Rattle.std.specs.Prelude.{◌≡◌};
     ghost use Rattle.boc_commands.specs.Faults.{of_run};
 
     ghost from_gives = { λ r f. f ≡ of_run r };
@@ -278,7 +271,6 @@ impl From<RunFault> for Fault {
 }
 
 impl From<WriteFault> for Fault {
-    ghost use Rattle.std.specs.Prelude.{◌≡◌};
     ghost use Rattle.boc_commands.specs.Faults.{of_write};
 
     ghost from_gives = { λ w f. f ≡ of_write w };
@@ -292,7 +284,6 @@ impl From<WriteFault> for Fault {
 }
 
 impl From<Stopped> for Fault {
-    ghost use Rattle.std.specs.Prelude.{◌≡◌};
     ghost use Rattle.boc_commands.specs.declared.fault.Fault.TheVariants.{Means};
     ghost use Rattle.boc_commands.specs.declared.fault.Want.TheVariants.{Sink};
 
@@ -304,7 +295,6 @@ impl From<Stopped> for Fault {
 }
 
 impl From<AllocError> for Fault {
-    ghost use Rattle.std.specs.Prelude.{◌≡◌};
     ghost use Rattle.boc_commands.specs.declared.fault.Fault.TheVariants.{Means};
     ghost use Rattle.boc_commands.specs.declared.fault.Want.TheVariants.{Memory};
 

@@ -8,7 +8,7 @@ ghost use Rattle.boc_plans.specs.declared.sharing.Sharing.{Sharing};
 ghost use Rattle.boc_runs.specs.Rows.{IsRows};
 ghost use Rattle.boc_plans.specs.Seen.{seen};
 ghost use Rattle.boc_reader.specs.Spells.{Spells};
-ghost use Rattle.boc_commands.specs.Answers.{IsReport, IsValuesAnswer, IsCheckAnswer, IsProfileAnswer, IsWhatIfAnswer, IsSweepAnswer};
+ghost use Rattle.boc_commands.specs.Answers.{IsReport, IsValuesAnswer, IsCheckAnswer, IsProfileAnswer, IsWhatIfAnswer, IsCurveAnswer, IsSweepAnswer};
 ghost use Rattle.boc_order.specs.declared.report.Profile.{Profile};
 ghost use Rattle.boc_order.specs.Profiles.{IsProfileOf};
 ghost use Rattle.boc_greedy.specs.declared.plan.Greedy.{Greedy};
@@ -37,7 +37,7 @@ pub fn rows_have_one_report()
 {}
 
 /// An input has one answer at most, of each command that makes no run: of a text that spells a program one output of `values`, and of the text of
-/// a record one of `check`, and for what was asked one of `profile`, `whatif` and `sweep`.
+/// a record one of `check`, and for what was asked one of `profile`, `whatif`, `curve` and `sweep`.
 pub fn input_has_one_answer()
     ensures values { (input output other : List ℕ) → IsValuesAnswer input output → IsValuesAnswer input other → output ≡ other }
     ensures check { (input output other : List ℕ) → IsCheckAnswer input output → IsCheckAnswer input other → output ≡ other }
@@ -45,8 +45,10 @@ pub fn input_has_one_answer()
         → IsProfileAnswer sharing asked input other → output ≡ other }
     ensures whatif { (edits : List Edit) (sharing : Sharing) (asked : Option ℕ) (input output other : List ℕ)
         → IsWhatIfAnswer edits sharing asked input output → IsWhatIfAnswer edits sharing asked input other → output ≡ other }
-    ensures sweep { (sharing : Sharing) (input output other : List ℕ) → IsSweepAnswer sharing input output → IsSweepAnswer sharing input other
-        → output ≡ other }
+    ensures curve { (sharing : Sharing) (most : ℕ) (input output other : List ℕ) → IsCurveAnswer sharing most input output
+        → IsCurveAnswer sharing most input other → output ≡ other }
+    ensures sweep { (sharing : Sharing) (asked : Option ℕ) (input output other : List ℕ) → IsSweepAnswer sharing asked input output
+        → IsSweepAnswer sharing asked input other → output ≡ other }
 {}
 
 /// A text spells one program at most.

@@ -1,8 +1,9 @@
--- The texts of reports and of sweeps.
+-- The texts of reports, of curves and of sweeps.
 use Rattle.std.specs.Prelude.{ℕ, suc, List, [], ◌∷◌, ◌++◌, length, codes, decimal}
 use Rattle.boc_plans.specs.declared.chain.ChainStep.{ChainStep}
 use Rattle.boc_plans.specs.declared.chain.Via.{Via}
 use Rattle.boc_plans.specs.declared.chain.Via.TheVariants.{Spawn, Order, Last}
+use Rattle.boc_greedy.specs.declared.points.CurvePoint.{CurvePoint}
 
 -- what stands between the row and the weight of a step: the link to the next one
 abbrev pub via_word : Via → List ℕ
@@ -64,7 +65,22 @@ abbrev pub greedy_text : ℕ → List ℕ → List ℕ → List ℕ → ℕ → 
 greedy_text p starts ends workers last bound =
     number_line (codes "greedy ") p ++ served_lines 0 starts ends workers ++ bound_line last bound
 
--- the line of a row in a sweep: its number, and the span that goes with it
+-- the line of a point of a curve: the number of workers, the end of their greedy plan, the tick before which no plan of theirs ends, and the
+-- tick by which the greedy one has ended
+abbrev pub curve_line : CurvePoint → List ℕ
+curve_line point =
+    decimal point.workers ++ codes " " ++ decimal point.end ++ codes " " ++ decimal point.low ++ codes " " ++ decimal point.bound ++ codes "\n"
+
+-- the lines of the points of a curve
+abbrev pub curve_lines : List CurvePoint → List ℕ
+curve_lines [] = []
+curve_lines (point ∷ points) = curve_line point ++ curve_lines points
+
+-- a curve: the work, the span, and the points
+abbrev pub curve_text : ℕ → ℕ → List CurvePoint → List ℕ
+curve_text work span points = number_line (codes "work ") work ++ number_line (codes "span ") span ++ curve_lines points
+
+-- the line of a row in a sweep: its number, and the span or the end that goes with it
 abbrev pub sweep_line : ℕ → ℕ → List ℕ
 sweep_line r span = decimal r ++ codes " " ++ decimal span ++ codes "\n"
 

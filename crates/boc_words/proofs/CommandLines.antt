@@ -3,7 +3,7 @@ use Rattle.std.proofs.Common.{◌≡◌, List, [], ◌∷◌, Some, None, true, 
 use Rattle.clap.proofs.OnLiterals.{clap_on_literals}
 use Rattle.clap.specs.Words.{Text, fault_of, is_simple, is_simple_and_free, subcommand_of}
 use Rattle.clap.specs.declared.error.kind.ErrorKind.TheVariants as kinds
-use Rattle.boc_words.specs.Words.{AreEdits, AreRunners, AreShared, AreTaken, AreWorkers, Names, command_line}
+use Rattle.boc_words.specs.Words.{AreEdits, AreRunners, AreShared, AreTaken, AreUpTo, AreWorkers, Names, command_line}
 use Rattle.boc_words.specs.declared.commands.Kind.TheVariants as called
 use Rattle.boc_plans.specs.declared.sharing.Sharing.TheVariants.{Exclusive, SharedReads}
 use Rattle.std.specs.Fmt.{digits}
@@ -30,15 +30,26 @@ unfolding clap_on_literals digits
 whatif_named = (_, refl, (refl, record { text = codes "+2"; alone = refl; numeral = (lit≤ tt, (lit≤ tt, tt)); value = refl }))
 
 abbrev sweep_words : List Text
-sweep_words = codes "boc" ∷ codes "sweep" ∷ codes "--shared-reads" ∷ []
+sweep_words = codes "boc" ∷ codes "sweep" ∷ codes "--p=3" ∷ codes "--shared-reads" ∷ []
 
 pub sweep_taken : AreTaken sweep_words
 unfolding clap_on_literals
 sweep_taken = refl
 
-pub sweep_named : Names (subcommand_of command_line sweep_words) called.Sweep (λ rows. AreShared rows SharedReads)
+pub sweep_named : Names (subcommand_of command_line sweep_words) called.Sweep (λ rows. AreWorkers rows (Some 3) × AreShared rows SharedReads)
+unfolding clap_on_literals digits
+sweep_named = (_, refl, (record { text = codes "3"; alone = refl; numeral = (lit≤ tt, (lit≤ tt, tt)); value = refl }, refl))
+
+abbrev curve_words : List Text
+curve_words = codes "boc" ∷ codes "curve" ∷ []
+
+pub curve_taken : AreTaken curve_words
 unfolding clap_on_literals
-sweep_named = (_, refl, refl)
+curve_taken = refl
+
+pub curve_named : Names (subcommand_of command_line curve_words) called.Curve (λ rows. AreUpTo rows 64 × AreShared rows Exclusive)
+unfolding clap_on_literals
+curve_named = (_, refl, (inl (refl, refl), λ e. cc))
 
 abbrev profile_words : List Text
 profile_words = codes "boc" ∷ codes "profile" ∷ []

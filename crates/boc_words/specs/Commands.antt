@@ -29,7 +29,7 @@ pub data Argument : Type 0 where
 abbrev pub runners_option : NumberOption
 runners_option = record { id = codes "workers"; numbers = UpTo MOST_RUNNERS }
 
--- `--p P`, of so many workers of a greedy plan
+-- `--p P`, of so many workers of a greedy plan, or of up to so many
 abbrev pub workers_option : NumberOption
 workers_option = record { id = codes "p"; numbers = UpTo MOST_WORKERS }
 
@@ -55,11 +55,12 @@ signature_of kinds.Run = (codes "run", number runners_option ∷ [])
 signature_of kinds.Profile = (codes "profile", number workers_option ∷ sharing_flag ∷ [])
 signature_of kinds.Time = (codes "time", number runners_option ∷ number workers_option ∷ sharing_flag ∷ [])
 signature_of kinds.WhatIf = (codes "whatif", number workers_option ∷ sharing_flag ∷ edits_operands ∷ [])
-signature_of kinds.Sweep = (codes "sweep", sharing_flag ∷ [])
+signature_of kinds.Curve = (codes "curve", number workers_option ∷ sharing_flag ∷ [])
+signature_of kinds.Sweep = (codes "sweep", number workers_option ∷ sharing_flag ∷ [])
 
 -- every command, in the order of help
 abbrev pub every_kind : List Kind
-every_kind = kinds.Values ∷ kinds.Check ∷ kinds.Run ∷ kinds.Profile ∷ kinds.Time ∷ kinds.WhatIf ∷ kinds.Sweep ∷ []
+every_kind = kinds.Values ∷ kinds.Check ∷ kinds.Run ∷ kinds.Profile ∷ kinds.Time ∷ kinds.WhatIf ∷ kinds.Curve ∷ kinds.Sweep ∷ []
 
 -- each by its name, with what it takes
 abbrev pub commands_of_boc : List (Text × List Argument)

@@ -10,6 +10,7 @@ use Rattle.clap.specs.declared.builder.command.Command.TheViews.{out-Command}
 use Rattle.clap.specs.declared.error.Error.{Error}
 use Rattle.clap.specs.declared.error.kind.ErrorKind.{ErrorKind}
 use Rattle.clap.specs.declared.error.kind.ErrorKind.TheVariants as kinds
+use Rattle.boc_program.specs.declared.limits.TheConstants.{MOST_WORKERS}
 use Rattle.boc_plans.specs.declared.edit.Edit.{Edit}
 use Rattle.boc_plans.specs.declared.sharing.Sharing.{Sharing}
 use Rattle.boc_plans.specs.declared.sharing.Sharing.TheVariants.{Exclusive, SharedReads}
@@ -63,6 +64,10 @@ GivesNumber option rows (Some number) = IsGiven (values_at rows option.id) numbe
 -- no `--p` was given, or one with this number
 abbrev pub AreWorkers : List Row → Option ℕ → Type 0
 AreWorkers rows workers = GivesNumber workers_option rows workers
+
+-- no `--p` was given, and it is the most that may be, or one with this number
+abbrev pub AreUpTo : List Row → ℕ → Type 0
+AreUpTo rows number = (GivesNumber workers_option rows None × (number ≡ MOST_WORKERS)) ⊎ GivesNumber workers_option rows (Some number)
 
 -- no `--workers` was given, and it is 1, or one with this number
 abbrev pub AreRunners : List Row → ℕ → Type 0
@@ -133,7 +138,8 @@ Asks kind rows (commands.Time runners workers sharing) =
     (kind ≡ called.Time) × AreRunners rows runners × AreWorkers rows workers × AreShared rows sharing
 Asks kind rows (commands.WhatIf edits workers sharing) =
     (kind ≡ called.WhatIf) × AreEdits rows edits.items × AreWorkers rows workers × AreShared rows sharing
-Asks kind rows (commands.Sweep sharing) = (kind ≡ called.Sweep) × AreShared rows sharing
+Asks kind rows (commands.Curve most sharing) = (kind ≡ called.Curve) × AreUpTo rows most × AreShared rows sharing
+Asks kind rows (commands.Sweep workers sharing) = (kind ≡ called.Sweep) × AreWorkers rows workers × AreShared rows sharing
 Asks kind rows (commands.Help text) = ⊥
 Asks kind rows commands.Version = ⊥
 

@@ -69,6 +69,18 @@ pub(crate) const WORKERS: NumberOption = NumberOption {
     help: "Prints the greedy plan for P workers too, 1 to 64, with its end and its bound",
 };
 
+/// Up to how many workers a curve goes.
+pub(crate) const CURVE_WORKERS: NumberOption = NumberOption {
+    help: "Goes up to P workers, 1 to 64; 64 if not given",
+    ..WORKERS
+};
+
+/// For how many workers a sweep plans, where not for as many as there are rows.
+pub(crate) const SWEEP_WORKERS: NumberOption = NumberOption {
+    help: "Prints the ends of the greedy plans for P workers, 1 to 64, in place of the spans",
+    ..WORKERS
+};
+
 /// Whether plans share what was only read.
 pub(crate) const SHARING: FlagOption = FlagOption {
     id: "shared-reads",

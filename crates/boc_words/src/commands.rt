@@ -7,7 +7,7 @@ ghost use Rattle.boc_words.specs.Tables.{command_of_entry};
 ghost use Rattle.boc_words.specs.Words.{IsNoneOf, Told, command_line, without_commands};
 
 use crate::arguments::Argument::{Flag, Number, Words};
-use crate::arguments::{Argument, EDITS, RUNNERS, SHARING, WORKERS};
+use crate::arguments::{Argument, CURVE_WORKERS, EDITS, RUNNERS, SHARING, SWEEP_WORKERS, WORKERS};
 use crate::version::VERSION;
 use std::alloc::{AllocError, Global};
 
@@ -20,16 +20,46 @@ pub(crate) enum Kind {
     Profile,
     Time,
     WhatIf,
+    Curve,
     Sweep,
 }
 
-// A command: its name, what help says of it, and which arguments it takes.
+// A command: its name, what help says of it, which arguments it takes, and what help says of the lines that it prints.
 struct Entry {
     kind: Kind,
     name: &'static str,
     about: &'static str,
     takes: &'static [Argument],
+    lines: &'static str,
 }
+
+// What the lines of a record say.
+const RECORD_LINES: &str = "The first line is `boc 2 COWNS`, the last one `.`; between them are
+  + ROW PARENT TICK COWN..      a row is spawned, at that tick of its parent
+  > ROW                         it begins
+  < ROW TICKS STATUS COWN..     it ends, and wrote these cowns
+Ticks are what a body's statements cost, and no time that passes.";
+
+// What the lines of a report say.
+const REPORT_LINES: &str =
+    "The numbers `rows`, `work` and `span` come first, then the lines of `chain`, of `plan` and, with --p, of `greedy P`:
+  ROW LINK TICKS          a row of the chain, how it holds back the next one, and what it adds to the span
+  ROW START END           a row of the earliest plan
+  ROW START END WORKER    a row of the greedy plan, and `end END bound BOUND` behind them
+All are ticks but the rows and the workers.";
+
+// What the lines of a curve say.
+const CURVE_LINES: &str =
+    "The numbers `work` and `span` come first, then a line P END LOW BOUND for each number of workers:
+  END      when the greedy plan for P workers ends; it need not fall as P grows
+  LOW      no plan for P workers ends sooner: the span, or the work divided by P, rounded up, if that is greater
+  BOUND    that greedy plan ends no later: the work divided by P, rounded down, plus the span
+All are ticks but P.";
+
+// What the lines of a sweep say.
+const SWEEP_LINES: &str =
+    "A line is ROW END: a row, and the tick at which the plan would end if that row alone took its least ticks. It is the
+earliest plan, whose end is the span, or with --p the greedy plan, which may end later though a row takes fewer ticks.";
 
 // Every command, in the order of help.
 //
@@ -41,42 +71,56 @@ const COMMANDS: &[Entry] = &[
         name: "values",
         about: "Reads a program, runs it serially, and prints the values of its cowns",
         takes: &[],
+        lines: "A line is NAME VALUE, or NAME[INDEX] VALUE for a member of an array.",
     },
     Entry {
         kind: Kind::Check,
         name: "check",
         about: "Reads the record of a run, checks that it keeps the rules, and prints how many rows it has",
         takes: &[],
+        lines: "The line is `ok ROWS`.",
     },
     Entry {
         kind: Kind::Run,
         name: "run",
         about: "Reads a program, runs it by several threads, and prints the record of the run",
         takes: &[Number(RUNNERS)],
+        lines: RECORD_LINES,
     },
     Entry {
         kind: Kind::Profile,
         name: "profile",
         about: "Reads the record of a run, and prints its work, its span, its costliest chain and its earliest plan",
         takes: &[Number(WORKERS), Flag(SHARING)],
+        lines: REPORT_LINES,
     },
     Entry {
         kind: Kind::Time,
         name: "time",
         about: "Reads a program, runs it by several threads, and prints the profile of the run",
         takes: &[Number(RUNNERS), Number(WORKERS), Flag(SHARING)],
+        lines: REPORT_LINES,
     },
     Entry {
         kind: Kind::WhatIf,
         name: "whatif",
         about: "Reads the record of a run, and prints the profile that it would have with other ticks",
         takes: &[Number(WORKERS), Flag(SHARING), Words(EDITS)],
+        lines: REPORT_LINES,
+    },
+    Entry {
+        kind: Kind::Curve,
+        name: "curve",
+        about: "Reads the record of a run, and prints when the greedy plans for 1, 2, 3 .. workers end",
+        takes: &[Number(CURVE_WORKERS), Flag(SHARING)],
+        lines: CURVE_LINES,
     },
     Entry {
         kind: Kind::Sweep,
         name: "sweep",
         about: "Reads the record of a run, and prints for each row the span with that row alone at its least ticks",
-        takes: &[Flag(SHARING)],
+        takes: &[Number(SWEEP_WORKERS), Flag(SHARING)],
+        lines: SWEEP_LINES,
     },
 ];
 
@@ -122,7 +166,9 @@ impl Entry {
     fn command<'a>(&self, alloc: Global) -> Result<clap::Command<'a>, AllocError>
         ensures { IfOk result (λ command. Told command (app_of_command (command_of_entry self.now))) }
     {
-        let mut command = clap::Command::new(alloc, self.name).about(self.about);
+        let mut command = clap::Command::new(alloc, self.name)
+            .about(self.about)
+            .after_help(self.lines);
         for argument in self.takes {
             command = command.arg(argument.arg(alloc))?;
         }

@@ -2,7 +2,7 @@
 
 ghost use Rattle.boc_words.specs.Commands.{IsNumberOf, runners_option, workers_option};
 ghost use Rattle.boc_words.specs.Tables.{option_of};
-ghost use Rattle.boc_words.specs.Words.{AreEdits, AreRunners, AreShared, AreTaken, AreWorkers, Asks, GivesNumber, IsAsked, IsGiven};
+ghost use Rattle.boc_words.specs.Words.{AreEdits, AreRunners, AreShared, AreTaken, AreUpTo, AreWorkers, Asks, GivesNumber, IsAsked, IsGiven};
 ghost use Rattle.boc_words.specs.Words.{IsMisnamed, IsNamed, IsOfEditWords, IsOfError, IsOfNoText, IsOfNumber, IsRefused, IsTextOfKind, IsUnread};
 ghost use Rattle.boc_words.specs.Words.{command_line, values_at};
 ghost use Rattle.clap.specs.Kinds.{HasKind};
@@ -17,6 +17,7 @@ use crate::runners::Runners;
 use boc_plans::edit::Edit;
 use boc_plans::sharing::Sharing;
 use boc_plans::workers::Workers;
+use boc_program::limits::MOST_WORKERS;
 use clap::ArgMatches;
 use clap::error::ErrorKind;
 use std::alloc::{AllocError, Global};
@@ -50,8 +51,17 @@ pub enum Command {
         workers: Option<Workers>,
         sharing: Sharing,
     },
-    /// For each row of a record, the span with that row alone at its least ticks.
-    Sweep(Sharing),
+    /// The ends of the greedy plans for 1 worker up to so many, for the rows of a record.
+    Curve {
+        most: Workers,
+        sharing: Sharing,
+    },
+    /// For each row of a record, the span with that row alone at its least ticks; or the end of the greedy plan for so many
+    /// workers, where a number is given.
+    Sweep {
+        workers: Option<Workers>,
+        sharing: Sharing,
+    },
     /// The parser's own text, for standard output.
     Help(String),
     /// The version of the program, which is [`VERSION`](crate::VERSION).
@@ -143,7 +153,14 @@ fn asked(alloc: Global, kind: Kind, matches: &ArgMatches) -> Result<Command, Wor
             workers: workers_asked(alloc, matches)?,
             sharing: sharing_asked(matches),
         }),
-        Kind::Sweep => Ok(Command::Sweep(sharing_asked(matches))),
+        Kind::Curve => Ok(Command::Curve {
+            most: most_asked(alloc, matches)?,
+            sharing: sharing_asked(matches),
+        }),
+        Kind::Sweep => Ok(Command::Sweep {
+            workers: workers_asked(alloc, matches)?,
+            sharing: sharing_asked(matches),
+        }),
     }
 }
 
@@ -190,6 +207,17 @@ fn workers_asked(alloc: Global, matches: &ArgMatches) -> Result<Option<Workers>,
     match number_asked(alloc, matches, &WORKERS)? {
         Some(number) => Ok(Workers::new(number as u32)),
         None => Ok(None),
+    }
+}
+
+// Up to how many workers the words ask for plans, the most that may be where they have no `--p`.
+fn most_asked(alloc: Global, matches: &ArgMatches) -> Result<Workers, WordsFault>
+    ensures asked { IfOk result (AreUpTo (rows_of (found_of matches.now))) }
+    ensures refused { IfErr result (IsOfNumber workers_option (rows_of (found_of matches.now))) }
+{
+    match workers_asked(alloc, matches)? {
+        Some(workers) => Ok(workers),
+        None => Ok(Workers::new(MOST_WORKERS).unwrap()),
     }
 }
 

@@ -1,7 +1,7 @@
 //! Commands whose source or sink fails. What each command answers is in the program's own tests.
 
 use crate::runs::{GREEDY, RECORD, REPORT, TRANSFER, bytes};
-use boc_commands::{Command, Fault, Runners, VERSION, Want, run_command};
+use boc_commands::{Command, Fault, Runners, Silent, VERSION, Want, run_command};
 use boc_plans::edit::Edit;
 use boc_plans::sharing::Sharing;
 use boc_plans::workers::Workers;
@@ -80,7 +80,7 @@ fn of_programs(alloc: Global) -> Result<[Case; 3], AllocError> {
 }
 
 // The commands that read a record.
-fn of_records(alloc: Global) -> Result<[Case; 6], AllocError> {
+fn of_records(alloc: Global) -> Result<[Case; 8], AllocError> {
     let sharing = Sharing::Exclusive;
     let two = Workers::new(2);
     let alone = Command::Profile {
@@ -93,14 +93,33 @@ fn of_records(alloc: Global) -> Result<[Case; 6], AllocError> {
     };
     let shorter_alone = shorter(alloc, None)?;
     let shorter_by_two = shorter(alloc, two)?;
-    let sweep = Command::Sweep(sharing);
+    let curve = Command::Curve {
+        most: two.unwrap(),
+        sharing,
+    };
+    let sweep = Command::Sweep {
+        workers: None,
+        sharing,
+    };
+    let swept_by_one = Command::Sweep {
+        workers: Workers::new(1),
+        sharing,
+    };
     Ok([
         answered(alloc, Command::Check, RECORD, "ok 4\n", "")?,
         answered(alloc, alone, RECORD, REPORT, "")?,
         answered(alloc, by_two, RECORD, REPORT, GREEDY)?,
         answered(alloc, shorter_alone, RECORD, SHORTER, "")?,
         answered(alloc, shorter_by_two, RECORD, SHORTER, SHORTER_GREEDY)?,
+        answered(
+            alloc,
+            curve,
+            RECORD,
+            "work 11\nspan 9\n",
+            "1 11 11 20\n2 9 9 14\n",
+        )?,
         answered(alloc, sweep, RECORD, "0 9\n1 8\n2 7\n3 8\n", "")?,
+        answered(alloc, swept_by_one, RECORD, "0 11\n1 10\n2 9\n3 10\n", "")?,
     ])
 }
 
@@ -144,7 +163,15 @@ fn one_read_fails(rt: HostRuntime) -> Result<(), Fail> {
             for k in 1..=reads + 1 {
                 let mut source = FailAt::new(bytes(alloc, case.input)?, k, most);
                 let mut sink = bytes(alloc, "")?;
-                match run_command(&rt, alloc, &OpenGate, &case.command, &mut source, &mut sink) {
+                match run_command(
+                    &rt,
+                    alloc,
+                    &OpenGate,
+                    &case.command,
+                    &mut Silent,
+                    &mut source,
+                    &mut sink,
+                ) {
                     Ok(()) => {
                         assert_eq!(rt; k, reads + 1);
                         assert_eq!(rt; sink.bytes.as_slice(), case.answer.as_bytes());
@@ -172,7 +199,15 @@ fn one_write_fails(rt: HostRuntime) -> Result<(), Fail> {
         for k in 1..=writes + 1 {
             let mut source = bytes(alloc, case.input)?;
             let mut sink = FailAt::new(bytes(alloc, "")?, k as u64, 7);
-            let result = run_command(&rt, alloc, &OpenGate, &case.command, &mut source, &mut sink);
+            let result = run_command(
+                &rt,
+                alloc,
+                &OpenGate,
+                &case.command,
+                &mut Silent,
+                &mut source,
+                &mut sink,
+            );
             let went_out = match result {
                 Ok(()) => {
                     assert_eq!(rt; k, writes + 1);
@@ -199,7 +234,15 @@ fn nothing_is_read_for_help(rt: HostRuntime) -> Result<(), Fail> {
     for case in &of_nothing(alloc)? {
         let mut source = FailAt::new(bytes(alloc, "")?, 1, 1);
         let mut sink = bytes(alloc, "")?;
-        let result = run_command(&rt, alloc, &OpenGate, &case.command, &mut source, &mut sink);
+        let result = run_command(
+            &rt,
+            alloc,
+            &OpenGate,
+            &case.command,
+            &mut Silent,
+            &mut source,
+            &mut sink,
+        );
         assert!(rt; result.is_ok());
         assert_eq!(rt; sink.bytes.as_slice(), case.answer.as_bytes());
     }

@@ -3,7 +3,7 @@
 ghost use Rattle.std.specs.Prelude.{◌≡◌, IfOk};
 
 use crate::gates::{Meeting, Place, StopsAtSecondBody, StopsAtSwap};
-use boc_commands::{Command, Fault, Runners, run_cmd, run_command, time_cmd};
+use boc_commands::{Command, Fault, Runners, Silent, run_cmd, run_command, time_cmd};
 use boc_plans::sharing::Sharing;
 use boc_plans::workers::Workers;
 use boc_text::Bytes;
@@ -295,7 +295,15 @@ fn as_many_threads_as_asked_for(rt: HostRuntime) -> Result<(), Fail> {
         let gate = Meeting::new(&rt, Place::AtBody);
         let mut source = bytes(alloc, TWO_BODIES)?;
         let mut sink = bytes(alloc, "")?;
-        let result = run_command(&rt, alloc, &gate, &command, &mut source, &mut sink);
+        let result = run_command(
+            &rt,
+            alloc,
+            &gate,
+            &command,
+            &mut Silent,
+            &mut source,
+            &mut sink,
+        );
         assert!(rt; result.is_ok());
         assert!(rt; gate.both_came());
     }

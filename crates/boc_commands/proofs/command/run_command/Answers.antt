@@ -7,5 +7,8 @@ returns-in-Run-clause-written g c = search rules
 pub returns-in-WhatIf-clause-written : goal.returns-in-WhatIf-clause-written
 returns-in-WhatIf-clause-written g c = search rules
 
+pub returns-in-Curve-clause-written : goal.returns-in-Curve-clause-written
+returns-in-Curve-clause-written g c = search rules
+
 pub returns-in-Sweep-clause-written : goal.returns-in-Sweep-clause-written
 returns-in-Sweep-clause-written g c = search rules

@@ -1,4 +1,4 @@
-use Rattle.boc_commands.proofs.OneAnswer.{one_check_answer, one_profile_answer, one_sweep_answer, one_values_answer, one_whatif_answer}
+use Rattle.boc_commands.proofs.OneAnswer.{one_check_answer, one_curve_answer, one_profile_answer, one_sweep_answer, one_values_answer, one_whatif_answer}
 use Rattle.boc_commands.proofs.laws.input_has_one_answer.Goals as goal
 
 pub returns : goal.returns
@@ -7,5 +7,6 @@ returns c = record {
   check = one_check_answer;
   profile = one_profile_answer;
   whatif = one_whatif_answer;
+  curve = one_curve_answer;
   sweep = one_sweep_answer;
 }

@@ -13,10 +13,10 @@ returns-clause-written g c =
         input = read.text;
         taken = read.taken;
         whole = read.over;
-        answers = swept c.args.sharing c.in_ok-question.question.sharing read.text asked.0 c.in_ok-question.question.rows
-            c.in_ok-spans.spans.items c.deref.result.now text text
+        answers = swept c.args.sharing c.in_ok-question.question.sharing c.args.workers read.text asked.0 c.in_ok-question.question.rows
+            c.in_ok-ends.ends.items c.deref.result.now text text
             read.text_of (c.in_ok-question.ensures.rows
-            ∙ asked.2) c.in_ok-question.ensures.sharing c.in_ok-spans.ensures.sweep c.deref.ensures.value refl refl;
+            ∙ asked.2) c.in_ok-question.ensures.sharing c.in_ok-ends.ensures.swept c.deref.ensures.value refl refl;
       },
       c.in_ok-write_sweep.ensures.written,
     )
@@ -30,8 +30,8 @@ returns-in_err-write_sweep-clause-written g c =
       input = read.text;
       taken = read.taken;
       whole = read.over;
-      answers = swept c.args.sharing c.in_ok-question.question.sharing read.text asked.0 c.in_ok-question.question.rows c.in_ok-spans.spans.items
+      answers = swept c.args.sharing c.in_ok-question.question.sharing c.args.workers read.text asked.0 c.in_ok-question.question.rows c.in_ok-ends.ends.items
           c.deref.result.now text text
           read.text_of (c.in_ok-question.ensures.rows
-          ∙ asked.2) c.in_ok-question.ensures.sharing c.in_ok-spans.ensures.sweep c.deref.ensures.value refl refl;
+          ∙ asked.2) c.in_ok-question.ensures.sharing c.in_ok-ends.ensures.swept c.deref.ensures.value refl refl;
     }) c.in_err-write_sweep.ensures.written

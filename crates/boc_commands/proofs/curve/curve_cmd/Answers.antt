@@ -1,0 +1,34 @@
+use Rattle.std.proofs.Common.{◌∙◌}
+use Rattle.boc_commands.proofs.Asked.{drawn, stopped}
+use Rattle.boc_commands.proofs.curve.curve_cmd.Goals as goal
+
+pub returns-clause-written : goal.returns-clause-written
+returns-clause-written g c =
+    let asked = c.in_ok-rows.ensures.rows_or_fault in
+    let read = asked.1 in (
+      c.deref-2.result.now,
+      record {
+        input = read.text;
+        taken = read.taken;
+        whole = read.over;
+        answers = drawn c.args.sharing c.in_ok-question.question.sharing c.args.most read.text asked.0 c.in_ok-question.question.rows c.work.result
+            c.span.result c.in_ok-points.points.items c.deref.result.now c.in_ok-answer.answer.items c.deref-2.result.now read.text_of
+            (c.in_ok-question.ensures.rows ∙ asked.2) c.in_ok-question.ensures.sharing c.work.ensures c.span.ensures c.in_ok-points.ensures
+            c.deref.ensures.value c.in_ok-answer.ensures c.deref-2.ensures.value;
+      },
+      c.in_ok-put_out.ensures.ok,
+    )
+
+pub returns-in_err-put_out-clause-written : goal.returns-in_err-put_out-clause-written
+returns-in_err-put_out-clause-written g c =
+    let asked = c.in_ok-rows.ensures.rows_or_fault in
+    let read = asked.1 in
+    stopped _ _ _ c.deref-2.result.now _ _ c.from_residual-in_err-put_out.ensures.1 (record {
+      input = read.text;
+      taken = read.taken;
+      whole = read.over;
+      answers = drawn c.args.sharing c.in_ok-question.question.sharing c.args.most read.text asked.0 c.in_ok-question.question.rows c.work.result
+          c.span.result c.in_ok-points.points.items c.deref.result.now c.in_ok-answer.answer.items c.deref-2.result.now read.text_of
+          (c.in_ok-question.ensures.rows ∙ asked.2) c.in_ok-question.ensures.sharing c.work.ensures c.span.ensures c.in_ok-points.ensures
+          c.deref.ensures.value c.in_ok-answer.ensures c.deref-2.ensures.value;
+    }) c.in_err-put_out.ensures.stopped

@@ -3,4 +3,4 @@ pub mod Promised
 pub mod Passed
 pub mod OneProgram
 pub mod OneAnswer
-pub mod TransferValues
+pub mod examples

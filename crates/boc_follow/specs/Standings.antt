@@ -86,6 +86,7 @@ abbrev pub written_if : Option Underway → List ℕ → List ℤ → List ℤ
 written_if None cowns values = values
 written_if (Some u) cowns values = after_outputs values cowns u.means.outputs
 
+-- the values after a row's outputs are written to its cowns, while it runs
 abbrev pub written_by : Standing → List ℤ → List ℤ
 written_by s values = written_if s.underway s.behaviour.cowns values
 

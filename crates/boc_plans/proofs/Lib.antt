@@ -1,6 +1,6 @@
-pub mod EditedTransfer
 pub mod Children
 pub mod Seeing
 pub mod EditedOrder
 pub mod EditedBy
 pub mod Numbered
+pub mod examples

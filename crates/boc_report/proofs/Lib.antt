@@ -1,3 +1,3 @@
 pub mod ByLines
 pub mod Lines
-pub mod TransferGreedy
+pub mod examples

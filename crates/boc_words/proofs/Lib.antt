@@ -1,5 +1,4 @@
 pub mod EditWord
-pub mod CommandLines
 pub mod Told
 pub mod Parsed
 pub mod Given
@@ -10,3 +9,4 @@ pub mod Uses
 pub mod Named
 pub mod Refused
 pub mod Listed
+pub mod examples

@@ -5,7 +5,7 @@ use Rattle.clap.specs.Words.{App, HasMatchesOf, fault_of, is_simple, is_simple_a
 use Rattle.clap.specs.declared.error.Error.{Error}
 use Rattle.clap.specs.declared.parser.matches.ArgMatches.{ArgMatches}
 use Rattle.boc_words.specs.Words.{AreTaken, command_line}
-use Rattle.boc_words.proofs.CommandLines.{is_exact, is_simple_too}
+use Rattle.boc_words.proofs.examples.CommandLines.{is_exact, is_simple_too}
 
 -- what the parser's clause on kinds says of this command line
 fails_by : (app : App) (words : List (List ℕ)) (r : Result ArgMatches Error) → app ≡ command_line

@@ -188,16 +188,6 @@ passed_some link link' c s n (r ∷ (x ∷ xs)) l m h e i k here others =
       | false ↦ λ on g. absurd (let y : None ≡ Some n = g in cc)
     ] refl (sym (front_link link c s None r (x ∷ xs) l h.spelled.spells h.granted.0 e) ∙ i)
 
-pub passed_none : (link : ℕ → ℕ → Option Tie) (c s : ℕ) (xs : List Request) (l : Tie) → IsFront link c s xs → link s c ≡ Some l → l.next ≡ None
-    → IsSpelled link c (passed xs)
-passed_none link c s [] l h e i = absurd h.granted
-passed_none link c s (r ∷ []) l h e i = h.spelled
-passed_none link c s (r ∷ (x ∷ xs)) l h e i =
-    elim x.settled as (λ b. cond b (Some x.slot) None ≡ None → IsSpelled link c (cond b (x ∷ xs) (r ∷ (x ∷ xs)))) [
-      | true ↦ λ g. absurd (let y : Some x.slot ≡ None = g in cc)
-      | false ↦ λ g. h.spelled
-    ] (sym (front_link link c s None r (x ∷ xs) l h.spelled.spells h.granted.0 e) ∙ i)
-
 -- swap and flag
 
 pub swapped : (link link' : ℕ → ℕ → Option Tie) (c s : ℕ) (last : Option ℕ) (xs : List Request) → IsList link c last xs → link s c ≡ None

@@ -1,5 +1,5 @@
 -- A drive from its opening to its end.
-use Rattle.std.proofs.Common.{◌≡◌, ℕ, zero, suc, ◌<◌, ◌≤◌, List, [], ◌∷◌, ◌++◌, length, map, take, replicate, refl, sym, ◌∙◌, ap, subst, arith}
+use Rattle.std.proofs.Common.{◌≡◌, ℕ, zero, suc, ◌≤◌, List, [], ◌∷◌, ◌++◌, length, map, take, replicate, refl, sym, ◌∙◌, ap, subst, arith}
 use Rattle.std.specs.Prelude.{slice_get, slice_set, Option, Some, None, Err}
 use Rattle.std.specs.Option.{option_map}
 use Rattle.std.proofs.Math.Seq.{take-length}
@@ -9,7 +9,7 @@ use Rattle.boc_program.specs.declared.program.Program.{Program}
 use Rattle.boc_runs.specs.machine.Steps.{opening_state}
 use Rattle.boc_runs.specs.machine.Sound.{IsSound}
 use Rattle.boc_runs.specs.machine.Turns.{TakesTurn, Driven, Turn, Turns, opening_driven}
-use Rattle.boc_program.proofs.ChangedItems.{place_below, item_at}
+use Rattle.boc_program.proofs.ChangedItems.{place_below}
 use Rattle.boc_machine_laws.proofs.Every.{opening_sound}
 use Rattle.boc_machine_laws.proofs.OneTurn.{turns_keep, no_turn}
 use Rattle.boc_dispatch.specs.declared.interleaving.DriveFault.{DriveFault}
@@ -81,10 +81,6 @@ module _ (p : Program) (workers : ℕ) (choices : List ℕ) (place : ℕ) (u : U
   pub at_sound : IsSound u.program u.state
   at_sound = subst (λ q. IsSound q u.state) (sym h.program)
       (turns_keep p (opening_driven p workers) (record { state = u.state; serves = rows_of crew }) (take place choices) (opening_sound p) h.turns)
-
-  -- the worker of a number is there
-  pub at_worker : (choice : ℕ) → choice < length crew → (w : Worker) × (slice_get crew choice ≡ Some w)
-  at_worker choice low = item_at crew choice low
 
   pub at_fits : (choice : ℕ) (w : Worker) → slice_get crew choice ≡ Some w → HandFits u w.hand
   at_fits choice w is = h.fits.fits choice w is

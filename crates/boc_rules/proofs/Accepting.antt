@@ -21,10 +21,10 @@ use Rattle.boc_rules.specs.declared.stage.Stage.{Stage}
 use Rattle.boc_rules.specs.Before.{noted}
 use Rattle.boc_rules.specs.Course.{AreLegal}
 use Rattle.boc_rules.specs.SoFar.{IsStageOf, AreStagesOf, AreFound, AreLatest, over_one, over, entry_of, entries_of, AreParts, new_row, meant}
-use Rattle.boc_rules.proofs.Lists.{got_in}
 use Rattle.boc_rules.proofs.Next.{living, after_more, legal_more}
 use Rattle.boc_rules.proofs.KeptRows.{rows_go_on}
 use Rattle.boc_rules.proofs.Keeping.{IsSet, stages_set, found_set, latest_set, over_set, stages_push, found_push, latest_push, over_push}
+use Rattle.boc_program.proofs.ChangedItems.{item_at}
 
 -- what is kept beside the rows is that of these
 pub record IsThatOf (run : List Entry) (cowns : ℕ) (stages : List Stage) (found latest : List (Option ℕ)) (ended : ℕ) : Type 0 where
@@ -103,7 +103,7 @@ that_goes_on run cowns stages found latest ended later row from f now t at cowns
     let v : Entry = f e.0 in
     let h : IsSet run row e.0 v = record { is = e.1; cowns = cowns_stay e.0 } in
     let inside : row < length stages = omega (arith, t.stages_are.all, slice_get_within run row e.0 e.1) in
-    let x = got_in stages row inside in
+    let x = item_at stages row inside in
     let y : Stage = record x.0 { life = now } in
     let was = t.stages_are.each row e.0 x.0 e.1 x.1 in
     let counted = over_set run row e.0 v e.1 in
@@ -170,7 +170,7 @@ that_spawn (main ∷ others) count stages found latest ended row parent offset c
     let run = main ∷ others in
     let e = living run parent lives.Running p in
     let inside : parent < length stages = omega (arith, t.stages_are.all, slice_get_within run parent e.0 e.1) in
-    let x = got_in stages parent inside in
+    let x = item_at stages parent inside in
     let v : Entry = record e.0 { last = offset } in
     let y : Stage = record x.0 { last = offset } in
     subst (λ (r : List Entry). IsThatOf (r ++ (pending parent offset cowns.items ∷ [])) count

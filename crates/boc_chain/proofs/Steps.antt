@@ -1,6 +1,6 @@
 -- A cown's list after a call, from the links that the call wrote.
 use Rattle.std.proofs.Common.{◌≡◌, ◌≢◌, ℕ, ◌≤◌, Bool, true, false, cond, List, [], ◌∷◌, ◌++◌, drop, refl, sym, ◌∙◌, ap, subst, inl, inr, arith}
-use Rattle.std.specs.Prelude.{Option, Some, None, IsSome, ◌==◌, ◌||◌}
+use Rattle.std.specs.Prelude.{Option, Some, None, ◌==◌, ◌||◌}
 use Rattle.std.specs.Option.{option_map}
 use Rattle.boc_chain.specs.declared.request.Request.{Request}
 use Rattle.boc_chain.specs.Chain.{times, slots, before, fresh, IsGranted, with_settled, with_flagged, settled_behind}
@@ -232,9 +232,6 @@ flagged link link' c s last xs l h e here others = record {
   };
   ends = end_flagged None s xs ∙ h.ends;
 }
-
-pub is_there : (o : Option Tie) (l : Tie) → o ≡ Some l → IsSome o
-is_there o l e = subst (λ x. IsSome x) (sym e) refl
 
 -- what the cown's list is once its front has left, or would have
 pub left_none : (link : ℕ → ℕ → Option Tie) (c s : ℕ) (last : Option ℕ) (xs : List Request) → IsList link c last xs → IsGranted s xs → last ≡ Some s

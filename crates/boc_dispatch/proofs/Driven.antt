@@ -2,7 +2,6 @@
 use Rattle.std.proofs.Common.{◌≡◌, ℕ, zero, suc, ◌≤◌, List, [], ◌∷◌, ◌++◌, length, map, take, replicate, refl, sym, ◌∙◌, ap, subst, arith}
 use Rattle.std.specs.Prelude.{slice_get, slice_set, Option, Some, None, Err}
 use Rattle.std.specs.Option.{option_map}
-use Rattle.std.proofs.Math.Seq.{take-length}
 use Rattle.std.proofs.lemmas.List.{length-map, length-replicate, length-set, map-set}
 use Rattle.std.proofs.lemmas.Option.{slice_get-map}
 use Rattle.boc_program.specs.declared.program.Program.{Program}
@@ -20,7 +19,7 @@ use Rattle.boc_dispatch.specs.declared.worker.Worker.{Worker}
 use Rattle.boc_dispatch.specs.Underway.{Underway}
 use Rattle.boc_dispatch.specs.Calls.{in_state, HasNoRoom}
 use Rattle.boc_dispatch.specs.Working.{row_in}
-use Rattle.boc_dispatch.specs.Driving.{HandFits, IsCrew, IsAt, rows_of, of_program, IsDriven, HasNoWorker, RunsOutOfRows, Drives}
+use Rattle.boc_dispatch.specs.Driving.{HandFits, IsCrew, IsAt, rows_of, of_program, HasNoWorker, RunsOutOfRows, Drives}
 use Rattle.boc_dispatch.proofs.Crews.{crew_on}
 use Rattle.boc_dispatch.proofs.Turned.{turns_more}
 
@@ -149,16 +148,6 @@ module _ (p : Program) (workers : ℕ) (choices : List ℕ) (place : ℕ) (u : U
           full = no_room;
           none = none_where_full choice w is no_room;
         }
-
--- all choices have had their turns
-pub at_end : (p : Program) (workers : ℕ) (choices : List ℕ) (place : ℕ) (u : Underway) (crew : List Worker) → place ≡ length choices
-    → IsAt p workers choices place u crew → IsDriven p workers choices u
-at_end p workers choices place u crew last h = record {
-  end = record { state = u.state; serves = rows_of crew };
-  turns = subst (λ cs. Turns p (opening_driven p workers) cs (record { state = u.state; serves = rows_of crew }))
-      (ap (λ n. take n choices) last ∙ take-length choices) h.turns;
-  same = λ i. record { program = h.program i; state = u.state };
-}
 
 -- a fault that is passed on
 pub ends_by : (p : Program) (workers : ℕ) (choices : List ℕ) (fault : DriveFault) → (fault ≡ drive_faults.Behaviours → RunsOutOfRows p workers choices)

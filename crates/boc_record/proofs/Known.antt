@@ -4,7 +4,7 @@ use Rattle.std.proofs.Common.{subst, arith, Bool, false}
 use Rattle.std.proofs.lemmas.List.{length-take, append-nil}
 use Rattle.std.specs.Bool.{OnFalse}
 use Rattle.std.specs.Prelude.{codes, Result, Ok, Err}
-use Rattle.std.specs.Io.KnownBytes.{Consumes, IsAtEnd, Keeps, prepend_known}
+use Rattle.std.specs.Io.KnownBytes.{Consumes, Keeps, prepend_known}
 use Rattle.std.proofs.KnownBytes.{Consumes-trans}
 use Rattle.boc_record.specs.declared.verdict.RecordFaultKind.{RecordFaultKind}
 use Rattle.boc_record.specs.declared.verdict.RecordFaultKind.TheVariants as kinds
@@ -60,13 +60,6 @@ pub gives_part : (known rest : Option (List ℕ)) (held : List ℕ) → Keeps kn
 gives_part None rest held kept part = record { left = held; unended = part.0; short = part.1; taken = tt }
 gives_part (Some text) None held kept part = absurd kept
 gives_part (Some text) (Some left) held kept part = record { left = held; unended = part.0; short = part.1; taken = sym kept }
-
--- at the end nothing was to come
-pub nothing_left : (known rest : Option (List ℕ)) (held : List ℕ) → IsAtEnd known → Keeps known (prepend_known held rest) → IsAtEnd rest
-    → Consumes known rest []
-nothing_left None rest held end kept gone = tt
-nothing_left (Some text) None held end kept gone = absurd kept
-nothing_left (Some text) (Some left) held end kept gone = end ∙ sym gone
 
 -- what is taken in ahead was given too
 with_ahead : (whole rest : Option (List ℕ)) (done held : List ℕ) → Consumes whole (prepend_known held rest) done → Consumes whole rest (done ++ held)

@@ -9,12 +9,12 @@ use Rattle.boc_chain.specs.declared.request.Released.TheVariants.{Unhooked, Pass
 use Rattle.boc_chain.specs.declared.linked.Node.{Node}
 use Rattle.boc_chain.specs.declared.linked.Link.{Link}
 use Rattle.boc_chain.specs.KeptLinks.{Linked}
-use Rattle.boc_chain.specs.Chain.{Place, IsGranted, StandsIn, times, slots, list, list_for, with_change, cowns_of, exchanged_of, cown, one_more, fresh}
+use Rattle.boc_chain.specs.Chain.{IsGranted, StandsIn, times, slots, list, list_for, with_change, cowns_of, exchanged_of, cown, one_more, fresh}
 use Rattle.boc_chain.specs.Chain.{with_fresh, slot_of, last_slot, before, with_flagged, after_settle, leave_answer, after_leave}
 use Rattle.boc_chain.specs.Links.{Tie, Spells, end_of, next_of}
 use Rattle.boc_chain.specs.Linked.{stored_in, stored, seen, links, IsAt, IsPlaced, Holds, Leads, last_at, place_in, place_at, slot_at, IsSpelled, IsList}
 use Rattle.boc_chain.specs.Linked.{IsLinked, last_of, line, from, lists_of, passed}
-use Rattle.boc_chain.proofs.Lines.{same_or_not}
+use Rattle.boc_chain.proofs.Lines.{same_or_not, cowns_one_more}
 use Rattle.boc_chain.proofs.Fuel.{read}
 use Rattle.boc_chain.proofs.Spelled.{has_link, slots_flagged, slots_append, times_append, times_other}
 use Rattle.boc_chain.proofs.Placed.{at_kept, placed_put, own_at, no_cown, has_stored, holds_it}
@@ -145,10 +145,6 @@ module _ {last : List (Option Node)} {held : Slab Linked} {peak : ℕ} (h : IsLi
 
 -- swap
 
-cowns_more : (p : Option Place) → cowns_of (one_more p) ≡ cowns_of p
-cowns_more None = refl
-cowns_more (Some p) = refl
-
 fresh_in : (o : Option Linked) (i : ℕ) → ((d : ℕ) → times d (cowns_of (place_in o)) ≤ 1) → i < length (cowns_of (place_in o)) → i ≡ exchanged_of (place_in o)
     → stored_in o (cown (place_in o) i) ≡ None
 fresh_in None i one h e = refl
@@ -188,7 +184,8 @@ module _ {last : List (Option Node)} {held : Slab Linked} {peak : ℕ} (h : IsLi
       let inside : c < length last = below_too c (cown (place_at held slot) i) (length last) e below in
       let same : cown (place_at held slot) (exchanged_of (place_at held slot)) ≡ c = ap (cown (place_at held slot)) (sym next) ∙ sym e in
       let cowns = λ (s : ℕ). elim (same_or_not s slot) as (λ _. cowns_of (place_at held' s) ≡ cowns_of (place_at held s)) [
-        | inl f ↦ ap (λ t. cowns_of (place_at held' t)) f ∙ ap cowns_of place ∙ cowns_more (place_at held slot) ∙ ap (λ t. cowns_of (place_at held t)) (sym f)
+        | inl f ↦ ap (λ t. cowns_of (place_at held' t)) f ∙ ap cowns_of place ∙ cowns_one_more (place_at held slot) ∙ ap (λ t. cowns_of (place_at held t))
+            (sym f)
         | inr f ↦ ap cowns_of (places s f)
       ] in
       let link : stored held' slot c ≡ Some (record { settled = false; scheduled = false; before = b; next = None }) =

@@ -90,7 +90,7 @@ kept_exchange lines places places' c v w k h is len cap cowns less no_more = rec
       ];
 }
 
-cowns_one_more : (p : Option Place) → cowns_of (one_more p) ≡ cowns_of p
+pub cowns_one_more : (p : Option Place) → cowns_of (one_more p) ≡ cowns_of p
 cowns_one_more None = refl
 cowns_one_more (Some p) = refl
 

@@ -13,7 +13,7 @@ use Rattle.boc_chain.specs.declared.held.Held.{Held}
 use Rattle.boc_chain.specs.Chain.{Place, times, cowns_of, cown}
 use Rattle.boc_chain.specs.Kept.{place_at, place_in, awaits, HasRoom, IsKept}
 use Rattle.boc_chain.proofs.Got.{got}
-use Rattle.boc_program.proofs.ChangedItems.{set_same, set_other}
+use Rattle.boc_program.proofs.ChangedItems.{set_same, set_other, item_at}
 use Rattle.boc_chain.proofs.Places.{stands}
 use Rattle.boc_chain.proofs.Counted.{awaited_less_where_gone, times_take, times_next_other}
 use Rattle.boc_chain.proofs.Lines.{same_or_not}
@@ -34,22 +34,9 @@ room_changed lines k v w more more' h inside is here others = λ c u e.
 pub room_less : (lines : List (Vec Request Global)) (more more' : ℕ → ℕ) → HasRoom lines more → ((c : ℕ) → more' c ≤ more c) → HasRoom lines more'
 room_less lines more more' h less = λ c v e. let r = h c v e in let m = less c in omega arith
 
-some_at : {X : Type 0} (xs : List X) (i : ℕ) → i < length xs → (x : X) × (slice_get xs i ≡ Some x)
-some_at [] i h = absurd (omega arith)
-some_at (x ∷ xs) zero h = (x, refl)
-some_at (x ∷ xs) (suc i) h = some_at xs i (omega arith)
-
 -- as many lists, where their requests are the same
 pub as_many : (lines lines' : List (Vec Request Global)) → map (λ v. v.items) lines' ≡ map (λ v. v.items) lines → length lines' ≡ length lines
 as_many lines lines' e = sym (length-map lines' (λ v. v.items)) ∙ ap length e ∙ length-map lines (λ v. v.items)
-
--- what is kept where nothing was admitted
-pub kept_refused : (lines lines' : List (Vec Request Global)) (places : List (Option Held)) → IsKept lines places
-    → map (λ v. v.items) lines' ≡ map (λ v. v.items) lines → HasRoom lines' (λ c. sum_by (awaits c) places) → IsKept lines' places
-kept_refused lines lines' places k e room = record {
-  in_range = λ s i below. let r = k.in_range s i below in let l = as_many lines lines' e in omega arith;
-  room = room;
-}
 
 -- and where the cowns were
 pub kept_admitted : (lines lines' : List (Vec Request Global)) (places places' : List (Option Held)) (slot : ℕ) (cs : List ℕ) → IsKept lines places
@@ -116,7 +103,7 @@ module _ (first lines : List (Vec Request Global)) (places : List (Option Held))
   line_inside = let r = range (get_or cs i 0) (stands cs i below) in let l = as_many first lines kept in omega arith
 
   pub awaited_fits : sum_by (awaits (get_or cs i 0)) places < 2 ^ 63
-  awaited_fits = let f = some_at lines (get_or cs i 0) line_inside in let r = room (get_or cs i 0) f.0 f.1 in let b = f.0.small in omega arith
+  awaited_fits = let f = item_at lines (get_or cs i 0) line_inside in let r = room (get_or cs i 0) f.0 f.1 in let b = f.0.small in omega arith
 
   pub lists_same : (v w : Vec Request Global) → w ≡ get_or lines (get_or cs i 0) w → v.items ≡ w.items
       → map (λ u. u.items) (set lines (get_or cs i 0) v) ≡ map (λ u. u.items) first

@@ -1,6 +1,6 @@
 -- A cown's list after a call, from the links that the call wrote.
 use Rattle.std.proofs.Common.{◌≡◌, ◌≢◌, ℕ, ◌≤◌, Bool, true, false, cond, List, [], ◌∷◌, ◌++◌, drop, refl, sym, ◌∙◌, ap, subst, inl, inr, arith}
-use Rattle.std.specs.Prelude.{Option, Some, None, IsSome, ◌==◌, ◌||◌}
+use Rattle.std.specs.Prelude.{Option, Some, None, ◌==◌, ◌||◌}
 use Rattle.std.specs.Option.{option_map}
 use Rattle.boc_chain.specs.declared.request.Request.{Request}
 use Rattle.boc_chain.specs.Chain.{times, slots, before, fresh, IsGranted, with_settled, with_flagged, settled_behind}
@@ -188,16 +188,6 @@ passed_some link link' c s n (r ∷ (x ∷ xs)) l m h e i k here others =
       | false ↦ λ on g. absurd (let y : None ≡ Some n = g in cc)
     ] refl (sym (front_link link c s None r (x ∷ xs) l h.spelled.spells h.granted.0 e) ∙ i)
 
-pub passed_none : (link : ℕ → ℕ → Option Tie) (c s : ℕ) (xs : List Request) (l : Tie) → IsFront link c s xs → link s c ≡ Some l → l.next ≡ None
-    → IsSpelled link c (passed xs)
-passed_none link c s [] l h e i = absurd h.granted
-passed_none link c s (r ∷ []) l h e i = h.spelled
-passed_none link c s (r ∷ (x ∷ xs)) l h e i =
-    elim x.settled as (λ b. cond b (Some x.slot) None ≡ None → IsSpelled link c (cond b (x ∷ xs) (r ∷ (x ∷ xs)))) [
-      | true ↦ λ g. absurd (let y : Some x.slot ≡ None = g in cc)
-      | false ↦ λ g. h.spelled
-    ] (sym (front_link link c s None r (x ∷ xs) l h.spelled.spells h.granted.0 e) ∙ i)
-
 -- swap and flag
 
 pub swapped : (link link' : ℕ → ℕ → Option Tie) (c s : ℕ) (last : Option ℕ) (xs : List Request) → IsList link c last xs → link s c ≡ None
@@ -242,9 +232,6 @@ flagged link link' c s last xs l h e here others = record {
   };
   ends = end_flagged None s xs ∙ h.ends;
 }
-
-pub is_there : (o : Option Tie) (l : Tie) → o ≡ Some l → IsSome o
-is_there o l e = subst (λ x. IsSome x) (sym e) refl
 
 -- what the cown's list is once its front has left, or would have
 pub left_none : (link : ℕ → ℕ → Option Tie) (c s : ℕ) (last : Option ℕ) (xs : List Request) → IsList link c last xs → IsGranted s xs → last ≡ Some s

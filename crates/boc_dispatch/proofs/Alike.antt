@@ -1,5 +1,5 @@
 -- A request is granted in the chains where it is granted in the machine's state.
-use Rattle.std.proofs.Common.{◌≡◌, ℕ, Bool, true, false, ◌&&◌, ◌↔◌, List, [], ◌∷◌, map, refl, sym, ◌∙◌, ap}
+use Rattle.std.proofs.Common.{◌≡◌, ℕ, true, false, ◌&&◌, ◌↔◌, List, [], ◌∷◌, map, refl, sym, ◌∙◌, ap}
 use Rattle.std.specs.Prelude.{slice_get, nat_lt, Some}
 use Rattle.std.specs.Option.{option_map_or}
 use Rattle.std.proofs.lemmas.Bool.Decides.{Decides-eqb}
@@ -12,10 +12,7 @@ use Rattle.boc_dispatch.specs.declared.live.Live.{Live}
 use Rattle.boc_dispatch.specs.Inside.{Parts, IsKept, IsRequestOf, state, live_at, number_at}
 use Rattle.boc_dispatch.proofs.Standing.{open_is}
 use Rattle.boc_dispatch.proofs.Tables.{live_same, queue_at}
-
-both : (a b : Bool) → (a && b) ≡ true → (a ≡ true) × (b ≡ true)
-both true b e = (refl, e)
-both false b e = absurd (let f : false ≡ true = e in cc)
+use Rattle.boc_machine_laws.proofs.Lists.{and_true}
 
 module _ (d : Parts) (k : IsKept d) (slot c : ℕ) (l : Live) (is : live_at d.live slot ≡ Some l) where
   number_of : (s : ℕ) (x : Live) → live_at d.live s ≡ Some x → number_at d.live s ≡ x.number
@@ -46,10 +43,10 @@ module _ (d : Parts) (k : IsKept d) (slot c : ℕ) (l : Live) (is : live_at d.li
 
   back : (q : List Request) → list d.lists c ≡ q → is_granted (at (state d)) (queue (state d)) l.number c ≡ true → IsGranted slot q
   back [] e granted =
-      let first = (both (nat_lt 0 (times c (settled (at (state d) l.number)))) (is_first l.number (queue (state d) c)) granted).1 in
+      let first = (and_true (nat_lt 0 (times c (settled (at (state d) l.number)))) (is_first l.number (queue (state d) c)) granted).1 in
       absurd (let f : false ≡ true = sym (ap (is_first l.number) (numbers [] e)) ∙ first in cc)
   back (r ∷ rest) e granted =
-      let two = both (nat_lt 0 (times c (settled (at (state d) l.number)))) (is_first l.number (queue (state d) c)) granted in
+      let two = and_true (nat_lt 0 (times c (settled (at (state d) l.number)))) (is_first l.number (queue (state d) c)) granted in
       let x = k.chained.requests c 0 r (ap (λ z. slice_get z 0) e) in
       let number : x.this.number ≡ l.number =
       sym (number_of r.slot x.this x.is)

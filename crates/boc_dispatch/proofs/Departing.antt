@@ -26,8 +26,7 @@ releases_of d e f row l request step (lefts.Moved s) same makes h =
     (subst (λ (z : Step). Leaves (state d) l.number row z (state f)) (sym h.1) (makes (state f) h.0.gives), h.2, h.0.same ∙ same)
 releases_of d e f row l request step (lefts.Gone s) same makes h =
     (subst (λ (z : Step). Leaves (state d) l.number row z (state f)) (sym h.1) (makes (state f) h.0.gives), h.2, h.0.same ∙ same)
-releases_of d e f row l request step lefts.Blocked same makes h = absurd h
-releases_of d e f row l request step lefts.Unknown same makes h = absurd h
+releases_of d e f row l request step _ same makes h = absurd h
 
 -- the chains let a request go, and keep what is admitted
 pub record LetGo (d : Parts) (slot request : ℕ) (e : Parts) : Type 0 where

@@ -1,15 +1,14 @@
 -- A drive from its opening to its end.
-use Rattle.std.proofs.Common.{◌≡◌, ℕ, zero, suc, ◌<◌, ◌≤◌, List, [], ◌∷◌, ◌++◌, length, map, take, replicate, refl, sym, ◌∙◌, ap, subst, arith}
+use Rattle.std.proofs.Common.{◌≡◌, ℕ, zero, suc, ◌≤◌, List, [], ◌∷◌, ◌++◌, length, map, take, replicate, refl, sym, ◌∙◌, ap, subst, arith}
 use Rattle.std.specs.Prelude.{slice_get, slice_set, Option, Some, None, Err}
 use Rattle.std.specs.Option.{option_map}
-use Rattle.std.proofs.Math.Seq.{take-length}
 use Rattle.std.proofs.lemmas.List.{length-map, length-replicate, length-set, map-set}
 use Rattle.std.proofs.lemmas.Option.{slice_get-map}
 use Rattle.boc_program.specs.declared.program.Program.{Program}
 use Rattle.boc_runs.specs.machine.Steps.{opening_state}
 use Rattle.boc_runs.specs.machine.Sound.{IsSound}
 use Rattle.boc_runs.specs.machine.Turns.{TakesTurn, Driven, Turn, Turns, opening_driven}
-use Rattle.boc_program.proofs.ChangedItems.{place_below, item_at}
+use Rattle.boc_program.proofs.ChangedItems.{place_below}
 use Rattle.boc_machine_laws.proofs.Every.{opening_sound}
 use Rattle.boc_machine_laws.proofs.OneTurn.{turns_keep, no_turn}
 use Rattle.boc_dispatch.specs.declared.interleaving.DriveFault.{DriveFault}
@@ -20,7 +19,7 @@ use Rattle.boc_dispatch.specs.declared.worker.Worker.{Worker}
 use Rattle.boc_dispatch.specs.Underway.{Underway}
 use Rattle.boc_dispatch.specs.Calls.{in_state, HasNoRoom}
 use Rattle.boc_dispatch.specs.Working.{row_in}
-use Rattle.boc_dispatch.specs.Driving.{HandFits, IsCrew, IsAt, rows_of, of_program, IsDriven, HasNoWorker, RunsOutOfRows, Drives}
+use Rattle.boc_dispatch.specs.Driving.{HandFits, IsCrew, IsAt, rows_of, of_program, HasNoWorker, RunsOutOfRows, Drives}
 use Rattle.boc_dispatch.proofs.Crews.{crew_on}
 use Rattle.boc_dispatch.proofs.Turned.{turns_more}
 
@@ -81,10 +80,6 @@ module _ (p : Program) (workers : ℕ) (choices : List ℕ) (place : ℕ) (u : U
   pub at_sound : IsSound u.program u.state
   at_sound = subst (λ q. IsSound q u.state) (sym h.program)
       (turns_keep p (opening_driven p workers) (record { state = u.state; serves = rows_of crew }) (take place choices) (opening_sound p) h.turns)
-
-  -- the worker of a number is there
-  pub at_worker : (choice : ℕ) → choice < length crew → (w : Worker) × (slice_get crew choice ≡ Some w)
-  at_worker choice low = item_at crew choice low
 
   pub at_fits : (choice : ℕ) (w : Worker) → slice_get crew choice ≡ Some w → HandFits u w.hand
   at_fits choice w is = h.fits.fits choice w is
@@ -153,16 +148,6 @@ module _ (p : Program) (workers : ℕ) (choices : List ℕ) (place : ℕ) (u : U
           full = no_room;
           none = none_where_full choice w is no_room;
         }
-
--- all choices have had their turns
-pub at_end : (p : Program) (workers : ℕ) (choices : List ℕ) (place : ℕ) (u : Underway) (crew : List Worker) → place ≡ length choices
-    → IsAt p workers choices place u crew → IsDriven p workers choices u
-at_end p workers choices place u crew last h = record {
-  end = record { state = u.state; serves = rows_of crew };
-  turns = subst (λ cs. Turns p (opening_driven p workers) cs (record { state = u.state; serves = rows_of crew }))
-      (ap (λ n. take n choices) last ∙ take-length choices) h.turns;
-  same = λ i. record { program = h.program i; state = u.state };
-}
 
 -- a fault that is passed on
 pub ends_by : (p : Program) (workers : ℕ) (choices : List ℕ) (fault : DriveFault) → (fault ≡ drive_faults.Behaviours → RunsOutOfRows p workers choices)

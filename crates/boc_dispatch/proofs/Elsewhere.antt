@@ -5,7 +5,7 @@ use Rattle.boc_program.specs.declared.program.Program.{Program}
 use Rattle.boc_runs.specs.declared.event.Event.{Event}
 use Rattle.boc_runs.specs.declared.event.Event.TheVariants as events
 use Rattle.boc_runs.specs.declared.stage.Phase.TheVariants as phases
-use Rattle.boc_runs.specs.declared.stage.Phase.TheVariants.{Flagging, Owning, Waiting, Ready, Leaving}
+use Rattle.boc_runs.specs.declared.stage.Phase.TheVariants.{Waiting, Ready, Leaving}
 use Rattle.boc_runs.specs.declared.stage.Stage.{Stage}
 use Rattle.boc_runs.specs.declared.stage.Stage.TheVariants.{Asking, Recorded}
 use Rattle.boc_runs.specs.declared.step.Step.{Step}
@@ -25,6 +25,7 @@ use Rattle.boc_machine_laws.proofs.Lists.{same_or_not, read_past, read_pushed, r
 use Rattle.boc_machine_laws.proofs.Rows.{changed_other, config_more, with_one_more}
 use Rattle.boc_machine_laws.proofs.Core.{put_here, put_others}
 use Rattle.boc_machine_laws.proofs.Counting.{by_test}
+use Rattle.boc_machine_laws.proofs.Serving.{flagging_pending}
 
 -- an open enqueue of a row, or its release
 abbrev pub Concerns : ℕ → Option OpenBehaviour → Type 0
@@ -142,10 +143,6 @@ members_spawned p (main ∷ others) parent row m n is =
 not_ended : (l : Life) → l ≡ Pending → l ≢ Ended
 not_ended l e f = (let g : Pending ≡ Ended = sym e ∙ f in cc)
 
-flagging_lives : (row request : ℕ) (cowns : List ℕ) → life_at (Recorded row (flagging cowns request)) ≡ Pending
-flagging_lives row request cowns =
-    by_test (λ phase. life_at (Recorded row phase) ≡ Pending) (nat_lt request (length cowns)) (Flagging request) Owning (λ h. refl) (λ h. refl)
-
 module _ (p : Program) (row other : ℕ) (differ : row ≢ other) where
   same_asking : (s : State) (who : ℕ) (b : OpenBehaviour) (request : ℕ) → at s who ≡ Some b → b.parent ≡ other → life_at b.stage ≢ Ended
       → SameFor p row s (asking_on p s who b request)
@@ -159,7 +156,7 @@ module _ (p : Program) (row other : ℕ) (differ : row ≢ other) where
       let b' : OpenBehaviour = record b { stage = Recorded n (flagging b.cowns 0) } in
       let t = with_behaviour s who (Some b') in
       same_then p row s t (with_spawn p s who b)
-      (same_put p row s who b (Some b') is before (child_apart row other b' parent differ (not_ended (life_at b'.stage) (flagging_lives n 0 b.cowns))))
+      (same_put p row s who b (Some b') is before (child_apart row other b' parent differ (not_ended (life_at b'.stage) (flagging_pending n 0 b.cowns))))
       (same_noted p row t (events.Spawn n b.parent b.offset (record { items = b.cowns }))
       (λ m e. members_spawned p (members p s) b.parent row m (λ q. differ (q ∙ parent)) e)))
 
@@ -189,16 +186,11 @@ same_owned p row s who b r is before =
 
 same_woken_at : (p : Program) (row : ℕ) (s : State) (who : ℕ) (b : OpenBehaviour) (stage : Stage) → at s who ≡ Some b → b.stage ≡ stage
     → SameFor p row s (woken_at s who b stage)
-same_woken_at p row s who b (Asking i e) is st = same_here p row s
-same_woken_at p row s who b (Recorded r (Flagging i)) is st = same_here p row s
-same_woken_at p row s who b (Recorded r Owning) is st = same_here p row s
 same_woken_at p row s who b (Recorded r Waiting) is st =
     by_test (SameFor p row s) (all_granted (at s) (queue s) who) (made_ready s who b r) s
     (λ h. same_ready p row s who b r is (idle_apart row b (ap enqueues_at st) (not_ended (life_at b.stage) (ap life_at st))))
     (λ h. same_here p row s)
-same_woken_at p row s who b (Recorded r Ready) is st = same_here p row s
-same_woken_at p row s who b (Recorded r phases.Running) is st = same_here p row s
-same_woken_at p row s who b (Recorded r (Leaving i)) is st = same_here p row s
+same_woken_at p row s who b _ is st = same_here p row s
 
 same_woken_if : (p : Program) (row : ℕ) (s : State) (who : ℕ) (o : Option OpenBehaviour) → at s who ≡ o → SameFor p row s (woken_if s who o)
 same_woken_if p row s who None is = same_here p row s
@@ -234,14 +226,13 @@ module _ (p : Program) (s : State) (row other : ℕ) (differ : row ≢ other) wh
       let parent = parent_is who b q m.due.is in
       let same = same_put p row s who b (Some b') m.due.is
       (child_apart row other b parent differ (not_ended (life_at b.stage) (ap life_at m.due.stage_is)))
-      (child_apart row other b' parent differ (not_ended (life_at b'.stage) (flagging_lives m.row (suc i) b.cowns))) in
+      (child_apart row other b' parent differ (not_ended (life_at b'.stage) (flagging_pending m.row (suc i) b.cowns))) in
       subst (SameFor p row s) (sym m.gives) (record { member = same.member; kept = same.kept; no_new = same.no_new })
   same_advanced who steps.Own t q m =
       let b = m.this in
       let same = same_owned p row s who b m.row m.is
       (child_apart row other b (parent_is who b q m.is) differ (not_ended (life_at b.stage) (ap life_at m.stage_is))) in
       subst (SameFor p row s) (sym m.gives) (record { member = same.member; kept = same.kept; no_new = same.no_new })
-  same_advanced who (steps.Unhook i) t q m = absurd m
   same_advanced who _ t q m = absurd m
 
   same_opened : (t : State) → Opens p s other t → SameFor p row s t
@@ -300,7 +291,6 @@ module _ (p : Program) (s : State) (row other : ℕ) (differ : row ≢ other) wh
       let first = same_leaving p row other differ v who b (suc i) m.due.is (ap enqueues_at m.due.stage_is) (ap row_at m.due.stage_is) in
       let same = same_then p row v u (woken u m.next) first (same_woken p row u m.next) in
       subst (SameFor p row s) (sym m.gives) (record { member = same.member; kept = same.kept; no_new = same.no_new })
-  same_left who (steps.Swap i) t m = absurd m
   same_left who _ t m = absurd m
 
 -- ---- a turn

@@ -1,7 +1,7 @@
 -- A request is exchanged.
-use Rattle.std.proofs.Common.{◌≡◌, ◌≢◌, ℕ, zero, suc, ◌+◌, ◌<◌, ◌⊎◌, inl, inr, true, false, cond, ◌&&◌, ◌||◌, List, [], ◌∷◌, ◌++◌, length, set, take, get_or}
+use Rattle.std.proofs.Common.{◌≡◌, ◌≢◌, ℕ, suc, ◌+◌, ◌<◌, inl, inr, true, false, cond, ◌&&◌, ◌||◌, List, [], ◌∷◌, ◌++◌, length, set, take, get_or}
 use Rattle.std.proofs.Common.{refl, sym, ◌∙◌, ap, subst, arith, get_or-set_same, get_or-set_other}
-use Rattle.std.specs.Prelude.{slice_get, slice_index_or, nat_lt, Option, Some, None}
+use Rattle.std.specs.Prelude.{slice_get, slice_index_or, nat_lt, Option, Some}
 use Rattle.std.specs.Option.{option_map, option_map_or}
 use Rattle.std.specs.List.{count_by}
 use Rattle.std.proofs.lemmas.List.{map-append}
@@ -22,16 +22,11 @@ use Rattle.boc_dispatch.specs.Inside.{live_at, open_of, place_of, number_at, Par
 use Rattle.boc_dispatch.specs.Inside.{queues_of, exchanged_at}
 use Rattle.boc_dispatch.proofs.Standing.{open_is, place_is, cown_there, cown_once}
 use Rattle.boc_dispatch.proofs.Going.{granted_same, awaits_same, gone_on, table_on, here_on, counted_on, same_marks, parts_on, state_on, rooms_on, kept_on}
-use Rattle.boc_dispatch.proofs.Flagged.{got_there}
 use Rattle.boc_dispatch.proofs.Tables.{live_other, queue_at, queues_put, queues_length}
+use Rattle.boc_rules.proofs.Lists.{got_push}
+use Rattle.boc_chain.proofs.Got.{got}
 
 -- ---- a list with one more at its end
-
-got_pushed : (q : List Request) (x : Request) (j : ℕ) (r : Request) → slice_get (q ++ (x ∷ [])) j ≡ Some r → (slice_get q j ≡ Some r) ⊎ (r ≡ x)
-got_pushed [] x zero r e = inr (let f : Some x ≡ Some r = e in cc)
-got_pushed [] x (suc j) r e = absurd (let f : None ≡ Some r = e in cc)
-got_pushed (y ∷ q) x zero r e = inl e
-got_pushed (y ∷ q) x (suc j) r e = got_pushed q x j r e
 
 first_more : (who n : ℕ) (q : List ℕ) → who ≢ n → is_first who (q ++ (n ∷ [])) ≡ is_first who q
 first_more who n [] other = not_eq n who (λ e. other (sym e))
@@ -54,7 +49,7 @@ module _ (d : Parts) (k : IsKept d) (slot : ℕ) (l : Live) (request : ℕ) (it 
   swap_next = subst (λ (z : Stage). HasNextRequest z cs) it.stage_is (k.sound.requests l.number (open_of l) (open_is d k slot l it.is))
 
   cown_is : slice_get cs request ≡ Some c0
-  cown_is = got_there cs request swap_next
+  cown_is = got cs request 0 swap_next
 
   -- what the chains ask for
   pub swap_there : request < length (cowns_of (d.place slot))
@@ -164,9 +159,9 @@ module _ (d : Parts) (k : IsKept d) (slot : ℕ) (l : Live) (request : ℕ) (it 
               let b : slice_get (get_or d.lists c0 [] ++ (fresh slot ∷ [])) j ≡ Some r =
               ap (λ q. slice_get q j) (sym (ap (λ z. get_or lists' z []) e ∙ get_or-set_same d.lists c0 (with_fresh slot (get_or d.lists c0 [])) [] below))
               ∙ a in
-              elim (got_pushed (get_or d.lists c0 []) (fresh slot) j r b) [
+              elim (got_push (get_or d.lists c0 []) j (fresh slot) r b) [
                 | inl there ↦ kept_request c r (subst (λ (z : ℕ). IsRequestOf d.live z r) (sym e) (k.chained.requests c0 j r there))
-                | inr is ↦ subst (λ (z : Request). IsRequestOf table c z) (sym is) (record {
+                | inr is ↦ subst (λ (z : Request). IsRequestOf table c z) is.1 (record {
                   this = gone_on d k slot l it.is stage l.awaited;
                   is = here_on d k slot l it.is stage l.awaited;
                   settled_is = sym (ap (λ z. nat_lt 0 (times z (take request cs))) e ∙ ap (nat_lt 0) unsettled);

@@ -26,17 +26,13 @@ use Rattle.boc_runs.specs.machine.Steps.{State, at}
 use Rattle.boc_runs.specs.machine.AlongRows.{steps_of}
 use Rattle.boc_machine_laws.proofs.Lists.{same_or_not, not_eq, times-here, times-other}
 use Rattle.boc_runs.specs.machine.Sound.{IsSound, HasNextRequest, made, made_at}
+use Rattle.boc_machine_laws.proofs.Wishes.{last_allowed}
 
 -- ---- events of runs are allowed
 
-legal_last : (count : ℕ) (rows : List Entry) (log : List Event) (event : Event) → IsLegalFrom count rows (log ++ (event ∷ []))
-    → IsAllowed count (after_all rows log) event
-legal_last count rows [] event h = h.0
-legal_last count rows (e ∷ log) event h = legal_last count (after rows e) log event h.1
-
 -- the last event of a run keeps the rules
 pub allowed_last : (p : Program) (log : List Event) (event : Event) → IsRun p (log ++ (event ∷ [])) → IsAllowed (cown_count p.cowns) (entries log) event
-allowed_last p log event run = legal_last (cown_count p.cowns) [] log event (run_is_legal p (log ++ (event ∷ [])) run)
+allowed_last p log event run = last_allowed (cown_count p.cowns) [] log event (run_is_legal p (log ++ (event ∷ [])) run)
 
 -- ---- few rows, over few cowns
 

@@ -27,13 +27,9 @@ use Rattle.boc_dispatch.specs.Inside.{exchanged_at}
 use Rattle.boc_dispatch.proofs.Standing.{open_is, place_is, stands_in, cown_there}
 use Rattle.boc_dispatch.proofs.Going.{granted_same, awaits_same, queues_mapped, gone_on, table_on, counted_on, places_on, requests_on, parts_on}
 use Rattle.boc_dispatch.proofs.Going.{state_on, rooms_on, kept_on}
+use Rattle.boc_chain.proofs.Got.{got}
 
 -- ---- a list and its places
-
-pub got_there : (cs : List ℕ) (i : ℕ) → i < length cs → slice_get cs i ≡ Some (slice_index_or cs i 0)
-got_there [] i h = absurd (omega arith)
-got_there (c ∷ cs) zero h = refl
-got_there (c ∷ cs) (suc i) h = got_there cs i (omega arith)
 
 pub taken_has : (cs : List ℕ) (i c : ℕ) → slice_get cs i ≡ Some c → 0 < times c (take (suc i) cs)
 taken_has [] i c e = absurd (let f : None ≡ Some c = e in cc)
@@ -78,7 +74,7 @@ module _ (d : Parts) (k : IsKept d) (slot : ℕ) (l : Live) (row request : ℕ) 
   flag_next = subst (λ (z : Stage). HasNextRequest z cs) it.stage_is (k.sound.requests l.number (open_of l) (open_is d k slot l it.is))
 
   cown_is : slice_get cs request ≡ Some c0
-  cown_is = got_there cs request flag_next
+  cown_is = got cs request 0 flag_next
 
   -- what the chains ask for
   pub flag_there : request < length (cowns_of (d.place slot))

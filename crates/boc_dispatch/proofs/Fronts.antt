@@ -33,20 +33,13 @@ use Rattle.boc_dispatch.proofs.Standing.{place_is, ready_fits}
 use Rattle.boc_dispatch.proofs.Granting.{tied_with, tied_of, CountedBut, awaits_same, Grants, grants, granted_stays, granted_length}
 use Rattle.boc_dispatch.proofs.Owning.{holder_runs}
 use Rattle.boc_dispatch.proofs.Waking.{leaving_either}
+use Rattle.boc_chain.proofs.Got.{got}
+use Rattle.boc_machine_laws.proofs.Going.{dropped_here}
 
 -- ---- lists
 
-got : (xs : List ℕ) (i : ℕ) → i < length xs → slice_get xs i ≡ Some (get_or xs i 0)
-got [] i h = absurd (omega arith)
-got (x ∷ xs) zero h = refl
-got (x ∷ xs) (suc i) h = got xs i (omega arith)
-
 dropped_has : (cs : List ℕ) (i c : ℕ) → slice_get cs i ≡ Some c → 0 < times c (drop i cs)
-dropped_has [] i c e = absurd (let f : None ≡ Some c = e in cc)
-dropped_has (x ∷ cs) zero c e =
-    let is : x ≡ c = (let f : Some x ≡ Some c = e in cc) in
-    omega (arith, ap (λ z. times c (z ∷ cs)) is, times-here c cs)
-dropped_has (x ∷ cs) (suc i) c e = dropped_has cs i c e
+dropped_has cs i c e = omega (arith, dropped_here cs i c e)
 
 there : {A : Type 0} (lists : List (List A)) (c : ℕ) (x : A) (xs : List A) → slice_index_or lists c [] ≡ x ∷ xs → c < length lists
 there [] c x xs e = absurd (let f : [] ≡ x ∷ xs = e in cc)
@@ -66,7 +59,6 @@ pending_at (Recorded r (phases.Leaving i)) h = absurd (let f : true ≡ false = 
 pending_at _ h = refl
 
 unready_at : (st : Stage) → holds_at st ≡ false → ready_row_at st ≡ None
-unready_at (Recorded r (phases.Flagging i)) h = refl
 unready_at (Recorded r phases.Ready) h = absurd (let f : true ≡ false = h in cc)
 unready_at _ h = refl
 
@@ -119,7 +111,7 @@ module _ (d : Parts) (slot row request : ℕ) (l : Live) (f : Front d slot row r
   low_place = subst (λ (o : Option Place). request < length (cowns_at o)) (sym (place_is d f.kept slot l f.is)) low
 
   cown_is : slice_get l.cowns.items request ≡ Some (cown (d.place slot) request)
-  cown_is = got l.cowns.items request low ∙ ap (λ o. Some (cown o request)) (sym (place_is d f.kept slot l f.is))
+  cown_is = got l.cowns.items request 0 low ∙ ap (λ o. Some (cown o request)) (sym (place_is d f.kept slot l f.is))
 
   pub due : IsDue (state d) l.number (open_of l) (Recorded row (phases.Leaving request)) request (cown (d.place slot) request)
   due = record { is = open_is; stage_is = f.stage_is; cown = cown_is }

@@ -1,7 +1,7 @@
 -- One request more is granted: the state that follows, and what is kept.
-use Rattle.std.proofs.Common.{◌≡◌, ◌≢◌, ℕ, zero, suc, ◌+◌, ◌-◌, ◌⊎◌, inl, inr, Bool, true, false, cond, eqb, List, [], ◌∷◌, ◌++◌, length, set, refl, sym, ◌∙◌}
+use Rattle.std.proofs.Common.{◌≡◌, ◌≢◌, ℕ, ◌+◌, ◌-◌, inl, inr, Bool, true, false, cond, eqb, List, [], ◌∷◌, ◌++◌, length, set, refl, sym, ◌∙◌}
 use Rattle.std.proofs.Common.{ap, subst, arith, get_or-set_other, length-set, rules}
-use Rattle.std.specs.Prelude.{slice_get, nat_eq, ◌||◌, Option, Some, None}
+use Rattle.std.specs.Prelude.{nat_eq, ◌||◌, Option, Some, None}
 use Rattle.std.specs.Option.{option_map_or}
 use Rattle.std.specs.List.{count_by}
 use Rattle.std.proofs.lemmas.List.{set-get_or, map-append}
@@ -28,6 +28,7 @@ use Rattle.boc_dispatch.proofs.Onward.{Same, Onward, Known, Steady, Follows, fol
 use Rattle.boc_dispatch.proofs.Onward.{follows_as, same_self, steady, onward_at, numbered_on, home_on, queues_on}
 use Rattle.boc_dispatch.proofs.Onward.{rows_on, chained_on, of_run_on, in_hand_on}
 use Rattle.boc_dispatch.proofs.Tables.{live_there, live_here, live_other, live_new, at_slot, behaviours_changed, taken_changed, behaviours_length}
+use Rattle.boc_rules.proofs.Lists.{got_push}
 
 -- ---- what is kept, but for the state that is sound and for what each counts
 
@@ -132,13 +133,6 @@ awaits_same s t l queues same =
 
 -- ---- the grant
 
--- what stands in a list with one more is that, or stood there before
-pushed : (xs : List ℕ) (x i y : ℕ) → slice_get (xs ++ x ∷ []) i ≡ Some y → (slice_get xs i ≡ Some y) ⊎ (y ≡ x)
-pushed [] x zero y e = inr (let f : Some x ≡ Some y = e in cc)
-pushed [] x (suc i) y e = absurd (let f : None ≡ Some y = e in cc)
-pushed (z ∷ xs) x zero y e = inl e
-pushed (z ∷ xs) x (suc i) y e = pushed xs x i y e
-
 -- what follows where the behaviour at a slot is granted a request
 pub record Grants (d : Parts) (who : ℕ) (e : Parts) : Type 0 where
   pub tied : Tied e
@@ -158,7 +152,6 @@ woken_enqueues s who b (Recorded r phases.Owning) h = refl
 woken_enqueues s who b _ h = absurd (let f : false ≡ true = h in cc)
 
 pub waits_stage : (st : Stage) → waits_at st ≡ true → (row : ℕ) × (st ≡ Recorded row phases.Waiting)
-waits_stage (Recorded r (phases.Flagging i)) h = absurd (let f : false ≡ true = h in cc)
 waits_stage (Recorded r phases.Waiting) h = (r, refl)
 waits_stage _ h = absurd (let f : false ≡ true = h in cc)
 
@@ -174,9 +167,9 @@ at_stage b stage = record b { stage = stage }
 
 tied_ready : (d : Parts) (slot : ℕ) (l : Live) (row : ℕ) → Tied d → live_at d.live slot ≡ Some l → l.stage ≡ Recorded row phases.Ready
     → Tied (record d { ready = d.ready ++ slot ∷ [] })
-tied_ready d slot l row k is stage = tied_with d d.lists (d.ready ++ slot ∷ []) d.steps k k.chained (λ i s e. elim (pushed d.ready slot i s e) [
+tied_ready d slot l row k is stage = tied_with d d.lists (d.ready ++ slot ∷ []) d.steps k k.chained (λ i s e. elim (got_push d.ready i slot s e) [
   | inl h ↦ k.ready_there i s h
-  | inr h ↦ (l, row, ap (live_at d.live) h ∙ is, stage)
+  | inr h ↦ (l, row, ap (live_at d.live) (sym h.1) ∙ is, stage)
 ])
 
 module _ (d : Parts) (slot : ℕ) (l : Live) (k : Tied d) (is : live_at d.live slot ≡ Some l) (counts : CountedBut (state d) d.live slot) where

@@ -164,7 +164,6 @@ body_ended u row f o h e = record {
 gone_on_fits : (u : Underway) (row : ℕ) (f : Framed) (k : Hand) → IsFrameOf u row f → HasGoneOn row f k → HandFits u k
 gone_on_fits u row f (hands.Framed own g dues.Wishing) h t = subst (λ r. IsWishing u r g) (sym t.0) (wish_came u row f g t.1.0 h t.1.1)
 gone_on_fits u row f (hands.Done own o) h t = subst (λ r. IsOutcomeOf u r o) (sym t.0) (body_ended u row f o h t.1)
-gone_on_fits u row f (hands.Framed served g (dues.Enqueuing child)) h t = absurd t
 gone_on_fits u row f _ h t = absurd t
 
 pub thought_fits : (u : Underway) (h k : Hand) (r : Result (Unit {0}) AllocError) → HandFits u h → HasThought h r k → HandFits u k

@@ -16,15 +16,15 @@ use Rattle.boc_program.proofs.ChangedItems.{item_at, place_below}
 use Rattle.boc_eval.specs.Frames.{UnderWay as Framed, last_of, last_wish_of, wishes_of}
 use Rattle.boc_dispatch.specs.Calls.{IsHandedOut, IsNextWish, IsLeaving}
 use Rattle.boc_runs.specs.declared.stage.Phase.TheVariants as phases
-use Rattle.boc_runs.specs.declared.stage.Stage.{Stage}
 use Rattle.boc_runs.specs.declared.stage.Stage.TheVariants.{Recorded}
-use Rattle.boc_runs.specs.Lives.{Pending, Running, Ended}
+use Rattle.boc_runs.specs.Lives.{Running, Ended}
 use Rattle.boc_runs.specs.Run.{Member}
 use Rattle.boc_runs.specs.machine.Stages.{OpenBehaviour, row_at, row_of, life_at, life, enqueues, enqueues_at, parent_of}
 use Rattle.boc_runs.specs.machine.Steps.{at, members, HasNoEnqueue}
 use Rattle.boc_dispatch.specs.declared.live.Live.{Live}
 use Rattle.boc_dispatch.specs.Inside.{Parts, state, underway, live_at, open_of, behaviour_of, IsKept, IsOfRow}
 use Rattle.boc_dispatch.proofs.Tables.{live_there, at_slot, slot_of_open}
+use Rattle.boc_machine_laws.proofs.Allowing.{running_stage}
 
 -- the row of a behaviour, as the run has it
 pub record IsRowAt (d : Parts) (l : Live) (row : ℕ) : Type 0 where
@@ -39,12 +39,6 @@ pub record IsNumbered (d : Parts) (slot number : ℕ) : Type 0 where
   pub this : Live
   pub is : live_at d.live slot ≡ Some this
   pub number_is : this.number ≡ number
-
-pub running_stage : (row : ℕ) (stage : Stage) → row_at stage ≡ Some row → life_at stage ≡ Running → stage ≡ Recorded row phases.Running
-running_stage row (Recorded own phases.Running) is runs =
-    (let h : Some own ≡ Some row = is in let same : own ≡ row = cc in ap (λ r. Recorded r phases.Running) same)
-running_stage row (Recorded own (phases.Leaving request)) is runs = absurd (let h : Ended ≡ Running = runs in cc)
-running_stage row _ is runs = absurd (let h : Pending ≡ Running = runs in cc)
 
 -- an open behaviour with a row is there
 open_with_row : (o : Option OpenBehaviour) (row : ℕ) → row_of o ≡ Some row → (b : OpenBehaviour) × (o ≡ Some b) × (row_at b.stage ≡ Some row)
@@ -186,7 +180,7 @@ module _ (d : Parts) (k : IsKept d) where
       let r = row_at_slot slot row x.this x.is x.row_is in
       let same : h.member ≡ r.member = (let e : Some h.member ≡ Some r.member = sym h.is ∙ r.is in cc) in
       let behaviour : h.member.behaviour ≡ behaviour_of x.this = ap (λ (m : Member). m.behaviour) same ∙ r.behaviour_is in
-      let runs = running_stage row x.this.stage x.row_is (sym r.life_is ∙ ap (λ (m : Member). m.life) (sym same) ∙ h.runs) in (
+      let runs = running_stage x.this.stage row x.row_is (sym r.life_is ∙ ap (λ (m : Member). m.life) (sym same) ∙ h.runs) in (
         runs,
         ap (λ (b : Behaviour). slice_get d.program.bodies b.kind) (sym behaviour) ∙ h.body_is,
         h.args_are ∙ ap (λ (b : Behaviour). b.args) behaviour,
@@ -244,17 +238,6 @@ module _ (d : Parts) (k : IsKept d) where
       }) k.numbered q.is in
       let stage = ap (λ (o : OpenBehaviour). o.stage) s.4 in
       (s.0, record { this = s.1; is = s.2; row_is = ap row_at stage }, stage)
-
-  pub leaves_so : (slot row request : ℕ) (x : IsOfRow d slot row) → x.this.stage ≡ Recorded row (phases.Leaving request) → IsLeaving (state d) row
-  leaves_so slot row request x stage = record {
-    who = x.this.number;
-    request = request;
-    parent = x.this.parent;
-    offset = x.this.offset;
-    cowns = x.this.cowns.items;
-    is = at_slot d.live d.opened slot x.this k.numbered x.is
-        ∙ ap (λ st. let b : OpenBehaviour = record { parent = x.this.parent; offset = x.this.offset; cowns = x.this.cowns.items; stage = st } in Some b) stage;
-  }
 
 -- ---- reading
 

@@ -2,7 +2,6 @@ pub mod InPlace
 pub mod Tables
 pub mod Fits
 pub mod Standing
-pub mod Complete
 pub mod Present
 pub mod Homes
 pub mod Counts

@@ -26,12 +26,13 @@ use Rattle.boc_dispatch.specs.Inside.{Parts, IsKept, state, underway, live_at, o
 use Rattle.boc_dispatch.specs.Moves.{StandsStill}
 use Rattle.boc_dispatch.proofs.Fronts.{Front, front, popped, unhooks, passes, blocked_next}
 use Rattle.boc_dispatch.proofs.Fronts as fronts
-use Rattle.boc_dispatch.proofs.Homes.{row_at_slot, slot_of_member, childless, none_open, enqueue_found, running_stage}
+use Rattle.boc_dispatch.proofs.Homes.{row_at_slot, slot_of_member, childless, none_open, enqueue_found}
 use Rattle.boc_dispatch.proofs.Priors.{IsFree, blocked_some}
 use Rattle.boc_dispatch.proofs.Settled.{requests, due, list_is, free_before}
 use Rattle.boc_dispatch.proofs.Settled as settled
 use Rattle.boc_dispatch.proofs.Standing.{open_is}
 use Rattle.boc_dispatch.proofs.Tables.{slot_of_open}
+use Rattle.boc_machine_laws.proofs.Allowing.{running_stage}
 
 -- whoever stands before, if anyone, is flagged where settling isn't blocked
 free_unless_blocked : (b : Option Request) → (answer_behind b ≡ settles.Blocked → ⊥) → IsFree b
@@ -198,7 +199,7 @@ module _ (d : Parts) (k : IsKept d) (still : (slot : ℕ) (l : Live) → live_at
       let l = x.1.this in
       let r = row_at_slot d k x.0 row l x.1.is x.1.row_is in
       let same : r.member ≡ m.0 = (let f : Some r.member ≡ Some m.0 = sym r.is ∙ m.1 in cc) in
-      (still x.0 l x.1.is).body row (running_stage row l.stage x.1.row_is (sym r.life_is ∙ ap (λ (z : Member). z.life) same ∙ m.2)) can.none_open
+      (still x.0 l x.1.is).body row (running_stage l.stage row x.1.row_is (sym r.life_is ∙ ap (λ (z : Member). z.life) same ∙ m.2)) can.none_open
 
   no_release : (row : ℕ) → CanLeave (state d) row → ⊥
   no_release row can =

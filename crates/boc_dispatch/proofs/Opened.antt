@@ -1,7 +1,7 @@
 -- What a dispatcher has in hand at first.
 use Rattle.std.proofs.Common.{◌≡◌, ◌≢◌, ℕ, zero, suc, ◌^◌, ◌<◌, ◌≤◌, inl, inr, true, false, ◌||◌, List, [], ◌∷◌, length, map, set, replicate, refl, sym, ◌∙◌}
 use Rattle.std.proofs.Common.{ap, subst, arith, length-set}
-use Rattle.std.specs.Prelude.{slice_get, slice_index_or, Option, Some, None}
+use Rattle.std.specs.Prelude.{slice_get, Option, Some, None}
 use Rattle.std.specs.Option.{option_map, option_map_or}
 use Rattle.boc_runs.specs.declared.event.Event.TheVariants.{Spawn}
 use Rattle.boc_program.specs.declared.program.Program.{Program}
@@ -13,7 +13,7 @@ use Rattle.boc_runs.specs.Run.{waiting}
 use Rattle.boc_runs.specs.machine.Stages.{OpenBehaviour, row_at, asks_at, enqueues_at, waits_at}
 use Rattle.boc_runs.specs.machine.Steps.{unrecorded, opening_state}
 use Rattle.boc_runs.specs.machine.Sound.{IsSound}
-use Rattle.boc_machine_laws.proofs.Every.{opening_sound}
+use Rattle.boc_machine_laws.proofs.Every.{opening_sound, no_queue}
 use Rattle.boc_machine_laws.proofs.Lists.{same_or_not}
 use Rattle.boc_chain.specs.declared.request.Request.{Request}
 use Rattle.boc_chain.specs.Chain.{Place}
@@ -30,11 +30,6 @@ pub record IsMain (l : Live) : Type 0 where
   pub number : l.number ≡ 0
   pub spawned : l.spawned ≡ 0
   pub child : l.child ≡ None
-
-no_requests : (n c : ℕ) → slice_index_or (replicate n (let q : List Request = [] in q)) c [] ≡ []
-no_requests zero c = refl
-no_requests (suc n) zero = refl
-no_requests (suc n) (suc c) = no_requests n c
 
 no_queues : (live : List (Option Live)) (n : ℕ) → map (λ (q : List Request). map (λ r. number_at live r.slot) q) (replicate n []) ≡ replicate n []
 no_queues live zero = refl
@@ -147,7 +142,7 @@ module _ (p : Program) (place : ℕ → Option Place) (table : List (Option Live
       parents = λ s x a e. absurd (none_enqueues s x a e);
     };
     chained = record {
-      requests = λ c j r a. absurd (let f : None ≡ Some r = sym (ap (λ q. slice_get q j) (no_requests (cown_count p.cowns) c)) ∙ a in cc);
+      requests = λ c j r a. absurd (let f : None ≡ Some r = sym (ap (λ q. slice_get q j) (no_queue (cown_count p.cowns) c)) ∙ a in cc);
       places = places_are;
     };
     of_run = record {

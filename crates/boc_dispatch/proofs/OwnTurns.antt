@@ -1,6 +1,6 @@
 -- What a worker has in hand after its own turn fits the dispatcher.
 use Rattle.std.proofs.Common.{◌≡◌, ◌≢◌, ℕ, suc, ◌+◌, inl, inr, true, false, cond, List, [], ◌∷◌, ◌++◌, length, refl, sym, ◌∙◌, ap, subst, arith, rules}
-use Rattle.std.specs.Prelude.{nat_lt, slice_get, Option, Some, None, Ok, Err}
+use Rattle.std.specs.Prelude.{nat_lt, slice_get, Option, Some, None, Ok}
 use Rattle.std.specs.Option.{option_map}
 use Rattle.boc_program.specs.declared.program.Program.{Program}
 use Rattle.boc_runs.specs.declared.event.Event.TheVariants as events
@@ -30,11 +30,7 @@ use Rattle.boc_machine_laws.proofs.Core.{put_here, put_others}
 use Rattle.boc_machine_laws.proofs.Counting.{by_test}
 use Rattle.boc_dispatch.specs.declared.calls.Advanced.TheVariants as advanced
 use Rattle.boc_dispatch.specs.declared.calls.Child.{Child}
-use Rattle.boc_dispatch.specs.declared.calls.FinishFault.{FinishFault}
-use Rattle.boc_dispatch.specs.declared.calls.FinishFault.TheVariants as finish_faults
 use Rattle.boc_dispatch.specs.declared.calls.Job.{Job}
-use Rattle.boc_dispatch.specs.declared.calls.OpenFault.{OpenFault}
-use Rattle.boc_dispatch.specs.declared.calls.OpenFault.TheVariants as open_faults
 use Rattle.boc_dispatch.specs.declared.calls.Leaving.{Leaving as Token}
 use Rattle.boc_dispatch.specs.declared.calls.Left.TheVariants as left
 use Rattle.boc_dispatch.specs.declared.calls.Started.TheVariants as started
@@ -236,7 +232,6 @@ module _ (u : Underway) (f : Framed) (who row : ℕ) where
       (ap (λ z. at z who) m.gives ∙ put_here u.state who m.this (Some b') m.due.is) (flagging_enqueues m.row (suc i) m.this.cowns)
       (sym (ap asks_at m.due.stage_is))
   advanced_fits steps.Own t sound other h m = absurd (other refl)
-  advanced_fits (steps.Unhook i) t sound other h m = absurd m
   advanced_fits _ t sound other h m = absurd m
 
   -- ---- it is over
@@ -341,16 +336,11 @@ finishes_fits u v row o token f =
 
 -- whoever is gone isn't woken
 woken_stays : (s : State) (who next : ℕ) (b : OpenBehaviour) (stage : Stage) → at s who ≡ None → at s next ≡ Some b → at (woken_at s next b stage) who ≡ None
-woken_stays s who next b (Asking i e) none is = none
-woken_stays s who next b (Recorded r (Flagging i)) none is = none
-woken_stays s who next b (Recorded r Owning) none is = none
 woken_stays s who next b (Recorded r Waiting) none is =
     let differ : who ≢ next = λ e. let f : None ≡ Some b = sym none ∙ ap (at s) e ∙ is in absurd cc in
     by_test (λ (z : State). at z who ≡ None) (all_granted (at s) (queue s) next) (made_ready s next b r) s
     (λ h. put_others s next (Some (record b { stage = Recorded r Ready })) who differ ∙ none) (λ h. none)
-woken_stays s who next b (Recorded r Ready) none is = none
-woken_stays s who next b (Recorded r phases.Running) none is = none
-woken_stays s who next b (Recorded r (Leaving i)) none is = none
+woken_stays s who next b _ none is = none
 
 woken_if_stays : (s : State) (who next : ℕ) (o : Option OpenBehaviour) → at s who ≡ None → at s next ≡ o → at (woken_if s next o) who ≡ None
 woken_if_stays s who next None none is = none
@@ -369,7 +359,6 @@ left_leaving p s who row (steps.Pass i) t m stays =
     (λ n. stays (ap (λ z. at z who) m.gives ∙ woken_if_stays w who m.next (at w m.next) n refl)) in
     subst (λ (z : State). IsLeaving z row) (sym m.gives)
     (stepped_leaving (woken w m.next) row (releases_on (record { program = p; state = w }) (woken w m.next) row (same_woken p row w m.next) leaves))
-left_leaving p s who row (steps.Swap i) t m stays = absurd m
 left_leaving p s who row _ t m stays = absurd m
 
 pub leaves_fits : (u v : Underway) (token : Token) (step : Step) → LeavesCown u token (left.Moved step) v → HandFits v (hands.Leaving token)
@@ -380,11 +369,3 @@ leaves_fits u v token step a =
 
 pub stays_fits : (u v : Underway) (h : Hand) → v ≡ u → HandFits u h → HandFits v h
 stays_fits u v h same fits = subst (λ (x : Underway). HandFits x h) (sym same) fits
-
-pub refused_open : (u v : Underway) (f : Framed) (row : ℕ) (fault : OpenFault) → OpensWish u f row (Err fault) v → v ≡ u
-refused_open u v f row open_faults.Stranger o = o.0
-refused_open u v f row _ o = o.0
-
-pub refused_finish : (u v : Underway) (row : ℕ) (o same : Ran) (fault : FinishFault) → FinishesRow u row o (Err (same, fault)) v → (v ≡ u) × (same ≡ o)
-refused_finish u v row o same finish_faults.Stranger f = (f.0, f.1)
-refused_finish u v row o same finish_faults.Busy f = (f.0, f.1)

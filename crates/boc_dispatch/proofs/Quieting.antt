@@ -1,7 +1,7 @@
 -- A drive that goes on until it is quiet.
 use Rattle.std.proofs.Common.{◌≡◌, ◌≢◌, ℕ, zero, suc, ◌+◌, ◌*◌, ◌-◌, ◌<◌, inl, inr, true, false, List, [], ◌∷◌, ◌++◌, length, take, get_or, refl, sym, ◌∙◌, ap}
 use Rattle.std.proofs.Common.{subst, arith, length-append}
-use Rattle.std.specs.Prelude.{slice_get, slice_set, Option, Some, None, Ok, Err, MatchOption}
+use Rattle.std.specs.Prelude.{slice_get, slice_set, Option, Some, None, Err, MatchOption}
 use Rattle.std.proofs.Math.Seq.{take-length}
 use Rattle.std.proofs.lemmas.List.{append-nil, append_assoc, take-append-le}
 use Rattle.std.proofs.lemmas.Option.{slice_get-map}
@@ -13,7 +13,7 @@ use Rattle.boc_runs.specs.declared.stage.Stage.TheVariants.{Recorded}
 use Rattle.boc_runs.specs.Lives.{Pending, Running, Ended}
 use Rattle.boc_runs.specs.Run.{Member, state_of}
 use Rattle.boc_runs.specs.machine.Stages.{OpenBehaviour, row_of, life, life_at}
-use Rattle.boc_runs.specs.machine.Steps.{State, at, members, IsQuiet}
+use Rattle.boc_runs.specs.machine.Steps.{State, at, members}
 use Rattle.boc_runs.specs.machine.Sound.{IsSound}
 use Rattle.boc_runs.specs.machine.Turns.{TakesTurn, Driven, Turn, Turns, opening_driven}
 use Rattle.boc_runs.specs.machine.Movers.{works, works_at, NobodyWorks}
@@ -157,9 +157,6 @@ module _ (p : Program) (workers : ℕ) (choices : List ℕ) (u : Underway) (crew
           none = none_where_full p workers xs (length xs) u crew g.at chosen w is own;
         }
 
-  pub driven_there : IsQuiet u.state → DrivesQuiet p workers choices (Ok u)
-  driven_there quiet = (stands_at u crew, driven_on, λ i. record { program = g.at.program i; state = u.state }, quiet)
-
 -- a fault that came before the last choice
 pub fault_before : (p : Program) (workers : ℕ) (choices : List ℕ) (fault : DriveFault) → Drives p workers choices (Err fault)
     → DrivesQuiet p workers choices (Err fault)
@@ -193,7 +190,6 @@ nobody_there p workers choices u crew h none =
 -- ---- who serves who can step
 
 running_works_at : (st : Stage) → life_at st ≡ Running → works_at st ≡ true
-running_works_at (Recorded r (phases.Flagging i)) h = refl
 running_works_at (Recorded r phases.Waiting) h = absurd (let f : Pending ≡ Running = h in cc)
 running_works_at (Recorded r phases.Ready) h = absurd (let f : Pending ≡ Running = h in cc)
 running_works_at _ h = refl

@@ -40,15 +40,12 @@ use Rattle.boc_dispatch.proofs.Granting.{Tied}
 use Rattle.boc_dispatch.proofs.Onward.{Leads, Further, further, child_led, parent_led, requests_led, ready_led, wished_still}
 use Rattle.boc_dispatch.proofs.Tables.{live_there, live_here, live_other, live_new, numbered_changed, behaviours_changed, number_changed, taken_changed}
 use Rattle.boc_dispatch.proofs.Tables.{at_slot, queues_same, rows_alike}
+use Rattle.boc_machine_laws.proofs.Fitting.{asks_enqueues_at}
 
 -- who asks has no row
 pub asks_no_row : (stage : Stage) (row : ℕ) → asks_at stage ≡ true → row_at stage ≡ Some row → ⊥
 asks_no_row (Asking request exchanged) row a b = absurd (let f : None ≡ Some row = b in cc)
 asks_no_row (Recorded r phase) row a b = absurd (let f : false ≡ true = a in cc)
-
-pub asks_enqueue : (stage : Stage) → asks_at stage ≡ true → enqueues_at stage ≡ true
-asks_enqueue (Asking request exchanged) a = refl
-asks_enqueue (Recorded row phase) a = absurd (let f : false ≡ true = a in cc)
 
 -- a wish that is next is of a row that is there
 pub wish_there : (p : Program) (o : Option Member) (w : Wish) → next_wish p o ≡ Some w → (m : Member) × (o ≡ Some m)
@@ -336,7 +333,7 @@ module _ (d : Parts) (k : Tied d) (some : 0 < length (members d.program (state d
             let h = k.of_run.asking s x u.2 b in
             let m = wish_there d.program (slice_get rows x.parent) h.wish h.next in
             let other : x.parent ≢ l.parent = (λ f.
-            let q = k.in_hand.parents s x u.2 (asks_enqueue x.stage b) in
+            let q = k.in_hand.parents s x u.2 (asks_enqueues_at x.stage b) in
             let home = home_of q.home q.parent q.is (q.row_is ∙ ap (λ (z : ℕ). Some z) f) in
             let this = p_only q.parent (ap (live_at d.live) (sym home) ∙ q.is) in
             let g : Some s ≡ Some slot = sym q.knows ∙ ap (λ z. z.child) this ∙ knows in

@@ -1,9 +1,8 @@
 -- A request was released, and whoever came behind it may have been granted: the behaviour that leaves goes on, or is gone.
 use Rattle.std.proofs.Common.{◌≡◌, ◌≢◌, ℕ, zero, suc, ◌+◌, ◌^◌, ◌<◌, ◌≤◌, Bool, true, false, cond, List, [], ◌∷◌, length, map, set, refl, sym, ◌∙◌, ap, subst}
 use Rattle.std.proofs.Common.{arith, get_or-set_other, length-set}
-use Rattle.std.specs.Prelude.{slice_get, slice_index_or, nat_lt, ◌||◌, ◌==◌, IsSome, Option, Some, None}
-use Rattle.std.specs.Option.{option_map, option_map_or}
-use Rattle.std.specs.List.{count_by}
+use Rattle.std.specs.Prelude.{slice_get, slice_index_or, nat_lt, ◌||◌, ◌==◌, Option, Some, None}
+use Rattle.std.specs.Option.{option_map_or}
 use Rattle.std.proofs.lemmas.List.{set-set}
 use Rattle.std.proofs.lemmas.Bool.Decides.{Decides-ltb, Decides-eqb}
 use Rattle.boc_program.specs.declared.program.Program.{Program}
@@ -11,7 +10,6 @@ use Rattle.boc_runs.specs.declared.stage.Phase.{Phase}
 use Rattle.boc_runs.specs.declared.stage.Phase.TheVariants as phases
 use Rattle.boc_runs.specs.declared.stage.Stage.{Stage}
 use Rattle.boc_runs.specs.declared.stage.Stage.TheVariants.{Recorded}
-use Rattle.boc_program.specs.declared.limits.TheConstants.{MOST_ROWS}
 use Rattle.boc_runs.specs.machine.Stages.{OpenBehaviour, standing, flagged_at, row_at, enqueues_at, waits_at}
 use Rattle.boc_runs.specs.machine.Queues.{times}
 use Rattle.boc_runs.specs.machine.Sound.{IsSound}
@@ -19,15 +17,15 @@ use Rattle.boc_runs.specs.machine.Steps.{State, at, queue, recorded, stepped, wi
 use Rattle.boc_machine_laws.proofs.Lists.{not_true, times-here}
 use Rattle.boc_machine_laws.proofs.Core.{put_here}
 use Rattle.boc_chain.specs.declared.request.Request.{Request}
-use Rattle.boc_chain.specs.Chain.{Place, slots}
+use Rattle.boc_chain.specs.Chain.{slots}
 use Rattle.boc_runs.specs.declared.step.Step.{Step}
 use Rattle.boc_dispatch.specs.declared.calls.Left.TheVariants as lefts
 use Rattle.boc_dispatch.specs.declared.live.Live.{Live}
 use Rattle.boc_dispatch.specs.Grants.{IsRemoved, IsStarted, IsReleased, LeftAs, Tied, SameRows, Released}
-use Rattle.boc_dispatch.specs.Inside.{Parts, state, live_at, open_of, behaviours_of, number_at, place_of, is_taken, AreCounted, IsKept, HasRooms}
+use Rattle.boc_dispatch.specs.Inside.{Parts, state, live_at, open_of, behaviours_of, number_at, AreCounted, IsKept, HasRooms}
 use Rattle.boc_dispatch.specs.Places.{in_phase}
 use Rattle.boc_dispatch.proofs.Onward.{Steady, onward_at}
-use Rattle.boc_dispatch.proofs.Tables.{live_there, live_here, at_slot, queue_at, behaviours_length, live_same}
+use Rattle.boc_dispatch.proofs.Tables.{live_there, live_here, at_slot, queue_at, live_same}
 use Rattle.boc_dispatch.proofs.Fits.{steps_fit}
 use Rattle.boc_dispatch.proofs.Standing.{times_slots}
 use Rattle.boc_dispatch.proofs.Granting.{kept_of, tied_steady, tied_stepped, put_live, stepped_on, state_put, with_behaviours, rooms_stay}
@@ -169,27 +167,11 @@ module _ (d : Parts) (slot row : ℕ) (l : Live) (request : ℕ) (e : Parts) (h 
       unlisted = unlisted;
     }
 
-    -- what removing it asks for
-    pub may_there : slot < length (gone_on).live
-    may_there = live_there (gone_on).live slot next on_here
-
-    pub may_admitted : IsSome ((gone_on).place slot)
-    may_admitted = subst (λ (o : Option Place). IsSome o) (sym ((on_tied).chained.places slot ∙ ap (option_map place_of) on_here)) refl
-
     pub may_empty : (c : ℕ) → times slot (slots (slice_index_or (gone_on).lists c [])) ≡ 0
     may_empty c =
         sym (times_slots (gone_on).live e.opened slot next (on_tied).numbered on_here (slice_index_or e.lists c [])
         (λ k r g. let q = (on_tied).chained.requests c k r g in (q.this, q.is)))
         ∙ unqueued c
-
-    pub may_few : (gone_on).gone + 1 < 2 ^ 32
-    may_few = few_gone (gone_on).gone e.opened (count_by is_taken (gone_on).live) (on_tied).left (opened_few)
-      where
-        few_gone : (g n k : ℕ) → k + g ≡ n → n ≤ MOST_ROWS → g + 1 < 2 ^ 32
-        few_gone g n k a b = omega arith
-
-        opened_few : e.opened ≤ MOST_ROWS
-        opened_few = omega (arith, h.kept.sound.few, behaviours_length d.live d.opened, h.rows.opened_are)
 
     module _ (f : Parts) (r : IsRemoved gone_on slot f) where
       pub gone_state : state f ≡ stepped (leaving_on (state e) l.number (open_of l) row request)

@@ -22,11 +22,12 @@ use Rattle.boc_dispatch.specs.declared.live.Live.{Live}
 use Rattle.boc_dispatch.specs.Inside.{live_at, open_of, place_of, number_at, Parts, IsKept, state, IsAtStage, AreCounted, AreChained, IsRequestOf, queues_of}
 use Rattle.boc_dispatch.specs.Inside.{exchanged_at}
 use Rattle.boc_dispatch.proofs.Counts.{failing, fails_less}
-use Rattle.boc_dispatch.proofs.Flagged.{place_with, got_there, taken_has, has_some, or_none, or_all}
+use Rattle.boc_dispatch.proofs.Flagged.{place_with, taken_has, has_some, or_none, or_all}
 use Rattle.boc_dispatch.proofs.Going.{granted_same, queues_mapped, gone_on, table_on, counted_on, places_on, requests_on}
 use Rattle.boc_dispatch.proofs.Priors.{IsFree, none_before, one_before, before_split, free_list, stands_behind}
 use Rattle.boc_dispatch.proofs.Standing.{open_is, place_is, stands_in, lists_live, cown_there, cown_once}
 use Rattle.boc_dispatch.proofs.Tables.{queue_at}
+use Rattle.boc_chain.proofs.Got.{got}
 
 -- ---- a split of a mapped list
 
@@ -85,7 +86,7 @@ module _ (d : Parts) (k : IsKept d) (slot : ℕ) (l : Live) (request : ℕ) (it 
   settle_next = subst (λ (z : Stage). HasNextRequest z cs) it.stage_is (k.sound.requests l.number (open_of l) (open_is d k slot l it.is))
 
   pub cown_is : slice_get cs request ≡ Some c0
-  cown_is = got_there cs request settle_next
+  cown_is = got cs request 0 settle_next
 
   pub due : IsDue s l.number (open_of l) (Asking request true) request c0
   due = record { is = open_is d k slot l it.is; stage_is = it.stage_is; cown = cown_is }

@@ -1,7 +1,7 @@
 -- The first of the ready list starts: the state that follows, and what is kept.
-use Rattle.std.proofs.Common.{◌≡◌, ◌≢◌, ℕ, zero, suc, ◌+◌, ◌<◌, ◌≤◌, ◌⊎◌, inl, inr, true, false, ◌||◌, List, [], ◌∷◌, ◌++◌, length, set, refl, sym, ◌∙◌}
+use Rattle.std.proofs.Common.{◌≡◌, ◌≢◌, ℕ, suc, ◌+◌, ◌<◌, ◌≤◌, ◌⊎◌, inl, inr, true, false, ◌||◌, List, [], ◌∷◌, ◌++◌, length, set, refl, sym, ◌∙◌}
 use Rattle.std.proofs.Common.{ap, subst, arith, length-set}
-use Rattle.std.specs.Prelude.{slice_get, slice_index_or, Option, Some, None}
+use Rattle.std.specs.Prelude.{slice_get, slice_index_or, Option, Some}
 use Rattle.std.specs.Option.{option_map, option_map_or}
 use Rattle.boc_runs.specs.declared.event.Event.TheVariants.{Start}
 use Rattle.boc_runs.specs.declared.stage.Phase.TheVariants as phases
@@ -15,7 +15,7 @@ use Rattle.boc_runs.specs.machine.Queues.{times}
 use Rattle.boc_runs.specs.machine.Steps.{State, at, members, stepped, noted, with_stage, Starts}
 use Rattle.boc_runs.specs.machine.Sound.{IsSound}
 use Rattle.boc_program.proofs.ChangedItems.{changed_there, set_same, set_other, place_below, length-changed}
-use Rattle.boc_machine_laws.proofs.Lists.{same_or_not, times-here, times-other}
+use Rattle.boc_machine_laws.proofs.Lists.{times-here}
 use Rattle.boc_machine_laws.proofs.Rows.{config_more}
 use Rattle.boc_machine_laws.proofs.Keeps.{keeps_starts}
 use Rattle.boc_rules.specs.Log.{Log, grown}
@@ -30,22 +30,9 @@ use Rattle.boc_dispatch.proofs.Going.{awaits_same, granted_same}
 use Rattle.boc_dispatch.proofs.Onward.{Same, Onward, Known, Follows, follows_set, follows_as, stays, known, onward_at, queues_on, rows_on, home_on, chained_on}
 use Rattle.boc_dispatch.proofs.Onward.{in_hand_on, wished_still}
 use Rattle.boc_dispatch.proofs.Fits.{allowed_last}
-use Rattle.boc_dispatch.proofs.Recording.{asks_enqueue}
 use Rattle.boc_dispatch.proofs.Homes.{IsRowAt, row_at_slot}
-
--- who is read from a list stands in it
-read_stands : (xs : List ℕ) (i s : ℕ) → slice_get xs i ≡ Some s → 0 < times s xs
-read_stands [] i s e = absurd (let h : None ≡ Some s = e in cc)
-read_stands (x ∷ xs) zero s e =
-    let same : s ≡ x = (let h : Some x ≡ Some s = e in cc) in
-    let one = times-here x xs in
-    subst (λ (n : ℕ). 0 < times n (x ∷ xs)) (sym same) (omega arith)
-read_stands (x ∷ xs) (suc i) s e =
-    let rest = read_stands xs i s e in
-    elim (same_or_not x s) [
-      | inl h ↦ subst (λ (n : ℕ). 0 < times n (x ∷ xs)) h (let one = times-here x xs in omega arith)
-      | inr n ↦ (let same = times-other s x xs n in omega arith)
-    ]
+use Rattle.boc_machine_laws.proofs.Asking.{among}
+use Rattle.boc_machine_laws.proofs.Fitting.{asks_enqueues_at}
 
 -- the first of the ready list, which stands there, is ready
 pub first_ready : (d : Parts) → IsKept d → (slot : ℕ) (rest : List ℕ) → d.ready ≡ slot ∷ rest → (l : Live) → live_at d.live slot ≡ Some l
@@ -191,7 +178,7 @@ module _ (d : Parts) (k : IsKept d) (slot : ℕ) (rest : List ℕ) (head : d.rea
             let open_now = at_slot d.live d.opened s x k.numbered u.1 in
             let runs : state_of ms x.parent ≡ Some Running =
             subst (λ (n : ℕ). state_of ms n ≡ Some Running) (ap parent_of open_now)
-            (k.sound.fits.parents x.number (ap enqueues open_now ∙ asks_enqueue x.stage b)) in
+            (k.sound.fits.parents x.number (ap enqueues open_now ∙ asks_enqueues_at x.stage b)) in
             let other : x.parent ≢ row = (λ h. absurd (let f : Some Pending ≡ Some Running =
             ap Some (sym (own_row.life_is ∙ ap life_at stage_is)) ∙ sym (ap (λ o. option_map (λ (z : Member). z.life) o) own_row.is) ∙ ap (state_of ms) (sym h)
             ∙ runs in cc)) in
@@ -216,7 +203,7 @@ module _ (d : Parts) (k : IsKept d) (slot : ℕ) (rest : List ℕ) (head : d.rea
       let q = k.ready_there (suc j) s (ap (λ xs. slice_get xs (suc j)) head ∙ a) in
       let once = subst (λ (xs : List ℕ). times slot xs ≤ 1) head (ready_distinct d k slot) in
       let first = times-here slot rest in
-      let other : s ≢ slot = (λ h. absurd (let stands = subst (λ (n : ℕ). 0 < times n rest) h (read_stands rest j s a) in omega arith)) in
+      let other : s ≢ slot = (λ h. absurd (let stands = subst (λ (n : ℕ). 0 < times n rest) h (among rest j s a) in omega arith)) in
       (q.0, q.1, live_other d.live slot (Some m) s other ∙ q.2, q.3)
 
   pub start_keeps : IsKept e

@@ -4,7 +4,7 @@ use Rattle.std.specs.Prelude.{nat_lt, Option, Some, None}
 use Rattle.std.proofs.lemmas.List.{set_comm}
 use Rattle.boc_runs.specs.declared.stage.Phase.TheVariants as phases
 use Rattle.boc_runs.specs.declared.stage.Stage.{Stage}
-use Rattle.boc_runs.specs.declared.stage.Stage.TheVariants.{Asking, Recorded}
+use Rattle.boc_runs.specs.declared.stage.Stage.TheVariants.{Recorded}
 use Rattle.boc_runs.specs.machine.Stages.{OpenBehaviour, settled, cowns_of}
 use Rattle.boc_runs.specs.machine.Queues.{all_granted}
 use Rattle.boc_runs.specs.machine.Steps.{State, at, queue, with_behaviour, with_stage, made_ready, leaving_on, woken, woken_at, woken_if}
@@ -29,14 +29,9 @@ module _ (s : State) (who : ℕ) (b' : Option OpenBehaviour) (w : ℕ) (apart : 
   same_grant = regranted (at s) (at (with_behaviour s who b')) (queue s) w (ap settled same_at) (ap cowns_of same_at)
 
   by_stage : (x : OpenBehaviour) (st : Stage) → with_behaviour (woken_at s w x st) who b' ≡ woken_at (with_behaviour s who b') w x st
-  by_stage x (Asking i e) = refl
-  by_stage x (Recorded r (phases.Flagging i)) = refl
-  by_stage x (Recorded r phases.Owning) = refl
   by_stage x (Recorded r phases.Waiting) =
       by_grant (all_granted (at s) (queue s) w) x r ∙ ap (λ g. cond g (made_ready (with_behaviour s who b') w x r) (with_behaviour s who b')) (sym same_grant)
-  by_stage x (Recorded r phases.Ready) = refl
-  by_stage x (Recorded r phases.Running) = refl
-  by_stage x (Recorded r (phases.Leaving i)) = refl
+  by_stage x _ = refl
 
   by_place : (o : Option OpenBehaviour) → with_behaviour (woken_if s w o) who b' ≡ woken_if (with_behaviour s who b') w o
   by_place None = refl

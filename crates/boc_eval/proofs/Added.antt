@@ -1,13 +1,13 @@
 -- One more row, and the rows that are there.
-use Rattle.std.proofs.Common.{◌≡◌, ℕ, zero, suc, ◌+◌, ◌-◌, ◌<◌, ◌≤◌, List, [], ◌∷◌, ◌++◌, map, length, refl, sym, ap, ◌∙◌, arith, ℤ, length-append}
+use Rattle.std.proofs.Common.{◌≡◌, ℕ, zero, suc, ◌+◌, ◌-◌, ◌<◌, ◌≤◌, List, [], ◌∷◌, ◌++◌, map, length, refl, ap, ◌∙◌, arith, ℤ, length-append}
 use Rattle.std.specs.Prelude.{slice_range, slice_index_or}
-use Rattle.std.proofs.lemmas.List.{map-append, get_or-map, length-map}
+use Rattle.std.proofs.lemmas.List.{map-append, length-map}
 use Rattle.boc_program.specs.Meaning.{Wish}
-use Rattle.boc_runs.specs.Serial.{Behaviour, main_behaviour, behaviour_of}
+use Rattle.boc_runs.specs.Serial.{Behaviour, behaviour_of}
 use Rattle.boc_program.proofs.ChangedItems.{range_stays, range_behind}
 use Rattle.boc_eval.specs.declared.rows.Row.{Row}
 use Rattle.boc_eval.specs.declared.rows.Rows.{Rows}
-use Rattle.boc_eval.specs.Behaviours.{behaviour_in, behaviours_of, behaviour_at, IsWithin, RowsFit, IsConsistent}
+use Rattle.boc_eval.specs.Behaviours.{behaviour_in, behaviours_of, IsWithin, RowsFit, IsConsistent}
 
 behaviour_stays : (args more : List ℤ) (cowns others : List ℕ) (r : Row) → IsWithin r.args (length args) → IsWithin r.cowns (length cowns)
     → behaviour_in (args ++ more) (cowns ++ others) r ≡ behaviour_in args cowns r
@@ -43,13 +43,6 @@ row_fits n m [] i r fit h e = absurd (omega arith)
 row_fits n m (s ∷ rs) zero r fit h e =
     rw e (record { args = fit.0.0; cowns = fit.0.1 })
 row_fits n m (s ∷ rs) (suc i) r fit h e = row_fits n m rs i r fit.1 (omega arith) e
-
--- the behaviour of a row
-pub row_is : (rows : Rows) (i : ℕ) (r : Row) → i < length rows.rows.items → r ≡ slice_index_or rows.rows.items i r
-    → behaviour_at rows i ≡ behaviour_in rows.args.items rows.cowns.items r
-row_is rows i r h e =
-    let f = behaviour_in rows.args.items rows.cowns.items in
-    get_or-map f rows.rows.items i r main_behaviour h ∙ ap f (sym e)
 
 -- a row with these arguments and cowns stands behind the others
 pub record Adds (old new : Rows) (b : Behaviour) : Type 0 where

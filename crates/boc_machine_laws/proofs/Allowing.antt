@@ -53,7 +53,7 @@ some_or_zero zero = inr refl
 some_or_zero (suc n) = inl (omega arith)
 
 -- one that runs is at that stage
-running_stage : (st : Stage) (row : ℕ) → row_at st ≡ Some row → life_at st ≡ RunningLife → st ≡ Recorded row Running
+pub running_stage : (st : Stage) (row : ℕ) → row_at st ≡ Some row → life_at st ≡ RunningLife → st ≡ Recorded row Running
 running_stage (Recorded own Running) row e runs =
     let h : Some own ≡ Some row = e in let same : own ≡ row = cc in ap (λ r. Recorded r Running) same
 running_stage (Recorded own (Leaving i)) row e runs = absurd (let h : Ended ≡ RunningLife = runs in cc)
@@ -129,9 +129,6 @@ module _ (p : Program) (s : State) (k : IsSound p s) where
   module _ (none : (w : ℕ) → enqueues (at s w) ≡ false) (busy : IsQuiet s → ⊥) where
     -- one that works can step
     works_on : (who : ℕ) (b : OpenBehaviour) (st : Stage) → at s who ≡ Some b → b.stage ≡ st → works_at st ≡ true → SomebodyCanStep p s
-    works_on who b (Asking i x) is st h = absurd (let f : true ≡ false = sym (ap enqueues is ∙ ap enqueues_at st) ∙ none who in cc)
-    works_on who b (Recorded row (Flagging i)) is st h = absurd (let f : true ≡ false = sym (ap enqueues is ∙ ap enqueues_at st) ∙ none who in cc)
-    works_on who b (Recorded row Owning) is st h = absurd (let f : true ≡ false = sym (ap enqueues is ∙ ap enqueues_at st) ∙ none who in cc)
     works_on who b (Recorded row Waiting) is st h = absurd (let f : false ≡ true = h in cc)
     works_on who b (Recorded row Ready) is st h = absurd (let f : false ≡ true = h in cc)
     works_on who b (Recorded row Running) is st h = Body row (record {
@@ -139,6 +136,7 @@ module _ (p : Program) (s : State) (k : IsSound p s) where
       none_open = λ w asks own. let f : true ≡ false = sym asks ∙ none w in cc;
     })
     works_on who b (Recorded row (Leaving i)) is st h = Release row (can_leave p s k who row i b none is st)
+    works_on who b _ is st h = absurd (let f : true ≡ false = sym (ap enqueues is ∙ ap enqueues_at st) ∙ none who in cc)
 
     first_starts : NobodyWorks s → (rows : List ℕ) → s.ready ≡ rows → SomebodyCanStep p s
     first_starts idle [] e = absurd (busy (quiet_unless_ready p s k idle e))

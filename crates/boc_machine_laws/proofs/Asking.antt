@@ -25,7 +25,7 @@ use Rattle.boc_program.proofs.ChangedItems.{place_below, length-changed}
 use Rattle.boc_machine_laws.proofs.Lists.{times-here, times-other, times-append}
 use Rattle.boc_machine_laws.proofs.Lawful.{nobody, OthersStay, exchange, relabel, ordered_kept, ordered_recorded, waits_on, waits_exchange, standing_le}
 use Rattle.boc_machine_laws.proofs.Rows.{config_more, run_more, after_spawn, may_spawn, with_one_more}
-use Rattle.boc_machine_laws.proofs.Fitting.{goes_on_at, fits_on, fits_recorded, with_child, asks_enqueues}
+use Rattle.boc_machine_laws.proofs.Fitting.{goes_on_at, fits_on, fits_recorded, with_child, asks_enqueues, asks_enqueues_at}
 use Rattle.boc_machine_laws.proofs.Core.{Core, put_here, put_others, range_kept, once_kept, only_kept, opened_kept, asks_sum, core_on, one_if}
 
 -- ---- the first cowns of a list
@@ -161,9 +161,6 @@ asks_row st h = ap row_at (asks_stage st h).2
 asks_life : (st : Stage) → asks_at st ≡ true → life_at st ≡ Pending
 asks_life st h = ap life_at (asks_stage st h).2
 
-asks_enqueued : (st : Stage) → asks_at st ≡ true → enqueues_at st ≡ true
-asks_enqueued st h = ap enqueues_at (asks_stage st h).2
-
 asks_ready : (st : Stage) → asks_at st ≡ true → ready_row_at st ≡ None
 asks_ready st h = ap ready_row_at (asks_stage st h).2
 
@@ -199,7 +196,7 @@ module _ (p : Program) (s : State) (k : Core p s nobody) (who : ℕ) (b : OpenBe
       (waits_on (at s) (at t) (queue s) who nobody k.waiting other (ap waits is'))
       (fits_on p (members p s) (at s) (at t) who k.fits other (goes_on_at b b.stage (Asking n false) (at s who)
       (at t who) a.is refl is' (sym (asks_row b.stage a.asks_is)) (sym (asks_life b.stage a.asks_is)) (λ h. a.asks_is)
-      (λ h. asks_enqueued b.stage a.asks_is)))
+      (λ h. asks_enqueues_at b.stage a.asks_is)))
 
 -- ---- the spawn is recorded
 

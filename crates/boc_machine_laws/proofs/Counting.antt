@@ -4,7 +4,7 @@ use Rattle.std.proofs.Common.{arith}
 use Rattle.std.specs.Prelude.{slice_get, slice_set, nat_lt, Option, Some, None}
 use Rattle.std.specs.List.{sum_by}
 use Rattle.std.proofs.lemmas.Bool.{ltb-false, ltb-true}
-use Rattle.std.proofs.lemmas.List.{map-append}
+use Rattle.std.proofs.lemmas.List.{map-append, length-drop}
 use Rattle.std.proofs.lemmas.List.Sums.{sum_by-append}
 use Rattle.arrayvec.specs.ArrayVec.{ArrayVec}
 use Rattle.boc_program.specs.declared.body.EndStatus.{EndStatus}
@@ -153,15 +153,10 @@ by_test P true x y first second = first refl
 by_test P false x y first second = second refl
 
 pub dropped_one : (cs : List ℕ) (i : ℕ) → i < length cs → length (drop i cs) ≡ length (drop (suc i) cs) + 1
-dropped_one [] i h = absurd (omega arith)
-dropped_one (c ∷ cs) zero h = omega arith
-dropped_one (c ∷ cs) (suc i) h = dropped_one cs i (omega arith)
+dropped_one cs i h = omega (arith, length-drop i cs, length-drop (suc i) cs)
 
 pub dropped_all : (cs : List ℕ) (i : ℕ) → length cs ≤ i → length (drop i cs) ≡ 0
-dropped_all [] zero h = refl
-dropped_all [] (suc i) h = refl
-dropped_all (c ∷ cs) zero h = absurd (omega arith)
-dropped_all (c ∷ cs) (suc i) h = dropped_all cs i (omega arith)
+dropped_all cs i h = omega (arith, length-drop i cs)
 
 -- flags from this request on, Own, and the rest
 pub owed_flagging : (r : ℕ) (cs : List ℕ) (i : ℕ)

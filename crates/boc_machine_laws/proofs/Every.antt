@@ -38,7 +38,7 @@ every_run p s t k h = (reaches_keeps p s t k h).run
 abbrev main_open : OpenBehaviour
 main_open = record { parent = 0; offset = 0; cowns = []; stage = Recorded 0 Ready }
 
-no_queue : (n c : ℕ) → get_or {A = List ℕ} (replicate n []) c [] ≡ []
+pub no_queue : {A : Type 0} (n c : ℕ) → get_or {A = List A} (replicate n []) c [] ≡ []
 no_queue zero c = refl
 no_queue (suc n) zero = refl
 no_queue (suc n) (suc c) = no_queue n c

@@ -18,7 +18,7 @@ use Rattle.boc_machine_laws.proofs.Lawful.{OthersStay, kept, at_each}
 use Rattle.boc_machine_laws.proofs.Rows.{changed_same, changed_other, some_or_none, with_life, life_there, with_one_more}
 
 -- whoever asks is being enqueued
-asks_enqueues_at : (s : Stage) → asks_at s ≡ true → enqueues_at s ≡ true
+pub asks_enqueues_at : (s : Stage) → asks_at s ≡ true → enqueues_at s ≡ true
 asks_enqueues_at (Asking i e) h = refl
 asks_enqueues_at (Recorded r ph) h = absurd (let f : false ≡ true = h in cc)
 

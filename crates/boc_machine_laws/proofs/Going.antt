@@ -31,12 +31,12 @@ use Rattle.boc_machine_laws.proofs.Fitting.{goes_on_at, fits_on, fits_row, fits_
 use Rattle.boc_machine_laws.proofs.Starts.{may_start, stands_for_all}
 use Rattle.boc_machine_laws.proofs.Asking.{taken_more, among, flagging_enqueuing}
 use Rattle.boc_machine_laws.proofs.Core.{Core, put_here, put_others, once_kept, only_kept, core_put, core_on}
+use Rattle.std.proofs.lemmas.List.{drop_all}
 
 -- ---- the ready list
 
 -- a ready behaviour has its row
 ready_at_row : (st : Stage) (q : ℕ) → ready_row_at st ≡ Some q → row_at st ≡ Some q
-ready_at_row (Recorded r (Flagging i)) q h = absurd (let f : None ≡ Some q = h in cc)
 ready_at_row (Recorded r Ready) q h = h
 ready_at_row _ q h = absurd (let f : None ≡ Some q = h in cc)
 
@@ -336,7 +336,7 @@ module _ (p : Program) (s : State) (k : Core p s nobody) (who : ℕ) (b : OpenBe
 
 -- ---- releases
 
-dropped_here : (cs : List ℕ) (i c : ℕ) → slice_get cs i ≡ Some c → times c (drop (suc i) cs) + 1 ≡ times c (drop i cs)
+pub dropped_here : (cs : List ℕ) (i c : ℕ) → slice_get cs i ≡ Some c → times c (drop (suc i) cs) + 1 ≡ times c (drop i cs)
 dropped_here [] i c e = absurd (let f : None ≡ Some c = e in cc)
 dropped_here (d ∷ cs) zero c e =
     let is : d ≡ c = (let f : Some d ≡ Some c = e in cc) in
@@ -350,12 +350,6 @@ dropped_there (x ∷ cs) zero c d e n =
     let is : x ≡ c = (let f : Some x ≡ Some c = e in cc) in
     sym (times-other d x cs (λ h. n (sym h ∙ is)))
 dropped_there (x ∷ cs) (suc i) c d e n = dropped_there cs i c d e n
-
-dropped_whole : (cs : List ℕ) (i : ℕ) → length cs ≤ i → drop i cs ≡ []
-dropped_whole [] zero h = refl
-dropped_whole [] (suc i) h = refl
-dropped_whole (c ∷ cs) zero h = absurd (omega arith)
-dropped_whole (c ∷ cs) (suc i) h = dropped_whole cs i (omega arith)
 
 -- the request comes off the front, and whoever is first then may be due to be woken
 module _ (p : Program) (s : State) (k : Core p s nobody) (who : ℕ) (b : OpenBehaviour) (r i c : ℕ) (rest : List ℕ)
@@ -412,7 +406,7 @@ module _ (p : Program) (s : State) (but : ℕ → Type 0) (k : Core p s but) (wh
       let other : OthersStay (at s) (at t) who = put_others s who None in
       let none : at t who ≡ None = put_here s who b None is in
       let nothing : standing (at s who) ≡ [] = ap standing is ∙ ap (λ z. standing_at z b.cowns) stage
-      ∙ dropped_whole b.cowns i all in
+      ∙ drop_all i b.cowns all in
       let asks_same : asks None ≡ asks (Some b) = sym (ap asks_at stage) in
       let ready_same : ready_row None ≡ ready_row (Some b) = sym (ap ready_row_at stage) in
       core_on p s but k who b None is s.queues but refl asks_same ready_same (λ c h. absurd (omega (arith, h)))

@@ -220,11 +220,6 @@ relabel at at' queue who l other stand cowns settle flag order front = record {
       (λ h s. front c h (subst (λ (k : ℕ). 0 < k) (stand c) s)) (λ v n h s. l.first v c h s) w;
 }
 
--- who stands in the list of c at most once
-stands_once : (at : ℕ → Option OpenBehaviour) (queue : ℕ → List ℕ) → Laws at queue → (who c : ℕ)
-    → times who (queue c) ≤ 1
-stands_once at queue l who c = omega (arith, l.stands who c, standing_le c (at who), l.once who c)
-
 head_stays : (q : List ℕ) (w v : ℕ) → slice_get q 0 ≡ Some v → slice_get (q ++ (w ∷ [])) 0 ≡ Some v
 head_stays [] w v e = absurd (let f : None ≡ Some v = e in cc)
 head_stays (x ∷ q) w v e = e

@@ -20,7 +20,7 @@ pub mod SerialSpawn
 pub mod Serially
 pub mod OneTurn
 pub mod Moving
-mod Allowing
+pub mod Allowing
 pub mod Serving
 pub mod Bounds
 pub mod Records

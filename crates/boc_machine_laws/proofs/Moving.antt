@@ -358,7 +358,6 @@ module _ (p : Program) (s : State) (k : IsSound p s) where
       ]
 
   ready_stage : (st : Stage) (row : ℕ) → ready_row_at st ≡ Some row → st ≡ Recorded row Ready
-  ready_stage (Recorded r (Flagging i)) row h = absurd (let f : None ≡ Some row = h in cc)
   ready_stage (Recorded r Ready) row h = let f : Some r ≡ Some row = h in let g : r ≡ row = cc in ap (λ z. Recorded z Ready) g
   ready_stage _ row h = absurd (let f : None ≡ Some row = h in cc)
 
@@ -394,9 +393,6 @@ module _ (p : Program) (s : State) (k : IsSound p s) where
       (releases : (row : ℕ) → CanLeave s row → ⊥) where
     idle_at_stage : (who : ℕ) (b : OpenBehaviour) (st : Stage) → at s who ≡ Some b → b.stage ≡ st → enqueues_at st ≡ false
         → works_at st ≡ false
-    idle_at_stage who b (Asking i x) is st e = absurd (let f : true ≡ false = e in cc)
-    idle_at_stage who b (Recorded r (Flagging i)) is st e = absurd (let f : true ≡ false = e in cc)
-    idle_at_stage who b (Recorded r Owning) is st e = absurd (let f : true ≡ false = e in cc)
     idle_at_stage who b (Recorded r Waiting) is st e = refl
     idle_at_stage who b (Recorded r Ready) is st e = refl
     idle_at_stage who b (Recorded r Running) is st e = absurd (bodies r (record {
@@ -404,6 +400,7 @@ module _ (p : Program) (s : State) (k : IsSound p s) where
       none_open = λ w h own. let f : true ≡ false = sym h ∙ none w in cc;
     }))
     idle_at_stage who b (Recorded r (Leaving i)) is st e = absurd (releases r (can_leave who r i b none is st))
+    idle_at_stage who b _ is st e = absurd (let f : true ≡ false = e in cc)
 
     pub nobody_works : NobodyWorks s
     nobody_works who =

@@ -158,7 +158,6 @@ blocked_asking p s who (steps.Flag i) t m k =
 blocked_asking p s who steps.Own t m k = asks_not_recorded k.request m.row true Owning
     (stage_of_due s who k.this m.this (Asking k.request true)
     (Recorded m.row Owning) k.due.is k.due.stage_is m.is m.stage_is)
-blocked_asking p s who (steps.Unhook i) t m k = m
 blocked_asking p s who _ t m k = m
 
 leaving_cown : (s : State) (who row : ℕ) (b b' : OpenBehaviour) (i j c d : ℕ)
@@ -183,7 +182,6 @@ blocked_leaving s who row (steps.Pass i) t m k =
     subst (λ (z : ℕ). 0 < times z (settled (at s k.next))) same
     (subst (λ (z : ℕ). 0 < times m.c (settled (at s z))) g m.settled_next) in
     omega (arith, some, k.unsettled)
-blocked_leaving s who row (steps.Swap i) t m k = m
 blocked_leaving s who row _ t m k = m
 
 -- ---- one step of each kind
@@ -206,14 +204,7 @@ finishes_one p s who row t u m n =
     let written : m.written ≡ n.written = m.may.written_is ∙ ap (λ (z : Meaning). z.written) means
     ∙ sym n.may.written_is in
     m.gives
-    ∙ ap (λ b. stepped (leaving_on (noted s (events.End row m.ticks m.status
-    (record { items = m.written }))) who b row 0)) this
-    ∙ ap (λ z. stepped (leaving_on (noted s (events.End row z m.status
-    (record { items = m.written }))) who n.this row 0)) ticks
-    ∙ ap (λ z. stepped (leaving_on (noted s (events.End row n.ticks z
-    (record { items = m.written }))) who n.this row 0)) status
-    ∙ ap (λ z. stepped (leaving_on (noted s (events.End row n.ticks n.status
-    (record { items = z }))) who n.this row 0)) written
+    ∙ (λ i. stepped (leaving_on (noted s (events.End row (ticks i) (status i) (record { items = written i }))) who (this i) row 0))
     ∙ sym n.gives
 
 -- ---- what is due to a row

@@ -1,30 +1,22 @@
 -- A run beside the rows of its log: the events that are put to it, its end, and the rows of its record.
 use Rattle.std.proofs.Common.{◌≡◌, ℕ, zero, suc, List, [], ◌∷◌, ◌++◌, length, map, refl, sym, ◌∙◌, ap, arith}
-use Rattle.std.specs.Prelude.{slice_get, slice_set, Option, Some, None, option_map}
+use Rattle.std.specs.Prelude.{slice_get, slice_set, Option, Some, None}
 use Rattle.std.proofs.lemmas.List.{map-append, length-map}
 use Rattle.boc_program.specs.declared.program.Program.{Program}
 use Rattle.boc_runs.specs.declared.rows.Row.{Row}
 use Rattle.boc_runs.specs.declared.event.Event.{Event}
 use Rattle.boc_runs.specs.declared.event.Event.TheVariants.{Spawn, Start, End}
-use Rattle.boc_program.specs.Programs.{cown_count}
 use Rattle.boc_runs.specs.Serial.{behaviour_of}
 use Rattle.boc_program.specs.Changed.{changed}
 use Rattle.boc_runs.specs.Lives.{Life, Pending, Running, Ended}
-use Rattle.boc_runs.specs.Legal.{Entry, entries, after, after_all, pending, IsAllowed, IsComplete}
+use Rattle.boc_runs.specs.Legal.{Entry, entries, after, after_all, pending, IsComplete}
 use Rattle.boc_runs.specs.Records.{AreRowsOf}
 use Rattle.boc_runs.specs.Run.{Member, Config, waiting, config_of, config_after, config_after_all, opening, members_after_spawn, started_on, MaySpawn}
-use Rattle.boc_runs.specs.Run.{MayHappen, IsRunFrom, IsRun, IsWholeRun}
+use Rattle.boc_runs.specs.Run.{MayHappen, IsRunFrom, IsWholeRun}
 use Rattle.boc_runs.specs.machine.AlongRows.{cowns_of_rows, parents_of_rows}
-use Rattle.boc_runs.proofs.RunsAreLegal.{run_is_legal}
-use Rattle.boc_machine_laws.proofs.Rows.{run_more, after_spawn, with_one_more}
-use Rattle.boc_machine_laws.proofs.Wishes.{last_allowed}
+use Rattle.boc_machine_laws.proofs.Rows.{after_spawn, with_one_more}
 use Rattle.boc_machine_laws.proofs.Counting.{map_changed}
-
--- an event that the rule of runs allows next keeps the rules of records next
-pub event_allowed : (p : Program) (log : List Event) (e : Event) → IsRun p log → MayHappen p (config_of p log) e
-    → IsAllowed (cown_count p.cowns) (entries log) e
-event_allowed p log e run may = last_allowed (cown_count p.cowns) [] log e
-    (run_is_legal p (log ++ (e ∷ [])) (run_more p (opening p) log e run may))
+use Rattle.std.proofs.lemmas.Option.{slice_get-map}
 
 -- ---- what has become of the rows, in the log and in the run
 
@@ -102,11 +94,6 @@ lives_from p c rows [] same run = same
 lives_from p c rows (e ∷ log) same run = lives_from p (config_after p c e) (after rows e) log
     (lives_next p c rows e same run.0) run.1
 
-read_map : {A : Type 0} (f : A → Life) (xs : List A) (i : ℕ) → option_map f (slice_get xs i) ≡ slice_get (map f xs) i
-read_map f [] i = refl
-read_map f (x ∷ xs) zero = refl
-read_map f (x ∷ xs) (suc i) = read_map f xs i
-
 -- a whole run is over by the rules of records too
 pub whole_is_complete : (p : Program) (log : List Event) → IsWholeRun p log → IsComplete log
 whole_is_complete p log whole =
@@ -116,8 +103,8 @@ whole_is_complete p log whole =
     ∙ ap (length {A = Life}) same ∙ length-map ms (λ m. m.life) in
     record {
       some = omega (arith, many, whole.over.some);
-      ended = λ r l. read_map (λ (e : Entry). e.life) (entries log) r ∙ ap (λ ls. slice_get ls r) same
-          ∙ sym (read_map (λ (m : Member). m.life) ms r) ∙ whole.over.ended r (omega (arith, l, many));
+      ended = λ r l. sym (slice_get-map (λ (e : Entry). e.life) (entries log) r) ∙ ap (λ ls. slice_get ls r) same
+          ∙ slice_get-map (λ (m : Member). m.life) ms r ∙ whole.over.ended r (omega (arith, l, many));
     }
 
 -- ---- the rows of a record

@@ -1,6 +1,6 @@
 -- Rows of a run: one changed, one more; and runs with one event more.
 use Rattle.std.proofs.Common.{◌≡◌, ◌≢◌, ℕ, zero, suc, ◌+◌, ◌<◌, ◌≤◌, ◌⊎◌, inl, inr, List, [], ◌∷◌, ◌++◌, length, refl, ◌∙◌, ap, arith}
-use Rattle.std.specs.Prelude.{slice_get, slice_set, Option, Some, None, option_map}
+use Rattle.std.specs.Prelude.{slice_get, Option, Some, None, option_map}
 use Rattle.boc_program.specs.declared.program.Program.{Program}
 use Rattle.boc_runs.specs.declared.event.Event.{Event}
 use Rattle.boc_program.specs.Meaning.{Wish}
@@ -9,6 +9,7 @@ use Rattle.boc_program.specs.Changed.{changed}
 use Rattle.boc_runs.specs.Lives.{Life}
 use Rattle.boc_runs.specs.Run.{Member, Config, waiting, next_wish, spawned_by, members_after_spawn, config_after, config_after_all, state_of, MaySpawn}
 use Rattle.boc_runs.specs.Run.{SpawnsWish, MayHappen, IsRunFrom}
+use Rattle.boc_program.proofs.ChangedItems.{set_other}
 
 -- ---- one item changed
 
@@ -24,17 +25,10 @@ changed_same (x ∷ xs) zero f = refl
 changed_same (x ∷ xs) (suc i) f = ap (λ ys. slice_get ys (suc i)) (changed_later x xs i f (slice_get xs i))
     ∙ changed_same xs i f
 
-set_elsewhere : {A : Type 0} (xs : List A) (i j : ℕ) (y : A) → j ≢ i → slice_get (slice_set xs i y) j ≡ slice_get xs j
-set_elsewhere [] i j y n = refl
-set_elsewhere (x ∷ xs) zero zero y n = absurd (n refl)
-set_elsewhere (x ∷ xs) zero (suc j) y n = refl
-set_elsewhere (x ∷ xs) (suc i) zero y n = refl
-set_elsewhere (x ∷ xs) (suc i) (suc j) y n = set_elsewhere xs i j y (λ e. n (ap suc e))
-
 pub changed_other : {A : Type 0} (xs : List A) (i j : ℕ) (f : A → A) (o : Option A) → j ≢ i
     → slice_get (changed xs i f o) j ≡ slice_get xs j
 changed_other xs i j f None n = refl
-changed_other xs i j f (Some y) n = set_elsewhere xs i j (f y) n
+changed_other xs i j f (Some y) n = set_other xs i j (f y) n
 
 -- an item is there, or the place is past the end
 pub some_or_none : {A : Type 0} (xs : List A) (i : ℕ) → (length xs ≤ i) ⊎ ((x : A) × (slice_get xs i ≡ Some x))

@@ -42,9 +42,6 @@ NoneNew s t = (who row : ℕ) → IsActive t who row → IsActive s who row
 none_new_here : (s : State) → NoneNew s s
 none_new_here s who row a = a
 
-none_new_then : (s t u : State) → NoneNew s t → NoneNew t u → NoneNew s u
-none_new_then s t u f g who row a = f who row (g who row a)
-
 elsewhere : (s : State) (who : ℕ) (b' : Option OpenBehaviour) (w row : ℕ) → w ≢ who → IsActive (with_behaviour s who b') w row → IsActive s w row
 elsewhere s who b' w row n a =
     let same : at (with_behaviour s who b') w ≡ at s w = put_others s who b' w n in
@@ -67,7 +64,7 @@ pending_new s b pending w row a =
           record { row_is = sym (ap row_of same) ∙ a.row_is; lives = λ e. a.lives (ap life same ∙ e) }
     ]
 
-flagging_pending : (row request : ℕ) (cowns : List ℕ) → life_at (Recorded row (flagging cowns request)) ≡ Pending
+pub flagging_pending : (row request : ℕ) (cowns : List ℕ) → life_at (Recorded row (flagging cowns request)) ≡ Pending
 flagging_pending row request cowns =
     by_test (λ phase. life_at (Recorded row phase) ≡ Pending) (nat_lt request (length cowns)) (Flagging request) Owning (λ h. refl) (λ h. refl)
 
@@ -89,14 +86,9 @@ none_owned s who b row is =
     (λ h. pending_put s who b (record b { stage = Recorded row Waiting }) is refl)
 
 none_woken_at : (s : State) (who : ℕ) (b : OpenBehaviour) (stage : Stage) → at s who ≡ Some b → NoneNew s (woken_at s who b stage)
-none_woken_at s who b (Asking i e) is = none_new_here s
-none_woken_at s who b (Recorded r (Flagging i)) is = none_new_here s
-none_woken_at s who b (Recorded r Owning) is = none_new_here s
 none_woken_at s who b (Recorded r Waiting) is =
     by_test (NoneNew s) (all_granted (at s) (queue s) who) (made_ready s who b r) s (λ h. none_ready s who b r is) (λ h. none_new_here s)
-none_woken_at s who b (Recorded r Ready) is = none_new_here s
-none_woken_at s who b (Recorded r Running) is = none_new_here s
-none_woken_at s who b (Recorded r (Leaving i)) is = none_new_here s
+none_woken_at s who b _ is = none_new_here s
 
 none_woken_if : (s : State) (who : ℕ) (o : Option OpenBehaviour) → at s who ≡ o → NoneNew s (woken_if s who o)
 none_woken_if s who None is = none_new_here s
@@ -184,7 +176,6 @@ module _ (p : Program) (s : State) (k : IsSound p s) where
   none_advanced who steps.Own t m w row a =
       let b = subst (λ (z : State). IsActive z w row) m.gives a in
       none_owned s who m.this m.row m.is w row (record { row_is = b.row_is; lives = b.lives })
-  none_advanced who (steps.Unhook i) t m w row a = absurd m
   none_advanced who _ t m w row a = absurd m
 
   none_opened : (own : ℕ) (t : State) → Opens p s own t → NoneNew s t
@@ -218,7 +209,6 @@ module _ (p : Program) (s : State) (k : IsSound p s) where
         | inl e ↦ inl e
         | inr n ↦ inr (n.0, record { row_is = n.1.row_is; lives = n.1.lives })
       ]
-  leaves_goes who own (steps.Swap i) t m w row a = absurd m
   leaves_goes who own _ t m w row a = absurd m
 
   turn_serves : (before : Option ℕ) (t : State) (after : Option ℕ) → TakesTurn p s before t after → (w row : ℕ) → IsActive t w row
@@ -292,14 +282,9 @@ steps_owned s who b row =
     (λ h. refl) (λ h. refl)
 
 steps_woken_at : (s : State) (who : ℕ) (b : OpenBehaviour) (stage : Stage) → (woken_at s who b stage).steps ≡ s.steps
-steps_woken_at s who b (Asking i e) = refl
-steps_woken_at s who b (Recorded r (Flagging i)) = refl
-steps_woken_at s who b (Recorded r Owning) = refl
 steps_woken_at s who b (Recorded r Waiting) =
     by_test (λ (z : State). z.steps ≡ s.steps) (all_granted (at s) (queue s) who) (made_ready s who b r) s (λ h. refl) (λ h. refl)
-steps_woken_at s who b (Recorded r Ready) = refl
-steps_woken_at s who b (Recorded r Running) = refl
-steps_woken_at s who b (Recorded r (Leaving i)) = refl
+steps_woken_at s who b _ = refl
 
 steps_woken_if : (s : State) (who : ℕ) (o : Option OpenBehaviour) → (woken_if s who o).steps ≡ s.steps
 steps_woken_if s who None = refl

@@ -1,20 +1,11 @@
 -- Lists of declarations and of statements, as what they form.
 use Rattle.std.proofs.Common.{◌≡◌, ℕ, ◌+◌, List, [], ◌∷◌, length, refl, ap, arith}
 use Rattle.boc_reader.specs.Tokens.{Token}
-use Rattle.boc_program.specs.Sizes.{members}
-use Rattle.boc_reader.specs.Shape.{each_tokens, list_nodes, Cown, cowns_declared, HaveMembers, Def, AreSmallDefs, Stmt, stmt_tokens, stmt_nodes, block_tokens}
+use Rattle.boc_reader.specs.Shape.{each_tokens, list_nodes, Def, AreSmallDefs, Stmt, stmt_tokens, stmt_nodes, block_tokens}
 use Rattle.boc_reader.specs.Shape.{block_nodes, IsSmallBlock}
-use Rattle.boc_reader.specs.Grammar.{cown_phrase, def_phrase, stmt_phrase}
+use Rattle.boc_reader.specs.Grammar.{def_phrase, stmt_phrase}
 use Rattle.boc_reader.specs.Views.{block_from}
 use Rattle.boc_reader.proofs.Each.{AllSmall}
-
-pub cowns_declared-list : (cs : List Cown) → cowns_declared cs ≡ list_nodes (λ c. members c.size) cs
-cowns_declared-list [] = refl
-cowns_declared-list (c ∷ cs) = ap (λ n. members c.size + n) (cowns_declared-list cs)
-
-pub have_members : (cs : List Cown) → AllSmall cown_phrase cs → HaveMembers cs
-have_members [] h = tt
-have_members (c ∷ cs) h = (h.0, have_members cs h.1)
 
 pub length-list : {X : Type 0} (xs : List X) → length xs ≡ list_nodes (λ (x : X). 1) xs
 length-list [] = refl

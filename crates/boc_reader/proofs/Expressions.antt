@@ -79,10 +79,6 @@ mutual
 
 -- an expression is a sum, and a comparison or none
 
-pub no_left : (old : Ahead) → NoneStands sum_phrase old → NoneStands expr_phrase old
-no_left old none (plain a) r st = none a r (record { tokens = st.tokens; ends = st.ends.0; fits = st.fits; small = tt })
-no_left old none (compared a op t) r st = none a _ (record { tokens = st.tokens; ends = comparison_ends op _; fits = omega (arith, st.fits); small = tt })
-
 pub no_comparison : (old mid : Ahead) (a : Sum) → Stands sum_phrase old a mid.tokens → sum_nodes a + mid.room ≡ old.room → NoneStands compared_phrase mid
     → NoneStands expr_phrase old
 no_comparison old mid a first n none (plain b) r st =

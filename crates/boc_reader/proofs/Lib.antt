@@ -23,4 +23,4 @@ pub mod ResolvingSlots
 pub mod ResolvingParameters
 pub mod ResolvingOrder
 pub mod ResolvingPrograms
-pub mod TransferText
+mod examples

@@ -13,11 +13,7 @@ use Rattle.boc_reader.specs.Grammar.{tightness, NoOperator, EndsSum, EndsExpr}
 
 tightness_comparison : (op : Comparison) → tightness (comparison_sign op) ≡ 1
 tightness_comparison comparisons.Equal = refl
-tightness_comparison comparisons.NotEqual = refl
-tightness_comparison comparisons.Less = refl
-tightness_comparison comparisons.AtMost = refl
-tightness_comparison comparisons.Greater = refl
-tightness_comparison comparisons.AtLeast = refl
+tightness_comparison _ = refl
 
 tightness_sum : (op : SumOperator) → tightness (sum_sign op) ≡ 2
 tightness_sum sums.Add = refl

@@ -1,5 +1,5 @@
 -- Where a part isn't there, the whole isn't.
-use Rattle.std.proofs.Common.{◌≡◌, ◌+◌, List, ◌∷◌, Some, None, Result, Ok, Err, sym, ap, ◌∙◌, subst, arith}
+use Rattle.std.proofs.Common.{◌≡◌, ◌+◌, List, ◌∷◌, Result, Ok, Err, sym, ap, ◌∙◌, subst, arith}
 use Rattle.std.specs.Result.{IsErrAnd, MatchResult}
 use Rattle.boc_reader.specs.declared.terminal.Sign.{Sign}
 use Rattle.boc_reader.specs.Tokens.{Token, sign}
@@ -8,7 +8,7 @@ use Rattle.boc_reader.specs.declared.fault.Fault.TheVariants as faults
 use Rattle.boc_reader.specs.declared.fault.ShapeFault.{ShapeFault}
 use Rattle.boc_reader.specs.Placed.{Refusal}
 use Rattle.boc_reader.specs.Phrases.{Ahead, Phrase, Stands, NoneStands, Parses}
-use Rattle.boc_reader.specs.Grammar.{NoSign, tail_phrase, closed_phrase, pair_phrase}
+use Rattle.boc_reader.specs.Grammar.{NoSign, closed_phrase, pair_phrase}
 
 -- tokens are those of one phrase of the kind only
 abbrev pub OneReading : {X : Type 0} → Phrase X → Type 0
@@ -34,25 +34,8 @@ pub passes_on : {Y : Type 0} (Good : Y → Type 0) (P Q : Type 0) (r : Result Y 
 passes_on Good P Q (Ok y) e is h f = absurd is
 passes_on Good P Q (Err d) e is h f = refusal_on d (subst (λ (x : Fault ShapeFault). Refusal x P) (sym is) h) f
 
--- an operator and what it takes in
-module _ {Op X : Type 0} (op_sign : Op → Sign) (kind : Phrase X) where
-  pub no_room_for_tail : (old : Ahead) (op : Op) (after : List Token) → old.room ≡ 0 → old.tokens ≡ sign (op_sign op) ∷ after
-      → NoneStands (tail_phrase op_sign kind) old
-  no_room_for_tail old op after z e None r st = st.ends op after (sym st.tokens ∙ e)
-  no_room_for_tail old op after z e (Some p) r st = omega (arith, st.fits)
-
-  pub no_operand : (old mid : Ahead) (op : Op) → ((x : X) → kind.IsSmall x) → old.tokens ≡ sign (op_sign op) ∷ mid.tokens → 1 + mid.room ≡ old.room
-      → NoneStands kind mid → NoneStands (tail_phrase op_sign kind) old
-  no_operand old mid op small e n none None r st = st.ends op mid.tokens (sym st.tokens ∙ e)
-  no_operand old mid op small e n none (Some p) r st =
-      let w = st.tokens in
-      none p.1 r (record { tokens = cc; ends = st.ends; fits = omega (arith, st.fits); small = small p.1 })
-
 -- a phrase, and the sign behind it
 module _ {X : Type 0} (kind : Phrase X) (close : Sign) (closes : (x : X) (r : List Token) → kind.Ends x (sign close ∷ r)) where
-  pub no_inner : (old : Ahead) → NoneStands kind old → NoneStands (closed_phrase kind close) old
-  no_inner old none x r st = none x (sign close ∷ r) (record { tokens = st.tokens; ends = closes x r; fits = st.fits; small = st.small })
-
   pub no_close : OneReading kind → (old mid : Ahead) (x : X) → Stands kind old x mid.tokens → NoSign close mid.tokens
       → NoneStands (closed_phrase kind close) old
   no_close one old mid x item none y r st =

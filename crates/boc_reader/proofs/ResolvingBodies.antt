@@ -1,6 +1,6 @@
 -- Resolved blocks keep what their trees keep, and bodies fit.
 use Rattle.std.proofs.Common.{◌≡◌, ℕ, ◌+◌, ◌≤◌, true, List, [], ◌∷◌, ◌++◌, length, Some, IsTrue, refl, sym, ap, ◌∙◌, subst, arith, length-append}
-use Rattle.boc_program.specs.Syntax.{Code, Done, Assign, Work, If, Repeat, When}
+use Rattle.boc_program.specs.Syntax.{Code, Done, If}
 use Rattle.boc_program.specs.Syntax as resolved
 use Rattle.boc_reader.specs.Shape.{Expr, NamedCown, Stmt, declare, assign, work, if_only, if_else, repeat, when, Block, done, next, list_nodes, IsSmallStmt}
 use Rattle.boc_reader.specs.Shape.{IsSmallBlock, IsSmallBody}

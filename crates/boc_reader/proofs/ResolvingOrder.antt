@@ -12,6 +12,7 @@ use Rattle.boc_reader.specs.Shape.{Cown, Def, Tree, cowns_declared}
 use Rattle.boc_reader.specs.Names.{Named, Global, Callee, Top, PlainBody, PlainProgram, among, top_names, are_distinct, globals, callees, top_of, all_names}
 use Rattle.boc_reader.specs.Names.{body_names, plain_cown, tree_names}
 use Rattle.boc_reader.specs.Resolving.{EndWithin, cown_names, global_at, callee_for, cowns_behind, defs_behind, def_names, bodies_behind, program_in_order}
+use Rattle.boc_reader.proofs.ResolvingParameters.{and_assoc}
 
 -- names of which none is among those before it
 abbrev pub are_new : List Named → List Named → Bool
@@ -59,10 +60,6 @@ apart_from_none (x ∷ xs) = apart_from_none xs
 
 are_distinct-new : (xs : List Named) → are_distinct xs ≡ are_new [] xs
 are_distinct-new xs = sym (are_new-parts [] xs ∙ ap (λ b. b && are_distinct xs) (apart_from_none xs))
-
-and_assoc : (a b c : Bool) → (a && (b && c)) ≡ ((a && b) && c)
-and_assoc true b c = refl
-and_assoc false b c = refl
 
 are_new-append : (before xs ys : List Named) → are_new before (xs ++ ys) ≡ (are_new before xs && are_new (before ++ xs) ys)
 are_new-append before [] ys = ap (λ s. are_new s ys) (sym (append-nil before))

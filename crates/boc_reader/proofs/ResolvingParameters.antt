@@ -20,7 +20,7 @@ use Rattle.boc_reader.specs.Resolving.{Yields, EndWithin, names_of, scope_with}
 use Rattle.boc_reader.proofs.ResolvingKeeps.{test_made}
 use Rattle.boc_reader.proofs.ResolvingBodies.{code_fits}
 
-and_assoc : (a b c : Bool) → (a && (b && c)) ≡ ((a && b) && c)
+pub and_assoc : (a b c : Bool) → (a && (b && c)) ≡ ((a && b) && c)
 and_assoc true b c = refl
 and_assoc false b c = refl
 

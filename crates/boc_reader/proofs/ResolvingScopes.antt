@@ -24,10 +24,7 @@ with_code front (Some c) = Some (code_onto front c)
 
 then_before : (s : Stmt) (c : Code) → then_code (resolved_stmt_of s) c ≡ before s c
 then_before (stmts.Assign slot e) c = refl
-then_before (stmts.Work e) c = refl
-then_before (stmts.If e a b) c = refl
-then_before (stmts.Repeat e a) c = refl
-then_before (stmts.When kind args refs) c = refl
+then_before _ c = refl
 
 onto_more : (ss : List Stmt) (s : Stmt) (c : Code) → code_onto (ss ++ s ∷ []) c ≡ code_onto ss (then_code (resolved_stmt_of s) c)
 onto_more [] s c = sym (then_before s c)

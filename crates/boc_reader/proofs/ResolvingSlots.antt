@@ -11,11 +11,9 @@ use Rattle.boc_reader.specs.Names.{deepest}
 use Rattle.boc_reader.proofs.ResolvingKeeps.{deepest-max}
 
 pub deepest_before : (n : ℕ) (s : Stmt) (rest : Code) → deepest n (before s rest) ≡ max (deepest n (before s Done)) (deepest n rest)
-deepest_before n (stmts.Assign slot e) rest = omega (arith, deepest-max n rest)
-deepest_before n (stmts.Work e) rest = omega (arith, deepest-max n rest)
 deepest_before n (stmts.If e a b) rest = omega (arith, deepest-max n rest, deepest-max n a, deepest-max n b)
 deepest_before n (stmts.Repeat e a) rest = omega (arith, deepest-max n rest, deepest-max n a)
-deepest_before n (stmts.When kind args refs) rest = omega (arith, deepest-max n rest)
+deepest_before n _ rest = omega (arith, deepest-max n rest)
 
 pub slots_of_if : (n : ℕ) (s : Stmt) (e : Expr) (a b : Code) (x y r : ℕ) → s ≡ stmts.If e a b → x ≡ deepest n a → y ≡ deepest n b → r ≡ max x y
     → r ≡ deepest n (before s Done)

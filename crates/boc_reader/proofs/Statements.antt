@@ -18,22 +18,12 @@ use Rattle.boc_reader.proofs.Ended.{Stops, no_next}
 
 no_else : (x : Stmt) (w : List Token) → NoKeyword Else (stmt_tokens x w)
 no_else (declare x e) w r h = cc
-no_else (assign x e) w r h = cc
-no_else (work e) w r h = cc
-no_else (if_only e b) w r h = cc
-no_else (if_else e b c) w r h = cc
-no_else (repeat e b) w r h = cc
-no_else (when f es rs) w r h = cc
+no_else _ w r h = cc
 
 -- a statement begins with no sign
 no_stmt : (x : Stmt) (z : Sign) (w r : List Token) → stmt_tokens x w ≢ sign z ∷ r
 no_stmt (declare x e) z w r h = cc
-no_stmt (assign x e) z w r h = cc
-no_stmt (work e) z w r h = cc
-no_stmt (if_only e b) z w r h = cc
-no_stmt (if_else e b c) z w r h = cc
-no_stmt (repeat e b) z w r h = cc
-no_stmt (when f es rs) z w r h = cc
+no_stmt _ z w r h = cc
 
 next_stmt : (x y : Stmt) (w : List Token) → EndsStmt x (stmt_tokens y w)
 next_stmt (if_only e b) y w = no_else y w
@@ -146,12 +136,7 @@ no_next_stmt old mid xs so_far ajar none b r st =
 
 stmt_needs_room : (x : Stmt) → 1 ≤ stmt_nodes x
 stmt_needs_room (declare x e) = omega arith
-stmt_needs_room (assign x e) = omega arith
-stmt_needs_room (work e) = omega arith
-stmt_needs_room (if_only e b) = omega arith
-stmt_needs_room (if_else e b c) = omega arith
-stmt_needs_room (repeat e b) = omega arith
-stmt_needs_room (when f es rs) = omega arith
+stmt_needs_room _ = omega arith
 
 pub no_room_for_stmt : (old : Ahead) → old.room ≡ 0 → NoneStands stmt_phrase old
 no_room_for_stmt old h x r st = omega (arith, stmt_needs_room x, st.fits)
@@ -187,16 +172,6 @@ module _ (old mid : Ahead) (n : 1 + mid.room ≡ old.room) where
   no_when e none (when f es rs) r st = let w = st.tokens in
       none (f, (es, rs)) r (record { tokens = cc; ends = tt; fits = omega (arith, st.fits); small = st.small })
   no_when e none x r st = let w = st.tokens in absurd cc
-
-pub not_stmt : (old : Ahead) → ((n : List ℕ) (after : List Token) → old.tokens ≢ name n ∷ after) → NoKeyword Let old.tokens → NoKeyword Work old.tokens
-    → NoKeyword If old.tokens → NoKeyword Repeat old.tokens → NoKeyword When old.tokens → NoneStands stmt_phrase old
-not_stmt old a b c d e f (declare x v) r st = b _ st.tokens
-not_stmt old a b c d e f (assign x v) r st = a x _ st.tokens
-not_stmt old a b c d e f (work v) r st = c _ st.tokens
-not_stmt old a b c d e f (if_only v k) r st = d _ st.tokens
-not_stmt old a b c d e f (if_else v k l) r st = d _ st.tokens
-not_stmt old a b c d e f (repeat v k) r st = e _ st.tokens
-not_stmt old a b c d e f (when g es rs) r st = f _ st.tokens
 
 pub no_other : (old mid : Ahead) → old.tokens ≡ keyword Else ∷ mid.tokens → mid.room ≡ old.room → NoneStands braced_phrase mid → NoneStands else_phrase old
 no_other old mid e n none None r st = st.ends mid.tokens (sym st.tokens ∙ e)

@@ -1,5 +1,5 @@
 -- How the tokens of a text follow from its front.
-use Rattle.std.proofs.Common.{lit<, zero, suc, ◌⊎◌, ◌*◌, ◌-◌, ◌^◌, get_or, length, take, drop, append_assoc, ◌≡◌, ◌≢◌, ℕ, ◌+◌, ◌≤◌, ◌<◌, ◌∷◌, List, [], ◌++◌}
+use Rattle.std.proofs.Common.{lit<, zero, suc, ◌⊎◌, ◌*◌, ◌-◌, ◌^◌, get_or, length, take, drop, ◌≡◌, ◌≢◌, ℕ, ◌+◌, ◌≤◌, ◌<◌, ◌∷◌, List, [], ◌++◌}
 use Rattle.std.proofs.Common.{true, false, cond, eqb, ltb, ◌&&◌, ◌||◌, Option, Some, None, refl, sym, ap, ◌∙◌, subst, arith, inl, inr}
 use Rattle.std.proofs.lemmas.Bool.Decides.{nat_tests}
 use Rattle.std.proofs.lemmas.Bool.{or_cases, and_right, eqb-true, ne_eqb, cases_Bool}
@@ -79,10 +79,8 @@ cut_no_run (b ∷ c ∷ bs) h = rw h (elim (begins_pair b && eqb c 61) as (λ t.
     [ true ↦ tt | false ↦ tt ])
 
 join_no_run : (b : ℕ) (ps : List Piece) → NoRun ps → join b ps ≡ run (b ∷ []) ∷ ps
-join_no_run b [] h = refl
 join_no_run b (run bs ∷ ps) h = absurd h
-join_no_run b (pair c ∷ ps) h = refl
-join_no_run b (single c ∷ ps) h = refl
+join_no_run b _ h = refl
 
 -- name bytes in front of others are one run
 cut_run : (b : ℕ) (w bs : List ℕ) → is_name_byte b ≡ true → AllByRecursion (λ c. is_name_byte c ≡ true) w → NoNameByte bs
@@ -202,27 +200,10 @@ run_ascii bs n e =
     let t : take n bs ≡ s.0 = ap (λ m. take m bs) k ∙ ap (take (length s.0)) s.2 ∙ take-append_seam s.0 s.1 in
     subst IsAscii (sym t) (ascii_of s.0 s.3)
 
--- where no run begins, the first byte is no name byte
-pub no_run_at : (b : ℕ) (bs : List ℕ) → length (take_while is_name_byte (b ∷ bs)) ≡ 0 → is_name_byte b ≡ false
-no_run_at b bs h =
-    elim (cases_Bool (is_name_byte b)) [
-      | inl e ↦ let k : prefix_len is_name_byte (b ∷ bs) ≡ 1 + prefix_len is_name_byte bs = rw e refl in
-          absurd (omega (arith, h, k, length-prefix_len is_name_byte (b ∷ bs)))
-      | inr e ↦ e
-    ]
-
 -- the tokens so far, in front of others
 abbrev pub put_all : List Token → Option (List Token) → Option (List Token)
 put_all ws None = None
 put_all ws (Some vs) = Some (ws ++ vs)
-
-pub put_all_more : (ws : List Token) (w : Token) (r : Option (List Token)) → put_all ws (put (Some w) r) ≡ put_all (ws ++ w ∷ []) r
-put_all_more ws w None = refl
-put_all_more ws w (Some vs) = ap Some (sym (append_assoc ws (w ∷ []) vs))
-
-pub put_nothing : (r : Option (List Token)) → put_all [] r ≡ r
-put_nothing None = refl
-put_nothing (Some vs) = refl
 
 pub pair_at : (b : ℕ) (bs : List ℕ) (s : Sign) → pair_sign b ≡ Some s → tokens_of_text (b ∷ 61 ∷ bs) ≡ put (Some (sign s)) (tokens_of_text bs)
 pair_at b bs s h =

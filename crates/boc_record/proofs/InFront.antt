@@ -4,7 +4,7 @@ use Rattle.std.proofs.Common.{length-append}
 use Rattle.std.specs.Prelude.{codes, Option, Some, None}
 use Rattle.std.specs.Io.KnownBytes.{prepend_known, Consumes}
 use Rattle.std.proofs.lemmas.List.{take-append-drop, length-drop}
-use Rattle.std.proofs.lemmas.List.Elements.{All-nil, All-cons, All-push}
+use Rattle.std.proofs.lemmas.List.Elements.{All-push}
 use Rattle.std.proofs.Math.Seq.{drop-append_seam}
 use Rattle.boc_runs.specs.declared.event.Event.{Event}
 use Rattle.boc_runs.specs.Legal.{Entry}
@@ -33,24 +33,12 @@ field_is_ahead text len value long space front few some lead small =
       near = omega (arith, few, long, length-drop len after, length-drop 1 text);
     }
 
--- no fields stand at the front of any text
-pub none_ahead : (text : List ℕ) → AreFieldsAhead text [] text
-none_ahead text = record { small = All-nil (λ n. n < 2 ^ 32); is = refl; near = omega arith }
-
 -- one field more behind those that were read
 pub one_more_ahead : (text ns rest left : List ℕ) (n : ℕ) → AreFieldsAhead text ns rest → IsFieldAhead rest n left → AreFieldsAhead text (ns ++ n ∷ []) left
 one_more_ahead text ns rest left n all f = record {
   small = All-push (λ m. m < 2 ^ 32) ns n all.small f.small;
   is = all.is ∙ ap (λ xs. fields ns ++ xs) f.is ∙ sym (append_assoc (fields ns) (field n) left) ∙ ap (λ xs. xs ++ left) (sym (fields_more ns n));
   near = omega (arith, all.near, f.near, length-append ns (n ∷ []));
-}
-
--- one field more in front of those
-pub one_before : (text mid rest : List ℕ) (n : ℕ) (ns : List ℕ) → IsFieldAhead text n mid → AreFieldsAhead mid ns rest → AreFieldsAhead text (n ∷ ns) rest
-one_before text mid rest n ns f all = record {
-  small = All-cons (λ m. m < 2 ^ 32) n ns f.small all.small;
-  is = f.is ∙ ap (λ xs. field n ++ xs) all.is ∙ sym (append_assoc (field n) (fields ns) rest);
-  near = omega (arith, all.near, f.near);
 }
 
 -- the line that a sign and fields make, where a line feed stands behind them

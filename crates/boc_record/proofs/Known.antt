@@ -4,7 +4,7 @@ use Rattle.std.proofs.Common.{subst, arith, Bool, false}
 use Rattle.std.proofs.lemmas.List.{length-take, append-nil}
 use Rattle.std.specs.Bool.{OnFalse}
 use Rattle.std.specs.Prelude.{codes, Result, Ok, Err}
-use Rattle.std.specs.Io.KnownBytes.{Consumes, IsAtEnd, Keeps, prepend_known}
+use Rattle.std.specs.Io.KnownBytes.{Consumes, Keeps, prepend_known}
 use Rattle.std.proofs.KnownBytes.{Consumes-trans}
 use Rattle.boc_record.specs.declared.verdict.RecordFaultKind.{RecordFaultKind}
 use Rattle.boc_record.specs.declared.verdict.RecordFaultKind.TheVariants as kinds
@@ -18,7 +18,7 @@ use Rattle.boc_runs.specs.declared.rows.Row.{Row}
 use Rattle.boc_runs.specs.Records.{Recorded, IsRecord, AreRowsOf}
 use Rattle.boc_record.specs.RecordTexts.{HasNoForm, FirstLineIs, NextLineIs, IsWrongAfter, IsCut, Version, BeginsLong, BeginsWith, IsOneLine, BreaksRule}
 use Rattle.boc_record.specs.RecordTexts.{HasMore, HasBegun, AreSpelt, IsFirstFault, line, header, event_line, event_lines, begun, record_text, kind_of_rule}
-use Rattle.boc_rules.specs.Course.{Course, IsOver, GivesRows}
+use Rattle.boc_rules.specs.Course.{Course, GivesRows}
 use Rattle.boc_rules.proofs.Events.{counted}
 use Rattle.boc_rules.proofs.Next.{well_log}
 use Rattle.boc_rules.specs.declared.fault.RuleFault.{RuleFault}
@@ -60,13 +60,6 @@ pub gives_part : (known rest : Option (List ℕ)) (held : List ℕ) → Keeps kn
 gives_part None rest held kept part = record { left = held; unended = part.0; short = part.1; taken = tt }
 gives_part (Some text) None held kept part = absurd kept
 gives_part (Some text) (Some left) held kept part = record { left = held; unended = part.0; short = part.1; taken = sym kept }
-
--- at the end nothing was to come
-pub nothing_left : (known rest : Option (List ℕ)) (held : List ℕ) → IsAtEnd known → Keeps known (prepend_known held rest) → IsAtEnd rest
-    → Consumes known rest []
-nothing_left None rest held end kept gone = tt
-nothing_left (Some text) None held end kept gone = absurd kept
-nothing_left (Some text) (Some left) held end kept gone = end ∙ sym gone
 
 -- what is taken in ahead was given too
 with_ahead : (whole rest : Option (List ℕ)) (done held : List ℕ) → Consumes whole (prepend_known held rest) done → Consumes whole rest (done ++ held)
@@ -266,14 +259,6 @@ taken_last v rows item before after e t = subst (λ x. TakesItem v rows x before
 
 -- ---- the last line
 
--- the whole text of a record was taken
-whole_text : (v : Version) (whole now rest left : Option (List ℕ)) (cowns : ℕ) (events : List Event) → Consumes whole now (begun v cowns events)
-    → Consumes now rest (line (codes "."))
-    → Consumes rest left [] → Consumes whole left (record_text v cowns events)
-whole_text v whole now rest left cowns events p q r =
-    subst (Consumes whole left) (append-nil (record_text v cowns events))
-    (Consumes-trans whole rest left (record_text v cowns events) [] (Consumes-trans whole now rest (begun v cowns events) (line (codes ".")) p q) r)
-
 after_fault : (number : ℕ) (v : Version) (cowns : ℕ) (events : List Event) (text now rest : List ℕ) → HasBegun v cowns events → IsComplete events
     → number ≡ length events + 3
     → text ≡ begun v cowns events ++ now → now ≡ line (codes ".") ++ rest → 0 < length rest → HasMore text number
@@ -338,17 +323,6 @@ pub record IsReading (v : Version) (cowns : ℕ) (taken : List Event → Type 0)
   pub given : Consumes whole now (begun v cowns events)
   pub number_is : number ≡ length events + 2
 
--- after the first line no event was taken
-pub nothing_yet : (v : Version) (cowns : ℕ) (taken : List Event → Type 0) (whole now : Option (List ℕ)) → TakesHeader v cowns whole now → taken []
-    → IsReading v cowns taken 2 whole now
-nothing_yet v cowns taken whole now h has = record {
-  events = [];
-  has = has;
-  begins = record { few = h.few; legal = tt; spelt = tt };
-  given = subst (Consumes whole now) (sym (append-nil (line (header v cowns)))) h.taken;
-  number_is = refl;
-}
-
 -- memory was refused behind the first line
 pub header_wants : (v : Version) (cowns : ℕ) (whole after : Option (List ℕ)) (held : List ℕ) → TakesHeader v cowns whole (prepend_known held after)
     → length held ≤ CAPACITY → IsFault kinds.Memory 1 whole after
@@ -407,21 +381,6 @@ last_refused f v cowns taken number whole now rest left rows r of q h =
     (subst (λ (n : ℕ). EndIs rows n f.line f.kind rest left) r.number_is h) in
     fault f.kind f.line whole left (end_faults f.kind f.line v cowns r.events whole now rest left r.begins r.given q here)
     (end_stop f.kind f.line v cowns r.events whole now rest left r.begins r.given q here)
-
--- the last line was taken, the run is over, and nothing follows
-pub run_taken : (v : Version) (cowns : ℕ) (taken : List Event → Type 0) (number : ℕ) (whole now rest left : Option (List ℕ)) (rows : List Entry)
-    → IsReading v cowns taken number whole now
-    → ((log : List Event) → taken log → rows ≡ entries log) → Consumes now rest (line (codes ".")) → IsOver rows → Consumes rest left [] → IsAtEnd left
-    → TakesRun cowns taken whole left
-run_taken v cowns taken number whole now rest left rows r of q over none end = record {
-  version = v;
-  events = r.events;
-  has = r.has;
-  begins = r.begins;
-  complete = subst IsOver (of r.events r.has) over;
-  given = whole_text v whole now rest left cowns r.events r.given q none;
-  over = end;
-}
 
 -- ---- what a sink that has taken a run gives
 

@@ -8,7 +8,6 @@ use Rattle.std.proofs.lemmas.List.{take-append-drop, append-nil, length-append, 
 use Rattle.std.proofs.lemmas.List.{get_or-append_right}
 use Rattle.std.specs.Str.Parse.{AllDigits, digits_value}
 use Rattle.std.specs.Int.{IsInRange}
-use Rattle.std.specs.Char.{is_ascii_digit}
 use Rattle.std.proofs.lemmas.Str.Parse.{IsNumeralModel, FoldsDigits, numerals_by_fold, numerals_by_value, tells_digits, tells_by_index, digit_at}
 use Rattle.std.proofs.lemmas.Str.Parse.{digits_value_short}
 use Rattle.std.proofs.lemmas.Fmt.{decimal_by_steps, decimal_injective, length-decimal-le, decimal_digit, decimal_nonempty, first_decimal, digits_decimal}
@@ -230,9 +229,6 @@ first_apart (b ∷ rest) h = h (omega arith)
 -- all that stands behind so many
 pub whole_tail : (xs : List ℕ) (n : ℕ) → take (length xs - n) (drop n xs) ≡ drop n xs
 whole_tail xs n = take_all (length xs - n) (drop n xs) (omega (arith, length-drop n xs))
-
-pub no_digit : (b : ℕ) (r : Bool) → r ≡ is_ascii_digit b → r ≡ false → ¬ (IsInRange 48 57 b)
-no_digit b r e failed h = let f : is_ascii_digit b ≡ false = sym e ∙ failed in grind (arith, nat_tests)
 
 pub nothing_left : (xs : List ℕ) → length xs ≡ 0 → xs ≡ []
 nothing_left [] e = refl

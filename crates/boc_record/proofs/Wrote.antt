@@ -14,8 +14,8 @@ use Rattle.boc_runs.specs.Legal.{Entry, pending, entries, after, after_all, entr
 use Rattle.boc_runs.specs.Records.{Recorded, IsRecord}
 use Rattle.boc_runs.specs.Rows.{cowns_of, written_of}
 use Rattle.boc_record.specs.RecordTexts.{First, Second, IsSpelt, AreSpelt}
-use Rattle.boc_program.proofs.ChangedItems.{set_other}
-use Rattle.boc_rules.proofs.Lists.{got_set, set_same, got_push, push_below, got_in, one_got, got_at}
+use Rattle.boc_program.proofs.ChangedItems.{set_other, item_at, front_item}
+use Rattle.boc_rules.proofs.Lists.{got_set, set_same, got_push, one_got, got_at}
 use Rattle.boc_rules.proofs.Next.{living, life_at, cowns_at, not_pending_ended, not_running_ended}
 use Rattle.boc_record.specs.Laws.{HasWrittenAll}
 
@@ -84,7 +84,7 @@ not_that rows r row e f l n g over h life same =
 pushed_stays : (rows : List Entry) (r : ℕ) (e v : Entry) → IsAsOver rows r e → IsAsOver (rows ++ v ∷ []) r e
 pushed_stays rows r e v h = record {
   later = h.later;
-  is = push_below rows r v (slice_get_within rows r h.later h.is) ∙ h.is;
+  is = front_item rows v r (slice_get_within rows r h.later h.is) ∙ h.is;
   over = h.over;
   written = h.written;
   cowns = h.cowns;
@@ -177,15 +177,15 @@ pub first_spells : (r : Recorded) → IsRecord r → AreSpelt First [] r.events 
 first_spells r is =
     let run = entries r.events in (
       λ s. λ k less.
-          let x = got_in r.rows k less in
-          let e = got_in run k (omega (arith, is.rows_are.all, less)) in
+          let x = item_at r.rows k less in
+          let e = item_at run k (omega (arith, is.rows_are.all, less)) in
           let that = is.rows_are.each k e.0 x.0 e.1 x.1 in
           let over = over_there run k e.0 e.1 (is.complete.ended k (omega (arith, is.rows_are.all, less))) in
           let full = full_all r.cowns [] r.events is.legal s (λ k e g over. absurd (let f : None ≡ Some e = g in cc)) in
           row_written r.rows k x.0 x.1 ∙ that.written ∙ full k e.0 e.1 over ∙ sym that.cowns ∙ sym (row_cowns r.rows k x.0 x.1),
       λ all. spelt_all r.cowns [] r.events is.legal (λ k e g.
           let less : k < length r.rows = omega (arith, is.rows_are.all, slice_get_within run k e g) in
-          let x = got_in r.rows k less in
+          let x = item_at r.rows k less in
           let that = is.rows_are.each k e x.0 g x.1 in
           sym that.written ∙ sym (row_written r.rows k x.0 x.1) ∙ all k less ∙ row_cowns r.rows k x.0 x.1 ∙ that.cowns),
     )

@@ -21,10 +21,10 @@ use Rattle.boc_rules.specs.declared.kept_row.KeptRow.{KeptRow}
 use Rattle.boc_rules.specs.Before.{noted}
 use Rattle.boc_rules.specs.Course.{AreLegal}
 use Rattle.boc_rules.specs.SoFar.{IsKeptRowOf, AreKeptRowsOf, AreFound, AreLatest, over_one, over, entry_of, entries_of, AreParts, new_row, meant}
-use Rattle.boc_rules.proofs.Lists.{got_in}
 use Rattle.boc_rules.proofs.Next.{living, after_more, legal_more}
 use Rattle.boc_rules.proofs.KeptRows.{rows_go_on}
 use Rattle.boc_rules.proofs.Keeping.{IsSet, kept_rows_set, found_set, latest_set, over_set, kept_rows_push, found_push, latest_push, over_push}
+use Rattle.boc_program.proofs.ChangedItems.{item_at}
 
 -- what is kept beside the rows is that of these
 pub record IsThatOf (run : List Entry) (cowns : ℕ) (kept_rows : List KeptRow) (found latest : List (Option ℕ)) (ended : ℕ) : Type 0 where
@@ -105,7 +105,7 @@ that_goes_on run cowns kept_rows found latest ended later row from f now t at co
     let v : Entry = f e.0 in
     let h : IsSet run row e.0 v = record { is = e.1; cowns = cowns_stay e.0 } in
     let inside : row < length kept_rows = omega (arith, t.kept_rows_are.all, slice_get_within run row e.0 e.1) in
-    let x = got_in kept_rows row inside in
+    let x = item_at kept_rows row inside in
     let y : KeptRow = record x.0 { life = now } in
     let was = t.kept_rows_are.each row e.0 x.0 e.1 x.1 in
     let counted = over_set run row e.0 v e.1 in
@@ -174,7 +174,7 @@ that_spawn (main ∷ others) count kept_rows found latest ended row parent offse
     let run = main ∷ others in
     let e = living run parent lives.Running p in
     let inside : parent < length kept_rows = omega (arith, t.kept_rows_are.all, slice_get_within run parent e.0 e.1) in
-    let x = got_in kept_rows parent inside in
+    let x = item_at kept_rows parent inside in
     let v : Entry = record e.0 { last = offset } in
     let y : KeptRow = record x.0 { last = offset } in
     subst (λ (r : List Entry). IsThatOf (r ++ (pending parent offset cowns.items ∷ [])) count

@@ -11,9 +11,10 @@ use Rattle.boc_runs.specs.Legal.{Entry, life_of}
 use Rattle.boc_runs.specs.Records.{IsRowOf, AreRowsOf}
 use Rattle.boc_runs.specs.Rows.{parent_of, offset_of, ticks_of, cowns_of, written_of, IsRows}
 use Rattle.boc_rules.specs.SoFar.{over_one, over}
-use Rattle.boc_rules.proofs.Lists.{got_in, one_got, got_at}
+use Rattle.boc_rules.proofs.Lists.{one_got, got_at}
 use Rattle.boc_rules.proofs.Well.{HasEnded, IsWell}
 use Rattle.boc_rules.proofs.Next.{living}
+use Rattle.boc_program.proofs.ChangedItems.{item_at}
 
 -- row r of the record, with its entry
 pub record IsAt (run : List Entry) (rows : List Row) (r : ℕ) : Type 0 where
@@ -25,8 +26,8 @@ pub record IsAt (run : List Entry) (rows : List Row) (r : ℕ) : Type 0 where
 
 at : (run : List Entry) (rows : List Row) (r : ℕ) → AreRowsOf run rows → r < length rows → IsAt run rows r
 at run rows r are less =
-    let x = got_in rows r less in
-    let e = got_in run r (omega (arith, are.all, less)) in
+    let x = item_at rows r less in
+    let e = item_at run r (omega (arith, are.all, less)) in
     record { entry = e.0; row = x.0; was = e.1; is = x.1; that = are.each r e.0 x.0 e.1 x.1 }
 
 parent_at : (run : List Entry) (rows : List Row) (r : ℕ) (h : IsAt run rows r) → parent_of rows r ≡ h.entry.parent

@@ -23,13 +23,13 @@ use Rattle.boc_rules.specs.declared.so_far.RunSoFar.{RunSoFar}
 use Rattle.boc_rules.specs.Course.{AreLegal, IsOver}
 use Rattle.boc_rules.specs.Before.{IsOverAt}
 use Rattle.boc_rules.specs.SoFar.{meant, IsKeptRowOf, AreKeptRowsOf, over_one, over, so_far, IsRunSoFar, IsSpawned, IsStarted, IsEnded}
-use Rattle.boc_rules.proofs.Lists.{got_in}
 use Rattle.boc_rules.proofs.Next.{living, cowns_at, life_at, last_at, well_log, not_pending_running, not_pending_ended}
 use Rattle.boc_rules.proofs.Starts.{starts, over_before}
 use Rattle.boc_rules.proofs.Keeping.{over_set}
 use Rattle.boc_rules.proofs.Well.{IsWell}
 use Rattle.boc_rules.proofs.Accepting.{Goes, keeps_spawn, keeps_start, keeps_end}
 use Rattle.boc_rules.proofs.Finished.{over_few, all_over, over_all, is_rows}
+use Rattle.boc_program.proofs.ChangedItems.{item_at}
 
 -- the rows of a legal log are well
 pub well_rows : (cowns : ℕ) (rows : List Entry) → AreLegal cowns rows → IsWell cowns rows
@@ -47,7 +47,7 @@ pub read_at : (run : List Entry) (kept_rows : List KeptRow) (r : ℕ) (kept_row 
     → IsReadAt run kept_rows r kept_row
 read_at run kept_rows r kept_row are less read =
     let at = slice_get_read kept_rows (length kept_rows) r kept_row refl less read in
-    let e = got_in run r (omega (arith, are.all, less)) in
+    let e = item_at run r (omega (arith, are.all, less)) in
     record { entry = e.0; was = e.1; at = at; is = are.each r e.0 kept_row e.1 at }
 
 pub last_read : (run : List Entry) (kept_rows : List KeptRow) (r : ℕ) (kept_row : KeptRow) → AreKeptRowsOf run kept_rows → r < length kept_rows

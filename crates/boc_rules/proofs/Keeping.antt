@@ -13,8 +13,8 @@ use Rattle.boc_runs.specs.Legal.{Entry, entry_cowns}
 use Rattle.boc_rules.specs.declared.kept_row.KeptRow.{KeptRow}
 use Rattle.boc_rules.specs.Before.{IsLatest, AreBefore, noted}
 use Rattle.boc_rules.specs.SoFar.{IsKeptRowOf, AreKeptRowsOf, AreFound, AreLatest, over_one, over}
-use Rattle.boc_program.proofs.ChangedItems.{set_other, range_stays, range_behind}
-use Rattle.boc_rules.proofs.Lists.{got_set, set_same, got_push, push_below, push_last, got_at}
+use Rattle.boc_program.proofs.ChangedItems.{set_other, range_stays, range_behind, front_item, last_item}
+use Rattle.boc_rules.proofs.Lists.{got_set, set_same, got_push, got_at}
 use Rattle.boc_rules.proofs.Next.{cowns_at}
 
 -- two runs have the same cowns at the rows below a number
@@ -141,7 +141,7 @@ over_set (x ∷ run) (suc r) e v g = omega (arith, over_set run r e v g)
 
 -- One row more.
 pub same_push : (run : List Entry) (v : Entry) (n : ℕ) → n ≤ length run → SameBelow run (run ++ (v ∷ [])) n
-same_push run v n h = record { cowns = λ k less. ap (λ (o : Option Entry). option_map_or (λ (x : Entry). x.cowns) o []) (push_below run k v (omega arith)) }
+same_push run v n h = record { cowns = λ k less. ap (λ (o : Option Entry). option_map_or (λ (x : Entry). x.cowns) o []) (front_item run v k (omega arith)) }
 
 kept_row_push_case : (run : List Entry) (kept_rows : List KeptRow) (v : Entry) (y : KeptRow) → AreKeptRowsOf run kept_rows → IsKeptRowOf v y
     → (k : ℕ) (f : Entry) (z : KeptRow)
@@ -156,7 +156,7 @@ before_new : (run : List Entry) (v : Entry) (cowns : ℕ) (latest : List (Option
     → AreBefore (run ++ (v ∷ [])) (length run) (map (λ c. get_or latest c None) v.cowns)
 before_new run v cowns latest are below =
     let new = run ++ (v ∷ []) in
-    let here : entry_cowns new (length run) ≡ v.cowns = cowns_at new (length run) v (push_last run v) in record {
+    let here : entry_cowns new (length run) ≡ v.cowns = cowns_at new (length run) v (last_item run v) in record {
       all = length-map v.cowns (λ c. get_or latest c None) ∙ ap length (sym here);
       each = λ k less.
           let inside : k < length v.cowns = subst (λ (cs : List ℕ). k < length cs) here less in
@@ -240,7 +240,7 @@ latest_push run v cowns latest are =
     let new = run ++ (v ∷ []) in
     let n = length run in
     let long : suc n ≡ length new = omega (arith, length-append run (v ∷ [])) in
-    let here : entry_cowns new n ≡ v.cowns = cowns_at new n v (push_last run v) in record {
+    let here : entry_cowns new n ≡ v.cowns = cowns_at new n v (last_item run v) in record {
       all = length-noted latest v.cowns n ∙ are.all;
       each = λ c less.
           subst (λ (m : ℕ). IsLatest new c m (get_or (noted latest v.cowns n) c None)) long

@@ -26,14 +26,8 @@ made parent offset cowns ticks status written = record
     { parent = parent; offset = offset; cowns = record { items = cowns }; ticks = ticks; status = status; written = record { items = written } }
 
 row_is : (e : Entry) (x : Row) → IsRowOf e x → row_of e ≡ x
-row_is e x is = sym (
-    ap (λ (a : ℕ). made a x.offset x.cowns.items x.ticks x.status x.written.items) is.parent
-    ∙ ap (λ (a : ℕ). made e.parent a x.cowns.items x.ticks x.status x.written.items) is.offset
-    ∙ ap (λ (a : List ℕ). made e.parent e.offset a x.ticks x.status x.written.items) is.cowns
-    ∙ ap (λ (a : ℕ). made e.parent e.offset e.cowns a x.status x.written.items) is.ticks
-    ∙ ap (λ (a : EndStatus). made e.parent e.offset e.cowns e.ticks a x.written.items) is.status
-    ∙ ap (λ (a : List ℕ). made e.parent e.offset e.cowns e.ticks e.status a) is.written
-    )
+row_is e x is =
+    λ i. made (sym is.parent i) (sym is.offset i) (sym is.cowns i) (sym is.ticks i) (sym is.status i) (sym is.written i)
 
 -- the rows so far are those of the run
 pub rows_of_run : (run : List Entry) (rows : List Row) → AreRowsOf run rows → map row_of run ≡ rows

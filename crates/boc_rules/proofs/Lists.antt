@@ -1,5 +1,5 @@
 -- Lists of which one element was changed, or that have one more.
-use Rattle.std.proofs.Common.{◌≡◌, ℕ, zero, suc, ◌<◌, ◌≢◌, ◌⊎◌, List, [], ◌∷◌, ◌++◌, length, refl, sym, ◌∙◌, ap, inl, inr, arith}
+use Rattle.std.proofs.Common.{◌≡◌, ℕ, zero, suc, ◌≢◌, ◌⊎◌, List, [], ◌∷◌, ◌++◌, length, refl, sym, ◌∙◌, ap, inl, inr, arith}
 use Rattle.std.specs.Prelude.{slice_get, slice_set, Some, None}
 
 pub got_set : {A : Type 0} (xs : List A) (r k : ℕ) (v x : A) → slice_get (slice_set xs r v) k ≡ Some x
@@ -28,20 +28,6 @@ got_push (y ∷ xs) (suc k) v x e =
       | inl f ↦ inl f
       | inr p ↦ inr (ap suc p.0, p.1)
     ]
-
-pub push_below : {A : Type 0} (xs : List A) (k : ℕ) (v : A) → k < length xs → slice_get (xs ++ (v ∷ [])) k ≡ slice_get xs k
-push_below [] k v h = absurd (omega arith)
-push_below (y ∷ xs) zero v h = refl
-push_below (y ∷ xs) (suc k) v h = push_below xs k v (omega arith)
-
-pub push_last : {A : Type 0} (xs : List A) (v : A) → slice_get (xs ++ (v ∷ [])) (length xs) ≡ Some v
-push_last [] v = refl
-push_last (y ∷ xs) v = push_last xs v
-
-pub got_in : {A : Type 0} (xs : List A) (k : ℕ) → k < length xs → (x : A) × (slice_get xs k ≡ Some x)
-got_in [] k h = absurd (omega arith)
-got_in (x ∷ xs) zero h = (x, refl)
-got_in (x ∷ xs) (suc k) h = got_in xs k (omega arith)
 
 pub one_got : {A : Type 0} (xs : List A) (k : ℕ) (x y : A) → slice_get xs k ≡ Some x → slice_get xs k ≡ Some y → x ≡ y
 one_got xs k x y e f = let g : Some x ≡ Some y = sym e ∙ f in cc

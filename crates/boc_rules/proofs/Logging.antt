@@ -19,7 +19,8 @@ use Rattle.boc_rules.specs.Course.{Course, IsOver, stepped}
 use Rattle.boc_rules.specs.Logged.{told_of, IsLogged}
 use Rattle.boc_rules.proofs.Next.{after_more, legal_more, living, well_log}
 use Rattle.boc_rules.proofs.Events.{counted, start_left, end_left}
-use Rattle.boc_rules.proofs.Telling.{length_changed, told_more, happened_more, told_length, told_rows}
+use Rattle.boc_rules.proofs.Telling.{told_more, happened_more, told_length, told_rows}
+use Rattle.boc_program.proofs.ChangedItems.{length-changed}
 
 -- an event that the log allows is allowed by the rows
 allowed_of : (course : Course) (happenings : List Happening) (room : ℕ) (event : Event) → IsLogged course happenings room
@@ -68,13 +69,13 @@ rooms_stay rows rooms (Spawn row parent offset cowns) has =
     omega (
       arith,
       length-append first (pending parent offset cowns.items ∷ []),
-      length_changed rows parent (λ (e : Entry). record e { last = offset })
+      length-changed rows parent (λ (e : Entry). record e { last = offset })
           (slice_get rows parent),
       has,
     )
-rooms_stay rows rooms (Start row) has = ap (λ n. n + rooms) (length_changed rows row (λ (e : Entry). record e { life = lives.Running }) (slice_get rows row))
+rooms_stay rows rooms (Start row) has = ap (λ n. n + rooms) (length-changed rows row (λ (e : Entry). record e { life = lives.Running }) (slice_get rows row))
 rooms_stay rows rooms (End row ticks status written) has =
-    ap (λ n. n + rooms) (length_changed rows row (λ (e : Entry). record e { life = lives.Ended; ticks = ticks; status = status; written = written.items })
+    ap (λ n. n + rooms) (length-changed rows row (λ (e : Entry). record e { life = lives.Ended; ticks = ticks; status = status; written = written.items })
     (slice_get rows row))
 
 -- the log goes on by the event

@@ -1,6 +1,5 @@
 -- What has happened tells the same of the rows after a further event.
 use Rattle.std.proofs.Common.{◌≡◌, ℕ, suc, List, [], ◌∷◌, ◌++◌, length, map, get_or, refl, sym, ◌∙◌, ap, subst, inl, inr, arith}
-use Rattle.std.proofs.Math.ListN.{length-set}
 use Rattle.std.specs.Prelude.{slice_get, slice_set, Option, Some, None, All}
 use Rattle.std.proofs.lemmas.Bool.{cases_eq}
 use Rattle.std.proofs.lemmas.List.{length-map, map-append}
@@ -13,14 +12,14 @@ use Rattle.boc_runs.specs.declared.events.Deed.{Deed}
 use Rattle.boc_runs.specs.declared.events.Deed.TheVariants as deeds
 use Rattle.boc_runs.specs.declared.events.Happening.{Happening}
 use Rattle.boc_runs.specs.declared.rows.Row.{Row}
-use Rattle.boc_runs.specs.Happenings.{event_of, event_at, happening_of, told, AreOf}
+use Rattle.boc_runs.specs.Happenings.{event_of, event_at, happening_of, told}
 use Rattle.boc_program.specs.Changed.{changed}
 use Rattle.boc_runs.specs.Lives.{Life, Pending, Running, Ended, MayStart}
 use Rattle.boc_runs.specs.Legal.{Entry, pending, after, life_of, entry_cowns, MayEnd, IsAllowed}
 use Rattle.boc_runs.specs.Records.{AreRowsOf}
 use Rattle.boc_rules.specs.Logged.{row_of, told_of, HasHappened}
-use Rattle.boc_program.proofs.ChangedItems.{set_other}
-use Rattle.boc_rules.proofs.Lists.{set_same, push_below, push_last, got_in, one_got, got_at}
+use Rattle.boc_program.proofs.ChangedItems.{set_other, item_at, length-changed, front_item, last_item}
+use Rattle.boc_rules.proofs.Lists.{set_same, one_got, got_at}
 use Rattle.boc_rules.proofs.Next.{living, life_at, not_pending_ended, not_running_ended}
 use Rattle.boc_rules.proofs.KeptRows.{at_entry, rows_of_run}
 
@@ -53,7 +52,7 @@ later_changed rows r f (Some x) is goes k e at =
 later_push : (rows rows2 : List Entry) (v : Entry) → AreLater rows rows2 → AreLater rows (rows2 ++ (v ∷ []))
 later_push rows rows2 v later k e at =
     let x = later k e at in
-    (x.0, push_below rows2 k v (slice_get_within rows2 k x.0 x.1) ∙ x.1, x.2)
+    (x.0, front_item rows2 v k (slice_get_within rows2 k x.0 x.1) ∙ x.1, x.2)
 
 same_life : (rows : List Entry) (r : ℕ) (e : Entry) (l : Life) → slice_get rows r ≡ Some e → life_of rows r ≡ Some l → e.life ≡ l
 same_life rows r e l at is = let f : Some e.life ≡ Some l = sym (life_at rows r e at) ∙ is in cc
@@ -88,7 +87,7 @@ told_one rows h = event_at h.row (slice_get (map row_of rows) h.row) h.deed
 
 one_same : (rows rows2 : List Entry) (h : Happening) → AreLater rows rows2 → HasHappened rows h → told_one rows2 h ≡ told_one rows h
 one_same rows rows2 h later has =
-    let e = got_in rows h.row has.there in
+    let e = item_at rows h.row has.there in
     let x = later h.row e.0 e.1 in
     ap (λ (o : Option Row). event_at h.row o h.deed) (at_entry rows2 h.row x.0 x.1)
     ∙ tells_same h.row h.deed e.0 x.0 x.2 (λ d. same_life rows h.row e.0 Ended e.1 (has.over d))
@@ -103,16 +102,11 @@ all_same rows rows2 (h ∷ happenings) later all =
 
 happened_later : (rows rows2 : List Entry) (h : Happening) → AreLater rows rows2 → HasHappened rows h → HasHappened rows2 h
 happened_later rows rows2 h later has =
-    let e = got_in rows h.row has.there in
+    let e = item_at rows h.row has.there in
     let x = later h.row e.0 e.1 in record {
       there = slice_get_within rows2 h.row x.0 x.1;
       over = λ d. life_at rows2 h.row x.0 x.1 ∙ ap (λ (l : Life). Some l) (x.2.over (same_life rows h.row e.0 Ended e.1 (has.over d)));
     }
-
--- a list that changed is as long
-pub length_changed : {A : Type 0} (xs : List A) (r : ℕ) (f : A → A) (o : Option A) → length (changed xs r f o) ≡ length xs
-length_changed xs r f None = refl
-length_changed xs r f (Some x) = length-set xs r (f x)
 
 -- the row of an event after it
 record IsTold (rows : List Entry) (event : Event) : Type 0 where
@@ -138,7 +132,7 @@ told_new count rows (Spawn row parent offset cowns) a =
     let next : row ≡ length rows = a.keeps rules.NumberNotNext in record {
       entry = v;
       is = got_at (first ++ (v ∷ [])) row (length first) v
-          (next ∙ sym (length_changed rows parent (λ (e : Entry). record e { last = offset }) (slice_get rows parent))) (push_last first v);
+          (next ∙ sym (length-changed rows parent (λ (e : Entry). record e { last = offset }) (slice_get rows parent))) (last_item first v);
       tells = refl;
       over = λ d. absurd (not_spawned_ended d);
     }
@@ -192,8 +186,3 @@ told_length rows happenings = length-map happenings (told_one rows)
 -- the happenings tell the log of the rows
 pub told_rows : (run : List Entry) (rows : List Row) (happenings : List Happening) → AreRowsOf run rows → told happenings rows ≡ told_of run happenings
 told_rows run rows happenings are = ap (told happenings) (sym (rows_of_run run rows are))
-
--- and are of these rows
-pub happened_of : (run : List Entry) (rows : List Row) (happenings : List Happening) → AreRowsOf run rows → All (HasHappened run) happenings
-    → AreOf happenings rows
-happened_of run rows happenings are all k d less = omega (arith, are.all, (all k d less).there)

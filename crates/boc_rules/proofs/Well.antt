@@ -9,8 +9,8 @@ use Rattle.boc_program.specs.declared.limits.TheConstants.{MOST_ROWS, MOST_TICKS
 use Rattle.boc_program.specs.Cowns.{AreCowns, AreAmong}
 use Rattle.boc_runs.specs.Lives.{Pending, Ended}
 use Rattle.boc_runs.specs.Legal.{Entry, pending}
-use Rattle.boc_program.proofs.ChangedItems.{set_other}
-use Rattle.boc_rules.proofs.Lists.{got_set, set_same, got_push, push_below, one_got, got_at}
+use Rattle.boc_program.proofs.ChangedItems.{set_other, front_item}
+use Rattle.boc_rules.proofs.Lists.{got_set, set_same, got_push, one_got, got_at}
 
 -- main has parent 0, offset 0 and no cowns
 pub record IsMain (e : Entry) : Type 0 where
@@ -141,7 +141,7 @@ child_more rows k x v h = record {
   before = h.before;
   above = h.above;
   spawner = h.spawner;
-  is = push_below rows x.parent v (slice_get_within rows x.parent h.spawner h.is) ∙ h.is;
+  is = front_item rows v x.parent (slice_get_within rows x.parent h.spawner h.is) ∙ h.is;
   reached = h.reached;
 }
 

@@ -1,6 +1,7 @@
 use Rattle.std.proofs.Common.{◌<◌, ◌^◌, arith}
-use Rattle.boc_record.proofs.Runs.{front_so_far, worth_below, no_digit}
+use Rattle.boc_record.proofs.Runs.{front_so_far, worth_below}
 use Rattle.boc_record.proofs.ahead.few_digits.Goals as goal
+use Rattle.boc_text.proofs.Numerals.{no_digit}
 
 pub returns-then-not-is_ascii_digit-clause-front : goal.returns-then-not-is_ascii_digit-clause-front
 returns-then-not-is_ascii_digit-clause-front c =

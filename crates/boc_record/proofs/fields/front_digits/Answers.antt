@@ -1,7 +1,8 @@
 use Rattle.std.proofs.Common.{◌≡◌, ◌<◌, ◌^◌, subst, arith}
 use Rattle.boc_record.specs.Fields.{IsFront}
-use Rattle.boc_record.proofs.Runs.{front_so_far, few_worth, no_digit}
+use Rattle.boc_record.proofs.Runs.{front_so_far, few_worth}
 use Rattle.boc_record.proofs.fields.front_digits.Goals as goal
+use Rattle.boc_text.proofs.Numerals.{no_digit}
 
 pub returns-then-not-is_ascii_digit : goal.returns-then-not-is_ascii_digit
 returns-then-not-is_ascii_digit c =

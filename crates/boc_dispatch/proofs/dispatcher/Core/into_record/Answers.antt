@@ -5,7 +5,7 @@ use Rattle.boc_runs.specs.Records.{IsRecordOf}
 use Rattle.boc_machine_laws.proofs.Every.{whole_run}
 use Rattle.boc_dispatch.specs.Underway.{Underway}
 use Rattle.boc_dispatch.specs.Inside.{parts_of, state}
-use Rattle.boc_dispatch.proofs.Complete.{whole_is_complete}
+use Rattle.boc_machine_laws.proofs.Records.{whole_is_complete}
 use Rattle.boc_dispatch.proofs.dispatcher.Core.into_record.Goals as goal
 
 pub unreachable-requires : goal.unreachable-requires

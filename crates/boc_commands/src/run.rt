@@ -56,6 +56,7 @@ pub(crate) fn run_text<R: Threads + Wait + Sync, G: Gate>(
 {
     let program = read_program(alloc, text)?;
     let answer = run(rt, alloc, &program, runners.number(), gate)?;
+    // For the proof alone, and free: that the record's rows are those that its events tell.
     let _rows = answer.record.rows();
     Ok(answer)
 }

@@ -65,6 +65,7 @@ fn true_report<W: Sink>(
     ensures source { (count : ℕ) → CountsSource result count count }
     ensures sink { CountsSink result (W.failures sink.old) (W.failures sink.new) }
 {
+    // For the proof alone, and free: that they have the shape of rows.
     let _shape = rows.as_slice();
     report_on(alloc, workers, rows, sharing, sink)
 }

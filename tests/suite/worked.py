@@ -15,6 +15,15 @@ VALUES = {
     "two_orders.boc": "a 2\nb 1\np 0\nq 0\n",
 }
 
+# Questions about the run of an example by one thread, with the lines that its comment speaks of.
+QUESTIONS = [
+    ("anomaly_two_workers.boc", ["sweep", "--p", "2"], "0 8\n1 9\n2 8\n3 8\n"),
+    ("anomaly_two_workers.boc", ["sweep"], "0 8\n1 8\n2 6\n3 8\n"),
+    ("anomaly_three_workers.boc", ["sweep", "--p", "3"], "0 9\n1 10\n2 9\n3 9\n4 9\n"),
+    ("scaling.boc", ["curve", "--p", "6"],
+     "work 1778\nspan 306\n1 1778 1778 2084\n2 988 889 1195\n3 740 593 898\n4 616 445 750\n5 538 356 661\n6 492 306 602\n"),
+]
+
 # Programs and the values that they leave.
 PROGRAMS = [
     (b"main { }", ""),
@@ -128,6 +137,9 @@ def cases(program):
     for name, values in VALUES.items():
         answer = program.run(["values"], program.example(name))
         yield f"values of {name}", fault_of(done(values.encode()), answer)
+    for name, words, lines in QUESTIONS:
+        record = program.run(["run"], program.example(name)).output
+        yield f"{' '.join(words)} of a run of {name}", fault_of(done(lines.encode()), program.run(words, record))
     for source, values in PROGRAMS:
         yield f"values of {source[-40:]!r}", fault_of(done(values.encode()), program.run(["values"], source))
     answer = program.run(["profile", "--p", "1"], NO_COWNS)

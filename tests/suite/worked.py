@@ -20,8 +20,9 @@ QUESTIONS = [
     ("anomaly_two_workers.boc", ["sweep", "--p", "2"], "0 8\n1 9\n2 8\n3 8\n"),
     ("anomaly_two_workers.boc", ["sweep"], "0 8\n1 8\n2 6\n3 8\n"),
     ("anomaly_three_workers.boc", ["sweep", "--p", "3"], "0 9\n1 10\n2 9\n3 9\n4 9\n"),
-    ("scaling.boc", ["curve", "--p", "6"],
-     "work 1778\nspan 306\n1 1778 1778 2084\n2 988 889 1195\n3 740 593 898\n4 616 445 750\n5 538 356 661\n6 492 306 602\n"),
+    ("scaling.boc", ["curve", "--p", "10"],
+     "work 1778\nspan 245\n1 1778 1778 2023\n2 916 889 1134\n3 624 593 837\n4 480 445 689\n5 389 356 600\n6 318 297 541\n"
+     "7 299 254 499\n8 257 245 467\n9 248 245 442\n10 245 245 422\n"),
 ]
 
 # Programs and the values that they leave.

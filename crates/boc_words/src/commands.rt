@@ -43,23 +43,25 @@ Ticks are what a body's statements cost, and no time that passes.";
 // What the lines of a report say.
 const REPORT_LINES: &str =
     "The numbers `rows`, `work` and `span` come first, then the lines of `chain`, of `plan` and, with --p, of `greedy P`:
-  ROW LINK TICKS          a row of the chain, how it holds back the next one, and what it adds to the span
+  ROW LINK TICKS          a row of the chain, how it holds back the next one (spawn or order; end for the last), and what it adds to the span
   ROW START END           a row of the earliest plan
   ROW START END WORKER    a row of the greedy plan, and `end END bound BOUND` behind them
-All are ticks but the rows and the workers.";
+All are ticks but the rows and the workers, which count from 0. The span is the end of the earliest plan.";
 
 // What the lines of a curve say.
 const CURVE_LINES: &str =
-    "The numbers `work` and `span` come first, then a line P END LOW BOUND for each number of workers:
+    "The numbers `work`, the ticks of all rows, and `span`, the end of the earliest plan, come first; then a line P END LOW BOUND for
+each number of workers. The greedy plan gives the workers that are free at a tick the least rows that can start:
   END      when the greedy plan for P workers ends; it need not fall as P grows
   LOW      no plan for P workers ends sooner: the span, or the work divided by P, rounded up, if that is greater
   BOUND    that greedy plan ends no later: the work divided by P, rounded down, plus the span
-All are ticks but P.";
+All are ticks but P. `boc run` makes the record.";
 
 // What the lines of a sweep say.
 const SWEEP_LINES: &str =
-    "A line is ROW END: a row, and the tick at which the plan would end if that row alone took its least ticks. It is the
-earliest plan, whose end is the span, or with --p the greedy plan, which may end later though a row takes fewer ticks.";
+    "A line is ROW END: a row, and the tick at which the plan would end if that row alone took its least ticks, 1 or the offset of its
+last child. It is the earliest plan, whose end is the span, or with --p the greedy plan, which may end later though a row takes
+fewer ticks. `boc run` makes the record.";
 
 // Every command, in the order of help.
 //

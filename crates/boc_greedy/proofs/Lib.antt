@@ -26,3 +26,6 @@ pub mod FewMoments
 pub mod Alone
 pub mod Latest
 pub mod Curving
+pub mod Alike
+pub mod Forking
+pub mod Copying

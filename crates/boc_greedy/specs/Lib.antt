@@ -10,3 +10,4 @@ pub mod Plans
 pub mod Done
 pub mod Curves
 pub mod Known
+pub mod Courses

@@ -35,8 +35,8 @@ fn ends_of(alloc: Global, rows: &SeenRows, starts: &[u64]) -> Result<Vec<u64>, A
     Ok(ends)
 }
 
-// The tick at which a plan ends.
-fn latest_end(rows: &SeenRows, starts: &[u64]) -> u64
+/// The tick at which a plan ends.
+pub fn latest_end(rows: &SeenRows, starts: &[u64]) -> u64
     requires some { 0 < length rows.now }
     requires whole { length starts.now ≡ length rows.now }
     requires low { (r : ℕ) → r < length rows.now → end_of rows.now starts.now r < 2 ^ 64 }
@@ -69,11 +69,7 @@ fn simulated<'a>(
 {
     let mut simulation = Simulation::new(alloc, rows, waits, followers, family, p)?;
     simulation.give_all(rows)?;
-    while let Some((tick, row)) = simulation.next_change() {
-        simulation.advance(rows, tick, row);
-        simulation.change_all(rows);
-        simulation.give_all(rows)?;
-    }
+    simulation.finish(rows)?;
     Ok(simulation)
 }
 

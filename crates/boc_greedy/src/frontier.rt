@@ -1,7 +1,8 @@
 // Which rows can start, as rows are spawned, start and end.
 
-ghost use Rattle.std.specs.Prelude.{◌≡◌, ℕ, ◌≤◌, ◌<◌, ◌↔◌, ◌⊎◌, ◌∷◌, length, pred, replicate, slice_index, slice_set, IfOk, IfSome, IfNone};
+ghost use Rattle.std.specs.Prelude.{◌≡◌, ℕ, ◌≤◌, ◌<◌, ◌↔◌, ◌⊎◌, List, ◌∷◌, length, pred, replicate, slice_index, slice_set, IfOk, IfSome, IfNone};
 ghost use Rattle.boc_program.specs.declared.limits.TheConstants.{MOST_ROWS};
+ghost use Rattle.boc_runs.specs.declared.rows.Row.{Row};
 ghost use Rattle.boc_runs.specs.Rows.{IsRows};
 ghost use Rattle.boc_order.specs.Waits.{AreWaits, AreFollowers};
 ghost use Rattle.boc_greedy.specs.declared.frontier.RowState.TheVariants.{Unspawned, Waiting, UnderWay, Over};
@@ -68,6 +69,19 @@ impl<'a> Frontier<'a> {
             states,
             unmet,
             ready,
+        })
+    }
+
+    /// The same frontier once more. `AllocError` says that memory was refused.
+    pub fn copied(&self, alloc: Global) -> Result<Frontier<'_>, AllocError>
+        ensures kept { IfOk result (λ f. (rows : List Row) → IsFrontier rows self.now → IsFrontier rows f) }
+        ensures states { IfOk result (λ f. f.states.items ≡ self.now.states.items) }
+    {
+        Ok(Frontier {
+            followers: self.followers,
+            states: Vec::from_slice(alloc, &self.states)?,
+            unmet: Vec::from_slice(alloc, &self.unmet)?,
+            ready: self.ready.copied(alloc)?,
         })
     }
 

@@ -7,6 +7,7 @@
 mod bits;
 mod children;
 mod consequences;
+mod course;
 mod entry;
 mod frontier;
 pub mod laws;
@@ -16,6 +17,7 @@ mod row_set;
 mod simulation;
 
 pub use consequences::Consequences;
+pub use course::{Course, course_to, end_from};
 pub use entry::{greedy, greedy_end, greedy_over};
 pub use plan::Greedy;
 pub use points::{CurvePoint, curve, curve_over};

@@ -31,6 +31,18 @@ impl RowSet {
         })
     }
 
+    /// A set of the same rows. `AllocError` says that memory was refused.
+    pub fn copied(&self, alloc: Global) -> Result<RowSet, AllocError>
+        ensures set { IfOk result (λ s. IsRowSet self.now → IsRowSet s) }
+        ensures rows { IfOk result (λ s. (r : ℕ) → Has s r ↔ Has self.now r) }
+    {
+        Ok(RowSet {
+            rows: Vec::from_slice(alloc, &self.rows)?,
+            words: self.words,
+            top: self.top,
+        })
+    }
+
     /// Puts the row into the set.
     pub fn insert(&mut self, row: u32)
         requires set { IsRowSet self.old }

@@ -4,6 +4,7 @@ ghost use Rattle.std.specs.Prelude.{◌≡◌, ℕ, ◌+◌, ◌<◌, ◌≤◌,
 ghost use Rattle.std.specs.BinaryHeap.{heap_items};
 ghost use Rattle.boc_runs.specs.Rows.{IsRows};
 ghost use Rattle.boc_order.specs.Waits.{AreWaits, AreFollowers};
+ghost use Rattle.boc_greedy.specs.Done.{IsDone};
 ghost use Rattle.boc_greedy.specs.Families.{IsFamilyOf};
 ghost use Rattle.boc_greedy.specs.Queues.{IsQueue, IsIn, IsOnTop, IsPutOff};
 ghost use Rattle.boc_greedy.specs.Simulating.{later, IsLeastIdle, steps_of_all};
@@ -46,7 +47,7 @@ pub struct Simulation<'a> {
     /// The first change of each row, of those that are left.
     pub first: Vec<Change>,
     /// What rows come to while they are under way.
-    family: &'a Family,
+    pub family: &'a Family,
     /// For each row that is under way the tick at which it next spawns a child or ends. The earliest is on top.
     pub queue: BinaryHeap<Reverse<(u64, u32)>>,
     /// A bit for each worker, set for those that are idle.
@@ -202,5 +203,37 @@ impl<'a> Simulation<'a> {
         self.tick = tick;
         self.moments += 1;
         self.change(rows, row);
+    }
+    /// All that happens from here on before a tick.
+    pub fn go_to(&mut self, rows: &SeenRows, tick: u64) -> Result<(), AllocError>
+        requires shape { IsRows rows.now }
+        requires settled { IsSettled rows.now self.old }
+        ensures workers { self.new.p ≡ self.old.p }
+        ensures settled { OnOk result (IsSettled rows.now self.new) }
+    {
+        while let Some((next, row)) = self.next_change() {
+            if next >= tick {
+                return Ok(());
+            }
+            self.advance(rows, next, row);
+            self.change_all(rows);
+            self.give_all(rows)?;
+        }
+        Ok(())
+    }
+
+    /// All that happens from here on.
+    pub fn finish(&mut self, rows: &SeenRows) -> Result<(), AllocError>
+        requires shape { IsRows rows.now }
+        requires settled { IsSettled rows.now self.old }
+        requires some { 0 < self.old.p }
+        ensures { OnOk result (IsDone rows.now self.old.p self.new) }
+    {
+        while let Some((tick, row)) = self.next_change() {
+            self.advance(rows, tick, row);
+            self.change_all(rows);
+            self.give_all(rows)?;
+        }
+        Ok(())
     }
 }

@@ -1,16 +1,19 @@
 // The ends of greedy plans with one row after another at its least ticks.
 
-ghost use Rattle.std.specs.Prelude.{◌≡◌, ℕ, ◌<◌, ◌≤◌, ◌-◌, length, IfOk};
-ghost use Rattle.std.specs.List.{AllZip, range_with_len};
+ghost use Rattle.std.specs.Prelude.{◌≡◌, ℕ, ◌+◌, ◌*◌, ◌<◌, ◌≤◌, max, length, slice_index, IfOk, IfSome, IfNone};
+ghost use Rattle.boc_runs.specs.Rows.{ticks_of};
 ghost use Rattle.boc_plans.specs.Seen.{seen};
+ghost use Rattle.boc_plans.specs.Greedy.{IsSpan};
 ghost use Rattle.boc_plans.specs.Sweeps.{IsGreedySweep, IsLeastGreedyEnd};
 ghost use Rattle.boc_order.specs.Waits.{AreWaits};
+ghost use Rattle.boc_greedy.specs.Courses.{IsCourse};
 ghost use Rattle.boc_sweep.specs.Lasts.{HasLasts};
 ghost use Rattle.boc_whatif.specs.Parts.{AreParts};
+ghost use Rattle.boc_whatif.specs.Pieces.{AreEnds, IsPiece, ArePieces};
 
 use crate::telling::Progress;
-use boc_greedy::greedy_end;
-use boc_order::{Links, followers};
+use boc_greedy::{Consequences, Course, course_to, end_from, greedy_over};
+use boc_order::{Links, followers, work};
 use boc_plans::sharing::{SeenRows, Sharing};
 use boc_plans::workers::Workers;
 use boc_runs::rows::Rows;
@@ -22,35 +25,197 @@ use std::thread::Threads;
 // After so many plans it is told how far the sweep is.
 const STRETCH: u32 = 256;
 
+// So many neighbouring rows make a piece of a stretch: the plan of the rows as they are is made once for them, up to where the first of their
+// plans differs. Each stretch but the last has 16 pieces at least, which threads share out.
+const PIECE: usize = 16;
+
 /// What all plans of a sweep share.
 #[derive(Drop)]
 pub struct Parts<'a> {
     rows: &'a Rows,
     sharing: Sharing,
     workers: Workers,
-    // The rows that each row waits for, and those that wait for it.
+    // The rows that each row waits for, those that wait for it, and what follows from each.
     waits: &'a Links,
     followers: &'a Links,
+    consequences: &'a Consequences,
     // The offset of each row's last child.
     lasts: &'a [u32],
-    // The end of the plan of the rows as they are.
+    // The tick at which each row starts in the plan of the rows as they are, and the end of that plan.
+    starts: &'a [u64],
     end: u64,
 }
 
-// The end of the plan with one row at its least ticks. It is known where the row takes no more than these. Else the plan is made anew, and
-// before it when rows spawn and end, which the row's ticks are part of. No row is copied.
-fn least_end(alloc: Global, parts: &Parts<'_>, row: usize) -> Result<u64, AllocError>
+// The least ticks of a row that takes more. The plan of one that takes no more is that of the rows as they are.
+fn fewer_ticks(parts: &Parts<'_>, row: usize) -> Option<u32>
     requires there { row < length parts.now.rows.now }
     requires parts { AreParts parts.now }
-    ensures { IfOk result (IsLeastGreedyEnd (seen parts.now.sharing parts.now.rows.now) parts.now.workers row) }
+    ensures least { IfSome result (λ least. least ≡ max 1 (slice_index parts.now.lasts.now row)) }
+    ensures less { IfSome result (λ least. least ≤ ticks_of parts.now.rows.now row) }
+    ensures none { IfNone result (IsLeastGreedyEnd (seen parts.now.sharing parts.now.rows.now) parts.now.workers row parts.now.end) }
 {
     let rows = parts.rows.as_slice();
     let least = least_ticks(parts.lasts[row]);
     if rows[row].ticks == least {
-        return Ok(parts.end);
+        None
+    } else {
+        Some(least)
     }
-    let seen = SeenRows::with_ticks(parts.rows, parts.sharing, row as u32, least);
-    greedy_end(alloc, &seen, parts.waits, parts.followers, parts.workers)
+}
+
+// The end of the plan with one row at its least ticks. It is known where the row takes no more than these. Else the plan goes on from the
+// course, which is that of the rows as they are. No row is copied.
+fn least_end(
+    alloc: Global,
+    parts: &Parts<'_>,
+    course: &Course<'_>,
+    row: usize,
+) -> Result<u64, AllocError>
+    requires there { row < length parts.now.rows.now }
+    requires parts { AreParts parts.now }
+    requires course { IsCourse (seen parts.now.sharing parts.now.rows.now) parts.now.workers course.now }
+    ensures { IfOk result (IsLeastGreedyEnd (seen parts.now.sharing parts.now.rows.now) parts.now.workers row) }
+{
+    match fewer_ticks(parts, row) {
+        None => Ok(parts.end),
+        Some(least) => {
+            let rows = SeenRows::new(parts.rows, parts.sharing);
+            let number = row as u32;
+            let changed = SeenRows::with_ticks(parts.rows, parts.sharing, number, least);
+            end_from(
+                alloc,
+                course,
+                &rows,
+                &changed,
+                parts.waits,
+                parts.followers,
+                parts.workers,
+                number,
+                least,
+            )
+        }
+    }
+}
+
+// The first tick at which one of these rows would be over with its least ticks, of those that take more. Up to there the plan with any of
+// them at its least ticks is that of the rows as they are.
+fn first_over(parts: &Parts<'_>, from: usize, to: usize) -> Option<u64>
+    requires there { to ≤ length parts.now.rows.now }
+    requires parts { AreParts parts.now }
+    ensures { IfNone result ((row : ℕ) → from ≤ row → row < to
+        → IsLeastGreedyEnd (seen parts.now.sharing parts.now.rows.now) parts.now.workers row parts.now.end) }
+{
+    let mut first: Option<u64> = None;
+    for row in from..to {
+        if let Some(least) = fewer_ticks(parts, row) {
+            let over = parts.starts[row].saturating_add(u64::from(least));
+            first = Some(over.min(first.unwrap_or(over)));
+        }
+    }
+    first
+}
+
+// The ends for the rows from one on, up to another one, whose plans go on from a course.
+fn ends_along(
+    alloc: Global,
+    parts: &Parts<'_>,
+    course: &Course<'_>,
+    from: usize,
+    to: usize,
+) -> Result<Vec<u64>, AllocError>
+    requires order { from ≤ to }
+    requires there { to ≤ length parts.now.rows.now }
+    requires parts { AreParts parts.now }
+    requires course { IsCourse (seen parts.now.sharing parts.now.rows.now) parts.now.workers course.now }
+    ensures { IfOk result (λ ends. AreEnds (seen parts.now.sharing parts.now.rows.now) parts.now.workers from to ends.items) }
+{
+    let mut ends = Vec::with_capacity(alloc, to - from)?;
+    for row in from..to {
+        let end = least_end(alloc, parts, course, row)?;
+        ends.push(end)?;
+    }
+    Ok(ends)
+}
+
+// The ends for the rows of a piece, from one on, up to another one. The plan of the rows as they are is made once, up to where one of theirs
+// may differ. Where no plan is to be made it isn't.
+fn piece_ends(
+    alloc: Global,
+    parts: &Parts<'_>,
+    from: usize,
+    to: usize,
+) -> Result<Vec<u64>, AllocError>
+    requires order { from ≤ to }
+    requires there { to ≤ length parts.now.rows.now }
+    requires parts { AreParts parts.now }
+    ensures { IfOk result (λ ends. AreEnds (seen parts.now.sharing parts.now.rows.now) parts.now.workers from to ends.items) }
+{
+    match first_over(parts, from, to) {
+        None => vec![in alloc; parts.end; to - from],
+        Some(tick) => {
+            let rows = SeenRows::new(parts.rows, parts.sharing);
+            let course = course_to(
+                alloc,
+                &rows,
+                parts.waits,
+                parts.consequences,
+                parts.workers,
+                tick,
+            )?;
+            ends_along(alloc, parts, &course, from, to)
+        }
+    }
+}
+
+// The ends for the pieces of a stretch of rows, from one on, up to another one. Threads share them out, piece by piece.
+fn pieces_between(
+    rt: &(impl Threads + Sync),
+    alloc: Global,
+    parts: &Parts<'_>,
+    from: usize,
+    to: usize,
+) -> Result<Vec<Vec<u64>>, AllocError>
+    requires order { from ≤ to }
+    requires there { to ≤ length parts.now.rows.now }
+    requires parts { AreParts parts.now }
+    ensures { IfOk result (λ pieces. ArePieces (seen parts.now.sharing parts.now.rows.now) parts.now.workers from to pieces.items) }
+{
+    let count = (to - from).div_ceil(PIECE);
+    (0..count)
+        .into_par_iter()
+        .with_min_len(1)
+        .map(
+            |piece: usize| -> Result<Vec<u64>, AllocError>
+                requires { (from + piece * PIECE < to) × (to ≤ length parts.now.rows.now) × AreParts parts.now }
+                ensures { IfOk result (λ ends. IsPiece (seen parts.entry.now.sharing parts.entry.now.rows.now) parts.entry.now.workers
+                    from to piece ends.items) }
+            {
+                let begin = from + piece * PIECE;
+                piece_ends(alloc, parts, begin, to.min(begin + PIECE))
+            },
+        )
+        .collect::<Result<Vec<Vec<u64>>, AllocError>>(rt, alloc)?
+}
+
+// The ends for the rows of a stretch, from one on, up to another one: those of its pieces, one behind the other.
+fn ends_between(
+    rt: &(impl Threads + Sync),
+    alloc: Global,
+    parts: &Parts<'_>,
+    from: usize,
+    to: usize,
+) -> Result<Vec<u64>, AllocError>
+    requires order { from ≤ to }
+    requires there { to ≤ length parts.now.rows.now }
+    requires parts { AreParts parts.now }
+    ensures { IfOk result (λ ends. AreEnds (seen parts.now.sharing parts.now.rows.now) parts.now.workers from to ends.items) }
+{
+    let pieces = pieces_between(rt, alloc, parts, from, to)?;
+    let mut ends = Vec::with_capacity(alloc, to - from)?;
+    for piece in &pieces {
+        ends.extend_from_slice(piece)?;
+    }
+    Ok(ends)
 }
 
 // The row behind a stretch that begins with this one. A stretch has as many rows as it takes for so many plans, or all that are left.
@@ -60,42 +225,17 @@ fn behind_stretch(parts: &Parts<'_>, from: usize) -> usize
     ensures further { from < result }
     ensures within { result ≤ length parts.now.rows.now }
 {
-    let rows = parts.rows.as_slice();
+    let count = parts.rows.as_slice().len();
     let mut plans = 0;
-    for row in from..rows.len() {
-        if rows[row].ticks > least_ticks(parts.lasts[row]) {
+    for row in from..count {
+        if fewer_ticks(parts, row).is_some() {
             plans += 1;
         }
         if plans == STRETCH {
             return row + 1;
         }
     }
-    rows.len()
-}
-
-// The ends for the rows from one on, up to another one. Threads share them out, row by row.
-fn ends_between(
-    rt: &(impl Threads + Sync),
-    alloc: Global,
-    parts: &Parts<'_>,
-    from: usize,
-    to: usize,
-) -> Result<Vec<u64>, AllocError>
-    requires there { to ≤ length parts.now.rows.now }
-    requires parts { AreParts parts.now }
-    ensures { IfOk result (λ ends. AllZip (IsLeastGreedyEnd (seen parts.now.sharing parts.now.rows.now) parts.now.workers)
-        (range_with_len from (to - from)) ends.items) }
-{
-    (from..to)
-        .into_par_iter()
-        .with_min_len(1)
-        .map(
-            |row: usize| -> Result<u64, AllocError>
-                requires { (row < length parts.now.rows.now) × AreParts parts.now }
-                ensures { IfOk result (IsLeastGreedyEnd (seen parts.entry.now.sharing parts.entry.now.rows.now) parts.entry.now.workers row) }
-            { least_end(alloc, parts, row) },
-        )
-        .collect::<Result<Vec<u64>, AllocError>>(rt, alloc)?
+    count
 }
 
 // The ends for all rows, stretch by stretch.
@@ -122,7 +262,7 @@ fn all_ends(
 }
 
 /// For each row the end of the greedy plan for so many workers of the rows with that row alone at its least ticks, from the rows that
-/// each waits for and the offset of its last child. `AllocError` says that memory was refused.
+/// each waits for, the offset of its last child, and the span. `AllocError` says that memory was refused.
 pub fn least_ends(
     rt: &(impl Threads + Sync),
     alloc: Global,
@@ -130,24 +270,30 @@ pub fn least_ends(
     sharing: Sharing,
     waits: &Links,
     lasts: &[u32],
+    span: u64,
     workers: Workers,
     progress: &mut impl Progress,
 ) -> Result<Vec<u64>, AllocError>
     requires waits { AreWaits (seen sharing rows.now) waits.now }
     requires lasts { HasLasts rows.now lasts.now }
+    requires span { IsSpan (seen sharing rows.now) span }
     ensures { IfOk result (λ ends. IsGreedySweep (seen sharing rows.now) workers ends.items) }
 {
     let seen = SeenRows::new(rows, sharing);
     let followers = followers(alloc, waits)?;
-    let end = greedy_end(alloc, &seen, waits, &followers, workers)?;
+    let consequences = Consequences::of(alloc, &seen, waits)?;
+    let work = work(rows.as_slice());
+    let plan = greedy_over(alloc, &seen, waits, &consequences, workers, work, span)?;
     let parts = Parts {
         rows,
         sharing,
         workers,
         waits,
         followers: &followers,
+        consequences: &consequences,
         lasts,
-        end,
+        starts: &plan.starts,
+        end: plan.ends_at,
     };
     all_ends(rt, alloc, &parts, progress)
 }

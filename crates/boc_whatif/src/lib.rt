@@ -7,8 +7,9 @@
 //!
 //! An edit takes no memory, and time that grows with the number of rows behind its own: it computes its row and those
 //! after it again. Several edits that are made at once compute the least of their rows and those after it again, once. A
-//! sweep for spans computes no row again, and takes little more time than a plan. One for the ends of greedy plans takes that of a plan
-//! for each row.
+//! sweep for spans computes no row again, and takes little more time than a plan. One for the ends of greedy plans
+//! makes for each row the rest of a plan: up to where one of some neighbouring rows would be over their plans are the same, and that part is
+//! made once.
 #![tactic(auto)]
 
 mod edits;

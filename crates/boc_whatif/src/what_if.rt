@@ -242,8 +242,9 @@ impl WhatIf {
     /// For each row the end of the greedy plan that the rows would have for so many workers if that row alone took the least ticks that it
     /// can: the offset of its last child, and 1 at least. `AllocError` says that memory was refused.
     ///
-    /// It makes a greedy plan for each row that takes more than its least ticks. Threads share out the rows, and each plan takes memory that
-    /// grows with the number of rows. Progress is told after each 256 plans.
+    /// For each row that takes more than its least ticks it makes a greedy plan, but what the plans of some neighbouring rows have in common
+    /// with that of the rows as they are it makes once. Threads share out the rows, and each takes memory that grows with the number of
+    /// rows. Progress is told after each 256 plans.
     pub fn greedy_sweep(
         &self,
         rt: &(impl Threads + Sync),
@@ -254,6 +255,7 @@ impl WhatIf {
         ensures sweep { IfOk result (λ ends. IsGreedySweep (seen self.now.sharing self.now.rows) workers ends.items) }
         ensures few { IfOk result (λ ends. length ends.items ≤ MOST_ROWS) }
     {
+        let span = self.span();
         least_ends(
             rt,
             alloc,
@@ -261,6 +263,7 @@ impl WhatIf {
             self.sharing,
             &self.waits,
             &self.lasts,
+            span,
             workers,
             progress,
         )

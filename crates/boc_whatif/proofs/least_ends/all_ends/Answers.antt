@@ -1,10 +1,9 @@
-use Rattle.std.proofs.Common.{◌≡◌, ℕ, ◌+◌, ◌-◌, ◌≤◌, List, ◌++◌, length, sym, ◌∙◌, ap, subst, arith}
-use Rattle.std.specs.List.{AllZip, range_with_len}
+use Rattle.std.proofs.Common.{◌≡◌, ℕ, List, ◌++◌, length, sym, ◌∙◌, ap, subst, arith}
 use Rattle.boc_runs.specs.declared.rows.Row.{Row}
 use Rattle.boc_plans.specs.Seen.{seen}
-use Rattle.boc_plans.specs.Sweeps.{IsLeastGreedyEnd}
 use Rattle.boc_plans.proofs.Seeing.{length-seen}
-use Rattle.boc_whatif.proofs.Ends.{AreFirstEnds, with_next, longer, all_of}
+use Rattle.boc_whatif.specs.Pieces.{AreEnds}
+use Rattle.boc_whatif.proofs.Ends.{both, all_of}
 use Rattle.boc_whatif.proofs.least_ends.all_ends.Goals as goal
 
 pub returns : goal.returns
@@ -12,7 +11,7 @@ returns g c =
     let parts = c.args.parts.now in
     let i = c.loop-done.invariant in
     let count : length c.as_slice-count.result.now ≡ length parts.rows.now = ap (length {A = Row}) c.as_slice-count.ensures.same in
-    all_of _ _ _ i.first (omega (arith, i.so_many, c.loop-done-test.false, count, length-seen parts.sharing parts.rows.now))
+    all_of _ _ _ _ i.ends (omega (arith, i.within, c.loop-done-test.false, count, length-seen parts.sharing parts.rows.now))
 
 pub loop-done-preserved : goal.loop-done-preserved
 loop-done-preserved g c =
@@ -21,16 +20,10 @@ loop-done-preserved g c =
     let all : List Row = seen parts.sharing parts.rows.now in
     let before : List ℕ = c.loop-done.all.items in
     let more : List ℕ = c.in_ok-ends.ends.items in
-    let n : ℕ = c.behind_stretch-next.result - c.loop-done.done in
-    let count : length c.as_slice-count.result.now ≡ length parts.rows.now = ap (length {A = Row}) c.as_slice-count.ensures.same in
-    let there : length before + n ≤ length all =
-    omega (arith, i.so_many, c.behind_stretch-next.ensures.further, c.behind_stretch-next.ensures.within, length-seen parts.sharing parts.rows.now) in
-    let next : AllZip (IsLeastGreedyEnd all parts.workers) (range_with_len (length before) n) more =
-    subst (λ (k : ℕ). AllZip (IsLeastGreedyEnd all parts.workers) (range_with_len k n) more) (sym i.so_many) c.in_ok-ends.ensures in
     let items : c.extend_from_slice.new.self.items ≡ before ++ more =
     c.in_ok-extend_from_slice.ensures.items ∙ ap (λ (l : List ℕ). before ++ l) c.deref.ensures.value in
-    let long = longer all parts.workers before more n i.first there next in
     record {
-      so_many = omega (arith, ap (length {A = ℕ}) items, long, i.so_many, c.behind_stretch-next.ensures.further);
-      first = subst (AreFirstEnds all parts.workers) (sym items) (with_next all parts.workers before more n i.first there next);
+      within = c.behind_stretch-next.ensures.within;
+      ends = subst (AreEnds all parts.workers 0 c.behind_stretch-next.result) (sym items)
+          (both all parts.workers 0 c.loop-done.done c.behind_stretch-next.result before more i.ends c.in_ok-ends.ensures);
     }

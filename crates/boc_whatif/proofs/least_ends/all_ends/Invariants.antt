@@ -1,13 +1,13 @@
-use Rattle.std.proofs.Common.{◌≡◌, ◌-◌, length}
+use Rattle.std.proofs.Common.{◌≤◌, ◌-◌, length}
 use Rattle.boc_plans.specs.Seen.{seen}
-use Rattle.boc_whatif.proofs.Ends.{AreFirstEnds}
+use Rattle.boc_whatif.specs.Pieces.{AreEnds}
 use Rattle.boc_whatif.proofs.least_ends.all_ends.Given as goal
 
--- the ends of the rows that are done
+-- the ends for the rows that are done
 abbrev pub invariant-loop-done : goal.invariant-loop-done
 invariant-loop-done g l = record {
-  so_many : length l.all.items ≡ l.done;
-  first : AreFirstEnds (seen l.parts.sharing l.parts.rows.now) l.parts.workers l.all.items;
+  within : l.done ≤ length l.parts.rows.now;
+  ends : AreEnds (seen l.parts.sharing l.parts.rows.now) l.parts.workers 0 l.done l.all.items;
 }
 
 abbrev pub decreases-loop-done : goal.decreases-loop-done

@@ -1,29 +1,31 @@
-use Rattle.std.proofs.Common.{ℕ, ◌<◌, ◌∙◌, List, length, subst, arith, IfOk}
-use Rattle.std.specs.List.{AllZip}
-use Rattle.std.specs.declared.alloc.AllocError.{AllocError}
-use Rattle.std.specs.declared.result.Result.{Result}
-use Rattle.rayon.specs.Numbers.{nat_range}
-use Rattle.rayon.proofs.ToStd.{nat_range-All}
+use Rattle.std.proofs.Common.{◌≡◌, ℕ, ◌+◌, ◌*◌, ◌<◌, List, ◌++◌, get_or, length, ◌∙◌, refl, sym, ap, subst, arith}
+use Rattle.std.specs.Prelude.{min, slice_get, Some}
+use Rattle.std.specs.declared.alloc.Global.{Global}
+use Rattle.std.specs.declared.vec.Vec.{Vec}
+use Rattle.std.proofs.lemmas.Option.{slice_get_read}
+use Rattle.boc_runs.specs.declared.rows.Row.{Row}
 use Rattle.boc_plans.specs.Seen.{seen}
-use Rattle.boc_plans.specs.Sweeps.{IsLeastGreedyEnd}
-use Rattle.boc_plans.proofs.Numbered.{gathered}
+use Rattle.boc_whatif.specs.declared.least_ends.TheConstants.{PIECE}
+use Rattle.boc_whatif.specs.Pieces.{AreEnds}
+use Rattle.boc_whatif.proofs.Ends.{one_piece_more}
 use Rattle.boc_whatif.proofs.least_ends.ends_between.Goals as goal
 
--- the closure's `requires` at each row
-pub collect-requires-clause-ready : goal.collect-requires-clause-ready
-collect-requires-clause-ready g c κs within =
-    let ends = c.into_par_iter.ensures in
-    let inside = nat_range-All (λ (row : ℕ). row < length c.args.parts.now.rows.now) c.args.from c.args.to
-    (λ row low high. omega (arith, high, c.requires.there)) in
-    rw (c.map.ensures.base, c.map.ensures.f, c.with_min_len.ensures.base, ends.0, ends.1) (λ k d lt. ((inside k d lt, c.requires.parts), λ y p. tt))
-
-pub returns : goal.returns
-returns g c =
-    let ends = c.into_par_iter.ensures in
+pub loop-piece-preserved : goal.loop-piece-preserved
+loop-piece-preserved g c =
     let parts = c.args.parts.now in
-    let all = seen parts.sharing parts.rows.now in
-    let h = c.in_ok-collect.ensures in
-    let chain = rw (c.map.ensures.base, c.map.ensures.f, c.with_min_len.ensures.base) at h.1 in
-    let places = chain.1 ∙ (λ i. nat_range (ends.0 i) (ends.1 i)) in
-    let each = subst (λ (l : List ℕ). AllZip (λ (row : ℕ) (r : Result ℕ AllocError). IfOk r (IsLeastGreedyEnd all parts.workers row)) l h.0) places chain.2 in
-    gathered (IsLeastGreedyEnd all parts.workers) _ h.0 c.in_ok-collect.field-0 each h.2
+    let p : ℕ = parts.workers in
+    let from : ℕ = c.args.from in
+    let to : ℕ = c.args.to in
+    let all : List Row = seen parts.sharing parts.rows.now in
+    let i : ℕ = c.loop-piece.piece-index in
+    let before : List ℕ = c.loop-piece.ends.items in
+    let pieces : List (Vec ℕ Global) = c.in_ok-pieces.pieces.items in
+    let piece : Vec ℕ Global = c.piece-item.result in
+    let same : c.deref-piece-items.result.now ≡ pieces = c.deref-piece-items.ensures.value in
+    let there : i < length pieces = omega (arith, c.loop-piece-test.true, ap (length {A = Vec ℕ Global}) same) in
+    let read : slice_get pieces i ≡ Some piece =
+    slice_get_read pieces _ i piece refl there (c.piece-item.is ∙ ap (λ (l : List (Vec ℕ Global)). get_or l i piece) same) in
+    let items : c.extend_from_slice.new.self.items ≡ before ++ piece.items =
+    c.in_ok-extend_from_slice.ensures.items ∙ ap (λ (l : List ℕ). before ++ l) c.deref.ensures.value in
+    subst (AreEnds all p from (min to (from + (i + 1) * PIECE))) (sym items)
+    (one_piece_more all p from to i before piece.items c.loop-piece.invariant (c.in_ok-pieces.ensures.at i piece read))

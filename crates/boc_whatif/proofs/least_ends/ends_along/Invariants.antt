@@ -1,0 +1,7 @@
+use Rattle.boc_plans.specs.Seen.{seen}
+use Rattle.boc_whatif.specs.Pieces.{AreEnds}
+use Rattle.boc_whatif.proofs.least_ends.ends_along.Given as goal
+
+-- the ends for the rows so far
+abbrev pub invariant-loop-row : goal.invariant-loop-row
+invariant-loop-row l = AreEnds (seen l.parts.sharing l.parts.rows.now) l.parts.workers l.fn.from l.row l.ends.items

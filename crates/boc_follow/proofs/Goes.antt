@@ -21,7 +21,7 @@ use Rattle.boc_follow.specs.Following.{IsFollowing}
 use Rattle.boc_follow.specs.Standings.{Standing, standing_in, standing_of, underway_if, with_one_more, started_in, over_in, written_if}
 use Rattle.boc_follow.specs.Standings.{written_by, written_at, next_of, EndsSo, CanStart, CanWrite, NoChild, IsChild}
 use Rattle.boc_follow.proofs.Besides.{config_more, run_more, same_count, may_start}
-use Rattle.boc_follow.proofs.Members.{AllFit, all_fit, values_length}
+use Rattle.boc_machine_laws.proofs.Members.{AllFit, all_fit, values_length}
 use Rattle.boc_follow.proofs.Standing.{wish_of_running, running_wishes, standings_spawned, standings_started, standings_ended}
 use Rattle.boc_follow.proofs.Standing.{can_start, can_write, can_end, ends_so, stands_of}
 

@@ -1,6 +1,5 @@
 pub mod Changes
 pub mod Outputs
-pub mod Members
 pub mod Besides
 pub mod Nexts
 pub mod Wishing

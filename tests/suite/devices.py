@@ -17,7 +17,8 @@ from .worked import GREEDY, PROFILE
 # The commands that read a program, and those that read a record.
 OF_PROGRAMS = [["values"], ["run"], ["time"], ["time", "--workers", "4", "--p", "2"]]
 OF_RECORDS = [["check"], ["profile"], ["profile", "--p", "2"], ["whatif"], ["whatif", "--p", "2", "2=1"], ["curve"], ["sweep"],
-              ["sweep", "--p", "2"]]
+              ["sweep", "--p", "2"], ["sweep", "--cowns"], ["sweep", "--cowns", "--p", "2"], ["sweep", "--spawns"],
+              ["whatif", "--without", "1", "2@3", "2=1/2"]]
 
 
 def source_of(program, words):

@@ -92,9 +92,14 @@ def records_of_all_sizes(program):
         yield from edits(program, name, source, rows)
         yield from many_edits(program, name, source, rows)
         yield from many_workers(program, name, source, rows)
+        yield from sweeps_of_changes(program, name, source, cowns, rows)
+        if rows[0].ticks <= 333333:
+            yield from changes(program, name, source, rows)
     rows = tower(100)
     yield from answers(program, "a tower of 100", tower_text(rows), rows, (1, 2, 64), model.sweep(rows))
     yield from edits(program, "a tower of 100", tower_text(rows), rows)
+    yield from changes(program, "a tower of 100", tower_text(rows), rows)
+    yield from sweeps_of_changes(program, "a tower of 100", tower_text(rows), 1, rows)
     yield from many_workers(program, "a tower of 100", tower_text(rows), rows)
 
 
@@ -118,6 +123,24 @@ def many_edits(program, name, source, rows):
     yield f"{name}: {len(rows)} edits", fault_of(done(model.report(after, 2)), program.run(words, source))
 
 
+def changes(program, name, source, rows):
+    """Main at three times its cost and at half of that, and the last row, spawned at the least and at the latest tick that it then can be."""
+    last = len(rows) - 1
+    after, words = model.scaled(model.scaled(rows, 0, 3, 1), 0, 1, 2), ["whatif", "--p", "3", "0=3/1", "0=1/2"]
+    for offset in (model.least_offsets(after)[last], model.most_offset(after, last)) if last else ():
+        words.append(f"{last}@{offset}")
+        after = model.moved(after, last, offset)
+    yield f"{name}: {words}", fault_of(done(model.report(after, 3)), program.run(words, source))
+
+
+def sweeps_of_changes(program, name, source, cowns, rows):
+    """The sweeps over cowns and spawns."""
+    yield f"{name}: cowns", fault_of(done(model.cown_sweep(rows, cowns)), program.run(["sweep", "--cowns"], source))
+    answer = program.run(["sweep", "--cowns", "--p", "2"], source)
+    yield f"{name}: cowns for 2 workers", fault_of(done(model.cown_sweep(rows, cowns, 2)), answer)
+    yield f"{name}: spawns", fault_of(done(model.spawn_sweep(rows)), program.run(["sweep", "--spawns"], source))
+
+
 def many_workers(program, name, source, rows):
     """The curve up to as many workers as there may be, and sweeps for few workers and for many."""
     yield f"{name}: curve", fault_of(done(model.curve(rows)), program.run(["curve"], source))
@@ -130,15 +153,31 @@ def records_of_most_rows(program):
     """As many rows as there may be, apart from one another, all over one cown, and with 8 cowns each."""
     rows = fan(MOST_ROWS)
     yield from answers(program, "most rows", fan_text(0, rows), rows, (1, 64), model.sweep_of_apart(rows))
+    yield from early_spawns(program, "most rows", fan_text(0, rows), rows)
     rows = fan(MOST_ROWS, lambda number: (0,), lambda number: 2, main_ticks=1000000)
     yield from answers(program, "most rows over one cown", fan_text(1, rows), rows, (1, 64), None)
+    yield from early_spawns(program, "most rows over one cown", fan_text(1, rows), rows)
+    for words in (["sweep", "--cowns"], ["sweep", "--cowns", "--p", "64"]):
+        expected = model.cown_sweep(rows, 1, 64 if "--p" in words else None)
+        yield f"most rows over one cown: {words}", fault_of(done(expected), program.run(words, fan_text(1, rows)))
     rows = fan(MOST_ROWS, eight_shifted, lambda number: 1 + number % 3)
     yield from answers(program, "most rows with 8 cowns each", fan_text(256, rows), rows, (1, 64), None)
     yield from edits(program, "most rows with 8 cowns each", fan_text(256, rows), rows)
+    yield from changes(program, "most rows with 8 cowns each", fan_text(256, rows), rows)
+    answer = program.run(["whatif", "0=16/1"], fan_text(256, rows))
+    yield "most rows with 8 cowns each, too costly", fault_of(refused(3, "boc: edit 1: 3 TooManyTicks"), answer)
     answer = program.run(["curve", "--p", "3"], fan_text(256, rows))
     yield "most rows with 8 cowns each: curve", fault_of(done(model.curve(rows, 3)), answer)
     rows = tower(MOST_ROWS)
     yield from answers(program, "a tower of most rows", tower_text(rows), rows, (1, 64), None)
+
+
+def early_spawns(program, name, source, rows):
+    """Where each row is spawned as early as it can be already, no spawn is worth more than another."""
+    assert model.least_offsets(rows) == [row.offset for row in rows]
+    span = model.span(rows)
+    expected = model.text(f"{number} {span}" for number in range(1, len(rows)))
+    yield f"{name}: spawns", fault_of(done(expected), program.run(["sweep", "--spawns"], source))
 
 
 def records_of_lengths(program):

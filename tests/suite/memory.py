@@ -8,7 +8,7 @@ import tempfile
 from . import model
 from .records import fan, fan_text
 from .running import MEMORY, Answer, done, fault_of, refused
-from .worked import CURVE, GREEDY, PROFILE, SHORTER, SHORTER_GREEDY, VALUES
+from .worked import CURVE, GREEDY, PROFILE, SHORTER, SHORTER_GREEDY, VALUES, WITHOUT_A
 
 REFUSE = os.path.join(os.path.dirname(os.path.dirname(os.path.abspath(__file__))), "refuse.c")
 
@@ -54,13 +54,25 @@ def runs(program):
     yield ["sweep"], fan_text(3, MANY), done(model.sweep(MANY))
     yield ["sweep", "--p", "1"], record, done(b"0 11\n1 10\n2 9\n3 10\n")
     yield ["sweep", "--p", "2"], fan_text(3, MANY), done(model.greedy_sweep(MANY, 2))
+    yield ["sweep", "--cowns"], record, done(b"0 8\n1 7\n")
+    yield ["sweep", "--cowns"], fan_text(3, MANY), done(model.cown_sweep(MANY, 3))
+    yield ["sweep", "--cowns", "--p", "1"], record, done(b"0 11\n1 11\n")
+    yield ["sweep", "--cowns", "--p", "2"], fan_text(3, MANY), done(model.cown_sweep(MANY, 3, 2))
+    yield ["sweep", "--spawns"], record, done(b"1 8\n2 9\n3 9\n")
+    yield ["sweep", "--spawns"], fan_text(3, MANY), done(model.spawn_sweep(MANY))
+    yield ["whatif", "--without", "0"], record, done(WITHOUT_A.encode())
+    yield ["whatif", "--without", "0", "--without", "0", "2=1/1", "2@3", "3=2"], record, done(WITHOUT_A.encode())
+    yield ["whatif", "--without", "2"], record, refused(3, "boc: without 1: 6 NoCown")
+    yield ["whatif", "2@3", "2@9"], record, refused(3, "boc: edit 2: 5 NotBetween")
+    yield ["whatif", "--without", "x"], b"", program.run(["whatif", "--without", "x"])
+    yield ["sweep", "--spawns", "--p", "2"], b"", program.run(["sweep", "--spawns", "--p", "2"])
     yield ["--help"], b"", program.run(["--help"])
     yield ["whatif", "--help"], b"", program.run(["whatif", "--help"])
     yield ["--p", "65"], b"", program.run(["--p", "65"])
     yield ["values"], b"main { x = 1; }", refused(3, "boc: line 1: 5 UnknownName")
     yield ["check"], record + b"x", refused(3, "boc: line 15: 12 After")
     yield ["whatif", "2=1", "4=1"], record, refused(3, "boc: edit 2: 1 NoRow")
-    yield ["whatif", "2=01"], record, Answer(2, b"", b"boc: edit 1: not ROW=TICKS\n")
+    yield ["whatif", "2=01"], record, Answer(2, b"", b"boc: edit 1: not ROW=TICKS\n     an edit is ROW=TICKS, ROW@OFFSET or ROW=K/D\n")
 
 
 def cases(program):

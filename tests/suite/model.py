@@ -156,6 +156,54 @@ def least_ticks(rows):
     return least
 
 
+def moved(rows, number, offset):
+    """The rows with one of them spawned at this tick of its parent."""
+    return rows[:number] + [rows[number]._replace(offset=offset)] + rows[number + 1:]
+
+
+def scaled(rows, number, over, under):
+    """The rows of which one costs over / under of what it did, and spawns its children so much sooner or later."""
+    rows, last = list(rows), 0
+    for child in range(number + 1, len(rows)):
+        if rows[child].parent == number:
+            last = max(-(-rows[child].offset * over // under), last + 1)
+            rows[child] = rows[child]._replace(offset=last)
+    ticks = max(1, -(-rows[number].ticks * over // under), last)
+    return edited(rows, number, ticks)
+
+
+def without(rows, cown):
+    """The rows, none of which has this cown."""
+    return [row._replace(cowns=tuple(other for other in row.cowns if other != cown)) for row in rows]
+
+
+def least_offsets(rows):
+    """For each row the earliest tick of its parent that it can be spawned at: behind its elder sibling. Main has none."""
+    least, last = [0], [0] * len(rows)
+    for row in rows[1:]:
+        least.append(last[row.parent] + 1)
+        last[row.parent] = row.offset
+    return least
+
+
+def most_offset(rows, number):
+    """The latest tick of its parent that a row can be spawned at: before its younger sibling, or the parent's last."""
+    younger = [row.offset - 1 for row in rows[number + 1:] if row.parent == rows[number].parent]
+    return min(younger + [rows[rows[number].parent].ticks])
+
+
+def cown_sweep(rows, count, workers=None):
+    """The text of the sweep over so many cowns, for the span, or by greedy plans where a number of workers is given."""
+    left = [without(rows, cown) for cown in range(count)]
+    return text(f"{cown} {greedy_end(those, workers) if workers else span(those)}" for cown, those in enumerate(left))
+
+
+def spawn_sweep(rows):
+    """The text of the sweep over spawns, each of its lines computed from scratch."""
+    least = least_offsets(rows)
+    return text(f"{number} {span(moved(rows, number, least[number]))}" for number in range(1, len(rows)))
+
+
 def sweep(rows):
     """The text of the sweep over rows, each of its lines computed from scratch."""
     least = least_ticks(rows)

@@ -129,6 +129,7 @@ def greedy_plans(program):
         if record_of(rows) is not None:
             made += 1
             yield from plans_of(program, f"random rows {made}", rows, [chance.randint(1, 8)])
+            yield from changes_of(program, chance, f"random rows {made}", rows)
 
 
 def plans_of(program, name, rows, workers):
@@ -138,8 +139,40 @@ def plans_of(program, name, rows, workers):
         yield f"{name}, {number} workers", fault_of(expected, program.run(["profile", "--p", str(number)], source))
         swept = program.run(["sweep", "--p", str(number)], source)
         yield f"{name}, swept for {number} workers", fault_of(done(model.greedy_sweep(rows, number)), swept)
+        freed = program.run(["sweep", "--cowns", "--p", str(number)], source)
+        yield f"{name}, its cowns swept for {number} workers", fault_of(done(model.cown_sweep(rows, 4, number)), freed)
+    freed = program.run(["sweep", "--cowns"], source)
+    yield f"{name}, its cowns swept", fault_of(done(model.cown_sweep(rows, 4)), freed)
+    moved = program.run(["sweep", "--spawns"], source)
+    yield f"{name}, its spawns swept", fault_of(done(model.spawn_sweep(rows)), moved)
     drawn = program.run(["curve", "--p", "8"], source)
     yield f"{name}, up to 8 workers", fault_of(done(model.curve(rows, 8)), drawn)
+
+
+def changes_of(program, chance, name, rows):
+    """The report on rows of which up to two cowns are left out and some are edited, by chance."""
+    words, after = ["whatif", "--p", "2"], rows
+    for cown in chance.sample(range(4), chance.randrange(3)):
+        words += ["--without", str(cown)]
+        after = model.without(after, cown)
+    for _ in range(chance.randint(1, 5)):
+        word, after = random_edit(chance, after)
+        words.append(word)
+    answer = program.run(words, record_of(rows))
+    yield f"{name}: {' '.join(words)}", fault_of(done(model.report(after, 2)), answer)
+
+
+def random_edit(chance, rows):
+    """The word of an edit that fits, of one of the three kinds, and the rows after it."""
+    number, kind = chance.randrange(len(rows)), chance.choice("=@/")
+    if kind == "=":
+        ticks = model.least_ticks(rows)[number] + chance.choice([0, 0, 1, 2, 5, 9])
+        return f"{number}={ticks}", model.edited(rows, number, ticks)
+    if kind == "@" and number:
+        offset = chance.randint(model.least_offsets(rows)[number], model.most_offset(rows, number))
+        return f"{number}@{offset}", model.moved(rows, number, offset)
+    over, under = chance.randint(1, 9), chance.randint(1, 9)
+    return f"{number}={over}/{under}", model.scaled(rows, number, over, under)
 
 
 def fault_of_wide_sweep(program):

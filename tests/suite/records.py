@@ -77,3 +77,8 @@ def lines_text(lines):
 def with_line(number, line):
     """The text of the transfer's record with another line in this place, counted from 1."""
     return lines_text(TRANSFER[:number - 1] + [line] + TRANSFER[number:])
+
+
+# A run in which main spawns the rows 1 to 3, and row 2 the rows 4 and 5. No row has the cown 2.
+FAMILY = lines_text(["boc 2 3", "+ 0 0 0", "> 0", "+ 1 0 2 0", "+ 2 0 4 0 1", "+ 3 0 9 1", "< 0 12 0", "> 1", "< 1 5 0 0", "> 2", "+ 4 2 3 0",
+                     "+ 5 2 4 1", "< 2 7 0 1", "> 3", "< 3 4 0", "> 4", "< 4 6 0 0", "> 5", "< 5 1 0 1", "."])

@@ -131,13 +131,52 @@ EDITS = [
     (["2=1", "4=1"], "boc: edit 2: 1 NoRow"),
     (["2=1", "0=3", "4=1"], "boc: edit 2: 2 BelowSpawn"),
     (["--p", "2", "2=1", "3=1", "1=1000001"], "boc: edit 3: 3 TooManyTicks"),
+    (["4@0"], "boc: edit 1: 1 NoRow"),
+    (["4294967295@1"], "boc: edit 1: 1 NoRow"),
+    (["4=1/2"], "boc: edit 1: 1 NoRow"),
+    (["0@0"], "boc: edit 1: 4 NoParent"),
+    (["0@2"], "boc: edit 1: 4 NoParent"),
+    (["1@0"], "boc: edit 1: 5 NotBetween"),
+    (["1@3"], "boc: edit 1: 5 NotBetween"),
+    (["2@2"], "boc: edit 1: 5 NotBetween"),
+    (["2@4"], "boc: edit 1: 5 NotBetween"),
+    (["3@3"], "boc: edit 1: 5 NotBetween"),
+    (["3@5"], "boc: edit 1: 5 NotBetween"),
+    (["3@1000001"], "boc: edit 1: 5 NotBetween"),
+    (["3@4294967295"], "boc: edit 1: 5 NotBetween"),
+    (["0=9", "3@10"], "boc: edit 2: 5 NotBetween"),
+    (["1@1", "2@1"], "boc: edit 2: 5 NotBetween"),
+    # The parent may be shortened only down to where the child has gone, and costs are edits like others.
+    (["0=9", "3@9", "0=8"], "boc: edit 3: 2 BelowSpawn"),
+    (["0=2/1", "3@8", "2@6", "1@5", "1@6"], "boc: edit 5: 5 NotBetween"),
+    (["0=2/1", "0=7"], "boc: edit 2: 2 BelowSpawn"),
+    (["0=1/2", "0=3", "0=2"], "boc: edit 3: 2 BelowSpawn"),
+    (["2=1000/1", "2=1000/1"], "boc: edit 2: 3 TooManyTicks"),
+    (["2=333334", "2=3/1"], "boc: edit 2: 3 TooManyTicks"),
+    (["2=500001", "2=2/1", "2=1"], "boc: edit 2: 3 TooManyTicks"),
+    (["--without", "2"], "boc: without 1: 6 NoCown"),
+    (["--without", "4294967295"], "boc: without 1: 6 NoCown"),
+    (["--without", "1", "--without", "256", "--without", "2"], "boc: without 2: 6 NoCown"),
+    (["--without", "1", "4=1"], "boc: edit 1: 1 NoRow"),
+    # A cown is judged before every edit, wherever it stands.
+    (["4=1", "--without", "2"], "boc: without 1: 6 NoCown"),
+    (["--p", "2", "2=1", "4=1", "--without", "0", "--without", "2"], "boc: without 2: 6 NoCown"),
+]
+
+# Sweeps and edits of a text that is no record's are refused for that, and not for what would be wrong with a cown or an edit.
+OF_NO_RECORD = [
+    ["sweep", "--cowns"],
+    ["sweep", "--cowns", "--p", "2"],
+    ["sweep", "--spawns"],
+    ["whatif", "--without", "9", "9=1"],
+    ["whatif", "0@0", "9=1/2"],
 ]
 
 DOWN = b"cown a = 0; def down(n; x) { x = x + 1; if n > 1 { when down(n - 1; x); } } main { when down(%d; a); }"
 
 READ_PROGRAMS = [["values"], ["run"], ["time", "--workers", "4", "--p", "2"]]
 
-READ_RECORDS = [["check"], ["profile"], ["profile", "--p", "2"], ["whatif", "2=1"], ["sweep"]]
+READ_RECORDS = [["check"], ["profile"], ["profile", "--p", "2"], ["whatif", "2=1"], ["sweep"], *OF_NO_RECORD]
 
 
 def cases(program):

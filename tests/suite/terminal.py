@@ -12,9 +12,13 @@ from .running import Answer, done, fault_of
 ROWS = 6000
 WORDS = ["sweep", "--p", "2"]
 
+# A sweep over as many cowns as there may be.
+COWNS = 256
+COWN_WORDS = ["sweep", "--cowns", "--p", "4"]
+
 # The line goes back to its beginning and wipes what stood there.
 WIPE = b"\r\x1b[K"
-LINE = re.compile(rb"(\d+) of %d rows(, \d+ s left)?" % ROWS)
+LINE = rb"(\d+) of %d done(, \d+ s left)?"
 
 
 def cases(program):
@@ -23,22 +27,31 @@ def cases(program):
     yield "no terminal", fault_of(done(whole.output if whole else b""), whole)
     answer, seconds = run_on_terminal(program, WORDS, source)
     yield "a sweep by greedy plans", fault_of(whole, answer._replace(errors=b""))
-    yield "how far it is", fault_of_lines(answer.errors, seconds)
+    yield "how far it is", fault_of_lines(answer.errors, seconds, ROWS)
     answer, _ = run_on_terminal(program, ["sweep"], source)
     yield "a sweep by earliest plans", None if answer.status == 0 and not answer.errors else f"it wrote {answer.errors}"
+    answer, _ = run_on_terminal(program, ["sweep", "--cowns"], source)
+    yield "a sweep over cowns by earliest plans", None if answer.status == 0 and not answer.errors else f"it wrote {answer.errors}"
+    source = fan_text(COWNS, fan(ROWS, lambda number: (number % COWNS,), lambda number: 1 + number % 4))
+    whole = program.run(COWN_WORDS, source)
+    yield "a sweep over cowns, no terminal", fault_of(done(whole.output if whole else b""), whole)
+    answer, seconds = run_on_terminal(program, COWN_WORDS, source)
+    yield "a sweep over cowns", fault_of(whole, answer._replace(errors=b""))
+    yield "how far it is over cowns", fault_of_lines(answer.errors, seconds, COWNS)
     answer, _ = run_on_terminal(program, WORDS, source[:-1])
     yield "a fault", None if answer.errors.startswith(b"boc: line ") else f"it wrote {answer.errors}"
 
 
-def fault_of_lines(errors, seconds):
-    """Each line wipes the one before, tells more rows, and comes a tenth of a second later or more; at the end the last one is wiped."""
+def fault_of_lines(errors, seconds, of):
+    """Each line wipes the one before, tells more rows or cowns of so many, and comes a tenth of a second later or more; at the end the last one
+    is wiped."""
     first, *lines = errors.split(WIPE)
-    found = [LINE.fullmatch(line) for line in lines[:-1]]
+    found = [re.fullmatch(LINE % of, line) for line in lines[:-1]]
     if first or not found or None in found or lines[-1]:
         return f"{errors[:200]} was written"
-    rows = [int(line[1]) for line in found]
-    if rows != sorted(set(rows)) or rows[-1] >= ROWS:
-        return f"the rows are {rows}"
+    told = [int(line[1]) for line in found]
+    if told != sorted(set(told)) or told[-1] >= of:
+        return f"it told {told}"
     return None if len(found) <= seconds * 10 + 1 else f"{len(found)} lines were written in {seconds} seconds"
 
 

@@ -45,6 +45,20 @@ SHARED_GREEDY = """greedy 2
 end 13 bound 22
 """
 
+# The report where the cown orders nobody.
+FREED = """rows 4
+work 20
+span 10
+chain
+0 spawn 3
+2 end 7
+plan
+0 0 4
+1 2 9
+2 3 10
+3 4 6
+"""
+
 # The same text in version 1, in which rows count as having written all their cowns.
 READERS_OF_1 = lines_text(["boc 1 1", "+ 0 0 0", "> 0", "+ 1 0 2 0", "+ 2 0 3 0", "+ 3 0 4 0", "< 0 4 0", "> 1", "< 1 7 0", "> 2",
                            "< 2 7 0", "> 3", "< 3 2 0", "."])
@@ -64,6 +78,14 @@ READ = [
     (READERS, ["curve", "--p", "3", "--shared-reads"], "work 20\nspan 12\n1 20 20 32\n2 13 12 22\n3 12 12 18\n"),
     (READERS, ["sweep", "--p", "2"], "0 18\n1 12\n2 12\n3 17\n"),
     (READERS, ["sweep", "--p", "2", "--shared-reads"], "0 13\n1 12\n2 11\n3 12\n"),
+    (READERS, ["sweep", "--cowns"], "0 10\n"),
+    (READERS, ["sweep", "--cowns", "--shared-reads"], "0 10\n"),
+    (READERS, ["sweep", "--cowns", "--p", "2", "--shared-reads"], "0 11\n"),
+    (READERS, ["sweep", "--spawns"], "1 17\n2 18\n3 18\n"),
+    (READERS, ["sweep", "--spawns", "--shared-reads"], "1 12\n2 12\n3 12\n"),
+    (READERS, ["whatif", "--without", "0", "--shared-reads"], FREED),
+    (READERS, ["whatif", "--without", "0"], FREED),
+    (READERS, ["whatif", "--shared-reads", "2=1/7", "2=7/1"], SHARED),
     (PEEKS, ["run"], READERS.decode()),
     (PEEKS, ["time"], model.report(READERS_ROWS).decode()),
     (PEEKS, ["time", "--shared-reads", "--p", "2"], SHARED + SHARED_GREEDY),

@@ -1,6 +1,6 @@
-"""The words of the command line: calls for help, numbers of workers, edits, and words that are refused."""
+"""The words of the command line: calls for help, numbers of workers, cowns, edits, and words that are refused."""
 from .running import Answer, done, fault_of
-from .worked import CURVE, GREEDY, PROFILE, SHORTER, SHORTER_GREEDY
+from .worked import CURVE, GREEDY, PROFILE, SHORTER, SHORTER_GREEDY, WITHOUT_A
 
 HELP = [["--help"], ["-h"], ["values", "--help"], ["check", "--help"], ["run", "--help"], ["profile", "--help"],
         ["time", "--help"], ["whatif", "--help"], ["curve", "--help"], ["sweep", "--help"], ["help"], ["help", "whatif"]]
@@ -13,8 +13,15 @@ TAKEN = [
     (["whatif", "--", "2=1"], SHORTER),
     (["whatif", "2=1", "--shared-reads"], SHORTER),
     (["whatif", "2=3", "--p", "2", "--", "2=1"], SHORTER + SHORTER_GREEDY),
+    (["whatif", "--without=0"], WITHOUT_A),
+    (["whatif", "--without", "+0"], WITHOUT_A),
+    (["whatif", "--without", "000", "--without", "0"], WITHOUT_A),
+    (["whatif", "2=1/1", "--without", "0", "--", "2@3"], WITHOUT_A),
+    (["whatif", "2=1000/1000", "2=1/1000"], SHORTER),
     (["curve", "--p=+3", "--shared-reads"], CURVE),
     (["sweep", "--p", "002"], "0 9\n1 8\n2 7\n3 8\n"),
+    (["sweep", "--p=+2", "--cowns"], "0 9\n1 7\n"),
+    (["sweep", "--shared-reads", "--cowns"], "0 8\n1 7\n"),
 ]
 
 # Words that ask for a run.
@@ -39,6 +46,37 @@ REFUSED = [
     ["sweep", "2=1"],
     ["sweep", "--p", "0"],
     ["sweep", "--p", "65"],
+    ["sweep", "--cowns", "--spawns"],
+    ["sweep", "--spawns", "--cowns"],
+    ["sweep", "--spawns", "--p", "2"],
+    ["sweep", "--p", "2", "--cowns", "--spawns"],
+    ["sweep", "--spawns", "--p", "65"],
+    ["sweep", "--cowns", "--cowns"],
+    ["sweep", "--spawns", "--spawns"],
+    ["sweep", "--cowns=1"],
+    ["sweep", "--cowns", "0"],
+    ["sweep", "--cown"],
+    ["sweep", "--without", "0"],
+    ["profile", "--cowns"],
+    ["profile", "--without", "0"],
+    ["curve", "--spawns"],
+    ["check", "--without", "0"],
+    ["time", "--without", "0"],
+    ["whatif", "--cowns"],
+    ["whatif", "--spawns"],
+    ["whatif", "--without"],
+    ["whatif", "--without", ""],
+    ["whatif", "--without", "a"],
+    ["whatif", "--without", "-1"],
+    ["whatif", "--without=-1"],
+    ["whatif", "--without", "4294967296"],
+    ["whatif", "--without", "0,1"],
+    ["whatif", "--without", "1.0"],
+    ["whatif", "--without", " 1"],
+    ["whatif", "--without", "1=1"],
+    ["whatif", "--without", b"1\xff"],
+    # Such a value is told before an edit that is misspelt.
+    ["whatif", "x", "--without", "0", "--without", "b"],
     ["curve", "--p", "0"],
     ["curve", "--p", "65"],
     ["curve", "2=1"],
@@ -79,7 +117,7 @@ REFUSED = [
     [b"\xff"],
 ]
 
-# Edits that are no ROW=TICKS, and the number of the first.
+# Edits that are none, and the number of the first.
 MISSPELT = [
     (["2=01", "0=0"], 1),
     (["1=1", "x"], 2),
@@ -103,7 +141,44 @@ MISSPELT = [
     (["9=1", "3=x", "y"], 2),
     (["--p", "2", "2=1", "2=1", "x"], 3),
     (["--", "-1=2"], 1),
+    (["2@"], 1),
+    (["@2"], 1),
+    (["2@03"], 1),
+    (["02@3"], 1),
+    (["2@+3"], 1),
+    (["2@@3"], 1),
+    (["2@3@3"], 1),
+    (["2=1@3"], 1),
+    (["2@3=1"], 1),
+    (["2@1/2"], 1),
+    (["2@4294967296"], 1),
+    (["4294967296@2"], 1),
+    (["2=/2"], 1),
+    (["2=1/"], 1),
+    (["2=/"], 1),
+    (["/2"], 1),
+    (["1/2"], 1),
+    (["2/1=2"], 1),
+    (["2=1/2/3"], 1),
+    (["2=01/2"], 1),
+    (["2=1/02"], 1),
+    (["2=+1/2"], 1),
+    (["2=1/ 2"], 1),
+    (["02=1/2"], 1),
+    (["2=0/1"], 1),
+    (["2=1/0"], 1),
+    (["2=0/0"], 1),
+    (["2=1001/1"], 1),
+    (["2=1/1001"], 1),
+    (["2=4294967297/1"], 1),
+    (["2=0.5"], 1),
+    (["2@3", "2=1/2", "2:1"], 3),
+    # The spelling is judged before the record, and before cowns and edits that it doesn't fit.
+    (["--without", "9", "9=1", "x"], 2),
+    (["x", "--without", "4294967295"], 1),
 ]
+
+MISSPELT_TEXT = b"boc: edit %d: not ROW=TICKS\n     an edit is ROW=TICKS, ROW@OFFSET or ROW=K/D\n"
 
 
 def cases(program):
@@ -118,7 +193,7 @@ def cases(program):
     for words in REFUSED:
         yield f"refused {words}", fault_of_refusal(program.run(words, record))
     for edits, number in MISSPELT:
-        expected = Answer(2, b"", b"boc: edit %d: not ROW=TICKS\n" % number)
+        expected = Answer(2, b"", MISSPELT_TEXT % number)
         for source in (record, b"no record"):
             answer = program.run(["whatif", *edits], source)
             yield f"misspelt {edits}", fault_of(expected, answer)

@@ -1,28 +1,138 @@
-"""Worked examples: programs with their values, and the record of a run with its report, edits and sweep."""
+"""Worked examples: programs with their values, and records of runs with their reports, edits and sweeps."""
 from . import model, records
 from .running import done, fault_of
 
 VALUES = {
     "accounts.boc": "account[0] 20\naccount[1] 250\nrefused 2\n",
+    "anomaly_cown.boc": "a 0\n",
     "anomaly_three_workers.boc": "a 0\nb 0\n",
     "anomaly_two_workers.boc": "",
+    "bank.boc": "acct[0] 191\nacct[1] 111\nacct[2] 53\nacct[3] 65\nacct[4] 190\nacct[5] 202\nacct[6] 110\nacct[7] 1\nacct[8] 101\n"
+                "acct[9] 112\nacct[10] 27\nacct[11] 37\nlog 24\ntotal 2400\n",
     "transfer.boc": "a 12\nb 4\n",
     "countdown.boc": "a 3\n",
     "four_squares.boc": "c[0] 1\nc[1] 4\nc[2] 9\nc[3] 16\n",
     "overflow.boc": "a 9223372036854775807\n",
+    "pipeline.boc": "parser 12\nchecker 234\npricer 126\nstore 126\n",
     "same_cown_twice.boc": "a 10\nb 0\n",
     "scaling.boc": "log 24\n",
     "two_orders.boc": "a 2\nb 1\np 0\nq 0\n",
 }
+
+
+def sweep_lines(numbers, most_often, others):
+    """The lines of a sweep: the end that is told most often, and the others by their numbers."""
+    return "".join(f"{number} {others.get(number, most_often)}\n" for number in numbers)
+
 
 # Questions about the run of an example by one thread, with the lines that its comment speaks of.
 QUESTIONS = [
     ("anomaly_two_workers.boc", ["sweep", "--p", "2"], "0 8\n1 9\n2 8\n3 8\n"),
     ("anomaly_two_workers.boc", ["sweep"], "0 8\n1 8\n2 6\n3 8\n"),
     ("anomaly_three_workers.boc", ["sweep", "--p", "3"], "0 9\n1 10\n2 9\n3 9\n4 9\n"),
+    ("anomaly_cown.boc", ["sweep", "--cowns", "--p", "3"], "0 8\n"),
+    ("anomaly_cown.boc", ["sweep", "--cowns"], "0 7\n"),
+    ("anomaly_cown.boc", ["sweep", "--p", "3"], "0 7\n1 7\n2 7\n3 7\n"),
+    ("bank.boc", ["sweep"],
+     sweep_lines(range(29), 798, {0: 827, 1: 803, 13: 796, 14: 796, 21: 800, 26: 827, 27: 823, 28: 796})),
+    ("bank.boc", ["sweep", "--cowns"], sweep_lines(range(14), 827, {2: 823, 3: 797, 12: 437, 13: 791})),
+    ("bank.boc", ["sweep", "--cowns", "--p", "4"], sweep_lines(range(14), 827, {2: 823, 3: 797, 12: 467, 13: 791})),
+    ("bank.boc", ["sweep", "--cowns", "--shared-reads"], sweep_lines(range(14), 827, {2: 797, 3: 797, 12: 437, 13: 763})),
+    ("bank.boc", ["sweep", "--spawns"], sweep_lines(range(1, 29), 827, {1: 817})),
+    ("pipeline.boc", ["sweep"], sweep_lines(range(37), 279, {36: 272})),
+    ("pipeline.boc", ["sweep", "--cowns"], "0 277\n1 279\n2 219\n3 279\n"),
+    ("pipeline.boc", ["sweep", "--cowns", "--p", "4"], "0 309\n1 279\n2 219\n3 279\n"),
+    ("pipeline.boc", ["sweep", "--spawns"], sweep_lines(range(1, 37), 279, {1: 275, 14: 277, 15: 268, 36: 271})),
+    ("scaling.boc", ["sweep", "--cowns"], "0 134\n"),
+    ("same_cown_twice.boc", ["sweep", "--cowns"], "0 2\n1 2\n"),
+    ("same_cown_twice.boc", ["sweep", "--spawns"], ""),
+    ("anomaly_two_workers.boc", ["sweep", "--cowns"], ""),
+    ("anomaly_two_workers.boc", ["sweep", "--spawns"], "1 8\n2 6\n3 8\n"),
     ("scaling.boc", ["curve", "--p", "10"],
      "work 1778\nspan 245\n1 1778 1778 2023\n2 916 889 1134\n3 624 593 837\n4 480 445 689\n5 389 356 600\n6 318 297 541\n"
      "7 299 254 499\n8 257 245 467\n9 248 245 442\n10 245 245 422\n"),
+]
+
+# All transfers of the bank, and all prices of the pipeline, at half their cost.
+TRANSFERS = [f"{row}=1/2" for row in range(1, 27) if row not in (13, 14)]
+PRICES = [f"{row}=1/2" for row in (15, 19, 23, 27, 31, 35)]
+
+# What is left of the work and the span of the run of an example by one thread where cowns are left out and rows are edited.
+LEFT = [
+    ("bank.boc", [], 1001, 827),
+    ("bank.boc", ["--without", "12"], 1001, 437),
+    ("bank.boc", TRANSFERS, 643, 483),
+    ("bank.boc", ["--without", "12", *TRANSFERS], 643, 309),
+    ("bank.boc", [*TRANSFERS, "--without", "12", "--without=13"], 643, 259),
+    ("pipeline.boc", PRICES, 495, 200),
+    ("pipeline.boc", ["--without", "2"], 609, 219),
+    ("pipeline.boc", ["15@1"], 609, 268),
+    ("pipeline.boc", ["15=1/2"], 590, 267),
+    ("pipeline.boc", ["15=38"], 609, 279),
+]
+
+# The same of the family.
+FAMILY_LEFT = [
+    ([], 35, 20),
+    (["--without", "0"], 35, 16),
+    (["--without", "0", "--without", "0"], 35, 16),
+    (["--without", "2"], 35, 20),
+    (["--without", "1", "--without", "0"], 35, 13),
+    (["1@1"], 35, 19),
+    (["2@3"], 35, 20),
+    (["2@8", "3@12"], 35, 21),
+    (["3@12", "2@11"], 35, 24),
+    (["5@7"], 35, 20),
+    (["0=14", "3@14"], 37, 20),
+    (["3@5", "0=5"], 28, 20),
+    (["4@2", "5@3", "2=3"], 31, 16),
+    (["2=1/1"], 35, 20),
+    (["2=1/2"], 32, 17),
+    (["2=3/2"], 39, 24),
+    # The offsets 3 and 4 would both be 1, and the ticks 2: the second child is spawned at 2.
+    (["2=1/4"], 30, 15),
+    (["2=1/1000"], 30, 15),
+    (["2=7", "2=1/2"], 32, 17),
+    (["2=1/2", "2=7"], 35, 20),
+    (["2=5/7", "4=1/6"], 28, 17),
+    (["0=1/3"], 27, 19),
+    (["0=1000/1"], 12023, 12000),
+]
+
+# Without the cown 1, and with row 2 spawned sooner and at half its cost.
+FAMILY_CHANGED = """rows 6
+work 32
+span 17
+chain
+0 spawn 2
+1 order 5
+2 order 4
+4 end 6
+plan
+0 0 12
+1 2 7
+2 7 11
+3 9 13
+4 11 17
+5 10 11
+greedy 2
+0 0 12 0
+1 2 7 1
+2 7 11 1
+3 11 15 1
+4 12 18 0
+5 15 16 1
+end 18 bound 33
+"""
+
+FAMILY_COMMANDS = [
+    (["sweep"], "0 20\n1 17\n2 17\n3 20\n4 19\n5 20\n"),
+    (["sweep", "--cowns"], "0 16\n1 20\n2 20\n"),
+    (["sweep", "--cowns", "--p", "2"], "0 19\n1 20\n2 20\n"),
+    (["sweep", "--p", "1", "--cowns"], "0 35\n1 35\n2 35\n"),
+    (["sweep", "--spawns"], "1 19\n2 20\n3 20\n4 20\n5 20\n"),
+    (["whatif", "--p", "2", "--without", "1", "2@3", "2=1/2"], FAMILY_CHANGED),
+    (["whatif", "2@3", "2=1/2", "--without=1", "--p=2"], FAMILY_CHANGED),
 ]
 
 # Programs and the values that they leave.
@@ -104,6 +214,21 @@ plan
 3 5 10
 """
 
+# Where a orders nobody, row 2 begins as soon as it is spawned.
+WITHOUT_A = """rows 4
+work 11
+span 8
+chain
+0 spawn 3
+2 order 3
+3 end 2
+plan
+0 0 4
+1 2 4
+2 3 6
+3 6 8
+"""
+
 CURVE = "work 11\nspan 9\n1 11 11 20\n2 9 9 14\n3 9 9 12\n"
 
 COMMANDS = [
@@ -120,11 +245,20 @@ COMMANDS = [
     (["whatif", "3=5", "2=1"], TWO_EDITS),
     (["whatif", "--p", "2", "2=1"], SHORTER + SHORTER_GREEDY),
     (["whatif", "2=1", "--p", "2"], SHORTER + SHORTER_GREEDY),
+    (["whatif", "--without", "0"], WITHOUT_A),
+    (["whatif", "2=1/3"], SHORTER),
+    (["whatif", "2=1/1", "3@4", "1@2"], PROFILE),
     (["curve", "--p", "3"], CURVE),
     (["curve", "--p", "3", "--shared-reads"], CURVE),
     (["sweep"], "0 9\n1 8\n2 7\n3 8\n"),
     (["sweep", "--p", "1"], "0 11\n1 10\n2 9\n3 10\n"),
     (["sweep", "--shared-reads", "--p", "2"], "0 9\n1 8\n2 7\n3 8\n"),
+    (["sweep", "--cowns"], "0 8\n1 7\n"),
+    (["sweep", "--cowns", "--p", "1"], "0 11\n1 11\n"),
+    (["sweep", "--cowns", "--p", "2"], "0 9\n1 7\n"),
+    (["sweep", "--cowns", "--shared-reads"], "0 8\n1 7\n"),
+    (["sweep", "--spawns"], "1 8\n2 9\n3 9\n"),
+    (["sweep", "--shared-reads", "--spawns"], "1 8\n2 9\n3 9\n"),
 ]
 
 # Numbers of threads; none is one.
@@ -141,6 +275,13 @@ def cases(program):
     for name, words, lines in QUESTIONS:
         record = program.run(["run"], program.example(name)).output
         yield f"{' '.join(words)} of a run of {name}", fault_of(done(lines.encode()), program.run(words, record))
+    for name, words, work, span in LEFT:
+        record = program.run(["run"], program.example(name)).output
+        yield f"whatif {' '.join(words)} of a run of {name}", fault_of_left(program, words, record, work, span)
+    for words, work, span in FAMILY_LEFT:
+        yield f"whatif {' '.join(words)} of the family", fault_of_left(program, words, records.FAMILY, work, span)
+    for words, text in FAMILY_COMMANDS:
+        yield f"{' '.join(words)} of the family", fault_of(done(text.encode()), program.run(words, records.FAMILY))
     for source, values in PROGRAMS:
         yield f"values of {source[-40:]!r}", fault_of(done(values.encode()), program.run(["values"], source))
     answer = program.run(["profile", "--p", "1"], NO_COWNS)
@@ -162,6 +303,15 @@ def cases(program):
     yield "the model's curve", None if model.curve(ROWS, 3) == CURVE.encode() else "it is another"
     yield "64 points of a curve", fault_of(done(model.curve(ROWS)), program.run(["curve"], record))
     yield "the model's sweep", None if model.sweep(ROWS) == b"0 9\n1 8\n2 7\n3 8\n" else "it is another"
+
+
+def fault_of_left(program, words, record, work, span):
+    """The lines that tell the work and the span of changed rows."""
+    answer = program.run(["whatif", *words], record)
+    if answer is None or answer.status != 0 or answer.errors:
+        return f"it answered {answer}"
+    lines = answer.output.decode().splitlines()[1:3]
+    return None if lines == [f"work {work}", f"span {span}"] else f"it told {lines}"
 
 
 def fault_of_record(program, answer):

@@ -10,11 +10,11 @@ const PAUSE: u64 = 100;
 // Goes back to the beginning of the line, and wipes it.
 const WIPE: &str = "\r\x1b[K";
 
-/// Tells how many rows are done of how many, and how long the rest may take. Where standard error is no terminal it tells nothing.
+/// Tells how many rows or cowns are done of how many, and how long the rest may take. Where standard error is no terminal it tells nothing.
 #[derive(Drop)]
 pub(crate) struct Meter {
     rt: HostRuntime,
-    // When it was first told of rows that are done, and of how many.
+    // When it was first told of some that are done, and of how many.
     first: Option<(Instant, usize)>,
     // When the line was written, counted from then; none where no line stands.
     written: Option<Duration>,
@@ -37,8 +37,8 @@ impl Meter {
         }
     }
 
-    // Writes the line anew, unless that was done just now. So much time has passed for so many rows since the first call.
-    fn write(&mut self, passed: Duration, since: usize, rows: usize, of: usize) {
+    // Writes the line anew, unless that was done just now. So much time has passed for so many since the first call.
+    fn write(&mut self, passed: Duration, since: usize, done: usize, of: usize) {
         let rt = self.rt;
         let is_due = match self.written {
             None => true,
@@ -46,35 +46,35 @@ impl Meter {
         };
         if is_due {
             self.written = Some(passed);
-            let _ = match seconds_left(passed, since, of.saturating_sub(rows)) {
-                Some(left) => eprint!(rt; "{WIPE}{rows} of {of} rows, {left} s left"),
-                None => eprint!(rt; "{WIPE}{rows} of {of} rows"),
+            let _ = match seconds_left(passed, since, of.saturating_sub(done)) {
+                Some(left) => eprint!(rt; "{WIPE}{done} of {of} done, {left} s left"),
+                None => eprint!(rt; "{WIPE}{done} of {of} done"),
             };
         }
     }
 }
 
 impl Progress for Meter {
-    fn done(&mut self, rows: usize, of: usize) {
+    fn done(&mut self, done: usize, of: usize) {
         let rt = self.rt;
-        if rows == of {
+        if done == of {
             self.wipe();
         } else if rt.stderr().is_terminal()
             && let Ok(now) = Instant::now(&rt)
         {
-            let (begun, before) = *self.first.get_or_insert((now, rows));
+            let (begun, before) = *self.first.get_or_insert((now, done));
             self.write(
                 now.duration_since(begun),
-                rows.saturating_sub(before),
-                rows,
+                done.saturating_sub(before),
+                done,
                 of,
             );
         }
     }
 }
 
-// How many seconds the rows that are left may take, where so many took so long, rounded up.
-fn seconds_left(passed: Duration, rows: usize, left: usize) -> Option<u128> {
+// How many seconds those that are left may take, where so many took so long, rounded up.
+fn seconds_left(passed: Duration, done: usize, left: usize) -> Option<u128> {
     let millis = passed.as_millis().saturating_mul(left as u128);
-    Some(millis.checked_div(rows as u128)?.div_ceil(1000))
+    Some(millis.checked_div(done as u128)?.div_ceil(1000))
 }

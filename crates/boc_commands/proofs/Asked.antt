@@ -11,7 +11,7 @@ use Rattle.boc_commands.specs.Faults.{gone_of, of_write}
 use Rattle.boc_text.specs.Writing.{Writes}
 use Rattle.boc_text.specs.declared.fault.WriteFault.{WriteFault}
 use Rattle.boc_text.specs.declared.fault.WriteFault.TheVariants as writes
-use Rattle.std.specs.Prelude.{IfSome, Some, None}
+use Rattle.std.specs.Prelude.{◌<◌, All, IfSome, Some, None}
 use Rattle.std.specs.Io.KnownBytes.{Consumes, IsAtEnd}
 use Rattle.boc_commands.specs.Commands.{AnswersInput, Leaves, LeavesAfter}
 use Rattle.boc_runs.specs.declared.rows.Row.{Row}
@@ -23,7 +23,9 @@ use Rattle.boc_order.specs.Profiles.{IsProfileOf}
 use Rattle.boc_greedy.specs.declared.plan.Greedy.{Greedy}
 use Rattle.boc_report.specs.Parts.{part_of}
 use Rattle.boc_commands.specs.Answers.{AreSwept, IsAskedPart, IsCheckAnswer, IsReport, IsProfileAnswer, IsWhatIfAnswer, IsCurveAnswer, IsSweepAnswer}
-use Rattle.boc_plans.specs.Edits.{AllFit, all_edited}
+use Rattle.boc_commands.specs.Answers.{first_of, without_all}
+use Rattle.boc_plans.specs.declared.sweep.Sweep.{Sweep}
+use Rattle.boc_plans.specs.Edits.{AreEdited}
 use Rattle.boc_plans.specs.Greedy.{IsSpan}
 use Rattle.boc_plans.specs.Plans.{work_of}
 use Rattle.boc_greedy.specs.Curves.{IsCurve}
@@ -35,17 +37,17 @@ use Rattle.boc_record.specs.RecordTexts.{IsTextOf}
 use Rattle.boc_record.specs.Reading.{TakesRecord}
 
 -- the answer, from the rows that were asked about and those after the edits
-pub answered : (edits : List Edit) (sharing kept : Sharing) (asked : Option ℕ) (text : List ℕ) (r : Recorded) (before after : List Row) (made output : List ℕ)
-    → IsTextOf text r
-    → before ≡ r.rows → AllFit before edits → after ≡ all_edited before edits → kept ≡ sharing → IsReport (seen kept after) asked made → output ≡ made
-    → IsWhatIfAnswer edits sharing asked text output
-answered edits sharing kept asked input r before after made output spells same fit edited way report text = record {
+pub answered : (cowns : List ℕ) (edits : List Edit) (sharing kept : Sharing) (asked : Option ℕ) (text : List ℕ) (r : Recorded)
+    (before after : List Row) (made output : List ℕ) → IsTextOf text r → All (λ c. c < r.cowns) cowns
+    → before ≡ without_all cowns r.rows → AreEdited before edits after → kept ≡ sharing → IsReport (seen kept after) asked made → output ≡ made
+    → IsWhatIfAnswer cowns edits sharing asked text output
+answered cowns edits sharing kept asked input r before after made output spells known same edited way report text = record {
   recorded = r;
   spells = spells;
-  fit = subst (λ rows. AllFit rows edits) same fit;
-  report = subst (λ t. IsReport (seen sharing (all_edited r.rows edits)) asked t) (sym text)
-      (subst (λ rows. IsReport (seen sharing rows) asked made) (edited ∙ ap (λ rows. all_edited rows edits) same)
-      (subst (λ s. IsReport (seen s after) asked made) way report));
+  known = known;
+  after = after;
+  edited = subst (λ rows. AreEdited rows edits after) same edited;
+  report = subst (λ t. IsReport (seen sharing after) asked t) (sym text) (subst (λ s. IsReport (seen s after) asked made) way report);
 }
 
 -- the answer of a curve, from the rows that plans were made for
@@ -63,15 +65,16 @@ drawn sharing kept most input r rows work span points read made output spells sa
 }
 
 -- the answer of a sweep, from the rows that were swept
-pub swept : (sharing kept : Sharing) (asked : Option ℕ) (input : List ℕ) (r : Recorded) (rows : List Row) (ends read made output : List ℕ) → IsTextOf input r
-    → rows ≡ r.rows → kept ≡ sharing → AreSwept (seen kept rows) asked ends → read ≡ ends → made ≡ sweep_lines 0 read → output ≡ made
-    → IsSweepAnswer sharing asked input output
-swept sharing kept asked input r rows ends read made output spells same way sweep are text is = record {
+pub swept : (sharing kept : Sharing) (over : Sweep) (input : List ℕ) (r : Recorded) (rows : List Row) (count first : ℕ) (ends read : List ℕ)
+    → IsTextOf input r → rows ≡ r.rows → count ≡ r.cowns → kept ≡ sharing → AreSwept (seen kept rows) count over ends → read ≡ ends → first ≡ first_of over
+    → IsSweepAnswer sharing over input (sweep_lines first read)
+swept sharing kept over input r rows count first ends read spells same many way sweep are from = record {
   recorded = r;
   spells = spells;
   ends = ends;
-  sweep = subst (λ s. AreSwept (seen s r.rows) asked ends) way (subst (λ xs. AreSwept (seen kept xs) asked ends) same sweep);
-  text = is ∙ text ∙ ap (sweep_lines 0) are;
+  sweep = subst (λ n. AreSwept (seen sharing r.rows) n over ends) many
+      (subst (λ s. AreSwept (seen s r.rows) count over ends) way (subst (λ xs. AreSwept (seen kept xs) count over ends) same sweep));
+  text = ap (sweep_lines first) are ∙ ap (λ n. sweep_lines n ends) from;
 }
 
 -- the sink failed after a beginning of the answer

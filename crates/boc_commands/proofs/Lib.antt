@@ -1,4 +1,5 @@
 pub mod Asked
+pub mod Freed
 pub mod Promised
 pub mod Passed
 pub mod OneProgram

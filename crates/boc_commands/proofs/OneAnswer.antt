@@ -6,26 +6,33 @@ use Rattle.boc_runs.specs.declared.rows.Row.{Row}
 use Rattle.boc_plans.specs.declared.sharing.Sharing.{Sharing}
 use Rattle.boc_runs.specs.OwnOrder.{EndsWith}
 use Rattle.boc_runs.specs.Records.{Recorded, IsRecord}
-use Rattle.boc_runs.specs.Rows.{IsRows, edited}
+use Rattle.boc_runs.specs.Rows.{IsRows}
+use Rattle.boc_runs.specs.Changes.{without}
 use Rattle.boc_plans.specs.Seen.{seen}
 use Rattle.boc_plans.specs.Plans.{work_of, HasEnds, IsEnd}
 use Rattle.boc_plans.specs.Chains.{IsPicked}
-use Rattle.boc_plans.specs.Edits.{AllFit, all_edited}
+use Rattle.boc_plans.specs.declared.edit.Change.{Change}
+use Rattle.boc_plans.specs.declared.edit.Change.TheVariants.{Ticks, Offset, Cost}
+use Rattle.boc_plans.specs.declared.sweep.Sweep.{Sweep}
+use Rattle.boc_plans.specs.declared.sweep.Sweep.TheVariants.{Ticks as TicksOf, Cowns, Spawns}
+use Rattle.boc_plans.specs.Edits.{AreEdited, IsChanged}
 use Rattle.boc_plans.specs.Greedy.{IsSpan}
 use Rattle.boc_greedy.specs.Curves.{IsCurve}
 use Rattle.boc_commands.specs.Answers.{AreSwept, IsAskedPart, IsGreedyPart, IsReport, IsValuesAnswer, IsCheckAnswer, IsProfileAnswer, IsWhatIfAnswer}
-use Rattle.boc_commands.specs.Answers.{IsCurveAnswer, IsSweepAnswer}
+use Rattle.boc_commands.specs.Answers.{IsCurveAnswer, IsSweepAnswer, first_of, without_all}
 use Rattle.boc_commands.specs.ValueTexts.{values_text, check_text}
 use Rattle.boc_report.specs.Texts.{report_text, greedy_text, curve_text, sweep_lines}
-use Rattle.boc_runs.proofs.Editing.{rows_edited}
+use Rattle.boc_runs.proofs.Freeing.{rows_without}
+use Rattle.boc_runs.proofs.Scaling.{one_scaling}
 use Rattle.boc_runs.proofs.OwnOrders.{ends_once}
 use Rattle.boc_plans.proofs.Seeing.{rows_seen}
 use Rattle.boc_rules.proofs.Finished.{is_rows}
 use Rattle.boc_rules.proofs.Next.{well_log}
 use Rattle.boc_record.proofs.OneFault.{one_record}
-use Rattle.boc_order.proofs.Alone.{one_bound, one_chain, one_end, one_list_of_ends, one_plan, one_span, one_sweep}
+use Rattle.boc_order.proofs.Alone.{one_bound, one_chain, one_end, one_list_of_ends, one_plan, one_span, one_sweep, one_cown_sweep, one_spawn_sweep}
 use Rattle.boc_greedy.proofs.Alone.{one_greedy_plan}
-use Rattle.boc_greedy.proofs.Curving.{one_curve, one_greedy_sweep}
+use Rattle.boc_greedy.proofs.Curving.{one_curve, one_greedy_cown_sweep, one_greedy_sweep}
+use Rattle.boc_whatif.proofs.Changing.{changed_rows}
 use Rattle.boc_reader.proofs.Spellings.{one_program}
 use Rattle.boc_commands.proofs.OneProgram.{same_program}
 
@@ -63,9 +70,27 @@ rows_are : (r : Recorded) → IsRecord r → IsRows r.rows
 rows_are r is = is_rows r.cowns _ r.rows is.few (well_log r.cowns r.events is.legal) is.complete is.rows_are
 
 -- the rows after edits that fit
-rows_after : (rows : List Row) → IsRows rows → (edits : List Edit) → AllFit rows edits → IsRows (all_edited rows edits)
-rows_after rows hr [] fit = hr
-rows_after rows hr (edit ∷ edits) fit = rows_after (edited rows edit.row edit.ticks) (rows_edited rows hr edit.row edit.ticks fit.0) edits fit.1
+rows_after : (rows : List Row) → IsRows rows → (edits : List Edit) (after : List Row) → AreEdited rows edits after → IsRows after
+rows_after rows hr [] after made = rw made hr
+rows_after rows hr (edit ∷ edits) after made =
+    rows_after made.0 (changed_rows rows hr edit.row edit.change made.0 made.1) edits after made.2
+
+-- the rows without some cowns
+rows_left : (cowns : List ℕ) (rows : List Row) → IsRows rows → IsRows (without_all cowns rows)
+rows_left [] rows hr = hr
+rows_left (cown ∷ cowns) rows hr = rows_left cowns (without cown rows) (rows_without cown rows hr)
+
+one_change : (rows : List Row) (row : ℕ) (change : Change) (after other : List Row) → IsChanged rows row change after → IsChanged rows row change other
+    → after ≡ other
+one_change rows row (Ticks ticks) after other a b = a.1 ∙ sym b.1
+one_change rows row (Offset offset) after other a b = a.1 ∙ sym b.1
+one_change rows row (Cost part) after other a b = one_scaling rows row part.over part.under after other a.1 b.1
+
+one_edited : (rows : List Row) (edits : List Edit) (after other : List Row) → AreEdited rows edits after → AreEdited rows edits other → after ≡ other
+one_edited rows [] after other a b = a ∙ sym b
+one_edited rows (edit ∷ edits) after other a b =
+    let same : a.0 ≡ b.0 = one_change rows edit.row edit.change a.0 b.0 a.1 b.1 in
+    one_edited b.0 edits after other (subst (λ (list : List Row). AreEdited list edits after) same a.2) b.2
 
 pub one_values_answer : (input output other : List ℕ) → IsValuesAnswer input output → IsValuesAnswer input other → output ≡ other
 one_values_answer input output other a b =
@@ -86,13 +111,17 @@ one_profile_answer sharing asked input output other a b =
     one_report (seen sharing b.recorded.rows) (rows_seen sharing b.recorded.rows (rows_are b.recorded b.spells.record_is)) asked output other
     (subst (λ (r : Recorded). IsReport (seen sharing r.rows) asked output) same a.report) b.report
 
-pub one_whatif_answer : (edits : List Edit) (sharing : Sharing) (asked : Option ℕ) (input output other : List ℕ) →
-    IsWhatIfAnswer edits sharing asked input output → IsWhatIfAnswer edits sharing asked input other → output ≡ other
-one_whatif_answer edits sharing asked input output other a b =
+pub one_whatif_answer : (cowns : List ℕ) (edits : List Edit) (sharing : Sharing) (asked : Option ℕ) (input output other : List ℕ) →
+    IsWhatIfAnswer cowns edits sharing asked input output → IsWhatIfAnswer cowns edits sharing asked input other → output ≡ other
+one_whatif_answer cowns edits sharing asked input output other a b =
     let same : a.recorded ≡ b.recorded = one_record input a.recorded b.recorded a.spells b.spells in
-    let rows : IsRows (all_edited b.recorded.rows edits) = rows_after b.recorded.rows (rows_are b.recorded b.spells.record_is) edits b.fit in
-    one_report (seen sharing (all_edited b.recorded.rows edits)) (rows_seen sharing (all_edited b.recorded.rows edits) rows) asked output other
-    (subst (λ (r : Recorded). IsReport (seen sharing (all_edited r.rows edits)) asked output) same a.report) b.report
+    let left : List Row = without_all cowns b.recorded.rows in
+    let shape : IsRows left = rows_left cowns b.recorded.rows (rows_are b.recorded b.spells.record_is) in
+    let after : a.after ≡ b.after = one_edited left edits a.after b.after
+    (subst (λ (r : Recorded). AreEdited (without_all cowns r.rows) edits a.after) same a.edited) b.edited in
+    let rows : IsRows b.after = rows_after left shape edits b.after b.edited in
+    one_report (seen sharing b.after) (rows_seen sharing b.after rows) asked output other
+    (subst (λ (list : List Row). IsReport (seen sharing list) asked output) after a.report) b.report
 
 pub one_curve_answer : (sharing : Sharing) (most : ℕ) (input output other : List ℕ) → IsCurveAnswer sharing most input output
     → IsCurveAnswer sharing most input other → output ≡ other
@@ -107,16 +136,19 @@ one_curve_answer sharing most input output other a b =
     λ i. curve_text (work_of (same i).rows) (span i) (points i) in
     a.text ∙ text ∙ sym b.text
 
-one_swept : (rows : List Row) → IsRows rows → (asked : Option ℕ) (ends others : List ℕ) → AreSwept rows asked ends → AreSwept rows asked others
-    → ends ≡ others
-one_swept rows hr None ends others s t = one_sweep rows ends others s t
-one_swept rows hr (Some p) ends others s t = one_greedy_sweep rows hr p ends others s t
+one_swept : (rows : List Row) → IsRows rows → (count : ℕ) (over : Sweep) (ends others : List ℕ) → AreSwept rows count over ends
+    → AreSwept rows count over others → ends ≡ others
+one_swept rows hr count (TicksOf None) ends others s t = one_sweep rows ends others s t
+one_swept rows hr count (TicksOf (Some p)) ends others s t = one_greedy_sweep rows hr p ends others s t
+one_swept rows hr count (Cowns None) ends others s t = one_cown_sweep rows count ends others s t
+one_swept rows hr count (Cowns (Some p)) ends others s t = one_greedy_cown_sweep rows hr p count ends others s t
+one_swept rows hr count Spawns ends others s t = one_spawn_sweep rows ends others s t
 
-pub one_sweep_answer : (sharing : Sharing) (asked : Option ℕ) (input output other : List ℕ) → IsSweepAnswer sharing asked input output
-    → IsSweepAnswer sharing asked input other → output ≡ other
-one_sweep_answer sharing asked input output other a b =
+pub one_sweep_answer : (sharing : Sharing) (over : Sweep) (input output other : List ℕ) → IsSweepAnswer sharing over input output
+    → IsSweepAnswer sharing over input other → output ≡ other
+one_sweep_answer sharing over input output other a b =
     let same : a.recorded ≡ b.recorded = one_record input a.recorded b.recorded a.spells b.spells in
     let ends : a.ends ≡ b.ends =
-    one_swept (seen sharing b.recorded.rows) (rows_seen sharing b.recorded.rows (rows_are b.recorded b.spells.record_is)) asked a.ends b.ends
-    (subst (λ (r : Recorded). AreSwept (seen sharing r.rows) asked a.ends) same a.sweep) b.sweep in
-    a.text ∙ ap (sweep_lines 0) ends ∙ sym b.text
+    one_swept (seen sharing b.recorded.rows) (rows_seen sharing b.recorded.rows (rows_are b.recorded b.spells.record_is)) b.recorded.cowns over a.ends b.ends
+    (subst (λ (r : Recorded). AreSwept (seen sharing r.rows) r.cowns over a.ends) same a.sweep) b.sweep in
+    a.text ∙ ap (sweep_lines (first_of over)) ends ∙ sym b.text

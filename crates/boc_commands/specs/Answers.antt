@@ -1,20 +1,23 @@
 -- What the commands answer to the bytes that come in.
-use Rattle.std.specs.Prelude.{◌≡◌, ℕ, ℤ, List, [], ◌++◌, length, Option, Some, None}
+use Rattle.std.specs.Prelude.{◌≡◌, ℕ, ℤ, ◌<◌, List, [], ◌∷◌, ◌++◌, length, All, Option, Some, None}
 use Rattle.boc_program.specs.declared.program.Program.{Program}
 use Rattle.boc_reader.specs.Spells.{Spells}
 use Rattle.boc_runs.specs.declared.rows.Row.{Row}
+use Rattle.boc_runs.specs.Changes.{without}
 use Rattle.boc_plans.specs.declared.chain.ChainStep.{ChainStep}
 use Rattle.boc_plans.specs.Plans.{IsEarliest, IsEnd, HasEnds, work_of}
 use Rattle.boc_plans.specs.Chains.{IsPicked}
 use Rattle.boc_plans.specs.Greedy.{IsGreedy, IsBound, IsSpan}
-use Rattle.boc_plans.specs.Sweeps.{IsGreedySweep}
+use Rattle.boc_plans.specs.Sweeps.{IsGreedyCownSweep, IsGreedySweep}
 use Rattle.boc_greedy.specs.declared.points.CurvePoint.{CurvePoint}
 use Rattle.boc_greedy.specs.Curves.{IsCurve}
 use Rattle.boc_runs.specs.OwnOrder.{EndsWith}
 use Rattle.boc_plans.specs.declared.edit.Edit.{Edit}
 use Rattle.boc_plans.specs.declared.sharing.Sharing.{Sharing}
 use Rattle.boc_plans.specs.Seen.{seen}
-use Rattle.boc_plans.specs.Edits.{AllFit, all_edited, IsSweep}
+use Rattle.boc_plans.specs.declared.sweep.Sweep.{Sweep}
+use Rattle.boc_plans.specs.declared.sweep.Sweep.TheVariants.{Ticks, Cowns, Spawns}
+use Rattle.boc_plans.specs.Edits.{AreEdited, IsCownSweep, IsSpawnSweep, IsSweep}
 use Rattle.boc_commands.specs.ValueTexts.{values_text, check_text}
 use Rattle.boc_report.specs.Texts.{report_text, greedy_text, curve_text, sweep_lines}
 use Rattle.boc_runs.specs.Records.{Recorded}
@@ -72,12 +75,20 @@ pub record IsProfileAnswer (sharing : Sharing) (asked : Option ℕ) (input outpu
   pub spells : IsTextOf input recorded
   pub report : IsReport (seen sharing recorded.rows) asked output
 
--- the input is the text of a record whose rows the edits fit, one after the other, and the output is the report on the rows after them
-pub record IsWhatIfAnswer (edits : List Edit) (sharing : Sharing) (asked : Option ℕ) (input output : List ℕ) : Type 0 where
+-- the rows, none of which has one of these cowns
+abbrev pub without_all : List ℕ → List Row → List Row
+without_all [] rows = rows
+without_all (cown ∷ cowns) rows = without_all cowns (without cown rows)
+
+-- the input is the text of a record that has these cowns; without them its rows take the edits, one after the other; and the output is the report
+-- on the rows after all of that
+pub record IsWhatIfAnswer (cowns : List ℕ) (edits : List Edit) (sharing : Sharing) (asked : Option ℕ) (input output : List ℕ) : Type 0 where
   pub recorded : Recorded
   pub spells : IsTextOf input recorded
-  pub fit : AllFit recorded.rows edits
-  pub report : IsReport (seen sharing (all_edited recorded.rows edits)) asked output
+  pub known : All (λ c. c < recorded.cowns) cowns
+  pub after : List Row
+  pub edited : AreEdited (without_all cowns recorded.rows) edits after
+  pub report : IsReport (seen sharing after) asked output
 
 -- the input is the text of a record, and the output is the curve of its rows, as they are seen: their work, their span, and for each number of
 -- workers up to the most the end of the greedy plan, with the bounds that it lies between
@@ -90,16 +101,24 @@ pub record IsCurveAnswer (sharing : Sharing) (most : ℕ) (input output : List �
   pub curve : IsCurve (seen sharing recorded.rows) most points
   pub text : output ≡ curve_text (work_of recorded.rows) span points
 
--- for each row the end of a plan of the rows in which that row takes the least ticks that it can: of the earliest plan, which is the span, or of
--- the greedy plan for the number of workers that was asked for
-abbrev pub AreSwept : List Row → Option ℕ → List ℕ → Type 0
-AreSwept rows None ends = IsSweep rows ends
-AreSwept rows (Some p) ends = IsGreedySweep rows p ends
+-- what a sweep over rows with so many cowns finds: for each row, cown or spawn the end of a plan in which that one is changed; of the earliest
+-- plan, which is the span, or of the greedy plan for the number of workers that was asked for
+abbrev pub AreSwept : List Row → ℕ → Sweep → List ℕ → Type 0
+AreSwept rows count (Ticks None) ends = IsSweep rows ends
+AreSwept rows count (Ticks (Some p)) ends = IsGreedySweep rows p ends
+AreSwept rows count (Cowns None) ends = IsCownSweep rows count ends
+AreSwept rows count (Cowns (Some p)) ends = IsGreedyCownSweep rows p count ends
+AreSwept rows count Spawns ends = IsSpawnSweep rows ends
+
+-- the number of the first line of a sweep: main is spawned by no row
+abbrev pub first_of : Sweep → ℕ
+first_of Spawns = 1
+first_of _ = 0
 
 -- the input is the text of a record, and the output tells these ends for its rows, as they are seen
-pub record IsSweepAnswer (sharing : Sharing) (asked : Option ℕ) (input output : List ℕ) : Type 0 where
+pub record IsSweepAnswer (sharing : Sharing) (over : Sweep) (input output : List ℕ) : Type 0 where
   pub recorded : Recorded
   pub spells : IsTextOf input recorded
   pub ends : List ℕ
-  pub sweep : AreSwept (seen sharing recorded.rows) asked ends
-  pub text : output ≡ sweep_lines 0 ends
+  pub sweep : AreSwept (seen sharing recorded.rows) recorded.cowns over ends
+  pub text : output ≡ sweep_lines (first_of over) ends

@@ -1,5 +1,6 @@
 -- What a command does to its source and its sink.
-use Rattle.std.specs.Prelude.{◌≡◌, ◌≢◌, ℕ, ◌+◌, Bool, true, false, List, Option, Some, None, IfSome, Result, Ok, Err, string_bytes}
+use Rattle.std.specs.Prelude.{◌≡◌, ◌≢◌, ℕ, ◌+◌, ◌<◌, ◌≤◌, Bool, true, false, List, ◌∷◌}
+use Rattle.std.specs.Prelude.{◌++◌, length, All, Option, Some, None, IfSome, Result, Ok, Err, string_bytes}
 use Rattle.std.specs.Io.KnownBytes.{Consumes, IsAtEnd, Appends, Keeps}
 use Rattle.boc_commands.specs.declared.fault.Fault.{Fault}
 use Rattle.boc_commands.specs.declared.fault.Fault.TheVariants as faults
@@ -25,7 +26,7 @@ use Rattle.boc_record.specs.RecordTexts.{IsTextOf, IsFirstFault}
 use Rattle.boc_runs.specs.OwnOrder.{HasTooMany}
 use Rattle.boc_runs.specs.Records.{Recorded}
 use Rattle.boc_plans.specs.Edits.{IsFirstUnfit}
-use Rattle.boc_commands.specs.Answers.{IsValuesAnswer, IsCheckAnswer, IsProfileAnswer, IsWhatIfAnswer, IsCurveAnswer, IsSweepAnswer}
+use Rattle.boc_commands.specs.Answers.{IsValuesAnswer, IsCheckAnswer, IsProfileAnswer, IsWhatIfAnswer, IsCurveAnswer, IsSweepAnswer, without_all}
 use Rattle.boc_commands.specs.Promises.{IsRunAnswer, IsTimeAnswer}
 use Rattle.boc_workers.specs.Noting.{CanReachLimit}
 use Rattle.boc_text.specs.Streams.{StopsAt, ReadsWhole}
@@ -147,18 +148,37 @@ RefusesRecord (Ok done) before = Unit {0}
 RefusesRecord (Err (faults.Input (inputs.Record r))) before = IsRecordRefusal r r.kind before
 RefusesRecord (Err fault) before = IsWant fault
 
--- the source told the text of a record, if it told any, and of these edits this is the first that the record's rows cannot take
-pub record RefusesEdit (edits : List Edit) (number : ℕ) (fault : EditFault) (before : Option (List ℕ)) : Type 0 where
+-- of these cowns the one with this number, counted from 1, is the first that is none of so many
+pub record IsFirstUnknown (count : ℕ) (cowns : List ℕ) (number : ℕ) : Type 0 where
+  pub before : List ℕ
+  pub cown : ℕ
+  pub after : List ℕ
+  pub split : cowns ≡ before ++ (cown ∷ after)
+  pub number_is : number ≡ length before + 1
+  pub known : All (λ c. c < count) before
+  pub unknown : count ≤ cown
+
+-- the source told the text of a record, if it told any, and of these cowns this is the first that the record doesn't have
+pub record RefusesCown (cowns : List ℕ) (number : ℕ) (before : Option (List ℕ)) : Type 0 where
   pub recorded : Recorded
   pub spells : IfSome before (λ text. IsTextOf text recorded)
-  pub unfit : IsFirstUnfit recorded.rows edits number fault
+  pub unknown : IsFirstUnknown recorded.cowns cowns number
 
--- edits are refused for the first that the rows cannot take, and the text of a record for its first fault
-abbrev pub RefusesEdits : {A : Type 0} → List Edit → Result A Fault → Option (List ℕ) → Type 0
-RefusesEdits edits (Ok done) before = Unit {0}
-RefusesEdits edits (Err (faults.Input (inputs.Record r))) before = IsRecordRefusal r r.kind before
-RefusesEdits edits (Err (faults.Input (inputs.Edit number fault))) before = RefusesEdit edits number fault before
-RefusesEdits edits (Err fault) before = IsWant fault
+-- the source told the text of a record, if it told any, that has these cowns, and of these edits this is the first that its rows without them
+-- cannot take
+pub record RefusesEdit (cowns : List ℕ) (edits : List Edit) (number : ℕ) (fault : EditFault) (before : Option (List ℕ)) : Type 0 where
+  pub recorded : Recorded
+  pub spells : IfSome before (λ text. IsTextOf text recorded)
+  pub known : All (λ c. c < recorded.cowns) cowns
+  pub unfit : IsFirstUnfit (without_all cowns recorded.rows) edits number fault
+
+-- the text of a record is refused for its first fault, then a cown that it doesn't have, and then the first edit that the rows cannot take
+abbrev pub RefusesEdits : {A : Type 0} → List ℕ → List Edit → Result A Fault → Option (List ℕ) → Type 0
+RefusesEdits cowns edits (Ok done) before = Unit {0}
+RefusesEdits cowns edits (Err (faults.Input (inputs.Record r))) before = IsRecordRefusal r r.kind before
+RefusesEdits cowns edits (Err (faults.Input (inputs.Cown number))) before = RefusesCown cowns number before
+RefusesEdits cowns edits (Err (faults.Input (inputs.Edit number fault))) before = RefusesEdit cowns edits number fault before
+RefusesEdits cowns edits (Err fault) before = IsWant fault
 
 -- ---- every command
 
@@ -170,9 +190,10 @@ AnswersCommand commands.Check before after text = AnswersInput IsCheckAnswer bef
 AnswersCommand (commands.Run runners) before after text = AnswersInput IsRunAnswer before after text
 AnswersCommand (commands.Profile workers sharing) before after text = AnswersInput (IsProfileAnswer sharing workers) before after text
 AnswersCommand (commands.Time runners workers sharing) before after text = AnswersInput (IsTimeAnswer sharing workers) before after text
-AnswersCommand (commands.WhatIf edits workers sharing) before after text = AnswersInput (IsWhatIfAnswer edits.items sharing workers) before after text
+AnswersCommand (commands.WhatIf cowns edits workers sharing) before after text =
+    AnswersInput (IsWhatIfAnswer cowns.items edits.items sharing workers) before after text
 AnswersCommand (commands.Curve most sharing) before after text = AnswersInput (IsCurveAnswer sharing most) before after text
-AnswersCommand (commands.Sweep workers sharing) before after text = AnswersInput (IsSweepAnswer sharing workers) before after text
+AnswersCommand (commands.Sweep over sharing) before after text = AnswersInput (IsSweepAnswer sharing over) before after text
 AnswersCommand (commands.Help help) before after text = (text ≡ string_bytes help) × Keeps before after
 AnswersCommand commands.Version before after text = (text ≡ VERSION.now) × Keeps before after
 
@@ -183,8 +204,8 @@ RefusesCommand always_on commands.Check result before after = RefusesRecord resu
 RefusesCommand always_on (commands.Run runners) result before after = RefusesRun always_on result before after
 RefusesCommand always_on (commands.Profile workers sharing) result before after = RefusesRecord result before
 RefusesCommand always_on (commands.Time runners workers sharing) result before after = RefusesRun always_on result before after
-RefusesCommand always_on (commands.WhatIf edits workers sharing) result before after = RefusesEdits edits.items result before
+RefusesCommand always_on (commands.WhatIf cowns edits workers sharing) result before after = RefusesEdits cowns.items edits.items result before
 RefusesCommand always_on (commands.Curve most sharing) result before after = RefusesRecord result before
-RefusesCommand always_on (commands.Sweep workers sharing) result before after = RefusesRecord result before
+RefusesCommand always_on (commands.Sweep over sharing) result before after = RefusesRecord result before
 RefusesCommand always_on (commands.Help help) result before after = RefusesNothing result
 RefusesCommand always_on commands.Version result before after = RefusesNothing result

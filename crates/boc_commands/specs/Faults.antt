@@ -90,6 +90,8 @@ abbrev pub edit_line : EditFault → List ℕ
 edit_line edits.NoRow = codes "1 NoRow"
 edit_line edits.BelowSpawn = codes "2 BelowSpawn"
 edit_line edits.TooManyTicks = codes "3 TooManyTicks"
+edit_line edits.NoParent = codes "4 NoParent"
+edit_line edits.NotBetween = codes "5 NotBetween"
 
 -- the number and the name of what became of a run
 abbrev pub run_line : RunFault → List ℕ
@@ -109,13 +111,15 @@ numbered front number said = front ++ decimal number ++ codes ": " ++ said
 -- the line of refused words, where it is the program's own: the parser has a text of its own
 abbrev pub words_line : WordsFault → Option (List ℕ)
 words_line (asked.Parser error) = None
-words_line (asked.EditWord number) = Some (numbered (codes "boc: edit ") number (codes "not ROW=TICKS"))
+words_line (asked.EditWord number) =
+    Some (numbered (codes "boc: edit ") number (codes "not ROW=TICKS\n     an edit is ROW=TICKS, ROW@OFFSET or ROW=K/D"))
 words_line asked.Memory = Some (codes "boc: memory")
 
 -- the line of a refused input
 abbrev pub input_line : InputFault → List ℕ
 input_line (inputs.Program r) = numbered (codes "boc: line ") r.line (kind_text r.kind)
 input_line (inputs.Record r) = numbered (codes "boc: line ") r.line (kind_line r.kind)
+input_line (inputs.Cown number) = numbered (codes "boc: without ") number (codes "6 NoCown")
 input_line (inputs.Edit number fault) = numbered (codes "boc: edit ") number (edit_line fault)
 
 -- the line of what was wanting

@@ -18,10 +18,10 @@ use itoa::Buffer;
 use std::alloc::{AllocError, Global};
 use thiserror::Error;
 
-/// The most bytes of a line that is the program's own.
-pub const MOST_FAULT_LINE: usize = 64;
+/// The most bytes of what the program says of a fault in its own words.
+pub const MOST_FAULT_LINE: usize = 128;
 
-/// A line that is the program's own, without its line feed.
+/// What the program says of a fault in its own words, without the last line feed: one line, or for a word that is no edit two.
 pub type Line = ArrayString<MOST_FAULT_LINE>;
 
 /// Why a command was refused or failed. Its text is the line for standard error.
@@ -46,6 +46,8 @@ pub enum InputFault {
     Program(ReadFault),
     /// The text of a record.
     Record(RecordFault),
+    /// A cown that is to be left out, counted from 1, and that the record doesn't have.
+    Cown { number: usize },
     /// An edit that the rows can't take, counted from 1.
     Edit { number: usize, fault: EditFault },
 }
@@ -97,7 +99,7 @@ impl Fault {
             Fault::Words(WordsFault::EditWord { number }) => Some(numbered(
                 "boc: edit ",
                 *number as u64,
-                "not ROW=TICKS",
+                "not ROW=TICKS\n     an edit is ROW=TICKS, ROW@OFFSET or ROW=K/D",
             )),
             Fault::Words(WordsFault::Memory) => Some(want_text(Want::Memory)),
             Fault::Input(fault) => Some(input_text(fault)),
@@ -126,6 +128,7 @@ fn input_text(fault: &InputFault) -> Line
             numbered("boc: line ", u64::from(fault.line), fault.kind.text())
         }
         InputFault::Record(fault) => numbered("boc: line ", fault.line, fault.kind_text()),
+        InputFault::Cown { number } => numbered("boc: without ", *number as u64, "6 NoCown"),
         InputFault::Edit { number, fault } => {
             numbered("boc: edit ", *number as u64, edit_text(*fault))
         }
@@ -174,6 +177,8 @@ fn edit_text(fault: EditFault) -> &'static str
         EditFault::NoRow => "1 NoRow",
         EditFault::BelowSpawn => "2 BelowSpawn",
         EditFault::TooManyTicks => "3 TooManyTicks",
+        EditFault::NoParent => "4 NoParent",
+        EditFault::NotBetween => "5 NotBetween",
     }
 }
 

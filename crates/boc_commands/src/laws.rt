@@ -5,6 +5,7 @@ ghost use Rattle.boc_plans.specs.declared.edit.Edit.{Edit};
 ghost use Rattle.boc_program.specs.declared.program.Program.{Program};
 ghost use Rattle.boc_runs.specs.declared.rows.Row.{Row};
 ghost use Rattle.boc_plans.specs.declared.sharing.Sharing.{Sharing};
+ghost use Rattle.boc_plans.specs.declared.sweep.Sweep.{Sweep};
 ghost use Rattle.boc_runs.specs.Rows.{IsRows};
 ghost use Rattle.boc_plans.specs.Seen.{seen};
 ghost use Rattle.boc_reader.specs.Spells.{Spells};
@@ -43,12 +44,12 @@ pub fn input_has_one_answer()
     ensures check { (input output other : List ℕ) → IsCheckAnswer input output → IsCheckAnswer input other → output ≡ other }
     ensures profile { (sharing : Sharing) (asked : Option ℕ) (input output other : List ℕ) → IsProfileAnswer sharing asked input output
         → IsProfileAnswer sharing asked input other → output ≡ other }
-    ensures whatif { (edits : List Edit) (sharing : Sharing) (asked : Option ℕ) (input output other : List ℕ)
-        → IsWhatIfAnswer edits sharing asked input output → IsWhatIfAnswer edits sharing asked input other → output ≡ other }
+    ensures whatif { (cowns : List ℕ) (edits : List Edit) (sharing : Sharing) (asked : Option ℕ) (input output other : List ℕ)
+        → IsWhatIfAnswer cowns edits sharing asked input output → IsWhatIfAnswer cowns edits sharing asked input other → output ≡ other }
     ensures curve { (sharing : Sharing) (most : ℕ) (input output other : List ℕ) → IsCurveAnswer sharing most input output
         → IsCurveAnswer sharing most input other → output ≡ other }
-    ensures sweep { (sharing : Sharing) (asked : Option ℕ) (input output other : List ℕ) → IsSweepAnswer sharing asked input output
-        → IsSweepAnswer sharing asked input other → output ≡ other }
+    ensures sweep { (sharing : Sharing) (over : Sweep) (input output other : List ℕ) → IsSweepAnswer sharing over input output
+        → IsSweepAnswer sharing over input other → output ≡ other }
 {}
 
 /// A text spells one program at most.

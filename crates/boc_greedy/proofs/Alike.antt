@@ -1,5 +1,5 @@
 -- Rows of which one takes other ticks, as they are seen at ticks before that row is over.
-use Rattle.std.proofs.Common.{◌≡◌, ℕ, ◌+◌, ◌<◌, ◌≤◌, ◌⊎◌, List, length, sym, ◌∙◌, inl, inr, arith}
+use Rattle.std.proofs.Common.{◌≡◌, ℕ, ◌+◌, ◌<◌, ◌≤◌, ◌⊎◌, List, length, refl, sym, ◌∙◌, inl, inr, arith}
 use Rattle.std.proofs.lemmas.Bool.{cases_eq}
 use Rattle.boc_runs.specs.declared.rows.Row.{Row}
 use Rattle.boc_runs.specs.Rows.{parent_of, offset_of, ticks_of, edited, Fits}
@@ -29,6 +29,17 @@ alike_back rows others starts t a = record {
   ordered = a.ordered_before;
   ordered_before = a.ordered;
   ends = λ r. elim (a.ends r) [ inl e ↦ inl (sym e) | inr p ↦ inr (p.1, p.0) ];
+}
+
+-- rows are alike themselves
+pub alike_self : (rows : List Row) (starts : List ℕ) (t : ℕ) → AreAlike rows rows starts t
+alike_self rows starts t = record {
+  whole = refl;
+  parents = λ r. refl;
+  offsets = λ r. refl;
+  ordered = λ a b o. o;
+  ordered_before = λ a b o. o;
+  ends = λ r. inl refl;
 }
 
 -- a row that is not over at tick t takes fewer ticks, after which it would not be over then either

@@ -1,8 +1,8 @@
 -- The row on top of the queue, for which something changes at this tick.
-use Rattle.std.proofs.Common.{◌≡◌, ℕ, ◌+◌, ◌<◌, ◌≤◌, List, length, get_or, arith}
+use Rattle.std.proofs.Common.{◌≡◌, ℕ, ◌+◌, ◌<◌, ◌≤◌, List, length, get_or, ◌∙◌, arith}
 use Rattle.std.specs.Prelude.{slice_index}
 use Rattle.std.specs.BinaryHeap.{heap_items}
-use Rattle.std.proofs.lemmas.List.{length-map}
+use Rattle.std.proofs.lemmas.List.{length-map, get_or_default}
 use Rattle.boc_program.specs.declared.limits.TheConstants.{MOST_TICKS}
 use Rattle.boc_runs.specs.declared.rows.Row.{Row}
 use Rattle.boc_runs.specs.Rows.{IsRows, parent_of}
@@ -56,7 +56,7 @@ pub record IsSpawning (rows : List Row) (s : Simulation) (r : ℕ) (change next 
 module _ (rows : List Row) (hr : IsRows rows) (s : Simulation) (r : ℕ) (i : IsStepping rows s) (top : IsOnTop (heap_items s.queue) s.tick r)
     (change next : Change)
     (read : change ≡ get_or s.first.items r change) (there : change.child < length rows)
-    (next_read : next ≡ get_or s.family.now.next.items change.child next) where
+    (next_read : next ≡ get_or s.next.now change.child (record { child = 0; after = 0 })) where
   d : IsDue rows s r
   d = is_due rows hr s r i top
 
@@ -69,17 +69,20 @@ module _ (rows : List Row) (hr : IsRows rows) (s : Simulation) (r : ℕ) (i : Is
   is : IsChild rows r change.child
   is = rw child_is at (i.kept.states_are.left r d.there).child_is there
 
-  next_there : change.child < length s.family.now.next.items
+  next_there : change.child < length s.next.now
   next_there = omega (arith, there, simp length-map at i.are_next.whole)
 
-  next_is : slice_index (children_of s.family.now.next.items) change.child ≡ next.child
-  next_is = child_at s.family.now.next.items change.child next next_there next_read
+  own_read : next ≡ get_or s.next.now change.child next
+  own_read = next_read ∙ get_or_default s.next.now change.child _ _ next_there
+
+  next_is : slice_index (children_of s.next.now) change.child ≡ next.child
+  next_is = child_at s.next.now change.child next next_there own_read
 
   follows : IsNextChild rows (parent_of rows change.child) (change.child + 1) next.child
   follows = rw next_is at (i.are_next.child change.child is.not_main there)
 
   comes : IsTimed rows r next.child next.after
-  comes = rw (next_is, time_at s.family.now.next.items change.child next next_there next_read, is.parent) at (i.are_next.timed change.child is.not_main there)
+  comes = rw (next_is, time_at s.next.now change.child next next_there own_read, is.parent) at (i.are_next.timed change.child is.not_main there)
 
   pub is_spawning : IsSpawning rows s r change next
   is_spawning = record {

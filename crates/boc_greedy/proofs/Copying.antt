@@ -40,19 +40,19 @@ frontier_copied rows waits followers states states' unmet unmet' ready ready' sa
 -- ---- the changes
 
 module _ (rows : List Row) (row ticks : ℕ) where
-  timed_other : (a child after : ℕ) → a ≢ row → IsTimed rows a child after → IsTimed (edited rows row ticks) a child after
+  pub timed_other : (a child after : ℕ) → a ≢ row → IsTimed rows a child after → IsTimed (edited rows row ticks) a child after
   timed_other a child after ne i = record {
     spawns = λ l. omega (arith, offset_of-edited rows row ticks child, i.spawns (omega (arith, l, length-edited rows row ticks)));
     ends = λ ge. omega (arith, ticks_of-edited_other rows row ticks a ne, i.ends (omega (arith, ge, length-edited rows row ticks)));
   }
 
-  timed_spawning : (a child after : ℕ) → child < length rows → IsTimed rows a child after → IsTimed (edited rows row ticks) a child after
+  pub timed_spawning : (a child after : ℕ) → child < length rows → IsTimed rows a child after → IsTimed (edited rows row ticks) a child after
   timed_spawning a child after there i = record {
     spawns = λ l. omega (arith, offset_of-edited rows row ticks child, i.spawns there);
     ends = λ ge. absurd (omega (arith, ge, there, length-edited rows row ticks));
   }
 
-  timed_ending : (child : ℕ) → row < length rows → length rows ≤ child → IsTimed (edited rows row ticks) row child ticks
+  pub timed_ending : (child : ℕ) → row < length rows → length rows ≤ child → IsTimed (edited rows row ticks) row child ticks
   timed_ending child there none = record {
     spawns = λ l. absurd (omega (arith, l, none, length-edited rows row ticks));
     ends = λ ge. sym (ticks_of-edited_same rows row ticks there);

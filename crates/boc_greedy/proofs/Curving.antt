@@ -7,11 +7,13 @@ use Rattle.std.proofs.lemmas.Bool.{cases_lt}
 use Rattle.std.proofs.lemmas.List.{ext_get_or}
 use Rattle.std.proofs.lemmas.Option.{slice_get-get_or, get_or_from_slice_get, slice_get_past}
 use Rattle.boc_runs.specs.declared.rows.Row.{Row}
+use Rattle.boc_runs.specs.Changes.{without}
+use Rattle.boc_runs.proofs.Freeing.{rows_without}
 use Rattle.boc_runs.specs.Rows.{IsRows, edited}
 use Rattle.boc_runs.proofs.Editing.{one_last, least_fits, rows_edited}
 use Rattle.boc_plans.specs.Plans.{work_of, IsEnd, Keeps}
 use Rattle.boc_plans.specs.Greedy.{IsForWorkers}
-use Rattle.boc_plans.specs.Sweeps.{IsGreedyEnd, IsLeastGreedyEnd, IsGreedySweep}
+use Rattle.boc_plans.specs.Sweeps.{IsGreedyCownSweep, IsGreedyEnd, IsLeastGreedyEnd, IsGreedySweep}
 use Rattle.boc_plans.proofs.Numbered.{range_long, range_at}
 use Rattle.boc_order.proofs.Alone.{one_end, one_span, one_bound}
 use Rattle.boc_greedy.specs.declared.points.CurvePoint.{CurvePoint}
@@ -41,6 +43,12 @@ pub one_greedy_sweep : (rows : List Row) → IsRows rows → (p : ℕ) (ends oth
     → ends ≡ others
 one_greedy_sweep rows hr p ends others s t = ext_get_or 0 ends others (s.whole ∙ sym t.whole)
     (λ row h. (let there : row < length rows = omega (arith, h, s.whole) in one_least_end rows hr p row _ _ there (s.at row there) (t.at row there)))
+
+pub one_greedy_cown_sweep : (rows : List Row) → IsRows rows → (p count : ℕ) (ends others : List ℕ) → IsGreedyCownSweep rows p count ends
+    → IsGreedyCownSweep rows p count others → ends ≡ others
+one_greedy_cown_sweep rows hr p count ends others s t = ext_get_or 0 ends others (s.whole ∙ sym t.whole)
+    (λ cown h. (let below : cown < count = omega (arith, h, s.whole) in
+    one_greedy_end (without cown rows) (rows_without cown rows hr) p _ _ (s.at cown below) (t.at cown below)))
 
 one_low : (rows : List Row) (p low other : ℕ) → IsLowBound rows p low → IsLowBound rows p other → low ≡ other
 one_low rows p low other a b =

@@ -1,11 +1,11 @@
 -- A simulation that goes on with a row that takes other ticks.
-use Rattle.std.proofs.Common.{◌≡◌, ℕ, ◌+◌, ◌<◌, ◌≤◌, List, [], length, sym, ◌∙◌, ap, inl, inr, arith}
+use Rattle.std.proofs.Common.{◌≡◌, ℕ, ◌+◌, ◌<◌, List, length, sym, ◌∙◌, ap, inl, inr, arith}
 use Rattle.std.specs.Prelude.{slice_index}
 use Rattle.std.specs.BinaryHeap.{heap_items}
 use Rattle.std.proofs.lemmas.Bool.{cases_lt}
 use Rattle.std.proofs.lemmas.Option.{slice_get_within}
 use Rattle.boc_runs.specs.declared.rows.Row.{Row}
-use Rattle.boc_runs.specs.Rows.{offset_of, ticks_of, edited, Fits}
+use Rattle.boc_runs.specs.Rows.{offset_of, edited}
 use Rattle.boc_runs.proofs.Editing.{length-edited}
 use Rattle.boc_plans.specs.Plans.{start_of}
 use Rattle.boc_plans.proofs.EditedOrder.{ordered_back}
@@ -16,14 +16,14 @@ use Rattle.boc_greedy.specs.declared.frontier.Frontier.{Frontier}
 use Rattle.boc_greedy.specs.declared.frontier.RowState.{RowState}
 use Rattle.boc_greedy.specs.declared.frontier.RowState.TheVariants.{UnderWay}
 use Rattle.boc_greedy.specs.declared.simulation.Simulation.{Simulation}
-use Rattle.boc_greedy.specs.Courses.{HoldsChanges}
+use Rattle.boc_greedy.specs.Courses.{IsCopy, HoldsChanges}
 use Rattle.boc_greedy.specs.Families.{IsTimed, AreTimed, AreNext, children_of, times_of}
 use Rattle.boc_greedy.specs.Frontier.{IsFrontier}
 use Rattle.boc_greedy.specs.Queues.{Entry, IsIn}
 use Rattle.boc_greedy.specs.RowStates.{IsAt}
 use Rattle.boc_greedy.specs.Simulating.{later, IsOn, IsBusy, AreLeft, HaveStates, Kept, HasPassed, steps_of_all}
 use Rattle.boc_greedy.specs.Stepping.{IsGiving, IsSettled}
-use Rattle.boc_greedy.proofs.Alike.{AreAlike, alike_edited, child_there, child_back, over_by, not_over, greedy_alike, given_alike, full_alike, counts_alike}
+use Rattle.boc_greedy.proofs.Alike.{AreAlike, child_there, child_back, over_by, not_over, greedy_alike, given_alike, full_alike, counts_alike}
 
 -- no row waits for others
 pub waits_stay : (rows : List Row) (row ticks : ℕ) (waits : List (List ℕ)) → AreWaits rows waits → AreWaits (edited rows row ticks) waits
@@ -36,7 +36,7 @@ waits_stay rows row ticks waits are = record {
 }
 
 -- the same rows can start
-frontier_stays : (rows : List Row) (row ticks : ℕ) (f : Frontier) → IsFrontier rows f → IsFrontier (edited rows row ticks) f
+pub frontier_stays : (rows : List Row) (row ticks : ℕ) (f : Frontier) → IsFrontier rows f → IsFrontier (edited rows row ticks) f
 frontier_stays rows row ticks f i = (
   i.0,
   record {
@@ -148,34 +148,20 @@ module _ (rows others : List Row) (p end : ℕ) (starts workers : List ℕ) (sta
     greedy = λ u lt. greedy_alike rows others p starts workers t a u (omega (arith, lt)) (k.greedy u lt);
   }
 
--- the fork stands where the simulation does, but for its queue and its changes
-pub record IsCopy (s fork : Simulation) : Type 0 where
-  pub p : fork.p ≡ s.p
-  pub starts : fork.starts.items ≡ s.starts.items
-  pub workers : fork.workers.items ≡ s.workers.items
-  pub states : fork.frontier.states.items ≡ s.frontier.states.items
-  pub frontier : (rows : List Row) → IsFrontier rows s.frontier → IsFrontier rows fork.frontier
-  pub idle : fork.idle ≡ s.idle
-  pub tick : fork.tick ≡ s.tick
-  pub moments : fork.moments ≡ s.moments
-
-module _ (rows others : List Row) (s fork : Simulation) (row ticks : ℕ) (is : others ≡ edited rows row ticks) (settled : IsSettled rows s)
-    (f : Fits rows row ticks) (less : ticks ≤ ticks_of rows row) (ahead : s.tick < start_of s.starts.items row + ticks) (copy : IsCopy s fork)
+module _ (rows others : List Row) (s fork : Simulation) (settled : IsSettled rows s) (a : AreAlike rows others s.starts.items s.tick)
+    (frontier : IsFrontier others s.frontier) (copy : IsCopy s fork)
     (same : (r : ℕ) → slice_index (children_of fork.first.items) r ≡ slice_index (children_of s.first.items) r)
     (whole : length (children_of fork.first.items) ≡ length (children_of s.first.items))
     (are_timed : AreTimed others (children_of fork.first.items) (times_of fork.first.items))
-    (are_next : AreNext others (children_of fork.family.now.next.items) (times_of fork.family.now.next.items))
+    (are_next : AreNext others (children_of fork.next.now) (times_of fork.next.now))
     (holds : HoldsChanges (length s.frontier.states.items) s.frontier.states.items s.starts.items (times_of fork.first.items) (heap_items fork.queue)) where
   g : IsGiving rows s
   g = settled.giving
 
-  a : AreAlike rows others s.starts.items s.tick
-  a = rw is (alike_edited rows row ticks s.starts.items s.tick f less ahead)
-
   pub settled_fork : IsSettled others fork
   settled_fork = record {
     giving = record {
-      frontier = copy.frontier others (rw is (frontier_stays rows row ticks s.frontier g.frontier));
+      frontier = copy.frontier others frontier;
       kept = rw (copy.p, copy.starts, copy.workers, copy.states, copy.idle, copy.tick) (kept_there rows others s.p later s.starts.items s.workers.items
           s.frontier.states.items (children_of s.first.items) (children_of fork.first.items) (times_of fork.first.items) (heap_items s.queue)
           (heap_items fork.queue) s.idle s.tick a g.kept g.passed same whole are_timed holds);

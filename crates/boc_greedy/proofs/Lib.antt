@@ -29,3 +29,4 @@ pub mod Curving
 pub mod Alike
 pub mod Forking
 pub mod Copying
+pub mod Renewing

@@ -5,6 +5,8 @@ use Rattle.boc_plans.specs.Plans.{start_of}
 use Rattle.boc_greedy.specs.declared.course.Course.{Course}
 use Rattle.boc_greedy.specs.declared.frontier.RowState.{RowState}
 use Rattle.boc_greedy.specs.declared.frontier.RowState.TheVariants.{UnderWay}
+use Rattle.boc_greedy.specs.declared.simulation.Simulation.{Simulation}
+use Rattle.boc_greedy.specs.Frontier.{IsFrontier}
 use Rattle.boc_greedy.specs.Queues.{Entry, IsIn, IsQueue}
 use Rattle.boc_greedy.specs.RowStates.{IsAt}
 use Rattle.boc_greedy.specs.Stepping.{IsSettled}
@@ -13,6 +15,17 @@ use Rattle.boc_greedy.specs.Stepping.{IsSettled}
 pub record IsCourse (rows : List Row) (p : ℕ) (course : Course) : Type 0 where
   pub settled : IsSettled rows course.simulation
   pub asked : course.simulation.p ≡ p
+
+-- the other simulation stands where this one does, but for its queue and its changes
+pub record IsCopy (s other : Simulation) : Type 0 where
+  pub p : other.p ≡ s.p
+  pub starts : other.starts.items ≡ s.starts.items
+  pub workers : other.workers.items ≡ s.workers.items
+  pub states : other.frontier.states.items ≡ s.frontier.states.items
+  pub frontier : (rows : List Row) → IsFrontier rows s.frontier → IsFrontier rows other.frontier
+  pub idle : other.idle ≡ s.idle
+  pub tick : other.tick ≡ s.tick
+  pub moments : other.moments ≡ s.moments
 
 -- row r is under way, and one of the first n, and its next change comes at this tick
 pub record ChangesAt (n : ℕ) (states : List RowState) (starts times : List ℕ) (change r : ℕ) : Type 0 where

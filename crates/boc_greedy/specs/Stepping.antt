@@ -30,7 +30,7 @@ pub record IsStepping (rows : List Row) (s : Simulation) : Type 0 where
   pub kept : IsSimulated rows s
   pub fresh : IsFresh rows s.starts.items s.tick
   pub are_timed : AreTimed rows (children_of s.first.items) (times_of s.first.items)
-  pub are_next : AreNext rows (children_of s.family.now.next.items) (times_of s.family.now.next.items)
+  pub are_next : AreNext rows (children_of s.next.now) (times_of s.next.now)
   pub queue : IsQueue (heap_items s.queue)
   pub counted : IsCounted rows s.starts.items s.tick s.moments
 
@@ -41,7 +41,7 @@ pub record IsGiving (rows : List Row) (s : Simulation) : Type 0 where
   pub given : Given rows s.p s.starts.items s.workers.items s.frontier.states.items s.idle s.tick
   pub passed : HasPassed (heap_items s.queue) s.tick
   pub are_timed : AreTimed rows (children_of s.first.items) (times_of s.first.items)
-  pub are_next : AreNext rows (children_of s.family.now.next.items) (times_of s.family.now.next.items)
+  pub are_next : AreNext rows (children_of s.next.now) (times_of s.next.now)
   pub queue : IsQueue (heap_items s.queue)
   pub counted : IsCounted rows s.starts.items s.tick s.moments
   pub low : IsLow rows s

@@ -1,8 +1,9 @@
 // What rows that are under way come to, one after the other: the spawns of their children, and their ends.
 
-ghost use Rattle.std.specs.Prelude.{IfOk};
-ghost use Rattle.boc_runs.specs.Rows.{IsRows};
-ghost use Rattle.boc_greedy.specs.Families.{IsFamilyOf};
+ghost use Rattle.std.specs.Prelude.{◌≡◌, ◌≤◌, length, slice_index, IfOk};
+ghost use Rattle.boc_runs.specs.Rows.{IsRows, Fits, edited, parent_of};
+ghost use Rattle.boc_plans.specs.Plans.{IsChild};
+ghost use Rattle.boc_greedy.specs.Families.{IsFamilyOf, AreNext, children_of, times_of};
 
 use boc_plans::sharing::SeenRows;
 use std::alloc::{AllocError, Global};
@@ -57,4 +58,46 @@ pub fn family_of(alloc: Global, rows: &SeenRows) -> Result<Family, AllocError>
         };
     }
     Ok(Family { first, next })
+}
+
+// The last child of the parent of a child, which may be that child itself.
+fn last_child(next: &[Change], rows: &SeenRows, child: u32) -> u32
+    requires next { AreNext rows.now (children_of next.now) (times_of next.now) }
+    requires child { IsChild rows.now (parent_of rows.now child) child }
+    ensures child { IsChild rows.now (parent_of rows.now child) result }
+    ensures last { length rows.now ≤ slice_index (children_of next.now) result }
+{
+    let mut last = child;
+    while (next[last as usize].child as usize) < rows.len() {
+        last = next[last as usize].child;
+    }
+    last
+}
+
+/// The changes of the rows' parents that follow the spawns of the rows, where one row takes other ticks: behind its last child it ends
+/// after these. `AllocError` says that memory was refused.
+pub fn next_changes(
+    alloc: Global,
+    family: &Family,
+    rows: &SeenRows,
+    changed: &SeenRows,
+    row: u32,
+    ticks: u32,
+) -> Result<Vec<Change>, AllocError>
+    requires family { IsFamilyOf rows.now family.now }
+    requires fits { Fits rows.now row ticks }
+    requires changed { changed.now ≡ edited rows.now row ticks }
+    ensures { IfOk result (λ list. AreNext changed.now (children_of list.items) (times_of list.items)) }
+{
+    let mut list = Vec::from_slice(alloc, &family.next)?;
+    let first = family.first[row as usize].child;
+    if (first as usize) < rows.len() {
+        let last = last_child(&family.next, rows, first) as usize;
+        let end = Change {
+            child: list[last].child,
+            after: ticks,
+        };
+        list[last] = end;
+    }
+    Ok(list)
 }

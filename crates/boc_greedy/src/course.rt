@@ -1,20 +1,20 @@
 // Greedy plans of which the first part is made once, for rows of which one takes other ticks.
 
-ghost use Rattle.std.specs.Prelude.{◌≡◌, ℕ, ◌+◌, ◌^◌, ◌<◌, ◌≤◌, length, slice_index, IfOk, IsTrue};
+ghost use Rattle.std.specs.Prelude.{◌≡◌, ℕ, ◌+◌, ◌^◌, ◌<◌, ◌≤◌, length, slice_index, IfOk, OnOk, IsTrue};
 ghost use Rattle.std.specs.BinaryHeap.{heap_items};
 ghost use Rattle.boc_program.specs.declared.limits.TheConstants.{MOST_ROWS};
 ghost use Rattle.boc_runs.specs.Rows.{IsRows, Fits, edited, ticks_of};
 ghost use Rattle.boc_plans.specs.Plans.{start_of};
 ghost use Rattle.boc_plans.specs.Sweeps.{IsGreedyEnd};
-ghost use Rattle.boc_order.specs.Waits.{AreWaits, AreFollowers};
+ghost use Rattle.boc_order.specs.Waits.{AreWaits};
 ghost use Rattle.boc_greedy.specs.declared.frontier.RowState.TheVariants.{UnderWay};
 ghost use Rattle.boc_greedy.specs.Consequences.{AreConsequences};
-ghost use Rattle.boc_greedy.specs.Courses.{IsCourse, HoldsChanges};
-ghost use Rattle.boc_greedy.specs.Families.{AreTimed, IsFamilyOf, children_of, times_of};
+ghost use Rattle.boc_greedy.specs.Courses.{IsCourse, IsCopy, HoldsChanges};
+ghost use Rattle.boc_greedy.specs.Families.{AreTimed, AreNext, children_of, times_of};
 ghost use Rattle.boc_greedy.specs.RowStates.{IsAt};
 ghost use Rattle.boc_greedy.specs.Stepping.{IsSettled};
 
-use crate::children::{Change, Family, family_of};
+use crate::children::{Change, next_changes};
 use crate::consequences::Consequences;
 use crate::entry::{greedy_end, latest_end};
 use crate::frontier::RowState;
@@ -22,6 +22,7 @@ use crate::simulation::Simulation;
 use boc_order::Links;
 use boc_plans::sharing::SeenRows;
 use boc_plans::workers::Workers;
+use boc_program::limits::MOST_WORKERS;
 use std::alloc::{AllocError, Global};
 use std::cmp::Reverse;
 use std::collections::BinaryHeap;
@@ -36,7 +37,7 @@ pub struct Course<'a> {
 /// `AllocError` says that memory was refused.
 ///
 /// It goes as far as the last tick at which something changes before that one. `end_from` takes the less time the further
-/// this is, up to where its row would be over.
+/// this is, up to where its row would be over. `Course::go_on` takes it further.
 pub fn course_to<'a>(
     alloc: Global,
     rows: &SeenRows,
@@ -61,6 +62,36 @@ pub fn course_to<'a>(
     simulation.give_all(rows)?;
     simulation.go_to(rows, tick)?;
     Ok(Course { simulation })
+}
+
+impl Course<'_> {
+    /// Goes on with the plan, as far as it is made before a tick. A course that has come so far stays where it is.
+    /// `AllocError` says that memory was refused.
+    pub fn go_on(&mut self, rows: &SeenRows, tick: u64) -> Result<(), AllocError>
+        requires shape { IsRows rows.now }
+        requires course { (p : ℕ) × IsCourse rows.now p self.old }
+        ensures { OnOk result ((p : ℕ) → IsCourse rows.now p self.old → IsCourse rows.now p self.new) }
+    {
+        self.simulation.go_to(rows, tick)
+    }
+
+    /// The same course once more, which goes on by itself. `AllocError` says that memory was refused.
+    pub fn copied(&self, alloc: Global, rows: &SeenRows) -> Result<Course<'_>, AllocError>
+        requires shape { IsRows rows.now }
+        requires course { (p : ℕ) × IsCourse rows.now p self.now }
+        ensures { IfOk result (λ course. (p : ℕ) → IsCourse rows.now p self.now → IsCourse rows.now p course) }
+    {
+        let simulation = &self.simulation;
+        let queue = queue_of(
+            alloc,
+            &simulation.frontier.states,
+            &simulation.starts,
+            &simulation.first,
+        )?;
+        let first = Vec::from_slice(alloc, &simulation.first)?;
+        let copy = with_changes(alloc, simulation, first, simulation.next, queue)?;
+        Ok(Course { simulation: copy })
+    }
 }
 
 // Whether a row that would take these ticks is not over yet.
@@ -113,7 +144,7 @@ fn queue_of(
     requires low { (r : ℕ) → IsAt states.now r UnderWay → start_of starts.now r + slice_index (times_of first.now) r < 2 ^ 64 }
     ensures { IfOk result (λ queue. HoldsChanges (length states.now) states.now starts.now (times_of first.now) (heap_items queue)) }
 {
-    let mut queue = BinaryHeap::with_capacity(alloc, 64)?;
+    let mut queue = BinaryHeap::with_capacity(alloc, MOST_WORKERS as usize)?;
     for row in 0..states.len() {
         if states[row] == RowState::UnderWay {
             let tick = starts[row] + u64::from(first[row].after);
@@ -123,13 +154,43 @@ fn queue_of(
     Ok(queue)
 }
 
+// The same simulation once more, but for its changes and its queue, which are these.
+fn with_changes<'a>(
+    alloc: Global,
+    simulation: &'a Simulation<'_>,
+    first: Vec<Change>,
+    next: &'a [Change],
+    queue: BinaryHeap<Reverse<(u64, u32)>>,
+) -> Result<Simulation<'a>, AllocError>
+    ensures copy { IfOk result (IsCopy simulation.now) }
+    ensures first { IfOk result (λ s. s.first.items ≡ first.items) }
+    ensures next { IfOk result (λ s. s.next.now ≡ next.now) }
+    ensures queue { IfOk result (λ s. heap_items s.queue ≡ heap_items queue) }
+{
+    let starts = Vec::from_slice(alloc, &simulation.starts)?;
+    let workers = Vec::from_slice(alloc, &simulation.workers)?;
+    let frontier = simulation.frontier.copied(alloc)?;
+    Ok(Simulation {
+        p: simulation.p,
+        starts,
+        workers,
+        frontier,
+        first,
+        next,
+        queue,
+        idle: simulation.idle,
+        tick: simulation.tick,
+        moments: simulation.moments,
+    })
+}
+
 // The same simulation once more, of rows of which one takes other ticks and is not over yet.
 fn forked<'a>(
     alloc: Global,
     simulation: &'a Simulation<'_>,
     rows: &SeenRows,
     changed: &SeenRows,
-    family: &'a Family,
+    next: &'a [Change],
     row: u32,
     ticks: u32,
 ) -> Result<Simulation<'a>, AllocError>
@@ -138,7 +199,7 @@ fn forked<'a>(
     requires fits { Fits rows.now row ticks }
     requires less { ticks ≤ ticks_of rows.now row }
     requires changed { changed.now ≡ edited rows.now row ticks }
-    requires family { IsFamilyOf changed.now family.now }
+    requires next { AreNext changed.now (children_of next.now) (times_of next.now) }
     requires ahead { simulation.now.tick < start_of simulation.now.starts.items row + ticks }
     ensures workers { IfOk result (λ s. s.p ≡ simulation.now.p) }
     ensures settled { IfOk result (λ s. IsSettled changed.now s) }
@@ -150,21 +211,8 @@ fn forked<'a>(
         &simulation.starts,
         &first,
     )?;
-    let starts = Vec::from_slice(alloc, &simulation.starts)?;
-    let workers = Vec::from_slice(alloc, &simulation.workers)?;
-    let frontier = simulation.frontier.copied(alloc)?;
-    Ok(Simulation {
-        p: simulation.p,
-        starts,
-        workers,
-        frontier,
-        first,
-        family,
-        queue,
-        idle: simulation.idle,
-        tick: simulation.tick,
-        moments: simulation.moments,
-    })
+    let copy = with_changes(alloc, simulation, first, next, queue)?;
+    Ok(copy)
 }
 
 /// The tick at which the greedy plan ends if one row takes other ticks, no more than its own. `AllocError` says that memory was
@@ -177,14 +225,14 @@ pub fn end_from(
     rows: &SeenRows,
     changed: &SeenRows,
     waits: &Links,
-    followers: &Links,
+    consequences: &Consequences,
     workers: Workers,
     row: u32,
     ticks: u32,
 ) -> Result<u64, AllocError>
     requires shape { IsRows rows.now }
     requires waits { AreWaits rows.now waits.now }
-    requires followers { AreFollowers waits.now followers.now }
+    requires consequences { AreConsequences rows.now waits.now consequences.now }
     requires course { IsCourse rows.now workers course.now }
     requires fits { Fits rows.now row ticks }
     requires less { ticks ≤ ticks_of rows.now row }
@@ -193,10 +241,10 @@ pub fn end_from(
 {
     let simulation = &course.simulation;
     if !is_ahead(simulation, row, ticks) {
-        return greedy_end(alloc, changed, waits, followers, workers);
+        return greedy_end(alloc, changed, waits, &consequences.followers, workers);
     }
-    let family = family_of(alloc, changed)?;
-    let mut fork = forked(alloc, simulation, rows, changed, &family, row, ticks)?;
+    let next = next_changes(alloc, &consequences.family, rows, changed, row, ticks)?;
+    let mut fork = forked(alloc, simulation, rows, changed, &next, row, ticks)?;
     fork.finish(changed)?;
     Ok(latest_end(changed, &fork.starts))
 }

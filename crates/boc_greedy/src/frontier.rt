@@ -94,7 +94,8 @@ impl<'a> Frontier<'a> {
         ensures states { self.new.states.items ≡ slice_set self.old.states.items row Waiting }
     {
         self.states[row as usize] = RowState::Waiting;
-        self.wake(row);
+        let unmet = self.unmet[row as usize];
+        self.wake(row, unmet);
     }
 
     /// Starts the least of the rows that can start, if there is one.
@@ -124,24 +125,27 @@ impl<'a> Frontier<'a> {
         self.states[row as usize] = RowState::Over;
         let followers = self.followers;
         for follower in followers.of(row as usize) {
-            self.unmet[*follower as usize] -= 1;
-            self.wake(*follower);
+            let follower = *follower;
+            let unmet = self.unmet[follower as usize] - 1;
+            self.unmet[follower as usize] = unmet;
+            self.wake(follower, unmet);
         }
     }
 
     // Puts the row into the ready set where it is spawned and has not started, and its count is 0.
-    fn wake(&mut self, row: u32)
+    fn wake(&mut self, row: u32, unmet: u32)
         requires there { row < length self.old.states.items }
         requires few { length self.old.states.items ≤ MOST_ROWS }
         requires whole { length self.old.unmet.items ≡ length self.old.states.items }
         requires set { IsRowSet self.old.ready }
+        requires count { unmet ≡ slice_index self.old.unmet.items row }
         ensures set { IsRowSet self.new.ready }
         ensures rows { (r : ℕ) → Has self.new.ready r ↔ (Has self.old.ready r ⊎ ((r ≡ row) × CountsReady self.old.states.items self.old.unmet.items row)) }
         ensures states { self.new.states.items ≡ self.old.states.items }
         ensures unmet { self.new.unmet.items ≡ self.old.unmet.items }
         ensures followers { self.new.followers.now ≡ self.old.followers.now }
     {
-        if self.unmet[row as usize] == 0 && self.states[row as usize] == RowState::Waiting {
+        if unmet == 0 && self.states[row as usize] == RowState::Waiting {
             self.ready.insert(row);
         }
     }

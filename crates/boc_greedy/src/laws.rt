@@ -5,7 +5,7 @@ ghost use Rattle.boc_runs.specs.declared.rows.Row.{Row};
 ghost use Rattle.boc_runs.specs.Rows.{IsRows};
 ghost use Rattle.boc_plans.specs.Plans.{IsEnd, Keeps};
 ghost use Rattle.boc_plans.specs.Greedy.{IsForWorkers, IsGreedy};
-ghost use Rattle.boc_plans.specs.Sweeps.{IsGreedySweep};
+ghost use Rattle.boc_plans.specs.Sweeps.{IsGreedyCownSweep, IsGreedySweep};
 ghost use Rattle.boc_greedy.specs.declared.points.CurvePoint.{CurvePoint};
 ghost use Rattle.boc_greedy.specs.Curves.{IsCurve, IsCurvePoint, IsLowBound};
 
@@ -15,10 +15,12 @@ pub fn rows_have_one_greedy_plan()
         → (plan ≡ other) × (workers ≡ others) }
 {}
 
-/// Rows have one greedy sweep at most for each number of workers, and one curve up to each number.
+/// Rows have one greedy sweep at most for each number of workers, one over so many cowns, and one curve up to each number.
 pub fn rows_have_one_curve()
     ensures sweep { (rows : List Row) (p : ℕ) (ends others : List ℕ) → IsRows rows → IsGreedySweep rows p ends → IsGreedySweep rows p others
         → ends ≡ others }
+    ensures cowns { (rows : List Row) (p count : ℕ) (ends others : List ℕ) → IsRows rows → IsGreedyCownSweep rows p count ends
+        → IsGreedyCownSweep rows p count others → ends ≡ others }
     ensures curve { (rows : List Row) (most : ℕ) (points others : List CurvePoint) → IsRows rows → IsCurve rows most points → IsCurve rows most others
         → points ≡ others }
 {}

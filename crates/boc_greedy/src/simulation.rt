@@ -46,8 +46,8 @@ pub struct Simulation<'a> {
     pub frontier: Frontier<'a>,
     /// The first change of each row, of those that are left.
     pub first: Vec<Change>,
-    /// What rows come to while they are under way.
-    pub family: &'a Family,
+    /// The change of each row's parent that follows the spawn of the row. That of main is not read.
+    pub next: &'a [Change],
     /// For each row that is under way the tick at which it next spawns a child or ends. The earliest is on top.
     pub queue: BinaryHeap<Reverse<(u64, u32)>>,
     /// A bit for each worker, set for those that are idle.
@@ -87,7 +87,7 @@ impl<'a> Simulation<'a> {
             workers,
             frontier,
             first,
-            family,
+            next: &family.next,
             queue: BinaryHeap::with_capacity(alloc, p as usize)?,
             idle: u64::MAX >> (64 - p),
             tick: 0,
@@ -150,7 +150,7 @@ impl<'a> Simulation<'a> {
         let change = self.first[row as usize];
         if (change.child as usize) < rows.len() {
             self.frontier.spawn(rows, change.child);
-            let next = self.family.next[change.child as usize];
+            let next = self.next[change.child as usize];
             self.first[row as usize] = next;
             let tick = self.tick + u64::from(next.after - change.after);
             put_off(&mut self.queue, tick);
@@ -204,6 +204,7 @@ impl<'a> Simulation<'a> {
         self.moments += 1;
         self.change(rows, row);
     }
+
     /// All that happens from here on before a tick.
     pub fn go_to(&mut self, rows: &SeenRows, tick: u64) -> Result<(), AllocError>
         requires shape { IsRows rows.now }

@@ -9,11 +9,12 @@ use Rattle.boc_runs.specs.declared.rows.Row.{Row}
 use Rattle.boc_plans.specs.declared.chain.ChainStep.{ChainStep}
 use Rattle.boc_plans.specs.declared.chain.Via.{Via}
 use Rattle.boc_plans.specs.declared.chain.Via.TheVariants.{Spawn, Order, Last}
-use Rattle.boc_runs.specs.Rows.{ticks_of, edited}
+use Rattle.boc_runs.specs.Rows.{parent_of, ticks_of, edited}
+use Rattle.boc_runs.specs.Changes.{moved, without}
 use Rattle.boc_plans.specs.Plans.{work_of, IsEnd, IsEarliest, HasEnds}
 use Rattle.boc_plans.specs.Chains.{LinkVia, IsLink, PickedVia, IsPicked}
 use Rattle.boc_plans.specs.Greedy.{IsSpan, IsBound}
-use Rattle.boc_plans.specs.Edits.{IsLeastSpan, IsSweep}
+use Rattle.boc_plans.specs.Edits.{IsLeastSpan, IsSweep, IsEarlySpan, IsSpawnSweep, IsCownSweep}
 use Rattle.boc_runs.proofs.Editing.{one_last}
 
 -- no plan of the earliest starts a row before another
@@ -46,6 +47,21 @@ one_least_span rows row span other s t =
 pub one_sweep : (rows : List Row) (spans others : List ℕ) → IsSweep rows spans → IsSweep rows others → spans ≡ others
 one_sweep rows spans others s t = ext_get_or 0 spans others (s.whole ∙ sym t.whole)
     (λ row h. (let there : row < length rows = omega (arith, h, s.whole) in one_least_span rows row _ _ (s.at row there) (t.at row there)))
+
+one_early_span : (rows : List Row) (row span other : ℕ) → IsEarlySpan rows row span → IsEarlySpan rows row other → span ≡ other
+one_early_span rows row span other s t =
+    let elder : s.is_least.elder ≡ t.is_least.elder = one_last rows row (parent_of rows row) _ _ s.is_least.is_elder t.is_least.is_elder in
+    let least : s.least ≡ t.least = s.is_least.is ∙ ap (λ (k : ℕ). k + 1) elder ∙ sym t.is_least.is in
+    one_span (moved rows row t.least) span other (subst (λ (offset : ℕ). IsSpan (moved rows row offset) span) least s.is_span) t.is_span
+
+pub one_spawn_sweep : (rows : List Row) (spans others : List ℕ) → IsSpawnSweep rows spans → IsSpawnSweep rows others → spans ≡ others
+one_spawn_sweep rows spans others s t =
+    let whole : length spans ≡ length others = omega (arith, s.whole, t.whole) in
+    ext_get_or 0 spans others whole (λ place h. one_early_span rows (place + 1) _ _ (s.at place h) (t.at place (omega (arith, h, whole))))
+
+pub one_cown_sweep : (rows : List Row) (count : ℕ) (spans others : List ℕ) → IsCownSweep rows count spans → IsCownSweep rows count others → spans ≡ others
+one_cown_sweep rows count spans others s t = ext_get_or 0 spans others (s.whole ∙ sym t.whole)
+    (λ cown h. (let below : cown < count = omega (arith, h, s.whole) in one_span (without cown rows) _ _ (s.at cown below) (t.at cown below)))
 
 -- a step is known by its row, its link and its weight
 same_step : (s t : ChainStep) → s.row ≡ t.row → s.via ≡ t.via → s.weight ≡ t.weight → s ≡ t

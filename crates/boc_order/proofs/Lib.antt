@@ -10,3 +10,4 @@ pub mod Working
 pub mod Replacing
 pub mod Alone
 pub mod Weighing
+pub mod Fewer

@@ -50,23 +50,23 @@ Agrees xs ys n = (r : ℕ) → r < n → slice_index ys r ≡ slice_index xs r
 pub Agrees-push : (xs : List ℕ) (x n : ℕ) → length xs ≡ n → Agrees xs (xs ++ x ∷ []) n
 Agrees-push xs x n l r h = get_or_append_left xs (x ∷ []) 0 r (omega arith)
 
--- the same rows but for the ticks of row n and those after it
+-- the same rows but for the ticks and the offsets of row n and those after it
 pub record AreSameBefore (n : ℕ) (rows others : List Row) : Type 0 where
   pub len : length others ≡ length rows
   pub parents : (r : ℕ) → parent_of others r ≡ parent_of rows r
-  pub offsets : (r : ℕ) → offset_of others r ≡ offset_of rows r
+  pub offsets : (r : ℕ) → r < n → offset_of others r ≡ offset_of rows r
   pub cowns : (r : ℕ) → cowns_of others r ≡ cowns_of rows r
   pub written : (r : ℕ) → written_of others r ≡ written_of rows r
   pub ticks : (r : ℕ) → r < n → ticks_of others r ≡ ticks_of rows r
 
 same_rows : (n : ℕ) (rows : List Row) → AreSameBefore n rows rows
-same_rows n rows = record { len = refl; parents = λ r. refl; offsets = λ r. refl; cowns = λ r. refl; written = λ r. refl; ticks = λ r h. refl }
+same_rows n rows = record { len = refl; parents = λ r. refl; offsets = λ r h. refl; cowns = λ r. refl; written = λ r. refl; ticks = λ r h. refl }
 
 pub same_back : (n : ℕ) (rows others : List Row) → AreSameBefore n rows others → AreSameBefore n others rows
 same_back n rows others s = record {
   len = sym s.len;
   parents = λ r. sym (s.parents r);
-  offsets = λ r. sym (s.offsets r);
+  offsets = λ r h. sym (s.offsets r h);
   cowns = λ r. sym (s.cowns r);
   written = λ r. sym (s.written r);
   ticks = λ r h. sym (s.ticks r h);
@@ -87,7 +87,7 @@ module _ (n : ℕ) (rows others : List Row) (s : AreSameBefore n rows others) wh
     spawn_tight : ((a : ℕ) → IsChild rows a b → a < b) → IsSpawnTight others starts' b → IsSpawnTight rows starts b
     spawn_tight before (a, child, e) =
         let c = child_same a b child in
-        (a, c, omega (arith, agree a (omega (arith, before a c, h)), agree b h, s.offsets b, e))
+        (a, c, omega (arith, agree a (omega (arith, before a c, h)), agree b h, s.offsets b h, e))
 
     order_tight : (a : ℕ) → IsOrderTight others starts' a b → IsOrderTight rows starts a b
     order_tight a (o, e) = (ordered_same a b o, omega (arith, agree a (omega (arith, o.before, h)), agree b h, s.ticks a (omega (arith, o.before, h)), e))
@@ -118,7 +118,7 @@ module _ (n : ℕ) (rows others : List Row) (s : AreSameBefore n rows others) (h
     ends_then = omega (arith, p.ends_then, agree b h, agree_ends b h, s.ticks b h);
     low = omega (arith, p.low, agree_ends b h);
     spawned = λ a child. (let c = child_same n rows others s a b child in
-        omega (arith, s.offsets b, p.spawned a c, agree a (omega (arith, before a c, h)), agree b h));
+        omega (arith, s.offsets b h, p.spawned a c, agree a (omega (arith, before a c, h)), agree b h));
     in_order = λ a o. omega (
       arith,
       s.ticks a (omega (arith, o.before, h)),

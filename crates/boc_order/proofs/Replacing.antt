@@ -1,4 +1,4 @@
--- Rows that are placed anew from a row on: those before it stay placed where only later ticks change.
+-- Rows that are placed anew from a row on: those before it stay placed where only later rows change.
 use Rattle.std.proofs.Common.{◌≡◌, ◌≢◌, ℕ, ◌<◌, ◌≤◌, List, length, take, Option, None, sym, ◌∙◌, arith}
 use Rattle.std.specs.Prelude.{slice_index, slice_index_or}
 use Rattle.std.proofs.lemmas.List.{get_or-take, length-take}
@@ -15,7 +15,7 @@ pub edited_same : (rows : List Row) (row ticks : ℕ) → AreSameBefore row rows
 edited_same rows row ticks = record {
   len = length-edited rows row ticks;
   parents = parent_of-edited rows row ticks;
-  offsets = offset_of-edited rows row ticks;
+  offsets = λ r h. offset_of-edited rows row ticks r;
   cowns = cowns_of-edited rows row ticks;
   written = written_of-edited rows row ticks;
   ticks = λ r h. ticks_of-edited_other rows row ticks r (let ne : r ≢ row = omega arith in ne);
@@ -34,7 +34,7 @@ near_same n rows others a b s is = record {
   };
 }
 
--- the first n placed rows stay placed in the first n places, also among rows that have other ticks from row n on
+-- the first n placed rows stay placed in the first n places, also among rows that have other ticks and offsets from row n on
 pub placed_first : (n m : ℕ) (rows others : List Row) → IsRows rows → (starts ends : List ℕ) (after : List (Option ℕ)) → AreSameBefore n rows others → n ≤ m →
     ArePlaced rows starts ends after m → ArePlaced others (take n starts) (take n ends) (take n after) n
 placed_first n m rows others hr starts ends after s h p = record {

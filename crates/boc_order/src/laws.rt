@@ -1,13 +1,14 @@
 // Laws of plans and chains: of some rows there is one of each. And that links are counted as requests are.
 
-ghost use Rattle.std.specs.Prelude.{◌≡◌, ℕ, List};
+ghost use Rattle.std.specs.Prelude.{◌≡◌, ◌<◌, ◌≤◌, ℕ, List, length};
 ghost use Rattle.boc_plans.specs.declared.chain.ChainStep.{ChainStep};
 ghost use Rattle.boc_runs.specs.declared.rows.Row.{Row};
-ghost use Rattle.boc_runs.specs.Rows.{IsRows};
-ghost use Rattle.boc_plans.specs.Plans.{HasEnds, IsEarliest, IsEnd};
+ghost use Rattle.boc_runs.specs.Rows.{IsRows, offset_of};
+ghost use Rattle.boc_runs.specs.Changes.{moved, without};
+ghost use Rattle.boc_plans.specs.Plans.{HasEnds, IsEarliest, IsEnd, start_of};
 ghost use Rattle.boc_plans.specs.Chains.{IsPicked, weight_of};
 ghost use Rattle.boc_plans.specs.Greedy.{IsBound, IsSpan};
-ghost use Rattle.boc_plans.specs.Edits.{IsSweep};
+ghost use Rattle.boc_plans.specs.Edits.{IsCownSweep, IsSpawnSweep, IsSweep};
 ghost use Rattle.boc_runs.specs.machine.Queues.{times as times_in};
 ghost use Rattle.boc_order.specs.Waits.{times};
 
@@ -24,6 +25,23 @@ pub fn rows_have_one_span()
     ensures span { (rows : List Row) (span other : ℕ) → IsSpan rows span → IsSpan rows other → span ≡ other }
     ensures bound { (rows : List Row) (p bound other : ℕ) → IsBound rows p bound → IsBound rows p other → bound ≡ other }
     ensures sweep { (rows : List Row) (spans others : List ℕ) → IsSweep rows spans → IsSweep rows others → spans ≡ others }
+    ensures cowns { (rows : List Row) (count : ℕ) (spans others : List ℕ) → IsCownSweep rows count spans → IsCownSweep rows count others → spans ≡ others }
+    ensures spawns { (rows : List Row) (spans others : List ℕ) → IsSpawnSweep rows spans → IsSpawnSweep rows others → spans ≡ others }
+{}
+
+/// Rows without a cown start no later in their earliest plan, and end no later.
+pub fn fewer_cowns_are_no_later()
+    ensures starts { (rows : List Row) (cown : ℕ) (plan other : List ℕ) → IsEarliest rows plan → IsEarliest (without cown rows) other
+        → (r : ℕ) → r < length rows → start_of other r ≤ start_of plan r }
+    ensures span { (rows : List Row) (cown span other : ℕ) → IsSpan rows span → IsSpan (without cown rows) other → other ≤ span }
+{}
+
+/// Rows of which one is spawned no later than it was start no later in their earliest plan, and end no later.
+pub fn earlier_spawns_are_no_later()
+    ensures starts { (rows : List Row) (row offset : ℕ) (plan other : List ℕ) → offset ≤ offset_of rows row → IsEarliest rows plan
+        → IsEarliest (moved rows row offset) other → (r : ℕ) → r < length rows → start_of other r ≤ start_of plan r }
+    ensures span { (rows : List Row) (row offset span other : ℕ) → offset ≤ offset_of rows row → IsSpan rows span → IsSpan (moved rows row offset) other
+        → other ≤ span }
 {}
 
 /// The chain that is picked in the earliest plan of rows weighs as many ticks as the plan takes.

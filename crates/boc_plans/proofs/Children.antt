@@ -71,7 +71,7 @@ main_offset : (rows : List Row) (n : ℕ) → IsFit rows n → n ≡ 0 → offse
 main_offset rows n fit e = (fit.main e).1
 
 -- the row that comes is the last child of its parent
-own_child : (rows : List Row) (n : ℕ) → IsFit rows n → IsLast rows (n + 1) (parent_of rows n) (offset_of rows n)
+pub own_child : (rows : List Row) (n : ℕ) → IsFit rows n → IsLast rows (n + 1) (parent_of rows n) (offset_of rows n)
 own_child rows n fit = record {
   none_above = λ a k l same. own_above rows n a fit k l same;
   reached = elim (is_zero n) [

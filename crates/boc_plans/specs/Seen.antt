@@ -2,7 +2,7 @@
 use Rattle.std.specs.Prelude.{List, [], ◌∷◌, Option, Some, None}
 use Rattle.boc_runs.specs.declared.rows.Row.{Row}
 use Rattle.boc_runs.specs.Rows.{edited}
-use Rattle.boc_plans.specs.declared.edit.Edit.{Edit}
+use Rattle.boc_plans.specs.declared.sharing.OtherTicks.{OtherTicks}
 use Rattle.boc_plans.specs.declared.sharing.Sharing.{Sharing}
 use Rattle.boc_plans.specs.declared.sharing.Sharing.TheVariants.{Exclusive, SharedReads}
 
@@ -16,7 +16,7 @@ abbrev pub seen : Sharing → List Row → List Row
 seen Exclusive rows = writing_all rows
 seen SharedReads rows = rows
 
--- the rows after an edit, where there is one
-abbrev pub edited_by : Option Edit → List Row → List Row
+-- the rows, of which one may take other ticks
+abbrev pub edited_by : Option OtherTicks → List Row → List Row
 edited_by None rows = rows
-edited_by (Some edit) rows = edited rows edit.row edit.ticks
+edited_by (Some other) rows = edited rows other.row other.ticks

@@ -2,7 +2,6 @@
 
 ghost use Rattle.std.specs.Prelude.{◌↔◌, IsTrue, Contains};
 
-use crate::edit::Edit;
 use boc_program::short::HeldCown;
 use boc_runs::rows::{Row, Rows};
 use std::marker::Model;
@@ -16,6 +15,13 @@ pub enum Sharing {
     SharedReads,
 }
 
+/// The ticks with which a row is seen in place of its own.
+#[derive(Clone, Copy)]
+struct OtherTicks {
+    row: u32,
+    ticks: u32,
+}
+
 /// The rows of a record as plans see them: where cowns are exclusive, each row counts as writing all its cowns. One of them may
 /// be seen with other ticks than it took.
 #[derive(Drop)]
@@ -23,7 +29,7 @@ pub struct SeenRows<'a> {
     rows: &'a [Row],
     sharing: Sharing,
     // The row that is seen with other ticks, and these.
-    other: Option<Edit>,
+    other: Option<OtherTicks>,
 }
 
 impl<'a> Model for SeenRows<'a> {
@@ -73,7 +79,7 @@ impl<'a> SeenRows<'a> {
         SeenRows {
             rows: rows.as_slice(),
             sharing,
-            other: Some(Edit { row, ticks }),
+            other: Some(OtherTicks { row, ticks }),
         }
     }
 

@@ -6,4 +6,5 @@ pub mod RisingNumbers
 pub mod ChangedItems
 pub mod Fitting
 pub mod CellsLaw
+pub mod Freeing
 pub mod examples

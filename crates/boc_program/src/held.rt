@@ -1,7 +1,8 @@
 //! The cowns of a row, in bytes.
 
-ghost use Rattle.std.specs.Prelude.{◌≡◌, ◌<◌, ◌≤◌, [], length, All, MatchOption};
+ghost use Rattle.std.specs.Prelude.{◌≡◌, ◌<◌, ◌≤◌, ◌==◌, ◌++◌, ◌∷◌, [], cond, not, length, All, MatchOption};
 ghost use Rattle.boc_program.specs.declared.limits.TheConstants.{MOST_COWNS, MOST_HELD};
+ghost use Rattle.boc_program.specs.Cowns.{freed};
 
 use crate::limits::{MOST_COWNS, MOST_HELD};
 use crate::short::{CownNo, Cowns, HeldCown};
@@ -26,6 +27,16 @@ impl Model for HeldCowns {
     ghost view = { λ a. record { items = take a.count a.numbers } };
 
     ghost invariant = { λ a. a.count ≤ MOST_HELD };
+}
+
+// Puts a cown behind others, unless it is the one that is left out.
+fn put_unless(kept: &mut Cowns, number: HeldCown, cown: HeldCown)
+    requires { length kept.old.items < MOST_HELD }
+    ensures { kept.new.items ≡ kept.old.items ++ cond (not (number == cown)) (number ∷ []) [] }
+{
+    if number != cown {
+        kept.push(CownNo::from(number));
+    }
 }
 
 impl HeldCowns {
@@ -75,6 +86,17 @@ impl HeldCowns {
             numbers: self.numbers,
             count: self.count,
         }
+    }
+
+    /// These cowns but for one, in their order.
+    pub fn without(&self, cown: HeldCown) -> HeldCowns
+        ensures { result ≡ freed cown self.now }
+    {
+        let mut kept = Cowns::new();
+        for number in self.as_slice() {
+            put_unless(&mut kept, *number, cown);
+        }
+        HeldCowns::of(&kept)
     }
 
     /// The cowns, in their order.

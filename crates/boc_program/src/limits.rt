@@ -35,3 +35,6 @@ pub const MOST_RUNNERS: usize = 16;
 
 /// The most workers of a greedy plan.
 pub const MOST_WORKERS: u32 = 64;
+
+/// The greatest numerator and denominator of the part that a row's cost is set to.
+pub const MOST_PART: u32 = 1_000;

@@ -415,6 +415,18 @@ rows_taken cowns taken whole left rows run are =
       refl,
     )
 
+-- the same, with the number of cowns
+pub counted_taken : (cowns : ℕ) (taken : List Event → Type 0) (whole left : Option (List ℕ)) (rows : List Row) (run : TakesRun cowns taken whole left)
+    → AreRowsOf (entries run.events) rows → (r : Recorded) × TakesRecord r whole left × (rows ≡ r.rows) × (cowns ≡ r.cowns)
+counted_taken cowns taken whole left rows run are =
+    let r : Recorded = record { cowns = cowns; events = run.events; rows = rows } in (
+      r,
+      record_taken cowns taken whole left r run (record { few = run.begins.few; legal = run.begins.legal; complete = run.complete; rows_are = are }) refl
+          refl,
+      refl,
+      refl,
+    )
+
 -- what is to come of a source of which nothing is taken in yet
 pub from_start : (ahead : lines.LinesState) (known : Option (List ℕ)) → ahead.buffered ≡ [] → lines.to_come ahead known ≡ known
 from_start ahead None e = refl

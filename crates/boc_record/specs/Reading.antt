@@ -88,6 +88,11 @@ abbrev pub ReadsRows : Result (List Row) RecordFault → Option (List ℕ) → O
 ReadsRows (Ok rows) before after = (r : Recorded) × TakesRecord r before after × (rows ≡ r.rows)
 ReadsRows (Err fault) before after = IsFault fault.kind fault.line before after
 
+-- the text of a record was taken which has these rows and so many cowns, or its fault told
+abbrev pub ReadsCounted : Result (List Row × ℕ) RecordFault → Option (List ℕ) → Option (List ℕ) → Type 0
+ReadsCounted (Ok read) before after = (r : Recorded) × TakesRecord r before after × (read.0 ≡ r.rows) × (read.1 ≡ r.cowns)
+ReadsCounted (Err fault) before after = IsFault fault.kind fault.line before after
+
 -- the source failed where that is the answer, and there alone
 abbrev pub CountsKind : RecordFaultKind → ℕ → ℕ → Type 0
 CountsKind kinds.Device old new = new ≡ old + 1

@@ -22,6 +22,6 @@ mod version;
 pub use boc_text::WriteFault;
 pub use fault::RecordFault;
 pub use laws::{record_has_one_text, text_is_of_one_record};
-pub use read::{read_record, read_rows};
+pub use read::{read_counted, read_record, read_rows};
 pub use text::{put_events, write_record};
 pub use verdict::RecordFaultKind;

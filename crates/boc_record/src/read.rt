@@ -1,10 +1,12 @@
 // From a text to its record, and to its rows.
 
-ghost use Rattle.std.specs.Prelude.{◌≡◌, ◌<◌, ◌≤◌, length, false, OnOk};
+ghost use Rattle.std.specs.Prelude.{◌≡◌, ◌<◌, ◌≤◌, length, false, IfOk, OnOk};
+ghost use Rattle.boc_program.specs.declared.limits.TheConstants.{MOST_COWNS};
 ghost use Rattle.boc_text.specs.declared.lines.TheConstants.{CAPACITY};
 ghost use Rattle.boc_text.specs.Lines.{to_come};
 ghost use Rattle.boc_record.specs.Versions.{spelling};
-ghost use Rattle.boc_record.specs.Reading.{Reads, ReadsRows, ReadsRun, CountsRead, CountsPart, ReadsItem, ReadsHeader, ReadsEnd, Finishes, StopsWithin};
+ghost use Rattle.boc_record.specs.Reading.{Reads, ReadsRows, ReadsCounted, ReadsRun, CountsRead};
+ghost use Rattle.boc_record.specs.Reading.{CountsPart, ReadsItem, ReadsHeader, ReadsEnd, Finishes, StopsWithin};
 
 use crate::ahead::event_ahead;
 use crate::fault::{RecordFault, kind_of};
@@ -40,6 +42,18 @@ pub fn read_rows<S: Source>(alloc: Global, source: &mut S) -> Result<Rows, Recor
 {
     let judge: Judge = read_run(alloc, source)?;
     Ok(judge.into_rows().unwrap())
+}
+
+/// Reads the rows of a record as `read_rows` does, and how many cowns its first line names.
+pub fn read_counted<S: Source>(alloc: Global, source: &mut S) -> Result<(Rows, u32), RecordFault>
+    requires { S.failures source.old < u64.MAX }
+    ensures counted_or_fault { ReadsCounted result (S.remaining source.old) (S.remaining source.new) }
+    ensures few { IfOk result (λ read. read.1 ≤ MOST_COWNS) }
+    ensures failures { CountsRead result (S.failures source.old) (S.failures source.new) }
+{
+    let judge: Judge = read_run(alloc, source)?;
+    let cowns = judge.cowns();
+    Ok((judge.into_rows().unwrap(), cowns))
 }
 
 // Hands the events of a record's text to a sink, one after the other.

@@ -161,20 +161,20 @@ swept_more r (suc i) (span ∷ spans) h =
     ∙ ap (λ n. sweep_lines (suc r) (take i spans) ++ sweep_line n (get_or spans i 0)) (omega arith))
     ∙ sym (append_assoc (sweep_line r span) (sweep_lines (suc r) (take i spans)) (sweep_line (r + suc i) (get_or spans i 0)))
 
--- the lines of the first rows of a sweep
-abbrev pub swept_to : List ℕ → ℕ → List ℕ
-swept_to spans i = sweep_lines 0 (take i spans)
+-- the first lines of a sweep
+abbrev pub swept_to : ℕ → List ℕ → ℕ → List ℕ
+swept_to first spans i = sweep_lines first (take i spans)
 
--- the line of a row of a sweep
-abbrev pub swept_at : List ℕ → ℕ → List ℕ
-swept_at spans i = sweep_line i (get_or spans i 0)
+-- a line of a sweep
+abbrev pub swept_at : ℕ → List ℕ → ℕ → List ℕ
+swept_at first spans i = sweep_line (first + i) (get_or spans i 0)
 
-sweep_grows : (spans : List ℕ) → GrowsBy (swept_to spans) (swept_at spans) (length spans)
-sweep_grows spans i h =
-    ap (swept_to spans) (add_one i) ∙ swept_more 0 i spans h ∙ ap (λ n. swept_to spans i ++ sweep_line n (get_or spans i 0)) (sym (zero_more i))
+sweep_grows : (first : ℕ) (spans : List ℕ) → GrowsBy (swept_to first spans) (swept_at first spans) (length spans)
+sweep_grows first spans i h = ap (swept_to first spans) (add_one i) ∙ swept_more first i spans h
 
-sweep_all : (spans : List ℕ) (i : ℕ) → length spans ≤ i → swept_to spans i ≡ sweep_lines 0 spans
-sweep_all spans i end = ap (sweep_lines 0) (take_all i spans end)
+sweep_all : (first : ℕ) (spans : List ℕ) (i : ℕ) → length spans ≤ i → swept_to first spans i ≡ sweep_lines first spans
+sweep_all first spans i end = ap (sweep_lines first) (take_all i spans end)
 
-pub sweep_by_line : (spans : List ℕ) → IsOfLines (sweep_lines 0 spans) (swept_to spans) (swept_at spans) (length spans)
-sweep_by_line spans = record { grows = sweep_grows spans; all = sweep_all spans }
+pub sweep_by_line : (first : ℕ) (spans : List ℕ)
+    → IsOfLines (sweep_lines first spans) (swept_to first spans) (swept_at first spans) (length spans)
+sweep_by_line first spans = record { grows = sweep_grows first spans; all = sweep_all first spans }

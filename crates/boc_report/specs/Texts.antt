@@ -80,11 +80,11 @@ curve_lines (point ∷ points) = curve_line point ++ curve_lines points
 abbrev pub curve_text : ℕ → ℕ → List CurvePoint → List ℕ
 curve_text work span points = number_line (codes "work ") work ++ number_line (codes "span ") span ++ curve_lines points
 
--- the line of a row in a sweep: its number, and the span or the end that goes with it
+-- the line of a row or a cown in a sweep: its number, and the span or the end that goes with it
 abbrev pub sweep_line : ℕ → ℕ → List ℕ
 sweep_line r span = decimal r ++ codes " " ++ decimal span ++ codes "\n"
 
--- the lines of the rows of a sweep from row r on
+-- the lines of a sweep from number r on
 abbrev pub sweep_lines : ℕ → List ℕ → List ℕ
 sweep_lines r [] = []
 sweep_lines r (span ∷ spans) = sweep_line r span ++ sweep_lines (suc r) spans

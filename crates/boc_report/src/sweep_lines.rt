@@ -13,72 +13,87 @@ use crate::number_line::MOST_FIELD;
 use boc_text::{Bytes, Outgoing, Sink, Stopped, WriteFault, write_before};
 use std::alloc::{AllocError, Global};
 
-/// The most bytes of the line of a row.
+/// The most bytes of a line.
 const MOST_SWEPT: usize = 2 * MOST_FIELD;
 
-/// Writes the text of a sweep: a line for each row, with its number and the span that goes with it. It goes out in parts while it is
-/// formed; after a failing write a beginning of it went out. All memory is taken before the first part goes out.
-pub fn write_sweep<W: Sink>(alloc: Global, spans: &[u64], sink: &mut W) -> Result<(), WriteFault>
+/// Writes the text of a sweep: a line for each row or cown from this one on, with its number and the span that goes with it. It goes out in
+/// parts while it is formed; after a failing write a beginning of it went out. All memory is taken before the first part goes out.
+pub fn write_sweep<W: Sink>(
+    alloc: Global,
+    first: u32,
+    spans: &[u64],
+    sink: &mut W,
+) -> Result<(), WriteFault>
     requires few { length spans.now ≤ MOST_LINES }
     requires failures { W.failures sink.old < u64.MAX }
-    ensures written { Writes (sweep_lines 0 spans.now) result (W.written sink.old) (W.written sink.new) }
+    ensures written { Writes (sweep_lines first spans.now) result (W.written sink.old) (W.written sink.new) }
     ensures failures { CountsWrite result (W.failures sink.old) (W.failures sink.new) }
 {
     let mut out = Outgoing::new(alloc)?;
-    send_sweep(&mut out, spans, sink)?;
+    send_sweep(&mut out, first, spans, sink)?;
     Ok(())
 }
 
 /// The text of the same sweep, in memory.
-pub fn sweep_text(alloc: Global, spans: &[u64]) -> Result<Vec<u8>, AllocError>
+pub fn sweep_text(alloc: Global, first: u32, spans: &[u64]) -> Result<Vec<u8>, AllocError>
     requires { length spans.now ≤ MOST_LINES }
-    ensures { IfOk result (λ text. text.items ≡ sweep_lines 0 spans.now) }
+    ensures { IfOk result (λ text. text.items ≡ sweep_lines first spans.now) }
 {
     let mut text = Bytes::new(Vec::new(alloc));
-    match write_sweep(alloc, spans, &mut text) {
+    match write_sweep(alloc, first, spans, &mut text) {
         Ok(()) => Ok(text.bytes),
         Err(_) => Err(AllocError),
     }
 }
 
 // Sends the text of a sweep, of which nothing was formed yet.
-fn send_sweep<W: Sink>(out: &mut Outgoing, spans: &[u64], sink: &mut W) -> Result<(), Stopped>
+fn send_sweep<W: Sink>(
+    out: &mut Outgoing,
+    first: u32,
+    spans: &[u64],
+    sink: &mut W,
+) -> Result<(), Stopped>
     requires unused { IsUnused out.old }
     requires size { size out.old ≡ 0 }
     requires few { length spans.now ≤ MOST_LINES }
     requires failures { W.failures sink.old < u64.MAX }
     ensures sent { MatchResult result
-        (λ _. Appends (W.written sink.old) (W.written sink.new) (sweep_lines 0 spans.now))
-        (λ s. StopsAt s.gone (sweep_lines 0 spans.now) (W.written sink.old) (W.written sink.new)) }
+        (λ _. Appends (W.written sink.old) (W.written sink.new) (sweep_lines first spans.now))
+        (λ s. StopsAt s.gone (sweep_lines first spans.now) (W.written sink.old) (W.written sink.new)) }
     ensures failures { CountsFailure result (W.failures sink.old) (W.failures sink.new) }
 {
-    put_sweep(out, spans, sink)?;
+    put_sweep(out, first, spans, sink)?;
     out.send(sink)
 }
 
-// The lines of the rows of a sweep.
-fn put_sweep<W: Sink>(out: &mut Outgoing, spans: &[u64], sink: &mut W) -> Result<(), Stopped>
+// The lines of a sweep.
+fn put_sweep<W: Sink>(
+    out: &mut Outgoing,
+    first: u32,
+    spans: &[u64],
+    sink: &mut W,
+) -> Result<(), Stopped>
     requires few { length spans.now ≤ MOST_LINES }
     requires size { size out.old ≤ MOST_PART }
     requires failures { W.failures sink.old < u64.MAX }
-    ensures goes_on { Puts (sweep_lines 0 spans.now) result out.old out.new (W.written sink.old) (W.written sink.new) }
+    ensures goes_on { Puts (sweep_lines first spans.now) result out.old out.new (W.written sink.old) (W.written sink.new) }
     ensures size { OnOk result (size out.new ≤ size out.old + MOST_SWEPT * length spans.now) }
     ensures failures { CountsFailure result (W.failures sink.old) (W.failures sink.new) }
 {
     let mut room = [0; MOST_SWEPT];
-    for row in 0..spans.len() {
-        let begin = swept_before(&mut room, row as u64, spans[row]);
+    for place in 0..spans.len() {
+        let begin = swept_before(&mut room, u64::from(first) + place as u64, spans[place]);
         out.put(&room[begin..], sink)?;
     }
     Ok(())
 }
 
-// Forms the line of a row in a sweep at the end of a room, and says where it begins.
-fn swept_before(room: &mut [u8], row: u64, span: u64) -> usize
+// Forms the line of a row or a cown in a sweep at the end of a room, and says where it begins.
+fn swept_before(room: &mut [u8], number: u64, span: u64) -> usize
     requires { length room.old ≡ MOST_SWEPT }
-    ensures written { drop result room.new ≡ sweep_line row span }
+    ensures written { drop result room.new ≡ sweep_line number span }
     ensures within { result ≤ MOST_SWEPT }
 {
     let span_at = write_before(room, MOST_SWEPT, span, b'\n');
-    write_before(room, span_at, row, b' ')
+    write_before(room, span_at, number, b' ')
 }

@@ -2,5 +2,9 @@ pub mod RunsAreLegal
 pub mod Behaviours
 pub mod OwnOrders
 pub mod Editing
+pub mod Moving
+pub mod Freeing
+pub mod Scaling
+pub mod Joining
 pub mod Tellings
 pub mod examples

@@ -1,5 +1,6 @@
 pub mod Lives
 pub mod Rows
+pub mod Changes
 pub mod Legal
 pub mod Serial
 pub mod OwnOrder

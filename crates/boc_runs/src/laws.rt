@@ -1,9 +1,11 @@
-// Laws of the serial runs of programs, and of runs.
+// Laws of the serial runs of programs, of runs, and of rows that change.
 
-ghost use Rattle.std.specs.Prelude.{◌≡◌, ℤ, List};
+ghost use Rattle.std.specs.Prelude.{◌≡◌, ℕ, ℤ, List};
 ghost use Rattle.boc_runs.specs.declared.event.Event.{Event};
 ghost use Rattle.boc_program.specs.declared.program.Program.{Program};
 ghost use Rattle.boc_program.specs.Programs.{cown_count};
+ghost use Rattle.boc_runs.specs.declared.rows.Row.{Row};
+ghost use Rattle.boc_runs.specs.Changes.{IsScaled};
 ghost use Rattle.boc_runs.specs.Legal.{IsLegal};
 ghost use Rattle.boc_runs.specs.Run.{IsRun};
 ghost use Rattle.boc_runs.specs.OwnOrder.{EndsWith, HasTooMany};
@@ -28,3 +30,9 @@ pub fn ends_or_has_too_many(program: &Program)
 {
     let _ = program;
 }
+
+/// Rows of which one costs a part of what it did are the same rows each time.
+pub fn rows_are_scaled_one_way()
+    ensures { (rows : List Row) (row over under : ℕ) (after other : List Row) → IsScaled rows row over under after → IsScaled rows row over under other
+        → after ≡ other }
+{}

@@ -1,9 +1,15 @@
 // The rows of a record: for each behaviour who spawned it, what it needed, and how long it ran.
 
-ghost use Rattle.std.specs.Prelude.{◌≡◌, IfOk};
+ghost use Rattle.std.specs.Prelude.{◌≡◌, ◌<◌, ◌≤◌, List, length, IfOk, true, false};
+ghost use Rattle.boc_program.specs.declared.limits.TheConstants.{MOST_TICKS};
+ghost use Rattle.boc_runs.specs.declared.rows.Row.{Row};
+ghost use Rattle.boc_runs.specs.Rows.{IsRows, ticks_of};
+ghost use Rattle.boc_runs.specs.Changes.{IsScaled, part_of};
 
 use boc_program::body::EndStatus;
 use boc_program::held::HeldCowns;
+use boc_program::limits::MOST_TICKS;
+use boc_program::short::HeldCown;
 use std::alloc::{AllocError, Global};
 use std::marker::Model;
 
@@ -51,6 +57,8 @@ impl Model for Rows {
 }
 
 impl Row {
+    ghost use Rattle.boc_runs.specs.Changes.{freed_row};
+
     /// The same row once more. It takes no memory.
     pub fn duplicate(&self) -> Row
         ensures { result ≡ self.now }
@@ -64,10 +72,70 @@ impl Row {
             status: self.status,
         }
     }
+
+    /// The same row without a cown. It takes no memory.
+    pub fn without(&self, cown: HeldCown) -> Row
+        ensures { result ≡ freed_row cown self.now }
+    {
+        Row {
+            parent: self.parent,
+            offset: self.offset,
+            ticks: self.ticks,
+            cowns: self.cowns.without(cown),
+            written: self.written.without(cown),
+            status: self.status,
+        }
+    }
+}
+
+// So many ticks times `over / under`, rounded up.
+fn part(ticks: u32, over: u32, under: u32) -> u64
+    requires { 0 < under }
+    ensures { result ≡ part_of over under ticks }
+{
+    (u64::from(ticks) * u64::from(over)).div_ceil(u64::from(under))
+}
+
+// The ticks of a row that costs `over / under` of what it did. Its children's offsets are that part of theirs, and rise.
+fn scaled_ticks(rows: &[Row], row: usize, over: u32, under: u32) -> u64
+    requires shape { IsRows rows.now }
+    requires there { row < length rows.now }
+    requires some { 0 < under }
+    ensures { (after : List Row) × IsScaled rows.now row over under after × (result ≡ ticks_of after row) }
+{
+    let mut last = 0;
+    for child in row + 1..rows.len() {
+        if rows[child].parent as usize == row {
+            last = part(rows[child].offset, over, under).max(last + 1);
+        }
+    }
+    part(rows[row].ticks, over, under).max(last).max(1)
+}
+
+// A row costs `over / under` of what it did, and takes these ticks for it. Its children get their offsets.
+fn scale_rows(rows: &mut [Row], row: usize, over: u32, under: u32, ticks: u32)
+    requires shape { IsRows rows.old }
+    requires there { row < length rows.old }
+    requires some { 0 < under }
+    requires few { ticks ≤ MOST_TICKS }
+    requires ticks { (after : List Row) × IsScaled rows.old row over under after × (ticks ≡ ticks_of after row) }
+    ensures scaled { IsScaled rows.old row over under rows.new }
+    ensures ticks { ticks_of rows.new row ≡ ticks }
+{
+    let mut last = 0;
+    for child in row + 1..rows.len() {
+        if rows[child].parent as usize == row {
+            let offset = part(rows[child].offset, over, under).max(last + 1);
+            rows[child].offset = offset as u32;
+            last = offset;
+        }
+    }
+    rows[row].ticks = ticks;
 }
 
 impl Rows {
-    ghost use Rattle.boc_runs.specs.Rows.{IsRows, Fits, edited};
+    ghost use Rattle.boc_runs.specs.Rows.{Fits, edited};
+    ghost use Rattle.boc_runs.specs.Changes.{FitsAt, moved, without};
 
     /// These rows, main first. It takes no memory.
     pub fn new(list: Vec<Row>) -> Rows
@@ -103,5 +171,43 @@ impl Rows {
         ensures { self.new ≡ edited self.old row ticks }
     {
         self.list[row as usize].ticks = ticks;
+    }
+
+    /// Has a row other than main be spawned at this tick of its parent: above its elder sibling's offset, 1 at least, below its younger
+    /// sibling's, and at most its parent's ticks. It takes no memory.
+    pub fn set_offset(&mut self, row: u32, offset: u32)
+        requires { FitsAt self.old row offset }
+        ensures { self.new ≡ moved self.old row offset }
+    {
+        self.list[row as usize].offset = offset;
+    }
+
+    /// Has a row cost `over / under` of what it did, rounded up, and spawn its children so much sooner or later: an offset is at least one
+    /// above the elder sibling's, and the ticks are 1 at least and no fewer than the last child's offset. Answers whether the row can; where it
+    /// would take more than 1,000,000 ticks it can't, and nothing changes. It takes no memory.
+    pub fn scale(&mut self, row: u32, over: u32, under: u32) -> bool
+        requires there { row < length self.old }
+        requires some { 0 < under }
+        ensures scaled { result ≡ true → IsScaled self.old row over under self.new × (ticks_of self.new row ≤ MOST_TICKS) }
+        ensures too_many { result ≡ false → (after : List Row) × IsScaled self.old row over under after × (MOST_TICKS < ticks_of after row) }
+        ensures stays { result ≡ false → self.new ≡ self.old }
+    {
+        let ticks = scaled_ticks(&self.list, row as usize, over, under);
+        if ticks > u64::from(MOST_TICKS) {
+            return false;
+        }
+        scale_rows(&mut self.list, row as usize, over, under, ticks as u32);
+        true
+    }
+
+    /// The same rows, none of which has this cown. `AllocError` says that memory was refused.
+    pub fn without(&self, alloc: Global, cown: HeldCown) -> Result<Rows, AllocError>
+        ensures { IfOk result (λ rows. rows ≡ without cown self.now) }
+    {
+        let mut list = Vec::with_capacity(alloc, self.list.len())?;
+        for row in &self.list {
+            list.push(row.without(cown))?;
+        }
+        Ok(Rows { list })
     }
 }

@@ -11,7 +11,7 @@ use Rattle.boc_plans.proofs.EditedOrder.{ordered_edited, ordered_back}
 use Rattle.boc_runs.proofs.Editing.{length-edited, parent_of-edited, offset_of-edited, ticks_of-edited_other, edited_back, rows_edited}
 use Rattle.boc_order.specs.Placed.{ArePlaced}
 use Rattle.boc_order.proofs.Chaining.{placed_earliest}
-use Rattle.boc_sweep.specs.Ways.{AreHeads, ChangesAt}
+use Rattle.boc_sweep.specs.Ways.{AreHeads, ChangesAt, IsHeaviest}
 use Rattle.boc_order.specs.Waits.{Covers}
 use Rattle.boc_sweep.specs.Links.{Node, start, stop, finish, number_of, IsNode, Links, tick_of}
 use Rattle.boc_sweep.specs.Cuts.{AreWays, IsMostAt}
@@ -126,24 +126,46 @@ node_low count (start r) i = omega (arith, i)
 node_low count (stop r) i = omega (arith, i)
 node_low count finish i = omega arith
 
--- THE SWEEP: with a row's ticks changed, the span is the heaviest way over the row's cut
+-- THE SWEEP: where the links of other rows differ only in those that cross a cut, their span is the heaviest way over the cut
+module _ (rows : List Row) (hr : IsRows rows) (Waits : ℕ → ℕ → Type 0) (starts ends : List ℕ) (after : List (Option ℕ)) (last : ℕ) (tail : Node → ℕ)
+    (ways : AreWays rows Waits starts ends after last tail) (other : List Row) (hr' : IsRows other) (covers' : Covers other Waits)
+    (same : length other ≡ length rows) (cut : ℕ) (within : cut < 2 * length rows)
+    (change : ChangesAt (number_of (length rows)) (Links rows Waits) (Links other Waits) cut) where
+  inside' : (x y : Node) (w : ℕ) → Links other Waits x y w → IsNode (length rows) x × IsNode (length rows) y
+  inside' x y w l = rw same at (links_inside other hr' Waits covers' x y w l)
+
+  rises' : (x y : Node) (w : ℕ) → Links other Waits x y w → number_of (length rows) x < number_of (length rows) y
+  rises' x y w l = rw same at (links_rise other hr' Waits covers' x y w l)
+
+  -- of any earliest plan of the other rows
+  span_by : (starts' ends' : List ℕ) (after' : List (Option ℕ)) (last' : ℕ) → ArePlaced other starts' ends' after' (length other) →
+      IsEnd other starts' last' → (most : ℕ) → IsHeaviest (number_of (length rows)) (Links other Waits) (tick_of rows starts last) tail cut most →
+      IsSpan other most
+  span_by starts' ends' after' last' placed' end' most m =
+      let heads' : AreHeads (IsNode (length rows)) (Links other Waits) (start 0) (tick_of other starts' last') =
+      subst (λ (n : ℕ). AreHeads (IsNode n) (Links other Waits) (start 0) (tick_of other starts' last')) same
+      (plan_is_heads other hr' Waits covers' starts' ends' after' placed' last' end') in
+      let is : last' ≡ most = cut_heaviest (IsNode (length rows)) (number_of (length rows)) (Links rows Waits) (Links other Waits) (start 0) finish
+      (tick_of rows starts last) tail (tick_of other starts' last') cut
+      (links_inside rows hr Waits ways.covers) inside' (links_rise rows hr Waits ways.covers) rises'
+      (λ x i. node_low (length rows) x i) tt (omega arith) within
+      (plan_is_heads rows hr Waits ways.covers starts ends after ways.placed last ways.ended) ways.tails heads' change most m in
+      record {
+        plan = starts';
+        earliest = placed_earliest other hr' starts' ends' after' placed';
+        ends = subst (λ (n : ℕ). IsEnd other starts' n) is end';
+      }
+
+  pub heaviest_is_span : (most : ℕ) → IsHeaviest (number_of (length rows)) (Links other Waits) (tick_of rows starts last) tail cut most → IsSpan other most
+  heaviest_is_span most m =
+      let n : ℕ = length other in
+      let s = stands other hr' n (omega arith) in
+      let e = has_end other hr' s.starts in
+      span_by s.starts s.ends s.after e.0 s.placed e.1 most m
+
+-- with a row's ticks changed, the span is the heaviest way over the row's cut
 module _ (rows : List Row) (hr : IsRows rows) (Waits : ℕ → ℕ → Type 0) (starts ends : List ℕ) (after : List (Option ℕ)) (last : ℕ) (tail : Node → ℕ)
     (ways : AreWays rows Waits starts ends after last tail) (row ticks : ℕ) (f : Fits rows row ticks) where
-  same : length (edited rows row ticks) ≡ length rows
-  same = length-edited rows row ticks
-
-  hr' : IsRows (edited rows row ticks)
-  hr' = rows_edited rows hr row ticks f
-
-  covers' : Covers (edited rows row ticks) Waits
-  covers' = covers_edited rows Waits row ticks ways.covers
-
-  inside' : (x y : Node) (w : ℕ) → Links (edited rows row ticks) Waits x y w → IsNode (length rows) x × IsNode (length rows) y
-  inside' x y w l = rw same at (links_inside (edited rows row ticks) hr' Waits covers' x y w l)
-
-  rises' : (x y : Node) (w : ℕ) → Links (edited rows row ticks) Waits x y w → number_of (length rows) x < number_of (length rows) y
-  rises' x y w l = rw same at (links_rise (edited rows row ticks) hr' Waits covers' x y w l)
-
   change : ChangesAt (number_of (length rows)) (Links rows Waits) (Links (edited rows row ticks) Waits) (2 * row)
   change = record {
     to_low = λ x y w k l. links_edited rows Waits row ticks (length rows) x y w (inl k) l;
@@ -152,29 +174,6 @@ module _ (rows : List Row) (hr : IsRows rows) (Waits : ℕ → ℕ → Type 0) (
     from_high = λ x y w k l. links_back rows Waits row ticks (length rows) x y w (inr k) l;
   }
 
-  -- of any earliest plan of the changed rows
-  span_by : (starts' ends' : List ℕ) (after' : List (Option ℕ)) (last' : ℕ)
-      → ArePlaced (edited rows row ticks) starts' ends' after' (length (edited rows row ticks)) →
-      IsEnd (edited rows row ticks) starts' last' → (most : ℕ) → IsMostAt rows Waits starts last tail row ticks most → IsSpan (edited rows row ticks) most
-  span_by starts' ends' after' last' placed' end' most m =
-      let heads' : AreHeads (IsNode (length rows)) (Links (edited rows row ticks) Waits) (start 0) (tick_of (edited rows row ticks) starts' last') =
-      subst (λ (n : ℕ). AreHeads (IsNode n) (Links (edited rows row ticks) Waits) (start 0) (tick_of (edited rows row ticks) starts' last')) same
-      (plan_is_heads (edited rows row ticks) hr' Waits covers' starts' ends' after' placed' last' end') in
-      let is : last' ≡ most = cut_heaviest (IsNode (length rows)) (number_of (length rows)) (Links rows Waits) (Links (edited rows row ticks) Waits) (start 0)
-      finish
-      (tick_of rows starts last) tail (tick_of (edited rows row ticks) starts' last') (2 * row)
-      (links_inside rows hr Waits ways.covers) inside' (links_rise rows hr Waits ways.covers) rises'
-      (λ x i. node_low (length rows) x i) tt (omega arith) (omega (arith, f.there))
-      (plan_is_heads rows hr Waits ways.covers starts ends after ways.placed last ways.ended) ways.tails heads' change most m in
-      record {
-        plan = starts';
-        earliest = placed_earliest (edited rows row ticks) hr' starts' ends' after' placed';
-        ends = subst (λ (n : ℕ). IsEnd (edited rows row ticks) starts' n) is end';
-      }
-
   pub cut_is_span : (most : ℕ) → IsMostAt rows Waits starts last tail row ticks most → IsSpan (edited rows row ticks) most
-  cut_is_span most m =
-      let n : ℕ = length (edited rows row ticks) in
-      let s = stands (edited rows row ticks) hr' n (omega arith) in
-      let e = has_end (edited rows row ticks) hr' s.starts in
-      span_by s.starts s.ends s.after e.0 s.placed e.1 most m
+  cut_is_span most m = heaviest_is_span rows hr Waits starts ends after last tail ways (edited rows row ticks) (rows_edited rows hr row ticks f)
+      (covers_edited rows Waits row ticks ways.covers) (length-edited rows row ticks) (2 * row) (omega (arith, f.there)) change most m

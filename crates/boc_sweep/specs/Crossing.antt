@@ -6,21 +6,22 @@ use Rattle.boc_runs.specs.Rows.{offset_of}
 use Rattle.boc_plans.specs.Plans.{start_of, end_of, IsChild}
 use Rattle.boc_sweep.specs.declared.windows.Stretch.{Stretch}
 use Rattle.boc_order.specs.Waits.{IsNear}
-use Rattle.boc_sweep.specs.Cuts.{Crosses}
+use Rattle.boc_sweep.specs.declared.sweeping.Cut.{Cut}
+use Rattle.boc_sweep.specs.Cuts.{first_cut, Crosses}
 
 -- the rows over whose cuts a spawn leads, and the weight of the heaviest way over it
-abbrev pub spawn_stretch : List Row → List ℕ → List ℕ → ℕ → ℕ → Stretch
-spawn_stretch rows starts tails a b = record { low = a; high = b; value = start_of starts a + offset_of rows b + slice_index tails b }
+abbrev pub spawn_stretch : Cut → List Row → List ℕ → List ℕ → ℕ → ℕ → Stretch
+spawn_stretch cut rows starts tails a b = record { low = first_cut cut a; high = b; value = start_of starts a + offset_of rows b + slice_index tails b }
 
 -- the same of a wait of row b, which has this tail, for row a, which ends at this tick
 abbrev pub wait_stretch : ℕ → ℕ → ℕ → ℕ → Stretch
 wait_stretch end a tail b = record { low = a + 1; high = b; value = end + tail }
 
 -- the stretches of the spawns and the waits of the rows before row k
-pub record AreCrossing (rows : List Row) (starts tails : List ℕ) (k : ℕ) (stretches : List Stretch) : Type 0 where
+pub record AreCrossing (cut : Cut) (rows : List Row) (starts tails : List ℕ) (k : ℕ) (stretches : List Stretch) : Type 0 where
   pub inside : (r : Stretch) → Contains stretches r → r.high ≤ length rows
-  pub sound : (r : Stretch) → Contains stretches r → (v : ℕ) → r.low ≤ v → v < r.high → Crosses rows starts tails v r.value
-  pub spawns : (a b : ℕ) → IsChild rows a b → b < k → Contains stretches (spawn_stretch rows starts tails a b)
+  pub sound : (r : Stretch) → Contains stretches r → (v : ℕ) → r.low ≤ v → v < r.high → Crosses cut rows starts tails v r.value
+  pub spawns : (a b : ℕ) → IsChild rows a b → b < k → Contains stretches (spawn_stretch cut rows starts tails a b)
   pub waits : (a b : ℕ) → b < k → IsNear rows a b → Contains stretches (wait_stretch (end_of rows starts a) a (slice_index tails b) b)
 
 -- the stretches, once those of the first k waits of a row with this tail are among them

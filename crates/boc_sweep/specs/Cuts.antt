@@ -5,6 +5,8 @@ use Rattle.boc_runs.specs.declared.rows.Row.{Row}
 use Rattle.boc_runs.specs.Rows.{offset_of, edited}
 use Rattle.boc_plans.specs.Plans.{start_of, end_of, IsChild, IsEnd}
 use Rattle.boc_order.specs.Placed.{ArePlaced}
+use Rattle.boc_sweep.specs.declared.sweeping.Cut.{Cut}
+use Rattle.boc_sweep.specs.declared.sweeping.Cut.TheVariants.{Before, Behind}
 use Rattle.boc_sweep.specs.Ways.{AreTails, IsHeaviest}
 use Rattle.boc_order.specs.Waits.{Covers, IsNear}
 use Rattle.boc_sweep.specs.Links.{Node, start, stop, finish, number_of, IsNode, Links, tick_of}
@@ -34,9 +36,14 @@ pub record HasTails (rows : List Row) (from_starts from_ends : List ℕ) : Type 
   pub tails : AreTails (IsNode (length rows)) (Links rows (IsNear rows)) finish (tail_of from_starts from_ends)
   pub low : (r : ℕ) → r < length rows → slice_index from_starts r ≤ MOST_ROWS * MOST_TICKS
 
--- a link other than a row's own leads over the cut of row v, on a way of this weight
-abbrev pub Crosses : List Row → List ℕ → List ℕ → ℕ → ℕ → Type 0
-Crosses rows starts from_starts v weight =
-    ((a : ℕ) × (b : ℕ) × (a ≤ v) × (v < b) × IsChild rows a b × (start_of starts a + offset_of rows b + slice_index from_starts b ≡ weight))
+-- the first row over whose cut a spawn by this row leads
+abbrev pub first_cut : Cut → ℕ → ℕ
+first_cut Before parent = parent + 1
+first_cut Behind parent = parent
+
+-- a link other than a row's own leads over the cut of row v, and not to its start, on a way of this weight
+abbrev pub Crosses : Cut → List Row → List ℕ → List ℕ → ℕ → ℕ → Type 0
+Crosses cut rows starts from_starts v weight =
+    ((a : ℕ) × (b : ℕ) × (first_cut cut a ≤ v) × (v < b) × IsChild rows a b × (start_of starts a + offset_of rows b + slice_index from_starts b ≡ weight))
     ⊎ ((a : ℕ) × (b : ℕ) × (a < v) × (v < b) × IsNear rows a b × (end_of rows starts a + slice_index from_starts b ≡ weight))
     ⊎ ((a : ℕ) × (a < v) × (end_of rows starts a ≡ weight))

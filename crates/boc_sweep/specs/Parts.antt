@@ -5,6 +5,7 @@ use Rattle.boc_runs.specs.Rows.{IsRows}
 use Rattle.boc_order.specs.Standing.{IsPlanOf}
 use Rattle.boc_sweep.specs.declared.windows.Stretch.{Stretch}
 use Rattle.boc_sweep.specs.declared.sweeping.Parts.{Parts}
+use Rattle.boc_sweep.specs.declared.sweeping.Cut.TheVariants.{Behind}
 use Rattle.boc_sweep.specs.Cuts.{HasTails}
 use Rattle.boc_sweep.specs.Tops.{AreTops}
 use Rattle.boc_sweep.specs.Crossing.{AreCrossing, IsLatestEnd}
@@ -23,6 +24,6 @@ pub record AreParts (rows : List Row) (parts : Parts) : Type 0 where
   pub tails_are : HasTails rows parts.tails.now.starts.items parts.tails.now.ends.items
   pub lasts_are : HasLasts rows parts.lasts.now
   pub stretches : List Stretch
-  pub crossing : AreCrossing rows parts.plan.now.starts.items parts.tails.now.starts.items (length rows) stretches
+  pub crossing : AreCrossing Behind rows parts.plan.now.starts.items parts.tails.now.starts.items (length rows) stretches
   pub tops_are : AreTops stretches (length rows) parts.tops.now
   pub latest_are : HasLatestEnds rows parts.plan.now.starts.items parts.latest.now

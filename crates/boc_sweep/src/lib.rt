@@ -1,15 +1,26 @@
-//! The span of a run for each row at the least ticks that it can take, for all rows in one pass.
+//! The spans of a run with one row after another changed, for all rows in one pass: each row at the least ticks that it
+//! can take, or spawned as early as it can be.
 //!
 //! A row whose ticks change is a cut: each way from main's start to the end of all leads over it, by the row itself, by a
 //! spawn, or by a wait for an earlier row. The heaviest way to a link's begin is the earliest plan; the heaviest way
 //! from its end on is a tail, found from the last row back. Neither changes with the row's ticks, so the span is the
 //! weight of the heaviest way over the cut.
+//!
+//! With a row's spawn the cut lies just before the row's start: the row's own links are behind it, and the links to the
+//! row's start lead over it.
+//!
+//! The spans that the rows would have if one cown after another ordered nobody take a pass over the rows for each cown: a row is placed by
+//! the latest ends of those before it that need its other cowns.
 #![tactic(auto)]
 
+mod freed;
 mod lasts;
+mod spawns;
 mod sweeping;
 mod tails;
 mod windows;
 
+pub use freed::cown_sweep;
 pub use lasts::{last_children, least_ticks};
+pub use spawns::spawn_sweep;
 pub use sweeping::sweep;

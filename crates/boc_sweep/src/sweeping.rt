@@ -5,7 +5,7 @@ ghost use Rattle.boc_runs.specs.Rows.{IsRows};
 ghost use Rattle.boc_plans.specs.Edits.{IsSweep, IsLeastSpan};
 ghost use Rattle.boc_order.specs.Standing.{IsPlanOf};
 ghost use Rattle.boc_order.specs.Waits.{AreWaits, HasWaits};
-ghost use Rattle.boc_sweep.specs.Cuts.{HasTails};
+ghost use Rattle.boc_sweep.specs.Cuts.{first_cut, HasTails};
 ghost use Rattle.boc_sweep.specs.Parts.{AreParts, HasLatestEnds};
 ghost use Rattle.boc_sweep.specs.Crossing.{AreCrossing, ArePushed};
 ghost use Rattle.boc_sweep.specs.Lasts.{HasLasts};
@@ -19,6 +19,15 @@ use boc_program::limits::{MOST_ROWS, MOST_TICKS};
 use rayon::prelude::*;
 use std::alloc::{AllocError, Global};
 use std::thread::Threads;
+
+/// Where the cut of a row lies.
+#[derive(Clone, Copy)]
+pub enum Cut {
+    /// Just before the row's start.
+    Before,
+    /// Just behind the row's start.
+    Behind,
+}
 
 // What the span of each row is read from.
 #[derive(Clone, Copy)]
@@ -61,6 +70,17 @@ fn push_waits(
     Ok(())
 }
 
+// The first row over whose cut a spawn by this row leads.
+fn first_cut(cut: Cut, parent: u32) -> u32
+    requires { parent < MOST_ROWS }
+    ensures { result ≡ first_cut cut parent }
+{
+    match cut {
+        Cut::Before => parent + 1,
+        Cut::Behind => parent,
+    }
+}
+
 // The links to a row, as stretches of the rows over whose cuts they lead.
 fn push_links(
     rows: &SeenRows,
@@ -68,6 +88,7 @@ fn push_links(
     waits: &[u32],
     plan: &Earliest,
     tails: &Tails,
+    cut: Cut,
     stretches: &mut Vec<Stretch>,
 ) -> Result<(), AllocError>
     requires shape { IsRows rows.now }
@@ -75,13 +96,13 @@ fn push_links(
     requires waits { HasWaits rows.now row waits.now }
     requires placed { IsPlanOf rows.now plan.now }
     requires tails { HasTails rows.now tails.now.starts.items tails.now.ends.items }
-    requires crossing { AreCrossing rows.now plan.now.starts.items tails.now.starts.items row stretches.old.items }
-    ensures { IfOk result (λ _. AreCrossing rows.now plan.now.starts.items tails.now.starts.items (row + 1) stretches.new.items) }
+    requires crossing { AreCrossing cut rows.now plan.now.starts.items tails.now.starts.items row stretches.old.items }
+    ensures { IfOk result (λ _. AreCrossing cut rows.now plan.now.starts.items tails.now.starts.items (row + 1) stretches.new.items) }
 {
     let parent = rows.parent(row);
     let tail = tails.starts[row];
     stretches.push(Stretch {
-        low: parent,
+        low: first_cut(cut, parent),
         high: row as u32,
         value: plan.starts[parent as usize] + u64::from(rows.offset(row)) + tail,
     })?;
@@ -89,29 +110,30 @@ fn push_links(
     Ok(())
 }
 
-// The links that lead over the cuts of rows, as stretches of those rows.
-fn all_stretches(
+/// The links that lead over the cuts of rows, as stretches of those rows.
+pub fn all_stretches(
     alloc: Global,
     rows: &SeenRows,
     waits: &Links,
     plan: &Earliest,
     tails: &Tails,
+    cut: Cut,
 ) -> Result<Vec<Stretch>, AllocError>
     requires shape { IsRows rows.now }
     requires waits { AreWaits rows.now waits.now }
     requires placed { IsPlanOf rows.now plan.now }
     requires tails { HasTails rows.now tails.now.starts.items tails.now.ends.items }
-    ensures { IfOk result (λ s. AreCrossing rows.now plan.now.starts.items tails.now.starts.items (length rows.now) s.items) }
+    ensures { IfOk result (λ s. AreCrossing cut rows.now plan.now.starts.items tails.now.starts.items (length rows.now) s.items) }
 {
     let mut stretches = Vec::new(alloc);
     for row in 0..rows.len() {
-        push_links(rows, row, waits.of(row), plan, tails, &mut stretches)?;
+        push_links(rows, row, waits.of(row), plan, tails, cut, &mut stretches)?;
     }
     Ok(stretches)
 }
 
-// For each row the latest end among the rows before it.
-fn latest_ends(alloc: Global, rows: &SeenRows, plan: &Earliest) -> Result<Vec<u64>, AllocError>
+/// For each row the latest end among the rows before it.
+pub fn latest_ends(alloc: Global, rows: &SeenRows, plan: &Earliest) -> Result<Vec<u64>, AllocError>
     requires { IsPlanOf rows.now plan.now }
     ensures { IfOk result (λ latest. HasLatestEnds rows.now plan.now.starts.items latest.items) }
 {
@@ -183,7 +205,7 @@ pub fn sweep(
     ensures { IfOk result (λ spans. IsSweep rows.now spans.items) }
 {
     let tails = all_tails(alloc, rows, waits)?;
-    let stretches = all_stretches(alloc, rows, waits, plan, &tails)?;
+    let stretches = all_stretches(alloc, rows, waits, plan, &tails, Cut::Behind)?;
     let tops = all_tops(alloc, &stretches, rows.len())?;
     let latest = latest_ends(alloc, rows, plan)?;
     let parts = Parts {

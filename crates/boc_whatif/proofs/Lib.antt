@@ -1,4 +1,7 @@
+pub mod Changing
+pub mod Commuting
 pub mod Successive
 pub mod Keeping
 pub mod Least
 pub mod Ends
+pub mod FreedEnds

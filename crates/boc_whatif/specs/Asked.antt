@@ -3,7 +3,7 @@ use Rattle.std.specs.Prelude.{◌≡◌, ℕ, ◌-◌, min, List, [], ◌∷◌,
 use Rattle.boc_runs.specs.declared.rows.Row.{Row}
 use Rattle.boc_plans.specs.declared.edit.Edit.{Edit}
 use Rattle.boc_plans.specs.declared.sharing.Sharing.{Sharing}
-use Rattle.boc_plans.specs.Edits.{AllFit, IsFirstUnfit, all_edited}
+use Rattle.boc_plans.specs.Edits.{AreEdited, IsFirstUnfit}
 use Rattle.boc_runs.specs.Rows.{IsRows}
 use Rattle.boc_plans.specs.Seen.{seen}
 use Rattle.boc_order.specs.declared.plan.Earliest.{Earliest}
@@ -34,8 +34,7 @@ least_edited none (edit ∷ edits) = min edit.row (least_edited none edits)
 
 -- the edits fit, one after the other; these are the rows after them, and this is the least row that they change, or the number of rows
 pub record AreMade (rows : List Row) (edits : List Edit) (after : List Row) (from : ℕ) : Type 0 where
-  pub fit : AllFit rows edits
-  pub rows_are : after ≡ all_edited rows edits
+  pub edited : AreEdited rows edits after
   pub from_is : from ≡ least_edited (length rows) edits
 
 -- all edits are made; or those before the first that does not fit

@@ -13,7 +13,7 @@ ghost use Rattle.boc_whatif.specs.Pieces.{AreEnds, IsPiece, ArePieces};
 
 use crate::telling::Progress;
 use boc_greedy::{Consequences, Course, course_to, end_from, greedy_over};
-use boc_order::{Links, followers, work};
+use boc_order::{Links, work};
 use boc_plans::sharing::{SeenRows, Sharing};
 use boc_plans::workers::Workers;
 use boc_runs::rows::Rows;
@@ -23,10 +23,10 @@ use std::alloc::{AllocError, Global};
 use std::thread::Threads;
 
 // After so many plans it is told how far the sweep is.
-const STRETCH: u32 = 256;
+const STRETCH: u32 = 1024;
 
-// So many neighbouring rows make a piece of a stretch: the plan of the rows as they are is made once for them, up to where the first of their
-// plans differs. Each stretch but the last has 16 pieces at least, which threads share out.
+// So many neighbouring rows make a piece of a stretch: their plans go on from one course, which goes on from row to row. Each stretch but the
+// last has 64 pieces at least, which threads share out.
 const PIECE: usize = 16;
 
 /// What all plans of a sweep share.
@@ -35,9 +35,8 @@ pub struct Parts<'a> {
     rows: &'a Rows,
     sharing: Sharing,
     workers: Workers,
-    // The rows that each row waits for, those that wait for it, and what follows from each.
+    // The rows that each row waits for, and what follows from each.
     waits: &'a Links,
-    followers: &'a Links,
     consequences: &'a Consequences,
     // The offset of each row's last child.
     lasts: &'a [u32],
@@ -88,7 +87,7 @@ fn least_end(
                 &rows,
                 &changed,
                 parts.waits,
-                parts.followers,
+                parts.consequences,
                 parts.workers,
                 number,
                 least,
@@ -115,8 +114,50 @@ fn first_over(parts: &Parts<'_>, from: usize, to: usize) -> Option<u64>
     first
 }
 
-// The ends for the rows from one on, up to another one, whose plans go on from a course.
+// The ends for the rows from one on, up to another one, whose plans go on from a course. Before each row the course goes on itself, up to
+// where the plan of that row or of one behind it may differ.
 fn ends_along(
+    alloc: Global,
+    parts: &Parts<'_>,
+    course: &mut Course<'_>,
+    from: usize,
+    to: usize,
+) -> Result<Vec<u64>, AllocError>
+    requires order { from ≤ to }
+    requires there { to ≤ length parts.now.rows.now }
+    requires parts { AreParts parts.now }
+    requires course { IsCourse (seen parts.now.sharing parts.now.rows.now) parts.now.workers course.old }
+    ensures { IfOk result (λ ends. AreEnds (seen parts.now.sharing parts.now.rows.now) parts.now.workers from to ends.items) }
+{
+    let mut ends = Vec::with_capacity(alloc, to - from)?;
+    let rows = SeenRows::new(parts.rows, parts.sharing);
+    for row in from..to {
+        if let Some(tick) = first_over(parts, row, to) {
+            course.go_on(&rows, tick)?;
+        }
+        let end = least_end(alloc, parts, course, row)?;
+        ends.push(end)?;
+    }
+    Ok(ends)
+}
+
+// The ends for the rows from one on, up to another one, where all of them are that of the plan of the rows as they are.
+fn same_ends(
+    alloc: Global,
+    parts: &Parts<'_>,
+    from: usize,
+    to: usize,
+) -> Result<Vec<u64>, AllocError>
+    requires order { from ≤ to }
+    requires same { (row : ℕ) → from ≤ row → row < to → IsLeastGreedyEnd (seen parts.now.sharing parts.now.rows.now) parts.now.workers row parts.now.end }
+    ensures { IfOk result (λ ends. AreEnds (seen parts.now.sharing parts.now.rows.now) parts.now.workers from to ends.items) }
+{
+    vec![in alloc; parts.end; to - from]
+}
+
+// The ends for the rows of a piece, from one on, up to another one. Their plans go on from a copy of a course. Where no plan is to be made
+// there is none.
+fn piece_ends(
     alloc: Global,
     parts: &Parts<'_>,
     course: &Course<'_>,
@@ -129,40 +170,12 @@ fn ends_along(
     requires course { IsCourse (seen parts.now.sharing parts.now.rows.now) parts.now.workers course.now }
     ensures { IfOk result (λ ends. AreEnds (seen parts.now.sharing parts.now.rows.now) parts.now.workers from to ends.items) }
 {
-    let mut ends = Vec::with_capacity(alloc, to - from)?;
-    for row in from..to {
-        let end = least_end(alloc, parts, course, row)?;
-        ends.push(end)?;
-    }
-    Ok(ends)
-}
-
-// The ends for the rows of a piece, from one on, up to another one. The plan of the rows as they are is made once, up to where one of theirs
-// may differ. Where no plan is to be made it isn't.
-fn piece_ends(
-    alloc: Global,
-    parts: &Parts<'_>,
-    from: usize,
-    to: usize,
-) -> Result<Vec<u64>, AllocError>
-    requires order { from ≤ to }
-    requires there { to ≤ length parts.now.rows.now }
-    requires parts { AreParts parts.now }
-    ensures { IfOk result (λ ends. AreEnds (seen parts.now.sharing parts.now.rows.now) parts.now.workers from to ends.items) }
-{
     match first_over(parts, from, to) {
-        None => vec![in alloc; parts.end; to - from],
-        Some(tick) => {
+        None => same_ends(alloc, parts, from, to),
+        Some(_) => {
             let rows = SeenRows::new(parts.rows, parts.sharing);
-            let course = course_to(
-                alloc,
-                &rows,
-                parts.waits,
-                parts.consequences,
-                parts.workers,
-                tick,
-            )?;
-            ends_along(alloc, parts, &course, from, to)
+            let mut own = course.copied(alloc, &rows)?;
+            ends_along(alloc, parts, &mut own, from, to)
         }
     }
 }
@@ -172,12 +185,14 @@ fn pieces_between(
     rt: &(impl Threads + Sync),
     alloc: Global,
     parts: &Parts<'_>,
+    course: &Course<'_>,
     from: usize,
     to: usize,
 ) -> Result<Vec<Vec<u64>>, AllocError>
     requires order { from ≤ to }
     requires there { to ≤ length parts.now.rows.now }
     requires parts { AreParts parts.now }
+    requires course { IsCourse (seen parts.now.sharing parts.now.rows.now) parts.now.workers course.now }
     ensures { IfOk result (λ pieces. ArePieces (seen parts.now.sharing parts.now.rows.now) parts.now.workers from to pieces.items) }
 {
     let count = (to - from).div_ceil(PIECE);
@@ -186,12 +201,13 @@ fn pieces_between(
         .with_min_len(1)
         .map(
             |piece: usize| -> Result<Vec<u64>, AllocError>
-                requires { (from + piece * PIECE < to) × (to ≤ length parts.now.rows.now) × AreParts parts.now }
+                requires { (from + piece * PIECE < to) × (to ≤ length parts.now.rows.now) × AreParts parts.now
+                    × IsCourse (seen parts.now.sharing parts.now.rows.now) parts.now.workers course.now }
                 ensures { IfOk result (λ ends. IsPiece (seen parts.entry.now.sharing parts.entry.now.rows.now) parts.entry.now.workers
                     from to piece ends.items) }
             {
                 let begin = from + piece * PIECE;
-                piece_ends(alloc, parts, begin, to.min(begin + PIECE))
+                piece_ends(alloc, parts, course, begin, to.min(begin + PIECE))
             },
         )
         .collect::<Result<Vec<Vec<u64>>, AllocError>>(rt, alloc)?
@@ -202,15 +218,17 @@ fn ends_between(
     rt: &(impl Threads + Sync),
     alloc: Global,
     parts: &Parts<'_>,
+    course: &Course<'_>,
     from: usize,
     to: usize,
 ) -> Result<Vec<u64>, AllocError>
     requires order { from ≤ to }
     requires there { to ≤ length parts.now.rows.now }
     requires parts { AreParts parts.now }
+    requires course { IsCourse (seen parts.now.sharing parts.now.rows.now) parts.now.workers course.now }
     ensures { IfOk result (λ ends. AreEnds (seen parts.now.sharing parts.now.rows.now) parts.now.workers from to ends.items) }
 {
-    let pieces = pieces_between(rt, alloc, parts, from, to)?;
+    let pieces = pieces_between(rt, alloc, parts, course, from, to)?;
     let mut ends = Vec::with_capacity(alloc, to - from)?;
     for piece in &pieces {
         ends.extend_from_slice(piece)?;
@@ -238,7 +256,8 @@ fn behind_stretch(parts: &Parts<'_>, from: usize) -> usize
     count
 }
 
-// The ends for all rows, stretch by stretch.
+// The ends for all rows, stretch by stretch. The plan of the rows as they are is made once: before each stretch its course goes on up to where
+// the plan of one of the rows that are left may differ.
 fn all_ends(
     rt: &(impl Threads + Sync),
     alloc: Global,
@@ -249,11 +268,17 @@ fn all_ends(
     ensures { IfOk result (λ ends. IsGreedySweep (seen parts.now.sharing parts.now.rows.now) parts.now.workers ends.items) }
 {
     let count = parts.rows.as_slice().len();
+    let rows = SeenRows::new(parts.rows, parts.sharing);
+    let (waits, consequences) = (parts.waits, parts.consequences);
+    let mut course = course_to(alloc, &rows, waits, consequences, parts.workers, 0)?;
     let mut all = Vec::with_capacity(alloc, count)?;
     let mut done = 0;
     while done < count {
         let next = behind_stretch(parts, done);
-        let ends = ends_between(rt, alloc, parts, done, next)?;
+        if let Some(tick) = first_over(parts, done, count) {
+            course.go_on(&rows, tick)?;
+        }
+        let ends = ends_between(rt, alloc, parts, &course, done, next)?;
         all.extend_from_slice(&ends)?;
         done = next;
         progress.done(done, count);
@@ -280,7 +305,6 @@ pub fn least_ends(
     ensures { IfOk result (λ ends. IsGreedySweep (seen sharing rows.now) workers ends.items) }
 {
     let seen = SeenRows::new(rows, sharing);
-    let followers = followers(alloc, waits)?;
     let consequences = Consequences::of(alloc, &seen, waits)?;
     let work = work(rows.as_slice());
     let plan = greedy_over(alloc, &seen, waits, &consequences, workers, work, span)?;
@@ -289,7 +313,6 @@ pub fn least_ends(
         sharing,
         workers,
         waits,
-        followers: &followers,
         consequences: &consequences,
         lasts,
         starts: &plan.starts,

@@ -2,8 +2,8 @@
 
 /// Is told how far a sweep is.
 pub trait Progress {
-    /// So many of all the rows are done. A sweep calls it in order, once after each stretch of rows, and so at last with all of them.
-    fn done(&mut self, rows: usize, of: usize);
+    /// So many of all the rows or cowns are done. A sweep calls it in order, once after each stretch of them, and so at last with all.
+    fn done(&mut self, done: usize, of: usize);
 }
 
 /// Is told how far a sweep is, and leaves it at that.
@@ -11,5 +11,5 @@ pub trait Progress {
 pub struct Silent;
 
 impl Progress for Silent {
-    fn done(&mut self, _rows: usize, _of: usize) {}
+    fn done(&mut self, _done: usize, _of: usize) {}
 }

@@ -1,36 +1,41 @@
 // Rows that are edited one after another.
 
-ghost use Rattle.std.specs.Prelude.{◌≡◌, ◌≤◌, ◌+◌, ◌-◌, length, take, IfOk, IfErr, OnOk, OnErr};
+ghost use Rattle.std.specs.Prelude.{◌≡◌, ◌≤◌, ◌+◌, ◌-◌, List, length, take, IfOk, IfErr, OnOk, OnErr};
+ghost use Rattle.boc_runs.specs.declared.rows.Row.{Row};
+ghost use Rattle.boc_runs.specs.Changes.{without};
 ghost use Rattle.boc_plans.specs.Plans.{work_of};
 ghost use Rattle.boc_plans.specs.Greedy.{IsSpan};
 ghost use Rattle.boc_runs.specs.Rows.{Fits, edited};
-ghost use Rattle.boc_plans.specs.Edits.{AllFit, IsEditFault, IsFirstUnfit, IsSweep, all_edited};
-ghost use Rattle.boc_plans.specs.Sweeps.{IsGreedySweep};
+ghost use Rattle.boc_program.specs.declared.limits.TheConstants.{MOST_COWNS};
+ghost use Rattle.boc_plans.specs.Edits.{AreEdited, IsChanged, IsCownSweep, IsEditFault, IsFirstUnfit, IsSpawnSweep, IsSweep, takes};
+ghost use Rattle.boc_plans.specs.Sweeps.{IsGreedyCownSweep, IsGreedySweep};
 ghost use Rattle.boc_plans.specs.Seen.{seen};
 ghost use Rattle.boc_order.specs.Profiles.{IsProfileOf};
 ghost use Rattle.boc_greedy.specs.Curves.{IsCurve};
 ghost use Rattle.boc_greedy.specs.Plans.{IsGreedyPlanOf};
 ghost use Rattle.boc_whatif.specs.Asked.{least_edited};
 
-use crate::edits::{Unfit, check, make_all};
+use crate::cown_ends::cown_ends;
+use crate::edits::{Unfit, make, make_all};
 use crate::least_ends::least_ends;
 use crate::telling::Progress;
 use boc_greedy::{Consequences, CurvePoint, Greedy, curve_over, greedy_over};
 use boc_order::{Earliest, Links, Profile, waits_and_plan};
-use boc_plans::edit::{Edit, EditFault};
+use boc_plans::edit::{Change, Edit, EditFault};
 use boc_plans::sharing::{SeenRows, Sharing};
 use boc_plans::workers::Workers;
 use boc_program::limits::MOST_ROWS;
+use boc_program::short::HeldCown;
 use boc_runs::rows::Rows;
-use boc_sweep::{last_children, sweep};
+use boc_sweep::{cown_sweep, last_children, spawn_sweep, sweep};
 use std::alloc::{AllocError, Global};
 use std::marker::Model;
 use std::thread::Threads;
 
-/// The rows of a finished run, of which a caller asks what they would be worth with other ticks.
+/// The rows of a finished run, of which a caller asks what they would be worth if some of them changed.
 ///
 /// It has rows of its own, with those that each waits for, and their earliest plan. An edit has one row take other
-/// ticks, and places that row and those after it anew. All times are ticks.
+/// ticks, be spawned at another tick, or cost a part of what it did, and places that row and those after it anew. All times are ticks.
 #[derive(Drop)]
 pub struct WhatIf {
     rows: Rows,
@@ -94,36 +99,60 @@ impl WhatIf {
         ensures rows { OnOk result (self.new.rows ≡ edited self.old.rows row ticks) }
         ensures sharing { self.new.sharing ≡ self.old.sharing }
         ensures touched { OnOk result (self.new.touched + row ≡ length self.old.rows) }
-        ensures fault { IfErr result (IsEditFault self.old.rows row ticks) }
+        ensures fault { IfErr result (IsEditFault self.old.rows (takes row ticks)) }
         ensures refused { OnErr result (Fits self.old.rows row ticks → ⊥) }
         ensures stays { OnErr result (self.new ≡ self.old) }
     {
-        check(self.rows.as_slice(), &self.lasts, row, ticks)?;
-        self.rows.set_ticks(row, ticks);
+        let change = Change::Ticks(ticks);
+        self.make(Edit { row, change })
+    }
+
+    /// Has a row change. The fault says why it can't, and then nothing changes.
+    ///
+    /// It takes no memory. It computes the row and those after it again.
+    pub fn make(&mut self, edit: Edit) -> Result<(), EditFault>
+        ensures made { OnOk result (IsChanged self.old.rows edit.row edit.change self.new.rows) }
+        ensures sharing { self.new.sharing ≡ self.old.sharing }
+        ensures touched { OnOk result (self.new.touched + edit.row ≡ length self.old.rows) }
+        ensures fault { IfErr result (IsEditFault self.old.rows edit) }
+        ensures refused { OnErr result ((after : List Row) → IsChanged self.old.rows edit.row edit.change after → ⊥) }
+        ensures stays { OnErr result (self.new ≡ self.old) }
+    {
+        let number = edit.row as usize;
+        make(&mut self.rows, &mut self.lasts, edit)?;
         let rows = SeenRows::new(&self.rows, self.sharing);
-        let number = row as usize;
         self.plan.place_from(&rows, &self.waits, number);
         self.touched = (rows.len() - number) as u64;
         Ok(())
     }
 
-    /// Has rows take other ticks, edit by edit, up to the first that they can't take as those before it have made them. Those before it
+    /// Has rows change, edit by edit, up to the first that they can't take as those before it have made them. Those before it
     /// are made.
     ///
     /// It takes no memory. It computes the least row that is edited and those after it again, once for all edits.
     pub fn edit_all(&mut self, edits: &[Edit]) -> Result<(), Unfit>
-        ensures fit { OnOk result (AllFit self.old.rows edits.now) }
-        ensures rows { OnOk result (self.new.rows ≡ all_edited self.old.rows edits.now) }
+        ensures rows { OnOk result (AreEdited self.old.rows edits.now self.new.rows) }
         ensures touched { OnOk result (self.new.touched + least_edited (length self.old.rows) edits.now ≡ length self.old.rows) }
         ensures unfit { IfErr result (λ u. IsFirstUnfit self.old.rows edits.now u.number u.fault) }
-        ensures before { IfErr result (λ u. self.new.rows ≡ all_edited self.old.rows (take (u.number - 1) edits.now)) }
+        ensures before { IfErr result (λ u. AreEdited self.old.rows (take (u.number - 1) edits.now) self.new.rows) }
         ensures sharing { self.new.sharing ≡ self.old.sharing }
     {
-        let (from, answer) = make_all(&mut self.rows, &self.lasts, edits);
+        let (from, answer) = make_all(&mut self.rows, &mut self.lasts, edits);
         let rows = SeenRows::new(&self.rows, self.sharing);
         self.plan.place_from(&rows, &self.waits, from);
         self.touched = (rows.len() - from) as u64;
         answer
+    }
+
+    /// The same rows, as they are edited, none of which has this cown: it orders nobody. `AllocError` says that memory was refused.
+    ///
+    /// It takes memory and time that grow with the number of rows and their cowns.
+    pub fn without(&self, alloc: Global, cown: HeldCown) -> Result<WhatIf, AllocError>
+        ensures rows { IfOk result (λ w. w.rows ≡ without cown self.now.rows) }
+        ensures sharing { IfOk result (λ w. w.sharing ≡ self.now.sharing) }
+        ensures touched { IfOk result (λ w. w.touched ≡ 0) }
+    {
+        WhatIf::of(alloc, self.rows.without(alloc, cown)?, self.sharing)
     }
 
     /// How many rows the last edit that was taken computed again: those from its row on, or from the
@@ -239,12 +268,70 @@ impl WhatIf {
         let rows = SeenRows::new(&self.rows, self.sharing);
         sweep(rt, alloc, &rows, &self.waits, &self.plan, &self.lasts)
     }
+
+    /// For each row but main the span that the rows would have if that row alone were spawned as early as it can be: one tick after its elder
+    /// sibling's offset, or at its parent's tick 1. `AllocError` says that memory was refused.
+    ///
+    /// No row is placed again: it takes memory that grows with the number of rows and their cowns, and that much time with its logarithm
+    /// beside.
+    pub fn spawn_sweep(&self, alloc: Global) -> Result<Vec<u64>, AllocError>
+        ensures sweep { IfOk result (λ spans. IsSpawnSweep (seen self.now.sharing self.now.rows) spans.items) }
+        ensures few { IfOk result (λ spans. length spans.items ≤ MOST_ROWS) }
+    {
+        let rows = SeenRows::new(&self.rows, self.sharing);
+        spawn_sweep(alloc, &rows, &self.waits, &self.plan)
+    }
+
+    /// For each of so many cowns the span that the rows would have if that cown ordered nobody. `AllocError` says that memory was refused.
+    ///
+    /// Each cown takes one pass over the rows and their cowns, and memory that grows with the number of rows. Threads share out the cowns.
+    pub fn cown_sweep(
+        &self,
+        rt: &(impl Threads + Sync),
+        alloc: Global,
+        count: usize,
+    ) -> Result<Vec<u64>, AllocError>
+        requires { count ≤ MOST_COWNS }
+        ensures sweep { IfOk result (λ spans. IsCownSweep (seen self.now.sharing self.now.rows) count spans.items) }
+        ensures few { IfOk result (λ spans. length spans.items ≤ MOST_ROWS) }
+    {
+        let rows = SeenRows::new(&self.rows, self.sharing);
+        cown_sweep(rt, alloc, &rows, count)
+    }
+
+    /// For each of so many cowns the end of the greedy plan that the rows would have for so many workers if that cown ordered nobody.
+    /// `AllocError` says that memory was refused.
+    ///
+    /// It makes a greedy plan for each cown, of a copy of the rows. Threads share out the cowns, and progress is told after each 16 of them.
+    pub fn greedy_cown_sweep(
+        &self,
+        rt: &(impl Threads + Sync),
+        alloc: Global,
+        count: usize,
+        workers: Workers,
+        progress: &mut impl Progress,
+    ) -> Result<Vec<u64>, AllocError>
+        requires { count ≤ MOST_COWNS }
+        ensures sweep { IfOk result (λ ends. IsGreedyCownSweep (seen self.now.sharing self.now.rows) workers count ends.items) }
+        ensures few { IfOk result (λ ends. length ends.items ≤ MOST_ROWS) }
+    {
+        cown_ends(
+            rt,
+            alloc,
+            &self.rows,
+            self.sharing,
+            count,
+            workers,
+            progress,
+        )
+    }
+
     /// For each row the end of the greedy plan that the rows would have for so many workers if that row alone took the least ticks that it
     /// can: the offset of its last child, and 1 at least. `AllocError` says that memory was refused.
     ///
     /// For each row that takes more than its least ticks it makes a greedy plan, but what the plans of some neighbouring rows have in common
     /// with that of the rows as they are it makes once. Threads share out the rows, and each takes memory that grows with the number of
-    /// rows. Progress is told after each 256 plans.
+    /// rows. Progress is told after each 1,024 plans.
     pub fn greedy_sweep(
         &self,
         rt: &(impl Threads + Sync),

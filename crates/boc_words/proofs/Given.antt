@@ -1,17 +1,21 @@
 -- What was found for an argument.
 use Rattle.std.proofs.Common.{zero, suc, ◌≡◌, ◌∙◌, ◌+◌, ◌<◌, ◌≤◌, ℕ, List, [], ◌∷◌, ◌++◌, map, take, drop, length, get_or, Option, Some, None, Bool}
 use Rattle.std.proofs.Common.{false, sym, ap, refl, subst, arith, Bor}
-use Rattle.std.specs.Prelude.{option_map, unwrap_or, ◌^◌, ◌==◌, ◌↔◌, IsTrue}
+use Rattle.std.specs.Prelude.{option_map, unwrap_or, ◌==◌, ◌↔◌, IsTrue}
 use Rattle.std.specs.Str.{bytes_eq}
 use Rattle.std.proofs.lemmas.Slice.Eq.{bytes_eq-Decides}
 use Rattle.std.specs.Option.{UnwrapsOrElse}
-use Rattle.std.specs.List.{All}
+use Rattle.std.specs.List.{All, AllZip}
+use Rattle.std.proofs.lemmas.List.{get_or-map, length-map, map-append}
 use Rattle.std.proofs.lemmas.List.Elements.{All-push}
 use Rattle.clap.specs.Words.{Row}
 use Rattle.boc_plans.specs.declared.edit.Edit.{Edit}
 use Rattle.boc_words.specs.Commands.{IsNumberOf, NumberOption}
-use Rattle.boc_words.specs.EditWords.{edit_word}
-use Rattle.boc_words.specs.Words.{HasNoNumber, IsEditWord, IsFirstMisspelt, IsGiven, values_at}
+use Rattle.boc_words.specs.EditWords.{IsEditWord, edit_word}
+use Rattle.boc_words.specs.Words.{AreCownTexts, HasNoNumber, IsFirstMisspelt, IsGiven, IsOfCowns, IsOfKind, Says, values_at}
+use Rattle.boc_words.specs.declared.fault.WordsFault.{WordsFault}
+use Rattle.boc_words.specs.declared.fault.WordsFault.TheVariants as faults
+use Rattle.clap.specs.declared.error.kind.ErrorKind.TheVariants as kinds
 
 -- the texts behind what was found, or none
 pub read : (found : Option (Bor (List (Bor (List ℕ))))) (r : Bor (List (Bor (List ℕ)))) (IsDefault : Bor (List (Bor (List ℕ))) → Type 0)
@@ -50,23 +54,37 @@ pub texts_next : (words : List (Bor (List ℕ))) (i : ℕ) (d : Bor (List ℕ)) 
 texts_next words i d h = ap (λ n. map (λ t. t.now) (take n words)) (add_one i) ∙ texts_more words i d h
 
 -- the texts of the edits, with one more
-edits_more : (edits : List Edit) (edit : Edit) → map (λ e. edit_word e.row e.ticks) (edits ++ (edit ∷ []))
-    ≡ map (λ e. edit_word e.row e.ticks) edits ++ (edit_word edit.row edit.ticks ∷ [])
-edits_more [] edit = refl
-edits_more (first ∷ edits) edit = ap (λ l. edit_word first.row first.ticks ∷ l) (edits_more edits edit)
+edits_more : (edits : List Edit) (edit : Edit) → map edit_word (edits ++ (edit ∷ [])) ≡ map edit_word edits ++ (edit_word edit ∷ [])
+edits_more edits edit = map-append edit_word edits (edit ∷ [])
 
 pub taken_next : (words : List (Bor (List ℕ))) (i : ℕ) (d : Bor (List ℕ)) (edits after : List Edit) (edit : Edit) → i < length words
-    → map (λ e. edit_word e.row e.ticks) edits ≡ map (λ t. t.now) (take i words) → after ≡ edits ++ (edit ∷ [])
-    → (get_or words i d).now ≡ edit_word edit.row edit.ticks
-    → map (λ e. edit_word e.row e.ticks) after ≡ map (λ t. t.now) (take (i + 1) words)
+    → map edit_word edits ≡ map (λ t. t.now) (take i words) → after ≡ edits ++ (edit ∷ []) → (get_or words i d).now ≡ edit_word edit
+    → map edit_word after ≡ map (λ t. t.now) (take (i + 1) words)
 taken_next words i d edits after edit h taken is word =
-    ap (map (λ e. edit_word e.row e.ticks)) is ∙ edits_more edits edit ∙ ap (λ l. l ++ (edit_word edit.row edit.ticks ∷ [])) taken
+    ap (map edit_word) is ∙ edits_more edits edit ∙ ap (λ l. l ++ (edit_word edit ∷ [])) taken
     ∙ ap (λ w. map (λ t. t.now) (take i words) ++ (w ∷ [])) (sym word) ∙ sym (texts_next words i d h)
 
-pub spelt_next : (words : List (Bor (List ℕ))) (i : ℕ) (d : Bor (List ℕ)) → i < length words → All IsEditWord (map (λ t. t.now) (take i words))
-    → IsEditWord (get_or words i d).now → All IsEditWord (map (λ t. t.now) (take (i + 1) words))
-spelt_next words i d h spelt word =
-    subst (All IsEditWord) (sym (texts_next words i d h)) (All-push IsEditWord (map (λ t. t.now) (take i words)) (get_or words i d).now spelt word)
+all_zip_push : {X Y : Type 0} (R : X → Y → Type 0) (xs : List X) (ys : List Y) (x : X) (y : Y) → AllZip R xs ys → R x y
+    → AllZip R (xs ++ (x ∷ [])) (ys ++ (y ∷ []))
+all_zip_push R [] [] x y all one = (one, tt)
+all_zip_push R [] (b ∷ ys) x y all one = absurd all
+all_zip_push R (a ∷ xs) [] x y all one = absurd all
+all_zip_push R (a ∷ xs) (b ∷ ys) x y all one = (all.0, all_zip_push R xs ys x y all.1 one)
+
+-- the numbers of the texts, with one more
+pub said_next : (texts : List (Bor (List ℕ))) (i : ℕ) (d : Bor (List ℕ)) (numbers after : List ℕ) (number : ℕ) → i < length texts
+    → AllZip Says (map (λ t. t.now) (take i texts)) numbers → after ≡ numbers ++ (number ∷ []) → Says (get_or texts i d).now number
+    → AllZip Says (map (λ t. t.now) (take (i + 1) texts)) after
+said_next texts i d numbers after number h said is one =
+    subst (λ (l : List (List ℕ)). AllZip Says l after) (sym (texts_next texts i d h))
+    (subst (AllZip Says (map (λ t. t.now) (take i texts) ++ ((get_or texts i d).now ∷ []))) (sym is)
+    (all_zip_push Says (map (λ t. t.now) (take i texts)) numbers (get_or texts i d).now number said one))
+
+-- what holds of each text, with one more
+pub all_next : (P : List ℕ → Type 0) (words : List (Bor (List ℕ))) (i : ℕ) (d : Bor (List ℕ)) → i < length words
+    → All P (map (λ t. t.now) (take i words)) → P (get_or words i d).now → All P (map (λ t. t.now) (take (i + 1) words))
+all_next P words i d h all one =
+    subst (All P) (sym (texts_next words i d h)) (All-push P (map (λ t. t.now) (take i words)) (get_or words i d).now all one)
 
 around : (words : List (Bor (List ℕ))) (i : ℕ) (d : Bor (List ℕ)) → i < length words
     → map (λ t. t.now) words ≡ map (λ t. t.now) (take i words) ++ ((get_or words i d).now ∷ map (λ t. t.now) (drop (suc i) words))
@@ -82,8 +100,7 @@ length_before (word ∷ words) (suc i) h = ap suc (length_before words i (omega 
 -- the first word that is no edit
 pub first_misspelt : (values : List (List ℕ)) (words : List (Bor (List ℕ))) (i : ℕ) (d : Bor (List ℕ)) → map (λ t. t.now) words ≡ values → i < length words
     → All IsEditWord (map (λ t. t.now) (take i words))
-    → ((row ticks : ℕ) → row < 2 ^ 32 → ticks < 2 ^ 32 → (get_or words i d).now ≡ edit_word row ticks → ⊥)
-    → IsFirstMisspelt values (i + 1)
+    → (IsEditWord (get_or words i d).now → ⊥) → IsFirstMisspelt values (i + 1)
 first_misspelt values words i d is h spelt none = record {
   before = map (λ t. t.now) (take i words);
   word = (get_or words i d).now;
@@ -91,8 +108,21 @@ first_misspelt values words i d is h spelt none = record {
   split = sym is ∙ around words i d h;
   number_is = ap (λ n. n + 1) (sym (length_before words i h));
   spelt = spelt;
-  misspelt = λ edit. none edit.row edit.ticks edit.few_rows edit.few_ticks edit.spells;
+  misspelt = none;
 }
+
+-- a text of which something does not hold
+pub not_all : (P : List ℕ → Type 0) (values : List (List ℕ)) (words : List (Bor (List ℕ))) (i : ℕ) (d : Bor (List ℕ))
+    → map (λ t. t.now) words ≡ values → i < length words → (P (get_or words i d).now → ⊥) → All P values → ⊥
+not_all P values words i d is below none all =
+    let every : All P (map (λ t. t.now) words) = subst (All P) (sym is) all in
+    none (subst P (get_or-map (λ t. t.now) words i d [] below) (every i [] (omega (arith, below, length-map words (λ (t : Bor (List ℕ)). t.now)))))
+
+-- a text given to `--without` that is no number, and the fault that says so
+pub of_cowns : (rows : List Row) (fault : WordsFault) → IsOfKind kinds.ValueValidation fault → (AreCownTexts rows → ⊥) → IsOfCowns rows fault
+of_cowns rows (faults.Parser e) is none = (is, none)
+of_cowns rows (faults.EditWord number) is none = is
+of_cowns rows faults.Memory is none = tt
 
 -- there is one text, and it is this word
 pub one_text_is : (texts : List (Bor (List ℕ))) (d : Bor (List ℕ)) (word : List ℕ) (r : Bool) → 1 ≤ length texts → length texts < 2

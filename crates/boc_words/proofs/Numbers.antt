@@ -126,8 +126,7 @@ some_number option rows one misses = go (all_of option.id rows) one misses.given
         none spelled.value spelled.taken (record {
           text = is.0;
           alone = is.1;
-          numeral = spelled.numeral;
-          value = spelled.value_is;
+          says = record { numeral = spelled.numeral; value = spelled.value_is };
         })
 
 pub some_numbers : (options : List NumberOption) (rows : List Row) → HaveOne options rows → MissesNumber options rows → ⊥

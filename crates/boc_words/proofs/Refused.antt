@@ -24,16 +24,19 @@ has_numbers found is misses =
     let rows : found.1 ≡ named.0 = cc in
     some_numbers number_options named.0 (subst (HaveOne number_options) rows is) named.2
 
--- what the parser takes has no fault but a misspelt edit
+-- what the parser takes has no fault but what does not fit, or a misspelt edit
 pub misnamed : (words : List (List ℕ)) (asked : Option (Text × List Row)) (fault : WordsFault) → AreTaken words
     → asked ≡ subcommand_of command_line words → IsMisnamed asked fault → IsRefused words fault
 misnamed words asked fault taken is h = go fault (named words taken) (subst (λ (n : Option (Text × List Row)). IsMisnamed n fault) is h)
   where
     go : (f : WordsFault) → ((found : Text × List Row) × (subcommand_of command_line words ≡ Some found) × IsCommand found)
         → IsMisnamed (subcommand_of command_line words) f → IsRefused words f
-    go (faults.Parser e) found m = elim (subst (λ (n : Option (Text × List Row)). IsMisnamed n (faults.Parser e)) found.1 m) [
-      | inl unknown ↦ absurd (known found.0 found.2.0 unknown)
-      | inr misses ↦ absurd (has_numbers found.0 found.2.1 misses)
+    go (faults.Parser e) found m = elim m [
+      | inl unknown ↦ absurd (known found.0 found.2.0 (subst IsUnknown found.1 unknown))
+      | inr rest ↦ elim rest [
+        | inl misses ↦ absurd (has_numbers found.0 found.2.1 (subst HasNoNumbers found.1 misses))
+        | inr unfit ↦ inr (taken, unfit)
+      ]
     ]
     go (faults.EditWord number) found m = (taken, m)
     go faults.Memory found m = tt

@@ -19,7 +19,7 @@ use Rattle.clap.specs.declared.parser.matches.ValueSource.{ValueSource}
 use Rattle.clap.specs.declared.parser.matches.ValueSource.TheVariants.{CommandLine, DefaultValue}
 use Rattle.boc_words.specs.declared.arguments.Numbers.{Numbers}
 use Rattle.boc_words.specs.declared.arguments.Numbers.TheVariants.{UpTo, Every}
-use Rattle.boc_words.specs.Commands.{Argument, NumberOption, flag, number, operands, parser_of, rule_at}
+use Rattle.boc_words.specs.Commands.{Argument, NumberOption, flag, number, operands, parser_of, repeated, rule_at}
 use Rattle.boc_words.proofs.Numbers.{HasOne, HaveOne, IsOne, other_rows, row_added, row_passed, row_read}
 use Rattle.boc_words.proofs.Walks.{Fine, KeepsDefault, bare, neither}
 
@@ -154,20 +154,24 @@ keep_flag i id other differs rows good = go (has_row id rows) refl
         subst (HasOne other) (sym (row_added id (more_values DefaultValue (codes "false" ∷ [])) (row ∷ []) rows is))
         (row_kept other rows row differs good)
 
--- ---- words
+-- ---- texts and words
 
-fine_operands : (i : ℕ) (id : Text) (other : NumberOption) → bytes_eq id other.id ≡ false
-    → Fine (HasOne other) false (built_at i (operands id))
-fine_operands i id other differs values rows none good =
-    let texts : List Text = values_or_missing (built_at i (operands id)) values in
-    subst (IsOne other.numbers) (sym (other_rows other.id id
+-- each use of the argument adds texts to its row
+abbrev AddsTexts : Text → Rule → Type 0
+AddsTexts id rule = (values : List Text) (rows : List Row)
+    → used rule values rows ≡ with_values id (reading_by rule) CommandLine (values_or_missing rule values) rows
+
+fine_texts : (id : Text) (rule : Rule) (other : NumberOption) → bytes_eq id other.id ≡ false → AddsTexts id rule → Fine (HasOne other) false rule
+fine_texts id rule other differs adds values rows none good =
+    let texts : List Text = values_or_missing rule values in
+    subst (IsOne other.numbers) (sym (ap (all_of other.id) (adds values rows) ∙ other_rows other.id id
     (λ r. record r { values = r.values ++ texts; source = Some (stronger r.source CommandLine) })
     (record {
       id = id;
       values = texts;
       count = None;
       source = Some CommandLine;
-      reading = reading_by (built_at i (operands id));
+      reading = reading_by rule;
     }) rows differs refl (λ r. refl))) good
 
 -- ---- the flag of help
@@ -201,6 +205,7 @@ same_option a b ids numbers =
 abbrev pub keeps : Argument → NumberOption → Bool
 keeps (number option) other = if bytes_eq option.id other.id then same_numbers option.numbers other.numbers else true
 keeps (flag id) other = not (bytes_eq id other.id)
+keeps (repeated id) other = not (bytes_eq id other.id)
 keeps (operands id) other = not (bytes_eq id other.id)
 
 not_true : (b : Bool) → not b ≡ true → b ≡ false
@@ -218,11 +223,15 @@ fine_at (number option) i other keep = go (bytes_eq option.id other.id) refl kee
         subst (λ (o : NumberOption). Fine (HasOne o) false (built_at i (number option))) is (fine_own i option)
     go false differs fits = fine_other i option other differs
 fine_at (flag id) i other keep = fine_flag i id other (not_true (bytes_eq id other.id) keep)
-fine_at (operands id) i other keep = fine_operands i id other (not_true (bytes_eq id other.id) keep)
+fine_at (repeated id) i other keep =
+    fine_texts id (built_at i (repeated id)) other (not_true (bytes_eq id other.id) keep) (λ values rows. refl)
+fine_at (operands id) i other keep =
+    fine_texts id (built_at i (operands id)) other (not_true (bytes_eq id other.id) keep) (λ values rows. refl)
 
 keep_at : (a : Argument) (i : ℕ) (other : NumberOption) → keeps a other ≡ true → KeepsDefault (HasOne other) (built_at i a)
 keep_at (number option) i other keep = bare (HasOne other) (built_at i (number option)) refl
 keep_at (flag id) i other keep = keep_flag i id other (not_true (bytes_eq id other.id) keep)
+keep_at (repeated id) i other keep = bare (HasOne other) (built_at i (repeated id)) refl
 keep_at (operands id) i other keep = bare (HasOne other) (built_at i (operands id)) refl
 
 -- and so do the numbers of all options

@@ -19,10 +19,11 @@ pub record NumberOption : Type 0 where
   pub id : Text
   pub numbers : Numbers
 
--- an argument: an option with a number; a flag, `--ID`; or any number of words
+-- an argument: an option with a number; a flag, `--ID`; an option with a text, `--ID TEXT`, that may be given many times; or any number of words
 pub data Argument : Type 0 where
   number : NumberOption → Argument
   flag : Text → Argument
+  repeated : Text → Argument
   operands : Text → Argument
 
 -- `--workers N`, of so many threads that run a program
@@ -41,6 +42,18 @@ number_options = runners_option ∷ workers_option ∷ []
 abbrev pub sharing_flag : Argument
 sharing_flag = flag (codes "shared-reads")
 
+-- `--cowns`, by which a sweep leaves out cowns
+abbrev pub cowns_flag : Argument
+cowns_flag = flag (codes "cowns")
+
+-- `--spawns`, by which a sweep spawns rows earlier
+abbrev pub spawns_flag : Argument
+spawns_flag = flag (codes "spawns")
+
+-- `--without COWN`, as often as one likes
+abbrev pub without_option : Argument
+without_option = repeated (codes "without")
+
 -- the words of edits
 abbrev pub edits_operands : Argument
 edits_operands = operands (codes "edits")
@@ -54,9 +67,9 @@ signature_of kinds.Check = (codes "check", [])
 signature_of kinds.Run = (codes "run", number runners_option ∷ [])
 signature_of kinds.Profile = (codes "profile", number workers_option ∷ sharing_flag ∷ [])
 signature_of kinds.Time = (codes "time", number runners_option ∷ number workers_option ∷ sharing_flag ∷ [])
-signature_of kinds.WhatIf = (codes "whatif", number workers_option ∷ sharing_flag ∷ edits_operands ∷ [])
+signature_of kinds.WhatIf = (codes "whatif", number workers_option ∷ sharing_flag ∷ without_option ∷ edits_operands ∷ [])
 signature_of kinds.Curve = (codes "curve", number workers_option ∷ sharing_flag ∷ [])
-signature_of kinds.Sweep = (codes "sweep", number workers_option ∷ sharing_flag ∷ [])
+signature_of kinds.Sweep = (codes "sweep", number workers_option ∷ cowns_flag ∷ spawns_flag ∷ sharing_flag ∷ [])
 
 -- every command, in the order of help
 abbrev pub every_kind : List Kind
@@ -88,6 +101,11 @@ rule_at (number option) = record (new_rule option.id) {
 rule_at (flag id) = record (new_rule id) {
   long = Some id;
   action = Some actions.SetTrue;
+}
+rule_at (repeated id) = record (new_rule id) {
+  long = Some id;
+  value_names = 1;
+  action = Some actions.Append;
 }
 rule_at (operands id) = record (new_rule id) {
   value_names = 1;

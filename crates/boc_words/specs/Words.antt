@@ -1,6 +1,6 @@
 -- What the words of a command line ask for.
 use Rattle.std.specs.Prelude.{◌≡◌, ◌<◌, ◌+◌, ◌^◌, ◌++◌, ◌⊎◌, ◌≢◌, ℕ, List, [], ◌∷◌, Option, Some, None, true, false, map, fold, unwrap_or, length, codes}
-use Rattle.std.specs.List.{All}
+use Rattle.std.specs.List.{All, AllZip}
 use Rattle.std.specs.Str.Parse.{IsNumeral, digits_value, without_leading_plus}
 use Rattle.clap.specs.Kinds.{IsAmong}
 use Rattle.clap.specs.Simple.{on_top}
@@ -14,6 +14,8 @@ use Rattle.boc_program.specs.declared.limits.TheConstants.{MOST_WORKERS}
 use Rattle.boc_plans.specs.declared.edit.Edit.{Edit}
 use Rattle.boc_plans.specs.declared.sharing.Sharing.{Sharing}
 use Rattle.boc_plans.specs.declared.sharing.Sharing.TheVariants.{Exclusive, SharedReads}
+use Rattle.boc_plans.specs.declared.sweep.Sweep.{Sweep}
+use Rattle.boc_plans.specs.declared.sweep.Sweep.TheVariants.{Ticks, Cowns, Spawns}
 use Rattle.boc_words.specs.declared.fault.WordsFault.{WordsFault}
 use Rattle.boc_words.specs.declared.fault.WordsFault.TheVariants as faults
 use Rattle.boc_words.specs.declared.words.Command.{Command}
@@ -22,7 +24,7 @@ use Rattle.boc_words.specs.declared.commands.Kind.{Kind}
 use Rattle.boc_words.specs.declared.commands.Kind.TheVariants as called
 use Rattle.boc_words.specs.Commands.{Argument, IsNumberOf, NumberOption, commands_of_boc, number_options, shape_of_command, signature_of}
 use Rattle.boc_words.specs.Commands.{runners_option, workers_option}
-use Rattle.boc_words.specs.EditWords.{edit_word}
+use Rattle.boc_words.specs.EditWords.{IsEditWord, edit_word}
 
 -- ---- what the parser is told
 
@@ -49,12 +51,16 @@ pub record Told (command : Parser) (app : App) : Type 0 where
 abbrev pub values_at : List Row → List ℕ → List (List ℕ)
 values_at rows id = unwrap_or (all_of id rows) []
 
--- one text was given, and it is this number in decimal digits, with a plus sign before them or with none
+-- the text is this number in decimal digits, with a plus sign before them or with none
+pub record Says (text : List ℕ) (number : ℕ) : Type 0 where
+  pub numeral : IsNumeral 10 (without_leading_plus text)
+  pub value : digits_value 10 (without_leading_plus text) ≡ number
+
+-- one text was given, and it is this number
 pub record IsGiven (texts : List (List ℕ)) (number : ℕ) : Type 0 where
   pub text : List ℕ
   pub alone : texts ≡ text ∷ []
-  pub numeral : IsNumeral 10 (without_leading_plus text)
-  pub value : digits_value 10 (without_leading_plus text) ≡ number
+  pub says : Says text number
 
 -- the option was not given, or it was, with this number
 abbrev pub GivesNumber : NumberOption → List Row → Option ℕ → Type 0
@@ -73,10 +79,41 @@ AreUpTo rows number = (GivesNumber workers_option rows None × (number ≡ MOST_
 abbrev pub AreRunners : List Row → ℕ → Type 0
 AreRunners rows number = (GivesNumber runners_option rows None × (number ≡ 1)) ⊎ GivesNumber runners_option rows (Some number)
 
+-- the flag was given
+abbrev pub IsSet : List Row → Text → Type 0
+IsSet rows id = values_at rows id ≡ codes "true" ∷ []
+
+-- the flag was not given
+abbrev pub IsUnset : List Row → Text → Type 0
+IsUnset rows id = values_at rows id ≢ codes "true" ∷ []
+
 -- `--shared-reads` was given, and what was only read is shared, or it was not, and cowns are exclusive
 abbrev pub AreShared : List Row → Sharing → Type 0
-AreShared rows SharedReads = values_at rows (codes "shared-reads") ≡ codes "true" ∷ []
-AreShared rows Exclusive = values_at rows (codes "shared-reads") ≢ codes "true" ∷ []
+AreShared rows SharedReads = IsSet rows (codes "shared-reads")
+AreShared rows Exclusive = IsUnset rows (codes "shared-reads")
+
+-- what a sweep changes: spawns with `--spawns`, and then no `--p` was given; cowns with `--cowns`; else ticks. Of the two flags no more than
+-- one was given
+abbrev pub IsOver : List Row → Sweep → Type 0
+IsOver rows (Ticks workers) = IsUnset rows (codes "cowns") × IsUnset rows (codes "spawns") × AreWorkers rows workers
+IsOver rows (Cowns workers) = IsSet rows (codes "cowns") × IsUnset rows (codes "spawns") × AreWorkers rows workers
+IsOver rows Spawns = IsUnset rows (codes "cowns") × IsSet rows (codes "spawns") × AreWorkers rows None
+
+-- of a sweep `--spawns` was given, and `--cowns` or `--p` too
+abbrev pub AreAtOdds : List Row → Type 0
+AreAtOdds rows = IsSet rows (codes "spawns") × (IsSet rows (codes "cowns") ⊎ (values_at rows workers_option.id ≢ []))
+
+-- the texts given to `--without` are these numbers, in their order
+abbrev pub AreCowns : List Row → List ℕ → Type 0
+AreCowns rows cowns = AllZip Says (values_at rows (codes "without")) cowns
+
+-- the text is a number of 32 bits
+abbrev pub IsCownText : List ℕ → Type 0
+IsCownText text = (number : ℕ) × (number < 2 ^ 32) × Says text number
+
+-- each text given to `--without` is a number of 32 bits
+abbrev pub AreCownTexts : List Row → Type 0
+AreCownTexts rows = All IsCownText (values_at rows (codes "without"))
 
 -- the option was given, and there is no one number that it takes with it
 pub record HasNoNumber (option : NumberOption) (rows : List Row) : Type 0 where
@@ -90,17 +127,9 @@ MissesNumber (option ∷ more) rows = HasNoNumber option rows ⊎ MissesNumber m
 
 -- the words given as edits are those of these edits, in their order
 abbrev pub AreEdits : List Row → List Edit → Type 0
-AreEdits rows edits = values_at rows (codes "edits") ≡ map (λ edit. edit_word edit.row edit.ticks) edits
+AreEdits rows edits = values_at rows (codes "edits") ≡ map edit_word edits
 
--- the word is `ROW=TICKS`
-pub record IsEditWord (word : List ℕ) : Type 0 where
-  pub row : ℕ
-  pub ticks : ℕ
-  pub few_rows : row < 2 ^ 32
-  pub few_ticks : ticks < 2 ^ 32
-  pub spells : word ≡ edit_word row ticks
-
--- of these words the one with this number, counted from 1, is the first that is no `ROW=TICKS`
+-- of these words the one with this number, counted from 1, is the first that is no edit
 pub record IsFirstMisspelt (words : List (List ℕ)) (number : ℕ) : Type 0 where
   pub before : List (List ℕ)
   pub word : List ℕ
@@ -109,6 +138,12 @@ pub record IsFirstMisspelt (words : List (List ℕ)) (number : ℕ) : Type 0 whe
   pub number_is : number ≡ length before + 1
   pub spelt : All IsEditWord before
   pub misspelt : IsEditWord word → ⊥
+
+-- the fault has an error of this kind, or says that memory was refused
+abbrev pub IsOfKind : ErrorKind → WordsFault → Type 0
+IsOfKind kind (faults.Parser e) = kind_of e ≡ kind
+IsOfKind kind faults.Memory = Unit {0}
+IsOfKind kind _ = ⊥
 
 -- the fault says that the number behind an option cannot be read, or that memory was refused
 abbrev pub IsOfNumber : NumberOption → List Row → WordsFault → Type 0
@@ -121,6 +156,19 @@ abbrev pub IsOfEditWords : List Row → WordsFault → Type 0
 IsOfEditWords rows (faults.EditWord number) = IsFirstMisspelt (values_at rows (codes "edits")) number
 IsOfEditWords rows faults.Memory = Unit {0}
 IsOfEditWords rows _ = ⊥
+
+-- the fault is a conflict of options that are at odds, or says that the number behind `--p` cannot be read, or that memory was refused
+abbrev pub IsOfSweep : List Row → WordsFault → Type 0
+IsOfSweep rows (faults.Parser e) =
+    HasNoNumber workers_option rows ⊎ ((kind_of e ≡ kinds.ArgumentConflict) × AreAtOdds rows)
+IsOfSweep rows faults.Memory = Unit {0}
+IsOfSweep rows _ = ⊥
+
+-- the fault says that a text given to `--without` is no number of 32 bits, or that memory was refused
+abbrev pub IsOfCowns : List Row → WordsFault → Type 0
+IsOfCowns rows (faults.Parser e) = (kind_of e ≡ kinds.ValueValidation) × (AreCownTexts rows → ⊥)
+IsOfCowns rows faults.Memory = Unit {0}
+IsOfCowns rows _ = ⊥
 
 -- ---- what a command that was named asks for
 
@@ -136,10 +184,10 @@ Asks kind rows (commands.Run runners) = (kind ≡ called.Run) × AreRunners rows
 Asks kind rows (commands.Profile workers sharing) = (kind ≡ called.Profile) × AreWorkers rows workers × AreShared rows sharing
 Asks kind rows (commands.Time runners workers sharing) =
     (kind ≡ called.Time) × AreRunners rows runners × AreWorkers rows workers × AreShared rows sharing
-Asks kind rows (commands.WhatIf edits workers sharing) =
-    (kind ≡ called.WhatIf) × AreEdits rows edits.items × AreWorkers rows workers × AreShared rows sharing
+Asks kind rows (commands.WhatIf cowns edits workers sharing) =
+    (kind ≡ called.WhatIf) × AreCowns rows cowns.items × AreEdits rows edits.items × AreWorkers rows workers × AreShared rows sharing
 Asks kind rows (commands.Curve most sharing) = (kind ≡ called.Curve) × AreUpTo rows most × AreShared rows sharing
-Asks kind rows (commands.Sweep workers sharing) = (kind ≡ called.Sweep) × AreWorkers rows workers × AreShared rows sharing
+Asks kind rows (commands.Sweep over sharing) = (kind ≡ called.Sweep) × IsOver rows over × AreShared rows sharing
 Asks kind rows (commands.Help text) = ⊥
 Asks kind rows commands.Version = ⊥
 
@@ -160,17 +208,31 @@ IsUnknown named = (name : List ℕ) (rows : List Row) → named ≡ Some (name, 
 abbrev pub HasNoNumbers : Option (List ℕ × List Row) → Type 0
 HasNoNumbers named = (kind : Kind) × Names named kind (MissesNumber number_options)
 
--- of a command that was named an option has no number that can be read, or of the edits the first is misspelt
+-- what the parser takes for this command does not fit, for an error of this kind: of a sweep, options that are at odds; of `whatif`, a text
+-- given to `--without` that is no number of 32 bits
+abbrev pub IsUnfit : Kind → List Row → ErrorKind → Type 0
+IsUnfit called.Sweep rows error = (error ≡ kinds.ArgumentConflict) × AreAtOdds rows
+IsUnfit called.WhatIf rows error = (error ≡ kinds.ValueValidation) × (AreCownTexts rows → ⊥)
+IsUnfit _ rows error = ⊥
+
+-- a command was named, and what was found for it does not fit, for an error of this kind
+abbrev pub HasUnfit : Option (List ℕ × List Row) → ErrorKind → Type 0
+HasUnfit named error = (kind : Kind) × Names named kind (λ rows. IsUnfit kind rows error)
+
+-- the texts given to `--without` are numbers, and of the edits the one with this number is the first that is misspelt
+abbrev pub AreMisspelt : List Row → ℕ → Type 0
+AreMisspelt rows number = AreCownTexts rows × IsFirstMisspelt (values_at rows (codes "edits")) number
+
+-- of a command that was named an option has no number that can be read, or something does not fit, or of the edits the first is misspelt
 abbrev pub IsUnread : Kind → List Row → WordsFault → Type 0
-IsUnread kind rows (faults.Parser e) = MissesNumber number_options rows
-IsUnread kind rows (faults.EditWord number) = (kind ≡ called.WhatIf) × IsFirstMisspelt (values_at rows (codes "edits")) number
+IsUnread kind rows (faults.Parser e) = MissesNumber number_options rows ⊎ IsUnfit kind rows (kind_of e)
+IsUnread kind rows (faults.EditWord number) = (kind ≡ called.WhatIf) × AreMisspelt rows number
 IsUnread kind rows faults.Memory = Unit {0}
 
 -- what was named is no command that can be done
 abbrev pub IsMisnamed : Option (List ℕ × List Row) → WordsFault → Type 0
-IsMisnamed named (faults.Parser e) = IsUnknown named ⊎ HasNoNumbers named
-IsMisnamed named (faults.EditWord number) =
-    Names named called.WhatIf (λ rows. IsFirstMisspelt (values_at rows (codes "edits")) number)
+IsMisnamed named (faults.Parser e) = IsUnknown named ⊎ (HasNoNumbers named ⊎ HasUnfit named (kind_of e))
+IsMisnamed named (faults.EditWord number) = Names named called.WhatIf (λ rows. AreMisspelt rows number)
 IsMisnamed named faults.Memory = Unit {0}
 
 -- ---- what a refusal of the parser comes to
@@ -193,9 +255,7 @@ IsOfError error _ = ⊥
 
 -- the fault says that a word is no text, or that memory was refused
 abbrev pub IsOfNoText : WordsFault → Type 0
-IsOfNoText (faults.Parser e) = kind_of e ≡ kinds.ValueValidation
-IsOfNoText faults.Memory = Unit {0}
-IsOfNoText _ = ⊥
+IsOfNoText fault = IsOfKind kinds.ValueValidation fault
 
 -- ---- what the words ask for
 
@@ -209,10 +269,11 @@ IsAsked words (commands.Help text) = IsAmong kinds.DisplayHelp (fault_of command
 IsAsked words commands.Version = IsAmong kinds.DisplayVersion (fault_of command_line words)
 IsAsked words command = AreTaken words × IsNamed (subcommand_of command_line words) command
 
--- the words are refused with this fault: the parser's, where it is not help or the version that it answers, or of edits the first that is
--- misspelt
+-- the words are refused with this fault: the parser's, where it is not help or the version that it answers; or, where the parser takes them,
+-- for what does not fit, or of edits the first that is misspelt
 abbrev pub IsRefused : List (List ℕ) → WordsFault → Type 0
-IsRefused words (faults.Parser e) = IsAmong (kind_of e) (fault_of command_line words) × IsNoCall (kind_of e)
-IsRefused words (faults.EditWord number) = AreTaken words
-    × Names (subcommand_of command_line words) called.WhatIf (λ rows. IsFirstMisspelt (values_at rows (codes "edits")) number)
+IsRefused words (faults.Parser e) = (IsAmong (kind_of e) (fault_of command_line words) × IsNoCall (kind_of e))
+    ⊎ (AreTaken words × HasUnfit (subcommand_of command_line words) (kind_of e))
+IsRefused words (faults.EditWord number) =
+    AreTaken words × Names (subcommand_of command_line words) called.WhatIf (λ rows. AreMisspelt rows number)
 IsRefused words faults.Memory = Unit {0}

@@ -37,6 +37,14 @@ pub(crate) struct FlagOption {
     pub(crate) help: &'static str,
 }
 
+/// An option with a text, which may be given many times: its name, what help calls the text, and what help says of it.
+#[derive(Clone, Copy)]
+pub(crate) struct RepeatedOption {
+    pub(crate) id: &'static str,
+    pub(crate) value_name: &'static str,
+    pub(crate) help: &'static str,
+}
+
 /// Any number of words: by what they are found, what help calls one, and what help says of them.
 #[derive(Clone, Copy)]
 pub(crate) struct Operands {
@@ -50,6 +58,7 @@ pub(crate) struct Operands {
 pub(crate) enum Argument {
     Number(NumberOption),
     Flag(FlagOption),
+    Repeated(RepeatedOption),
     Words(Operands),
 }
 
@@ -81,17 +90,37 @@ pub(crate) const SWEEP_WORKERS: NumberOption = NumberOption {
     ..WORKERS
 };
 
+/// Whether a sweep goes over the cowns.
+pub(crate) const SWEEP_COWNS: FlagOption = FlagOption {
+    id: "cowns",
+    help: "Leaves out each cown in turn in place of lowering rows: a line is COWN END",
+};
+
+/// Whether a sweep goes over the spawns.
+pub(crate) const SWEEP_SPAWNS: FlagOption = FlagOption {
+    id: "spawns",
+    help: "Spawns each row but main as early as it can be in place of lowering it",
+};
+
 /// Whether plans share what was only read.
 pub(crate) const SHARING: FlagOption = FlagOption {
     id: "shared-reads",
     help: "Lets behaviours that only read a cown share it, in plans",
 };
 
+/// The cowns that `whatif` leaves out.
+pub(crate) const WITHOUT: RepeatedOption = RepeatedOption {
+    id: "without",
+    value_name: "COWN",
+    help: "Leaves out a cown: it orders nobody; as often as wanted",
+};
+
 /// The edits of `whatif`.
 pub(crate) const EDITS: Operands = Operands {
     id: "edits",
-    value_name: "ROW=TICKS",
-    help: "Has a row take so many ticks; edits are made in their order",
+    value_name: "EDIT",
+    help: "Changes a row: ROW=TICKS takes so many ticks, ROW@OFFSET is spawned at that tick of its parent, \
+        ROW=K/D costs that part and spawns its children so much sooner or later; edits are made in their order",
 };
 
 // So many are named in the help of `--workers`.
@@ -137,6 +166,11 @@ impl Argument {
             Argument::Flag(option) => Arg::new(alloc, option.id)
                 .long(option.id)
                 .action(ArgAction::SetTrue)
+                .help(option.help),
+            Argument::Repeated(option) => Arg::new(alloc, option.id)
+                .long(option.id)
+                .value_name(option.value_name)
+                .action(ArgAction::Append)
                 .help(option.help),
             Argument::Words(operands) => Arg::new(alloc, operands.id)
                 .value_name(operands.value_name)

@@ -6,8 +6,11 @@ ghost use Rattle.boc_words.specs.Commands.{app_of_command, commands_of_boc, sign
 ghost use Rattle.boc_words.specs.Tables.{command_of_entry};
 ghost use Rattle.boc_words.specs.Words.{IsNoneOf, Told, command_line, without_commands};
 
-use crate::arguments::Argument::{Flag, Number, Words};
-use crate::arguments::{Argument, CURVE_WORKERS, EDITS, RUNNERS, SHARING, SWEEP_WORKERS, WORKERS};
+use crate::arguments::Argument::{Flag, Number, Repeated, Words};
+use crate::arguments::{
+    Argument, CURVE_WORKERS, EDITS, RUNNERS, SHARING, SWEEP_COWNS, SWEEP_SPAWNS, SWEEP_WORKERS,
+    WITHOUT, WORKERS,
+};
 use crate::version::VERSION;
 use std::alloc::{AllocError, Global};
 
@@ -61,7 +64,11 @@ All are ticks but P. `boc run` makes the record.";
 const SWEEP_LINES: &str =
     "A line is ROW END: a row, and the tick at which the plan would end if that row alone took its least ticks, 1 or the offset of its
 last child. It is the earliest plan, whose end is the span, or with --p the greedy plan, which may end later though a row takes
-fewer ticks. `boc run` makes the record.";
+fewer ticks. With --cowns or --spawns the lines are others:
+  COWN END    a cown of the record, and the tick at which the plan would end if that cown ordered nobody
+  ROW SPAN    a row but main, and the span if that row alone were spawned as early as it can be, one tick after its elder sibling
+              or at its parent's tick 1 (a program's first `when` stands at 2, so a line can be a tick below what a text reaches)
+`boc run` makes the record.";
 
 // Every command, in the order of help.
 //
@@ -106,8 +113,13 @@ const COMMANDS: &[Entry] = &[
     Entry {
         kind: Kind::WhatIf,
         name: "whatif",
-        about: "Reads the record of a run, and prints the profile that it would have with other ticks",
-        takes: &[Number(WORKERS), Flag(SHARING), Words(EDITS)],
+        about: "Reads the record of a run, and prints the profile that it would have with other ticks, other spawns or without a cown",
+        takes: &[
+            Number(WORKERS),
+            Flag(SHARING),
+            Repeated(WITHOUT),
+            Words(EDITS),
+        ],
         lines: REPORT_LINES,
     },
     Entry {
@@ -120,8 +132,13 @@ const COMMANDS: &[Entry] = &[
     Entry {
         kind: Kind::Sweep,
         name: "sweep",
-        about: "Reads the record of a run, and prints for each row the span with that row alone at its least ticks",
-        takes: &[Number(SWEEP_WORKERS), Flag(SHARING)],
+        about: "Reads the record of a run, and prints for each row, cown or spawn what the span would be without what it costs",
+        takes: &[
+            Number(SWEEP_WORKERS),
+            Flag(SWEEP_COWNS),
+            Flag(SWEEP_SPAWNS),
+            Flag(SHARING),
+        ],
         lines: SWEEP_LINES,
     },
 ];

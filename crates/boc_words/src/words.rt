@@ -2,22 +2,28 @@
 
 ghost use Rattle.boc_words.specs.Commands.{IsNumberOf, runners_option, workers_option};
 ghost use Rattle.boc_words.specs.Tables.{option_of};
-ghost use Rattle.boc_words.specs.Words.{AreEdits, AreRunners, AreShared, AreTaken, AreUpTo, AreWorkers, Asks, GivesNumber, IsAsked, IsGiven};
-ghost use Rattle.boc_words.specs.Words.{IsMisnamed, IsNamed, IsOfEditWords, IsOfError, IsOfNoText, IsOfNumber, IsRefused, IsTextOfKind, IsUnread};
+ghost use Rattle.boc_words.specs.Words.{AreCownTexts, AreCowns, AreEdits, AreRunners, AreShared, AreTaken, AreUpTo, AreWorkers, Asks};
+ghost use Rattle.boc_words.specs.Words.{GivesNumber, IsAsked, IsCownText, IsGiven, IsMisnamed, IsNamed, IsOfCowns, IsOfEditWords, IsOfError};
+ghost use Rattle.boc_words.specs.Words.{IsOfKind, IsOfNoText, IsOfNumber, IsOfSweep, IsOver, IsRefused, IsTextOfKind, IsUnread, Says};
 ghost use Rattle.boc_words.specs.Words.{command_line, values_at};
 ghost use Rattle.clap.specs.Kinds.{HasKind};
+ghost use Rattle.clap.specs.declared.error.kind.ErrorKind.TheVariants.{ArgumentConflict, ValueValidation};
 ghost use Rattle.clap.specs.Words.{fault_of, found_of, kind_of, rows_of, subcommand_of, subcommand_rows_of};
 ghost use Rattle.std.specs.Prelude.{◌≡◌, ◌∷◌, ◌↔◌, [], ℕ, IfErr, IfNone, IfOk, IfSome, IsTrue, codes, map, string_bytes};
 
-use crate::arguments::{EDITS, NumberOption, Numbers, RUNNERS, SHARING, WORKERS};
+use crate::arguments::{
+    EDITS, NumberOption, Numbers, RUNNERS, SHARING, SWEEP_COWNS, SWEEP_SPAWNS, WITHOUT, WORKERS,
+};
 use crate::commands::{Kind, kind_of, parser};
 use crate::edit_word::edit_of;
 use crate::fault::WordsFault;
 use crate::runners::Runners;
 use boc_plans::edit::Edit;
 use boc_plans::sharing::Sharing;
+use boc_plans::sweep::Sweep;
 use boc_plans::workers::Workers;
 use boc_program::limits::MOST_WORKERS;
+use boc_program::short::CownNo;
 use clap::ArgMatches;
 use clap::error::ErrorKind;
 use std::alloc::{AllocError, Global};
@@ -45,8 +51,9 @@ pub enum Command {
         workers: Option<Workers>,
         sharing: Sharing,
     },
-    /// The report on the rows of a record after these edits, with the greedy plan as for a profile.
+    /// The report on the rows of a record without these cowns and after these edits, with the greedy plan as for a profile.
     WhatIf {
+        cowns: Vec<CownNo>,
         edits: Vec<Edit>,
         workers: Option<Workers>,
         sharing: Sharing,
@@ -56,10 +63,10 @@ pub enum Command {
         most: Workers,
         sharing: Sharing,
     },
-    /// For each row of a record, the span with that row alone at its least ticks; or the end of the greedy plan for so many
+    /// For each row, cown or spawn of a record, the span without what it costs; or the end of the greedy plan for so many
     /// workers, where a number is given.
     Sweep {
-        workers: Option<Workers>,
+        over: Sweep,
         sharing: Sharing,
     },
     /// The parser's own text, for standard output.
@@ -70,8 +77,9 @@ pub enum Command {
 
 /// What the words of a command line ask for, the program's own name first.
 ///
-/// Words that the parser refuses are a fault with its text. Of edits that are no `ROW=TICKS` the fault names the
-/// first.
+/// Words that the parser refuses are a fault with its text, and so are options of `sweep` that exclude each other, and a text given
+/// to `--without` that is no number of 32 bits. Of words that should be edits and are none the fault names the first, where there is
+/// nothing else against the words.
 pub fn read_words(alloc: Global, words: &[String]) -> Result<Command, WordsFault>
     ensures asked { IfOk result (IsAsked (map string_bytes words.now)) }
     ensures refused { IfErr result (IsRefused (map string_bytes words.now)) }
@@ -86,7 +94,14 @@ pub fn read_words(alloc: Global, words: &[String]) -> Result<Command, WordsFault
 pub fn not_text(alloc: Global) -> WordsFault
     ensures { IsOfNoText result }
 {
-    match error_of_words(alloc, ErrorKind::ValueValidation, "a word is no text") {
+    fault_of_words(alloc, ErrorKind::ValueValidation, "a word is no text")
+}
+
+// The fault of words, with a text of the program's own.
+fn fault_of_words(alloc: Global, kind: ErrorKind, text: &str) -> WordsFault
+    ensures { IsOfKind kind result }
+{
+    match error_of_words(alloc, kind, text) {
         Ok(error) => WordsFault::Parser(error),
         Err(_) => WordsFault::Memory,
     }
@@ -149,6 +164,7 @@ fn asked(alloc: Global, kind: Kind, matches: &ArgMatches) -> Result<Command, Wor
             sharing: sharing_asked(matches),
         }),
         Kind::WhatIf => Ok(Command::WhatIf {
+            cowns: cowns_asked(alloc, matches)?,
             edits: edits_asked(alloc, matches)?,
             workers: workers_asked(alloc, matches)?,
             sharing: sharing_asked(matches),
@@ -158,7 +174,7 @@ fn asked(alloc: Global, kind: Kind, matches: &ArgMatches) -> Result<Command, Wor
             sharing: sharing_asked(matches),
         }),
         Kind::Sweep => Ok(Command::Sweep {
-            workers: workers_asked(alloc, matches)?,
+            over: over_asked(alloc, matches)?,
             sharing: sharing_asked(matches),
         }),
     }
@@ -171,7 +187,78 @@ fn texts_at<'m, 'a>(matches: &'m ArgMatches<'a>, id: &str) -> &'m [&'a str]
     matches.get_strs(id).unwrap_or_default()
 }
 
-// The edits that the words of `whatif` name. The first that is no `ROW=TICKS` is a fault.
+// What the words have a sweep change. Beside `--spawns` any `--cowns` or `--p` is a fault.
+fn over_asked(alloc: Global, matches: &ArgMatches) -> Result<Sweep, WordsFault>
+    ensures asked { IfOk result (IsOver (rows_of (found_of matches.now))) }
+    ensures refused { IfErr result (IsOfSweep (rows_of (found_of matches.now))) }
+{
+    let workers = workers_asked(alloc, matches)?;
+    let over_cowns = is_set(texts_at(matches, SWEEP_COWNS.id));
+    let over_spawns = is_set(texts_at(matches, SWEEP_SPAWNS.id));
+    if !over_spawns && over_cowns {
+        Ok(Sweep::Cowns(workers))
+    } else if !over_spawns {
+        Ok(Sweep::Ticks(workers))
+    } else if over_cowns {
+        Err(at_odds(
+            alloc,
+            "the argument '--spawns' cannot be used with '--cowns'",
+        ))
+    } else if workers.is_some() {
+        Err(at_odds(
+            alloc,
+            "the argument '--spawns' cannot be used with '--p <P>'",
+        ))
+    } else {
+        Ok(Sweep::Spawns)
+    }
+}
+
+// The fault of options that exclude each other.
+fn at_odds(alloc: Global, text: &str) -> WordsFault
+    ensures { IsOfKind ArgumentConflict result }
+{
+    fault_of_words(alloc, ErrorKind::ArgumentConflict, text)
+}
+
+// The cowns that the words leave out, in their order. A text that is no number of 32 bits is a fault.
+fn cowns_asked(alloc: Global, matches: &ArgMatches) -> Result<Vec<CownNo>, WordsFault>
+    ensures asked { IfOk result (λ cowns. AreCowns (rows_of (found_of matches.now)) cowns.items) }
+    ensures numbers { IfOk result (λ cowns. AreCownTexts (rows_of (found_of matches.now))) }
+    ensures refused { IfErr result (IsOfCowns (rows_of (found_of matches.now))) }
+{
+    let texts = texts_at(matches, WITHOUT.id);
+    let mut cowns = Vec::new(alloc);
+    for text in texts {
+        let Some(cown) = cown_of(text) else {
+            return Err(no_cown(alloc, text));
+        };
+        cowns.push(cown)?;
+    }
+    Ok(cowns)
+}
+
+// The number of 32 bits that a text is, in decimal digits.
+fn cown_of(text: &str) -> Option<CownNo>
+    ensures none { IfNone result (IsCownText text.now → ⊥) }
+    ensures says { IfSome result (Says text.now) }
+{
+    text.parse::<CownNo>().ok()
+}
+
+// The fault of a text that is no cown's number.
+fn no_cown(alloc: Global, text: &str) -> WordsFault
+    ensures { IsOfKind ValueValidation result }
+{
+    match format!(in alloc;
+        "invalid value '{text}' for '--without <COWN>': not a number from 0 to 4294967295"
+    ) {
+        Ok(told) => fault_of_words(alloc, ErrorKind::ValueValidation, &told),
+        Err(_) => WordsFault::Memory,
+    }
+}
+
+// The edits that the words of `whatif` name. The first word that is no edit is a fault.
 fn edits_asked(alloc: Global, matches: &ArgMatches) -> Result<Vec<Edit>, WordsFault>
     ensures asked { IfOk result (λ edits. AreEdits (rows_of (found_of matches.now)) edits.items) }
     ensures refused { IfErr result (IsOfEditWords (rows_of (found_of matches.now))) }
@@ -179,11 +266,11 @@ fn edits_asked(alloc: Global, matches: &ArgMatches) -> Result<Vec<Edit>, WordsFa
     let words = texts_at(matches, EDITS.id);
     let mut edits = Vec::new(alloc);
     for (index, word) in words.iter().enumerate() {
-        let Some(edit) = edit_of(word) else {
+        let Some(Edit { row, change }) = edit_of(word) else {
             let number = index + 1;
             return Err(WordsFault::EditWord { number });
         };
-        edits.push(edit)?;
+        edits.push(Edit { row, change })?;
     }
     Ok(edits)
 }

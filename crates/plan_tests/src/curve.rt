@@ -115,7 +115,7 @@ fn many_rows(alloc: Global, count: u32) -> Result<Vec<Row>, AllocError> {
 }
 
 #[test]
-fn progress_is_told_after_each_stretch(rt: HostRuntime) {
+fn progress_is_told_of_all_rows(rt: HostRuntime) {
     let alloc = rt.alloc();
     let rows = rows_of(&rt, many_rows(alloc, 599).expect(&rt, "memory"));
     let question = WhatIf::of(alloc, rows, Sharing::Exclusive).expect(&rt, "memory");
@@ -127,7 +127,7 @@ fn progress_is_told_after_each_stretch(rt: HostRuntime) {
     let ends = question
         .greedy_sweep(&rt, alloc, so_many(&rt, 64), &mut told)
         .expect(&rt, "memory");
-    assert_eq!(rt; (told.rows, told.of, told.times), (600, 600, 3));
+    assert_eq!(rt; (told.rows, told.of, told.times), (600, 600, 1));
     // Main ends at 1,000, or as soon as it has spawned the last row, which ends three ticks later.
     assert_eq!(rt; ends.first().copied(), Some(602));
     assert_eq!(rt; ends.last().copied(), Some(1_000));

@@ -6,6 +6,8 @@ mod curve;
 #[cfg(test)]
 mod figures;
 #[cfg(test)]
+mod freed;
+#[cfg(test)]
 mod greedy;
 #[cfg(test)]
 mod order;

@@ -2,8 +2,9 @@
 
 use crate::runs::{GREEDY, RECORD, REPORT, TRANSFER, bytes};
 use boc_commands::{Command, Fault, Runners, Silent, VERSION, Want, run_command};
-use boc_plans::edit::Edit;
+use boc_plans::edit::{Change, Edit};
 use boc_plans::sharing::Sharing;
+use boc_plans::sweep::Sweep;
 use boc_plans::workers::Workers;
 use boc_text::FailAt;
 use boc_workers::OpenGate;
@@ -56,8 +57,10 @@ fn answered(
 // The command that reports on rows with one tick in row 2.
 fn shorter(alloc: Global, workers: Option<Workers>) -> Result<Command, AllocError> {
     let mut edits = Vec::new(alloc);
-    edits.push(Edit { row: 2, ticks: 1 })?;
+    let change = Change::Ticks(1);
+    edits.push(Edit { row: 2, change })?;
     Ok(Command::WhatIf {
+        cowns: Vec::new(alloc),
         edits,
         workers,
         sharing: Sharing::Exclusive,
@@ -79,8 +82,33 @@ fn of_programs(alloc: Global) -> Result<[Case; 3], AllocError> {
     ])
 }
 
-// The commands that read a record.
-fn of_records(alloc: Global) -> Result<[Case; 8], AllocError> {
+// The sweep that changes this.
+fn swept(over: Sweep) -> Command {
+    Command::Sweep {
+        over,
+        sharing: Sharing::Exclusive,
+    }
+}
+
+// The sweeps of a record.
+fn sweeps(alloc: Global) -> Result<[Case; 5], AllocError> {
+    let one = Workers::new(1);
+    let ticks = swept(Sweep::Ticks(None));
+    let ticks_by_one = swept(Sweep::Ticks(one));
+    let cowns = swept(Sweep::Cowns(None));
+    let cowns_by_one = swept(Sweep::Cowns(one));
+    let spawns = swept(Sweep::Spawns);
+    Ok([
+        answered(alloc, ticks, RECORD, "0 9\n1 8\n2 7\n3 8\n", "")?,
+        answered(alloc, ticks_by_one, RECORD, "0 11\n1 10\n2 9\n3 10\n", "")?,
+        answered(alloc, cowns, RECORD, "0 8\n1 7\n", "")?,
+        answered(alloc, cowns_by_one, RECORD, "0 11\n1 11\n", "")?,
+        answered(alloc, spawns, RECORD, "1 8\n2 9\n3 9\n", "")?,
+    ])
+}
+
+// The commands that read a record, but for sweeps.
+fn of_records(alloc: Global) -> Result<[Case; 6], AllocError> {
     let sharing = Sharing::Exclusive;
     let two = Workers::new(2);
     let alone = Command::Profile {
@@ -97,14 +125,6 @@ fn of_records(alloc: Global) -> Result<[Case; 8], AllocError> {
         most: two.unwrap(),
         sharing,
     };
-    let sweep = Command::Sweep {
-        workers: None,
-        sharing,
-    };
-    let swept_by_one = Command::Sweep {
-        workers: Workers::new(1),
-        sharing,
-    };
     Ok([
         answered(alloc, Command::Check, RECORD, "ok 4\n", "")?,
         answered(alloc, alone, RECORD, REPORT, "")?,
@@ -118,8 +138,6 @@ fn of_records(alloc: Global) -> Result<[Case; 8], AllocError> {
             "work 11\nspan 9\n",
             "1 11 11 20\n2 9 9 14\n",
         )?,
-        answered(alloc, sweep, RECORD, "0 9\n1 8\n2 7\n3 8\n", "")?,
-        answered(alloc, swept_by_one, RECORD, "0 11\n1 10\n2 9\n3 10\n", "")?,
     ])
 }
 
@@ -139,6 +157,9 @@ fn of_inputs(alloc: Global) -> Result<Vec<Case>, AllocError> {
         cases.push(case)?;
     }
     for case in of_records(alloc)? {
+        cases.push(case)?;
+    }
+    for case in sweeps(alloc)? {
         cases.push(case)?;
     }
     Ok(cases)

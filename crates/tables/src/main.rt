@@ -260,7 +260,7 @@ fn tell_sweep(
     };
     let question = WhatIf::new(rt.alloc(), record.rows(), sharing)?;
     let spans = question.sweep(threads, rt.alloc())?;
-    let lines = sweep_text(rt.alloc(), &spans)?;
+    let lines = sweep_text(rt.alloc(), 0, &spans)?;
     rt.stdout().write_all(&lines)
 }
 

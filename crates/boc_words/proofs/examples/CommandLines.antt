@@ -1,11 +1,14 @@
 -- The definitions tried on command lines.
-use Rattle.std.proofs.Common.{◌≡◌, List, [], ◌∷◌, Some, None, true, inl, inr, refl, codes, lit≤}
+use Rattle.std.proofs.Common.{◌≡◌, ◌<◌, ◌^◌, ℕ, arith, List, [], ◌∷◌, Some, None, true, inl, inr, refl, codes, lit≤}
 use Rattle.clap.proofs.OnLiterals.{clap_on_literals}
 use Rattle.clap.specs.Words.{Text, fault_of, is_simple, is_simple_and_free, subcommand_of}
 use Rattle.clap.specs.declared.error.kind.ErrorKind.TheVariants as kinds
-use Rattle.boc_words.specs.Words.{AreEdits, AreRunners, AreShared, AreTaken, AreUpTo, AreWorkers, Names, command_line}
+use Rattle.boc_words.specs.Words.{AreAtOdds, AreCownTexts, AreCowns, AreEdits, AreRunners, AreShared, AreTaken, AreUpTo, AreWorkers, IsOver, Names}
+use Rattle.boc_words.specs.Words.{command_line}
 use Rattle.boc_words.specs.declared.commands.Kind.TheVariants as called
+use Rattle.boc_plans.specs.declared.edit.Change.TheVariants.{Offset, Ticks, Cost}
 use Rattle.boc_plans.specs.declared.sharing.Sharing.TheVariants.{Exclusive, SharedReads}
+use Rattle.boc_plans.specs.declared.sweep.Sweep.TheVariants as sweep
 use Rattle.std.specs.Fmt.{digits}
 
 -- what the parser's contract says of `boc` is exact
@@ -25,9 +28,28 @@ unfolding clap_on_literals
 whatif_taken = refl
 
 pub whatif_named : Names (subcommand_of command_line whatif_words) called.WhatIf (λ rows.
-    AreEdits rows (record { row = 2; ticks = 1 } ∷ record { row = 0; ticks = 30 } ∷ []) × AreWorkers rows (Some 2))
+    AreEdits rows (record { row = 2; change = Ticks 1 } ∷ record { row = 0; change = Ticks 30 } ∷ []) × AreWorkers rows (Some 2))
 unfolding clap_on_literals digits
-whatif_named = (_, refl, (refl, record { text = codes "+2"; alone = refl; numeral = (lit≤ tt, (lit≤ tt, tt)); value = refl }))
+whatif_named = (_, refl, (refl, record { text = codes "+2"; alone = refl; says = record { numeral = (lit≤ tt, (lit≤ tt, tt)); value = refl } }))
+
+abbrev without_words : List Text
+without_words = codes "boc" ∷ codes "whatif" ∷ codes "--without" ∷ codes "7" ∷ codes "2@5" ∷ codes "--without=+02" ∷ codes "1=3/2" ∷ []
+
+pub without_taken : AreTaken without_words
+unfolding clap_on_literals
+without_taken = refl
+
+pub without_named : Names (subcommand_of command_line without_words) called.WhatIf (λ rows. AreCowns rows (7 ∷ 2 ∷ [])
+    × AreEdits rows (record { row = 2; change = Offset 5 } ∷ record { row = 1; change = Cost (record { over = 3; under = 2 }) } ∷ []))
+unfolding clap_on_literals digits
+without_named = (
+  _,
+  refl,
+  (
+    (record { numeral = (lit≤ tt, (lit≤ tt, tt)); value = refl }, (record { numeral = (lit≤ tt, (lit≤ tt, (lit≤ tt, tt))); value = refl }, tt)),
+    refl,
+  ),
+)
 
 abbrev sweep_words : List Text
 sweep_words = codes "boc" ∷ codes "sweep" ∷ codes "--p=3" ∷ codes "--shared-reads" ∷ []
@@ -36,9 +58,70 @@ pub sweep_taken : AreTaken sweep_words
 unfolding clap_on_literals
 sweep_taken = refl
 
-pub sweep_named : Names (subcommand_of command_line sweep_words) called.Sweep (λ rows. AreWorkers rows (Some 3) × AreShared rows SharedReads)
+pub sweep_named : Names (subcommand_of command_line sweep_words) called.Sweep (λ rows.
+    IsOver rows (sweep.Ticks (Some 3)) × AreShared rows SharedReads)
 unfolding clap_on_literals digits
-sweep_named = (_, refl, (record { text = codes "3"; alone = refl; numeral = (lit≤ tt, (lit≤ tt, tt)); value = refl }, refl))
+sweep_named = (
+  _,
+  refl,
+  (
+    (
+      λ e. cc,
+      λ e. cc,
+      record { text = codes "3"; alone = refl; says = record { numeral = (lit≤ tt, (lit≤ tt, tt)); value = refl } },
+    ),
+    refl,
+  ),
+)
+
+abbrev cowns_words : List Text
+cowns_words = codes "boc" ∷ codes "sweep" ∷ codes "--cowns" ∷ []
+
+pub cowns_taken : AreTaken cowns_words
+unfolding clap_on_literals
+cowns_taken = refl
+
+pub cowns_named : Names (subcommand_of command_line cowns_words) called.Sweep (λ rows. IsOver rows (sweep.Cowns None))
+unfolding clap_on_literals
+cowns_named = (_, refl, (refl, λ e. cc, refl))
+
+abbrev spawns_words : List Text
+spawns_words = codes "boc" ∷ codes "sweep" ∷ codes "--shared-reads" ∷ codes "--spawns" ∷ []
+
+pub spawns_taken : AreTaken spawns_words
+unfolding clap_on_literals
+spawns_taken = refl
+
+pub spawns_named : Names (subcommand_of command_line spawns_words) called.Sweep (λ rows. IsOver rows sweep.Spawns)
+unfolding clap_on_literals
+spawns_named = (_, refl, (λ e. cc, refl, refl))
+
+-- the parser takes these, and their options are at odds
+abbrev odd_words : List Text
+odd_words = codes "boc" ∷ codes "sweep" ∷ codes "--spawns" ∷ codes "--p" ∷ codes "2" ∷ []
+
+pub odd_taken : AreTaken odd_words
+unfolding clap_on_literals
+odd_taken = refl
+
+pub odd_named : Names (subcommand_of command_line odd_words) called.Sweep (λ rows. AreAtOdds rows)
+unfolding clap_on_literals
+odd_named = (_, refl, (refl, inr (λ e. cc)))
+
+-- and of these a text given to `--without` is no number of 32 bits
+abbrev large_words : List Text
+large_words = codes "boc" ∷ codes "whatif" ∷ codes "--without" ∷ codes "4294967296" ∷ []
+
+pub large_taken : AreTaken large_words
+unfolding clap_on_literals
+large_taken = refl
+
+too_large : (number : ℕ) → number < 2 ^ 32 → 4294967296 ≡ number → ⊥
+too_large number few is = omega (arith, few, is)
+
+pub large_named : Names (subcommand_of command_line large_words) called.WhatIf (λ rows. AreCownTexts rows → ⊥)
+unfolding clap_on_literals
+large_named = (_, refl, λ all. let text = all 0 [] (lit≤ tt) in too_large text.0 text.1 text.2.value)
 
 abbrev curve_words : List Text
 curve_words = codes "boc" ∷ codes "curve" ∷ []
@@ -71,8 +154,8 @@ time_named = (
   _,
   refl,
   (
-    inr (record { text = codes "16"; alone = refl; numeral = (lit≤ tt, (lit≤ tt, (lit≤ tt, tt))); value = refl }),
-    record { text = codes "3"; alone = refl; numeral = (lit≤ tt, (lit≤ tt, tt)); value = refl },
+    inr (record { text = codes "16"; alone = refl; says = record { numeral = (lit≤ tt, (lit≤ tt, (lit≤ tt, tt))); value = refl } }),
+    record { text = codes "3"; alone = refl; says = record { numeral = (lit≤ tt, (lit≤ tt, tt)); value = refl } },
   ),
 )
 
@@ -108,3 +191,11 @@ version_asked = refl
 pub help_asked : fault_of command_line (codes "boc" ∷ codes "--help" ∷ []) ≡ kinds.DisplayHelp ∷ []
 unfolding clap_on_literals
 help_asked = refl
+
+pub cowns_with_a_value : fault_of command_line (codes "boc" ∷ codes "sweep" ∷ codes "--cowns=1" ∷ []) ≡ kinds.TooManyValues ∷ []
+unfolding clap_on_literals
+cowns_with_a_value = refl
+
+pub no_cown : fault_of command_line (codes "boc" ∷ codes "whatif" ∷ codes "--without" ∷ []) ≡ kinds.InvalidValue ∷ []
+unfolding clap_on_literals
+no_cown = refl

@@ -1,4 +1,4 @@
-use Rattle.std.proofs.Common.{List, ℕ, subst, sym, arith}
+use Rattle.std.proofs.Common.{List, subst, sym, arith}
 use Rattle.boc_runs.specs.declared.rows.Row.{Row}
 use Rattle.boc_runs.specs.Rows.{IsRows}
 use Rattle.boc_runs.proofs.Editing.{rows_edited}
@@ -13,9 +13,6 @@ pub greedy_end-requires-clause-waits : goal.greedy_end-requires-clause-waits
 greedy_end-requires-clause-waits c =
     subst (λ (xs : List Row). AreWaits xs c.args.waits.now) (sym c.requires.changed) (waits_stay _ _ _ _ c.requires.waits)
 
-pub family_of-requires : goal.family_of-requires
-family_of-requires c = rw c.requires.changed (rows_edited _ c.requires.shape _ _ c.requires.fits)
-
 pub finish-requires-clause-shape : goal.finish-requires-clause-shape
 finish-requires-clause-shape c = rw c.requires.changed (rows_edited _ c.requires.shape _ _ c.requires.fits)
 
@@ -28,4 +25,4 @@ pub latest_end-requires-clause-low : goal.latest_end-requires-clause-low
 latest_end-requires-clause-low c =
     let shape : IsRows c.args.changed.now = rw c.requires.changed (rows_edited _ c.requires.shape _ _ c.requires.fits) in
     let d = c.in_ok-finish.ensures in
-    rw c.deref.ensures.value (λ r h. omega (arith, d.low r h, shape.ticks_high r h))
+    rw c.deref-2.ensures.value (λ r h. omega (arith, d.low r h, shape.ticks_high r h))

@@ -1,5 +1,5 @@
 use denote.Enum.Bare.{same_true, sameb}
-use Rattle.std.proofs.Common.{rules, ◌≡◌, ◌<◌, Some, true, false, length, get_or, refl, sym, ap, subst, ◌∙◌, arith}
+use Rattle.std.proofs.Common.{rules, ◌≡◌, ◌<◌, Some, true, false, length, get_or, refl, sym, ap, ◌∙◌, arith}
 use Rattle.std.specs.BinaryHeap.{heap_items}
 use Rattle.std.proofs.lemmas.List.{get_or-map, get_or_default}
 use Rattle.std.proofs.lemmas.Option.{slice_get_read, get_or_from_slice_get}
@@ -7,7 +7,6 @@ use Rattle.boc_greedy.specs.contracts.frontier.RowState.{the_type}
 use Rattle.boc_greedy.specs.declared.children.Change.{Change}
 use Rattle.boc_greedy.specs.declared.frontier.RowState.{RowState}
 use Rattle.boc_greedy.specs.declared.frontier.RowState.TheVariants.{Unspawned, UnderWay}
-use Rattle.boc_greedy.specs.Courses.{HoldsChanges}
 use Rattle.boc_greedy.specs.Families.{times_of}
 use Rattle.boc_greedy.specs.RowStates.{IsAt}
 use Rattle.boc_greedy.proofs.Copying.{holds_same, holds_more}

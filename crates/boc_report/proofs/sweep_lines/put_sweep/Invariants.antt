@@ -5,9 +5,9 @@ use Rattle.boc_report.specs.declared.sweep_lines.TheConstants.{MOST_SWEPT}
 use Rattle.boc_report.proofs.Lines.{swept_to}
 use Rattle.boc_report.proofs.sweep_lines.put_sweep.Given as goal
 
-abbrev pub invariant-loop-row : goal.invariant-loop-row
-invariant-loop-row g l = record {
-  came : HasPut (swept_to l.spans l.row) l.fn.out l.out (g.W.Sink.written l.initial.sink) (g.W.Sink.written l.sink);
-  size : size l.out ≤ size l.fn.out + MOST_SWEPT * l.row;
+abbrev pub invariant-loop-place : goal.invariant-loop-place
+invariant-loop-place g l = record {
+  came : HasPut (swept_to l.first l.spans l.place) l.fn.out l.out (g.W.Sink.written l.initial.sink) (g.W.Sink.written l.sink);
+  size : size l.out ≤ size l.fn.out + MOST_SWEPT * l.place;
   failures : g.W.Sink.failures l.sink ≡ g.W.Sink.failures l.initial.sink;
 }

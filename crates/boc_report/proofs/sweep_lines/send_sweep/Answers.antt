@@ -7,11 +7,11 @@ use Rattle.boc_report.proofs.sweep_lines.send_sweep.Goals as goal
 pub returns-in_err-put_sweep-clause-sent : goal.returns-in_err-put_sweep-clause-sent
 returns-in_err-put_sweep-clause-sent g c =
     let before = g.W.Sink.written c.args.sink.now in
-    stopped_so _ (λ s. StopsAt s.gone (sweep_lines 0 c.args.spans.now) before
+    stopped_so _ (λ s. StopsAt s.gone (sweep_lines c.args.first c.args.spans.now) before
     (g.W.Sink.written c.put_sweep.new.sink)) c.from_residual.result _ c.from_residual.ensures.1
     (c.in_err-put_sweep.ensures.goes_on before [] (c.requires.unused before))
 
 pub returns-clause-sent : goal.returns-clause-sent
 returns-clause-sent g c =
     let before = g.W.Sink.written c.args.sink.now in
-    c.send.ensures.sent before (sweep_lines 0 c.args.spans.now) (c.in_ok-put_sweep.ensures.goes_on before [] (c.requires.unused before))
+    c.send.ensures.sent before (sweep_lines c.args.first c.args.spans.now) (c.in_ok-put_sweep.ensures.goes_on before [] (c.requires.unused before))

@@ -5,6 +5,6 @@ use Rattle.boc_report.proofs.sweep_lines.swept_before.Goals as goal
 
 pub returns-clause-written : goal.returns-clause-written
 returns-clause-written c =
-    c.write_before.ensures.written ∙ ap (λ l. decimal c.args.row ++ 32 ∷ l)
+    c.write_before.ensures.written ∙ ap (λ l. decimal c.args.number ++ 32 ∷ l)
     (c.write_before-span_at.ensures.written ∙ ap (λ l. decimal c.args.span ++ 10 ∷ l) (behind MOST_SWEPT c.args.room.now c.requires))
-    ∙ sweep_formed c.args.row c.args.span
+    ∙ sweep_formed c.args.number c.args.span

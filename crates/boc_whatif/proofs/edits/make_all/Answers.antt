@@ -1,27 +1,30 @@
-use Rattle.std.proofs.Common.{◌≡◌, ◌∙◌, ◌+◌, ◌-◌, length, take, subst, arith}
+use Rattle.std.proofs.Common.{◌≡◌, ◌∙◌, ◌+◌, ◌-◌, ℕ, length, take, subst, ap, arith}
+use Rattle.std.specs.Prelude.{min}
+use Rattle.boc_plans.specs.declared.edit.Edit.{Edit}
+use Rattle.boc_plans.specs.Edits.{IsChanged, IsEditFault}
 use Rattle.boc_whatif.specs.Asked.{AreMade}
-use Rattle.boc_whatif.proofs.Successive.{edited_next, fit_next, first_unfit}
-use Rattle.boc_whatif.proofs.Keeping.{lasts_edited, least_next}
+use Rattle.boc_whatif.proofs.Successive.{edited_next, first_unfit}
+use Rattle.boc_whatif.proofs.Keeping.{least_next}
 use Rattle.boc_whatif.proofs.edits.make_all.Goals as goal
 
-pub returns-in-Err : goal.returns-in-Err
-returns-in-Err c =
+pub returns-in-Err-clause-made : goal.returns-in-Err-clause-made
+returns-in-Err-clause-made c =
     let same : c.loop-index.index ≡ c.loop-index.index + 1 - 1 = omega arith in
     let made = c.loop-index.invariant.made in (
-      subst (λ n. AreMade c.args.rows.now (take n c.args.edits.now) c.loop-index.rows c.loop-index.from) same made,
-      first_unfit c.args.rows.now c.loop-index.rows c.args.edits.now c.loop-index.index _ c.in-Err.fault c.loop-index-test.true made.fit made.rows_are
-          (rw c.as_slice.ensures.same at c.in-Err.ensures),
+      rw c.in-Err.ensures.stays (subst (λ n. AreMade c.args.rows.now (take n c.args.edits.now) c.loop-index.rows c.loop-index.from) same made),
+      first_unfit c.args.rows.now c.loop-index.rows c.args.edits.now c.loop-index.index _ c.in-Err.fault c.loop-index-test.true made.edited
+          (subst (λ (e : Edit). IsEditFault c.loop-index.rows e c.in-Err.fault) c.index-edits-index.is c.in-Err.ensures.fault),
     )
 
 pub loop-index-preserved : goal.loop-index-preserved
 loop-index-preserved c = record {
-  lasts = rw c.set_ticks.ensures (lasts_edited c.loop-index.rows c.args.lasts.now _ _ c.loop-index.invariant.lasts);
+  lasts = c.make.ensures.lasts;
   made = record {
-    fit = fit_next c.args.rows.now c.loop-index.rows c.args.edits.now c.loop-index.index _ c.loop-index-test.true c.loop-index.invariant.made.fit
-        c.loop-index.invariant.made.rows_are (rw c.as_slice.ensures.same at c.in_default.ensures);
-    rows_are = edited_next c.args.rows.now c.loop-index.rows c.set_ticks.new.self c.args.edits.now c.loop-index.index _ c.loop-index-test.true
-        c.loop-index.invariant.made.rows_are c.set_ticks.ensures;
-    from_is = c.min-from.ensures ∙ least_next (length c.args.rows.now) c.loop-index.from c.args.edits.now c.loop-index.index _ c.loop-index-test.true
+    edited = edited_next c.args.rows.now c.loop-index.rows c.make.new.rows c.args.edits.now c.loop-index.index _ c.loop-index-test.true
+        c.loop-index.invariant.made.edited
+        (subst (λ (e : Edit). IsChanged c.loop-index.rows e.row e.change c.make.new.rows) c.index-edits-index.is c.in_default.ensures.made);
+    from_is = c.min-from.ensures ∙ ap (λ (e : Edit). min c.loop-index.from e.row) c.index-edits-index.is
+        ∙ least_next (length c.args.rows.now) c.loop-index.from c.args.edits.now c.loop-index.index _ c.loop-index-test.true
         c.loop-index.invariant.made.from_is;
   };
 }

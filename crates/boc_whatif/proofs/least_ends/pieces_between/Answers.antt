@@ -24,7 +24,7 @@ collect-requires-clause-ready g c κs within =
     let inside = nat_range-All (λ (piece : ℕ). c.args.from + piece * PIECE < c.args.to) 0 c.div_ceil-count.result
     (λ piece low high. omega (arith, high, c.div_ceil-count.ensures, enough.1)) in
     rw (c.map.ensures.base, c.map.ensures.f, c.with_min_len.ensures.base, ends.0, ends.1)
-    (λ k d lt. ((inside k d lt, c.requires.there, c.requires.parts), λ y p. tt))
+    (λ k d lt. ((inside k d lt, c.requires.there, c.requires.parts, c.requires.course), λ y p. tt))
 
 pub returns : goal.returns
 returns g c =
@@ -37,10 +37,11 @@ returns g c =
     let whole : count - 0 ≡ count = omega arith in
     let enough = div_ceil_times (to - from) PIECE (omega arith) in
     let h = c.in_ok-collect.ensures in
-    let chain = rw (c.map.ensures.base, c.map.ensures.f, c.with_min_len.ensures.base) at h.1 in
-    let places = chain.1 ∙ (λ i. nat_range (ends.0 i) (ends.1 i)) ∙ ap (range_with_len 0) whole in
+    let numbers = rw (c.map.ensures.base, c.with_min_len.ensures.base) at h.1.1 in
+    let found = rw c.map.ensures.f at h.1.2 in
+    let places = numbers ∙ (λ i. nat_range (ends.0 i) (ends.1 i)) ∙ ap (range_with_len 0) whole in
     let each = subst (λ (l : List ℕ). AllZip (λ (piece : ℕ) (r : Result (Vec ℕ Global) AllocError). IfOk r (λ v. IsPiece all p from to piece v.items)) l h.0)
-    places chain.2 in
+    places found in
     IfOk-then c.in_ok-collect.field-0 _ _
     (gathered (λ (piece : ℕ) (v : Vec ℕ Global). IsPiece all p from to piece v.items) _ h.0 c.in_ok-collect.field-0 each h.2)
     (λ v z. pieces_of all p from to count v.items (omega (arith, c.div_ceil-count.ensures, enough.0)) z)

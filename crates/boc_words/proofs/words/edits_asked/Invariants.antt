@@ -1,12 +1,10 @@
 use Rattle.std.proofs.Common.{◌≡◌, map, take}
 use Rattle.std.specs.List.{All}
-use Rattle.boc_words.specs.EditWords.{edit_word}
-use Rattle.boc_words.specs.Words.{IsEditWord}
-use Rattle.boc_plans.specs.declared.edit.Edit.{Edit}
+use Rattle.boc_words.specs.EditWords.{IsEditWord, edit_word}
 use Rattle.boc_words.proofs.words.edits_asked.Given as goal
 
 abbrev pub invariant-loop-index : goal.invariant-loop-index
 invariant-loop-index l = record {
-  taken : map (λ (edit : Edit). edit_word edit.row edit.ticks) l.edits.items ≡ map (λ t. t.now) (take l.index l.words);
+  taken : map edit_word l.edits.items ≡ map (λ t. t.now) (take l.index l.words);
   spelt : All IsEditWord (map (λ t. t.now) (take l.index l.words));
 }

@@ -1,4 +1,4 @@
-use Rattle.std.proofs.Common.{◌≡◌, ℕ, ◌+◌, ◌-◌, ◌<◌, List, [], drop, length, refl, sym, ap, ◌∙◌, arith, length-set}
+use Rattle.std.proofs.Common.{◌≡◌, ℕ, ◌+◌, ◌-◌, ◌<◌, List, [], drop, length, refl, sym, ap, ◌∙◌, arith, length-set, get_or-set_same}
 use Rattle.std.specs.Prelude.{slice_index, slice_set}
 use Rattle.std.proofs.lemmas.List.{drop_more, drop_all}
 use Rattle.std.proofs.lemmas.List.Elements.{Contains-get_or}
@@ -53,6 +53,20 @@ loop-follower-init c =
       followers = refl;
     }
 
+pub index-requires : goal.index-requires
+index-requires c =
+    let i = c.loop-follower.invariant in
+    let t = next_there _ c.args.self.now c.loop-follower.self c.args.row c.loop-follower.follower-index _ i.kept i.states i.followers c.requires.under_way
+    c.of-follower-items.ensures c.loop-follower-test.true in
+    omega (arith, t.0, t.1, c.loop-follower.self.unmet.ok.0)
+
+pub wake-requires-clause-count : goal.wake-requires-clause-count
+wake-requires-clause-count c =
+    let i = c.loop-follower.invariant in
+    let t = next_there _ c.args.self.now c.loop-follower.self c.args.row c.loop-follower.follower-index _ i.kept i.states i.followers c.requires.under_way
+    c.of-follower-items.ensures c.loop-follower-test.true in
+    sym (get_or-set_same c.loop-follower.self.unmet.items _ _ 0 (omega (arith, t.0, t.1)))
+
 pub index_mut-requires-in-loop-follower : goal.index_mut-requires-in-loop-follower
 index_mut-requires-in-loop-follower c =
     let i = c.loop-follower.invariant in
@@ -60,16 +74,15 @@ index_mut-requires-in-loop-follower c =
     c.of-follower-items.ensures c.loop-follower-test.true in
     omega (arith, t.0, t.1, c.loop-follower.self.unmet.ok.0)
 
-pub overflow_sub-index_mut : goal.overflow_sub-index_mut
-overflow_sub-index_mut c =
+pub overflow_sub-unmet : goal.overflow_sub-unmet
+overflow_sub-unmet c =
     let i = c.loop-follower.invariant in
     let t = next_there _ c.args.self.now c.loop-follower.self c.args.row c.loop-follower.follower-index _ i.kept i.states i.followers c.requires.under_way
     c.of-follower-items.ensures c.loop-follower-test.true in
     omega (
       arith,
       t.2,
-      read_at c.loop-follower.self.unmet.items _ c.index_mut-in-loop-follower.result.now (omega (arith, t.0, t.1))
-          c.index_mut-in-loop-follower.ensures.value,
+      read_at c.loop-follower.self.unmet.items _ c.index.result.now (omega (arith, t.0, t.1)) c.index.ensures,
     )
 
 pub wake-requires-clause-there : goal.wake-requires-clause-there
@@ -90,8 +103,7 @@ loop-follower-preserved c =
     let n : ℕ = c.loop-follower.follower-index in
     let t = next_there _ c.args.self.now f c.args.row n items i.kept i.states i.followers c.requires.under_way c.of-follower-items.ensures
     c.loop-follower-test.true in
-    let read = read_at f.unmet.items (slice_index items n) c.index_mut-in-loop-follower.result.now (omega (arith, t.0, t.1))
-    c.index_mut-in-loop-follower.ensures.value in
+    let read = read_at f.unmet.items (slice_index items n) c.index.result.now (omega (arith, t.0, t.1)) c.index.ensures in
     let (waits, is) = i.kept in
     record {
       kept = rw (w.states, w.unmet, w.followers) (

@@ -1,4 +1,4 @@
-use Rattle.std.proofs.Common.{ℕ, ◌<◌, length, sym, arith}
+use Rattle.std.proofs.Common.{ℕ, ◌<◌, length, get_or, refl, sym, arith}
 use Rattle.boc_greedy.specs.declared.children.Change.{Change}
 use Rattle.boc_greedy.specs.declared.frontier.RowState.TheVariants.{Unspawned, Waiting, UnderWay, Over}
 use Rattle.boc_greedy.specs.Simulating.{later}
@@ -29,14 +29,14 @@ index_mut-requires c =
 
 pub overflow_sub-next : goal.overflow_sub-next
 overflow_sub-next c = (is_spawning _ c.requires.shape c.args.self.now _ c.requires.stepping c.requires.top _ _ c.index-change.ensures
-    (omega (arith, c.if-change-len.true, c.len.ensures.count)) c.index-next.ensures).rises
+    (omega (arith, c.if-change-len.true, c.len.ensures.count)) refl).rises
 
 pub overflow_add-tick : goal.overflow_add-tick
 overflow_add-tick c =
     let s = c.args.self.now in
     let d = is_due _ c.requires.shape s _ c.requires.stepping c.requires.top in
     let p = is_spawning _ c.requires.shape s _ c.requires.stepping c.requires.top _ _ c.index-change.ensures
-    (omega (arith, c.if-change-len.true, c.len.ensures.count)) c.index-next.ensures in
+    (omega (arith, c.if-change-len.true, c.len.ensures.count)) refl in
     omega (arith, c.from.ensures, p.rises, p.now, d.early, timed_low _ c.requires.shape _ _ _ d.there p.timed)
 
 pub end-requires-clause-under_way : goal.end-requires-clause-under_way
@@ -62,10 +62,10 @@ returns-then-change-len-clause-stepping c =
     let k = i.kept in
     let r : ℕ = c.args.row in
     let change : Change = c.index-change.result.now in
-    let next : Change = c.index-next.result.now in
+    let next : Change = get_or s.next.now change.child (record { child = 0; after = 0 }) in
     let there : change.child < length c.args.rows.now = omega (arith, c.if-change-len.true, c.len.ensures.count) in
     let d = is_due _ shape s r i c.requires.top in
-    let p = is_spawning _ shape s r i c.requires.top change next c.index-change.ensures there c.index-next.ensures in
+    let p = is_spawning _ shape s r i c.requires.top change next c.index-change.ensures there refl in
     let sg = changes_state s.frontier.states.items c.spawn.new.self.states.items change.child Waiting (omega (arith, there, k.states_are.states_whole))
     c.spawn.ensures.states in
     let pf = puts_child s.first.items r next d.listed in

@@ -8,6 +8,7 @@ import tempfile
 from . import model
 from .records import fan, fan_text
 from .running import MEMORY, Answer, done, fault_of, refused
+from .why import Names, TRANSFER, why
 from .worked import CURVE, GREEDY, PROFILE, SHORTER, SHORTER_GREEDY, VALUES, WITHOUT_A
 
 REFUSE = os.path.join(os.path.dirname(os.path.dirname(os.path.abspath(__file__))), "refuse.c")
@@ -60,6 +61,9 @@ def runs(program):
     yield ["sweep", "--cowns", "--p", "2"], fan_text(3, MANY), done(model.cown_sweep(MANY, 3, 2))
     yield ["sweep", "--spawns"], record, done(b"1 8\n2 9\n3 9\n")
     yield ["sweep", "--spawns"], fan_text(3, MANY), done(model.spawn_sweep(MANY))
+    yield ["why"], text, done(TRANSFER.encode())
+    yield ["why"], fan_text(3, MANY), done(why(MANY, Names(len(MANY), 3)))
+    yield ["why", "--all"], record + b"x", refused(3, "boc: line 15: 12 After")
     yield ["whatif", "--without", "0"], record, done(WITHOUT_A.encode())
     yield ["whatif", "--without", "0", "--without", "0", "2=1/1", "2@3", "3=2"], record, done(WITHOUT_A.encode())
     yield ["whatif", "--without", "2"], record, refused(3, "boc: without 1: 6 NoCown")
@@ -99,7 +103,7 @@ def build(library):
 
 def fault_of_refusals(program, library, words, source, expected):
     """Goes on to the number of the first request that the program doesn't make."""
-    in_threads = words[0] in ("run", "time")
+    in_threads = words[0] in ("run", "time") or words[0] == "why" and not source.startswith(b"boc")
     fault_of_whole = functools.partial(fault_of, expected) if expected else functools.partial(fault_of_transfer, program)
     told = []
     for request in range(1, MOST_REQUESTS):

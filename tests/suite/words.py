@@ -3,7 +3,7 @@ from .running import Answer, done, fault_of
 from .worked import CURVE, GREEDY, PROFILE, SHORTER, SHORTER_GREEDY, WITHOUT_A
 
 HELP = [["--help"], ["-h"], ["values", "--help"], ["check", "--help"], ["run", "--help"], ["profile", "--help"],
-        ["time", "--help"], ["whatif", "--help"], ["curve", "--help"], ["sweep", "--help"], ["help"], ["help", "whatif"]]
+        ["time", "--help"], ["whatif", "--help"], ["curve", "--help"], ["sweep", "--help"], ["why", "--help"], ["help"], ["help", "whatif"]]
 
 TAKEN = [
     (["profile", "--p=2"], PROFILE + GREEDY),
@@ -44,6 +44,11 @@ REFUSED = [
     ["values", "more"],
     ["check", "more"],
     ["sweep", "2=1"],
+    ["why", "--p", "2"],
+    ["why", "--workers", "17"],
+    ["why", "--all", "--all"],
+    ["why", "--all=1"],
+    ["why", "2"],
     ["sweep", "--p", "0"],
     ["sweep", "--p", "65"],
     ["sweep", "--cowns", "--spawns"],

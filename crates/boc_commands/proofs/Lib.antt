@@ -4,4 +4,7 @@ pub mod Promised
 pub mod Passed
 pub mod OneProgram
 pub mod OneAnswer
+pub mod WhyAnswered
+pub mod WhyNames
+pub mod WhyTaken
 pub mod examples

@@ -1,5 +1,5 @@
 -- A fault that a part of a command passes on.
-use Rattle.std.proofs.Common.{◌≡◌, ◌+◌, ℕ, List, Option, Result, Ok, Err, MatchResult, refl, sym, subst}
+use Rattle.std.proofs.Common.{◌≡◌, ◌≢◌, ◌+◌, ℕ, List, Option, Result, Ok, Err, MatchResult, refl, sym, subst}
 use Rattle.std.specs.Result.{IsErrAnd}
 use Rattle.boc_text.specs.Streams.{ReadsWhole}
 use Rattle.boc_program.specs.declared.limits.TheConstants.{MOST_TEXT}
@@ -8,7 +8,12 @@ use Rattle.boc_commands.specs.declared.fault.Fault.TheVariants as faults
 use Rattle.boc_commands.specs.declared.fault.InputFault.TheVariants as inputs
 use Rattle.boc_commands.specs.declared.fault.Want.{Want}
 use Rattle.boc_commands.specs.declared.fault.Want.TheVariants as means
-use Rattle.boc_commands.specs.Faults.{of_read}
+use Rattle.boc_commands.specs.Faults.{of_read, of_run}
+use Rattle.boc_program.specs.declared.program.Program.{Program}
+use Rattle.boc_reader.specs.Spells.{Spells}
+use Rattle.boc_workers.specs.declared.fault.RunFault.{RunFault}
+use Rattle.boc_workers.specs.declared.fault.RunFault.TheVariants as runs
+use Rattle.boc_workers.specs.Noting.{CanReachLimit}
 use Rattle.boc_reader.specs.FaultMeanings.{IsRefusalOf}
 use Rattle.boc_reader.specs.declared.fault.ReadFault.{ReadFault}
 use Rattle.boc_reader.specs.declared.fault.ReadFaultKind.{ReadFaultKind}
@@ -48,3 +53,11 @@ pub refuses_nothing : (Holds : Result (Unit {0}) Fault → Type 0) → Holds (Ok
 refuses_nothing Holds ok want (Ok done) h = ok
 refuses_nothing Holds ok want (Err (faults.Means w)) h = want w
 refuses_nothing Holds ok want (Err _) h = absurd h
+
+-- what became of a run of the program that a text spells
+pub refused_course : (always_on : Type 0) (text : List ℕ) (program : Program) (fault : RunFault) → Spells text program → (always_on → fault ≢ runs.Held)
+    → (fault ≡ runs.Behaviours → CanReachLimit program) → IsOfRun always_on text (of_run fault)
+refused_course always_on text program runs.Memory spells held full = tt
+refused_course always_on text program runs.Behaviours spells held full = record { program = program; spells = spells; full = full refl }
+refused_course always_on text program runs.Held spells held full = ((program, spells), λ on. held on refl)
+refused_course always_on text program _ spells held full = (program, spells)

@@ -3,3 +3,5 @@ pub mod Answers
 pub mod Faults
 pub mod Promises
 pub mod Commands
+pub mod WhyAnswers
+pub mod EveryCommand

@@ -14,6 +14,7 @@ mod time;
 mod values;
 mod values_text;
 mod whatif;
+mod why;
 
 pub use check::check_cmd;
 pub use command::run_command;
@@ -25,6 +26,7 @@ pub use sweep::sweep_cmd;
 pub use time::time_cmd;
 pub use values::values_cmd;
 pub use whatif::whatif_cmd;
+pub use why::why_cmd;
 
 // Who is told how far a sweep is.
 pub use boc_whatif::{Progress, Silent};

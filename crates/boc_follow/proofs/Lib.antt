@@ -5,6 +5,7 @@ pub mod Nexts
 pub mod Wishing
 pub mod Standing
 pub mod Goes
+pub mod RowKinds
 pub mod Logs
 pub mod Refusals
 pub mod OnePlace

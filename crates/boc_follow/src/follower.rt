@@ -1,6 +1,6 @@
 // A run of a program, followed event by event.
 
-ghost use Rattle.std.specs.Prelude.{◌≡◌, ◌<◌, ◌≤◌, ◌↔◌, [], IfOk, IsTrue, MatchOption, OnOk, length, vec_len, vec_capacity};
+ghost use Rattle.std.specs.Prelude.{◌≡◌, ◌<◌, ◌≤◌, ◌↔◌, [], IfOk, IfSome, IsTrue, MatchOption, OnOk, length, vec_len, vec_capacity};
 ghost use Rattle.boc_follow.specs.declared.follower.TakeFault.TheVariants.{Memory};
 
 use crate::row::{FollowedRow, child_of, end_row, put_child, start_row};
@@ -89,6 +89,7 @@ fn make_room(rules: &mut Rules, rows: &mut Vec<FollowedRow>) -> Result<(), Alloc
 
 impl<'a> Follower<'a> {
     ghost use Rattle.boc_runs.specs.declared.event.Event.TheVariants as events;
+    ghost use Rattle.boc_program.specs.declared.limits.TheConstants.{MOST_ROWS};
     ghost use Rattle.boc_program.specs.Programs.{cown_count};
     ghost use Rattle.boc_runs.specs.Legal.{entries, IsAllowed};
     ghost use Rattle.boc_runs.specs.Run.{config_of, IsRun, IsWholeRun};
@@ -231,11 +232,20 @@ impl<'a> Follower<'a> {
         &self.values
     }
 
+    /// How many rows there are so far.
+    pub fn rows(&self) -> usize
+        ensures count { result ≡ length (config_of self.now.program self.now.log).members }
+        ensures few { result ≤ MOST_ROWS }
+    {
+        self.rows.len()
+    }
+
     /// What a row is, if it is there.
     pub fn named(&self, row: u32) -> Option<Named<'_>>
-        ensures { MatchOption result
+        ensures named { MatchOption result
             (length (config_of self.now.program self.now.log).members ≤ row)
             (λ named. IsNamed (config_of self.now.program self.now.log).members row named.kind named.args.now named.cowns.now) }
+        ensures known { IfSome result (λ named. named.kind < length self.now.program.bodies) }
     {
         let row = self.rows.get(row as usize)?;
         Some(Named {

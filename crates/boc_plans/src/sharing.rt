@@ -2,6 +2,7 @@
 
 ghost use Rattle.std.specs.Prelude.{◌↔◌, IsTrue, Contains};
 
+use boc_program::held::HeldCowns;
 use boc_program::short::HeldCown;
 use boc_runs::rows::{Row, Rows};
 use std::marker::Model;
@@ -142,6 +143,14 @@ impl<'a> SeenRows<'a> {
         ensures { result.now ≡ cowns_of self.now row }
     {
         self.row(row).cowns.as_slice()
+    }
+
+    /// The same cowns as the row keeps them: at most eight.
+    pub fn held(&self, row: usize) -> &HeldCowns
+        requires { row < length self.now }
+        ensures { result.now.items ≡ cowns_of self.now row }
+    {
+        &self.row(row).cowns
     }
 
     /// Whether a row counts as writing one of its cowns.

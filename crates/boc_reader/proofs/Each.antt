@@ -21,7 +21,7 @@ pub record ReadEach {X : Type 0} (kind : Phrase X) (old now : Ahead) (xs : List 
   pub small : AllSmall kind xs
   pub shorter : length now.tokens ≤ length old.tokens
 
-each_tokens-append : {X : Type 0} (tokens : X → List Token → List Token) (xs : List X) (x : X) (rest : List Token)
+pub each_tokens-append : {X : Type 0} (tokens : X → List Token → List Token) (xs : List X) (x : X) (rest : List Token)
     → each_tokens tokens (xs ++ x ∷ []) rest ≡ each_tokens tokens xs (tokens x rest)
 each_tokens-append tokens [] x rest = refl
 each_tokens-append tokens (y ∷ ys) x rest = ap (tokens y) (each_tokens-append tokens ys x rest)

@@ -1,8 +1,12 @@
 pub mod Texts
+pub mod Places
 pub mod Refused
 pub mod Operators
 pub mod Expressions
 pub mod Each
+pub mod Lefts
+pub mod Tails
+pub mod NamePlaces
 pub mod Ended
 pub mod Lists
 pub mod Listed

@@ -1,9 +1,12 @@
 -- A text spells one program at most, and none where a fault is told.
-use Rattle.std.proofs.Common.{◌≡◌, ◌≢◌, ℕ, List, Some, refl, sym, ap, ◌∙◌, subst, arith}
+use Rattle.std.proofs.Common.{◌≡◌, ◌≢◌, ℕ, List, Some, map, refl, sym, ap, ◌∙◌, subst, arith}
 use Rattle.boc_program.specs.declared.program.Program.{Program}
 use Rattle.boc_reader.specs.Tokens.{Token, tokens_of_text}
 use Rattle.boc_reader.specs.Shape.{Tree, HasShape}
 use Rattle.boc_reader.specs.Names.{tree_names}
+use Rattle.boc_reader.specs.Listing.{signature_of}
+use Rattle.boc_reader.specs.Listed.{ListsDefs, listed}
+use Rattle.boc_reader.specs.declared.listing.DefListing.{DefListing}
 use Rattle.boc_reader.specs.Spells.{Spells, plain_program}
 use Rattle.boc_reader.specs.FaultMeanings.{HasNoTokens, HasNoShape, HasNoNames, SaysOf}
 use Rattle.boc_reader.specs.declared.fault.ReadFaultKind.{ReadFaultKind}
@@ -50,3 +53,11 @@ one_program text p q s t =
     let f = t.has_names in
     let found : Some (plain_program p) ≡ Some (plain_program q) = sym e ∙ ap tree_names same ∙ f in
     cc found
+
+pub one_list : (text : List ℕ) (defs others : List DefListing) → ListsDefs text defs → ListsDefs text others → map listed defs ≡ map listed others
+one_list text defs others l k =
+    let t = l.has_tree in
+    let u = k.has_tree in
+    l.are_listed.all
+    ∙ ap (λ tree. map signature_of tree.defs) (same_tree text t.tokens u.tokens l.tree k.tree t.has_tokens u.has_tokens t.has_shape u.has_shape)
+    ∙ sym k.are_listed.all

@@ -7,6 +7,8 @@ pub mod Placed
 pub mod Phrases
 pub mod Grammar
 pub mod Lines
+pub mod Listing
+pub mod Listed
 pub mod Resolving
 pub mod Resolves
 pub mod FaultMeanings

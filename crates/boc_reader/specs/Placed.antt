@@ -1,6 +1,8 @@
 -- Tokens without where they stand, where the first of them stands, and what a fault says.
-use Rattle.std.specs.Prelude.{ℕ, List, [], ◌∷◌, map}
+use Rattle.std.specs.Prelude.{◌≡◌, ◌≢◌, ℕ, ◌-◌, List, [], ◌∷◌, map, length, drop, false, Some}
+use Rattle.std.specs.Str.{byte}
 use Rattle.boc_reader.specs.Tokens as the
+use Rattle.boc_reader.specs.Tokens.{is_blank, tokens_of_text}
 use Rattle.boc_reader.specs.declared.token.Token.{Token}
 use Rattle.boc_reader.specs.declared.token.Token.TheVariants as tokens
 use Rattle.boc_reader.specs.declared.token.Placed.{Placed}
@@ -28,3 +30,22 @@ position_of (p ∷ ps) = p.at
 abbrev pub Refusal : {K : Type 0} → Fault K → Type 0 → Type 0
 Refusal faults.Memory P = Unit {0}
 Refusal (faults.At kind at) P = P
+
+-- bytes that are the end of a text
+abbrev pub IsEndOf : List ℕ → List ℕ → Type 0
+IsEndOf bytes text = bytes ≡ drop (length text - length bytes) text
+
+-- a token begins there: neither a blank nor a comment
+abbrev pub BeginsToken : List ℕ → Type 0
+BeginsToken [] = ⊥
+BeginsToken (b ∷ bs) = (is_blank b ≡ false) × (b ≢ byte "#")
+
+-- the first of these tokens begins at this byte of a text, and from there on the text has these tokens
+pub record BeginsAt (text : List ℕ) (at : ℕ) (tokens : List the.Token) : Type 0 where
+  pub begins : BeginsToken (drop at text)
+  pub has_tokens : tokens_of_text (drop at text) ≡ Some tokens
+
+-- each of these tokens begins at its place, with those behind it
+abbrev pub ArePlaced : List ℕ → List Placed → Type 0
+ArePlaced text [] = Unit {0}
+ArePlaced text (p ∷ ps) = BeginsAt text p.at (tokens_of (p ∷ ps)) × ArePlaced text ps

@@ -1,6 +1,6 @@
 // A cursor among the tokens.
 
-ghost use Rattle.std.specs.Prelude.{◌≡◌, ◌≢◌, ◌+◌, ◌<◌, ◌∷◌, [], ℕ, List, drop, MatchResult, MatchOption, MatchBool, IfErr};
+ghost use Rattle.std.specs.Prelude.{◌≡◌, ◌≢◌, ◌+◌, ◌<◌, ◌∷◌, [], ℕ, List, drop, length, MatchResult, MatchOption, MatchBool, IfErr};
 ghost use Rattle.std.specs.Bool.{OnTrue, OnFalse};
 ghost use Rattle.boc_reader.specs.Tokens as the;
 ghost use Rattle.boc_reader.specs.Tokens.{name, number, keyword, sign};
@@ -58,6 +58,13 @@ impl<'t, 'a> Cursor<'t, 'a> {
             [] => MOST_TEXT,
             [first, ..] => first.at,
         }
+    }
+
+    /// How many tokens are left.
+    pub fn left(&self) -> usize
+        ensures { result ≡ length self.now.tokens }
+    {
+        self.rest.len()
     }
 
     /// The next token is not what the grammar allows there.

@@ -6,7 +6,7 @@ ghost use Rattle.std.specs.Bool.{OnTrue};
 ghost use Rattle.std.specs.Char.{is_ascii_digit};
 ghost use Rattle.std.specs.List.{take_while, list_all};
 ghost use Rattle.std.specs.Str.{byte, IsAscii};
-ghost use Rattle.boc_reader.specs.Placed.{token_of, tokens_of, Refusal};
+ghost use Rattle.boc_reader.specs.Placed.{token_of, tokens_of, ArePlaced, IsEndOf, Refusal};
 ghost use Rattle.boc_reader.specs.Tokens.{sign, is_name_byte, is_blank, is_numeral, value_of, begins_with_digit, token_of_run, keyword_of, single_sign};
 ghost use Rattle.boc_reader.specs.Tokens.{pair_sign, put, tokens_of_text, IsApart};
 
@@ -176,6 +176,7 @@ fn token_of_run<'a>(run: &'a [u8]) -> Result<Token<'a>, TokenFault>
 fn after_comment(text: &[u8]) -> &[u8]
     ensures skipped { tokens_of_text (byte "#" ∷ text.now) ≡ tokens_of_text result.now }
     ensures shorter { length result.now ≤ length text.now }
+    ensures end { IsEndOf result.now text.now }
 {
     let mut rest = text;
     while let Some((first, after)) = rest.split_first() {
@@ -193,6 +194,7 @@ fn split_run(text: &[u8]) -> Option<(&[u8], &[u8])>
         (λ x. tokens_of_text text.now ≡ put (token_of_run x.0.now) (tokens_of_text x.1.now)) }
     ensures ascii { IfSome result (λ x. IsAscii x.0.now) }
     ensures shorter { IfSome result (λ x. length x.1.now < length text.now) }
+    ensures end { IfSome result (λ x. IsEndOf x.1.now text.now) }
 {
     let len = run_len(text);
     if len == 0 {
@@ -206,6 +208,7 @@ fn split_pair(first: u8, after: &[u8]) -> Option<(Sign, &[u8])>
     ensures tokens { MatchOption result (IsApart first after.now)
         (λ x. tokens_of_text (first ∷ after.now) ≡ put (Some (sign x.0)) (tokens_of_text x.1.now)) }
     ensures shorter { IfSome result (λ x. length x.1.now < length after.now) }
+    ensures end { IfSome result (λ x. IsEndOf x.1.now after.now) }
 {
     match after.split_first() {
         Some((second, others)) if *second == b'=' => match pair_sign(first) {
@@ -225,6 +228,7 @@ fn split_sign(first: u8, after: &[u8]) -> Result<(Sign, &[u8]), TokenFault>
         (λ x. tokens_of_text (first ∷ after.now) ≡ put (Some (sign x.0)) (tokens_of_text x.1.now))
         (λ _. tokens_of_text (first ∷ after.now) ≡ None) }
     ensures shorter { IfOk result (λ x. length x.1.now ≤ length after.now) }
+    ensures end { IfOk result (λ x. IsEndOf x.1.now after.now) }
 {
     if let Some(found) = split_pair(first, after) {
         return Ok(found);
@@ -244,6 +248,7 @@ fn split_token(text: &[u8]) -> Result<(Token<'_>, &[u8]), TokenFault>
         (λ x. tokens_of_text text.now ≡ put (Some (token_of x.0)) (tokens_of_text x.1.now))
         (λ _. tokens_of_text text.now ≡ None) }
     ensures shorter { IfOk result (λ x. length x.1.now < length text.now) }
+    ensures end { IfOk result (λ x. IsEndOf x.1.now text.now) }
 {
     if let Some((run, after)) = split_run(text) {
         return Ok((token_of_run(run)?, after));
@@ -257,8 +262,9 @@ fn split_token(text: &[u8]) -> Result<(Token<'_>, &[u8]), TokenFault>
 
 /// The tokens of a text, each with its place.
 pub fn tokens(alloc: Global, text: &[u8]) -> Result<Vec<Placed<'_>>, Fault<TokenFault>>
-    ensures { MatchResult result (λ v. tokens_of_text text.now ≡ Some (tokens_of v.items))
+    ensures tokens { MatchResult result (λ v. tokens_of_text text.now ≡ Some (tokens_of v.items))
         (λ f. Refusal f (tokens_of_text text.now ≡ None)) }
+    ensures places { IfOk result (λ v. ArePlaced text.now v.items) }
 {
     let mut all = Vec::new(alloc);
     let mut rest = text;

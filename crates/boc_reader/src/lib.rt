@@ -5,6 +5,8 @@ mod cursor;
 mod fault;
 mod level;
 mod lex;
+mod lines;
+mod listing;
 mod names;
 mod natural;
 mod parse;
@@ -14,4 +16,5 @@ mod terminal;
 mod token;
 
 pub use fault::{ReadFault, ReadFaultKind};
-pub use read::{read_program, refused_is_none};
+pub use listing::{DefListing, one_listing};
+pub use read::{read_listed, read_program, refused_is_none};

@@ -1,6 +1,6 @@
 // From tokens to the syntax tree, by recursive descent.
 
-ghost use Rattle.std.specs.Prelude.{◌≡◌, ◌≢◌, ◌<◌, ◌≤◌, ◌∷◌, drop, length, map, OnOk, MatchResult};
+ghost use Rattle.std.specs.Prelude.{◌≡◌, ◌≢◌, ◌+◌, ◌<◌, ◌≤◌, ◌∷◌, drop, length, map, IfOk, OnOk, MatchResult};
 ghost use Rattle.std.specs.Option.{option_map};
 ghost use Rattle.boc_reader.specs.Tokens.{keyword};
 ghost use Rattle.boc_reader.specs.Shape.{HasShape};
@@ -13,6 +13,7 @@ ghost use Rattle.boc_reader.specs.Grammar.{let_phrase, arguments_phrase, call_ph
 ghost use Rattle.boc_reader.specs.Grammar.{body_phrase, size_phrase, initial_phrase, cown_phrase, cowns_phrase, signature_phrase, def_phrase, defs_phrase};
 ghost use Rattle.boc_reader.specs.Grammar.{main_phrase};
 ghost use Rattle.boc_reader.specs.Placed.{tokens_of, Refusal};
+ghost use Rattle.boc_reader.specs.Listing.{AreLeft, main_tokens};
 ghost use Rattle.boc_reader.specs.Views.{name_of, expr_of, sum_of, term_of, unary_of, atom_of, named_cown_of, stmt_of, block_of, cown_of, def_of, tree_of};
 
 use crate::cursor::Cursor;
@@ -36,7 +37,8 @@ type Read<T> = Result<T, Fault<ShapeFault>>;
 
 /// The tree of a text that has these tokens and ends at this byte.
 pub fn parse_tree<'a>(alloc: Global, tokens: &[Placed<'a>]) -> Read<Tree<'a>>
-    ensures { MatchResult result (λ t. HasShape (tokens_of tokens.now) (tree_of t))
+    ensures left { IfOk result (λ t. AreLeft t.defs.items (main_tokens (block_of t.main.items))) }
+    ensures shape { MatchResult result (λ t. HasShape (tokens_of tokens.now) (tree_of t))
         (λ f. Refusal f (NoShape (tokens_of tokens.now))) }
 {
     let mut cursor = Cursor::new(tokens, MOST_COWNS as u32);
@@ -115,7 +117,8 @@ fn initial(cursor: &mut Cursor<'_, '_>) -> Read<(bool, Natural)>
 }
 
 fn defs<'a>(alloc: Global, cursor: &mut Cursor<'_, 'a>) -> Read<Vec<DefShape<'a>>>
-    ensures { Parses defs_phrase (λ v. map def_of v.items) cursor.old result cursor.new }
+    ensures left { IfOk result (λ v. AreLeft v.items cursor.new.tokens) }
+    ensures answers { Parses defs_phrase (λ v. map def_of v.items) cursor.old result cursor.new }
 {
     let mut all = Vec::new(alloc);
     'defs: while cursor.is_next(Keyword::Def) {
@@ -126,14 +129,17 @@ fn defs<'a>(alloc: Global, cursor: &mut Cursor<'_, 'a>) -> Read<Vec<DefShape<'a>
 
 fn def<'a>(alloc: Global, cursor: &mut Cursor<'_, 'a>) -> Read<DefShape<'a>>
     ensures answers { Parses def_phrase def_of cursor.old result cursor.new }
+    ensures left { IfOk result (λ d. length cursor.old.tokens ≡ d.left + 1) }
     ensures shorter { OnOk result (length cursor.new.tokens < length cursor.old.tokens) }
 {
     cursor.node()?;
     cursor.keyword(Keyword::Def)?;
+    let left = cursor.left();
     let (name, (params, cowns)) = signature(alloc, cursor)?;
     let block = body(alloc, cursor)?;
     Ok(DefShape {
         name,
+        left,
         params,
         cowns,
         block,

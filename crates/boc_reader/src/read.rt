@@ -1,21 +1,28 @@
 // Program texts.
 
-ghost use Rattle.std.specs.Prelude.{◌≡◌, ◌≢◌, ◌≤◌, ℕ, List, length, take, MatchResult};
+ghost use Rattle.std.specs.Prelude.{◌≡◌, ◌≢◌, ◌≤◌, ℕ, List, length, IfOk, MatchResult};
 ghost use Rattle.boc_reader.specs.Spells.{Spells, plain_program};
 ghost use Rattle.boc_program.specs.declared.limits.TheConstants.{MOST_TEXT};
 ghost use Rattle.boc_program.specs.declared.program.Program.{Program};
-ghost use Rattle.boc_reader.specs.Placed.{Refusal};
-ghost use Rattle.boc_reader.specs.FaultMeanings.{HasNoTokens, HasNoShape, HasNoNames, SaysOf, IsLineIn, IsRefusalOf};
+ghost use Rattle.boc_reader.specs.Placed.{ArePlaced, Refusal, tokens_of};
+ghost use Rattle.boc_reader.specs.FaultMeanings.{HasNoTokens, HasNoShape, HasNoNames, SaysOf, IsRefusalOf};
 ghost use Rattle.boc_reader.specs.declared.fault.ReadFaultKind.{ReadFaultKind};
-ghost use Rattle.boc_reader.specs.Lines.{line_after};
+ghost use Rattle.boc_reader.specs.Listed.{ListsDefs, SpellsBy};
+ghost use Rattle.boc_reader.specs.Listing.{AreLeft, main_tokens};
+ghost use Rattle.boc_reader.specs.Shape.{HasShape};
+ghost use Rattle.boc_reader.specs.Views.{block_of, tree_of};
 
 use crate::fault::{Fault, NameFault, ReadFault, ReadFaultKind, ShapeFault, TokenFault};
 use crate::lex::tokens;
+use crate::lines::{line_after, line_at};
+use crate::listing::{DefListing, list_defs};
 use crate::names::resolve_program;
 use crate::parse::parse_tree;
+use crate::shape::Tree;
+use crate::token::Placed;
 use boc_program::limits::MOST_TEXT;
 use boc_program::program::Program;
-use std::alloc::Global;
+use std::alloc::{AllocError, Global};
 
 const NO_MEMORY: ReadFault = ReadFault {
     line: 0,
@@ -27,6 +34,39 @@ const NO_MEMORY: ReadFault = ReadFault {
 /// tells the first one in the text. The line is that of the fault, that of the first byte too many, or 0 for want of memory.
 pub fn read_program(alloc: Global, text: &[u8]) -> Result<Program, ReadFault>
     ensures { MatchResult result (Spells text.now) (λ f. IsRefusalOf f text.now) }
+{
+    match read_whole(alloc, text) {
+        Ok(read) => Ok(read.program),
+        Err(fault) => Err(fault),
+    }
+}
+
+/// The program that a text spells, and beside it the defs of the text in their order. A text is refused as by `read_program`.
+pub fn read_listed(alloc: Global, text: &[u8]) -> Result<(Program, Vec<DefListing>), ReadFault>
+    ensures { MatchResult result (λ read. Spells text.now read.0 × ListsDefs text.now read.1.items) (λ f. IsRefusalOf f text.now) }
+{
+    match read_whole(alloc, text) {
+        Ok(read) => match list_defs(alloc, text, &read.tokens, &read.tree) {
+            Ok(defs) => Ok((read.program, defs)),
+            Err(AllocError) => Err(NO_MEMORY),
+        },
+        Err(fault) => Err(fault),
+    }
+}
+
+// What the passes over a text find: its tokens, its tree, and the program that its names make of it.
+#[derive(Drop)]
+struct Whole<'a> {
+    tokens: Vec<Placed<'a>>,
+    tree: Tree<'a>,
+    program: Program,
+}
+
+fn read_whole(alloc: Global, text: &[u8]) -> Result<Whole<'_>, ReadFault>
+    ensures spells { MatchResult result (λ read. SpellsBy text.now (tree_of read.tree) read.program) (λ f. IsRefusalOf f text.now) }
+    ensures placed { IfOk result (λ read. ArePlaced text.now read.tokens.items) }
+    ensures shape { IfOk result (λ read. HasShape (tokens_of read.tokens.items) (tree_of read.tree)) }
+    ensures left { IfOk result (λ read. AreLeft read.tree.defs.items (main_tokens (block_of read.tree.main.items))) }
 {
     if text.len() > MOST_TEXT {
         return Err(ReadFault {
@@ -43,7 +83,11 @@ pub fn read_program(alloc: Global, text: &[u8]) -> Result<Program, ReadFault>
         Err(fault) => return Err(no_shape(text, fault)),
     };
     match resolve_program(alloc, &tree) {
-        Ok(program) => Ok(program),
+        Ok(program) => Ok(Whole {
+            tokens,
+            tree,
+            program,
+        }),
         Err(fault) => Err(no_names(text, fault)),
     }
 }
@@ -99,29 +143,6 @@ fn no_names(text: &[u8], fault: Fault<NameFault>) -> ReadFault
         line: line_at(text, at),
         kind,
     }
-}
-
-// The number of the line in which a byte stands, or the last one at the end of the text.
-fn line_at(text: &[u8], at: usize) -> u32
-    requires { length text.now ≤ MOST_TEXT }
-    ensures value { result ≡ line_after (take at text.now) }
-    ensures within { IsLineIn result text.now }
-{
-    line_after(&text[..at.min(text.len())])
-}
-
-// The number of the line that these bytes lead to.
-fn line_after(front: &[u8]) -> u32
-    requires { length front.now ≤ MOST_TEXT }
-    ensures { result ≡ line_after front.now }
-{
-    let mut line = 1;
-    for byte in front {
-        if *byte == b'\n' {
-            line += 1;
-        }
-    }
-    line
 }
 
 /// A text of which a fault is told, but for want of memory, spells no program, and a text spells one

@@ -78,10 +78,11 @@ pub struct CownShape<'a> {
     pub value: Natural,
 }
 
-/// A def, with its value parameters and its cown parameters.
+/// A def, with its value parameters and its cown parameters. From its name on there are `left` tokens.
 #[derive(Drop)]
 pub struct DefShape<'a> {
     pub name: Spot<'a>,
+    pub left: usize,
     pub params: Vec<Spot<'a>>,
     pub cowns: Vec<Spot<'a>>,
     pub block: Vec<Stmt<'a>>,

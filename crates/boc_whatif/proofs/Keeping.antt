@@ -1,6 +1,6 @@
 -- What is kept beside the rows, once some of them change.
 use Rattle.std.proofs.Common.{◌≡◌, ℕ, suc, zero, ◌+◌, ◌-◌, ◌<◌, ◌≤◌, List, [], ◌∷◌, length, take, get_or, ap, sym, refl, ◌∙◌, subst, inl, inr, arith}
-use Rattle.std.specs.Prelude.{min, Ok, Err, Result, OnOk}
+use Rattle.std.specs.Prelude.{min, Ok, Err, IfErr, Result, OnOk}
 use Rattle.std.proofs.lemmas.List.{take-take}
 use Rattle.boc_runs.specs.declared.rows.Row.{Row}
 use Rattle.boc_plans.specs.declared.sharing.Sharing.{Sharing}
@@ -157,6 +157,13 @@ pub touched_made : (rows : List Row) (edits : List Edit) (after : List Row) (fro
     → HasMade rows edits after from answer → count + from ≡ length rows → OnOk answer (count + least_edited (length rows) edits ≡ length rows)
 touched_made rows edits after from (Ok done) count m is = subst (λ n. count + n ≡ length rows) m.from_is is
 touched_made rows edits after from (Err unfit) count m is = tt
+
+-- and where an edit does not fit, as many as the edits before it say
+pub touched_some : (rows : List Row) (edits : List Edit) (after : List Row) (from : ℕ) (answer : Result (Unit {0}) Unfit) (count : ℕ)
+    → HasMade rows edits after from answer → count + from ≡ length rows
+    → IfErr answer (λ u. count + least_edited (length rows) (take (u.number - 1) edits) ≡ length rows)
+touched_some rows edits after from (Ok done) count m is = tt
+touched_some rows edits after from (Err unfit) count m is = subst (λ n. count + n ≡ length rows) m.0.from_is is
 
 -- some edits are made: all of them, or those before the first that does not fit
 some_made : (rows : List Row) (edits : List Edit) (after : List Row) (from : ℕ) (answer : Result (Unit {0}) Unfit) → HasMade rows edits after from answer

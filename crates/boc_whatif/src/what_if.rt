@@ -135,6 +135,8 @@ impl WhatIf {
         ensures touched { OnOk result (self.new.touched + least_edited (length self.old.rows) edits.now ≡ length self.old.rows) }
         ensures unfit { IfErr result (λ u. IsFirstUnfit self.old.rows edits.now u.number u.fault) }
         ensures before { IfErr result (λ u. AreEdited self.old.rows (take (u.number - 1) edits.now) self.new.rows) }
+        ensures some { IfErr result (λ u. self.new.touched + least_edited (length self.old.rows) (take (u.number - 1) edits.now)
+            ≡ length self.old.rows) }
         ensures sharing { self.new.sharing ≡ self.old.sharing }
     {
         let (from, answer) = make_all(&mut self.rows, &mut self.lasts, edits);

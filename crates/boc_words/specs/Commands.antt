@@ -50,6 +50,10 @@ cowns_flag = flag (codes "cowns")
 abbrev pub spawns_flag : Argument
 spawns_flag = flag (codes "spawns")
 
+-- `--all`, by which all of a chain is told
+abbrev pub all_flag : Argument
+all_flag = flag (codes "all")
+
 -- `--without COWN`, as often as one likes
 abbrev pub without_option : Argument
 without_option = repeated (codes "without")
@@ -70,10 +74,11 @@ signature_of kinds.Time = (codes "time", number runners_option ∷ number worker
 signature_of kinds.WhatIf = (codes "whatif", number workers_option ∷ sharing_flag ∷ without_option ∷ edits_operands ∷ [])
 signature_of kinds.Curve = (codes "curve", number workers_option ∷ sharing_flag ∷ [])
 signature_of kinds.Sweep = (codes "sweep", number workers_option ∷ cowns_flag ∷ spawns_flag ∷ sharing_flag ∷ [])
+signature_of kinds.Why = (codes "why", number runners_option ∷ sharing_flag ∷ all_flag ∷ [])
 
 -- every command, in the order of help
 abbrev pub every_kind : List Kind
-every_kind = kinds.Values ∷ kinds.Check ∷ kinds.Run ∷ kinds.Profile ∷ kinds.Time ∷ kinds.WhatIf ∷ kinds.Curve ∷ kinds.Sweep ∷ []
+every_kind = kinds.Values ∷ kinds.Check ∷ kinds.Run ∷ kinds.Profile ∷ kinds.Time ∷ kinds.WhatIf ∷ kinds.Curve ∷ kinds.Sweep ∷ kinds.Why ∷ []
 
 -- each by its name, with what it takes
 abbrev pub commands_of_boc : List (Text × List Argument)

@@ -1,5 +1,5 @@
 -- What the words of a command line ask for.
-use Rattle.std.specs.Prelude.{◌≡◌, ◌<◌, ◌+◌, ◌^◌, ◌++◌, ◌⊎◌, ◌≢◌, ℕ, List, [], ◌∷◌, Option, Some, None, true, false, map, fold, unwrap_or, length, codes}
+use Rattle.std.specs.Prelude.{◌≡◌, ◌<◌, ◌+◌, ◌^◌, ◌++◌, ◌⊎◌, ◌≢◌, ℕ, List, [], ◌∷◌, Option, Some, None, Bool, true, false, map, fold, unwrap_or, length, codes}
 use Rattle.std.specs.List.{All, AllZip}
 use Rattle.std.specs.Str.Parse.{IsNumeral, digits_value, without_leading_plus}
 use Rattle.clap.specs.Kinds.{IsAmong}
@@ -91,6 +91,11 @@ IsUnset rows id = values_at rows id ≢ codes "true" ∷ []
 abbrev pub AreShared : List Row → Sharing → Type 0
 AreShared rows SharedReads = IsSet rows (codes "shared-reads")
 AreShared rows Exclusive = IsUnset rows (codes "shared-reads")
+
+-- `--all` was given, and all is told, or it was not
+abbrev pub IsAll : List Row → Bool → Type 0
+IsAll rows true = IsSet rows (codes "all")
+IsAll rows false = IsUnset rows (codes "all")
 
 -- what a sweep changes: spawns with `--spawns`, and then no `--p` was given; cowns with `--cowns`; else ticks. Of the two flags no more than
 -- one was given
@@ -188,6 +193,7 @@ Asks kind rows (commands.WhatIf cowns edits workers sharing) =
     (kind ≡ called.WhatIf) × AreCowns rows cowns.items × AreEdits rows edits.items × AreWorkers rows workers × AreShared rows sharing
 Asks kind rows (commands.Curve most sharing) = (kind ≡ called.Curve) × AreUpTo rows most × AreShared rows sharing
 Asks kind rows (commands.Sweep over sharing) = (kind ≡ called.Sweep) × IsOver rows over × AreShared rows sharing
+Asks kind rows (commands.Why runners sharing all) = (kind ≡ called.Why) × AreRunners rows runners × AreShared rows sharing × IsAll rows all
 Asks kind rows (commands.Help text) = ⊥
 Asks kind rows commands.Version = ⊥
 

@@ -102,6 +102,12 @@ pub(crate) const SWEEP_SPAWNS: FlagOption = FlagOption {
     help: "Spawns each row but main as early as it can be in place of lowering it",
 };
 
+/// Whether all of a chain is told.
+pub(crate) const ALL: FlagOption = FlagOption {
+    id: "all",
+    help: "Tells each row of the chain on a line of its own",
+};
+
 /// Whether plans share what was only read.
 pub(crate) const SHARING: FlagOption = FlagOption {
     id: "shared-reads",

@@ -8,8 +8,8 @@ ghost use Rattle.boc_words.specs.Words.{IsNoneOf, Told, command_line, without_co
 
 use crate::arguments::Argument::{Flag, Number, Repeated, Words};
 use crate::arguments::{
-    Argument, CURVE_WORKERS, EDITS, RUNNERS, SHARING, SWEEP_COWNS, SWEEP_SPAWNS, SWEEP_WORKERS,
-    WITHOUT, WORKERS,
+    ALL, Argument, CURVE_WORKERS, EDITS, RUNNERS, SHARING, SWEEP_COWNS, SWEEP_SPAWNS,
+    SWEEP_WORKERS, WITHOUT, WORKERS,
 };
 use crate::version::VERSION;
 use std::alloc::{AllocError, Global};
@@ -25,6 +25,7 @@ pub(crate) enum Kind {
     WhatIf,
     Curve,
     Sweep,
+    Why,
 }
 
 // A command: its name, what help says of it, which arguments it takes, and what help says of the lines that it prints.
@@ -69,6 +70,18 @@ fewer ticks. With --cowns or --spawns the lines are others:
   ROW SPAN    a row but main, and the span if that row alone were spawned as early as it can be, one tick after its elder sibling
               or at its parent's tick 1 (a program's first `when` stands at 2, so a line can be a tick below what a text reaches)
 `boc run` makes the record.";
+
+// What `why` tells.
+const WHY_LINES: &str =
+    "The input is a program, which is run, or the record of a run, as its first word tells: `boc` begins a record. What comes out:
+  chain            the rows that hold the run back: the tick at which each starts, how many ticks go by until the next one goes on, and what
+                   it does then: it spawns it, or hands it the cowns that it waits for; where it hands on several, freeing one changes nothing
+  chain by def     how many of the span's ticks go through the behaviours of a def, and through each kind of link
+  candidates       the span if one thing alone were changed, best first: a def's behaviours at half their ticks, those they spawn so much
+                   sooner; a cown, or all of an array, that orders nobody; a def's behaviours that spawn one tick after the other
+  no order of ..   whatever order they get their cowns in, these behaviours end no sooner
+Of a program names are those of its text; of a record each row and each cown has its number. Ticks are what a body's statements cost, and no
+time that passes. Four or more rows of one def that follow each other stand in one line, unless --all is given; lists end after 20 lines.";
 
 // Every command, in the order of help.
 //
@@ -140,6 +153,13 @@ const COMMANDS: &[Entry] = &[
             Flag(SHARING),
         ],
         lines: SWEEP_LINES,
+    },
+    Entry {
+        kind: Kind::Why,
+        name: "why",
+        about: "Reads a program or the record of a run, and tells which cowns, spawns and behaviours hold it back",
+        takes: &[Number(RUNNERS), Flag(SHARING), Flag(ALL)],
+        lines: WHY_LINES,
     },
 ];
 

@@ -12,7 +12,8 @@ ghost use Rattle.clap.specs.Words.{fault_of, found_of, kind_of, rows_of, subcomm
 ghost use Rattle.std.specs.Prelude.{◌≡◌, ◌∷◌, ◌↔◌, [], ℕ, IfErr, IfNone, IfOk, IfSome, IsTrue, codes, map, string_bytes};
 
 use crate::arguments::{
-    EDITS, NumberOption, Numbers, RUNNERS, SHARING, SWEEP_COWNS, SWEEP_SPAWNS, WITHOUT, WORKERS,
+    ALL, EDITS, NumberOption, Numbers, RUNNERS, SHARING, SWEEP_COWNS, SWEEP_SPAWNS, WITHOUT,
+    WORKERS,
 };
 use crate::commands::{Kind, kind_of, parser};
 use crate::edit_word::edit_of;
@@ -68,6 +69,13 @@ pub enum Command {
     Sweep {
         over: Sweep,
         sharing: Sharing,
+    },
+    /// Why the rows of a run of a program, by so many threads where the input is one, or of a record take as long as they do; each row of the
+    /// chain on a line of its own where all are asked for.
+    Why {
+        runners: Runners,
+        sharing: Sharing,
+        all: bool,
     },
     /// The parser's own text, for standard output.
     Help(String),
@@ -176,6 +184,11 @@ fn asked(alloc: Global, kind: Kind, matches: &ArgMatches) -> Result<Command, Wor
         Kind::Sweep => Ok(Command::Sweep {
             over: over_asked(alloc, matches)?,
             sharing: sharing_asked(matches),
+        }),
+        Kind::Why => Ok(Command::Why {
+            runners: runners_asked(alloc, matches)?,
+            sharing: sharing_asked(matches),
+            all: is_set(texts_at(matches, ALL.id)),
         }),
     }
 }

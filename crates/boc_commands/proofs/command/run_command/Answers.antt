@@ -12,3 +12,6 @@ returns-in-Curve-clause-written g c = search rules
 
 pub returns-in-Sweep-clause-written : goal.returns-in-Sweep-clause-written
 returns-in-Sweep-clause-written g c = search rules
+
+pub returns-in-Why-clause-written : goal.returns-in-Why-clause-written
+returns-in-Why-clause-written g c = search rules

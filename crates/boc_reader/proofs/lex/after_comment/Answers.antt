@@ -3,6 +3,7 @@ use Rattle.std.proofs.lemmas.Bool.{ne_eqb}
 use Rattle.std.proofs.lemmas.List.{nil_from_length}
 use Rattle.boc_reader.specs.Tokens.{tokens_of_text}
 use Rattle.boc_reader.proofs.Texts.{in_comment, comment_goes_on, comment_ends, nothing_left, hash_skipped}
+use Rattle.boc_reader.proofs.Places.{end_more, end_next}
 use Rattle.boc_reader.proofs.lex.after_comment.Goals as goal
 use Rattle.boc_reader.proofs.lex.after_comment.Goals.{then-first-eq10-via-then-first-eq10, then-first-eq10-via-else-first-eq10+then-first-ge128}
 
@@ -12,6 +13,8 @@ loop-first-preserved c =
       c.loop-first.invariant.0 ∙ ap in_comment parts.0 ∙ comment_goes_on c.in-Some.first.now c.in-Some.after.now (ne_eqb _ 10 c.if-first-eq10.false)
           c.if-first-ge128.false,
       omega (arith, parts.1),
+      end_more c.in-Some.after.now c.loop-first.rest.now c.args.text.now c.loop-first.invariant.2 (end_next c.in-Some.first.now c.in-Some.after.now
+          c.loop-first.rest.now parts.0),
     )
 
 pub returns-then-first-eq10-clause-skipped : goal.returns-then-first-eq10-clause-skipped

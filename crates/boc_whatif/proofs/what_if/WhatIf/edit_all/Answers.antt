@@ -1,9 +1,9 @@
 use Rattle.std.proofs.Common.{◌≡◌, ℕ, ◌+◌, ◌-◌, List, length, take, drop, ◌++◌, subst, arith, ap, sym, ◌∙◌}
-use Rattle.std.specs.Prelude.{OnOk}
+use Rattle.std.specs.Prelude.{IfErr, OnOk}
 use Rattle.boc_whatif.specs.Asked.{Asked, least_edited}
 use Rattle.boc_whatif.proofs.Changing.{written_over}
-use Rattle.boc_whatif.proofs.Keeping.{stands_made, count_made, touched_made, whole_standing, room_standing, from_standing, waits_standing, first_standing}
-use Rattle.boc_whatif.proofs.Keeping.{kept_standing}
+use Rattle.boc_whatif.proofs.Keeping.{stands_made, count_made, touched_made, touched_some, whole_standing, room_standing, from_standing}
+use Rattle.boc_whatif.proofs.Keeping.{waits_standing, first_standing, kept_standing}
 use Rattle.boc_whatif.proofs.what_if.WhatIf.edit_all.Goals as goal
 
 pub place_from-requires-clause-room : goal.place_from-requires-clause-room
@@ -53,3 +53,15 @@ returns-clause-touched c =
     let whole : count + c.make_all-from.result.0 ≡ length c.self.inside.rows = omega (arith, le, same, all, c.len.ensures.count) in
     subst (λ (n : ℕ). OnOk c.make_all-from.result.1 (count + least_edited n c.args.edits.now ≡ n)) seen
     (touched_made _ _ _ _ c.make_all-from.result.1 count c.make_all-from.ensures.made whole)
+
+pub returns-clause-some : goal.returns-clause-some
+returns-clause-some c =
+    let k = stands_made _ _ _ _ _ _ _ _ _ c.self.invariant c.make_all-from.ensures.made in
+    let seen : length c.self.inside.rows ≡ length c.args.self.now.rows = ap (λ (a : Asked). length a.rows) c.self.view_is in
+    let le = from_standing _ _ _ _ _ _ _ k c.make_all-from.ensures.lasts c.new-rows.ensures.same in
+    let same = whole_standing _ _ _ _ _ _ _ k c.make_all-from.ensures.lasts c.new-rows.ensures.same in
+    let all = count_made _ _ _ _ _ _ _ _ _ c.self.invariant c.make_all-from.ensures.made in
+    let count : ℕ = c.len.result - c.make_all-from.result.0 in
+    let whole : count + c.make_all-from.result.0 ≡ length c.self.inside.rows = omega (arith, le, same, all, c.len.ensures.count) in
+    subst (λ (n : ℕ). IfErr c.make_all-from.result.1 (λ u. count + least_edited n (take (u.number - 1) c.args.edits.now) ≡ n)) seen
+    (touched_some _ _ _ _ c.make_all-from.result.1 count c.make_all-from.ensures.made whole)

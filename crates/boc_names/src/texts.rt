@@ -1,0 +1,252 @@
+// The names of cowns and of behaviours, as texts.
+
+ghost use Rattle.std.specs.Prelude.{◌≡◌, ◌+◌, ◌<◌, ◌^◌, ◌++◌, length, replicate, IfOk, OnOk};
+ghost use Rattle.boc_names.specs.Names.{args_text, behaviour_text, cown_names, declared_names, family_name, family_names, held_text, member_name};
+ghost use Rattle.boc_names.specs.Names.{family_numbers, member_names, more_args, more_held, numbered, text_at, texts_of};
+
+use boc_program::cown::Cown;
+use boc_program::short::CownNo;
+use boc_text::{put_number, put_signed};
+use std::alloc::{AllocError, Global};
+
+/// A word and a number behind it.
+pub(crate) fn numbered(alloc: Global, word: &str, number: u64) -> Result<Vec<u8>, AllocError>
+    ensures { IfOk result (λ text. text.items ≡ numbered word.now number) }
+{
+    let mut text = Vec::new(alloc);
+    text.extend_from_slice(word.as_bytes())?;
+    put_number(&mut text, number)?;
+    Ok(text)
+}
+
+// The name of a member of an array.
+fn member_name(alloc: Global, name: &str, member: u64) -> Result<Vec<u8>, AllocError>
+    ensures { IfOk result (λ text. text.items ≡ member_name name.now member) }
+{
+    let mut text = Vec::new(alloc);
+    text.extend_from_slice(name.as_bytes())?;
+    text.push(b'[')?;
+    put_number(&mut text, member)?;
+    text.push(b']')?;
+    Ok(text)
+}
+
+/// A text once more.
+pub(crate) fn copied(alloc: Global, text: &[u8]) -> Result<Vec<u8>, AllocError>
+    ensures { IfOk result (λ copy. copy.items ≡ text.now) }
+{
+    let mut copy = Vec::new(alloc);
+    copy.extend_from_slice(text)?;
+    Ok(copy)
+}
+
+// Puts the names of the members of an array behind other names.
+fn put_members(
+    alloc: Global,
+    names: &mut Vec<Vec<u8>>,
+    name: &str,
+    size: u32,
+) -> Result<(), AllocError>
+    ensures { OnOk result (texts_of names.new.items ≡ texts_of names.old.items ++ member_names name.now 0 size) }
+{
+    for member in 0..size {
+        names.push(member_name(alloc, name, u64::from(member))?)?;
+    }
+    Ok(())
+}
+
+// Puts the names of the cowns of a declaration behind others.
+fn put_declared(alloc: Global, names: &mut Vec<Vec<u8>>, cown: &Cown) -> Result<(), AllocError>
+    ensures { OnOk result (texts_of names.new.items ≡ texts_of names.old.items ++ declared_names cown.now.name cown.now.size) }
+{
+    match cown.size {
+        None => {
+            names.push(copied(alloc, cown.name.as_str().as_bytes())?)?;
+            Ok(())
+        }
+        Some(size) => put_members(alloc, names, cown.name.as_str(), size),
+    }
+}
+
+// Puts the names of cowns behind others.
+fn put_cowns(alloc: Global, names: &mut Vec<Vec<u8>>, cowns: &[Cown]) -> Result<(), AllocError>
+    ensures { OnOk result (texts_of names.new.items ≡ texts_of names.old.items ++ cown_names cowns.now) }
+{
+    match cowns {
+        [] => Ok(()),
+        [first, others @ ..] => {
+            put_declared(alloc, names, first)?;
+            put_cowns(alloc, names, others)
+        }
+    }
+}
+
+/// The names of cowns, in the order of their numbers.
+pub(crate) fn cown_names(alloc: Global, cowns: &[Cown]) -> Result<Vec<Vec<u8>>, AllocError>
+    ensures { IfOk result (λ names. texts_of names.items ≡ cown_names cowns.now) }
+{
+    let mut names = Vec::new(alloc);
+    put_cowns(alloc, &mut names, cowns)?;
+    Ok(names)
+}
+
+// The name of all cowns of a declaration together.
+fn family_name(alloc: Global, cown: &Cown) -> Result<Vec<u8>, AllocError>
+    ensures { IfOk result (λ text. text.items ≡ family_name cown.now.name cown.now.size) }
+{
+    let mut text = copied(alloc, cown.name.as_str().as_bytes())?;
+    if cown.size.is_some() {
+        text.extend_from_slice(b"[*]")?;
+    }
+    Ok(text)
+}
+
+// Puts the names of declarations of cowns behind others.
+fn put_family_names(
+    alloc: Global,
+    names: &mut Vec<Vec<u8>>,
+    cowns: &[Cown],
+) -> Result<(), AllocError>
+    ensures { OnOk result (texts_of names.new.items ≡ texts_of names.old.items ++ family_names cowns.now) }
+{
+    match cowns {
+        [] => Ok(()),
+        [first, others @ ..] => {
+            names.push(family_name(alloc, first)?)?;
+            put_family_names(alloc, names, others)
+        }
+    }
+}
+
+/// The names of the declarations of cowns, in their order.
+pub(crate) fn family_names(alloc: Global, cowns: &[Cown]) -> Result<Vec<Vec<u8>>, AllocError>
+    ensures { IfOk result (λ names. texts_of names.items ≡ family_names cowns.now) }
+{
+    let mut names = Vec::new(alloc);
+    put_family_names(alloc, &mut names, cowns)?;
+    Ok(names)
+}
+
+// Puts the number of a declaration behind others, for each of its cowns.
+fn put_family(families: &mut Vec<u32>, number: u32, cowns: usize) -> Result<(), AllocError>
+    ensures { OnOk result (families.new.items ≡ families.old.items ++ replicate cowns number) }
+{
+    for _ in 0..cowns {
+        families.push(number)?;
+    }
+    Ok(())
+}
+
+// Puts the numbers of declarations behind others, of which the first has this one, for each of their cowns.
+fn put_families(families: &mut Vec<u32>, number: u32, cowns: &[Cown]) -> Result<(), AllocError>
+    requires { number + length cowns.now < 2 ^ 32 }
+    ensures { OnOk result (families.new.items ≡ families.old.items ++ family_numbers number cowns.now) }
+{
+    match cowns {
+        [] => Ok(()),
+        [first, others @ ..] => {
+            put_family(families, number, first.members())?;
+            put_families(families, number + 1, others)
+        }
+    }
+}
+
+/// For each cown the number of its declaration.
+pub(crate) fn family_numbers(alloc: Global, cowns: &[Cown]) -> Result<Vec<u32>, AllocError>
+    requires { length cowns.now < 2 ^ 32 }
+    ensures { IfOk result (λ families. families.items ≡ family_numbers 0 cowns.now) }
+{
+    let mut families = Vec::new(alloc);
+    put_families(&mut families, 0, cowns)?;
+    Ok(families)
+}
+
+// Puts arguments behind others.
+fn put_more_args(text: &mut Vec<u8>, args: &[i64]) -> Result<(), AllocError>
+    ensures { OnOk result (text.new.items ≡ text.old.items ++ more_args args.now) }
+{
+    match args {
+        [] => Ok(()),
+        [first, others @ ..] => {
+            text.extend_from_slice(b", ")?;
+            put_signed(text, *first)?;
+            put_more_args(text, others)
+        }
+    }
+}
+
+// Puts the arguments of a behaviour behind a text.
+fn put_args(text: &mut Vec<u8>, args: &[i64]) -> Result<(), AllocError>
+    ensures { OnOk result (text.new.items ≡ text.old.items ++ args_text args.now) }
+{
+    match args {
+        [] => Ok(()),
+        [first, others @ ..] => {
+            put_signed(text, *first)?;
+            put_more_args(text, others)
+        }
+    }
+}
+
+/// The name at a place, and no text where there is none.
+pub fn text_at(names: &[Vec<u8>], place: usize) -> &[u8]
+    ensures { result.now ≡ text_at (texts_of names.now) place }
+{
+    match names.get(place) {
+        Some(name) => name,
+        None => &[],
+    }
+}
+
+// Puts cowns behind others, by their names.
+fn put_more_held(text: &mut Vec<u8>, names: &[Vec<u8>], cowns: &[CownNo]) -> Result<(), AllocError>
+    ensures { OnOk result (text.new.items ≡ text.old.items ++ more_held (texts_of names.now) cowns.now) }
+{
+    match cowns {
+        [] => Ok(()),
+        [first, others @ ..] => {
+            text.extend_from_slice(b", ")?;
+            text.extend_from_slice(text_at(names, *first as usize))?;
+            put_more_held(text, names, others)
+        }
+    }
+}
+
+// Puts the cowns of a behaviour behind a text, by their names.
+fn put_held(text: &mut Vec<u8>, names: &[Vec<u8>], cowns: &[CownNo]) -> Result<(), AllocError>
+    ensures { OnOk result (text.new.items ≡ text.old.items ++ held_text (texts_of names.now) cowns.now) }
+{
+    match cowns {
+        [] => Ok(()),
+        [first, others @ ..] => {
+            text.push(b' ')?;
+            text.extend_from_slice(text_at(names, *first as usize))?;
+            put_more_held(text, names, others)
+        }
+    }
+}
+
+/// What a behaviour is called: main, or the def's name, the arguments, and the cowns in the order of the parameters.
+pub(crate) fn behaviour_text(
+    alloc: Global,
+    defs: &[Vec<u8>],
+    names: &[Vec<u8>],
+    kind: usize,
+    args: &[i64],
+    cowns: &[CownNo],
+) -> Result<Vec<u8>, AllocError>
+    ensures { IfOk result (λ text. text.items ≡ behaviour_text (texts_of defs.now) (texts_of names.now) kind args.now cowns.now) }
+{
+    let mut text = Vec::new(alloc);
+    if kind == 0 {
+        text.extend_from_slice(b"main")?;
+        return Ok(text);
+    }
+    text.extend_from_slice(text_at(defs, kind))?;
+    text.push(b'(')?;
+    put_args(&mut text, args)?;
+    text.push(b';')?;
+    put_held(&mut text, names, cowns)?;
+    text.push(b')')?;
+    Ok(text)
+}

@@ -1,0 +1,3 @@
+pub mod Blanks
+pub mod Stored
+pub mod examples

@@ -1,0 +1,28 @@
+-- Why some rows take as long as they do.
+use Rattle.std.specs.Prelude.{ℕ, List}
+use Rattle.boc_runs.specs.declared.rows.Row.{Row}
+use Rattle.boc_plans.specs.declared.sharing.Sharing.{Sharing}
+use Rattle.boc_plans.specs.Greedy.{IsSpan}
+use Rattle.boc_plans.specs.Seen.{seen}
+use Rattle.boc_order.specs.Profiles.{IsProfileOf}
+use Rattle.boc_why.specs.Shares.{AreDefsOf, AreFirsts, AreLinks, AreShares}
+use Rattle.boc_why.specs.Least.{IsBusiestOf, without_cowns}
+use Rattle.boc_why.specs.Remedies.{AreCandidates, AreHandedFamilies, tried_of}
+use Rattle.boc_why.specs.declared.why.Why.{Why}
+
+-- For rows with these defs over so many cowns of these families: their profile, with the chain that holds them back; what leads on from each of its
+-- steps, its shares by def and by link, what would bring the end forward, and the least that any order of the cowns could end at.
+pub record IsWhy (rows : List Row) (sharing : Sharing) (defs families : List ℕ) (count : ℕ) (why : Why) : Type 0 where
+  pub profile : IsProfileOf (seen sharing rows) why.profile
+  pub links : AreLinks (seen sharing rows) defs why.profile.chain.steps.items why.links.items
+  pub keys : List ℕ
+  pub keys_are : AreDefsOf defs why.profile.chain.steps.items keys
+  pub by_def : AreShares keys why.profile.chain.steps.items why.by_def.items
+  pub firsts : List ℕ
+  pub firsts_are : AreFirsts why.links.items firsts
+  pub by_link : AreShares firsts why.profile.chain.steps.items why.by_link.items
+  pub handed : List ℕ
+  pub handed_are : AreHandedFamilies why.links.items families handed
+  pub candidates : AreCandidates rows sharing defs families (tried_of why.by_def.items why.by_link.items why.links.items handed) why.candidates.items
+  pub spawns : IsSpan (without_cowns (seen sharing rows)) why.least.spawns
+  pub busiest : IsBusiestOf (seen sharing rows) count why.least.busiest

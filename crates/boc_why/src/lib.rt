@@ -1,0 +1,18 @@
+//! Why a run takes as long as it does: what leads on from each row of the chain that holds it back, how much of the chain goes through each def and
+//! each link, what would bring its end forward, and when its behaviours end at the earliest in whatever order they get their cowns.
+#![tactic(auto)]
+
+mod causes;
+pub mod laws;
+mod least;
+mod links;
+mod remedies;
+mod shares;
+mod why;
+
+pub use causes::{Cause, def_edits, spans_with, spawn_early, without_all};
+pub use least::{Busiest, Least, least_end};
+pub use links::{Link, firsts, links_of};
+pub use remedies::{Candidate, Remedy};
+pub use shares::{Share, defs_of, shares_of};
+pub use why::{Why, why_of};

@@ -1,0 +1,171 @@
+// What leads on from each row of a chain to the next one, and where the same link stands first.
+
+ghost use Rattle.std.specs.Prelude.{◌≡◌, ◌<◌, ◌≤◌, ◌↔◌, ◌+◌, ◌==◌, ℕ, length, if◌then◌else◌, IfOk, IsTrue, All, Contains, slice_get};
+ghost use Rattle.std.specs.Option.{unwrap_or};
+ghost use Rattle.std.specs.Ordering.{nat_cmp};
+ghost use Rattle.std.specs.BTreeMap as tree;
+ghost use Rattle.boc_program.specs.declared.limits.TheConstants.{MOST_COWNS, MOST_HELD, MOST_ROWS};
+ghost use Rattle.boc_runs.specs.Rows.{IsRows, cowns_of};
+ghost use Rattle.boc_plans.specs.Plans.{ConflictOn};
+ghost use Rattle.boc_plans.specs.Chains.{IsChain, IsLink};
+ghost use Rattle.boc_why.specs.Shares.{AreHanded, LinkSays, AreLinks, AreFirsts};
+ghost use Rattle.boc_why.specs.LinkCodes.{cowns_code, IsCode, AreCodes, AreFirstPlaces};
+
+use boc_plans::chain::{ChainStep, Via};
+use boc_plans::sharing::SeenRows;
+use boc_program::held::HeldCowns;
+use boc_program::short::{CownNo, Cowns, HeldCown};
+use std::alloc::{AllocError, Global};
+use std::collections::BTreeMap;
+
+/// What leads on from a row of a chain to the next one.
+#[derive(Drop, Debug)]
+pub enum Link {
+    /// It spawns the next row. The number is that of its def.
+    SpawnBy(u32),
+    /// It hands these cowns to the next row, rising.
+    Hands(HeldCowns),
+    /// It ends, and all rows with it.
+    Ends,
+}
+
+// Whether two rows conflict on a cown of the first.
+fn conflict_on(rows: &SeenRows, cown: HeldCown, a: usize, b: usize) -> bool
+    requires first { a < length rows.now }
+    requires second { b < length rows.now }
+    requires own { Contains (cowns_of rows.now a) cown }
+    ensures { IsTrue result ↔ ConflictOn rows.now cown a b }
+{
+    if !rows.cowns(b).contains(&cown) {
+        return false;
+    }
+    rows.writes(a, cown) || rows.writes(b, cown)
+}
+
+// The cowns over which row a is ordered before row b.
+fn handed(rows: &SeenRows, a: usize, b: usize) -> HeldCowns
+    requires shape { IsRows rows.now }
+    requires first { a < length rows.now }
+    requires second { b < length rows.now }
+    ensures { AreHanded rows.now a b result.items }
+{
+    let mut handed = Cowns::new();
+    for cown in rows.held(a).as_slice() {
+        if conflict_on(rows, *cown, a, b) {
+            handed.push(CownNo::from(*cown));
+        }
+    }
+    HeldCowns::of(&handed)
+}
+
+// What leads on from a step, where `next` is the step after it.
+fn link_of(rows: &SeenRows, defs: &[u32], step: ChainStep, next: Option<ChainStep>) -> Link
+    requires shape { IsRows rows.now }
+    requires defs { length defs.now ≡ length rows.now }
+    requires holds { IsLink rows.now step next }
+    ensures { LinkSays rows.now defs.now step.row step.via next result }
+{
+    match (step.via, next) {
+        (Via::Spawn, _) => Link::SpawnBy(defs[step.row as usize]),
+        (Via::Order, Some(next)) => {
+            Link::Hands(handed(rows, step.row as usize, next.row as usize))
+        }
+        _ => Link::Ends,
+    }
+}
+
+// The step after the one at this place, if any.
+fn step_after(steps: &[ChainStep], place: usize) -> Option<ChainStep>
+    requires { place < length steps.now }
+    ensures { result ≡ slice_get steps.now (place + 1) }
+{
+    steps.get(place + 1).copied()
+}
+
+/// For each step of a chain what leads on from it to the next one. `AllocError` says that memory was refused.
+pub fn links_of(
+    alloc: Global,
+    rows: &SeenRows,
+    defs: &[u32],
+    steps: &[ChainStep],
+) -> Result<Vec<Link>, AllocError>
+    requires shape { IsRows rows.now }
+    requires defs { length defs.now ≡ length rows.now }
+    requires chain { IsChain rows.now steps.now }
+    ensures { IfOk result (λ links. AreLinks rows.now defs.now steps.now links.items) }
+{
+    let mut links = Vec::new(alloc);
+    for (place, step) in steps.iter().enumerate() {
+        links.push(link_of(rows, defs, *step, step_after(steps, place)))?;
+    }
+    Ok(links)
+}
+
+// Cowns as one number.
+fn code_of_cowns(cowns: &[HeldCown]) -> u128
+    requires { length cowns.now ≤ MOST_HELD }
+    ensures is { result ≡ cowns_code cowns.now }
+    ensures bytes { All (λ c. c < MOST_COWNS) cowns.now }
+{
+    match cowns {
+        [] => 1,
+        [first, others @ ..] => u128::from(*first) + 256 * code_of_cowns(others),
+    }
+}
+
+// A link as one number.
+fn code_of(link: &Link) -> u128
+    ensures { IsCode link.now result }
+{
+    match link {
+        Link::SpawnBy(def) => 2 * u128::from(*def) + 1,
+        Link::Hands(cowns) => 2 * code_of_cowns(cowns.as_slice()),
+        Link::Ends => 0,
+    }
+}
+
+// Each link's number.
+fn codes_of(alloc: Global, links: &[Link]) -> Result<Vec<u128>, AllocError>
+    ensures { IfOk result (λ codes. AreCodes links.now codes.items) }
+{
+    let mut codes = Vec::new(alloc);
+    for link in links {
+        codes.push(code_of(link))?;
+    }
+    Ok(codes)
+}
+
+// The place at which a number was seen first, which is this one if it was not seen before.
+fn first_seen(seen: &mut BTreeMap<u128, u32>, code: u128, place: u32) -> Result<u32, AllocError>
+    ensures first { IfOk result (λ first. first ≡ unwrap_or (tree.get nat_cmp seen.old code) place) }
+    ensures seen { IfOk result (λ first. (q : ℕ) → tree.get nat_cmp seen.new q ≡ (if q == code then Some first else tree.get nat_cmp seen.old q)) }
+{
+    if let Some(first) = seen.get(&code) {
+        return Ok(*first);
+    }
+    seen.insert(code, place)?;
+    Ok(place)
+}
+
+// For each number the first place at which it stands.
+fn first_places(alloc: Global, codes: &[u128]) -> Result<Vec<u32>, AllocError>
+    requires { length codes.now ≤ MOST_ROWS }
+    ensures { IfOk result (λ firsts. AreFirstPlaces codes.now firsts.items) }
+{
+    let mut seen = BTreeMap::new(alloc);
+    let mut firsts = Vec::new(alloc);
+    for (place, code) in codes.iter().enumerate() {
+        firsts.push(first_seen(&mut seen, *code, place as u32)?)?;
+    }
+    Ok(firsts)
+}
+
+/// For each link the first place at which the same one stands. `AllocError` says that memory was refused.
+///
+/// It takes memory that grows with the number of links, and little more time.
+pub fn firsts(alloc: Global, links: &[Link]) -> Result<Vec<u32>, AllocError>
+    requires few { length links.now ≤ MOST_ROWS }
+    ensures { IfOk result (λ firsts. AreFirsts links.now firsts.items) }
+{
+    first_places(alloc, codes_of(alloc, links)?.as_slice())
+}

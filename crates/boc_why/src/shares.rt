@@ -1,0 +1,120 @@
+// How much of a chain goes through each of its keys, as the defs of its rows or the links between them.
+
+ghost use Rattle.std.specs.Prelude.{◌≡◌, ◌<◌, ◌≤◌, length, IfOk, All};
+ghost use Rattle.boc_program.specs.declared.limits.TheConstants.{MOST_ROWS};
+ghost use Rattle.boc_plans.specs.declared.chain.ChainStep.{ChainStep};
+ghost use Rattle.boc_why.specs.Shares.{AreDefsOf, AreShares};
+ghost use Rattle.boc_why.specs.ShareTotals.{HasTotals, ListShares};
+
+use boc_plans::chain::ChainStep;
+use std::alloc::{AllocError, Global};
+use std::cmp::Reverse;
+
+/// How much of a chain has one key.
+#[derive(Clone, Copy, PartialEq, Eq, Debug)]
+pub struct Share {
+    /// The key, as a def's number or the first place of a link.
+    pub key: u32,
+    /// The ticks that the steps with this key weigh.
+    pub ticks: u64,
+    /// How many steps have this key.
+    pub steps: u32,
+}
+
+// The totals of each key, whether a step has it or not.
+#[derive(Drop)]
+struct Totals {
+    ticks: Vec<u64>,
+    steps: Vec<u32>,
+}
+
+/// The def of each step's row. `AllocError` says that memory was refused.
+pub fn defs_of(alloc: Global, defs: &[u32], steps: &[ChainStep]) -> Result<Vec<u32>, AllocError>
+    requires { All (λ s. s.row < length defs.now) steps.now }
+    ensures { IfOk result (λ keys. AreDefsOf defs.now steps.now keys.items) }
+{
+    let mut keys = Vec::new(alloc);
+    for step in steps {
+        keys.push(defs[step.row as usize])?;
+    }
+    Ok(keys)
+}
+
+// The ticks that a step weighs, which fit 32 bits.
+fn weight(step: &ChainStep) -> u32
+    ensures { result ≡ step.now.weight }
+{
+    step.weight
+}
+
+// The totals of the keys below the bound.
+fn totals_of(
+    alloc: Global,
+    keys: &[u32],
+    steps: &[ChainStep],
+    bound: usize,
+) -> Result<Totals, AllocError>
+    requires whole { length keys.now ≡ length steps.now }
+    requires below { All (λ key. key < bound) keys.now }
+    requires few { length steps.now ≤ MOST_ROWS }
+    ensures { IfOk result (λ totals. HasTotals keys.now steps.now bound totals.ticks.items totals.steps.items) }
+{
+    let mut ticks = vec![in alloc; 0_u64; bound]?;
+    let mut counts = vec![in alloc; 0_u32; bound]?;
+    for (place, step) in steps.iter().enumerate() {
+        let key = keys[place] as usize;
+        ticks[key] += u64::from(weight(step));
+        counts[key] += 1;
+    }
+    Ok(Totals {
+        ticks,
+        steps: counts,
+    })
+}
+
+// The shares of all keys of a chain, the least key first.
+fn shares_by_key(
+    alloc: Global,
+    keys: &[u32],
+    steps: &[ChainStep],
+    bound: usize,
+) -> Result<Vec<Share>, AllocError>
+    requires whole { length keys.now ≡ length steps.now }
+    requires below { All (λ key. key < bound) keys.now }
+    requires few { length steps.now ≤ MOST_ROWS }
+    ensures { IfOk result (λ shares. ListShares keys.now steps.now shares.items) }
+{
+    let totals = totals_of(alloc, keys, steps, bound)?;
+    let mut shares = Vec::new(alloc);
+    for key in 0..bound {
+        let count = totals.steps[key];
+        if count > 0 {
+            shares.push(Share {
+                key: key as u32,
+                ticks: totals.ticks[key],
+                steps: count,
+            })?;
+        }
+    }
+    Ok(shares)
+}
+
+/// The shares of all keys of a chain, those that weigh most first, and of those that weigh as much the least key first. Each step has the key
+/// at its place, and keys are below the bound. `AllocError` says that memory was refused.
+///
+/// It takes time and memory that grow with the number of steps and with the bound, and for the order a little more time.
+pub fn shares_of(
+    alloc: Global,
+    keys: &[u32],
+    steps: &[ChainStep],
+    bound: usize,
+) -> Result<Vec<Share>, AllocError>
+    requires whole { length keys.now ≡ length steps.now }
+    requires below { All (λ key. key < bound) keys.now }
+    requires few { length steps.now ≤ MOST_ROWS }
+    ensures { IfOk result (λ shares. AreShares keys.now steps.now shares.items) }
+{
+    let mut shares = shares_by_key(alloc, keys, steps, bound)?;
+    shares.sort_unstable_by_key(|share| (Reverse(share.ticks), share.key));
+    Ok(shares)
+}

@@ -1,0 +1,2 @@
+pub mod ChainText
+pub mod Lists

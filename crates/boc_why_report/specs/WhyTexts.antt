@@ -1,0 +1,211 @@
+-- What is told of why some rows take as long as they do.
+use Rattle.std.specs.Prelude.{◌≡◌, ◌-◌, ℕ, List, [], ◌∷◌, ◌++◌, length, map, take, cond, nat_lt, Bool, true, Option, Some, None}
+use Rattle.std.specs.Prelude.{slice_get, slice_index, codes, decimal}
+use Rattle.boc_plans.specs.declared.chain.ChainStep.{ChainStep}
+use Rattle.boc_plans.specs.declared.sharing.Sharing.{Sharing}
+use Rattle.boc_plans.specs.declared.sharing.Sharing.TheVariants.{Exclusive, SharedReads}
+use Rattle.boc_table.specs.declared.side.Side.{Side}
+use Rattle.boc_table.specs.declared.side.Side.TheVariants.{Left, Right}
+use Rattle.boc_table.specs.Tables.{table_text}
+use Rattle.boc_names.specs.declared.names.Names.{Names}
+use Rattle.boc_names.specs.Names.{Text, text_at, texts_of}
+use Rattle.boc_why.specs.declared.links.Link.{Link}
+use Rattle.boc_why.specs.declared.links.Link.TheVariants.{SpawnBy, Hands, Ends}
+use Rattle.boc_why.specs.declared.shares.Share.{Share}
+use Rattle.boc_why.specs.declared.least.Busiest.{Busiest}
+use Rattle.boc_why.specs.declared.least.Least.{Least}
+use Rattle.boc_why.specs.Least.{tick_of}
+use Rattle.boc_why.specs.declared.remedies.Remedy.{Remedy}
+use Rattle.boc_why.specs.declared.remedies.Remedy.TheVariants.{HalfCost, NoOrder, EarlySpawns}
+use Rattle.boc_why.specs.declared.remedies.Candidate.{Candidate}
+use Rattle.boc_why.specs.declared.why.Why.{Why}
+use Rattle.boc_why_report.specs.declared.lists.Line.{Line}
+use Rattle.boc_why_report.specs.declared.lists.TheConstants.{MOST_LISTED}
+
+-- ---- names
+
+-- cowns behind others, by their names
+abbrev pub more_handed : List Text → List ℕ → Text
+more_handed names [] = []
+more_handed names (c ∷ cowns) = codes " and " ++ text_at names c ++ more_handed names cowns
+
+-- cowns that are handed on, by their names
+abbrev pub handed_text : List Text → List ℕ → Text
+handed_text names [] = []
+handed_text names (c ∷ cowns) = text_at names c ++ more_handed names cowns
+
+-- what a link is called
+abbrev pub link_text : Names → Link → Text
+link_text names (SpawnBy def) = codes "spawn by " ++ text_at (texts_of names.def_names.items) def
+link_text names (Hands cowns) = handed_text (texts_of names.cowns.items) cowns.items
+link_text names Ends = codes "end"
+
+-- ---- the chain
+
+-- what a row of a chain does before the next one goes on
+abbrev pub then_text : Names → Link → Option ChainStep → Text
+then_text names (SpawnBy def) (Some next) = codes "spawns row " ++ decimal next.row
+then_text names (Hands cowns) (Some next) = codes "hands " ++ handed_text (texts_of names.cowns.items) cowns.items ++ codes " to row " ++ decimal next.row
+then_text names Ends next = codes "ends"
+then_text names link None = []
+
+-- the first of some steps
+abbrev pub first_step : List ChainStep → Option ChainStep
+first_step [] = None
+first_step (s ∷ steps) = Some s
+
+-- the texts of a step's line: the tick at which its row starts, how many ticks go by until the next row goes on, the row's number, what it is called,
+-- and what it does then
+abbrev pub step_texts : Names → List ℕ → ChainStep → Link → Option ChainStep → List Text
+step_texts names starts s link next =
+    [] ∷ decimal (slice_index starts s.row) ∷ decimal s.weight ∷ decimal s.row ∷ text_at (texts_of names.rows.items) s.row ∷ then_text names link next ∷ []
+
+-- the lines of a chain's steps
+abbrev pub step_lines : Names → List ℕ → List ChainStep → List Link → List (List Text)
+step_lines names starts [] links = []
+step_lines names starts (s ∷ steps) [] = []
+step_lines names starts (s ∷ steps) (link ∷ links) = step_texts names starts s link (first_step steps) ∷ step_lines names starts steps links
+
+-- the sides of a chain's columns, of which the first is a margin
+abbrev pub chain_sides : List Side
+chain_sides = Left ∷ Right ∷ Right ∷ Right ∷ Left ∷ Left ∷ []
+
+-- what stands above a chain's columns
+abbrev pub chain_head : List Text
+chain_head = [] ∷ codes "tick" ∷ codes "ticks" ∷ codes "row" ∷ codes "behaviour" ∷ codes "then" ∷ []
+
+-- the tick at which all is over
+abbrev pub chain_foot : ℕ → List Text
+chain_foot span = [] ∷ decimal span ∷ [] ∷ [] ∷ [] ∷ [] ∷ []
+
+-- the lines of a chain: what stands above its columns, a line for each step, and the tick at which all is over
+abbrev pub chain_lines : Names → Why → List (List Text)
+chain_lines names why =
+    chain_head ∷ step_lines names why.profile.starts.items why.profile.chain.steps.items why.links.items ++ chain_foot why.profile.span ∷ []
+
+-- the chain, a line for each step
+abbrev pub chain_text : Names → Why → Text
+chain_text names why = codes "chain\n" ++ table_text chain_sides (chain_lines names why)
+
+-- ---- lists
+
+-- the texts of the line behind a list that says how many more there are
+abbrev pub more_texts : ℕ → List Text
+more_texts count = (codes "  " ++ decimal count ++ codes " more") ∷ [] ∷ [] ∷ []
+
+-- the line behind a list of so many, where that is more than are told
+abbrev pub more_line : ℕ → List (List Text)
+more_line count = cond (nat_lt MOST_LISTED count) (more_texts (count - MOST_LISTED) ∷ []) []
+
+-- at most so many of these lines, and how many more there are
+abbrev pub at_most : List (List Text) → List (List Text)
+at_most lines = take MOST_LISTED lines ++ more_line (length lines)
+
+-- the texts of a line
+abbrev pub texts_of_line : Line → List Text
+texts_of_line line = line.name.items ∷ line.first.items ∷ line.second.items ∷ []
+
+-- a name in a list, and two numbers
+abbrev pub entry_texts : Text → ℕ → ℕ → List Text
+entry_texts name a b = (codes "  " ++ name) ∷ decimal a ∷ decimal b ∷ []
+
+-- the lines of the shares by def
+abbrev pub def_lines : Names → List Share → List (List Text)
+def_lines names shares = map (λ s. entry_texts (text_at (texts_of names.def_names.items) s.key) s.ticks s.steps) shares
+
+-- what the link at a place of a chain is called
+abbrev pub link_at : Names → Option Link → Text
+link_at names None = []
+link_at names (Some link) = link_text names link
+
+-- the texts of the line of a share of a link
+abbrev pub link_share_texts : Names → List Link → Share → List Text
+link_share_texts names links s = entry_texts (link_at names (slice_get links s.key)) s.ticks s.steps
+
+-- the lines of the shares by link
+abbrev pub link_lines : Names → List Link → List Share → List (List Text)
+link_lines names links shares = map (link_share_texts names links) shares
+
+-- the lines of two lists beside each other, a column between them; where one ends, nothing stands
+abbrev pub beside : List (List Text) → List (List Text) → List (List Text)
+beside [] [] = []
+beside [] (b ∷ others) = ([] ∷ [] ∷ [] ∷ [] ∷ b) ∷ beside [] others
+beside (a ∷ rest) [] = (a ++ [] ∷ [] ∷ [] ∷ [] ∷ []) ∷ beside rest []
+beside (a ∷ rest) (b ∷ others) = (a ++ [] ∷ b) ∷ beside rest others
+
+-- the sides of a list's columns
+abbrev pub list_sides : List Side
+list_sides = Left ∷ Right ∷ Right ∷ []
+
+-- what stands above the shares
+abbrev pub shares_head : List Text
+shares_head =
+    codes "chain by def" ∷ codes "ticks" ∷ codes "rows" ∷ codes "    " ∷ codes "chain by link" ∷ codes "ticks" ∷ codes "links" ∷ []
+
+-- the sides of the columns of two lists beside each other
+abbrev pub shares_sides : List Side
+shares_sides = list_sides ++ Left ∷ list_sides
+
+-- the lines of the shares by def, and beside them of those by link
+abbrev pub shares_lines : Names → Why → List (List Text)
+shares_lines names why =
+    shares_head ∷ beside (at_most (def_lines names why.by_def.items)) (at_most (link_lines names why.links.items why.by_link.items))
+
+-- the shares by def, and beside them those by link
+abbrev pub shares_text : Names → Why → Text
+shares_text names why = table_text shares_sides (shares_lines names why)
+
+-- what a remedy is called
+abbrev pub remedy_text : Names → Remedy → Text
+remedy_text names (HalfCost def) = text_at (texts_of names.def_names.items) def ++ codes " at 1/2"
+remedy_text names (NoOrder family) = codes "without " ++ text_at (texts_of names.family_names.items) family
+remedy_text names (EarlySpawns def) = codes "early spawns by " ++ text_at (texts_of names.def_names.items) def
+
+-- the lines of what would bring the end forward: what is left of this span, and how much less that is
+abbrev pub candidate_lines : Names → ℕ → List Candidate → List (List Text)
+candidate_lines names span candidates = map (λ c. entry_texts (remedy_text names c.remedy) c.span (span - c.span)) candidates
+
+-- what would bring the end forward
+abbrev pub candidates_text : Names → Why → Text
+candidates_text names why =
+    table_text list_sides
+    ((codes "candidates" ∷ codes "span" ∷ codes "less" ∷ []) ∷ at_most (candidate_lines names why.profile.span why.candidates.items))
+
+-- ---- the rest
+
+-- the numbers at the head
+abbrev pub head_text : Why → Text
+head_text why =
+    codes "rows " ++ decimal (length why.profile.starts.items) ++ codes "   work " ++ decimal why.profile.work ++ codes "   span "
+    ++ decimal why.profile.span ++ codes "\n"
+
+-- what a cown is busy with: being held, or, where reads are shared, being written
+abbrev pub busy_text : Sharing → Text
+busy_text Exclusive = codes " is held so long"
+busy_text SharedReads = codes " is written so long"
+
+-- why no order ends sooner
+abbrev pub reason_text : Names → Sharing → ℕ → Option Busiest → Text
+reason_text names sharing spawns None = codes "their spawns take so long"
+reason_text names sharing spawns (Some b) =
+    cond (nat_lt b.load spawns) (codes "their spawns take so long") (text_at (texts_of names.cowns.items) b.cown ++ busy_text sharing)
+
+-- the tick before which no order of the cowns ends
+abbrev pub tick_text : ℕ → Text
+tick_text tick = codes "no order of these behaviours ends before " ++ decimal tick ++ codes ": "
+
+-- the least that any order of the cowns could end at
+abbrev pub least_text : Names → Sharing → Least → Text
+least_text names sharing least = tick_text (tick_of least) ++ reason_text names sharing least.spawns least.busiest ++ codes "\n"
+
+-- All that is told, with this chain
+abbrev pub told_with : Names → Sharing → Why → Text → Text
+told_with names sharing why chain =
+    head_text why ++ codes "\n" ++ chain ++ codes "\n" ++ shares_text names why ++ candidates_text names why ++ least_text names sharing why.least
+
+-- What is told of why some rows take as long as they do. Where all of the chain is asked for it has a line for each step; else steps of one def that
+-- follow each other may stand in one line, of which nothing is said.
+pub record IsWhyText (names : Names) (sharing : Sharing) (all : Bool) (why : Why) (text : Text) : Type 0 where
+  pub chain : Text
+  pub whole : all ≡ true → chain ≡ chain_text names why
+  pub is : text ≡ told_with names sharing why chain

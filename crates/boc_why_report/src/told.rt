@@ -1,0 +1,135 @@
+// All that is told.
+
+ghost use Rattle.std.specs.Prelude.{◌≡◌, ◌++◌, ◌<◌, true, All, length, IfOk, OnOk};
+ghost use Rattle.boc_why_report.specs.WhyTexts.{busy_text, chain_text, head_text, least_text, reason_text, tick_text, told_with, IsWhyText};
+
+use crate::chain::chain_text;
+use crate::folded::folded_text;
+use crate::lists::{put_candidates, put_shares};
+use boc_names::{Names, text_at};
+use boc_plans::sharing::Sharing;
+use boc_text::put_number;
+use boc_why::{Busiest, Least, Why};
+use std::alloc::{AllocError, Global};
+
+// Puts the numbers at the head behind a text.
+fn put_head(text: &mut Vec<u8>, why: &Why) -> Result<(), AllocError>
+    ensures { OnOk result (text.new.items ≡ text.old.items ++ head_text why.now) }
+{
+    text.extend_from_slice(b"rows ")?;
+    put_number(text, why.profile.starts.len() as u64)?;
+    text.extend_from_slice(b"   work ")?;
+    put_number(text, why.profile.work)?;
+    text.extend_from_slice(b"   span ")?;
+    put_number(text, why.profile.span)?;
+    text.extend_from_slice(b"\n")?;
+    Ok(())
+}
+
+// What a cown is busy with.
+fn busy_text(sharing: Sharing) -> &'static str
+    ensures { result.now ≡ busy_text sharing }
+{
+    match sharing {
+        Sharing::Exclusive => " is held so long",
+        Sharing::SharedReads => " is written so long",
+    }
+}
+
+// Puts why no order ends sooner behind a text.
+fn put_reason(
+    text: &mut Vec<u8>,
+    names: &Names,
+    sharing: Sharing,
+    spawns: u64,
+    busiest: Option<Busiest>,
+) -> Result<(), AllocError>
+    ensures { OnOk result (text.new.items ≡ text.old.items ++ reason_text names.now sharing spawns busiest) }
+{
+    match busiest {
+        Some(busiest) if busiest.load >= spawns => {
+            text.extend_from_slice(text_at(&names.cowns, busiest.cown as usize))?;
+            text.extend_from_slice(busy_text(sharing).as_bytes())
+        }
+        _ => text.extend_from_slice(b"their spawns take so long"),
+    }
+}
+
+// Puts the tick before which no order of the cowns ends behind a text.
+fn put_tick(text: &mut Vec<u8>, tick: u64) -> Result<(), AllocError>
+    ensures { OnOk result (text.new.items ≡ text.old.items ++ tick_text tick) }
+{
+    text.extend_from_slice(b"no order of these behaviours ends before ")?;
+    put_number(text, tick)?;
+    text.extend_from_slice(b": ")?;
+    Ok(())
+}
+
+// Puts the least that any order of the cowns could end at behind a text.
+fn put_least(
+    text: &mut Vec<u8>,
+    names: &Names,
+    sharing: Sharing,
+    least: &Least,
+) -> Result<(), AllocError>
+    ensures { OnOk result (text.new.items ≡ text.old.items ++ least_text names.now sharing least.now) }
+{
+    put_tick(text, least.tick())?;
+    put_reason(text, names, sharing, least.spawns, least.busiest)?;
+    text.extend_from_slice(b"\n")
+}
+
+// The chain: all of its lines, or folded.
+fn told_chain(alloc: Global, names: &Names, all: bool, why: &Why) -> Result<Vec<u8>, AllocError>
+    requires there { All (λ s. s.row < length why.now.profile.starts.items) why.now.profile.chain.steps.items }
+    requires whole { length why.now.links.items ≡ length why.now.profile.chain.steps.items }
+    ensures { IfOk result (λ text. all ≡ true → text.items ≡ chain_text names.now why.now) }
+{
+    if all {
+        chain_text(alloc, names, why)
+    } else {
+        folded_text(alloc, names, why)
+    }
+}
+
+// All that is told, with this chain.
+fn told_with(
+    alloc: Global,
+    names: &Names,
+    sharing: Sharing,
+    why: &Why,
+    chain: &[u8],
+) -> Result<Vec<u8>, AllocError>
+    requires keys { All (λ s. s.key < length why.now.links.items) why.now.by_link.items }
+    ensures { IfOk result (λ text. text.items ≡ told_with names.now sharing why.now chain.now) }
+{
+    let mut text = Vec::new(alloc);
+    put_head(&mut text, why)?;
+    text.push(b'\n')?;
+    text.extend_from_slice(chain)?;
+    text.push(b'\n')?;
+    put_shares(alloc, &mut text, names, why)?;
+    put_candidates(alloc, &mut text, names, why)?;
+    put_least(&mut text, names, sharing, &why.least)?;
+    Ok(text)
+}
+
+/// What is told of why some rows take as long as they do: their work and their span; the chain that holds them back, step by step, with what each row
+/// hands on; its ticks by def and by link; what would bring the end forward; and the least that any order of the cowns could end at. All times are
+/// ticks. Where not all of the chain is asked for, four or more steps of one def that follow each other stand in one line. Each row of the chain has
+/// to have a start, each step its link, and each share by link the place of one. `AllocError` says that memory was refused.
+pub fn why_text(
+    alloc: Global,
+    names: &Names,
+    sharing: Sharing,
+    all: bool,
+    why: &Why,
+) -> Result<Vec<u8>, AllocError>
+    requires there { All (λ s. s.row < length why.now.profile.starts.items) why.now.profile.chain.steps.items }
+    requires whole { length why.now.links.items ≡ length why.now.profile.chain.steps.items }
+    requires keys { All (λ s. s.key < length why.now.links.items) why.now.by_link.items }
+    ensures { IfOk result (λ text. IsWhyText names.now sharing all why.now text.items) }
+{
+    let chain = told_chain(alloc, names, all, why)?;
+    told_with(alloc, names, sharing, why, &chain)
+}

@@ -1,0 +1,373 @@
+"""What `why` tells, computed plainly from the rows of a record and their names, and worked examples of it."""
+import random
+
+from . import model
+from .plans import random_rows, record_of
+from .records import fan, fan_text, tower, tower_text
+from .running import done, fault_of, refused
+
+MOST_LISTED = 20
+MOST_TRIED = 20
+LEAST_FOLDED = 4
+
+
+def table(sides, lines):
+    """Texts in columns, each on its side, two blanks between them, and none at the end of a line."""
+    widths = [max(len(line[column]) for line in lines) for column in range(len(sides))]
+    texts = []
+    for line in lines:
+        cells = [text.ljust(width) if side == "l" else text.rjust(width) for side, width, text in zip(sides, widths, line)]
+        texts.append("  ".join(cells).rstrip(" "))
+    return texts
+
+
+class Names:
+    """What rows and cowns are called where there is no program: by their numbers, each a def or a family for itself."""
+
+    def __init__(self, rows, cowns):
+        self.defs = list(range(rows))
+        self.def_names = self.rows = [f"row {number}" for number in range(rows)]
+        self.cowns = self.family_names = [f"cown {number}" for number in range(cowns)]
+        self.families = list(range(cowns))
+
+
+def steps_of(rows, starts):
+    """The steps of the chain: the row, how it leads on, and what it weighs."""
+    return [(int(row), via, int(weight)) for row, via, weight in (line.split() for line in model.chain(rows, starts))]
+
+
+def links_of(rows, names, steps):
+    """What leads on from each step: the def that spawns, the cowns that are handed on, or the end."""
+    links = []
+    for place, (row, via, _) in enumerate(steps):
+        if via == "spawn":
+            links.append(("spawn", names.defs[row]))
+        elif via == "order":
+            after = steps[place + 1][0]
+            links.append(("cowns", tuple(sorted(set(rows[row].cowns) & set(rows[after].cowns)))))
+        else:
+            links.append(("end",))
+    return links
+
+
+def link_name(names, link):
+    if link[0] == "spawn":
+        return "spawn by " + names.def_names[link[1]]
+    return " and ".join(names.cowns[cown] for cown in link[1]) if link[0] == "cowns" else "end"
+
+
+def then_text(names, link, after):
+    if link[0] == "spawn":
+        return f"spawns row {after}"
+    return f"hands {link_name(names, link)} to row {after}" if link[0] == "cowns" else "ends"
+
+
+def inner_text(names, links):
+    """What several rows do, each before the next one of them goes on."""
+    handed = [set(link[1]) for link in links if link[0] == "cowns"]
+    spawns = len(links) - len(handed)
+    parts = []
+    if handed:
+        common = sorted(set.intersection(*handed))
+        parts.append(f"{len(handed)} hand on " + link_name(names, ("cowns", common)) if common else f"{len(handed)} hand on")
+    if spawns:
+        parts.append(f"{spawns} spawn the next")
+    return ", ".join(parts)
+
+
+def chain_lines(rows, starts, names, steps, links, every):
+    lines = [["", "tick", "ticks", "row", "behaviour", "then"]]
+    after = [step[0] for step in steps[1:]] + [None]
+    place = 0
+    while place < len(steps):
+        def_of = names.defs[steps[place][0]]
+        end = place + 1
+        while end < len(steps) and names.defs[steps[end][0]] == def_of:
+            end += 1
+        if every or end - place < LEAST_FOLDED:
+            end = place + 1
+            row, _, weight = steps[place]
+            lines.append(["", str(starts[row]), str(weight), str(row), names.rows[row], then_text(names, links[place], after[place])])
+        else:
+            run = steps[place:end]
+            then = inner_text(names, links[place:end - 1]) + "; the last " + then_text(names, links[end - 1], after[end - 1])
+            lines.append(["", str(starts[run[0][0]]), str(sum(step[2] for step in run)), f"{run[0][0]}..{run[-1][0]}",
+                          f"{len(run)} {names.def_names[def_of]}", then])
+        place = end
+    return lines + [["", str(max(model.ends_of(rows, starts))), "", "", "", ""]]
+
+
+def shares(keys, steps):
+    """For each key how much its steps weigh, and how many they are; those that weigh most first."""
+    totals = {}
+    for key, step in zip(keys, steps):
+        ticks, count = totals.get(key, (0, 0))
+        totals[key] = (ticks + step[2], count + 1)
+    return sorted(((key, *total) for key, total in totals.items()), key=lambda share: (-share[1], share[0]))
+
+
+def listed(entries):
+    lines = [["  " + name, str(first), str(second)] for name, first, second in entries[:MOST_LISTED]]
+    return lines + ([[f"  {len(entries) - MOST_LISTED} more", "", ""]] if len(entries) > MOST_LISTED else [])
+
+
+def halved(rows, names, def_of):
+    for row in range(len(rows)):
+        if names.defs[row] == def_of:
+            rows = model.scaled(rows, row, 1, 2)
+    return rows
+
+
+def freed(rows, names, family):
+    for cown, own in enumerate(names.families):
+        if own == family:
+            rows = model.without(rows, cown)
+    return rows
+
+
+def spawned_early(rows, names, def_of):
+    rows, last = list(rows), [0] * len(rows)
+    for number, row in enumerate(rows[1:], start=1):
+        if names.defs[row.parent] == def_of:
+            rows[number] = row._replace(offset=last[row.parent] + 1)
+        last[row.parent] = rows[number].offset
+    return rows
+
+
+def candidates(rows, names, by_def, by_link, links):
+    """What is tried, each with the span that is left, best first, and as it was tried where they leave as much."""
+    tried = [(names.def_names[key] + " at 1/2", halved(rows, names, key)) for key, _, _ in by_def[:MOST_TRIED]]
+    handed = sorted({names.families[cown] for link in links if link[0] == "cowns" for cown in link[1]})
+    tried += [("without " + names.family_names[family], freed(rows, names, family)) for family in handed]
+    spawners = [links[place][1] for place, _, _ in by_link if links[place][0] == "spawn"]
+    tried += [("early spawns by " + names.def_names[def_of], spawned_early(rows, names, def_of)) for def_of in spawners[:MOST_TRIED]]
+    return sorted(((name, model.span(left)) for name, left in tried), key=lambda candidate: candidate[1])
+
+
+def least_line(rows, names):
+    spawns = model.span([row._replace(cowns=()) for row in rows])
+    loads = [sum(row.ticks for row in rows if cown in row.cowns) for cown in range(len(names.cowns))]
+    busiest = max(loads, default=0)
+    if not loads or busiest < spawns:
+        return f"no order of these behaviours ends before {spawns}: their spawns take so long"
+    return f"no order of these behaviours ends before {busiest}: {names.cowns[loads.index(busiest)]} is held so long"
+
+
+def why(rows, names, every=False):
+    """The text that `why` writes for these rows, with exclusive cowns."""
+    starts = model.earliest_starts(rows)
+    span = max(model.ends_of(rows, starts))
+    steps = steps_of(rows, starts)
+    links = links_of(rows, names, steps)
+    by_def = shares([names.defs[step[0]] for step in steps], steps)
+    by_link = shares([links.index(link) for link in links], steps)
+    lines = [f"rows {len(rows)}   work {sum(row.ticks for row in rows)}   span {span}", "", "chain"]
+    lines += table("lrrrll", chain_lines(rows, starts, names, steps, links, every)) + [""]
+    left = listed([(names.def_names[key], ticks, count) for key, ticks, count in by_def])
+    right = listed([(link_name(names, links[place]), ticks, count) for place, ticks, count in by_link])
+    most = max(len(left), len(right))
+    pairs = zip(left + [["", "", ""]] * (most - len(left)), right + [["", "", ""]] * (most - len(right)))
+    heads = [["chain by def", "ticks", "rows", "    ", "chain by link", "ticks", "links"]]
+    lines += table("lrrllrr", heads + [one + [""] + other for one, other in pairs])
+    tried = [(name, left, span - left) for name, left in candidates(rows, names, by_def, by_link, links)]
+    lines += table("lrr", [["candidates", "span", "less"]] + listed(tried))
+    return model.text(lines + [least_line(rows, names)])
+
+
+# What is told of runs by one thread, in the names of their programs.
+TRANSFER = """\
+rows 4   work 11   span 9
+
+chain
+  tick  ticks  row  behaviour      then
+     0      2    0  main           spawns row 1
+     2      2    1  add(5; a)      hands a to row 2
+     4      3    2  move(3; a, b)  hands b to row 3
+     7      2    3  add(1; b)      ends
+     9
+
+chain by def  ticks  rows        chain by link    ticks  links
+  add             4     2          b                  3      1
+  move            3     1          spawn by main      2      1
+  main            2     1          a                  2      1
+                                   end                2      1
+candidates              span  less
+  add at 1/2               7     2
+  without b                7     2
+  move at 1/2              8     1
+  main at 1/2              8     1
+  without a                8     1
+  early spawns by main     8     1
+no order of these behaviours ends before 6: their spawns take so long
+"""
+
+PIPELINE = """\
+rows 37   work 609   span 279
+
+chain
+  tick  ticks     row  behaviour          then
+     0      5       0  main               spawns row 1
+     5     13       1  parse(1; parser)   hands parser to row 2
+    18     13       2  parse(2; parser)   spawns row 14
+    31     12      14  check(6; checker)  spawns row 15
+    43    228  15..35  6 price            5 hand on pricer; the last spawns row 36
+   271      8      36  keep(126; store)   ends
+   279
+
+chain by def  ticks  rows        chain by link     ticks  links
+  price         228     6          pricer            190      5
+  parse          26     2          spawn by price     38      1
+  check          12     1          parser             13      1
+  keep            8     1          spawn by parse     13      1
+  main            5     1          spawn by check     12      1
+                                   end                 8      1
+                                   spawn by main       5      1
+candidates               span  less
+  price at 1/2            200    79
+  without pricer          219    60
+  early spawns by parse   267    12
+  early spawns by check   268    11
+  parse at 1/2            271     8
+  early spawns by price   271     8
+  check at 1/2            273     6
+  keep at 1/2             275     4
+  early spawns by main    275     4
+  main at 1/2             277     2
+  without parser          277     2
+no order of these behaviours ends before 228: pricer is held so long
+"""
+
+BANK = """\
+rows 29   work 1001   span 827
+
+chain
+  tick  ticks     row  behaviour                                                               then
+     0     11       0  main                                                                    spawns row 1
+    11    360   1..12  12 transfer                                                             11 hand on log; the last hands acct[3] to row 13
+   371     32      13  audit(; acct[0], acct[1], acct[2], acct[3], acct[4], acct[5], total)    hands total to row 14
+   403     32      14  audit(; acct[6], acct[7], acct[8], acct[9], acct[10], acct[11], total)  hands acct[6] and acct[10] to row 15
+   435    328  15..25  11 transfer                                                             10 hand on log; the last hands acct[2] to row 27
+   763     32      27  audit(; acct[0], acct[1], acct[2], acct[3], acct[4], acct[5], total)    hands total to row 28
+   795     32      28  audit(; acct[6], acct[7], acct[8], acct[9], acct[10], acct[11], total)  ends
+   827
+
+chain by def  ticks  rows        chain by link           ticks  links
+  transfer      688    23          log                     538     18
+  audit         128     4          total                    64      2
+  main           11     1          acct[6] and acct[10]     32      1
+                                   end                      32      1
+                                   acct[3] and log          30      1
+                                   acct[5] and log          30      1
+                                   acct[3]                  30      1
+                                   acct[7] and log          30      1
+                                   acct[2]                  30      1
+                                   spawn by main            11      1
+candidates              span  less
+  without log            437   390
+  transfer at 1/2        483   344
+  without acct[*]        727   100
+  audit at 1/2           775    52
+  without total          791    36
+  early spawns by main   817    10
+  main at 1/2            822     5
+no order of these behaviours ends before 716: log is held so long
+"""
+
+# The chain of the pipeline, each row on a line of its own.
+PIPELINE_CHAIN = """\
+chain
+  tick  ticks  row  behaviour          then
+     0      5    0  main               spawns row 1
+     5     13    1  parse(1; parser)   hands parser to row 2
+    18     13    2  parse(2; parser)   spawns row 14
+    31     12   14  check(6; checker)  spawns row 15
+    43     38   15  price(6; pricer)   hands pricer to row 19
+    81     38   19  price(12; pricer)  hands pricer to row 23
+   119     38   23  price(18; pricer)  hands pricer to row 27
+   157     38   27  price(24; pricer)  hands pricer to row 31
+   195     38   31  price(30; pricer)  hands pricer to row 35
+   233     38   35  price(36; pricer)  spawns row 36
+   271      8   36  keep(126; store)   ends
+   279
+"""
+
+# Behaviours that only read, and with shared reads do so at once; then the reader that the writer waits for is the chain's.
+PEEKS_SHARED = """\
+rows 4   work 20   span 12
+
+chain
+  tick  ticks  row  behaviour  then
+     0      3    0  main       spawns row 2
+     3      7    2  peek(; a)  hands a to row 3
+    10      2    3  set(; a)   ends
+    12
+
+chain by def  ticks  rows        chain by link    ticks  links
+  peek            7     1          a                  7      1
+  main            3     1          spawn by main      3      1
+  set             2     1          end                2      1
+candidates              span  less
+  peek at 1/2              9     3
+  without a               10     2
+  main at 1/2             11     1
+  set at 1/2              11     1
+  early spawns by main    11     1
+no order of these behaviours ends before 10: their spawns take so long
+"""
+
+
+def rows_of(record):
+    """The rows of a record's text, and how many cowns it has."""
+    lines = record.decode().splitlines()
+    rows = []
+    for line in lines[1:]:
+        sign, *numbers = line.split(" ")
+        numbers = [int(number) for number in numbers]
+        if sign == "+":
+            rows.append(model.Row(numbers[1], numbers[2], tuple(numbers[3:]), 0))
+        elif sign == "<":
+            rows[numbers[0]] = rows[numbers[0]]._replace(ticks=numbers[1])
+    return rows, int(lines[0].split(" ")[2])
+
+
+def cases(program):
+    for name, expected in [("transfer.boc", TRANSFER), ("pipeline.boc", PIPELINE), ("bank.boc", BANK)]:
+        yield f"{name}: why", fault_of(done(expected.encode()), program.run(["why"], program.example(name)))
+    whole = PIPELINE[:PIPELINE.index("chain\n")] + PIPELINE_CHAIN + PIPELINE[PIPELINE.index("\nchain by def"):]
+    yield "pipeline.boc: why --all", fault_of(done(whole.encode()), program.run(["why", "--all"], program.example("pipeline.boc")))
+    shared = program.run(["why", "--shared-reads"], program.example("peeks.boc"))
+    yield "peeks.boc: why --shared-reads", fault_of(done(PEEKS_SHARED.encode()), shared)
+    for name in ["transfer.boc", "pipeline.boc", "bank.boc", "scaling.boc", "accounts.boc", "four_squares.boc", "two_orders.boc", "overflow.boc",
+                 "same_cown_twice.boc", "anomaly_cown.boc", "anomaly_two_workers.boc"]:
+        yield from of_record(program, f"the record of {name}", program.run(["run"], program.example(name)).output)
+    yield from of_record(program, "a fan", fan_text(3, fan(60, lambda number: (number % 3,), lambda number: 1 + number % 5)))
+    yield from of_record(program, "a tower", tower_text(tower(40)))
+    yield from random_cases(program)
+    yield from refusals(program)
+
+
+def of_record(program, name, record):
+    """The record of a run, whose rows and cowns have numbers alone."""
+    rows, cowns = rows_of(record)
+    for every in (False, True):
+        answer = program.run(["why"] + (["--all"] if every else []), record)
+        yield f"{name}: why, {'every row' if every else 'folded'}", fault_of(done(why(rows, Names(len(rows), cowns), every)), answer)
+
+
+def random_cases(program):
+    chance = random.Random(20261126)
+    for number in range(150):
+        record = None
+        while record is None:
+            record = record_of(random_rows(chance))
+        yield from of_record(program, f"random rows {number}", record)
+
+
+def refusals(program):
+    yield "why: no input", fault_of(refused(3, "boc: line 1: 3 Unexpected"), program.run(["why"]))
+    yield "why: a wrong name", fault_of(refused(3, "boc: line 2: 5 UnknownName"), program.run(["why"], b"cown a = 0;\nmain { x = 1; }"))
+    yield "why: a text that is too long", fault_of(refused(3, "boc: line 1: 9 TooLong"), program.run(["why"], b" " * 70000))
+    yield "why: too many behaviours", fault_of(refused(4, "boc: run: 2 Behaviours"), program.run(["why"], b"def f(;) { when f(;); } main { when f(;); }"))
+    yield "why: a header of another version", fault_of(refused(3, "boc: line 1: 1 Header"), program.run(["why"], b"boc 3 0\n.\n"))
+    yield "why: a record that is cut", fault_of(refused(3, "boc: line 2: 11 Truncated"), program.run(["why"], b"boc 2 0\n+ 0 0"))
+    yield "why: a byte behind a record", fault_of(refused(3, "boc: line 6: 12 After"), program.run(["why"], b"boc 2 0\n+ 0 0 0\n> 0\n< 0 1 0\n.\nx"))

@@ -76,7 +76,7 @@ def runs(program):
     yield ["values"], b"main { x = 1; }", refused(3, "boc: line 1: 5 UnknownName")
     yield ["check"], record + b"x", refused(3, "boc: line 15: 12 After")
     yield ["whatif", "2=1", "4=1"], record, refused(3, "boc: edit 2: 1 NoRow")
-    yield ["whatif", "2=01"], record, Answer(2, b"", b"boc: edit 1: not ROW=TICKS\n     an edit is ROW=TICKS, ROW@OFFSET or ROW=K/D\n")
+    yield ["whatif", "2=01"], record, Answer(2, b"", b"boc: edit 1: not ROW=TICKS\n     an edit is ROW=TICKS, ROW@OFFSET, ROW=K/D or DEF=K/D\n")
 
 
 def cases(program):

@@ -1,9 +1,10 @@
 """The words of the command line: calls for help, numbers of workers, cowns, edits, and words that are refused."""
-from .running import Answer, done, fault_of
+from .running import Answer, done, fault_of, refused
 from .worked import CURVE, GREEDY, PROFILE, SHORTER, SHORTER_GREEDY, WITHOUT_A
 
 HELP = [["--help"], ["-h"], ["values", "--help"], ["check", "--help"], ["run", "--help"], ["profile", "--help"],
-        ["time", "--help"], ["whatif", "--help"], ["curve", "--help"], ["sweep", "--help"], ["why", "--help"], ["help"], ["help", "whatif"]]
+        ["time", "--help"], ["whatif", "--help"], ["curve", "--help"], ["sweep", "--help"], ["why", "--help"], ["cowns", "--help"], ["help"],
+        ["help", "whatif"]]
 
 TAKEN = [
     (["profile", "--p=2"], PROFILE + GREEDY),
@@ -44,7 +45,10 @@ REFUSED = [
     ["values", "more"],
     ["check", "more"],
     ["sweep", "2=1"],
-    ["why", "--p", "2"],
+    ["why", "--p", "0"],
+    ["why", "--p", "65"],
+    ["why", "--program", "a"],
+    ["why", "--names", "a", "--record", "a"],
     ["why", "--workers", "17"],
     ["why", "--all", "--all"],
     ["why", "--all=1"],
@@ -70,18 +74,29 @@ REFUSED = [
     ["whatif", "--cowns"],
     ["whatif", "--spawns"],
     ["whatif", "--without"],
-    ["whatif", "--without", ""],
-    ["whatif", "--without", "a"],
     ["whatif", "--without", "-1"],
-    ["whatif", "--without=-1"],
-    ["whatif", "--without", "4294967296"],
-    ["whatif", "--without", "0,1"],
-    ["whatif", "--without", "1.0"],
-    ["whatif", "--without", " 1"],
-    ["whatif", "--without", "1=1"],
     ["whatif", "--without", b"1\xff"],
-    # Such a value is told before an edit that is misspelt.
-    ["whatif", "x", "--without", "0", "--without", "b"],
+    ["whatif", "--program"],
+    ["whatif", "--program", "a", "--names", "b"],
+    ["whatif", "--names", "a", "--names", "a"],
+    ["whatif", "--record", "a"],
+    ["whatif", "--short", "--short"],
+    # A second file is told before an edit that is misspelt.
+    ["whatif", "x", "--program", "a", "--names", "b"],
+    ["cowns", "--top", "0"],
+    ["cowns", "--top", "257"],
+    ["cowns", "--top", "1", "--top", "1"],
+    ["cowns", "--all"],
+    ["cowns", "--p", "2"],
+    ["cowns", "--record", "a", "--names", "b"],
+    ["cowns", "a"],
+    ["values", "--record"],
+    ["values", "--record", "a", "--record", "b"],
+    ["values", "--names", "a"],
+    ["check", "--program", "a", "--program", "a"],
+    ["check", "--record", "a"],
+    ["sweep", "--names", "a"],
+    ["profile", "--names", "a"],
     ["curve", "--p", "0"],
     ["curve", "--p", "65"],
     ["curve", "2=1"],
@@ -181,9 +196,18 @@ MISSPELT = [
     # The spelling is judged before the record, and before cowns and edits that it doesn't fit.
     (["--without", "9", "9=1", "x"], 2),
     (["x", "--without", "4294967295"], 1),
+    (["x", "--without", "0", "--without", "b"], 1),
+    (["=1/2"], 1),
+    (["4294967296=1/2"], 1),
+    (["a=b=1/2"], 1),
+    (["a=2"], 1),
+    (["a@2"], 1),
 ]
 
-MISSPELT_TEXT = b"boc: edit %d: not ROW=TICKS\n     an edit is ROW=TICKS, ROW@OFFSET or ROW=K/D\n"
+# Texts that name no cown of the record, which has the cowns 0 and 1.
+NO_COWNS = ["", "a", "-1", "4294967296", "0,1", "1.0", " 1", "1=1", "cown", "cown 2", "cown 0[*]", "2"]
+
+MISSPELT_TEXT = b"boc: edit %d: not ROW=TICKS\n     an edit is ROW=TICKS, ROW@OFFSET, ROW=K/D or DEF=K/D\n"
 
 
 def cases(program):
@@ -197,6 +221,9 @@ def cases(program):
         yield f"taken {words}", fault_of(done(text.encode()), answer)
     for words in REFUSED:
         yield f"refused {words}", fault_of_refusal(program.run(words, record))
+    for text in NO_COWNS:
+        yield f"no cown {text!r}", fault_of(refused(3, "boc: without 1: 6 NoCown"), program.run(["whatif", f"--without={text}"], record))
+    yield "a cown by its name", fault_of(program.run(["whatif", "--without", "0"], record), program.run(["whatif", "--without", "cown 0"], record))
     for edits, number in MISSPELT:
         expected = Answer(2, b"", MISSPELT_TEXT % number)
         for source in (record, b"no record"):

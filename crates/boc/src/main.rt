@@ -4,29 +4,73 @@
 mod meter;
 
 use crate::meter::Meter;
-use boc_commands::{Fault, WordsFault, not_text, read_words, run_command};
+use boc_commands::{
+    Command, Fault, Want, WordsFault, file_named, not_text, read_words, run_command,
+};
 use boc_text::Counted;
 use boc_workers::OpenGate;
+use std::alloc::AllocError;
 use std::process::ExitCode;
 use std::sync::Wait;
 use std::thread::Threads;
-use std::{env, io};
+use std::{env, fs, io};
+
+// The status where a file can't be read, as where a device fails.
+const NO_FILE: u8 = 5;
+
+// Why not all was done that the words ask for.
+#[derive(Drop)]
+enum Stop {
+    // The command was refused, or it failed.
+    Fault(Fault),
+    // The file that the command names can't be read.
+    File { path: String, error: io::Error },
+}
+
+impl From<Fault> for Stop {
+    fn from(fault: Fault) -> Stop {
+        Stop::Fault(fault)
+    }
+}
+
+impl From<WordsFault> for Stop {
+    fn from(fault: WordsFault) -> Stop {
+        Stop::Fault(Fault::from(fault))
+    }
+}
+
+impl From<AllocError> for Stop {
+    fn from(error: AllocError) -> Stop {
+        Stop::Fault(Fault::from(error))
+    }
+}
+
+impl Stop {
+    // The status of the program.
+    fn status(&self) -> u8 {
+        match self {
+            Stop::Fault(fault) => fault.status(),
+            Stop::File { .. } => NO_FILE,
+        }
+    }
+}
 
 fn main(rt: HostRuntime) -> ExitCode {
     match run(rt, &rt) {
         Ok(()) => ExitCode::SUCCESS,
-        Err(fault) => {
-            let status = fault.status();
-            tell(rt, &fault);
+        Err(stop) => {
+            let status = stop.status();
+            tell(rt, &stop);
             ExitCode::from(status)
         }
     }
 }
 
 // Does what the words ask for. What runs in several threads is started by way of `threads`.
-fn run(rt: HostRuntime, threads: &(impl Threads + Wait + Sync)) -> Result<(), Fault> {
+fn run(rt: HostRuntime, threads: &(impl Threads + Wait + Sync)) -> Result<(), Stop> {
     let words = words_given(rt)?;
     let command = read_words(rt.alloc(), &words)?;
+    let beside = file_beside(rt, &command)?;
     let mut input = Counted::new(rt.stdin());
     let mut output = Counted::new(rt.stdout());
     let mut meter = Meter::new(rt);
@@ -35,12 +79,30 @@ fn run(rt: HostRuntime, threads: &(impl Threads + Wait + Sync)) -> Result<(), Fa
         rt.alloc(),
         &OpenGate,
         &command,
+        beside,
         &mut meter,
         &mut input,
         &mut output,
     );
     meter.wipe();
-    done
+    Ok(done?)
+}
+
+// The bytes of the file that a command names beside its input, and no bytes where it names none.
+fn file_beside(rt: HostRuntime, command: &Command) -> Result<Vec<u8>, Stop> {
+    let Some(path) = file_named(command) else {
+        return Ok(Vec::new(rt.alloc()));
+    };
+    match fs::read(&rt, path) {
+        Ok(bytes) => Ok(bytes),
+        Err(error) if error.kind() == io::ErrorKind::OutOfMemory => {
+            Err(Stop::Fault(Fault::Means(Want::Memory)))
+        }
+        Err(error) => {
+            let path = String::from_str(rt.alloc(), path)?;
+            Err(Stop::File { path, error })
+        }
+    }
 }
 
 // The words of the command line, the program's own name first.
@@ -57,11 +119,14 @@ fn words_given(rt: HostRuntime) -> Result<Vec<String>, WordsFault> {
     Ok(words)
 }
 
-// Writes the fault's line to standard error. There is nobody to tell that this failed.
-fn tell(rt: HostRuntime, fault: &Fault) {
-    let _ = match fault.own_line() {
-        Some(line) => eprintln!(rt; "{line}"),
-        // The parser's text ends its own lines.
-        None => eprint!(rt; "{fault}"),
+// Writes to standard error why not all was done. There is nobody to tell that this failed.
+fn tell(rt: HostRuntime, stop: &Stop) {
+    let _ = match stop {
+        Stop::File { path, error } => eprintln!(rt; "boc: {path}: {error}"),
+        Stop::Fault(fault) => match fault.own_line() {
+            Some(line) => eprintln!(rt; "{line}"),
+            // The parser's text ends its own lines.
+            None => eprint!(rt; "{fault}"),
+        },
     };
 }

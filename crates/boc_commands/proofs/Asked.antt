@@ -11,21 +11,19 @@ use Rattle.boc_commands.specs.Faults.{gone_of, of_write}
 use Rattle.boc_text.specs.Writing.{Writes}
 use Rattle.boc_text.specs.declared.fault.WriteFault.{WriteFault}
 use Rattle.boc_text.specs.declared.fault.WriteFault.TheVariants as writes
-use Rattle.std.specs.Prelude.{◌<◌, All, IfSome, Some, None}
+use Rattle.std.specs.Prelude.{IfSome, Some, None}
 use Rattle.std.specs.Io.KnownBytes.{Consumes, IsAtEnd}
 use Rattle.boc_commands.specs.Commands.{AnswersInput, Leaves, LeavesAfter}
 use Rattle.boc_runs.specs.declared.rows.Row.{Row}
-use Rattle.boc_plans.specs.declared.edit.Edit.{Edit}
 use Rattle.boc_plans.specs.declared.sharing.Sharing.{Sharing}
 use Rattle.boc_plans.specs.Seen.{seen}
 use Rattle.boc_order.specs.declared.report.Profile.{Profile}
 use Rattle.boc_order.specs.Profiles.{IsProfileOf}
 use Rattle.boc_greedy.specs.declared.plan.Greedy.{Greedy}
 use Rattle.boc_report.specs.Parts.{part_of}
-use Rattle.boc_commands.specs.Answers.{AreSwept, IsAskedPart, IsCheckAnswer, IsReport, IsProfileAnswer, IsWhatIfAnswer, IsCurveAnswer, IsSweepAnswer}
-use Rattle.boc_commands.specs.Answers.{first_of, without_all}
+use Rattle.boc_commands.specs.Answers.{AreSwept, IsAskedPart, IsCheckAnswer, IsReport, IsProfileAnswer, IsCurveAnswer, IsSweepAnswer}
+use Rattle.boc_commands.specs.Answers.{first_of}
 use Rattle.boc_plans.specs.declared.sweep.Sweep.{Sweep}
-use Rattle.boc_plans.specs.Edits.{AreEdited}
 use Rattle.boc_plans.specs.Greedy.{IsSpan}
 use Rattle.boc_plans.specs.Plans.{work_of}
 use Rattle.boc_greedy.specs.Curves.{IsCurve}
@@ -35,20 +33,6 @@ use Rattle.boc_report.specs.Texts.{report_text, curve_text, sweep_lines}
 use Rattle.boc_runs.specs.Records.{Recorded}
 use Rattle.boc_record.specs.RecordTexts.{IsTextOf}
 use Rattle.boc_record.specs.Reading.{TakesRecord}
-
--- the answer, from the rows that were asked about and those after the edits
-pub answered : (cowns : List ℕ) (edits : List Edit) (sharing kept : Sharing) (asked : Option ℕ) (text : List ℕ) (r : Recorded)
-    (before after : List Row) (made output : List ℕ) → IsTextOf text r → All (λ c. c < r.cowns) cowns
-    → before ≡ without_all cowns r.rows → AreEdited before edits after → kept ≡ sharing → IsReport (seen kept after) asked made → output ≡ made
-    → IsWhatIfAnswer cowns edits sharing asked text output
-answered cowns edits sharing kept asked input r before after made output spells known same edited way report text = record {
-  recorded = r;
-  spells = spells;
-  known = known;
-  after = after;
-  edited = subst (λ rows. AreEdited rows edits after) same edited;
-  report = subst (λ t. IsReport (seen sharing after) asked t) (sym text) (subst (λ s. IsReport (seen s after) asked made) way report);
-}
 
 -- the answer of a curve, from the rows that plans were made for
 pub drawn : (sharing kept : Sharing) (most : ℕ) (input : List ℕ) (r : Recorded) (rows : List Row) (work span : ℕ) (points read : List CurvePoint)

@@ -1,5 +1,5 @@
 -- An input has one answer.
-use Rattle.std.proofs.Common.{◌≡◌, ℕ, List, [], ◌∷◌, ◌++◌, length, Option, Some, None, sym, ◌∙◌, ap, subst}
+use Rattle.std.proofs.Common.{◌≡◌, ℕ, List, [], ◌∷◌, ◌++◌, length, Option, Some, None, false, sym, ◌∙◌, ap, subst}
 use Rattle.boc_plans.specs.declared.edit.Edit.{Edit}
 use Rattle.boc_program.specs.declared.program.Program.{Program}
 use Rattle.boc_runs.specs.declared.rows.Row.{Row}
@@ -18,8 +18,17 @@ use Rattle.boc_plans.specs.declared.sweep.Sweep.TheVariants.{Ticks as TicksOf, C
 use Rattle.boc_plans.specs.Edits.{AreEdited, IsChanged}
 use Rattle.boc_plans.specs.Greedy.{IsSpan}
 use Rattle.boc_greedy.specs.Curves.{IsCurve}
-use Rattle.boc_commands.specs.Answers.{AreSwept, IsAskedPart, IsGreedyPart, IsReport, IsValuesAnswer, IsCheckAnswer, IsProfileAnswer, IsWhatIfAnswer}
-use Rattle.boc_commands.specs.Answers.{IsCurveAnswer, IsSweepAnswer, first_of, without_all}
+use Rattle.boc_commands.specs.Answers.{AreSwept, IsAskedPart, IsGreedyPart, IsReport, IsValuesAnswer, IsCheckAnswer, IsProfileAnswer}
+use Rattle.boc_commands.specs.Answers.{IsCurveAnswer, IsSweepAnswer, first_of}
+use Rattle.boc_commands.specs.Beside.{IsCheckAgainstAnswer, IsValuesAfterAnswer}
+use Rattle.boc_names.specs.Names.{AreNumbers}
+use Rattle.boc_words.specs.declared.asked.AskedCown.{AskedCown}
+use Rattle.boc_words.specs.declared.asked.AskedEdit.{AskedEdit}
+use Rattle.boc_commands.specs.Asked.{all_cowns, all_edits}
+use Rattle.boc_commands.specs.WhatIfAnswers.{IsWhatIfAnswer}
+use Rattle.boc_commands.proofs.SameNames.{same_cowns, same_edits}
+use Rattle.boc_runs.specs.Run.{config_of}
+use Rattle.boc_why.specs.Causes.{without_all}
 use Rattle.boc_commands.specs.ValueTexts.{values_text, check_text}
 use Rattle.boc_report.specs.Texts.{report_text, greedy_text, curve_text, sweep_lines}
 use Rattle.boc_runs.proofs.Freeing.{rows_without}
@@ -104,6 +113,23 @@ one_check_answer input output other a b =
     let same : a.recorded ≡ b.recorded = one_record input a.recorded b.recorded a.spells b.spells in
     a.text ∙ ap (λ (r : Recorded). check_text (length r.rows)) same ∙ sym b.text
 
+pub one_check_against_answer : (beside input output other : List ℕ) → IsCheckAgainstAnswer beside input output → IsCheckAgainstAnswer beside input other
+    → output ≡ other
+one_check_against_answer beside input output other a b =
+    let same : a.recorded ≡ b.recorded = one_record input a.recorded b.recorded a.of_run.tells b.of_run.tells in
+    a.text ∙ ap (λ (r : Recorded). check_text (length r.rows)) same ∙ sym b.text
+
+pub one_values_after_answer : (beside input output other : List ℕ) → IsValuesAfterAnswer beside input output → IsValuesAfterAnswer beside input other
+    → output ≡ other
+one_values_after_answer beside input output other a b =
+    let program : a.program ≡ b.program =
+    same_program a.program b.program (one_program input a.program b.program a.of_run.spells b.of_run.spells) in
+    let same : a.recorded ≡ b.recorded = one_record beside a.recorded b.recorded a.of_run.tells b.of_run.tells in
+    let text : values_text a.program.cowns (config_of a.program a.recorded.events).values
+    ≡ values_text b.program.cowns (config_of b.program b.recorded.events).values =
+    λ i. values_text (program i).cowns (config_of (program i) (same i).events).values in
+    a.text ∙ text ∙ sym b.text
+
 pub one_profile_answer : (sharing : Sharing) (asked : Option ℕ) (input output other : List ℕ) → IsProfileAnswer sharing asked input output →
     IsProfileAnswer sharing asked input other → output ≡ other
 one_profile_answer sharing asked input output other a b =
@@ -111,17 +137,26 @@ one_profile_answer sharing asked input output other a b =
     one_report (seen sharing b.recorded.rows) (rows_seen sharing b.recorded.rows (rows_are b.recorded b.spells.record_is)) asked output other
     (subst (λ (r : Recorded). IsReport (seen sharing r.rows) asked output) same a.report) b.report
 
-pub one_whatif_answer : (cowns : List ℕ) (edits : List Edit) (sharing : Sharing) (asked : Option ℕ) (input output other : List ℕ) →
-    IsWhatIfAnswer cowns edits sharing asked input output → IsWhatIfAnswer cowns edits sharing asked input other → output ≡ other
-one_whatif_answer cowns edits sharing asked input output other a b =
-    let same : a.recorded ≡ b.recorded = one_record input a.recorded b.recorded a.spells b.spells in
-    let left : List Row = without_all cowns b.recorded.rows in
-    let shape : IsRows left = rows_left cowns b.recorded.rows (rows_are b.recorded b.spells.record_is) in
-    let after : a.after ≡ b.after = one_edited left edits a.after b.after
-    (subst (λ (r : Recorded). AreEdited (without_all cowns r.rows) edits a.after) same a.edited) b.edited in
-    let rows : IsRows b.after = rows_after left shape edits b.after b.edited in
-    one_report (seen sharing b.after) (rows_seen sharing b.after rows) asked output other
-    (subst (λ (list : List Row). IsReport (seen sharing list) asked output) after a.report) b.report
+pub one_whatif_answer : (cowns : List AskedCown) (edits : List AskedEdit) (sharing : Sharing) (asked : Option ℕ) (bytes input output other : List ℕ)
+    → IsWhatIfAnswer None bytes cowns edits sharing asked false input output → IsWhatIfAnswer None bytes cowns edits sharing asked false input other
+    → output ≡ other
+one_whatif_answer cowns edits sharing asked bytes input output other a b =
+    let same : a.recorded ≡ b.recorded = one_record input a.recorded b.recorded a.named.spells b.named.spells in
+    let own : AreNumbers (length b.recorded.rows) b.recorded.cowns a.names =
+    subst (λ (r : Recorded). AreNumbers (length r.rows) r.cowns a.names) same a.named.names_are in
+    let meant : all_cowns a.names cowns ≡ all_cowns b.names cowns = same_cowns _ _ a.names b.names own b.named.names_are cowns in
+    let left : List Row = without_all (all_cowns b.names cowns) b.recorded.rows in
+    let shape : IsRows left = rows_left (all_cowns b.names cowns) b.recorded.rows (rows_are b.recorded b.named.spells.record_is) in
+    let edited : AreEdited left (all_edits b.names edits) a.report.after =
+    subst (λ (list : List Edit). AreEdited left list a.report.after) (same_edits _ _ a.names b.names own b.named.names_are edits)
+    (subst (λ (list : List ℕ). AreEdited (without_all list b.recorded.rows) (all_edits a.names edits) a.report.after) meant
+    (subst (λ (r : Recorded). AreEdited (without_all (all_cowns a.names cowns) r.rows) (all_edits a.names edits) a.report.after) same
+    a.report.changed.asked_for.edited)) in
+    let after : a.report.after ≡ b.report.after = one_edited left (all_edits b.names edits) a.report.after b.report.after edited
+    b.report.changed.asked_for.edited in
+    let rows : IsRows b.report.after = rows_after left shape (all_edits b.names edits) b.report.after b.report.changed.asked_for.edited in
+    one_report (seen sharing b.report.after) (rows_seen sharing b.report.after rows) asked output other
+    (subst (λ (list : List Row). IsReport (seen sharing list) asked output) after a.report.told) b.report.told
 
 pub one_curve_answer : (sharing : Sharing) (most : ℕ) (input output other : List ℕ) → IsCurveAnswer sharing most input output
     → IsCurveAnswer sharing most input other → output ≡ other

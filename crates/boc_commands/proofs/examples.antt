@@ -1,1 +1,3 @@
+pub mod BesideTransfer
 pub mod TransferValues
+pub mod SmallNames

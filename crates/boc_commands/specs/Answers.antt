@@ -1,9 +1,8 @@
 -- What the commands answer to the bytes that come in.
-use Rattle.std.specs.Prelude.{◌≡◌, ℕ, ℤ, ◌<◌, List, [], ◌∷◌, ◌++◌, length, All, Option, Some, None}
+use Rattle.std.specs.Prelude.{◌≡◌, ℕ, ℤ, List, [], ◌++◌, length, Option, Some, None}
 use Rattle.boc_program.specs.declared.program.Program.{Program}
 use Rattle.boc_reader.specs.Spells.{Spells}
 use Rattle.boc_runs.specs.declared.rows.Row.{Row}
-use Rattle.boc_runs.specs.Changes.{without}
 use Rattle.boc_plans.specs.declared.chain.ChainStep.{ChainStep}
 use Rattle.boc_plans.specs.Plans.{IsEarliest, IsEnd, HasEnds, work_of}
 use Rattle.boc_plans.specs.Chains.{IsPicked}
@@ -12,12 +11,11 @@ use Rattle.boc_plans.specs.Sweeps.{IsGreedyCownSweep, IsGreedySweep}
 use Rattle.boc_greedy.specs.declared.points.CurvePoint.{CurvePoint}
 use Rattle.boc_greedy.specs.Curves.{IsCurve}
 use Rattle.boc_runs.specs.OwnOrder.{EndsWith}
-use Rattle.boc_plans.specs.declared.edit.Edit.{Edit}
 use Rattle.boc_plans.specs.declared.sharing.Sharing.{Sharing}
 use Rattle.boc_plans.specs.Seen.{seen}
 use Rattle.boc_plans.specs.declared.sweep.Sweep.{Sweep}
 use Rattle.boc_plans.specs.declared.sweep.Sweep.TheVariants.{Ticks, Cowns, Spawns}
-use Rattle.boc_plans.specs.Edits.{AreEdited, IsCownSweep, IsSpawnSweep, IsSweep}
+use Rattle.boc_plans.specs.Edits.{IsCownSweep, IsSpawnSweep, IsSweep}
 use Rattle.boc_commands.specs.ValueTexts.{values_text, check_text}
 use Rattle.boc_report.specs.Texts.{report_text, greedy_text, curve_text, sweep_lines}
 use Rattle.boc_runs.specs.Records.{Recorded}
@@ -74,21 +72,6 @@ pub record IsProfileAnswer (sharing : Sharing) (asked : Option ℕ) (input outpu
   pub recorded : Recorded
   pub spells : IsTextOf input recorded
   pub report : IsReport (seen sharing recorded.rows) asked output
-
--- the rows, none of which has one of these cowns
-abbrev pub without_all : List ℕ → List Row → List Row
-without_all [] rows = rows
-without_all (cown ∷ cowns) rows = without_all cowns (without cown rows)
-
--- the input is the text of a record that has these cowns; without them its rows take the edits, one after the other; and the output is the report
--- on the rows after all of that
-pub record IsWhatIfAnswer (cowns : List ℕ) (edits : List Edit) (sharing : Sharing) (asked : Option ℕ) (input output : List ℕ) : Type 0 where
-  pub recorded : Recorded
-  pub spells : IsTextOf input recorded
-  pub known : All (λ c. c < recorded.cowns) cowns
-  pub after : List Row
-  pub edited : AreEdited (without_all cowns recorded.rows) edits after
-  pub report : IsReport (seen sharing after) asked output
 
 -- the input is the text of a record, and the output is the curve of its rows, as they are seen: their work, their span, and for each number of
 -- workers up to the most the end of the greedy plan, with the bounds that it lies between

@@ -1,6 +1,6 @@
 -- What a command does to its source and its sink.
-use Rattle.std.specs.Prelude.{◌≡◌, ◌≢◌, ℕ, ◌+◌, ◌<◌, ◌≤◌, Bool, true, false, List, ◌∷◌}
-use Rattle.std.specs.Prelude.{◌++◌, length, All, Option, Some, None, IfSome, Result, Ok, Err}
+use Rattle.std.specs.Prelude.{◌≡◌, ◌≢◌, ℕ, ◌+◌, Bool, true, false, List}
+use Rattle.std.specs.Prelude.{Option, Some, None, IfSome, Result, Ok, Err}
 use Rattle.std.specs.Io.KnownBytes.{Consumes, IsAtEnd, Appends, Keeps}
 use Rattle.boc_commands.specs.declared.fault.Fault.{Fault}
 use Rattle.boc_commands.specs.declared.fault.Fault.TheVariants as faults
@@ -14,16 +14,11 @@ use Rattle.boc_reader.specs.declared.fault.ReadFaultKind.TheVariants as read_kin
 use Rattle.boc_record.specs.declared.fault.RecordFault.{RecordFault}
 use Rattle.boc_program.specs.declared.limits.TheConstants.{MOST_TEXT}
 use Rattle.boc_program.specs.declared.program.Program.{Program}
-use Rattle.boc_plans.specs.declared.edit.Edit.{Edit}
-use Rattle.boc_plans.specs.declared.edit.EditFault.{EditFault}
 use Rattle.boc_record.specs.declared.verdict.RecordFaultKind.{RecordFaultKind}
 use Rattle.boc_record.specs.declared.verdict.RecordFaultKind.TheVariants as record_kinds
 use Rattle.boc_reader.specs.Spells.{Spells}
-use Rattle.boc_record.specs.RecordTexts.{IsTextOf, IsFirstFault}
+use Rattle.boc_record.specs.RecordTexts.{IsFirstFault}
 use Rattle.boc_runs.specs.OwnOrder.{HasTooMany}
-use Rattle.boc_runs.specs.Records.{Recorded}
-use Rattle.boc_plans.specs.Edits.{IsFirstUnfit}
-use Rattle.boc_commands.specs.Answers.{without_all}
 use Rattle.boc_workers.specs.Noting.{CanReachLimit}
 use Rattle.boc_text.specs.Streams.{StopsAt, ReadsWhole}
 
@@ -143,35 +138,3 @@ abbrev pub RefusesRecord : {A : Type 0} → Result A Fault → Option (List ℕ)
 RefusesRecord (Ok done) before = Unit {0}
 RefusesRecord (Err (faults.Input (inputs.Record r))) before = IsRecordRefusal r r.kind before
 RefusesRecord (Err fault) before = IsWant fault
-
--- of these cowns the one with this number, counted from 1, is the first that is none of so many
-pub record IsFirstUnknown (count : ℕ) (cowns : List ℕ) (number : ℕ) : Type 0 where
-  pub before : List ℕ
-  pub cown : ℕ
-  pub after : List ℕ
-  pub split : cowns ≡ before ++ (cown ∷ after)
-  pub number_is : number ≡ length before + 1
-  pub known : All (λ c. c < count) before
-  pub unknown : count ≤ cown
-
--- the source told the text of a record, if it told any, and of these cowns this is the first that the record doesn't have
-pub record RefusesCown (cowns : List ℕ) (number : ℕ) (before : Option (List ℕ)) : Type 0 where
-  pub recorded : Recorded
-  pub spells : IfSome before (λ text. IsTextOf text recorded)
-  pub unknown : IsFirstUnknown recorded.cowns cowns number
-
--- the source told the text of a record, if it told any, that has these cowns, and of these edits this is the first that its rows without them
--- cannot take
-pub record RefusesEdit (cowns : List ℕ) (edits : List Edit) (number : ℕ) (fault : EditFault) (before : Option (List ℕ)) : Type 0 where
-  pub recorded : Recorded
-  pub spells : IfSome before (λ text. IsTextOf text recorded)
-  pub known : All (λ c. c < recorded.cowns) cowns
-  pub unfit : IsFirstUnfit (without_all cowns recorded.rows) edits number fault
-
--- the text of a record is refused for its first fault, then a cown that it doesn't have, and then the first edit that the rows cannot take
-abbrev pub RefusesEdits : {A : Type 0} → List ℕ → List Edit → Result A Fault → Option (List ℕ) → Type 0
-RefusesEdits cowns edits (Ok done) before = Unit {0}
-RefusesEdits cowns edits (Err (faults.Input (inputs.Record r))) before = IsRecordRefusal r r.kind before
-RefusesEdits cowns edits (Err (faults.Input (inputs.Cown number))) before = RefusesCown cowns number before
-RefusesEdits cowns edits (Err (faults.Input (inputs.Edit number fault))) before = RefusesEdit cowns edits number fault before
-RefusesEdits cowns edits (Err fault) before = IsWant fault

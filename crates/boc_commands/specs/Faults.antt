@@ -4,6 +4,8 @@ use Rattle.boc_commands.specs.declared.fault.Fault.{Fault}
 use Rattle.boc_commands.specs.declared.fault.Fault.TheVariants as faults
 use Rattle.boc_commands.specs.declared.fault.InputFault.{InputFault}
 use Rattle.boc_commands.specs.declared.fault.InputFault.TheVariants as inputs
+use Rattle.boc_commands.specs.declared.fault.FileFault.{FileFault}
+use Rattle.boc_commands.specs.declared.fault.FileFault.TheVariants as files
 use Rattle.boc_commands.specs.declared.fault.Want.{Want}
 use Rattle.boc_commands.specs.declared.fault.Want.TheVariants as wants
 use Rattle.boc_plans.specs.declared.edit.EditFault.{EditFault}
@@ -13,6 +15,9 @@ use Rattle.boc_text.specs.declared.whole.TextFault.TheVariants as texts
 use Rattle.boc_eval.specs.declared.serial.SerialFault.{SerialFault}
 use Rattle.boc_eval.specs.declared.serial.SerialFault.TheVariants as serial
 use Rattle.boc_record.specs.declared.fault.RecordFault.{RecordFault}
+use Rattle.boc_follow.specs.declared.stray.StrayFault.{StrayFault}
+use Rattle.boc_follow.specs.declared.stray.StrayFaultKind.{StrayFaultKind}
+use Rattle.boc_follow.specs.declared.stray.StrayFaultKind.TheVariants as strays
 use Rattle.boc_text.specs.declared.fault.WriteFault.{WriteFault}
 use Rattle.boc_text.specs.declared.fault.WriteFault.TheVariants as writes
 use Rattle.boc_words.specs.declared.fault.WordsFault.{WordsFault}
@@ -26,6 +31,8 @@ use Rattle.boc_reader.specs.declared.fault.ReadFaultKind.{ReadFaultKind}
 use Rattle.boc_reader.specs.declared.fault.ReadFaultKind.TheVariants as kinds
 use Rattle.boc_reader.specs.FaultTexts.{kind_text}
 use Rattle.boc_record.specs.Faults.{kind_line}
+use Rattle.boc_follow.specs.Strays.{kind_line as stray_line}
+use Rattle.boc_names.specs.Said.{kind_line as names_line}
 
 -- the status of the program: the words were refused, the input, or the run; or memory or a device that works was wanting
 abbrev pub status_of : Fault → ℕ
@@ -70,6 +77,27 @@ of_record r records.Memory = faults.Means wants.Memory
 of_record r records.Device = faults.Means wants.Source
 of_record r _ = faults.Input (inputs.Record r)
 
+-- want of memory is no refusal of a record either where it strays from its program
+abbrev pub of_stray : StrayFault → StrayFaultKind → Fault
+of_stray r strays.Memory = faults.Means wants.Memory
+of_stray r _ = faults.Input (inputs.Stray r)
+
+-- a fault of a program text that stands in a file
+abbrev pub of_read_beside : ReadFault → ReadFaultKind → Fault
+of_read_beside r kinds.Memory = faults.Means wants.Memory
+of_read_beside r _ = faults.Input (inputs.Beside (files.Program r))
+
+-- a fault of the text of a record that stands in a file, which is read from memory: what no device gives is want of memory
+abbrev pub of_record_beside : RecordFault → RecordFaultKind → Fault
+of_record_beside r records.Memory = faults.Means wants.Memory
+of_record_beside r records.Device = faults.Means wants.Memory
+of_record_beside r _ = faults.Input (inputs.Beside (files.Record r))
+
+-- a fault of a record that stands in a file, and strays from its program
+abbrev pub of_stray_beside : StrayFault → StrayFaultKind → Fault
+of_stray_beside r strays.Memory = faults.Means wants.Memory
+of_stray_beside r _ = faults.Input (inputs.Beside (files.Stray r))
+
 -- the fault of a serial run
 abbrev pub of_serial : SerialFault → Fault
 of_serial serial.Memory = faults.Means wants.Memory
@@ -112,8 +140,15 @@ numbered front number said = front ++ decimal number ++ codes ": " ++ said
 abbrev pub words_line : WordsFault → Option (List ℕ)
 words_line (asked.Parser error) = None
 words_line (asked.EditWord number) =
-    Some (numbered (codes "boc: edit ") number (codes "not ROW=TICKS\n     an edit is ROW=TICKS, ROW@OFFSET or ROW=K/D"))
+    Some (numbered (codes "boc: edit ") number (codes "not ROW=TICKS\n     an edit is ROW=TICKS, ROW@OFFSET, ROW=K/D or DEF=K/D"))
 words_line asked.Memory = Some (codes "boc: memory")
+
+-- the line of a refused file beside an input
+abbrev pub file_line : FileFault → List ℕ
+file_line (files.Program r) = numbered (codes "boc: program: line ") r.line (kind_text r.kind)
+file_line (files.Record r) = numbered (codes "boc: record: line ") r.line (kind_line r.kind)
+file_line (files.Stray r) = numbered (codes "boc: record: line ") r.line (stray_line r.kind)
+file_line (files.Names r) = numbered (codes "boc: names: line ") r.line (names_line r.kind)
 
 -- the line of a refused input
 abbrev pub input_line : InputFault → List ℕ
@@ -121,6 +156,10 @@ input_line (inputs.Program r) = numbered (codes "boc: line ") r.line (kind_text 
 input_line (inputs.Record r) = numbered (codes "boc: line ") r.line (kind_line r.kind)
 input_line (inputs.Cown number) = numbered (codes "boc: without ") number (codes "6 NoCown")
 input_line (inputs.Edit number fault) = numbered (codes "boc: edit ") number (edit_line fault)
+input_line (inputs.Def number) =
+    numbered (codes "boc: edit ") number (codes "7 NoDef\n     no row is of this def; names come with --program FILE or --names FILE")
+input_line (inputs.Stray r) = numbered (codes "boc: line ") r.line (stray_line r.kind)
+input_line (inputs.Beside f) = file_line f
 
 -- the line of what was wanting
 abbrev pub want_line : Want → List ℕ

@@ -3,5 +3,10 @@ pub mod Answers
 pub mod Faults
 pub mod Promises
 pub mod Commands
+pub mod NamedRuns
 pub mod WhyAnswers
+pub mod CownsAnswers
+pub mod Beside
 pub mod EveryCommand
+pub mod Asked
+pub mod WhatIfAnswers

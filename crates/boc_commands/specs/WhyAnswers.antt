@@ -1,97 +1,52 @@
--- What the command `why` answers, and what it refuses.
-use Rattle.std.specs.Prelude.{◌≡◌, ◌≤◌, ◌⊎◌, ◌+◌, ℕ, Bool, List, length, map, take, Option, Some, Result, Ok, Err, codes}
-use Rattle.std.specs.Io.KnownBytes.{Consumes, IsAtEnd}
-use Rattle.boc_text.specs.Streams.{ReadsWhole}
-use Rattle.boc_program.specs.declared.limits.TheConstants.{MOST_COWNS, MOST_TEXT}
+-- What the command `why` answers.
+use Rattle.std.specs.Prelude.{◌≡◌, ℕ, Bool, List, [], ◌++◌, length, Option, Some, None}
 use Rattle.boc_runs.specs.declared.rows.Row.{Row}
-use Rattle.boc_record.specs.declared.fault.RecordFault.{RecordFault}
-use Rattle.boc_record.specs.declared.verdict.RecordFaultKind.{RecordFaultKind}
-use Rattle.boc_record.specs.declared.verdict.RecordFaultKind.TheVariants as kinds
-use Rattle.boc_program.specs.declared.program.Program.{Program}
-use Rattle.boc_reader.specs.Spells.{Spells}
-use Rattle.boc_reader.specs.Listed.{ListsDefs}
-use Rattle.boc_reader.specs.declared.listing.DefListing.{DefListing}
 use Rattle.boc_runs.specs.Records.{Recorded}
-use Rattle.boc_runs.specs.Run.{config_of}
-use Rattle.boc_record.specs.RecordTexts.{IsTextOf}
 use Rattle.boc_plans.specs.declared.sharing.Sharing.{Sharing}
+use Rattle.boc_plans.specs.Greedy.{IsBound, IsGreedy}
+use Rattle.boc_plans.specs.Plans.{IsEnd}
+use Rattle.boc_plans.specs.Seen.{seen}
 use Rattle.boc_names.specs.declared.names.Names.{Names}
-use Rattle.boc_names.specs.Names.{AreNamesOf, AreNumbers}
 use Rattle.boc_why.specs.declared.why.Why.{Why}
 use Rattle.boc_why.specs.Why.{IsWhy}
-use Rattle.boc_why_report.specs.WhyTexts.{IsWhyText}
-use Rattle.boc_commands.specs.declared.fault.Fault.{Fault}
-use Rattle.boc_commands.specs.declared.fault.Fault.TheVariants as faults
-use Rattle.boc_commands.specs.declared.fault.InputFault.TheVariants as inputs
-use Rattle.boc_commands.specs.declared.fault.Want.TheVariants as wants
-use Rattle.boc_commands.specs.Commands.{IsOfRun, IsRecordRefusal, TakesText}
-use Rattle.boc_commands.specs.Promises.{IsRunOf}
+use Rattle.boc_why_report.specs.WhyTexts.{IsWhyText, greedy_line}
+use Rattle.boc_words.specs.declared.asked.RunFile.{RunFile}
+use Rattle.boc_commands.specs.NamedRuns.{IsNamedRun}
 
--- the text begins as that of a record does, and that of no program
-abbrev pub BeginsRecord : List ℕ → Type 0
-BeginsRecord text = take 3 text ≡ codes "boc"
+-- the line of the greedy plan for so many workers: its end, and its bound
+pub record IsGreedyLine (rows : List Row) (p : ℕ) (line : List ℕ) : Type 0 where
+  pub starts : List ℕ
+  pub workers : List ℕ
+  pub greedy : IsGreedy rows p starts workers
+  pub last : ℕ
+  pub last_is : IsEnd rows starts last
+  pub bound : ℕ
+  pub bound_is : IsBound rows p bound
+  pub text : line ≡ greedy_line p last bound
 
--- The input was taken: to its end where it begins as the text of a record does, and else up to one byte more than a program text may have.
-pub record IsTaken (before after : Option (List ℕ)) (text : List ℕ) : Type 0 where
-  pub taken : Consumes before after text
-  pub whole : BeginsRecord text → IsAtEnd after
-  pub few : (BeginsRecord text → ⊥) → ReadsWhole before after text (MOST_TEXT + 1)
+-- that line, where a number of workers was asked for, and else nothing
+abbrev pub IsAskedLine : List Row → Option ℕ → List ℕ → Type 0
+IsAskedLine rows None line = line ≡ []
+IsAskedLine rows (Some p) line = IsGreedyLine rows p line
 
--- the text is that of a record with these rows, over so many cowns
-pub record IsCounted (text : List ℕ) (rows : List Row) (cowns : ℕ) : Type 0 where
-  pub recorded : Recorded
-  pub spells : IsTextOf text recorded
-  pub rows_are : rows ≡ recorded.rows
-  pub cowns_are : cowns ≡ recorded.cowns
-  pub few : cowns ≤ MOST_COWNS
+-- that line was put behind a text
+pub record PutsLine (rows : List Row) (workers : Option ℕ) (before after : List ℕ) : Type 0 where
+  pub line : List ℕ
+  pub line_is : IsAskedLine rows workers line
+  pub put : after ≡ before ++ line
 
--- the text spells a program of which this is the record of a run, and the rows and cowns of the run are called as its behaviours and cowns are in the text
-pub record IsRunNamed (text : List ℕ) (recorded : Recorded) (names : Names) : Type 0 where
-  pub program : Program
-  pub spells : Spells text program
-  pub defs : List DefListing
-  pub lists : ListsDefs text defs
-  pub run : IsRunOf program recorded
-  pub names_are : AreNamesOf program (map (λ d. d.name) defs) (config_of program recorded.events).members names
+-- A text tells why these rows take as long as they do, in these names, as they share cowns in this way, and when the greedy plan for so many workers ends,
+-- where that was asked for.
+pub record IsTold (rows : List Row) (names : Names) (sharing : Sharing) (workers : Option ℕ) (all : Bool) (text : List ℕ) : Type 0 where
+  pub why : Why
+  pub is_why : IsWhy rows sharing names.defs.items names.families.items (length names.families.items) why
+  pub without_line : List ℕ
+  pub told : IsWhyText names sharing all why without_line
+  pub put : PutsLine (seen sharing rows) workers without_line text
 
--- the text is that of a record, whose rows and cowns are called by their numbers
-pub record IsRecordNumbered (text : List ℕ) (recorded : Recorded) (names : Names) : Type 0 where
-  pub spells : IsTextOf text recorded
-  pub names_are : AreNumbers (length recorded.rows) recorded.cowns names
-
--- The input spells a program, and the rows are those of a run of it, or it is the text of a record, and the rows are its; and the output tells why these rows
--- take as long as they do, as they share cowns in this way
-pub record IsWhyAnswer (sharing : Sharing) (all : Bool) (input output : List ℕ) : Type 0 where
+-- the rows are those of the run that the input tells of, with the file beside it, and the output tells why they take as long as they do
+pub record IsWhyAnswer (sharing : Sharing) (workers : Option ℕ) (all : Bool) (file : Option RunFile) (bytes input output : List ℕ) : Type 0 where
   pub recorded : Recorded
   pub names : Names
-  pub named : IsRunNamed input recorded names ⊎ IsRecordNumbered input recorded names
-  pub why : Why
-  pub is_why : IsWhy recorded.rows sharing names.defs.items names.families.items (length names.families.items) why
-  pub told : IsWhyText names sharing all why output
-
--- a fault of a record that is read from memory: what no device gives is want of memory
-abbrev pub of_record_in_memory : RecordFault → RecordFaultKind → Fault
-of_record_in_memory r kinds.Memory = faults.Means wants.Memory
-of_record_in_memory r kinds.Device = faults.Means wants.Memory
-of_record_in_memory r _ = faults.Input (inputs.Record r)
-
--- a fault of the text of a record: its first one, or memory was refused
-abbrev pub IsOfRecord : List ℕ → Fault → Type 0
-IsOfRecord text (faults.Input (inputs.Record r)) = IsRecordRefusal r r.kind (Some text)
-IsOfRecord text (faults.Means wants.Memory) = Unit {0}
-IsOfRecord text _ = ⊥
-
--- the text begins as that of a record does, or it is no longer than a program text may be
-abbrev pub IsShort : List ℕ → Type 0
-IsShort text = BeginsRecord text ⊎ ((BeginsRecord text → ⊥) × (length text ≤ MOST_TEXT))
-
--- a fault of the text of a record, where it begins as that of one does, and else of a run of the program that it spells
-abbrev pub IsOfWhy : Type 0 → List ℕ → Fault → Type 0
-IsOfWhy always_on text fault = (BeginsRecord text × IsOfRecord text fault) ⊎ ((BeginsRecord text → ⊥) × IsOfRun always_on text fault)
-
--- a text that begins as a record does is refused for its first fault, and any other as a program that is run
-abbrev pub RefusesWhy : {A : Type 0} → Type 0 → Result A Fault → Option (List ℕ) → Option (List ℕ) → Type 0
-RefusesWhy always_on (Ok done) before after = Unit {0}
-RefusesWhy always_on (Err (faults.Means w)) before after = Unit {0}
-RefusesWhy always_on (Err (faults.Input (inputs.Record r))) before after = IsRecordRefusal r r.kind before
-RefusesWhy always_on (Err fault) before after = TakesText (λ text. IsOfRun always_on text fault) before after
+  pub named : IsNamedRun file bytes input recorded names
+  pub told : IsTold recorded.rows names sharing workers all output

@@ -34,7 +34,7 @@ pub fn check_cmd<S: Source, W: Sink>(
 }
 
 // The text that tells how many rows there are.
-fn check_text(alloc: Global, rows: &Rows) -> Result<Vec<u8>, AllocError>
+pub(crate) fn check_text(alloc: Global, rows: &Rows) -> Result<Vec<u8>, AllocError>
     ensures { IfOk result (λ text. text.items ≡ check_text_spec (length rows.now)) }
 {
     let count = rows.as_slice().len();

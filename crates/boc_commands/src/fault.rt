@@ -4,10 +4,12 @@ ghost use Rattle.std.specs.Prelude.{◌≡◌, ◌+◌, ◌≤◌, ◌++◌, IfO
 ghost use Rattle.std.specs.Option.{option_map};
 ghost use Rattle.boc_text.specs.declared.decimal.TheConstants.{MOST_DIGITS};
 ghost use Rattle.boc_commands.specs.declared.fault.TheConstants.{MOST_FAULT_LINE};
-ghost use Rattle.boc_commands.specs.Faults.{edit_line, input_line, run_line, want_line};
+ghost use Rattle.boc_commands.specs.Faults.{edit_line, file_line, input_line, run_line, want_line};
 
 use arrayvec::ArrayString;
 use boc_eval::SerialFault;
+use boc_follow::{StrayFault, StrayFaultKind};
+use boc_names::NamesFault;
 use boc_plans::edit::EditFault;
 use boc_reader::{ReadFault, ReadFaultKind};
 use boc_record::{RecordFault, RecordFaultKind, WriteFault};
@@ -50,6 +52,25 @@ pub enum InputFault {
     Cown { number: usize },
     /// An edit that the rows can't take, counted from 1.
     Edit { number: usize, fault: EditFault },
+    /// An edit of a def that no row is of, counted from 1.
+    Def { number: usize },
+    /// The record strays from its program.
+    Stray(StrayFault),
+    /// A file beside the input.
+    Beside(FileFault),
+}
+
+/// Why a file beside an input was refused.
+#[derive(Clone, Copy, PartialEq, Eq, Debug)]
+pub enum FileFault {
+    /// It should be a program text.
+    Program(ReadFault),
+    /// It should be the text of a record.
+    Record(RecordFault),
+    /// Its record strays from the program.
+    Stray(StrayFault),
+    /// It should be the names of rows and cowns.
+    Names(NamesFault),
 }
 
 /// What was wanting.
@@ -99,7 +120,7 @@ impl Fault {
             Fault::Words(WordsFault::EditWord { number }) => Some(numbered(
                 "boc: edit ",
                 *number as u64,
-                "not ROW=TICKS\n     an edit is ROW=TICKS, ROW@OFFSET or ROW=K/D",
+                "not ROW=TICKS\n     an edit is ROW=TICKS, ROW@OFFSET, ROW=K/D or DEF=K/D",
             )),
             Fault::Words(WordsFault::Memory) => Some(want_text(Want::Memory)),
             Fault::Input(fault) => Some(input_text(fault)),
@@ -132,6 +153,31 @@ fn input_text(fault: &InputFault) -> Line
         InputFault::Edit { number, fault } => {
             numbered("boc: edit ", *number as u64, edit_text(*fault))
         }
+        InputFault::Def { number } => numbered(
+            "boc: edit ",
+            *number as u64,
+            "7 NoDef\n     no row is of this def; names come with --program FILE or --names FILE",
+        ),
+        InputFault::Stray(fault) => numbered("boc: line ", fault.line, fault.kind_text()),
+        InputFault::Beside(fault) => file_text(fault),
+    }
+}
+
+// The line of a refused file beside an input.
+fn file_text(fault: &FileFault) -> Line
+    ensures { result.bytes ≡ file_line fault.now }
+{
+    match fault {
+        FileFault::Program(fault) => {
+            numbered(
+                "boc: program: line ",
+                u64::from(fault.line),
+                fault.kind.text(),
+            )
+        }
+        FileFault::Record(fault) => numbered("boc: record: line ", fault.line, fault.kind_text()),
+        FileFault::Stray(fault) => numbered("boc: record: line ", fault.line, fault.kind_text()),
+        FileFault::Names(fault) => numbered("boc: names: line ", fault.line, fault.kind.text()),
     }
 }
 
@@ -245,6 +291,19 @@ impl From<RecordFault> for Fault {
             RecordFaultKind::Memory => Fault::Means(Want::Memory),
             RecordFaultKind::Device => Fault::Means(Want::Source),
             _ => Fault::Input(InputFault::Record(fault)),
+        }
+    }
+}
+
+impl From<StrayFault> for Fault {
+    ghost use Rattle.boc_commands.specs.Faults.{of_stray};
+
+    ghost from_gives = { λ s f. f ≡ of_stray s s.kind };
+
+    fn from(fault: StrayFault) -> Fault {
+        match fault.kind {
+            StrayFaultKind::Memory => Fault::Means(Want::Memory),
+            _ => Fault::Input(InputFault::Stray(fault)),
         }
     }
 }

@@ -1,7 +1,8 @@
 //! What is promised of every run and of the plans of its rows, and that an input has one answer.
 
-ghost use Rattle.std.specs.Prelude.{◌≡◌, ℕ, List, Option};
-ghost use Rattle.boc_plans.specs.declared.edit.Edit.{Edit};
+ghost use Rattle.std.specs.Prelude.{◌≡◌, ℕ, List, Option, None, false};
+ghost use Rattle.boc_words.specs.declared.asked.AskedCown.{AskedCown};
+ghost use Rattle.boc_words.specs.declared.asked.AskedEdit.{AskedEdit};
 ghost use Rattle.boc_program.specs.declared.program.Program.{Program};
 ghost use Rattle.boc_runs.specs.declared.rows.Row.{Row};
 ghost use Rattle.boc_plans.specs.declared.sharing.Sharing.{Sharing};
@@ -9,7 +10,9 @@ ghost use Rattle.boc_plans.specs.declared.sweep.Sweep.{Sweep};
 ghost use Rattle.boc_runs.specs.Rows.{IsRows};
 ghost use Rattle.boc_plans.specs.Seen.{seen};
 ghost use Rattle.boc_reader.specs.Spells.{Spells};
-ghost use Rattle.boc_commands.specs.Answers.{IsReport, IsValuesAnswer, IsCheckAnswer, IsProfileAnswer, IsWhatIfAnswer, IsCurveAnswer, IsSweepAnswer};
+ghost use Rattle.boc_commands.specs.Answers.{IsReport, IsValuesAnswer, IsCheckAnswer, IsProfileAnswer, IsCurveAnswer, IsSweepAnswer};
+ghost use Rattle.boc_commands.specs.Beside.{IsCheckAgainstAnswer, IsValuesAfterAnswer};
+ghost use Rattle.boc_commands.specs.WhatIfAnswers.{IsWhatIfAnswer};
 ghost use Rattle.boc_order.specs.declared.report.Profile.{Profile};
 ghost use Rattle.boc_order.specs.Profiles.{IsProfileOf};
 ghost use Rattle.boc_greedy.specs.declared.plan.Greedy.{Greedy};
@@ -38,14 +41,20 @@ pub fn rows_have_one_report()
 {}
 
 /// An input has one answer at most, of each command that makes no run: of a text that spells a program one output of `values`, and of the text of
-/// a record one of `check`, and for what was asked one of `profile`, `whatif`, `curve` and `sweep`.
+/// a record one of `check`, and for what was asked one of `profile`, `whatif` with no file, `curve` and `sweep`. Beside one file it has one output of
+/// `check` with a program, and of `values` with a record.
 pub fn input_has_one_answer()
     ensures values { (input output other : List ℕ) → IsValuesAnswer input output → IsValuesAnswer input other → output ≡ other }
     ensures check { (input output other : List ℕ) → IsCheckAnswer input output → IsCheckAnswer input other → output ≡ other }
+    ensures check_against { (beside input output other : List ℕ) → IsCheckAgainstAnswer beside input output → IsCheckAgainstAnswer beside input other
+        → output ≡ other }
+    ensures values_after { (beside input output other : List ℕ) → IsValuesAfterAnswer beside input output → IsValuesAfterAnswer beside input other
+        → output ≡ other }
     ensures profile { (sharing : Sharing) (asked : Option ℕ) (input output other : List ℕ) → IsProfileAnswer sharing asked input output
         → IsProfileAnswer sharing asked input other → output ≡ other }
-    ensures whatif { (cowns : List ℕ) (edits : List Edit) (sharing : Sharing) (asked : Option ℕ) (input output other : List ℕ)
-        → IsWhatIfAnswer cowns edits sharing asked input output → IsWhatIfAnswer cowns edits sharing asked input other → output ≡ other }
+    ensures whatif { (cowns : List AskedCown) (edits : List AskedEdit) (sharing : Sharing) (asked : Option ℕ) (bytes input output other : List ℕ)
+        → IsWhatIfAnswer None bytes cowns edits sharing asked false input output → IsWhatIfAnswer None bytes cowns edits sharing asked false input other
+        → output ≡ other }
     ensures curve { (sharing : Sharing) (most : ℕ) (input output other : List ℕ) → IsCurveAnswer sharing most input output
         → IsCurveAnswer sharing most input other → output ≡ other }
     ensures sweep { (sharing : Sharing) (over : Sweep) (input output other : List ℕ) → IsSweepAnswer sharing over input output

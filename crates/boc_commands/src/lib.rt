@@ -1,34 +1,47 @@
 //! The commands of `boc` over any source and sink.
 #![tactic(auto)]
 
+mod beside;
 mod check;
+mod check_against;
 mod command;
+mod cowns;
 mod curve;
 mod fault;
 pub mod laws;
+mod meant;
+mod named_run;
 mod profile;
 mod report;
 mod run;
 mod sweep;
 mod time;
 mod values;
+mod values_after;
 mod values_text;
 mod whatif;
 mod why;
 
 pub use check::check_cmd;
-pub use command::run_command;
+pub use check_against::check_against_cmd;
+pub use command::{file_named, run_command};
+pub use cowns::cowns_cmd;
 pub use curve::curve_cmd;
-pub use fault::{Fault, InputFault, Line, Want};
+pub use fault::{Fault, FileFault, InputFault, Line, Want};
+pub use named_run::{NamedRun, Origin};
 pub use profile::profile_cmd;
 pub use run::run_cmd;
 pub use sweep::sweep_cmd;
 pub use time::time_cmd;
 pub use values::values_cmd;
-pub use whatif::whatif_cmd;
+pub use values_after::values_after_cmd;
+pub use whatif::{Supposed, whatif_cmd, whatif_report};
 pub use why::why_cmd;
 
 // Who is told how far a sweep is.
 pub use boc_whatif::{Progress, Silent};
 // What the words of a command line ask for.
-pub use boc_words::{Command, Runners, VERSION, WordsFault, not_text, read_words};
+pub use boc_words::{
+    AskedCown, AskedEdit, Command, NamesFrom, RunFile, Runners, VERSION, WordsFault, not_text,
+    read_words,
+};

@@ -1,78 +1,192 @@
 // The command `whatif`.
 
-ghost use Rattle.std.specs.Prelude.{◌≡◌, ◌<◌, ◌≤◌, ◌+◌, All, IfNone, IfOk, IfSome};
-ghost use Rattle.boc_program.specs.declared.limits.TheConstants.{MOST_COWNS};
-ghost use Rattle.boc_commands.specs.Answers.{IsWhatIfAnswer, without_all};
-ghost use Rattle.boc_commands.specs.Commands.{AnswersInput, Leaves, CountsSource, CountsSink, IsFirstUnknown, RefusesEdits};
+ghost use Rattle.std.specs.Prelude.{◌≡◌, ◌<◌, ◌≤◌, ℕ, All, IfOk, MatchResult, length};
+ghost use Rattle.boc_program.specs.declared.limits.TheConstants.{MOST_ROWS};
+ghost use Rattle.boc_plans.specs.Seen.{seen};
+ghost use Rattle.boc_commands.specs.Asked.{AreAskedFor, IsOfEdits};
+ghost use Rattle.boc_commands.specs.Commands.{AnswersInput, Leaves, CountsSource, CountsSink};
+ghost use Rattle.boc_commands.specs.NamedRuns.{AreFew};
+ghost use Rattle.boc_commands.specs.WhatIfAnswers.{AreChangedSo, IsAskedEnd, IsOfAsked, IsOutcome, IsShortAnswer, IsWhatIfAnswer};
+ghost use Rattle.boc_commands.specs.WhatIfAnswers.{IsWhatIfReport, RefusesAsked, RefusesWhatIf};
 
 use crate::fault::{Fault, InputFault};
+use crate::meant::{cowns_meant, edits_meant, owner_of};
+use crate::named_run::{NamedRun, named_record};
 use crate::report::report_after;
-use boc_plans::edit::Edit;
+use boc_names::Names;
 use boc_plans::sharing::Sharing;
 use boc_plans::workers::Workers;
-use boc_program::short::{CownNo, HeldCown};
-use boc_record::read_counted;
 use boc_runs::rows::Rows;
-use boc_text::{Sink, Source};
+use boc_text::{Sink, Source, put_out};
 use boc_whatif::{Unfit, WhatIf};
+use boc_why::{shares_by_def, without_all};
+use boc_why_report::{Outcome, short_text};
+use boc_words::{AskedCown, AskedEdit, NamesFrom};
 use std::alloc::{AllocError, Global};
 
-/// Reads the text of a record, leaves these cowns out, so that they order nobody, has its rows change, edit by edit, and writes the report on
-/// them, as the command `profile` does.
+/// What is supposed of a run, and how it is told what becomes of it.
+#[derive(Drop)]
+pub struct Supposed<'a> {
+    /// The cowns that are left out.
+    pub cowns: &'a [AskedCown],
+    /// How rows change.
+    pub edits: &'a [AskedEdit],
+    /// For how many workers a greedy plan is made, if one is.
+    pub workers: Option<Workers>,
+    /// How rows share cowns.
+    pub sharing: Sharing,
+    /// Whether it is told in short.
+    pub short: bool,
+}
+
+/// Leaves cowns out of the rows of a run, so that they order nobody, has its rows change, edit by edit, and writes the report on them, as the command
+/// `profile` does; or, in short, what they come to before and after.
 ///
-/// A text is refused at its first faulty line, and only where it is no record's. Cowns are refused for the first that the record doesn't
-/// have, and then edits for the first that the rows can't take, as those before it have made them. Nothing is written unless the whole answer
-/// stands. After a failing write a beginning of it went out.
+/// Of what is asked for the first cown is refused that means none of the run, and else the first edit that the rows can't take, as those before it
+/// have made them, or that means none of them. Nothing is written unless the whole answer stands. After a failing write a beginning of it went out.
+pub fn whatif_report<W: Sink>(
+    alloc: Global,
+    asked: &Supposed<'_>,
+    run: NamedRun,
+    sink: &mut W,
+) -> Result<(), Fault>
+    requires few { AreFew run.rows run.names }
+    requires sink { W.failures sink.old < u64.MAX }
+    ensures written { Leaves
+        (IsWhatIfReport run.names asked.now.cowns.now asked.now.edits.now asked.now.sharing asked.now.workers asked.now.short run.rows)
+        result (W.written sink.old) (W.written sink.new) }
+    ensures refused { RefusesAsked run.names asked.now.cowns.now asked.now.edits.now run.rows result }
+    ensures source { (count : ℕ) → CountsSource result count count }
+    ensures sink { CountsSink result (W.failures sink.old) (W.failures sink.new) }
+{
+    let NamedRun { rows, names } = run;
+    if asked.short {
+        let text = short_answer(alloc, &names, asked, rows)?;
+        put_out(sink, &text)?;
+        Ok(())
+    } else {
+        let after = changed(alloc, &names, asked, rows)?;
+        report_after(alloc, asked.workers, after, sink)
+    }
+}
+
+// What is told in short of rows before and after what is supposed.
+fn short_answer(
+    alloc: Global,
+    names: &Names,
+    asked: &Supposed<'_>,
+    rows: Rows,
+) -> Result<Vec<u8>, Fault>
+    requires { AreFew rows names.now }
+    ensures { MatchResult result
+        (λ text. IsShortAnswer names.now asked.now.cowns.now asked.now.edits.now asked.now.sharing asked.now.workers rows text.items)
+        (IsOfAsked names.now asked.now.cowns.now asked.now.edits.now rows) }
+{
+    let before = WhatIf::new(alloc, &rows, asked.sharing)?;
+    let was = outcome_of(alloc, &names.defs, asked.workers, &before)?;
+    let after = changed(alloc, names, asked, rows)?;
+    let now = outcome_of(alloc, &names.defs, asked.workers, &after)?;
+    Ok(short_text(alloc, names, &was, &now)?)
+}
+
+// What the rows of a question come to, whose defs these are.
+fn outcome_of(
+    alloc: Global,
+    defs: &[u32],
+    workers: Option<Workers>,
+    question: &WhatIf,
+) -> Result<Outcome, AllocError>
+    requires defs { length defs.now ≡ length question.now.rows }
+    requires few_defs { All (λ d. d < MOST_ROWS) defs.now }
+    ensures { IfOk result (IsOutcome question.now.rows question.now.sharing defs.now workers) }
+{
+    let profile = question.profile(alloc)?;
+    Ok(Outcome {
+        work: question.work(),
+        span: question.span(),
+        end: end_for(alloc, workers, question)?,
+        by_def: shares_by_def(alloc, defs, &profile.chain.steps)?,
+    })
+}
+
+// The end of the greedy plan for the workers that were asked for. Without such there is none.
+fn end_for(
+    alloc: Global,
+    workers: Option<Workers>,
+    question: &WhatIf,
+) -> Result<Option<u64>, AllocError>
+    ensures { IfOk result (IsAskedEnd (seen question.now.sharing question.now.rows) workers) }
+{
+    match workers {
+        Some(workers) => Ok(Some(question.greedy(alloc, workers)?.ends_at)),
+        None => Ok(None),
+    }
+}
+
+// The rows with what is supposed of them.
+fn changed(alloc: Global, names: &Names, asked: &Supposed<'_>, rows: Rows) -> Result<WhatIf, Fault>
+    requires { AreFew rows names.now }
+    ensures rows { MatchResult result
+        (λ after. AreChangedSo names.now asked.now.cowns.now asked.now.edits.now rows after.rows)
+        (IsOfAsked names.now asked.now.cowns.now asked.now.edits.now rows) }
+    ensures sharing { IfOk result (λ after. after.sharing ≡ asked.now.sharing) }
+{
+    let cowns = cowns_meant(alloc, names, asked.cowns)?;
+    let left = without_all(alloc, rows, &cowns)?;
+    let question = WhatIf::of(alloc, left, asked.sharing)?;
+    edited(alloc, names, asked.edits, question)
+}
+
+// The rows of a question with all edits that are asked for.
+fn edited(
+    alloc: Global,
+    names: &Names,
+    asked: &[AskedEdit],
+    question: WhatIf,
+) -> Result<WhatIf, Fault>
+    requires { length names.now.defs.items ≤ MOST_ROWS }
+    ensures rows { MatchResult result
+        (λ after. AreAskedFor names.now question.rows asked.now after.rows)
+        (IsOfEdits names.now question.rows asked.now) }
+    ensures sharing { IfOk result (λ after. after.sharing ≡ question.sharing) }
+{
+    let meant = edits_meant(alloc, names, asked)?;
+    let mut after = question;
+    match after.edit_all(&meant.edits) {
+        Ok(()) if meant.counts.len() < asked.len() => {
+            let number = meant.counts.len() + 1;
+            Err(Fault::Input(InputFault::Def { number }))
+        }
+        Ok(()) => Ok(after),
+        Err(Unfit { number, fault }) => {
+            let number = owner_of(&meant.counts, number - 1);
+            Err(Fault::Input(InputFault::Edit { number, fault }))
+        }
+    }
+}
+
+/// Reads the text of a record, with the names that come from a file beside it, if there is one, leaves cowns out of its rows, so that they order nobody, has
+/// them change, edit by edit, and writes the report on them, as the command `profile` does; or, in short, what they come to before and after.
+///
+/// A text is refused at its first faulty line, and only where it is no record's, and a file as its kind is. Of what is asked for the first cown is refused that
+/// the record doesn't have, and else the first edit that the rows can't take, as those before it have made them, or that means none of them. Nothing is
+/// written unless the whole answer stands. After a failing write a beginning of it went out.
 pub fn whatif_cmd<S: Source, W: Sink>(
     alloc: Global,
-    cowns: &[CownNo],
-    edits: &[Edit],
-    workers: Option<Workers>,
-    sharing: Sharing,
+    asked: &Supposed<'_>,
+    file: &Option<NamesFrom>,
+    bytes: &[u8],
     source: &mut S,
     sink: &mut W,
 ) -> Result<(), Fault>
     requires source { S.failures source.old < u64.MAX }
     requires sink { W.failures sink.old < u64.MAX }
-    ensures written { Leaves (AnswersInput (IsWhatIfAnswer cowns.now edits.now sharing workers) (S.remaining source.old) (S.remaining source.new)) result
-        (W.written sink.old) (W.written sink.new) }
-    ensures refused { RefusesEdits cowns.now edits.now result (S.remaining source.old) }
+    ensures written { Leaves (AnswersInput (IsWhatIfAnswer file.now bytes.now asked.now.cowns.now asked.now.edits.now asked.now.sharing asked.now.workers
+        asked.now.short) (S.remaining source.old) (S.remaining source.new)) result (W.written sink.old) (W.written sink.new) }
+    ensures refused { RefusesWhatIf file.now bytes.now asked.now.cowns.now asked.now.edits.now result (S.remaining source.old) }
     ensures source { CountsSource result (S.failures source.old) (S.failures source.new) }
     ensures sink { CountsSink result (W.failures sink.old) (W.failures sink.new) }
 {
-    let (rows, count) = read_counted(alloc, source)?;
-    if let Some(number) = first_unknown(cowns, count) {
-        return Err(Fault::Input(InputFault::Cown { number }));
-    }
-    let left = without_all(alloc, rows, cowns)?;
-    let mut question = WhatIf::of(alloc, left, sharing)?;
-    match question.edit_all(edits) {
-        Ok(()) => report_after(alloc, workers, question, sink),
-        Err(Unfit { number, fault }) => Err(Fault::Input(InputFault::Edit { number, fault })),
-    }
-}
-
-// The number of the first of these cowns, counted from 1, that is none of so many.
-fn first_unknown(cowns: &[CownNo], count: u32) -> Option<usize>
-    ensures none { IfNone result (All (λ c. c < count) cowns.now) }
-    ensures some { IfSome result (IsFirstUnknown count cowns.now) }
-{
-    for (index, cown) in cowns.iter().enumerate() {
-        if *cown >= count {
-            return Some(index + 1);
-        }
-    }
-    None
-}
-
-// The rows without these cowns.
-fn without_all(alloc: Global, rows: Rows, cowns: &[CownNo]) -> Result<Rows, AllocError>
-    requires { All (λ c. c < MOST_COWNS) cowns.now }
-    ensures { IfOk result (λ left. left ≡ without_all cowns.now rows) }
-{
-    let mut left = rows;
-    for cown in cowns {
-        left = left.without(alloc, *cown as HeldCown)?;
-    }
-    Ok(left)
+    let run = named_record(alloc, source, file, bytes)?;
+    whatif_report(alloc, asked, run, sink)
 }

@@ -9,3 +9,5 @@ pub mod RowKinds
 pub mod Logs
 pub mod Refusals
 pub mod OnePlace
+pub mod OneStray
+mod examples

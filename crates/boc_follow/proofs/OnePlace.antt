@@ -5,7 +5,7 @@ use Rattle.std.proofs.lemmas.Bool.{cases_lt}
 use Rattle.boc_runs.specs.declared.event.Event.{Event}
 use Rattle.boc_program.specs.declared.program.Program.{Program}
 use Rattle.boc_runs.specs.Run.{Config, config_after, config_after_all, opening, MayHappen, IsRunFrom}
-use Rattle.boc_follow.specs.Accepts.{IsRefusedAt}
+use Rattle.boc_follow.specs.Strays.{IsRefusedAt}
 
 -- what stands before a place in a run may happen there
 happened_before : (p : Program) (c : Config) (log : List Event) (place n : ℕ) (event : Event) → place < n → IsRunFrom p c (take n log)

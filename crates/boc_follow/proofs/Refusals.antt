@@ -1,18 +1,22 @@
 -- An event that a run may not take where it stands there.
 use Rattle.std.proofs.Common.{◌≡◌, ℕ, zero, suc, ◌+◌, arith, List, [], ◌∷◌, ◌++◌, take, sym, ap, subst, ◌∙◌}
-use Rattle.std.specs.Prelude.{slice_get, Some, None, Ok, Err}
+use Rattle.std.specs.Prelude.{◌≢◌, slice_get, Some, None, Ok, Err}
 use Rattle.boc_runs.specs.declared.event.Event.{Event}
+use Rattle.boc_runs.specs.declared.event.Event.TheVariants.{Start}
 use Rattle.boc_program.specs.declared.program.Program.{Program}
-use Rattle.boc_runs.specs.Records.{Recorded, IsRecordOf}
+use Rattle.boc_runs.specs.Records.{Recorded, IsRecord, IsRecordOf}
 use Rattle.boc_runs.specs.Run.{Config, config_after, config_after_all, config_of, opening, MayHappen, IsRunFrom, IsRun}
 use Rattle.boc_program.specs.Programs.{cown_count}
-use Rattle.boc_runs.specs.Legal.{IsComplete}
-use Rattle.boc_follow.specs.Accepts.{IsRefusedAt, FollowsAll, Accepts}
-use Rattle.boc_follow.specs.declared.accepting.AcceptFault.{AcceptFault}
-use Rattle.boc_follow.specs.declared.accepting.AcceptFault.TheVariants.{CownsDiffer, NotAllowed, Memory}
+use Rattle.boc_runs.specs.Legal.{Entry, IsAllowed, IsComplete, IsLegalFrom, after, after_all}
+use Rattle.boc_runs.specs.declared.event.BrokenRule.TheVariants as rule
+use Rattle.boc_follow.specs.Strays.{IsRefusedAt, IsRefusedOn, IsToldAs, Tells, FollowsAll, Follows}
+use Rattle.boc_follow.specs.declared.stray.StrayFaultKind.{StrayFaultKind}
+use Rattle.boc_follow.specs.declared.stray.StrayFaultKind.TheVariants as kinds
 use Rattle.boc_follow.specs.Following.{Following}
-use Rattle.boc_follow.specs.Takes.{MayCome}
-use Rattle.boc_follow.proofs.Besides.{run_more, whole}
+use Rattle.boc_follow.specs.Takes.{MayCome, Takes}
+use Rattle.boc_follow.specs.declared.follower.TakeFault.{TakeFault}
+use Rattle.boc_follow.specs.declared.follower.TakeFault.TheVariants.{NotAllowed}
+use Rattle.boc_follow.proofs.Besides.{may_start, run_more, whole}
 use Rattle.boc_follow.proofs.Wishing.{take_next}
 
 happened : (p : Program) (c : Config) (log : List Event) (place : ℕ) (event : Event) → IsRunFrom p c log → slice_get log place ≡ Some event
@@ -58,12 +62,53 @@ refused_at p events f place event so is refused = record {
 
 -- ---- a record
 
-pub not_accepted : (p : Program) (r : Recorded) (fault : AcceptFault) (f : Following) → r.cowns ≡ cown_count p.cowns → FollowsAll p r.events (Err fault) f
-    → Accepts p r (Err fault)
-not_accepted p r CownsDiffer f same stops = absurd stops
-not_accepted p r (NotAllowed place) f same stops = (same, stops, refused_is_none p r place stops)
-not_accepted p r Memory f same stops = tt
+-- an event that is told as not allowed may not come
+pub not_taken : (f g : Following) (event : Event) (fault : TakeFault) → fault ≡ NotAllowed → Takes f event (Err fault) g → MayCome f event → ⊥
+not_taken f g event fault is takes = (subst (λ x. Takes f event (Err x) g) is takes).0
 
-pub accepted : (p : Program) (r : Recorded) (f : Following) (u : Unit {0}) → r.cowns ≡ cown_count p.cowns → IsComplete r.events
-    → FollowsAll p r.events (Ok u) f → Accepts p r (Ok f)
-accepted p r f u same complete all = (record { cowns = same; run = whole p r.events all.0 complete }, all.1)
+-- an event of events that keep the rules is allowed behind those before it
+allowed_at : (n : ℕ) (rows : List Entry) (events : List Event) (place : ℕ) (event : Event) → IsLegalFrom n rows events → slice_get events place ≡ Some event
+    → IsAllowed n (after_all rows (take place events)) event
+allowed_at n rows [] place event legal is = absurd (let e : None ≡ Some event = is in cc)
+allowed_at n rows (d ∷ events) zero event legal is =
+    (let e : Some d ≡ Some event = is in let same : d ≡ event = cc in subst (IsAllowed n rows) same legal.0)
+allowed_at n rows (d ∷ events) (suc place) event legal is = allowed_at n (after rows d) events place event legal.1 is
+
+-- a start of a record may come behind a run
+pub start_may : (p : Program) (r : Recorded) (place row : ℕ) → IsRecord r → IsRun p (take place r.events) → slice_get r.events place ≡ Some (Start row)
+    → MayHappen p (config_of p (take place r.events)) (Start row)
+start_may p r place row is before start =
+    let allowed = allowed_at r.cowns [] r.events place (Start row) is.legal start in
+    may_start p (take place r.events) before row (allowed.keeps rule.StartNotAllowed)
+
+-- what is refused of a record is no start
+pub no_start : (p : Program) (r : Recorded) (f : Following) (place : ℕ) (event : Event) → IsRecord r → Followed p r.events f place
+    → slice_get r.events place ≡ Some event → (MayCome f event → ⊥) → (row : ℕ) → event ≢ Start row
+no_start p r f place event is so there refused row start =
+    let at : slice_get r.events place ≡ Some (Start row) = there ∙ ap Some start in
+    let may = start_may p r place row is so.run at in
+    refused (subst (MayCome f) (sym start) (subst (λ (x : Following). MayCome x (Start row)) (sym so.at) may))
+
+-- a refused event's fault, by what it is told as
+told_of_event : (p : Program) (r : Recorded) (kind : StrayFaultKind) (line : ℕ) → (e : Event) → IsToldAs kind e → IsRefusedOn p r kind line
+    → (IsRecordOf p r → ⊥) → Tells p r kind line
+told_of_event p r kinds.OtherCowns line e told on none = absurd told
+told_of_event p r kinds.NotNextSpawn line e told on none = (on, none)
+told_of_event p r kinds.NotItsEnd line e told on none = (on, none)
+told_of_event p r kinds.Memory line e told on none = absurd told
+
+pub refused_tells : (p : Program) (r : Recorded) (f : Following) (place line : ℕ) (event : Event) (kind : StrayFaultKind) → r.cowns ≡ cown_count p.cowns
+    → Followed p r.events f place → slice_get r.events place ≡ Some event → (MayCome f event → ⊥) → IsToldAs kind event → line ≡ place + 2 → Tells p r kind line
+unfolding refused_at
+refused_tells p r f place line event kind same so is refused told on =
+    let at = refused_at p r.events f place event so is refused in
+    told_of_event p r kind line event told
+    (record { cowns = same; place = place; refused = at; told = told; line_is = on })
+    (refused_is_none p r place at)
+
+pub other_cowns_tell : (p : Program) (r : Recorded) (line : ℕ) → r.cowns ≢ cown_count p.cowns → line ≡ 1 → Tells p r kinds.OtherCowns line
+other_cowns_tell p r line other is = ((other, is), λ of. other of.cowns)
+
+pub followed_whole : (p : Program) (r : Recorded) (f : Following) → r.cowns ≡ cown_count p.cowns → IsComplete r.events → FollowsAll p r (Ok tt) f
+    → Follows p r (Ok f)
+followed_whole p r f same complete all = (record { cowns = same; run = whole p r.events all.0 complete }, all.1)

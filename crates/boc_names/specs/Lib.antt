@@ -1,1 +1,5 @@
+pub mod Grouping
+pub mod Laying
 pub mod Names
+pub mod NamesFile
+pub mod Said

@@ -11,8 +11,8 @@ use boc_plans::sharing::{SeenRows, Sharing};
 use boc_program::short::HeldCown;
 use boc_runs::rows::Rows;
 
-// Whether two rows conflict on a cown of the first.
-fn conflict_on(rows: &SeenRows, cown: HeldCown, a: usize, b: usize) -> bool
+/// Whether two rows conflict on a cown of the first: both have it, and one of them wrote it.
+pub fn conflict_on(rows: &SeenRows, cown: HeldCown, a: usize, b: usize) -> bool
     requires first { a < length rows.now }
     requires second { b < length rows.now }
     requires own { Contains (cowns_of rows.now a) cown }

@@ -12,8 +12,8 @@ mod plan;
 mod report;
 
 pub use analysis::{profile, work};
-pub use check::check_chain;
+pub use check::{check_chain, conflict_on};
 pub use following::followers;
 pub use links::Links;
-pub use plan::{Earliest, last_end, waits_and_plan};
+pub use plan::{Earliest, last_end, spawned_at, waits_and_plan};
 pub use report::Profile;

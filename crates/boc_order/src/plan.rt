@@ -38,18 +38,19 @@ fn earliest_start(spawned: u64, busy: Latest) -> (u64, Option<u32>)
     }
 }
 
-// The tick at which a row is spawned.
-fn spawned_at(rows: &SeenRows, number: usize, starts: &[u64]) -> u64
-    requires there { number < length rows.now }
-    requires parent { 0 < number → parent_of rows.now number < length starts.now }
-    requires low { 0 < number → slice_index starts.now (parent_of rows.now number) + offset_of rows.now number < 2 ^ 64 }
-    ensures main { number ≡ 0 → result ≡ 0 }
-    ensures child { 0 < number → result ≡ slice_index starts.now (parent_of rows.now number) + offset_of rows.now number }
+/// The tick at which a row is spawned, where rows start at these ticks: so many after its parent starts as it is offset, and 0 for main, which no
+/// row spawns.
+pub fn spawned_at(rows: &SeenRows, row: usize, starts: &[u64]) -> u64
+    requires there { row < length rows.now }
+    requires parent { 0 < row → parent_of rows.now row < length starts.now }
+    requires low { 0 < row → slice_index starts.now (parent_of rows.now row) + offset_of rows.now row < 2 ^ 64 }
+    ensures main { row ≡ 0 → result ≡ 0 }
+    ensures child { 0 < row → result ≡ slice_index starts.now (parent_of rows.now row) + offset_of rows.now row }
 {
-    if number == 0 {
+    if row == 0 {
         0
     } else {
-        starts[rows.parent(number) as usize] + u64::from(rows.offset(number))
+        starts[rows.parent(row) as usize] + u64::from(rows.offset(row))
     }
 }
 

@@ -1,13 +1,14 @@
 // The spans that a run would have if one cown after another ordered nobody.
 
 ghost use Rattle.std.specs.Prelude.{◌≡◌, ◌≢◌, ℕ, ◌<◌, ◌≤◌, ◌+◌, ◌^◌, ◌↔◌, length, if◌then◌else◌, IfOk, IsTrue, slice_index, Contains};
-ghost use Rattle.boc_runs.specs.Rows.{IsRows, parent_of, offset_of, cowns_of, written_of};
+ghost use Rattle.boc_runs.specs.Rows.{IsRows, cowns_of, written_of};
 ghost use Rattle.boc_runs.specs.Changes.{without};
 ghost use Rattle.boc_plans.specs.Plans.{end_of, ConflictOn};
 ghost use Rattle.boc_plans.specs.Greedy.{IsSpan};
 ghost use Rattle.boc_plans.specs.Edits.{IsCownSweep};
 ghost use Rattle.boc_sweep.specs.Freed.{IsStartBut, IsLatestAmong, AreBusy, HasPlaced, AreRaised, TellWritten, TellsWritten};
 
+use boc_order::spawned_at;
 use boc_plans::sharing::SeenRows;
 use boc_program::limits::MOST_COWNS;
 use boc_program::short::HeldCown;
@@ -28,21 +29,6 @@ struct Placing {
     latest: u64,
     // How many cowns they have, each for itself.
     passed: usize,
-}
-
-// The tick at which a row is spawned.
-fn spawned_at(rows: &SeenRows, row: usize, starts: &[u64]) -> u64
-    requires there { row < length rows.now }
-    requires parent { 0 < row → parent_of rows.now row < length starts.now }
-    requires low { 0 < row → slice_index starts.now (parent_of rows.now row) + offset_of rows.now row < 2 ^ 64 }
-    ensures main { row ≡ 0 → result ≡ 0 }
-    ensures child { 0 < row → result ≡ slice_index starts.now (parent_of rows.now row) + offset_of rows.now row }
-{
-    if row == 0 {
-        0
-    } else {
-        starts[rows.parent(row) as usize] + u64::from(rows.offset(row))
-    }
 }
 
 // Tells behind the rows before it for each cown of a row, in their order, whether the row wrote it.

@@ -14,12 +14,12 @@ use Rattle.boc_why.specs.Shares.{ticks_at, steps_at, IsShare, StandsBefore, AreS
 use Rattle.boc_why.proofs.LinkLists.{contains_from_place, place_from_contains}
 
 -- each element is so related to those after it
-abbrev Ranked : {X : Type 0} → (X → X → Type 0) → List X → Type 0
+abbrev pub Ranked : {X : Type 0} → (X → X → Type 0) → List X → Type 0
 Ranked R [] = Unit {0}
 Ranked R (x ∷ xs) = ((y : _) → Contains xs y → R x y) × Ranked R xs
 
 module _ {X : Type 0} (R : X → X → Type 0) where
-  ranked_from_places : (xs : List X) → ((i j : ℕ) (a b : X) → i < j → slice_get xs i ≡ Some a → slice_get xs j ≡ Some b → R a b) → Ranked R xs
+  pub ranked_from_places : (xs : List X) → ((i j : ℕ) (a b : X) → i < j → slice_get xs i ≡ Some a → slice_get xs j ≡ Some b → R a b) → Ranked R xs
   ranked_from_places [] f = tt
   ranked_from_places (x ∷ xs) f = (
     λ y stands. let at = place_from_contains xs y stands in f 0 (suc at.0) x y (omega arith) refl at.1,
@@ -37,7 +37,7 @@ contains_cases x xs y (zero, h, e) = inl e
 contains_cases x xs y (suc k, h, e) = inr (k, omega (arith, h), e)
 
 -- two ranked lists with the same elements are one
-same_ranked : {X : Type 0} (R : X → X → Type 0) → ((x y : X) → R x y → R y x → ⊥) → (xs ys : List X) → Ranked R xs → Ranked R ys
+pub same_ranked : {X : Type 0} (R : X → X → Type 0) → ((x y : X) → R x y → R y x → ⊥) → (xs ys : List X) → Ranked R xs → Ranked R ys
     → ((z : X) → Contains xs z → Contains ys z) → ((z : X) → Contains ys z → Contains xs z) → xs ≡ ys
 same_ranked R asym [] [] rx ry there back = refl
 same_ranked R asym [] (y ∷ ys) rx ry there back = absurd (omega (arith, (back y (contains_first y ys)).1))

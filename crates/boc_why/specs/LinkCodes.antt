@@ -7,7 +7,7 @@ use Rattle.boc_why.specs.declared.links.Link.TheVariants.{SpawnBy, Hands, Ends}
 -- cowns as one number: a byte for each, the first the lowest, and a 1 above them
 abbrev pub cowns_code : List ℕ → ℕ
 cowns_code [] = 1
-cowns_code (c ∷ cowns) = c + 256 * cowns_code cowns
+cowns_code (c ∷ cowns) = c + MOST_COWNS * cowns_code cowns
 
 -- a link as one number: odd for a spawn, even for cowns
 abbrev pub link_code : Link → ℕ

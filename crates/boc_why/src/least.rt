@@ -1,10 +1,11 @@
 // When the behaviours of some rows end at the earliest, in whatever order they get their cowns.
 
-ghost use Rattle.std.specs.Prelude.{◌≡◌, ℕ, ◌<◌, ◌≤◌, ◌+◌, ◌^◌, List, length, take, IfOk, slice_index};
-ghost use Rattle.boc_runs.specs.Rows.{IsRows, parent_of, offset_of};
+ghost use Rattle.std.specs.Prelude.{◌≡◌, ℕ, ◌<◌, ◌≤◌, ◌+◌, List, length, take, IfOk, slice_index};
+ghost use Rattle.boc_runs.specs.Rows.{IsRows};
 ghost use Rattle.boc_plans.specs.Greedy.{IsSpan};
 ghost use Rattle.boc_why.specs.Least.{AreLoads, IsBusiestOf, IsMost, IsMostOf, tick_of, without_cowns};
 
+use boc_order::spawned_at;
 use boc_plans::sharing::SeenRows;
 use boc_program::limits::MOST_COWNS;
 use boc_program::short::HeldCown;
@@ -37,21 +38,6 @@ impl Least {
             Some(busiest) => busiest.load.max(self.spawns),
             None => self.spawns,
         }
-    }
-}
-
-// The tick at which a row is spawned.
-fn spawned_at(rows: &SeenRows, row: usize, starts: &[u64]) -> u64
-    requires there { row < length rows.now }
-    requires parent { 0 < row → parent_of rows.now row < length starts.now }
-    requires low { 0 < row → slice_index starts.now (parent_of rows.now row) + offset_of rows.now row < 2 ^ 64 }
-    ensures main { row ≡ 0 → result ≡ 0 }
-    ensures child { 0 < row → result ≡ slice_index starts.now (parent_of rows.now row) + offset_of rows.now row }
-{
-    if row == 0 {
-        0
-    } else {
-        starts[rows.parent(row) as usize] + u64::from(rows.offset(row))
     }
 }
 

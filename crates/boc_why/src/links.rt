@@ -1,19 +1,20 @@
 // What leads on from each row of a chain to the next one, and where the same link stands first.
 
-ghost use Rattle.std.specs.Prelude.{◌≡◌, ◌<◌, ◌≤◌, ◌↔◌, ◌+◌, ◌==◌, ℕ, length, if◌then◌else◌, IfOk, IsTrue, All, Contains, slice_get};
+ghost use Rattle.std.specs.Prelude.{◌≡◌, ◌<◌, ◌≤◌, ◌+◌, ◌==◌, ℕ, length, if◌then◌else◌, IfOk, All, slice_get};
 ghost use Rattle.std.specs.Option.{unwrap_or};
 ghost use Rattle.std.specs.Ordering.{nat_cmp};
 ghost use Rattle.std.specs.BTreeMap as tree;
 ghost use Rattle.boc_program.specs.declared.limits.TheConstants.{MOST_COWNS, MOST_HELD, MOST_ROWS};
-ghost use Rattle.boc_runs.specs.Rows.{IsRows, cowns_of};
-ghost use Rattle.boc_plans.specs.Plans.{ConflictOn};
+ghost use Rattle.boc_runs.specs.Rows.{IsRows};
 ghost use Rattle.boc_plans.specs.Chains.{IsChain, IsLink};
 ghost use Rattle.boc_why.specs.Shares.{AreHanded, LinkSays, AreLinks, AreFirsts};
 ghost use Rattle.boc_why.specs.LinkCodes.{cowns_code, IsCode, AreCodes, AreFirstPlaces};
 
+use boc_order::conflict_on;
 use boc_plans::chain::{ChainStep, Via};
 use boc_plans::sharing::SeenRows;
 use boc_program::held::HeldCowns;
+use boc_program::limits::MOST_COWNS;
 use boc_program::short::{CownNo, Cowns, HeldCown};
 use std::alloc::{AllocError, Global};
 use std::collections::BTreeMap;
@@ -29,21 +30,8 @@ pub enum Link {
     Ends,
 }
 
-// Whether two rows conflict on a cown of the first.
-fn conflict_on(rows: &SeenRows, cown: HeldCown, a: usize, b: usize) -> bool
-    requires first { a < length rows.now }
-    requires second { b < length rows.now }
-    requires own { Contains (cowns_of rows.now a) cown }
-    ensures { IsTrue result ↔ ConflictOn rows.now cown a b }
-{
-    if !rows.cowns(b).contains(&cown) {
-        return false;
-    }
-    rows.writes(a, cown) || rows.writes(b, cown)
-}
-
-// The cowns over which row a is ordered before row b.
-fn handed(rows: &SeenRows, a: usize, b: usize) -> HeldCowns
+/// The cowns over which row a is ordered before row b, rising. It takes no memory.
+pub fn handed(rows: &SeenRows, a: usize, b: usize) -> HeldCowns
     requires shape { IsRows rows.now }
     requires first { a < length rows.now }
     requires second { b < length rows.now }
@@ -109,7 +97,7 @@ fn code_of_cowns(cowns: &[HeldCown]) -> u128
 {
     match cowns {
         [] => 1,
-        [first, others @ ..] => u128::from(*first) + 256 * code_of_cowns(others),
+        [first, others @ ..] => u128::from(*first) + MOST_COWNS as u128 * code_of_cowns(others),
     }
 }
 

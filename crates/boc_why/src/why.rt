@@ -34,8 +34,13 @@ pub struct Why {
     pub least: Least,
 }
 
-// The shares of a chain by the defs of its rows. `AllocError` says that memory was refused.
-fn shares_by_def(alloc: Global, defs: &[u32], steps: &[ChainStep]) -> Result<Vec<Share>, AllocError>
+/// The shares of a chain by the defs of its rows, as `shares_of` has them: a key is a def's number. These are the defs of all rows. `AllocError` says
+/// that memory was refused.
+pub fn shares_by_def(
+    alloc: Global,
+    defs: &[u32],
+    steps: &[ChainStep],
+) -> Result<Vec<Share>, AllocError>
     requires there { All (λ s. s.row < length defs.now) steps.now }
     requires few_defs { All (λ d. d < MOST_ROWS) defs.now }
     requires few { length steps.now ≤ MOST_ROWS }

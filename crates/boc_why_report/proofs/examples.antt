@@ -1,2 +1,3 @@
 pub mod ChainText
 pub mod Lists
+pub mod ShortText

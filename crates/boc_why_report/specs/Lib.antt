@@ -1,1 +1,2 @@
 pub mod WhyTexts
+pub mod ShortTexts

@@ -209,3 +209,9 @@ pub record IsWhyText (names : Names) (sharing : Sharing) (all : Bool) (why : Why
   pub chain : Text
   pub whole : all ≡ true → chain ≡ chain_text names why
   pub is : text ≡ told_with names sharing why chain
+
+-- the line of a greedy plan for so many workers, with its end and its bound
+abbrev pub greedy_line : ℕ → ℕ → ℕ → Text
+greedy_line workers ends_at bound =
+    codes "the greedy plan for " ++ decimal workers ++ codes " workers ends at " ++ decimal ends_at ++ codes ", its bound is " ++ decimal bound
+    ++ codes "\n"

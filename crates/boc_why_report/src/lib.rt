@@ -4,7 +4,9 @@
 mod chain;
 mod folded;
 mod lists;
+mod short;
 mod told;
 mod words;
 
-pub use told::why_text;
+pub use short::{Outcome, short_text};
+pub use told::{put_greedy_line, why_text};

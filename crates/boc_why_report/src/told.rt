@@ -1,7 +1,7 @@
 // All that is told.
 
 ghost use Rattle.std.specs.Prelude.{◌≡◌, ◌++◌, ◌<◌, true, All, length, IfOk, OnOk};
-ghost use Rattle.boc_why_report.specs.WhyTexts.{busy_text, chain_text, head_text, least_text, reason_text, tick_text, told_with, IsWhyText};
+ghost use Rattle.boc_why_report.specs.WhyTexts.{busy_text, chain_text, head_text, least_text, reason_text, tick_text, told_with, IsWhyText, greedy_line};
 
 use crate::chain::chain_text;
 use crate::folded::folded_text;
@@ -132,4 +132,24 @@ pub fn why_text(
 {
     let chain = told_chain(alloc, names, all, why)?;
     told_with(alloc, names, sharing, why, &chain)
+}
+
+/// Puts the line of a greedy plan for so many workers behind a text: the tick at which it ends, and the one by which it has ended. `AllocError` says that
+/// memory was refused.
+pub fn put_greedy_line(
+    text: &mut Vec<u8>,
+    workers: u64,
+    ends_at: u64,
+    bound: u64,
+) -> Result<(), AllocError>
+    ensures { OnOk result (text.new.items ≡ text.old.items ++ greedy_line workers ends_at bound) }
+{
+    text.extend_from_slice(b"the greedy plan for ")?;
+    put_number(text, workers)?;
+    text.extend_from_slice(b" workers ends at ")?;
+    put_number(text, ends_at)?;
+    text.extend_from_slice(b", its bound is ")?;
+    put_number(text, bound)?;
+    text.extend_from_slice(b"\n")?;
+    Ok(())
 }

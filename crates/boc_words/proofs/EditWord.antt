@@ -1,11 +1,20 @@
 -- Where the word of an edit is split.
-use Rattle.std.proofs.Common.{suc, ◌≡◌, ◌≢◌, ◌⊎◌, ℕ, ◌^◌, ◌<◌, List, [], ◌∷◌, ◌++◌, length, get_or, arith, ap, ap₂, ◌∙◌, decimal, Some, None, inl, refl}
+use Rattle.std.proofs.Common.{suc, ◌≡◌, ◌≢◌, ◌⊎◌, ℕ, ◌^◌, ◌<◌, List, [], ◌∷◌, ◌++◌, length, get_or, arith, ap, ap₂, ◌∙◌, decimal, Some, None, inl, inr}
+use Rattle.std.proofs.Common.{refl, sym, subst}
 use Rattle.std.specs.Int.{IsInRange}
 use Rattle.std.specs.Str.Parse.{digits_value}
 use Rattle.std.proofs.lemmas.Str.Parse.{IsNumeralModel, numerals_by_value, tells_by_index}
 use Rattle.std.proofs.lemmas.Fmt.{decimal_injective, digits_decimal}
 use Rattle.std.proofs.lemmas.Str.Pattern.{IsSplitOnceResult, split_parts, split_after}
 use denote.Ref.{Bor}
+use Rattle.std.specs.Prelude.{string_bytes}
+use Rattle.boc_plans.specs.declared.edit.Change.{Change}
+use Rattle.boc_plans.specs.declared.edit.Change.TheVariants.{Ticks, Offset, Cost}
+use Rattle.boc_plans.specs.Fractions.{Fraction}
+use Rattle.boc_words.specs.declared.asked.AskedEdit.{AskedEdit}
+use Rattle.boc_words.specs.declared.asked.AskedEdit.TheVariants.{Row, Def}
+use Rattle.boc_words.specs.EditWords.{HasNone, HasOther, IsCostWord, IsEditWord, IsPart, IsSubject, IsWritable, IsWritableChange}
+use Rattle.boc_words.specs.EditWords.{change_word, cost_word, edit_word, equals_sign}
 
 abbrev AreDigits : List ℕ → Type 0
 AreDigits ds = (i : ℕ) → i < length ds → IsInRange 48 57 (get_or ds i 0)
@@ -52,3 +61,57 @@ module _ (sign : ℕ) (ascii : sign < 128) (other : (sign < 48) ⊎ (57 < sign))
       → x.1.now ≡ second → w ≡ first ++ (sign ∷ second)
   both w x first second h left right =
       (split_parts sign w (Some x) h ascii).0 ∙ ap (λ l. l ++ (sign ∷ x.1.now)) left ∙ ap (λ l. first ++ (sign ∷ l)) right
+
+-- a word with no equals sign has no subject before one
+pub no_subject : (w subject rest : List ℕ) → IsSplitOnceResult equals_sign w None → HasNone equals_sign subject → w ≡ subject ++ (equals_sign ∷ rest) → ⊥
+no_subject w subject rest h none e = split_after equals_sign w subject rest None h (omega arith) e none
+
+-- what stands before its first one is the subject
+pub subject_sides : (w subject rest : List ℕ) (x : Bor (List ℕ) × Bor (List ℕ)) → IsSplitOnceResult equals_sign w (Some x) → HasNone equals_sign subject
+    → w ≡ subject ++ (equals_sign ∷ rest) → (x.0.now ≡ subject) × (x.1.now ≡ rest)
+subject_sides w subject rest x h none e = split_after equals_sign w subject rest (Some x) h (omega arith) e none
+
+-- digits have no equals sign
+none_in_digits : (n : ℕ) → n < 2 ^ 32 → HasNone equals_sign (decimal n)
+none_in_digits n few = no_sign equals_sign n (inr (omega arith)) few
+
+none_in_subject : (subject : List ℕ) → IsSubject subject → HasNone equals_sign subject
+none_in_subject subject (inl (row, few, is)) = subst (HasNone equals_sign) (sym is) (none_in_digits row few)
+none_in_subject subject (inr (none, other)) = none
+
+-- a word that has no subject and no part is that of no cost
+pub no_cost : (w : List ℕ) → ((subject : List ℕ) (part : Fraction) → HasNone equals_sign subject → IsPart part → w ≡ cost_word subject part → ⊥)
+    → IsCostWord w → ⊥
+no_cost w none word = none word.subject word.part (none_in_subject word.subject word.named) word.is_part word.spells
+
+-- and none is one whose subject is neither a row's number nor a name
+pub no_named_cost : (w subject : List ℕ) (part : Fraction) → HasNone equals_sign subject → w ≡ cost_word subject part
+    → ((n : ℕ) → n < 2 ^ 32 → subject ≡ decimal n → ⊥) → (HasOther subject → ⊥) → IsCostWord w → ⊥
+no_named_cost w subject part none is no_number no_name word =
+    let same : subject ≡ word.subject =
+    (round_sign equals_sign subject _ word.subject _ none (none_in_subject word.subject word.named) (sym is ∙ word.spells)).0 in
+    elim word.named [
+      | inl row ↦ no_number row.0 row.1 (same ∙ row.2)
+      | inr name ↦ no_name (subst HasOther (sym same) name.1)
+    ]
+
+-- the word of no ticks, no offset and no cost is that of no edit
+pub no_edit : (w : List ℕ) → ((row ticks : ℕ) → row < 2 ^ 32 → ticks < 2 ^ 32 → w ≡ decimal row ++ (61 ∷ decimal ticks) → ⊥)
+    → ((row offset : ℕ) → row < 2 ^ 32 → offset < 2 ^ 32 → w ≡ decimal row ++ (64 ∷ decimal offset) → ⊥) → (IsCostWord w → ⊥) → IsEditWord w → ⊥
+no_edit w no_ticks no_offset no_cost word = go word.edit word.writable word.spells
+  where
+    of_row : (row : ℕ) (change : Change) → row < 2 ^ 32 → IsWritableChange change → w ≡ decimal row ++ change_word change → ⊥
+    of_row row (Ticks ticks) few writable is = no_ticks row ticks few writable is
+    of_row row (Offset offset) few writable is = no_offset row offset few writable is
+    of_row row (Cost part) few writable is =
+        no_cost (record { subject = decimal row; part = part; named = inl (row, few, refl); is_part = writable; spells = is })
+
+    go : (edit : AskedEdit) → IsWritable edit → w ≡ edit_word edit → ⊥
+    go (Row edit) writable is = of_row edit.row edit.change writable.0 writable.1 is
+    go (Def name part) writable is = no_cost (record {
+      subject = string_bytes name;
+      part = part;
+      named = inr (writable.0, writable.1);
+      is_part = writable.2;
+      spells = is;
+    })

@@ -6,16 +6,14 @@ use Rattle.std.specs.Str.{bytes_eq}
 use Rattle.std.proofs.lemmas.Slice.Eq.{bytes_eq-Decides}
 use Rattle.std.specs.Option.{UnwrapsOrElse}
 use Rattle.std.specs.List.{All, AllZip}
-use Rattle.std.proofs.lemmas.List.{get_or-map, length-map, map-append}
+use Rattle.std.proofs.lemmas.List.{map-append}
 use Rattle.std.proofs.lemmas.List.Elements.{All-push}
 use Rattle.clap.specs.Words.{Row}
-use Rattle.boc_plans.specs.declared.edit.Edit.{Edit}
 use Rattle.boc_words.specs.Commands.{IsNumberOf, NumberOption}
-use Rattle.boc_words.specs.EditWords.{IsEditWord, edit_word}
-use Rattle.boc_words.specs.Words.{AreCownTexts, HasNoNumber, IsFirstMisspelt, IsGiven, IsOfCowns, IsOfKind, Says, values_at}
-use Rattle.boc_words.specs.declared.fault.WordsFault.{WordsFault}
-use Rattle.boc_words.specs.declared.fault.WordsFault.TheVariants as faults
-use Rattle.clap.specs.declared.error.kind.ErrorKind.TheVariants as kinds
+use Rattle.boc_words.specs.declared.asked.AskedCown.{AskedCown}
+use Rattle.boc_words.specs.declared.asked.AskedEdit.{AskedEdit}
+use Rattle.boc_words.specs.EditWords.{IsEditWord, IsWritable, edit_word}
+use Rattle.boc_words.specs.Words.{HasNoNumber, IsCownText, IsFirstMisspelt, IsGiven, values_at}
 
 -- the texts behind what was found, or none
 pub read : (found : Option (Bor (List (Bor (List ℕ))))) (r : Bor (List (Bor (List ℕ)))) (IsDefault : Bor (List (Bor (List ℕ))) → Type 0)
@@ -54,15 +52,20 @@ pub texts_next : (words : List (Bor (List ℕ))) (i : ℕ) (d : Bor (List ℕ)) 
 texts_next words i d h = ap (λ n. map (λ t. t.now) (take n words)) (add_one i) ∙ texts_more words i d h
 
 -- the texts of the edits, with one more
-edits_more : (edits : List Edit) (edit : Edit) → map edit_word (edits ++ (edit ∷ [])) ≡ map edit_word edits ++ (edit_word edit ∷ [])
+edits_more : (edits : List AskedEdit) (edit : AskedEdit) → map edit_word (edits ++ (edit ∷ [])) ≡ map edit_word edits ++ (edit_word edit ∷ [])
 edits_more edits edit = map-append edit_word edits (edit ∷ [])
 
-pub taken_next : (words : List (Bor (List ℕ))) (i : ℕ) (d : Bor (List ℕ)) (edits after : List Edit) (edit : Edit) → i < length words
+pub taken_next : (words : List (Bor (List ℕ))) (i : ℕ) (d : Bor (List ℕ)) (edits after : List AskedEdit) (edit : AskedEdit) → i < length words
     → map edit_word edits ≡ map (λ t. t.now) (take i words) → after ≡ edits ++ (edit ∷ []) → (get_or words i d).now ≡ edit_word edit
     → map edit_word after ≡ map (λ t. t.now) (take (i + 1) words)
 taken_next words i d edits after edit h taken is word =
     ap (map edit_word) is ∙ edits_more edits edit ∙ ap (λ l. l ++ (edit_word edit ∷ [])) taken
     ∙ ap (λ w. map (λ t. t.now) (take i words) ++ (w ∷ [])) (sym word) ∙ sym (texts_next words i d h)
+
+-- and each can be written
+pub writable_next : (edits after : List AskedEdit) (edit : AskedEdit) → All IsWritable edits → IsWritable edit → after ≡ edits ++ (edit ∷ [])
+    → All IsWritable after
+writable_next edits after edit all one is = subst (All IsWritable) (sym is) (All-push IsWritable edits edit all one)
 
 all_zip_push : {X Y : Type 0} (R : X → Y → Type 0) (xs : List X) (ys : List Y) (x : X) (y : Y) → AllZip R xs ys → R x y
     → AllZip R (xs ++ (x ∷ [])) (ys ++ (y ∷ []))
@@ -71,14 +74,14 @@ all_zip_push R [] (b ∷ ys) x y all one = absurd all
 all_zip_push R (a ∷ xs) [] x y all one = absurd all
 all_zip_push R (a ∷ xs) (b ∷ ys) x y all one = (all.0, all_zip_push R xs ys x y all.1 one)
 
--- the numbers of the texts, with one more
-pub said_next : (texts : List (Bor (List ℕ))) (i : ℕ) (d : Bor (List ℕ)) (numbers after : List ℕ) (number : ℕ) → i < length texts
-    → AllZip Says (map (λ t. t.now) (take i texts)) numbers → after ≡ numbers ++ (number ∷ []) → Says (get_or texts i d).now number
-    → AllZip Says (map (λ t. t.now) (take (i + 1) texts)) after
-said_next texts i d numbers after number h said is one =
-    subst (λ (l : List (List ℕ)). AllZip Says l after) (sym (texts_next texts i d h))
-    (subst (AllZip Says (map (λ t. t.now) (take i texts) ++ ((get_or texts i d).now ∷ []))) (sym is)
-    (all_zip_push Says (map (λ t. t.now) (take i texts)) numbers (get_or texts i d).now number said one))
+-- the cowns of the texts, with one more
+pub meant_next : (texts : List (Bor (List ℕ))) (i : ℕ) (d : Bor (List ℕ)) (cowns after : List AskedCown) (cown : AskedCown) → i < length texts
+    → AllZip IsCownText (map (λ t. t.now) (take i texts)) cowns → after ≡ cowns ++ (cown ∷ []) → IsCownText (get_or texts i d).now cown
+    → AllZip IsCownText (map (λ t. t.now) (take (i + 1) texts)) after
+meant_next texts i d cowns after cown h meant is one =
+    subst (λ (l : List (List ℕ)). AllZip IsCownText l after) (sym (texts_next texts i d h))
+    (subst (AllZip IsCownText (map (λ t. t.now) (take i texts) ++ ((get_or texts i d).now ∷ []))) (sym is)
+    (all_zip_push IsCownText (map (λ t. t.now) (take i texts)) cowns (get_or texts i d).now cown meant one))
 
 -- what holds of each text, with one more
 pub all_next : (P : List ℕ → Type 0) (words : List (Bor (List ℕ))) (i : ℕ) (d : Bor (List ℕ)) → i < length words
@@ -110,19 +113,6 @@ first_misspelt values words i d is h spelt none = record {
   spelt = spelt;
   misspelt = none;
 }
-
--- a text of which something does not hold
-pub not_all : (P : List ℕ → Type 0) (values : List (List ℕ)) (words : List (Bor (List ℕ))) (i : ℕ) (d : Bor (List ℕ))
-    → map (λ t. t.now) words ≡ values → i < length words → (P (get_or words i d).now → ⊥) → All P values → ⊥
-not_all P values words i d is below none all =
-    let every : All P (map (λ t. t.now) words) = subst (All P) (sym is) all in
-    none (subst P (get_or-map (λ t. t.now) words i d [] below) (every i [] (omega (arith, below, length-map words (λ (t : Bor (List ℕ)). t.now)))))
-
--- a text given to `--without` that is no number, and the fault that says so
-pub of_cowns : (rows : List Row) (fault : WordsFault) → IsOfKind kinds.ValueValidation fault → (AreCownTexts rows → ⊥) → IsOfCowns rows fault
-of_cowns rows (faults.Parser e) is none = (is, none)
-of_cowns rows (faults.EditWord number) is none = is
-of_cowns rows faults.Memory is none = tt
 
 -- there is one text, and it is this word
 pub one_text_is : (texts : List (Bor (List ℕ))) (d : Bor (List ℕ)) (word : List ℕ) (r : Bool) → 1 ≤ length texts → length texts < 2

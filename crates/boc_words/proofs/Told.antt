@@ -3,9 +3,9 @@ use Rattle.std.proofs.Common.{◌≡◌, ◌∙◌, ◌||◌, ◌+◌, ◌<◌, 
 use Rattle.std.proofs.lemmas.List.{map-append, take_more}
 use Rattle.std.proofs.lemmas.List.Sums.{fold_push}
 use Rattle.boc_words.specs.declared.arguments.Argument.{Argument as Listed}
-use Rattle.boc_words.specs.declared.commands.Entry.{Entry}
-use Rattle.boc_words.specs.Commands.{app_of_command, rule_at, shape_of_command}
-use Rattle.boc_words.specs.Tables.{argument_of, command_of_entry}
+use Rattle.boc_words.specs.declared.commands.Kind.{Kind}
+use Rattle.boc_words.specs.Commands.{app_of_command, rule_at, shape_of_command, signature_of}
+use Rattle.boc_words.specs.Tables.{argument_of}
 use Rattle.boc_words.specs.Words.{Told, without_commands}
 use Rattle.clap.specs.Simple.{app_of_fields}
 use Rattle.clap.specs.Words.{AddsArg, AddsSubcommand, App, Rule, Text, app_of, rule_of, with_rule, with_subcommand}
@@ -69,32 +69,32 @@ told_subcommand old sub new app below added told told_below = record {
   local = added.globals ∙ ap₂ ◌||◌ told.local told_below.local;
 }
 
--- the program with the first of the commands that are listed
-abbrev pub program_up_to : List Entry → ℕ → App
-program_up_to entries i = fold with_subcommand without_commands (map shape_of_command (map command_of_entry (take i entries)))
+-- the program with the first of these commands
+abbrev pub program_up_to : List Kind → ℕ → App
+program_up_to kinds i = fold with_subcommand without_commands (map shape_of_command (map signature_of (take i kinds)))
 
-shapes_more : (entries : List Entry) (i : ℕ) (d : Entry) → i < length entries
-    → map shape_of_command (map command_of_entry (take (i + 1) entries))
-    ≡ map shape_of_command (map command_of_entry (take i entries)) ++ (shape_of_command (command_of_entry (get_or entries i d)) ∷ [])
-shapes_more entries i d below =
-    ap (λ (l : List Entry). map shape_of_command (map command_of_entry l)) (take_more entries i d below)
-    ∙ ap (map shape_of_command) (map-append command_of_entry (take i entries) (get_or entries i d ∷ []))
-    ∙ map-append shape_of_command (map command_of_entry (take i entries)) (command_of_entry (get_or entries i d) ∷ [])
+shapes_more : (kinds : List Kind) (i : ℕ) (d : Kind) → i < length kinds
+    → map shape_of_command (map signature_of (take (i + 1) kinds))
+    ≡ map shape_of_command (map signature_of (take i kinds)) ++ (shape_of_command (signature_of (get_or kinds i d)) ∷ [])
+shapes_more kinds i d below =
+    ap (λ (l : List Kind). map shape_of_command (map signature_of l)) (take_more kinds i d below)
+    ∙ ap (map shape_of_command) (map-append signature_of (take i kinds) (get_or kinds i d ∷ []))
+    ∙ map-append shape_of_command (map signature_of (take i kinds)) (signature_of (get_or kinds i d) ∷ [])
 
 -- one more of them
-pub told_next_command : (old sub new : Command) (entries : List Entry) (i : ℕ) (d : Entry) → i < length entries → AddsSubcommand old sub new
-    → Told sub (app_of_command (command_of_entry (get_or entries i d))) → Told old (program_up_to entries i)
-    → Told new (program_up_to entries (i + 1))
-told_next_command old sub new entries i d below added told_sub told =
+pub told_next_command : (old sub new : Command) (kinds : List Kind) (i : ℕ) (d : Kind) → i < length kinds → AddsSubcommand old sub new
+    → Told sub (app_of_command (signature_of (get_or kinds i d))) → Told old (program_up_to kinds i)
+    → Told new (program_up_to kinds (i + 1))
+told_next_command old sub new kinds i d below added told_sub told =
     subst (Told new)
-    (sym (ap (fold with_subcommand without_commands) (shapes_more entries i d below)
-    ∙ fold_push with_subcommand without_commands (map shape_of_command (map command_of_entry (take i entries)))
-    (shape_of_command (command_of_entry (get_or entries i d)))))
-    (told_subcommand old sub new (program_up_to entries i) (app_of_command (command_of_entry (get_or entries i d))) added told told_sub)
+    (sym (ap (fold with_subcommand without_commands) (shapes_more kinds i d below)
+    ∙ fold_push with_subcommand without_commands (map shape_of_command (map signature_of (take i kinds)))
+    (shape_of_command (signature_of (get_or kinds i d)))))
+    (told_subcommand old sub new (program_up_to kinds i) (app_of_command (signature_of (get_or kinds i d))) added told told_sub)
 
 -- all of them
-pub told_every_command : (parser : Command) (entries : List Entry) (i : ℕ) → length entries ≤ i → Told parser (program_up_to entries i)
-    → app_of parser ≡ fold with_subcommand without_commands (map shape_of_command (map command_of_entry entries))
-told_every_command parser entries i end told =
+pub told_every_command : (parser : Command) (kinds : List Kind) (i : ℕ) → length kinds ≤ i → Told parser (program_up_to kinds i)
+    → app_of parser ≡ fold with_subcommand without_commands (map shape_of_command (map signature_of kinds))
+told_every_command parser kinds i end told =
     told.app_is
-    ∙ ap (λ (l : List Entry). fold with_subcommand without_commands (map shape_of_command (map command_of_entry l))) (take_all i entries end)
+    ∙ ap (λ (l : List Kind). fold with_subcommand without_commands (map shape_of_command (map signature_of l))) (take_all i kinds end)

@@ -6,7 +6,7 @@ use Rattle.clap.specs.Words.{App, Rule, Shape, Text, new_rule}
 use Rattle.clap.specs.declared.builder.action.ArgAction.TheVariants as actions
 use Rattle.clap.specs.declared.builder.value_parser.ValueParser.{ValueParser}
 use Rattle.clap.specs.declared.builder.value_parser.ValueParser.TheVariants as parsers
-use Rattle.boc_program.specs.declared.limits.TheConstants.{MOST_RUNNERS, MOST_WORKERS}
+use Rattle.boc_program.specs.declared.limits.TheConstants.{MOST_COWNS, MOST_RUNNERS, MOST_WORKERS}
 use Rattle.boc_words.specs.declared.arguments.Numbers.{Numbers}
 use Rattle.boc_words.specs.declared.arguments.Numbers.TheVariants.{UpTo, Every}
 use Rattle.boc_words.specs.declared.commands.Kind.{Kind}
@@ -34,9 +34,13 @@ runners_option = record { id = codes "workers"; numbers = UpTo MOST_RUNNERS }
 abbrev pub workers_option : NumberOption
 workers_option = record { id = codes "p"; numbers = UpTo MOST_WORKERS }
 
+-- `--top K`, of so many cowns at the most
+abbrev pub top_option : NumberOption
+top_option = record { id = codes "top"; numbers = UpTo MOST_COWNS }
+
 -- every option with a number
 abbrev pub number_options : List NumberOption
-number_options = runners_option ∷ workers_option ∷ []
+number_options = runners_option ∷ workers_option ∷ top_option ∷ []
 
 -- `--shared-reads`
 abbrev pub sharing_flag : Argument
@@ -58,6 +62,22 @@ all_flag = flag (codes "all")
 abbrev pub without_option : Argument
 without_option = repeated (codes "without")
 
+-- `--short`, by which the numbers before and after are told in place of a report
+abbrev pub short_flag : Argument
+short_flag = flag (codes "short")
+
+-- `--program FILE`, of the program that a record is of
+abbrev pub program_file : Text
+program_file = codes "program"
+
+-- `--record FILE`, of the record of the run of a program
+abbrev pub record_file : Text
+record_file = codes "record"
+
+-- `--names FILE`, of what rows and cowns are called
+abbrev pub names_file : Text
+names_file = codes "names"
+
 -- the words of edits
 abbrev pub edits_operands : Argument
 edits_operands = operands (codes "edits")
@@ -66,19 +86,37 @@ edits_operands = operands (codes "edits")
 
 -- the name of a command, and which arguments it takes
 abbrev pub signature_of : Kind → Text × List Argument
-signature_of kinds.Values = (codes "values", [])
-signature_of kinds.Check = (codes "check", [])
+signature_of kinds.Values = (codes "values", repeated record_file ∷ [])
+signature_of kinds.Check = (codes "check", repeated program_file ∷ [])
 signature_of kinds.Run = (codes "run", number runners_option ∷ [])
 signature_of kinds.Profile = (codes "profile", number workers_option ∷ sharing_flag ∷ [])
 signature_of kinds.Time = (codes "time", number runners_option ∷ number workers_option ∷ sharing_flag ∷ [])
-signature_of kinds.WhatIf = (codes "whatif", number workers_option ∷ sharing_flag ∷ without_option ∷ edits_operands ∷ [])
+signature_of kinds.WhatIf = (
+  codes "whatif",
+  number workers_option ∷ sharing_flag ∷ without_option ∷ repeated program_file ∷ repeated names_file ∷ short_flag ∷ edits_operands ∷ [],
+)
 signature_of kinds.Curve = (codes "curve", number workers_option ∷ sharing_flag ∷ [])
 signature_of kinds.Sweep = (codes "sweep", number workers_option ∷ cowns_flag ∷ spawns_flag ∷ sharing_flag ∷ [])
-signature_of kinds.Why = (codes "why", number runners_option ∷ sharing_flag ∷ all_flag ∷ [])
+signature_of kinds.Why = (
+  codes "why",
+  number runners_option ∷ number workers_option ∷ sharing_flag ∷ repeated record_file ∷ repeated names_file ∷ all_flag ∷ [],
+)
+signature_of kinds.Cowns =
+    (codes "cowns", number runners_option ∷ sharing_flag ∷ repeated record_file ∷ repeated names_file ∷ number top_option ∷ [])
+
+-- the files that a command may read beside its input, of which it takes one
+abbrev pub files_of : Kind → List Text
+files_of kinds.Values = record_file ∷ []
+files_of kinds.Check = program_file ∷ []
+files_of kinds.WhatIf = program_file ∷ names_file ∷ []
+files_of kinds.Why = record_file ∷ names_file ∷ []
+files_of kinds.Cowns = record_file ∷ names_file ∷ []
+files_of _ = []
 
 -- every command, in the order of help
 abbrev pub every_kind : List Kind
-every_kind = kinds.Values ∷ kinds.Check ∷ kinds.Run ∷ kinds.Profile ∷ kinds.Time ∷ kinds.WhatIf ∷ kinds.Curve ∷ kinds.Sweep ∷ kinds.Why ∷ []
+every_kind = kinds.Values ∷ kinds.Check ∷ kinds.Run ∷ kinds.Profile ∷ kinds.Time ∷ kinds.WhatIf ∷ kinds.Curve ∷ kinds.Sweep ∷ kinds.Why
+    ∷ kinds.Cowns ∷ []
 
 -- each by its name, with what it takes
 abbrev pub commands_of_boc : List (Text × List Argument)

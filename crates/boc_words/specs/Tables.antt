@@ -1,6 +1,5 @@
 -- What stands in the tables of the sources.
 use Rattle.std.specs.Prelude.{List, map}
-use Rattle.clap.specs.Words.{Text}
 use Rattle.boc_words.specs.declared.arguments.Argument.{Argument as Listed}
 use Rattle.boc_words.specs.declared.arguments.Argument.TheVariants as listed
 use Rattle.boc_words.specs.declared.arguments.NumberOption.{NumberOption as ListedOption}
@@ -18,6 +17,6 @@ argument_of (listed.Flag option) = flag option.id.now
 argument_of (listed.Repeated option) = repeated option.id.now
 argument_of (listed.Words words) = operands words.id.now
 
--- the command that is listed: its name, and which arguments it takes
-abbrev pub command_of_entry : Entry → Text × List Argument
-command_of_entry entry = (entry.name.now, map argument_of entry.takes.now)
+-- which arguments the command that is listed takes
+abbrev pub takes_of : Entry → List Argument
+takes_of entry = map argument_of entry.takes.now

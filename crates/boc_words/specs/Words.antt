@@ -1,6 +1,8 @@
 -- What the words of a command line ask for.
-use Rattle.std.specs.Prelude.{◌≡◌, ◌<◌, ◌+◌, ◌^◌, ◌++◌, ◌⊎◌, ◌≢◌, ℕ, List, [], ◌∷◌, Option, Some, None, Bool, true, false, map, fold, unwrap_or, length, codes}
-use Rattle.std.specs.List.{All, AllZip}
+use Rattle.std.specs.Prelude.{◌≡◌, ◌<◌, ◌≤◌, ◌+◌, ◌^◌, ◌++◌, ◌⊎◌, ◌≢◌, ℕ, List, [], ◌∷◌, Option, Some, None, Bool, true, false, String}
+use Rattle.std.specs.Prelude.{map, fold, unwrap_or, length, codes, string_bytes}
+use Rattle.std.specs.Global.{Global}
+use Rattle.std.specs.List.{All, AllZip, sum_by}
 use Rattle.std.specs.Str.Parse.{IsNumeral, digits_value, without_leading_plus}
 use Rattle.clap.specs.Kinds.{IsAmong}
 use Rattle.clap.specs.Simple.{on_top}
@@ -11,7 +13,6 @@ use Rattle.clap.specs.declared.error.Error.{Error}
 use Rattle.clap.specs.declared.error.kind.ErrorKind.{ErrorKind}
 use Rattle.clap.specs.declared.error.kind.ErrorKind.TheVariants as kinds
 use Rattle.boc_program.specs.declared.limits.TheConstants.{MOST_WORKERS}
-use Rattle.boc_plans.specs.declared.edit.Edit.{Edit}
 use Rattle.boc_plans.specs.declared.sharing.Sharing.{Sharing}
 use Rattle.boc_plans.specs.declared.sharing.Sharing.TheVariants.{Exclusive, SharedReads}
 use Rattle.boc_plans.specs.declared.sweep.Sweep.{Sweep}
@@ -23,8 +24,15 @@ use Rattle.boc_words.specs.declared.words.Command.TheVariants as commands
 use Rattle.boc_words.specs.declared.commands.Kind.{Kind}
 use Rattle.boc_words.specs.declared.commands.Kind.TheVariants as called
 use Rattle.boc_words.specs.Commands.{Argument, IsNumberOf, NumberOption, commands_of_boc, number_options, shape_of_command, signature_of}
-use Rattle.boc_words.specs.Commands.{runners_option, workers_option}
-use Rattle.boc_words.specs.EditWords.{IsEditWord, edit_word}
+use Rattle.boc_words.specs.Commands.{files_of, names_file, program_file, record_file, runners_option, top_option, workers_option}
+use Rattle.boc_words.specs.EditWords.{IsEditWord, IsWritable, edit_word}
+use Rattle.boc_words.specs.declared.asked.AskedCown.{AskedCown}
+use Rattle.boc_words.specs.declared.asked.AskedCown.TheVariants as cowns
+use Rattle.boc_words.specs.declared.asked.AskedEdit.{AskedEdit}
+use Rattle.boc_words.specs.declared.asked.NamesFrom.{NamesFrom}
+use Rattle.boc_words.specs.declared.asked.NamesFrom.TheVariants as named
+use Rattle.boc_words.specs.declared.asked.RunFile.{RunFile}
+use Rattle.boc_words.specs.declared.asked.RunFile.TheVariants as files
 
 -- ---- what the parser is told
 
@@ -108,17 +116,44 @@ IsOver rows Spawns = IsUnset rows (codes "cowns") × IsSet rows (codes "spawns")
 abbrev pub AreAtOdds : List Row → Type 0
 AreAtOdds rows = IsSet rows (codes "spawns") × (IsSet rows (codes "cowns") ⊎ (values_at rows workers_option.id ≢ []))
 
--- the texts given to `--without` are these numbers, in their order
-abbrev pub AreCowns : List Row → List ℕ → Type 0
-AreCowns rows cowns = AllZip Says (values_at rows (codes "without")) cowns
+-- the text is the number of 32 bits of a cown; or it is none, and the name of one
+abbrev pub IsCownText : List ℕ → AskedCown → Type 0
+IsCownText text (cowns.Number number) = Says text number
+IsCownText text (cowns.Name name) = (string_bytes name ≡ text) × ((number : ℕ) → number < 2 ^ 32 → Says text number → ⊥)
 
--- the text is a number of 32 bits
-abbrev pub IsCownText : List ℕ → Type 0
-IsCownText text = (number : ℕ) × (number < 2 ^ 32) × Says text number
+-- the texts given to `--without` are those of these cowns, in their order
+abbrev pub AreCowns : List Row → List AskedCown → Type 0
+AreCowns rows cowns = AllZip IsCownText (values_at rows (codes "without")) cowns
 
--- each text given to `--without` is a number of 32 bits
-abbrev pub AreCownTexts : List Row → Type 0
-AreCownTexts rows = All IsCownText (values_at rows (codes "without"))
+-- the file was not given, or it was, with this path
+abbrev pub GivesFile : List Row → Text → Option (String Global) → Type 0
+GivesFile rows file None = values_at rows file ≡ []
+GivesFile rows file (Some path) = values_at rows file ≡ string_bytes path ∷ []
+
+-- no file was given, or the one with the record of the run, or the one with the names
+abbrev pub IsRunFile : List Row → Option RunFile → Type 0
+IsRunFile rows None = GivesFile rows record_file None × GivesFile rows names_file None
+IsRunFile rows (Some (files.Record path)) = GivesFile rows record_file (Some path) × GivesFile rows names_file None
+IsRunFile rows (Some (files.Names path)) = GivesFile rows record_file None × GivesFile rows names_file (Some path)
+
+-- no file was given, or the one with the program of the record, or the one with the names
+abbrev pub AreNamesFrom : List Row → Option NamesFrom → Type 0
+AreNamesFrom rows None = GivesFile rows program_file None × GivesFile rows names_file None
+AreNamesFrom rows (Some (named.Program path)) = GivesFile rows program_file (Some path) × GivesFile rows names_file None
+AreNamesFrom rows (Some (named.Names path)) = GivesFile rows program_file None × GivesFile rows names_file (Some path)
+
+-- how many files were given for these options
+abbrev pub files_given : List Row → List Text → ℕ
+files_given rows files = sum_by (λ file. length (values_at rows file)) files
+
+-- more than one file was given for these options
+abbrev pub AreTooMany : List Text → List Row → Type 0
+AreTooMany files rows = 2 ≤ files_given rows files
+
+-- `--short` was given, and the numbers before and after are told, or it was not
+abbrev pub IsShort : List Row → Bool → Type 0
+IsShort rows true = IsSet rows (codes "short")
+IsShort rows false = IsUnset rows (codes "short")
 
 -- the option was given, and there is no one number that it takes with it
 pub record HasNoNumber (option : NumberOption) (rows : List Row) : Type 0 where
@@ -130,9 +165,10 @@ abbrev pub MissesNumber : List NumberOption → List Row → Type 0
 MissesNumber [] rows = ⊥
 MissesNumber (option ∷ more) rows = HasNoNumber option rows ⊎ MissesNumber more rows
 
--- the words given as edits are those of these edits, in their order
-abbrev pub AreEdits : List Row → List Edit → Type 0
-AreEdits rows edits = values_at rows (codes "edits") ≡ map edit_word edits
+-- the words given as edits are those of these edits, in their order, each with what such a word can have
+pub record AreEdits (rows : List Row) (edits : List AskedEdit) : Type 0 where
+  pub words : values_at rows (codes "edits") ≡ map edit_word edits
+  pub writable : All IsWritable edits
 
 -- of these words the one with this number, counted from 1, is the first that is no edit
 pub record IsFirstMisspelt (words : List (List ℕ)) (number : ℕ) : Type 0 where
@@ -169,11 +205,11 @@ IsOfSweep rows (faults.Parser e) =
 IsOfSweep rows faults.Memory = Unit {0}
 IsOfSweep rows _ = ⊥
 
--- the fault says that a text given to `--without` is no number of 32 bits, or that memory was refused
-abbrev pub IsOfCowns : List Row → WordsFault → Type 0
-IsOfCowns rows (faults.Parser e) = (kind_of e ≡ kinds.ValueValidation) × (AreCownTexts rows → ⊥)
-IsOfCowns rows faults.Memory = Unit {0}
-IsOfCowns rows _ = ⊥
+-- the fault is a conflict of more files than one, or says that memory was refused
+abbrev pub IsOfFiles : List Text → List Row → WordsFault → Type 0
+IsOfFiles files rows (faults.Parser e) = (kind_of e ≡ kinds.ArgumentConflict) × AreTooMany files rows
+IsOfFiles files rows faults.Memory = Unit {0}
+IsOfFiles files rows _ = ⊥
 
 -- ---- what a command that was named asks for
 
@@ -183,17 +219,21 @@ Names named kind Holds = (rows : List Row) × (named ≡ Some ((signature_of kin
 
 -- with what was found for it this command asks for this
 abbrev pub Asks : Kind → List Row → Command → Type 0
-Asks kind rows commands.Values = kind ≡ called.Values
-Asks kind rows commands.Check = kind ≡ called.Check
+Asks kind rows (commands.Values record_path) = (kind ≡ called.Values) × GivesFile rows record_file record_path
+Asks kind rows (commands.Check program_path) = (kind ≡ called.Check) × GivesFile rows program_file program_path
 Asks kind rows (commands.Run runners) = (kind ≡ called.Run) × AreRunners rows runners
 Asks kind rows (commands.Profile workers sharing) = (kind ≡ called.Profile) × AreWorkers rows workers × AreShared rows sharing
 Asks kind rows (commands.Time runners workers sharing) =
     (kind ≡ called.Time) × AreRunners rows runners × AreWorkers rows workers × AreShared rows sharing
-Asks kind rows (commands.WhatIf cowns edits workers sharing) =
+Asks kind rows (commands.WhatIf cowns edits workers sharing names short) =
     (kind ≡ called.WhatIf) × AreCowns rows cowns.items × AreEdits rows edits.items × AreWorkers rows workers × AreShared rows sharing
+    × AreNamesFrom rows names × IsShort rows short
 Asks kind rows (commands.Curve most sharing) = (kind ≡ called.Curve) × AreUpTo rows most × AreShared rows sharing
 Asks kind rows (commands.Sweep over sharing) = (kind ≡ called.Sweep) × IsOver rows over × AreShared rows sharing
-Asks kind rows (commands.Why runners sharing all) = (kind ≡ called.Why) × AreRunners rows runners × AreShared rows sharing × IsAll rows all
+Asks kind rows (commands.Why runners workers sharing file all) =
+    (kind ≡ called.Why) × AreRunners rows runners × AreWorkers rows workers × AreShared rows sharing × IsRunFile rows file × IsAll rows all
+Asks kind rows (commands.Cowns runners sharing file top) =
+    (kind ≡ called.Cowns) × AreRunners rows runners × AreShared rows sharing × IsRunFile rows file × GivesNumber top_option rows top
 Asks kind rows (commands.Help text) = ⊥
 Asks kind rows commands.Version = ⊥
 
@@ -214,20 +254,18 @@ IsUnknown named = (name : List ℕ) (rows : List Row) → named ≡ Some (name, 
 abbrev pub HasNoNumbers : Option (List ℕ × List Row) → Type 0
 HasNoNumbers named = (kind : Kind) × Names named kind (MissesNumber number_options)
 
--- what the parser takes for this command does not fit, for an error of this kind: of a sweep, options that are at odds; of `whatif`, a text
--- given to `--without` that is no number of 32 bits
-abbrev pub IsUnfit : Kind → List Row → ErrorKind → Type 0
-IsUnfit called.Sweep rows error = (error ≡ kinds.ArgumentConflict) × AreAtOdds rows
-IsUnfit called.WhatIf rows error = (error ≡ kinds.ValueValidation) × (AreCownTexts rows → ⊥)
-IsUnfit _ rows error = ⊥
+-- what the parser takes for this command does not fit, for a conflict: of a sweep, options that are at odds; of any command, more files than one
+pub record IsUnfit (kind : Kind) (rows : List Row) (error : ErrorKind) : Type 0 where
+  pub conflict : error ≡ kinds.ArgumentConflict
+  pub why : ((kind ≡ called.Sweep) × AreAtOdds rows) ⊎ AreTooMany (files_of kind) rows
 
 -- a command was named, and what was found for it does not fit, for an error of this kind
 abbrev pub HasUnfit : Option (List ℕ × List Row) → ErrorKind → Type 0
 HasUnfit named error = (kind : Kind) × Names named kind (λ rows. IsUnfit kind rows error)
 
--- the texts given to `--without` are numbers, and of the edits the one with this number is the first that is misspelt
+-- no more than one file was given, and of the edits the one with this number is the first that is misspelt
 abbrev pub AreMisspelt : List Row → ℕ → Type 0
-AreMisspelt rows number = AreCownTexts rows × IsFirstMisspelt (values_at rows (codes "edits")) number
+AreMisspelt rows number = (AreTooMany (files_of called.WhatIf) rows → ⊥) × IsFirstMisspelt (values_at rows (codes "edits")) number
 
 -- of a command that was named an option has no number that can be read, or something does not fit, or of the edits the first is misspelt
 abbrev pub IsUnread : Kind → List Row → WordsFault → Type 0

@@ -5,7 +5,7 @@ ghost use Rattle.clap.specs.Words.{rule_of};
 ghost use Rattle.boc_words.specs.Commands.{IsNumberOf, parser_of, rule_at};
 ghost use Rattle.boc_words.specs.Tables.{argument_of};
 
-use boc_program::limits::{MOST_RUNNERS, MOST_WORKERS};
+use boc_program::limits::{MOST_COWNS, MOST_RUNNERS, MOST_WORKERS};
 use clap::builder::ValueParser;
 use clap::{Arg, ArgAction, value_parser};
 use std::alloc::Global;
@@ -90,6 +90,12 @@ pub(crate) const SWEEP_WORKERS: NumberOption = NumberOption {
     ..WORKERS
 };
 
+/// For how many workers `why` tells of a greedy plan.
+pub(crate) const WHY_WORKERS: NumberOption = NumberOption {
+    help: "Tells when the greedy plan for P workers ends too, 1 to 64",
+    ..WORKERS
+};
+
 /// Whether a sweep goes over the cowns.
 pub(crate) const SWEEP_COWNS: FlagOption = FlagOption {
     id: "cowns",
@@ -114,11 +120,47 @@ pub(crate) const SHARING: FlagOption = FlagOption {
     help: "Lets behaviours that only read a cown share it, in plans",
 };
 
+/// Whether the numbers before and after are told in place of the report.
+pub(crate) const SHORT: FlagOption = FlagOption {
+    id: "short",
+    help: "Prints work, span and chain before and after in place of the report",
+};
+
+/// How many cowns are told of.
+pub(crate) const TOP: NumberOption = NumberOption {
+    id: "top",
+    value_name: "K",
+    numbers: Numbers::UpTo(MOST_COWNS as u32),
+    help: "Prints the first K cowns alone, 1 to 256",
+};
+
 /// The cowns that `whatif` leaves out.
 pub(crate) const WITHOUT: RepeatedOption = RepeatedOption {
     id: "without",
     value_name: "COWN",
-    help: "Leaves out a cown: it orders nobody; as often as wanted",
+    help: "Leaves out a cown, by its number or by name, or all of an array: it orders nobody; as often as wanted",
+};
+
+/// The file with the program that a record is of.
+pub(crate) const PROGRAM: RepeatedOption = RepeatedOption {
+    id: "program",
+    value_name: "FILE",
+    help: "Reads from FILE the program that the record is of a run of",
+};
+
+/// The file with the record of the run of a program.
+pub(crate) const RECORD: RepeatedOption = RepeatedOption {
+    id: "record",
+    value_name: "FILE",
+    help: "Takes the run whose record is in FILE in place of a new one",
+};
+
+/// The file with the names of rows and cowns.
+pub(crate) const NAMES: RepeatedOption = RepeatedOption {
+    id: "names",
+    value_name: "FILE",
+    help: "Reads from FILE what rows and cowns are called: lines `@ COWN NAME` and `= ROW NAME [ARG ..]`, \
+        blank lines and those that begin with #; rows of one NAME are one def",
 };
 
 /// The edits of `whatif`.
@@ -126,7 +168,8 @@ pub(crate) const EDITS: Operands = Operands {
     id: "edits",
     value_name: "EDIT",
     help: "Changes a row: ROW=TICKS takes so many ticks, ROW@OFFSET is spawned at that tick of its parent, \
-        ROW=K/D costs that part and spawns its children so much sooner or later; edits are made in their order",
+        ROW=K/D costs that part and spawns its children so much sooner or later, DEF=K/D is the same for each row \
+        of a def; edits are made in their order",
 };
 
 // So many are named in the help of `--workers`.
@@ -134,6 +177,9 @@ const _: () = prove!(MOST_RUNNERS == 16);
 
 // So many are named in the help of `--p`.
 const _: () = prove!(MOST_WORKERS == 64);
+
+// So many are named in the help of `--top`.
+const _: () = prove!(MOST_COWNS == 256);
 
 impl Numbers {
     /// Whether a number is one of these.

@@ -3,13 +3,13 @@
 ghost use Rattle.std.specs.Prelude.{◌≡◌, IfNone, IfOk, IfSome};
 ghost use Rattle.clap.specs.Words.{app_of};
 ghost use Rattle.boc_words.specs.Commands.{app_of_command, commands_of_boc, signature_of};
-ghost use Rattle.boc_words.specs.Tables.{command_of_entry};
+ghost use Rattle.boc_words.specs.Tables.{takes_of};
 ghost use Rattle.boc_words.specs.Words.{IsNoneOf, Told, command_line, without_commands};
 
 use crate::arguments::Argument::{Flag, Number, Repeated, Words};
 use crate::arguments::{
-    ALL, Argument, CURVE_WORKERS, EDITS, RUNNERS, SHARING, SWEEP_COWNS, SWEEP_SPAWNS,
-    SWEEP_WORKERS, WITHOUT, WORKERS,
+    ALL, Argument, CURVE_WORKERS, EDITS, NAMES, PROGRAM, RECORD, RUNNERS, SHARING, SHORT,
+    SWEEP_COWNS, SWEEP_SPAWNS, SWEEP_WORKERS, TOP, WHY_WORKERS, WITHOUT, WORKERS,
 };
 use crate::version::VERSION;
 use std::alloc::{AllocError, Global};
@@ -26,12 +26,12 @@ pub(crate) enum Kind {
     Curve,
     Sweep,
     Why,
+    Cowns,
 }
 
-// A command: its name, what help says of it, which arguments it takes, and what help says of the lines that it prints.
+// What the parser is told of a command: what help says of it, which arguments it takes, and what help says of the lines that it prints.
+#[derive(Clone, Copy)]
 struct Entry {
-    kind: Kind,
-    name: &'static str,
     about: &'static str,
     takes: &'static [Argument],
     lines: &'static str,
@@ -81,96 +81,191 @@ const WHY_LINES: &str =
                    sooner; a cown, or all of an array, that orders nobody; a def's behaviours that spawn one tick after the other
   no order of ..   whatever order they get their cowns in, these behaviours end no sooner
 Of a program names are those of its text; of a record each row and each cown has its number. Ticks are what a body's statements cost, and no
-time that passes. Four or more rows of one def that follow each other stand in one line, unless --all is given; lists end after 20 lines.";
+time that passes. Four or more rows of one def that follow each other stand in one line, unless --all is given; lists end after 20 lines.
+With --record the input is a program, and the run is the one whose record is in FILE.";
+
+// What `cowns` tells.
+const COWNS_LINES: &str =
+    "The input is a program, which is run, or the record of a run, as its first word tells: `boc` begins a record. A line is a cown, those first
+that are held longest:
+  rows, wrote      how many rows have it, and how many of them wrote it
+  held, of span    how many ticks these rows take together, and what part of the span that is
+  waited           how many ticks rows wait for it between their spawn and their start; where a row waits for several, they count for each
+  chain            how many ticks of the chain that holds the run back go by until it is handed on
+  without          the span if it ordered nobody
+Below stand the span, what it would be if no cown ordered anybody, and how long the busiest cown is held; and a verdict:
+  load     a cown is held for at least 75 of 100 ticks of the span: split it, or shorten what holds it
+  order    none is; what holds the run back is the order in which behaviours are spawned and get their cowns
+With --record the input is a program, and the run is the one whose record is in FILE.";
+
+// What `whatif` prints.
+const WHATIF_LINES: &str = "The lines are those of `profile`, or with --short:
+  work, span       before and after the edits, and by how much the span changes; with --p the same of the greedy plan's end
+  chain            how many ticks go through which defs of the chain that holds the run back, before and after
+A def, and a cown that is left out by name, is one of the program in --program FILE or of the names in --names FILE; without them `row 2`
+is the def of row 2, and `cown 0` a cown. A number is always a row's or a cown's.";
 
 // Every command, in the order of help.
 //
-// One more is an entry here and in `every_kind`, with its `signature_of`; a variant of `Kind` and of `Command`; an arm of
-// `asked`; and a line of `Asks`.
-const COMMANDS: &[Entry] = &[
-    Entry {
-        kind: Kind::Values,
-        name: "values",
-        about: "Reads a program, runs it serially, and prints the values of its cowns",
-        takes: &[],
-        lines: "A line is NAME VALUE, or NAME[INDEX] VALUE for a member of an array.",
-    },
-    Entry {
-        kind: Kind::Check,
-        name: "check",
-        about: "Reads the record of a run, checks that it keeps the rules, and prints how many rows it has",
-        takes: &[],
-        lines: "The line is `ok ROWS`.",
-    },
-    Entry {
-        kind: Kind::Run,
-        name: "run",
-        about: "Reads a program, runs it by several threads, and prints the record of the run",
-        takes: &[Number(RUNNERS)],
-        lines: RECORD_LINES,
-    },
-    Entry {
-        kind: Kind::Profile,
-        name: "profile",
-        about: "Reads the record of a run, and prints its work, its span, its costliest chain and its earliest plan",
-        takes: &[Number(WORKERS), Flag(SHARING)],
-        lines: REPORT_LINES,
-    },
-    Entry {
-        kind: Kind::Time,
-        name: "time",
-        about: "Reads a program, runs it by several threads, and prints the profile of the run",
-        takes: &[Number(RUNNERS), Number(WORKERS), Flag(SHARING)],
-        lines: REPORT_LINES,
-    },
-    Entry {
-        kind: Kind::WhatIf,
-        name: "whatif",
-        about: "Reads the record of a run, and prints the profile that it would have with other ticks, other spawns or without a cown",
-        takes: &[
-            Number(WORKERS),
-            Flag(SHARING),
-            Repeated(WITHOUT),
-            Words(EDITS),
-        ],
-        lines: REPORT_LINES,
-    },
-    Entry {
-        kind: Kind::Curve,
-        name: "curve",
-        about: "Reads the record of a run, and prints when the greedy plans for 1, 2, 3 .. workers end",
-        takes: &[Number(CURVE_WORKERS), Flag(SHARING)],
-        lines: CURVE_LINES,
-    },
-    Entry {
-        kind: Kind::Sweep,
-        name: "sweep",
-        about: "Reads the record of a run, and prints for each row, cown or spawn what the span would be without what it costs",
-        takes: &[
-            Number(SWEEP_WORKERS),
-            Flag(SWEEP_COWNS),
-            Flag(SWEEP_SPAWNS),
-            Flag(SHARING),
-        ],
-        lines: SWEEP_LINES,
-    },
-    Entry {
-        kind: Kind::Why,
-        name: "why",
-        about: "Reads a program or the record of a run, and tells which cowns, spawns and behaviours hold it back",
-        takes: &[Number(RUNNERS), Flag(SHARING), Flag(ALL)],
-        lines: WHY_LINES,
-    },
+// One more is an entry here, a variant of `Kind` with its name and its entry, and its `signature_of` and a place in `every_kind`; a variant of
+// `Command`; an arm of `asked`; and a line of `Asks`.
+const EVERY_KIND: &[Kind] = &[
+    Kind::Values,
+    Kind::Check,
+    Kind::Run,
+    Kind::Profile,
+    Kind::Time,
+    Kind::WhatIf,
+    Kind::Curve,
+    Kind::Sweep,
+    Kind::Why,
+    Kind::Cowns,
 ];
+
+const VALUES: Entry = Entry {
+    about: "Reads a program, runs it serially, and prints the values of its cowns",
+    takes: &[Repeated(RECORD)],
+    lines: "A line is NAME VALUE, or NAME[INDEX] VALUE for a member of an array.
+With --record the values are those with which the run ended whose record is in FILE; it must be one of the program.",
+};
+
+const CHECK: Entry = Entry {
+    about: "Reads the record of a run, checks that it keeps the rules, and prints how many rows it has",
+    takes: &[Repeated(PROGRAM)],
+    lines: "The line is `ok ROWS`. With --program the record must be that of a run of the program in FILE too. Behind the
+fourteen faults of records these are told then, with the line of the record:
+  15 OtherCowns     it has another number of cowns than the program
+  16 NotNextSpawn   a row is spawned that is not what its parent spawns next
+  17 NotItsEnd      a row ends otherwise than its behaviour does",
+};
+
+const RUN: Entry = Entry {
+    about: "Reads a program, runs it by several threads, and prints the record of the run",
+    takes: &[Number(RUNNERS)],
+    lines: RECORD_LINES,
+};
+
+const PROFILE: Entry = Entry {
+    about: "Reads the record of a run, and prints its work, its span, its costliest chain and its earliest plan",
+    takes: &[Number(WORKERS), Flag(SHARING)],
+    lines: REPORT_LINES,
+};
+
+const TIME: Entry = Entry {
+    about: "Reads a program, runs it by several threads, and prints the profile of the run",
+    takes: &[Number(RUNNERS), Number(WORKERS), Flag(SHARING)],
+    lines: REPORT_LINES,
+};
+
+const WHATIF: Entry = Entry {
+    about: "Reads the record of a run, and prints the profile that it would have with other ticks, other spawns or without a cown",
+    takes: &[
+        Number(WORKERS),
+        Flag(SHARING),
+        Repeated(WITHOUT),
+        Repeated(PROGRAM),
+        Repeated(NAMES),
+        Flag(SHORT),
+        Words(EDITS),
+    ],
+    lines: WHATIF_LINES,
+};
+
+const CURVE: Entry = Entry {
+    about: "Reads the record of a run, and prints when the greedy plans for 1, 2, 3 .. workers end",
+    takes: &[Number(CURVE_WORKERS), Flag(SHARING)],
+    lines: CURVE_LINES,
+};
+
+const SWEEP: Entry = Entry {
+    about: "Reads the record of a run, and prints for each row, cown or spawn what the span would be without what it costs",
+    takes: &[
+        Number(SWEEP_WORKERS),
+        Flag(SWEEP_COWNS),
+        Flag(SWEEP_SPAWNS),
+        Flag(SHARING),
+    ],
+    lines: SWEEP_LINES,
+};
+
+const WHY: Entry = Entry {
+    about: "Reads a program or the record of a run, and tells which cowns, spawns and behaviours hold it back",
+    takes: &[
+        Number(RUNNERS),
+        Number(WHY_WORKERS),
+        Flag(SHARING),
+        Repeated(RECORD),
+        Repeated(NAMES),
+        Flag(ALL),
+    ],
+    lines: WHY_LINES,
+};
+
+const COWNS: Entry = Entry {
+    about: "Reads a program or the record of a run, and tells which cowns are held and waited for, and whether they hold the run back",
+    takes: &[
+        Number(RUNNERS),
+        Flag(SHARING),
+        Repeated(RECORD),
+        Repeated(NAMES),
+        Number(TOP),
+    ],
+    lines: COWNS_LINES,
+};
+
+impl Kind {
+    // The name of the command.
+    fn name(self) -> &'static str
+        ensures { result.now ≡ (signature_of self).0 }
+    {
+        match self {
+            Kind::Values => "values",
+            Kind::Check => "check",
+            Kind::Run => "run",
+            Kind::Profile => "profile",
+            Kind::Time => "time",
+            Kind::WhatIf => "whatif",
+            Kind::Curve => "curve",
+            Kind::Sweep => "sweep",
+            Kind::Why => "why",
+            Kind::Cowns => "cowns",
+        }
+    }
+
+    // What the parser is told of it.
+    fn entry(self) -> Entry
+        ensures { takes_of result ≡ (signature_of self).1 }
+    {
+        match self {
+            Kind::Values => VALUES,
+            Kind::Check => CHECK,
+            Kind::Run => RUN,
+            Kind::Profile => PROFILE,
+            Kind::Time => TIME,
+            Kind::WhatIf => WHATIF,
+            Kind::Curve => CURVE,
+            Kind::Sweep => SWEEP,
+            Kind::Why => WHY,
+            Kind::Cowns => COWNS,
+        }
+    }
+
+    // The command as the parser takes it.
+    fn command<'a>(self, alloc: Global) -> Result<clap::Command<'a>, AllocError>
+        ensures { IfOk result (λ command. Told command (app_of_command (signature_of self))) }
+    {
+        self.entry().command(alloc, self.name())
+    }
+}
 
 /// The command of this name.
 pub(crate) fn kind_of(name: &str) -> Option<Kind>
     ensures none { IfNone result (IsNoneOf name.now commands_of_boc) }
     ensures some { IfSome result (λ kind. name.now ≡ (signature_of kind).0) }
 {
-    for entry in COMMANDS {
-        if entry.name == name {
-            return Some(entry.kind);
+    for kind in EVERY_KIND {
+        if kind.name() == name {
+            return Some(*kind);
         }
     }
     None
@@ -181,8 +276,8 @@ pub(crate) fn parser<'a>(alloc: Global) -> Result<clap::Command<'a>, AllocError>
     ensures { IfOk result (λ parser. app_of parser ≡ command_line) }
 {
     let mut parser = without_commands(alloc)?;
-    for entry in COMMANDS {
-        let command = entry.command(alloc)?;
+    for kind in EVERY_KIND {
+        let command = kind.command(alloc)?;
         parser = parser.subcommand(command)?;
     }
     Ok(parser)
@@ -201,11 +296,15 @@ fn without_commands<'a>(alloc: Global) -> Result<clap::Command<'a>, AllocError>
 }
 
 impl Entry {
-    // The command as the parser takes it.
-    fn command<'a>(&self, alloc: Global) -> Result<clap::Command<'a>, AllocError>
-        ensures { IfOk result (λ command. Told command (app_of_command (command_of_entry self.now))) }
+    // The command of this name as the parser takes it.
+    fn command<'a>(
+        &self,
+        alloc: Global,
+        name: &'static str,
+    ) -> Result<clap::Command<'a>, AllocError>
+        ensures { IfOk result (λ command. Told command (app_of_command (name.now, takes_of self.now))) }
     {
-        let mut command = clap::Command::new(alloc, self.name)
+        let mut command = clap::Command::new(alloc, name)
             .about(self.about)
             .after_help(self.lines);
         for argument in self.takes {

@@ -1,44 +1,68 @@
 // The words of edits.
 
-ghost use Rattle.std.specs.Prelude.{◌≡◌, ◌<◌, ◌⊎◌, ◌∷◌, ◌++◌, ◌^◌, ℕ, IfNone, IfSome, MatchOption, decimal};
-ghost use Rattle.boc_plans.specs.declared.edit.Change.TheVariants.{Cost};
+ghost use Rattle.std.specs.Prelude.{◌≡◌, ◌<◌, ◌⊎◌, ◌↔◌, ◌∷◌, ◌++◌, ◌^◌, ℕ, List, IfNone, IfOk, IfSome, IsTrue, MatchOption, decimal};
 ghost use Rattle.boc_plans.specs.Fractions.{Fraction};
-ghost use Rattle.boc_words.specs.EditWords.{IsEditWord, IsPart, IsWritable, edit_word};
+ghost use Rattle.boc_words.specs.EditWords.{HasNone, HasOther, IsCostWord, IsEditWord, IsPart, IsWritable, cost_word, edit_word, equals_sign};
 
+use crate::asked::AskedEdit;
 use boc_plans::edit::{Change, Edit, Part};
 use boc_text::read_number;
+use std::alloc::{AllocError, Global};
 
 // The edit that a word is: `ROW=TICKS`, `ROW@OFFSET` or `ROW=K/D`, of plain decimals, K and D from 1 to 1,000 and the others up to
-// 4,294,967,295. No other word is an edit.
-pub(crate) fn edit_of(word: &str) -> Option<Edit>
-    ensures none { IfNone result (IsEditWord word.now → ⊥) }
-    ensures word { IfSome result (λ edit. word.now ≡ edit_word edit) }
-    ensures writable { IfSome result IsWritable }
+// 4,294,967,295, or `DEF=K/D`, of a name that has no equals sign and is not of digits alone. No other word is an edit.
+pub(crate) fn edit_of(alloc: Global, word: &str) -> Result<Option<AskedEdit>, AllocError>
+    ensures none { IfOk result (λ edit. IfNone edit (IsEditWord word.now → ⊥)) }
+    ensures word { IfOk result (λ edit. IfSome edit (λ e. word.now ≡ edit_word e)) }
+    ensures writable { IfOk result (λ edit. IfSome edit IsWritable) }
 {
     if let Some((row, ticks)) = numbers_around(word, '=') {
         let change = Change::Ticks(ticks);
-        return Some(Edit { row, change });
+        return Ok(Some(AskedEdit::Row(Edit { row, change })));
     }
     if let Some((row, offset)) = numbers_around(word, '@') {
         let change = Change::Offset(offset);
-        return Some(Edit { row, change });
+        return Ok(Some(AskedEdit::Row(Edit { row, change })));
     }
-    cost_edit(word)
+    cost_edit(alloc, word)
 }
 
-// The edit that a word `ROW=K/D` is.
-fn cost_edit(word: &str) -> Option<Edit>
-    ensures none { IfNone result ((row : ℕ) (part : Fraction) → row < 2 ^ 32 → IsPart part
-        → word.now ≡ edit_word (record { row = row; change = Cost part }) → ⊥) }
-    ensures word { IfSome result (λ edit. word.now ≡ edit_word edit) }
-    ensures writable { IfSome result IsWritable }
+// The edit that a word `ROW=K/D` or `DEF=K/D` is.
+fn cost_edit(alloc: Global, word: &str) -> Result<Option<AskedEdit>, AllocError>
+    ensures none { IfOk result (λ edit. IfNone edit (IsCostWord word.now → ⊥)) }
+    ensures word { IfOk result (λ edit. IfSome edit (λ e. word.now ≡ edit_word e)) }
+    ensures writable { IfOk result (λ edit. IfSome edit IsWritable) }
 {
-    let (row, part) = word.split_once('=')?;
-    let row = read_number(row.as_bytes())?;
+    let Some((subject, part)) = subject_and_part(word) else {
+        return Ok(None);
+    };
+    if let Some(row) = read_number(subject.as_bytes()) {
+        let change = Change::Cost(part);
+        return Ok(Some(AskedEdit::Row(Edit { row, change })));
+    }
+    if !is_name(subject) {
+        return Ok(None);
+    }
+    let name = String::from_str(alloc, subject)?;
+    Ok(Some(AskedEdit::Def { name, part }))
+}
+
+// What stands before the first equals sign of a word, and the part behind it, where the word is no more than that.
+fn subject_and_part(word: &str) -> Option<(&str, Part)>
+    ensures { MatchOption result
+        ((subject : List ℕ) (part : Fraction) → HasNone equals_sign subject → IsPart part → word.now ≡ cost_word subject part → ⊥)
+        (λ found. HasNone equals_sign found.0.now × IsPart found.1 × (word.now ≡ cost_word found.0.now found.1)) }
+{
+    let (subject, part) = word.split_once('=')?;
     let (over, under) = numbers_around(part, '/')?;
-    let part = Part::new(over, under)?;
-    let change = Change::Cost(part);
-    Some(Edit { row, change })
+    Some((subject, Part::new(over, under)?))
+}
+
+// Whether a text is more than digits.
+fn is_name(text: &str) -> bool
+    ensures { IsTrue result ↔ HasOther text.now }
+{
+    text.as_bytes().iter().any(|byte| !byte.is_ascii_digit())
 }
 
 // The two plain decimals up to 4,294,967,295 round the sign, where the word is no more than that. The sign is no digit.

@@ -9,8 +9,8 @@ pub enum WordsFault {
     /// The parser refuses the words, with its own text.
     #[error("{0}")]
     Parser(clap::Error),
-    /// A word that should be an edit, `ROW=TICKS`, `ROW@OFFSET` or `ROW=K/D`, and is none; edits are counted from 1.
-    #[error("boc: edit {number}: not ROW=TICKS\n     an edit is ROW=TICKS, ROW@OFFSET or ROW=K/D")]
+    /// A word that should be an edit, `ROW=TICKS`, `ROW@OFFSET`, `ROW=K/D` or `DEF=K/D`, and is none; edits are counted from 1.
+    #[error("boc: edit {number}: not ROW=TICKS\n     an edit is ROW=TICKS, ROW@OFFSET, ROW=K/D or DEF=K/D")]
     EditWord { number: usize },
     /// Memory was refused.
     #[error("boc: memory")]

@@ -2,6 +2,7 @@
 #![tactic(auto)]
 
 mod arguments;
+mod asked;
 mod commands;
 mod edit_word;
 mod fault;
@@ -9,6 +10,7 @@ mod runners;
 mod version;
 mod words;
 
+pub use asked::{AskedCown, AskedEdit, NamesFrom, RunFile};
 pub use fault::WordsFault;
 pub use runners::Runners;
 pub use version::VERSION;

@@ -1,10 +1,10 @@
 // The words of the command line.
 
-ghost use Rattle.boc_words.specs.Commands.{IsNumberOf, runners_option, workers_option};
+ghost use Rattle.boc_words.specs.Commands.{IsNumberOf, names_file, program_file, record_file, runners_option, top_option, workers_option};
 ghost use Rattle.boc_words.specs.Tables.{option_of};
-ghost use Rattle.boc_words.specs.Words.{AreCownTexts, AreCowns, AreEdits, AreRunners, AreShared, AreTaken, AreUpTo, AreWorkers, Asks};
-ghost use Rattle.boc_words.specs.Words.{GivesNumber, IsAsked, IsCownText, IsGiven, IsMisnamed, IsNamed, IsOfCowns, IsOfEditWords, IsOfError};
-ghost use Rattle.boc_words.specs.Words.{IsOfKind, IsOfNoText, IsOfNumber, IsOfSweep, IsOver, IsRefused, IsTextOfKind, IsUnread, Says};
+ghost use Rattle.boc_words.specs.Words.{AreCowns, AreEdits, AreNamesFrom, AreRunners, AreShared, AreTaken, AreUpTo, AreWorkers, Asks};
+ghost use Rattle.boc_words.specs.Words.{GivesFile, GivesNumber, IsAsked, IsCownText, IsGiven, IsMisnamed, IsNamed, IsOfEditWords, IsOfError};
+ghost use Rattle.boc_words.specs.Words.{IsOfFiles, IsOfKind, IsOfNoText, IsOfNumber, IsOfSweep, IsOver, IsRefused, IsRunFile, IsTextOfKind, IsUnread};
 ghost use Rattle.boc_words.specs.Words.{command_line, values_at};
 ghost use Rattle.clap.specs.Kinds.{HasKind};
 ghost use Rattle.clap.specs.declared.error.kind.ErrorKind.TheVariants.{ArgumentConflict, ValueValidation};
@@ -12,14 +12,14 @@ ghost use Rattle.clap.specs.Words.{fault_of, found_of, kind_of, rows_of, subcomm
 ghost use Rattle.std.specs.Prelude.{◌≡◌, ◌∷◌, ◌↔◌, [], ℕ, IfErr, IfNone, IfOk, IfSome, IsTrue, codes, map, string_bytes};
 
 use crate::arguments::{
-    ALL, EDITS, NumberOption, Numbers, RUNNERS, SHARING, SWEEP_COWNS, SWEEP_SPAWNS, WITHOUT,
-    WORKERS,
+    ALL, EDITS, NAMES, NumberOption, Numbers, PROGRAM, RECORD, RUNNERS, RepeatedOption, SHARING,
+    SHORT, SWEEP_COWNS, SWEEP_SPAWNS, TOP, WITHOUT, WORKERS,
 };
+use crate::asked::{AskedCown, AskedEdit, NamesFrom, RunFile};
 use crate::commands::{Kind, kind_of, parser};
 use crate::edit_word::edit_of;
 use crate::fault::WordsFault;
 use crate::runners::Runners;
-use boc_plans::edit::Edit;
 use boc_plans::sharing::Sharing;
 use boc_plans::sweep::Sweep;
 use boc_plans::workers::Workers;
@@ -29,13 +29,17 @@ use clap::ArgMatches;
 use clap::error::ErrorKind;
 use std::alloc::{AllocError, Global};
 
-/// What the words ask for.
+/// What the words ask for. A text behind a file is its path.
 #[derive(Debug, Drop)]
 pub enum Command {
-    /// The values after the serial run of a program.
-    Values,
-    /// Whether the input is the text of a record, and of how many rows.
-    Check,
+    /// The values after the serial run of a program, or after the run that a record is of.
+    Values {
+        record: Option<String>,
+    },
+    /// Whether the input is the text of a record, and of how many rows; and, where a program is given, whether it is of a run of that.
+    Check {
+        program: Option<String>,
+    },
     /// The record of a run of a program by so many threads.
     Run {
         runners: Runners,
@@ -52,12 +56,15 @@ pub enum Command {
         workers: Option<Workers>,
         sharing: Sharing,
     },
-    /// The report on the rows of a record without these cowns and after these edits, with the greedy plan as for a profile.
+    /// The report on the rows of a record without these cowns and after these edits, with the greedy plan as for a profile; or, where that
+    /// is asked for, what they change in short.
     WhatIf {
-        cowns: Vec<CownNo>,
-        edits: Vec<Edit>,
+        cowns: Vec<AskedCown>,
+        edits: Vec<AskedEdit>,
         workers: Option<Workers>,
         sharing: Sharing,
+        names: Option<NamesFrom>,
+        short: bool,
     },
     /// The ends of the greedy plans for 1 worker up to so many, for the rows of a record.
     Curve {
@@ -71,11 +78,20 @@ pub enum Command {
         sharing: Sharing,
     },
     /// Why the rows of a run of a program, by so many threads where the input is one, or of a record take as long as they do; each row of the
-    /// chain on a line of its own where all are asked for.
+    /// chain on a line of its own where all are asked for, and the end of the greedy plan for so many workers where a number is given.
     Why {
         runners: Runners,
+        workers: Option<Workers>,
         sharing: Sharing,
+        file: Option<RunFile>,
         all: bool,
+    },
+    /// Which cowns of a run or of a record, as for `Why`, are held and waited for; so many where a number is given.
+    Cowns {
+        runners: Runners,
+        sharing: Sharing,
+        file: Option<RunFile>,
+        top: Option<u32>,
     },
     /// The parser's own text, for standard output.
     Help(String),
@@ -85,9 +101,8 @@ pub enum Command {
 
 /// What the words of a command line ask for, the program's own name first.
 ///
-/// Words that the parser refuses are a fault with its text, and so are options of `sweep` that exclude each other, and a text given
-/// to `--without` that is no number of 32 bits. Of words that should be edits and are none the fault names the first, where there is
-/// nothing else against the words.
+/// Words that the parser refuses are a fault with its text, and so are options of `sweep` that exclude each other, and more than one file
+/// beside the input. Of words that should be edits and are none the fault names the first, where there is nothing else against the words.
 pub fn read_words(alloc: Global, words: &[String]) -> Result<Command, WordsFault>
     ensures asked { IfOk result (IsAsked (map string_bytes words.now)) }
     ensures refused { IfErr result (IsRefused (map string_bytes words.now)) }
@@ -157,8 +172,12 @@ fn asked(alloc: Global, kind: Kind, matches: &ArgMatches) -> Result<Command, Wor
     ensures refused { IfErr result (IsUnread kind (rows_of (found_of matches.now))) }
 {
     match kind {
-        Kind::Values => Ok(Command::Values),
-        Kind::Check => Ok(Command::Check),
+        Kind::Values => Ok(Command::Values {
+            record: file_asked(alloc, matches, &RECORD)?,
+        }),
+        Kind::Check => Ok(Command::Check {
+            program: file_asked(alloc, matches, &PROGRAM)?,
+        }),
         Kind::Run => Ok(Command::Run {
             runners: runners_asked(alloc, matches)?,
         }),
@@ -172,10 +191,12 @@ fn asked(alloc: Global, kind: Kind, matches: &ArgMatches) -> Result<Command, Wor
             sharing: sharing_asked(matches),
         }),
         Kind::WhatIf => Ok(Command::WhatIf {
+            names: names_asked(alloc, matches)?,
             cowns: cowns_asked(alloc, matches)?,
             edits: edits_asked(alloc, matches)?,
             workers: workers_asked(alloc, matches)?,
             sharing: sharing_asked(matches),
+            short: is_set(texts_at(matches, SHORT.id)),
         }),
         Kind::Curve => Ok(Command::Curve {
             most: most_asked(alloc, matches)?,
@@ -187,8 +208,16 @@ fn asked(alloc: Global, kind: Kind, matches: &ArgMatches) -> Result<Command, Wor
         }),
         Kind::Why => Ok(Command::Why {
             runners: runners_asked(alloc, matches)?,
+            workers: workers_asked(alloc, matches)?,
             sharing: sharing_asked(matches),
+            file: run_file_asked(alloc, matches)?,
             all: is_set(texts_at(matches, ALL.id)),
+        }),
+        Kind::Cowns => Ok(Command::Cowns {
+            runners: runners_asked(alloc, matches)?,
+            sharing: sharing_asked(matches),
+            file: run_file_asked(alloc, matches)?,
+            top: top_asked(alloc, matches)?,
         }),
     }
 }
@@ -234,56 +263,93 @@ fn at_odds(alloc: Global, text: &str) -> WordsFault
     fault_of_words(alloc, ErrorKind::ArgumentConflict, text)
 }
 
-// The cowns that the words leave out, in their order. A text that is no number of 32 bits is a fault.
-fn cowns_asked(alloc: Global, matches: &ArgMatches) -> Result<Vec<CownNo>, WordsFault>
-    ensures asked { IfOk result (λ cowns. AreCowns (rows_of (found_of matches.now)) cowns.items) }
-    ensures numbers { IfOk result (λ cowns. AreCownTexts (rows_of (found_of matches.now))) }
-    ensures refused { IfErr result (IsOfCowns (rows_of (found_of matches.now))) }
+// The path that the words give for a file. Two of them are a fault.
+fn file_asked(
+    alloc: Global,
+    matches: &ArgMatches,
+    option: &RepeatedOption,
+) -> Result<Option<String>, WordsFault>
+    ensures asked { IfOk result (GivesFile (rows_of (found_of matches.now)) option.now.id.now) }
+    ensures refused { IfErr result (IsOfFiles (option.now.id.now ∷ []) (rows_of (found_of matches.now))) }
+{
+    match texts_at(matches, option.id) {
+        [] => Ok(None),
+        [path] => Ok(Some(String::from_str(alloc, path)?)),
+        _ => Err(at_odds(alloc, "an option with a file cannot be used multiple times")),
+    }
+}
+
+// The file beside a program or a record that the words name. Two of them are a fault.
+fn run_file_asked(alloc: Global, matches: &ArgMatches) -> Result<Option<RunFile>, WordsFault>
+    ensures asked { IfOk result (IsRunFile (rows_of (found_of matches.now))) }
+    ensures refused { IfErr result (IsOfFiles (record_file ∷ names_file ∷ []) (rows_of (found_of matches.now))) }
+{
+    let record = file_asked(alloc, matches, &RECORD)?;
+    match (record, file_asked(alloc, matches, &NAMES)?) {
+        (None, None) => Ok(None),
+        (Some(path), None) => Ok(Some(RunFile::Record(path))),
+        (None, Some(path)) => Ok(Some(RunFile::Names(path))),
+        (Some(_), Some(_)) => Err(at_odds(
+            alloc,
+            "the argument '--record <FILE>' cannot be used with '--names <FILE>'",
+        )),
+    }
+}
+
+// The file beside a record that the words name. Two of them are a fault.
+fn names_asked(alloc: Global, matches: &ArgMatches) -> Result<Option<NamesFrom>, WordsFault>
+    ensures asked { IfOk result (AreNamesFrom (rows_of (found_of matches.now))) }
+    ensures refused { IfErr result (IsOfFiles (program_file ∷ names_file ∷ []) (rows_of (found_of matches.now))) }
+{
+    let program = file_asked(alloc, matches, &PROGRAM)?;
+    match (program, file_asked(alloc, matches, &NAMES)?) {
+        (None, None) => Ok(None),
+        (Some(path), None) => Ok(Some(NamesFrom::Program(path))),
+        (None, Some(path)) => Ok(Some(NamesFrom::Names(path))),
+        (Some(_), Some(_)) => Err(at_odds(
+            alloc,
+            "the argument '--program <FILE>' cannot be used with '--names <FILE>'",
+        )),
+    }
+}
+
+// The cowns that the words leave out, in their order.
+fn cowns_asked(alloc: Global, matches: &ArgMatches) -> Result<Vec<AskedCown>, AllocError>
+    ensures { IfOk result (λ cowns. AreCowns (rows_of (found_of matches.now)) cowns.items) }
 {
     let texts = texts_at(matches, WITHOUT.id);
     let mut cowns = Vec::new(alloc);
     for text in texts {
-        let Some(cown) = cown_of(text) else {
-            return Err(no_cown(alloc, text));
-        };
+        let cown = cown_of(alloc, text)?;
         cowns.push(cown)?;
     }
     Ok(cowns)
 }
 
-// The number of 32 bits that a text is, in decimal digits.
-fn cown_of(text: &str) -> Option<CownNo>
-    ensures none { IfNone result (IsCownText text.now → ⊥) }
-    ensures says { IfSome result (Says text.now) }
+// The cown that a text names: by its number, in decimal digits, where that has 32 bits.
+fn cown_of(alloc: Global, text: &str) -> Result<AskedCown, AllocError>
+    ensures { IfOk result (IsCownText text.now) }
 {
-    text.parse::<CownNo>().ok()
-}
-
-// The fault of a text that is no cown's number.
-fn no_cown(alloc: Global, text: &str) -> WordsFault
-    ensures { IsOfKind ValueValidation result }
-{
-    match format!(in alloc;
-        "invalid value '{text}' for '--without <COWN>': not a number from 0 to 4294967295"
-    ) {
-        Ok(told) => fault_of_words(alloc, ErrorKind::ValueValidation, &told),
-        Err(_) => WordsFault::Memory,
+    match text.parse::<CownNo>() {
+        Ok(number) => Ok(AskedCown::Number(number)),
+        Err(_) => Ok(AskedCown::Name(String::from_str(alloc, text)?)),
     }
 }
 
 // The edits that the words of `whatif` name. The first word that is no edit is a fault.
-fn edits_asked(alloc: Global, matches: &ArgMatches) -> Result<Vec<Edit>, WordsFault>
+fn edits_asked(alloc: Global, matches: &ArgMatches) -> Result<Vec<AskedEdit>, WordsFault>
     ensures asked { IfOk result (λ edits. AreEdits (rows_of (found_of matches.now)) edits.items) }
     ensures refused { IfErr result (IsOfEditWords (rows_of (found_of matches.now))) }
 {
     let words = texts_at(matches, EDITS.id);
     let mut edits = Vec::new(alloc);
     for (index, word) in words.iter().enumerate() {
-        let Some(Edit { row, change }) = edit_of(word) else {
+        let found = edit_of(alloc, word)?;
+        let Some(edit) = found else {
             let number = index + 1;
             return Err(WordsFault::EditWord { number });
         };
-        edits.push(Edit { row, change })?;
+        edits.push(edit)?;
     }
     Ok(edits)
 }
@@ -318,6 +384,17 @@ fn most_asked(alloc: Global, matches: &ArgMatches) -> Result<Workers, WordsFault
     match workers_asked(alloc, matches)? {
         Some(workers) => Ok(workers),
         None => Ok(Workers::new(MOST_WORKERS).unwrap()),
+    }
+}
+
+// How many cowns the words ask for at the most, where they have `--top`.
+fn top_asked(alloc: Global, matches: &ArgMatches) -> Result<Option<u32>, WordsFault>
+    ensures asked { IfOk result (GivesNumber top_option (rows_of (found_of matches.now))) }
+    ensures refused { IfErr result (IsOfNumber top_option (rows_of (found_of matches.now))) }
+{
+    match number_asked(alloc, matches, &TOP)? {
+        Some(number) => Ok(Some(number as u32)),
+        None => Ok(None),
     }
 }
 

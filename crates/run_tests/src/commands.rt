@@ -1,7 +1,7 @@
 //! Commands whose source or sink fails. What each command answers is in the program's own tests.
 
 use crate::runs::{GREEDY, RECORD, REPORT, TRANSFER, bytes};
-use boc_commands::{Command, Fault, Runners, Silent, VERSION, Want, run_command};
+use boc_commands::{AskedEdit, Command, Fault, Runners, Silent, VERSION, Want, run_command};
 use boc_plans::edit::{Change, Edit};
 use boc_plans::sharing::Sharing;
 use boc_plans::sweep::Sweep;
@@ -11,10 +11,11 @@ use boc_workers::OpenGate;
 use std::alloc::{AllocError, Global};
 use std::test::*;
 
-// A command with an input and its answer to that.
+// A command with the bytes of the file that it names, an input, and its answer to them.
 #[derive(Drop)]
 struct Case {
     command: Command,
+    beside: &'static str,
     input: &'static str,
     answer: String,
 }
@@ -38,6 +39,40 @@ plan
 // Its greedy part for two workers.
 const SHORTER_GREEDY: &str = "greedy 2\n0 0 4 0\n1 2 4 1\n2 4 5 0\n3 5 7 0\nend 7 bound 11\n";
 
+// Why the transfer takes as long as it does, in the names of its program.
+const WHY: &str = "rows 4   work 11   span 9
+
+chain
+  tick  ticks  row  behaviour      then
+     0      2    0  main           spawns row 1
+     2      2    1  add(5; a)      hands a to row 2
+     4      3    2  move(3; a, b)  hands b to row 3
+     7      2    3  add(1; b)      ends
+     9
+
+chain by def  ticks  rows        chain by link    ticks  links
+  add             4     2          b                  3      1
+  move            3     1          spawn by main      2      1
+  main            2     1          a                  2      1
+                                   end                2      1
+candidates              span  less
+  add at 1/2               7     2
+  without b                7     2
+  move at 1/2              8     1
+  main at 1/2              8     1
+  without a                8     1
+  early spawns by main     8     1
+no order of these behaviours ends before 6: their spawns take so long
+";
+
+// The cowns of its record.
+const COWNS: &str = "cown    rows  wrote  held  of span  waited  chain  without
+cown 0     2      2     5      55%       1      2        8
+cown 1     2      2     5      55%       3      3        7
+span 9; by spawns alone 6; busiest cown 5
+order: no cown is held over 55% of the span; the order in which behaviours ask is what holds back
+";
+
 // A case whose answer has two parts.
 fn answered(
     alloc: Global,
@@ -49,34 +84,51 @@ fn answered(
     let answer = format!(in alloc; "{answer}{part}")?;
     Ok(Case {
         command,
+        beside: "",
         input,
         answer,
     })
+}
+
+// The same beside the bytes of a file.
+fn answered_beside(
+    alloc: Global,
+    command: Command,
+    beside: &'static str,
+    input: &'static str,
+    answer: &str,
+) -> Result<Case, AllocError> {
+    let mut case = answered(alloc, command, input, answer, "")?;
+    case.beside = beside;
+    Ok(case)
 }
 
 // The command that reports on rows with one tick in row 2.
 fn shorter(alloc: Global, workers: Option<Workers>) -> Result<Command, AllocError> {
     let mut edits = Vec::new(alloc);
     let change = Change::Ticks(1);
-    edits.push(Edit { row: 2, change })?;
+    edits.push(AskedEdit::Row(Edit { row: 2, change }))?;
     Ok(Command::WhatIf {
         cowns: Vec::new(alloc),
         edits,
         workers,
         sharing: Sharing::Exclusive,
+        names: None,
+        short: false,
     })
 }
 
 // The commands that read a program.
 fn of_programs(alloc: Global) -> Result<[Case; 3], AllocError> {
     let runners = Runners::one();
+    let alone = Command::Values { record: None };
     let timed = Command::Time {
         runners,
         workers: None,
         sharing: Sharing::Exclusive,
     };
     Ok([
-        answered(alloc, Command::Values, TRANSFER, "a 12\nb 4\n", "")?,
+        answered(alloc, alone, TRANSFER, "a 12\nb 4\n", "")?,
         answered(alloc, Command::Run { runners }, TRANSFER, RECORD, "")?,
         answered(alloc, timed, TRANSFER, REPORT, "")?,
     ])
@@ -111,6 +163,7 @@ fn sweeps(alloc: Global) -> Result<[Case; 5], AllocError> {
 fn of_records(alloc: Global) -> Result<[Case; 6], AllocError> {
     let sharing = Sharing::Exclusive;
     let two = Workers::new(2);
+    let check = Command::Check { program: None };
     let alone = Command::Profile {
         workers: None,
         sharing,
@@ -126,7 +179,7 @@ fn of_records(alloc: Global) -> Result<[Case; 6], AllocError> {
         sharing,
     };
     Ok([
-        answered(alloc, Command::Check, RECORD, "ok 4\n", "")?,
+        answered(alloc, check, RECORD, "ok 4\n", "")?,
         answered(alloc, alone, RECORD, REPORT, "")?,
         answered(alloc, by_two, RECORD, REPORT, GREEDY)?,
         answered(alloc, shorter_alone, RECORD, SHORTER, "")?,
@@ -138,6 +191,41 @@ fn of_records(alloc: Global) -> Result<[Case; 6], AllocError> {
             "work 11\nspan 9\n",
             "1 11 11 20\n2 9 9 14\n",
         )?,
+    ])
+}
+
+// The commands that read a file beside their input.
+fn of_files(alloc: Global) -> Result<[Case; 2], AllocError> {
+    let against = Command::Check {
+        program: Some(String::from_str(alloc, "transfer.boc")?),
+    };
+    let after = Command::Values {
+        record: Some(String::from_str(alloc, "transfer.record")?),
+    };
+    Ok([
+        answered_beside(alloc, against, TRANSFER, RECORD, "ok 4\n")?,
+        answered_beside(alloc, after, RECORD, TRANSFER, "a 12\nb 4\n")?,
+    ])
+}
+
+// The commands that read a program or a record, as its first word tells.
+fn of_either(alloc: Global) -> Result<[Case; 2], AllocError> {
+    let why = Command::Why {
+        runners: Runners::one(),
+        workers: None,
+        sharing: Sharing::Exclusive,
+        file: None,
+        all: false,
+    };
+    let cowns = Command::Cowns {
+        runners: Runners::one(),
+        sharing: Sharing::Exclusive,
+        file: None,
+        top: None,
+    };
+    Ok([
+        answered(alloc, why, TRANSFER, WHY, "")?,
+        answered(alloc, cowns, RECORD, COWNS, "")?,
     ])
 }
 
@@ -160,6 +248,12 @@ fn of_inputs(alloc: Global) -> Result<Vec<Case>, AllocError> {
         cases.push(case)?;
     }
     for case in sweeps(alloc)? {
+        cases.push(case)?;
+    }
+    for case in of_files(alloc)? {
+        cases.push(case)?;
+    }
+    for case in of_either(alloc)? {
         cases.push(case)?;
     }
     Ok(cases)
@@ -189,6 +283,7 @@ fn one_read_fails(rt: HostRuntime) -> Result<(), Fail> {
                     alloc,
                     &OpenGate,
                     &case.command,
+                    Vec::from_slice(alloc, case.beside.as_bytes())?,
                     &mut Silent,
                     &mut source,
                     &mut sink,
@@ -225,6 +320,7 @@ fn one_write_fails(rt: HostRuntime) -> Result<(), Fail> {
                 alloc,
                 &OpenGate,
                 &case.command,
+                Vec::from_slice(alloc, case.beside.as_bytes())?,
                 &mut Silent,
                 &mut source,
                 &mut sink,
@@ -260,6 +356,7 @@ fn nothing_is_read_for_help(rt: HostRuntime) -> Result<(), Fail> {
             alloc,
             &OpenGate,
             &case.command,
+            Vec::from_slice(alloc, case.beside.as_bytes())?,
             &mut Silent,
             &mut source,
             &mut sink,

@@ -300,6 +300,7 @@ fn as_many_threads_as_asked_for(rt: HostRuntime) -> Result<(), Fail> {
             alloc,
             &gate,
             &command,
+            Vec::new(alloc),
             &mut Silent,
             &mut source,
             &mut sink,

@@ -10,7 +10,7 @@
 //! it is written who can step then, and the steps and values of the run once it went on until it is quiet. Each drive is
 //! made over linked chains and over plain ones, and what the plain ones give is written too, should it be something else.
 //! A `follow LENGTH` is a program of so many bytes and a record behind it: it is written whether the record is that of a run of the program, with
-//! the values in which that ends, or which event the program doesn't allow, counted from 0.
+//! the values in which that ends, or the line of the record that strays from the program first, and how.
 #![tactic(auto)]
 
 ghost use Rattle.std.specs.Prelude.{◌<◌, ◌≤◌, length, IfOk, IfSome};
@@ -20,7 +20,7 @@ use boc_chain::{Chains, ListChains};
 use boc_dispatch::{
     Core, DriveFault, cown_count, drive, drive_over, drive_quiet, drive_quiet_over,
 };
-use boc_follow::accept;
+use boc_follow::follow_record;
 use boc_greedy::{Greedy, greedy};
 use boc_order::profile;
 use boc_plans::sharing::Sharing;
@@ -450,7 +450,7 @@ fn tell_followed(rt: HostRuntime, text: &[u8], len: usize) -> io::Result<()> {
         Ok(record) => record,
         Err(fault) => return println!(rt; "{fault}"),
     };
-    match accept(rt.alloc(), &program, &record) {
+    match follow_record(rt.alloc(), &program, &record) {
         Ok(run) => {
             let values = values_text(rt.alloc(), run.values())?;
             rt.stdout().write_all(&values)

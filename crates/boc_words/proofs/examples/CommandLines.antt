@@ -1,10 +1,14 @@
 -- The definitions tried on command lines.
-use Rattle.std.proofs.Common.{◌≡◌, ◌<◌, ◌^◌, ℕ, arith, List, [], ◌∷◌, Some, None, true, inl, inr, refl, codes, lit≤}
+use Rattle.std.proofs.Common.{map, ◌≡◌, List, [], ◌∷◌, Some, None, true, inl, inr, refl, codes, lit≤}
 use Rattle.clap.proofs.OnLiterals.{clap_on_literals}
 use Rattle.clap.specs.Words.{Text, fault_of, is_simple, is_simple_and_free, subcommand_of}
 use Rattle.clap.specs.declared.error.kind.ErrorKind.TheVariants as kinds
-use Rattle.boc_words.specs.Words.{AreAtOdds, AreCownTexts, AreCowns, AreEdits, AreRunners, AreShared, AreTaken, AreUpTo, AreWorkers, IsOver, Names}
-use Rattle.boc_words.specs.Words.{command_line}
+use Rattle.boc_words.specs.Commands.{files_of}
+use Rattle.boc_words.specs.EditWords.{edit_word}
+use Rattle.boc_words.specs.declared.asked.AskedCown.TheVariants.{Number}
+use Rattle.boc_words.specs.declared.asked.AskedEdit.TheVariants.{Row}
+use Rattle.boc_words.specs.Words.{AreAtOdds, AreCowns, AreRunners, AreShared, AreTaken, AreUpTo, AreTooMany, AreWorkers, IsOver, Names}
+use Rattle.boc_words.specs.Words.{command_line, values_at}
 use Rattle.boc_words.specs.declared.commands.Kind.TheVariants as called
 use Rattle.boc_plans.specs.declared.edit.Change.TheVariants.{Offset, Ticks, Cost}
 use Rattle.boc_plans.specs.declared.sharing.Sharing.TheVariants.{Exclusive, SharedReads}
@@ -28,7 +32,8 @@ unfolding clap_on_literals
 whatif_taken = refl
 
 pub whatif_named : Names (subcommand_of command_line whatif_words) called.WhatIf (λ rows.
-    AreEdits rows (record { row = 2; change = Ticks 1 } ∷ record { row = 0; change = Ticks 30 } ∷ []) × AreWorkers rows (Some 2))
+    (values_at rows (codes "edits") ≡ map edit_word (Row (record { row = 2; change = Ticks 1 }) ∷ Row (record { row = 0; change = Ticks 30 }) ∷ []))
+    × AreWorkers rows (Some 2))
 unfolding clap_on_literals digits
 whatif_named = (_, refl, (refl, record { text = codes "+2"; alone = refl; says = record { numeral = (lit≤ tt, (lit≤ tt, tt)); value = refl } }))
 
@@ -39,8 +44,9 @@ pub without_taken : AreTaken without_words
 unfolding clap_on_literals
 without_taken = refl
 
-pub without_named : Names (subcommand_of command_line without_words) called.WhatIf (λ rows. AreCowns rows (7 ∷ 2 ∷ [])
-    × AreEdits rows (record { row = 2; change = Offset 5 } ∷ record { row = 1; change = Cost (record { over = 3; under = 2 }) } ∷ []))
+pub without_named : Names (subcommand_of command_line without_words) called.WhatIf (λ rows. AreCowns rows (Number 7 ∷ Number 2 ∷ [])
+    × (values_at rows (codes "edits")
+    ≡ map edit_word (Row (record { row = 2; change = Offset 5 }) ∷ Row (record { row = 1; change = Cost (record { over = 3; under = 2 }) }) ∷ [])))
 unfolding clap_on_literals digits
 without_named = (
   _,
@@ -108,20 +114,17 @@ pub odd_named : Names (subcommand_of command_line odd_words) called.Sweep (λ ro
 unfolding clap_on_literals
 odd_named = (_, refl, (refl, inr (λ e. cc)))
 
--- and of these a text given to `--without` is no number of 32 bits
-abbrev large_words : List Text
-large_words = codes "boc" ∷ codes "whatif" ∷ codes "--without" ∷ codes "4294967296" ∷ []
+-- and of these more files than one are given
+abbrev files_words : List Text
+files_words = codes "boc" ∷ codes "why" ∷ codes "--record" ∷ codes "a" ∷ codes "--names=b" ∷ []
 
-pub large_taken : AreTaken large_words
+pub files_taken : AreTaken files_words
 unfolding clap_on_literals
-large_taken = refl
+files_taken = refl
 
-too_large : (number : ℕ) → number < 2 ^ 32 → 4294967296 ≡ number → ⊥
-too_large number few is = omega (arith, few, is)
-
-pub large_named : Names (subcommand_of command_line large_words) called.WhatIf (λ rows. AreCownTexts rows → ⊥)
+pub files_named : Names (subcommand_of command_line files_words) called.Why (λ rows. AreTooMany (files_of called.Why) rows)
 unfolding clap_on_literals
-large_named = (_, refl, λ all. let text = all 0 [] (lit≤ tt) in too_large text.0 text.1 text.2.value)
+files_named = (_, refl, lit≤ tt)
 
 abbrev curve_words : List Text
 curve_words = codes "boc" ∷ codes "curve" ∷ []

@@ -1,10 +1,13 @@
 use Rattle.boc_commands.proofs.OneAnswer.{one_check_answer, one_curve_answer, one_profile_answer, one_sweep_answer, one_values_answer, one_whatif_answer}
+use Rattle.boc_commands.proofs.OneAnswer.{one_check_against_answer, one_values_after_answer}
 use Rattle.boc_commands.proofs.laws.input_has_one_answer.Goals as goal
 
 pub returns : goal.returns
 returns c = record {
   values = one_values_answer;
   check = one_check_answer;
+  check_against = one_check_against_answer;
+  values_after = one_values_after_answer;
   profile = one_profile_answer;
   whatif = one_whatif_answer;
   curve = one_curve_answer;

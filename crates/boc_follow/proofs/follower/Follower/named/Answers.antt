@@ -1,10 +1,8 @@
-use Rattle.std.proofs.Common.{◌≡◌, ◌∙◌, ◌<◌, ℕ, ℤ, List, Some, rules, ap, sym, refl, length, map, subst}
+use Rattle.std.proofs.Common.{◌≡◌, ◌<◌, Some, rules, refl, length, subst}
 use Rattle.std.specs.Prelude.{slice_get}
 use Rattle.std.proofs.lemmas.Option.{slice_get_read}
-use Rattle.boc_runs.specs.Serial.{Behaviour}
 use Rattle.boc_runs.specs.Run.{config_of}
 use Rattle.boc_follow.specs.Following.{Following}
-use Rattle.boc_follow.specs.Standings.{Standing, standing_in}
 use Rattle.boc_follow.specs.Takes.{IsNamed}
 use Rattle.boc_follow.proofs.RowKinds.{row_named, kind_there}
 use Rattle.boc_follow.proofs.follower.Follower.named.Goals as goal

@@ -1,4 +1,4 @@
-use Rattle.std.proofs.Common.{◌≡◌, ◌≤◌, ◌∙◌, ℕ, ap, subst, arith, length}
+use Rattle.std.proofs.Common.{◌≡◌, subst, arith, length}
 use Rattle.boc_runs.specs.Run.{config_of}
 use Rattle.boc_follow.specs.Following.{Following}
 use Rattle.boc_follow.proofs.Besides.{twins}

@@ -1,0 +1,141 @@
+-- Runs that a file beside an input tells of, or names.
+use Rattle.std.proofs.Common.{◌≡◌, ◌∙◌, ℕ, inl, inr, List, Option, Some, Result, Ok, Err, refl, ap, sym, subst}
+use Rattle.std.specs.Prelude.{MatchResult, String}
+use Rattle.std.specs.Global.{Global}
+use Rattle.boc_program.specs.declared.program.Program.{Program}
+use Rattle.boc_reader.specs.Spells.{Spells}
+use Rattle.boc_runs.specs.Records.{Recorded}
+use Rattle.boc_follow.specs.declared.stray.StrayFault.{StrayFault}
+use Rattle.boc_follow.specs.declared.stray.StrayFaultKind.{StrayFaultKind}
+use Rattle.boc_follow.specs.declared.stray.StrayFaultKind.TheVariants as strays
+use Rattle.boc_follow.specs.Strays.{Strays, Tells}
+use Rattle.boc_record.specs.RecordTexts.{IsTextOf}
+use Rattle.boc_words.specs.declared.asked.RunFile.{RunFile}
+use Rattle.boc_words.specs.declared.asked.RunFile.TheVariants as run_files
+use Rattle.boc_commands.specs.declared.fault.Fault.{Fault}
+use Rattle.boc_commands.specs.declared.fault.Fault.TheVariants as faults
+use Rattle.boc_commands.specs.declared.fault.FileFault.TheVariants as files
+use Rattle.boc_commands.specs.declared.fault.InputFault.TheVariants as inputs
+use Rattle.boc_commands.specs.declared.fault.Want.TheVariants as wants
+use Rattle.boc_commands.specs.declared.named_run.NamedRun.{NamedRun}
+use Rattle.boc_commands.specs.Beside.{IsOfRecordFile}
+use Rattle.boc_commands.specs.Faults.{of_stray_beside}
+use Rattle.boc_commands.specs.NamedRuns.{AreRenamed, HasRun, IsNamedRun, IsOfGiven, IsOfNamedRun, IsOfRenamed, IsOwnRun, IsRefusedName}
+use Rattle.boc_commands.specs.NamedRuns.{IsRecordNumbered, IsRenamed, IsShort, ReadsNamed, ReadsRun, RefusesNamedRecord, RefusesRenamed}
+use Rattle.boc_words.specs.declared.asked.NamesFrom.{NamesFrom}
+use Rattle.boc_words.specs.declared.asked.NamesFrom.TheVariants as names_from
+use Rattle.boc_commands.proofs.Asked.{told as told_of}
+use Rattle.boc_commands.proofs.TakenRuns.{begins_or_not}
+
+-- a file that should be a record, beside a text that spells a program, is refused as such
+pub of_given_file : (text file : List ℕ) (program : Program) (fault : Fault) → Spells text program → IsOfRecordFile file fault → IsOfGiven text file fault
+of_given_file text file program (faults.Input (inputs.Beside (files.Record r))) spells is = ((program, spells), is)
+of_given_file text file program (faults.Means wants.Memory) spells is = tt
+of_given_file text file program _ spells is = absurd is
+
+-- and so is one whose record strays from the program
+pub of_given_stray : (text file : List ℕ) (program : Program) (recorded : Recorded) (stray : StrayFault) → Spells text program → IsTextOf file recorded
+    → Tells program recorded stray.kind stray.line → IsOfGiven text file (of_stray_beside stray stray.kind)
+of_given_stray text file program recorded stray spells tells told = go stray.kind refl told
+  where
+    strayed : (kind : StrayFaultKind) → stray.kind ≡ kind → Strays program recorded kind stray.line → Strays program recorded stray.kind stray.line
+    strayed kind same h = subst (λ k. Strays program recorded k stray.line) (sym same) h
+
+    go : (kind : StrayFaultKind) → stray.kind ≡ kind → Tells program recorded kind stray.line → IsOfGiven text file (of_stray_beside stray kind)
+    go strays.Memory same h = tt
+    go strays.OtherCowns same h = record {
+      program = program;
+      spells = spells;
+      recorded = recorded;
+      tells = tells;
+      strays = record { strays = strayed strays.OtherCowns same h.0; no_run = h.1 };
+    }
+    go strays.NotNextSpawn same h = record {
+      program = program;
+      spells = spells;
+      recorded = recorded;
+      tells = tells;
+      strays = record { strays = strayed strays.NotNextSpawn same h.0; no_run = h.1 };
+    }
+    go strays.NotItsEnd same h = record {
+      program = program;
+      spells = spells;
+      recorded = recorded;
+      tells = tells;
+      strays = record { strays = strayed strays.NotItsEnd same h.0; no_run = h.1 };
+    }
+
+-- a run with names that a file laid over its own, or why the file is none of names
+pub renamed_run : (always_on : Type 0) (text bytes file : List ℕ) (run : NamedRun) (result : Result NamedRun Fault) → HasRun (IsOwnRun text) run → IsShort text
+    → file ≡ bytes → MatchResult result (IsRenamed file run) (IsRefusedName file run.names)
+    → MatchResult result (λ after. HasRun (λ recorded names. AreRenamed (λ base. IsOwnRun text recorded base) bytes names) after × IsShort text)
+    (IsOfRenamed always_on bytes text)
+renamed_run always_on text bytes file run (Ok after) has short same h =
+    let own : IsRenamed bytes run after = subst (λ f. IsRenamed f run after) same h in (
+      record {
+        recorded = has.recorded;
+        named = record { base = run.names; named = has.named; renamed = own.renamed };
+        rows_are = own.same ∙ has.rows_are;
+        few = own.few;
+      },
+      short,
+    )
+renamed_run always_on text bytes file run (Err fault) has short same h = go fault (subst (λ f. IsRefusedName f run.names fault) same h)
+  where
+    go : (x : Fault) → IsRefusedName bytes run.names x → IsOfRenamed always_on bytes text x
+    go (faults.Input (inputs.Beside (files.Names r))) is =
+        record { recorded = has.recorded; base = run.names; named = has.named; wrong = is.0; refusal = is.1 }
+    go (faults.Means wants.Memory) is = elim (begins_or_not text) [ inl begins ↦ inl (begins, tt) | inr none ↦ inr (none, tt) ]
+    go _ is = absurd is
+
+-- the same, of a file that is told to be one of names
+pub renamed_as : (always_on : Type 0) (text bytes file : List ℕ) (run : NamedRun) (result : Result NamedRun Fault) (asked : Option RunFile)
+    (named : RunFile) (path : String Global) → asked ≡ Some named → named ≡ run_files.Names path → HasRun (IsOwnRun text) run → IsShort text
+    → file ≡ bytes → MatchResult result (IsRenamed file run) (IsRefusedName file run.names)
+    → MatchResult result (λ after. HasRun (IsNamedRun asked bytes text) after × IsShort text) (IsOfNamedRun always_on asked bytes text)
+renamed_as always_on text bytes file run result asked named path is_asked is_named has short same h =
+    subst (λ (o : Option RunFile). MatchResult result (λ after. HasRun (IsNamedRun o bytes text) after × IsShort text) (IsOfNamedRun always_on o bytes text))
+    (sym (is_asked ∙ ap Some is_named)) (renamed_run always_on text bytes file run result has short same h)
+
+-- ---- a record with names
+
+-- a record that was read, with names that a file laid over its numbers
+pub read_renamed : (bytes : List ℕ) (run : NamedRun) (result : Result NamedRun Fault) (asked : Option NamesFrom) (named : NamesFrom) (path : String Global)
+    (before after : Option (List ℕ)) → asked ≡ Some named → named ≡ names_from.Names path → ReadsRun IsRecordNumbered (Ok run) before after
+    → MatchResult result (IsRenamed bytes run) (IsRefusedName bytes run.names) → ReadsNamed asked bytes result before after
+read_renamed bytes run (Err fault) asked named path before after is_asked is_named read h = tt
+read_renamed bytes run (Ok renamed) asked named path before after is_asked is_named read h =
+    subst (λ (o : Option NamesFrom). ReadsNamed o bytes (Ok renamed) before after) (sym (is_asked ∙ ap Some is_named)) (
+      read.0,
+      read.1,
+      read.2,
+      record {
+        recorded = read.3.recorded;
+        named = record { base = run.names; named = read.3.named; renamed = h.renamed };
+        rows_are = h.same ∙ read.3.rows_are;
+        few = h.few;
+      },
+    )
+
+-- or why the file is none of names
+pub refused_renamed : (bytes : List ℕ) (run : NamedRun) (result : Result NamedRun Fault) (asked : Option NamesFrom) (named : NamesFrom)
+    (path : String Global) (before after : Option (List ℕ)) → asked ≡ Some named → named ≡ names_from.Names path
+    → ReadsRun IsRecordNumbered (Ok run) before after → MatchResult result (IsRenamed bytes run) (IsRefusedName bytes run.names)
+    → RefusesNamedRecord asked bytes result before
+refused_renamed bytes run result asked named path before after is_asked is_named read h =
+    subst (λ (o : Option NamesFrom). RefusesNamedRecord o bytes result before) (sym (is_asked ∙ ap Some is_named)) (go result h)
+  where
+    of_names : (x : Fault) → IsRefusedName bytes run.names x → RefusesRenamed {A = NamedRun} bytes (Err x) before
+    of_names (faults.Input (inputs.Beside (files.Names r))) is = record {
+      recorded = read.3.recorded;
+      base = run.names;
+      tells = told_of (λ t. IsRecordNumbered t read.3.recorded run.names) before after read.0 read.1 read.2 read.3.named;
+      wrong = is.0;
+      refusal = is.1;
+    }
+    of_names (faults.Means wants.Memory) is = tt
+    of_names _ is = absurd is
+
+    go : (r : Result NamedRun Fault) → MatchResult r (IsRenamed bytes run) (IsRefusedName bytes run.names) → RefusesRenamed bytes r before
+    go (Ok renamed) is = tt
+    go (Err fault) is = of_names fault is

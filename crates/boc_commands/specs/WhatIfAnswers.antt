@@ -1,0 +1,125 @@
+-- What the command `whatif` answers, and what it refuses.
+use Rattle.std.specs.Prelude.{◌≡◌, ◌≢◌, ℕ, ◌⊎◌, Bool, true, false, List, [], All, Option, Some, None, IfSome, Result, Ok, Err}
+use Rattle.boc_runs.specs.declared.rows.Row.{Row}
+use Rattle.boc_runs.specs.Records.{Recorded}
+use Rattle.boc_plans.specs.declared.chain.ChainStep.{ChainStep}
+use Rattle.boc_plans.specs.declared.sharing.Sharing.{Sharing}
+use Rattle.boc_plans.specs.Chains.{IsPicked}
+use Rattle.boc_plans.specs.Greedy.{IsSpan}
+use Rattle.boc_plans.specs.Plans.{IsEarliest, work_of}
+use Rattle.boc_plans.specs.Seen.{seen}
+use Rattle.boc_plans.specs.Sweeps.{IsGreedyEnd}
+use Rattle.boc_names.specs.declared.names.Names.{Names}
+use Rattle.boc_why.specs.Causes.{without_all}
+use Rattle.boc_why.specs.WhySteps.{AreSharesByDef}
+use Rattle.boc_why_report.specs.declared.short.Outcome.{Outcome}
+use Rattle.boc_why_report.specs.ShortTexts.{short_text}
+use Rattle.boc_words.specs.declared.asked.AskedCown.{AskedCown}
+use Rattle.boc_words.specs.declared.asked.AskedEdit.{AskedEdit}
+use Rattle.boc_words.specs.declared.asked.NamesFrom.{NamesFrom}
+use Rattle.boc_commands.specs.declared.fault.Fault.{Fault}
+use Rattle.boc_commands.specs.declared.fault.Fault.TheVariants as faults
+use Rattle.boc_commands.specs.declared.fault.InputFault.TheVariants as inputs
+use Rattle.boc_commands.specs.Answers.{IsReport}
+use Rattle.boc_commands.specs.NamedRuns.{IsNamedRecord, RefusesNamedRecord}
+use Rattle.boc_commands.specs.Asked.{AreAskedFor, IsOfCowns, IsOfEdits, all_cowns, cowns_of}
+
+-- ---- what is told
+
+-- the end of the greedy plan for the number of workers that was asked for, where one was
+abbrev pub IsAskedEnd : List Row → Option ℕ → Option ℕ → Type 0
+IsAskedEnd rows None None = Unit {0}
+IsAskedEnd rows (Some p) (Some end) = IsGreedyEnd rows p end
+IsAskedEnd rows workers end = ⊥
+
+-- What some rows with these defs come to: their work, their span, the shares by def of the chain that is picked in their earliest plan, and the end of the
+-- greedy plan that was asked for.
+pub record IsOutcome (rows : List Row) (sharing : Sharing) (defs : List ℕ) (workers : Option ℕ) (outcome : Outcome) : Type 0 where
+  pub work : outcome.work ≡ work_of rows
+  pub span : IsSpan (seen sharing rows) outcome.span
+  pub starts : List ℕ
+  pub earliest : IsEarliest (seen sharing rows) starts
+  pub steps : List ChainStep
+  pub picked : IsPicked (seen sharing rows) starts steps
+  pub by_def : AreSharesByDef defs steps outcome.by_def.items
+  pub end : IsAskedEnd (seen sharing rows) workers outcome.end
+
+-- the output tells in short what some rows come to before and after they change
+pub record IsShortReport (names : Names) (sharing : Sharing) (workers : Option ℕ) (before after : List Row) (output : List ℕ) : Type 0 where
+  pub was : Outcome
+  pub was_is : IsOutcome before sharing names.defs.items workers was
+  pub now : Outcome
+  pub now_is : IsOutcome after sharing names.defs.items workers now
+  pub text : output ≡ short_text names was now
+
+-- the output is the report on rows after they change, or what is told in short of them before and after
+abbrev pub IsReportAfter : Bool → Names → Sharing → Option ℕ → List Row → List Row → List ℕ → Type 0
+IsReportAfter false names sharing workers before after output = IsReport (seen sharing after) workers output
+IsReportAfter true names sharing workers before after output = IsShortReport names sharing workers before after output
+
+-- Every cown that is asked for means some in these names. Without all of these cowns the rows take all edits that are asked for, one after the other, of which
+-- each means some, and these are the rows after all of that.
+pub record AreChangedSo (names : Names) (cowns : List AskedCown) (edits : List AskedEdit) (rows after : List Row) : Type 0 where
+  pub known : All (λ a. cowns_of names a ≢ []) cowns
+  pub asked_for : AreAskedFor names (without_all (all_cowns names cowns) rows) edits after
+
+-- a text tells in short what rows come to before and after these changes
+pub record IsShortAnswer (names : Names) (cowns : List AskedCown) (edits : List AskedEdit) (sharing : Sharing) (workers : Option ℕ) (rows : List Row)
+    (text : List ℕ) : Type 0 where
+  pub after : List Row
+  pub changed : AreChangedSo names cowns edits rows after
+  pub told : IsShortReport names sharing workers rows after text
+
+-- the output tells of the rows after these changes
+pub record IsWhatIfReport (names : Names) (cowns : List AskedCown) (edits : List AskedEdit) (sharing : Sharing) (workers : Option ℕ) (short : Bool)
+    (rows : List Row) (output : List ℕ) : Type 0 where
+  pub after : List Row
+  pub changed : AreChangedSo names cowns edits rows after
+  pub told : IsReportAfter short names sharing workers rows after output
+
+-- ---- what is refused
+
+-- every cown that is asked for means some, and this is a fault of the edits, of the rows without all of these cowns
+pub record IsOfEditsAfter (names : Names) (cowns : List AskedCown) (edits : List AskedEdit) (rows : List Row) (fault : Fault) : Type 0 where
+  pub known : All (λ a. cowns_of names a ≢ []) cowns
+  pub unfit : IsOfEdits names (without_all (all_cowns names cowns) rows) edits fault
+
+-- a fault of what is asked for: of the cowns, and else of the edits
+abbrev pub IsOfAsked : Names → List AskedCown → List AskedEdit → List Row → Fault → Type 0
+IsOfAsked names cowns edits rows fault = IsOfCowns names cowns fault ⊎ IsOfEditsAfter names cowns edits rows fault
+
+-- what is asked for is refused; want of memory and of a device are no refusal
+abbrev pub RefusesAsked : {A : Type 0} → Names → List AskedCown → List AskedEdit → List Row → Result A Fault → Type 0
+RefusesAsked names cowns edits rows (Ok done) = Unit {0}
+RefusesAsked names cowns edits rows (Err (faults.Means w)) = Unit {0}
+RefusesAsked names cowns edits rows (Err fault) = IsOfAsked names cowns edits rows fault
+
+-- ---- the command
+
+-- the input is the text of a record, whose rows and cowns have names from the file beside it, if there is one, and the output tells of its rows after these
+-- changes
+pub record IsWhatIfAnswer (file : Option NamesFrom) (bytes : List ℕ) (cowns : List AskedCown) (edits : List AskedEdit) (sharing : Sharing)
+    (workers : Option ℕ) (short : Bool) (input output : List ℕ) : Type 0 where
+  pub recorded : Recorded
+  pub names : Names
+  pub named : IsNamedRecord file bytes input recorded names
+  pub report : IsWhatIfReport names cowns edits sharing workers short recorded.rows output
+
+-- the source told the text of a record, if it told any, and what is asked for is refused with this fault, in the names that the record has
+pub record RefusesSupposed (file : Option NamesFrom) (bytes : List ℕ) (cowns : List AskedCown) (edits : List AskedEdit) (fault : Fault)
+    (before : Option (List ℕ)) : Type 0 where
+  pub recorded : Recorded
+  pub names : Names
+  pub tells : IfSome before (λ text. IsNamedRecord file bytes text recorded names)
+  pub unfit : IsOfAsked names cowns edits recorded.rows fault
+
+-- the record is refused, or the file beside it, and then what is asked for
+abbrev pub RefusesWhatIf : {A : Type 0} → Option NamesFrom → List ℕ → List AskedCown → List AskedEdit → Result A Fault → Option (List ℕ) → Type 0
+RefusesWhatIf file bytes cowns edits (Ok done) before = Unit {0}
+RefusesWhatIf file bytes cowns edits (Err (faults.Input (inputs.Cown number))) before =
+    RefusesSupposed file bytes cowns edits (faults.Input (inputs.Cown number)) before
+RefusesWhatIf file bytes cowns edits (Err (faults.Input (inputs.Edit number fault))) before =
+    RefusesSupposed file bytes cowns edits (faults.Input (inputs.Edit number fault)) before
+RefusesWhatIf file bytes cowns edits (Err (faults.Input (inputs.Def number))) before =
+    RefusesSupposed file bytes cowns edits (faults.Input (inputs.Def number)) before
+RefusesWhatIf {A = A} file bytes cowns edits (Err fault) before = RefusesNamedRecord {A = A} file bytes (Err fault) before

@@ -1,0 +1,10 @@
+pub mod Added
+pub mod Handed
+pub mod Steps
+pub mod Sums
+pub mod One
+pub mod Parts
+pub mod Sorting
+pub mod Telling
+pub mod Waits
+pub mod examples

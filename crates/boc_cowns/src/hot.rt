@@ -1,0 +1,134 @@
+// Which cowns hold some rows back.
+
+ghost use Rattle.std.specs.Prelude.{◌≡◌, ◌<◌, ◌≤◌, ◌^◌, All, length, IfOk};
+ghost use Rattle.boc_program.specs.declared.limits.TheConstants.{MOST_COWNS, MOST_ROWS};
+ghost use Rattle.boc_runs.specs.Rows.{IsRows};
+ghost use Rattle.boc_plans.specs.Greedy.{IsSpan};
+ghost use Rattle.boc_plans.specs.Seen.{seen};
+ghost use Rattle.boc_plans.specs.declared.sharing.Sharing.TheVariants.{SharedReads};
+ghost use Rattle.boc_plans.specs.Chains.{IsChain};
+ghost use Rattle.boc_order.specs.Standing.{IsPlanOf};
+ghost use Rattle.boc_why.specs.Least.{without_cowns};
+ghost use Rattle.boc_cowns.specs.Hot.{IsHotCowns};
+ghost use Rattle.boc_cowns.specs.Columns.{HasColumns};
+
+use crate::columns::{Columns, sorted};
+use crate::totals::{chain_ticks, held_ticks, row_counts, waits_of, writer_counts};
+use boc_order::{Earliest, waits_and_plan};
+use boc_plans::chain::ChainStep;
+use boc_plans::sharing::{SeenRows, Sharing};
+use boc_program::short::HeldCown;
+use boc_runs::rows::Rows;
+use boc_sweep::cown_sweep;
+use boc_why::least_end;
+use std::alloc::{AllocError, Global};
+use std::thread::Threads;
+
+/// What is known of a cown. All times are ticks.
+#[derive(Clone, Copy, PartialEq, Eq, Debug)]
+pub struct HotCown {
+    /// The number of the cown.
+    pub cown: HeldCown,
+    /// How many rows have it.
+    pub rows: u32,
+    /// How many rows wrote it.
+    pub wrote: u32,
+    /// How long the rows that have it take together.
+    pub held: u64,
+    /// How long rows wait for it: from the spawn of each to its start, where the row whose end it waits for hands it the cown. A wait for several
+    /// cowns counts for each of them.
+    pub waited: u64,
+    /// The ticks of the chain's rows that hand it to the next row of the chain.
+    pub chain: u64,
+    /// The span that the rows would have if the cown ordered nobody.
+    pub without: u64,
+}
+
+/// Which cowns hold some rows back. All times are ticks.
+#[derive(Drop, Debug)]
+pub struct HotCowns {
+    /// The span of the rows: the end of their earliest plan.
+    pub span: u64,
+    /// The span that they would have if none had a cown.
+    pub spawns: u64,
+    /// The span that they would have if reads were shared.
+    pub shared: u64,
+    /// The cowns, those that are held longest first, and of those that are held as long the least number first.
+    pub cowns: Vec<HotCown>,
+}
+
+// The columns of so many cowns, for rows in their earliest plan and with their chain. `AllocError` says that memory was refused.
+fn columns_of(
+    rt: &(impl Threads + Sync),
+    alloc: Global,
+    rows: &Rows,
+    seen: &SeenRows,
+    plan: &Earliest,
+    steps: &[ChainStep],
+    count: usize,
+) -> Result<Columns, AllocError>
+    requires shape { IsRows seen.now }
+    requires placed { IsPlanOf seen.now plan.now }
+    requires chain { IsChain seen.now steps.now }
+    requires few { length steps.now ≤ MOST_ROWS }
+    requires count { count ≤ MOST_COWNS }
+    ensures { IfOk result (HasColumns rows.now seen.now plan.now.starts.items plan.now.after.items steps.now count) }
+{
+    let list = rows.as_slice();
+    Ok(Columns {
+        rows: row_counts(alloc, list)?,
+        wrote: writer_counts(alloc, list)?,
+        held: held_ticks(alloc, list)?,
+        waited: waits_of(alloc, seen, plan)?,
+        chain: chain_ticks(alloc, seen, steps)?,
+        without: cown_sweep(rt, alloc, seen, count)?,
+    })
+}
+
+// The span of the rows if none had a cown. `AllocError` says that memory was refused.
+fn spawn_span(alloc: Global, seen: &SeenRows) -> Result<u64, AllocError>
+    requires { IsRows seen.now }
+    ensures { IfOk result (IsSpan (without_cowns seen.now)) }
+{
+    Ok(least_end(alloc, seen, 0)?.spawns)
+}
+
+// The span of the rows if reads were shared. `AllocError` says that memory was refused.
+fn shared_span(alloc: Global, rows: &Rows) -> Result<u64, AllocError>
+    ensures { IfOk result (IsSpan (seen SharedReads rows.now)) }
+{
+    let seen = SeenRows::new(rows, Sharing::SharedReads);
+    let (_, plan) = waits_and_plan(alloc, &seen)?;
+    Ok(plan.span())
+}
+
+/// Which cowns hold some rows back: for each of so many cowns, those that are held longest first, how many rows have it and how many wrote it, for how
+/// long it is held and waited for, how much of the chain hands it on, and the span that would be left if it ordered nobody; and the span of the rows, as
+/// they are, without any cown, and where reads are shared. `AllocError` says that memory was refused.
+///
+/// It takes time that grows with the number of rows and their cowns, once for each cown, and memory that grows with the number of rows. Threads share
+/// out the cowns.
+pub fn hot_cowns(
+    rt: &(impl Threads + Sync),
+    alloc: Global,
+    rows: &Rows,
+    sharing: Sharing,
+    cowns: u32,
+) -> Result<HotCowns, AllocError>
+    requires { cowns ≤ MOST_COWNS }
+    ensures hot { IfOk result (IsHotCowns rows.now sharing cowns) }
+    ensures some { IfOk result (λ hot. 0 < hot.span) }
+    ensures low { IfOk result (λ hot. All (λ own. own.held < 2 ^ 56) hot.cowns.items) }
+{
+    let seen = SeenRows::new(rows, sharing);
+    let (_, plan) = waits_and_plan(alloc, &seen)?;
+    let profile = plan.profile(alloc, &seen)?;
+    let steps = profile.chain.steps.as_slice();
+    let columns = columns_of(rt, alloc, rows, &seen, &plan, steps, cowns as usize)?;
+    Ok(HotCowns {
+        span: profile.span,
+        spawns: spawn_span(alloc, &seen)?,
+        shared: shared_span(alloc, rows)?,
+        cowns: sorted(alloc, &columns, cowns as usize)?,
+    })
+}

@@ -1,0 +1,21 @@
+// Laws of hot cowns: a cown is handed where rows conflict, and there is one answer at most.
+
+ghost use Rattle.std.specs.Prelude.{◌≡◌, ◌↔◌, ℕ, true, List};
+ghost use Rattle.boc_runs.specs.declared.rows.Row.{Row};
+ghost use Rattle.boc_plans.specs.Plans.{ConflictOn};
+ghost use Rattle.boc_plans.specs.declared.sharing.Sharing.{Sharing};
+ghost use Rattle.boc_runs.specs.Rows.{IsRows};
+ghost use Rattle.boc_cowns.specs.declared.hot.HotCowns.{HotCowns};
+ghost use Rattle.boc_cowns.specs.Hot.{IsHotCowns, hands_cown};
+
+/// A row hands a cown to another exactly where the two conflict on it.
+pub fn handed_where_rows_conflict()
+    ensures { (rows : List Row) (cown a b : ℕ) → (hands_cown rows cown a b ≡ true) ↔ ConflictOn rows cown a b }
+{}
+
+/// Of so many cowns of some rows one thing is told at most.
+pub fn hot_cowns_are_one()
+    ensures { (list : List Row) (sharing : Sharing) (count : ℕ) (hot other : HotCowns) → IsRows list → IsHotCowns list sharing count hot
+        → IsHotCowns list sharing count other
+        → (hot.span ≡ other.span) × (hot.spawns ≡ other.spawns) × (hot.shared ≡ other.shared) × (hot.cowns.items ≡ other.cowns.items) }
+{}

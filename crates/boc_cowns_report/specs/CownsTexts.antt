@@ -1,0 +1,137 @@
+-- What is told of the cowns that hold some rows back.
+use Rattle.std.specs.Prelude.{◌≡◌, ℕ, zero, suc, ◌-◌, ◌*◌, ◌/◌, Bool, not, nat_lt, cond, List, [], ◌∷◌, ◌++◌, length, map, take, Option, Some, None}
+use Rattle.std.specs.Prelude.{codes, decimal}
+use Rattle.boc_plans.specs.declared.sharing.Sharing.{Sharing}
+use Rattle.boc_plans.specs.declared.sharing.Sharing.TheVariants.{Exclusive, SharedReads}
+use Rattle.boc_table.specs.declared.side.Side.{Side}
+use Rattle.boc_table.specs.declared.side.Side.TheVariants.{Left, Right}
+use Rattle.boc_table.specs.Tables.{table_text}
+use Rattle.boc_names.specs.declared.names.Names.{Names}
+use Rattle.boc_names.specs.Names.{Text, text_at, texts_of}
+use Rattle.boc_cowns.specs.declared.hot.HotCown.{HotCown}
+use Rattle.boc_cowns.specs.declared.hot.HotCowns.{HotCowns}
+
+-- ---- the table
+
+-- how many of 100 ticks of the span these are, rounded down
+abbrev pub percent : ℕ → ℕ → ℕ
+percent ticks span = ticks * 100 / span
+
+-- what a cown is called
+abbrev pub name_of : Names → HotCown → Text
+name_of names hot = text_at (texts_of names.cowns.items) hot.cown
+
+-- the sides of the columns
+abbrev pub cowns_sides : List Side
+cowns_sides = Left ∷ Right ∷ Right ∷ Right ∷ Right ∷ Right ∷ Right ∷ Right ∷ []
+
+-- what stands above the columns
+abbrev pub cowns_head : List Text
+cowns_head =
+    codes "cown" ∷ codes "rows" ∷ codes "wrote" ∷ codes "held" ∷ codes "of span" ∷ codes "waited" ∷ codes "chain" ∷ codes "without" ∷ []
+
+-- these ticks in percent of the span
+abbrev pub percent_text : ℕ → ℕ → Text
+percent_text ticks span = decimal (percent ticks span) ++ codes "%"
+
+-- the texts of a cown's line
+abbrev pub cown_texts : Names → ℕ → HotCown → List Text
+cown_texts names span hot =
+    name_of names hot ∷ decimal hot.rows ∷ decimal hot.wrote ∷ decimal hot.held ∷ percent_text hot.held span ∷ decimal hot.waited
+    ∷ decimal hot.chain ∷ decimal hot.without ∷ []
+
+-- the lines of some cowns
+abbrev pub cown_lines : Names → ℕ → List HotCown → List (List Text)
+cown_lines names span cowns = map (cown_texts names span) cowns
+
+-- the cowns that are told: all of them, or the first so many
+abbrev pub told_of : Option ℕ → List HotCown → List HotCown
+told_of None cowns = cowns
+told_of (Some most) cowns = take most cowns
+
+-- a line for each cown that is told
+abbrev pub cowns_table : Names → Option ℕ → HotCowns → Text
+cowns_table names most hot = table_text cowns_sides (cowns_head ∷ cown_lines names hot.span (told_of most hot.cowns.items))
+
+-- how many more cowns there are, where there are several
+abbrev pub many_text : ℕ → Text
+many_text count = codes ".. and " ++ decimal count ++ codes " more cowns\n"
+
+-- how many more cowns there are
+abbrev pub more_text : ℕ → Text
+more_text zero = []
+more_text (suc zero) = codes ".. and 1 more cown\n"
+more_text (suc (suc n)) = many_text (suc (suc n))
+
+-- ---- the span
+
+-- how long the cown is held that is held longest
+abbrev pub held_text : HotCown → Text
+held_text own = codes "; busiest cown " ++ decimal own.held
+
+-- the same, where there is a cown
+abbrev pub busiest_text : List HotCown → Text
+busiest_text [] = []
+busiest_text (own ∷ cowns) = held_text own
+
+-- the span, that of the rows without any cown, and how long the first cown is held
+abbrev pub span_text : HotCowns → Text
+span_text hot =
+    codes "span " ++ decimal hot.span ++ codes "; by spawns alone " ++ decimal hot.spawns ++ busiest_text hot.cowns.items ++ codes "\n"
+
+-- ---- the verdict
+
+-- whether these are at least 75 of 100 ticks of the span
+abbrev pub is_most : ℕ → ℕ → Bool
+is_most ticks span = not (nat_lt (ticks * 100) (span * 75))
+
+-- what the spawns need
+abbrev pub spawns_text : HotCowns → Text
+spawns_text hot = codes "the spawns alone need " ++ decimal hot.spawns ++ codes " of " ++ decimal hot.span ++ codes " ticks"
+
+-- what holds the rows back where no cown is held for long: the spawns, or else the order
+abbrev pub order_text : HotCowns → Text
+order_text hot = cond (is_most hot.spawns hot.span) (spawns_text hot) (codes "the order in which behaviours ask is what holds back")
+
+-- the cown that is held for long
+abbrev pub load_text : Names → HotCowns → HotCown → Text
+load_text names hot own =
+    codes "load: " ++ name_of names own ++ codes " is held " ++ decimal own.held ++ codes " of " ++ decimal hot.span
+    ++ codes " ticks; split it, or shorten what holds it"
+
+-- that no cown is held for longer than this one, and what holds the rows back then
+abbrev pub no_load_text : HotCowns → HotCown → Text
+no_load_text hot own =
+    codes "order: no cown is held over " ++ percent_text own.held hot.span ++ codes " of the span; " ++ order_text hot
+
+-- what holds the rows back, where these are the cowns, those that are held longest first
+abbrev pub verdict_text : Names → HotCowns → List HotCown → Text
+verdict_text names hot [] = codes "order: there is no cown; " ++ spawns_text hot
+verdict_text names hot (own ∷ cowns) = cond (is_most own.held hot.span) (load_text names hot own) (no_load_text hot own)
+
+-- how many of the rows of a cown only read it
+abbrev pub reads_text : Names → HotCown → Text
+reads_text names own =
+    codes ": " ++ decimal (own.rows - own.wrote) ++ codes " of the " ++ decimal own.rows ++ codes " rows of " ++ name_of names own
+    ++ codes " only read it"
+
+-- how many of the rows of the first cown only read it, if any
+abbrev pub readers_text : Names → List HotCown → Text
+readers_text names [] = []
+readers_text names (own ∷ cowns) = cond (nat_lt own.wrote own.rows) (reads_text names own) []
+
+-- the span with shared reads
+abbrev pub span_with_text : Names → HotCowns → Text
+span_with_text names hot = codes "with --shared-reads the span is " ++ decimal hot.shared ++ readers_text names hot.cowns.items ++ codes "\n"
+
+-- what shared reads would bring, where reads aren't shared and the span would be less
+abbrev pub shared_text : Names → Sharing → HotCowns → Text
+shared_text names Exclusive hot = cond (nat_lt hot.shared hot.span) (span_with_text names hot) []
+shared_text names SharedReads hot = []
+
+-- ---- all that is told
+
+-- the table, how many more cowns there are than it tells, the span, what holds the rows back, and what shared reads would bring
+pub record IsCownsText (names : Names) (sharing : Sharing) (most : Option ℕ) (hot : HotCowns) (text : Text) : Type 0 where
+  pub is : text ≡ cowns_table names most hot ++ more_text (length hot.cowns.items - length (told_of most hot.cowns.items)) ++ span_text hot
+      ++ verdict_text names hot hot.cowns.items ++ codes "\n" ++ shared_text names sharing hot

@@ -1,0 +1,8 @@
+//! What is told of the cowns that hold some rows back, in the names of their program.
+#![tactic(auto)]
+
+mod lines;
+mod told;
+mod verdict;
+
+pub use told::cowns_text;

@@ -1,0 +1,40 @@
+// What words of a command line name.
+
+use boc_plans::edit::{Edit, Part};
+use boc_program::short::CownNo;
+
+/// An edit that the words ask for.
+#[derive(Drop, Debug)]
+pub enum AskedEdit {
+    /// The edit of a row.
+    Row(Edit),
+    /// Each row of the def with this name costs this part of its ticks.
+    Def { name: String, part: Part },
+}
+
+/// A cown that the words leave out.
+#[derive(Drop, Debug)]
+pub enum AskedCown {
+    /// The one with this number.
+    Number(CownNo),
+    /// Each one with this name, and those of the array with it.
+    Name(String),
+}
+
+/// A file beside an input that is a program or a record.
+#[derive(Drop, Debug)]
+pub enum RunFile {
+    /// The record of the run of the program that comes in.
+    Record(String),
+    /// The names of rows and cowns.
+    Names(String),
+}
+
+/// A file beside a record, by which its rows and cowns have names.
+#[derive(Drop, Debug)]
+pub enum NamesFrom {
+    /// The program that the record is of.
+    Program(String),
+    /// The names of rows and cowns.
+    Names(String),
+}

@@ -1,0 +1,138 @@
+"""`cowns`, and the names that `why` and `cowns` have from a program, from a file, or from numbers."""
+import os
+import random
+import re
+import tempfile
+
+from . import names_file, why
+from .hot_cowns import cowns_text
+from .plans import random_rows, record_of
+from .running import done, fault_of, refused
+
+EXAMPLES = ["transfer.boc", "pipeline.boc", "bank.boc", "scaling.boc", "accounts.boc", "four_squares.boc", "peeks.boc", "two_orders.boc", "overflow.boc",
+            "same_cown_twice.boc", "anomaly_cown.boc", "anomaly_two_workers.boc"]
+
+# What is told of the cowns of these runs, by one thread.
+PIPELINE = """\
+cown     rows  wrote  held  of span  waited  chain  without
+pricer      6      6   228      81%     180    190      219
+parser     12     12   156      55%     660     13      277
+checker    12     12   138      49%       0      0      279
+store       6      6    48      17%       0      0      279
+span 279; by spawns alone 109; busiest cown 228
+load: pricer is held 228 of 279 ticks; split it, or shorten what holds it
+"""
+
+
+class Called:
+    """What rows and cowns are called, as the model of `why` has it."""
+
+    def __init__(self, rows, defs, cowns, families):
+        self.rows, self.cowns = [name.decode() for name in rows], [name.decode() for name in cowns]
+        self.defs, self.def_names = names_file.groups([name.decode() for name in defs])
+        self.families, self.family_names = names_file.groups([name.decode() for name in families])
+
+
+def cown_names(text):
+    """The names of the cowns that a program declares, in their order."""
+    names = []
+    for name, size in re.findall(rb"^cown (\w+)(?:\[(\d+)\])? =", text, re.M):
+        names += [f"{name.decode()}[{member}]" for member in range(int(size))] if size else [name.decode()]
+    return names
+
+
+def in_file(content):
+    """The path of a file with these bytes."""
+    handle, path = tempfile.mkstemp()
+    with os.fdopen(handle, "wb") as file:
+        file.write(content)
+    return path
+
+
+def with_file(program, words, option, content, source):
+    """The answer to these words with a file of these bytes."""
+    path = in_file(content)
+    try:
+        return program.run([*words, option, path], source)
+    finally:
+        os.remove(path)
+
+
+def cases(program):
+    yield "pipeline.boc: cowns", fault_of(done(PIPELINE.encode()), program.run(["cowns"], program.example("pipeline.boc")))
+    for name in EXAMPLES:
+        yield from of_example(program, name, program.example(name))
+    chance = random.Random(42424242)
+    for number in range(100):
+        yield from of_rows(program, chance, number)
+    yield from faults(program)
+
+
+def of_example(program, name, text):
+    """The cowns of a run by one thread: of the program, of its record, and of the record with a file of names."""
+    record = program.run(["run"], text).output
+    names = cown_names(text)
+    for words, shared, top in [([], False, None), (["--shared-reads"], True, None), (["--top", "2"], False, 2)]:
+        told = cowns_text(record.decode(), names, shared, top).encode()
+        yield f"{name}: cowns {' '.join(words)}", fault_of(done(told), program.run(["cowns", *words], text))
+        yield f"{name}: cowns {' '.join(words)} of its record", fault_of(
+            done(cowns_text(record.decode(), None, shared, top).encode()), program.run(["cowns", *words], record))
+        yield f"{name}: cowns {' '.join(words)} of the record beside it", fault_of(
+            done(told), with_file(program, ["cowns", *words], "--record", record, text))
+    file = b"".join(b"@ %d %s\n" % (number, name.encode()) for number, name in enumerate(names))
+    yield f"{name}: cowns with names", fault_of(
+        done(cowns_text(record.decode(), names).encode()), with_file(program, ["cowns"], "--names", file, record))
+    yield f"{name}: why of the record beside it", fault_of(program.run(["why"], text), with_file(program, ["why"], "--record", record, text))
+
+
+def random_names(chance, rows, cowns):
+    """A file that names some rows and cowns, few names many times."""
+    lines = [b"# names"]
+    for row in range(rows):
+        if chance.random() < 0.7:
+            args = b"".join(b" %d" % chance.randrange(100) for _ in range(chance.randrange(3)))
+            lines.append(b"= %d d%d" % (row, chance.randrange(4)) + args)
+    for cown in range(cowns):
+        if chance.random() < 0.7:
+            lines.append(b"@ %d " % cown + chance.choice([b"c%d" % cown, b"acct[%d]" % cown, b"log"]))
+    chance.shuffle(lines)
+    return b"".join(line + b"\n" for line in lines + [b""])
+
+
+def of_rows(program, chance, number):
+    """`why` and `cowns` of a record with a file of names."""
+    record = None
+    while record is None:
+        record = record_of(random_rows(chance))
+    rows, cowns = why.rows_of(record)
+    file = random_names(chance, len(rows), cowns)
+    called = Called(*names_file.names_of(file, len(rows), cowns))
+    yield f"random rows {number}: why with names", fault_of(done(why.why(rows, called)), with_file(program, ["why"], "--names", file, record))
+    yield f"random rows {number}: cowns with names", fault_of(
+        done(cowns_text(record.decode(), called.cowns).encode()), with_file(program, ["cowns"], "--names", file, record))
+
+
+def faults(program):
+    transfer = program.example("transfer.boc")
+    record = program.run(["run"], transfer).output
+    for text, rows, cowns, wanted in names_file.WORKED:
+        if isinstance(wanted[0], int) and (rows, cowns) in [(1, 0), (1, 1), (0, 1)]:
+            small = b"boc 2 %d\n+ 0 0 0\n> 0\n< 0 1 0\n.\n" % cowns
+            if rows == 1:
+                yield f"a file of names: {text[:30]!r}", fault_of(
+                    refused(3, f"boc: names: line {wanted[0]}: {wanted[1]}"), with_file(program, ["why"], "--names", text, small))
+    yield "two files", None if program.run(["why", "--record", "a", "--names", "b"], transfer).status == 2 else "status 2 is wanted"
+    yield "one option twice", None if program.run(["why", "--names", "a", "--names", "b"], transfer).status == 2 else "status 2 is wanted"
+    yield "the input is judged before the names", fault_of(
+        refused(3, "boc: line 2: 5 UnknownName"), with_file(program, ["why"], "--names", b"x", b"cown a = 0;\nmain { x = 1; }"))
+    yield "a record of another program", fault_of(
+        refused(3, "boc: record: line 4: 16 NotNextSpawn"),
+        with_file(program, ["why"], "--record", record, transfer.replace(b"when add(5; a);", b"when add(5; b);")))
+    yield "a record that is none", fault_of(
+        refused(3, "boc: record: line 1: 1 Header"), with_file(program, ["why"], "--record", transfer, transfer))
+    for command in ("why", "cowns"):
+        absent = program.run([command, "--names", "/nowhere/at/all"], transfer)
+        yield f"{command}: a file that isn't there", None if absent.status == 5 and absent.errors.startswith(b"boc: /nowhere/at/all: ") else str(absent)
+    line = b"the greedy plan for 2 workers ends at 9, its bound is 14\n"
+    yield "transfer.boc: why --p 2", fault_of(
+        done(why.TRANSFER.encode() + line), program.run(["why", "--p", "2"], transfer))

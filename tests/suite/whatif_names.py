@@ -1,0 +1,255 @@
+"""What `whatif` tells of cowns and defs by name, computed plainly from the rows of a record and their names, and worked examples of it."""
+import os
+import random
+import tempfile
+
+from . import model, names_file
+from .plans import random_rows, record_of
+from .running import done, fault_of, refused
+from .why import rows_of, shares, steps_of, table
+
+MOST_TICKS = 1_000_000
+NO_COWN = "6 NoCown"
+NO_DEF = "7 NoDef\n     no row is of this def; names come with --program FILE or --names FILE"
+NO_ROW, BELOW_SPAWN, TOO_MANY_TICKS = "1 NoRow", "2 BelowSpawn", "3 TooManyTicks"
+
+
+def cowns_meant(names, word):
+    """The cowns that a word leaves out: the one with a number, or all with a name, and those of an array."""
+    if word.isdecimal():
+        return [int(word)] if int(word) < len(names.cowns) else []
+    name = word.encode()
+    return [cown for cown, own in enumerate(names.cowns) if own == name or names.families[cown] in (name, name + b"[*]")]
+
+
+def edits_meant(names, word):
+    """The edits of a word, each a row and its ticks, or a row and the part of its ticks that it costs."""
+    subject, what = word.split("=")
+    change = tuple(int(part) for part in what.split("/"))
+    if subject.isdecimal():
+        return [(int(subject), change)]
+    return [(row, change) for row, own in enumerate(names.defs) if own == subject.encode()]
+
+
+def changed(rows, row, change):
+    """The rows after an edit, or why they can't take it."""
+    if row >= len(rows):
+        return NO_ROW
+    if len(change) == 2:
+        after = model.scaled(rows, row, *change)
+        return TOO_MANY_TICKS if after[row].ticks > MOST_TICKS else after
+    if change[0] < model.least_ticks(rows)[row]:
+        return BELOW_SPAWN
+    return TOO_MANY_TICKS if change[0] > MOST_TICKS else model.edited(rows, row, change[0])
+
+
+def supposed(rows, names, cowns, edits):
+    """The rows without some cowns and after some edits, or the line of what is refused."""
+    for number, word in enumerate(cowns, 1):
+        meant = cowns_meant(names, word)
+        if not meant:
+            return f"boc: without {number}: {NO_COWN}"
+        for cown in meant:
+            rows = model.without(rows, cown)
+    for number, word in enumerate(edits, 1):
+        meant = edits_meant(names, word)
+        if not meant:
+            return f"boc: edit {number}: {NO_DEF}"
+        for row, change in meant:
+            rows = changed(rows, row, change)
+            if isinstance(rows, str):
+                return f"boc: edit {number}: {rows}"
+    return rows
+
+
+def heaviest(rows, names):
+    """The three defs that weigh most on the chain."""
+    numbers, def_names = names_file.groups(names.defs)
+    steps = steps_of(rows, model.earliest_starts(rows))
+    told = shares([numbers[step[0]] for step in steps], steps)
+    return ", ".join([f"{def_names[key].decode()} {ticks}" for key, ticks, _ in told[:3]] + [".."] * (len(told) > 3))
+
+
+def short(rows, after, names, workers=None):
+    """What rows come to before and after."""
+    lines = [["", " was", " now", "    "], ["work  "] + [str(sum(row.ticks for row in each)) for each in (rows, after)] + [""]]
+    ends = [("span", model.span(rows), model.span(after))]
+    if workers:
+        ends.append(("end", model.greedy_end(rows, workers), model.greedy_end(after, workers)))
+    for name, was, now in ends:
+        lines.append([name, str(was), str(now), f"{now - was:+d}" if now != was else ""])
+    return model.text(table("lrrr", lines) + [f"chain    {heaviest(rows, names)}   ->   {heaviest(after, names)}"])
+
+
+def wanted(rows, names, cowns, edits, workers, is_short):
+    after = supposed(rows, names, cowns, edits)
+    if isinstance(after, str):
+        return refused(3, after)
+    return done(short(rows, after, names, workers) if is_short else model.report(after, workers))
+
+
+# A bank of 12 accounts; 24 transfers, each of which also notes itself in a log; an audit at the end of each day.
+BANK = b"""\
+cown acct[12] = 100;
+cown log = 0;
+cown total = 0;
+
+def transfer(amount; from, to, lg) {
+    work 20;
+    if from >= amount {
+        from = from - amount;
+        to = to + amount;
+    }
+    work 5;
+    lg = lg + 1;
+}
+
+def audit(; a, b, c, d, e, f, t) {
+    work 30;
+    t = t + a + b + c + d + e + f;
+}
+
+main {
+    let seed = 7;
+    let day = 0;
+    repeat 2 {
+        let i = 0;
+        repeat 12 {
+            seed = (seed * 1103 + 12345) % 65536;
+            let from = seed % 12;
+            let to = (from + 1 + seed / 12 % 11) % 12;
+            when transfer(seed % 50; acct[from], acct[to], log);
+            i = i + 1;
+        }
+        when audit(; acct[0], acct[1], acct[2], acct[3], acct[4], acct[5], total);
+        when audit(; acct[6], acct[7], acct[8], acct[9], acct[10], acct[11], total);
+        day = day + 1;
+    }
+}
+"""
+
+# All prices at half their cost.
+CHEAPER_PRICES = """\
+         was   now
+work     609   495
+span     279   200   -79
+chain    price 228, parse 26, check 12, ..   ->   parse 156, price 19, check 12, ..
+"""
+
+# The log orders nobody, and all transfers are at half their cost.
+NO_LOG = """\
+         was   now
+work    1004   646
+span     828   310  -518
+chain    transfer 688, audit 128, main 12   ->   audit 128, transfer 104, main 78
+"""
+
+# What is asked of each, and what it tells in short; the bank's accounts are one array.
+WORKED_BY_PROGRAM = [
+    ("pipeline", ["price=1/2"], CHEAPER_PRICES),
+    ("bank", ["--without", "log", "transfer=1/2"], NO_LOG),
+    ("bank", ["--without", "12", "transfer=1/2"], NO_LOG),
+]
+
+# What is refused of the pipeline's record with its names.
+REFUSED_BY_PROGRAM = [
+    (["--without", "nobody"], f"boc: without 1: {NO_COWN}"),
+    (["--without", "parser", "--without", "4"], f"boc: without 2: {NO_COWN}"),
+    (["--without", "pric", "nothing=1/2"], f"boc: without 1: {NO_COWN}"),
+    (["nothing=1/2"], f"boc: edit 1: {NO_DEF}"),
+    (["price=1/2", "Price=1/2"], f"boc: edit 2: {NO_DEF}"),
+    (["price=1/2", "0=1", "nothing=1/2"], f"boc: edit 2: {BELOW_SPAWN}"),
+    (["nothing=1/2", "0=1"], f"boc: edit 1: {NO_DEF}"),
+    (["parse=1000/1", "parse=1000/1"], f"boc: edit 2: {TOO_MANY_TICKS}"),
+    (["price=1/2", "37=1"], f"boc: edit 2: {NO_ROW}"),
+]
+
+# Five rows: main spawns two that share a cown of an array, and each of these spawns one that has another of it.
+FAMILY = b"boc 1 4\n+ 0 0 0\n> 0\n+ 1 0 2 1\n+ 2 0 4 1 3\n< 0 6 0\n> 1\n+ 3 1 5 2\n< 1 8 0\n> 2\n+ 4 2 3 2\n< 2 9 0\n> 3\n< 3 7 0\n> 4\n< 4 5 0\n.\n"
+FAMILY_NAMES = b"= 0 main\n= 1 ask 1\n= 2 ask 2\n= 3 tell 1\n= 4 tell 2\n@ 0 log\n@ 1 seat[0]\n@ 2 seat[1]\n@ 3 seats\n"
+
+# Before, row 2 waits for row 1 up to 10, and ends at 19. Without both seats of the array, and with twice the cost of those who ask, row 1 takes 16 ticks and
+# spawns row 3 at its tick 10, and row 2 takes 18 and spawns row 4 at 6. They start at 2 and 4, rows 3 and 4 at 12 and 10, and all is over at 22.
+NO_SEATS = """\
+         was   now
+work      35    52
+span      19    22    +3
+chain    ask 17, main 2   ->   ask 18, main 4
+"""
+
+
+def cases(program):
+    yield from of_programs(program)
+    yield from of_files(program)
+
+
+def of_programs(program):
+    """Records of programs, whose names come from the text of the program."""
+    with tempfile.TemporaryDirectory() as folder:
+        bank = written(folder, "bank.boc", BANK)
+        texts = {"bank": (bank, BANK), "pipeline": (os.path.join(program.examples, "pipeline.boc"), program.example("pipeline.boc"))}
+        records = {name: program.run(["run"], text).output for name, (_, text) in texts.items()}
+        for name, words, told in WORKED_BY_PROGRAM:
+            answer = program.run(["whatif", "--short", "--program", texts[name][0], *words], records[name])
+            yield f"{name}: whatif --short {' '.join(words)}", fault_of(done(told.encode()), answer)
+        for words, line in REFUSED_BY_PROGRAM:
+            answer = program.run(["whatif", "--program", texts["pipeline"][0], *words], records["pipeline"])
+            yield f"pipeline: whatif {' '.join(words)}", fault_of(refused(3, line), answer)
+
+
+def of_files(program):
+    """Records whose names come from a file, or that have none but numbers."""
+    rows, count = rows_of(FAMILY)
+    names = names_file.names_of(FAMILY_NAMES, len(rows), count)
+    told = wanted(rows, names, ["seat"], ["ask=2/1"], None, True)
+    yield "the model's seats", None if told == done(NO_SEATS.encode()) else f"it told {told}"
+    with tempfile.TemporaryDirectory() as folder:
+        path = written(folder, "family.names", FAMILY_NAMES)
+        for cowns in ([], ["seat"], ["seat[*]"], ["seat[0]"], ["seats"], ["2"], ["log", "seat[1]"], ["sea"], ["seat[2]"], ["cown 1"]):
+            yield from of_names(program, "family", FAMILY, names, path, cowns, ["ask=2/1"])
+        for edits in ([], ["main=1/2", "tell=3/1"], ["tell=1/7", "ask=1/2"], ["ask=1/2", "4=1"], ["1=4"], ["ask=1/2", "1=2"], ["row 1=1/2"]):
+            yield from of_names(program, "family", FAMILY, names, path, ["seat[1]"], edits)
+        yield from random_cases(program, folder)
+
+
+def of_names(program, name, record, names, path, cowns, edits):
+    rows, _ = rows_of(record)
+    given = [word for cown in cowns for word in ("--without", cown)] + edits
+    for workers in (None, 2):
+        for is_short in (False, True):
+            options = (["--names", path] if path else []) + (["--p", str(workers)] if workers else []) + (["--short"] if is_short else [])
+            answer = program.run(["whatif", *options, *given], record)
+            yield f"{name}: whatif {' '.join(options[2 if path else 0:] + given)}", fault_of(wanted(rows, names, cowns, edits, workers, is_short), answer)
+
+
+def random_cases(program, folder):
+    """Random rows over four cowns, with random names for some of them."""
+    chance = random.Random(20261127)
+    for number in range(60):
+        record = None
+        while record is None:
+            rows = random_rows(chance)
+            record = record_of(rows)
+        lines = [f"= {row} {chance.choice(['main', 'ask', 'tell'])} {row}\n" for row in range(len(rows)) if chance.random() < 0.8]
+        lines += [f"@ {cown} {chance.choice(['log', 'seat[0]', 'seat[1]', 'seats'])}\n" for cown in range(4) if chance.random() < 0.8]
+        text = "".join(lines).encode()
+        path = written(folder, f"{number}.names", text) if chance.random() < 0.9 else None
+        names = names_file.names_of(text if path else b"", len(rows), 4)
+        for _ in range(4):
+            cowns = chance.sample(["log", "seat", "seat[1]", "seats", "cown 0", "cown 3", "2", "4"], chance.choice([0, 0, 1, 1, 2]))
+            edits = [random_word(chance, len(rows)) for _ in range(chance.choice([0, 1, 1, 2, 3]))]
+            yield from of_names(program, f"random names {number}", record, names, path, cowns, edits)
+
+
+def random_word(chance, rows):
+    if chance.random() < 0.3:
+        return f"{chance.randrange(rows + 1)}={chance.randint(1, 20)}"
+    subject = chance.choice(["main", "ask", "tell", "row 0", "row 2", str(chance.randrange(rows))])
+    return f"{subject}={chance.randint(1, 6)}/{chance.randint(1, 6)}"
+
+
+def written(folder, name, text):
+    path = os.path.join(folder, name)
+    with open(path, "wb") as file:
+        file.write(text)
+    return path

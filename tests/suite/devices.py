@@ -15,10 +15,11 @@ from .running import DEVICE, Answer, done, fault_of, refused
 from .worked import GREEDY, PROFILE
 
 # The commands that read a program, and those that read a record.
-OF_PROGRAMS = [["values"], ["run"], ["time"], ["time", "--workers", "4", "--p", "2"], ["why"]]
+OF_PROGRAMS = [["values"], ["run"], ["time"], ["time", "--workers", "4", "--p", "2"], ["why"], ["cowns"]]
 OF_RECORDS = [["check"], ["profile"], ["profile", "--p", "2"], ["whatif"], ["whatif", "--p", "2", "2=1"], ["curve"], ["sweep"],
               ["sweep", "--p", "2"], ["sweep", "--cowns"], ["sweep", "--cowns", "--p", "2"], ["sweep", "--spawns"],
-              ["whatif", "--without", "1", "2@3", "2=1/2"], ["why", "--all"]]
+              ["whatif", "--without", "1", "2@3", "2=1/2"], ["why", "--all"], ["cowns", "--top", "1"],
+              ["whatif", "--without", "cown 1", "--short"]]
 
 
 def source_of(program, words):

@@ -6,10 +6,21 @@ import subprocess
 import tempfile
 
 from . import model
+from .hot_cowns import cowns_text
 from .records import fan, fan_text
 from .running import MEMORY, Answer, done, fault_of, refused
 from .why import Names, TRANSFER, why
 from .worked import CURVE, GREEDY, PROFILE, SHORTER, SHORTER_GREEDY, VALUES, WITHOUT_A
+
+# What the transfer comes to without `a`: main leads to move, and that hands b to add.
+WITHOUT_A_SHORT = b"""\
+         was   now
+work      11    11
+span       9     8    -1
+chain    add 4, move 3, main 2   ->   main 3, move 3, add 2
+"""
+
+NO_DEF = "boc: edit 1: 7 NoDef\n     no row is of this def; names come with --program FILE or --names FILE"
 
 REFUSE = os.path.join(os.path.dirname(os.path.dirname(os.path.abspath(__file__))), "refuse.c")
 
@@ -64,6 +75,14 @@ def runs(program):
     yield ["why"], text, done(TRANSFER.encode())
     yield ["why"], fan_text(3, MANY), done(why(MANY, Names(len(MANY), 3)))
     yield ["why", "--all"], record + b"x", refused(3, "boc: line 15: 12 After")
+    beside, of_program = os.path.join(program.examples, "transfer.record"), os.path.join(program.examples, "transfer.boc")
+    yield ["why", "--record", beside], text, done(TRANSFER.encode())
+    yield ["cowns"], record, done(cowns_text(record.decode()).encode())
+    yield ["cowns", "--record", beside, "--top", "1"], text, done(cowns_text(record.decode(), ["a", "b"], top=1).encode())
+    yield ["check", "--program", of_program], record, done(b"ok 4\n")
+    yield ["values", "--record", beside], text, done(b"a 12\nb 4\n")
+    yield ["whatif", "--program", of_program, "--without", "a", "--short"], record, done(WITHOUT_A_SHORT)
+    yield ["whatif", "--program", of_program, "nobody=1/2"], record, refused(3, NO_DEF)
     yield ["whatif", "--without", "0"], record, done(WITHOUT_A.encode())
     yield ["whatif", "--without", "0", "--without", "0", "2=1/1", "2@3", "3=2"], record, done(WITHOUT_A.encode())
     yield ["whatif", "--without", "2"], record, refused(3, "boc: without 1: 6 NoCown")
@@ -103,7 +122,8 @@ def build(library):
 
 def fault_of_refusals(program, library, words, source, expected):
     """Goes on to the number of the first request that the program doesn't make."""
-    in_threads = words[0] in ("run", "time") or words[0] == "why" and not source.startswith(b"boc")
+    is_run = words[0] in ("why", "cowns") and not source.startswith(b"boc") and "--record" not in words
+    in_threads = words[0] in ("run", "time") or is_run
     fault_of_whole = functools.partial(fault_of, expected) if expected else functools.partial(fault_of_transfer, program)
     told = []
     for request in range(1, MOST_REQUESTS):

@@ -77,68 +77,60 @@ NO_RECORDS = [(b"", 1, 11), (b"main { }", 1, 11), (lines_text(WRITTEN)[:-1], 14,
 
 
 def cases(program):
+    yield from runs(program)
+    yield from strays(program)
+    yield from faulty(program)
     with tempfile.TemporaryDirectory() as folder:
-        path = os.path.join(folder, "file")
-        yield from runs(program, path)
-        yield from strays(program, path)
-        yield from faulty(program, path)
         yield from without_file(program, folder)
 
 
-def run_beside(program, command, option, path, beside, source):
-    """The answer of a command to an input, where the file at the path has these bytes."""
-    with open(path, "wb") as file:
-        file.write(beside)
-    return program.run([command, option, path], source)
+def check(program, text, record):
+    return program.run_beside(["check"], "--program", text, record)
 
 
-def check(program, path, text, record):
-    return run_beside(program, "check", "--program", path, text, record)
-
-
-def values(program, path, text, record):
-    return run_beside(program, "values", "--record", path, record, text)
+def values(program, text, record):
+    return program.run_beside(["values"], "--record", record, text)
 
 
 def text_of(program, source):
     return source if isinstance(source, bytes) else program.example(source)
 
 
-def runs(program, path):
+def runs(program):
     for source, lines, rows, end in RUNS:
         text, record = text_of(program, source), lines_text(lines)
-        yield f"check of a run of {source!r}", fault_of(done(b"ok %d\n" % rows), check(program, path, text, record))
-        yield f"values of a run of {source!r}", fault_of(done(end.encode()), values(program, path, text, record))
+        yield f"check of a run of {source!r}", fault_of(done(b"ok %d\n" % rows), check(program, text, record))
+        yield f"values of a run of {source!r}", fault_of(done(end.encode()), values(program, text, record))
     for source in ["bank.boc", "pipeline.boc", "accounts.boc", "overflow.boc"]:
         text = program.example(source)
         record = program.run(["run", "--workers", "4"], text).output
         rows = sum(line.startswith(b"+") for line in record.splitlines())
-        yield f"check of a run of {source}", fault_of(done(b"ok %d\n" % rows), check(program, path, text, record))
+        yield f"check of a run of {source}", fault_of(done(b"ok %d\n" % rows), check(program, text, record))
 
 
-def strays(program, path):
+def strays(program):
     for source, lines, line, kind in STRAYS:
         text, record = text_of(program, source), lines_text(lines)
         rows = sum(event.startswith("+") for event in lines)
         told = f"line {line}: {kind} {STRAY_KINDS[kind]}"
         yield f"a record that strays on line {line}", fault_of(done(b"ok %d\n" % rows), program.run(["check"], record))
-        yield f"check: {told} of {source!r}", fault_of(refused(3, f"boc: {told}"), check(program, path, text, record))
-        yield f"values: {told} of {source!r}", fault_of(refused(3, f"boc: record: {told}"), values(program, path, text, record))
+        yield f"check: {told} of {source!r}", fault_of(refused(3, f"boc: {told}"), check(program, text, record))
+        yield f"values: {told} of {source!r}", fault_of(refused(3, f"boc: record: {told}"), values(program, text, record))
 
 
-def faulty(program, path):
+def faulty(program):
     """A program that is none is told before what is wrong with the record, whichever of them is the file."""
     text, record = program.example("transfer.boc"), program.example("transfer.record")
     for source, line, kind in NO_PROGRAMS:
         told = f"line {line}: {kind} {READER_KINDS[kind]}"
         for other in (record, b"x", lines_text(DOUBLED_FIRST)):
-            yield f"check: {told}", fault_of(refused(3, f"boc: program: {told}"), check(program, path, source, other))
-            yield f"values: {told}", fault_of(refused(3, f"boc: {told}"), values(program, path, source, other))
+            yield f"check: {told}", fault_of(refused(3, f"boc: program: {told}"), check(program, source, other))
+            yield f"values: {told}", fault_of(refused(3, f"boc: {told}"), values(program, source, other))
     for source, line, kind in NO_RECORDS:
         told = f"line {line}: {kind} {RECORD_KINDS[kind]}"
         for other in (text, program.example("two_orders.boc")):
-            yield f"check: {told}", fault_of(refused(3, f"boc: {told}"), check(program, path, other, source))
-            yield f"values: {told}", fault_of(refused(3, f"boc: record: {told}"), values(program, path, other, source))
+            yield f"check: {told}", fault_of(refused(3, f"boc: {told}"), check(program, other, source))
+            yield f"values: {told}", fault_of(refused(3, f"boc: record: {told}"), values(program, other, source))
 
 
 def without_file(program, folder):

@@ -1,8 +1,6 @@
 """`cowns`, and the names that `why` and `cowns` have from a program, from a file, or from numbers."""
-import os
 import random
 import re
-import tempfile
 
 from . import names_file, why
 from .hot_cowns import cowns_text
@@ -41,23 +39,6 @@ def cown_names(text):
     return names
 
 
-def in_file(content):
-    """The path of a file with these bytes."""
-    handle, path = tempfile.mkstemp()
-    with os.fdopen(handle, "wb") as file:
-        file.write(content)
-    return path
-
-
-def with_file(program, words, option, content, source):
-    """The answer to these words with a file of these bytes."""
-    path = in_file(content)
-    try:
-        return program.run([*words, option, path], source)
-    finally:
-        os.remove(path)
-
-
 def cases(program):
     yield "pipeline.boc: cowns", fault_of(done(PIPELINE.encode()), program.run(["cowns"], program.example("pipeline.boc")))
     for name in EXAMPLES:
@@ -78,11 +59,11 @@ def of_example(program, name, text):
         yield f"{name}: cowns {' '.join(words)} of its record", fault_of(
             done(cowns_text(record.decode(), None, shared, top).encode()), program.run(["cowns", *words], record))
         yield f"{name}: cowns {' '.join(words)} of the record beside it", fault_of(
-            done(told), with_file(program, ["cowns", *words], "--record", record, text))
+            done(told), program.run_beside(["cowns", *words], "--record", record, text))
     file = b"".join(b"@ %d %s\n" % (number, name.encode()) for number, name in enumerate(names))
     yield f"{name}: cowns with names", fault_of(
-        done(cowns_text(record.decode(), names).encode()), with_file(program, ["cowns"], "--names", file, record))
-    yield f"{name}: why of the record beside it", fault_of(program.run(["why"], text), with_file(program, ["why"], "--record", record, text))
+        done(cowns_text(record.decode(), names).encode()), program.run_beside(["cowns"], "--names", file, record))
+    yield f"{name}: why of the record beside it", fault_of(program.run(["why"], text), program.run_beside(["why"], "--record", record, text))
 
 
 def random_names(chance, rows, cowns):
@@ -107,9 +88,9 @@ def of_rows(program, chance, number):
     rows, cowns = why.rows_of(record)
     file = random_names(chance, len(rows), cowns)
     called = Called(*names_file.names_of(file, len(rows), cowns))
-    yield f"random rows {number}: why with names", fault_of(done(why.why(rows, called)), with_file(program, ["why"], "--names", file, record))
+    yield f"random rows {number}: why with names", fault_of(done(why.why(rows, called)), program.run_beside(["why"], "--names", file, record))
     yield f"random rows {number}: cowns with names", fault_of(
-        done(cowns_text(record.decode(), called.cowns).encode()), with_file(program, ["cowns"], "--names", file, record))
+        done(cowns_text(record.decode(), called.cowns).encode()), program.run_beside(["cowns"], "--names", file, record))
 
 
 def faults(program):
@@ -120,16 +101,16 @@ def faults(program):
             small = b"boc 2 %d\n+ 0 0 0\n> 0\n< 0 1 0\n.\n" % cowns
             if rows == 1:
                 yield f"a file of names: {text[:30]!r}", fault_of(
-                    refused(3, f"boc: names: line {wanted[0]}: {wanted[1]}"), with_file(program, ["why"], "--names", text, small))
+                    refused(3, f"boc: names: line {wanted[0]}: {wanted[1]}"), program.run_beside(["why"], "--names", text, small))
     yield "two files", None if program.run(["why", "--record", "a", "--names", "b"], transfer).status == 2 else "status 2 is wanted"
     yield "one option twice", None if program.run(["why", "--names", "a", "--names", "b"], transfer).status == 2 else "status 2 is wanted"
     yield "the input is judged before the names", fault_of(
-        refused(3, "boc: line 2: 5 UnknownName"), with_file(program, ["why"], "--names", b"x", b"cown a = 0;\nmain { x = 1; }"))
+        refused(3, "boc: line 2: 5 UnknownName"), program.run_beside(["why"], "--names", b"x", b"cown a = 0;\nmain { x = 1; }"))
     yield "a record of another program", fault_of(
         refused(3, "boc: record: line 4: 16 NotNextSpawn"),
-        with_file(program, ["why"], "--record", record, transfer.replace(b"when add(5; a);", b"when add(5; b);")))
+        program.run_beside(["why"], "--record", record, transfer.replace(b"when add(5; a);", b"when add(5; b);")))
     yield "a record that is none", fault_of(
-        refused(3, "boc: record: line 1: 1 Header"), with_file(program, ["why"], "--record", transfer, transfer))
+        refused(3, "boc: record: line 1: 1 Header"), program.run_beside(["why"], "--record", transfer, transfer))
     for command in ("why", "cowns"):
         absent = program.run([command, "--names", "/nowhere/at/all"], transfer)
         yield f"{command}: a file that isn't there", None if absent.status == 5 and absent.errors.startswith(b"boc: /nowhere/at/all: ") else str(absent)

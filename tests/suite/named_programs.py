@@ -1,7 +1,5 @@
 """Programs by chance: what is told of their runs in the names of their texts, beside what is worked out plainly from the text and the record."""
-import os
 import random
-import tempfile
 
 from . import why
 from .hot_cowns import cowns_text
@@ -16,18 +14,17 @@ MOST_TRIED = 100
 
 
 def cases(program):
-    with tempfile.TemporaryDirectory() as folder:
-        for number in range(PROGRAMS):
-            tested = Tested(program, random.Random(f"{SEED} {number}"), os.path.join(folder, "file"))
-            for name, fault in tested.cases(is_changed=number % 10 == 0):
-                yield f"random program {number}: {name}", fault
+    for number in range(PROGRAMS):
+        tested = Tested(program, random.Random(f"{SEED} {number}"))
+        for name, fault in tested.cases(is_changed=number % 10 == 0):
+            yield f"random program {number}: {name}", fault
 
 
 class Tested:
-    """A program by chance, and the path of a file that is read beside an input."""
+    """A program by chance."""
 
-    def __init__(self, program, chance, path):
-        self.program, self.chance, self.path = program, chance, path
+    def __init__(self, program, chance):
+        self.program, self.chance = program, chance
         self.model, self.text = random_program(chance)
 
     def cases(self, is_changed):
@@ -45,18 +42,12 @@ class Tested:
     def of_run(self, name, record, run, is_by_one=False):
         """What is told of the program beside a record of this run. Without a record the run by one thread is told."""
         names, rows = RunNames(run), why.rows_of(record)[0]
-        yield f"{name}: check --program", fault_of(done(b"ok %d\n" % len(rows)), self.beside("check", "--program", self.text, record))
-        yield f"{name}: values --record", fault_of(done(run.values_text()), self.beside("values", "--record", record, self.text))
+        yield f"{name}: check --program", fault_of(done(b"ok %d\n" % len(rows)), self.program.run_beside(["check"], "--program", self.text, record))
+        yield f"{name}: values --record", fault_of(done(run.values_text()), self.program.run_beside(["values"], "--record", record, self.text))
         for command, told in [("why", why.why(rows, names)), ("cowns", cowns_text(record.decode(), names.cowns).encode())]:
-            yield f"{name}: {command} --record", fault_of(done(told), self.beside(command, "--record", record, self.text))
+            yield f"{name}: {command} --record", fault_of(done(told), self.program.run_beside([command], "--record", record, self.text))
             if is_by_one:
                 yield command, fault_of(done(told), self.program.run([command], self.text))
-
-    def beside(self, command, option, content, source):
-        """The answer of a command to an input, with a file of this content."""
-        with open(self.path, "wb") as file:
-            file.write(content)
-        return self.program.run([command, option, self.path], source)
 
     def changed(self, record):
         """A record with a change at one place, such that it is the record of some run still."""
@@ -73,5 +64,5 @@ class Tested:
         except Strays as strays:
             line, kind = strays.args
             told = f"line {line}: {kind}"
-            yield f"a change, {told}: check", fault_of(refused(3, f"boc: {told}"), self.beside("check", "--program", self.text, record))
-            yield f"a change, {told}: values", fault_of(refused(3, f"boc: record: {told}"), self.beside("values", "--record", record, self.text))
+            yield f"a change, {told}: check", fault_of(refused(3, f"boc: {told}"), self.program.run_beside(["check"], "--program", self.text, record))
+            yield f"a change, {told}: values", fault_of(refused(3, f"boc: record: {told}"), self.program.run_beside(["values"], "--record", record, self.text))

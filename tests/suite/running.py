@@ -4,6 +4,7 @@ A case is a name and a fault: None where it passed, else what was wrong.
 """
 import os
 import subprocess
+import tempfile
 from typing import NamedTuple
 
 # A run that takes longer hangs. A sweep over as many rows as there may be takes the longest.
@@ -45,6 +46,16 @@ class Program:
         if "stdin" not in options:
             options["input"] = source
         return self.answer([self.path, *words], **options)
+
+    def run_beside(self, words, option, content, source=b""):
+        """The answer to these words with a file of this content behind the option."""
+        handle, path = tempfile.mkstemp()
+        try:
+            with os.fdopen(handle, "wb") as file:
+                file.write(content)
+            return self.run([*words, option, path], source)
+        finally:
+            os.remove(path)
 
     def run_by_shell(self, line, words):
         """The answer of a shell's line, in which "$0" "$@" is the program with these words."""

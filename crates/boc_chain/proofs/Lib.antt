@@ -6,7 +6,6 @@ pub mod Lines
 pub mod Links
 pub mod Places
 pub mod Spelled
-pub mod Covered
 pub mod Placed
 pub mod Settles
 pub mod Fuel
@@ -15,3 +14,4 @@ pub mod Behind
 pub mod Listed
 pub mod Calls
 pub mod Keeping
+pub mod Longer

@@ -1,7 +1,8 @@
 -- The room in the lists, as a slot is admitted and given back.
-use Rattle.std.proofs.Common.{◌≡◌, ◌≢◌, ℕ, zero, suc, ◌+◌, ◌^◌, ◌<◌, ◌≤◌, true, false, List, [], ◌∷◌, length, map, take, set, get_or, refl, sym, ◌∙◌, ap, subst}
+use Rattle.std.proofs.Common.{◌≡◌, ◌≢◌, ℕ, zero, suc, ◌+◌, ◌^◌, ◌<◌, ◌≤◌, true, false, List, [], ◌∷◌, ◌++◌, length}
+use Rattle.std.proofs.Common.{map, take, set, get_or, refl, sym, ◌∙◌, ap, subst}
 use Rattle.std.proofs.Common.{inl, inr, arith}
-use Rattle.std.specs.Prelude.{slice_get, Option, Some, None, IsSome, Result, Ok, Err, OnErr}
+use Rattle.std.specs.Prelude.{slice_get, Option, Some, None, IsSome, replicate, Result, Ok, Err, OnErr}
 use Rattle.std.specs.List.{sum_by}
 use Rattle.std.specs.Vec.{vec_len, vec_capacity}
 use Rattle.std.specs.declared.vec.Vec.{Vec}
@@ -12,6 +13,8 @@ use Rattle.boc_chain.specs.declared.request.Request.{Request}
 use Rattle.boc_chain.specs.declared.held.Held.{Held}
 use Rattle.boc_chain.specs.Chain.{Place, times, cowns_of, cown}
 use Rattle.boc_chain.specs.Kept.{place_at, place_in, awaits, HasRoom, IsKept}
+use Rattle.boc_chain.specs.Tables.{IsLonger}
+use Rattle.boc_chain.proofs.Longer.{sum_longer}
 use Rattle.boc_chain.proofs.Got.{got}
 use Rattle.boc_program.proofs.ChangedItems.{set_same, set_other, item_at}
 use Rattle.boc_chain.proofs.Places.{stands}
@@ -93,6 +96,43 @@ kept_gone lines places slot k inside = record {
       ];
   room = room_less lines (λ c. sum_by (awaits c) places) (λ c. sum_by (awaits c) (set places slot None)) k.room
       (λ c. awaited_less_where_gone places slot c inside);
+}
+
+-- a vacant place of the table
+pub vacant_there : (places : List (Option Held)) (slot : ℕ) → slot < length places → place_at places slot ≡ None → slice_get places slot ≡ Some None
+vacant_there [] slot h e = absurd (omega arith)
+vacant_there (None ∷ places) zero h e = refl
+vacant_there (Some x ∷ places) zero h e =
+    absurd (let p : Place = record { cowns = x.cowns.items; exchanged = x.exchanged } in let f : Some p ≡ None = e in cc)
+vacant_there (p ∷ places) (suc slot) h e = vacant_there places slot (omega arith) e
+
+-- a longer table has the same places, and awaits as much
+vacant_behind : (places : List (Option Held)) (n s : ℕ) → place_at (places ++ replicate n None) s ≡ place_at places s
+vacant_behind [] zero s = refl
+vacant_behind [] (suc n) zero = refl
+vacant_behind [] (suc n) (suc s) = vacant_behind [] n s
+vacant_behind (p ∷ places) n zero = refl
+vacant_behind (p ∷ places) n (suc s) = vacant_behind places n s
+
+pub place_longer : (places places' : List (Option Held)) → IsLonger places places' → (s : ℕ) → place_at places' s ≡ place_at places s
+place_longer places places' h s = ap (λ ps. place_at ps s) h.1 ∙ vacant_behind places h.0 s
+
+pub awaits_longer : (places places' : List (Option Held)) → IsLonger places places' → (c : ℕ) → sum_by (awaits c) places' ≡ sum_by (awaits c) places
+awaits_longer places places' h c = ap (sum_by (awaits c)) h.1 ∙ sum_longer (awaits c) refl places h.0
+
+-- what is kept where there is more room, and more places
+pub kept_longer : (lines lines' : List (Vec Request Global)) (places places' : List (Option Held)) (cs : List ℕ) → IsKept lines places
+    → map (λ v. v.items) lines' ≡ map (λ v. v.items) lines → HasRoom lines' (λ c. sum_by (awaits c) places + times c cs) → IsLonger places places'
+    → IsKept lines' places'
+kept_longer lines lines' places places' cs k e room longer = record {
+  in_range = λ s i below.
+      let is = place_longer places places' longer s in
+      let r = k.in_range s i (subst (λ (p : Option Place). i < length (cowns_of p)) is below) in
+      let c : cown (place_at places' s) i ≡ cown (place_at places s) i = ap (λ p. cown p i) is in
+      let l = as_many lines lines' e in
+      omega arith;
+  room = room_less lines' (λ c. sum_by (awaits c) places + times c cs) (λ c. sum_by (awaits c) places') room
+      (λ c. let a = awaits_longer places places' longer c in omega arith);
 }
 
 -- making room for the cowns cs, of which i have room, in lists that were `first`

@@ -1,7 +1,7 @@
 -- What each call of the chains does to the lists of requests. Slots are counted as the machine counts numbers.
 pub use Rattle.boc_runs.specs.machine.Queues.{times}
 use Rattle.std.specs.Prelude.{◌≡◌, ℕ, nat_lt, ◌||◌, ◌+◌, ◌-◌, ◌<◌, true, false, List, [], ◌∷◌, ◌++◌, length, map, ◌==◌, if◌then◌else◌, slice_get, slice_set}
-use Rattle.std.specs.Prelude.{slice_index_or, Option, Some, None, IsSome, position}
+use Rattle.std.specs.Prelude.{slice_index_or, Option, Some, None, position}
 use Rattle.std.specs.Option.{option_map}
 use Rattle.boc_chain.specs.declared.request.Request.{Request}
 use Rattle.boc_chain.specs.declared.request.Slot.{Slot}
@@ -16,10 +16,6 @@ use Rattle.boc_chain.specs.declared.request.Released.TheVariants.{Blocked as Lea
 pub record Place : Type 0 where
   pub cowns : List ℕ
   pub exchanged : ℕ
-
--- what is held is all held at these slots
-abbrev pub HoldsAmong : (ℕ → Option Place) → List ℕ → Type 0
-HoldsAmong place held = (s : ℕ) → IsSome (place s) → 0 < times s held
 
 -- the list of cown c
 abbrev pub list : List (List Request) → ℕ → List Request

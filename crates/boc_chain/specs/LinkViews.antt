@@ -1,26 +1,31 @@
 -- How the chains see the linked requests.
-use Rattle.std.specs.Prelude.{◌≡◌, ℕ, ◌+◌, max, List, Option}
-use Rattle.slab.specs.Slab.{slab_len}
+use Rattle.std.specs.Prelude.{◌≡◌, ℕ, ◌+◌, ◌<◌, ◌≤◌, max, List, length, Option, vec_capacity}
 use Rattle.boc_chain.specs.declared.request.Request.{Request}
 use Rattle.boc_chain.specs.declared.link_chains.LinkChains.{LinkChains}
+use Rattle.boc_chain.specs.declared.kept_links.TheConstants.{FEW}
 use Rattle.boc_chain.specs.Chain.{Place}
-use Rattle.boc_chain.specs.Linked.{lists_of, place_at}
+use Rattle.boc_chain.specs.Linked.{lists_of, place_at, held_in}
 
 -- the lists that the links spell
 abbrev pub lists : LinkChains → List (List Request)
-lists s = lists_of s.last.items s.slots
+lists s = lists_of s.last.items s.slots.items
 
 -- what was admitted at a slot
 abbrev pub place : LinkChains → ℕ → Option Place
-place s slot = place_at s.slots slot
+place s slot = place_at s.slots.items slot
 
 -- how many slots are held, and the greatest number held at once so far
 abbrev pub held : LinkChains → ℕ
-held s = slab_len s.slots
+held s = held_in s.slots.items
 
 -- the greatest number of slots held at once so far
 abbrev pub peak : LinkChains → ℕ
 peak s = s.peak
+
+-- there is room for a behaviour of these cowns at a slot: the table has this slot, or room for it, and its links stand in the slot itself
+pub record HasRoomFor (slot : ℕ) (cowns : List ℕ) (s : LinkChains) : Type 0 where
+  pub spare : slot < vec_capacity s.slots
+  pub inside : length cowns ≤ FEW
 
 -- one slot more is held, which may be a new peak
 pub record HoldsOneMore (old new : LinkChains) : Type 0 where

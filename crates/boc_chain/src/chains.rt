@@ -10,11 +10,11 @@ use std::alloc::AllocError;
 /// Request i is for the cown at place i, from 0. It is in its cown's list from its exchange until it leaves.
 /// Only `admit` takes memory.
 pub trait Chains {
-    ghost use Rattle.std.specs.Prelude.{◌≡◌, ◌≢◌, ◌↔◌, ℕ, ◌<◌, ◌≤◌, ◌^◌, false, List, length, Option, Some, None, IfOk, OnErr, IsSome};
+    ghost use Rattle.std.specs.Prelude.{◌≡◌, ◌≢◌, ◌↔◌, ℕ, ◌<◌, ◌≤◌, ◌^◌, false, List, length, Option, Some, None, OnOk, OnErr, IsSome};
     ghost use Rattle.boc_chain.specs.declared.request.Request.{Request};
     ghost use Rattle.boc_chain.specs.declared.request.Settled.TheVariants.{Blocked as SettleBlocked};
     ghost use Rattle.boc_chain.specs.declared.request.Released.TheVariants.{Blocked as LeaveBlocked};
-    ghost use Rattle.boc_chain.specs.Chain.{Place, HoldsAmong, IsGranted, StandsIn, times, slots, cowns_of, exchanged_of, one_more, list, list_for};
+    ghost use Rattle.boc_chain.specs.Chain.{Place, IsGranted, StandsIn, times, slots, cowns_of, exchanged_of, one_more, list, list_for};
     ghost use Rattle.boc_chain.specs.Chain.{with_change, with_fresh, last_slot, settle_answer, after_settle, with_flagged, leave_answer, after_leave};
 
     /// The requests of each cown, in order of exchange.
@@ -23,15 +23,15 @@ pub trait Chains {
     /// What was admitted at a slot.
     ghost place: { Self → ℕ → Option Place };
 
-    /// Makes room for the requests of one behaviour, and answers their slot: it has 32 bits where fewer slots than that are
-    /// held. After an error nothing has changed.
-    fn admit(&mut self, cowns: Cowns) -> Result<Slot, AllocError>
+    /// Makes room at a vacant slot for the requests of one behaviour. `AllocError` says that memory was refused; then nothing has
+    /// changed.
+    fn admit(&mut self, slot: Slot, cowns: Cowns) -> Result<(), AllocError>
+        requires vacant { place self.old slot.index ≡ None }
+        requires low { slot.index < 2 ^ 16 }
         requires distinct { (c : ℕ) → times c cowns.items ≤ 1 }
         requires in_range { (c : ℕ) → 0 < times c cowns.items → c < length (lists self.old) }
-        ensures fresh { IfOk result (λ slot. place self.old slot.index ≡ None) }
-        ensures here { IfOk result (λ slot. place self.new slot.index ≡ Some (record { cowns = cowns.items; exchanged = 0 })) }
-        ensures other_places { IfOk result (λ slot. (s : ℕ) → s ≢ slot.index → place self.new s ≡ place self.old s) }
-        ensures short { IfOk result (λ slot. (held : List ℕ) → HoldsAmong (place self.old) held → length held < 2 ^ 32 → slot.index < 2 ^ 32) }
+        ensures here { OnOk result (place self.new slot.index ≡ Some (record { cowns = cowns.items; exchanged = 0 })) }
+        ensures other_places { OnOk result ((s : ℕ) → s ≢ slot.index → place self.new s ≡ place self.old s) }
         ensures err { OnErr result ((s : ℕ) → place self.new s ≡ place self.old s) }
         ensures lists { lists self.new ≡ lists self.old };
 

@@ -1,7 +1,7 @@
 //! What was admitted at the slots of the plain lists.
 
 ghost use Rattle.std.specs.Prelude.{◌≡◌, ℕ, ◌≢◌, ◌+◌, ◌<◌, ◌≤◌, ◌^◌, List, length, slice_set, slice_get, drop, Some, None, IfSome, IsSome, unwrap_or};
-ghost use Rattle.boc_chain.specs.Chain.{HoldsAmong, cowns_of, exchanged_of, cown, one_more, times};
+ghost use Rattle.boc_chain.specs.Chain.{cowns_of, exchanged_of, cown, one_more, times};
 ghost use Rattle.boc_chain.specs.Kept.{place_at, place_of, awaits};
 ghost use Rattle.std.specs.List.{sum_by};
 ghost use Rattle.std.specs.Vec.{vec_len, vec_capacity};
@@ -84,41 +84,16 @@ pub fn count_awaited(places: &[Option<Held>], c: CownNo) -> usize
     count
 }
 
-// The first vacant slot.
-fn vacant(places: &[Option<Held>]) -> Option<usize>
-    ensures vacant { IfSome result (λ slot. slice_get places.now slot ≡ Some None) }
-    ensures first { (s : ℕ) → s < unwrap_or result (length places.now) → IsSome (place_at places.now s) }
-{
-    for (slot, held) in places.iter().enumerate() {
-        if held.is_none() {
-            return Some(slot);
-        }
-    }
-    None
-}
-
-/// Holds the cowns at the first vacant slot, and answers it.
-pub fn hold(places: &mut Vec<Option<Held>>, cowns: Cowns) -> usize
-    requires { vec_len places.old < vec_capacity places.old }
-    ensures fresh { place_at places.old.items result ≡ None }
-    ensures low { (held : List ℕ) → HoldsAmong (place_at places.old.items) held → result ≤ length held }
-    ensures here { place_at places.new.items result ≡ Some (record { cowns = cowns.items; exchanged = 0 }) }
-    ensures others { (s : ℕ) → s ≢ result → place_at places.new.items s ≡ place_at places.old.items s }
+/// Holds the cowns at a vacant slot.
+pub fn hold(places: &mut Vec<Option<Held>>, slot: usize, cowns: Cowns)
+    requires there { slot < length places.old.items }
+    requires vacant { place_at places.old.items slot ≡ None }
+    ensures here { place_at places.new.items slot ≡ Some (record { cowns = cowns.items; exchanged = 0 }) }
+    ensures others { (s : ℕ) → s ≢ slot → place_at places.new.items s ≡ place_at places.old.items s }
     ensures awaited { (c : ℕ) → sum_by (awaits c) places.new.items ≡ sum_by (awaits c) places.old.items + times c cowns.items }
 {
-    let held = Some(Held {
+    places[slot] = Some(Held {
         cowns,
         exchanged: 0,
     });
-    match vacant(places) {
-        Some(slot) => {
-            places[slot] = held;
-            slot
-        }
-        None => {
-            let slot = places.len();
-            places.push_reserved(held);
-            slot
-        }
-    }
 }

@@ -1,6 +1,6 @@
 // What a slot keeps of one behaviour.
 
-ghost use Rattle.std.specs.Prelude.{◌≡◌, ◌<◌, ◌+◌, [], ◌∷◌, ◌++◌, length, slice_get, slice_set, Some, IfOk};
+ghost use Rattle.std.specs.Prelude.{◌≡◌, ◌<◌, ◌+◌, [], ◌∷◌, ◌++◌, ◌≤◌, length, slice_get, slice_set, Some, IfOk, IsOk};
 ghost use Rattle.boc_chain.specs.KeptLinks.{HasPlaces, head_of, places_of, room_of};
 ghost use Rattle.boc_chain.specs.ShortLinks.{changed};
 ghost use Rattle.boc_chain.specs.declared.linked.Link.{Link};
@@ -171,6 +171,7 @@ impl Linked {
     pub fn new(alloc: Global, cowns: HeldCowns) -> Result<Linked, AllocError>
         ensures cowns { IfOk result (λ l. l.cowns ≡ cowns) }
         ensures empty { IfOk result (λ l. l.links ≡ []) }
+        ensures few { length cowns.items ≤ FEW → IsOk result }
     {
         let room = cowns.as_slice().len();
         let head = Head {

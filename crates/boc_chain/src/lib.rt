@@ -18,6 +18,7 @@ mod list_chains;
 mod request;
 mod requests;
 mod short_link;
+mod table;
 
 pub use chains::Chains;
 pub use link_chains::LinkChains;

@@ -10,6 +10,7 @@ use crate::chains::Chains;
 use crate::held::{Held, count_awaited, count_exchange, cown_at, hold};
 use crate::request::{Released, Request, Settled, Slot};
 use crate::requests::{can_leave_in, can_settle_in, end_of, flag_in, leave_in, settle_in};
+use crate::table::reach;
 use boc_program::short::{CownNo, Cowns};
 use std::alloc::{AllocError, Global};
 
@@ -68,11 +69,11 @@ impl Chains for ListChains {
 
     ghost place = { plain_place };
 
-    fn admit(&mut self, cowns: Cowns) -> Result<Slot, AllocError> {
+    fn admit(&mut self, slot: Slot, cowns: Cowns) -> Result<(), AllocError> {
         make_room(&mut self.lines, &self.places, &cowns)?;
-        self.places.reserve(1)?;
-        let index = hold(&mut self.places, cowns);
-        Ok(Slot { index })
+        reach(&mut self.places, slot.index)?;
+        hold(&mut self.places, slot.index, cowns);
+        Ok(())
     }
 
     fn swap(&mut self, slot: Slot, i: usize) -> Option<Slot> {

@@ -1,5 +1,6 @@
 pub mod InPlace
 pub mod Tables
+pub mod Seated
 pub mod Fits
 pub mod Standing
 pub mod Present
@@ -26,7 +27,6 @@ pub mod Quiet
 pub mod Movable
 pub mod Answered
 pub mod Starting
-pub mod Taken
 pub mod Alike
 pub mod Opened
 pub mod Opening
@@ -39,3 +39,5 @@ pub mod Crews
 pub mod Turned
 pub mod Driven
 pub mod Quieting
+pub mod CanSteps
+pub mod CanTurns

@@ -1,6 +1,6 @@
 -- A child is opened, as the code does it: with all memory that it needs, or not at all.
-use Rattle.std.proofs.Common.{◌≡◌, ◌≢◌, ℕ, zero, suc, ◌+◌, ◌^◌, ◌<◌, ◌≤◌, inl, inr, true, false, List, [], ◌∷◌, length, refl, sym, ◌∙◌, ap, subst, arith}
-use Rattle.std.specs.Prelude.{slice_index_or, Option, Some, None, Result, Ok, Err, OnOk, is_err}
+use Rattle.std.proofs.Common.{◌≡◌, ◌≢◌, ℕ, ◌+◌, ◌^◌, ◌<◌, ◌≤◌, inl, inr, List, length, refl, sym, ◌∙◌, ap, subst, arith}
+use Rattle.std.specs.Prelude.{Option, Some, None}
 use Rattle.std.specs.Option.{option_map}
 use Rattle.std.proofs.lemmas.Bool.{cases_lt}
 use Rattle.boc_program.specs.declared.limits.TheConstants.{MOST_ROWS}
@@ -9,54 +9,24 @@ use Rattle.boc_runs.specs.declared.stage.Stage.TheVariants.{Recorded}
 use Rattle.boc_runs.specs.machine.Steps.{State, unrecorded, Opens}
 use Rattle.boc_runs.specs.machine.Sound.{IsSound}
 use Rattle.boc_rules.specs.Log.{Log}
-use Rattle.boc_machine_laws.proofs.Lists.{same_or_not}
-use Rattle.boc_chain.specs.declared.request.Request.{Request}
-use Rattle.boc_chain.specs.Chain.{Place, slots, times}
-use Rattle.boc_chain.proofs.Spelled.{times_other}
+use Rattle.boc_chain.specs.Chain.{Place}
 use Rattle.boc_dispatch.specs.declared.live.Live.{Live}
 use Rattle.boc_dispatch.specs.Inside.{live_at, place_of, Parts, IsKept, HasRooms, state, underway, IsAtStage, HasInHand, IsNew, AreCounted}
-use Rattle.boc_dispatch.specs.Moves.{with_table, MayPut, Puts}
+use Rattle.boc_dispatch.specs.Moves.{MayPut, Puts}
 use Rattle.boc_dispatch.specs.Places.{with_child}
 use Rattle.boc_dispatch.proofs.Fits.{steps_fit}
 use Rattle.boc_dispatch.proofs.ChildOpened.{E, apart, p2_is, e_own, e_slot, opened_rooms, may_put, asking_kept, recorded_kept, end_rooms, opens_asking}
 use Rattle.boc_dispatch.proofs.ChildOpened.{opens_recorded}
-use Rattle.boc_dispatch.proofs.Standing.{AreLive, lists_live}
 use Rattle.boc_dispatch.proofs.Tables.{SamePlaces, behaviours_length, behaviours_placed, queues_placed, rows_placed, taken_placed}
 
 -- as many behaviours are without a home as were opened but not recorded
 pub homes_left : (d : Parts) → IsKept d → length d.homes + unrecorded (state d) ≡ d.opened
 homes_left d k = let a = k.homes_are in let b = k.sound.counted in let c = behaviours_length d.live d.opened in omega (arith, a, b, c)
 
--- no request is of a slot at which nobody is
-none_there : (live : List (Option Live)) (q : List Request) (own : ℕ) → AreLive live q → live_at live own ≡ None → times own (slots q) ≡ 0
-none_there live [] own all vacant = refl
-none_there live (r ∷ q) own all vacant =
-    let h = all zero r refl in
-    let other : r.slot ≢ own = (λ e. let f : Some h.0 ≡ None = sym h.1 ∙ ap (live_at live) e ∙ vacant in absurd cc) in
-    let rest = none_there live q own (λ j. all (suc j)) vacant in
-    omega (arith, times_other own r.slot (slots q) other, rest)
-
-pub vacant_empty : (d : Parts) → IsKept d → (own : ℕ) → live_at d.live own ≡ None → (c : ℕ) → times own (slots (slice_index_or d.lists c [])) ≡ 0
-vacant_empty d k own vacant c = none_there d.live (slice_index_or d.lists c []) own (lists_live d k c) vacant
-
--- nobody is where nothing was admitted
-pub vacant_of : (d : Parts) → IsKept d → (own : ℕ) → d.place own ≡ None → live_at d.live own ≡ None
-vacant_of d k own none =
-    elim (live_at d.live own) as (λ o. d.place own ≡ option_map place_of o → o ≡ None) [
-      | None ↦ λ e. refl
-      | Some l ↦ λ e. absurd (let f : None ≡ Some (place_of l) = sym none ∙ e in cc)
-    ] (k.chained.places own)
-
 -- ---- with more places, and room in the log for one row more
 
 abbrev pub roomier : Log → Log
 roomier log = record log { rooms = log.rooms + 1 }
-
--- the parts before the child is put in
-pub prepared : (d e : Parts) (lists : List (List Request)) (place : ℕ → Option Place) (homes : List ℕ) (log : Log) (live2 : List (Option Live))
-    → lists ≡ d.lists → homes ≡ d.homes → log ≡ roomier d.log → e ≡ with_table live2 (record d { lists = lists; place = place; homes = homes; log = log })
-    → e ≡ record d { place = place; live = live2; log = roomier d.log }
-prepared d e lists place homes log live2 a b c f = f ∙ (λ i. record d { lists = a i; place = place; homes = b i; log = c i; live = live2 })
 
 module _ (d : Parts) (k : IsKept d) (live2 : List (Option Live)) (same : SamePlaces d.live live2) where
   abbrev pub longer : Parts
@@ -188,21 +158,3 @@ pub free_of : (d : Parts) (slot : ℕ) (p : Live) → live_at d.live slot ≡ So
 free_of d slot p is h =
     let this : p ≡ h.this = (let f : Some p ≡ Some h.this = sym is ∙ h.is in cc) in
     ap (λ z. z.child) this ∙ h.child_is
-
--- what holds after success holds where there was no error
-pub on_success : {A B : Type 0} (r : Result A B) (P : Type 0) → OnOk r P → is_err r ≡ false → P
-on_success (Ok x) P h e = h
-on_success (Err x) P h e = absurd (let f : true ≡ false = e in cc)
-
--- the parts once what was admitted is dismissed again
-pub dismissed : (d : Parts) (k : IsKept d) (live2 : List (Option Live)) (same : SamePlaces d.live live2) (place : ℕ → Option Place) (before : Parts)
-    → before ≡ record d { place = place; live = live2; log = roomier d.log } → (lists' : List (List Request)) (place' : ℕ → Option Place)
-    → lists' ≡ before.lists → (own : ℕ) → d.place own ≡ None → place' own ≡ None → ((r : ℕ) → r ≢ own → place' r ≡ before.place r)
-    → ((r : ℕ) → r ≢ own → place r ≡ d.place r)
-    → record before { lists = lists'; place = place' } ≡ longer d k live2 same
-dismissed d k live2 same place before e lists' place' lists_are own fresh gone others old =
-    let places : (r : ℕ) → place' r ≡ d.place r = (λ r. elim (same_or_not r own) [
-      | inl f ↦ ap place' f ∙ gone ∙ sym fresh ∙ ap d.place (sym f)
-      | inr n ↦ others r n ∙ ap (λ z. z.place r) e ∙ old r n
-    ]) in
-    λ i. record (e i) { lists = (lists_are ∙ ap (λ z. z.lists) e) i; place = λ r. places r i }

@@ -1,12 +1,12 @@
 pub mod Underway
 pub mod Calls
 pub mod Inside
-pub mod Lending
 pub mod Moves
 pub mod Places
 pub mod Codes
 pub mod Grants
 pub mod Working
 pub mod Driving
+pub mod Stepping
 pub mod KeptArguments
 pub mod KeptStages

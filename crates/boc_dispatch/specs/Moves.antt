@@ -53,6 +53,10 @@ Records d parent slot e =
 abbrev pub with_table : List (Option Live) → Parts → Parts
 with_table live d = record d { live = live }
 
+-- with nobody at a slot
+abbrev pub vacated : ℕ → Parts → Parts
+vacated slot d = with_table (slice_set d.live slot None) d
+
 -- one step more
 abbrev pub counted : Parts → Parts
 counted d = record d { steps = d.steps + 1 }

@@ -68,6 +68,7 @@ impl<'a, C: Chains + Drop> Model for Core<'a, C> {
 impl<'a, C: Chains + Drop> Core<'a, C> {
     ghost use Rattle.boc_program.specs.Programs.{cown_count};
     ghost use Rattle.boc_runs.specs.machine.Steps.{IsQuiet, opening_state, values};
+    ghost use Rattle.boc_runs.specs.machine.Movers.{CanAdvance, CanLeave};
     ghost use Rattle.boc_runs.specs.machine.Sound.{IsSound};
     ghost use Rattle.boc_dispatch.specs.Calls.{Begins, OpensWish, AdvancesChild, FinishesRow, with_outcome, LeavesCown, NamesMover, EndsAsRecord};
 
@@ -115,7 +116,7 @@ impl<'a, C: Chains + Drop> Core<'a, C> {
         if self.roster.opened as usize >= MOST_ROWS {
             return Err(OpenFault::Behaviours);
         }
-        let alloc = *self.roster.live.allocator();
+        let alloc = *self.roster.homes.allocator();
         let Ok(child) = wished_behaviour(alloc, self.roster.opened, row, wish) else {
             return Err(OpenFault::Memory);
         };
@@ -232,6 +233,13 @@ impl<'a, C: Chains + Drop> Core<'a, C> {
         self.roster.values.get(cown as usize).copied()
     }
 
+    /// The values of the cowns, which change only as behaviours end.
+    pub fn values(&self) -> &[i64]
+        ensures { result.now ≡ values self.now.program self.now.state }
+    {
+        &self.roster.values
+    }
+
     /// Every behaviour has ended and released its cowns.
     pub fn is_quiet(&self) -> bool
         ensures { IsTrue result ↔ IsQuiet self.now.state }
@@ -251,6 +259,20 @@ impl<'a, C: Chains + Drop> Core<'a, C> {
         ensures { NamesMover self.now result }
     {
         self.roster.movable()
+    }
+
+    /// Whether `advance` would make a step: there is an open enqueue with this token, and its next step isn't blocked.
+    pub fn can_advance(&self, child: &Child) -> bool
+        ensures { IsTrue result ↔ CanAdvance self.now.program self.now.state child.now.number child.now.row }
+    {
+        self.roster.can_advance(child)
+    }
+
+    /// Whether `leave` would make a step: there is a leaving behaviour with this token, and its next release isn't blocked.
+    pub fn can_leave(&self, leaving: &Leaving) -> bool
+        ensures { IsTrue result ↔ CanLeave self.now.state leaving.now.row }
+    {
+        self.roster.can_leave(leaving)
     }
 
     /// How many steps were made.

@@ -169,8 +169,8 @@ fn serves(worker: &Worker<'_>, mover: Mover) -> bool
     worker.row() == row
 }
 
-// So many workers that serve nobody yet.
-fn idle_crew<'a>(alloc: Global, workers: u32) -> Result<Vec<Worker<'a>>, AllocError>
+/// So many workers that serve nobody yet.
+pub fn idle_crew<'a>(alloc: Global, workers: u32) -> Result<Vec<Worker<'a>>, AllocError>
     ensures { IfOk result (λ crew. map (λ worker. worker.hand) crew.items ≡ replicate workers hands.Nothing) }
 {
     let mut crew = Vec::with_capacity(alloc, workers as usize)?;
@@ -180,8 +180,8 @@ fn idle_crew<'a>(alloc: Global, workers: u32) -> Result<Vec<Worker<'a>>, AllocEr
     Ok(crew)
 }
 
-// A worker thinks where that is due, and makes one turn.
-fn take_turn<'a, C: Chains + Drop>(
+/// A worker thinks where that is due, and makes one turn.
+pub fn take_turn<'a, C: Chains + Drop>(
     alloc: Global,
     worker: &mut Worker<'a>,
     core: &mut Core<'a, C>,

@@ -1,7 +1,6 @@
 //! Behaviours that are not gone yet.
 
-ghost use Rattle.std.specs.Prelude.{◌≡◌, ◌+◌, ◌==◌, ◌<◌, ◌^◌, ◌↔◌, ℕ, None, Some, Option, All, IsTrue, IsSome, IfOk, length, slice_get, false, []};
-ghost use Rattle.std.specs.Borrow.{sem};
+ghost use Rattle.std.specs.Prelude.{◌≡◌, ◌+◌, ◌==◌, ◌<◌, ◌^◌, ◌↔◌, ℕ, None, Some, Option, All, IsTrue, IfOk, length, slice_get, false, []};
 ghost use Rattle.boc_program.specs.declared.limits.TheConstants.{MOST_COWNS};
 ghost use Rattle.boc_runs.specs.declared.stage.Phase.TheVariants as phases;
 ghost use Rattle.boc_runs.specs.declared.stage.Stage.TheVariants.{Asking, Recorded};
@@ -10,9 +9,8 @@ ghost use Rattle.boc_runs.specs.machine.Steps.{flagging};
 ghost use Rattle.boc_program.specs.Rising.{rising};
 ghost use Rattle.boc_program.specs.Signatures.{AllBelow};
 ghost use Rattle.boc_runs.specs.Serial.{inputs_of as inputs_at};
-ghost use Rattle.boc_dispatch.specs.Inside.{behaviour_of, live_at, open_of};
+ghost use Rattle.boc_dispatch.specs.Inside.{behaviour_of, open_of};
 ghost use Rattle.boc_dispatch.specs.KeptStages.{request_of};
-ghost use Rattle.boc_dispatch.specs.Lending.{LendsLive};
 ghost use Rattle.boc_dispatch.specs.Places.{in_phase};
 
 use crate::kept_args::KeptArgs;
@@ -258,23 +256,4 @@ impl Live {
     {
         self.stage = KeptStage::recorded(row, phase);
     }
-}
-
-/// The behaviour at a slot of a table, which is there.
-#[inline]
-pub fn live_ref(live: &Vec<Option<Live>>, slot: usize) -> &Live
-    requires { IsSome (live_at live.now.items slot) }
-    ensures { live_at live.now.items slot ≡ Some result.now }
-{
-    live[slot].as_ref().unwrap()
-}
-
-/// The same for writing.
-#[inline]
-pub fn live_mut(live: &mut Vec<Option<Live>>, slot: usize) -> &mut Live
-    requires { IsSome (live_at live.old.items slot) }
-    ensures* writes_back { sem 𝓛 (LendsLive live.entry slot result) }
-    ensures value { live_at live.old.items slot ≡ Some result.now }
-{
-    live[slot].as_mut().unwrap()
 }

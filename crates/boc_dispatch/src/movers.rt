@@ -1,14 +1,14 @@
 //! Who can step.
 
-ghost use Rattle.std.specs.Prelude.{◌≡◌, ◌<◌, Some, length};
-ghost use Rattle.boc_runs.specs.machine.Movers.{NobodyWorks};
+ghost use Rattle.std.specs.Prelude.{◌≡◌, ◌↔◌, ◌<◌, IsTrue, Some, length};
+ghost use Rattle.boc_runs.specs.machine.Movers.{CanAdvance, CanLeave, NobodyWorks};
 ghost use Rattle.boc_dispatch.specs.Calls.{NamesMover};
 ghost use Rattle.boc_dispatch.specs.Inside.{parts_of, underway, live_at, state, IsSoundRoster};
 ghost use Rattle.boc_dispatch.specs.Moves.{MovesOrNot, MovesAtOrNot, NamesWorker};
 
 use crate::calls::{Child, Leaving, Mover};
-use crate::live::{Live, live_ref};
-use crate::roster::Roster;
+use crate::live::Live;
+use crate::roster::{Enqueue, Roster};
 use boc_chain::{Chains, Slot};
 use boc_runs::stage::{Phase, Stage};
 
@@ -29,7 +29,7 @@ impl<'a, C: Chains + Drop> Roster<'a, C> {
         requires { IsSoundRoster C.lists C.place self.now }
         ensures { NamesWorker (parts_of C.lists C.place self.now) result }
     {
-        for slot in 0..self.live.len() {
+        for slot in 0..self.live.capacity() {
             if let Some(mover) = self.mover_at(slot) {
                 return Some(mover);
             }
@@ -39,11 +39,10 @@ impl<'a, C: Chains + Drop> Roster<'a, C> {
 
     // The behaviour at a slot, if it can step.
     fn mover_at(&self, slot: usize) -> Option<Mover>
-        requires sound { IsSoundRoster C.lists C.place self.now }
-        requires there { slot < length self.now.live.items }
+        requires { IsSoundRoster C.lists C.place self.now }
         ensures { MovesAtOrNot (parts_of C.lists C.place self.now) slot result }
     {
-        match &self.live[slot] {
+        match self.live.get(slot) {
             Some(live) => self.mover_of(slot, live),
             None => None,
         }
@@ -97,7 +96,45 @@ impl<'a, C: Chains + Drop> Roster<'a, C> {
         ensures { NamesMover (underway (parts_of C.lists C.place self.now)) result }
     {
         let slot = *self.ready.front()?;
-        let row = live_ref(&self.live, slot as usize).recorded_row();
+        let row = self.live[slot as usize].recorded_row();
         Some(Mover::Ready(row))
+    }
+
+    /// Whether there is an open enqueue with this token, whose next step isn't blocked.
+    pub fn can_advance(&self, child: &Child) -> bool
+        requires { IsSoundRoster C.lists C.place self.now }
+        ensures { IsTrue result
+            ↔ CanAdvance self.now.program.now (state (parts_of C.lists C.place self.now)) child.now.number child.now.row }
+    {
+        let Some(
+            Enqueue {
+                parent: _,
+                slot,
+                stage,
+            },
+        ) = self.enqueue_of(child)
+        else {
+            return false;
+        };
+        match stage {
+            Stage::Asking { request, exchanged } => {
+                let slot = Slot {
+                    index: slot as usize,
+                };
+                !exchanged || self.chains.can_settle(slot, request)
+            }
+            Stage::Recorded { .. } => true,
+        }
+    }
+
+    /// Whether there is a leaving behaviour with this token, whose next release isn't blocked.
+    pub fn can_leave(&self, leaving: &Leaving) -> bool
+        requires { IsSoundRoster C.lists C.place self.now }
+        ensures { IsTrue result ↔ CanLeave (state (parts_of C.lists C.place self.now)) leaving.now.row }
+    {
+        match self.leaving(leaving.row) {
+            Some((slot, request)) => self.chains.can_leave(Slot { index: slot }, request),
+            None => false,
+        }
     }
 }

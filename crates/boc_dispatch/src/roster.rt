@@ -1,12 +1,13 @@
 //! What the dispatcher has in hand, and how each step changes it.
 
 ghost use Rattle.std.specs.Prelude.{◌≡◌, ◌+◌, ◌^◌, ◌<◌, ◌≤◌, ◌↔◌, ℕ, suc, [], None, Some, IfOk, IsTrue, IsSome, MatchOption, OnOk, false, true, length, max};
-ghost use Rattle.std.specs.Prelude.{replicate, slice_set, vec_len, vec_capacity};
+ghost use Rattle.std.specs.Prelude.{replicate, vec_capacity};
+ghost use Rattle.slab.specs.Slab.{HasRoomFor};
 ghost use Rattle.std.specs.VecDeque.{deque_capacity};
 ghost use Rattle.boc_dispatch.specs.Inside.{live_at};
 
 use crate::calls::{Advanced, Child, Job, Left};
-use crate::live::{Live, live_mut, live_ref, main_behaviour};
+use crate::live::{Live, main_behaviour};
 use boc_chain::{Chains, Released, Settled, Slot};
 use boc_eval::{Frame, Outcome, SpawnWish};
 use boc_program::body::Body;
@@ -17,6 +18,7 @@ use boc_runs::event::Event;
 use boc_runs::stage::{Phase, Stage};
 use boc_runs::step::Step;
 use boc_runs::values::initial_values;
+use slab::Slab;
 use std::alloc::{AllocError, Global};
 use std::collections::VecDeque;
 
@@ -25,8 +27,8 @@ use std::collections::VecDeque;
 pub struct Roster<'a, C: Chains + Drop> {
     pub program: &'a Program,
     pub chains: C,
-    /// The behaviours that aren't gone, each at the slot of its requests.
-    pub live: Vec<Option<Live>>,
+    /// The behaviours that aren't gone, each at the slot of its requests, which this slab gives.
+    pub live: Slab<Live>,
     /// The slot that the behaviour of each row has, or had.
     pub homes: Vec<u32>,
     /// The slots of the ready behaviours, in the order in which they will start.
@@ -50,24 +52,30 @@ pub struct Enqueue {
     pub stage: Stage,
 }
 
-// Makes a table long enough to have this slot, and no longer than that.
-fn reach(live: &mut Vec<Option<Live>>, slot: usize) -> Result<(), AllocError>
-    ensures same { (s : ℕ) → live_at live.new.items s ≡ live_at live.old.items s }
-    ensures long { OnOk result (slot < length live.new.items) }
-    ensures no_longer { length live.new.items ≤ max (length live.old.items) (slot + 1) }
-{
-    while live.len() <= slot {
-        live.push(None)?;
-    }
-    Ok(())
-}
+// Links name slots in 16 bits, which is enough for as many behaviours as a run may have.
+const MOST_SLOTS: usize = 1 << 16;
 
-// Puts a behaviour at a slot of a table.
-fn put(live: &mut Vec<Option<Live>>, slot: usize, child: Live)
-    requires { slot < length live.old.items }
-    ensures { live.new.items ≡ slice_set live.old.items slot (Some child) }
+// Makes room for one behaviour more, and in the ready list for as many as there is room for. Answers the slot that comes next.
+fn next_slot(live: &mut Slab<Live>, ready: &mut VecDeque<u32>) -> Result<usize, AllocError>
+    ensures slots { live.new.slots ≡ live.old.slots }
+    ensures next { IfOk result (λ slot. slot ≡ live.new.vacant_key) }
+    ensures vacant { IfOk result (λ slot. live_at live.old.slots slot ≡ None) }
+    ensures low { IfOk result (λ slot. slot < 2 ^ 16) }
+    ensures room { OnOk result (HasRoomFor live.new 1) }
+    ensures few { OnOk result (live.new.capacity ≤ 2 ^ 16) }
+    ensures ready { ready.new.items ≡ ready.old.items }
+    ensures ready_room { OnOk result (live.new.capacity ≤ deque_capacity ready.new) }
+    ensures grows { deque_capacity ready.old ≤ deque_capacity ready.new }
 {
-    live[slot] = Some(child);
+    live.reserve(1)?;
+    let room = live.capacity();
+    ready.reserve(room.saturating_sub(ready.len()))?;
+    let slot = live.vacant_key();
+    // The slab has so much room only for as many behaviours at once, of which a run has fewer.
+    if room > MOST_SLOTS || slot >= MOST_SLOTS {
+        return Err(AllocError);
+    }
+    Ok(slot)
 }
 
 ghost use Rattle.boc_runs.specs.declared.event.Event.TheVariants.{End as EndEvent};
@@ -99,7 +107,7 @@ impl<'a, C: Chains + Drop> Roster<'a, C> {
     ghost use Rattle.boc_chain.specs.Chain.{times, slots, list};
     ghost use Rattle.boc_dispatch.specs.Inside.{parts_of, state, underway, IsSoundRoster, IsAtStage, IsStageAt, IsOfRow, HasInHand, GoesOn, IsNew};
     ghost use Rattle.boc_dispatch.specs.Grants.{MayBeGranted, with_granted, IsRemoved, IsReleased, LeftAs};
-    ghost use Rattle.boc_dispatch.specs.Moves.{MayPut, Puts, with_table, MayRecord, Records, counted, StartsJob, OpensChild, IsFoundEnqueue, SettlesNext};
+    ghost use Rattle.boc_dispatch.specs.Moves.{MayPut, Puts, vacated, MayRecord, Records, counted, StartsJob, OpensChild, IsFoundEnqueue, SettlesNext};
     ghost use Rattle.boc_dispatch.specs.Moves.{EndsBehaviour, ReleasesNext, IsFoundLeaving};
 
     /// Main is opened over chains with no request, its spawn is recorded, and it is ready.
@@ -114,15 +122,17 @@ impl<'a, C: Chains + Drop> Roster<'a, C> {
         let values = initial_values(alloc, program.cowns.as_slice())?;
         let mut log = RunLog::new(alloc, values.len() as u32)?;
         log.make_room()?;
-        let mut ready = VecDeque::with_capacity(alloc, 1)?;
         let mut homes = Vec::with_capacity(alloc, 1)?;
-        let slot = chains.admit(Cowns::new())?;
-        let mut live = Vec::new(alloc);
-        reach(&mut live, slot.index)?;
-        live[slot.index] = Some(main_behaviour());
-        homes.push_reserved(slot.index as u32);
-        ready.reserve(live.len())?;
-        ready.push_back_reserved(slot.index as u32);
+        let mut live = Slab::new(alloc);
+        let mut ready = VecDeque::new(alloc);
+        let slot = next_slot(&mut live, &mut ready)?;
+        chains.admit(Slot { index: slot }, Cowns::new())?;
+        live.insert_reserved(main_behaviour());
+        // That its slots are no more than there is room for is told by `capacity` alone.
+        let room = live.capacity();
+        prove!(slot < room);
+        homes.push_reserved(slot as u32);
+        ready.push_back_reserved(slot as u32);
         log.put(Event::Spawn {
             row: 0,
             parent: 0,
@@ -150,7 +160,7 @@ impl<'a, C: Chains + Drop> Roster<'a, C> {
         ensures starts { StartsJob (parts_of C.lists C.place self.old) result (parts_of C.lists C.place self.new) }
     {
         let slot = self.ready.pop_front()?;
-        let job = live_mut(&mut self.live, slot as usize).begin(self.program, &self.values);
+        let job = self.live[slot as usize].begin(self.program, &self.values);
         self.log.put(Event::Start { row: job.row });
         self.steps += 1;
         Some(job)
@@ -164,7 +174,7 @@ impl<'a, C: Chains + Drop> Roster<'a, C> {
             (λ slot. IsOfRow (parts_of C.lists C.place self.now) slot row) }
     {
         let slot = *self.homes.get(row as usize)?;
-        match self.live.get(slot as usize)? {
+        match self.live.get(slot as usize) {
             Some(live) if live.row() == Some(row) => Some(slot as usize),
             _ => None,
         }
@@ -179,7 +189,7 @@ impl<'a, C: Chains + Drop> Roster<'a, C> {
             × IsStageAt (parts_of C.lists C.place self.now) slot (Recorded row phases.Running)) }
     {
         let slot = self.slot_of(row)?;
-        let live = live_ref(&self.live, slot);
+        let live = &self.live[slot];
         if live.runs_on(self.program, &self.values, row, body, args, inputs) {
             Some(slot)
         } else {
@@ -203,7 +213,7 @@ impl<'a, C: Chains + Drop> Roster<'a, C> {
             × HasInHand (parts_of C.lists C.place self.now) slot None
             × (Some (wish_of wish.now) ≡ last_wish_of frame.now)) }
     {
-        if live_ref(&self.live, slot).opens_next(frame.wishes()) {
+        if self.live[slot].opens_next(frame.wishes()) {
             frame.last_wish()
         } else {
             None
@@ -224,47 +234,34 @@ impl<'a, C: Chains + Drop> Roster<'a, C> {
         self.homes
             .reserve(self.opened as usize - self.homes.len() + 1)?;
         self.log.make_room()?;
-        let own = self.chains.admit(child.cowns.widened())?;
-        if self.make_places(own.index).is_err() {
-            self.chains.dismiss(own);
-            return Err(AllocError);
-        }
-        Ok(self.put_child(slot, own.index as u32, child))
+        let own = next_slot(&mut self.live, &mut self.ready)?;
+        self.chains
+            .admit(Slot { index: own }, child.cowns.widened())?;
+        self.live.insert_reserved(child);
+        // As in `over`, this tells that the slots are no more than there is room for.
+        let room = self.live.capacity();
+        prove!(own < room);
+        Ok(self.put_child(slot, own as u32))
     }
 
-    // Makes the table long enough for this slot, and the ready list for the table.
-    fn make_places(&mut self, slot: usize) -> Result<(), AllocError>
-        requires ready { length self.old.live.items ≤ deque_capacity self.old.ready }
-        requires few { length self.old.live.items ≤ 2 ^ 32 }
-        requires small { slot < 2 ^ 32 }
-        ensures parts { parts_of C.lists C.place self.new ≡ with_table self.new.live.items (parts_of C.lists C.place self.old) }
-        ensures same { (s : ℕ) → live_at self.new.live.items s ≡ live_at self.old.live.items s }
-        ensures long { OnOk result (slot < length self.new.live.items) }
-        ensures homes { vec_capacity self.new.homes ≡ vec_capacity self.old.homes }
-        ensures ready { length self.new.live.items ≤ deque_capacity self.new.ready }
-        ensures few { length self.new.live.items ≤ 2 ^ 32 }
-    {
-        self.ready
-            .reserve((slot + 1).saturating_sub(self.ready.len()))?;
-        reach(&mut self.live, slot)
-    }
-
-    // Puts a child of the behaviour at a slot into its own slot, where there is room for it.
-    fn put_child(&mut self, parent: usize, slot: u32, child: Live) -> Child
-        requires { MayPut (parts_of C.lists C.place self.old) (vec_capacity self.old.homes) parent slot child }
-        ensures token { (result.number ≡ child.number) × (result.row ≡ child.parent) }
-        ensures puts { (this : Live) → live_at self.old.live.items parent ≡ Some this
-            → Puts (parts_of C.lists C.place self.old) parent slot child this (parts_of C.lists C.place self.new) }
+    // A child, which is at its slot, is in the hand of the behaviour at a slot, whose wish it is.
+    fn put_child(&mut self, parent: usize, slot: u32) -> Child
+        requires { (child : Live) × (live_at self.old.live.slots slot ≡ Some child)
+            × MayPut (vacated slot (parts_of C.lists C.place self.old)) (vec_capacity self.old.homes) parent slot child }
+        ensures token { (child : Live) → live_at self.old.live.slots slot ≡ Some child
+            → (result.number ≡ child.number) × (result.row ≡ child.parent) }
+        ensures puts { (child this : Live) → live_at self.old.live.slots slot ≡ Some child → live_at self.old.live.slots parent ≡ Some this
+            → Puts (vacated slot (parts_of C.lists C.place self.old)) parent slot child this (parts_of C.lists C.place self.new) }
         ensures homes { vec_capacity self.new.homes ≡ vec_capacity self.old.homes }
         ensures ready { deque_capacity self.new.ready ≡ deque_capacity self.old.ready }
     {
+        let child = &self.live[slot as usize];
         let token = Child {
             number: child.number,
             row: child.parent,
         };
         let is_settled = child.cowns.as_slice().is_empty();
-        put(&mut self.live, slot as usize, child);
-        live_mut(&mut self.live, parent).begin_child(slot);
+        self.live[parent].begin_child(slot);
         self.opened += 1;
         self.step_asking(parent, slot, is_settled);
         token
@@ -292,9 +289,9 @@ impl<'a, C: Chains + Drop> Roster<'a, C> {
         ensures homes { vec_capacity self.new.homes ≡ vec_capacity self.old.homes }
         ensures ready { deque_capacity self.new.ready ≡ deque_capacity self.old.ready }
     {
-        live_mut(&mut self.live, parent).count_spawn();
+        self.live[parent].count_spawn();
         let row = self.homes.len() as u32;
-        let event = live_mut(&mut self.live, slot as usize).record(row);
+        let event = self.live[slot as usize].record(row);
         self.log.put(event);
         self.homes.push_reserved(slot);
     }
@@ -307,8 +304,8 @@ impl<'a, C: Chains + Drop> Roster<'a, C> {
             (IsFoundEnqueue (parts_of C.lists C.place self.now) child.now.number child.now.row) }
     {
         let parent = self.slot_of(child.row)?;
-        let slot = live_ref(&self.live, parent).child?;
-        let live = live_ref(&self.live, slot as usize);
+        let slot = self.live[parent].child?;
+        let live = &self.live[slot as usize];
         if live.number == child.number {
             Some(Enqueue {
                 parent,
@@ -330,7 +327,7 @@ impl<'a, C: Chains + Drop> Roster<'a, C> {
             → GoesOn (λ s t. Swaps s l.number request t) (parts_of C.lists C.place self.old) (parts_of C.lists C.place self.new) }
     {
         self.chains.swap(Slot { index: slot }, request);
-        live_mut(&mut self.live, slot).ask(request);
+        self.live[slot].ask(request);
         self.steps += 1;
         Advanced::Moved(Step::Swap(request))
     }
@@ -354,7 +351,7 @@ impl<'a, C: Chains + Drop> Roster<'a, C> {
             Settled::Lone => 1,
             Settled::Linked => 0,
         };
-        let is_last = live_mut(&mut self.live, slot as usize).settle_next(request, granted);
+        let is_last = self.live[slot as usize].settle_next(request, granted);
         self.step_asking(parent, slot, is_last);
         Advanced::Moved(Step::Settle(request))
     }
@@ -369,7 +366,7 @@ impl<'a, C: Chains + Drop> Roster<'a, C> {
             → GoesOn (λ s t. Flags s l.number request t) (parts_of C.lists C.place self.old) (parts_of C.lists C.place self.new) }
     {
         self.chains.flag(Slot { index: slot }, request);
-        live_mut(&mut self.live, slot).flag_next(row, request);
+        self.live[slot].flag_next(row, request);
         self.steps += 1;
         Advanced::Moved(Step::Flag(request))
     }
@@ -384,8 +381,8 @@ impl<'a, C: Chains + Drop> Roster<'a, C> {
         ensures owns { (l : Live) → IsAtStage (parts_of C.lists C.place self.old) slot l (Recorded row phases.Owning)
             → GoesOn (λ s t. Owns s l.number t) (parts_of C.lists C.place self.old) (parts_of C.lists C.place self.new) }
     {
-        live_mut(&mut self.live, parent).end_child();
-        live_mut(&mut self.live, slot as usize).wait(row);
+        self.live[parent].end_child();
+        self.live[slot as usize].wait(row);
         self.grant(slot);
         self.steps += 1;
         Advanced::Enqueued
@@ -397,7 +394,7 @@ impl<'a, C: Chains + Drop> Roster<'a, C> {
         ensures granted { parts_of C.lists C.place self.new ≡ with_granted slot (parts_of C.lists C.place self.old) }
         ensures rooms { (self.new.homes ≡ self.old.homes) × (deque_capacity self.new.ready ≡ deque_capacity self.old.ready) }
     {
-        if live_mut(&mut self.live, slot as usize).grant_one() {
+        if self.live[slot as usize].grant_one() {
             self.ready.push_back_reserved(slot);
         }
     }
@@ -408,7 +405,7 @@ impl<'a, C: Chains + Drop> Roster<'a, C> {
         requires runs { IsStageAt (parts_of C.lists C.place self.now) slot (Recorded row phases.Running) }
         ensures { IsTrue result ↔ HasSpawnedAll (underway (parts_of C.lists C.place self.now)) row wishes }
     {
-        live_ref(&self.live, slot).has_spawned(wishes)
+        self.live[slot].has_spawned(wishes)
     }
 
     /// Ends the running behaviour of a row, which is at a slot, as its body did. Answers whether it has cowns to release.
@@ -421,7 +418,7 @@ impl<'a, C: Chains + Drop> Roster<'a, C> {
         ensures ends { (l : Live) → IsAtStage (parts_of C.lists C.place self.old) slot l (Recorded row phases.Running)
             → EndsBehaviour (parts_of C.lists C.place self.old) l.number row result (parts_of C.lists C.place self.new) }
     {
-        let live = live_mut(&mut self.live, slot);
+        let live = &mut self.live[slot];
         let has_cowns = live.end(row, &mut self.values, outcome.outputs());
         self.log.put(end_event(row, outcome));
         self.steps += 1;
@@ -434,14 +431,14 @@ impl<'a, C: Chains + Drop> Roster<'a, C> {
 
     // The behaviour at a slot is gone.
     fn remove(&mut self, slot: usize)
-        requires there { slot < vec_len self.old.live }
+        requires there { IsSome (live_at self.old.live.slots slot) }
         requires admitted { IsSome (C.place self.old.chains slot) }
         requires empty { (c : ℕ) → times slot (slots (list (C.lists self.old.chains) c)) ≡ 0 }
         requires few { self.old.gone + 1 < 2 ^ 32 }
         ensures removed { IsRemoved (parts_of C.lists C.place self.old) slot (parts_of C.lists C.place self.new) }
         ensures rooms { (self.new.homes ≡ self.old.homes) × (self.new.ready ≡ self.old.ready) }
     {
-        self.live[slot] = None;
+        self.live.remove(slot);
         self.chains.dismiss(Slot { index: slot });
         self.gone += 1;
     }
@@ -454,7 +451,7 @@ impl<'a, C: Chains + Drop> Roster<'a, C> {
             (λ found. IsFoundLeaving (parts_of C.lists C.place self.now) row found.0 found.1) }
     {
         let slot = self.slot_of(row)?;
-        let request = live_ref(&self.live, slot).leaving(row)?;
+        let request = self.live[slot].leaving(row)?;
         Some((slot, request))
     }
 
@@ -487,7 +484,7 @@ impl<'a, C: Chains + Drop> Roster<'a, C> {
             → LeftAs (parts_of C.lists C.place self.old) row l (suc request) step result (parts_of C.lists C.place self.new) }
     {
         self.steps += 1;
-        if live_mut(&mut self.live, slot).leave_next(row, request) {
+        if self.live[slot].leave_next(row, request) {
             self.remove(slot);
             Left::Gone(step)
         } else {

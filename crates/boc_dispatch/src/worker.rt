@@ -1,6 +1,6 @@
 //! A worker that serves one behaviour after another.
 
-ghost use Rattle.std.specs.Prelude.{◌≡◌, ℕ, false, IfOk, None, length};
+ghost use Rattle.std.specs.Prelude.{◌≡◌, ◌↔◌, ℕ, false, IfOk, IsTrue, None, length};
 
 use crate::calls::{Advanced, Child, FinishFault, Job, Leaving, Left, OpenFault, Started};
 use crate::dispatcher::Core;
@@ -72,7 +72,9 @@ pub enum Turn {
 ghost use Rattle.boc_dispatch.specs.declared.worker.Due.{Due};
 ghost use Rattle.boc_dispatch.specs.declared.worker.Due.TheVariants as dues;
 ghost use Rattle.boc_dispatch.specs.declared.worker.Hand.TheVariants as hands;
-ghost use Rattle.boc_dispatch.specs.Driving.{KeepsFitting};
+ghost use Rattle.boc_runs.specs.machine.Sound.{IsSound};
+ghost use Rattle.boc_dispatch.specs.Driving.{HandFits, KeepsFitting};
+ghost use Rattle.boc_dispatch.specs.Stepping.{CanTurn};
 ghost use Rattle.boc_dispatch.specs.Working.{row_in, frame_of as frame_at_start, Enqueues, Goes, HasGiven, HasGoneOn, HasThought, IsDone, IsEnded, IsStarted};
 ghost use Rattle.boc_dispatch.specs.Working.{Wishes, Works};
 ghost use Rattle.boc_dispatch.specs.declared.calls.Child.{Child};
@@ -92,7 +94,7 @@ fn frame_of<'a>(
 impl<'a> Worker<'a> {
     /// A worker that serves nobody yet.
     pub fn new(number: u32) -> Worker<'a>
-        ensures { result ≡ record { number = number; hand = hands.Nothing; spare = tt } }
+        ensures { result ≡ record { number = number; hand = hands.Nothing; spare = None } }
     {
         Worker {
             number,
@@ -138,6 +140,23 @@ impl<'a> Worker<'a> {
                 _ => Ok(()),
             },
             _ => Ok(()),
+        }
+    }
+
+    /// Whether it can move, once it has thought: its turn makes a step, or would but that there is no room for its row's next wish.
+    pub fn can_move<C: Chains + Drop>(&self, core: &Core<'a, C>) -> bool
+        requires sound { IsSound core.now.program core.now.state }
+        requires fits { HandFits core.now self.now.hand }
+        ensures { IsTrue result ↔ CanTurn core.now (row_in self.now.hand) }
+    {
+        match &self.hand {
+            Hand::Nothing => core.has_ready(),
+            Hand::Framed(_, _, due) => match due {
+                Due::Enqueuing(child) => core.can_advance(child),
+                _ => true,
+            },
+            Hand::Leaving(leaving) => core.can_leave(leaving),
+            _ => true,
         }
     }
 

@@ -23,7 +23,7 @@ returns-in_err-slot g c =
     let d = parts_of g.C.Chains.lists g.C.Chains.place c.args.self.now in
     let child = c.args.child.now in
     let x = c.in_ok-parent.ensures in
-    let same = live_same d.live c.in_ok-parent.parent x.this c.live_ref.result.now x.is c.live_ref.ensures in
+    let same = live_same d.live c.in_ok-parent.parent x.this c.index.result.now x.is c.index.ensures in
     subst (λ (o : Option Enqueue). MatchOption o (IsEnqueueOf (state d) child.number child.row → ⊥) (IsFoundEnqueue d child.number child.row))
     (sym c.from_residual-in_err-slot.ensures)
     (λ q.
@@ -31,11 +31,11 @@ returns-in_err-slot g c =
     let knows = ap (λ (l : Live). l.child) (same ∙ one_behaviour d c.requires.kept c.in_ok-parent.parent f.1 child.row x f.3) ∙ f.4 in
     absurd (let e : None ≡ Some f.0 = sym c.in_err-slot.was ∙ knows in cc)))
 
-pub live_ref-live-requires : goal.live_ref-live-requires
-live_ref-live-requires g c =
+pub index-live-requires : goal.index-live-requires
+index-live-requires g c =
     let d = parts_of g.C.Chains.lists g.C.Chains.place c.args.self.now in
     let x = c.in_ok-parent.ensures in
-    let same = live_same d.live c.in_ok-parent.parent x.this c.live_ref.result.now x.is c.live_ref.ensures in
+    let same = live_same d.live c.in_ok-parent.parent x.this c.index.result.now x.is c.index.ensures in
     let down = c.requires.kept.in_hand.children c.in_ok-parent.parent c.in_ok-slot.slot x.this x.is
     (ap (λ (l : Live). l.child) (sym same) ∙ c.in_ok-slot.was) in
     ap (λ (o : Option Live). is_some o) down.is
@@ -46,10 +46,10 @@ returns-then-live-child g c =
     let child = c.args.child.now in
     let slot : ℕ = c.in_ok-slot.slot in
     let x = c.in_ok-parent.ensures in
-    let same = live_same d.live c.in_ok-parent.parent x.this c.live_ref.result.now x.is c.live_ref.ensures in
+    let same = live_same d.live c.in_ok-parent.parent x.this c.index.result.now x.is c.index.ensures in
     let knows = ap (λ (l : Live). l.child) (sym same) ∙ c.in_ok-slot.was in
     let down = c.requires.kept.in_hand.children c.in_ok-parent.parent slot x.this x.is knows in
-    let own = live_same d.live slot down.child c.live_ref-live.result.now down.is c.live_ref-live.ensures in
+    let own = live_same d.live slot down.child c.index-live.result.now down.is c.index-live.ensures in
     record {
       this = down.child;
       is = record { is = down.is; stage_is = ap (λ (l : Live). l.stage) (sym own) ∙ sym c.stage.ensures };
@@ -65,11 +65,11 @@ returns-else-live-child g c =
     let child = c.args.child.now in
     let slot : ℕ = c.in_ok-slot.slot in
     let x = c.in_ok-parent.ensures in
-    let same = live_same d.live c.in_ok-parent.parent x.this c.live_ref.result.now x.is c.live_ref.ensures in
+    let same = live_same d.live c.in_ok-parent.parent x.this c.index.result.now x.is c.index.ensures in
     λ q.
     (let f = enqueue_found d c.requires.kept child.row child.number q in
     let knows = ap (λ (l : Live). l.child) (same ∙ one_behaviour d c.requires.kept c.in_ok-parent.parent f.1 child.row x f.3) ∙ f.4 in
     let there : f.0 ≡ slot = (let e : Some f.0 ≡ Some slot = sym knows ∙ c.in_ok-slot.was in cc) in
     let child_at = subst (λ (s : ℕ). live_at d.live s ≡ Some f.2.this) there f.2.is in
-    let own = live_same d.live slot f.2.this c.live_ref-live.result.now child_at c.live_ref-live.ensures in
+    let own = live_same d.live slot f.2.this c.index-live.result.now child_at c.index-live.ensures in
     absurd (c.if-live-child.false (ap (λ (l : Live). l.number) own ∙ f.2.number_is)))

@@ -22,7 +22,7 @@ end-has_cowns-requires-clause-below g c =
     c.requires.handed c.requires.spawned in
     let low = subst (λ (vs : List ℤ). AllBelow (length vs) c.requires.runs.0.params.items) (sym c.deref_mut.ensures.value) (below _ _ _ _ _ _ f) in
     subst (λ (x : Live). AllBelow (length c.deref_mut.result.now) x.params.items)
-    (sym (live_same d.live c.args.slot c.requires.runs.0 c.live_mut-live.result.now f.is c.live_mut-live.ensures.value)) low
+    (sym (live_same d.live c.args.slot c.requires.runs.0 c.index_mut-live.result.now f.is c.index_mut-live.ensures.value)) low
 
 pub end-has_cowns-requires-clause-both : goal.end-has_cowns-requires-clause-both
 end-has_cowns-requires-clause-both g c =
@@ -31,7 +31,7 @@ end-has_cowns-requires-clause-both g c =
     c.requires.handed c.requires.spawned in
     let same = subst (λ (os : List ℤ). length c.requires.runs.0.params.items ≡ length os) (sym c.outputs.ensures.value) (both _ _ _ _ _ _ f) in
     subst (λ (x : Live). length x.params.items ≡ length c.outputs.result.now)
-    (sym (live_same d.live c.args.slot c.requires.runs.0 c.live_mut-live.result.now f.is c.live_mut-live.ensures.value)) same
+    (sym (live_same d.live c.args.slot c.requires.runs.0 c.index_mut-live.result.now f.is c.index_mut-live.ensures.value)) same
 
 pub put-requires-clause-allowed : goal.put-requires-clause-allowed
 put-requires-clause-allowed g c =
@@ -52,9 +52,9 @@ returns-then-has_cowns-clause-sound g c =
     let d = parts_of g.C.Chains.lists g.C.Chains.place c.args.self.now in
     let f = ending d c.args.slot c.args.row c.requires.runs.0 c.args.outcome.now c.requires.sound.kept c.requires.runs.1 c.outputs.ensures.meaning
     c.requires.handed c.requires.spawned in
-    let k = finish_calls d c.args.slot c.args.row c.requires.runs.0 c.args.outcome.now f c.live_mut-live.result.now c.end-has_cowns.new.self
+    let k = finish_calls d c.args.slot c.args.row c.requires.runs.0 c.args.outcome.now f c.index_mut-live.result.now c.end-has_cowns.new.self
     c.deref_mut.result.now c.outputs.result.now c.end-has_cowns.new.values c.args.self.now.values c.end_event.result c.put.new.self c.end-has_cowns.result
-    c.live_mut-live.ensures.value c.end-has_cowns.ensures.ended c.outputs.ensures.value c.deref_mut.ensures.value c.deref_mut.ensures.len
+    c.index_mut-live.ensures.value c.end-has_cowns.ensures.ended c.outputs.ensures.value c.deref_mut.ensures.value c.deref_mut.ensures.len
     c.end-has_cowns.ensures.values c.end_event.ensures c.put.ensures c.end-has_cowns.ensures.cowns in
     let more = has_more _ _ _ _ _ _ f _ _ _ _ _ k c.if-has_cowns.true in
     let same = finished_parts _ _ _ _ _ _ f _ _ _ _ _ k in
@@ -70,9 +70,9 @@ returns-then-has_cowns-clause-ends g c this at_stage =
     let d = parts_of g.C.Chains.lists g.C.Chains.place c.args.self.now in
     let f = ending d c.args.slot c.args.row this c.args.outcome.now c.requires.sound.kept at_stage c.outputs.ensures.meaning c.requires.handed
     c.requires.spawned in
-    let k = finish_calls d c.args.slot c.args.row this c.args.outcome.now f c.live_mut-live.result.now c.end-has_cowns.new.self c.deref_mut.result.now
+    let k = finish_calls d c.args.slot c.args.row this c.args.outcome.now f c.index_mut-live.result.now c.end-has_cowns.new.self c.deref_mut.result.now
     c.outputs.result.now c.end-has_cowns.new.values c.args.self.now.values c.end_event.result c.put.new.self c.end-has_cowns.result
-    c.live_mut-live.ensures.value c.end-has_cowns.ensures.ended c.outputs.ensures.value c.deref_mut.ensures.value c.deref_mut.ensures.len
+    c.index_mut-live.ensures.value c.end-has_cowns.ensures.ended c.outputs.ensures.value c.deref_mut.ensures.value c.deref_mut.ensures.len
     c.end-has_cowns.ensures.values c.end_event.ensures c.put.ensures c.end-has_cowns.ensures.cowns in
     let more = has_more _ _ _ _ _ _ f _ _ _ _ _ k c.if-has_cowns.true in
     subst (λ (z : Parts). EndsBehaviour d this.number c.args.row true z) (sym (finished_parts _ _ _ _ _ _ f _ _ _ _ _ k))
@@ -83,9 +83,9 @@ remove-requires-clause-empty g c cown =
     let d = parts_of g.C.Chains.lists g.C.Chains.place c.args.self.now in
     let f = ending d c.args.slot c.args.row c.requires.runs.0 c.args.outcome.now c.requires.sound.kept c.requires.runs.1 c.outputs.ensures.meaning
     c.requires.handed c.requires.spawned in
-    let k = finish_calls d c.args.slot c.args.row c.requires.runs.0 c.args.outcome.now f c.live_mut-live.result.now c.end-has_cowns.new.self
+    let k = finish_calls d c.args.slot c.args.row c.requires.runs.0 c.args.outcome.now f c.index_mut-live.result.now c.end-has_cowns.new.self
     c.deref_mut.result.now c.outputs.result.now c.end-has_cowns.new.values c.args.self.now.values c.end_event.result c.put.new.self c.end-has_cowns.result
-    c.live_mut-live.ensures.value c.end-has_cowns.ensures.ended c.outputs.ensures.value c.deref_mut.ensures.value c.deref_mut.ensures.len
+    c.index_mut-live.ensures.value c.end-has_cowns.ensures.ended c.outputs.ensures.value c.deref_mut.ensures.value c.deref_mut.ensures.len
     c.end-has_cowns.ensures.values c.end_event.ensures c.put.ensures c.end-has_cowns.ensures.cowns in
     let last = has_none _ _ _ _ _ _ f _ _ _ _ _ k c.if-has_cowns.false in
     may_empty _ _ _ _ 0 _ (released _ _ _ _ _ _ f) last cown
@@ -95,9 +95,9 @@ returns-clause-sound g c =
     let d = parts_of g.C.Chains.lists g.C.Chains.place c.args.self.now in
     let f = ending d c.args.slot c.args.row c.requires.runs.0 c.args.outcome.now c.requires.sound.kept c.requires.runs.1 c.outputs.ensures.meaning
     c.requires.handed c.requires.spawned in
-    let k = finish_calls d c.args.slot c.args.row c.requires.runs.0 c.args.outcome.now f c.live_mut-live.result.now c.end-has_cowns.new.self
+    let k = finish_calls d c.args.slot c.args.row c.requires.runs.0 c.args.outcome.now f c.index_mut-live.result.now c.end-has_cowns.new.self
     c.deref_mut.result.now c.outputs.result.now c.end-has_cowns.new.values c.args.self.now.values c.end_event.result c.put.new.self c.end-has_cowns.result
-    c.live_mut-live.ensures.value c.end-has_cowns.ensures.ended c.outputs.ensures.value c.deref_mut.ensures.value c.deref_mut.ensures.len
+    c.index_mut-live.ensures.value c.end-has_cowns.ensures.ended c.outputs.ensures.value c.deref_mut.ensures.value c.deref_mut.ensures.len
     c.end-has_cowns.ensures.values c.end_event.ensures c.put.ensures c.end-has_cowns.ensures.cowns in
     let last = has_none _ _ _ _ _ _ f _ _ _ _ _ k c.if-has_cowns.false in
     let after = parts_of g.C.Chains.lists g.C.Chains.place c.remove.new.self in
@@ -119,9 +119,9 @@ returns-clause-ends g c this at_stage =
     let d = parts_of g.C.Chains.lists g.C.Chains.place c.args.self.now in
     let f = ending d c.args.slot c.args.row this c.args.outcome.now c.requires.sound.kept at_stage c.outputs.ensures.meaning c.requires.handed
     c.requires.spawned in
-    let k = finish_calls d c.args.slot c.args.row this c.args.outcome.now f c.live_mut-live.result.now c.end-has_cowns.new.self c.deref_mut.result.now
+    let k = finish_calls d c.args.slot c.args.row this c.args.outcome.now f c.index_mut-live.result.now c.end-has_cowns.new.self c.deref_mut.result.now
     c.outputs.result.now c.end-has_cowns.new.values c.args.self.now.values c.end_event.result c.put.new.self c.end-has_cowns.result
-    c.live_mut-live.ensures.value c.end-has_cowns.ensures.ended c.outputs.ensures.value c.deref_mut.ensures.value c.deref_mut.ensures.len
+    c.index_mut-live.ensures.value c.end-has_cowns.ensures.ended c.outputs.ensures.value c.deref_mut.ensures.value c.deref_mut.ensures.len
     c.end-has_cowns.ensures.values c.end_event.ensures c.put.ensures c.end-has_cowns.ensures.cowns in
     let last = has_none _ _ _ _ _ _ f _ _ _ _ _ k c.if-has_cowns.false in
     let after = parts_of g.C.Chains.lists g.C.Chains.place c.remove.new.self in

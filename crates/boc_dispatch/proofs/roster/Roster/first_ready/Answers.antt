@@ -26,8 +26,8 @@ returns-in_err-slot g c =
     (none_ready d c.requires.sound.kept c.requires.idle
     (empty c.args.self.now.ready.items (λ h. let f : false ≡ true = c.in_err-slot.ensures.variant.1 (omega (arith, h, c.args.self.now.ready.ok)) in cc)))
 
-pub live_ref-requires : goal.live_ref-requires
-live_ref-requires g c =
+pub index-requires : goal.index-requires
+index-requires g c =
     let front = front_is c.args.self.now.ready.items c.in_ok-slot.field-0.now (omega (arith, c.in_ok-slot.ensures.variant.0 refl, c.args.self.now.ready.ok))
     c.in_ok-slot.ensures.lookup in
     let first = c.requires.sound.kept.ready_there 0 c.in_ok-slot.field-0.now (ap (λ (xs : List ℕ). slice_get xs 0) front.1) in
@@ -38,7 +38,7 @@ recorded_row-row-requires g c =
     let d = parts_of g.C.Chains.lists g.C.Chains.place c.args.self.now in
     let front = front_is d.ready c.in_ok-slot.field-0.now (omega (arith, c.in_ok-slot.ensures.variant.0 refl, c.args.self.now.ready.ok))
     c.in_ok-slot.ensures.lookup in
-    let ready = first_ready d c.requires.sound.kept c.in_ok-slot.field-0.now front.0 front.1 c.live_ref.result.now c.live_ref.ensures in
+    let ready = first_ready d c.requires.sound.kept c.in_ok-slot.field-0.now front.0 front.1 c.index.result.now c.index.ensures in
     ap (λ (s : Stage). is_some (row_at s)) ready.1
 
 pub returns : goal.returns
@@ -47,6 +47,6 @@ returns g c =
     let row = c.recorded_row-row.result in
     let front = front_is d.ready c.in_ok-slot.field-0.now (omega (arith, c.in_ok-slot.ensures.variant.0 refl, c.args.self.now.ready.ok))
     c.in_ok-slot.ensures.lookup in
-    let can = starts_first d c.requires.sound.kept c.requires.idle c.in_ok-slot.field-0.now front.0 c.live_ref.result.now row front.1 c.live_ref.ensures
+    let can = starts_first d c.requires.sound.kept c.requires.idle c.in_ok-slot.field-0.now front.0 c.index.result.now row front.1 c.index.ensures
     c.recorded_row-row.ensures in
     (can, not_quiet d c.requires.sound.kept (movers.Ready row) can)

@@ -24,7 +24,7 @@ flag_next-requires g c =
     let d = parts_of g.C.Chains.lists g.C.Chains.place c.args.self.now in
     let l = c.requires.due.0 in
     subst (λ (x : Live). c.args.request < length x.cowns.items)
-    (sym (live_same d.live c.args.slot l c.live_mut.result.now c.requires.due.1.is c.live_mut.ensures.value))
+    (sym (live_same d.live c.args.slot l c.index_mut.result.now c.requires.due.1.is c.index_mut.ensures.value))
     (flag_next d c.requires.sound.kept c.args.slot l c.args.row c.args.request c.requires.due.1)
 
 pub overflow_add-self : goal.overflow_add-self
@@ -38,7 +38,8 @@ pub returns-clause-sound : goal.returns-clause-sound
 returns-clause-sound g c =
     let d = parts_of g.C.Chains.lists g.C.Chains.place c.args.self.now in
     let change : Live → Live = λ x. in_phase c.args.row (flagging x.cowns.items (suc c.args.request)) x in
-    let new_is = live_changed change d.live c.args.slot c.requires.due.0 c.live_mut.result.now c.flag_next.new.self c.requires.due.1.is c.live_mut.ensures.value
+    let new_is = live_changed change d.live c.args.slot c.requires.due.0 c.index_mut.result.now c.flag_next.new.self c.requires.due.1.is
+    c.index_mut.ensures.value
     c.flag_next.ensures in
     let homes = vec_capacity c.args.self.now.homes in
     let ready = deque_capacity c.args.self.now.ready in
@@ -58,7 +59,7 @@ returns-clause-flags g c l it =
     let lists = g.C.Chains.lists c.flag.new.self in
     let place = g.C.Chains.place c.flag.new.self in
     let change : Live → Live = λ x. in_phase c.args.row (flagging x.cowns.items (suc c.args.request)) x in
-    let new_is = live_changed change d.live c.args.slot l c.live_mut.result.now c.flag_next.new.self it.is c.live_mut.ensures.value c.flag_next.ensures in (
+    let new_is = live_changed change d.live c.args.slot l c.index_mut.result.now c.flag_next.new.self it.is c.index_mut.ensures.value c.flag_next.ensures in (
       subst (λ (o : Option Live). Flags (state d) l.number c.args.request (state (placed d lists place c.args.slot o))) new_is
           (flag_steps d c.requires.sound.kept c.args.slot l c.args.row c.args.request it lists place c.flag.ensures.lists c.flag.ensures.places),
       refl,

@@ -13,7 +13,7 @@ returns g c =
     let d = parts_of g.C.Chains.lists g.C.Chains.place c.args.self.now in
     let k = c.requires.sound.kept in
     let runs = c.requires.runs in
-    let same = live_same d.live c.args.slot c.live_ref.result.now runs.0 c.live_ref.ensures runs.1.is in
+    let same = live_same d.live c.args.slot c.index.result.now runs.0 c.index.ensures runs.1.is in
     let x : IsOfRow d c.args.slot c.args.row = record { this = runs.0; is = runs.1.is; row_is = ap row_at runs.1.stage_is } in
     let r = row_at_slot d k c.args.slot c.args.row runs.0 runs.1.is x.row_is in (
       λ yes_is.

@@ -18,7 +18,7 @@ pub remove-requires-clause-empty : goal.remove-requires-clause-empty
 remove-requires-clause-empty g c cown =
     let e = parts_of g.C.Chains.lists g.C.Chains.place c.args.self.now in
     let last = was_last e c.args.slot c.args.row c.args.request _ _ c.requires
-    c.live_mut.result.now c.leave_next.new.self c.live_mut.ensures.value c.leave_next.ensures.released c.leave_next.result c.leave_next.ensures.last
+    c.index_mut.result.now c.leave_next.new.self c.index_mut.ensures.value c.leave_next.ensures.released c.leave_next.result c.leave_next.ensures.last
     c.if-leave_next.true in
     may_empty c.requires.before c.args.slot c.args.row c.requires.this (suc c.args.request) e c.requires.released last cown
 
@@ -27,9 +27,9 @@ returns-then-leave_next-clause-sound g c =
     let e = parts_of g.C.Chains.lists g.C.Chains.place c.args.self.now in
     let f = parts_of g.C.Chains.lists g.C.Chains.place c.remove.new.self in
     let last = was_last e c.args.slot c.args.row c.args.request _ _ c.requires
-    c.live_mut.result.now c.leave_next.new.self c.live_mut.ensures.value c.leave_next.ensures.released c.leave_next.result c.leave_next.ensures.last
+    c.index_mut.result.now c.leave_next.new.self c.index_mut.ensures.value c.leave_next.ensures.released c.leave_next.result c.leave_next.ensures.last
     c.if-leave_next.true in
-    let then = place_then e c.args.slot c.args.row c.args.request _ _ c.requires c.live_mut.result.now c.leave_next.new.self c.live_mut.ensures.value
+    let then = place_then e c.args.slot c.args.row c.args.request _ _ c.requires c.index_mut.result.now c.leave_next.new.self c.index_mut.ensures.value
     c.leave_next.ensures.released in
     let removed = subst (λ (z : Parts). IsRemoved z c.args.slot f) then c.remove.ensures.removed in
     let rooms = gone_rooms c.requires.before c.args.slot c.args.row c.requires.this (suc c.args.request) e c.requires.released last f removed
@@ -49,9 +49,9 @@ returns-then-leave_next-clause-left g c l here =
     let e = parts_of g.C.Chains.lists g.C.Chains.place c.args.self.now in
     let f = parts_of g.C.Chains.lists g.C.Chains.place c.remove.new.self in
     let last = was_last e c.args.slot c.args.row c.args.request _ _ c.requires
-    c.live_mut.result.now c.leave_next.new.self c.live_mut.ensures.value c.leave_next.ensures.released c.leave_next.result c.leave_next.ensures.last
+    c.index_mut.result.now c.leave_next.new.self c.index_mut.ensures.value c.leave_next.ensures.released c.leave_next.result c.leave_next.ensures.last
     c.if-leave_next.true in
-    let then = place_then e c.args.slot c.args.row c.args.request _ _ c.requires c.live_mut.result.now c.leave_next.new.self c.live_mut.ensures.value
+    let then = place_then e c.args.slot c.args.row c.args.request _ _ c.requires c.index_mut.result.now c.leave_next.new.self c.index_mut.ensures.value
     c.leave_next.ensures.released in
     answers_gone e c.args.slot c.args.row c.args.request _ _ c.requires c.args.step l here last f
     (subst (λ (z : Parts). IsRemoved z c.args.slot f) then c.remove.ensures.removed)
@@ -60,9 +60,9 @@ pub returns-else-leave_next-clause-sound : goal.returns-else-leave_next-clause-s
 returns-else-leave_next-clause-sound g c =
     let e = parts_of g.C.Chains.lists g.C.Chains.place c.args.self.now in
     let more = was_not_last e c.args.slot c.args.row c.args.request _ _ c.requires
-    c.live_mut.result.now c.leave_next.new.self c.live_mut.ensures.value c.leave_next.ensures.released c.leave_next.result c.leave_next.ensures.last
+    c.index_mut.result.now c.leave_next.new.self c.index_mut.ensures.value c.leave_next.ensures.released c.leave_next.result c.leave_next.ensures.last
     c.if-leave_next.false in
-    let then = place_then e c.args.slot c.args.row c.args.request _ _ c.requires c.live_mut.result.now c.leave_next.new.self c.live_mut.ensures.value
+    let then = place_then e c.args.slot c.args.row c.args.request _ _ c.requires c.index_mut.result.now c.leave_next.new.self c.index_mut.ensures.value
     c.leave_next.ensures.released in
     record {
       kept = subst IsKept (sym then) (moved_kept c.requires.before c.args.slot c.args.row c.requires.this (suc c.args.request) e c.requires.released more);
@@ -75,9 +75,9 @@ pub returns-else-leave_next-clause-left : goal.returns-else-leave_next-clause-le
 returns-else-leave_next-clause-left g c l here =
     let e = parts_of g.C.Chains.lists g.C.Chains.place c.args.self.now in
     let more = was_not_last e c.args.slot c.args.row c.args.request _ _ c.requires
-    c.live_mut.result.now c.leave_next.new.self c.live_mut.ensures.value c.leave_next.ensures.released c.leave_next.result c.leave_next.ensures.last
+    c.index_mut.result.now c.leave_next.new.self c.index_mut.ensures.value c.leave_next.ensures.released c.leave_next.result c.leave_next.ensures.last
     c.if-leave_next.false in
-    let then = place_then e c.args.slot c.args.row c.args.request _ _ c.requires c.live_mut.result.now c.leave_next.new.self c.live_mut.ensures.value
+    let then = place_then e c.args.slot c.args.row c.args.request _ _ c.requires c.index_mut.result.now c.leave_next.new.self c.index_mut.ensures.value
     c.leave_next.ensures.released in
     subst (λ (z : Parts). LeftAs e c.args.row l (suc c.args.request) c.args.step (left.Moved c.args.step) z) (sym then)
     (answers_moved e c.args.slot c.args.row c.args.request _ _ c.requires c.args.step l here more)

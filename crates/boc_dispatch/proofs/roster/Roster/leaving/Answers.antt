@@ -19,7 +19,7 @@ pub returns-in_err-request : goal.returns-in_err-request
 returns-in_err-request g c =
     let d = parts_of g.C.Chains.lists g.C.Chains.place c.args.self.now in
     let x = c.in_ok-slot.ensures in
-    let same = live_same c.args.self.now.live.items c.in_ok-slot.slot x.this c.live_ref.result.now x.is c.live_ref.ensures in
+    let same = live_same c.args.self.now.live.slots c.in_ok-slot.slot x.this c.index.result.now x.is c.index.ensures in
     subst (λ (o : Option (ℕ × ℕ)). MatchOption o (IsLeaving (state d) c.args.row → ⊥) (λ found. IsFoundLeaving d c.args.row found.0 found.1))
     (sym c.from_residual-in_err-request.ensures)
     (λ q.
@@ -31,5 +31,5 @@ returns-in_err-request g c =
 pub returns : goal.returns
 returns g c =
     let x = c.in_ok-slot.ensures in
-    let same = live_same c.args.self.now.live.items c.in_ok-slot.slot x.this c.live_ref.result.now x.is c.live_ref.ensures in
+    let same = live_same c.args.self.now.live.slots c.in_ok-slot.slot x.this c.index.result.now x.is c.index.ensures in
     (x.this, record { is = x.is; stage_is = ap (λ (l : Live). l.stage) (sym same) ∙ (c.leaving.ensures c.in_ok-request.request).0 c.in_ok-request.was })

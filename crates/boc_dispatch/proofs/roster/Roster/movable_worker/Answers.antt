@@ -14,5 +14,5 @@ pub returns : goal.returns
 returns g c =
     let d = parts_of g.C.Chains.lists g.C.Chains.place c.args.self.now in
     nobody d c.requires.kept (λ slot l is.
-    let below = live_there c.args.self.now.live.items slot l is in
-    c.loop-slot.invariant slot (omega (arith, c.args.self.now.live.ok.0, c.len-slot-end.ensures, c.loop-slot-test.false)) l is)
+    let below = live_there c.args.self.now.live.slots slot l is in
+    c.loop-slot.invariant slot (omega (arith, below, c.capacity-slot-end.ensures.slots, c.loop-slot-test.false)) l is)

@@ -19,7 +19,7 @@ returns-then-opens_next g c =
     let runs = c.requires.runs in
     let f = c.args.frame.now in
     let x : IsOfRow d c.args.slot c.args.row = record { this = runs.0; is = runs.1.is; row_is = ap row_at runs.1.stage_is } in
-    let same = live_same d.live c.args.slot runs.0 c.live_ref.result.now runs.1.is c.live_ref.ensures in
+    let same = live_same d.live c.args.slot runs.0 c.index.result.now runs.1.is c.index.ensures in
     let next = c.opens_next.ensures.0 c.if-opens_next.true in
     let none : runs.0.child ≡ None = ap (λ (l : Live). l.child) (sym same) ∙ next.0 in
     let made : f.made ≡ runs.0.spawned + 1 = sym c.wishes.ensures.value ∙ next.1 ∙ ap (λ (l : Live). l.spawned + 1) same in
@@ -41,7 +41,7 @@ returns-else-opens_next g c =
     let d = parts_of g.C.Chains.lists g.C.Chains.place c.args.self.now in
     let runs = c.requires.runs in
     let x : IsOfRow d c.args.slot c.args.row = record { this = runs.0; is = runs.1.is; row_is = ap row_at runs.1.stage_is } in
-    let same = live_same d.live c.args.slot runs.0 c.live_ref.result.now runs.1.is c.live_ref.ensures in
+    let same = live_same d.live c.args.slot runs.0 c.index.result.now runs.1.is c.index.ensures in
     λ n.
     (let means = next_wish_means d c.requires.sound.kept c.args.slot c.args.row c.args.frame.now.made x n in
     let yes = c.opens_next.ensures.1

@@ -10,14 +10,14 @@ use Rattle.boc_dispatch.proofs.Granting.{stepped_on, granted_stays}
 use Rattle.boc_dispatch.proofs.Owning.{Owning, own_there, own_parts, own_may, own_kept, own_rooms, own_goes}
 use Rattle.boc_dispatch.proofs.roster.Roster.own.Goals as goal
 
-pub live_mut-requires-2 : goal.live_mut-requires-2
-live_mut-requires-2 g c =
+pub index_mut-requires-2 : goal.index_mut-requires-2
+index_mut-requires-2 g c =
     let d = parts_of g.C.Chains.lists g.C.Chains.place c.args.self.now in
     let r = c.requires in
     let o : Owning d c.args.parent c.args.slot c.args.row r.held.this r.due.0 =
     record { kept = r.sound.kept; is = r.due.1.is; stage_is = r.due.1.stage_is; holder_is = r.held.is; holds = r.held.child_is } in
     ap (λ (x : Option Live). is_some x)
-    (own_there d c.args.parent c.args.slot c.args.row r.held.this r.due.0 c.live_mut.result.now c.end_child.new.self o c.live_mut.ensures.value
+    (own_there d c.args.parent c.args.slot c.args.row r.held.this r.due.0 c.index_mut.result.now c.end_child.new.self o c.index_mut.ensures.value
     c.end_child.ensures)
 
 pub grant-requires : goal.grant-requires
@@ -26,9 +26,9 @@ grant-requires g c =
     let r = c.requires in
     let o : Owning d c.args.parent c.args.slot c.args.row r.held.this r.due.0 =
     record { kept = r.sound.kept; is = r.due.1.is; stage_is = r.due.1.stage_is; holder_is = r.held.is; holds = r.held.child_is } in
-    let e = own_parts d c.args.parent c.args.slot c.args.row r.held.this r.due.0 c.live_mut.result.now c.end_child.new.self c.live_mut-2.result.now
+    let e = own_parts d c.args.parent c.args.slot c.args.row r.held.this r.due.0 c.index_mut.result.now c.end_child.new.self c.index_mut-2.result.now
     c.wait.new.self o
-    (record { holder = c.live_mut.ensures.value; frees = c.end_child.ensures; own = c.live_mut-2.ensures.value; waits = c.wait.ensures }) in
+    (record { holder = c.index_mut.ensures.value; frees = c.end_child.ensures; own = c.index_mut-2.ensures.value; waits = c.wait.ensures }) in
     let room = deque_capacity c.args.self.now.ready in
     subst (λ (z : Parts). MayBeGranted z c.args.slot room) (sym e)
     (own_may d c.args.parent c.args.slot c.args.row r.held.this r.due.0 o room r.sound.rooms.ready)
@@ -47,9 +47,9 @@ returns-clause-sound g c =
     let r = c.requires in
     let o : Owning d c.args.parent c.args.slot c.args.row r.held.this r.due.0 =
     record { kept = r.sound.kept; is = r.due.1.is; stage_is = r.due.1.stage_is; holder_is = r.held.is; holds = r.held.child_is } in
-    let e = own_parts d c.args.parent c.args.slot c.args.row r.held.this r.due.0 c.live_mut.result.now c.end_child.new.self c.live_mut-2.result.now
+    let e = own_parts d c.args.parent c.args.slot c.args.row r.held.this r.due.0 c.index_mut.result.now c.end_child.new.self c.index_mut-2.result.now
     c.wait.new.self o
-    (record { holder = c.live_mut.ensures.value; frees = c.end_child.ensures; own = c.live_mut-2.ensures.value; waits = c.wait.ensures }) in
+    (record { holder = c.index_mut.ensures.value; frees = c.end_child.ensures; own = c.index_mut-2.ensures.value; waits = c.wait.ensures }) in
     let f = ap stepped_on (c.grant.ensures.granted ∙ ap (with_granted c.args.slot) e) in
     let homes = vec_capacity c.args.self.now.homes in
     let room = deque_capacity c.args.self.now.ready in
@@ -72,7 +72,8 @@ returns-clause-owns g c l at_stage =
     let r = c.requires in
     let o : Owning d c.args.parent c.args.slot c.args.row r.held.this l =
     record { kept = r.sound.kept; is = at_stage.is; stage_is = at_stage.stage_is; holder_is = r.held.is; holds = r.held.child_is } in
-    let e = own_parts d c.args.parent c.args.slot c.args.row r.held.this l c.live_mut.result.now c.end_child.new.self c.live_mut-2.result.now c.wait.new.self o
-    (record { holder = c.live_mut.ensures.value; frees = c.end_child.ensures; own = c.live_mut-2.ensures.value; waits = c.wait.ensures }) in
+    let e = own_parts d c.args.parent c.args.slot c.args.row r.held.this l c.index_mut.result.now c.end_child.new.self c.index_mut-2.result.now
+    c.wait.new.self o
+    (record { holder = c.index_mut.ensures.value; frees = c.end_child.ensures; own = c.index_mut-2.ensures.value; waits = c.wait.ensures }) in
     let f = ap stepped_on (c.grant.ensures.granted ∙ ap (with_granted c.args.slot) e) in
     subst (λ (z : Parts). GoesOn (λ s t. Owns s l.number t) d z) (sym f) (own_goes d c.args.parent c.args.slot c.args.row r.held.this l o)

@@ -23,14 +23,14 @@ pub runs_on-requires-clause-kind : goal.runs_on-requires-clause-kind
 runs_on-requires-clause-kind g c =
     let d = parts_of g.C.Chains.lists g.C.Chains.place c.args.self.now in
     let x = c.in_ok-slot.ensures in
-    let same = live_same d.live c.in_ok-slot.slot x.this c.live_ref-live.result.now x.is c.live_ref-live.ensures in
+    let same = live_same d.live c.in_ok-slot.slot x.this c.index-live.result.now x.is c.index-live.ensures in
     subst (λ (l : Live). l.kind < length d.program.bodies) (sym same) (kind_there d c.requires.kept c.in_ok-slot.slot c.args.row x)
 
 pub runs_on-requires-clause-below : goal.runs_on-requires-clause-below
 runs_on-requires-clause-below g c =
     let d = parts_of g.C.Chains.lists g.C.Chains.place c.args.self.now in
     let x = c.in_ok-slot.ensures in
-    let same = live_same d.live c.in_ok-slot.slot x.this c.live_ref-live.result.now x.is c.live_ref-live.ensures in
+    let same = live_same d.live c.in_ok-slot.slot x.this c.index-live.result.now x.is c.index-live.ensures in
     subst (λ (l : Live). AllBelow (length c.deref.result.now) l.params.items) (sym same)
     (subst (λ (n : ℕ). AllBelow n x.this.params.items) (ap length (sym c.deref.ensures.value)) (params_below d c.requires.kept c.in_ok-slot.slot c.args.row x))
 
@@ -38,7 +38,7 @@ pub returns-then-runs_on : goal.returns-then-runs_on
 returns-then-runs_on g c =
     let d = parts_of g.C.Chains.lists g.C.Chains.place c.args.self.now in
     let x = c.in_ok-slot.ensures in
-    let same = live_same d.live c.in_ok-slot.slot x.this c.live_ref-live.result.now x.is c.live_ref-live.ensures in
+    let same = live_same d.live c.in_ok-slot.slot x.this c.index-live.result.now x.is c.index-live.ensures in
     let runs = c.runs_on.ensures.0 c.if-runs_on.true in
     let stage = ap (λ (l : Live). l.stage) (sym same) ∙ runs.0 in (
       hands_out d c.requires.kept c.in_ok-slot.slot c.args.row x c.args.body.now c.args.args.now c.args.inputs.now stage
@@ -51,7 +51,7 @@ pub returns-else-runs_on : goal.returns-else-runs_on
 returns-else-runs_on g c =
     let d = parts_of g.C.Chains.lists g.C.Chains.place c.args.self.now in
     let x = c.in_ok-slot.ensures in
-    let same = live_same d.live c.in_ok-slot.slot x.this c.live_ref-live.result.now x.is c.live_ref-live.ensures in
+    let same = live_same d.live c.in_ok-slot.slot x.this c.index-live.result.now x.is c.index-live.ensures in
     λ h.
     (let means = handed_means d c.requires.kept c.in_ok-slot.slot c.args.row x c.args.body.now c.args.args.now c.args.inputs.now h in
     let yes = c.runs_on.ensures.1 (

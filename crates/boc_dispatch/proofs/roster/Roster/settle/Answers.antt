@@ -13,7 +13,7 @@ use Rattle.boc_dispatch.proofs.Settling.{may_settle, settled_kept, settled_rooms
 use Rattle.boc_dispatch.proofs.Settling.{blocked_parts, is_blocked}
 use Rattle.boc_dispatch.proofs.Tables.{live_same, live_changed}
 use Rattle.boc_dispatch.proofs.roster.Roster.settle.Given.{Over}
-use Rattle.boc_dispatch.proofs.roster.Roster.settle.Goals.{After-live_mut, After-settle_next-is_last}
+use Rattle.boc_dispatch.proofs.roster.Roster.settle.Goals.{After-index_mut, After-settle_next-is_last}
 use Rattle.boc_dispatch.proofs.roster.Roster.settle.Goals as goal
 use Rattle.boc_dispatch.proofs.roster.Roster.settle.Goals.{in-Lone, in-Linked}
 
@@ -48,7 +48,7 @@ returns-in-Blocked-clause-settles g c l it =
     (ap underway same, is_blocked d k c.args.slot l c.args.request it answer lists place c.settle.ensures.lists c.settle.ensures.places)
 
 -- whether it is granted is as the chain tells
-out : (g : Over) (c : After-live_mut g) (l : Live)
+out : (g : Over) (c : After-index_mut g) (l : Live)
     (it : IsAtStage (parts_of g.C.Chains.lists g.C.Chains.place c.args.self.now) c.args.slot l (Asking c.args.request true))
     → IsOutcome (parts_of g.C.Chains.lists g.C.Chains.place c.args.self.now) c.requires.sound.kept c.args.slot l c.args.request it c.match-settle.granted
 out g c l it =
@@ -64,15 +64,15 @@ new_is : (g : Over) (c : After-settle_next-is_last g) (l : Live)
     → IsAtStage (parts_of g.C.Chains.lists g.C.Chains.place c.args.self.now) c.args.slot l (Asking c.args.request true)
     → Some (settled c.args.request c.match-settle.granted l) ≡ Some c.settle_next-is_last.new.self
 new_is g c l it =
-    live_changed (settled c.args.request c.match-settle.granted) c.args.self.now.live.items c.args.slot l c.live_mut.result.now
-    c.settle_next-is_last.new.self it.is c.live_mut.ensures.value c.settle_next-is_last.ensures.settles
+    live_changed (settled c.args.request c.match-settle.granted) c.args.self.now.live.slots c.args.slot l c.index_mut.result.now
+    c.settle_next-is_last.new.self it.is c.index_mut.ensures.value c.settle_next-is_last.ensures.settles
 
 is_last : (g : Over) (c : After-settle_next-is_last g) (l : Live)
     → IsAtStage (parts_of g.C.Chains.lists g.C.Chains.place c.args.self.now) c.args.slot l (Asking c.args.request true)
     → c.settle_next-is_last.result ≡ eqb (suc c.args.request) (length l.cowns.items)
 is_last g c l it =
     subst (λ (x : Live). c.settle_next-is_last.result ≡ eqb (suc c.args.request) (length x.cowns.items))
-    (live_same c.args.self.now.live.items c.args.slot l c.live_mut.result.now it.is c.live_mut.ensures.value) c.settle_next-is_last.ensures.last
+    (live_same c.args.self.now.live.slots c.args.slot l c.index_mut.result.now it.is c.index_mut.ensures.value) c.settle_next-is_last.ensures.last
 
 -- what its step does
 abbrev given : (g : Over) (c : After-settle_next-is_last g) (l : Live)
@@ -101,8 +101,8 @@ settle_next-is_last-requires g c =
     let d = parts_of g.C.Chains.lists g.C.Chains.place c.args.self.now in
     let l = c.requires.due.0 in
     let it = c.requires.due.1 in
-    let told = out g (goal.at.settle_next-is_last-requires g c).After-live_mut l it in
-    let back = sym (live_same d.live c.args.slot l c.live_mut.result.now it.is c.live_mut.ensures.value) in
+    let told = out g (goal.at.settle_next-is_last-requires g c).After-index_mut l it in
+    let back = sym (live_same d.live c.args.slot l c.index_mut.result.now it.is c.index_mut.ensures.value) in
     record {
       low = subst (λ (x : Live). c.args.request < length x.cowns.items) back (settle_next d c.requires.sound.kept c.args.slot l c.args.request it);
       awaited = subst (λ (x : Live). c.match-settle.granted ≤ x.awaited) back
@@ -119,7 +119,7 @@ step_asking-requires-clause-may g c settles =
     let s = (goal.at.step_asking-requires-clause-may g c).After-settle_next-is_last in
     let l = c.requires.due.0 in
     let it = c.requires.due.1 in
-    may_settle (given g s l it (out g (goal.at.step_asking-requires-clause-may g c).After-live_mut l it))
+    may_settle (given g s l it (out g (goal.at.step_asking-requires-clause-may g c).After-index_mut l it))
     (eqb-true (suc c.args.request) (length l.cowns.items) (sym (is_last g s l it) ∙ settles)) c.args.parent c.requires.held
     (vec_capacity c.args.self.now.homes) (deque_capacity c.args.self.now.ready) c.requires.sound.rooms
 
@@ -128,7 +128,7 @@ returns-clause-sound g c =
     let s = (goal.at.returns-clause-sound g c).After-settle_next-is_last in
     let l = c.requires.due.0 in
     let it = c.requires.due.1 in
-    let x = given g s l it (out g (goal.at.returns-clause-sound g c).After-live_mut l it) in
+    let x = given g s l it (out g (goal.at.returns-clause-sound g c).After-index_mut l it) in
     let after = parts_of g.C.Chains.lists g.C.Chains.place c.step_asking.new.self in
     let homes = vec_capacity c.args.self.now.homes in
     let ready = deque_capacity c.args.self.now.ready in
@@ -144,7 +144,7 @@ returns-clause-sound g c =
 pub returns-clause-settles : goal.returns-clause-settles
 returns-clause-settles g c l it =
     let s = (goal.at.returns-clause-settles g c).After-settle_next-is_last in
-    let both = settled_steps (given g s l it (out g (goal.at.returns-clause-settles g c).After-live_mut l it)) c.args.parent c.requires.held
+    let both = settled_steps (given g s l it (out g (goal.at.returns-clause-settles g c).After-index_mut l it)) c.args.parent c.requires.held
     (parts_of g.C.Chains.lists g.C.Chains.place c.step_asking.new.self) c.settle_next-is_last.result (is_last g s l it) c.step_asking.ensures.asks
     c.step_asking.ensures.records in
     (refl, both.0, both.1)

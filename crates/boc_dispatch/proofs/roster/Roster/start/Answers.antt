@@ -18,8 +18,8 @@ use Rattle.boc_dispatch.proofs.Fits.{steps_fit}
 use Rattle.boc_dispatch.proofs.Starting.{first_ready, first_told, started_parts, starts, start_allowed, start_keeps, start_rooms}
 use Rattle.boc_dispatch.proofs.roster.Roster.start.Goals as goal
 
-pub live_mut-requires : goal.live_mut-requires
-live_mut-requires g c =
+pub index_mut-requires : goal.index_mut-requires
+index_mut-requires g c =
     let first = c.requires.kept.ready_there 0 c.in_ok-slot.slot (ap (λ (xs : List ℕ). slice_get xs 0) c.in_ok-slot.ensures.items) in
     ap (λ (o : Option Live). is_some o) first.2
 
@@ -27,8 +27,8 @@ pub begin-job-requires : goal.begin-job-requires
 begin-job-requires g c =
     let d = parts_of g.C.Chains.lists g.C.Chains.place c.args.self.now in
     let slot : ℕ = c.in_ok-slot.slot in
-    let l = c.live_mut.result.now in
-    let is = c.live_mut.ensures.value in
+    let l = c.index_mut.result.now in
+    let is = c.index_mut.ensures.value in
     let first = first_ready d c.requires.kept slot c.pop_front.new.self.items c.in_ok-slot.ensures.items l is in
     let x : IsOfRow d slot first.0 = record { this = l; is = is; row_is = ap row_at first.1 } in
     record {
@@ -40,8 +40,8 @@ begin-job-requires g c =
 pub put-requires-clause-allowed : goal.put-requires-clause-allowed
 put-requires-clause-allowed g c =
     let d = parts_of g.C.Chains.lists g.C.Chains.place c.args.self.now in
-    let l = c.live_mut.result.now in
-    let is = c.live_mut.ensures.value in
+    let l = c.index_mut.result.now in
+    let is = c.index_mut.ensures.value in
     let ready = first_told d c.requires.kept c.in_ok-slot.slot c.pop_front.new.self.items c.in_ok-slot.ensures.items l is c.begin-job.result.row
     c.begin-job.ensures.row in
     start_allowed d c.requires.kept c.in_ok-slot.slot c.pop_front.new.self.items c.in_ok-slot.ensures.items l c.begin-job.result.row is ready
@@ -56,8 +56,8 @@ overflow_add-self g c = omega (
 pub returns-clause-sound : goal.returns-clause-sound
 returns-clause-sound g c =
     let d = parts_of g.C.Chains.lists g.C.Chains.place c.args.self.now in
-    let l = c.live_mut.result.now in
-    let is = c.live_mut.ensures.value in
+    let l = c.index_mut.result.now in
+    let is = c.index_mut.ensures.value in
     let row = c.begin-job.result.row in
     let rest = c.pop_front.new.self.items in
     let head = c.in_ok-slot.ensures.items in
@@ -79,8 +79,8 @@ returns-clause-sound g c =
 pub returns-clause-starts : goal.returns-clause-starts
 returns-clause-starts g c =
     let d = parts_of g.C.Chains.lists g.C.Chains.place c.args.self.now in
-    let l = c.live_mut.result.now in
-    let is = c.live_mut.ensures.value in
+    let l = c.index_mut.result.now in
+    let is = c.index_mut.ensures.value in
     let row = c.begin-job.result.row in
     let rest = c.pop_front.new.self.items in
     let head = c.in_ok-slot.ensures.items in

@@ -23,7 +23,7 @@ pub ask-requires : goal.ask-requires
 ask-requires g c =
     let d = parts_of g.C.Chains.lists g.C.Chains.place c.args.self.now in
     subst (λ (x : Live). c.args.request < length x.cowns.items)
-    (sym (live_same d.live c.args.slot c.requires.due.0 c.live_mut.result.now c.requires.due.1.is c.live_mut.ensures.value))
+    (sym (live_same d.live c.args.slot c.requires.due.0 c.index_mut.result.now c.requires.due.1.is c.index_mut.ensures.value))
     (swap_next d c.requires.sound.kept c.args.slot c.requires.due.0 c.args.request c.requires.due.1)
 
 pub overflow_add-self : goal.overflow_add-self
@@ -36,8 +36,8 @@ overflow_add-self g c = omega (
 pub returns-clause-sound : goal.returns-clause-sound
 returns-clause-sound g c =
     let d = parts_of g.C.Chains.lists g.C.Chains.place c.args.self.now in
-    let new_is = live_changed (exchanged c.args.request) d.live c.args.slot c.requires.due.0 c.live_mut.result.now c.ask.new.self c.requires.due.1.is
-    c.live_mut.ensures.value c.ask.ensures in
+    let new_is = live_changed (exchanged c.args.request) d.live c.args.slot c.requires.due.0 c.index_mut.result.now c.ask.new.self c.requires.due.1.is
+    c.index_mut.ensures.value c.ask.ensures in
     let homes = vec_capacity c.args.self.now.homes in
     let ready = deque_capacity c.args.self.now.ready in
     record {
@@ -55,7 +55,7 @@ returns-clause-swaps g c l it =
     let d = parts_of g.C.Chains.lists g.C.Chains.place c.args.self.now in
     let lists = g.C.Chains.lists c.swap.new.self in
     let place = g.C.Chains.place c.swap.new.self in
-    let new_is = live_changed (exchanged c.args.request) d.live c.args.slot l c.live_mut.result.now c.ask.new.self it.is c.live_mut.ensures.value
+    let new_is = live_changed (exchanged c.args.request) d.live c.args.slot l c.index_mut.result.now c.ask.new.self it.is c.index_mut.ensures.value
     c.ask.ensures in (
       subst (λ (o : Option Live). Swaps (state d) l.number c.args.request (state (placed d lists place c.args.slot o))) new_is
           (swap_steps d c.requires.sound.kept c.args.slot l c.args.request it lists place c.swap.ensures.lists c.swap.ensures.place

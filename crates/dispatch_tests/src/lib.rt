@@ -4,6 +4,8 @@
 #[cfg(test)]
 mod dispatch;
 #[cfg(test)]
+mod draws;
+#[cfg(test)]
 mod drives;
 #[cfg(test)]
 mod eval;

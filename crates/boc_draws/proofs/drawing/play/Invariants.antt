@@ -1,0 +1,11 @@
+use Rattle.std.proofs.Common.{◌*◌, ◌-◌}
+use Rattle.boc_program.specs.declared.limits.TheConstants.{MOST_ROWS}
+use Rattle.boc_draws.proofs.Playing.{PlaysOn}
+use Rattle.boc_draws.proofs.drawing.play.Given as goal
+
+abbrev pub invariant-turns : goal.invariant-turns
+invariant-turns l = PlaysOn l.program l.workers l.fn.way l.seed l.core l.crew.items l.picker
+
+-- how many steps more there may be
+abbrev pub decreases-turns : goal.decreases-turns
+decreases-turns l = 36 * MOST_ROWS - l.core.state.steps

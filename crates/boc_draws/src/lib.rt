@@ -1,0 +1,14 @@
+//! Draws: the runs of a program by virtual workers on one thread, of which at each turn one is picked at random. Which one moves
+//! when is a function of the program, the number of workers, the way in which they are picked, and a seed.
+#![tactic(auto)]
+
+mod drawing;
+mod fault;
+pub mod laws;
+mod movers;
+mod picker;
+mod way;
+
+pub use drawing::{Drawn, draw};
+pub use fault::DrawFault;
+pub use way::{Depth, MOST_DEPTH, Way};

@@ -1,0 +1,11 @@
+pub mod Bounding
+pub mod Counting
+pub mod Adding
+pub mod Sorting
+pub mod Tallying
+pub mod Rounds
+pub mod Alone
+pub mod AddingUp
+pub mod OneSample
+pub mod Examples
+pub mod Sharing

@@ -1,0 +1,15 @@
+//! What ends a program comes to in many draws: each distinct list of values that the cowns have at the end, how often it came, the seed
+//! that brings it back, and the spans of the runs that ended so.
+#![tactic(auto)]
+
+mod asked;
+mod bounds;
+mod drawing_all;
+pub mod laws;
+mod sampling;
+mod tally;
+
+pub use asked::{Asked, MOST_RUNS};
+pub use bounds::Bounds;
+pub use drawing_all::outcomes_of;
+pub use tally::{Outcome, Outcomes};

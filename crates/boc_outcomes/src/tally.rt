@@ -1,0 +1,181 @@
+//! Which ends samples have, and how often.
+
+ghost use Rattle.std.specs.Prelude.{◌≡◌, ◌≢◌, ℕ, ◌+◌, ◌<◌, ◌≤◌, ℤ, List, [], ◌∷◌, ◌++◌, length, map, Some, IfNone, IfSome, IsSome, IsTrue, OnOk, ◌↔◌, slice_get};
+ghost use Rattle.std.specs.List.{Contains};
+ghost use Rattle.boc_outcomes.specs.declared.asked.TheConstants.{MOST_RUNS};
+ghost use Rattle.boc_outcomes.specs.Samples.{Sample, sample_of};
+ghost use Rattle.boc_outcomes.specs.Tallies.{HasOutcomes, IsTally, Tallies, widened};
+
+use crate::asked::Asked;
+use crate::bounds::{Bounds, widen};
+use crate::sampling::Sampled;
+use std::alloc::{AllocError, Global};
+use std::cmp::Reverse;
+
+/// An end that a program came to.
+#[derive(Drop, Debug)]
+pub struct Outcome {
+    /// The values of the cowns.
+    pub values: Vec<i64>,
+    /// How many runs ended so.
+    pub runs: u32,
+    /// The number of the first of them, counted from 0.
+    pub first: u32,
+    /// The seed of the first of them.
+    pub seed: u64,
+    /// The least and the greatest of their spans, as cowns are exclusive.
+    pub spans: Bounds,
+}
+
+/// The ends that a program came to in many runs, the most frequent first, and of those that are as frequent the one that came first.
+#[derive(Drop, Debug)]
+pub struct Outcomes {
+    /// The least and the greatest number of rows of a run.
+    pub rows: Bounds,
+    /// The least and the greatest span of a run, as cowns are exclusive.
+    pub spans: Bounds,
+    pub all: Vec<Outcome>,
+}
+
+/// The ends so far, in the order in which they came.
+#[derive(Drop)]
+pub(crate) struct Tally {
+    rows: Option<Bounds>,
+    spans: Option<Bounds>,
+    all: Vec<Outcome>,
+}
+
+impl Outcome {
+    // One more run ended so, with this span.
+    fn count(&mut self, span: u64)
+        requires { self.old.runs < MOST_RUNS }
+        ensures { self.new ≡ record self.old { runs = self.old.runs + 1; spans = widened (Some self.old.spans) span } }
+    {
+        self.runs += 1;
+        self.spans = self.spans.with(span);
+    }
+}
+
+// These are the values of an outcome.
+fn has_values(outcome: &Outcome, values: &[i64]) -> bool
+    ensures { IsTrue result ↔ (outcome.now.values.items ≡ values.now) }
+{
+    outcome.values.as_slice() == values
+}
+
+// The place of the outcome that has these values, if there is one.
+fn place_of(all: &[Outcome], values: &[i64]) -> Option<usize>
+    ensures some { IfSome result (λ place. (place < length all.now) × ((outcome : Outcome) → slice_get all.now place ≡ Some outcome
+        → outcome.values.items ≡ values.now)) }
+    ensures none { IfNone result ((place : ℕ) (outcome : Outcome) → slice_get all.now place ≡ Some outcome → outcome.values.items ≢ values.now) }
+{
+    for (place, outcome) in all.iter().enumerate() {
+        if has_values(outcome, values) {
+            return Some(place);
+        }
+    }
+    None
+}
+
+impl Tally {
+    /// No run is counted.
+    pub fn new(alloc: Global) -> Tally
+        ensures { (seed : ℕ) → Tallies seed [] result }
+    {
+        Tally {
+            rows: None,
+            spans: None,
+            all: Vec::new(alloc),
+        }
+    }
+
+    // Counts the run of this number among those that ended as it did, or as the first that did.
+    fn count(
+        &mut self,
+        alloc: Global,
+        asked: &Asked,
+        number: u32,
+        sampled: &Sampled,
+    ) -> Result<(), AllocError>
+        requires few { number < MOST_RUNS }
+        requires counted { (samples : List Sample) × (length samples ≡ number) × HasOutcomes asked.now.seed samples self.old.all.items }
+        ensures rows { self.new.rows ≡ self.old.rows }
+        ensures spans { self.new.spans ≡ self.old.spans }
+        ensures all { OnOk result ((samples : List Sample) → length samples ≡ number → HasOutcomes asked.now.seed samples self.old.all.items
+            → HasOutcomes asked.now.seed (samples ++ sample_of sampled.now ∷ []) self.new.all.items) }
+    {
+        match place_of(&self.all, &sampled.values) {
+            Some(place) => {
+                self.all[place].count(sampled.span);
+                Ok(())
+            }
+            None => {
+                let values = Vec::from_slice(alloc, &sampled.values)?;
+                self.all.push(Outcome {
+                    values,
+                    runs: 1,
+                    first: number,
+                    seed: asked.seed_of(number),
+                    spans: Bounds::of(sampled.span),
+                })?;
+                Ok(())
+            }
+        }
+    }
+
+    // Adds what the draw of this number came to.
+    fn add(
+        &mut self,
+        alloc: Global,
+        asked: &Asked,
+        number: u32,
+        sampled: &Sampled,
+    ) -> Result<(), AllocError>
+        requires few { number < MOST_RUNS }
+        requires counted { (samples : List Sample) × (length samples ≡ number) × Tallies asked.now.seed samples self.old }
+        ensures { OnOk result ((samples : List Sample) → length samples ≡ number → Tallies asked.now.seed samples self.old
+            → Tallies asked.now.seed (samples ++ sample_of sampled.now ∷ []) self.new) }
+    {
+        self.rows = Some(widen(self.rows, u64::from(sampled.rows)));
+        self.spans = Some(widen(self.spans, sampled.span));
+        self.count(alloc, asked, number, sampled)
+    }
+
+    /// Adds what the draws from this number on came to, in their order. `AllocError` says that memory was refused.
+    pub fn add_all(
+        &mut self,
+        alloc: Global,
+        asked: &Asked,
+        from: u32,
+        all: &[Sampled],
+    ) -> Result<(), AllocError>
+        requires few { from + length all.now ≤ MOST_RUNS }
+        requires counted { (samples : List Sample) × (length samples ≡ from) × Tallies asked.now.seed samples self.old }
+        ensures { OnOk result ((samples : List Sample) → length samples ≡ from → Tallies asked.now.seed samples self.old
+            → Tallies asked.now.seed (samples ++ map sample_of all.now) self.new) }
+    {
+        for (place, sampled) in all.iter().enumerate() {
+            self.add(alloc, asked, from + place as u32, sampled)?;
+        }
+        Ok(())
+    }
+
+    /// The outcomes in their order, where a run is counted. It takes no memory.
+    pub fn in_order(self) -> Outcomes
+        requires rows { IsSome self.rows }
+        requires spans { IsSome self.spans }
+        ensures { (seed : ℕ) (samples : List Sample) → Tallies seed samples self → IsTally seed samples result }
+    {
+        let Tally {
+            rows,
+            spans,
+            mut all,
+        } = self;
+        all.sort_unstable_by_key(|outcome| (Reverse(outcome.runs), outcome.first));
+        Outcomes {
+            rows: rows.unwrap(),
+            spans: spans.unwrap(),
+            all,
+        }
+    }
+}

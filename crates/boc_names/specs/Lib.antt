@@ -3,3 +3,4 @@ pub mod Laying
 pub mod Names
 pub mod NamesFile
 pub mod Said
+pub mod Stretches

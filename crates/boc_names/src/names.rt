@@ -4,7 +4,9 @@ ghost use Rattle.std.specs.Prelude.{◌≡◌, ◌∷◌, ◌++◌, codes, map, 
 ghost use Rattle.boc_runs.specs.Run.{config_of};
 ghost use Rattle.boc_names.specs.Names.{AreNamesOf, AreNumbers, member_text, numbered_from, numbers_from, texts_of};
 
-use crate::texts::{behaviour_text, copied, cown_names, family_names, family_numbers, numbered};
+use crate::behaviours::behaviour_text;
+use crate::held::CownNames;
+use crate::texts::{copied, family_names, family_numbers, numbered};
 use boc_follow::Follower;
 use boc_program::text::Name;
 use std::alloc::{AllocError, Global};
@@ -39,8 +41,8 @@ fn put_names(alloc: Global, names: &mut Vec<Vec<u8>>, defs: &[Name]) -> Result<(
     }
 }
 
-// Main's name, and those of the defs.
-fn def_names(alloc: Global, defs: &[Name]) -> Result<Vec<Vec<u8>>, AllocError>
+/// Main's name, and those of the defs, which are given in the order of the text. `AllocError` says that memory was refused.
+pub fn def_names(alloc: Global, defs: &[Name]) -> Result<Vec<Vec<u8>>, AllocError>
     ensures { IfOk result (λ names. texts_of names.items ≡ codes "main" ∷ defs.now) }
 {
     let mut names = Vec::new(alloc);
@@ -54,11 +56,11 @@ fn row_names(
     alloc: Global,
     run: &Follower<'_>,
     defs: &[Vec<u8>],
-    cowns: &[Vec<u8>],
+    cowns: &CownNames,
 ) -> Result<(Vec<u32>, Vec<Vec<u8>>), AllocError>
     ensures kinds { IfOk result (λ found. found.0.items ≡ map (λ m. m.behaviour.kind) (config_of run.now.program run.now.log).members) }
     ensures rows { IfOk result (λ found. texts_of found.1.items
-        ≡ map (member_text (texts_of defs.now) (texts_of cowns.now)) (config_of run.now.program run.now.log).members) }
+        ≡ map (member_text (texts_of defs.now) cowns.now) (config_of run.now.program run.now.log).members) }
 {
     let mut kinds = Vec::with_capacity(alloc, run.rows())?;
     let mut rows = Vec::with_capacity(alloc, run.rows())?;
@@ -80,13 +82,13 @@ pub fn names_of_run(alloc: Global, run: &Follower<'_>, defs: &[Name]) -> Result<
 {
     let declared = run.program().cowns.as_slice();
     let def_names = def_names(alloc, defs)?;
-    let cowns = cown_names(alloc, declared)?;
+    let cowns = CownNames::of(alloc, declared)?;
     let (defs, rows) = row_names(alloc, run, &def_names, &cowns)?;
     Ok(Names {
         defs,
         def_names,
         rows,
-        cowns,
+        cowns: cowns.into_names(),
         families: family_numbers(alloc, declared)?,
         family_names: family_names(alloc, declared)?,
     })

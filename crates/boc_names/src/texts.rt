@@ -1,12 +1,11 @@
-// The names of cowns and of behaviours, as texts.
+// The names of cowns, as texts.
 
 ghost use Rattle.std.specs.Prelude.{◌≡◌, ◌+◌, ◌<◌, ◌^◌, ◌++◌, length, replicate, IfOk, OnOk};
-ghost use Rattle.boc_names.specs.Names.{args_text, behaviour_text, cown_names, declared_names, family_name, family_names, held_text, member_name};
-ghost use Rattle.boc_names.specs.Names.{family_numbers, member_names, more_args, more_held, numbered, text_at, texts_of};
+ghost use Rattle.boc_names.specs.Names.{cown_names, declared_names, family_name, family_names, family_numbers, member_name, member_names, numbered};
+ghost use Rattle.boc_names.specs.Names.{text_at, texts_of};
 
 use boc_program::cown::Cown;
-use boc_program::short::CownNo;
-use boc_text::{put_number, put_signed};
+use boc_text::put_number;
 use std::alloc::{AllocError, Global};
 
 /// A word and a number behind it.
@@ -81,8 +80,8 @@ fn put_cowns(alloc: Global, names: &mut Vec<Vec<u8>>, cowns: &[Cown]) -> Result<
     }
 }
 
-/// The names of cowns, in the order of their numbers.
-pub(crate) fn cown_names(alloc: Global, cowns: &[Cown]) -> Result<Vec<Vec<u8>>, AllocError>
+/// The names of cowns, in the order of their numbers: those of single ones, and of the members of arrays. `AllocError` says that memory was refused.
+pub fn cown_names(alloc: Global, cowns: &[Cown]) -> Result<Vec<Vec<u8>>, AllocError>
     ensures { IfOk result (λ names. texts_of names.items ≡ cown_names cowns.now) }
 {
     let mut names = Vec::new(alloc);
@@ -161,33 +160,6 @@ pub(crate) fn family_numbers(alloc: Global, cowns: &[Cown]) -> Result<Vec<u32>, 
     Ok(families)
 }
 
-// Puts arguments behind others.
-fn put_more_args(text: &mut Vec<u8>, args: &[i64]) -> Result<(), AllocError>
-    ensures { OnOk result (text.new.items ≡ text.old.items ++ more_args args.now) }
-{
-    match args {
-        [] => Ok(()),
-        [first, others @ ..] => {
-            text.extend_from_slice(b", ")?;
-            put_signed(text, *first)?;
-            put_more_args(text, others)
-        }
-    }
-}
-
-// Puts the arguments of a behaviour behind a text.
-fn put_args(text: &mut Vec<u8>, args: &[i64]) -> Result<(), AllocError>
-    ensures { OnOk result (text.new.items ≡ text.old.items ++ args_text args.now) }
-{
-    match args {
-        [] => Ok(()),
-        [first, others @ ..] => {
-            put_signed(text, *first)?;
-            put_more_args(text, others)
-        }
-    }
-}
-
 /// The name at a place, and no text where there is none.
 pub fn text_at(names: &[Vec<u8>], place: usize) -> &[u8]
     ensures { result.now ≡ text_at (texts_of names.now) place }
@@ -196,57 +168,4 @@ pub fn text_at(names: &[Vec<u8>], place: usize) -> &[u8]
         Some(name) => name,
         None => &[],
     }
-}
-
-// Puts cowns behind others, by their names.
-fn put_more_held(text: &mut Vec<u8>, names: &[Vec<u8>], cowns: &[CownNo]) -> Result<(), AllocError>
-    ensures { OnOk result (text.new.items ≡ text.old.items ++ more_held (texts_of names.now) cowns.now) }
-{
-    match cowns {
-        [] => Ok(()),
-        [first, others @ ..] => {
-            text.extend_from_slice(b", ")?;
-            text.extend_from_slice(text_at(names, *first as usize))?;
-            put_more_held(text, names, others)
-        }
-    }
-}
-
-// Puts the cowns of a behaviour behind a text, by their names.
-fn put_held(text: &mut Vec<u8>, names: &[Vec<u8>], cowns: &[CownNo]) -> Result<(), AllocError>
-    ensures { OnOk result (text.new.items ≡ text.old.items ++ held_text (texts_of names.now) cowns.now) }
-{
-    match cowns {
-        [] => Ok(()),
-        [first, others @ ..] => {
-            text.push(b' ')?;
-            text.extend_from_slice(text_at(names, *first as usize))?;
-            put_more_held(text, names, others)
-        }
-    }
-}
-
-/// What a behaviour is called: main, or the def's name, the arguments, and the cowns in the order of the parameters.
-pub(crate) fn behaviour_text(
-    alloc: Global,
-    defs: &[Vec<u8>],
-    names: &[Vec<u8>],
-    kind: usize,
-    args: &[i64],
-    cowns: &[CownNo],
-) -> Result<Vec<u8>, AllocError>
-    ensures { IfOk result (λ text. text.items ≡ behaviour_text (texts_of defs.now) (texts_of names.now) kind args.now cowns.now) }
-{
-    let mut text = Vec::new(alloc);
-    if kind == 0 {
-        text.extend_from_slice(b"main")?;
-        return Ok(text);
-    }
-    text.extend_from_slice(text_at(defs, kind))?;
-    text.push(b'(')?;
-    put_args(&mut text, args)?;
-    text.push(b';')?;
-    put_held(&mut text, names, cowns)?;
-    text.push(b')')?;
-    Ok(text)
 }

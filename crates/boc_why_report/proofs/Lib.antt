@@ -1,3 +1,5 @@
+pub mod Folds
+pub mod Legs
 pub mod Listed
 pub mod Tables
 pub mod examples

@@ -1,3 +1,4 @@
 pub mod ChainText
+pub mod FoldedText
 pub mod Lists
 pub mod ShortText

@@ -1,2 +1,3 @@
-pub mod WhyTexts
+pub mod ChainTexts
 pub mod ShortTexts
+pub mod WhyTexts

@@ -1,7 +1,5 @@
 -- What is told of why some rows take as long as they do.
-use Rattle.std.specs.Prelude.{◌≡◌, ◌-◌, ℕ, List, [], ◌∷◌, ◌++◌, length, map, take, cond, nat_lt, Bool, true, Option, Some, None}
-use Rattle.std.specs.Prelude.{slice_get, slice_index, codes, decimal}
-use Rattle.boc_plans.specs.declared.chain.ChainStep.{ChainStep}
+use Rattle.std.specs.Prelude.{◌≡◌, ◌-◌, ℕ, List, [], ◌∷◌, ◌++◌, length, map, take, cond, nat_lt, Bool, Option, Some, None, slice_get, codes, decimal}
 use Rattle.boc_plans.specs.declared.sharing.Sharing.{Sharing}
 use Rattle.boc_plans.specs.declared.sharing.Sharing.TheVariants.{Exclusive, SharedReads}
 use Rattle.boc_table.specs.declared.side.Side.{Side}
@@ -10,7 +8,6 @@ use Rattle.boc_table.specs.Tables.{table_text}
 use Rattle.boc_names.specs.declared.names.Names.{Names}
 use Rattle.boc_names.specs.Names.{Text, text_at, texts_of}
 use Rattle.boc_why.specs.declared.links.Link.{Link}
-use Rattle.boc_why.specs.declared.links.Link.TheVariants.{SpawnBy, Hands, Ends}
 use Rattle.boc_why.specs.declared.shares.Share.{Share}
 use Rattle.boc_why.specs.declared.least.Busiest.{Busiest}
 use Rattle.boc_why.specs.declared.least.Least.{Least}
@@ -19,73 +16,9 @@ use Rattle.boc_why.specs.declared.remedies.Remedy.{Remedy}
 use Rattle.boc_why.specs.declared.remedies.Remedy.TheVariants.{HalfCost, NoOrder, EarlySpawns}
 use Rattle.boc_why.specs.declared.remedies.Candidate.{Candidate}
 use Rattle.boc_why.specs.declared.why.Why.{Why}
+use Rattle.boc_why_report.specs.ChainTexts.{link_text, told_chain}
 use Rattle.boc_why_report.specs.declared.lists.Line.{Line}
 use Rattle.boc_why_report.specs.declared.lists.TheConstants.{MOST_LISTED}
-
--- ---- names
-
--- cowns behind others, by their names
-abbrev pub more_handed : List Text → List ℕ → Text
-more_handed names [] = []
-more_handed names (c ∷ cowns) = codes " and " ++ text_at names c ++ more_handed names cowns
-
--- cowns that are handed on, by their names
-abbrev pub handed_text : List Text → List ℕ → Text
-handed_text names [] = []
-handed_text names (c ∷ cowns) = text_at names c ++ more_handed names cowns
-
--- what a link is called
-abbrev pub link_text : Names → Link → Text
-link_text names (SpawnBy def) = codes "spawn by " ++ text_at (texts_of names.def_names.items) def
-link_text names (Hands cowns) = handed_text (texts_of names.cowns.items) cowns.items
-link_text names Ends = codes "end"
-
--- ---- the chain
-
--- what a row of a chain does before the next one goes on
-abbrev pub then_text : Names → Link → Option ChainStep → Text
-then_text names (SpawnBy def) (Some next) = codes "spawns row " ++ decimal next.row
-then_text names (Hands cowns) (Some next) = codes "hands " ++ handed_text (texts_of names.cowns.items) cowns.items ++ codes " to row " ++ decimal next.row
-then_text names Ends next = codes "ends"
-then_text names link None = []
-
--- the first of some steps
-abbrev pub first_step : List ChainStep → Option ChainStep
-first_step [] = None
-first_step (s ∷ steps) = Some s
-
--- the texts of a step's line: the tick at which its row starts, how many ticks go by until the next row goes on, the row's number, what it is called,
--- and what it does then
-abbrev pub step_texts : Names → List ℕ → ChainStep → Link → Option ChainStep → List Text
-step_texts names starts s link next =
-    [] ∷ decimal (slice_index starts s.row) ∷ decimal s.weight ∷ decimal s.row ∷ text_at (texts_of names.rows.items) s.row ∷ then_text names link next ∷ []
-
--- the lines of a chain's steps
-abbrev pub step_lines : Names → List ℕ → List ChainStep → List Link → List (List Text)
-step_lines names starts [] links = []
-step_lines names starts (s ∷ steps) [] = []
-step_lines names starts (s ∷ steps) (link ∷ links) = step_texts names starts s link (first_step steps) ∷ step_lines names starts steps links
-
--- the sides of a chain's columns, of which the first is a margin
-abbrev pub chain_sides : List Side
-chain_sides = Left ∷ Right ∷ Right ∷ Right ∷ Left ∷ Left ∷ []
-
--- what stands above a chain's columns
-abbrev pub chain_head : List Text
-chain_head = [] ∷ codes "tick" ∷ codes "ticks" ∷ codes "row" ∷ codes "behaviour" ∷ codes "then" ∷ []
-
--- the tick at which all is over
-abbrev pub chain_foot : ℕ → List Text
-chain_foot span = [] ∷ decimal span ∷ [] ∷ [] ∷ [] ∷ [] ∷ []
-
--- the lines of a chain: what stands above its columns, a line for each step, and the tick at which all is over
-abbrev pub chain_lines : Names → Why → List (List Text)
-chain_lines names why =
-    chain_head ∷ step_lines names why.profile.starts.items why.profile.chain.steps.items why.links.items ++ chain_foot why.profile.span ∷ []
-
--- the chain, a line for each step
-abbrev pub chain_text : Names → Why → Text
-chain_text names why = codes "chain\n" ++ table_text chain_sides (chain_lines names why)
 
 -- ---- lists
 
@@ -203,12 +136,10 @@ abbrev pub told_with : Names → Sharing → Why → Text → Text
 told_with names sharing why chain =
     head_text why ++ codes "\n" ++ chain ++ codes "\n" ++ shares_text names why ++ candidates_text names why ++ least_text names sharing why.least
 
--- What is told of why some rows take as long as they do. Where all of the chain is asked for it has a line for each step; else steps of one def that
--- follow each other may stand in one line, of which nothing is said.
+-- What is told of why some rows take as long as they do. Where all of the chain is asked for it has a line for each step; else four or more steps of one def
+-- that follow each other stand in one line.
 pub record IsWhyText (names : Names) (sharing : Sharing) (all : Bool) (why : Why) (text : Text) : Type 0 where
-  pub chain : Text
-  pub whole : all ≡ true → chain ≡ chain_text names why
-  pub is : text ≡ told_with names sharing why chain
+  pub is : text ≡ told_with names sharing why (told_chain names all why)
 
 -- the line of a greedy plan for so many workers, with its end and its bound
 abbrev pub greedy_line : ℕ → ℕ → ℕ → Text

@@ -1,7 +1,7 @@
 // The lines of a chain.
 
-ghost use Rattle.std.specs.Prelude.{◌≡◌, ◌++◌, ◌∷◌, [], ◌<◌, All, decimal, length, IfOk, OnOk};
-ghost use Rattle.boc_why_report.specs.WhyTexts.{chain_foot, chain_head, chain_lines, chain_sides, chain_text, step_lines, step_texts};
+ghost use Rattle.std.specs.Prelude.{◌≡◌, ◌++◌, ◌∷◌, [], ◌<◌, ◌≤◌, All, decimal, length, map, slice_get, take, IfOk, OnOk};
+ghost use Rattle.boc_why_report.specs.ChainTexts.{chain_foot, chain_head, chain_lines, chain_sides, chain_text, leg_texts, legs, step_texts};
 
 use crate::words::then_text;
 use boc_names::{Names, text_at};
@@ -52,22 +52,34 @@ pub(crate) fn put_step(
     table.put_line(&[&[], &tick, &ticks, &row, behaviour, &then])
 }
 
-// Puts the lines of the steps of a chain.
-fn put_steps(
+/// The step at a place, where there is one.
+pub(crate) fn step_at(steps: &[ChainStep], place: usize) -> Option<ChainStep>
+    ensures { result ≡ slice_get steps.now place }
+{
+    steps.get(place).copied()
+}
+
+/// Puts the lines of the first steps of a chain, so many of them.
+pub(crate) fn put_steps(
     alloc: Global,
     table: &mut Table,
     names: &Names,
     starts: &[u64],
     steps: &[ChainStep],
     links: &[Link],
+    count: usize,
 ) -> Result<(), AllocError>
     requires columns { length table.old.sides ≡ 6 }
     requires there { All (λ s. s.row < length starts.now) steps.now }
     requires whole { length links.now ≡ length steps.now }
-    ensures { OnOk result (table.new ≡ record table.old { lines = table.old.lines ++ step_lines names.now starts.now steps.now links.now }) }
+    requires within { count ≤ length steps.now }
+    ensures { OnOk result (table.new ≡ record table.old {
+      lines = table.old.lines
+          ++ map (leg_texts names.now starts.now) (take count (legs steps.now links.now));
+    }) }
 {
-    for place in 0..steps.len() {
-        let next = steps.get(place + 1).copied();
+    for place in 0..count {
+        let next = step_at(steps, place + 1);
         put_step(
             alloc,
             table,
@@ -109,7 +121,16 @@ fn chain_table(alloc: Global, names: &Names, why: &Why) -> Result<Table, AllocEr
     let steps = profile.chain.steps.as_slice();
     let mut table = Table::new(alloc, &CHAIN_SIDES);
     put_head(&mut table)?;
-    put_steps(alloc, &mut table, names, &profile.starts, steps, &why.links)?;
+    let links = why.links.as_slice();
+    put_steps(
+        alloc,
+        &mut table,
+        names,
+        &profile.starts,
+        steps,
+        links,
+        steps.len(),
+    )?;
     put_foot(alloc, &mut table, profile.span)?;
     Ok(table)
 }

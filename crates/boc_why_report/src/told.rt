@@ -1,7 +1,9 @@
 // All that is told.
 
-ghost use Rattle.std.specs.Prelude.{◌≡◌, ◌++◌, ◌<◌, true, All, length, IfOk, OnOk};
-ghost use Rattle.boc_why_report.specs.WhyTexts.{busy_text, chain_text, head_text, least_text, reason_text, tick_text, told_with, IsWhyText, greedy_line};
+ghost use Rattle.std.specs.Prelude.{◌≡◌, ◌++◌, ◌<◌, All, length, IfOk, OnOk};
+ghost use Rattle.boc_plans.specs.Chains.{weight_of};
+ghost use Rattle.boc_why_report.specs.ChainTexts.{told_chain};
+ghost use Rattle.boc_why_report.specs.WhyTexts.{busy_text, head_text, least_text, reason_text, tick_text, told_with, IsWhyText, greedy_line};
 
 use crate::chain::chain_text;
 use crate::folded::folded_text;
@@ -83,7 +85,8 @@ fn put_least(
 fn told_chain(alloc: Global, names: &Names, all: bool, why: &Why) -> Result<Vec<u8>, AllocError>
     requires there { All (λ s. s.row < length why.now.profile.starts.items) why.now.profile.chain.steps.items }
     requires whole { length why.now.links.items ≡ length why.now.profile.chain.steps.items }
-    ensures { IfOk result (λ text. all ≡ true → text.items ≡ chain_text names.now why.now) }
+    requires adds_up { weight_of why.now.profile.chain.steps.items ≡ why.now.profile.span }
+    ensures { IfOk result (λ text. text.items ≡ told_chain names.now all why.now) }
 {
     if all {
         chain_text(alloc, names, why)
@@ -117,7 +120,8 @@ fn told_with(
 /// What is told of why some rows take as long as they do: their work and their span; the chain that holds them back, step by step, with what each row
 /// hands on; its ticks by def and by link; what would bring the end forward; and the least that any order of the cowns could end at. All times are
 /// ticks. Where not all of the chain is asked for, four or more steps of one def that follow each other stand in one line. Each row of the chain has
-/// to have a start, each step its link, and each share by link the place of one. `AllocError` says that memory was refused.
+/// to have a start, each step its link, and each share by link the place of one; and the chain's ticks have to add up to the span. `AllocError` says
+/// that memory was refused.
 pub fn why_text(
     alloc: Global,
     names: &Names,
@@ -127,6 +131,7 @@ pub fn why_text(
 ) -> Result<Vec<u8>, AllocError>
     requires there { All (λ s. s.row < length why.now.profile.starts.items) why.now.profile.chain.steps.items }
     requires whole { length why.now.links.items ≡ length why.now.profile.chain.steps.items }
+    requires adds_up { weight_of why.now.profile.chain.steps.items ≡ why.now.profile.span }
     requires keys { All (λ s. s.key < length why.now.links.items) why.now.by_link.items }
     ensures { IfOk result (λ text. IsWhyText names.now sharing all why.now text.items) }
 {

@@ -2,7 +2,8 @@
 
 ghost use Rattle.std.specs.Prelude.{◌≡◌, ◌++◌, IfOk, OnOk, decimal};
 ghost use Rattle.boc_names.specs.Names.{texts_of};
-ghost use Rattle.boc_why_report.specs.WhyTexts.{handed_text, link_text, more_handed, remedy_text, then_text};
+ghost use Rattle.boc_why_report.specs.ChainTexts.{handed_text, link_text, more_handed, then_text};
+ghost use Rattle.boc_why_report.specs.WhyTexts.{remedy_text};
 
 use boc_names::{Names, text_at};
 use boc_plans::chain::ChainStep;

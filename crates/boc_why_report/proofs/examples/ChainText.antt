@@ -8,7 +8,7 @@ use Rattle.boc_why.specs.declared.links.Link.TheVariants.{SpawnBy, Ends}
 use Rattle.boc_names.specs.declared.names.Names.{Names}
 use Rattle.boc_names.specs.Names.{texts_of}
 use Rattle.boc_table.specs.Tables.{table_text}
-use Rattle.boc_why_report.specs.WhyTexts.{chain_foot, chain_head, chain_sides, step_lines}
+use Rattle.boc_why_report.specs.ChainTexts.{chain_foot, chain_head, chain_sides, step_lines}
 
 -- main spawns row 1 after 3 ticks, which goes on for 6
 abbrev steps : List ChainStep

@@ -14,7 +14,7 @@ loop-row-preserved c =
     let named = c.in-Some.named in
     let m = c.in-Some.ensures.named in
     let defs = texts_of c.args.defs.now in
-    let cowns = texts_of c.args.cowns.now in
+    let cowns = c.args.cowns.now in
     let text_of : Behaviour → Text = λ b. behaviour_text defs cowns b.kind b.args b.cowns in (
       c.in_ok-push.ensures.items
           ∙ ap (λ k. c.loop-row.kinds.items ++ k ∷ []) (sym (ap (λ (b : Behaviour). b.kind) m.behaviour_is))

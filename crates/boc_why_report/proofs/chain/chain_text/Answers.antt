@@ -1,5 +1,5 @@
 use Rattle.std.proofs.Common.{◌++◌, ◌∙◌, codes, ap}
-use Rattle.boc_why_report.specs.WhyTexts.{chain_lines, chain_sides}
+use Rattle.boc_why_report.specs.ChainTexts.{chain_lines, chain_sides}
 use Rattle.boc_why_report.proofs.Tables.{put_as}
 use Rattle.boc_why_report.proofs.chain.chain_text.Goals as goal
 

@@ -10,6 +10,7 @@ use boc_commands::{
 use boc_text::Counted;
 use boc_workers::OpenGate;
 use std::alloc::AllocError;
+use std::io::Write;
 use std::process::ExitCode;
 use std::sync::Wait;
 use std::thread::Threads;
@@ -74,6 +75,7 @@ fn run(rt: HostRuntime, threads: &(impl Threads + Wait + Sync)) -> Result<(), St
     let mut input = Counted::new(rt.stdin());
     let mut output = Counted::new(rt.stdout());
     let mut meter = Meter::new(rt);
+    let mut notes = Vec::new(rt.alloc());
     let done = run_command(
         threads,
         rt.alloc(),
@@ -81,11 +83,19 @@ fn run(rt: HostRuntime, threads: &(impl Threads + Wait + Sync)) -> Result<(), St
         &command,
         beside,
         &mut meter,
+        &mut notes,
         &mut input,
         &mut output,
     );
     meter.wipe();
-    Ok(done?)
+    done?;
+    note(rt, &notes);
+    Ok(())
+}
+
+// Writes the notes on behaviours that ended by a fault to standard error. There is nobody to tell that this failed.
+fn note(rt: HostRuntime, notes: &[u8]) {
+    let _ = rt.stderr().write_all(notes);
 }
 
 // The bytes of the file that a command names beside its input, and no bytes where it names none.

@@ -1,5 +1,5 @@
 -- What is told and refused of a file beside an input.
-use Rattle.std.proofs.Common.{◌≡◌, ◌∙◌, ℕ, ◌+◌, ◌≤◌, List, length, Option, Some, Result, Ok, Err, MatchResult, Vec, refl, sym, ap, subst, ℤ}
+use Rattle.std.proofs.Common.{Bool, map, ◌≡◌, ◌∙◌, ℕ, ◌+◌, ◌≤◌, List, length, Option, Some, Result, Ok, Err, MatchResult, Vec, refl, sym, ap, subst, ℤ}
 use Rattle.std.specs.Global.{Global}
 use Rattle.std.specs.Result.{IsErrAnd}
 use Rattle.boc_text.specs.Streams.{ReadsWhole}
@@ -32,7 +32,14 @@ use Rattle.boc_commands.specs.declared.fault.InputFault.TheVariants as inputs
 use Rattle.boc_commands.specs.declared.fault.FileFault.TheVariants as files
 use Rattle.boc_commands.specs.declared.fault.Want.TheVariants as wants
 use Rattle.boc_commands.specs.Beside.{IsCheckAgainstAnswer, IsOfProgramFile, IsOfRecordFile, IsOfStray, IsOfStrayFile, IsOfValuesAfter}
-use Rattle.boc_commands.specs.Beside.{IsValuesAfterAnswer, RefusesAgainst, RefusesValuesAfter}
+use Rattle.boc_commands.specs.Beside.{RefusesAgainst, RefusesValuesAfter}
+use Rattle.boc_names.specs.Names.{AreNamesOf}
+use Rattle.boc_reader.specs.Listed.{ListsDefs}
+use Rattle.boc_reader.specs.declared.listing.DefListing.{DefListing}
+use Rattle.boc_commands.specs.declared.notes.Told.{Told}
+use Rattle.boc_commands.specs.NamedRuns.{IsRunGiven}
+use Rattle.boc_commands.specs.Notes.{AreNamedNotes, AreWanted, TellsValuesAfter}
+use Rattle.boc_commands.proofs.Noting.{named_as, wanted_as}
 use Rattle.boc_commands.specs.Commands.{IsProgram, IsRecordRefusal}
 use Rattle.boc_commands.specs.Faults.{of_read_beside, of_record, of_record_beside, of_stray, of_stray_beside}
 use Rattle.boc_commands.specs.ValueTexts.{check_text, values_text}
@@ -169,16 +176,29 @@ refused_beside beside text (faults.Means wants.Memory) program is = tt
 refused_beside beside text _ program is = absurd is
 
 -- what became of following the file's record
-pub answered_after : (beside text : List ℕ) (program : Program) (r : Recorded) (result : Result (Vec ℕ Global) Fault) → Spells text program
-    → IsTextOf beside r
-    → MatchResult result (λ answer. IsRecordOf program r × (answer.items ≡ values_text program.cowns (config_of program r.events).values))
+pub answered_after : (beside text : List ℕ) (program : Program) (defs : List DefListing) (quiet : Bool) (r : Recorded) (result : Result Told Fault)
+    → Spells text program → ListsDefs text defs → IsTextOf beside r
+    → MatchResult result (λ told. IsRecordOf program r × (told.text.items ≡ values_text program.cowns (config_of program r.events).values)
+    × AreWanted quiet (AreNamedNotes (AreNamesOf program (map (λ d. d.name) defs) (config_of program r.events).members) r.rows) told.notes.items)
     (IsOfStrayFile program r)
-    → MatchResult result (λ answer. IsValuesAfterAnswer beside text answer.items × (length text ≤ MOST_TEXT)) (IsOfValuesAfter beside text)
-answered_after beside text program r (Ok answer) spells tells is = (
-  record { program = program; recorded = r; of_run = record { spells = spells; tells = tells; run = is.0 }; text = is.1 },
+    → MatchResult result (λ told. TellsValuesAfter beside quiet told.notes.items text told.text.items × (length text ≤ MOST_TEXT))
+    (IsOfValuesAfter beside text)
+answered_after beside text program defs quiet r (Ok told) spells lists tells is = (
+  record {
+    answer = record { program = program; recorded = r; of_run = record { spells = spells; tells = tells; run = is.0 }; text = is.1 };
+    noted = wanted_as quiet _ (AreNamedNotes (IsRunGiven text beside r) r.rows) told.notes.items (named_as _ (IsRunGiven text beside r) r.rows (λ names are. record {
+      program = program;
+      spells = spells;
+      defs = defs;
+      lists = lists;
+      text_of = tells;
+      run = is.0;
+      names_are = are;
+    })) is.2;
+  },
   spells.short,
 )
-answered_after beside text program r (Err fault) spells tells is = go fault is
+answered_after beside text program defs quiet r (Err fault) spells lists tells is = go fault is
   where
     go : (x : Fault) → IsOfStrayFile program r x → IsOfValuesAfter beside text x
     go (faults.Input (inputs.Beside (files.Stray s))) is = record { program = program; spells = spells; recorded = r; tells = tells; strays = is }

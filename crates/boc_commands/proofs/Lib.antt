@@ -5,6 +5,8 @@ pub mod WhatIfParts
 pub mod WhatIfNamed
 pub mod Promised
 pub mod Passed
+pub mod Noting
+pub mod Seeding
 pub mod OneProgram
 pub mod SameNames
 pub mod OneAnswer

@@ -16,7 +16,7 @@ use Rattle.boc_runs.specs.Run.{Member, config_of, IsRun}
 use Rattle.boc_runs.proofs.RunsAreLegal.{run_twins}
 use Rattle.boc_follow.proofs.RowKinds.{kind_there}
 use Rattle.boc_names.specs.declared.names.Names.{Names}
-use Rattle.boc_names.specs.Names.{Text, AreNamesOf, AreNumbers, cown_names, declared_names, family_numbers, member_names, member_text}
+use Rattle.boc_names.specs.Names.{Text, AreNamesOf, AreNumbers, cown_names, declared_names, family_numbers, member_names, member_text, named_cowns}
 use Rattle.boc_names.specs.Names.{numbered_from, numbers_from, texts_of}
 use Rattle.boc_names.specs.NamesFile.{AreWhole}
 use Rattle.boc_names.proofs.Counts.{declared_few}
@@ -100,7 +100,7 @@ named_few p r called names run whole shape are =
     λ k d l. omega (arith, kinds_below p r.events run.run.run k d l, p.few_defs) in
     record {
       rows_are = as_many names.rows.items _ are.rows
-          ∙ length-map (config_of p r.events).members (member_text (codes "main" ∷ called) (cown_names p.cowns)) ∙ sym twins.same ∙ sym whole.rows_are.all;
+          ∙ length-map (config_of p r.events).members (member_text (codes "main" ∷ called) (named_cowns p.cowns)) ∙ sym twins.same ∙ sym whole.rows_are.all;
       few_rows = shape.not_many;
       defs = ap length are.defs ∙ length-map (config_of p r.events).members (λ m. m.behaviour.kind) ∙ sym twins.same ∙ sym whole.rows_are.all;
       few_defs = subst (All (λ (d : ℕ). d < MOST_ROWS)) (sym are.defs)

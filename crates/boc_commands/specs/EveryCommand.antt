@@ -1,5 +1,5 @@
 -- What every command answers, and what it refuses.
-use Rattle.std.specs.Prelude.{◌≡◌, ℕ, List, Option, Some, None, option_map, Result, string_bytes}
+use Rattle.std.specs.Prelude.{◌≡◌, ℕ, List, [], Option, Some, None, option_map, Result, string_bytes}
 use Rattle.std.specs.Io.KnownBytes.{Keeps}
 use Rattle.boc_words.specs.declared.version.TheConstants.{VERSION}
 use Rattle.boc_words.specs.declared.words.Command.{Command}
@@ -9,13 +9,11 @@ use Rattle.boc_words.specs.declared.asked.NamesFrom.TheVariants as named
 use Rattle.boc_words.specs.declared.asked.RunFile.{RunFile}
 use Rattle.boc_words.specs.declared.asked.RunFile.TheVariants as files
 use Rattle.boc_commands.specs.declared.fault.Fault.{Fault}
-use Rattle.boc_commands.specs.Answers.{IsValuesAnswer, IsCheckAnswer, IsProfileAnswer, IsCurveAnswer, IsSweepAnswer}
-use Rattle.boc_commands.specs.Promises.{IsRunAnswer, IsTimeAnswer}
+use Rattle.boc_commands.specs.Answers.{IsCheckAnswer, IsCurveAnswer, IsSweepAnswer}
 use Rattle.boc_commands.specs.Commands.{AnswersInput, RefusesNothing, RefusesProgram, RefusesRecord, RefusesRun}
-use Rattle.boc_commands.specs.Beside.{IsCheckAgainstAnswer, IsValuesAfterAnswer, RefusesAgainst, RefusesValuesAfter}
-use Rattle.boc_commands.specs.CownsAnswers.{IsCownsAnswer}
+use Rattle.boc_commands.specs.Beside.{IsCheckAgainstAnswer, RefusesAgainst, RefusesValuesAfter}
 use Rattle.boc_commands.specs.NamedRuns.{RefusesNamedRun}
-use Rattle.boc_commands.specs.WhyAnswers.{IsWhyAnswer}
+use Rattle.boc_commands.specs.Notes.{TellsCowns, TellsProfile, TellsRun, TellsTime, TellsValues, TellsValuesAfter, TellsWhy}
 use Rattle.boc_commands.specs.WhatIfAnswers.{IsWhatIfAnswer, RefusesWhatIf}
 
 -- ---- the file beside the input
@@ -32,52 +30,64 @@ run_path (files.Names path) = string_bytes path
 
 -- the path of the file that a command names beside its input, where it names one
 abbrev pub file_of : Command → Option (List ℕ)
-file_of (commands.Values record_path) = option_map string_bytes record_path
+file_of (commands.Values record_path quiet) = option_map string_bytes record_path
 file_of (commands.Check program_path) = option_map string_bytes program_path
 file_of (commands.WhatIf cowns edits workers sharing names short) = option_map names_path names
-file_of (commands.Why runners workers sharing file all) = option_map run_path file
-file_of (commands.Cowns runners sharing file top) = option_map run_path file
+file_of (commands.Why runners workers sharing file all quiet) = option_map run_path file
+file_of (commands.Cowns runners sharing file top quiet) = option_map run_path file
 file_of _ = None
 
 -- ---- every command
 
--- what goes out for a command: the answer to its input, beside the bytes of the file that it names, where it names one; or, for a call for help,
--- the parser's text, and for one for the version that version, for which nothing is taken
-abbrev pub AnswersCommand : Command → List ℕ → Option (List ℕ) → Option (List ℕ) → List ℕ → Type 0
-AnswersCommand (commands.Values None) beside before after text = AnswersInput IsValuesAnswer before after text
-AnswersCommand (commands.Values (Some path)) beside before after text = AnswersInput (IsValuesAfterAnswer beside) before after text
-AnswersCommand (commands.Check None) beside before after text = AnswersInput IsCheckAnswer before after text
-AnswersCommand (commands.Check (Some path)) beside before after text = AnswersInput (IsCheckAgainstAnswer beside) before after text
-AnswersCommand (commands.Run runners) beside before after text = AnswersInput IsRunAnswer before after text
-AnswersCommand (commands.Profile workers sharing) beside before after text = AnswersInput (IsProfileAnswer sharing workers) before after text
-AnswersCommand (commands.Time runners workers sharing) beside before after text = AnswersInput (IsTimeAnswer sharing workers) before after text
-AnswersCommand (commands.WhatIf cowns edits workers sharing names short) beside before after text =
+-- What goes out for a command, with these notes: the answer to its input, beside the bytes of the file that it names, where it names one; or, for a call for
+-- help, the parser's text, and for one for the version that version, for which nothing is taken.
+abbrev pub AnswersCommand : Command → List ℕ → List ℕ → Option (List ℕ) → Option (List ℕ) → List ℕ → Type 0
+AnswersCommand (commands.Values None quiet) beside notes before after text = AnswersInput (TellsValues quiet notes) before after text
+AnswersCommand (commands.Values (Some path) quiet) beside notes before after text = AnswersInput (TellsValuesAfter beside quiet notes) before after text
+AnswersCommand (commands.Check None) beside notes before after text = AnswersInput IsCheckAnswer before after text
+AnswersCommand (commands.Check (Some path)) beside notes before after text = AnswersInput (IsCheckAgainstAnswer beside) before after text
+AnswersCommand (commands.Run runners seed quiet) beside notes before after text = AnswersInput (TellsRun runners seed quiet notes) before after text
+AnswersCommand (commands.Profile workers sharing quiet) beside notes before after text =
+    AnswersInput (TellsProfile sharing workers quiet notes) before after text
+AnswersCommand (commands.Time runners seed workers sharing quiet) beside notes before after text =
+    AnswersInput (TellsTime runners seed sharing workers quiet notes) before after text
+AnswersCommand (commands.WhatIf cowns edits workers sharing names short) beside notes before after text =
     AnswersInput (IsWhatIfAnswer names beside cowns.items edits.items sharing workers short) before after text
-AnswersCommand (commands.Curve most sharing) beside before after text = AnswersInput (IsCurveAnswer sharing most) before after text
-AnswersCommand (commands.Sweep over sharing) beside before after text = AnswersInput (IsSweepAnswer sharing over) before after text
-AnswersCommand (commands.Why runners workers sharing file all) beside before after text =
-    AnswersInput (IsWhyAnswer sharing workers all file beside) before after text
-AnswersCommand (commands.Cowns runners sharing file top) beside before after text =
-    AnswersInput (IsCownsAnswer sharing top file beside) before after text
-AnswersCommand (commands.Help help) beside before after text = (text ≡ string_bytes help) × Keeps before after
-AnswersCommand commands.Version beside before after text = (text ≡ VERSION.now) × Keeps before after
+AnswersCommand (commands.Curve most sharing) beside notes before after text = AnswersInput (IsCurveAnswer sharing most) before after text
+AnswersCommand (commands.Sweep over sharing) beside notes before after text = AnswersInput (IsSweepAnswer sharing over) before after text
+AnswersCommand (commands.Why runners workers sharing file all quiet) beside notes before after text =
+    AnswersInput (TellsWhy sharing workers all quiet file beside notes) before after text
+AnswersCommand (commands.Cowns runners sharing file top quiet) beside notes before after text =
+    AnswersInput (TellsCowns sharing top quiet file beside notes) before after text
+AnswersCommand (commands.Help help) beside notes before after text = (text ≡ string_bytes help) × Keeps before after
+AnswersCommand commands.Version beside notes before after text = (text ≡ VERSION.now) × Keeps before after
+
+-- the commands that note nothing leave no notes
+abbrev pub NotesNothing : Command → List ℕ → Type 0
+NotesNothing (commands.Values record_path quiet) notes = Unit {0}
+NotesNothing (commands.Run runners seed quiet) notes = Unit {0}
+NotesNothing (commands.Profile workers sharing quiet) notes = Unit {0}
+NotesNothing (commands.Time runners seed workers sharing quiet) notes = Unit {0}
+NotesNothing (commands.Why runners workers sharing file all quiet) notes = Unit {0}
+NotesNothing (commands.Cowns runners sharing file top quiet) notes = Unit {0}
+NotesNothing _ notes = notes ≡ []
 
 -- what a command refuses; a call for help or for the version refuses nothing
 abbrev pub RefusesCommand : {A : Type 0} → Type 0 → Command → List ℕ → Result A Fault → Option (List ℕ) → Option (List ℕ) → Type 0
-RefusesCommand always_on (commands.Values None) beside result before after = RefusesProgram result before after
-RefusesCommand always_on (commands.Values (Some path)) beside result before after = RefusesValuesAfter beside result before after
+RefusesCommand always_on (commands.Values None quiet) beside result before after = RefusesProgram result before after
+RefusesCommand always_on (commands.Values (Some path) quiet) beside result before after = RefusesValuesAfter beside result before after
 RefusesCommand always_on (commands.Check None) beside result before after = RefusesRecord result before
 RefusesCommand always_on (commands.Check (Some path)) beside result before after = RefusesAgainst beside result before
-RefusesCommand always_on (commands.Run runners) beside result before after = RefusesRun always_on result before after
-RefusesCommand always_on (commands.Profile workers sharing) beside result before after = RefusesRecord result before
-RefusesCommand always_on (commands.Time runners workers sharing) beside result before after = RefusesRun always_on result before after
+RefusesCommand always_on (commands.Run runners seed quiet) beside result before after = RefusesRun always_on result before after
+RefusesCommand always_on (commands.Profile workers sharing quiet) beside result before after = RefusesRecord result before
+RefusesCommand always_on (commands.Time runners seed workers sharing quiet) beside result before after = RefusesRun always_on result before after
 RefusesCommand always_on (commands.WhatIf cowns edits workers sharing names short) beside result before after =
     RefusesWhatIf names beside cowns.items edits.items result before
 RefusesCommand always_on (commands.Curve most sharing) beside result before after = RefusesRecord result before
 RefusesCommand always_on (commands.Sweep over sharing) beside result before after = RefusesRecord result before
-RefusesCommand always_on (commands.Why runners workers sharing file all) beside result before after =
+RefusesCommand always_on (commands.Why runners workers sharing file all quiet) beside result before after =
     RefusesNamedRun always_on file beside result before after
-RefusesCommand always_on (commands.Cowns runners sharing file top) beside result before after =
+RefusesCommand always_on (commands.Cowns runners sharing file top quiet) beside result before after =
     RefusesNamedRun always_on file beside result before after
 RefusesCommand always_on (commands.Help help) beside result before after = RefusesNothing result
 RefusesCommand always_on commands.Version beside result before after = RefusesNothing result

@@ -7,6 +7,8 @@ pub mod NamedRuns
 pub mod WhyAnswers
 pub mod CownsAnswers
 pub mod Beside
+pub mod Seeds
+pub mod Notes
 pub mod EveryCommand
 pub mod Asked
 pub mod WhatIfAnswers

@@ -2,11 +2,13 @@
 
 ghost use Rattle.std.specs.Prelude.{◌≡◌, ◌<◌, IfOk, MatchResult};
 ghost use Rattle.boc_commands.specs.Commands.{AnswersInput, Leaves, CountsSource, CountsSink};
-ghost use Rattle.boc_commands.specs.CownsAnswers.{AreTold, IsCownsAnswer};
+ghost use Rattle.boc_commands.specs.CownsAnswers.{AreTold};
+ghost use Rattle.boc_commands.specs.Notes.{TellsCowns};
 ghost use Rattle.boc_commands.specs.NamedRuns.{AreFew, IsOfNamedRun, IsShort, RefusesNamedRun};
 
 use crate::fault::Fault;
 use crate::named_run::{NamedRun, Origin, named_run, taken};
+use crate::notes::{Told, notes_on};
 use boc_cowns::hot_cowns;
 use boc_cowns_report::cowns_text;
 use boc_plans::sharing::Sharing;
@@ -18,7 +20,7 @@ use std::thread::Threads;
 
 /// Reads a program, which it runs, or the text of a record, as its first word tells, and writes how long each cown of the run is held, waited for and handed
 /// on, and the span without it, those first that are held longest; so many where a number is given. Below that stands whether the load of a cown holds the run
-/// back, or order does. Plans see the rows as they share cowns in this way. The origin is as for `why`.
+/// back, or order does. Plans see the rows as they share cowns in this way. The origin and the notes are as for `why`.
 ///
 /// A program is refused as by `run`, a record as by `profile`, and a file as its kind is. Nothing is written unless the whole answer stands. After a failing
 /// write a beginning of it went out. Plans are made in threads. The text of a record is taken into memory as a whole.
@@ -28,44 +30,54 @@ pub fn cowns_cmd<R: Threads + Wait + Sync, G: Gate, S: Source, W: Sink>(
     origin: Origin<'_>,
     sharing: Sharing,
     top: Option<u32>,
+    quiet: bool,
     gate: &G,
+    notes: &mut Vec<u8>,
     source: &mut S,
     sink: &mut W,
 ) -> Result<(), Fault>
     requires source { S.failures source.old < u64.MAX }
     requires sink { W.failures sink.old < u64.MAX }
-    ensures written { Leaves (AnswersInput (IsCownsAnswer sharing top origin.entry.file.now origin.entry.bytes.items) (S.remaining source.old)
-        (S.remaining source.new)) result (W.written sink.old) (W.written sink.new) }
+    ensures written { Leaves (AnswersInput (TellsCowns sharing top quiet origin.entry.file.now origin.entry.bytes.items notes.new.items)
+        (S.remaining source.old) (S.remaining source.new)) result (W.written sink.old) (W.written sink.new) }
     ensures refused { RefusesNamedRun G.always_on origin.entry.file.now origin.entry.bytes.items result (S.remaining source.old) (S.remaining source.new) }
     ensures source { CountsSource result (S.failures source.old) (S.failures source.new) }
     ensures sink { CountsSink result (W.failures sink.old) (W.failures sink.new) }
 {
     let text = taken(alloc, source)?;
-    let answer = cowns_answer(rt, alloc, text, origin, sharing, top, gate)?;
+    let told = cowns_told(rt, alloc, text, origin, sharing, top, quiet, gate)?;
+    let Told {
+        text: answer,
+        notes: noted,
+    } = told;
+    *notes = noted;
     put_out(sink, &answer)?;
     Ok(())
 }
 
-// What is told of the cowns of the run that an input tells of.
-fn cowns_answer<R: Threads + Wait + Sync, G: Gate>(
+// What is told of the cowns of the run that an input tells of, and the notes on its rows.
+fn cowns_told<R: Threads + Wait + Sync, G: Gate>(
     rt: &R,
     alloc: Global,
     text: Vec<u8>,
     origin: Origin<'_>,
     sharing: Sharing,
     top: Option<u32>,
+    quiet: bool,
     gate: &G,
-) -> Result<Vec<u8>, Fault>
+) -> Result<Told, Fault>
     ensures { MatchResult result
-        (λ answer. IsCownsAnswer sharing top origin.entry.file.now origin.entry.bytes.items text.items answer.items × IsShort text.items)
+        (λ told. TellsCowns sharing top quiet origin.entry.file.now origin.entry.bytes.items told.notes.items text.items told.text.items × IsShort text.items)
         (IsOfNamedRun G.always_on origin.entry.file.now origin.entry.bytes.items text.items) }
 {
     let run = named_run(rt, alloc, text, origin, gate)?;
-    Ok(cowns_told(rt, alloc, &run, sharing, top)?)
+    let notes = notes_on(alloc, quiet, &run.rows, &run.names.rows)?;
+    let text = told(rt, alloc, &run, sharing, top)?;
+    Ok(Told { text, notes })
 }
 
 // What is told of the cowns of a run, in their names.
-fn cowns_told<R: Threads + Sync>(
+fn told<R: Threads + Sync>(
     rt: &R,
     alloc: Global,
     run: &NamedRun,

@@ -11,6 +11,7 @@ mod fault;
 pub mod laws;
 mod meant;
 mod named_run;
+mod notes;
 mod profile;
 mod report;
 mod run;

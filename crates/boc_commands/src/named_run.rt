@@ -168,8 +168,8 @@ fn program_run<R: Threads + Wait + Sync, G: Gate>(
     Ok(NamedRun { rows, names })
 }
 
-// The names of a run of a program with these defs.
-fn names_of(
+/// The names of a run of a program with these defs.
+pub(crate) fn names_of(
     alloc: Global,
     program: &Program,
     defs: Vec<DefListing>,
@@ -204,8 +204,8 @@ fn followed_names(
     Ok(names_of_run(alloc, &followed, &called)?)
 }
 
-// What defs are called.
-fn called(alloc: Global, defs: Vec<DefListing>) -> Result<Vec<Name>, AllocError>
+/// What defs are called.
+pub(crate) fn called(alloc: Global, defs: Vec<DefListing>) -> Result<Vec<Name>, AllocError>
     ensures { IfOk result (λ names. names.items ≡ map (λ d. d.name) defs.items) }
 {
     let mut names = Vec::new(alloc);

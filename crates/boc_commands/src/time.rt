@@ -3,11 +3,12 @@
 ghost use Rattle.std.specs.Prelude.{◌≡◌, ◌<◌, ℕ};
 ghost use Rattle.boc_commands.specs.Commands.{AnswersInput, Leaves, CountsSource, CountsSink, RefusesNothing, RefusesRun};
 ghost use Rattle.boc_plans.specs.Seen.{seen};
-ghost use Rattle.boc_commands.specs.Promises.{IsTimeAnswer, IsTrueReport};
+ghost use Rattle.boc_commands.specs.Notes.{TellsTime};
+ghost use Rattle.boc_commands.specs.Promises.{IsTrueReport};
 
 use crate::fault::Fault;
 use crate::report::report_on;
-use crate::run::run_text;
+use crate::run::noted_run;
 use crate::values::MOST_TAKEN;
 use boc_plans::sharing::Sharing;
 use boc_plans::workers::Workers;
@@ -19,7 +20,7 @@ use std::alloc::Global;
 use std::sync::Wait;
 use std::thread::Threads;
 
-/// Reads a program, runs it by so many threads, and writes the report on the rows of the run, as the command `profile`
+/// Reads a program, runs it by so many threads, or as a seed draws, as `run` does, and writes the report on the rows of the run, as the command `profile`
 /// does for a record.
 ///
 /// Whatever the order in which the threads make their steps, the rows are those of a run of the program, in which cowns are
@@ -27,28 +28,32 @@ use std::thread::Threads;
 /// spawn points and cown orders, each plan that keeps them starts no row earlier and ends no sooner, its end, the span and the
 /// ticks of the chain are one number, and the greedy plan for p workers ends within the work divided by p, and the span.
 ///
-/// What is refused, and what is written, is as for `run`.
+/// What is refused, what is noted and what is written is as for `run`.
 pub fn time_cmd<R: Threads + Wait + Sync, G: Gate, S: Source, W: Sink>(
     rt: &R,
     alloc: Global,
     runners: Runners,
+    seed: Option<u64>,
     workers: Option<Workers>,
     sharing: Sharing,
+    quiet: bool,
     gate: &G,
+    notes: &mut Vec<u8>,
     source: &mut S,
     sink: &mut W,
 ) -> Result<(), Fault>
     requires source { S.failures source.old < u64.MAX }
     requires sink { W.failures sink.old < u64.MAX }
-    ensures written { Leaves (AnswersInput (IsTimeAnswer sharing workers) (S.remaining source.old) (S.remaining source.new)) result (W.written sink.old)
-        (W.written sink.new) }
+    ensures written { Leaves (AnswersInput (TellsTime runners seed sharing workers quiet notes.new.items) (S.remaining source.old) (S.remaining source.new)) result
+        (W.written sink.old) (W.written sink.new) }
     ensures refused { RefusesRun G.always_on result (S.remaining source.old) (S.remaining source.new) }
     ensures source { CountsSource result (S.failures source.old) (S.failures source.new) }
     ensures sink { CountsSink result (W.failures sink.old) (W.failures sink.new) }
 {
     let text = read_all(alloc, source, MOST_TAKEN)?;
-    let answer = run_text(rt, alloc, &text, runners, gate)?;
-    true_report(alloc, workers, answer.record.into_rows(), sharing, sink)
+    let noted = noted_run(rt, alloc, &text, runners, seed, quiet, gate)?;
+    *notes = noted.notes;
+    true_report(alloc, workers, noted.record.into_rows(), sharing, sink)
 }
 
 // Writes the report on some rows, with what its plans promise.

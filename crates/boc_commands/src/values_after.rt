@@ -1,25 +1,29 @@
 // The command `values` with a record.
 
-ghost use Rattle.std.specs.Prelude.{◌≡◌, ◌<◌, ◌≤◌, length, MatchResult};
+ghost use Rattle.std.specs.Prelude.{◌≡◌, ◌<◌, ◌≤◌, length, map, MatchResult};
 ghost use Rattle.boc_program.specs.declared.limits.TheConstants.{MOST_TEXT};
 ghost use Rattle.boc_runs.specs.Records.{IsRecordOf};
 ghost use Rattle.boc_runs.specs.Run.{config_of};
-ghost use Rattle.boc_commands.specs.Beside.{IsOfStrayFile, IsOfValuesAfter, IsValuesAfterAnswer, RefusesValuesAfter};
+ghost use Rattle.boc_commands.specs.Beside.{IsOfStrayFile, IsOfValuesAfter, RefusesValuesAfter};
 ghost use Rattle.boc_commands.specs.Commands.{AnswersInput, Leaves, CountsSource, CountsSink};
+ghost use Rattle.boc_commands.specs.Notes.{AreNamedNotes, AreWanted, TellsValuesAfter};
+ghost use Rattle.boc_names.specs.Names.{AreNamesOf};
 ghost use Rattle.boc_commands.specs.ValueTexts.{values_text as values_text_spec};
 
 use crate::beside::{of_stray_beside, record_beside};
 use crate::fault::Fault;
+use crate::notes::{Told, notes_on_run};
 use crate::values::MOST_TAKEN;
 use crate::values_text::values_text;
 use boc_follow::follow_record;
 use boc_program::program::Program;
-use boc_reader::read_program;
+use boc_reader::{DefListing, read_listed};
 use boc_runs::record::Record;
 use boc_text::{Sink, Source, put_out, read_all};
 use std::alloc::Global;
 
-/// Reads a program, and writes the values of its cowns with which the run ended whose record is the text of a file, a line each.
+/// Reads a program, and writes the values of its cowns with which the run ended whose record is the text of a file, a line each. The
+/// notes are put in place of others, unless quiet is wanted.
 ///
 /// A program text is refused only where it spells no program, for what is wrong with it and where; then the file, at its first faulty line, where
 /// it is no record's text; and then a record that is that of no run of the program, for the first line of its text that strays from it. Nothing is
@@ -27,43 +31,62 @@ use std::alloc::Global;
 pub fn values_after_cmd<S: Source, W: Sink>(
     alloc: Global,
     record_text: Vec<u8>,
+    quiet: bool,
+    notes: &mut Vec<u8>,
     source: &mut S,
     sink: &mut W,
 ) -> Result<(), Fault>
     requires source { S.failures source.old < u64.MAX }
     requires sink { W.failures sink.old < u64.MAX }
-    ensures written { Leaves (AnswersInput (IsValuesAfterAnswer record_text.items) (S.remaining source.old) (S.remaining source.new)) result
+    ensures written { Leaves (AnswersInput (TellsValuesAfter record_text.items quiet notes.new.items) (S.remaining source.old) (S.remaining source.new)) result
         (W.written sink.old) (W.written sink.new) }
     ensures refused { RefusesValuesAfter record_text.items result (S.remaining source.old) (S.remaining source.new) }
     ensures source { CountsSource result (S.failures source.old) (S.failures source.new) }
     ensures sink { CountsSink result (W.failures sink.old) (W.failures sink.new) }
 {
     let text = read_all(alloc, source, MOST_TAKEN)?;
-    let answer = values_answer(alloc, &text, record_text)?;
+    let told = values_told(alloc, quiet, &text, record_text)?;
+    let Told {
+        text: answer,
+        notes: noted,
+    } = told;
+    *notes = noted;
     put_out(sink, &answer)?;
     Ok(())
 }
 
-// The text of the values with which the run ended that a file tells, of the program that a text spells.
-fn values_answer(alloc: Global, text: &[u8], record_text: Vec<u8>) -> Result<Vec<u8>, Fault>
+// The text of the values with which the run ended that a file tells, of the program that a text spells, and the notes on that run.
+fn values_told(alloc: Global, quiet: bool, text: &[u8], record_text: Vec<u8>) -> Result<Told, Fault>
     ensures { MatchResult result
-        (λ answer. IsValuesAfterAnswer record_text.items text.now answer.items × (length text.now ≤ MOST_TEXT))
+        (λ told. TellsValuesAfter record_text.items quiet told.notes.items text.now told.text.items × (length text.now ≤ MOST_TEXT))
         (IsOfValuesAfter record_text.items text.now) }
 {
-    let program = read_program(alloc, text)?;
+    let (program, defs) = read_listed(alloc, text)?;
     let recorded = record_beside(alloc, record_text)?;
-    values_of_run(alloc, &program, &recorded)
+    values_of_run(alloc, quiet, &program, defs, &recorded)
 }
 
-// The text of the values with which a run of a program ended.
-fn values_of_run(alloc: Global, program: &Program, recorded: &Record) -> Result<Vec<u8>, Fault>
+// The text of the values with which a run of a program with these defs ended, and the notes on it.
+fn values_of_run(
+    alloc: Global,
+    quiet: bool,
+    program: &Program,
+    defs: Vec<DefListing>,
+    recorded: &Record,
+) -> Result<Told, Fault>
     ensures { MatchResult result
-        (λ answer. IsRecordOf program.now recorded.now
-        × (answer.items ≡ values_text_spec program.now.cowns (config_of program.now recorded.now.events).values))
+        (λ told. IsRecordOf program.now recorded.now
+        × (told.text.items ≡ values_text_spec program.now.cowns (config_of program.now recorded.now.events).values)
+        × AreWanted quiet (AreNamedNotes (AreNamesOf program.now (map (λ d. d.name) defs.items) (config_of program.now recorded.now.events).members)
+        recorded.now.rows) told.notes.items)
         (IsOfStrayFile program.now recorded.now) }
 {
     match follow_record(alloc, program, recorded) {
-        Ok(run) => Ok(values_text(alloc, program.cowns.as_slice(), run.values())?),
+        Ok(run) => {
+            let text = values_text(alloc, program.cowns.as_slice(), run.values())?;
+            let notes = notes_on_run(alloc, quiet, program, defs, recorded)?;
+            Ok(Told { text, notes })
+        }
         Err(fault) => Err(of_stray_beside(fault)),
     }
 }

@@ -4,10 +4,12 @@ ghost use Rattle.std.specs.Prelude.{◌≡◌, ◌<◌, ◌++◌, IfOk, MatchRes
 ghost use Rattle.boc_plans.specs.Seen.{seen};
 ghost use Rattle.boc_commands.specs.Commands.{AnswersInput, Leaves, CountsSource, CountsSink};
 ghost use Rattle.boc_commands.specs.NamedRuns.{AreFew, IsNamedRun, IsOfNamedRun, IsShort, RefusesNamedRun};
-ghost use Rattle.boc_commands.specs.WhyAnswers.{IsTold, IsWhyAnswer, PutsLine};
+ghost use Rattle.boc_commands.specs.Notes.{TellsWhy};
+ghost use Rattle.boc_commands.specs.WhyAnswers.{IsTold, PutsLine};
 
 use crate::fault::Fault;
 use crate::named_run::{NamedRun, Origin, named_run, taken};
+use crate::notes::{Told, notes_on};
 use boc_greedy::greedy;
 use boc_plans::sharing::Sharing;
 use boc_plans::workers::Workers;
@@ -23,7 +25,8 @@ use std::thread::Threads;
 /// Reads a program, which it runs, or the text of a record, as its first word tells, and writes why the rows of the run take as long as they do: the chain that
 /// holds them back, its ticks by def and by link, what would bring the end forward, and the least that any order of the cowns could end at. Plans see the
 /// rows as they share cowns in this way. Each row of the chain stands on a line of its own where all are asked for. A last line tells of the greedy plan for
-/// so many workers, where a number is given. The origin says by how many threads a program is run, and which file stands beside it.
+/// so many workers, where a number is given. The origin says by how many threads a program is run, and which file stands beside it. The notes are put in
+/// place of others, unless quiet is wanted.
 ///
 /// A program is refused as by `run`, a record as by `profile`, and a file as its kind is. Nothing is written unless the whole answer stands. After a failing
 /// write a beginning of it went out. Plans are made in threads. The text of a record is taken into memory as a whole.
@@ -34,26 +37,33 @@ pub fn why_cmd<R: Threads + Wait + Sync, G: Gate, S: Source, W: Sink>(
     workers: Option<Workers>,
     sharing: Sharing,
     all: bool,
+    quiet: bool,
     gate: &G,
+    notes: &mut Vec<u8>,
     source: &mut S,
     sink: &mut W,
 ) -> Result<(), Fault>
     requires source { S.failures source.old < u64.MAX }
     requires sink { W.failures sink.old < u64.MAX }
-    ensures written { Leaves (AnswersInput (IsWhyAnswer sharing workers all origin.entry.file.now origin.entry.bytes.items)
+    ensures written { Leaves (AnswersInput (TellsWhy sharing workers all quiet origin.entry.file.now origin.entry.bytes.items notes.new.items)
         (S.remaining source.old) (S.remaining source.new)) result (W.written sink.old) (W.written sink.new) }
     ensures refused { RefusesNamedRun G.always_on origin.entry.file.now origin.entry.bytes.items result (S.remaining source.old) (S.remaining source.new) }
     ensures source { CountsSource result (S.failures source.old) (S.failures source.new) }
     ensures sink { CountsSink result (W.failures sink.old) (W.failures sink.new) }
 {
     let text = taken(alloc, source)?;
-    let answer = why_answer(rt, alloc, text, origin, workers, sharing, all, gate)?;
+    let told = why_told(rt, alloc, text, origin, workers, sharing, all, quiet, gate)?;
+    let Told {
+        text: answer,
+        notes: noted,
+    } = told;
+    *notes = noted;
     put_out(sink, &answer)?;
     Ok(())
 }
 
-// Why the rows that an input tells of take as long as they do.
-fn why_answer<R: Threads + Wait + Sync, G: Gate>(
+// Why the rows that an input tells of take as long as they do, and the notes on them.
+fn why_told<R: Threads + Wait + Sync, G: Gate>(
     rt: &R,
     alloc: Global,
     text: Vec<u8>,
@@ -61,14 +71,18 @@ fn why_answer<R: Threads + Wait + Sync, G: Gate>(
     workers: Option<Workers>,
     sharing: Sharing,
     all: bool,
+    quiet: bool,
     gate: &G,
-) -> Result<Vec<u8>, Fault>
+) -> Result<Told, Fault>
     ensures { MatchResult result
-        (λ answer. IsWhyAnswer sharing workers all origin.entry.file.now origin.entry.bytes.items text.items answer.items × IsShort text.items)
+        (λ told. TellsWhy sharing workers all quiet origin.entry.file.now origin.entry.bytes.items told.notes.items text.items told.text.items
+        × IsShort text.items)
         (IsOfNamedRun G.always_on origin.entry.file.now origin.entry.bytes.items text.items) }
 {
     let run = named_run(rt, alloc, text, origin, gate)?;
-    Ok(told(rt, alloc, &run, workers, sharing, all)?)
+    let notes = notes_on(alloc, quiet, &run.rows, &run.names.rows)?;
+    let text = told(rt, alloc, &run, workers, sharing, all)?;
+    Ok(Told { text, notes })
 }
 
 // What is told of why the rows of a run take as long as they do, in their names.

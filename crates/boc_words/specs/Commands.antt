@@ -34,13 +34,17 @@ runners_option = record { id = codes "workers"; numbers = UpTo MOST_RUNNERS }
 abbrev pub workers_option : NumberOption
 workers_option = record { id = codes "p"; numbers = UpTo MOST_WORKERS }
 
+-- `--seed S`, by which the worker that moves next is picked
+abbrev pub seed_option : NumberOption
+seed_option = record { id = codes "seed"; numbers = Every }
+
 -- `--top K`, of so many cowns at the most
 abbrev pub top_option : NumberOption
 top_option = record { id = codes "top"; numbers = UpTo MOST_COWNS }
 
 -- every option with a number
 abbrev pub number_options : List NumberOption
-number_options = runners_option ∷ workers_option ∷ top_option ∷ []
+number_options = runners_option ∷ seed_option ∷ workers_option ∷ top_option ∷ []
 
 -- `--shared-reads`
 abbrev pub sharing_flag : Argument
@@ -57,6 +61,10 @@ spawns_flag = flag (codes "spawns")
 -- `--all`, by which all of a chain is told
 abbrev pub all_flag : Argument
 all_flag = flag (codes "all")
+
+-- `--quiet`, by which notes are left out
+abbrev pub quiet_flag : Argument
+quiet_flag = flag (codes "quiet")
 
 -- `--without COWN`, as often as one likes
 abbrev pub without_option : Argument
@@ -86,11 +94,12 @@ edits_operands = operands (codes "edits")
 
 -- the name of a command, and which arguments it takes
 abbrev pub signature_of : Kind → Text × List Argument
-signature_of kinds.Values = (codes "values", repeated record_file ∷ [])
+signature_of kinds.Values = (codes "values", repeated record_file ∷ quiet_flag ∷ [])
 signature_of kinds.Check = (codes "check", repeated program_file ∷ [])
-signature_of kinds.Run = (codes "run", number runners_option ∷ [])
-signature_of kinds.Profile = (codes "profile", number workers_option ∷ sharing_flag ∷ [])
-signature_of kinds.Time = (codes "time", number runners_option ∷ number workers_option ∷ sharing_flag ∷ [])
+signature_of kinds.Run = (codes "run", number runners_option ∷ number seed_option ∷ quiet_flag ∷ [])
+signature_of kinds.Profile = (codes "profile", number workers_option ∷ sharing_flag ∷ quiet_flag ∷ [])
+signature_of kinds.Time =
+    (codes "time", number runners_option ∷ number seed_option ∷ number workers_option ∷ sharing_flag ∷ quiet_flag ∷ [])
 signature_of kinds.WhatIf = (
   codes "whatif",
   number workers_option ∷ sharing_flag ∷ without_option ∷ repeated program_file ∷ repeated names_file ∷ short_flag ∷ edits_operands ∷ [],
@@ -99,10 +108,12 @@ signature_of kinds.Curve = (codes "curve", number workers_option ∷ sharing_fla
 signature_of kinds.Sweep = (codes "sweep", number workers_option ∷ cowns_flag ∷ spawns_flag ∷ sharing_flag ∷ [])
 signature_of kinds.Why = (
   codes "why",
-  number runners_option ∷ number workers_option ∷ sharing_flag ∷ repeated record_file ∷ repeated names_file ∷ all_flag ∷ [],
+  number runners_option ∷ number workers_option ∷ sharing_flag ∷ repeated record_file ∷ repeated names_file ∷ all_flag ∷ quiet_flag ∷ [],
 )
-signature_of kinds.Cowns =
-    (codes "cowns", number runners_option ∷ sharing_flag ∷ repeated record_file ∷ repeated names_file ∷ number top_option ∷ [])
+signature_of kinds.Cowns = (
+  codes "cowns",
+  number runners_option ∷ sharing_flag ∷ repeated record_file ∷ repeated names_file ∷ number top_option ∷ quiet_flag ∷ [],
+)
 
 -- the files that a command may read beside its input, of which it takes one
 abbrev pub files_of : Kind → List Text

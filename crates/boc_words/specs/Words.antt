@@ -24,7 +24,7 @@ use Rattle.boc_words.specs.declared.words.Command.TheVariants as commands
 use Rattle.boc_words.specs.declared.commands.Kind.{Kind}
 use Rattle.boc_words.specs.declared.commands.Kind.TheVariants as called
 use Rattle.boc_words.specs.Commands.{Argument, IsNumberOf, NumberOption, commands_of_boc, number_options, shape_of_command, signature_of}
-use Rattle.boc_words.specs.Commands.{files_of, names_file, program_file, record_file, runners_option, top_option, workers_option}
+use Rattle.boc_words.specs.Commands.{files_of, names_file, program_file, record_file, runners_option, seed_option, top_option, workers_option}
 use Rattle.boc_words.specs.EditWords.{IsEditWord, IsWritable, edit_word}
 use Rattle.boc_words.specs.declared.asked.AskedCown.{AskedCown}
 use Rattle.boc_words.specs.declared.asked.AskedCown.TheVariants as cowns
@@ -150,6 +150,11 @@ files_given rows files = sum_by (λ file. length (values_at rows file)) files
 abbrev pub AreTooMany : List Text → List Row → Type 0
 AreTooMany files rows = 2 ≤ files_given rows files
 
+-- `--quiet` was given, and notes are left out, or it was not
+abbrev pub IsQuiet : List Row → Bool → Type 0
+IsQuiet rows true = IsSet rows (codes "quiet")
+IsQuiet rows false = IsUnset rows (codes "quiet")
+
 -- `--short` was given, and the numbers before and after are told, or it was not
 abbrev pub IsShort : List Row → Bool → Type 0
 IsShort rows true = IsSet rows (codes "short")
@@ -219,21 +224,26 @@ Names named kind Holds = (rows : List Row) × (named ≡ Some ((signature_of kin
 
 -- with what was found for it this command asks for this
 abbrev pub Asks : Kind → List Row → Command → Type 0
-Asks kind rows (commands.Values record_path) = (kind ≡ called.Values) × GivesFile rows record_file record_path
+Asks kind rows (commands.Values record_path quiet) = (kind ≡ called.Values) × GivesFile rows record_file record_path × IsQuiet rows quiet
 Asks kind rows (commands.Check program_path) = (kind ≡ called.Check) × GivesFile rows program_file program_path
-Asks kind rows (commands.Run runners) = (kind ≡ called.Run) × AreRunners rows runners
-Asks kind rows (commands.Profile workers sharing) = (kind ≡ called.Profile) × AreWorkers rows workers × AreShared rows sharing
-Asks kind rows (commands.Time runners workers sharing) =
-    (kind ≡ called.Time) × AreRunners rows runners × AreWorkers rows workers × AreShared rows sharing
+Asks kind rows (commands.Run runners seed quiet) =
+    (kind ≡ called.Run) × AreRunners rows runners × GivesNumber seed_option rows seed × IsQuiet rows quiet
+Asks kind rows (commands.Profile workers sharing quiet) =
+    (kind ≡ called.Profile) × AreWorkers rows workers × AreShared rows sharing × IsQuiet rows quiet
+Asks kind rows (commands.Time runners seed workers sharing quiet) =
+    (kind ≡ called.Time) × AreRunners rows runners × GivesNumber seed_option rows seed × AreWorkers rows workers × AreShared rows sharing
+    × IsQuiet rows quiet
 Asks kind rows (commands.WhatIf cowns edits workers sharing names short) =
     (kind ≡ called.WhatIf) × AreCowns rows cowns.items × AreEdits rows edits.items × AreWorkers rows workers × AreShared rows sharing
     × AreNamesFrom rows names × IsShort rows short
 Asks kind rows (commands.Curve most sharing) = (kind ≡ called.Curve) × AreUpTo rows most × AreShared rows sharing
 Asks kind rows (commands.Sweep over sharing) = (kind ≡ called.Sweep) × IsOver rows over × AreShared rows sharing
-Asks kind rows (commands.Why runners workers sharing file all) =
+Asks kind rows (commands.Why runners workers sharing file all quiet) =
     (kind ≡ called.Why) × AreRunners rows runners × AreWorkers rows workers × AreShared rows sharing × IsRunFile rows file × IsAll rows all
-Asks kind rows (commands.Cowns runners sharing file top) =
+    × IsQuiet rows quiet
+Asks kind rows (commands.Cowns runners sharing file top quiet) =
     (kind ≡ called.Cowns) × AreRunners rows runners × AreShared rows sharing × IsRunFile rows file × GivesNumber top_option rows top
+    × IsQuiet rows quiet
 Asks kind rows (commands.Help text) = ⊥
 Asks kind rows commands.Version = ⊥
 

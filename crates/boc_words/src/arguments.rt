@@ -70,6 +70,15 @@ pub(crate) const RUNNERS: NumberOption = NumberOption {
     help: "Runs the program by N threads, 1 to 16; 1 if not given",
 };
 
+/// By which seed the worker that moves next is picked.
+pub(crate) const SEED: NumberOption = NumberOption {
+    id: "seed",
+    value_name: "S",
+    numbers: Numbers::Every,
+    help: "Runs the program on one thread, as N workers of which one is picked at each turn, at random by the number S of 64 bits: \
+        the same run each time, on every machine",
+};
+
 /// How many workers carry out a greedy plan.
 pub(crate) const WORKERS: NumberOption = NumberOption {
     id: "p",
@@ -124,6 +133,12 @@ pub(crate) const SHARING: FlagOption = FlagOption {
 pub(crate) const SHORT: FlagOption = FlagOption {
     id: "short",
     help: "Prints work, span and chain before and after in place of the report",
+};
+
+/// Whether notes are left out.
+pub(crate) const QUIET: FlagOption = FlagOption {
+    id: "quiet",
+    help: "Leaves out the notes, on standard error, of behaviours that ended by a fault",
 };
 
 /// How many cowns are told of.

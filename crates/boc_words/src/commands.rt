@@ -8,8 +8,8 @@ ghost use Rattle.boc_words.specs.Words.{IsNoneOf, Told, command_line, without_co
 
 use crate::arguments::Argument::{Flag, Number, Repeated, Words};
 use crate::arguments::{
-    ALL, Argument, CURVE_WORKERS, EDITS, NAMES, PROGRAM, RECORD, RUNNERS, SHARING, SHORT,
-    SWEEP_COWNS, SWEEP_SPAWNS, SWEEP_WORKERS, TOP, WHY_WORKERS, WITHOUT, WORKERS,
+    ALL, Argument, CURVE_WORKERS, EDITS, NAMES, PROGRAM, QUIET, RECORD, RUNNERS, SEED, SHARING,
+    SHORT, SWEEP_COWNS, SWEEP_SPAWNS, SWEEP_WORKERS, TOP, WHY_WORKERS, WITHOUT, WORKERS,
 };
 use crate::version::VERSION;
 use std::alloc::{AllocError, Global};
@@ -42,7 +42,9 @@ const RECORD_LINES: &str = "The first line is `boc 2 COWNS`, the last one `.`; b
   + ROW PARENT TICK COWN..      a row is spawned, at that tick of its parent
   > ROW                         it begins
   < ROW TICKS STATUS COWN..     it ends, and wrote these cowns
-Ticks are what a body's statements cost, and no time that passes.";
+Ticks are what a body's statements cost, and no time that passes.
+
+Examples: boc run --workers 4 < program.boc | boc why; boc run --workers 4 --seed 3 < program.boc | boc profile";
 
 // What the lines of a report say.
 const REPORT_LINES: &str =
@@ -50,7 +52,9 @@ const REPORT_LINES: &str =
   ROW LINK TICKS          a row of the chain, how it holds back the next one (spawn or order; end for the last), and what it adds to the span
   ROW START END           a row of the earliest plan
   ROW START END WORKER    a row of the greedy plan, and `end END bound BOUND` behind them
-All are ticks but the rows and the workers, which count from 0. The span is the end of the earliest plan.";
+All are ticks but the rows and the workers, which count from 0. The span is the end of the earliest plan.
+
+Examples: boc time --workers 4 < program.boc; boc run < program.boc | boc profile --p 2";
 
 // What the lines of a curve say.
 const CURVE_LINES: &str =
@@ -59,7 +63,9 @@ each number of workers. The greedy plan gives the workers that are free at a tic
   END      when the greedy plan for P workers ends; it need not fall as P grows
   LOW      no plan for P workers ends sooner: the span, or the work divided by P, rounded up, if that is greater
   BOUND    that greedy plan ends no later: the work divided by P, rounded down, plus the span
-All are ticks but P. `boc run` makes the record.";
+All are ticks but P.
+
+Example: boc run < program.boc | boc curve --p 8";
 
 // What the lines of a sweep say.
 const SWEEP_LINES: &str =
@@ -69,7 +75,8 @@ fewer ticks. With --cowns or --spawns the lines are others:
   COWN END    a cown of the record, and the tick at which the plan would end if that cown ordered nobody
   ROW SPAN    a row but main, and the span if that row alone were spawned as early as it can be, one tick after its elder sibling
               or at its parent's tick 1 (a program's first `when` stands at 2, so a line can be a tick below what a text reaches)
-`boc run` makes the record.";
+
+Example: boc run < program.boc | boc sweep --cowns";
 
 // What `why` tells.
 const WHY_LINES: &str =
@@ -82,7 +89,9 @@ const WHY_LINES: &str =
   no order of ..   whatever order they get their cowns in, these behaviours end no sooner
 Of a program names are those of its text; of a record each row and each cown has its number. Ticks are what a body's statements cost, and no
 time that passes. Four or more rows of one def that follow each other stand in one line, unless --all is given; lists end after 20 lines.
-With --record the input is a program, and the run is the one whose record is in FILE.";
+With --record the input is a program, and the run is the one whose record is in FILE.
+
+Example: boc why --workers 4 < program.boc";
 
 // What `cowns` tells.
 const COWNS_LINES: &str =
@@ -96,14 +105,30 @@ that are held longest:
 Below stand the span, what it would be if no cown ordered anybody, and how long the busiest cown is held; and a verdict:
   load     a cown is held for at least 75 of 100 ticks of the span: split it, or shorten what holds it
   order    none is; what holds the run back is the order in which behaviours are spawned and get their cowns
-With --record the input is a program, and the run is the one whose record is in FILE.";
+With --record the input is a program, and the run is the one whose record is in FILE.
+
+Example: boc cowns --top 3 < program.boc";
 
 // What `whatif` prints.
 const WHATIF_LINES: &str = "The lines are those of `profile`, or with --short:
   work, span       before and after the edits, and by how much the span changes; with --p the same of the greedy plan's end
   chain            how many ticks go through which defs of the chain that holds the run back, before and after
 A def, and a cown that is left out by name, is one of the program in --program FILE or of the names in --names FILE; without them `row 2`
-is the def of row 2, and `cown 0` a cown. A number is always a row's or a cown's.";
+is the def of row 2, and `cown 0` a cown. A number is always a row's or a cown's.
+
+Example: boc run < program.boc | boc whatif --program program.boc --short transfer=1/2";
+
+// What holds of every command.
+const COMMON_LINES: &str =
+    "Programs and records come from standard input, and answers go to standard output, a whole one or none. On standard error a fault is
+told in one line, with the line of the input that it is about, and behaviours that ended by a fault are noted. The statuses:
+  0    done
+  2    the words of the command line are wrong
+  3    the input, or the file beside it, is wrong
+  4    the program has too many behaviours, or threads can't be had
+  5    memory is refused, or a file or a device fails
+
+Example: boc why < program.boc. `boc help why` tells what stands in its lines.";
 
 // Every command, in the order of help.
 //
@@ -124,9 +149,11 @@ const EVERY_KIND: &[Kind] = &[
 
 const VALUES: Entry = Entry {
     about: "Reads a program, runs it serially, and prints the values of its cowns",
-    takes: &[Repeated(RECORD)],
+    takes: &[Repeated(RECORD), Flag(QUIET)],
     lines: "A line is NAME VALUE, or NAME[INDEX] VALUE for a member of an array.
-With --record the values are those with which the run ended whose record is in FILE; it must be one of the program.",
+With --record the values are those with which the run ended whose record is in FILE; it must be one of the program.
+
+Example: boc values < program.boc",
 };
 
 const CHECK: Entry = Entry {
@@ -136,24 +163,32 @@ const CHECK: Entry = Entry {
 fourteen faults of records these are told then, with the line of the record:
   15 OtherCowns     it has another number of cowns than the program
   16 NotNextSpawn   a row is spawned that is not what its parent spawns next
-  17 NotItsEnd      a row ends otherwise than its behaviour does",
+  17 NotItsEnd      a row ends otherwise than its behaviour does
+
+Example: boc run < program.boc | boc check --program program.boc",
 };
 
 const RUN: Entry = Entry {
     about: "Reads a program, runs it by several threads, and prints the record of the run",
-    takes: &[Number(RUNNERS)],
+    takes: &[Number(RUNNERS), Number(SEED), Flag(QUIET)],
     lines: RECORD_LINES,
 };
 
 const PROFILE: Entry = Entry {
     about: "Reads the record of a run, and prints its work, its span, its costliest chain and its earliest plan",
-    takes: &[Number(WORKERS), Flag(SHARING)],
+    takes: &[Number(WORKERS), Flag(SHARING), Flag(QUIET)],
     lines: REPORT_LINES,
 };
 
 const TIME: Entry = Entry {
     about: "Reads a program, runs it by several threads, and prints the profile of the run",
-    takes: &[Number(RUNNERS), Number(WORKERS), Flag(SHARING)],
+    takes: &[
+        Number(RUNNERS),
+        Number(SEED),
+        Number(WORKERS),
+        Flag(SHARING),
+        Flag(QUIET),
+    ],
     lines: REPORT_LINES,
 };
 
@@ -197,6 +232,7 @@ const WHY: Entry = Entry {
         Repeated(RECORD),
         Repeated(NAMES),
         Flag(ALL),
+        Flag(QUIET),
     ],
     lines: WHY_LINES,
 };
@@ -209,6 +245,7 @@ const COWNS: Entry = Entry {
         Repeated(RECORD),
         Repeated(NAMES),
         Number(TOP),
+        Flag(QUIET),
     ],
     lines: COWNS_LINES,
 };
@@ -289,6 +326,7 @@ fn without_commands<'a>(alloc: Global) -> Result<clap::Command<'a>, AllocError>
 {
     clap::Command::new(alloc, "boc")
         .about("Runs and profiles programs under behaviour-oriented concurrency")
+        .after_help(COMMON_LINES)
         .version(VERSION)
         .subcommand_required(true)
         .arg_required_else_help(true)

@@ -12,8 +12,8 @@ ghost use Rattle.clap.specs.Words.{fault_of, found_of, kind_of, rows_of, subcomm
 ghost use Rattle.std.specs.Prelude.{◌≡◌, ◌∷◌, ◌↔◌, [], ℕ, IfErr, IfNone, IfOk, IfSome, IsTrue, codes, map, string_bytes};
 
 use crate::arguments::{
-    ALL, EDITS, NAMES, NumberOption, Numbers, PROGRAM, RECORD, RUNNERS, RepeatedOption, SHARING,
-    SHORT, SWEEP_COWNS, SWEEP_SPAWNS, TOP, WITHOUT, WORKERS,
+    ALL, EDITS, NAMES, NumberOption, Numbers, PROGRAM, QUIET, RECORD, RUNNERS, RepeatedOption,
+    SEED, SHARING, SHORT, SWEEP_COWNS, SWEEP_SPAWNS, TOP, WITHOUT, WORKERS,
 };
 use crate::asked::{AskedCown, AskedEdit, NamesFrom, RunFile};
 use crate::commands::{Kind, kind_of, parser};
@@ -29,32 +29,38 @@ use clap::ArgMatches;
 use clap::error::ErrorKind;
 use std::alloc::{AllocError, Global};
 
-/// What the words ask for. A text behind a file is its path.
+/// What the words ask for. A text behind a file is its path. Notes on behaviours that ended by a fault are left out where `quiet` is so.
 #[derive(Debug, Drop)]
 pub enum Command {
     /// The values after the serial run of a program, or after the run that a record is of.
     Values {
         record: Option<String>,
+        quiet: bool,
     },
     /// Whether the input is the text of a record, and of how many rows; and, where a program is given, whether it is of a run of that.
     Check {
         program: Option<String>,
     },
-    /// The record of a run of a program by so many threads.
+    /// The record of a run of a program by so many threads; or, where a seed is given, of the run of as many workers that it draws.
     Run {
         runners: Runners,
+        seed: Option<u64>,
+        quiet: bool,
     },
     /// The report on the rows of a record that share cowns in this way, with the greedy plan for so many workers where a
     /// number is given.
     Profile {
         workers: Option<Workers>,
         sharing: Sharing,
+        quiet: bool,
     },
-    /// The report on the rows of a run by so many threads, with the greedy plan as for a profile.
+    /// The report on the rows of a run, as for `Run`, with the greedy plan as for a profile.
     Time {
         runners: Runners,
+        seed: Option<u64>,
         workers: Option<Workers>,
         sharing: Sharing,
+        quiet: bool,
     },
     /// The report on the rows of a record without these cowns and after these edits, with the greedy plan as for a profile; or, where that
     /// is asked for, what they change in short.
@@ -85,6 +91,7 @@ pub enum Command {
         sharing: Sharing,
         file: Option<RunFile>,
         all: bool,
+        quiet: bool,
     },
     /// Which cowns of a run or of a record, as for `Why`, are held and waited for; so many where a number is given.
     Cowns {
@@ -92,6 +99,7 @@ pub enum Command {
         sharing: Sharing,
         file: Option<RunFile>,
         top: Option<u32>,
+        quiet: bool,
     },
     /// The parser's own text, for standard output.
     Help(String),
@@ -174,21 +182,27 @@ fn asked(alloc: Global, kind: Kind, matches: &ArgMatches) -> Result<Command, Wor
     match kind {
         Kind::Values => Ok(Command::Values {
             record: file_asked(alloc, matches, &RECORD)?,
+            quiet: is_set(texts_at(matches, QUIET.id)),
         }),
         Kind::Check => Ok(Command::Check {
             program: file_asked(alloc, matches, &PROGRAM)?,
         }),
         Kind::Run => Ok(Command::Run {
             runners: runners_asked(alloc, matches)?,
+            seed: number_asked(alloc, matches, &SEED)?,
+            quiet: is_set(texts_at(matches, QUIET.id)),
         }),
         Kind::Profile => Ok(Command::Profile {
             workers: workers_asked(alloc, matches)?,
             sharing: sharing_asked(matches),
+            quiet: is_set(texts_at(matches, QUIET.id)),
         }),
         Kind::Time => Ok(Command::Time {
             runners: runners_asked(alloc, matches)?,
+            seed: number_asked(alloc, matches, &SEED)?,
             workers: workers_asked(alloc, matches)?,
             sharing: sharing_asked(matches),
+            quiet: is_set(texts_at(matches, QUIET.id)),
         }),
         Kind::WhatIf => Ok(Command::WhatIf {
             names: names_asked(alloc, matches)?,
@@ -212,12 +226,14 @@ fn asked(alloc: Global, kind: Kind, matches: &ArgMatches) -> Result<Command, Wor
             sharing: sharing_asked(matches),
             file: run_file_asked(alloc, matches)?,
             all: is_set(texts_at(matches, ALL.id)),
+            quiet: is_set(texts_at(matches, QUIET.id)),
         }),
         Kind::Cowns => Ok(Command::Cowns {
             runners: runners_asked(alloc, matches)?,
             sharing: sharing_asked(matches),
             file: run_file_asked(alloc, matches)?,
             top: top_asked(alloc, matches)?,
+            quiet: is_set(texts_at(matches, QUIET.id)),
         }),
     }
 }

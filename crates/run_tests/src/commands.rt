@@ -119,17 +119,34 @@ fn shorter(alloc: Global, workers: Option<Workers>) -> Result<Command, AllocErro
 }
 
 // The commands that read a program.
-fn of_programs(alloc: Global) -> Result<[Case; 3], AllocError> {
+fn of_programs(alloc: Global) -> Result<[Case; 4], AllocError> {
     let runners = Runners::one();
-    let alone = Command::Values { record: None };
+    let quiet = false;
+    let alone = Command::Values {
+        record: None,
+        quiet,
+    };
     let timed = Command::Time {
         runners,
+        seed: None,
         workers: None,
         sharing: Sharing::Exclusive,
+        quiet,
+    };
+    let run = Command::Run {
+        runners,
+        seed: None,
+        quiet,
+    };
+    let drawn = Command::Run {
+        runners,
+        seed: Some(7),
+        quiet,
     };
     Ok([
         answered(alloc, alone, TRANSFER, "a 12\nb 4\n", "")?,
-        answered(alloc, Command::Run { runners }, TRANSFER, RECORD, "")?,
+        answered(alloc, run, TRANSFER, RECORD, "")?,
+        answered(alloc, drawn, TRANSFER, RECORD, "")?,
         answered(alloc, timed, TRANSFER, REPORT, "")?,
     ])
 }
@@ -167,10 +184,12 @@ fn of_records(alloc: Global) -> Result<[Case; 6], AllocError> {
     let alone = Command::Profile {
         workers: None,
         sharing,
+        quiet: false,
     };
     let by_two = Command::Profile {
         workers: two,
         sharing,
+        quiet: false,
     };
     let shorter_alone = shorter(alloc, None)?;
     let shorter_by_two = shorter(alloc, two)?;
@@ -201,6 +220,7 @@ fn of_files(alloc: Global) -> Result<[Case; 2], AllocError> {
     };
     let after = Command::Values {
         record: Some(String::from_str(alloc, "transfer.record")?),
+        quiet: false,
     };
     Ok([
         answered_beside(alloc, against, TRANSFER, RECORD, "ok 4\n")?,
@@ -216,12 +236,14 @@ fn of_either(alloc: Global) -> Result<[Case; 2], AllocError> {
         sharing: Sharing::Exclusive,
         file: None,
         all: false,
+        quiet: false,
     };
     let cowns = Command::Cowns {
         runners: Runners::one(),
         sharing: Sharing::Exclusive,
         file: None,
         top: None,
+        quiet: false,
     };
     Ok([
         answered(alloc, why, TRANSFER, WHY, "")?,
@@ -278,6 +300,7 @@ fn one_read_fails(rt: HostRuntime) -> Result<(), Fail> {
             for k in 1..=reads + 1 {
                 let mut source = FailAt::new(bytes(alloc, case.input)?, k, most);
                 let mut sink = bytes(alloc, "")?;
+                let mut notes = Vec::new(alloc);
                 match run_command(
                     &rt,
                     alloc,
@@ -285,6 +308,7 @@ fn one_read_fails(rt: HostRuntime) -> Result<(), Fail> {
                     &case.command,
                     Vec::from_slice(alloc, case.beside.as_bytes())?,
                     &mut Silent,
+                    &mut notes,
                     &mut source,
                     &mut sink,
                 ) {
@@ -315,6 +339,7 @@ fn one_write_fails(rt: HostRuntime) -> Result<(), Fail> {
         for k in 1..=writes + 1 {
             let mut source = bytes(alloc, case.input)?;
             let mut sink = FailAt::new(bytes(alloc, "")?, k as u64, 7);
+            let mut notes = Vec::new(alloc);
             let result = run_command(
                 &rt,
                 alloc,
@@ -322,6 +347,7 @@ fn one_write_fails(rt: HostRuntime) -> Result<(), Fail> {
                 &case.command,
                 Vec::from_slice(alloc, case.beside.as_bytes())?,
                 &mut Silent,
+                &mut notes,
                 &mut source,
                 &mut sink,
             );
@@ -351,6 +377,7 @@ fn nothing_is_read_for_help(rt: HostRuntime) -> Result<(), Fail> {
     for case in &of_nothing(alloc)? {
         let mut source = FailAt::new(bytes(alloc, "")?, 1, 1);
         let mut sink = bytes(alloc, "")?;
+        let mut notes = bytes(alloc, "what was noted before")?.bytes;
         let result = run_command(
             &rt,
             alloc,
@@ -358,10 +385,12 @@ fn nothing_is_read_for_help(rt: HostRuntime) -> Result<(), Fail> {
             &case.command,
             Vec::from_slice(alloc, case.beside.as_bytes())?,
             &mut Silent,
+            &mut notes,
             &mut source,
             &mut sink,
         );
         assert!(rt; result.is_ok());
+        assert!(rt; notes.is_empty());
         assert_eq!(rt; sink.bytes.as_slice(), case.answer.as_bytes());
     }
     Ok(())

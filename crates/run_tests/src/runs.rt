@@ -154,7 +154,18 @@ fn run_of<R: Threads + Wait + Sync, G: Gate>(
     let runners = Runners::new(runners).ok_or("there are 1 to 16 threads")?;
     let mut source = bytes(alloc, text)?;
     let mut sink = bytes(alloc, "")?;
-    let result = run_cmd(rt, alloc, runners, gate, &mut source, &mut sink);
+    let mut notes = Vec::new(alloc);
+    let result = run_cmd(
+        rt,
+        alloc,
+        runners,
+        None,
+        false,
+        gate,
+        &mut notes,
+        &mut source,
+        &mut sink,
+    );
     answer_of(alloc, result, sink)
 }
 
@@ -171,13 +182,17 @@ fn time_of<R: Threads + Wait + Sync, G: Gate>(
     let workers = Workers::new(p);
     let mut source = bytes(alloc, text)?;
     let mut sink = bytes(alloc, "")?;
+    let mut notes = Vec::new(alloc);
     let result = time_cmd(
         rt,
         alloc,
         runners,
+        None,
         workers,
         Sharing::Exclusive,
+        false,
         gate,
+        &mut notes,
         &mut source,
         &mut sink,
     );
@@ -285,16 +300,23 @@ fn as_many_threads_as_asked_for(rt: HostRuntime) -> Result<(), Fail> {
     let alloc = rt.alloc();
     let two = Runners::new(2).ok_or("there are 1 to 16 threads")?;
     for command in [
-        Command::Run { runners: two },
+        Command::Run {
+            runners: two,
+            seed: None,
+            quiet: false,
+        },
         Command::Time {
             runners: two,
+            seed: None,
             workers: None,
             sharing: Sharing::Exclusive,
+            quiet: false,
         },
     ] {
         let gate = Meeting::new(&rt, Place::AtBody);
         let mut source = bytes(alloc, TWO_BODIES)?;
         let mut sink = bytes(alloc, "")?;
+        let mut notes = Vec::new(alloc);
         let result = run_command(
             &rt,
             alloc,
@@ -302,6 +324,7 @@ fn as_many_threads_as_asked_for(rt: HostRuntime) -> Result<(), Fail> {
             &command,
             Vec::new(alloc),
             &mut Silent,
+            &mut notes,
             &mut source,
             &mut sink,
         );

@@ -15,3 +15,6 @@ returns-in-Sweep-clause-written g c = search rules
 
 pub returns-in-Why-clause-written : goal.returns-in-Why-clause-written
 returns-in-Why-clause-written g c = search rules
+
+pub returns-in-Cowns-clause-written : goal.returns-in-Cowns-clause-written
+returns-in-Cowns-clause-written g c = search rules

@@ -1,13 +1,26 @@
-use Rattle.std.proofs.Common.{ℕ, List, length, subst}
-use Rattle.std.proofs.lemmas.Result.{IfOk-weaker}
-use Rattle.boc_cowns.specs.Hot.{IsHotCowns}
+use Rattle.std.proofs.Common.{List, ◌≡◌, ℕ, subst}
+use Rattle.boc_runs.specs.declared.rows.Row.{Row}
+use Rattle.boc_names.specs.Names.{texts_of}
+use Rattle.boc_commands.specs.CownsAnswers.{AreTold}
+use Rattle.boc_commands.specs.Notes.{AreWanted, notes_of_rows}
 use Rattle.boc_commands.proofs.cowns.cowns_told.Goals as goal
 
 pub returns : goal.returns
 returns g c =
-    IfOk-weaker c.cowns_text.result _ _ (λ text is. record {
-      hot = c.in_ok-hot.hot;
-      is_hot = subst (λ (l : List ℕ). IsHotCowns c.args.run.now.rows c.args.sharing (length l) c.in_ok-hot.hot) c.deref-families.ensures.value
-          c.in_ok-hot.ensures.hot;
-      told = is;
-    }) c.cowns_text.ensures
+    let has = c.in_ok-run.ensures.0 in
+    let names = c.in_ok-run.run'.names in
+    let noted = subst (λ called. AreWanted c.args.quiet (λ told. told ≡ notes_of_rows (texts_of called) has.recorded.rows) c.in_ok-notes.notes.items)
+    c.deref.ensures.value
+    (subst (λ (rows : List Row). AreWanted c.args.quiet (λ told. told ≡ notes_of_rows (texts_of c.deref.result.now) rows) c.in_ok-notes.notes.items)
+    has.rows_are c.in_ok-notes.ensures) in (
+      record {
+        answer = record {
+          recorded = has.recorded;
+          names = names;
+          named = has.named;
+          told = subst (λ (rows : List Row). AreTold rows names c.args.sharing c.args.top c.in_ok-text.text.items) has.rows_are c.in_ok-text.ensures;
+        };
+        noted = noted;
+      },
+      c.in_ok-run.ensures.1,
+    )

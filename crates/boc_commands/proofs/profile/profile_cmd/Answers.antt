@@ -1,14 +1,15 @@
-use Rattle.std.proofs.Common.{ℕ, refl, subst}
+use Rattle.std.proofs.Common.{ℕ, rules, subst}
 use Rattle.boc_commands.specs.Commands.{CountsSource, RefusesRecord}
-use Rattle.boc_commands.proofs.Asked.{leaves_read, reported}
+use Rattle.boc_commands.proofs.Asked.{leaves_read}
+use Rattle.boc_commands.proofs.Noting.{noted_report}
 use Rattle.boc_commands.proofs.Passed.{refuses_nothing}
 use Rattle.boc_commands.proofs.profile.profile_cmd.Goals as goal
 
 pub returns-clause-written : goal.returns-clause-written
 returns-clause-written g c =
     let asked = c.in_ok-rows.ensures.rows_or_fault in
-    leaves_read _ _ c.report_on.result _ _ _ _ asked.1 (λ text report. reported c.args.sharing c.args.workers asked.1.text asked.0 c.in_ok-rows.rows text text
-    asked.1.text_of asked.2 report refl) c.report_on.ensures.written
+    leaves_read _ _ c.report_on.result _ _ _ _ asked.1 (λ text report. noted_report c.args.sharing c.args.workers c.args.quiet c.in_ok-noted.noted.items
+    asked.1.text asked.0 c.in_ok-rows.rows text asked.1.text_of asked.2 report (search rules)) c.report_on.ensures.written
 
 pub returns-clause-refused : goal.returns-clause-refused
 returns-clause-refused g c =

@@ -2,27 +2,32 @@ use Rattle.std.proofs.Common.{ℕ, List, refl, subst}
 use Rattle.boc_commands.specs.Commands.{CountsSource, IsOfRun, RefusesRun}
 use Rattle.boc_runs.specs.declared.rows.Row.{Row}
 use Rattle.boc_plans.specs.Seen.{seen}
-use Rattle.boc_commands.specs.Promises.{IsTimeAnswer, IsTrueReport}
+use Rattle.boc_commands.specs.Notes.{TellsTime}
+use Rattle.boc_commands.specs.Promises.{IsTrueReport}
 use Rattle.boc_commands.proofs.Asked.{answers_text, leaves_as}
 use Rattle.boc_commands.proofs.Passed.{refused_run, refuses_nothing}
 use Rattle.boc_commands.proofs.time.time_cmd.Goals as goal
 
-pub returns-in_err-answer-clause-refused : goal.returns-in_err-answer-clause-refused
-returns-in_err-answer-clause-refused g c =
-    refused_run _ _ _ c.in_ok-text.text.items _ _ c.from_residual-in_err-answer.ensures.1 c.in_ok-text.ensures.text
-    (subst (λ (t : List ℕ). IsOfRun g.G.Gate.always_on t c.in_err-answer.field-0.0) c.deref.ensures.value c.in_err-answer.ensures)
+pub returns-in_err-noted-clause-refused : goal.returns-in_err-noted-clause-refused
+returns-in_err-noted-clause-refused g c =
+    refused_run _ _ _ c.in_ok-text.text.items _ _ c.from_residual-in_err-noted.ensures.1 c.in_ok-text.ensures.text
+    (subst (λ (t : List ℕ). IsOfRun g.G.Gate.always_on t c.in_err-noted.field-0.0) c.deref.ensures.value c.in_err-noted.ensures)
 
 pub returns-clause-written : goal.returns-clause-written
 returns-clause-written g c =
-    let run = c.in_ok-answer.ensures in
+    let run = c.in_ok-noted.ensures in
     leaves_as (IsTrueReport (seen c.args.sharing c.into_rows.result) c.args.workers) _ c.true_report.result _ _ (λ text report.
-    answers_text (IsTimeAnswer c.args.sharing c.args.workers) _ _ c.in_ok-text.text.items c.deref.result.now text text c.in_ok-text.ensures.text
+    answers_text (TellsTime c.args.runners c.args.seed c.args.sharing c.args.workers c.args.quiet c.in_ok-noted.noted.notes.items) _ _ c.in_ok-text.text.items c.deref.result.now text text c.in_ok-text.ensures.text
     c.deref.ensures.value refl
     (record {
-      recorded = c.in_ok-answer.answer.record;
-      run = run.0;
-      report = subst (λ (rows : List Row). IsTrueReport (seen c.args.sharing rows) c.args.workers text) c.into_rows.ensures.value report;
-    }) run.1) c.true_report.ensures.written
+      answer = record {
+        recorded = c.in_ok-noted.noted.record;
+        run = run.0;
+        report = subst (λ (rows : List Row). IsTrueReport (seen c.args.sharing rows) c.args.workers text) c.into_rows.ensures.value report;
+      };
+      seeded = run.1;
+      noted = run.2;
+    }) run.3) c.true_report.ensures.written
 
 pub returns-clause-refused : goal.returns-clause-refused
 returns-clause-refused g c =

@@ -2,6 +2,9 @@ use Rattle.std.proofs.Common.{ℕ, List, length, subst}
 use Rattle.boc_why.specs.Why.{IsWhy}
 use Rattle.boc_commands.proofs.why.told.Goals as goal
 
+pub why_text-requires-clause-adds_up : goal.why_text-requires-clause-adds_up
+why_text-requires-clause-adds_up g c = c.in_ok-why.ensures.why.profile.weight
+
 pub returns : goal.returns
 returns g c = record {
   why = c.in_ok-why.why;

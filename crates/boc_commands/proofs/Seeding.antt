@@ -1,0 +1,49 @@
+-- Where a draw runs out of room.
+use Rattle.std.proofs.Common.{ℕ, List, [], ◌∷◌, refl, sym, subst}
+use Rattle.boc_program.specs.declared.program.Program.{Program}
+use Rattle.boc_runs.specs.machine.Schedules.{Reaches, Here, Then}
+use Rattle.boc_runs.specs.machine.Steps.{State, opening_state}
+use Rattle.boc_runs.specs.machine.Turns.{Driven, Turns, opening_driven}
+use Rattle.boc_machine_laws.proofs.OneTurn.{turn_reaches}
+use Rattle.boc_dispatch.specs.Calls.{HasNoRoom}
+use Rattle.boc_dispatch.specs.Driving.{of_program}
+use Rattle.boc_draws.specs.Draws.{IsDraw, RunsOut}
+use Rattle.boc_draws.specs.declared.drawing.Drawn.{Drawn}
+use Rattle.boc_draws.specs.declared.way.Way.{Way}
+use Rattle.boc_draws.specs.declared.way.Way.TheVariants.{Uniform}
+use Rattle.boc_commands.specs.Promises.{IsRunOf}
+use Rattle.boc_commands.specs.Seeds.{IsDrawnBy}
+use Rattle.boc_draws.proofs.OneDraw.{are_turns}
+use Rattle.boc_workers.specs.Noting.{CanReachLimit}
+use Rattle.std.specs.Prelude.{Ok, Option, Some}
+
+-- steps behind other steps
+reaches_on : (p : Program) (s t u : State) → Reaches p s t → Reaches p t u → Reaches p s u
+reaches_on p s t u first Here = first
+reaches_on p s t u first (Then step v w more made) = Then step v u (reaches_on p s t v first more) made
+
+-- turns are steps
+pub turns_reach : (p : Program) (d e : Driven) (workers : List ℕ) → Turns p d workers e → Reaches p d.state e.state
+turns_reach p d e [] same = subst (λ (z : Driven). Reaches p d.state z.state) (sym same) Here
+turns_reach p d e (worker ∷ workers) (next, one, more) =
+    reaches_on p d.state next.state e.state (turn_reaches p d.state one.before next.state one.after one.takes) (turns_reach p next e workers more)
+
+-- the row that has no room is a row
+some_row : (p : Program) (s : State) (row : Option ℕ) → HasNoRoom (of_program p s) row → (r : ℕ) × HasNoRoom (of_program p s) (Some r)
+some_row p s row full = (full.served, subst (HasNoRoom (of_program p s)) full.serves full)
+
+-- a draw that runs out of room comes to as many behaviours as there may be, with one more due
+pub runs_out : (p : Program) (workers : ℕ) (way : Way) (seed : ℕ) → RunsOut p workers way seed → CanReachLimit p
+runs_out p workers way seed out = record {
+  state = out.before.state;
+  reached = ∣ turns_reach p (opening_driven p workers) out.before out.choices (are_turns p _ _ out.choices out.before out.later out.turns) ∣₁;
+  full = ∣ some_row p out.before.state out.row out.full ∣₁;
+}
+
+-- what is drawn is the record of a run of the program
+pub drawn_run : (p : Program) (workers : ℕ) (way : Way) (seed : ℕ) (drawn : Drawn) → IsDraw p workers way seed (Ok drawn) → IsRunOf p drawn.record
+drawn_run p workers way seed drawn is = record { run = is.run; whole = is.whole; ends = is.ends }
+
+-- and the one that the seed draws
+pub drawn_by : (p : Program) (workers seed : ℕ) (drawn : Drawn) → IsDraw p workers Uniform seed (Ok drawn) → IsDrawnBy p workers seed drawn.record
+drawn_by p workers seed drawn is = record { drawn = drawn; is = is; same = refl }

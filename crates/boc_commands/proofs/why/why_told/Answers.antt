@@ -1,0 +1,27 @@
+use Rattle.std.proofs.Common.{List, ◌≡◌, ℕ, subst}
+use Rattle.boc_runs.specs.declared.rows.Row.{Row}
+use Rattle.boc_names.specs.Names.{texts_of}
+use Rattle.boc_commands.specs.Notes.{AreWanted, notes_of_rows}
+use Rattle.boc_commands.specs.WhyAnswers.{IsTold}
+use Rattle.boc_commands.proofs.why.why_told.Goals as goal
+
+pub returns : goal.returns
+returns g c =
+    let has = c.in_ok-run.ensures.0 in
+    let names = c.in_ok-run.run'.names in
+    let noted = subst (λ called. AreWanted c.args.quiet (λ told. told ≡ notes_of_rows (texts_of called) has.recorded.rows) c.in_ok-notes.notes.items)
+    c.deref.ensures.value
+    (subst (λ (rows : List Row). AreWanted c.args.quiet (λ told. told ≡ notes_of_rows (texts_of c.deref.result.now) rows) c.in_ok-notes.notes.items)
+    has.rows_are c.in_ok-notes.ensures) in (
+      record {
+        answer = record {
+          recorded = has.recorded;
+          names = names;
+          named = has.named;
+          told = subst (λ (rows : List Row). IsTold rows names c.args.sharing c.args.workers c.args.all c.in_ok-text.text.items) has.rows_are
+              c.in_ok-text.ensures;
+        };
+        noted = noted;
+      },
+      c.in_ok-run.ensures.1,
+    )

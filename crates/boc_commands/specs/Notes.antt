@@ -1,0 +1,87 @@
+-- What is noted of behaviours that ended by a fault, beside what a command answers.
+use Rattle.std.specs.Prelude.{◌≡◌, ◌⊎◌, ℕ, ℤ, Bool, true, false, List, [], ◌∷◌, map, Option, codes}
+use Rattle.boc_program.specs.declared.program.Program.{Program}
+use Rattle.boc_eval.specs.Faulted.{EndsAs, FaultedRow}
+use Rattle.boc_reader.specs.Listed.{ListsDefs}
+use Rattle.boc_reader.specs.Spells.{Spells}
+use Rattle.boc_reader.specs.declared.listing.DefListing.{DefListing}
+use Rattle.boc_runs.specs.declared.rows.Row.{Row}
+use Rattle.boc_runs.specs.Records.{Recorded}
+use Rattle.boc_plans.specs.declared.sharing.Sharing.{Sharing}
+use Rattle.boc_names.specs.declared.names.Names.{Names}
+use Rattle.boc_names.specs.Names.{Text, named_cowns, texts_of}
+use Rattle.boc_notes.specs.Notes.{faulted_rows, note_of_behaviour, note_of_row, notes_text}
+use Rattle.boc_words.specs.declared.asked.RunFile.{RunFile}
+use Rattle.boc_commands.specs.Answers.{IsProfileAnswer, IsValuesAnswer}
+use Rattle.boc_commands.specs.Beside.{IsValuesAfterAnswer}
+use Rattle.boc_commands.specs.CownsAnswers.{IsCownsAnswer}
+use Rattle.boc_commands.specs.NamedRuns.{IsRunGiven, IsRunNamed}
+use Rattle.boc_commands.specs.Promises.{IsRunAnswer, IsTimeAnswer}
+use Rattle.boc_commands.specs.Seeds.{IsSeededText}
+use Rattle.boc_commands.specs.WhyAnswers.{IsWhyAnswer}
+
+-- ---- the notes
+
+-- where quiet is wanted there are no notes, and else they are such
+abbrev pub AreWanted : Bool → (Text → Type 0) → Text → Type 0
+AreWanted true AreNotes notes = notes ≡ []
+AreWanted false AreNotes notes = AreNotes notes
+
+-- the notes on rows that are called so: those that ended by a fault
+abbrev pub notes_of_rows : List Text → List Row → Text
+notes_of_rows called rows = notes_text (map (note_of_row called rows) (faulted_rows rows))
+
+-- the notes on the rows of a run, by such names; where no row ended by a fault there are none
+abbrev pub AreNamedNotes : (Names → Type 0) → List Row → Text → Type 0
+AreNamedNotes Named rows notes =
+    ((faulted_rows rows ≡ []) × (notes ≡ []))
+    ⊎ ((names : Names) × Named names × (notes ≡ notes_of_rows (texts_of names.rows.items) rows))
+
+-- the notes on the behaviours of the serial run of the program that a text spells, called as in the text
+pub record AreSerialNotes (text notes : Text) : Type 0 where
+  pub program : Program
+  pub spells : Spells text program
+  pub defs : List DefListing
+  pub lists : ListsDefs text defs
+  pub values : List ℤ
+  pub faulted : List FaultedRow
+  pub ends : EndsAs program values faulted
+  pub notes_are : notes ≡ notes_text (map (note_of_behaviour (codes "main" ∷ map (λ d. d.name) defs) (named_cowns program.cowns)) faulted)
+
+-- ---- what commands tell, the notes and then the answer to an input
+
+-- the values after the serial run, and the notes on it
+abbrev pub TellsValues : Bool → Text → Text → Text → Type 0
+TellsValues quiet notes input output = IsValuesAnswer input output × AreWanted quiet (AreSerialNotes input) notes
+
+-- the values after the run whose record is in a file, and the notes on it, its rows called as in the program's text
+pub record TellsValuesAfter (beside : Text) (quiet : Bool) (notes input output : Text) : Type 0 where
+  pub answer : IsValuesAfterAnswer beside input output
+  pub noted : AreWanted quiet (AreNamedNotes (IsRunGiven input beside answer.recorded) answer.recorded.rows) notes
+
+-- the record of a run, which is that drawn by a seed where one was given, and the notes on it, its rows called as in the program's text
+pub record TellsRun (workers : ℕ) (seed : Option ℕ) (quiet : Bool) (notes input output : Text) : Type 0 where
+  pub answer : IsRunAnswer input output
+  pub seeded : IsSeededText input workers seed answer.recorded
+  pub noted : AreWanted quiet (AreNamedNotes (IsRunNamed input answer.recorded) answer.recorded.rows) notes
+
+-- the report on such a run, and the same notes on it
+pub record TellsTime (workers : ℕ) (seed : Option ℕ) (sharing : Sharing) (asked : Option ℕ) (quiet : Bool) (notes input output : Text) : Type 0 where
+  pub answer : IsTimeAnswer sharing asked input output
+  pub seeded : IsSeededText input workers seed answer.recorded
+  pub noted : AreWanted quiet (AreNamedNotes (IsRunNamed input answer.recorded) answer.recorded.rows) notes
+
+-- the report on a record, and the notes on its rows, which have no names
+pub record TellsProfile (sharing : Sharing) (asked : Option ℕ) (quiet : Bool) (notes input output : Text) : Type 0 where
+  pub answer : IsProfileAnswer sharing asked input output
+  pub noted : AreWanted quiet (λ told. told ≡ notes_of_rows [] answer.recorded.rows) notes
+
+-- why the rows of a run take as long as they do, and the notes on them, by their names
+pub record TellsWhy (sharing : Sharing) (workers : Option ℕ) (all quiet : Bool) (file : Option RunFile) (bytes notes input output : Text) : Type 0 where
+  pub answer : IsWhyAnswer sharing workers all file bytes input output
+  pub noted : AreWanted quiet (λ told. told ≡ notes_of_rows (texts_of answer.names.rows.items) answer.recorded.rows) notes
+
+-- the cowns of a run, and the same notes on its rows
+pub record TellsCowns (sharing : Sharing) (top : Option ℕ) (quiet : Bool) (file : Option RunFile) (bytes notes input output : Text) : Type 0 where
+  pub answer : IsCownsAnswer sharing top file bytes input output
+  pub noted : AreWanted quiet (λ told. told ≡ notes_of_rows (texts_of answer.names.rows.items) answer.recorded.rows) notes

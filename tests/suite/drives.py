@@ -95,7 +95,7 @@ def fault_of_refusals(answers, library, source, whole, wants):
             return f"with request {request} refused: it did not end in {SECONDS} seconds"
         if answer.status == 0 and answer.output in wants:
             told += 1
-        elif answer != done(whole) and not is_refused_around_it(answer, whole):
+        elif fault_of(done(whole), answer) and not is_refused_around_it(answer, whole):
             return f"with request {request} refused: {fault_of(done(whole), answer)}"
     return f"it makes more than {MOST_REQUESTS} requests"
 

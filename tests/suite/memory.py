@@ -7,9 +7,11 @@ import tempfile
 
 from . import model
 from .hot_cowns import cowns_text
+from .notes import FAULTS, NOTED, RECORD as FAULTED, RECORD_NOTED
+from .programs import Program, RunNames, follow, serial_run
 from .records import fan, fan_text
 from .running import MEMORY, Answer, done, fault_of, refused
-from .why import Names, TRANSFER, why
+from .why import Names, TRANSFER, rows_of, why
 from .worked import CURVE, GREEDY, PROFILE, SHORTER, SHORTER_GREEDY, VALUES, WITHOUT_A
 
 # What the transfer comes to without `a`: main leads to move, and that hands b to add.
@@ -42,6 +44,12 @@ def many(; x) { repeat 300 { when one(1; x); } }
 main { when all(1, 2, 3, 4, 5, 6, 7, 8; c[7], c[6], c[5], c[4], c[3], c[2], c[1], c[0]); when many(; d); }
 """
 
+# Behaviours of one def over members of an array that follow each other, so that in `why` both stand together.
+FOLDED = b"""cown a[4] = 1; cown log = 0;
+def sum(k; x, y, z, all) { all = x + y + z + k; }
+main { let i = 0; repeat 5 { when sum(i; a[0], a[1], a[2], log); i = i + 1; } }
+"""
+
 # More behaviours than a run may have.
 FOREVER = b"def f(;) { when f(;); } main { when f(;); }"
 
@@ -56,6 +64,10 @@ def runs(program):
     yield ["whatif"], record, done(PROFILE.encode())
     yield ["run"], text, done(record)
     yield ["run", "--workers", "2"], text, None
+    yield ["run", "--seed", "9"], text, done(record)
+    yield ["run", "--workers", "4", "--seed", "9"], FAULTS, program.run(["run", "--workers", "4", "--seed", "9"], FAULTS)
+    yield ["values"], FAULTS, done(serial_run(Program(FAULTS), 65535).values_text(), NOTED)
+    yield ["profile"], FAULTED, done(program.run(["profile", "--quiet"], FAULTED).output, RECORD_NOTED)
     yield ["time", "--workers", "3", "--p", "2"], text, done((PROFILE + GREEDY).encode())
     yield ["time", "--workers", "2"], FULL, program.run(["time"], FULL)
     yield ["run", "--workers", "2"], b"main { x = 1; }", refused(3, "boc: line 1: 5 UnknownName")
@@ -74,6 +86,8 @@ def runs(program):
     yield ["sweep", "--spawns"], fan_text(3, MANY), done(model.spawn_sweep(MANY))
     yield ["why"], text, done(TRANSFER.encode())
     yield ["why"], fan_text(3, MANY), done(why(MANY, Names(len(MANY), 3)))
+    folded = program.run(["run"], FOLDED).output
+    yield ["why"], FOLDED, done(why(rows_of(folded)[0], RunNames(follow(Program(FOLDED), folded))))
     yield ["why", "--all"], record + b"x", refused(3, "boc: line 15: 12 After")
     beside, of_program = os.path.join(program.examples, "transfer.record"), os.path.join(program.examples, "transfer.boc")
     yield ["why", "--record", beside], text, done(TRANSFER.encode())
@@ -123,7 +137,7 @@ def build(library):
 def fault_of_refusals(program, library, words, source, expected):
     """Goes on to the number of the first request that the program doesn't make."""
     is_run = words[0] in ("why", "cowns") and not source.startswith(b"boc") and "--record" not in words
-    in_threads = words[0] in ("run", "time") or is_run
+    in_threads = words[0] in ("run", "time") and "--seed" not in words or is_run
     fault_of_whole = functools.partial(fault_of, expected) if expected else functools.partial(fault_of_transfer, program)
     told = []
     for request in range(1, MOST_REQUESTS):

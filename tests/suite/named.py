@@ -8,7 +8,7 @@ from .plans import random_rows, record_of
 from .running import done, fault_of, refused
 
 EXAMPLES = ["transfer.boc", "pipeline.boc", "bank.boc", "scaling.boc", "accounts.boc", "four_squares.boc", "peeks.boc", "two_orders.boc", "overflow.boc",
-            "same_cown_twice.boc", "anomaly_cown.boc", "anomaly_two_workers.boc"]
+            "same_cown_twice.boc", "anomaly_cown.boc", "anomaly_two_workers.boc", "philosophers.boc", "scoreboard.boc", "tree.boc", "division.boc"]
 
 # What is told of the cowns of these runs, by one thread.
 PIPELINE = """\
@@ -19,6 +19,25 @@ checker    12     12   138      49%       0      0      279
 store       6      6    48      17%       0      0      279
 span 279; by spawns alone 109; busiest cown 228
 load: pricer is held 228 of 279 ticks; split it, or shorten what holds it
+"""
+
+SCOREBOARD = """\
+cown       rows  wrote  held  of span  waited  chain  without
+best         50     12   472      98%    7892    463      207
+player[3]     4      4   166      34%       0      0      478
+player[1]     4      4   165      34%       0      0      478
+.. and 8 more cowns
+span 478; by spawns alone 207; busiest cown 472
+load: best is held 472 of 478 ticks; split it, or shorten what holds it
+with --shared-reads the span is 236: 38 of the 50 rows of best only read it
+"""
+
+TREE = """\
+cown      rows  wrote  held  of span  waited  chain  without
+node[20]     1      1    84      48%       0      0      174
+.. and 63 more cowns
+span 174; by spawns alone 141; busiest cown 84
+order: no cown is held over 48% of the span; the spawns alone need 141 of 174 ticks
 """
 
 
@@ -41,6 +60,8 @@ def cown_names(text):
 
 def cases(program):
     yield "pipeline.boc: cowns", fault_of(done(PIPELINE.encode()), program.run(["cowns"], program.example("pipeline.boc")))
+    yield "scoreboard.boc: cowns", fault_of(done(SCOREBOARD.encode()), program.run(["cowns", "--top", "3"], program.example("scoreboard.boc")))
+    yield "tree.boc: cowns", fault_of(done(TREE.encode()), program.run(["cowns", "--top", "1"], program.example("tree.boc")))
     for name in EXAMPLES:
         yield from of_example(program, name, program.example(name))
     chance = random.Random(42424242)

@@ -1,9 +1,11 @@
-"""Programs by chance: what is told of their runs in the names of their texts, beside what is worked out plainly from the text and the record."""
+"""Examples and programs by chance: what is told of their runs in the names of their texts, beside what is worked out plainly from the text and the record."""
+import os
 import random
 
 from . import why
 from .hot_cowns import cowns_text
-from .programs import RunNames, Strays, follow, serial_run
+from .notes import ends_of, notes_of
+from .programs import Program, RunNames, Strays, follow, serial_run
 from .random_programs import random_change, random_program, random_run
 from .running import done, fault_of, refused
 
@@ -14,21 +16,27 @@ MOST_TRIED = 100
 
 
 def cases(program):
+    for name in sorted(os.listdir(program.examples)):
+        if name.endswith(".boc"):
+            text = program.example(name)
+            for case, fault in Tested(program, random.Random(f"{SEED} {name}"), Program(text), text).cases(is_changed=False):
+                yield f"{name}: {case}", fault
     for number in range(PROGRAMS):
-        tested = Tested(program, random.Random(f"{SEED} {number}"))
-        for name, fault in tested.cases(is_changed=number % 10 == 0):
+        chance = random.Random(f"{SEED} {number}")
+        for name, fault in Tested(program, chance, *random_program(chance)).cases(is_changed=number % 10 == 0):
             yield f"random program {number}: {name}", fault
 
 
 class Tested:
-    """A program by chance."""
+    """A program, and what chance does with it."""
 
-    def __init__(self, program, chance):
-        self.program, self.chance = program, chance
-        self.model, self.text = random_program(chance)
+    def __init__(self, program, chance, model, text):
+        self.program, self.chance, self.model, self.text = program, chance, model, text
 
     def cases(self, is_changed):
-        yield "values", fault_of(done(serial_run(self.model, 65535).values_text()), self.program.run(["values"], self.text))
+        serial = serial_run(self.model, 65535)
+        noted = notes_of(serial.ends, RunNames(serial).rows)
+        yield "values", fault_of(done(serial.values_text(), noted), self.program.run(["values"], self.text))
         one, four = (self.program.run(["run", "--workers", workers], self.text).output for workers in ("1", "4"))
         by_chance = random_run(self.model, self.chance)
         for name, record in [("one worker", one), ("four workers", four), ("chance", by_chance)]:
@@ -42,12 +50,15 @@ class Tested:
     def of_run(self, name, record, run, is_by_one=False):
         """What is told of the program beside a record of this run. Without a record the run by one thread is told."""
         names, rows = RunNames(run), why.rows_of(record)[0]
+        noted = notes_of(ends_of(record), names.rows)
         yield f"{name}: check --program", fault_of(done(b"ok %d\n" % len(rows)), self.program.run_beside(["check"], "--program", self.text, record))
-        yield f"{name}: values --record", fault_of(done(run.values_text()), self.program.run_beside(["values"], "--record", record, self.text))
-        for command, told in [("why", why.why(rows, names)), ("cowns", cowns_text(record.decode(), names.cowns).encode())]:
-            yield f"{name}: {command} --record", fault_of(done(told), self.program.run_beside([command], "--record", record, self.text))
+        yield f"{name}: values --record", fault_of(done(run.values_text(), noted), self.program.run_beside(["values"], "--record", record, self.text))
+        for words, told in [(["why"], why.why(rows, names)), (["why", "--all"], why.why(rows, names, True)),
+                            (["cowns"], cowns_text(record.decode(), names.cowns).encode())]:
+            command = " ".join(words)
+            yield f"{name}: {command} --record", fault_of(done(told, noted), self.program.run_beside(words, "--record", record, self.text))
             if is_by_one:
-                yield command, fault_of(done(told), self.program.run([command], self.text))
+                yield command, fault_of(done(told, noted), self.program.run(words, self.text))
 
     def changed(self, record):
         """A record with a change at one place, such that it is the record of some run still."""

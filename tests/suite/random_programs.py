@@ -15,7 +15,7 @@ class Writer:
 
     def signature(self, name):
         values = ["n"] * self.is_lucky(0.6) + [f"p{number}" for number in range(self.chance.choice([0, 1, 1, 2]))]
-        return name, values, [f"x{number}" for number in range(self.chance.choice([0, 1, 1, 1, 2, 2, 3]))]
+        return name, values, [f"x{number}" for number in range(self.chance.choice([0, 1, 1, 1, 2, 2, 3, 4, 5]))]
 
     def is_lucky(self, share):
         return self.chance.random() < share
@@ -64,12 +64,21 @@ class Writer:
         arguments = [self.expression(names, 1) for _ in values]
         if "n" in values:
             arguments[0] = str(self.chance.randint(0, MOST_COUNTED)) if self.is_main else "n - 1"
-        refs = []
+        refs = self.members(len(cowns)) if self.is_lucky(0.3) else []
         while len(refs) < len(cowns):
             ref = self.ref(names)
             if ref not in refs or self.is_lucky(0.1):
                 refs.append(ref)
         return f"when {name}({', '.join(arguments)}; {', '.join(refs)});"
+
+    def members(self, most):
+        """At most so many members of an array that follow each other."""
+        arrays = [(name, size) for name, size in self.cowns if size]
+        if not arrays:
+            return []
+        name, size = self.chance.choice(arrays)
+        first = self.chance.randrange(size)
+        return [f"{name}[{member}]" for member in range(first, min(size, first + most))]
 
     def ref(self, names):
         name, size = self.chance.choice(self.cowns + [(held, None) for held in self.held])

@@ -5,26 +5,38 @@ A case is a name and a fault: None where it passed, else what was wrong.
 import os
 import subprocess
 import tempfile
-from typing import NamedTuple
+from typing import NamedTuple, Optional
 
 # A run that takes longer hangs. A sweep over as many rows as there may be takes the longest.
 SECONDS = 600
 
 
+# How a line begins that notes a behaviour which ended by a fault.
+NOTE = b"boc: note: "
+
+
 class Answer(NamedTuple):
+    """What came of a run. What it noted stands apart from its other lines on standard error; None is no matter of the test."""
     status: int
     output: bytes
     errors: bytes
+    notes: Optional[bytes] = None
 
 
-def done(output):
+def done(output, notes=None):
     """The answer of a run that did what it was asked for."""
-    return Answer(0, output, b"")
+    return Answer(0, output, b"", notes)
 
 
 def refused(status, line):
     """The answer of a run that told a fault by this line."""
-    return Answer(status, b"", line.encode() + b"\n")
+    return Answer(status, b"", line.encode() + b"\n", b"")
+
+
+def told(errors):
+    """What was written to standard error, and the notes of it."""
+    lines = errors.splitlines(keepends=True)
+    return [b"".join(line for line in lines if line.startswith(NOTE) is is_note) for is_note in (False, True)]
 
 
 MEMORY = refused(5, "boc: memory")
@@ -67,7 +79,7 @@ class Program:
             run = subprocess.run(command, stderr=subprocess.PIPE, timeout=timeout, **options)
         except subprocess.TimeoutExpired:
             return None
-        return Answer(run.returncode, run.stdout or b"", run.stderr)
+        return Answer(run.returncode, run.stdout or b"", *told(run.stderr))
 
 
 def fault_of(expected, answer):
@@ -76,7 +88,7 @@ def fault_of(expected, answer):
         return "it did not end in time"
     for part in Answer._fields:
         wanted, got = getattr(expected, part), getattr(answer, part)
-        if wanted != got:
+        if None not in (wanted, got) and wanted != got:
             return f"its {part}: {difference(wanted, got)}"
     return None
 

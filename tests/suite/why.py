@@ -241,14 +241,14 @@ BANK = """\
 rows 29   work 1001   span 827
 
 chain
-  tick  ticks     row  behaviour                                                               then
-     0     11       0  main                                                                    spawns row 1
-    11    360   1..12  12 transfer                                                             11 hand on log; the last hands acct[3] to row 13
-   371     32      13  audit(; acct[0], acct[1], acct[2], acct[3], acct[4], acct[5], total)    hands total to row 14
-   403     32      14  audit(; acct[6], acct[7], acct[8], acct[9], acct[10], acct[11], total)  hands acct[6] and acct[10] to row 15
-   435    328  15..25  11 transfer                                                             10 hand on log; the last hands acct[2] to row 27
-   763     32      27  audit(; acct[0], acct[1], acct[2], acct[3], acct[4], acct[5], total)    hands total to row 28
-   795     32      28  audit(; acct[6], acct[7], acct[8], acct[9], acct[10], acct[11], total)  ends
+  tick  ticks     row  behaviour                    then
+     0     11       0  main                         spawns row 1
+    11    360   1..12  12 transfer                  11 hand on log; the last hands acct[3] to row 13
+   371     32      13  audit(; acct[0..5], total)   hands total to row 14
+   403     32      14  audit(; acct[6..11], total)  hands acct[6] and acct[10] to row 15
+   435    328  15..25  11 transfer                  10 hand on log; the last hands acct[2] to row 27
+   763     32      27  audit(; acct[0..5], total)   hands total to row 28
+   795     32      28  audit(; acct[6..11], total)  ends
    827
 
 chain by def  ticks  rows        chain by link           ticks  links
@@ -271,6 +271,48 @@ candidates              span  less
   early spawns by main   817    10
   main at 1/2            822     5
 no order of these behaviours ends before 716: log is held so long
+"""
+
+# The meals hand on the count of all meals, each with another fork.
+PHILOSOPHERS = """\
+rows 31   work 1108   span 717
+
+chain
+  tick  ticks    row  behaviour     then
+     0      5      0  main          spawns row 1
+     5     27      1  think(0, 2;)  spawns row 6
+    32    685  6..30  15 eat        14 hand on meals; the last ends
+   717
+
+chain by def  ticks  rows        chain by link        ticks  links
+  eat           685    15          fork[1] and meals    137      3
+  think          27     1          fork[2] and meals    137      3
+  main            5     1          fork[3] and meals    137      3
+                                   fork[4] and meals    137      3
+                                   fork[0] and meals     92      2
+                                   end                   45      1
+                                   spawn by think        27      1
+                                   spawn by main          5      1
+candidates               span  less
+  eat at 1/2              377   340
+  early spawns by think   691    26
+  think at 1/2            704    13
+  early spawns by main    713     4
+  main at 1/2             715     2
+  without fork[*]         717     0
+  without meals           717     0
+no order of these behaviours ends before 685: meals is held so long
+"""
+
+# The chain of the tree: some of the joins hand on, each something else, and some spawn the next one.
+TREE_CHAIN = """\
+chain
+  tick  ticks     row  behaviour  then
+     0      2       0  main       spawns row 1
+     2    109   1..20  5 fork     4 spawn the next; the last spawns row 36
+   111     63  36..61  7 up       3 hand on, 3 spawn the next; the last ends
+   174
+
 """
 
 # The chain of the pipeline, each row on a line of its own.
@@ -331,14 +373,16 @@ def rows_of(record):
 
 
 def cases(program):
-    for name, expected in [("transfer.boc", TRANSFER), ("pipeline.boc", PIPELINE), ("bank.boc", BANK)]:
+    for name, expected in [("transfer.boc", TRANSFER), ("pipeline.boc", PIPELINE), ("bank.boc", BANK), ("philosophers.boc", PHILOSOPHERS)]:
         yield f"{name}: why", fault_of(done(expected.encode()), program.run(["why"], program.example(name)))
     whole = PIPELINE[:PIPELINE.index("chain\n")] + PIPELINE_CHAIN + PIPELINE[PIPELINE.index("\nchain by def"):]
     yield "pipeline.boc: why --all", fault_of(done(whole.encode()), program.run(["why", "--all"], program.example("pipeline.boc")))
+    tree = program.run(["why"], program.example("tree.boc"))
+    yield "tree.boc: why", None if TREE_CHAIN.encode() in tree.output else str(tree)
     shared = program.run(["why", "--shared-reads"], program.example("peeks.boc"))
     yield "peeks.boc: why --shared-reads", fault_of(done(PEEKS_SHARED.encode()), shared)
     for name in ["transfer.boc", "pipeline.boc", "bank.boc", "scaling.boc", "accounts.boc", "four_squares.boc", "two_orders.boc", "overflow.boc",
-                 "same_cown_twice.boc", "anomaly_cown.boc", "anomaly_two_workers.boc"]:
+                 "same_cown_twice.boc", "anomaly_cown.boc", "anomaly_two_workers.boc", "philosophers.boc", "scoreboard.boc", "tree.boc", "division.boc"]:
         yield from of_record(program, f"the record of {name}", program.run(["run"], program.example(name)).output)
     yield from of_record(program, "a fan", fan_text(3, fan(60, lambda number: (number % 3,), lambda number: 1 + number % 5)))
     yield from of_record(program, "a tower", tower_text(tower(40)))

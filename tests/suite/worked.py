@@ -10,12 +10,24 @@ VALUES = {
     "bank.boc": "acct[0] 191\nacct[1] 111\nacct[2] 53\nacct[3] 65\nacct[4] 190\nacct[5] 202\nacct[6] 110\nacct[7] 1\nacct[8] 101\n"
                 "acct[9] 112\nacct[10] 27\nacct[11] 37\nlog 24\ntotal 2400\n",
     "transfer.boc": "a 12\nb 4\n",
+    "division.boc": "a 1\n",
     "countdown.boc": "a 3\n",
     "four_squares.boc": "c[0] 1\nc[1] 4\nc[2] 9\nc[3] 16\n",
     "overflow.boc": "a 9223372036854775807\n",
+    "philosophers.boc": "fork[0] 6\nfork[1] 6\nfork[2] 6\nfork[3] 6\nfork[4] 6\nmeals 15\n",
     "pipeline.boc": "parser 12\nchecker 234\npricer 126\nstore 126\n",
     "same_cown_twice.boc": "a 10\nb 0\n",
     "scaling.boc": "log 24\n",
+    "scoreboard.boc": "player[0] 27\nplayer[1] 28\nplayer[2] 29\nplayer[3] 30\nplayer[4] 31\nplayer[5] 32\nplayer[6] 33\n"
+                      "player[7] 34\nplayer[8] 35\nplayer[9] 36\nbest 36\n",
+    "tree.boc": "node[0] 0\nnode[1] 376\nnode[2] 156\nnode[3] 220\nnode[4] 70\nnode[5] 86\nnode[6] 102\nnode[7] 118\n"
+                "node[8] 33\nnode[9] 37\nnode[10] 41\nnode[11] 45\nnode[12] 49\nnode[13] 53\nnode[14] 57\nnode[15] 61\n"
+                "node[16] 16\nnode[17] 17\nnode[18] 18\nnode[19] 19\nnode[20] 20\nnode[21] 21\nnode[22] 22\nnode[23] 23\n"
+                "node[24] 24\nnode[25] 25\nnode[26] 26\nnode[27] 27\nnode[28] 28\nnode[29] 29\nnode[30] 30\nnode[31] 31\n"
+                "need[0] 2\nneed[1] 0\nneed[2] 0\nneed[3] 0\nneed[4] 0\nneed[5] 0\nneed[6] 0\nneed[7] 0\nneed[8] 0\nneed[9] 0\n"
+                "need[10] 0\nneed[11] 0\nneed[12] 0\nneed[13] 0\nneed[14] 0\nneed[15] 0\nneed[16] 2\nneed[17] 2\nneed[18] 2\n"
+                "need[19] 2\nneed[20] 2\nneed[21] 2\nneed[22] 2\nneed[23] 2\nneed[24] 2\nneed[25] 2\nneed[26] 2\nneed[27] 2\n"
+                "need[28] 2\nneed[29] 2\nneed[30] 2\nneed[31] 2\n",
     "two_orders.boc": "a 2\nb 1\np 0\nq 0\n",
 }
 

@@ -1,0 +1,65 @@
+"""Runs that a seed draws: each is one of the program, the same each time, and of several seeds several are drawn."""
+import random
+
+from .programs import Program, follow
+from .random_programs import random_program
+from .running import done, fault_of, refused
+
+# Programs by chance, each from this seed and its number, and the seeds that draw their runs.
+SEED = 20261128
+PROGRAMS = 100
+SEEDS = ["0", "1", "7", "4294967296", "18446744073709551615"]
+WORKERS = ["1", "2", "4", "16"]
+
+# Two behaviours that nothing orders, each of which spawns one over `a`: which of these comes first is up to the seed.
+RACE = b"""cown a = 1; cown b = 0; cown c = 0;
+def add(; x) { x = x + 1; }
+def double(; x) { x = x * 2; }
+def left(; y) { when add(; a); }
+def right(; y) { work 1; when double(; a); }
+main { when left(; b); when right(; c); }
+"""
+ENDS = {b"a 4\nb 0\nc 0\n", b"a 3\nb 0\nc 0\n"}
+
+
+def cases(program):
+    for number in range(PROGRAMS):
+        chance = random.Random(f"{SEED} {number}")
+        model, text = random_program(chance)
+        seed, workers = chance.choice(SEEDS), chance.choice(WORKERS)
+        for name, fault in of_program(program, model, text, ["--workers", workers, "--seed", seed]):
+            yield f"random program {number}, {workers} workers, seed {seed}: {name}", fault
+    yield from race(program)
+    for words in (["--seed", "-1"], ["--seed", "18446744073709551616"], ["--seed", "x"], ["--seed"], ["--seed", "1", "--seed", "2"]):
+        for command in ("run", "time"):
+            answer = program.run([command, *words], RACE)
+            yield f"{command} {words}", None if answer.status == 2 and not answer.output else f"it was taken: {answer}"
+    yield "values --seed", None if program.run(["values", "--seed", "1"], RACE).status == 2 else "it was taken"
+    yield "a wrong text", fault_of(refused(3, "boc: line 1: 2 BadToken"), program.run(["run", "--seed", "1"], b"main { ? }"))
+    many = b"cown a = 0; def f(; x) { repeat 300 { when g(; a); } } def g(; x) { x = 1; } main { repeat 300 { when f(; a); } }"
+    yield "too many behaviours", fault_of(refused(4, "boc: run: 2 Behaviours"), program.run(["run", "--workers", "3", "--seed", "5"], many))
+
+
+def of_program(program, model, text, words):
+    """What is told of a program's run by a seed: the record is that of a run of it, and the same once more, and `time` tells of it."""
+    first = program.run(["run", *words], text)
+    yield "run", fault_of(done(first.output), first)
+    yield "once more", fault_of(first, program.run(["run", *words], text))
+    try:
+        run = follow(model, first.output)
+        yield "values --record", fault_of(done(run.values_text()), program.run_beside(["values"], "--record", first.output, text))
+    except Exception as strays:
+        yield "run", f"the record strays: {strays}"
+    yield "check --program", fault_of(done(b"ok %d\n" % first.output.count(b"+")), program.run_beside(["check"], "--program", text, first.output))
+    yield "time", fault_of(done(program.run(["profile"], first.output).output), program.run(["time", *words], text))
+
+
+def race(program):
+    """Both ends of a race are drawn, and by one worker one alone."""
+    for workers, count in (("1", 1), ("4", 2)):
+        ends = set()
+        for seed in range(60):
+            record = program.run(["run", "--workers", workers, "--seed", str(seed)], RACE).output
+            ends.add(program.run_beside(["values"], "--record", record, RACE).output)
+        is_so = len(ends) == count and ends <= ENDS
+        yield f"a race by {workers} workers", None if is_so else f"its ends are {ends}"

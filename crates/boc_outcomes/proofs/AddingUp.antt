@@ -1,5 +1,5 @@
 -- The runs of outcomes add up to the samples.
-use Rattle.std.proofs.Common.{◌≡◌, ◌≢◌, ℕ, zero, suc, ◌+◌, ◌<◌, List, [], ◌∷◌, length, arith, refl, sym, ap, ◌∙◌, Some, None, ℤ}
+use Rattle.std.proofs.Common.{◌≡◌, ◌≢◌, ℕ, zero, suc, ◌+◌, ◌<◌, List, [], ◌∷◌, length, arith, refl, sym, ap, ◌∙◌, Some, None}
 use Rattle.std.specs.Prelude.{slice_get}
 use Rattle.std.specs.List.{Contains, sum_by}
 use Rattle.std.proofs.lemmas.List.Elements.{Contains-append_right}
@@ -50,7 +50,8 @@ no_runs : (all : List Outcome) → sum_by (runs_of []) all ≡ 0
 no_runs [] = refl
 no_runs (o ∷ all) = omega (arith, sum_by-cons (runs_of []) o all, no_runs all)
 
-more_runs : (s : Sample) (samples : List Sample) (all : List Outcome) → sum_by (runs_of (s ∷ samples)) all ≡ sum_by (one_of s) all + sum_by (runs_of samples) all
+more_runs : (s : Sample) (samples : List Sample) (all : List Outcome)
+    → sum_by (runs_of (s ∷ samples)) all ≡ sum_by (one_of s) all + sum_by (runs_of samples) all
 more_runs s samples [] = refl
 more_runs s samples (o ∷ all) =
     let own : runs_of (s ∷ samples) o ≡ one_of s o + runs_of samples o = sum_by-cons (one_for o.values.items) s samples in

@@ -1,5 +1,5 @@
 -- How often values come, and where first, with one more sample.
-use Rattle.std.proofs.Common.{◌≡◌, ◌≢◌, ℕ, suc, ◌+◌, ◌<◌, ◌≤◌, List, [], ◌∷◌, ◌++◌, length, cond, arith, refl, sym, ap, subst, ◌∙◌, ⊎_elim, Some, ℤ, true, false}
+use Rattle.std.proofs.Common.{◌≡◌, ◌≢◌, ℕ, ◌+◌, ◌<◌, ◌≤◌, List, [], ◌∷◌, ◌++◌, length, cond, arith, refl, sym, ap, ◌∙◌, ⊎_elim, Some, ℤ, true, false}
 use Rattle.std.proofs.Common.{Decides, Bool}
 use Rattle.std.specs.Prelude.{slice_get}
 use Rattle.std.specs.Cmp.Lexicographic.{pointwise_decides}

@@ -1,8 +1,5 @@
 -- Examples of tallies, also of what is none.
-use Rattle.std.proofs.Common.{◌≡◌, ◌≢◌, ℕ, ◌^◌, ◌-◌, ◌≤◌, List, [], ◌∷◌, arith, refl, ap, Some, ℤ, pos}
-use Rattle.std.specs.Prelude.{slice_get}
-use Rattle.std.specs.List.{Contains}
-use Rattle.boc_outcomes.specs.declared.bounds.Bounds.{Bounds}
+use Rattle.std.proofs.Common.{◌≡◌, ◌^◌, ◌-◌, List, [], ◌∷◌, arith, refl, Some, pos}
 use Rattle.boc_outcomes.specs.Samples.{Sample, seed_of}
 use Rattle.boc_outcomes.specs.Tallies.{Any, AreBounds, IsFirstTo, runs_to, widened}
 

@@ -1,7 +1,6 @@
 -- What draws come to is a function of the program and of what is asked.
-use Rattle.std.proofs.Common.{◌≡◌, ℕ, zero, suc, ◌+◌, ◌<◌, List, [], ◌∷◌, length, map, arith, refl, sym, ap, subst, ◌∙◌, Some, None, ℤ}
+use Rattle.std.proofs.Common.{◌≡◌, ℕ, suc, ◌+◌, List, [], ◌∷◌, length, map, arith, refl, sym, ap, subst, ◌∙◌, Some, ℤ}
 use Rattle.std.specs.Prelude.{slice_get, Ok, Err}
-use Rattle.std.proofs.lemmas.Option.{slice_get_within}
 use Rattle.boc_program.proofs.ChangedItems.{item_at}
 use Rattle.boc_program.specs.declared.program.Program.{Program}
 use Rattle.boc_runs.specs.declared.event.Event.{Event}
@@ -15,11 +14,10 @@ use Rattle.boc_plans.specs.Seen.{seen}
 use Rattle.boc_order.proofs.Alone.{one_span}
 use Rattle.boc_rules.specs.Logged.{row_of}
 use Rattle.boc_rules.proofs.KeptRows.{rows_of_run}
-use Rattle.boc_rules.proofs.Lists.{one_got}
 use Rattle.boc_draws.specs.declared.drawing.Drawn.{Drawn}
 use Rattle.boc_draws.specs.declared.fault.DrawFault.TheVariants as faults
 use Rattle.boc_draws.specs.declared.way.Way.{Way}
-use Rattle.boc_draws.specs.Draws.{IsDraw, IsDrawn}
+use Rattle.boc_draws.specs.Draws.{IsDrawn}
 use Rattle.boc_draws.proofs.OneDraw.{drawn_or_full, one_drawn}
 use Rattle.boc_outcomes.specs.declared.asked.Asked.{Asked}
 use Rattle.boc_outcomes.specs.declared.tally.Outcome.{Outcome}

@@ -1,5 +1,5 @@
 -- The draws of a round, and the rounds of draws.
-use Rattle.std.proofs.Common.{◌≡◌, ℕ, zero, suc, ◌+◌, ◌-◌, ◌<◌, ◌≤◌, ◌⊎◌, List, [], ◌∷◌, ◌++◌, length, map, get_or, arith, refl, sym, ap, subst, ◌∙◌, inl, inr}
+use Rattle.std.proofs.Common.{◌≡◌, ℕ, zero, suc, ◌+◌, ◌-◌, ◌<◌, ◌≤◌, ◌⊎◌, List, [], ◌∷◌, ◌++◌, length, map, arith, refl, subst, inl, inr}
 use Rattle.std.proofs.Common.{Some, None, Ok, Err}
 use Rattle.std.specs.Prelude.{Option, MatchResult, IsSome, slice_get}
 use Rattle.std.specs.List.{AllZip, Contains, range_with_len}
@@ -16,7 +16,7 @@ use Rattle.boc_outcomes.specs.declared.asked.Asked.{Asked}
 use Rattle.boc_outcomes.specs.declared.bounds.Bounds.{Bounds}
 use Rattle.boc_outcomes.specs.declared.sampling.Sampled.{Sampled}
 use Rattle.boc_outcomes.specs.declared.tally.Tally.{Tally}
-use Rattle.boc_outcomes.specs.Samples.{AreSampled, AreSamples, EndsBy, IsRound, IsSampled, IsSampleOf, Sample, sample_of}
+use Rattle.boc_outcomes.specs.Samples.{AreSampled, AreSamples, IsRound, IsSampled, IsSampleOf, Sample, sample_of}
 use Rattle.boc_outcomes.specs.Tallies.{Any, AnswersAsked, AreBoundsIfAny, Tallies}
 
 -- ---- a round

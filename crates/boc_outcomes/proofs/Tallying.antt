@@ -11,10 +11,12 @@ use Rattle.boc_outcomes.proofs.Bounding.{bounds_more}
 
 -- ---- one more sample
 
-pub rows_more : (samples : List Sample) (s : Sample) (bounds : Option Bounds) → AreRows samples bounds → AreRows (samples ++ s ∷ []) (Some (widened bounds s.rows))
+pub rows_more : (samples : List Sample) (s : Sample) (bounds : Option Bounds) → AreRows samples bounds
+    → AreRows (samples ++ s ∷ []) (Some (widened bounds s.rows))
 rows_more samples s bounds are = bounds_more Any (λ (x : Sample). x.rows) samples s bounds are tt
 
-pub spans_more : (samples : List Sample) (s : Sample) (bounds : Option Bounds) → AreSpans samples bounds → AreSpans (samples ++ s ∷ []) (Some (widened bounds s.span))
+pub spans_more : (samples : List Sample) (s : Sample) (bounds : Option Bounds) → AreSpans samples bounds
+    → AreSpans (samples ++ s ∷ []) (Some (widened bounds s.span))
 spans_more samples s bounds are = bounds_more Any (λ (x : Sample). x.span) samples s bounds are tt
 
 -- a tally with one more sample, from its parts

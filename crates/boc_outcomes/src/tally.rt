@@ -1,6 +1,7 @@
 //! Which ends samples have, and how often.
 
-ghost use Rattle.std.specs.Prelude.{◌≡◌, ◌≢◌, ℕ, ◌+◌, ◌<◌, ◌≤◌, ℤ, List, [], ◌∷◌, ◌++◌, length, map, Some, IfNone, IfSome, IsSome, IsTrue, OnOk, ◌↔◌, slice_get};
+ghost use Rattle.std.specs.Prelude.{◌≡◌, ◌≢◌, ℕ, ◌+◌, ◌<◌, ◌≤◌, ℤ, List, [], ◌∷◌, ◌++◌, length, map, Some, slice_get};
+ghost use Rattle.std.specs.Prelude.{IfNone, IfSome, IsSome, IsTrue, OnOk, ◌↔◌};
 ghost use Rattle.std.specs.List.{Contains};
 ghost use Rattle.boc_outcomes.specs.declared.asked.TheConstants.{MOST_RUNS};
 ghost use Rattle.boc_outcomes.specs.Samples.{Sample, sample_of};

@@ -1,4 +1,4 @@
-use Rattle.std.proofs.Common.{◌≡◌, ◌∙◌, ◌++◌, ◌<◌, List, length, map, ap, subst, arith, ℕ}
+use Rattle.std.proofs.Common.{◌++◌, List, map, subst, arith}
 use Rattle.boc_outcomes.specs.declared.sampling.Sampled.{Sampled}
 use Rattle.boc_outcomes.specs.Samples.{Sample, sample_of}
 use Rattle.boc_outcomes.specs.Tallies.{Tallies}

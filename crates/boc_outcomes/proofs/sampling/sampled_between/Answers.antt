@@ -1,6 +1,6 @@
 use denote.Param.Send.{sendable}
 use Rattle.std.proofs.Crossing.{crosses}
-use Rattle.std.proofs.Common.{ℕ, ◌∙◌, List, subst, arith}
+use Rattle.std.proofs.Common.{ℕ, ◌∙◌, List, subst}
 use Rattle.std.specs.List.{AllZip}
 use Rattle.std.specs.declared.result.Result.{Result}
 use Rattle.rayon.specs.Numbers.{nat_range}

@@ -1,5 +1,4 @@
-use Rattle.std.proofs.Common.{rules, subst, sym}
-use Rattle.std.specs.Prelude.{Some}
+use Rattle.std.proofs.Common.{rules, subst}
 use Rattle.std.proofs.lemmas.List.Sorted.{answers_always}
 use Rattle.boc_outcomes.specs.declared.tally.Outcome.{Outcome}
 use Rattle.boc_outcomes.specs.Tallies.{AreRows, AreSpans}

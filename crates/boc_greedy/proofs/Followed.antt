@@ -14,7 +14,7 @@ pub other_test : (x r : ℕ) → (x ≡ r → ⊥) → nat_eq x r ≡ false
 other_test x r n = grind (arith, nat_tests)
 
 -- who stands in a list stands there at least once
-times_some : (r : ℕ) (xs : List ℕ) → Contains xs r → 0 < times r xs
+pub times_some : (r : ℕ) (xs : List ℕ) → Contains xs r → 0 < times r xs
 times_some r xs h =
     let one : 1 ≤ times r xs = rw (h.2, same_test r) at (get_or-le-sum_by (λ x. cond (nat_eq x r) 1 0) xs h.0 r h.1) in
     omega (arith, one)

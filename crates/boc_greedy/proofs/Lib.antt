@@ -30,3 +30,5 @@ pub mod Alike
 pub mod Forking
 pub mod Copying
 pub mod Renewing
+pub mod Transposed
+pub mod LeftOut

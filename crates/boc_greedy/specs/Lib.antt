@@ -11,3 +11,5 @@ pub mod Done
 pub mod Curves
 pub mod Known
 pub mod Courses
+pub mod Timed
+pub mod AnyCown

@@ -17,8 +17,9 @@ ghost use Rattle.boc_greedy.specs.Stepping.{IsSettled};
 use crate::children::{Change, next_changes};
 use crate::consequences::Consequences;
 use crate::entry::{greedy_end, latest_end};
-use crate::frontier::RowState;
+use crate::frontier::{Frontier, RowState};
 use crate::simulation::Simulation;
+use crate::timed::TimedRows;
 use boc_order::Links;
 use boc_plans::sharing::SeenRows;
 use boc_plans::workers::Workers;
@@ -51,16 +52,17 @@ pub fn course_to<'a>(
     requires consequences { AreConsequences rows.now waits.now consequences.now }
     ensures { IfOk result (λ course. IsCourse rows.now workers course) }
 {
+    let timed = TimedRows::all(rows);
+    let frontier = Frontier::new(alloc, &timed, waits, &consequences.followers)?;
     let mut simulation = Simulation::new(
         alloc,
-        rows,
-        waits,
-        &consequences.followers,
+        &timed,
+        frontier,
         &consequences.family,
         workers.number(),
     )?;
-    simulation.give_all(rows)?;
-    simulation.go_to(rows, tick)?;
+    simulation.give_all(&timed)?;
+    simulation.go_to(&timed, tick)?;
     Ok(Course { simulation })
 }
 
@@ -72,7 +74,7 @@ impl Course<'_> {
         requires course { (p : ℕ) × IsCourse rows.now p self.old }
         ensures { OnOk result ((p : ℕ) → IsCourse rows.now p self.old → IsCourse rows.now p self.new) }
     {
-        self.simulation.go_to(rows, tick)
+        self.simulation.go_to(&TimedRows::all(rows), tick)
     }
 
     /// The same course once more, which goes on by itself. `AllocError` says that memory was refused.
@@ -245,6 +247,7 @@ pub fn end_from(
     }
     let next = next_changes(alloc, &consequences.family, rows, changed, row, ticks)?;
     let mut fork = forked(alloc, simulation, rows, changed, &next, row, ticks)?;
-    fork.finish(changed)?;
-    Ok(latest_end(changed, &fork.starts))
+    let timed = TimedRows::all(changed);
+    fork.finish(&timed)?;
+    Ok(latest_end(&timed, &fork.starts))
 }

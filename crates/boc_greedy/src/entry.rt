@@ -1,21 +1,25 @@
 // The greedy plan as a whole.
 
-ghost use Rattle.std.specs.Prelude.{◌≡◌, ℕ, ◌^◌, ◌<◌, ◌≤◌, length, IfOk};
+ghost use Rattle.std.specs.Prelude.{◌≡◌, ℕ, ◌^◌, ◌<◌, ◌≤◌, ◌∷◌, length, pred, replicate, IfOk};
 ghost use Rattle.boc_runs.specs.Rows.{IsRows};
 ghost use Rattle.boc_plans.specs.Seen.{seen};
 ghost use Rattle.boc_plans.specs.Plans.{HasEnds, IsEnd, end_of, work_of};
 ghost use Rattle.boc_plans.specs.Greedy.{IsSpan};
 ghost use Rattle.boc_plans.specs.Sweeps.{IsGreedyEnd};
 ghost use Rattle.boc_order.specs.Waits.{AreWaits, AreFollowers};
+ghost use Rattle.boc_greedy.specs.declared.frontier.RowState.TheVariants.{Unspawned, Waiting};
 ghost use Rattle.boc_greedy.specs.Consequences.{AreConsequences};
 ghost use Rattle.boc_greedy.specs.Done.{IsDone};
 ghost use Rattle.boc_greedy.specs.Families.{IsFamilyOf};
+ghost use Rattle.boc_greedy.specs.Frontier.{IsFrontier};
 ghost use Rattle.boc_greedy.specs.Plans.{IsGreedyPlanOf};
 
 use crate::children::{Family, family_of};
 use crate::consequences::Consequences;
+use crate::frontier::Frontier;
 use crate::plan::Greedy;
 use crate::simulation::Simulation;
+use crate::timed::TimedRows;
 use boc_order::{Links, last_end, waits_and_plan};
 use boc_plans::sharing::{SeenRows, Sharing};
 use boc_plans::workers::Workers;
@@ -36,7 +40,7 @@ fn ends_of(alloc: Global, rows: &SeenRows, starts: &[u64]) -> Result<Vec<u64>, A
 }
 
 /// The tick at which a plan ends.
-pub fn latest_end(rows: &SeenRows, starts: &[u64]) -> u64
+pub fn latest_end(rows: &TimedRows, starts: &[u64]) -> u64
     requires some { 0 < length rows.now }
     requires whole { length starts.now ≡ length rows.now }
     requires low { (r : ℕ) → r < length rows.now → end_of rows.now starts.now r < 2 ^ 64 }
@@ -48,6 +52,28 @@ pub fn latest_end(rows: &SeenRows, starts: &[u64]) -> u64
         latest = end.max(latest);
     }
     latest
+}
+
+/// A simulation of p workers, from this frontier to its end.
+pub fn finished<'a>(
+    alloc: Global,
+    rows: &TimedRows,
+    frontier: Frontier<'a>,
+    family: &'a Family,
+    p: u32,
+) -> Result<Simulation<'a>, AllocError>
+    requires shape { IsRows rows.now }
+    requires frontier { IsFrontier rows.now frontier }
+    requires states { frontier.states.items ≡ Waiting ∷ replicate (pred (length rows.now)) Unspawned }
+    requires family { IsFamilyOf rows.now family.now }
+    requires some { 0 < p }
+    requires few { p ≤ 64 }
+    ensures { IfOk result (IsDone rows.now p) }
+{
+    let mut simulation = Simulation::new(alloc, rows, frontier, family, p)?;
+    simulation.give_all(rows)?;
+    simulation.finish(rows)?;
+    Ok(simulation)
 }
 
 // A simulation of p workers, to its end.
@@ -67,10 +93,9 @@ fn simulated<'a>(
     requires few { p ≤ 64 }
     ensures { IfOk result (IsDone rows.now p) }
 {
-    let mut simulation = Simulation::new(alloc, rows, waits, followers, family, p)?;
-    simulation.give_all(rows)?;
-    simulation.finish(rows)?;
-    Ok(simulation)
+    let timed = TimedRows::all(rows);
+    let frontier = Frontier::new(alloc, &timed, waits, followers)?;
+    finished(alloc, &timed, frontier, family, p)
 }
 
 /// The tick at which the greedy plan of the rows for p workers ends.
@@ -91,7 +116,7 @@ pub fn end_for(
     ensures { IfOk result (IsGreedyEnd rows.now p) }
 {
     let simulation = simulated(alloc, rows, waits, followers, family, p)?;
-    Ok(latest_end(rows, &simulation.starts))
+    Ok(latest_end(&TimedRows::all(rows), &simulation.starts))
 }
 
 /// The tick at which the greedy plan of the rows for p workers ends, for a caller who knows which rows they wait for, and which

@@ -4,15 +4,15 @@ ghost use Rattle.std.specs.Prelude.{◌≡◌, ℕ, ◌≤◌, ◌<◌, ◌↔�
 ghost use Rattle.boc_program.specs.declared.limits.TheConstants.{MOST_ROWS};
 ghost use Rattle.boc_runs.specs.declared.rows.Row.{Row};
 ghost use Rattle.boc_runs.specs.Rows.{IsRows};
-ghost use Rattle.boc_order.specs.Waits.{AreWaits, AreFollowers};
+ghost use Rattle.boc_order.specs.Waits.{AreWaits, AreFollowers, HaveFollowers};
 ghost use Rattle.boc_greedy.specs.declared.frontier.RowState.TheVariants.{Unspawned, Waiting, UnderWay, Over};
 ghost use Rattle.boc_greedy.specs.RowSets.{IsRowSet, Has};
 ghost use Rattle.boc_greedy.specs.RowStates.{IsAt, CanStart};
 ghost use Rattle.boc_greedy.specs.Frontier.{IsFrontier, CountsReady};
 
 use crate::row_set::RowSet;
-use boc_order::Links;
-use boc_plans::sharing::SeenRows;
+use crate::timed::TimedRows;
+use boc_order::{Links, times_linked};
 use std::alloc::{AllocError, Global};
 
 /// How far a row is.
@@ -45,7 +45,7 @@ impl<'a> Frontier<'a> {
     /// Main waits for a worker, and no other row is spawned. `AllocError` says that memory was refused.
     pub fn new(
         alloc: Global,
-        rows: &SeenRows,
+        rows: &TimedRows,
         waits: &Links,
         followers: &'a Links,
     ) -> Result<Frontier<'a>, AllocError>
@@ -72,6 +72,31 @@ impl<'a> Frontier<'a> {
         })
     }
 
+    /// The same for a caller who knows which rows wait for each row, and by how much: for each row it is counted for how many it waits.
+    /// `AllocError` says that memory was refused.
+    pub fn behind(
+        alloc: Global,
+        rows: &TimedRows,
+        followers: &'a Links,
+    ) -> Result<Frontier<'a>, AllocError>
+        requires shape { IsRows rows.now }
+        requires followers { HaveFollowers rows.now followers.now }
+        ensures kept { IfOk result (λ f. IsFrontier rows.now f) }
+        ensures states { IfOk result (λ f. f.states.items ≡ Waiting ∷ replicate (pred (length rows.now)) Unspawned) }
+    {
+        let mut states = vec![in alloc; RowState::Unspawned; rows.len()]?;
+        states[0] = RowState::Waiting;
+        let unmet = times_linked(alloc, followers)?;
+        let mut ready = RowSet::new(alloc)?;
+        ready.insert(0);
+        Ok(Frontier {
+            followers,
+            states,
+            unmet,
+            ready,
+        })
+    }
+
     /// The same frontier once more. `AllocError` says that memory was refused.
     pub fn copied(&self, alloc: Global) -> Result<Frontier<'_>, AllocError>
         ensures kept { IfOk result (λ f. (rows : List Row) → IsFrontier rows self.now → IsFrontier rows f) }
@@ -86,7 +111,7 @@ impl<'a> Frontier<'a> {
     }
 
     /// The row is spawned.
-    pub fn spawn(&mut self, rows: &SeenRows, row: u32)
+    pub fn spawn(&mut self, rows: &TimedRows, row: u32)
         requires shape { IsRows rows.now }
         requires frontier { IsFrontier rows.now self.old }
         requires unspawned { IsAt self.old.states.items row Unspawned }
@@ -99,7 +124,7 @@ impl<'a> Frontier<'a> {
     }
 
     /// Starts the least of the rows that can start, if there is one.
-    pub fn start_least(&mut self, rows: &SeenRows) -> Option<u32>
+    pub fn start_least(&mut self, rows: &TimedRows) -> Option<u32>
         requires shape { IsRows rows.now }
         requires frontier { IsFrontier rows.now self.old }
         ensures kept { IsFrontier rows.now self.new }
@@ -115,7 +140,7 @@ impl<'a> Frontier<'a> {
     }
 
     /// A row that is under way ends.
-    pub fn end(&mut self, rows: &SeenRows, row: u32)
+    pub fn end(&mut self, rows: &TimedRows, row: u32)
         requires shape { IsRows rows.now }
         requires frontier { IsFrontier rows.now self.old }
         requires under_way { IsAt self.old.states.items row UnderWay }

@@ -4,6 +4,7 @@
 //! rows and of their cowns.
 #![tactic(auto)]
 
+mod any_cown;
 mod bits;
 mod children;
 mod consequences;
@@ -15,7 +16,9 @@ mod plan;
 mod points;
 mod row_set;
 mod simulation;
+mod timed;
 
+pub use any_cown::{AnyCown, greedy_end_without};
 pub use consequences::Consequences;
 pub use course::{Course, course_to, end_from};
 pub use entry::{greedy, greedy_end, greedy_over};

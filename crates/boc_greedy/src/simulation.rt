@@ -1,11 +1,12 @@
 // A simulation of workers, from one tick at which something changes to the next.
 
-ghost use Rattle.std.specs.Prelude.{◌≡◌, ℕ, ◌+◌, ◌<◌, ◌≤◌, [], length, IfOk, IfSome, IfNone, OnOk, true, false};
+ghost use Rattle.std.specs.Prelude.{◌≡◌, ℕ, ◌+◌, ◌<◌, ◌≤◌, [], ◌∷◌, length, pred, replicate, IfOk, IfSome, IfNone, OnOk, true, false};
 ghost use Rattle.std.specs.BinaryHeap.{heap_items};
 ghost use Rattle.boc_runs.specs.Rows.{IsRows};
-ghost use Rattle.boc_order.specs.Waits.{AreWaits, AreFollowers};
+ghost use Rattle.boc_greedy.specs.declared.frontier.RowState.TheVariants.{Unspawned, Waiting};
 ghost use Rattle.boc_greedy.specs.Done.{IsDone};
 ghost use Rattle.boc_greedy.specs.Families.{IsFamilyOf};
+ghost use Rattle.boc_greedy.specs.Frontier.{IsFrontier};
 ghost use Rattle.boc_greedy.specs.Queues.{IsQueue, IsIn, IsOnTop, IsPutOff};
 ghost use Rattle.boc_greedy.specs.Simulating.{later, IsLeastIdle, steps_of_all};
 ghost use Rattle.boc_greedy.specs.Stepping.{IsStepping, IsGiving, IsSettled, IsLow};
@@ -13,8 +14,7 @@ ghost use Rattle.boc_greedy.specs.Stepping.{IsStepping, IsGiving, IsSettled, IsL
 use crate::bits::{with_bit, without_bit};
 use crate::children::{Change, Family};
 use crate::frontier::Frontier;
-use boc_order::Links;
-use boc_plans::sharing::SeenRows;
+use crate::timed::TimedRows;
 use std::alloc::{AllocError, Global};
 use std::cmp::Reverse;
 use std::collections::BinaryHeap;
@@ -62,15 +62,14 @@ impl<'a> Simulation<'a> {
     /// Tick 0, where only main is spawned, and nothing has started.
     pub fn new(
         alloc: Global,
-        rows: &SeenRows,
-        waits: &Links,
-        followers: &'a Links,
+        rows: &TimedRows,
+        frontier: Frontier<'a>,
         family: &'a Family,
         p: u32,
     ) -> Result<Simulation<'a>, AllocError>
         requires shape { IsRows rows.now }
-        requires waits { AreWaits rows.now waits.now }
-        requires followers { AreFollowers waits.now followers.now }
+        requires frontier { IsFrontier rows.now frontier }
+        requires states { frontier.states.items ≡ Waiting ∷ replicate (pred (length rows.now)) Unspawned }
         requires family { IsFamilyOf rows.now family.now }
         requires some { 0 < p }
         requires few { p ≤ 64 }
@@ -79,7 +78,6 @@ impl<'a> Simulation<'a> {
     {
         let starts = vec![in alloc; LATER; rows.len()]?;
         let workers = vec![in alloc; 0; rows.len()]?;
-        let frontier = Frontier::new(alloc, rows, waits, followers)?;
         let first = Vec::from_slice(alloc, &family.first)?;
         Ok(Simulation {
             p,
@@ -96,7 +94,7 @@ impl<'a> Simulation<'a> {
     }
 
     // Gives the least row that can start to the least worker that is idle; false where no row can start.
-    fn give(&mut self, rows: &SeenRows, worker: u32) -> Result<bool, AllocError>
+    fn give(&mut self, rows: &TimedRows, worker: u32) -> Result<bool, AllocError>
         requires shape { IsRows rows.now }
         requires giving { IsGiving rows.now self.old }
         requires idle { IsLeastIdle self.old.idle worker }
@@ -121,7 +119,7 @@ impl<'a> Simulation<'a> {
     }
 
     /// Gives rows that can start to idle workers, until there are no more of the ones or the others.
-    pub fn give_all(&mut self, rows: &SeenRows) -> Result<(), AllocError>
+    pub fn give_all(&mut self, rows: &TimedRows) -> Result<(), AllocError>
         requires shape { IsRows rows.now }
         requires giving { IsGiving rows.now self.old }
         ensures workers { self.new.p ≡ self.old.p }
@@ -138,7 +136,7 @@ impl<'a> Simulation<'a> {
     }
 
     // What changes next for the row on top: it spawns its next child, or ends.
-    fn change(&mut self, rows: &SeenRows, row: u32)
+    fn change(&mut self, rows: &TimedRows, row: u32)
         requires shape { IsRows rows.now }
         requires stepping { IsStepping rows.now self.old }
         requires top { IsOnTop (heap_items self.old.queue) self.old.tick row }
@@ -173,7 +171,7 @@ impl<'a> Simulation<'a> {
     }
 
     /// All that changes at this tick.
-    pub fn change_all(&mut self, rows: &SeenRows)
+    pub fn change_all(&mut self, rows: &TimedRows)
         requires shape { IsRows rows.now }
         requires stepping { IsStepping rows.now self.old }
         requires low { IsLow rows.now self.old }
@@ -190,7 +188,7 @@ impl<'a> Simulation<'a> {
     }
 
     /// Goes to the tick at which something changes next, and makes the change for this row.
-    pub fn advance(&mut self, rows: &SeenRows, tick: u64, row: u32)
+    pub fn advance(&mut self, rows: &TimedRows, tick: u64, row: u32)
         requires shape { IsRows rows.now }
         requires settled { IsSettled rows.now self.old }
         requires top { IsOnTop (heap_items self.old.queue) tick row }
@@ -206,7 +204,7 @@ impl<'a> Simulation<'a> {
     }
 
     /// All that happens from here on before a tick.
-    pub fn go_to(&mut self, rows: &SeenRows, tick: u64) -> Result<(), AllocError>
+    pub fn go_to(&mut self, rows: &TimedRows, tick: u64) -> Result<(), AllocError>
         requires shape { IsRows rows.now }
         requires settled { IsSettled rows.now self.old }
         ensures workers { self.new.p ≡ self.old.p }
@@ -224,7 +222,7 @@ impl<'a> Simulation<'a> {
     }
 
     /// All that happens from here on.
-    pub fn finish(&mut self, rows: &SeenRows) -> Result<(), AllocError>
+    pub fn finish(&mut self, rows: &TimedRows) -> Result<(), AllocError>
         requires shape { IsRows rows.now }
         requires settled { IsSettled rows.now self.old }
         requires some { 0 < self.old.p }

@@ -1,5 +1,5 @@
 -- Rows that are ordered less, or spawned earlier, start no later.
-use Rattle.std.proofs.Common.{◌≡◌, ◌≢◌, ℕ, ◌+◌, ◌<◌, ◌≤◌, List, length, not, ap, sym, ◌∙◌, subst, inl, inr, arith}
+use Rattle.std.proofs.Common.{◌≡◌, ℕ, ◌<◌, ◌≤◌, List, length, not, sym, ◌∙◌, inl, inr, arith}
 use Rattle.std.specs.Prelude.{filter, ◌==◌, Bool}
 use Rattle.std.specs.List.{Contains}
 use Rattle.std.proofs.lemmas.Bool.{cases_eq}
@@ -10,7 +10,7 @@ use Rattle.boc_runs.specs.Rows.{offset_of, ticks_of}
 use Rattle.boc_runs.specs.Changes.{moved, without}
 use Rattle.boc_runs.proofs.Freeing.{length-without, parent_of-without, offset_of-without, ticks_of-without, cowns_of-without, written_of-without}
 use Rattle.boc_runs.proofs.Moving.{length-moved, parent_of-moved, ticks_of-moved, cowns_of-moved, written_of-moved, offset_of-moved_same, offset_of-moved_other}
-use Rattle.boc_plans.specs.Plans.{IsChild, ConflictOn, Ordered, Keeps, IsEarliest, IsEnd, start_of, end_of}
+use Rattle.boc_plans.specs.Plans.{ConflictOn, Ordered, Keeps, IsEarliest, start_of}
 use Rattle.boc_plans.specs.Greedy.{IsSpan}
 
 -- what is left of cowns is among them

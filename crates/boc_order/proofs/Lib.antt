@@ -11,3 +11,5 @@ pub mod Replacing
 pub mod Alone
 pub mod Weighing
 pub mod Fewer
+pub mod CownLinked
+pub mod LeftOut

@@ -50,6 +50,12 @@ pub record AreFollowers (waits followers : List (List ℕ)) : Type 0 where
   pub whole : length followers ≡ length waits
   pub same : (a b : ℕ) → a < length waits → times b (links_of followers a) ≡ times a (links_of waits b)
 
+-- for each row exactly those that wait for it
+pub record HaveFollowers (rows : List Row) (followers : List (List ℕ)) : Type 0 where
+  pub whole : length followers ≡ length rows
+  pub sound : (a b : ℕ) → Contains (links_of followers a) b → IsNear rows a b
+  pub complete : (a b : ℕ) → IsNear rows a b → Contains (links_of followers a) b
+
 -- the lists from one place on that end at these places
 abbrev pub lists_from : ℕ → List ℕ → List ℕ → List (List ℕ)
 lists_from begin [] list = []

@@ -38,7 +38,7 @@ pub(crate) fn unused(alloc: Global) -> Result<Vec<Use>, AllocError>
 
 // Adds the rows for which a row waits on one of its cowns: to write it the readers, and where there are none, or to
 // read it, the writer.
-fn add_waits(
+pub(crate) fn add_waits(
     rows: &SeenRows,
     row: usize,
     cown: HeldCown,
@@ -60,7 +60,12 @@ fn add_waits(
 }
 
 // Notes that a row uses one of its cowns.
-fn note_use(rows: &SeenRows, row: usize, cown: HeldCown, used: &mut Use) -> Result<(), AllocError>
+pub(crate) fn note_use(
+    rows: &SeenRows,
+    row: usize,
+    cown: HeldCown,
+    used: &mut Use,
+) -> Result<(), AllocError>
     requires shape { IsRows rows.now }
     requires there { row < length rows.now }
     requires own { Contains (cowns_of rows.now row) cown }

@@ -304,7 +304,7 @@ impl WhatIf {
     /// For each of so many cowns the end of the greedy plan that the rows would have for so many workers if that cown ordered nobody.
     /// `AllocError` says that memory was refused.
     ///
-    /// It makes a greedy plan for each cown, of a copy of the rows. Threads share out the cowns, and progress is told after each 16 of them.
+    /// It makes a greedy plan for each cown, and copies no row. Threads share out the cowns, and progress is told after each 16 of them.
     pub fn greedy_cown_sweep(
         &self,
         rt: &(impl Threads + Sync),
@@ -317,15 +317,8 @@ impl WhatIf {
         ensures sweep { IfOk result (λ ends. IsGreedyCownSweep (seen self.now.sharing self.now.rows) workers count ends.items) }
         ensures few { IfOk result (λ ends. length ends.items ≤ MOST_ROWS) }
     {
-        cown_ends(
-            rt,
-            alloc,
-            &self.rows,
-            self.sharing,
-            count,
-            workers,
-            progress,
-        )
+        let rows = SeenRows::new(&self.rows, self.sharing);
+        cown_ends(rt, alloc, &rows, count, workers, progress)
     }
 
     /// For each row the end of the greedy plan that the rows would have for so many workers if that row alone took the least ticks that it

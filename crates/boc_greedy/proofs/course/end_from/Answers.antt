@@ -14,15 +14,18 @@ greedy_end-requires-clause-waits c =
     subst (λ (xs : List Row). AreWaits xs c.args.waits.now) (sym c.requires.changed) (waits_stay _ _ _ _ c.requires.waits)
 
 pub finish-requires-clause-shape : goal.finish-requires-clause-shape
-finish-requires-clause-shape c = rw c.requires.changed (rows_edited _ c.requires.shape _ _ c.requires.fits)
+finish-requires-clause-shape c = rw (c.all-timed.ensures, c.requires.changed) (rows_edited _ c.requires.shape _ _ c.requires.fits)
 
 pub latest_end-requires-clause-some : goal.latest_end-requires-clause-some
 latest_end-requires-clause-some c =
     let shape : IsRows c.args.changed.now = rw c.requires.changed (rows_edited _ c.requires.shape _ _ c.requires.fits) in
-    shape.not_empty
+    rw c.all-timed.ensures shape.not_empty
 
 pub latest_end-requires-clause-low : goal.latest_end-requires-clause-low
 latest_end-requires-clause-low c =
     let shape : IsRows c.args.changed.now = rw c.requires.changed (rows_edited _ c.requires.shape _ _ c.requires.fits) in
-    let d = c.in_ok-finish.ensures in
-    rw c.deref-2.ensures.value (λ r h. omega (arith, d.low r h, shape.ticks_high r h))
+    let d = rw c.all-timed.ensures at c.in_ok-finish.ensures in
+    rw (c.deref-2.ensures.value, c.all-timed.ensures) (λ r h. omega (arith, d.low r h, shape.ticks_high r h))
+
+pub all-timed-requires : goal.all-timed-requires
+all-timed-requires c = rw c.requires.changed (rows_edited _ c.requires.shape _ _ c.requires.fits)

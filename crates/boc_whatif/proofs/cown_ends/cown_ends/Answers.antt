@@ -1,6 +1,5 @@
 use Rattle.std.proofs.Common.{◌≡◌, ℕ, List, ◌++◌, sym, ◌∙◌, ap, subst, arith}
 use Rattle.boc_runs.specs.declared.rows.Row.{Row}
-use Rattle.boc_plans.specs.Seen.{seen}
 use Rattle.boc_whatif.specs.Freed.{AreEndsWithout}
 use Rattle.boc_whatif.proofs.FreedEnds.{none_without, both_without, all_without}
 use Rattle.boc_whatif.proofs.cown_ends.cown_ends.Goals as goal
@@ -8,13 +7,13 @@ use Rattle.boc_whatif.proofs.cown_ends.cown_ends.Goals as goal
 pub loop-done-init : goal.loop-done-init
 loop-done-init g c = record {
   within = omega arith;
-  ends = none_without (seen c.args.sharing c.args.rows.now) c.args.workers c.in_ok-all.all.items c.in_ok-all.ensures.items;
+  ends = none_without c.args.rows.now c.args.workers c.in_ok-all.all.items c.in_ok-all.ensures.items;
 }
 
 pub loop-done-preserved : goal.loop-done-preserved
 loop-done-preserved g c =
     let i = c.loop-done.invariant in
-    let rows : List Row = seen c.args.sharing c.args.rows.now in
+    let rows : List Row = c.args.rows.now in
     let before : List ℕ = c.loop-done.all.items in
     let more : List ℕ = c.in_ok-ends.ends.items in
     let items : c.extend_from_slice.new.self.items ≡ before ++ more =
@@ -28,5 +27,5 @@ loop-done-preserved g c =
 pub returns : goal.returns
 returns g c =
     let i = c.loop-done.invariant in
-    all_without (seen c.args.sharing c.args.rows.now) c.args.workers c.loop-done.done c.args.count c.loop-done.all.items i.ends
+    all_without c.args.rows.now c.args.workers c.loop-done.done c.args.count c.loop-done.all.items i.ends
     (omega (arith, i.within, c.loop-done-test.false))

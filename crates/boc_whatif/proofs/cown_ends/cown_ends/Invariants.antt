@@ -1,5 +1,4 @@
 use Rattle.std.proofs.Common.{◌≤◌, ◌-◌}
-use Rattle.boc_plans.specs.Seen.{seen}
 use Rattle.boc_whatif.specs.Freed.{AreEndsWithout}
 use Rattle.boc_whatif.proofs.cown_ends.cown_ends.Given as goal
 
@@ -7,7 +6,7 @@ use Rattle.boc_whatif.proofs.cown_ends.cown_ends.Given as goal
 abbrev pub invariant-loop-done : goal.invariant-loop-done
 invariant-loop-done g l = record {
   within : l.done ≤ l.count;
-  ends : AreEndsWithout (seen l.sharing l.rows) l.workers 0 l.done l.all.items;
+  ends : AreEndsWithout l.rows l.workers 0 l.done l.all.items;
 }
 
 abbrev pub decreases-loop-done : goal.decreases-loop-done

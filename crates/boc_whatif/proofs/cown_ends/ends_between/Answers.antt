@@ -8,7 +8,6 @@ use Rattle.rayon.proofs.ToStd.{nat_range-All}
 use Rattle.boc_program.specs.declared.limits.TheConstants.{MOST_COWNS}
 use Rattle.boc_runs.specs.declared.rows.Row.{Row}
 use Rattle.boc_runs.specs.Changes.{without}
-use Rattle.boc_plans.specs.Seen.{seen}
 use Rattle.boc_plans.specs.Sweeps.{IsGreedyEnd}
 use Rattle.boc_plans.proofs.Numbered.{gathered}
 use Rattle.boc_whatif.proofs.FreedEnds.{stretch_without}
@@ -19,12 +18,12 @@ pub collect-requires-clause-ready : goal.collect-requires-clause-ready
 collect-requires-clause-ready g c κs within =
     let ends = c.into_par_iter.ensures in
     let inside = nat_range-All (λ (cown : ℕ). cown < MOST_COWNS) c.args.from c.args.to (λ cown low high. omega (arith, high, c.requires.few)) in
-    rw (c.map.ensures.base, c.map.ensures.f, c.with_min_len.ensures.base, ends.0, ends.1) (λ k d lt. (inside k d lt, λ y p. tt))
+    rw (c.map.ensures.base, c.map.ensures.f, c.with_min_len.ensures.base, ends.0, ends.1) (λ k d lt. ((inside k d lt, c.requires.shape, c.requires.known), λ y p. tt))
 
 pub returns : goal.returns
 returns g c =
     let ends = c.into_par_iter.ensures in
-    let rows : List Row = seen c.args.sharing c.args.rows.now in
+    let rows : List Row = c.args.rows.now in
     let p : ℕ = c.args.workers in
     let h = c.in_ok-collect.ensures in
     let chain = rw (c.map.ensures.base, c.map.ensures.f, c.with_min_len.ensures.base) at h.1 in

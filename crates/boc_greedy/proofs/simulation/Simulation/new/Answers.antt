@@ -19,16 +19,16 @@ returns-clause-giving c =
     (sym (c.in_ok-first.ensures.items ∙ c.deref.ensures.value))
     c.requires.family in
     record {
-      frontier = c.in_ok-frontier.ensures.kept;
-      kept = kept_first _ c.requires.shape _ later c.requires.few early _ _ _ _ _ _ _ _ _ starts workers c.in_ok-frontier.ensures.states family
+      frontier = c.requires.frontier;
+      kept = kept_first _ c.requires.shape _ later c.requires.few early _ _ _ _ _ _ _ _ _ starts workers c.requires.states family
           c.in_ok-with_capacity.ensures.items (all_set c.args.p c.requires.few) (others_clear c.args.p c.requires.few);
-      given = given_first _ c.requires.shape _ later c.requires.few early _ _ _ _ _ _ _ _ _ starts workers c.in_ok-frontier.ensures.states
+      given = given_first _ c.requires.shape _ later c.requires.few early _ _ _ _ _ _ _ _ _ starts workers c.requires.states
           family c.in_ok-with_capacity.ensures.items (all_set c.args.p c.requires.few) (others_clear c.args.p c.requires.few);
-      passed = passed_first _ c.requires.shape _ later c.requires.few early _ _ _ _ _ _ _ _ _ starts workers c.in_ok-frontier.ensures.states
+      passed = passed_first _ c.requires.shape _ later c.requires.few early _ _ _ _ _ _ _ _ _ starts workers c.requires.states
           family c.in_ok-with_capacity.ensures.items (all_set c.args.p c.requires.few) (others_clear c.args.p c.requires.few);
       are_timed = family.are_timed;
       are_next = rw c.deref-2.ensures.value family.are_next;
       queue = empty_queue _ c.in_ok-with_capacity.ensures.items c.in_ok-with_capacity.ensures.heap_order;
       counted = record { all = counts_first _ _; low = omega arith };
-      low = omega (arith, steps_first (length c.args.rows.now) _ c.requires.shape.not_empty c.in_ok-frontier.ensures.states);
+      low = omega (arith, steps_first (length c.args.rows.now) _ c.requires.shape.not_empty c.requires.states);
     }

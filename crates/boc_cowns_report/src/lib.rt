@@ -1,6 +1,7 @@
 //! What is told of the cowns that hold some rows back, in the names of their program.
 #![tactic(auto)]
 
+pub mod laws;
 mod lines;
 mod told;
 mod verdict;

@@ -60,7 +60,7 @@ count_new (n ∷ numbers) next left k count is = ⊎_elim
     (λ (new : (n ≡ next) × CountUp (suc next) numbers left). inr (new.0, count_new numbers (suc next) left k new.1 is))
     count
 
-count_rises : (numbers : List ℕ) (next left : ℕ) → CountUp next numbers left → next ≤ left
+pub count_rises : (numbers : List ℕ) (next left : ℕ) → CountUp next numbers left → next ≤ left
 count_rises [] next left e = omega (arith, e)
 count_rises (n ∷ numbers) next left count = ⊎_elim
     (λ (old : (n < next) × CountUp next numbers left). count_rises numbers next left old.1)

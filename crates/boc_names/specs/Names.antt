@@ -172,3 +172,12 @@ pub record AreNumbers (row_count cown_count : ℕ) (names : Names) : Type 0 wher
   pub cowns : texts_of names.cowns.items ≡ numbered_from (codes "cown ") 0 cown_count
   pub families : names.families.items ≡ numbers_from 0 cown_count
   pub family_names : texts_of names.family_names.items ≡ numbered_from (codes "cown ") 0 cown_count
+
+-- two call everything the same
+pub record CallTheSame (names other : Names) : Type 0 where
+  pub defs : names.defs.items ≡ other.defs.items
+  pub def_names : texts_of names.def_names.items ≡ texts_of other.def_names.items
+  pub rows : texts_of names.rows.items ≡ texts_of other.rows.items
+  pub cowns : texts_of names.cowns.items ≡ texts_of other.cowns.items
+  pub families : names.families.items ≡ other.families.items
+  pub family_names : texts_of names.family_names.items ≡ texts_of other.family_names.items

@@ -16,3 +16,5 @@ pub mod LeastSpawns
 pub mod RemedyRanking
 pub mod RemedyMarks
 pub mod WhyParts
+pub mod OneRemedy
+pub mod OneWhy

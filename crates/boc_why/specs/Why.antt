@@ -1,5 +1,5 @@
 -- Why some rows take as long as they do.
-use Rattle.std.specs.Prelude.{ℕ, List}
+use Rattle.std.specs.Prelude.{◌≡◌, ℕ, List}
 use Rattle.boc_runs.specs.declared.rows.Row.{Row}
 use Rattle.boc_plans.specs.declared.sharing.Sharing.{Sharing}
 use Rattle.boc_plans.specs.Greedy.{IsSpan}
@@ -26,3 +26,17 @@ pub record IsWhy (rows : List Row) (sharing : Sharing) (defs families : List ℕ
   pub candidates : AreCandidates rows sharing defs families (tried_of why.by_def.items why.by_link.items why.links.items handed) why.candidates.items
   pub spawns : IsSpan (without_cowns (seen sharing rows)) why.least.spawns
   pub busiest : IsBusiestOf (seen sharing rows) count why.least.busiest
+
+-- two say the same: in all that is told of them they are alike
+pub record SayTheSame (why other : Why) : Type 0 where
+  pub work : why.profile.work ≡ other.profile.work
+  pub starts : why.profile.starts.items ≡ other.profile.starts.items
+  pub ends : why.profile.ends.items ≡ other.profile.ends.items
+  pub span : why.profile.span ≡ other.profile.span
+  pub steps : why.profile.chain.steps.items ≡ other.profile.chain.steps.items
+  pub links : why.links.items ≡ other.links.items
+  pub by_def : why.by_def.items ≡ other.by_def.items
+  pub by_link : why.by_link.items ≡ other.by_link.items
+  pub candidates : why.candidates.items ≡ other.candidates.items
+  pub spawns : why.least.spawns ≡ other.least.spawns
+  pub busiest : why.least.busiest ≡ other.least.busiest

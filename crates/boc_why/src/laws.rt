@@ -1,5 +1,5 @@
-// Laws: shares add up to the weight of their chain, and there is one list of them; rows that spawn early are one list; and no order of the
-// cowns ends sooner than is told.
+// Laws: shares add up to the weight of their chain, and there is one list of them; rows that spawn early are one list; what is tried has one list of
+// candidates; rows have one answer; and no order of the cowns ends sooner than is told.
 
 ghost use Rattle.std.specs.Prelude.{◌≡◌, ℕ, List, length, ◌≤◌};
 ghost use Rattle.std.specs.List.{sum_by};
@@ -11,7 +11,13 @@ ghost use Rattle.boc_runs.specs.declared.rows.Row.{Row};
 ghost use Rattle.boc_runs.specs.Rows.{IsRows};
 ghost use Rattle.boc_plans.specs.Plans.{IsEnd};
 ghost use Rattle.boc_plans.specs.Greedy.{IsSpan};
+ghost use Rattle.boc_plans.specs.declared.sharing.Sharing.{Sharing};
+ghost use Rattle.boc_why.specs.declared.remedies.Candidate.{Candidate};
+ghost use Rattle.boc_why.specs.declared.remedies.Remedy.{Remedy};
+ghost use Rattle.boc_why.specs.declared.why.Why.{Why};
 ghost use Rattle.boc_why.specs.Causes.{AreSpawnedEarly};
+ghost use Rattle.boc_why.specs.Remedies.{AreCandidates};
+ghost use Rattle.boc_why.specs.Why.{IsWhy, SayTheSame};
 ghost use Rattle.boc_why.specs.Least.{KeepsApart, KeepsSpawns, load_of, without_cowns};
 
 /// The shares of a chain of which each step has a key add up to its weight.
@@ -30,6 +36,19 @@ pub fn shares_are_one()
 pub fn early_rows_are_one()
     ensures { (rows : List Row) (defs : List ℕ) (def : ℕ) (after other : List Row) → IsRows rows → AreSpawnedEarly rows defs def after
         → AreSpawnedEarly rows defs def other → after ≡ other }
+{}
+
+/// What is tried for some rows has one list of candidates at most: one span is left with each remedy, and of remedies that leave the same span the one
+/// that was tried first stands first.
+pub fn candidates_are_one()
+    ensures { (rows : List Row) (sharing : Sharing) (defs families : List ℕ) (tried : List Remedy) (candidates others : List Candidate)
+        → AreCandidates rows sharing defs families tried candidates → AreCandidates rows sharing defs families tried others → candidates ≡ others }
+{}
+
+/// Of some rows one thing is told at most: two whys say the same.
+pub fn rows_have_one_why()
+    ensures { (rows : List Row) (sharing : Sharing) (defs families : List ℕ) (count : ℕ) (why other : Why) → IsWhy rows sharing defs families count why
+        → IsWhy rows sharing defs families count other → SayTheSame why other }
 {}
 
 /// No plan that keeps the spawns of some rows, and keeps rows that conflict over a cown apart in whatever order, ends before the span of the rows

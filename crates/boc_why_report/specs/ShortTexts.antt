@@ -1,5 +1,5 @@
 -- What is told in short of some rows before and after they change.
-use Rattle.std.specs.Prelude.{◌-◌, ℕ, zero, suc, List, [], ◌∷◌, ◌++◌, cond, nat_lt, Option, Some, None, codes, decimal}
+use Rattle.std.specs.Prelude.{◌≡◌, ◌-◌, ℕ, zero, suc, List, [], ◌∷◌, ◌++◌, cond, nat_lt, Option, Some, codes, decimal}
 use Rattle.boc_table.specs.declared.side.Side.{Side}
 use Rattle.boc_table.specs.declared.side.Side.TheVariants.{Left, Right}
 use Rattle.boc_table.specs.Tables.{table_text}
@@ -64,3 +64,10 @@ chain_line names was now = codes "chain    " ++ heaviest_text names was ++ codes
 -- what is told in short of some rows before and after they change
 abbrev pub short_text : Names → Outcome → Outcome → Text
 short_text names was now = table_text short_sides (short_lines was now) ++ chain_line names was.by_def.items now.by_def.items
+
+-- two outcomes are the same in all that is told of them
+pub record ComeToTheSame (outcome other : Outcome) : Type 0 where
+  pub work : outcome.work ≡ other.work
+  pub span : outcome.span ≡ other.span
+  pub end : outcome.end ≡ other.end
+  pub by_def : outcome.by_def.items ≡ other.by_def.items

@@ -3,6 +3,7 @@
 
 mod chain;
 mod folded;
+pub mod laws;
 mod lists;
 mod short;
 mod told;

@@ -1,0 +1,65 @@
+-- What is told of the same cowns is the same, in names that call everything the same.
+use Rattle.std.proofs.Common.{◌≡◌, ◌-◌, ℕ, cond, List, [], ◌∷◌, ◌++◌, length, map, refl, Option}
+use Rattle.std.specs.Prelude.{codes, decimal, nat_lt}
+use Rattle.boc_plans.specs.declared.sharing.Sharing.{Sharing}
+use Rattle.boc_plans.specs.declared.sharing.Sharing.TheVariants.{Exclusive, SharedReads}
+use Rattle.boc_table.specs.Tables.{table_text}
+use Rattle.boc_names.specs.declared.names.Names.{Names}
+use Rattle.boc_names.specs.Names.{CallTheSame, text_at}
+use Rattle.boc_cowns.specs.declared.hot.HotCown.{HotCown}
+use Rattle.boc_cowns.specs.declared.hot.HotCowns.{HotCowns}
+use Rattle.boc_cowns_report.specs.CownsTexts.{busiest_text, cown_texts, cowns_head, cowns_sides, cowns_table, is_most, more_text, order_text, percent_text}
+use Rattle.boc_cowns_report.specs.CownsTexts.{readers_text, shared_text, span_text, spawns_text, told_of, verdict_text}
+
+module _ (a b : Names) (same : CallTheSame a b) (hot other : HotCowns) (span : hot.span ≡ other.span) (spawns : hot.spawns ≡ other.spawns)
+    (shared : hot.shared ≡ other.shared) (cowns : hot.cowns.items ≡ other.cowns.items) where
+  -- ---- the table
+
+  cown_same : (span : ℕ) (own : HotCown) → cown_texts a span own ≡ cown_texts b span own
+  cown_same span own = λ i. text_at (same.cowns i) own.cown ∷ decimal own.rows ∷ decimal own.wrote ∷ decimal own.held ∷ percent_text own.held span
+      ∷ decimal own.waited ∷ decimal own.chain ∷ decimal own.without ∷ []
+
+  table_same : (most : Option ℕ) → cowns_table a most hot ≡ cowns_table b most other
+  table_same most = λ i. table_text cowns_sides (cowns_head ∷ map (λ (own : HotCown). cown_same (span i) own i) (told_of most (cowns i)))
+
+  more_same : (most : Option ℕ) → more_text (length hot.cowns.items - length (told_of most hot.cowns.items))
+      ≡ more_text (length other.cowns.items - length (told_of most other.cowns.items))
+  more_same most = λ i. more_text (length (cowns i) - length (told_of most (cowns i)))
+
+  span_same : span_text hot ≡ span_text other
+  span_same = λ i. codes "span " ++ decimal (span i) ++ codes "; by spawns alone " ++ decimal (spawns i) ++ busiest_text (cowns i) ++ codes "\n"
+
+  -- ---- the verdict
+
+  spawns_same : spawns_text hot ≡ spawns_text other
+  spawns_same = λ i. codes "the spawns alone need " ++ decimal (spawns i) ++ codes " of " ++ decimal (span i) ++ codes " ticks"
+
+  order_same : order_text hot ≡ order_text other
+  order_same = λ i. cond (is_most (spawns i) (span i)) (spawns_same i) (codes "the order in which behaviours ask is what holds back")
+
+  verdict_same : (list : List HotCown) → verdict_text a hot list ≡ verdict_text b other list
+  verdict_same [] = λ i. codes "order: there is no cown; " ++ spawns_same i
+  verdict_same (own ∷ list) = λ i. cond (is_most own.held (span i))
+      (codes "load: " ++ text_at (same.cowns i) own.cown ++ codes " is held " ++ decimal own.held ++ codes " of " ++ decimal (span i)
+      ++ codes " ticks; split it, or shorten what holds it")
+      (codes "order: no cown is held over " ++ percent_text own.held (span i) ++ codes " of the span; " ++ order_same i)
+
+  -- ---- shared reads
+
+  readers_same : (list : List HotCown) → readers_text a list ≡ readers_text b list
+  readers_same [] = refl
+  readers_same (own ∷ list) = λ i. cond (nat_lt own.wrote own.rows)
+      (codes ": " ++ decimal (own.rows - own.wrote) ++ codes " of the " ++ decimal own.rows ++ codes " rows of " ++ text_at (same.cowns i) own.cown
+      ++ codes " only read it") []
+
+  shared_same : (sharing : Sharing) → shared_text a sharing hot ≡ shared_text b sharing other
+  shared_same Exclusive = λ i. cond (nat_lt (shared i) (span i))
+      (codes "with --shared-reads the span is " ++ decimal (shared i) ++ readers_same (cowns i) i ++ codes "\n") []
+  shared_same SharedReads = refl
+
+  pub one_text : (sharing : Sharing) (most : Option ℕ)
+      → cowns_table a most hot ++ more_text (length hot.cowns.items - length (told_of most hot.cowns.items)) ++ span_text hot
+      ++ verdict_text a hot hot.cowns.items ++ codes "\n" ++ shared_text a sharing hot
+      ≡ cowns_table b most other ++ more_text (length other.cowns.items - length (told_of most other.cowns.items)) ++ span_text other
+      ++ verdict_text b other other.cowns.items ++ codes "\n" ++ shared_text b sharing other
+  one_text sharing most = λ i. table_same most i ++ more_same most i ++ span_same i ++ verdict_same (cowns i) i ++ codes "\n" ++ shared_same sharing i

@@ -1,4 +1,4 @@
-//! How far a sweep is, told on standard error where that is a terminal.
+//! How far a sweep is, or how many runs are drawn, told on standard error where that is a terminal.
 
 use boc_commands::Progress;
 use std::io::IsTerminal;
@@ -10,7 +10,7 @@ const PAUSE: u64 = 100;
 // Goes back to the beginning of the line, and wipes it.
 const WIPE: &str = "\r\x1b[K";
 
-/// Tells how many rows or cowns are done of how many, and how long the rest may take. Where standard error is no terminal it tells nothing.
+/// Tells how many rows, cowns or runs are done of how many, and how long the rest may take. Where standard error is no terminal it tells nothing.
 #[derive(Drop)]
 pub(crate) struct Meter {
     rt: HostRuntime,

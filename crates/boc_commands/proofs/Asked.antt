@@ -28,7 +28,7 @@ use Rattle.boc_plans.specs.Greedy.{IsSpan}
 use Rattle.boc_plans.specs.Plans.{work_of}
 use Rattle.boc_greedy.specs.Curves.{IsCurve}
 use Rattle.boc_greedy.specs.declared.points.CurvePoint.{CurvePoint}
-use Rattle.boc_commands.specs.ValueTexts.{check_text}
+use Rattle.boc_commands.specs.CheckTexts.{check_text}
 use Rattle.boc_report.specs.Texts.{report_text, curve_text, sweep_lines}
 use Rattle.boc_runs.specs.Records.{Recorded}
 use Rattle.boc_record.specs.RecordTexts.{IsTextOf}

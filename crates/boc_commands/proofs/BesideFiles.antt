@@ -1,6 +1,5 @@
 -- What is told and refused of a file beside an input.
-use Rattle.std.proofs.Common.{Bool, map, ◌≡◌, ◌∙◌, ℕ, ◌+◌, ◌≤◌, List, length, Option, Some, Result, Ok, Err, MatchResult, Vec, refl, sym, ap, subst, ℤ}
-use Rattle.std.specs.Global.{Global}
+use Rattle.std.proofs.Common.{Bool, map, ◌≡◌, ◌∙◌, ℕ, ◌+◌, ◌≤◌, List, length, Option, Some, Result, Ok, Err, MatchResult, refl, sym, ap, subst, ℤ}
 use Rattle.std.specs.Result.{IsErrAnd}
 use Rattle.boc_text.specs.Streams.{ReadsWhole}
 use Rattle.boc_follow.specs.declared.stray.StrayFault.{StrayFault}
@@ -42,7 +41,8 @@ use Rattle.boc_commands.specs.Notes.{AreNamedNotes, AreWanted, TellsValuesAfter}
 use Rattle.boc_commands.proofs.Noting.{named_as, wanted_as}
 use Rattle.boc_commands.specs.Commands.{IsProgram, IsRecordRefusal}
 use Rattle.boc_commands.specs.Faults.{of_read_beside, of_record, of_record_beside, of_stray, of_stray_beside}
-use Rattle.boc_commands.specs.ValueTexts.{check_text, values_text}
+use Rattle.boc_ends_report.specs.ValueTexts.{values_text}
+use Rattle.boc_commands.specs.CheckTexts.{check_text}
 use Rattle.boc_commands.proofs.Asked.{told}
 
 -- ---- a file
@@ -186,15 +186,16 @@ pub answered_after : (beside text : List ℕ) (program : Program) (defs : List D
 answered_after beside text program defs quiet r (Ok told) spells lists tells is = (
   record {
     answer = record { program = program; recorded = r; of_run = record { spells = spells; tells = tells; run = is.0 }; text = is.1 };
-    noted = wanted_as quiet _ (AreNamedNotes (IsRunGiven text beside r) r.rows) told.notes.items (named_as _ (IsRunGiven text beside r) r.rows (λ names are. record {
-      program = program;
-      spells = spells;
-      defs = defs;
-      lists = lists;
-      text_of = tells;
-      run = is.0;
-      names_are = are;
-    })) is.2;
+    noted = wanted_as quiet _ (AreNamedNotes (IsRunGiven text beside r) r.rows) told.notes.items
+        (named_as _ (IsRunGiven text beside r) r.rows (λ names are. record {
+          program = program;
+          spells = spells;
+          defs = defs;
+          lists = lists;
+          text_of = tells;
+          run = is.0;
+          names_are = are;
+        })) is.2;
   },
   spells.short,
 )

@@ -1,5 +1,5 @@
 -- Runs that a file beside an input tells of, or names.
-use Rattle.std.proofs.Common.{◌≡◌, ◌∙◌, ℕ, inl, inr, List, Option, Some, Result, Ok, Err, refl, ap, sym, subst}
+use Rattle.std.proofs.Common.{◌≡◌, ◌∙◌, ℕ, inl, inr, List, Option, None, Some, Result, Ok, Err, refl, ap, sym, subst}
 use Rattle.std.specs.Prelude.{MatchResult, String}
 use Rattle.std.specs.Global.{Global}
 use Rattle.boc_program.specs.declared.program.Program.{Program}
@@ -11,6 +11,7 @@ use Rattle.boc_follow.specs.declared.stray.StrayFaultKind.TheVariants as strays
 use Rattle.boc_follow.specs.Strays.{Strays, Tells}
 use Rattle.boc_record.specs.RecordTexts.{IsTextOf}
 use Rattle.boc_words.specs.declared.asked.RunFile.{RunFile}
+use Rattle.boc_words.specs.declared.schedule.Schedule.{Schedule}
 use Rattle.boc_words.specs.declared.asked.RunFile.TheVariants as run_files
 use Rattle.boc_commands.specs.declared.fault.Fault.{Fault}
 use Rattle.boc_commands.specs.declared.fault.Fault.TheVariants as faults
@@ -20,7 +21,7 @@ use Rattle.boc_commands.specs.declared.fault.Want.TheVariants as wants
 use Rattle.boc_commands.specs.declared.named_run.NamedRun.{NamedRun}
 use Rattle.boc_commands.specs.Beside.{IsOfRecordFile}
 use Rattle.boc_commands.specs.Faults.{of_stray_beside}
-use Rattle.boc_commands.specs.NamedRuns.{AreRenamed, HasRun, IsNamedRun, IsOfGiven, IsOfNamedRun, IsOfRenamed, IsOwnRun, IsRefusedName}
+use Rattle.boc_commands.specs.NamedRuns.{AreRenamed, HasRun, IsNamedRun, IsOfGiven, IsOfNamedRun, IsOfOwn, IsOfRenamed, IsOwnRun, IsRefusedName}
 use Rattle.boc_commands.specs.NamedRuns.{IsRecordNumbered, IsRenamed, IsShort, ReadsNamed, ReadsRun, RefusesNamedRecord, RefusesRenamed}
 use Rattle.boc_words.specs.declared.asked.NamesFrom.{NamesFrom}
 use Rattle.boc_words.specs.declared.asked.NamesFrom.TheVariants as names_from
@@ -66,11 +67,12 @@ of_given_stray text file program recorded stray spells tells told = go stray.kin
     }
 
 -- a run with names that a file laid over its own, or why the file is none of names
-pub renamed_run : (always_on : Type 0) (text bytes file : List ℕ) (run : NamedRun) (result : Result NamedRun Fault) → HasRun (IsOwnRun text) run → IsShort text
+pub renamed_run : (always_on : Type 0) (schedule : Schedule) (text bytes file : List ℕ) (run : NamedRun) (result : Result NamedRun Fault)
+    → HasRun (IsOwnRun schedule text) run → IsShort text
     → file ≡ bytes → MatchResult result (IsRenamed file run) (IsRefusedName file run.names)
-    → MatchResult result (λ after. HasRun (λ recorded names. AreRenamed (λ base. IsOwnRun text recorded base) bytes names) after × IsShort text)
-    (IsOfRenamed always_on bytes text)
-renamed_run always_on text bytes file run (Ok after) has short same h =
+    → MatchResult result (λ after. HasRun (λ recorded names. AreRenamed (λ base. IsOwnRun schedule text recorded base) bytes names) after × IsShort text)
+    (IsOfRenamed always_on schedule bytes text)
+renamed_run always_on schedule text bytes file run (Ok after) has short same h =
     let own : IsRenamed bytes run after = subst (λ f. IsRenamed f run after) same h in (
       record {
         recorded = has.recorded;
@@ -80,22 +82,32 @@ renamed_run always_on text bytes file run (Ok after) has short same h =
       },
       short,
     )
-renamed_run always_on text bytes file run (Err fault) has short same h = go fault (subst (λ f. IsRefusedName f run.names fault) same h)
+renamed_run always_on schedule text bytes file run (Err fault) has short same h = go fault (subst (λ f. IsRefusedName f run.names fault) same h)
   where
-    go : (x : Fault) → IsRefusedName bytes run.names x → IsOfRenamed always_on bytes text x
+    go : (x : Fault) → IsRefusedName bytes run.names x → IsOfRenamed always_on schedule bytes text x
     go (faults.Input (inputs.Beside (files.Names r))) is =
         record { recorded = has.recorded; base = run.names; named = has.named; wrong = is.0; refusal = is.1 }
     go (faults.Means wants.Memory) is = elim (begins_or_not text) [ inl begins ↦ inl (begins, tt) | inr none ↦ inr (none, tt) ]
     go _ is = absurd is
 
 -- the same, of a file that is told to be one of names
-pub renamed_as : (always_on : Type 0) (text bytes file : List ℕ) (run : NamedRun) (result : Result NamedRun Fault) (asked : Option RunFile)
-    (named : RunFile) (path : String Global) → asked ≡ Some named → named ≡ run_files.Names path → HasRun (IsOwnRun text) run → IsShort text
+pub renamed_as : (always_on : Type 0) (schedule : Schedule) (text bytes file : List ℕ) (run : NamedRun) (result : Result NamedRun Fault)
+    (asked : Option RunFile)
+    (named : RunFile) (path : String Global) → asked ≡ Some named → named ≡ run_files.Names path → HasRun (IsOwnRun schedule text) run → IsShort text
     → file ≡ bytes → MatchResult result (IsRenamed file run) (IsRefusedName file run.names)
-    → MatchResult result (λ after. HasRun (IsNamedRun asked bytes text) after × IsShort text) (IsOfNamedRun always_on asked bytes text)
-renamed_as always_on text bytes file run result asked named path is_asked is_named has short same h =
-    subst (λ (o : Option RunFile). MatchResult result (λ after. HasRun (IsNamedRun o bytes text) after × IsShort text) (IsOfNamedRun always_on o bytes text))
-    (sym (is_asked ∙ ap Some is_named)) (renamed_run always_on text bytes file run result has short same h)
+    → MatchResult result (λ after. HasRun (IsNamedRun schedule asked bytes text) after × IsShort text) (IsOfNamedRun always_on schedule asked bytes text)
+renamed_as always_on schedule text bytes file run result asked named path is_asked is_named has short same h =
+    subst (λ (o : Option RunFile). MatchResult result (λ after. HasRun (IsNamedRun schedule o bytes text) after × IsShort text)
+    (IsOfNamedRun always_on schedule o bytes text))
+    (sym (is_asked ∙ ap Some is_named)) (renamed_run always_on schedule text bytes file run result has short same h)
+
+-- a run with no file beside it
+pub own_as : (always_on : Type 0) (schedule : Schedule) (text bytes : List ℕ) (result : Result NamedRun Fault) (asked : Option RunFile) → asked ≡ None
+    → MatchResult result (λ run. HasRun (IsOwnRun schedule text) run × IsShort text) (IsOfOwn always_on text)
+    → MatchResult result (λ run. HasRun (IsNamedRun schedule asked bytes text) run × IsShort text) (IsOfNamedRun always_on schedule asked bytes text)
+own_as always_on schedule text bytes result asked is h =
+    subst (λ (o : Option RunFile). MatchResult result (λ run. HasRun (IsNamedRun schedule o bytes text) run × IsShort text)
+    (IsOfNamedRun always_on schedule o bytes text)) (sym is) h
 
 -- ---- a record with names
 

@@ -7,9 +7,15 @@ pub mod Promised
 pub mod Passed
 pub mod Noting
 pub mod Seeding
+pub mod Drawing
+pub mod ComingBack
 pub mod OneProgram
 pub mod SameNames
 pub mod OneAnswer
+pub mod NoProgram
+pub mod OneNaming
+pub mod OneTold
+pub mod OneChange
 pub mod BesideFiles
 pub mod RunNames
 pub mod TakenRuns

@@ -1,5 +1,5 @@
 -- An input has one answer.
-use Rattle.std.proofs.Common.{◌≡◌, ℕ, List, [], ◌∷◌, ◌++◌, length, Option, Some, None, false, sym, ◌∙◌, ap, subst}
+use Rattle.std.proofs.Common.{◌≡◌, ℕ, List, [], ◌∷◌, ◌++◌, length, Option, Some, None, Ok, false, sym, ◌∙◌, ap, subst}
 use Rattle.boc_plans.specs.declared.edit.Edit.{Edit}
 use Rattle.boc_program.specs.declared.program.Program.{Program}
 use Rattle.boc_runs.specs.declared.rows.Row.{Row}
@@ -29,7 +29,8 @@ use Rattle.boc_commands.specs.WhatIfAnswers.{IsWhatIfAnswer}
 use Rattle.boc_commands.proofs.SameNames.{same_cowns, same_edits}
 use Rattle.boc_runs.specs.Run.{config_of}
 use Rattle.boc_why.specs.Causes.{without_all}
-use Rattle.boc_commands.specs.ValueTexts.{values_text, check_text}
+use Rattle.boc_ends_report.specs.ValueTexts.{values_text}
+use Rattle.boc_commands.specs.CheckTexts.{check_text}
 use Rattle.boc_report.specs.Texts.{report_text, greedy_text, curve_text, sweep_lines}
 use Rattle.boc_runs.proofs.Freeing.{rows_without}
 use Rattle.boc_runs.proofs.Scaling.{one_scaling}
@@ -43,6 +44,15 @@ use Rattle.boc_greedy.proofs.Alone.{one_greedy_plan}
 use Rattle.boc_greedy.proofs.Curving.{one_curve, one_greedy_cown_sweep, one_greedy_sweep}
 use Rattle.boc_whatif.proofs.Changing.{changed_rows}
 use Rattle.boc_reader.proofs.Spellings.{one_program}
+use Rattle.boc_draws.proofs.OneWay.{one_way}
+use Rattle.boc_draws.specs.declared.way.Way.{Way}
+use Rattle.boc_draws.specs.Ways.{IsWay}
+use Rattle.boc_outcomes.specs.Tallies.{AnswersAsked}
+use Rattle.boc_outcomes.proofs.OneSample.{same_outcomes}
+use Rattle.boc_ends_report.specs.OutcomeTexts.{outcomes_text}
+use Rattle.boc_ends_report.proofs.OneText.{one_text}
+use Rattle.boc_words.specs.declared.asked.AskedDraws.{AskedDraws}
+use Rattle.boc_commands.specs.OutcomesAnswers.{IsOutcomesAnswer, drawn_in}
 use Rattle.boc_commands.proofs.OneProgram.{same_program}
 
 one_greedy_part : (rows : List Row) → IsRows rows → (p : ℕ) (part other : List ℕ) → IsGreedyPart rows p part → IsGreedyPart rows p other → part ≡ other
@@ -187,3 +197,15 @@ one_sweep_answer sharing over input output other a b =
     one_swept (seen sharing b.recorded.rows) (rows_seen sharing b.recorded.rows (rows_are b.recorded b.spells.record_is)) b.recorded.cowns over a.ends b.ends
     (subst (λ (r : Recorded). AreSwept (seen sharing r.rows) r.cowns over a.ends) same a.sweep) b.sweep in
     a.text ∙ ap (sweep_lines (first_of over)) ends ∙ sym b.text
+
+pub one_outcomes_answer : (draws : AskedDraws) (input output other : List ℕ) → IsOutcomesAnswer draws input output → IsOutcomesAnswer draws input other
+    → output ≡ other
+one_outcomes_answer draws input output other a b =
+    let program : a.program ≡ b.program = same_program a.program b.program (one_program input a.program b.program a.spells b.spells) in
+    let way : a.way ≡ b.way = one_way b.program draws.workers draws.depth a.way b.way
+    (subst (λ (p : Program). IsWay p draws.workers draws.depth a.way) program a.is_way) b.is_way in
+    let ends : AnswersAsked b.program (drawn_in draws b.way) (Ok a.outcomes) =
+    subst (λ (w : Way). AnswersAsked b.program (drawn_in draws w) (Ok a.outcomes)) way
+    (subst (λ (p : Program). AnswersAsked p (drawn_in draws a.way) (Ok a.outcomes)) program a.ends) in
+    a.text ∙ ap (λ (p : Program). outcomes_text p.cowns draws.runs a.outcomes) program
+    ∙ one_text b.program.cowns draws.runs a.outcomes b.outcomes (same_outcomes b.program (drawn_in draws b.way) a.outcomes b.outcomes ends b.ends) ∙ sym b.text

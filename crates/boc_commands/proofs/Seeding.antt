@@ -1,8 +1,8 @@
 -- Where a draw runs out of room.
-use Rattle.std.proofs.Common.{ℕ, List, [], ◌∷◌, refl, sym, subst}
+use Rattle.std.proofs.Common.{◌≡◌, ℕ, List, [], ◌∷◌, refl, sym, subst}
 use Rattle.boc_program.specs.declared.program.Program.{Program}
 use Rattle.boc_runs.specs.machine.Schedules.{Reaches, Here, Then}
-use Rattle.boc_runs.specs.machine.Steps.{State, opening_state}
+use Rattle.boc_runs.specs.machine.Steps.{State}
 use Rattle.boc_runs.specs.machine.Turns.{Driven, Turns, opening_driven}
 use Rattle.boc_machine_laws.proofs.OneTurn.{turn_reaches}
 use Rattle.boc_dispatch.specs.Calls.{HasNoRoom}
@@ -12,10 +12,17 @@ use Rattle.boc_draws.specs.declared.drawing.Drawn.{Drawn}
 use Rattle.boc_draws.specs.declared.way.Way.{Way}
 use Rattle.boc_draws.specs.declared.way.Way.TheVariants.{Uniform}
 use Rattle.boc_commands.specs.Promises.{IsRunOf}
-use Rattle.boc_commands.specs.Seeds.{IsDrawnBy}
+use Rattle.boc_commands.specs.Schedules.{IsDrawnBy, IsScheduled, TellsOf}
+use Rattle.boc_runs.specs.Records.{Recorded}
+use Rattle.boc_words.specs.declared.schedule.Schedule.{Schedule}
+use Rattle.boc_words.specs.declared.schedule.Schedule.TheVariants.{Drawn as Draws}
+use Rattle.boc_draws.specs.Ways.{AnswersWay, IsWay}
+use Rattle.boc_draws.specs.declared.fault.DrawFault.{DrawFault}
+use Rattle.boc_draws.specs.declared.fault.DrawFault.TheVariants as faults
 use Rattle.boc_draws.proofs.OneDraw.{are_turns}
 use Rattle.boc_workers.specs.Noting.{CanReachLimit}
-use Rattle.std.specs.Prelude.{Ok, Option, Some}
+use Rattle.std.specs.Prelude.{IfErr, Ok, Err, Option, Some, None, Result}
+use Rattle.std.specs.Result.{IsErrAnd}
 
 -- steps behind other steps
 reaches_on : (p : Program) (s t u : State) → Reaches p s t → Reaches p t u → Reaches p s u
@@ -45,5 +52,33 @@ pub drawn_run : (p : Program) (workers : ℕ) (way : Way) (seed : ℕ) (drawn : 
 drawn_run p workers way seed drawn is = record { run = is.run; whole = is.whole; ends = is.ends }
 
 -- and the one that the seed draws
-pub drawn_by : (p : Program) (workers seed : ℕ) (drawn : Drawn) → IsDraw p workers Uniform seed (Ok drawn) → IsDrawnBy p workers seed drawn.record
-drawn_by p workers seed drawn is = record { drawn = drawn; is = is; same = refl }
+pub drawn_by : (p : Program) (workers seed : ℕ) (depth : Option ℕ) (way : Way) (drawn : Drawn) → IsWay p workers depth way
+    → IsDraw p workers way seed (Ok drawn) → IsDrawnBy p workers seed depth drawn.record
+drawn_by p workers seed depth way drawn is_way is = record {
+  way = way;
+  is_way = is_way;
+  drawn = drawn;
+  is = is;
+  same = refl;
+}
+
+-- what a draw's fault says
+pub draw_out : (p : Program) (workers : ℕ) (way : Way) (seed : ℕ) (fault : DrawFault) → IsDraw p workers way seed (Err fault) → TellsOf fault p
+draw_out p workers way seed faults.Behaviours out = runs_out p workers way seed out
+draw_out p workers way seed faults.Memory out = tt
+
+-- and that of the one that counts the steps of a way
+pub way_out : (p : Program) (workers : ℕ) (depth : Option ℕ) (fault : DrawFault) → AnswersWay p workers depth (Err fault) → TellsOf fault p
+way_out p workers None fault out = absurd out
+way_out p workers (Some depth) fault out = draw_out p workers Uniform 0 fault out
+
+-- what is said of a fault is said of it where it is passed on
+pub passed_fault : {A : Type 0} (p : Program) (result : Result A DrawFault) (fault : DrawFault) → IsErrAnd result (λ f. f ≡ fault) → TellsOf fault p
+    → IfErr result (λ f. TellsOf f p)
+passed_fault p (Ok done) fault h tells = absurd h
+passed_fault p (Err f) fault h tells = subst (λ (x : DrawFault). TellsOf x p) (sym h) tells
+
+-- the run that a schedule of a seed draws
+pub scheduled_as : (p : Program) (schedule : Schedule) (workers seed : ℕ) (depth : Option ℕ) (recorded : Recorded) → schedule ≡ Draws workers seed depth
+    → IsDrawnBy p workers seed depth recorded → IsScheduled p schedule recorded
+scheduled_as p schedule workers seed depth recorded is by = subst (λ (s : Schedule). IsScheduled p s recorded) (sym is) by

@@ -1,5 +1,6 @@
 -- What is taken of an input that is a program or a record, and what is refused of it.
-use Rattle.std.proofs.Common.{◌≡◌, ◌∙◌, ℕ, zero, suc, ◌+◌, ◌<◌, ◌≤◌, inl, inr, List, [], ◌∷◌, ◌++◌, length, Option, Some, None, Result, Ok, Err, refl, ap, sym, subst, arith}
+use Rattle.std.proofs.Common.{◌≡◌, ◌∙◌, ℕ, zero, suc, ◌+◌, ◌<◌, ◌≤◌, inl, inr, List, [], ◌∷◌}
+use Rattle.std.proofs.Common.{◌++◌, length, Option, Some, None, Result, Ok, Err, refl, ap, sym, subst, arith}
 use Rattle.std.proofs.Common.{◌⊎◌, Bool, true, false, true≢false, take}
 use Rattle.std.specs.Prelude.{codes}
 use Rattle.std.specs.Str.{bytes_eq}
@@ -19,6 +20,7 @@ use Rattle.boc_commands.specs.declared.fault.Fault.{Fault}
 use Rattle.boc_commands.specs.declared.fault.Fault.TheVariants as faults
 use Rattle.boc_commands.specs.Commands.{AnswersInput, IsRecordRefusal}
 use Rattle.boc_words.specs.declared.asked.RunFile.{RunFile}
+use Rattle.boc_words.specs.declared.schedule.Schedule.{Schedule}
 use Rattle.boc_commands.specs.NamedRuns.{BeginsRecord, IsCounted, IsOfNamedRun, IsOfRecord, IsShort, IsTaken, RefusesNamedRun, of_record_in_memory}
 use Rattle.boc_commands.proofs.Asked.{told}
 
@@ -89,14 +91,15 @@ answers_taken IsAnswer before after text made output taken short answer same = r
 -- ---- what is refused
 
 -- an input is refused for what was taken of it
-pub refused_named_run : (always_on : Type 0) (file : Option RunFile) (bytes : List ℕ) (result : Result (Unit {0}) Fault) (fault : Fault) (text : List ℕ)
-    (before after : Option (List ℕ)) → IsErrAnd result (λ f. f ≡ fault) → IsTaken before after text → IsOfNamedRun always_on file bytes text fault
-    → RefusesNamedRun always_on file bytes result before after
-refused_named_run always_on file bytes (Ok done) fault text before after h taken is = absurd h
-refused_named_run always_on file bytes (Err f) fault text before after h taken is =
-    subst (λ (x : Fault). RefusesNamedRun {A = Unit {0}} always_on file bytes (Err x) before after) (sym h) (go fault is)
+pub refused_named_run : (always_on : Type 0) (schedule : Schedule) (file : Option RunFile) (bytes : List ℕ) (result : Result (Unit {0}) Fault)
+    (fault : Fault) (text : List ℕ)
+    (before after : Option (List ℕ)) → IsErrAnd result (λ f. f ≡ fault) → IsTaken before after text → IsOfNamedRun always_on schedule file bytes text fault
+    → RefusesNamedRun always_on schedule file bytes result before after
+refused_named_run always_on schedule file bytes (Ok done) fault text before after h taken is = absurd h
+refused_named_run always_on schedule file bytes (Err f) fault text before after h taken is =
+    subst (λ (x : Fault). RefusesNamedRun {A = Unit {0}} always_on schedule file bytes (Err x) before after) (sym h) (go fault is)
   where
-    go : (x : Fault) → IsOfNamedRun always_on file bytes text x → RefusesNamedRun {A = Unit {0}} always_on file bytes (Err x) before after
+    go : (x : Fault) → IsOfNamedRun always_on schedule file bytes text x → RefusesNamedRun {A = Unit {0}} always_on schedule file bytes (Err x) before after
     go (faults.Means w) is = tt
     go _ is = (text, taken, is)
 

@@ -1,3 +1,2 @@
 pub mod BesideTransfer
-pub mod TransferValues
 pub mod SmallNames

@@ -16,7 +16,8 @@ use Rattle.boc_plans.specs.Seen.{seen}
 use Rattle.boc_plans.specs.declared.sweep.Sweep.{Sweep}
 use Rattle.boc_plans.specs.declared.sweep.Sweep.TheVariants.{Ticks, Cowns, Spawns}
 use Rattle.boc_plans.specs.Edits.{IsCownSweep, IsSpawnSweep, IsSweep}
-use Rattle.boc_commands.specs.ValueTexts.{values_text, check_text}
+use Rattle.boc_ends_report.specs.ValueTexts.{values_text}
+use Rattle.boc_commands.specs.CheckTexts.{check_text}
 use Rattle.boc_report.specs.Texts.{report_text, greedy_text, curve_text, sweep_lines}
 use Rattle.boc_runs.specs.Records.{Recorded}
 use Rattle.boc_record.specs.RecordTexts.{IsTextOf}

@@ -14,7 +14,8 @@ use Rattle.boc_commands.specs.declared.fault.FileFault.TheVariants as files
 use Rattle.boc_commands.specs.declared.fault.Want.TheVariants as wants
 use Rattle.boc_commands.specs.Commands.{IsProgram, IsRecordRefusal, IsWrongWith, TakesText}
 use Rattle.boc_commands.specs.Faults.{IsWant}
-use Rattle.boc_commands.specs.ValueTexts.{check_text, values_text}
+use Rattle.boc_ends_report.specs.ValueTexts.{values_text}
+use Rattle.boc_commands.specs.CheckTexts.{check_text}
 
 -- ---- what is answered
 

@@ -8,6 +8,7 @@ use Rattle.boc_cowns.specs.declared.hot.HotCowns.{HotCowns}
 use Rattle.boc_cowns.specs.Hot.{IsHotCowns}
 use Rattle.boc_cowns_report.specs.CownsTexts.{IsCownsText}
 use Rattle.boc_words.specs.declared.asked.RunFile.{RunFile}
+use Rattle.boc_words.specs.declared.schedule.Schedule.{Schedule}
 use Rattle.boc_commands.specs.NamedRuns.{IsNamedRun}
 
 -- a text tells of the cowns of these rows, in these names, as the rows share them in this way; of so many where a number was asked for
@@ -16,9 +17,9 @@ pub record AreTold (rows : List Row) (names : Names) (sharing : Sharing) (top : 
   pub is_hot : IsHotCowns rows sharing (length names.families.items) hot
   pub told : IsCownsText names sharing top hot text
 
--- the rows are those of the run that the input tells of, with the file beside it, and the output tells of their cowns
-pub record IsCownsAnswer (sharing : Sharing) (top : Option ℕ) (file : Option RunFile) (bytes input output : List ℕ) : Type 0 where
+-- the rows are those of the run that the input tells of, by this schedule or with the file beside it, and the output tells of their cowns
+pub record IsCownsAnswer (schedule : Schedule) (sharing : Sharing) (top : Option ℕ) (file : Option RunFile) (bytes input output : List ℕ) : Type 0 where
   pub recorded : Recorded
   pub names : Names
-  pub named : IsNamedRun file bytes input recorded names
+  pub named : IsNamedRun schedule file bytes input recorded names
   pub told : AreTold recorded.rows names sharing top output

@@ -14,6 +14,7 @@ use Rattle.boc_commands.specs.Commands.{AnswersInput, RefusesNothing, RefusesPro
 use Rattle.boc_commands.specs.Beside.{IsCheckAgainstAnswer, RefusesAgainst, RefusesValuesAfter}
 use Rattle.boc_commands.specs.NamedRuns.{RefusesNamedRun}
 use Rattle.boc_commands.specs.Notes.{TellsCowns, TellsProfile, TellsRun, TellsTime, TellsValues, TellsValuesAfter, TellsWhy}
+use Rattle.boc_commands.specs.OutcomesAnswers.{IsOutcomesAnswer, RefusesDraws}
 use Rattle.boc_commands.specs.WhatIfAnswers.{IsWhatIfAnswer, RefusesWhatIf}
 
 -- ---- the file beside the input
@@ -33,8 +34,8 @@ abbrev pub file_of : Command → Option (List ℕ)
 file_of (commands.Values record_path quiet) = option_map string_bytes record_path
 file_of (commands.Check program_path) = option_map string_bytes program_path
 file_of (commands.WhatIf cowns edits workers sharing names short) = option_map names_path names
-file_of (commands.Why runners workers sharing file all quiet) = option_map run_path file
-file_of (commands.Cowns runners sharing file top quiet) = option_map run_path file
+file_of (commands.Why schedule workers sharing file all quiet) = option_map run_path file
+file_of (commands.Cowns schedule sharing file top quiet) = option_map run_path file
 file_of _ = None
 
 -- ---- every command
@@ -46,30 +47,31 @@ AnswersCommand (commands.Values None quiet) beside notes before after text = Ans
 AnswersCommand (commands.Values (Some path) quiet) beside notes before after text = AnswersInput (TellsValuesAfter beside quiet notes) before after text
 AnswersCommand (commands.Check None) beside notes before after text = AnswersInput IsCheckAnswer before after text
 AnswersCommand (commands.Check (Some path)) beside notes before after text = AnswersInput (IsCheckAgainstAnswer beside) before after text
-AnswersCommand (commands.Run runners seed quiet) beside notes before after text = AnswersInput (TellsRun runners seed quiet notes) before after text
+AnswersCommand (commands.Run schedule quiet) beside notes before after text = AnswersInput (TellsRun schedule quiet notes) before after text
 AnswersCommand (commands.Profile workers sharing quiet) beside notes before after text =
     AnswersInput (TellsProfile sharing workers quiet notes) before after text
-AnswersCommand (commands.Time runners seed workers sharing quiet) beside notes before after text =
-    AnswersInput (TellsTime runners seed sharing workers quiet notes) before after text
+AnswersCommand (commands.Time schedule workers sharing quiet) beside notes before after text =
+    AnswersInput (TellsTime schedule sharing workers quiet notes) before after text
 AnswersCommand (commands.WhatIf cowns edits workers sharing names short) beside notes before after text =
     AnswersInput (IsWhatIfAnswer names beside cowns.items edits.items sharing workers short) before after text
 AnswersCommand (commands.Curve most sharing) beside notes before after text = AnswersInput (IsCurveAnswer sharing most) before after text
 AnswersCommand (commands.Sweep over sharing) beside notes before after text = AnswersInput (IsSweepAnswer sharing over) before after text
-AnswersCommand (commands.Why runners workers sharing file all quiet) beside notes before after text =
-    AnswersInput (TellsWhy sharing workers all quiet file beside notes) before after text
-AnswersCommand (commands.Cowns runners sharing file top quiet) beside notes before after text =
-    AnswersInput (TellsCowns sharing top quiet file beside notes) before after text
+AnswersCommand (commands.Why schedule workers sharing file all quiet) beside notes before after text =
+    AnswersInput (TellsWhy schedule sharing workers all quiet file beside notes) before after text
+AnswersCommand (commands.Cowns schedule sharing file top quiet) beside notes before after text =
+    AnswersInput (TellsCowns schedule sharing top quiet file beside notes) before after text
+AnswersCommand (commands.Outcomes draws) beside notes before after text = AnswersInput (IsOutcomesAnswer draws) before after text
 AnswersCommand (commands.Help help) beside notes before after text = (text ≡ string_bytes help) × Keeps before after
 AnswersCommand commands.Version beside notes before after text = (text ≡ VERSION.now) × Keeps before after
 
 -- the commands that note nothing leave no notes
 abbrev pub NotesNothing : Command → List ℕ → Type 0
 NotesNothing (commands.Values record_path quiet) notes = Unit {0}
-NotesNothing (commands.Run runners seed quiet) notes = Unit {0}
+NotesNothing (commands.Run schedule quiet) notes = Unit {0}
 NotesNothing (commands.Profile workers sharing quiet) notes = Unit {0}
-NotesNothing (commands.Time runners seed workers sharing quiet) notes = Unit {0}
-NotesNothing (commands.Why runners workers sharing file all quiet) notes = Unit {0}
-NotesNothing (commands.Cowns runners sharing file top quiet) notes = Unit {0}
+NotesNothing (commands.Time schedule workers sharing quiet) notes = Unit {0}
+NotesNothing (commands.Why schedule workers sharing file all quiet) notes = Unit {0}
+NotesNothing (commands.Cowns schedule sharing file top quiet) notes = Unit {0}
 NotesNothing _ notes = notes ≡ []
 
 -- what a command refuses; a call for help or for the version refuses nothing
@@ -78,16 +80,17 @@ RefusesCommand always_on (commands.Values None quiet) beside result before after
 RefusesCommand always_on (commands.Values (Some path) quiet) beside result before after = RefusesValuesAfter beside result before after
 RefusesCommand always_on (commands.Check None) beside result before after = RefusesRecord result before
 RefusesCommand always_on (commands.Check (Some path)) beside result before after = RefusesAgainst beside result before
-RefusesCommand always_on (commands.Run runners seed quiet) beside result before after = RefusesRun always_on result before after
+RefusesCommand always_on (commands.Run schedule quiet) beside result before after = RefusesRun always_on result before after
 RefusesCommand always_on (commands.Profile workers sharing quiet) beside result before after = RefusesRecord result before
-RefusesCommand always_on (commands.Time runners seed workers sharing quiet) beside result before after = RefusesRun always_on result before after
+RefusesCommand always_on (commands.Time schedule workers sharing quiet) beside result before after = RefusesRun always_on result before after
 RefusesCommand always_on (commands.WhatIf cowns edits workers sharing names short) beside result before after =
     RefusesWhatIf names beside cowns.items edits.items result before
 RefusesCommand always_on (commands.Curve most sharing) beside result before after = RefusesRecord result before
 RefusesCommand always_on (commands.Sweep over sharing) beside result before after = RefusesRecord result before
-RefusesCommand always_on (commands.Why runners workers sharing file all quiet) beside result before after =
-    RefusesNamedRun always_on file beside result before after
-RefusesCommand always_on (commands.Cowns runners sharing file top quiet) beside result before after =
-    RefusesNamedRun always_on file beside result before after
+RefusesCommand always_on (commands.Why schedule workers sharing file all quiet) beside result before after =
+    RefusesNamedRun always_on schedule file beside result before after
+RefusesCommand always_on (commands.Cowns schedule sharing file top quiet) beside result before after =
+    RefusesNamedRun always_on schedule file beside result before after
+RefusesCommand always_on (commands.Outcomes draws) beside result before after = RefusesDraws draws result before after
 RefusesCommand always_on (commands.Help help) beside result before after = RefusesNothing result
 RefusesCommand always_on commands.Version beside result before after = RefusesNothing result

@@ -12,6 +12,8 @@ use Rattle.boc_plans.specs.declared.edit.EditFault.{EditFault}
 use Rattle.boc_plans.specs.declared.edit.EditFault.TheVariants as edits
 use Rattle.boc_text.specs.declared.whole.TextFault.{TextFault}
 use Rattle.boc_text.specs.declared.whole.TextFault.TheVariants as texts
+use Rattle.boc_draws.specs.declared.fault.DrawFault.{DrawFault}
+use Rattle.boc_draws.specs.declared.fault.DrawFault.TheVariants as draws
 use Rattle.boc_eval.specs.declared.serial.SerialFault.{SerialFault}
 use Rattle.boc_eval.specs.declared.serial.SerialFault.TheVariants as serial
 use Rattle.boc_record.specs.declared.fault.RecordFault.{RecordFault}
@@ -102,6 +104,11 @@ of_stray_beside r _ = faults.Input (inputs.Beside (files.Stray r))
 abbrev pub of_serial : SerialFault → Fault
 of_serial serial.Memory = faults.Means wants.Memory
 of_serial serial.Behaviours = faults.Run runs.Behaviours
+
+-- the fault of a draw
+abbrev pub of_draw : DrawFault → Fault
+of_draw draws.Memory = faults.Means wants.Memory
+of_draw draws.Behaviours = faults.Run runs.Behaviours
 
 -- want of memory is no fault of a run by threads
 abbrev pub of_run : RunFault → Fault

@@ -1,4 +1,4 @@
-pub mod ValueTexts
+pub mod CheckTexts
 pub mod Answers
 pub mod Faults
 pub mod Promises
@@ -6,8 +6,9 @@ pub mod Commands
 pub mod NamedRuns
 pub mod WhyAnswers
 pub mod CownsAnswers
+pub mod OutcomesAnswers
 pub mod Beside
-pub mod Seeds
+pub mod Schedules
 pub mod Notes
 pub mod EveryCommand
 pub mod Asked

@@ -24,6 +24,7 @@ use Rattle.boc_words.specs.declared.asked.NamesFrom.{NamesFrom}
 use Rattle.boc_words.specs.declared.asked.NamesFrom.TheVariants as names_from
 use Rattle.boc_words.specs.declared.asked.RunFile.{RunFile}
 use Rattle.boc_words.specs.declared.asked.RunFile.TheVariants as run_files
+use Rattle.boc_words.specs.declared.schedule.Schedule.{Schedule}
 use Rattle.boc_commands.specs.declared.fault.Fault.{Fault}
 use Rattle.boc_commands.specs.declared.fault.Fault.TheVariants as faults
 use Rattle.boc_commands.specs.declared.fault.FileFault.TheVariants as files
@@ -34,6 +35,7 @@ use Rattle.boc_commands.specs.Beside.{RefusesAgainst, StrayTexts}
 use Rattle.boc_commands.specs.Commands.{IsOfRun, IsProgram, IsRecordRefusal, IsWrongWith, RefusesRecord}
 use Rattle.boc_commands.specs.Faults.{IsWant}
 use Rattle.boc_commands.specs.Promises.{IsRunOf}
+use Rattle.boc_commands.specs.Schedules.{IsScheduledText}
 
 -- ---- what is taken of an input
 
@@ -92,16 +94,21 @@ pub record AreRenamed (Named : Names → Type 0) (file : List ℕ) (names : Name
   pub named : Named base
   pub renamed : IsNamedBy file base names
 
--- the input spells a program, of which this is the record of a run, or it is the text of this record
-abbrev pub IsOwnRun : List ℕ → Recorded → Names → Type 0
-IsOwnRun input recorded names = IsRunNamed input recorded names ⊎ IsRecordNumbered input recorded names
+-- the text spells a program of which this is the record of a run by this schedule, whose rows and cowns are called so
+pub record IsScheduledRun (schedule : Schedule) (text : List ℕ) (recorded : Recorded) (names : Names) : Type 0 where
+  pub named : IsRunNamed text recorded names
+  pub scheduled : IsScheduledText text schedule recorded
+
+-- the input spells a program, of which this is the record of a run by this schedule, or it is the text of this record
+abbrev pub IsOwnRun : Schedule → List ℕ → Recorded → Names → Type 0
+IsOwnRun schedule input recorded names = IsScheduledRun schedule input recorded names ⊎ IsRecordNumbered input recorded names
 
 -- The run that an input tells of, with what its rows and cowns are called: by itself; with the record of the run in a file beside it; or with a file of
 -- names.
-abbrev pub IsNamedRun : Option RunFile → List ℕ → List ℕ → Recorded → Names → Type 0
-IsNamedRun None file input recorded names = IsOwnRun input recorded names
-IsNamedRun (Some (run_files.Record path)) file input recorded names = IsRunGiven input file recorded names
-IsNamedRun (Some (run_files.Names path)) file input recorded names = AreRenamed (λ base. IsOwnRun input recorded base) file names
+abbrev pub IsNamedRun : Schedule → Option RunFile → List ℕ → List ℕ → Recorded → Names → Type 0
+IsNamedRun schedule None file input recorded names = IsOwnRun schedule input recorded names
+IsNamedRun schedule (Some (run_files.Record path)) file input recorded names = IsRunGiven input file recorded names
+IsNamedRun schedule (Some (run_files.Names path)) file input recorded names = AreRenamed (λ base. IsOwnRun schedule input recorded base) file names
 
 -- each row has a name and a def, each cown a name and a family, and there are no more defs and families than there may be
 pub record AreFew (rows : List Row) (names : Names) : Type 0 where
@@ -172,22 +179,23 @@ pub record IsOfNames (Named : Recorded → Names → Type 0) (file : List ℕ) (
   pub refusal : fault.kind ≢ name_kinds.Memory
 
 -- a fault of an input with a file of names beside it: of the file, or of the input
-abbrev pub IsOfRenamed : Type 0 → List ℕ → List ℕ → Fault → Type 0
-IsOfRenamed always_on file text (faults.Input (inputs.Beside (files.Names r))) = IsOfNames (λ recorded base. IsOwnRun text recorded base) file r
-IsOfRenamed always_on file text fault = IsOfOwn always_on text fault
+abbrev pub IsOfRenamed : Type 0 → Schedule → List ℕ → List ℕ → Fault → Type 0
+IsOfRenamed always_on schedule file text (faults.Input (inputs.Beside (files.Names r))) =
+    IsOfNames (λ recorded base. IsOwnRun schedule text recorded base) file r
+IsOfRenamed always_on schedule file text fault = IsOfOwn always_on text fault
 
 -- a fault of an input and of the file beside it, if there is one
-abbrev pub IsOfNamedRun : Type 0 → Option RunFile → List ℕ → List ℕ → Fault → Type 0
-IsOfNamedRun always_on None file text fault = IsOfOwn always_on text fault
-IsOfNamedRun always_on (Some (run_files.Record path)) file text fault = IsOfGiven text file fault
-IsOfNamedRun always_on (Some (run_files.Names path)) file text fault = IsOfRenamed always_on file text fault
+abbrev pub IsOfNamedRun : Type 0 → Schedule → Option RunFile → List ℕ → List ℕ → Fault → Type 0
+IsOfNamedRun always_on schedule None file text fault = IsOfOwn always_on text fault
+IsOfNamedRun always_on schedule (Some (run_files.Record path)) file text fault = IsOfGiven text file fault
+IsOfNamedRun always_on schedule (Some (run_files.Names path)) file text fault = IsOfRenamed always_on schedule file text fault
 
 -- an input is refused, for what was taken of it and the file beside it; want of memory and of a device are no refusal
-abbrev pub RefusesNamedRun : {A : Type 0} → Type 0 → Option RunFile → List ℕ → Result A Fault → Option (List ℕ) → Option (List ℕ) → Type 0
-RefusesNamedRun always_on file bytes (Ok done) before after = Unit {0}
-RefusesNamedRun always_on file bytes (Err (faults.Means w)) before after = Unit {0}
-RefusesNamedRun always_on file bytes (Err fault) before after =
-    (text : List ℕ) × IsTaken before after text × IsOfNamedRun always_on file bytes text fault
+abbrev pub RefusesNamedRun : {A : Type 0} → Type 0 → Schedule → Option RunFile → List ℕ → Result A Fault → Option (List ℕ) → Option (List ℕ) → Type 0
+RefusesNamedRun always_on schedule file bytes (Ok done) before after = Unit {0}
+RefusesNamedRun always_on schedule file bytes (Err (faults.Means w)) before after = Unit {0}
+RefusesNamedRun always_on schedule file bytes (Err fault) before after =
+    (text : List ℕ) × IsTaken before after text × IsOfNamedRun always_on schedule file bytes text fault
 
 -- ---- a record with names
 

@@ -6,7 +6,6 @@ use Rattle.boc_reader.specs.Listed.{ListsDefs}
 use Rattle.boc_reader.specs.Spells.{Spells}
 use Rattle.boc_reader.specs.declared.listing.DefListing.{DefListing}
 use Rattle.boc_runs.specs.declared.rows.Row.{Row}
-use Rattle.boc_runs.specs.Records.{Recorded}
 use Rattle.boc_plans.specs.declared.sharing.Sharing.{Sharing}
 use Rattle.boc_names.specs.declared.names.Names.{Names}
 use Rattle.boc_names.specs.Names.{Text, named_cowns, texts_of}
@@ -17,7 +16,8 @@ use Rattle.boc_commands.specs.Beside.{IsValuesAfterAnswer}
 use Rattle.boc_commands.specs.CownsAnswers.{IsCownsAnswer}
 use Rattle.boc_commands.specs.NamedRuns.{IsRunGiven, IsRunNamed}
 use Rattle.boc_commands.specs.Promises.{IsRunAnswer, IsTimeAnswer}
-use Rattle.boc_commands.specs.Seeds.{IsSeededText}
+use Rattle.boc_commands.specs.Schedules.{IsScheduledText}
+use Rattle.boc_words.specs.declared.schedule.Schedule.{Schedule}
 use Rattle.boc_commands.specs.WhyAnswers.{IsWhyAnswer}
 
 -- ---- the notes
@@ -59,16 +59,17 @@ pub record TellsValuesAfter (beside : Text) (quiet : Bool) (notes input output :
   pub answer : IsValuesAfterAnswer beside input output
   pub noted : AreWanted quiet (AreNamedNotes (IsRunGiven input beside answer.recorded) answer.recorded.rows) notes
 
--- the record of a run, which is that drawn by a seed where one was given, and the notes on it, its rows called as in the program's text
-pub record TellsRun (workers : ℕ) (seed : Option ℕ) (quiet : Bool) (notes input output : Text) : Type 0 where
+-- the record of a run by this schedule, which is that drawn by a seed where that was asked for, and the notes on it, its rows called as in the program's
+-- text
+pub record TellsRun (schedule : Schedule) (quiet : Bool) (notes input output : Text) : Type 0 where
   pub answer : IsRunAnswer input output
-  pub seeded : IsSeededText input workers seed answer.recorded
+  pub scheduled : IsScheduledText input schedule answer.recorded
   pub noted : AreWanted quiet (AreNamedNotes (IsRunNamed input answer.recorded) answer.recorded.rows) notes
 
 -- the report on such a run, and the same notes on it
-pub record TellsTime (workers : ℕ) (seed : Option ℕ) (sharing : Sharing) (asked : Option ℕ) (quiet : Bool) (notes input output : Text) : Type 0 where
+pub record TellsTime (schedule : Schedule) (sharing : Sharing) (asked : Option ℕ) (quiet : Bool) (notes input output : Text) : Type 0 where
   pub answer : IsTimeAnswer sharing asked input output
-  pub seeded : IsSeededText input workers seed answer.recorded
+  pub scheduled : IsScheduledText input schedule answer.recorded
   pub noted : AreWanted quiet (AreNamedNotes (IsRunNamed input answer.recorded) answer.recorded.rows) notes
 
 -- the report on a record, and the notes on its rows, which have no names
@@ -77,11 +78,13 @@ pub record TellsProfile (sharing : Sharing) (asked : Option ℕ) (quiet : Bool) 
   pub noted : AreWanted quiet (λ told. told ≡ notes_of_rows [] answer.recorded.rows) notes
 
 -- why the rows of a run take as long as they do, and the notes on them, by their names
-pub record TellsWhy (sharing : Sharing) (workers : Option ℕ) (all quiet : Bool) (file : Option RunFile) (bytes notes input output : Text) : Type 0 where
-  pub answer : IsWhyAnswer sharing workers all file bytes input output
+pub record TellsWhy (schedule : Schedule) (sharing : Sharing) (workers : Option ℕ) (all quiet : Bool) (file : Option RunFile)
+    (bytes notes input output : Text) : Type 0 where
+  pub answer : IsWhyAnswer schedule sharing workers all file bytes input output
   pub noted : AreWanted quiet (λ told. told ≡ notes_of_rows (texts_of answer.names.rows.items) answer.recorded.rows) notes
 
 -- the cowns of a run, and the same notes on its rows
-pub record TellsCowns (sharing : Sharing) (top : Option ℕ) (quiet : Bool) (file : Option RunFile) (bytes notes input output : Text) : Type 0 where
-  pub answer : IsCownsAnswer sharing top file bytes input output
+pub record TellsCowns (schedule : Schedule) (sharing : Sharing) (top : Option ℕ) (quiet : Bool) (file : Option RunFile)
+    (bytes notes input output : Text) : Type 0 where
+  pub answer : IsCownsAnswer schedule sharing top file bytes input output
   pub noted : AreWanted quiet (λ told. told ≡ notes_of_rows (texts_of answer.names.rows.items) answer.recorded.rows) notes

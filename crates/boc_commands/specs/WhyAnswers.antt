@@ -11,6 +11,7 @@ use Rattle.boc_why.specs.declared.why.Why.{Why}
 use Rattle.boc_why.specs.Why.{IsWhy}
 use Rattle.boc_why_report.specs.WhyTexts.{IsWhyText, greedy_line}
 use Rattle.boc_words.specs.declared.asked.RunFile.{RunFile}
+use Rattle.boc_words.specs.declared.schedule.Schedule.{Schedule}
 use Rattle.boc_commands.specs.NamedRuns.{IsNamedRun}
 
 -- the line of the greedy plan for so many workers: its end, and its bound
@@ -44,9 +45,10 @@ pub record IsTold (rows : List Row) (names : Names) (sharing : Sharing) (workers
   pub told : IsWhyText names sharing all why without_line
   pub put : PutsLine (seen sharing rows) workers without_line text
 
--- the rows are those of the run that the input tells of, with the file beside it, and the output tells why they take as long as they do
-pub record IsWhyAnswer (sharing : Sharing) (workers : Option ℕ) (all : Bool) (file : Option RunFile) (bytes input output : List ℕ) : Type 0 where
+-- the rows are those of the run that the input tells of, by this schedule or with the file beside it, and the output tells why they take as long as they do
+pub record IsWhyAnswer (schedule : Schedule) (sharing : Sharing) (workers : Option ℕ) (all : Bool) (file : Option RunFile)
+    (bytes input output : List ℕ) : Type 0 where
   pub recorded : Recorded
   pub names : Names
-  pub named : IsNamedRun file bytes input recorded names
+  pub named : IsNamedRun schedule file bytes input recorded names
   pub told : IsTold recorded.rows names sharing workers all output

@@ -2,7 +2,7 @@
 
 ghost use Rattle.std.specs.Prelude.{◌≡◌, ◌<◌, length, IfOk};
 ghost use Rattle.boc_commands.specs.Answers.{IsCheckAnswer};
-ghost use Rattle.boc_commands.specs.ValueTexts.{check_text as check_text_spec};
+ghost use Rattle.boc_commands.specs.CheckTexts.{check_text as check_text_spec};
 ghost use Rattle.boc_commands.specs.Commands.{AnswersInput, Leaves, CountsSource, CountsSink, RefusesRecord};
 
 use crate::fault::Fault;

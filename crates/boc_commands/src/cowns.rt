@@ -38,9 +38,10 @@ pub fn cowns_cmd<R: Threads + Wait + Sync, G: Gate, S: Source, W: Sink>(
 ) -> Result<(), Fault>
     requires source { S.failures source.old < u64.MAX }
     requires sink { W.failures sink.old < u64.MAX }
-    ensures written { Leaves (AnswersInput (TellsCowns sharing top quiet origin.entry.file.now origin.entry.bytes.items notes.new.items)
+    ensures written { Leaves (AnswersInput (TellsCowns origin.entry.schedule sharing top quiet origin.entry.file.now origin.entry.bytes.items notes.new.items)
         (S.remaining source.old) (S.remaining source.new)) result (W.written sink.old) (W.written sink.new) }
-    ensures refused { RefusesNamedRun G.always_on origin.entry.file.now origin.entry.bytes.items result (S.remaining source.old) (S.remaining source.new) }
+    ensures refused { RefusesNamedRun G.always_on origin.entry.schedule origin.entry.file.now origin.entry.bytes.items result
+        (S.remaining source.old) (S.remaining source.new) }
     ensures source { CountsSource result (S.failures source.old) (S.failures source.new) }
     ensures sink { CountsSink result (W.failures sink.old) (W.failures sink.new) }
 {
@@ -67,8 +68,9 @@ fn cowns_told<R: Threads + Wait + Sync, G: Gate>(
     gate: &G,
 ) -> Result<Told, Fault>
     ensures { MatchResult result
-        (λ told. TellsCowns sharing top quiet origin.entry.file.now origin.entry.bytes.items told.notes.items text.items told.text.items × IsShort text.items)
-        (IsOfNamedRun G.always_on origin.entry.file.now origin.entry.bytes.items text.items) }
+        (λ told. TellsCowns origin.entry.schedule sharing top quiet origin.entry.file.now origin.entry.bytes.items told.notes.items text.items told.text.items
+        × IsShort text.items)
+        (IsOfNamedRun G.always_on origin.entry.schedule origin.entry.file.now origin.entry.bytes.items text.items) }
 {
     let run = named_run(rt, alloc, text, origin, gate)?;
     let notes = notes_on(alloc, quiet, &run.rows, &run.names.rows)?;

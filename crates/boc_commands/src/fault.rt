@@ -7,6 +7,7 @@ ghost use Rattle.boc_commands.specs.declared.fault.TheConstants.{MOST_FAULT_LINE
 ghost use Rattle.boc_commands.specs.Faults.{edit_line, file_line, input_line, run_line, want_line};
 
 use arrayvec::ArrayString;
+use boc_draws::DrawFault;
 use boc_eval::SerialFault;
 use boc_follow::{StrayFault, StrayFaultKind};
 use boc_names::NamesFault;
@@ -317,6 +318,19 @@ impl From<SerialFault> for Fault {
         match fault {
             SerialFault::Memory => Fault::Means(Want::Memory),
             SerialFault::Behaviours => Fault::Run(RunFault::Behaviours),
+        }
+    }
+}
+
+impl From<DrawFault> for Fault {
+    ghost use Rattle.boc_commands.specs.Faults.{of_draw};
+
+    ghost from_gives = { λ d f. f ≡ of_draw d };
+
+    fn from(fault: DrawFault) -> Fault {
+        match fault {
+            DrawFault::Memory => Fault::Means(Want::Memory),
+            DrawFault::Behaviours => Fault::Run(RunFault::Behaviours),
         }
     }
 }

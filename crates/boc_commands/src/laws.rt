@@ -1,17 +1,24 @@
 //! What is promised of every run and of the plans of its rows, and that an input has one answer.
 
-ghost use Rattle.std.specs.Prelude.{◌≡◌, ℕ, List, Option, None, false};
+ghost use Rattle.std.specs.Prelude.{◌≡◌, ℕ, List, Option, None, Some, false, slice_get};
 ghost use Rattle.boc_words.specs.declared.asked.AskedCown.{AskedCown};
+ghost use Rattle.boc_words.specs.declared.asked.AskedDraws.{AskedDraws};
 ghost use Rattle.boc_words.specs.declared.asked.AskedEdit.{AskedEdit};
 ghost use Rattle.boc_program.specs.declared.program.Program.{Program};
 ghost use Rattle.boc_runs.specs.declared.rows.Row.{Row};
 ghost use Rattle.boc_plans.specs.declared.sharing.Sharing.{Sharing};
 ghost use Rattle.boc_plans.specs.declared.sweep.Sweep.{Sweep};
+ghost use Rattle.boc_runs.specs.Records.{Recorded};
 ghost use Rattle.boc_runs.specs.Rows.{IsRows};
+ghost use Rattle.boc_runs.specs.Run.{config_of};
+ghost use Rattle.boc_outcomes.specs.declared.tally.Outcome.{Outcome};
+ghost use Rattle.boc_words.specs.declared.schedule.Schedule.TheVariants.{Drawn as Draws};
+ghost use Rattle.boc_commands.specs.Schedules.{IsDrawnBy, IsScheduledText};
 ghost use Rattle.boc_plans.specs.Seen.{seen};
 ghost use Rattle.boc_reader.specs.Spells.{Spells};
 ghost use Rattle.boc_commands.specs.Answers.{IsReport, IsValuesAnswer, IsCheckAnswer, IsProfileAnswer, IsCurveAnswer, IsSweepAnswer};
 ghost use Rattle.boc_commands.specs.Beside.{IsCheckAgainstAnswer, IsValuesAfterAnswer};
+ghost use Rattle.boc_commands.specs.OutcomesAnswers.{IsOutcomesAnswer};
 ghost use Rattle.boc_commands.specs.WhatIfAnswers.{IsWhatIfAnswer};
 ghost use Rattle.boc_order.specs.declared.report.Profile.{Profile};
 ghost use Rattle.boc_order.specs.Profiles.{IsProfileOf};
@@ -40,9 +47,9 @@ pub fn rows_have_one_report()
         → output ≡ other }
 {}
 
-/// An input has one answer at most, of each command that makes no run: of a text that spells a program one output of `values`, and of the text of
-/// a record one of `check`, and for what was asked one of `profile`, `whatif` with no file, `curve` and `sweep`. Beside one file it has one output of
-/// `check` with a program, and of `values` with a record.
+/// An input has one answer at most, of each command that starts no threads for a run: of a text that spells a program one output of `values`, and for what
+/// was asked one of `outcomes`; of the text of a record one of `check`, and for what was asked one of `profile`, `whatif` with no file, `curve` and
+/// `sweep`. Beside one file it has one output of `check` with a program, and of `values` with a record.
 pub fn input_has_one_answer()
     ensures values { (input output other : List ℕ) → IsValuesAnswer input output → IsValuesAnswer input other → output ≡ other }
     ensures check { (input output other : List ℕ) → IsCheckAnswer input output → IsCheckAnswer input other → output ≡ other }
@@ -59,6 +66,18 @@ pub fn input_has_one_answer()
         → IsCurveAnswer sharing most input other → output ≡ other }
     ensures sweep { (sharing : Sharing) (over : Sweep) (input output other : List ℕ) → IsSweepAnswer sharing over input output
         → IsSweepAnswer sharing over input other → output ≡ other }
+    ensures outcomes { (draws : AskedDraws) (input output other : List ℕ) → IsOutcomesAnswer draws input output → IsOutcomesAnswer draws input other
+        → output ≡ other }
+{}
+
+/// The seed of an outcome brings its run back: where the program is run as that seed draws, for as many workers and at the same depth, the run ends with the
+/// values of the outcome; and there is such a run.
+pub fn seeds_bring_runs_back()
+    ensures there { (draws : AskedDraws) (input output : List ℕ) (answer : IsOutcomesAnswer draws input output) (i : ℕ) (o : Outcome)
+        → slice_get answer.outcomes.all.items i ≡ Some o → (r : Recorded) × IsDrawnBy answer.program draws.workers o.seed draws.depth r }
+    ensures each { (draws : AskedDraws) (input output : List ℕ) (answer : IsOutcomesAnswer draws input output) (i : ℕ) (o : Outcome)
+        → slice_get answer.outcomes.all.items i ≡ Some o → (r : Recorded) → IsScheduledText input (Draws draws.workers o.seed draws.depth) r
+        → (config_of answer.program r.events).values ≡ o.values.items }
 {}
 
 /// A text spells one program at most.

@@ -9,9 +9,11 @@ mod cowns;
 mod curve;
 mod fault;
 pub mod laws;
+pub mod laws_of_names;
 mod meant;
-mod named_run;
+pub mod named_run;
 mod notes;
+mod outcomes;
 mod profile;
 mod report;
 mod run;
@@ -19,7 +21,6 @@ mod sweep;
 mod time;
 mod values;
 mod values_after;
-mod values_text;
 mod whatif;
 mod why;
 
@@ -30,6 +31,7 @@ pub use cowns::cowns_cmd;
 pub use curve::curve_cmd;
 pub use fault::{Fault, FileFault, InputFault, Line, Want};
 pub use named_run::{NamedRun, Origin};
+pub use outcomes::outcomes_cmd;
 pub use profile::profile_cmd;
 pub use run::run_cmd;
 pub use sweep::sweep_cmd;
@@ -43,6 +45,6 @@ pub use why::why_cmd;
 pub use boc_whatif::{Progress, Silent};
 // What the words of a command line ask for.
 pub use boc_words::{
-    AskedCown, AskedEdit, Command, NamesFrom, RunFile, Runners, VERSION, WordsFault, not_text,
-    read_words,
+    AskedCown, AskedDraws, AskedEdit, Command, NamesFrom, RunFile, Runners, Runs, Schedule,
+    VERSION, WordsFault, not_text, read_words,
 };

@@ -11,7 +11,7 @@ ghost use Rattle.boc_commands.specs.Beside.{IsOfProgramFile, RefusesAgainst};
 ghost use Rattle.boc_commands.specs.Faults.{gone_of};
 ghost use Rattle.boc_commands.specs.Commands.{CountsSource, IsOfRun, RefusesRecord};
 ghost use Rattle.boc_commands.specs.NamedRuns.{HasRun, IsCounted, IsNamedRun, IsOfGiven, IsOfNamedRun, IsOfOwn, IsOfRecord, IsOfRenamed, IsOwnRun};
-ghost use Rattle.boc_commands.specs.NamedRuns.{AreFew, IsRecordNumbered, IsRefusedName, IsRenamed, IsRunGiven, IsRunNamed, IsShort, IsTaken};
+ghost use Rattle.boc_commands.specs.NamedRuns.{AreFew, IsRecordNumbered, IsRefusedName, IsRenamed, IsRunGiven, IsScheduledRun, IsShort, IsTaken};
 ghost use Rattle.boc_commands.specs.NamedRuns.{ReadsNamed, ReadsRun, RefusesNamedRecord};
 ghost use Rattle.boc_commands.specs.NamedRuns.{of_names_file, of_record_in_memory};
 ghost use Rattle.boc_follow.specs.Strays.{Tells};
@@ -19,6 +19,7 @@ ghost use Rattle.boc_text.specs.Streams.{CountsDevice};
 
 use crate::beside::{of_read_beside, of_stray_beside, record_beside};
 use crate::fault::{Fault, FileFault, InputFault, Want};
+use crate::run::recorded;
 use crate::values::MOST_TAKEN;
 use boc_follow::{StrayFault, StrayFaultKind, follow_record};
 use boc_names::{Names, NamesFault, NamesFaultKind, names_of_run, numbers_as_names, read_names};
@@ -29,8 +30,8 @@ use boc_record::{RecordFault, RecordFaultKind, read_counted, read_record};
 use boc_runs::record::Record;
 use boc_runs::rows::Rows;
 use boc_text::{Bytes, Source, TextFault, read_all};
-use boc_words::{NamesFrom, RunFile, Runners};
-use boc_workers::{Gate, run};
+use boc_words::{NamesFrom, RunFile, Schedule};
+use boc_workers::Gate;
 use std::alloc::{AllocError, Global};
 use std::sync::Wait;
 use std::thread::Threads;
@@ -48,8 +49,8 @@ pub struct NamedRun {
 /// Where a run comes from, beside the input.
 #[derive(Drop)]
 pub struct Origin<'a> {
-    /// By how many threads a program is run.
-    pub runners: Runners,
+    /// How a program is run.
+    pub schedule: Schedule,
     /// Which file stands beside the input.
     pub file: &'a Option<RunFile>,
     /// The bytes of that file; none where there is no file.
@@ -57,7 +58,7 @@ pub struct Origin<'a> {
 }
 
 /// The input as far as it is wanted: to its end where it begins as the text of a record does, and else as much as is taken of a program text.
-pub(crate) fn taken<S: Source>(alloc: Global, source: &mut S) -> Result<Vec<u8>, TextFault>
+pub fn taken<S: Source>(alloc: Global, source: &mut S) -> Result<Vec<u8>, TextFault>
     requires { S.failures source.old < u64.MAX }
     ensures text { IfOk result (λ text. IsTaken (S.remaining source.old) (S.remaining source.new) text.items) }
     ensures failures { CountsDevice result (S.failures source.old) (S.failures source.new) }
@@ -73,7 +74,7 @@ pub(crate) fn taken<S: Source>(alloc: Global, source: &mut S) -> Result<Vec<u8>,
 
 /// The run that an input tells of, with what its rows and cowns are called: of the program that it spells, or the one that its record is of. The file beside
 /// it, if there is one, has the record of a run of the program, or names of rows and cowns.
-pub(crate) fn named_run<R: Threads + Wait + Sync, G: Gate>(
+pub fn named_run<R: Threads + Wait + Sync, G: Gate>(
     rt: &R,
     alloc: Global,
     text: Vec<u8>,
@@ -81,21 +82,21 @@ pub(crate) fn named_run<R: Threads + Wait + Sync, G: Gate>(
     gate: &G,
 ) -> Result<NamedRun, Fault>
     ensures { MatchResult result
-        (λ run. HasRun (IsNamedRun origin.entry.file.now origin.entry.bytes.items text.items) run × IsShort text.items)
-        (IsOfNamedRun G.always_on origin.entry.file.now origin.entry.bytes.items text.items) }
+        (λ run. HasRun (IsNamedRun origin.entry.schedule origin.entry.file.now origin.entry.bytes.items text.items) run × IsShort text.items)
+        (IsOfNamedRun G.always_on origin.entry.schedule origin.entry.file.now origin.entry.bytes.items text.items) }
 {
     let Origin {
-        runners,
+        schedule,
         file,
         bytes,
     } = origin;
     let Some(file) = file else {
-        return own_run(rt, alloc, text, runners, gate);
+        return own_run(rt, alloc, text, schedule, gate);
     };
     match file {
         RunFile::Record(_) => given_run(alloc, &text, bytes),
         RunFile::Names(_) => {
-            let own = own_run(rt, alloc, text, runners, gate)?;
+            let own = own_run(rt, alloc, text, schedule, gate)?;
             renamed(alloc, own, &bytes)
         }
     }
@@ -106,15 +107,15 @@ fn own_run<R: Threads + Wait + Sync, G: Gate>(
     rt: &R,
     alloc: Global,
     text: Vec<u8>,
-    runners: Runners,
+    schedule: Schedule,
     gate: &G,
 ) -> Result<NamedRun, Fault>
-    ensures { MatchResult result (λ run. HasRun (IsOwnRun text.items) run × IsShort text.items) (IsOfOwn G.always_on text.items) }
+    ensures { MatchResult result (λ run. HasRun (IsOwnRun schedule text.items) run × IsShort text.items) (IsOfOwn G.always_on text.items) }
 {
     if text.starts_with(RECORD_WORD) {
         record_run(alloc, text)
     } else {
-        program_run(rt, alloc, &text, runners, gate)
+        program_run(rt, alloc, &text, schedule, gate)
     }
 }
 
@@ -147,22 +148,22 @@ fn of_record_in_memory(fault: RecordFault) -> Fault
     }
 }
 
-// A run by so many threads of the program that a text spells, whose rows and cowns are called as they are in the text.
+// A run by this schedule of the program that a text spells, whose rows and cowns are called as they are in the text.
 fn program_run<R: Threads + Wait + Sync, G: Gate>(
     rt: &R,
     alloc: Global,
     text: &[u8],
-    runners: Runners,
+    schedule: Schedule,
     gate: &G,
 ) -> Result<NamedRun, Fault>
     ensures { MatchResult result
-        (λ named. HasRun (IsRunNamed text.now) named × (length text.now ≤ MOST_TEXT))
+        (λ named. HasRun (IsScheduledRun schedule text.now) named × (length text.now ≤ MOST_TEXT))
         (IsOfRun G.always_on text.now) }
 {
     let (program, defs) = read_listed(alloc, text)?;
-    let answer = run(rt, alloc, &program, runners.number(), gate)?;
-    let names = names_of(alloc, &program, defs, &answer.record)?;
-    let rows = answer.record.into_rows();
+    let record = recorded(rt, alloc, &program, schedule, gate)?;
+    let names = names_of(alloc, &program, defs, &record)?;
+    let rows = record.into_rows();
     // For the proof alone, and free: that they have the shape of rows.
     let _shape = rows.as_slice();
     Ok(NamedRun { rows, names })

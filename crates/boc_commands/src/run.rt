@@ -1,32 +1,32 @@
 // The command `run`.
 
 ghost use Rattle.std.specs.Prelude.{◌≡◌, ◌≢◌, ◌<◌, ◌≤◌, length, IfErr, IfOk, MatchResult};
-ghost use Rattle.boc_program.specs.declared.limits.TheConstants.{MOST_TEXT};
+ghost use Rattle.boc_program.specs.declared.limits.TheConstants.{MOST_RUNNERS, MOST_TEXT};
 ghost use Rattle.boc_commands.specs.Commands.{AnswersInput, Leaves, CountsSource, CountsSink, IsOfRun, RefusesRun};
 ghost use Rattle.boc_commands.specs.NamedRuns.{IsRunNamed};
 ghost use Rattle.boc_commands.specs.Notes.{AreNamedNotes, AreWanted, TellsRun};
 ghost use Rattle.boc_commands.specs.Promises.{IsRunOf, IsRunOfText};
-ghost use Rattle.boc_commands.specs.Seeds.{IsDrawnBy, IsSeeded, IsSeededText};
+ghost use Rattle.boc_commands.specs.Schedules.{IsDrawnBy, IsScheduled, IsScheduledText, TellsOf};
 ghost use Rattle.boc_workers.specs.Noting.{CanReachLimit};
 ghost use Rattle.boc_workers.specs.declared.fault.RunFault.TheVariants as faults;
 
 use crate::fault::Fault;
 use crate::notes::notes_on_run;
 use crate::values::MOST_TAKEN;
-use boc_draws::{DrawFault, Way, draw};
+use boc_draws::{Depth, DrawFault, draw, way_of};
 use boc_program::program::Program;
 use boc_reader::read_listed;
 use boc_record::write_record;
 use boc_runs::record::Record;
 use boc_text::{Sink, Source, read_all};
-use boc_words::Runners;
+use boc_words::{Runners, Schedule};
 use boc_workers::{Gate, RunFault, run};
 use std::alloc::Global;
 use std::sync::Wait;
 use std::thread::Threads;
 
-/// Reads a program, runs it by so many threads, and writes the record of the run; or, where a seed is given, that of the run which as many workers on this
-/// thread come to, one of which is picked at each turn at random by the seed. The notes are put in place of others, unless quiet is wanted.
+/// Reads a program, runs it as the schedule says, by threads or as a seed draws, and writes the record of the run. The notes are put in place of others, unless
+/// quiet is wanted.
 ///
 /// A program text is refused only where it spells no program, for what is wrong with it and where, and a run for having too
 /// many behaviours only where the program can come to as many as there may be. A gate that is always on holds nobody. Nothing
@@ -34,8 +34,7 @@ use std::thread::Threads;
 pub fn run_cmd<R: Threads + Wait + Sync, G: Gate, S: Source, W: Sink>(
     rt: &R,
     alloc: Global,
-    runners: Runners,
-    seed: Option<u64>,
+    schedule: Schedule,
     quiet: bool,
     gate: &G,
     notes: &mut Vec<u8>,
@@ -44,14 +43,14 @@ pub fn run_cmd<R: Threads + Wait + Sync, G: Gate, S: Source, W: Sink>(
 ) -> Result<(), Fault>
     requires source { S.failures source.old < u64.MAX }
     requires sink { W.failures sink.old < u64.MAX }
-    ensures written { Leaves (AnswersInput (TellsRun runners seed quiet notes.new.items) (S.remaining source.old) (S.remaining source.new)) result
+    ensures written { Leaves (AnswersInput (TellsRun schedule quiet notes.new.items) (S.remaining source.old) (S.remaining source.new)) result
         (W.written sink.old) (W.written sink.new) }
     ensures refused { RefusesRun G.always_on result (S.remaining source.old) (S.remaining source.new) }
     ensures source { CountsSource result (S.failures source.old) (S.failures source.new) }
     ensures sink { CountsSink result (W.failures sink.old) (W.failures sink.new) }
 {
     let text = read_all(alloc, source, MOST_TAKEN)?;
-    let noted = noted_run(rt, alloc, &text, runners, seed, quiet, gate)?;
+    let noted = noted_run(rt, alloc, &text, schedule, quiet, gate)?;
     *notes = noted.notes;
     write_record(alloc, &noted.record, sink)?;
     Ok(())
@@ -64,61 +63,88 @@ pub(crate) struct NotedRun {
     pub(crate) notes: Vec<u8>,
 }
 
-/// A run of the program that a text spells, drawn by a seed where one is given, with the notes on it.
+/// A run of the program that a text spells, by this schedule, with the notes on it.
 pub(crate) fn noted_run<R: Threads + Wait + Sync, G: Gate>(
     rt: &R,
     alloc: Global,
     text: &[u8],
-    runners: Runners,
-    seed: Option<u64>,
+    schedule: Schedule,
     quiet: bool,
     gate: &G,
 ) -> Result<NotedRun, Fault>
     ensures { MatchResult result
-        (λ noted. IsRunOfText text.now noted.record × IsSeededText text.now runners seed noted.record
+        (λ noted. IsRunOfText text.now noted.record × IsScheduledText text.now schedule noted.record
         × AreWanted quiet (AreNamedNotes (IsRunNamed text.now noted.record) noted.record.rows) noted.notes.items × (length text.now ≤ MOST_TEXT))
         (IsOfRun G.always_on text.now) }
 {
     let (program, defs) = read_listed(alloc, text)?;
-    let record = recorded(rt, alloc, &program, runners, seed, gate)?;
+    let record = recorded(rt, alloc, &program, schedule, gate)?;
     let notes = notes_on_run(alloc, quiet, &program, defs, &record)?;
     Ok(NotedRun { record, notes })
 }
 
-// The record of a run of a program: by so many threads, or drawn by a seed.
-fn recorded<R: Threads + Wait + Sync, G: Gate>(
+/// The record of a run of a program by this schedule.
+pub(crate) fn recorded<R: Threads + Wait + Sync, G: Gate>(
     rt: &R,
     alloc: Global,
     program: &Program,
-    runners: Runners,
-    seed: Option<u64>,
+    schedule: Schedule,
     gate: &G,
 ) -> Result<Record, RunFault>
     ensures run { IfOk result (λ r. IsRunOf program.now r) }
-    ensures seeded { IfOk result (λ r. IsSeeded program.now runners seed r) }
+    ensures scheduled { IfOk result (λ r. IsScheduled program.now schedule r) }
     ensures held { IfErr result (λ fault. G.always_on → fault ≢ faults.Held) }
     ensures behaviours { IfErr result (λ fault. fault ≡ faults.Behaviours → CanReachLimit program.now) }
 {
-    let Some(seed) = seed else {
-        let answer = run(rt, alloc, program, runners.number(), gate)?;
-        // For the proof alone, and free: that the record's rows are those that its events tell.
-        let _rows = answer.record.rows();
-        return Ok(answer.record);
-    };
-    drawn(alloc, program, runners, seed)
+    match schedule {
+        Schedule::Threads(runners) => {
+            let answer = run(rt, alloc, program, runners.number(), gate)?;
+            // For the proof alone, and free: that the record's rows are those that its events tell.
+            let _rows = answer.record.rows();
+            Ok(answer.record)
+        }
+        Schedule::Drawn {
+            workers,
+            seed,
+            depth,
+        } => drawn(alloc, program, workers, seed, depth),
+    }
 }
 
-// The record of the run that a seed draws.
-#[tactic(auto, using(crate::proofs::Seeding::drawn_run, crate::proofs::Seeding::drawn_by, crate::proofs::Seeding::runs_out))]
-fn drawn(alloc: Global, program: &Program, runners: Runners, seed: u64) -> Result<Record, RunFault>
+// The record of the run that a seed draws for so many workers, at this depth where there is one.
+fn drawn(
+    alloc: Global,
+    program: &Program,
+    workers: Runners,
+    seed: u64,
+    depth: Option<Depth>,
+) -> Result<Record, RunFault>
     ensures run { IfOk result (λ r. IsRunOf program.now r) }
-    ensures seeded { IfOk result (λ r. IsDrawnBy program.now runners seed r) }
+    ensures drawn { IfOk result (λ r. IsDrawnBy program.now workers seed depth r) }
     ensures held { IfErr result (λ fault. fault ≢ faults.Held) }
     ensures behaviours { IfErr result (λ fault. fault ≡ faults.Behaviours → CanReachLimit program.now) }
 {
-    match draw(alloc, program, runners.number(), Way::Uniform, seed) {
-        Ok(drawn) => Ok(drawn.record),
+    match draw_at_depth(alloc, program, workers.number(), seed, depth) {
+        Ok(record) => Ok(record),
         Err(DrawFault::Behaviours) => Err(RunFault::Behaviours),
         Err(DrawFault::Memory) => Err(RunFault::Memory),
     }
+}
+
+// The same, or how the draw ends.
+fn draw_at_depth(
+    alloc: Global,
+    program: &Program,
+    workers: u32,
+    seed: u64,
+    depth: Option<Depth>,
+) -> Result<Record, DrawFault>
+    requires { (1 ≤ workers) × (workers ≤ MOST_RUNNERS) }
+    ensures run { IfOk result (λ r. IsRunOf program.now r) }
+    ensures drawn { IfOk result (λ r. IsDrawnBy program.now workers seed depth r) }
+    ensures refused { IfErr result (λ fault. TellsOf fault program.now) }
+{
+    let way = way_of(alloc, program, workers, depth)?;
+    let drawn = draw(alloc, program, workers, way, seed)?;
+    Ok(drawn.record)
 }

@@ -14,13 +14,13 @@ use boc_plans::sharing::Sharing;
 use boc_plans::workers::Workers;
 use boc_runs::rows::Rows;
 use boc_text::{Sink, Source, read_all};
-use boc_words::Runners;
+use boc_words::Schedule;
 use boc_workers::Gate;
 use std::alloc::Global;
 use std::sync::Wait;
 use std::thread::Threads;
 
-/// Reads a program, runs it by so many threads, or as a seed draws, as `run` does, and writes the report on the rows of the run, as the command `profile`
+/// Reads a program, runs it as the schedule says, as `run` does, and writes the report on the rows of the run, as the command `profile`
 /// does for a record.
 ///
 /// Whatever the order in which the threads make their steps, the rows are those of a run of the program, in which cowns are
@@ -32,8 +32,7 @@ use std::thread::Threads;
 pub fn time_cmd<R: Threads + Wait + Sync, G: Gate, S: Source, W: Sink>(
     rt: &R,
     alloc: Global,
-    runners: Runners,
-    seed: Option<u64>,
+    schedule: Schedule,
     workers: Option<Workers>,
     sharing: Sharing,
     quiet: bool,
@@ -44,14 +43,14 @@ pub fn time_cmd<R: Threads + Wait + Sync, G: Gate, S: Source, W: Sink>(
 ) -> Result<(), Fault>
     requires source { S.failures source.old < u64.MAX }
     requires sink { W.failures sink.old < u64.MAX }
-    ensures written { Leaves (AnswersInput (TellsTime runners seed sharing workers quiet notes.new.items) (S.remaining source.old) (S.remaining source.new)) result
+    ensures written { Leaves (AnswersInput (TellsTime schedule sharing workers quiet notes.new.items) (S.remaining source.old) (S.remaining source.new)) result
         (W.written sink.old) (W.written sink.new) }
     ensures refused { RefusesRun G.always_on result (S.remaining source.old) (S.remaining source.new) }
     ensures source { CountsSource result (S.failures source.old) (S.failures source.new) }
     ensures sink { CountsSink result (W.failures sink.old) (W.failures sink.new) }
 {
     let text = read_all(alloc, source, MOST_TAKEN)?;
-    let noted = noted_run(rt, alloc, &text, runners, seed, quiet, gate)?;
+    let noted = noted_run(rt, alloc, &text, schedule, quiet, gate)?;
     *notes = noted.notes;
     true_report(alloc, workers, noted.record.into_rows(), sharing, sink)
 }

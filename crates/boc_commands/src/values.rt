@@ -10,7 +10,7 @@ ghost use Rattle.boc_notes.specs.Notes.{note_of_behaviour, notes_text};
 use crate::fault::Fault;
 use crate::named_run::called;
 use crate::notes::Told;
-use crate::values_text::values_text;
+use boc_ends_report::values_text;
 use boc_eval::{Faulted, serial_end};
 use boc_notes::notes_on_serial;
 use boc_program::limits::MOST_TEXT;

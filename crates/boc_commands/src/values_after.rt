@@ -8,13 +8,13 @@ ghost use Rattle.boc_commands.specs.Beside.{IsOfStrayFile, IsOfValuesAfter, Refu
 ghost use Rattle.boc_commands.specs.Commands.{AnswersInput, Leaves, CountsSource, CountsSink};
 ghost use Rattle.boc_commands.specs.Notes.{AreNamedNotes, AreWanted, TellsValuesAfter};
 ghost use Rattle.boc_names.specs.Names.{AreNamesOf};
-ghost use Rattle.boc_commands.specs.ValueTexts.{values_text as values_text_spec};
+ghost use Rattle.boc_ends_report.specs.ValueTexts.{values_text as values_text_spec};
 
 use crate::beside::{of_stray_beside, record_beside};
 use crate::fault::Fault;
 use crate::notes::{Told, notes_on_run};
 use crate::values::MOST_TAKEN;
-use crate::values_text::values_text;
+use boc_ends_report::values_text;
 use boc_follow::follow_record;
 use boc_program::program::Program;
 use boc_reader::{DefListing, read_listed};

@@ -1,2 +1,3 @@
 pub mod Picks
 pub mod Draws
+pub mod Ways

@@ -3,12 +3,13 @@
 ghost use Rattle.std.specs.Prelude.{◌≡◌, ℕ, Ok, Err};
 ghost use Rattle.boc_program.specs.declared.program.Program.{Program};
 ghost use Rattle.boc_runs.specs.machine.Turns.{Driven, Turns, opening_driven};
-ghost use Rattle.std.specs.Prelude.{List};
+ghost use Rattle.std.specs.Prelude.{List, Option};
 ghost use Rattle.boc_draws.specs.declared.drawing.Drawn.{Drawn};
 ghost use Rattle.boc_draws.specs.declared.fault.DrawFault.TheVariants.{Behaviours};
 ghost use Rattle.boc_draws.specs.declared.picker.Picker.{Picker};
 ghost use Rattle.boc_draws.specs.declared.way.Way.{Way};
 ghost use Rattle.boc_draws.specs.Draws.{IsDraw, DrawsTo};
+ghost use Rattle.boc_draws.specs.Ways.{AnswersWay, IsWay};
 
 /// A draw is a function of the program, the number of workers, the way and the seed: two that were drawn have the same events, the
 /// same number of cowns, the same values at the end and as many steps; and where one is drawn none runs out of room.
@@ -29,4 +30,11 @@ pub fn one_draw()
 pub fn draws_are_turns()
     ensures { (p : Program) (workers seed : ℕ) (way : Way) (choices : List ℕ) (e : Driven) (later : Picker)
         → DrawsTo p workers way seed choices e later → Turns p (opening_driven p workers) choices e }
+{}
+
+/// There is one way at most of a program, a number of workers and a depth; and where there is one, the draw that counts its steps doesn't run out of room.
+pub fn one_way()
+    ensures one { (p : Program) (workers : ℕ) (depth : Option ℕ) (a b : Way) → IsWay p workers depth a → IsWay p workers depth b → a ≡ b }
+    ensures either { (p : Program) (workers : ℕ) (depth : Option ℕ) (way : Way) → IsWay p workers depth way
+        → AnswersWay p workers depth (Err Behaviours) → ⊥ }
 {}

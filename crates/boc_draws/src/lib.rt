@@ -2,6 +2,7 @@
 //! when is a function of the program, the number of workers, the way in which they are picked, and a seed.
 #![tactic(auto)]
 
+mod at_depth;
 mod drawing;
 mod fault;
 pub mod laws;
@@ -9,6 +10,7 @@ mod movers;
 mod picker;
 mod way;
 
+pub use at_depth::way_of;
 pub use drawing::{Drawn, draw};
 pub use fault::DrawFault;
 pub use way::{Depth, MOST_DEPTH, Way};

@@ -7,6 +7,8 @@ use Rattle.clap.specs.declared.builder.action.ArgAction.TheVariants as actions
 use Rattle.clap.specs.declared.builder.value_parser.ValueParser.{ValueParser}
 use Rattle.clap.specs.declared.builder.value_parser.ValueParser.TheVariants as parsers
 use Rattle.boc_program.specs.declared.limits.TheConstants.{MOST_COWNS, MOST_RUNNERS, MOST_WORKERS}
+use Rattle.boc_draws.specs.declared.way.TheConstants.{MOST_DEPTH}
+use Rattle.boc_outcomes.specs.declared.asked.TheConstants.{MOST_RUNS}
 use Rattle.boc_words.specs.declared.arguments.Numbers.{Numbers}
 use Rattle.boc_words.specs.declared.arguments.Numbers.TheVariants.{UpTo, Every}
 use Rattle.boc_words.specs.declared.commands.Kind.{Kind}
@@ -42,9 +44,17 @@ seed_option = record { id = codes "seed"; numbers = Every }
 abbrev pub top_option : NumberOption
 top_option = record { id = codes "top"; numbers = UpTo MOST_COWNS }
 
+-- `--depth D`, of priorities with so many points less one at which the worker that would move falls to the last
+abbrev pub depth_option : NumberOption
+depth_option = record { id = codes "depth"; numbers = UpTo MOST_DEPTH }
+
+-- `--runs K`, of so many runs that are drawn
+abbrev pub runs_option : NumberOption
+runs_option = record { id = codes "runs"; numbers = UpTo MOST_RUNS }
+
 -- every option with a number
 abbrev pub number_options : List NumberOption
-number_options = runners_option ∷ seed_option ∷ workers_option ∷ top_option ∷ []
+number_options = runners_option ∷ seed_option ∷ workers_option ∷ top_option ∷ depth_option ∷ runs_option ∷ []
 
 -- `--shared-reads`
 abbrev pub sharing_flag : Argument
@@ -96,10 +106,12 @@ edits_operands = operands (codes "edits")
 abbrev pub signature_of : Kind → Text × List Argument
 signature_of kinds.Values = (codes "values", repeated record_file ∷ quiet_flag ∷ [])
 signature_of kinds.Check = (codes "check", repeated program_file ∷ [])
-signature_of kinds.Run = (codes "run", number runners_option ∷ number seed_option ∷ quiet_flag ∷ [])
+signature_of kinds.Run = (codes "run", number runners_option ∷ number seed_option ∷ number depth_option ∷ quiet_flag ∷ [])
 signature_of kinds.Profile = (codes "profile", number workers_option ∷ sharing_flag ∷ quiet_flag ∷ [])
-signature_of kinds.Time =
-    (codes "time", number runners_option ∷ number seed_option ∷ number workers_option ∷ sharing_flag ∷ quiet_flag ∷ [])
+signature_of kinds.Time = (
+  codes "time",
+  number runners_option ∷ number seed_option ∷ number depth_option ∷ number workers_option ∷ sharing_flag ∷ quiet_flag ∷ [],
+)
 signature_of kinds.WhatIf = (
   codes "whatif",
   number workers_option ∷ sharing_flag ∷ without_option ∷ repeated program_file ∷ repeated names_file ∷ short_flag ∷ edits_operands ∷ [],
@@ -108,12 +120,16 @@ signature_of kinds.Curve = (codes "curve", number workers_option ∷ sharing_fla
 signature_of kinds.Sweep = (codes "sweep", number workers_option ∷ cowns_flag ∷ spawns_flag ∷ sharing_flag ∷ [])
 signature_of kinds.Why = (
   codes "why",
-  number runners_option ∷ number workers_option ∷ sharing_flag ∷ repeated record_file ∷ repeated names_file ∷ all_flag ∷ quiet_flag ∷ [],
+  number runners_option ∷ number seed_option ∷ number depth_option ∷ number workers_option ∷ sharing_flag ∷ repeated record_file
+      ∷ repeated names_file ∷ all_flag ∷ quiet_flag ∷ [],
 )
 signature_of kinds.Cowns = (
   codes "cowns",
-  number runners_option ∷ sharing_flag ∷ repeated record_file ∷ repeated names_file ∷ number top_option ∷ quiet_flag ∷ [],
+  number runners_option ∷ number seed_option ∷ number depth_option ∷ sharing_flag ∷ repeated record_file ∷ repeated names_file
+      ∷ number top_option ∷ quiet_flag ∷ [],
 )
+signature_of kinds.Outcomes =
+    (codes "outcomes", number runs_option ∷ number seed_option ∷ number runners_option ∷ number depth_option ∷ [])
 
 -- the files that a command may read beside its input, of which it takes one
 abbrev pub files_of : Kind → List Text
@@ -127,7 +143,7 @@ files_of _ = []
 -- every command, in the order of help
 abbrev pub every_kind : List Kind
 every_kind = kinds.Values ∷ kinds.Check ∷ kinds.Run ∷ kinds.Profile ∷ kinds.Time ∷ kinds.WhatIf ∷ kinds.Curve ∷ kinds.Sweep ∷ kinds.Why
-    ∷ kinds.Cowns ∷ []
+    ∷ kinds.Cowns ∷ kinds.Outcomes ∷ []
 
 -- each by its name, with what it takes
 abbrev pub commands_of_boc : List (Text × List Argument)

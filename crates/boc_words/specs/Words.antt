@@ -24,15 +24,19 @@ use Rattle.boc_words.specs.declared.words.Command.TheVariants as commands
 use Rattle.boc_words.specs.declared.commands.Kind.{Kind}
 use Rattle.boc_words.specs.declared.commands.Kind.TheVariants as called
 use Rattle.boc_words.specs.Commands.{Argument, IsNumberOf, NumberOption, commands_of_boc, number_options, shape_of_command, signature_of}
-use Rattle.boc_words.specs.Commands.{files_of, names_file, program_file, record_file, runners_option, seed_option, top_option, workers_option}
+use Rattle.boc_words.specs.Commands.{depth_option, files_of, names_file, program_file, record_file, runners_option, runs_option, seed_option}
+use Rattle.boc_words.specs.Commands.{top_option, workers_option}
 use Rattle.boc_words.specs.EditWords.{IsEditWord, IsWritable, edit_word}
 use Rattle.boc_words.specs.declared.asked.AskedCown.{AskedCown}
 use Rattle.boc_words.specs.declared.asked.AskedCown.TheVariants as cowns
+use Rattle.boc_words.specs.declared.asked.AskedDraws.{AskedDraws}
 use Rattle.boc_words.specs.declared.asked.AskedEdit.{AskedEdit}
 use Rattle.boc_words.specs.declared.asked.NamesFrom.{NamesFrom}
 use Rattle.boc_words.specs.declared.asked.NamesFrom.TheVariants as named
 use Rattle.boc_words.specs.declared.asked.RunFile.{RunFile}
 use Rattle.boc_words.specs.declared.asked.RunFile.TheVariants as files
+use Rattle.boc_words.specs.declared.schedule.Schedule.{Schedule}
+use Rattle.boc_words.specs.declared.schedule.Schedule.TheVariants as schedules
 
 -- ---- what the parser is told
 
@@ -79,13 +83,37 @@ GivesNumber option rows (Some number) = IsGiven (values_at rows option.id) numbe
 abbrev pub AreWorkers : List Row → Option ℕ → Type 0
 AreWorkers rows workers = GivesNumber workers_option rows workers
 
+-- the option was not given, and it is the usual number, or it was, with this number
+abbrev pub GivesOr : ℕ → NumberOption → List Row → ℕ → Type 0
+GivesOr usual option rows number = (GivesNumber option rows None × (number ≡ usual)) ⊎ GivesNumber option rows (Some number)
+
 -- no `--p` was given, and it is the most that may be, or one with this number
 abbrev pub AreUpTo : List Row → ℕ → Type 0
-AreUpTo rows number = (GivesNumber workers_option rows None × (number ≡ MOST_WORKERS)) ⊎ GivesNumber workers_option rows (Some number)
+AreUpTo rows number = GivesOr MOST_WORKERS workers_option rows number
 
 -- no `--workers` was given, and it is 1, or one with this number
 abbrev pub AreRunners : List Row → ℕ → Type 0
-AreRunners rows number = (GivesNumber runners_option rows None × (number ≡ 1)) ⊎ GivesNumber runners_option rows (Some number)
+AreRunners rows number = GivesOr 1 runners_option rows number
+
+-- How a program is to be run: where no `--seed` was given, and then no `--depth` either, by so many threads; and with a seed as it draws, at this
+-- depth where one was given.
+abbrev pub IsSchedule : List Row → Schedule → Type 0
+IsSchedule rows (schedules.Threads runners) =
+    AreRunners rows runners × GivesNumber seed_option rows None × GivesNumber depth_option rows None
+IsSchedule rows (schedules.Drawn workers seed depth) =
+    AreRunners rows workers × GivesNumber seed_option rows (Some seed) × GivesNumber depth_option rows depth
+
+-- `--depth` was given, and no `--seed`
+abbrev pub LacksSeed : List Row → Type 0
+LacksSeed rows = (values_at rows depth_option.id ≢ []) × (values_at rows seed_option.id ≡ [])
+
+-- the runs that are to be drawn: 1,000 where no `--runs` was given, the first by the seed 0 where no `--seed` was, by 4 workers where no `--workers`
+-- was, and at this depth where one was given
+pub record AreDraws (rows : List Row) (draws : AskedDraws) : Type 0 where
+  pub runs : GivesOr 1000 runs_option rows draws.runs
+  pub seed : GivesOr 0 seed_option rows draws.seed
+  pub workers : GivesOr 4 runners_option rows draws.workers
+  pub depth : GivesNumber depth_option rows draws.depth
 
 -- the flag was given
 abbrev pub IsSet : List Row → Text → Type 0
@@ -210,6 +238,20 @@ IsOfSweep rows (faults.Parser e) =
 IsOfSweep rows faults.Memory = Unit {0}
 IsOfSweep rows _ = ⊥
 
+-- the fault is a conflict of a depth without a seed, or says that the number behind `--workers`, `--seed` or `--depth` cannot be read, or that memory was
+-- refused
+abbrev pub IsOfSchedule : List Row → WordsFault → Type 0
+IsOfSchedule rows (faults.Parser e) =
+    MissesNumber (runners_option ∷ seed_option ∷ depth_option ∷ []) rows ⊎ ((kind_of e ≡ kinds.ArgumentConflict) × LacksSeed rows)
+IsOfSchedule rows faults.Memory = Unit {0}
+IsOfSchedule rows _ = ⊥
+
+-- the fault says that the number behind an option of `outcomes` cannot be read, or that memory was refused
+abbrev pub IsOfDraws : List Row → WordsFault → Type 0
+IsOfDraws rows (faults.Parser e) = MissesNumber (runs_option ∷ seed_option ∷ runners_option ∷ depth_option ∷ []) rows
+IsOfDraws rows faults.Memory = Unit {0}
+IsOfDraws rows _ = ⊥
+
 -- the fault is a conflict of more files than one, or says that memory was refused
 abbrev pub IsOfFiles : List Text → List Row → WordsFault → Type 0
 IsOfFiles files rows (faults.Parser e) = (kind_of e ≡ kinds.ArgumentConflict) × AreTooMany files rows
@@ -226,24 +268,23 @@ Names named kind Holds = (rows : List Row) × (named ≡ Some ((signature_of kin
 abbrev pub Asks : Kind → List Row → Command → Type 0
 Asks kind rows (commands.Values record_path quiet) = (kind ≡ called.Values) × GivesFile rows record_file record_path × IsQuiet rows quiet
 Asks kind rows (commands.Check program_path) = (kind ≡ called.Check) × GivesFile rows program_file program_path
-Asks kind rows (commands.Run runners seed quiet) =
-    (kind ≡ called.Run) × AreRunners rows runners × GivesNumber seed_option rows seed × IsQuiet rows quiet
+Asks kind rows (commands.Run schedule quiet) = (kind ≡ called.Run) × IsSchedule rows schedule × IsQuiet rows quiet
 Asks kind rows (commands.Profile workers sharing quiet) =
     (kind ≡ called.Profile) × AreWorkers rows workers × AreShared rows sharing × IsQuiet rows quiet
-Asks kind rows (commands.Time runners seed workers sharing quiet) =
-    (kind ≡ called.Time) × AreRunners rows runners × GivesNumber seed_option rows seed × AreWorkers rows workers × AreShared rows sharing
-    × IsQuiet rows quiet
+Asks kind rows (commands.Time schedule workers sharing quiet) =
+    (kind ≡ called.Time) × IsSchedule rows schedule × AreWorkers rows workers × AreShared rows sharing × IsQuiet rows quiet
 Asks kind rows (commands.WhatIf cowns edits workers sharing names short) =
     (kind ≡ called.WhatIf) × AreCowns rows cowns.items × AreEdits rows edits.items × AreWorkers rows workers × AreShared rows sharing
     × AreNamesFrom rows names × IsShort rows short
 Asks kind rows (commands.Curve most sharing) = (kind ≡ called.Curve) × AreUpTo rows most × AreShared rows sharing
 Asks kind rows (commands.Sweep over sharing) = (kind ≡ called.Sweep) × IsOver rows over × AreShared rows sharing
-Asks kind rows (commands.Why runners workers sharing file all quiet) =
-    (kind ≡ called.Why) × AreRunners rows runners × AreWorkers rows workers × AreShared rows sharing × IsRunFile rows file × IsAll rows all
+Asks kind rows (commands.Why schedule workers sharing file all quiet) =
+    (kind ≡ called.Why) × IsSchedule rows schedule × AreWorkers rows workers × AreShared rows sharing × IsRunFile rows file × IsAll rows all
     × IsQuiet rows quiet
-Asks kind rows (commands.Cowns runners sharing file top quiet) =
-    (kind ≡ called.Cowns) × AreRunners rows runners × AreShared rows sharing × IsRunFile rows file × GivesNumber top_option rows top
+Asks kind rows (commands.Cowns schedule sharing file top quiet) =
+    (kind ≡ called.Cowns) × IsSchedule rows schedule × AreShared rows sharing × IsRunFile rows file × GivesNumber top_option rows top
     × IsQuiet rows quiet
+Asks kind rows (commands.Outcomes draws) = (kind ≡ called.Outcomes) × AreDraws rows draws
 Asks kind rows (commands.Help text) = ⊥
 Asks kind rows commands.Version = ⊥
 
@@ -264,10 +305,15 @@ IsUnknown named = (name : List ℕ) (rows : List Row) → named ≡ Some (name, 
 abbrev pub HasNoNumbers : Option (List ℕ × List Row) → Type 0
 HasNoNumbers named = (kind : Kind) × Names named kind (MissesNumber number_options)
 
--- what the parser takes for this command does not fit, for a conflict: of a sweep, options that are at odds; of any command, more files than one
+-- the command runs a program by a schedule
+abbrev pub HasSchedule : Kind → Type 0
+HasSchedule kind = (kind ≡ called.Run) ⊎ ((kind ≡ called.Time) ⊎ ((kind ≡ called.Why) ⊎ (kind ≡ called.Cowns)))
+
+-- what the parser takes for this command does not fit, for a conflict: of a sweep, options that are at odds; of a command that runs a program by a
+-- schedule, a depth without a seed; of any command, more files than one
 pub record IsUnfit (kind : Kind) (rows : List Row) (error : ErrorKind) : Type 0 where
   pub conflict : error ≡ kinds.ArgumentConflict
-  pub why : ((kind ≡ called.Sweep) × AreAtOdds rows) ⊎ AreTooMany (files_of kind) rows
+  pub why : ((kind ≡ called.Sweep) × AreAtOdds rows) ⊎ ((HasSchedule kind × LacksSeed rows) ⊎ AreTooMany (files_of kind) rows)
 
 -- a command was named, and what was found for it does not fit, for an error of this kind
 abbrev pub HasUnfit : Option (List ℕ × List Row) → ErrorKind → Type 0

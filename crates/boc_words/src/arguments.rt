@@ -5,6 +5,8 @@ ghost use Rattle.clap.specs.Words.{rule_of};
 ghost use Rattle.boc_words.specs.Commands.{IsNumberOf, parser_of, rule_at};
 ghost use Rattle.boc_words.specs.Tables.{argument_of};
 
+use boc_draws::MOST_DEPTH;
+use boc_outcomes::MOST_RUNS;
 use boc_program::limits::{MOST_COWNS, MOST_RUNNERS, MOST_WORKERS};
 use clap::builder::ValueParser;
 use clap::{Arg, ArgAction, value_parser};
@@ -76,7 +78,43 @@ pub(crate) const SEED: NumberOption = NumberOption {
     value_name: "S",
     numbers: Numbers::Every,
     help: "Runs the program on one thread, as N workers of which one is picked at each turn, at random by the number S of 64 bits: \
-        the same run each time, on every machine",
+        the same run each time, on every machine; one worker leaves nothing to draw, so give --workers at least 2",
+};
+
+/// By priorities with how many points the worker that moves next is picked.
+pub(crate) const DEPTH: NumberOption = NumberOption {
+    id: "depth",
+    value_name: "D",
+    numbers: Numbers::UpTo(MOST_DEPTH),
+    help: "With --seed, D from 1 to 16: the workers stand in an order that is drawn, the first that can move does, and before D - 1 steps \
+        that are drawn it falls to the last",
+};
+
+/// How many runs are drawn.
+pub(crate) const RUNS: NumberOption = NumberOption {
+    id: "runs",
+    value_name: "K",
+    numbers: Numbers::UpTo(MOST_RUNS),
+    help: "Draws K runs, 1 to 1,000,000; 1,000 if not given",
+};
+
+/// The seed of the first run that is drawn.
+pub(crate) const FIRST_SEED: NumberOption = NumberOption {
+    help: "Draws the first run by the number S of 64 bits, and each other one by the next number; 0 if not given",
+    ..SEED
+};
+
+/// How many workers runs are drawn for.
+pub(crate) const DRAWN_WORKERS: NumberOption = NumberOption {
+    help: "Draws runs of N workers, 1 to 16; 4 if not given",
+    ..RUNNERS
+};
+
+/// By priorities with how many points each run is drawn.
+pub(crate) const DRAWN_DEPTH: NumberOption = NumberOption {
+    help: "D from 1 to 16: in each run the workers stand in an order that is drawn, the first that can move does, and before D - 1 steps \
+        that are drawn it falls to the last",
+    ..DEPTH
 };
 
 /// How many workers carry out a greedy plan.
@@ -195,6 +233,12 @@ const _: () = prove!(MOST_WORKERS == 64);
 
 // So many are named in the help of `--top`.
 const _: () = prove!(MOST_COWNS == 256);
+
+// So many are named in the help of `--depth`.
+const _: () = prove!(MOST_DEPTH == 16);
+
+// So many are named in the help of `--runs`.
+const _: () = prove!(MOST_RUNS == 1_000_000);
 
 impl Numbers {
     /// Whether a number is one of these.

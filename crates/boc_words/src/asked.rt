@@ -1,5 +1,8 @@
 // What words of a command line name.
 
+use crate::runners::Runners;
+use crate::runs::Runs;
+use boc_draws::Depth;
 use boc_plans::edit::{Edit, Part};
 use boc_program::short::CownNo;
 
@@ -37,4 +40,14 @@ pub enum NamesFrom {
     Program(String),
     /// The names of rows and cowns.
     Names(String),
+}
+
+/// So many runs, of which the first has this seed and each other one the next, by so many workers, of which the one that moves next is
+/// picked at random among all that can, or by random priorities of this depth.
+#[derive(Clone, Copy, PartialEq, Eq, Debug)]
+pub struct AskedDraws {
+    pub runs: Runs,
+    pub seed: u64,
+    pub workers: Runners,
+    pub depth: Option<Depth>,
 }

@@ -8,8 +8,9 @@ ghost use Rattle.boc_words.specs.Words.{IsNoneOf, Told, command_line, without_co
 
 use crate::arguments::Argument::{Flag, Number, Repeated, Words};
 use crate::arguments::{
-    ALL, Argument, CURVE_WORKERS, EDITS, NAMES, PROGRAM, QUIET, RECORD, RUNNERS, SEED, SHARING,
-    SHORT, SWEEP_COWNS, SWEEP_SPAWNS, SWEEP_WORKERS, TOP, WHY_WORKERS, WITHOUT, WORKERS,
+    ALL, Argument, CURVE_WORKERS, DEPTH, DRAWN_DEPTH, DRAWN_WORKERS, EDITS, FIRST_SEED, NAMES,
+    PROGRAM, QUIET, RECORD, RUNNERS, RUNS, SEED, SHARING, SHORT, SWEEP_COWNS, SWEEP_SPAWNS,
+    SWEEP_WORKERS, TOP, WHY_WORKERS, WITHOUT, WORKERS,
 };
 use crate::version::VERSION;
 use std::alloc::{AllocError, Global};
@@ -27,6 +28,7 @@ pub(crate) enum Kind {
     Sweep,
     Why,
     Cowns,
+    Outcomes,
 }
 
 // What the parser is told of a command: what help says of it, which arguments it takes, and what help says of the lines that it prints.
@@ -44,7 +46,8 @@ const RECORD_LINES: &str = "The first line is `boc 2 COWNS`, the last one `.`; b
   < ROW TICKS STATUS COWN..     it ends, and wrote these cowns
 Ticks are what a body's statements cost, and no time that passes.
 
-Examples: boc run --workers 4 < program.boc | boc why; boc run --workers 4 --seed 3 < program.boc | boc profile";
+Examples: boc run --workers 4 < program.boc | boc why; boc run --workers 4 --seed 3 < program.boc | boc profile
+Statuses are told by `boc --help`.";
 
 // What the lines of a report say.
 const REPORT_LINES: &str =
@@ -54,7 +57,8 @@ const REPORT_LINES: &str =
   ROW START END WORKER    a row of the greedy plan, and `end END bound BOUND` behind them
 All are ticks but the rows and the workers, which count from 0. The span is the end of the earliest plan.
 
-Examples: boc time --workers 4 < program.boc; boc run < program.boc | boc profile --p 2";
+Examples: boc time --workers 4 < program.boc; boc run < program.boc | boc profile --p 2
+Statuses are told by `boc --help`.";
 
 // What the lines of a curve say.
 const CURVE_LINES: &str =
@@ -65,7 +69,8 @@ each number of workers. The greedy plan gives the workers that are free at a tic
   BOUND    that greedy plan ends no later: the work divided by P, rounded down, plus the span
 All are ticks but P.
 
-Example: boc run < program.boc | boc curve --p 8";
+Example: boc run < program.boc | boc curve --p 8
+Statuses are told by `boc --help`.";
 
 // What the lines of a sweep say.
 const SWEEP_LINES: &str =
@@ -76,7 +81,8 @@ fewer ticks. With --cowns or --spawns the lines are others:
   ROW SPAN    a row but main, and the span if that row alone were spawned as early as it can be, one tick after its elder sibling
               or at its parent's tick 1 (a program's first `when` stands at 2, so a line can be a tick below what a text reaches)
 
-Example: boc run < program.boc | boc sweep --cowns";
+Example: boc run < program.boc | boc sweep --cowns
+Statuses are told by `boc --help`.";
 
 // What `why` tells.
 const WHY_LINES: &str =
@@ -88,10 +94,12 @@ const WHY_LINES: &str =
                    sooner; a cown, or all of an array, that orders nobody; a def's behaviours that spawn one tick after the other
   no order of ..   whatever order they get their cowns in, these behaviours end no sooner
 Of a program names are those of its text; of a record each row and each cown has its number. Ticks are what a body's statements cost, and no
-time that passes. Four or more rows of one def that follow each other stand in one line, unless --all is given; lists end after 20 lines.
+time that passes. Four or more rows of one def that follow each other stand in one line, unless --all is given; the other lists end after 20
+lines. Cowns of an array that follow each other in a row may stand as a range: acct[0..5] are those from 0 to 5.
 With --record the input is a program, and the run is the one whose record is in FILE.
 
-Example: boc why --workers 4 < program.boc";
+Example: boc why --workers 4 < program.boc
+Statuses are told by `boc --help`.";
 
 // What `cowns` tells.
 const COWNS_LINES: &str =
@@ -101,13 +109,15 @@ that are held longest:
   held, of span    how many ticks these rows take together, and what part of the span that is
   waited           how many ticks rows wait for it between their spawn and their start; where a row waits for several, they count for each
   chain            how many ticks of the chain that holds the run back go by until it is handed on
-  without          the span if it ordered nobody
+  without          the span if it ordered nobody; where that is no less than the span, other cowns order the same behaviours: ask
+                   `boc whatif --without A --without B`
 Below stand the span, what it would be if no cown ordered anybody, and how long the busiest cown is held; and a verdict:
   load     a cown is held for at least 75 of 100 ticks of the span: split it, or shorten what holds it
   order    none is; what holds the run back is the order in which behaviours are spawned and get their cowns
 With --record the input is a program, and the run is the one whose record is in FILE.
 
-Example: boc cowns --top 3 < program.boc";
+Example: boc cowns --top 3 < program.boc
+Statuses are told by `boc --help`.";
 
 // What `whatif` prints.
 const WHATIF_LINES: &str = "The lines are those of `profile`, or with --short:
@@ -116,7 +126,24 @@ const WHATIF_LINES: &str = "The lines are those of `profile`, or with --short:
 A def, and a cown that is left out by name, is one of the program in --program FILE or of the names in --names FILE; without them `row 2`
 is the def of row 2, and `cown 0` a cown. A number is always a row's or a cown's.
 
-Example: boc run < program.boc | boc whatif --program program.boc --short transfer=1/2";
+Example: boc run < program.boc | boc whatif --program program.boc --short transfer=1/2
+Statuses are told by `boc --help`.";
+
+// What `outcomes` prints.
+const OUTCOMES_LINES: &str =
+    "K runs are drawn, each on one thread, as N workers of which one is picked at each turn at random, by a seed of its own. What comes out:
+  runs K                          how many runs were drawn
+  rows LEAST MOST                 how many rows they have
+  spans LEAST MOST                their spans
+  outcome RUNS seed S span A B    so many runs ended with the values below, the first of them that of seed S, their spans from A to B
+  NAME VALUE                      a value, as `values` prints it
+The most frequent ends come first, of those that are as frequent the one that came first. These are ends with N workers; not all that
+the program has need be found, and more runs may find more. --depth finds ends that need few switches at the right places, which are rare where
+each turn is as likely as another; begin with --depth 2. A seed brings its run back beside the same --workers and --depth: `boc run
+--workers N --seed S`.
+
+Example: boc outcomes --runs 10000 < program.boc
+Statuses are told by `boc --help`.";
 
 // What holds of every command.
 const COMMON_LINES: &str =
@@ -145,15 +172,18 @@ const EVERY_KIND: &[Kind] = &[
     Kind::Sweep,
     Kind::Why,
     Kind::Cowns,
+    Kind::Outcomes,
 ];
 
 const VALUES: Entry = Entry {
     about: "Reads a program, runs it serially, and prints the values of its cowns",
     takes: &[Repeated(RECORD), Flag(QUIET)],
-    lines: "A line is NAME VALUE, or NAME[INDEX] VALUE for a member of an array.
+    lines: "A line is NAME VALUE, or NAME[INDEX] VALUE for a member of an array. The values are those of the serial run: others may end otherwise,
+see `boc outcomes`.
 With --record the values are those with which the run ended whose record is in FILE; it must be one of the program.
 
-Example: boc values < program.boc",
+Example: boc values < program.boc
+Statuses are told by `boc --help`.",
 };
 
 const CHECK: Entry = Entry {
@@ -165,12 +195,13 @@ fourteen faults of records these are told then, with the line of the record:
   16 NotNextSpawn   a row is spawned that is not what its parent spawns next
   17 NotItsEnd      a row ends otherwise than its behaviour does
 
-Example: boc run < program.boc | boc check --program program.boc",
+Example: boc run < program.boc | boc check --program program.boc
+Statuses are told by `boc --help`.",
 };
 
 const RUN: Entry = Entry {
     about: "Reads a program, runs it by several threads, and prints the record of the run",
-    takes: &[Number(RUNNERS), Number(SEED), Flag(QUIET)],
+    takes: &[Number(RUNNERS), Number(SEED), Number(DEPTH), Flag(QUIET)],
     lines: RECORD_LINES,
 };
 
@@ -185,6 +216,7 @@ const TIME: Entry = Entry {
     takes: &[
         Number(RUNNERS),
         Number(SEED),
+        Number(DEPTH),
         Number(WORKERS),
         Flag(SHARING),
         Flag(QUIET),
@@ -227,6 +259,8 @@ const WHY: Entry = Entry {
     about: "Reads a program or the record of a run, and tells which cowns, spawns and behaviours hold it back",
     takes: &[
         Number(RUNNERS),
+        Number(SEED),
+        Number(DEPTH),
         Number(WHY_WORKERS),
         Flag(SHARING),
         Repeated(RECORD),
@@ -241,6 +275,8 @@ const COWNS: Entry = Entry {
     about: "Reads a program or the record of a run, and tells which cowns are held and waited for, and whether they hold the run back",
     takes: &[
         Number(RUNNERS),
+        Number(SEED),
+        Number(DEPTH),
         Flag(SHARING),
         Repeated(RECORD),
         Repeated(NAMES),
@@ -248,6 +284,17 @@ const COWNS: Entry = Entry {
         Flag(QUIET),
     ],
     lines: COWNS_LINES,
+};
+
+const OUTCOMES: Entry = Entry {
+    about: "Reads a program, draws many runs of it by seeds, and prints the ends that they come to, with how often and by which seed",
+    takes: &[
+        Number(RUNS),
+        Number(FIRST_SEED),
+        Number(DRAWN_WORKERS),
+        Number(DRAWN_DEPTH),
+    ],
+    lines: OUTCOMES_LINES,
 };
 
 impl Kind {
@@ -266,6 +313,7 @@ impl Kind {
             Kind::Sweep => "sweep",
             Kind::Why => "why",
             Kind::Cowns => "cowns",
+            Kind::Outcomes => "outcomes",
         }
     }
 
@@ -284,6 +332,7 @@ impl Kind {
             Kind::Sweep => SWEEP,
             Kind::Why => WHY,
             Kind::Cowns => COWNS,
+            Kind::Outcomes => OUTCOMES,
         }
     }
 

@@ -7,11 +7,15 @@ mod commands;
 mod edit_word;
 mod fault;
 mod runners;
+mod runs;
+mod schedule;
 mod version;
 mod words;
 
-pub use asked::{AskedCown, AskedEdit, NamesFrom, RunFile};
+pub use asked::{AskedCown, AskedDraws, AskedEdit, NamesFrom, RunFile};
 pub use fault::WordsFault;
 pub use runners::Runners;
+pub use runs::Runs;
+pub use schedule::Schedule;
 pub use version::VERSION;
 pub use words::{Command, not_text, read_words};

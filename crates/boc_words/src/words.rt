@@ -1,10 +1,11 @@
 // The words of the command line.
 
-ghost use Rattle.boc_words.specs.Commands.{IsNumberOf, names_file, program_file, record_file, runners_option, top_option, workers_option};
+ghost use Rattle.boc_words.specs.Commands.{IsNumberOf, depth_option, names_file, program_file, record_file, runners_option, top_option, workers_option};
 ghost use Rattle.boc_words.specs.Tables.{option_of};
 ghost use Rattle.boc_words.specs.Words.{AreCowns, AreEdits, AreNamesFrom, AreRunners, AreShared, AreTaken, AreUpTo, AreWorkers, Asks};
 ghost use Rattle.boc_words.specs.Words.{GivesFile, GivesNumber, IsAsked, IsCownText, IsGiven, IsMisnamed, IsNamed, IsOfEditWords, IsOfError};
 ghost use Rattle.boc_words.specs.Words.{IsOfFiles, IsOfKind, IsOfNoText, IsOfNumber, IsOfSweep, IsOver, IsRefused, IsRunFile, IsTextOfKind, IsUnread};
+ghost use Rattle.boc_words.specs.Words.{AreDraws, GivesOr, IsOfDraws, IsOfSchedule, IsSchedule};
 ghost use Rattle.boc_words.specs.Words.{command_line, values_at};
 ghost use Rattle.clap.specs.Kinds.{HasKind};
 ghost use Rattle.clap.specs.declared.error.kind.ErrorKind.TheVariants.{ArgumentConflict, ValueValidation};
@@ -12,14 +13,17 @@ ghost use Rattle.clap.specs.Words.{fault_of, found_of, kind_of, rows_of, subcomm
 ghost use Rattle.std.specs.Prelude.{◌≡◌, ◌∷◌, ◌↔◌, [], ℕ, IfErr, IfNone, IfOk, IfSome, IsTrue, codes, map, string_bytes};
 
 use crate::arguments::{
-    ALL, EDITS, NAMES, NumberOption, Numbers, PROGRAM, QUIET, RECORD, RUNNERS, RepeatedOption,
-    SEED, SHARING, SHORT, SWEEP_COWNS, SWEEP_SPAWNS, TOP, WITHOUT, WORKERS,
+    ALL, DEPTH, EDITS, NAMES, NumberOption, Numbers, PROGRAM, QUIET, RECORD, RUNNERS, RUNS,
+    RepeatedOption, SEED, SHARING, SHORT, SWEEP_COWNS, SWEEP_SPAWNS, TOP, WITHOUT, WORKERS,
 };
-use crate::asked::{AskedCown, AskedEdit, NamesFrom, RunFile};
+use crate::asked::{AskedCown, AskedDraws, AskedEdit, NamesFrom, RunFile};
 use crate::commands::{Kind, kind_of, parser};
 use crate::edit_word::edit_of;
 use crate::fault::WordsFault;
 use crate::runners::Runners;
+use crate::runs::Runs;
+use crate::schedule::Schedule;
+use boc_draws::Depth;
 use boc_plans::sharing::Sharing;
 use boc_plans::sweep::Sweep;
 use boc_plans::workers::Workers;
@@ -41,10 +45,9 @@ pub enum Command {
     Check {
         program: Option<String>,
     },
-    /// The record of a run of a program by so many threads; or, where a seed is given, of the run of as many workers that it draws.
+    /// The record of a run of a program.
     Run {
-        runners: Runners,
-        seed: Option<u64>,
+        schedule: Schedule,
         quiet: bool,
     },
     /// The report on the rows of a record that share cowns in this way, with the greedy plan for so many workers where a
@@ -56,8 +59,7 @@ pub enum Command {
     },
     /// The report on the rows of a run, as for `Run`, with the greedy plan as for a profile.
     Time {
-        runners: Runners,
-        seed: Option<u64>,
+        schedule: Schedule,
         workers: Option<Workers>,
         sharing: Sharing,
         quiet: bool,
@@ -83,10 +85,10 @@ pub enum Command {
         over: Sweep,
         sharing: Sharing,
     },
-    /// Why the rows of a run of a program, by so many threads where the input is one, or of a record take as long as they do; each row of the
+    /// Why the rows of a run of a program, by this schedule where the input is one, or of a record take as long as they do; each row of the
     /// chain on a line of its own where all are asked for, and the end of the greedy plan for so many workers where a number is given.
     Why {
-        runners: Runners,
+        schedule: Schedule,
         workers: Option<Workers>,
         sharing: Sharing,
         file: Option<RunFile>,
@@ -95,12 +97,14 @@ pub enum Command {
     },
     /// Which cowns of a run or of a record, as for `Why`, are held and waited for; so many where a number is given.
     Cowns {
-        runners: Runners,
+        schedule: Schedule,
         sharing: Sharing,
         file: Option<RunFile>,
         top: Option<u32>,
         quiet: bool,
     },
+    /// The ends that runs of a program come to that are drawn, and how often.
+    Outcomes(AskedDraws),
     /// The parser's own text, for standard output.
     Help(String),
     /// The version of the program, which is [`VERSION`](crate::VERSION).
@@ -188,8 +192,7 @@ fn asked(alloc: Global, kind: Kind, matches: &ArgMatches) -> Result<Command, Wor
             program: file_asked(alloc, matches, &PROGRAM)?,
         }),
         Kind::Run => Ok(Command::Run {
-            runners: runners_asked(alloc, matches)?,
-            seed: number_asked(alloc, matches, &SEED)?,
+            schedule: schedule_asked(alloc, matches)?,
             quiet: is_set(texts_at(matches, QUIET.id)),
         }),
         Kind::Profile => Ok(Command::Profile {
@@ -198,8 +201,7 @@ fn asked(alloc: Global, kind: Kind, matches: &ArgMatches) -> Result<Command, Wor
             quiet: is_set(texts_at(matches, QUIET.id)),
         }),
         Kind::Time => Ok(Command::Time {
-            runners: runners_asked(alloc, matches)?,
-            seed: number_asked(alloc, matches, &SEED)?,
+            schedule: schedule_asked(alloc, matches)?,
             workers: workers_asked(alloc, matches)?,
             sharing: sharing_asked(matches),
             quiet: is_set(texts_at(matches, QUIET.id)),
@@ -221,7 +223,7 @@ fn asked(alloc: Global, kind: Kind, matches: &ArgMatches) -> Result<Command, Wor
             sharing: sharing_asked(matches),
         }),
         Kind::Why => Ok(Command::Why {
-            runners: runners_asked(alloc, matches)?,
+            schedule: schedule_asked(alloc, matches)?,
             workers: workers_asked(alloc, matches)?,
             sharing: sharing_asked(matches),
             file: run_file_asked(alloc, matches)?,
@@ -229,12 +231,13 @@ fn asked(alloc: Global, kind: Kind, matches: &ArgMatches) -> Result<Command, Wor
             quiet: is_set(texts_at(matches, QUIET.id)),
         }),
         Kind::Cowns => Ok(Command::Cowns {
-            runners: runners_asked(alloc, matches)?,
+            schedule: schedule_asked(alloc, matches)?,
             sharing: sharing_asked(matches),
             file: run_file_asked(alloc, matches)?,
             top: top_asked(alloc, matches)?,
             quiet: is_set(texts_at(matches, QUIET.id)),
         }),
+        Kind::Outcomes => Ok(Command::Outcomes(draws_asked(alloc, matches)?)),
     }
 }
 
@@ -378,6 +381,78 @@ fn runners_asked(alloc: Global, matches: &ArgMatches) -> Result<Runners, WordsFa
     match number_asked(alloc, matches, &RUNNERS)? {
         Some(number) => Ok(Runners::new(number as u32).unwrap()),
         None => Ok(Runners::one()),
+    }
+}
+
+// How the words have a program run: by threads, or as a seed draws. A depth without a seed is a fault.
+fn schedule_asked(alloc: Global, matches: &ArgMatches) -> Result<Schedule, WordsFault>
+    ensures asked { IfOk result (IsSchedule (rows_of (found_of matches.now))) }
+    ensures refused { IfErr result (IsOfSchedule (rows_of (found_of matches.now))) }
+{
+    let workers = runners_asked(alloc, matches)?;
+    let seed = number_asked(alloc, matches, &SEED)?;
+    match (seed, depth_asked(alloc, matches)?) {
+        (Some(seed), depth) => Ok(Schedule::Drawn {
+            workers,
+            seed,
+            depth,
+        }),
+        (None, None) => Ok(Schedule::Threads(workers)),
+        (None, Some(_)) => Err(at_odds(
+            alloc,
+            "the argument '--depth <D>' cannot be used without '--seed <S>'",
+        )),
+    }
+}
+
+// The depth that the words ask for, none where they have no `--depth`.
+fn depth_asked(alloc: Global, matches: &ArgMatches) -> Result<Option<Depth>, WordsFault>
+    ensures asked { IfOk result (GivesNumber depth_option (rows_of (found_of matches.now))) }
+    ensures refused { IfErr result (IsOfNumber depth_option (rows_of (found_of matches.now))) }
+{
+    match number_asked(alloc, matches, &DEPTH)? {
+        Some(number) => Ok(Depth::new(number as u32)),
+        None => Ok(None),
+    }
+}
+
+// How many runs are drawn where the words have no `--runs`.
+const USUAL_RUNS: u64 = 1_000;
+
+// How many workers runs are drawn for where the words have no `--workers`.
+const USUAL_WORKERS: u64 = 4;
+
+// The runs that the words have drawn.
+fn draws_asked(alloc: Global, matches: &ArgMatches) -> Result<AskedDraws, WordsFault>
+    ensures asked { IfOk result (AreDraws (rows_of (found_of matches.now))) }
+    ensures refused { IfErr result (IsOfDraws (rows_of (found_of matches.now))) }
+{
+    let runs = number_or(alloc, matches, &RUNS, USUAL_RUNS)?;
+    let seed = number_or(alloc, matches, &SEED, 0)?;
+    let workers = number_or(alloc, matches, &RUNNERS, USUAL_WORKERS)?;
+    Ok(AskedDraws {
+        runs: Runs::new(runs as u32).unwrap(),
+        seed,
+        workers: Runners::new(workers as u32).unwrap(),
+        depth: depth_asked(alloc, matches)?,
+    })
+}
+
+// The number that the words give for an option, and this one where they don't have the option.
+fn number_or(
+    alloc: Global,
+    matches: &ArgMatches,
+    option: &NumberOption,
+    usual: u64,
+) -> Result<u64, WordsFault>
+    requires { IsNumberOf option.now.numbers usual }
+    ensures asked { IfOk result (GivesOr usual (option_of option.now) (rows_of (found_of matches.now))) }
+    ensures taken { IfOk result (IsNumberOf option.now.numbers) }
+    ensures refused { IfErr result (IsOfNumber (option_of option.now) (rows_of (found_of matches.now))) }
+{
+    match number_asked(alloc, matches, option)? {
+        Some(number) => Ok(number),
+        None => Ok(usual),
     }
 }
 

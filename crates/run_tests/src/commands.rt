@@ -1,7 +1,10 @@
 //! Commands whose source or sink fails. What each command answers is in the program's own tests.
 
 use crate::runs::{GREEDY, RECORD, REPORT, TRANSFER, bytes};
-use boc_commands::{AskedEdit, Command, Fault, Runners, Silent, VERSION, Want, run_command};
+use boc_commands::{
+    AskedDraws, AskedEdit, Command, Fault, Runners, Runs, Schedule, Silent, VERSION, Want,
+    run_command,
+};
 use boc_plans::edit::{Change, Edit};
 use boc_plans::sharing::Sharing;
 use boc_plans::sweep::Sweep;
@@ -19,6 +22,15 @@ struct Case {
     input: &'static str,
     answer: String,
 }
+
+// The ends of three draws for one worker.
+const ENDS: &str = "runs 3
+rows 4 4
+spans 9 9
+outcome 3 seed 7 span 9 9
+a 12
+b 4
+";
 
 // The report on the transfer's rows with one tick in row 2.
 const SHORTER: &str = "rows 4
@@ -119,35 +131,41 @@ fn shorter(alloc: Global, workers: Option<Workers>) -> Result<Command, AllocErro
 }
 
 // The commands that read a program.
-fn of_programs(alloc: Global) -> Result<[Case; 4], AllocError> {
-    let runners = Runners::one();
+fn of_programs(alloc: Global) -> Result<[Case; 5], AllocError> {
+    let one = Runners::one();
+    let schedule = Schedule::Threads(one);
     let quiet = false;
     let alone = Command::Values {
         record: None,
         quiet,
     };
     let timed = Command::Time {
-        runners,
-        seed: None,
+        schedule,
         workers: None,
         sharing: Sharing::Exclusive,
         quiet,
     };
-    let run = Command::Run {
-        runners,
-        seed: None,
-        quiet,
-    };
+    let run = Command::Run { schedule, quiet };
     let drawn = Command::Run {
-        runners,
-        seed: Some(7),
+        schedule: Schedule::Drawn {
+            workers: one,
+            seed: 7,
+            depth: None,
+        },
         quiet,
     };
+    let ends = Command::Outcomes(AskedDraws {
+        runs: Runs::new(3).unwrap(),
+        seed: 7,
+        workers: one,
+        depth: None,
+    });
     Ok([
         answered(alloc, alone, TRANSFER, "a 12\nb 4\n", "")?,
         answered(alloc, run, TRANSFER, RECORD, "")?,
         answered(alloc, drawn, TRANSFER, RECORD, "")?,
         answered(alloc, timed, TRANSFER, REPORT, "")?,
+        answered(alloc, ends, TRANSFER, ENDS, "")?,
     ])
 }
 
@@ -231,7 +249,7 @@ fn of_files(alloc: Global) -> Result<[Case; 2], AllocError> {
 // The commands that read a program or a record, as its first word tells.
 fn of_either(alloc: Global) -> Result<[Case; 2], AllocError> {
     let why = Command::Why {
-        runners: Runners::one(),
+        schedule: Schedule::Threads(Runners::one()),
         workers: None,
         sharing: Sharing::Exclusive,
         file: None,
@@ -239,7 +257,7 @@ fn of_either(alloc: Global) -> Result<[Case; 2], AllocError> {
         quiet: false,
     };
     let cowns = Command::Cowns {
-        runners: Runners::one(),
+        schedule: Schedule::Threads(Runners::one()),
         sharing: Sharing::Exclusive,
         file: None,
         top: None,

@@ -3,7 +3,7 @@
 ghost use Rattle.std.specs.Prelude.{◌≡◌, IfOk};
 
 use crate::gates::{Meeting, Place, StopsAtSecondBody, StopsAtSwap};
-use boc_commands::{Command, Fault, Runners, Silent, run_cmd, run_command, time_cmd};
+use boc_commands::{Command, Fault, Runners, Schedule, Silent, run_cmd, run_command, time_cmd};
 use boc_plans::sharing::Sharing;
 use boc_plans::workers::Workers;
 use boc_text::Bytes;
@@ -158,8 +158,7 @@ fn run_of<R: Threads + Wait + Sync, G: Gate>(
     let result = run_cmd(
         rt,
         alloc,
-        runners,
-        None,
+        Schedule::Threads(runners),
         false,
         gate,
         &mut notes,
@@ -186,8 +185,7 @@ fn time_of<R: Threads + Wait + Sync, G: Gate>(
     let result = time_cmd(
         rt,
         alloc,
-        runners,
-        None,
+        Schedule::Threads(runners),
         workers,
         Sharing::Exclusive,
         false,
@@ -301,13 +299,11 @@ fn as_many_threads_as_asked_for(rt: HostRuntime) -> Result<(), Fail> {
     let two = Runners::new(2).ok_or("there are 1 to 16 threads")?;
     for command in [
         Command::Run {
-            runners: two,
-            seed: None,
+            schedule: Schedule::Threads(two),
             quiet: false,
         },
         Command::Time {
-            runners: two,
-            seed: None,
+            schedule: Schedule::Threads(two),
             workers: None,
             sharing: Sharing::Exclusive,
             quiet: false,

@@ -8,7 +8,7 @@ use Rattle.boc_runs.proofs.examples.TransferRun.{transfer_is_whole}
 use Rattle.boc_follow.specs.declared.stray.StrayFault.{StrayFault}
 use Rattle.boc_follow.specs.declared.stray.StrayFaultKind.TheVariants as kinds
 use Rattle.boc_commands.specs.Beside.{StraysFrom}
-use Rattle.boc_commands.specs.ValueTexts.{values_text}
+use Rattle.boc_ends_report.specs.ValueTexts.{values_text}
 
 -- a record of the run's events over so many cowns
 abbrev over : ℕ → Recorded

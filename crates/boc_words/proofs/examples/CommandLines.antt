@@ -7,9 +7,11 @@ use Rattle.boc_words.specs.Commands.{files_of}
 use Rattle.boc_words.specs.EditWords.{edit_word}
 use Rattle.boc_words.specs.declared.asked.AskedCown.TheVariants.{Number}
 use Rattle.boc_words.specs.declared.asked.AskedEdit.TheVariants.{Row}
-use Rattle.boc_words.specs.Words.{AreAtOdds, AreCowns, AreRunners, AreShared, AreTaken, AreUpTo, AreTooMany, AreWorkers, IsOver, Names}
+use Rattle.boc_words.specs.Words.{AreAtOdds, AreCowns, AreDraws, AreRunners, AreShared, AreTaken, AreUpTo, AreTooMany, AreWorkers, IsOver, IsSchedule}
+use Rattle.boc_words.specs.Words.{LacksSeed, Names}
 use Rattle.boc_words.specs.Words.{command_line, values_at}
 use Rattle.boc_words.specs.declared.commands.Kind.TheVariants as called
+use Rattle.boc_words.specs.declared.schedule.Schedule.TheVariants.{Drawn}
 use Rattle.boc_plans.specs.declared.edit.Change.TheVariants.{Offset, Ticks, Cost}
 use Rattle.boc_plans.specs.declared.sharing.Sharing.TheVariants.{Exclusive, SharedReads}
 use Rattle.boc_plans.specs.declared.sweep.Sweep.TheVariants as sweep
@@ -169,6 +171,62 @@ pub run_named : Names (subcommand_of command_line run_words) called.Run (λ rows
 unfolding clap_on_literals
 run_named = (_, refl, inl (refl, refl))
 
+abbrev drawn_words : List Text
+drawn_words = codes "boc" ∷ codes "run" ∷ codes "--seed" ∷ codes "7" ∷ codes "--depth=2" ∷ codes "--workers=3" ∷ []
+
+pub drawn_taken : AreTaken drawn_words
+unfolding clap_on_literals
+drawn_taken = refl
+
+pub drawn_named : Names (subcommand_of command_line drawn_words) called.Run (λ rows. IsSchedule rows (Drawn 3 7 (Some 2)))
+unfolding clap_on_literals digits
+drawn_named = (
+  _,
+  refl,
+  (
+    inr (record { text = codes "3"; alone = refl; says = record { numeral = (lit≤ tt, (lit≤ tt, tt)); value = refl } }),
+    record { text = codes "7"; alone = refl; says = record { numeral = (lit≤ tt, (lit≤ tt, tt)); value = refl } },
+    record { text = codes "2"; alone = refl; says = record { numeral = (lit≤ tt, (lit≤ tt, tt)); value = refl } },
+  ),
+)
+
+-- the parser takes these, and there is no seed for the depth
+abbrev depth_words : List Text
+depth_words = codes "boc" ∷ codes "time" ∷ codes "--depth" ∷ codes "2" ∷ []
+
+pub depth_taken : AreTaken depth_words
+unfolding clap_on_literals
+depth_taken = refl
+
+pub depth_named : Names (subcommand_of command_line depth_words) called.Time (λ rows. LacksSeed rows)
+unfolding clap_on_literals
+depth_named = (_, refl, (λ e. cc, refl))
+
+abbrev outcomes_words : List Text
+outcomes_words = codes "boc" ∷ codes "outcomes" ∷ codes "--runs" ∷ codes "9" ∷ codes "--depth" ∷ codes "2" ∷ []
+
+pub outcomes_taken : AreTaken outcomes_words
+unfolding clap_on_literals
+outcomes_taken = refl
+
+pub outcomes_named : Names (subcommand_of command_line outcomes_words) called.Outcomes (λ rows. AreDraws rows (record {
+  runs = 9;
+  seed = 0;
+  workers = 4;
+  depth = Some 2;
+}))
+unfolding clap_on_literals digits
+outcomes_named = (
+  _,
+  refl,
+  record {
+    runs = inr (record { text = codes "9"; alone = refl; says = record { numeral = (lit≤ tt, (lit≤ tt, tt)); value = refl } });
+    seed = inl (refl, refl);
+    workers = inl (refl, refl);
+    depth = record { text = codes "2"; alone = refl; says = record { numeral = (lit≤ tt, (lit≤ tt, tt)); value = refl } };
+  },
+)
+
 -- ---- words that are not
 
 pub no_command : fault_of command_line (codes "boc" ∷ []) ≡ kinds.DisplayHelpOnMissingArgumentOrSubcommand ∷ []
@@ -182,6 +240,14 @@ too_many_workers = refl
 pub too_many_runners : fault_of command_line (codes "boc" ∷ codes "run" ∷ codes "--workers" ∷ codes "17" ∷ []) ≡ kinds.ValueValidation ∷ []
 unfolding clap_on_literals
 too_many_runners = refl
+
+pub too_deep : fault_of command_line (codes "boc" ∷ codes "outcomes" ∷ codes "--depth" ∷ codes "17" ∷ []) ≡ kinds.ValueValidation ∷ []
+unfolding clap_on_literals
+too_deep = refl
+
+pub no_runs : fault_of command_line (codes "boc" ∷ codes "outcomes" ∷ codes "--runs" ∷ codes "0" ∷ []) ≡ kinds.ValueValidation ∷ []
+unfolding clap_on_literals
+no_runs = refl
 
 pub word_too_many : fault_of command_line (codes "boc" ∷ codes "values" ∷ codes "more" ∷ []) ≡ kinds.UnknownArgument ∷ []
 unfolding clap_on_literals

@@ -18,3 +18,6 @@ returns-in-Why-clause-written g c = search rules
 
 pub returns-in-Cowns-clause-written : goal.returns-in-Cowns-clause-written
 returns-in-Cowns-clause-written g c = search rules
+
+pub returns-in-Outcomes-clause-written : goal.returns-in-Outcomes-clause-written
+returns-in-Outcomes-clause-written g c = search rules

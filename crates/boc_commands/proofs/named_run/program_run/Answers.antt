@@ -8,28 +8,30 @@ use Rattle.boc_commands.proofs.Passed.{passed_on, refused_course}
 use Rattle.boc_commands.proofs.RunNames.{named_few}
 use Rattle.boc_commands.proofs.named_run.program_run.Goals as goal
 
-pub returns-in_err-answer : goal.returns-in_err-answer
-returns-in_err-answer g c =
-    passed_on _ (IsOfRun g.G.Gate.always_on c.args.text.now) _ _ c.from_residual-in_err-answer.ensures.1
-    (refused_course g.G.Gate.always_on c.args.text.now c.in_ok-program.program c.in_err-answer.field-0.0 c.in_ok-program.ensures.0
-    c.in_err-answer.ensures.held c.in_err-answer.ensures.behaviours)
+pub returns-in_err-record : goal.returns-in_err-record
+returns-in_err-record g c =
+    passed_on _ (IsOfRun g.G.Gate.always_on c.args.text.now) _ _ c.from_residual-in_err-record.ensures.1
+    (refused_course g.G.Gate.always_on c.args.text.now c.in_ok-program.program c.in_err-record.field-0.0 c.in_ok-program.ensures.0
+    c.in_err-record.ensures.held c.in_err-record.ensures.behaviours)
 
 pub returns : goal.returns
 returns g c =
     let spelled = c.in_ok-program.ensures.0 in
-    let run : IsRunOf c.in_ok-program.program c.in_ok-answer.answer.record =
-    record { run = c.in_ok-answer.ensures.record; whole = c.into_rows-rows.ensures.run; ends = c.in_ok-answer.ensures.ends } in
+    let run : IsRunOf c.in_ok-program.program c.in_ok-record.record = c.in_ok-record.ensures.run in
     let shape = subst IsRows c.into_rows-rows.ensures.value c.as_slice-shape.ensures.shape in
-    let few = named_few c.in_ok-program.program c.in_ok-answer.answer.record _ c.in_ok-names.names run.run run.whole shape c.in_ok-names.ensures in (
+    let few = named_few c.in_ok-program.program c.in_ok-record.record _ c.in_ok-names.names run.run run.whole shape c.in_ok-names.ensures in (
       record {
-        recorded = c.in_ok-answer.answer.record;
+        recorded = c.in_ok-record.record;
         named = record {
-          program = c.in_ok-program.program;
-          spells = spelled;
-          defs = c.in_ok-program.defs.items;
-          lists = c.in_ok-program.ensures.1;
-          run = run;
-          names_are = c.in_ok-names.ensures;
+          named = record {
+            program = c.in_ok-program.program;
+            spells = spelled;
+            defs = c.in_ok-program.defs.items;
+            lists = c.in_ok-program.ensures.1;
+            run = run;
+            names_are = c.in_ok-names.ensures;
+          };
+          scheduled = record { program = c.in_ok-program.program; spells = spelled; scheduled = c.in_ok-record.ensures.scheduled };
         };
         rows_are = c.into_rows-rows.ensures.value;
         few = subst (λ (rows : List Row). AreFew rows c.in_ok-names.names) (sym c.into_rows-rows.ensures.value) few;

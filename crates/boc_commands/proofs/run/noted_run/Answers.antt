@@ -26,7 +26,7 @@ returns g c =
       names_are = are;
     })) c.in_ok-notes.ensures in (
       record { program = c.in_ok-program.program; spells = spelled; run = is_run },
-      record { program = c.in_ok-program.program; spells = spelled; seeded = c.in_ok-record.ensures.seeded },
+      record { program = c.in_ok-program.program; spells = spelled; scheduled = c.in_ok-record.ensures.scheduled },
       noted,
       spelled.short,
     )

@@ -1,4 +1,4 @@
-use Rattle.std.proofs.Common.{List, ◌≡◌, ℕ, subst}
+use Rattle.std.proofs.Common.{List, ◌≡◌, subst}
 use Rattle.boc_runs.specs.declared.rows.Row.{Row}
 use Rattle.boc_names.specs.Names.{texts_of}
 use Rattle.boc_commands.specs.Notes.{AreWanted, notes_of_rows}

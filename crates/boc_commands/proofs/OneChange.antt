@@ -1,0 +1,165 @@
+-- What is supposed of a record has one answer.
+use Rattle.std.proofs.Common.{◌≡◌, ◌∙◌, ◌||◌, ℕ, Bool, true, false, List, [], ◌∷◌, ◌++◌, length, map, Option, Some, None, Vec, ap, ap₂, refl, subst, sym}
+use Rattle.std.specs.Prelude.{cond, filter, nat_lt, slice_index, string_bytes}
+use Rattle.std.specs.Global.{Global}
+use Rattle.std.specs.List.{range_with_len}
+use Rattle.std.specs.Str.{bytes_eq}
+use Rattle.std.proofs.lemmas.List.{length-map}
+use Rattle.boc_runs.specs.declared.rows.Row.{Row}
+use Rattle.boc_runs.specs.Changes.{without}
+use Rattle.boc_runs.specs.Records.{Recorded}
+use Rattle.boc_runs.specs.Rows.{IsRows}
+use Rattle.boc_runs.proofs.Freeing.{rows_without}
+use Rattle.boc_record.specs.RecordTexts.{IsTextOf}
+use Rattle.boc_record.proofs.OneFault.{one_record}
+use Rattle.boc_plans.specs.declared.chain.ChainStep.{ChainStep}
+use Rattle.boc_plans.specs.declared.edit.Edit.{Edit}
+use Rattle.boc_plans.specs.declared.sharing.Sharing.{Sharing}
+use Rattle.boc_plans.specs.Chains.{IsPicked}
+use Rattle.boc_plans.specs.Edits.{AreEdited}
+use Rattle.boc_plans.specs.Seen.{seen}
+use Rattle.boc_plans.proofs.Seeing.{rows_seen}
+use Rattle.boc_order.proofs.Alone.{one_chain, one_plan, one_span}
+use Rattle.boc_greedy.proofs.Curving.{one_greedy_end}
+use Rattle.boc_whatif.proofs.Changing.{changed_rows}
+use Rattle.boc_names.specs.declared.names.Names.{Names}
+use Rattle.boc_names.specs.Names.{CallTheSame, Text, text_at, texts_of}
+use Rattle.boc_why.specs.Causes.{without_all}
+use Rattle.boc_why.specs.WhySteps.{AreSharesByDef}
+use Rattle.boc_why.proofs.OneRemedy.{one_edited}
+use Rattle.boc_why.proofs.OneWhy.{one_list_by_def}
+use Rattle.boc_why_report.specs.declared.short.Outcome.{Outcome}
+use Rattle.boc_why_report.specs.ShortTexts.{ComeToTheSame}
+use Rattle.boc_why_report.proofs.OneText.{one_short_text}
+use Rattle.boc_words.specs.declared.asked.AskedCown.{AskedCown}
+use Rattle.boc_words.specs.declared.asked.AskedCown.TheVariants as asked_cowns
+use Rattle.boc_words.specs.declared.asked.AskedEdit.{AskedEdit}
+use Rattle.boc_words.specs.declared.asked.AskedEdit.TheVariants as asked_edits
+use Rattle.boc_words.specs.declared.asked.NamesFrom.{NamesFrom}
+use Rattle.boc_commands.specs.Asked.{all_cowns, all_edits, costs, cowns_of, edits_of, starred}
+use Rattle.boc_commands.specs.NamedRuns.{IsNamedRecord}
+use Rattle.boc_commands.specs.WhatIfAnswers.{AreChangedSo, IsAskedEnd, IsOutcome, IsReportAfter, IsShortReport, IsWhatIfAnswer}
+use Rattle.boc_commands.proofs.OneAnswer.{one_report}
+use Rattle.boc_commands.proofs.OneNaming.{is_text_of, one_named_record}
+use Rattle.boc_commands.proofs.OneTold.{rows_are}
+
+-- ---- what is asked for
+
+as_many : (names others : List (Vec ℕ Global)) → texts_of names ≡ texts_of others → length names ≡ length others
+as_many names others same = sym (length-map names (λ (t : Vec ℕ Global). t.items)) ∙ ap (λ (texts : List Text). length texts) same
+    ∙ length-map others (λ (t : Vec ℕ Global). t.items)
+
+module _ (a b : Names) (same : CallTheSame a b) where
+  count_is : length a.cowns.items ≡ length b.cowns.items
+  count_is = as_many a.cowns.items b.cowns.items same.cowns
+
+  cowns_meant : (asked : AskedCown) → cowns_of a asked ≡ cowns_of b asked
+  cowns_meant (asked_cowns.Number number) = λ i. cond (nat_lt number (count_is i)) (number ∷ []) []
+  cowns_meant (asked_cowns.Name name) = λ i. filter (λ cown. bytes_eq (text_at (same.cowns i) cown) (string_bytes name)
+      || (bytes_eq (text_at (same.family_names i) (slice_index (same.families i) cown)) (string_bytes name)
+      || bytes_eq (text_at (same.family_names i) (slice_index (same.families i) cown)) (starred (string_bytes name)))) (range_with_len 0 (count_is i))
+
+  same_cowns : (asked : List AskedCown) → all_cowns a asked ≡ all_cowns b asked
+  same_cowns [] = refl
+  same_cowns (x ∷ asked) = ap₂ ◌++◌ (cowns_meant x) (same_cowns asked)
+
+  edits_meant : (asked : AskedEdit) → edits_of a asked ≡ edits_of b asked
+  edits_meant (asked_edits.Row edit) = refl
+  edits_meant (asked_edits.Def name part) = λ i. map (costs part) (filter (λ row. bytes_eq (text_at (same.def_names i) (slice_index (same.defs i) row))
+      (string_bytes name)) (range_with_len 0 (length (same.defs i))))
+
+  same_edits : (asked : List AskedEdit) → all_edits a asked ≡ all_edits b asked
+  same_edits [] = refl
+  same_edits (x ∷ asked) = ap₂ ◌++◌ (edits_meant x) (same_edits asked)
+
+-- ---- the rows after it
+
+-- rows after edits that fit are rows
+rows_after : (rows : List Row) → IsRows rows → (edits : List Edit) (after : List Row) → AreEdited rows edits after → IsRows after
+rows_after rows hr [] after made = rw made hr
+rows_after rows hr (edit ∷ edits) after made =
+    rows_after made.0 (changed_rows rows hr edit.row edit.change made.0 made.1) edits after made.2
+
+-- and so are rows without some cowns
+rows_left : (cowns : List ℕ) (rows : List Row) → IsRows rows → IsRows (without_all cowns rows)
+rows_left [] rows hr = hr
+rows_left (cown ∷ cowns) rows hr = rows_left cowns (without cown rows) (rows_without cown rows hr)
+
+module _ (rows : List Row) (names others : Names) (same : CallTheSame names others) (cowns : List AskedCown) (edits : List AskedEdit)
+    (after other : List Row) (a : AreChangedSo names cowns edits rows after) (b : AreChangedSo others cowns edits rows other) where
+  abbrev left : List Row
+  left = without_all (all_cowns others cowns) rows
+
+  one_change : after ≡ other
+  one_change = one_edited left (all_edits others edits) after other
+      (subst (λ (list : List Edit). AreEdited left list after) (same_edits names others same edits)
+      (subst (λ (list : List ℕ). AreEdited (without_all list rows) (all_edits names edits) after) (same_cowns names others same cowns) a.asked_for.edited))
+      b.asked_for.edited
+
+  rows_changed : IsRows rows → IsRows other
+  rows_changed hr = rows_after left (rows_left (all_cowns others cowns) rows hr) (all_edits others edits) other b.asked_for.edited
+
+-- ---- what is told of them
+
+one_asked_end : (rows : List Row) → IsRows rows → (workers end other : Option ℕ) → IsAskedEnd rows workers end → IsAskedEnd rows workers other → end ≡ other
+one_asked_end rows hr None None None a b = refl
+one_asked_end rows hr None None (Some y) a b = absurd b
+one_asked_end rows hr None (Some x) other a b = absurd a
+one_asked_end rows hr (Some p) None other a b = absurd a
+one_asked_end rows hr (Some p) (Some x) None a b = absurd b
+one_asked_end rows hr (Some p) (Some x) (Some y) a b = ap (λ (end : ℕ). Some end) (one_greedy_end rows hr p x y a b)
+
+one_outcome : (rows : List Row) → IsRows rows → (sharing : Sharing) (defs : List ℕ) (workers : Option ℕ) (outcome other : Outcome)
+    → IsOutcome rows sharing defs workers outcome → IsOutcome rows sharing defs workers other → ComeToTheSame outcome other
+one_outcome rows hr sharing defs workers outcome other a b =
+    let starts : a.starts ≡ b.starts = one_plan (seen sharing rows) a.starts b.starts a.earliest b.earliest in
+    let steps : a.steps ≡ b.steps = one_chain (seen sharing rows) b.starts a.steps b.steps
+    (subst (λ (plan : List ℕ). IsPicked (seen sharing rows) plan a.steps) starts a.picked) b.picked in
+    record {
+      work = a.work ∙ sym b.work;
+      span = one_span (seen sharing rows) outcome.span other.span a.span b.span;
+      end = one_asked_end (seen sharing rows) (rows_seen sharing rows hr) workers outcome.end other.end a.end b.end;
+      by_def = one_list_by_def defs b.steps outcome.by_def.items other.by_def.items
+          (subst (λ (chain : List ChainStep). AreSharesByDef defs chain outcome.by_def.items) steps a.by_def) b.by_def;
+    }
+
+one_short_report : (names others : Names) → CallTheSame names others → (sharing : Sharing) (workers : Option ℕ) (before after : List Row)
+    → IsRows before → IsRows after → (output other : List ℕ) → IsShortReport names sharing workers before after output
+    → IsShortReport others sharing workers before after other → output ≡ other
+one_short_report names others same sharing workers before after hb ha output other a b =
+    a.text
+    ∙ one_short_text names others same a.was a.now b.was b.now
+    (one_outcome before hb sharing others.defs.items workers a.was b.was
+    (subst (λ (defs : List ℕ). IsOutcome before sharing defs workers a.was) same.defs a.was_is) b.was_is)
+    (one_outcome after ha sharing others.defs.items workers a.now b.now
+    (subst (λ (defs : List ℕ). IsOutcome after sharing defs workers a.now) same.defs a.now_is) b.now_is)
+    ∙ sym b.text
+
+one_report_after : (short : Bool) (names others : Names) → CallTheSame names others → (sharing : Sharing) (workers : Option ℕ) (before after : List Row)
+    → IsRows before → IsRows after → (output other : List ℕ) → IsReportAfter short names sharing workers before after output
+    → IsReportAfter short others sharing workers before after other → output ≡ other
+one_report_after false names others same sharing workers before after hb ha output other a b =
+    one_report (seen sharing after) (rows_seen sharing after ha) workers output other a b
+one_report_after true names others same sharing workers before after hb ha output other a b =
+    one_short_report names others same sharing workers before after hb ha output other a b
+
+pub one_whatif_answer : (file : Option NamesFrom) (bytes : List ℕ) (cowns : List AskedCown) (edits : List AskedEdit) (sharing : Sharing)
+    (workers : Option ℕ) (short : Bool) (input output other : List ℕ) → IsWhatIfAnswer file bytes cowns edits sharing workers short input output
+    → IsWhatIfAnswer file bytes cowns edits sharing workers short input other → output ≡ other
+one_whatif_answer file bytes cowns edits sharing workers short input output other a b =
+    let is : IsTextOf input b.recorded = is_text_of file bytes input b.recorded b.names b.named in
+    let recorded : a.recorded ≡ b.recorded =
+    one_record input a.recorded b.recorded (is_text_of file bytes input a.recorded a.names a.named) is in
+    let called : CallTheSame a.names b.names = one_named_record file bytes input b.recorded a.names b.names
+    (subst (λ (r : Recorded). IsNamedRecord file bytes input r a.names) recorded a.named) b.named in
+    let rows : List Row = b.recorded.rows in
+    let hr : IsRows rows = rows_are b.recorded is.record_is in
+    let changed : AreChangedSo a.names cowns edits rows a.report.after =
+    subst (λ (r : Recorded). AreChangedSo a.names cowns edits r.rows a.report.after) recorded a.report.changed in
+    let after : a.report.after ≡ b.report.after =
+    one_change rows a.names b.names called cowns edits a.report.after b.report.after changed b.report.changed in
+    let told : IsReportAfter short a.names sharing workers rows b.report.after output =
+    subst (λ (list : List Row). IsReportAfter short a.names sharing workers rows list output) after
+    (subst (λ (r : Recorded). IsReportAfter short a.names sharing workers r.rows a.report.after output) recorded a.report.told) in
+    one_report_after short a.names b.names called sharing workers rows b.report.after hr
+    (rows_changed rows a.names b.names called cowns edits a.report.after b.report.after changed b.report.changed hr) output other told b.report.told

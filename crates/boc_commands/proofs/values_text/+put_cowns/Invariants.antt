@@ -1,5 +1,0 @@
-use Rattle.std.proofs.Common.{length}
-use Rattle.boc_commands.proofs.values_text.+put_cowns.Given as goal
-
-abbrev pub decreases-put_cowns : goal.decreases-put_cowns
-decreases-put_cowns l = length l.cowns.now

@@ -1,0 +1,33 @@
+// The way in which the workers of a program's draws are picked.
+
+ghost use Rattle.std.specs.Prelude.{◌≤◌};
+ghost use Rattle.boc_program.specs.declared.limits.TheConstants.{MOST_RUNNERS};
+ghost use Rattle.boc_draws.specs.Ways.{AnswersWay};
+
+use crate::drawing::draw;
+use crate::fault::DrawFault;
+use crate::way::{Depth, Way};
+use boc_program::program::Program;
+use std::alloc::Global;
+
+/// The way in which so many workers of a program are picked: at random among all that can move; or, where a depth is given, by random
+/// priorities of this depth, with falls before as many steps as these workers make when they are picked at random among all by the seed 0. So the way is a
+/// function of the program, the workers and the depth, and a seed brings its run back by them. Where that draw ends by a fault, that is the answer.
+pub fn way_of(
+    alloc: Global,
+    program: &Program,
+    workers: u32,
+    depth: Option<Depth>,
+) -> Result<Way, DrawFault>
+    requires { (1 ≤ workers) × (workers ≤ MOST_RUNNERS) }
+    ensures { AnswersWay program.now workers depth result }
+{
+    let Some(depth) = depth else {
+        return Ok(Way::Uniform);
+    };
+    let drawn = draw(alloc, program, workers, Way::Uniform, 0)?;
+    Ok(Way::Priorities {
+        depth,
+        steps: drawn.steps,
+    })
+}

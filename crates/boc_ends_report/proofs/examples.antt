@@ -1,0 +1,2 @@
+pub mod TransferValues
+pub mod RaceOutcomes

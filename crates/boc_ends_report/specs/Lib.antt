@@ -1,0 +1,2 @@
+pub mod ValueTexts
+pub mod OutcomeTexts

@@ -26,10 +26,10 @@ check() {
 
 # Whether what was built here is of the tree's sources.
 is_built() {
-    is_whole "$BUILT_MANIFEST" "$BUILT" && is_tree_of "$BUILT_MANIFEST" && [ -x "$BUILT" ]
+    is_whole "$BUILT_MANIFEST" "$BUILT" && is_tree_of "$BUILT_MANIFEST" && [ -x "$BUILT" ] && [ -x "$BUILT_VIEW" ]
 }
 
-# Proves and builds the program from the sources as they are, of which `changed` differs from the manifest, or `gone` isn't there.
+# Proves and builds the programs from the sources as they are, of which `changed` differs from the manifest, or `gone` isn't there.
 build() {
     [ -z "$gone" ] || refuse 70 "$MANIFEST names a file that isn't there, or can't be read: $gone" \
         "\`git checkout -- $gone\` brings it back; where it is to be gone, bin/build and then bin/ship make dist anew"
@@ -39,7 +39,7 @@ build() {
             "that takes the Rattle kit and python3; or bring $changed back, as by \`git checkout -- $changed\` where its change isn't committed"
     done
     echo "bin/boc: the sources are not those of $MANIFEST, first $changed; proving and building them, which takes a while" >&2
-    bin/build boc || refuse 70 "the build failed"
+    bin/build || refuse 70 "the build failed"
 }
 
 # Notes when each source and definition of a manifest was last changed, and the program, if it can: later calls compare with that.

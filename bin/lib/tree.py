@@ -1,4 +1,4 @@
-"""The crates of the repository, and the manifests of a program: what it was proved and built from, file by file."""
+"""The crates of the repository, and the manifests of its programs: what they were proved and built from, file by file."""
 import hashlib
 import os
 import re
@@ -10,12 +10,19 @@ TOP = os.path.dirname(os.path.dirname(os.path.dirname(os.path.abspath(__file__))
 
 MANIFEST = "dist/MANIFEST"
 SHIPPED = "dist/boc-x86_64-linux"
+SHIPPED_VIEW = "dist/boc-view-x86_64-linux"
 BUILT_MANIFEST = "crates/boc/out/MANIFEST"
 BUILT = "crates/boc/out/boc"
+BUILT_VIEW = "crates/boc_view/out/boc_view"
+
+# The crates of the programs, and where each program is once it is shipped, and where it is built.
+PROGRAMS = ["boc", "boc_view"]
+ALL_SHIPPED = [SHIPPED, SHIPPED_VIEW]
+ALL_BUILT = [BUILT, BUILT_VIEW]
 VERSION = "crates/boc_words/src/version.rt"
 
 HEAD = """\
-# The program boc, as it was proved and built, and each file that it is proved and built from.
+# The programs boc and boc-view, as they were proved and built, and each file that they are proved and built from.
 # At the top of the repository `sha256sum -c --quiet --strict {place}` compares them all.
 # version: {version}
 # kit: {kit}
@@ -40,9 +47,9 @@ def read_crates(top=TOP):
     return {name: [low for low in used if low in uses] for name, used in uses.items()}
 
 
-def below(uses, top):
-    """The crate and all that it stands on."""
-    found, open_ = set(), [top]
+def below(uses, *tops):
+    """These crates and all that they stand on."""
+    found, open_ = set(), list(tops)
     while open_:
         name = open_.pop()
         if name not in found:
@@ -52,9 +59,9 @@ def below(uses, top):
 
 
 def sources(top=TOP):
-    """The files that the program is proved and built from, in the order of their names."""
+    """The files that the programs are proved and built from, in the order of their names."""
     files = ["HANDLES", "crates.txt"]
-    for crate in below(read_crates(top), "boc"):
+    for crate in below(read_crates(top), *PROGRAMS):
         for part in ("src", "specs", "proofs"):
             for folder, _, names in os.walk(os.path.join(top, "crates", crate, part)):
                 files += [os.path.relpath(os.path.join(folder, it), top) for it in names if it.endswith((".rt", ".antt"))]
@@ -84,9 +91,9 @@ def kit():
     return subprocess.run(["rt", "version"], capture_output=True, text=True, check=True).stdout.strip()
 
 
-def manifest(place, program, kit_line, source_sums, top=TOP):
-    """The text of the manifest at a place, of a program that was built by a kit from sources with these sums."""
-    lines = sums([program], top) + source_sums
+def manifest(place, programs, kit_line, source_sums, top=TOP):
+    """The text of the manifest at a place, of programs that were built by a kit from sources with these sums."""
+    lines = sums(programs, top) + source_sums
     head = HEAD.format(place=place, version=version(top)[0], kit=kit_line, count=lines.count("\n"))
     return head + lines + END
 
@@ -111,8 +118,8 @@ def write_whole(path, data):
 
 
 def prove_copy(room, words):
-    """Copies what the program is made of to an empty folder, has `rt ci` prove and build it there, and tells how that ended."""
-    wanted = below(read_crates(), "boc")
+    """Copies what the programs are made of to an empty folder, has `rt ci` prove and build them there, and tells how that ended."""
+    wanted = below(read_crates(), *PROGRAMS)
     with open(os.path.join(TOP, "crates.txt")) as lines, open(os.path.join(room, "crates.txt"), "w") as kept:
         kept.writelines(line for line in lines if name_of(line) in wanted)
     shutil.copy(os.path.join(TOP, "HANDLES"), room)

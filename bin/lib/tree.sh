@@ -1,13 +1,15 @@
-# What bin/boc and bin/install know of the tree: whether it is the one that a manifest tells of. It is read by a POSIX shell
+# What bin/boc, bin/boc-view and bin/install know of the tree: whether it is the one that a manifest tells of. It is read by a POSIX shell
 # and takes the coreutils alone.
 #
-# A manifest has five lines of words, each behind a `#`, then a line of sha256sum for the program and for each file that it is
+# A manifest has five lines of words, each behind a `#`, then a line of sha256sum for each program and for each file that they are
 # proved and built from, and a last line `# end`. bin/lib/tree.py writes it.
 
 MANIFEST=dist/MANIFEST
 SHIPPED=dist/boc-x86_64-linux
+SHIPPED_VIEW=dist/boc-view-x86_64-linux
 BUILT_MANIFEST=crates/boc/out/MANIFEST
 BUILT=crates/boc/out/boc
+BUILT_VIEW=crates/boc_view/out/boc_view
 REMEDY='`git checkout dist` brings it back; bin/build and then bin/ship make it anew'
 
 # Says what is wrong and what to do, and gives no answer. Who says it stands in `caller`.
@@ -84,16 +86,20 @@ want_manifest() {
     is_whole "$MANIFEST" "$SHIPPED" || refuse 70 "$fault" "$REMEDY"
 }
 
-# Refuses where it is the shipped program that differs from its manifest, or where sha256sum could compare nothing.
+# Refuses where it is a shipped program that differs from its manifest, or where sha256sum could compare nothing.
 want_program() {
     case $differing$lacking in
-    "$SHIPPED") refuse 70 "$SHIPPED is not the program that $MANIFEST tells of, or can't be read" "$REMEDY" ;;
+    "$SHIPPED" | "$SHIPPED_VIEW")
+        refuse 70 "$differing$lacking is not the program that $MANIFEST tells of, or can't be read" "$REMEDY"
+        ;;
     '') refuse 70 "sha256sum can't compare what $MANIFEST names: it isn't there, or a line of the manifest is none of its lines" "$REMEDY" ;;
     esac
 }
 
-# Refuses where the shipped program may not be run, or does not run here, for which there are further lines.
+# Refuses where a shipped program may not be run, or does not run here, for which there are further lines.
 want_running() {
-    [ -x "$SHIPPED" ] || refuse 70 "$SHIPPED may not be run" "\`chmod +x $SHIPPED\` lets it run"
+    for shipped in "$SHIPPED" "$SHIPPED_VIEW"; do
+        [ -x "$shipped" ] || refuse 70 "$shipped may not be run" "\`chmod +x $shipped\` lets it run"
+    done
     runs_here "$SHIPPED" || refuse 70 "$fault" "$@"
 }

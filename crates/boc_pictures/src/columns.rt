@@ -1,0 +1,95 @@
+// Ticks as columns of a text.
+
+use std::alloc::{AllocError, Global};
+
+/// So many ticks to a column, up to an end.
+#[derive(Clone, Copy, Debug)]
+pub(crate) struct Columns {
+    ticks: u64,
+    end: u64,
+}
+
+impl Columns {
+    /// As few ticks to a column as go into at most so many columns.
+    pub(crate) fn new(end: u64, most: usize) -> Columns {
+        let most = (most as u64).max(1);
+        let ticks = up(end, most).max(1);
+        Columns { ticks, end }
+    }
+
+    /// Puts how many ticks a column takes.
+    pub(crate) fn put_scale(self, text: &mut String) -> Result<(), AllocError> {
+        let ticks = self.ticks;
+        if ticks == 1 {
+            text.push_str("1 column = 1 tick")
+        } else {
+            write!(text, "1 column = {ticks} ticks")
+        }
+    }
+
+    /// How many columns there are.
+    pub(crate) fn count(self) -> usize {
+        up(self.end, self.ticks) as usize
+    }
+
+    /// A line of blanks.
+    pub(crate) fn line(self, alloc: Global) -> Result<Vec<u8>, AllocError> {
+        let mut line = Vec::new(alloc);
+        for _ in 0..self.count() {
+            line.push(b' ')?;
+        }
+        Ok(line)
+    }
+
+    /// Paints the columns into which ticks from one on up to another one fall.
+    pub(crate) fn paint(self, line: &mut [u8], from: u64, to: u64, mark: u8) {
+        let first = (from / self.ticks.max(1)) as usize;
+        let past = up(to, self.ticks) as usize;
+        for cell in line.iter_mut().take(past).skip(first) {
+            *cell = mark;
+        }
+    }
+
+    /// Counts the columns into which ticks from one on up to another one fall.
+    pub(crate) fn count_in(self, counts: &mut [u64], from: u64, to: u64) {
+        let first = (from / self.ticks.max(1)) as usize;
+        let past = up(to, self.ticks) as usize;
+        for cell in counts.iter_mut().take(past).skip(first) {
+            *cell = cell.saturating_add(1);
+        }
+    }
+}
+
+/// A number divided by another one, rounded up.
+pub(crate) fn up(number: u64, by: u64) -> u64 {
+    let by = by.max(1);
+    let whole = number / by;
+    if number % by == 0 {
+        whole
+    } else {
+        whole.saturating_add(1)
+    }
+}
+
+/// A part of a whole in percents, rounded down.
+pub(crate) fn percent(part: u64, whole: u64) -> u64 {
+    part.saturating_mul(100) / whole.max(1)
+}
+
+/// Puts a line of cells between bars.
+pub(crate) fn put_line(text: &mut String, line: &[u8]) -> Result<(), AllocError> {
+    text.push('|')?;
+    for cell in line {
+        text.push(char::from(*cell))?;
+    }
+    text.push('|')
+}
+
+/// Puts a word, and blanks up to so many columns.
+pub(crate) fn put_padded(text: &mut String, word: &str, width: usize) -> Result<(), AllocError> {
+    text.push_str(word)?;
+    for _ in word.len()..width {
+        text.push(' ')?;
+    }
+    Ok(())
+}

@@ -1,0 +1,108 @@
+// Who holds what, in text.
+
+use crate::columns::{Columns, percent, put_line, put_padded};
+use crate::letters::{letters, mark_of, put_key};
+use crate::plan_lines::MOST_LINES;
+use crate::spelling::Spelling;
+use crate::subject::Subject;
+use boc_names::text_at;
+use std::alloc::{AllocError, Global};
+use std::cmp::Reverse;
+
+// The most columns that a name takes.
+const MOST_LABEL: usize = 24;
+
+// How long a cown is held.
+#[derive(Clone, Copy)]
+struct Held {
+    cown: usize,
+    ticks: u64,
+}
+
+/// Who holds each cown in the earliest plan, in so many columns: a letter for each def, and what part of the span the cown is held. Of more than
+/// 60 cowns those stand here that are held longest.
+pub fn cowns_text(alloc: Global, subject: &Subject, width: usize) -> Result<String, AllocError> {
+    let mut held = held_of(alloc, subject)?;
+    let all = held.len();
+    held.sort_unstable_by_key(|held| (Reverse(held.ticks), held.cown));
+    held.truncate(MOST_LINES);
+    held.sort_unstable_by_key(|held| held.cown);
+    let letters = letters(alloc, &subject.names.def_names)?;
+    let label = label_width(subject, &held);
+    let columns = Columns::new(
+        subject.span,
+        width.saturating_sub(label.saturating_add(9)).max(20),
+    );
+    let mut text = format!(in alloc; "who holds what: ")?;
+    columns.put_scale(&mut text)?;
+    put_key(alloc, &mut text, subject, &letters)?;
+    for held in &held {
+        put_cown(alloc, &mut text, subject, *held, &letters, columns, label)?;
+    }
+    if all > held.len() {
+        writeln!(text, "{} more cowns are held for less", all - held.len())?;
+    }
+    Ok(text)
+}
+
+// The cowns that some row has, and how long they are held.
+fn held_of(alloc: Global, subject: &Subject) -> Result<Vec<Held>, AllocError> {
+    let mut ticks = Vec::new(alloc);
+    for _ in 0..subject.names.cowns.len() {
+        ticks.push(0)?;
+    }
+    for row in &subject.shown {
+        for cown in subject.cowns(row.row) {
+            if let Some(ticks) = ticks.get_mut(*cown as usize) {
+                *ticks = row.end.saturating_sub(row.start).saturating_add(*ticks);
+            }
+        }
+    }
+    let mut held = Vec::new(alloc);
+    for (cown, ticks) in ticks.iter().enumerate() {
+        if *ticks > 0 {
+            held.push(Held {
+                cown,
+                ticks: *ticks,
+            })?;
+        }
+    }
+    Ok(held)
+}
+
+// How many columns the longest of these names takes, but for what is too long.
+fn label_width(subject: &Subject, held: &[Held]) -> usize {
+    let mut width = 0;
+    for held in held {
+        width = width.max(text_at(&subject.names.cowns, held.cown).len());
+    }
+    width.min(MOST_LABEL)
+}
+
+// Puts the line of a cown.
+fn put_cown(
+    alloc: Global,
+    text: &mut String,
+    subject: &Subject,
+    held: Held,
+    letters: &[u8],
+    columns: Columns,
+    label: usize,
+) -> Result<(), AllocError> {
+    let mut line = columns.line(alloc)?;
+    for row in &subject.shown {
+        if subject
+            .cowns(row.row)
+            .iter()
+            .any(|cown| *cown as usize == held.cown)
+        {
+            let letter = mark_of(letters, subject, row.row);
+            columns.paint(&mut line, row.start, row.end, letter);
+        }
+    }
+    let name = Spelling::Text.of(alloc, text_at(&subject.names.cowns, held.cown), label)?;
+    put_padded(text, name.as_str(), label)?;
+    text.push(' ')?;
+    put_line(text, &line)?;
+    writeln!(text, " {:>3}%", percent(held.ticks, subject.span))
+}

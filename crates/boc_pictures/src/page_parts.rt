@@ -1,0 +1,79 @@
+// What each page has: its style and its script. A page is read without the script too, which sorts tables, zooms and lights up what belongs together.
+
+/// The style of a page.
+pub(crate) const STYLE: &str = "<style>
+:root{color-scheme:light dark}
+body{font:14px/1.5 system-ui,sans-serif;max-width:1240px;margin:1.5em auto;padding:0 1em;background:#fff;color:#222}
+h1{font-size:1.4em}
+h2{font-size:1.1em;margin-top:2em}
+table{border-collapse:collapse;font:12px ui-monospace,Menlo,Consolas,monospace}
+th,td{padding:.15em .8em;text-align:right;border-bottom:1px solid #ddd}
+th.word,td.word{text-align:left}
+table.sort th{cursor:pointer}
+table.sort th:hover{text-decoration:underline}
+pre{font:12px/1.5 ui-monospace,Menlo,Consolas,monospace;margin:0}
+.picture{overflow:auto;border:1px solid #ddd;max-height:80vh}
+.line{display:flex}
+.share{flex:0 0 160px;margin-right:1em}
+.share i{display:block;height:1.1em;background:#c2410c}
+.share b{float:right;font:11px ui-monospace,monospace;padding-right:.3em}
+.lit{stroke:#111!important;stroke-width:2!important}
+a{color:#1f6fb2}
+@media (prefers-color-scheme:dark){
+body{background:#16181d;color:#e8e8e8}
+th,td{border-color:#333}
+.picture{border-color:#333}
+.share i{background:#f97316}
+.lit{stroke:#fff!important}
+a{color:#6ab0ea}
+}
+</style>
+";
+
+/// The script of a page.
+pub(crate) const SCRIPT: &str = "<script>
+// A click on a column's head sorts the table by it, and another one the other way round.
+for (const table of document.querySelectorAll('table.sort')) {
+  table.querySelectorAll('th').forEach((head, column) => {
+    let up = false;
+    head.addEventListener('click', () => {
+      up = !up;
+      const body = table.tBodies[0];
+      const value = row => {
+        const text = row.cells[column].textContent;
+        return isNaN(parseFloat(text)) ? text : parseFloat(text);
+      };
+      const rows = Array.from(body.rows);
+      rows.sort((a, b) => {
+        const x = value(a), y = value(b);
+        const order = x < y ? -1 : x > y ? 1 : 0;
+        return up ? order : -order;
+      });
+      rows.forEach(row => body.appendChild(row));
+    });
+  });
+}
+// A pointer over a row of a table lights up its bar.
+for (const row of document.querySelectorAll('tr[data-row]')) {
+  const bar = document.getElementById('r' + row.dataset.row);
+  if (bar) {
+    row.addEventListener('mouseenter', () => bar.classList.add('lit'));
+    row.addEventListener('mouseleave', () => bar.classList.remove('lit'));
+  }
+}
+// The wheel with the control key held makes a picture larger or smaller.
+for (const picture of document.querySelectorAll('.picture')) {
+  const drawing = picture.querySelector('svg');
+  const width = parseFloat(drawing.getAttribute('width'));
+  const height = parseFloat(drawing.getAttribute('height'));
+  let zoom = 1;
+  picture.addEventListener('wheel', event => {
+    if (!event.ctrlKey) return;
+    event.preventDefault();
+    zoom = Math.min(20, Math.max(0.2, zoom * (event.deltaY < 0 ? 1.2 : 1 / 1.2)));
+    drawing.setAttribute('width', width * zoom);
+    drawing.setAttribute('height', height * zoom);
+  }, {passive: false});
+}
+</script>
+";

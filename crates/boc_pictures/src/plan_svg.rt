@@ -1,0 +1,578 @@
+// The earliest plan as a drawing.
+
+use crate::axis::{Axis, Tenths, put_axis};
+use crate::drawing::{close, open, put_box, put_text};
+use crate::plan_lines::{MOST_LINES, stretches_of};
+use crate::spelling::Spelling;
+use crate::subject::Subject;
+use boc_bars::{Bar, bars_of, lane_count, packed};
+use boc_greedy::Greedy;
+use boc_plans::chain::{ChainStep, Via};
+use std::alloc::{AllocError, Global};
+
+// Lengths, in tenths of a pixel.
+const WIDTH: u64 = 12_000;
+
+const RIGHT: u64 = 300;
+
+const TOP: u64 = 700;
+
+const LABELS: u64 = 2_500;
+
+const NO_LABELS: u64 = 900;
+
+const LANE: u64 = 200;
+
+// How high all lanes are together where there are many, and one at the least.
+const ALL_LANES: u64 = 16_000;
+
+const LEAST_LANE: u64 = 3;
+
+// The most bytes of a name beside a bar, and of one that a mouse shows.
+const LABEL_BYTES: usize = 28;
+
+const TITLE_BYTES: usize = 80;
+
+// With more rows than this a mouse is shown less, and nothing at the bars of the greedy plan.
+const MOST_TITLES: usize = 20_000;
+
+// With more rows than this only the bars of the chain have a name that a link leads to.
+const MOST_IDS: usize = 5_000;
+
+/// Where the bars of a plan stand.
+#[derive(Clone, Copy)]
+struct Layout {
+    axis: Axis,
+    // How high a lane is.
+    lane: u64,
+    // Whether each row has a lane of its own, with its name beside it.
+    named: bool,
+}
+
+impl Layout {
+    // The upper edge of a lane.
+    fn top(self, lane: u32) -> u64 {
+        self.lane.saturating_mul(lane as u64).saturating_add(TOP)
+    }
+
+    // How high a bar is.
+    fn bar(self) -> u64 {
+        if self.lane < 20 {
+            self.lane
+        } else {
+            self.lane - self.lane / 5
+        }
+    }
+
+    // The middle of a lane.
+    fn middle(self, lane: u32) -> u64 {
+        self.top(lane).saturating_add(self.bar() / 2)
+    }
+}
+
+/// The earliest plan as a drawing in SVG: a lane for each row, or, where there are more than 60, lanes of rows that follow each other; the ticks above, the
+/// chain and its links in a colour of their own, and below it the greedy plan, where there is one.
+pub fn plan_drawing(
+    alloc: Global,
+    subject: &Subject,
+    greedy: Option<&Greedy>,
+) -> Result<String, AllocError> {
+    let stretches = stretches_of(alloc, subject)?;
+    let named = subject.count() <= MOST_LINES;
+    let bars = if named {
+        bars_of(alloc, &stretches)?
+    } else {
+        packed(alloc, &stretches)?
+    };
+    let lanes = lane_count(&bars);
+    let layout = layout_of(subject, greedy, named, lanes);
+    let bottom = layout.lane.saturating_mul(lanes).saturating_add(TOP);
+    let height = match greedy {
+        Some(plan) => bottom
+            .saturating_add(1_400)
+            .saturating_add(LANE.saturating_mul(plan.p as u64)),
+        None => bottom.saturating_add(700),
+    };
+    let mut text = String::new(alloc);
+    open(&mut text, WIDTH, height)?;
+    put_heading(&mut text, subject)?;
+    put_axis(&mut text, layout.axis, TOP, bottom)?;
+    put_waits(&mut text, subject, layout, &bars)?;
+    put_bars(alloc, &mut text, subject, layout, &bars)?;
+    put_spawns(&mut text, subject, layout, &bars)?;
+    put_links(alloc, &mut text, subject, layout, &bars)?;
+    if named {
+        put_names(alloc, &mut text, subject, layout)?;
+    }
+    if let Some(plan) = greedy {
+        put_greedy(alloc, &mut text, subject, layout, plan, bottom)?;
+    }
+    put_legend(&mut text, greedy.is_some(), height.saturating_sub(200))?;
+    close(&mut text)?;
+    Ok(text)
+}
+
+// Where the bars of so many lanes stand.
+fn layout_of(subject: &Subject, greedy: Option<&Greedy>, named: bool, lanes: u64) -> Layout {
+    let end = match greedy {
+        Some(plan) => plan.bound.max(subject.span),
+        None => subject.span,
+    };
+    let from = if named { LABELS } else { NO_LABELS };
+    let axis = Axis {
+        end,
+        from,
+        length: WIDTH - RIGHT - from,
+    };
+    let lane = (ALL_LANES / lanes.max(1)).clamp(LEAST_LANE, LANE);
+    Layout { axis, lane, named }
+}
+
+// Puts what the drawing is of.
+fn put_heading(text: &mut String, subject: &Subject) -> Result<(), AllocError> {
+    write!(
+        text,
+        "<text class=\"title\" x=\"10\" y=\"24\">The earliest plan: {} rows, work {}, span {}</text>\n",
+        subject.count(),
+        subject.work,
+        subject.span
+    )
+}
+
+// Puts a thin line for each row that waits, from its spawn to its start.
+fn put_waits(
+    text: &mut String,
+    subject: &Subject,
+    layout: Layout,
+    bars: &[Bar],
+) -> Result<(), AllocError> {
+    text.push_str("<path class=\"waits\" d=\"")?;
+    for bar in bars {
+        if let Some(row) = subject.shown.get(bar.row as usize)
+            && row.after.is_some()
+            && layout.named
+        {
+            write!(
+                text,
+                "M{} {}H{}",
+                layout.axis.at(row.spawned),
+                Tenths(layout.middle(bar.lane)),
+                layout.axis.at(row.start)
+            )?;
+        }
+    }
+    text.push_str("\"/>\n")
+}
+
+// Puts the bars, those of the chain behind the others.
+fn put_bars(
+    alloc: Global,
+    text: &mut String,
+    subject: &Subject,
+    layout: Layout,
+    bars: &[Bar],
+) -> Result<(), AllocError> {
+    text.push_str("<g class=\"bars\">\n")?;
+    for bar in bars {
+        if !subject.is_on_chain(bar.row) {
+            put_bar(alloc, text, subject, layout, bar)?;
+        }
+    }
+    text.push_str("</g>\n<g class=\"chain\">\n")?;
+    for bar in bars {
+        if subject.is_on_chain(bar.row) {
+            put_bar(alloc, text, subject, layout, bar)?;
+        }
+    }
+    text.push_str("</g>\n<g class=\"rest\">\n")?;
+    for bar in bars {
+        put_rest(text, subject, layout, bar)?;
+    }
+    text.push_str("</g>\n")
+}
+
+// Puts a bar with what a mouse shows.
+fn put_bar(
+    alloc: Global,
+    text: &mut String,
+    subject: &Subject,
+    layout: Layout,
+    bar: &Bar,
+) -> Result<(), AllocError> {
+    if subject.count() <= MOST_IDS || subject.is_on_chain(bar.row) {
+        write!(text, "<path id=\"r{}\" ", bar.row)?;
+    } else {
+        text.push_str("<path ")?;
+    }
+    let width = layout.axis.long(bar.end.saturating_sub(bar.start));
+    put_box(
+        text,
+        layout.axis.at(bar.start),
+        layout.top(bar.lane),
+        width,
+        layout.bar(),
+    )?;
+    text.push_str("><title>")?;
+    put_title(alloc, text, subject, bar.row)?;
+    text.push_str("</title></path>\n")
+}
+
+// Puts a lighter part over what the chain doesn't go through of a row of its own.
+fn put_rest(
+    text: &mut String,
+    subject: &Subject,
+    layout: Layout,
+    bar: &Bar,
+) -> Result<(), AllocError> {
+    let Some(row) = subject.shown.get(bar.row as usize) else {
+        return Ok(());
+    };
+    let past = row.start.saturating_add(row.through as u64);
+    if row.through == 0 || past >= row.end {
+        return Ok(());
+    }
+    text.push_str("<path pointer-events=\"none\" ")?;
+    let width = layout.axis.long(row.end.saturating_sub(past));
+    put_box(
+        text,
+        layout.axis.at(past),
+        layout.top(bar.lane),
+        width,
+        layout.bar(),
+    )?;
+    text.push_str("/>\n")
+}
+
+// Puts the number of a row and its name, or, where it has none, its cowns.
+fn put_row(
+    alloc: Global,
+    text: &mut String,
+    subject: &Subject,
+    row: u32,
+) -> Result<(), AllocError> {
+    let number = format!(in alloc; "row {row}")?;
+    let name = Spelling::Xml.of(alloc, subject.name(row), TITLE_BYTES)?;
+    text.push_str(number.as_str())?;
+    if name.as_str() != number.as_str() {
+        return write!(text, " {name}");
+    }
+    for cown in subject.cowns(row) {
+        let cown = Spelling::Xml.of(alloc, subject.cown_name(*cown), TITLE_BYTES)?;
+        write!(text, " {cown}")?;
+    }
+    Ok(())
+}
+
+/// Puts what is to be said of a row: its name, when it runs, its cowns, and what it waits for.
+pub(crate) fn put_title(
+    alloc: Global,
+    text: &mut String,
+    subject: &Subject,
+    row: u32,
+) -> Result<(), AllocError> {
+    let Some(shown) = subject.shown.get(row as usize) else {
+        return Ok(());
+    };
+    put_row(alloc, text, subject, row)?;
+    write!(text, ": {} to {}", shown.start, shown.end)?;
+    if subject.count() > MOST_TITLES {
+        return match shown.after {
+            Some(after) => write!(text, "; after row {after}"),
+            None => Ok(()),
+        };
+    }
+    write!(text, ", {} ticks", shown.end.saturating_sub(shown.start))?;
+    if let Some(after) = shown.after {
+        write!(
+            text,
+            "; spawned at {}, waits for row {after} over ",
+            shown.spawned
+        )?;
+        subject.put_handed(text, Spelling::Xml, alloc, after, row)?;
+    }
+    if shown.through > 0 {
+        write!(text, "; the chain goes through {} ticks", shown.through)?;
+    }
+    Ok(())
+}
+
+// Puts a mark at each tick at which a row spawns another one.
+fn put_spawns(
+    text: &mut String,
+    subject: &Subject,
+    layout: Layout,
+    bars: &[Bar],
+) -> Result<(), AllocError> {
+    text.push_str("<path class=\"spawns\" d=\"")?;
+    for (row, shown) in subject.shown.iter().enumerate().skip(1) {
+        let Some(spawned) = subject.rows.as_slice().get(row) else {
+            continue;
+        };
+        if layout.named
+            && let Some(bar) = bars.get(spawned.parent as usize)
+        {
+            let y = layout.top(bar.lane);
+            write!(
+                text,
+                "M{} {}V{}",
+                layout.axis.at(shown.spawned),
+                Tenths(y),
+                Tenths(y.saturating_add(layout.bar() / 3))
+            )?;
+        }
+    }
+    text.push_str("\"/>\n")
+}
+
+// The bar of a row.
+fn bar_of(bars: &[Bar], named: bool, row: u32) -> Option<Bar> {
+    if named {
+        return bars.get(row as usize).copied();
+    }
+    bars.iter().find(|bar| bar.row == row).copied()
+}
+
+// Puts the links of the chain.
+fn put_links(
+    alloc: Global,
+    text: &mut String,
+    subject: &Subject,
+    layout: Layout,
+    bars: &[Bar],
+) -> Result<(), AllocError> {
+    text.push_str(if layout.named {
+        "<g class=\"links\">\n"
+    } else {
+        "<g class=\"links thin\">\n"
+    })?;
+    for (place, step) in subject.chain.iter().enumerate() {
+        if let Some(next) = subject.chain.get(place.saturating_add(1))
+            && let Some(from) = bar_of(bars, layout.named, step.row)
+            && let Some(to) = bar_of(bars, layout.named, next.row)
+        {
+            put_link(alloc, text, subject, layout, *step, &from, &to)?;
+        }
+    }
+    text.push_str("</g>\n")
+}
+
+// Puts a link of the chain, from one row to the next one.
+fn put_link(
+    alloc: Global,
+    text: &mut String,
+    subject: &Subject,
+    layout: Layout,
+    step: ChainStep,
+    from: &Bar,
+    to: &Bar,
+) -> Result<(), AllocError> {
+    let x = layout.axis.at(to.start);
+    write!(
+        text,
+        "<path d=\"M{x} {}V{}\"><title>",
+        Tenths(layout.middle(from.lane)),
+        Tenths(layout.middle(to.lane))
+    )?;
+    put_cause(alloc, text, subject, step, to.row)?;
+    text.push_str("</title></path>\n")?;
+    if !layout.named {
+        return Ok(());
+    }
+    let y = Tenths(layout.middle(to.lane).saturating_add(40));
+    if layout.axis.end.saturating_sub(to.end) < to.start {
+        let left = subject
+            .shown
+            .get(to.row as usize)
+            .map_or(to.start, |row| row.spawned.min(row.start));
+        write!(
+            text,
+            "<text text-anchor=\"end\" x=\"{}\" y=\"{y}\">",
+            Tenths(layout.axis.at(left).0.saturating_sub(60))
+        )?;
+    } else {
+        write!(
+            text,
+            "<text x=\"{}\" y=\"{y}\">",
+            Tenths(layout.axis.at(to.end).0.saturating_add(60))
+        )?;
+    }
+    put_cause(alloc, text, subject, step, to.row)?;
+    text.push_str("</text>\n")
+}
+
+// Puts what leads on from a row of the chain to the next one.
+pub(crate) fn put_cause(
+    alloc: Global,
+    text: &mut String,
+    subject: &Subject,
+    step: ChainStep,
+    next: u32,
+) -> Result<(), AllocError> {
+    match step.via {
+        Via::Spawn => write!(text, "spawned by row {}", step.row),
+        Via::Order => {
+            write!(text, "after row {}: ", step.row)?;
+            subject.put_handed(text, Spelling::Xml, alloc, step.row, next)
+        }
+        Via::Last => Ok(()),
+    }
+}
+
+// Puts the names of rows beside their lanes.
+fn put_names(
+    alloc: Global,
+    text: &mut String,
+    subject: &Subject,
+    layout: Layout,
+) -> Result<(), AllocError> {
+    for row in &subject.shown {
+        let own = Spelling::Xml.of(alloc, subject.name(row.row), LABEL_BYTES)?;
+        let name = format!(in alloc; "{} {own}", row.row)?;
+        let y = layout.middle(row.row).saturating_add(40);
+        put_text(text, "name", 100, y, name.as_str())?;
+    }
+    Ok(())
+}
+
+// Puts the greedy plan below.
+fn put_greedy(
+    alloc: Global,
+    text: &mut String,
+    subject: &Subject,
+    layout: Layout,
+    plan: &Greedy,
+    top: u64,
+) -> Result<(), AllocError> {
+    let top = top.saturating_add(700);
+    let bottom = LANE.saturating_mul(plan.p as u64).saturating_add(top);
+    writeln!(
+        text,
+        "<text class=\"title\" x=\"10\" y=\"{}\">The greedy plan for {} workers: end {}, bound {}</text>",
+        Tenths(top.saturating_sub(300)),
+        plan.p,
+        plan.ends_at,
+        plan.bound
+    )?;
+    for worker in 0..plan.p {
+        let y = LANE
+            .saturating_mul(worker as u64)
+            .saturating_add(top)
+            .saturating_add(120);
+        let words = format!(in alloc; "worker {worker}")?;
+        put_text(text, "name", 100, y, words.as_str())?;
+    }
+    text.push_str("<g class=\"bars\">\n")?;
+    for shown in &subject.shown {
+        let row = shown.row as usize;
+        if let Some(worker) = plan.workers.get(row)
+            && let Some(start) = plan.starts.get(row)
+            && let Some(end) = plan.ends.get(row)
+        {
+            let y = LANE.saturating_mul(*worker as u64).saturating_add(top);
+            put_share(alloc, text, subject, layout, shown.row, *start, *end, y)?;
+        }
+    }
+    text.push_str("</g>\n")?;
+    put_mark(
+        text,
+        "end",
+        layout.axis.at(plan.ends_at),
+        top,
+        bottom,
+        "the end of the greedy plan",
+    )?;
+    put_mark(
+        text,
+        "bound",
+        layout.axis.at(plan.bound),
+        top,
+        bottom,
+        "it has ended by then: the work by the workers, and the span",
+    )
+}
+
+// Puts a bar of the greedy plan.
+fn put_share(
+    alloc: Global,
+    text: &mut String,
+    subject: &Subject,
+    layout: Layout,
+    row: u32,
+    start: u64,
+    end: u64,
+    y: u64,
+) -> Result<(), AllocError> {
+    text.push_str("<path ")?;
+    put_box(
+        text,
+        layout.axis.at(start),
+        y,
+        layout.axis.long(end.saturating_sub(start)),
+        LANE - LANE / 5,
+    )?;
+    if subject.count() > MOST_TITLES {
+        return text.push_str("/>\n");
+    }
+    let name = Spelling::Xml.of(alloc, subject.name(row), TITLE_BYTES)?;
+    writeln!(
+        text,
+        "><title>row {row} {name}: ticks {start} to {end}</title></path>"
+    )
+}
+
+// Puts a line across lanes, with what a mouse shows.
+fn put_mark(
+    text: &mut String,
+    class: &str,
+    x: Tenths,
+    top: u64,
+    bottom: u64,
+    words: &str,
+) -> Result<(), AllocError> {
+    writeln!(
+        text,
+        "<path class=\"{class}\" d=\"M{x} {}V{}\"><title>{words}</title></path>",
+        Tenths(top),
+        Tenths(bottom)
+    )
+}
+
+// Puts what shapes and colours say.
+fn put_legend(text: &mut String, greedy: bool, y: u64) -> Result<(), AllocError> {
+    let top = y.saturating_sub(110);
+    text.push_str("<g class=\"chain\"><path ")?;
+    put_box(text, Tenths(100), top, 300, 120)?;
+    text.push_str("/></g>\n")?;
+    put_text(text, "small", 480, y, "the chain that holds the run back")?;
+    text.push_str("<g class=\"rest\"><path ")?;
+    put_box(text, Tenths(3_000), top, 300, 120)?;
+    text.push_str("/></g>\n")?;
+    put_text(text, "small", 3_380, y, "what it doesn't go through")?;
+    text.push_str("<g class=\"bars\"><path ")?;
+    put_box(text, Tenths(5_400), top, 300, 120)?;
+    text.push_str("/></g>\n")?;
+    put_text(text, "small", 5_780, y, "other rows")?;
+    writeln!(
+        text,
+        "<path class=\"waits\" d=\"M680 {}h30\"/>",
+        Tenths(y.saturating_sub(50))
+    )?;
+    put_text(text, "small", 7_180, y, "waits for a cown")?;
+    writeln!(
+        text,
+        "<path class=\"spawns\" d=\"M850 {}v8\"/>",
+        Tenths(top)
+    )?;
+    put_text(text, "small", 8_580, y, "spawns a row")?;
+    if greedy {
+        writeln!(
+            text,
+            "<path class=\"end\" d=\"M965 {}v12\"/><path class=\"bound\" d=\"M1035 {}v12\"/>",
+            Tenths(top),
+            Tenths(top)
+        )?;
+        put_text(text, "small", 9_720, y, "greedy end")?;
+        put_text(text, "small", 10_420, y, "bound")?;
+    }
+    Ok(())
+}

@@ -1,0 +1,75 @@
+// How names are spelled in a text, in XML and in JSON.
+
+use std::alloc::{AllocError, Global};
+
+// A byte that is printed as it is.
+fn is_printable(byte: u8) -> bool {
+    (0x20..0x7f).contains(&byte)
+}
+
+/// What a name is spelled for.
+#[derive(Clone, Copy, PartialEq, Eq, Debug)]
+pub(crate) enum Spelling {
+    Text,
+    Xml,
+    Json,
+}
+
+impl Spelling {
+    /// A name, at most so many bytes of it.
+    pub(crate) fn of(self, alloc: Global, name: &[u8], most: usize) -> Result<String, AllocError> {
+        match self {
+            Spelling::Text => plain(alloc, name, most),
+            Spelling::Xml => xml(alloc, name, most),
+            Spelling::Json => json(alloc, name, most),
+        }
+    }
+}
+
+// A name in a text, at most so many bytes of it: what is left out is told by two dots, and a byte that can't be printed by `?`.
+fn plain(alloc: Global, name: &[u8], most: usize) -> Result<String, AllocError> {
+    let mut text = String::new(alloc);
+    let kept = if name.len() <= most {
+        most
+    } else {
+        most.saturating_sub(2)
+    };
+    for byte in name.iter().take(kept) {
+        text.push(if is_printable(*byte) {
+            char::from(*byte)
+        } else {
+            '?'
+        })?;
+    }
+    if name.len() > most {
+        text.push_str("..")?;
+    }
+    Ok(text)
+}
+
+// A name in XML, at most so many bytes of it: what means something there is written by its name.
+fn xml(alloc: Global, name: &[u8], most: usize) -> Result<String, AllocError> {
+    let mut text = String::new(alloc);
+    for character in plain(alloc, name, most)?.chars() {
+        match character {
+            '<' => text.push_str("&lt;")?,
+            '>' => text.push_str("&gt;")?,
+            '&' => text.push_str("&amp;")?,
+            '"' => text.push_str("&quot;")?,
+            other => text.push(other)?,
+        }
+    }
+    Ok(text)
+}
+
+// A name in a string of JSON: what means something there stands behind a backslash.
+fn json(alloc: Global, name: &[u8], most: usize) -> Result<String, AllocError> {
+    let mut text = String::new(alloc);
+    for character in plain(alloc, name, most)?.chars() {
+        if character == '"' || character == '\\' {
+            text.push('\\')?;
+        }
+        text.push(character)?;
+    }
+    Ok(text)
+}

@@ -1,0 +1,56 @@
+// The greedy plan in text.
+
+use crate::columns::{Columns, percent, put_line};
+use crate::letters::{letters, mark_of, put_key};
+use crate::subject::Subject;
+use boc_greedy::Greedy;
+use std::alloc::{AllocError, Global};
+
+/// The greedy plan, a line for each worker, in so many columns: a letter for each def, and what part of the plan the worker is busy.
+pub fn workers_text(
+    alloc: Global,
+    subject: &Subject,
+    plan: &Greedy,
+    width: usize,
+) -> Result<String, AllocError> {
+    let letters = letters(alloc, &subject.names.def_names)?;
+    let columns = Columns::new(plan.ends_at, width.saturating_sub(18).max(20));
+    let mut text = format!(in alloc;
+        "the greedy plan for {} workers, end {}, bound {}: ",
+        plan.p, plan.ends_at, plan.bound
+    )?;
+    columns.put_scale(&mut text)?;
+    put_key(alloc, &mut text, subject, &letters)?;
+    for worker in 0..plan.p {
+        put_worker(alloc, &mut text, subject, plan, worker, &letters, columns)?;
+    }
+    Ok(text)
+}
+
+// Puts the line of a worker.
+fn put_worker(
+    alloc: Global,
+    text: &mut String,
+    subject: &Subject,
+    plan: &Greedy,
+    worker: u32,
+    letters: &[u8],
+    columns: Columns,
+) -> Result<(), AllocError> {
+    let mut line = columns.line(alloc)?;
+    let mut busy: u64 = 0;
+    for shown in &subject.shown {
+        let row = shown.row as usize;
+        if plan.workers.get(row) == Some(&worker)
+            && let Some(start) = plan.starts.get(row)
+            && let Some(end) = plan.ends.get(row)
+        {
+            let letter = mark_of(letters, subject, shown.row);
+            columns.paint(&mut line, *start, *end, letter);
+            busy = busy.saturating_add(end.saturating_sub(*start));
+        }
+    }
+    write!(text, "worker {worker:<2} ")?;
+    put_line(text, &line)?;
+    writeln!(text, " {:>3}%", percent(busy, plan.ends_at))
+}

@@ -128,7 +128,7 @@ def fault_of_manifest():
     with open(os.path.join(TOP, tree.MANIFEST)) as file:
         told = file.read()
     kit = tree.said(told, "kit")
-    if told != tree.manifest(tree.MANIFEST, tree.SHIPPED, kit, tree.sums(tree.sources())):
+    if told != tree.manifest(tree.MANIFEST, tree.ALL_SHIPPED, kit, tree.sums(tree.sources())):
         return "it is another one: bin/ship makes it anew"
     return None if kit == tree.version()[1] else f"it names the kit {kit}, and {tree.VERSION} another"
 
@@ -142,6 +142,8 @@ def answers():
         os.symlink(copy.path("bin/boc"), link)
         yield "through a link", fault_of(ANSWER, copy.transfer(command=link))
         yield "help names the program", fault_of_help(copy)
+        told = copy.run("--version", command="bin/boc-view")
+        yield "the other program", fault_of(done(("\n".join(tree.version()) + "\n").encode()), told)
         os.utime(copy.path(SOURCE))
         yield "after a touch", fault_of(ANSWER, copy.transfer(kit=True))
         yield "no proof is begun", "rt was called" if copy.was_called() else None
@@ -195,6 +197,9 @@ def broken_shipments():
     with copied() as copy:
         change(copy, tree.SHIPPED)
         yield "a flipped byte of the program", refusal(copy.transfer(kit=True), 70, tree.SHIPPED, "git checkout dist")
+    with copied() as copy:
+        change(copy, tree.SHIPPED_VIEW)
+        yield "a flipped byte of the other program", refusal(copy.transfer(kit=True), 70, tree.SHIPPED_VIEW, "git checkout dist")
     with copied() as copy:
         copy.transfer()
         change(copy, tree.SHIPPED, keep_date=True)
@@ -250,14 +255,16 @@ def built_here():
     """What was built here answers where its manifest is that of the tree, and not where it is half-written."""
     with copied() as copy:
         change(copy, DEFINITION)
-        os.makedirs(copy.path("crates/boc/out"))
-        with open(copy.path(tree.BUILT), "w") as file:
-            file.write("#!/bin/sh\necho built here\n")
-        os.chmod(copy.path(tree.BUILT), 0o755)
-        text = tree.manifest(tree.BUILT_MANIFEST, tree.BUILT, "a kit", tree.sums(tree.sources(copy.top), copy.top), copy.top)
+        for built, word in zip(tree.ALL_BUILT, ["here", "to view"]):
+            os.makedirs(os.path.dirname(copy.path(built)), exist_ok=True)
+            with open(copy.path(built), "w") as file:
+                file.write(f"#!/bin/sh\necho built {word}\n")
+            os.chmod(copy.path(built), 0o755)
+        text = tree.manifest(tree.BUILT_MANIFEST, tree.ALL_BUILT, "a kit", tree.sums(tree.sources(copy.top), copy.top), copy.top)
         tree.write_whole(copy.path(tree.BUILT_MANIFEST), text.encode())
         for _ in range(2):
             yield "the program that was built here", fault_of(done(b"built here\n"), copy.transfer())
+            yield "the other program that was built here", fault_of(done(b"built to view\n"), copy.transfer(command="bin/boc-view"))
         with open(copy.path(tree.BUILT), "a") as file:
             file.write("echo half\n")
         yield "a build that is half-written", refusal(copy.transfer(kit=True), 70, "proving and building")
@@ -271,6 +278,8 @@ def installs():
         fault = None if answer and answer.status == 0 and f"{prefix}/bin/boc".encode() in answer.output else f"it answered {answer}"
         yield "install", fault
         yield "the installed program", fault_of(ANSWER, copy.transfer(command=f"{prefix}/bin/boc"))
+        found = os.access(f"{prefix}/bin/boc-view", os.X_OK)
+        yield "the other one", None if found else "it is not there"
         answer = copy.run(command="bin/install")
         found = os.access(os.path.join(copy.room, ".local/bin/boc"), os.X_OK)
         yield "install into the home folder", None if found and answer.status == 0 else f"it answered {answer}"

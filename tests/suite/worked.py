@@ -11,6 +11,8 @@ VALUES = {
                 "acct[9] 112\nacct[10] 27\nacct[11] 37\nlog 24\ntotal 2400\n",
     "transfer.boc": "a 12\nb 4\n",
     "division.boc": "a 1\n",
+    "race.boc": "a 4\nb 0\nc 0\n",
+    "commute.boc": "acct[0] 85\nacct[1] 94\nacct[2] 103\nacct[3] 118\nlog 3\ndesk[0] 0\ndesk[1] 0\ndesk[2] 0\n",
     "countdown.boc": "a 3\n",
     "four_squares.boc": "c[0] 1\nc[1] 4\nc[2] 9\nc[3] 16\n",
     "overflow.boc": "a 9223372036854775807\n",

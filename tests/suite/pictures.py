@@ -1,0 +1,337 @@
+"""The program boc-view: each picture is read back, and what it shows is compared with the plans of the model."""
+import collections
+import json
+import os
+import random
+import re
+import shutil
+import subprocess
+import tempfile
+import time
+import xml.etree.ElementTree as tree_of
+
+from . import memory, model, shipped
+from .plans import random_rows, record_of
+from .records import fan, fan_text
+from .running import DEVICE, Program, done, fault_of, refused
+from .why import rows_of
+
+# How many records are drawn at random.
+RANDOM = 60
+
+TRANSFER = b"""\
+rows 4   work 11   span 9
+
+1 column = 1 tick; # runs, and the chain goes through it; = runs; . waits for a cown
+  0 main          |##==     |
+  1 add(5; a)     |  ##     |
+  2 move(3; a, b) |   .###  |
+  3 add(1; b)     |    ...##|
+"""
+
+PIPELINE_COWNS = b"""\
+who holds what: 1 column = 4 ticks; m main, p parse, c check, P price, k keep
+parser  | pppppppppppppppppppppppppppppppppppppppp                             |  55%
+checker |    cccccccccccccccccccccccccccccccccccccccc                          |  49%
+pricer  |          PPPPPPPPPPPPPPPPPPPPPPPPPPPPPPPPPPPPPPPPPPPPPPPPPPPPPPPPPP  |  81%
+store   |                    kkk      kkk       kkk      kkk       kkk      kkk|  17%
+"""
+
+NAMES = b"""= 0 <start> & "go"
+= 1 a\\b 1
+@ 0 <c>
+"""
+
+
+def view_of(program):
+    """The program that draws, built beside this one."""
+    is_shipped = os.path.basename(program.path) == os.path.basename(shipped.tree.SHIPPED)
+    return Program(os.path.join(shipped.TOP, shipped.tree.SHIPPED_VIEW if is_shipped else shipped.tree.BUILT_VIEW), program.examples)
+
+
+def cases(program):
+    view = view_of(program)
+    if not os.access(view.path, os.X_OK):
+        yield "the program", f"there is none at {view.path}"
+        return
+    yield from texts(program, view)
+    yield from drawings(program, view)
+    yield from traces(view)
+    yield from names_that_mean_something(view)
+    yield from words(view)
+    yield from at_the_limit(view)
+    yield from wants(view)
+
+
+def texts(program, view):
+    transfer, pipeline = program.example("transfer.boc"), program.example("pipeline.boc")
+    yield "text: the transfer", fault_of(done(TRANSFER), view.run(["text"], transfer))
+    yield "text: its record", fault_of(done(TRANSFER), view.run_beside(["text"], "--record", program.example("transfer.record"), transfer))
+    yield "text: who holds what", fault_of(done(PIPELINE_COWNS), view.run(["text", "--cowns", "--width", "86"], pipeline))
+    yield "text: a width from outside", fault_of(done(PIPELINE_COWNS), view.run(["text", "--cowns"], pipeline, env={"COLUMNS": "86"}))
+    for name in ("pipeline.boc", "philosophers.boc", "bank.boc"):
+        source = program.example(name)
+        rows, _ = rows_of(program.run(["run"], source).output)
+        yield f"text: workers of {name}", fault_of_workers(view.run(["text", "--p", "3"], source).output, rows, 3)
+        yield f"text: curve of {name}", fault_of_curve(view.run(["text", "--curve"], source).output, rows)
+    for number, rows in enumerate(random_records(0)):
+        if len(rows) <= 60:
+            yield f"text: {number}", fault_of_lines(view.run(["text", "--width", "1000"], record_of(rows)).output, rows)
+
+
+def random_records(seed):
+    """The rows of records by chance."""
+    chance, found = random.Random(seed), []
+    while len(found) < RANDOM:
+        rows = random_rows(chance)
+        if record_of(rows):
+            found.append(rows)
+    return found
+
+
+def columns_of(end, most):
+    """How many ticks a column takes."""
+    return max(1, -(-end // most))
+
+
+def fault_of_lines(output, rows):
+    """Each line has a row's number, and marks where it waits and runs."""
+    starts = model.earliest_starts(rows)
+    ends = model.ends_of(rows, starts)
+    weights = {int(line.split()[0]): int(line.split()[2]) for line in model.chain(rows, starts)}
+    label = max(len(f"row {number}") for number in range(len(rows)))
+    ticks = columns_of(max(ends), 1000 - label - 7)
+    count = -(-max(ends) // ticks)
+    for number, line in enumerate(output.decode().splitlines()[3:]):
+        row = rows[number]
+        spawned = starts[row.parent] + row.offset if number else 0
+        marks = [" "] * count
+        for mark, begin, past in ((".", spawned, starts[number]), ("=", starts[number], ends[number]),
+                                  ("#", starts[number], starts[number] + weights.get(number, 0))):
+            if mark == "." and spawned == starts[number] or mark == "#" and number not in weights:
+                continue
+            for column in range(begin // ticks, -(-past // ticks)):
+                marks[column] = mark
+        wanted = f"{number:>3} {f'row {number}':<{label}} |{''.join(marks)}|"
+        if line != wanted:
+            return f"{line!r} in place of {wanted!r}"
+    return None if len(output.splitlines()) == len(rows) + 3 else "another number of lines"
+
+
+def fault_of_workers(output, rows, workers):
+    """Each worker's load is that of the greedy plan."""
+    lines = [line.split() for line in model.greedy_lines(rows, workers)]
+    end = int(lines[-1][1])
+    busy = collections.Counter()
+    for line in lines:
+        if len(line) == 4 and line[0].isdigit():
+            busy[int(line[3])] += int(line[2]) - int(line[1])
+    wanted = [busy[worker] * 100 // end for worker in range(workers)]
+    found = [int(line.split()[-1].rstrip("%")) for line in output.decode().splitlines()[1:]]
+    return None if found == wanted else f"loads {found} in place of {wanted}"
+
+
+def fault_of_curve(output, rows):
+    """Each line has the numbers of the curve, and the last one says from which number of workers on none ends sooner, where that is known."""
+    points = [[int(it) for it in line.split()] for line in model.curve(rows).decode().splitlines()[2:]]
+    work = sum(row.ticks for row in rows)
+    least = min(point[1] for point in points)
+    enough = next(point[0] for point in points if point[1] == least)
+    wanted = []
+    for workers, end, low, bound in points:
+        if workers & (workers - 1) == 0 or workers == enough:
+            speed_up = work * 100 // end
+            wanted.append([str(workers), str(end), str(low), str(bound), f"{speed_up // 100}.{speed_up % 100:02}", f"{work * 100 // (workers * end)}%"])
+    lines = output.decode().splitlines()
+    found = [line.split()[:6] for line in lines[2:-1]]
+    if found != wanted:
+        return f"{found} in place of {wanted}"
+    gain = f"more than {enough} worker{'' if enough == 1 else 's'} gain{'s' if enough == 1 else ''} nothing: the plan ends at the span"
+    last = gain if least == model.span(rows) else f"of 1 to 64 workers, {enough} end soonest"
+    return None if lines[-1] == last else f"the last line is {lines[-1]!r}"
+
+
+TITLE = re.compile(r"row (\d+)\b.*: (\d+) to (\d+)")
+
+
+def bars_of(svg):
+    """Of each bar of a drawing the row, its times as a mouse shows them, where it begins, how long it is, and its upper edge."""
+    space = "{http://www.w3.org/2000/svg}"
+    bars = []
+    for path in tree_of.fromstring(svg).iter(f"{space}path"):
+        title = path.find(f"{space}title")
+        if title is not None and TITLE.match(title.text) and " workers" not in title.text and not path.get("class"):
+            begin, top, width = re.match(r"M([\d.]+) ([\d.]+)h([\d.]+)v", path.get("d")).groups()
+            row, start, end = TITLE.match(title.text).groups()
+            bars.append((int(row), int(start), int(end), float(begin), float(width), float(top)))
+    return bars
+
+
+def fault_of_drawing(svg, rows):
+    """There is a bar for each row, in the place of its ticks, and no two in one lane overlap."""
+    starts = model.earliest_starts(rows)
+    ends = model.ends_of(rows, starts)
+    bars = bars_of(svg)
+    if sorted((bar[0], bar[1], bar[2]) for bar in bars) != sorted(zip(range(len(rows)), starts, ends)):
+        return "its bars are not the rows of the plan"
+    left = min(bar[3] for bar in bars)
+    scale = (1170 - left) / max(ends)
+    for _, start, end, begin, width, _ in bars:
+        if abs(begin - left - start * scale) > 0.11 or abs(width - max(0.5, (end - start) * scale)) > 0.11:
+            return f"a bar from {start} to {end} begins at {begin} and is {width} long"
+    lanes = collections.defaultdict(list)
+    for bar in bars:
+        lanes[bar[5]].append((bar[1], bar[2]))
+    if any(one[1] > other[0] for lane in lanes.values() for one, other in zip(sorted(lane), sorted(lane)[1:])):
+        return "two bars in one lane overlap"
+    if len(rows) > 60:
+        changes = sorted([(start, 1) for start in starts] + [(end, -1) for end in ends])
+        running = most = 0
+        for _, change in changes:
+            running += change
+            most = max(most, running)
+        if len(lanes) != most:
+            return f"{len(lanes)} lanes in place of {most}"
+    return None
+
+
+def drawings(program, view):
+    chance = random.Random(5)
+    many = fan(300, lambda number: (chance.randrange(4),), lambda number: chance.randrange(1, 30))
+    for number, rows in enumerate([*random_records(1), many]):
+        record = fan_text(4, rows) if rows is many else record_of(rows)
+        svg = view.run(["plan"], record).output
+        yield f"plan: {number}", fault_of_drawing(svg, rows)
+        yield f"plan: {number} for workers", fault_of_xml(view.run(["plan", "--p", "2"], record).output)
+        yield f"curve: {number}", fault_of_xml(view.run(["curve"], record).output)
+        yield f"page: {number}", fault_of_page(view.run(["page"], record).output, rows)
+    for name in sorted(os.listdir(program.examples)):
+        if name.endswith(".boc") and program.run(["run"], program.example(name)).status == 0:
+            yield f"plan: {name}", fault_of_xml(view.run(["plan"], program.example(name)).output)
+            yield f"page: {name}", fault_of_page(view.run(["page"], program.example(name)).output, rows_of(program.run(["run"], program.example(name)).output)[0])
+    for path, command in (("docs/transfer.svg", ["plan"]), ("docs/pipeline.html", ["page"])):
+        with open(os.path.join(shipped.TOP, path), "rb") as file:
+            source = program.example("transfer.boc" if command == ["plan"] else "pipeline.boc")
+            yield path, fault_of(done(file.read()), view.run(command, source))
+
+
+def fault_of_xml(text):
+    """It is one element, with no script, no font and no picture from outside; xmllint reads it too, where it is there."""
+    try:
+        tree_of.fromstring(text)
+    except tree_of.ParseError as error:
+        return f"it is no XML: {error}"
+    rest = text.replace(b"http://www.w3.org/2000/svg", b"")
+    if b"http" in rest or b"url(" in rest or b"<script" in rest or b"@import" in rest:
+        return "it takes something from outside, or has a script"
+    if shutil.which("xmllint"):
+        run = subprocess.run(["xmllint", "--noout", "-"], input=text, capture_output=True, check=False)
+        return None if run.returncode == 0 else f"xmllint says {run.stderr[:80]}"
+    return None
+
+
+def fault_of_page(text, rows):
+    """Its drawings are XML, its tables have the sweep and the chain, and nothing comes from outside."""
+    drawings_in = re.findall(rb"<svg.*?</svg>", text, re.DOTALL)
+    if len(drawings_in) != 2:
+        return f"{len(drawings_in)} drawings"
+    faults = [fault_of_xml(it) for it in drawings_in]
+    if any(faults):
+        return next(filter(None, faults))
+    if b"http" in text.replace(b"http://www.w3.org/2000/svg", b"") or b"src=" in text:
+        return "it takes something from outside"
+    table = text[text.index(b"id=\"sweep\""):]
+    spans = [int(it) for it in re.findall(rb"<td>(\d+)</td></tr>", table[:table.index(b"</table>")])]
+    wanted = [int(line.split()[1]) for line in model.sweep(rows).decode().splitlines()][:1000]
+    if spans != wanted:
+        return "its sweep is another one"
+    chain = re.findall(rb"<tr data-row=\"(\d+)\"><td>(\d+)</td><td>(\d+)</td>", text[:text.index(b"id=\"sweep\"")])
+    starts = model.earliest_starts(rows)
+    lines = [line.split() for line in model.chain(rows, starts)][:1000]
+    if [(int(row), int(start), int(ticks)) for row, start, ticks in chain] != [(int(it[0]), starts[int(it[0])], int(it[2])) for it in lines]:
+        return "its chain is another one"
+    return None
+
+
+def traces(view):
+    for number, rows in enumerate(random_records(2)):
+        yield f"trace: {number}", fault_of_trace(view.run(["trace", "--p", "3"], record_of(rows)).output, rows)
+
+
+def fault_of_trace(text, rows):
+    """Its events of each plan add up to the work, those of a thread don't overlap, and arrows go along the chain."""
+    events = json.loads(text)["traceEvents"]
+    work = sum(row.ticks for row in rows)
+    for process in (1, 2):
+        own = [it for it in events if it["ph"] == "X" and it["pid"] == process]
+        if sum(it["dur"] for it in own) != work or sorted(it["args"]["row"] for it in own) != list(range(len(rows))):
+            return f"process {process} is no plan of the rows"
+        threads = collections.defaultdict(list)
+        for it in own:
+            threads[it["tid"]].append((it["ts"], it["ts"] + it["dur"]))
+        if any(one[1] > other[0] for lane in threads.values() for one, other in zip(sorted(lane), sorted(lane)[1:])):
+            return f"two events of a thread of process {process} overlap"
+    starts = model.earliest_starts(rows)
+    if {(it["args"]["row"], it["ts"]) for it in events if it["ph"] == "X" and it["pid"] == 1} != set(enumerate(starts)):
+        return "the first process is not the earliest plan"
+    arrows = [it for it in events if it["ph"] == "f"]
+    links = model.chain(rows, starts)
+    return None if len(arrows) == len(links) - 1 else f"{len(arrows)} arrows along a chain of {len(links)} rows"
+
+
+def names_that_mean_something(view):
+    """What means something in XML or JSON is escaped."""
+    record = record_of([model.Row(0, 0, (), 4), model.Row(0, 1, (0,), 2), model.Row(0, 2, (0,), 2)])
+    for command in ("plan", "curve", "page"):
+        output = view.run_beside([command], "--names", NAMES, record).output
+        for drawing in re.findall(rb"<svg.*?</svg>", output, re.DOTALL):
+            yield f"{command}: names are escaped", fault_of_xml(drawing)
+        yield f"{command}: no raw name", "it stands there" if b"<start>" in output or b"<c>" in output else None
+    events = json.loads(view.run_beside(["trace"], "--names", NAMES, record).output)["traceEvents"]
+    names = {it["name"] for it in events if it["ph"] == "X"}
+    yield "trace: names are escaped", None if "a\\b(1; <c>)" in names or any(it.startswith("a\\b") for it in names) else f"they are {names}"
+
+
+def words(view):
+    for words_ in (["text", "--depth", "2"], ["plan", "--p", "65"], ["plan", "--workers", "17"], ["picture"], ["plan", "--cowns"], ["text", "--width", "39"]):
+        answer = view.run(words_)
+        yield f"words: {words_}", None if answer.status == 2 and not answer.output and answer.errors else f"the answer {answer}"
+    yield "a faulty program", fault_of(refused(3, "boc: line 1: 5 UnknownName"), view.run(["plan"], b"main { x = 1; }"))
+    yield "a faulty record", fault_of(refused(3, "boc: line 1: 1 Header"), view.run(["text"], b"boc 9\n"))
+    answer = view.run(["plan", "--names", "/no/such"], b"main { }")
+    yield "no file", None if answer.status == 5 and not answer.output and b"/no/such" in answer.errors else f"the answer {answer}"
+    race = b"cown a = 1; def one(; x) { x = x + 1; } def two(; x) { x = x * 2; } def go(; x) { when two(; x); } main { when go(; a); when one(; a); }"
+    seeds = [view.run(["text", "--workers", "4", "--seed", str(seed)], race) for seed in range(4)]
+    again = [view.run(["text", "--workers", "4", "--seed", str(seed)], race) for seed in range(4)]
+    yield "a seed brings its picture back", None if seeds == again and all(it.status == 0 for it in seeds) else "it does not"
+
+
+def at_the_limit(view):
+    """As many rows as there may be: within ten megabytes, and two seconds on a machine that does nothing else."""
+    chance = random.Random(7)
+    rows = fan(65_535, lambda number: (chance.randrange(256),), lambda number: chance.randrange(1, 1000))
+    record = fan_text(256, rows)
+    begun = time.monotonic()
+    output = view.run(["plan"], record).output
+    seconds = time.monotonic() - begun
+    yield "plan: 65,535 rows, bytes", None if len(output) < 10_000_000 and output.endswith(b"</svg>\n") else f"{len(output)} bytes"
+    yield "plan: 65,535 rows, seconds", None if seconds < 20 else f"{seconds:.1f} s"
+    yield "plan: 65,535 rows", fault_of_drawing(output, rows)
+    for command in (["text"], ["text", "--cowns"], ["text", "--p", "4"], ["trace"], ["page"]):
+        answer = view.run(command, record)
+        yield f"{command}: 65,535 rows", None if answer and answer.status == 0 else f"it answered {answer and answer.errors}"
+
+
+def wants(view):
+    """A full disk is told, and each request for memory refused in turn."""
+    source = view.example("transfer.record")
+    commands = [["text"], ["text", "--cowns"], ["text", "--p", "2"], ["text", "--curve"], ["plan", "--p", "2"], ["curve"], ["page"], ["trace", "--p", "2"]]
+    with tempfile.TemporaryDirectory() as folder:
+        library = os.path.join(folder, "refuse.so")
+        fault = memory.build(library)
+        yield "the library that refuses requests", fault
+        for command in commands:
+            with open("/dev/full", "wb") as full:
+                yield f"{command}: a full disk", fault_of(DEVICE, view.run(command, source, stdout=full))
+            if fault is None:
+                yield f"{command}: each request refused", memory.fault_of_refusals(view, library, command, source, view.run(command, source))

@@ -41,11 +41,7 @@ pub(crate) fn read_words(alloc: Global, words: &[String]) -> Result<Asked, Fault
         Err(error) => match error.kind() {
             ErrorKind::OutOfMemory => Err(Fault::from(AllocError)),
             ErrorKind::DisplayHelp => Ok(Asked::Told(error.to_string(alloc)?)),
-            ErrorKind::DisplayVersion => {
-                let mut text = String::from_str(alloc, VERSION)?;
-                text.push('\n')?;
-                Ok(Asked::Told(text))
-            }
+            ErrorKind::DisplayVersion => Ok(Asked::Told(String::from_str(alloc, VERSION)?)),
             _ => Err(Fault::from(WordsFault::Parser(error))),
         },
     }

@@ -52,15 +52,22 @@ def chromium():
 
 
 def run(browser, words):
-    """What the browser writes. It reaches no other machine."""
-    command = [browser, "--headless", "--no-sandbox", "--disable-gpu", "--hide-scrollbars", "--host-resolver-rules=MAP * ~NOTFOUND", *words]
-    return subprocess.run(command, capture_output=True, timeout=SECONDS, check=False)
+    """What the browser writes, nothing where it hangs. It reaches no other machine."""
+    command = [browser, "--headless", "--no-sandbox", "--disable-gpu", "--disable-dev-shm-usage", "--hide-scrollbars",
+               "--host-resolver-rules=MAP * ~NOTFOUND", *words]
+    try:
+        return subprocess.run(command, capture_output=True, timeout=SECONDS, check=False).stdout
+    except subprocess.TimeoutExpired:
+        return b""
 
 
 def cases(program):
     browser = chromium()
     if browser is None:
         print("note: no page was opened, since there is no Chromium and its package can't be had", flush=True)
+        return
+    if b"here it is" not in run(browser, ["--dump-dom", "data:text/html,<p>here it is</p>"]):
+        print(f"note: no page was opened, since {browser} does not run on this machine", flush=True)
         return
     view = view_of(program)
     with tempfile.TemporaryDirectory() as folder:
@@ -77,7 +84,7 @@ def fault_of_page(browser, path, page, count):
     """It has a bar for each row, a mouse is shown something at each, a table is sorted by a click, and nothing goes wrong."""
     with open(path, "w") as file:
         file.write(page.replace("<head>", "<head>" + FAULTS, 1).replace("</body>", QUESTIONS + "</body>"))
-    found = re.search(r'<pre id="answers">(.*?)</pre>', run(browser, ["--dump-dom", "file://" + path]).stdout.decode(errors="replace"), re.DOTALL)
+    found = re.search(r'<pre id="answers">(.*?)</pre>', run(browser, ["--dump-dom", "file://" + path]).decode(errors="replace"), re.DOTALL)
     if not found:
         return "it never stood"
     answers = json.loads(html.unescape(found.group(1)))

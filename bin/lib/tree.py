@@ -91,6 +91,12 @@ def kit():
     return subprocess.run(["rt", "version"], capture_output=True, text=True, check=True).stdout.strip()
 
 
+def anew():
+    """The words by which `rt ci` takes over nothing that was proved before; a kit that knows none never does."""
+    told = subprocess.run(["rt", "help"], capture_output=True, text=True, check=False)
+    return ["--anew"] if "--anew" in told.stdout + told.stderr else []
+
+
 def manifest(place, programs, kit_line, source_sums, top=TOP):
     """The text of the manifest at a place, of programs that were built by a kit from sources with these sums."""
     lines = sums(programs, top) + source_sums

@@ -1,5 +1,6 @@
 """The program boc-view: each picture is read back, and what it shows is compared with the plans of the model."""
 import collections
+import html
 import json
 import os
 import random
@@ -37,6 +38,21 @@ pricer  |          PPPPPPPPPPPPPPPPPPPPPPPPPPPPPPPPPPPPPPPPPPPPPPPPPPPPPPPPPP  |
 store   |                    kkk      kkk       kkk      kkk       kkk      kkk|  17%
 """
 
+NARROW = b"""\
+rows 4   work 11   span 9
+
+1 column = 1 tick; # runs, and the chain
+  goes through it; = runs; . waits for a
+  cown
+  0 main          |##==     |
+  1 add(5; a)     |  ##     |
+  2 move(3; a, b) |   .###  |
+  3 add(1; b)     |    ...##|
+"""
+
+# How wide a letter is of the names beside bars, and of what stands at links.
+NAME_LETTER, LINK_LETTER = 7.3, 6.7
+
 NAMES = b"""= 0 <start> & "go"
 = 1 a\\b 1
 @ 0 <c>
@@ -59,6 +75,7 @@ def cases(program):
     yield from traces(view)
     yield from names_that_mean_something(view)
     yield from words(view)
+    yield from operands(view)
     yield from at_the_limit(view)
     yield from wants(view)
 
@@ -74,6 +91,15 @@ def texts(program, view):
         rows, _ = rows_of(program.run(["run"], source).output)
         yield f"text: workers of {name}", fault_of_workers(view.run(["text", "--p", "3"], source).output, rows, 3)
         yield f"text: curve of {name}", fault_of_curve(view.run(["text", "--curve"], source).output, rows)
+    yield "text: the transfer in 40 columns", fault_of(done(NARROW), view.run(["text", "--width", "40"], transfer))
+    chance = random.Random(6)
+    many = [fan_text(4, fan(count, lambda number: (chance.randrange(4),), lambda number: chance.randrange(1, most))) for count, most in ((90, 9), (2_000, 900))]
+    for source in [transfer, pipeline, program.example("bank.boc"), *many, record_of([model.Row(0, 0, (), 1_000_000)])]:
+        for width in (40, 41, 52, 63, 64, 80, 100):
+            for command in ([], ["--cowns"], ["--p", "3"], ["--curve"]):
+                output = view.run(["text", *command, "--width", str(width)], source).output
+                longest = max(map(len, output.splitlines()), default=0)
+                yield f"text: {command} in {width} columns", None if 0 < longest <= width else f"a line has {longest}"
     for number, rows in enumerate(random_records(0)):
         if len(rows) <= 60:
             yield f"text: {number}", fault_of_lines(view.run(["text", "--width", "1000"], record_of(rows)).output, rows)
@@ -127,7 +153,7 @@ def fault_of_workers(output, rows, workers):
         if len(line) == 4 and line[0].isdigit():
             busy[int(line[3])] += int(line[2]) - int(line[1])
     wanted = [busy[worker] * 100 // end for worker in range(workers)]
-    found = [int(line.split()[-1].rstrip("%")) for line in output.decode().splitlines()[1:]]
+    found = [int(line.split()[-1].rstrip("%")) for line in output.decode().splitlines() if line.startswith("worker ")]
     return None if found == wanted else f"loads {found} in place of {wanted}"
 
 
@@ -207,12 +233,27 @@ def drawings(program, view):
         yield f"page: {number}", fault_of_page(view.run(["page"], record).output, rows)
     for name in sorted(os.listdir(program.examples)):
         if name.endswith(".boc") and program.run(["run"], program.example(name)).status == 0:
-            yield f"plan: {name}", fault_of_xml(view.run(["plan"], program.example(name)).output)
+            drawn = [view.run(["plan", *words_], program.example(name)).output for words_ in ([], ["--p", "4"])]
+            yield f"plan: {name}", next(filter(None, map(fault_of_xml, drawn)), None)
+            yield f"plan: {name}: its texts are apart", next(filter(None, map(fault_of_texts, drawn)), None)
             yield f"page: {name}", fault_of_page(view.run(["page"], program.example(name)).output, rows_of(program.run(["run"], program.example(name)).output)[0])
     for path, command in (("docs/transfer.svg", ["plan"]), ("docs/pipeline.html", ["page"])):
         with open(os.path.join(shipped.TOP, path), "rb") as file:
             source = program.example("transfer.boc" if command == ["plan"] else "pipeline.boc")
             yield path, fault_of(done(file.read()), view.run(command, source))
+
+
+def fault_of_texts(svg):
+    """No text at a link reaches into the name of a row or out of the drawing, and none in the legend into what is next to it."""
+    text = svg.decode()
+    names = {y: 10 + len(html.unescape(words_)) * NAME_LETTER for y, words_ in re.findall(r'<text class="name" x="10" y="([\d.]+)">(.*?)</text>', text)}
+    for is_end, x, y, words_ in re.findall(r'<text (text-anchor="end" )?x="([\d.]+)" y="([\d.]+)">(.*?)</text>', text):
+        length = len(html.unescape(words_)) * LINK_LETTER
+        begin = float(x) - length if is_end else float(x)
+        if y in names and (begin < names[y] - 1 or begin + length > 1201):
+            return f"{words_!r} goes from {begin} on, and is {length} long"
+    legend = [(float(x), len(html.unescape(words_)) * LINK_LETTER) for x, words_ in re.findall(r'<text class="small" x="([\d.]+)" y="[\d.]+">(.*?)</text>', text)]
+    return "texts of the legend meet" if any(x + length > other - 8 for (x, length), (other, _) in zip(legend, legend[1:])) else None
 
 
 def fault_of_xml(text):
@@ -306,6 +347,28 @@ def words(view):
     yield "a seed brings its picture back", None if seeds == again and all(it.status == 0 for it in seeds) else "it does not"
 
 
+def operands(view):
+    """A file behind the picture is read in place of standard input, and the short options are the long ones."""
+    transfer, record = (os.path.join(view.examples, name) for name in ("transfer.boc", "transfer.record"))
+    for command in ("text", "plan", "curve", "page", "trace"):
+        wanted = view.run([command], view.example("transfer.boc"))
+        yield f"{command}: a file", fault_of(wanted, view.run([command, transfer], b"main { ? }"))
+        yield f"{command}: - is standard input", fault_of(wanted, view.run([command, "-"], view.example("transfer.boc")))
+        yield f"{command}: a record in a file", fault_of(view.run([command], view.example("transfer.record")), view.run([command, record]))
+        for path, why in (("/no/such", "No such file or directory (os error 2)"), (view.examples, "Is a directory (os error 21)")):
+            yield f"{command}: {path}", fault_of(refused(5, f"boc-view: {path}: {why}"), view.run([command, path], b"main { }"))
+    yield "text: a file and its record", fault_of(done(TRANSFER), view.run(["text", "--record", record, transfer]))
+    yield "text: a faulty file", fault_of(refused(3, "boc: line 1: 5 UnknownName"), view.run_beside(["text"], "--", b"main { x = 1; }"))
+    yield "plan: -p", fault_of(view.run(["plan", "--p", "3", transfer]), view.run(["plan", "-p", "3", transfer]))
+    words_ = ["text", "--seed", "7", transfer]
+    yield "text: -w", fault_of(view.run(["text", "--workers", "4", *words_[1:]]), view.run(["text", "-w4", *words_[1:]]))
+    for words_ in (["plan", transfer, transfer], ["plan", "-w", "17"], ["plan", "-p", "0"], ["plan", "-x"]):
+        answer = view.run(words_)
+        yield f"words: {words_}", None if answer.status == 2 and not answer.output and answer.errors else f"the answer {answer}"
+    help_ = view.run(["plan", "--help"]).output
+    yield "help names the file", None if b"[FILE]" in help_ and b"-w, --workers" in help_ and b"-p, --p" in help_ else f"it is {help_}"
+
+
 def at_the_limit(view):
     """As many rows as there may be: within ten megabytes, and two seconds on a machine that does nothing else."""
     chance = random.Random(7)
@@ -335,3 +398,6 @@ def wants(view):
                 yield f"{command}: a full disk", fault_of(DEVICE, view.run(command, source, stdout=full))
             if fault is None:
                 yield f"{command}: each request refused", memory.fault_of_refusals(view, library, command, source, view.run(command, source))
+        command = ["text", os.path.join(view.examples, "transfer.record")]
+        if fault is None:
+            yield f"{command}: each request refused", memory.fault_of_refusals(view, library, command, b"", view.run(command))

@@ -14,6 +14,9 @@ SECONDS = 600
 # How a line begins that notes a behaviour which ended by a fault.
 NOTE = b"boc: note: "
 
+# How a line begins that explains the fault before it. What such lines say is a matter of explained.py alone.
+EXPLAINS = b"     "
+
 
 class Answer(NamedTuple):
     """What came of a run. What it noted stands apart from its other lines on standard error; None is no matter of the test."""
@@ -88,9 +91,17 @@ def fault_of(expected, answer):
         return "it did not end in time"
     for part in Answer._fields:
         wanted, got = getattr(expected, part), getattr(answer, part)
+        if part == "errors" and wanted:
+            got = without_explanation(got, wanted.count(b"\n"))
         if None not in (wanted, got) and wanted != got:
             return f"its {part}: {difference(wanted, got)}"
     return None
+
+
+def without_explanation(errors, count):
+    """What was written to standard error, without the lines that explain a fault behind the first ones."""
+    lines = errors.splitlines(keepends=True)
+    return b"".join(lines[:count] + [line for line in lines[count:] if not line.startswith(EXPLAINS)])
 
 
 def difference(wanted, got):

@@ -6,6 +6,7 @@ coreutils alone, unless it says otherwise.
 import contextlib
 import os
 import shutil
+import stat
 import subprocess
 import sys
 import tempfile
@@ -25,6 +26,15 @@ COREUTILS = ["cat", "chmod", "cp", "cut", "dirname", "head", "mkdir", "mv", "rea
 # A first answer compares a thousand files; what takes longer than this proves or hangs.
 SECONDS = 20
 
+# What install puts beside the programs.
+BESIDE = {
+    "share/bash-completion/completions/boc": "completions/boc.bash",
+    "share/zsh/site-functions/_boc": "completions/_boc",
+    "share/fish/vendor_completions.d/boc.fish": "completions/boc.fish",
+    "share/man/man1/boc.1": "man/boc.1",
+    "share/man/man1/boc-view.1": "man/boc-view.1",
+}
+
 # Whoever may not write to a folder of ours.
 NOBODY = 65534
 
@@ -42,7 +52,7 @@ class Copy:
         self.note = os.path.join(room, "note")
         self.tools = os.path.join(room, "tools")
         self.kit = os.path.join(room, "kit")
-        for part in ["bin", "crates", "dist"]:
+        for part in ["bin", "completions", "crates", "dist", "man"]:
             shutil.copytree(os.path.join(TOP, part), os.path.join(self.top, part), symlinks=True, ignore=shutil.ignore_patterns("out", "build.log", "__pycache__"))
         for part in ["crates.txt", "HANDLES"]:
             shutil.copy(os.path.join(TOP, part), self.top)
@@ -280,6 +290,9 @@ def installs():
         yield "the installed program", fault_of(ANSWER, copy.transfer(command=f"{prefix}/bin/boc"))
         found = os.access(f"{prefix}/bin/boc-view", os.X_OK)
         yield "the other one", None if found else "it is not there"
+        yield "what goes with them", fault_of_beside(prefix)
+        yield "install once more", None if copy.run(prefix, command="bin/install") == answer else "it answers otherwise"
+        yield "what goes with them still", fault_of_beside(prefix)
         answer = copy.run(command="bin/install")
         found = os.access(os.path.join(copy.room, ".local/bin/boc"), os.X_OK)
         yield "install into the home folder", None if found and answer.status == 0 else f"it answered {answer}"
@@ -294,6 +307,19 @@ def installs():
             os.makedirs(os.path.join(copy.room, "closed", "bin"))
             answer = copy.run(os.path.join(copy.room, "closed"), command="bin/install", user=NOBODY, group=NOBODY, extra_groups=[])
             yield "install where nothing may be written", refusal(answer, 73, "can't be written to")
+            os.makedirs(os.path.join(copy.room, "half", "bin"))
+            os.makedirs(os.path.join(copy.room, "half", "share", "man"))
+            os.chmod(os.path.join(copy.room, "half", "bin"), 0o777)
+            answer = copy.run(os.path.join(copy.room, "half"), command="bin/install", user=NOBODY, group=NOBODY, extra_groups=[])
+            yield "install where only programs may be written", refusal(answer, 73, "share", "can't be written to")
+            yield "and no program is there", fault_of_files(os.path.join(copy.room, "half"), set())
+        os.makedirs(os.path.join(copy.room, "taken", "share", "man", "man1", "boc.1"))
+        yield "install over a folder", refusal(copy.run(os.path.join(copy.room, "taken"), command="bin/install"), 73, "boc.1 is a folder")
+        yield "nothing is put beside it", fault_of_files(os.path.join(copy.room, "taken"), set())
+        os.rename(copy.path("man/boc.1"), copy.path("man/boc.2"))
+        yield "install without a man page", refusal(copy.run(os.path.join(copy.room, "pageless"), command="bin/install"), 70, "man/boc.1", "git checkout")
+        yield "no program is there then", fault_of_files(os.path.join(copy.room, "pageless"), set())
+        os.rename(copy.path("man/boc.2"), copy.path("man/boc.1"))
         os.chmod(copy.path(tree.SHIPPED), 0o644)
         yield "install without the run bit", refusal(copy.run(prefix, command="bin/install"), 70, "chmod +x")
         os.chmod(copy.path(tree.SHIPPED), 0o755)
@@ -302,3 +328,20 @@ def installs():
     with copied() as copy:
         change(copy, SOURCE)
         yield "install of another tree", refusal(copy.run(copy.room, command="bin/install"), 70, SOURCE)
+
+
+def fault_of_beside(prefix):
+    """The programs and what goes with them are there, as they are in the tree, and nothing else."""
+    for name, source in BESIDE.items():
+        path = os.path.join(prefix, name)
+        if not os.path.isfile(path) or tree.sum_of(path) != tree.sum_of(os.path.join(TOP, source)):
+            return f"{name} is not {source}"
+        if stat.S_IMODE(os.stat(path).st_mode) != 0o644:
+            return f"{name} may be read or run by others than it should be"
+    return fault_of_files(prefix, {"bin/boc", "bin/boc-view", *BESIDE})
+
+
+def fault_of_files(prefix, wanted):
+    """These files are below a folder, and no others."""
+    found = {os.path.relpath(os.path.join(folder, name), prefix) for folder, _, names in os.walk(prefix) for name in names}
+    return None if found == wanted else f"{sorted(found)} are there in place of {sorted(wanted)}"

@@ -1,16 +1,21 @@
 //! The program `boc`: commands over programs of behaviours, from standard input to standard output.
 #![tactic(auto)]
 
+mod explaining;
 mod meter;
+mod source;
 
+use crate::explaining::{Texts, explained};
 use crate::meter::Meter;
+use crate::source::{Input, Kept};
 use boc_commands::{
     Command, Fault, Want, WordsFault, file_named, not_text, read_words, run_command,
 };
 use boc_text::Counted;
 use boc_workers::OpenGate;
 use std::alloc::AllocError;
-use std::io::Write;
+use std::fs::File;
+use std::io::{Read, Write};
 use std::process::ExitCode;
 use std::sync::Wait;
 use std::thread::Threads;
@@ -22,27 +27,27 @@ const NO_FILE: u8 = 5;
 // Why not all was done that the words ask for.
 #[derive(Drop)]
 enum Stop {
-    // The command was refused, or it failed.
-    Fault(Fault),
-    // The file that the command names can't be read.
+    // The command was refused, or it failed. Lines may follow that explain it.
+    Fault { fault: Fault, more: Option<String> },
+    // A file that the words name can't be read.
     File { path: String, error: io::Error },
 }
 
 impl From<Fault> for Stop {
     fn from(fault: Fault) -> Stop {
-        Stop::Fault(fault)
+        Stop::Fault { fault, more: None }
     }
 }
 
 impl From<WordsFault> for Stop {
     fn from(fault: WordsFault) -> Stop {
-        Stop::Fault(Fault::from(fault))
+        Stop::from(Fault::from(fault))
     }
 }
 
 impl From<AllocError> for Stop {
     fn from(error: AllocError) -> Stop {
-        Stop::Fault(Fault::from(error))
+        Stop::from(Fault::from(error))
     }
 }
 
@@ -50,7 +55,7 @@ impl Stop {
     // The status of the program.
     fn status(&self) -> u8 {
         match self {
-            Stop::Fault(fault) => fault.status(),
+            Stop::Fault { fault, .. } => fault.status(),
             Stop::File { .. } => NO_FILE,
         }
     }
@@ -70,9 +75,29 @@ fn main(rt: HostRuntime) -> ExitCode {
 // Does what the words ask for. What runs in several threads is started by way of `threads`.
 fn run(rt: HostRuntime, threads: &(impl Threads + Wait + Sync)) -> Result<(), Stop> {
     let words = words_given(rt)?;
-    let command = read_words(rt.alloc(), &words)?;
-    let beside = file_beside(rt, &command)?;
-    let mut input = Counted::new(rt.stdin());
+    let line = read_words(rt.alloc(), &words)?;
+    let beside = file_beside(rt, &line.command)?;
+    match &line.input {
+        Some(path) if path.as_str() != "-" => {
+            let file = File::open(&rt, path.as_str()).or_else(|error| file_stop(rt, path, error))?;
+            answer(rt, threads, &line.command, beside, file, Some(path))
+        }
+        _ => answer(rt, threads, &line.command, beside, rt.stdin(), None),
+    }
+}
+
+// Answers an input, which a file with this path gives if there is one, and else standard input.
+fn answer<T: Read + Drop>(
+    rt: HostRuntime,
+    threads: &(impl Threads + Wait + Sync),
+    command: &Command,
+    beside: Vec<u8>,
+    input: T,
+    path: Option<&String>,
+) -> Result<(), Stop> {
+    let mut kept = Kept::new(rt.alloc());
+    kept.keep(&beside);
+    let mut input = Input::new(rt.alloc(), input);
     let mut output = Counted::new(rt.stdout());
     let mut meter = Meter::new(rt);
     let mut notes = Vec::new(rt.alloc());
@@ -80,7 +105,7 @@ fn run(rt: HostRuntime, threads: &(impl Threads + Wait + Sync)) -> Result<(), St
         threads,
         rt.alloc(),
         &OpenGate,
-        &command,
+        command,
         beside,
         &mut meter,
         &mut notes,
@@ -88,9 +113,20 @@ fn run(rt: HostRuntime, threads: &(impl Threads + Wait + Sync)) -> Result<(), St
         &mut output,
     );
     meter.wipe();
-    done?;
-    note(rt, &notes);
-    Ok(())
+    let Err(fault) = done else {
+        note(rt, &notes);
+        return Ok(());
+    };
+    let (input, error) = input.into_parts();
+    if let (Fault::Means(Want::Source), Some(path), Some(error)) = (&fault, path, error) {
+        return file_stop(rt, path, error);
+    }
+    let texts = Texts {
+        input,
+        beside: kept,
+    };
+    let more = explained(rt.alloc(), &fault, command, &texts).ok();
+    Err(Stop::Fault { fault, more })
 }
 
 // Writes the notes on behaviours that ended by a fault to standard error. There is nobody to tell that this failed.
@@ -103,16 +139,16 @@ fn file_beside(rt: HostRuntime, command: &Command) -> Result<Vec<u8>, Stop> {
     let Some(path) = file_named(command) else {
         return Ok(Vec::new(rt.alloc()));
     };
-    match fs::read(&rt, path) {
-        Ok(bytes) => Ok(bytes),
-        Err(error) if error.kind() == io::ErrorKind::OutOfMemory => {
-            Err(Stop::Fault(Fault::Means(Want::Memory)))
-        }
-        Err(error) => {
-            let path = String::from_str(rt.alloc(), path)?;
-            Err(Stop::File { path, error })
-        }
+    fs::read(&rt, path).or_else(|error| file_stop(rt, path, error))
+}
+
+// Why a file with this path can't be read.
+fn file_stop<T>(rt: HostRuntime, path: &str, error: io::Error) -> Result<T, Stop> {
+    if error.kind() == io::ErrorKind::OutOfMemory {
+        return Err(Stop::from(Fault::Means(Want::Memory)));
     }
+    let path = String::from_str(rt.alloc(), path)?;
+    Err(Stop::File { path, error })
 }
 
 // The words of the command line, the program's own name first.
@@ -131,12 +167,19 @@ fn words_given(rt: HostRuntime) -> Result<Vec<String>, WordsFault> {
 
 // Writes to standard error why not all was done. There is nobody to tell that this failed.
 fn tell(rt: HostRuntime, stop: &Stop) {
-    let _ = match stop {
-        Stop::File { path, error } => eprintln!(rt; "boc: {path}: {error}"),
-        Stop::Fault(fault) => match fault.own_line() {
-            Some(line) => eprintln!(rt; "{line}"),
-            // The parser's text ends its own lines.
-            None => eprint!(rt; "{fault}"),
-        },
-    };
+    match stop {
+        Stop::File { path, error } => {
+            let _ = eprintln!(rt; "boc: {path}: {error}");
+        }
+        Stop::Fault { fault, more } => {
+            let _ = match fault.own_line() {
+                Some(line) => eprintln!(rt; "{line}"),
+                // The parser's text ends its own lines.
+                None => eprint!(rt; "{fault}"),
+            };
+            if let Some(more) = more {
+                let _ = eprint!(rt; "{more}");
+            }
+        }
+    }
 }

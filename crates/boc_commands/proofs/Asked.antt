@@ -33,6 +33,7 @@ use Rattle.boc_report.specs.Texts.{report_text, curve_text, sweep_lines}
 use Rattle.boc_runs.specs.Records.{Recorded}
 use Rattle.boc_record.specs.RecordTexts.{IsTextOf}
 use Rattle.boc_record.specs.Reading.{TakesRecord}
+use Rattle.boc_words.specs.declared.asked.AskedPlans.{AskedPlans}
 
 -- the answer of a curve, from the rows that plans were made for
 pub drawn : (sharing kept : Sharing) (most : ℕ) (input : List ℕ) (r : Recorded) (rows : List Row) (work span : ℕ) (points read : List CurvePoint)
@@ -91,9 +92,10 @@ told P (Some xs) None text taken over h = absurd taken
 told P (Some xs) (Some ys) text taken over h = subst P (sym (taken ∙ ap (λ zs. text ++ zs) over ∙ append-nil text)) h
 
 -- the report on a profile and the greedy plan that was made, as it is passed on to be written
-pub is_report : (rows : List Row) (asked : Option ℕ) (profile : Profile) (made plan : Option Greedy) → IsProfileOf rows profile
-    → IsAskedPart rows asked (part_of made) → plan ≡ made
-    → IsReport rows asked (report_text profile.work profile.span profile.chain.steps.items profile.starts.items profile.ends.items ++ part_of plan)
+pub is_report : (rows : List Row) (asked : AskedPlans) (profile : Profile) (made plan : Option Greedy) → IsProfileOf rows profile
+    → IsAskedPart rows asked (part_of asked.unplanned made) → plan ≡ made
+    → IsReport rows asked (report_text asked.unplanned profile.work profile.span profile.chain.steps.items profile.starts.items profile.ends.items
+    ++ part_of asked.unplanned plan)
 is_report rows asked profile made plan is part_is same = record {
   starts = profile.starts.items;
   earliest = is.earliest;
@@ -103,13 +105,14 @@ is_report rows asked profile made plan is part_is same = record {
   span_is = is.span;
   steps = profile.chain.steps.items;
   picked = is.picked;
-  part = part_of plan;
-  part_is = subst (λ p. IsAskedPart rows asked (part_of p)) (sym same) part_is;
-  text = ap (λ work. report_text work profile.span profile.chain.steps.items profile.starts.items profile.ends.items ++ part_of plan) is.work;
+  part = part_of asked.unplanned plan;
+  part_is = subst (λ p. IsAskedPart rows asked (part_of asked.unplanned p)) (sym same) part_is;
+  text = ap (λ work. report_text asked.unplanned work profile.span profile.chain.steps.items profile.starts.items profile.ends.items
+      ++ part_of asked.unplanned plan) is.work;
 }
 
 -- the report on the rows of a record that was read
-pub reported : (sharing : Sharing) (asked : Option ℕ) (text : List ℕ) (r : Recorded) (rows : List Row) (made output : List ℕ) → IsTextOf text r → rows ≡ r.rows
+pub reported : (sharing : Sharing) (asked : AskedPlans) (text : List ℕ) (r : Recorded) (rows : List Row) (made output : List ℕ) → IsTextOf text r → rows ≡ r.rows
     → IsReport (seen sharing rows) asked made → output ≡ made → IsProfileAnswer sharing asked text output
 reported sharing asked text r rows made output spells same report is = record {
   recorded = r;

@@ -1,4 +1,5 @@
 pub mod Asked
+pub mod BestEnds
 pub mod MeantParts
 pub mod EditedParts
 pub mod WhatIfParts

@@ -9,6 +9,7 @@ use Rattle.boc_plans.specs.declared.sharing.Sharing.{Sharing}
 use Rattle.boc_plans.specs.Seen.{seen}
 use Rattle.boc_record.specs.RecordTexts.{IsTextOf}
 use Rattle.boc_runs.specs.Records.{Recorded}
+use Rattle.boc_words.specs.declared.asked.AskedPlans.{AskedPlans}
 use Rattle.boc_commands.specs.Answers.{IsReport}
 use Rattle.boc_commands.specs.Notes.{AreNamedNotes, AreWanted, TellsProfile, notes_of_rows}
 
@@ -38,7 +39,7 @@ told_of_rows own rows seen faulted called names told same are seen_is called_is 
     ∙ ap (λ (cs : List (Vec ℕ Global)). notes_of_rows (texts_of cs) rows) called_is ∙ ap (notes_of_rows (texts_of names)) same
 
 -- the report on rows that were read, and the notes on them
-pub noted_report : (sharing : Sharing) (asked : Option ℕ) (quiet : Bool) (notes input : Text) (r : Recorded) (rows : List Row) (output : Text)
+pub noted_report : (sharing : Sharing) (asked : AskedPlans) (quiet : Bool) (notes input : Text) (r : Recorded) (rows : List Row) (output : Text)
     → IsTextOf input r → rows ≡ r.rows → IsReport (seen sharing rows) asked output → AreWanted quiet (λ told. told ≡ notes_of_rows [] rows) notes
     → TellsProfile sharing asked quiet notes input output
 noted_report sharing asked quiet notes input r rows output spells same report noted = record {

@@ -1,5 +1,5 @@
 -- An input has one answer.
-use Rattle.std.proofs.Common.{◌≡◌, ℕ, List, [], ◌∷◌, ◌++◌, length, Option, Some, None, Ok, false, sym, ◌∙◌, ap, subst}
+use Rattle.std.proofs.Common.{◌≡◌, ℕ, Bool, List, [], ◌∷◌, ◌++◌, length, take, Option, Some, None, Ok, false, sym, ◌∙◌, ap, subst}
 use Rattle.boc_plans.specs.declared.edit.Edit.{Edit}
 use Rattle.boc_program.specs.declared.program.Program.{Program}
 use Rattle.boc_runs.specs.declared.rows.Row.{Row}
@@ -18,17 +18,21 @@ use Rattle.boc_plans.specs.declared.sweep.Sweep.TheVariants.{Ticks as TicksOf, C
 use Rattle.boc_plans.specs.Edits.{AreEdited, IsChanged}
 use Rattle.boc_plans.specs.Greedy.{IsSpan}
 use Rattle.boc_greedy.specs.Curves.{IsCurve}
-use Rattle.boc_commands.specs.Answers.{AreSwept, IsAskedPart, IsGreedyPart, IsReport, IsValuesAnswer, IsCheckAnswer, IsProfileAnswer}
+use Rattle.boc_commands.specs.Answers.{AreSwept, IsPartFor, IsGreedyPart, IsReport, IsValuesAnswer, IsCheckAnswer, IsProfileAnswer}
 use Rattle.boc_commands.specs.Answers.{IsCurveAnswer, IsSweepAnswer, first_of}
+use Rattle.boc_commands.specs.BestAnswers.{IsBestAnswer, IsUnswept, best_lines}
 use Rattle.boc_commands.specs.Beside.{IsCheckAgainstAnswer, IsValuesAfterAnswer}
 use Rattle.boc_names.specs.Names.{AreNumbers}
 use Rattle.boc_words.specs.declared.asked.AskedCown.{AskedCown}
 use Rattle.boc_words.specs.declared.asked.AskedEdit.{AskedEdit}
+use Rattle.boc_words.specs.declared.asked.AskedPlans.{AskedPlans}
 use Rattle.boc_commands.specs.Asked.{all_cowns, all_edits}
 use Rattle.boc_commands.specs.WhatIfAnswers.{IsWhatIfAnswer}
 use Rattle.boc_commands.proofs.SameNames.{same_cowns, same_edits}
 use Rattle.boc_runs.specs.Run.{config_of}
 use Rattle.boc_why.specs.Causes.{without_all}
+use Rattle.boc_why.specs.RemedySteps.{AreRanked}
+use Rattle.boc_why.proofs.OneRemedy.{one_ranked}
 use Rattle.boc_ends_report.specs.ValueTexts.{values_text}
 use Rattle.boc_commands.specs.CheckTexts.{check_text}
 use Rattle.boc_report.specs.Texts.{report_text, greedy_text, curve_text, sweep_lines}
@@ -41,7 +45,7 @@ use Rattle.boc_rules.proofs.Next.{well_log}
 use Rattle.boc_record.proofs.OneFault.{one_record}
 use Rattle.boc_order.proofs.Alone.{one_bound, one_chain, one_end, one_list_of_ends, one_plan, one_span, one_sweep, one_cown_sweep, one_spawn_sweep}
 use Rattle.boc_greedy.proofs.Alone.{one_greedy_plan}
-use Rattle.boc_greedy.proofs.Curving.{one_curve, one_greedy_cown_sweep, one_greedy_sweep}
+use Rattle.boc_greedy.proofs.Curving.{one_curve, one_greedy_cown_sweep, one_greedy_end, one_greedy_sweep}
 use Rattle.boc_whatif.proofs.Changing.{changed_rows}
 use Rattle.boc_reader.proofs.Spellings.{one_program}
 use Rattle.boc_draws.proofs.OneWay.{one_way}
@@ -55,23 +59,24 @@ use Rattle.boc_words.specs.declared.asked.AskedDraws.{AskedDraws}
 use Rattle.boc_commands.specs.OutcomesAnswers.{IsOutcomesAnswer, drawn_in}
 use Rattle.boc_commands.proofs.OneProgram.{same_program}
 
-one_greedy_part : (rows : List Row) → IsRows rows → (p : ℕ) (part other : List ℕ) → IsGreedyPart rows p part → IsGreedyPart rows p other → part ≡ other
-one_greedy_part rows hr p part other g h =
+one_greedy_part : (rows : List Row) → IsRows rows → (unplanned : Bool) (p : ℕ) (part other : List ℕ) → IsGreedyPart rows unplanned p part
+    → IsGreedyPart rows unplanned p other → part ≡ other
+one_greedy_part rows hr unplanned p part other g h =
     let same = one_greedy_plan rows hr p g.starts g.workers h.starts h.workers g.greedy h.greedy in
     let ends : g.ends ≡ h.ends = one_list_of_ends rows h.starts g.ends h.ends (subst (λ (plan : List ℕ). HasEnds rows plan g.ends) same.0 g.ends_are)
     h.ends_are in
     let last : g.last ≡ h.last = one_end rows h.starts g.last h.last (subst (λ (plan : List ℕ). IsEnd rows plan g.last) same.0 g.last_is) h.last_is in
     let bound : g.bound ≡ h.bound = one_bound rows p g.bound h.bound g.bound_is h.bound_is in
-    let text : greedy_text p g.starts g.ends g.workers g.last g.bound ≡ greedy_text p h.starts h.ends h.workers h.last h.bound =
-    λ i. greedy_text p (same.0 i) (ends i) (same.1 i) (last i) (bound i) in
+    let text : greedy_text unplanned p g.starts g.ends g.workers g.last g.bound ≡ greedy_text unplanned p h.starts h.ends h.workers h.last h.bound =
+    λ i. greedy_text unplanned p (same.0 i) (ends i) (same.1 i) (last i) (bound i) in
     g.text ∙ text ∙ sym h.text
 
-one_part : (rows : List Row) → IsRows rows → (asked : Option ℕ) (part other : List ℕ) → IsAskedPart rows asked part → IsAskedPart rows asked other
-    → part ≡ other
-one_part rows hr None part other g h = g ∙ sym h
-one_part rows hr (Some p) part other g h = one_greedy_part rows hr p part other g h
+one_part : (rows : List Row) → IsRows rows → (unplanned : Bool) (workers : Option ℕ) (part other : List ℕ) → IsPartFor rows unplanned workers part
+    → IsPartFor rows unplanned workers other → part ≡ other
+one_part rows hr unplanned None part other g h = g ∙ sym h
+one_part rows hr unplanned (Some p) part other g h = one_greedy_part rows hr unplanned p part other g h
 
-pub one_report : (rows : List Row) → IsRows rows → (asked : Option ℕ) (output other : List ℕ) → IsReport rows asked output → IsReport rows asked other →
+pub one_report : (rows : List Row) → IsRows rows → (asked : AskedPlans) (output other : List ℕ) → IsReport rows asked output → IsReport rows asked other →
     output ≡ other
 one_report rows hr asked output other r s =
     let starts : r.starts ≡ s.starts = one_plan rows r.starts s.starts r.earliest s.earliest in
@@ -79,9 +84,10 @@ one_report rows hr asked output other r s =
     s.ends_are in
     let span : r.span ≡ s.span = one_end rows s.starts r.span s.span (subst (λ (plan : List ℕ). IsEnd rows plan r.span) starts r.span_is) s.span_is in
     let steps : r.steps ≡ s.steps = one_chain rows s.starts r.steps s.steps (subst (λ (plan : List ℕ). IsPicked rows plan r.steps) starts r.picked) s.picked in
-    let part : r.part ≡ s.part = one_part rows hr asked r.part s.part r.part_is s.part_is in
-    let text : report_text (work_of rows) r.span r.steps r.starts r.ends ++ r.part ≡ report_text (work_of rows) s.span s.steps s.starts s.ends ++ s.part =
-    λ i. report_text (work_of rows) (span i) (steps i) (starts i) (ends i) ++ part i in
+    let part : r.part ≡ s.part = one_part rows hr asked.unplanned asked.workers r.part s.part r.part_is s.part_is in
+    let text : report_text asked.unplanned (work_of rows) r.span r.steps r.starts r.ends ++ r.part
+    ≡ report_text asked.unplanned (work_of rows) s.span s.steps s.starts s.ends ++ s.part =
+    λ i. report_text asked.unplanned (work_of rows) (span i) (steps i) (starts i) (ends i) ++ part i in
     r.text ∙ text ∙ sym s.text
 
 -- the rows of a record
@@ -140,14 +146,14 @@ one_values_after_answer beside input output other a b =
     λ i. values_text (program i).cowns (config_of (program i) (same i).events).values in
     a.text ∙ text ∙ sym b.text
 
-pub one_profile_answer : (sharing : Sharing) (asked : Option ℕ) (input output other : List ℕ) → IsProfileAnswer sharing asked input output →
+pub one_profile_answer : (sharing : Sharing) (asked : AskedPlans) (input output other : List ℕ) → IsProfileAnswer sharing asked input output →
     IsProfileAnswer sharing asked input other → output ≡ other
 one_profile_answer sharing asked input output other a b =
     let same : a.recorded ≡ b.recorded = one_record input a.recorded b.recorded a.spells b.spells in
     one_report (seen sharing b.recorded.rows) (rows_seen sharing b.recorded.rows (rows_are b.recorded b.spells.record_is)) asked output other
     (subst (λ (r : Recorded). IsReport (seen sharing r.rows) asked output) same a.report) b.report
 
-pub one_whatif_answer : (cowns : List AskedCown) (edits : List AskedEdit) (sharing : Sharing) (asked : Option ℕ) (bytes input output other : List ℕ)
+pub one_whatif_answer : (cowns : List AskedCown) (edits : List AskedEdit) (sharing : Sharing) (asked : AskedPlans) (bytes input output other : List ℕ)
     → IsWhatIfAnswer None bytes cowns edits sharing asked false input output → IsWhatIfAnswer None bytes cowns edits sharing asked false input other
     → output ≡ other
 one_whatif_answer cowns edits sharing asked bytes input output other a b =
@@ -197,6 +203,30 @@ one_sweep_answer sharing over input output other a b =
     one_swept (seen sharing b.recorded.rows) (rows_seen sharing b.recorded.rows (rows_are b.recorded b.spells.record_is)) b.recorded.cowns over a.ends b.ends
     (subst (λ (r : Recorded). AreSwept (seen sharing r.rows) r.cowns over a.ends) same a.sweep) b.sweep in
     a.text ∙ ap (sweep_lines (first_of over)) ends ∙ sym b.text
+
+one_unswept : (rows : List Row) → IsRows rows → (over : Sweep) (was other : ℕ) → IsUnswept rows over was → IsUnswept rows over other → was ≡ other
+one_unswept rows hr (TicksOf (Some p)) was other a b = one_greedy_end rows hr p was other a b
+one_unswept rows hr (TicksOf None) was other a b = one_span rows was other a b
+one_unswept rows hr (Cowns (Some p)) was other a b = one_greedy_end rows hr p was other a b
+one_unswept rows hr (Cowns None) was other a b = one_span rows was other a b
+one_unswept rows hr Spawns was other a b = one_span rows was other a b
+
+pub one_best_answer : (sharing : Sharing) (over : Sweep) (most : ℕ) (input output other : List ℕ) → IsBestAnswer sharing over most input output
+    → IsBestAnswer sharing over most input other → output ≡ other
+one_best_answer sharing over most input output other a b =
+    let same : a.recorded ≡ b.recorded = one_record input a.recorded b.recorded a.spells b.spells in
+    let rows : List Row = seen sharing b.recorded.rows in
+    let hr : IsRows rows = rows_seen sharing b.recorded.rows (rows_are b.recorded b.spells.record_is) in
+    let ends : a.ends ≡ b.ends = one_swept rows hr b.recorded.cowns over a.ends b.ends
+    (subst (λ (r : Recorded). AreSwept (seen sharing r.rows) r.cowns over a.ends) same a.sweep) b.sweep in
+    let was : a.was ≡ b.was = one_unswept rows hr over a.was b.was (subst (λ (r : Recorded). IsUnswept (seen sharing r.rows) over a.was) same a.was_is)
+    b.was_is in
+    let all : a.best_are.all ≡ b.best_are.all = one_ranked b.ends a.best_are.all b.best_are.all
+    (subst (λ (list : List ℕ). AreRanked list a.best_are.all) ends a.best_are.ranked) b.best_are.ranked in
+    let best : a.best ≡ b.best = a.best_are.first_are ∙ ap (take most) all ∙ sym b.best_are.first_are in
+    let text : best_lines a.was (first_of over) a.best ≡ best_lines b.was (first_of over) b.best =
+    λ i. best_lines (was i) (first_of over) (best i) in
+    a.text ∙ text ∙ sym b.text
 
 pub one_outcomes_answer : (draws : AskedDraws) (input output other : List ℕ) → IsOutcomesAnswer draws input output → IsOutcomesAnswer draws input other
     → output ≡ other

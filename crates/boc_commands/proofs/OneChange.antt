@@ -37,6 +37,7 @@ use Rattle.boc_words.specs.declared.asked.AskedEdit.{AskedEdit}
 use Rattle.boc_words.specs.declared.asked.AskedEdit.TheVariants as asked_edits
 use Rattle.boc_words.specs.declared.asked.NamesFrom.{NamesFrom}
 use Rattle.boc_commands.specs.Asked.{all_cowns, all_edits, costs, cowns_of, edits_of, starred}
+use Rattle.boc_words.specs.declared.asked.AskedPlans.{AskedPlans}
 use Rattle.boc_commands.specs.NamedRuns.{IsNamedRecord}
 use Rattle.boc_commands.specs.WhatIfAnswers.{AreChangedSo, IsAskedEnd, IsOutcome, IsReportAfter, IsShortReport, IsWhatIfAnswer}
 use Rattle.boc_commands.proofs.OneAnswer.{one_report}
@@ -135,18 +136,18 @@ one_short_report names others same sharing workers before after hb ha output oth
     (subst (λ (defs : List ℕ). IsOutcome after sharing defs workers a.now) same.defs a.now_is) b.now_is)
     ∙ sym b.text
 
-one_report_after : (short : Bool) (names others : Names) → CallTheSame names others → (sharing : Sharing) (workers : Option ℕ) (before after : List Row)
-    → IsRows before → IsRows after → (output other : List ℕ) → IsReportAfter short names sharing workers before after output
-    → IsReportAfter short others sharing workers before after other → output ≡ other
-one_report_after false names others same sharing workers before after hb ha output other a b =
-    one_report (seen sharing after) (rows_seen sharing after ha) workers output other a b
-one_report_after true names others same sharing workers before after hb ha output other a b =
-    one_short_report names others same sharing workers before after hb ha output other a b
+one_report_after : (short : Bool) (names others : Names) → CallTheSame names others → (sharing : Sharing) (plans : AskedPlans) (before after : List Row)
+    → IsRows before → IsRows after → (output other : List ℕ) → IsReportAfter short names sharing plans before after output
+    → IsReportAfter short others sharing plans before after other → output ≡ other
+one_report_after false names others same sharing plans before after hb ha output other a b =
+    one_report (seen sharing after) (rows_seen sharing after ha) plans output other a b
+one_report_after true names others same sharing plans before after hb ha output other a b =
+    one_short_report names others same sharing plans.workers before after hb ha output other a b
 
 pub one_whatif_answer : (file : Option NamesFrom) (bytes : List ℕ) (cowns : List AskedCown) (edits : List AskedEdit) (sharing : Sharing)
-    (workers : Option ℕ) (short : Bool) (input output other : List ℕ) → IsWhatIfAnswer file bytes cowns edits sharing workers short input output
-    → IsWhatIfAnswer file bytes cowns edits sharing workers short input other → output ≡ other
-one_whatif_answer file bytes cowns edits sharing workers short input output other a b =
+    (plans : AskedPlans) (short : Bool) (input output other : List ℕ) → IsWhatIfAnswer file bytes cowns edits sharing plans short input output
+    → IsWhatIfAnswer file bytes cowns edits sharing plans short input other → output ≡ other
+one_whatif_answer file bytes cowns edits sharing plans short input output other a b =
     let is : IsTextOf input b.recorded = is_text_of file bytes input b.recorded b.names b.named in
     let recorded : a.recorded ≡ b.recorded =
     one_record input a.recorded b.recorded (is_text_of file bytes input a.recorded a.names a.named) is in
@@ -158,8 +159,8 @@ one_whatif_answer file bytes cowns edits sharing workers short input output othe
     subst (λ (r : Recorded). AreChangedSo a.names cowns edits r.rows a.report.after) recorded a.report.changed in
     let after : a.report.after ≡ b.report.after =
     one_change rows a.names b.names called cowns edits a.report.after b.report.after changed b.report.changed in
-    let told : IsReportAfter short a.names sharing workers rows b.report.after output =
-    subst (λ (list : List Row). IsReportAfter short a.names sharing workers rows list output) after
-    (subst (λ (r : Recorded). IsReportAfter short a.names sharing workers r.rows a.report.after output) recorded a.report.told) in
-    one_report_after short a.names b.names called sharing workers rows b.report.after hr
+    let told : IsReportAfter short a.names sharing plans rows b.report.after output =
+    subst (λ (list : List Row). IsReportAfter short a.names sharing plans rows list output) after
+    (subst (λ (r : Recorded). IsReportAfter short a.names sharing plans r.rows a.report.after output) recorded a.report.told) in
+    one_report_after short a.names b.names called sharing plans rows b.report.after hr
     (rows_changed rows a.names b.names called cowns edits a.report.after b.report.after changed b.report.changed hr) output other told b.report.told

@@ -1,12 +1,13 @@
 -- Why reports are true.
-use Rattle.std.proofs.Common.{◌≡◌, ◌<◌, ℕ, List, slice_index, refl, Option, Some, None, arith}
+use Rattle.std.proofs.Common.{◌≡◌, ◌<◌, ℕ, Bool, List, slice_index, refl, Option, Some, None, arith}
 use Rattle.boc_plans.specs.declared.chain.ChainStep.{ChainStep}
 use Rattle.boc_runs.specs.declared.rows.Row.{Row}
 use Rattle.boc_runs.specs.Rows.{IsRows}
 use Rattle.boc_plans.specs.Plans.{IsEarliest, IsEnd, work_of}
 use Rattle.boc_plans.specs.Chains.{IsChain, weight_of}
 use Rattle.boc_plans.specs.Greedy.{IsGreedy}
-use Rattle.boc_commands.specs.Answers.{IsAskedPart, IsReport}
+use Rattle.boc_commands.specs.Answers.{IsPartFor, IsReport}
+use Rattle.boc_words.specs.declared.asked.AskedPlans.{AskedPlans}
 use Rattle.boc_greedy.proofs.Bound.{end_within, greedy_close, greedy_for_workers, greedy_keeps}
 use Rattle.boc_order.proofs.Chaining.{earliest_le_end}
 use Rattle.boc_order.proofs.Weighing.{weight_is_end}
@@ -42,16 +43,16 @@ within_bound rows p plan workers last hr greedy end =
       within = λ span is. end_within p (work_of rows) span last some (greedy_close rows hr p some plan workers greedy last end span is);
     }
 
-part_within : (rows : List Row) (asked : Option ℕ) (part : List ℕ) → IsRows rows → (is : IsAskedPart rows asked part)
-    → PartIsWithinBound rows asked part is
-part_within rows None part hr is = tt
-part_within rows (Some p) part hr is = within_bound rows p is.starts is.workers is.last hr is.greedy is.last_is
+part_within : (rows : List Row) (unplanned : Bool) (workers : Option ℕ) (part : List ℕ) → IsRows rows → (is : IsPartFor rows unplanned workers part)
+    → PartIsWithinBound rows unplanned workers part is
+part_within rows unplanned None part hr is = tt
+part_within rows unplanned (Some p) part hr is = within_bound rows p is.starts is.workers is.last hr is.greedy is.last_is
 
 -- every report is true
-pub true_report : (rows : List Row) (asked : Option ℕ) (text : List ℕ) → IsRows rows → IsReport rows asked text → IsTrueReport rows asked text
+pub true_report : (rows : List Row) (asked : AskedPlans) (text : List ℕ) → IsRows rows → IsReport rows asked text → IsTrueReport rows asked text
 true_report rows asked text hr report = record {
   report = report;
   best = best rows report.starts report.steps report.span report.earliest report.span_is report.picked.chain
       (weight_is_end rows hr report.starts report.span report.steps report.earliest report.span_is report.picked);
-  greedy = part_within rows asked report.part hr report.part_is;
+  greedy = part_within rows asked.unplanned asked.workers report.part hr report.part_is;
 }

@@ -16,6 +16,7 @@ use Rattle.boc_commands.specs.declared.named_run.NamedRun.{NamedRun}
 use Rattle.boc_commands.specs.Commands.{AnswersInput, Leaves}
 use Rattle.boc_commands.specs.NamedRuns.{HasRun, IsNamedRecord, ReadsNamed, RefusesNamedRecord}
 use Rattle.boc_commands.specs.WhatIfAnswers.{IsOfAsked, IsWhatIfAnswer, IsWhatIfReport, RefusesAsked, RefusesSupposed, RefusesWhatIf}
+use Rattle.boc_words.specs.declared.asked.AskedPlans.{AskedPlans}
 use Rattle.boc_commands.proofs.Asked.{leaves_as, told}
 
 -- the record is refused, or the file beside it
@@ -107,14 +108,14 @@ refused_asked file bytes cowns edits run (Err fault) before after read h = go fa
     go (faults.Run r) is = absurd (neither (λ no. no) (λ after. after.unfit) is)
 
 -- what goes out of it answers the input
-pub written_named : (file : Option NamesFrom) (bytes : List ℕ) (cowns : List AskedCown) (edits : List AskedEdit) (sharing : Sharing) (workers : Option ℕ)
+pub written_named : (file : Option NamesFrom) (bytes : List ℕ) (cowns : List AskedCown) (edits : List AskedEdit) (sharing : Sharing) (plans : AskedPlans)
     (short : Bool) (run : NamedRun) (result : Result (Unit {0}) Fault) (before after old new : Option (List ℕ))
-    → ReadsNamed file bytes (Ok run) before after → Leaves (IsWhatIfReport run.names cowns edits sharing workers short run.rows) result old new
-    → Leaves (AnswersInput (IsWhatIfAnswer file bytes cowns edits sharing workers short) before after) result old new
-written_named file bytes cowns edits sharing workers short run result before after old new read left =
+    → ReadsNamed file bytes (Ok run) before after → Leaves (IsWhatIfReport run.names cowns edits sharing plans short run.rows) result old new
+    → Leaves (AnswersInput (IsWhatIfAnswer file bytes cowns edits sharing plans short) before after) result old new
+written_named file bytes cowns edits sharing plans short run result before after old new read left =
     let has : HasRun (IsNamedRecord file bytes read.0) run = read.3 in
-    leaves_as (IsWhatIfReport run.names cowns edits sharing workers short run.rows)
-    (AnswersInput (IsWhatIfAnswer file bytes cowns edits sharing workers short) before after) result old new (λ made is. record {
+    leaves_as (IsWhatIfReport run.names cowns edits sharing plans short run.rows)
+    (AnswersInput (IsWhatIfAnswer file bytes cowns edits sharing plans short) before after) result old new (λ made is. record {
       input = read.0;
       taken = read.1;
       whole = read.2;
@@ -122,6 +123,6 @@ written_named file bytes cowns edits sharing workers short run result before aft
         recorded = has.recorded;
         names = run.names;
         named = has.named;
-        report = subst (λ (rows : List Row). IsWhatIfReport run.names cowns edits sharing workers short rows made) has.rows_are is;
+        report = subst (λ (rows : List Row). IsWhatIfReport run.names cowns edits sharing plans short rows made) has.rows_are is;
       };
     }) left

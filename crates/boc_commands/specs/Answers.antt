@@ -1,5 +1,5 @@
 -- What the commands answer to the bytes that come in.
-use Rattle.std.specs.Prelude.{◌≡◌, ℕ, ℤ, List, [], ◌++◌, length, Option, Some, None}
+use Rattle.std.specs.Prelude.{◌≡◌, ℕ, ℤ, Bool, List, [], ◌++◌, length, Option, Some, None}
 use Rattle.boc_program.specs.declared.program.Program.{Program}
 use Rattle.boc_reader.specs.Spells.{Spells}
 use Rattle.boc_runs.specs.declared.rows.Row.{Row}
@@ -21,6 +21,7 @@ use Rattle.boc_commands.specs.CheckTexts.{check_text}
 use Rattle.boc_report.specs.Texts.{report_text, greedy_text, curve_text, sweep_lines}
 use Rattle.boc_runs.specs.Records.{Recorded}
 use Rattle.boc_record.specs.RecordTexts.{IsTextOf}
+use Rattle.boc_words.specs.declared.asked.AskedPlans.{AskedPlans}
 
 -- the output is the text of the values at the end of the own order of a program that the input spells
 pub record IsValuesAnswer (input output : List ℕ) : Type 0 where
@@ -36,8 +37,8 @@ pub record IsCheckAnswer (input output : List ℕ) : Type 0 where
   pub spells : IsTextOf input recorded
   pub text : output ≡ check_text (length recorded.rows)
 
--- the text of the greedy part for p workers: the greedy plan of the rows, its end, and the bound
-pub record IsGreedyPart (rows : List Row) (p : ℕ) (part : List ℕ) : Type 0 where
+-- the text of the greedy part for p workers, without its rows or with them: the greedy plan of the rows, its end, and the bound
+pub record IsGreedyPart (rows : List Row) (unplanned : Bool) (p : ℕ) (part : List ℕ) : Type 0 where
   pub starts : List ℕ
   pub workers : List ℕ
   pub greedy : IsGreedy rows p starts workers
@@ -47,15 +48,20 @@ pub record IsGreedyPart (rows : List Row) (p : ℕ) (part : List ℕ) : Type 0 w
   pub last_is : IsEnd rows starts last
   pub bound : ℕ
   pub bound_is : IsBound rows p bound
-  pub text : part ≡ greedy_text p starts ends workers last bound
+  pub text : part ≡ greedy_text unplanned p starts ends workers last bound
+
+-- the greedy part for a number of workers, and nothing where there is none
+abbrev pub IsPartFor : List Row → Bool → Option ℕ → List ℕ → Type 0
+IsPartFor rows unplanned None part = part ≡ []
+IsPartFor rows unplanned (Some p) part = IsGreedyPart rows unplanned p part
 
 -- what follows the earliest plan: the greedy part for the number of workers that was asked for, and else nothing
-abbrev pub IsAskedPart : List Row → Option ℕ → List ℕ → Type 0
-IsAskedPart rows None part = part ≡ []
-IsAskedPart rows (Some p) part = IsGreedyPart rows p part
+abbrev pub IsAskedPart : List Row → AskedPlans → List ℕ → Type 0
+IsAskedPart rows asked part = IsPartFor rows asked.unplanned asked.workers part
 
--- the text of the report on some rows: their work, the span, the chain that is picked, the earliest plan, and the part that was asked for
-pub record IsReport (rows : List Row) (asked : Option ℕ) (output : List ℕ) : Type 0 where
+-- the text of the report on some rows: their work, the span, the chain that is picked, the earliest plan, unless none is wanted, and the part that was
+-- asked for
+pub record IsReport (rows : List Row) (asked : AskedPlans) (output : List ℕ) : Type 0 where
   pub starts : List ℕ
   pub earliest : IsEarliest rows starts
   pub ends : List ℕ
@@ -66,10 +72,10 @@ pub record IsReport (rows : List Row) (asked : Option ℕ) (output : List ℕ) :
   pub picked : IsPicked rows starts steps
   pub part : List ℕ
   pub part_is : IsAskedPart rows asked part
-  pub text : output ≡ report_text (work_of rows) span steps starts ends ++ part
+  pub text : output ≡ report_text asked.unplanned (work_of rows) span steps starts ends ++ part
 
 -- the input is the text of a record, and the output is the report on its rows, as they are seen
-pub record IsProfileAnswer (sharing : Sharing) (asked : Option ℕ) (input output : List ℕ) : Type 0 where
+pub record IsProfileAnswer (sharing : Sharing) (asked : AskedPlans) (input output : List ℕ) : Type 0 where
   pub recorded : Recorded
   pub spells : IsTextOf input recorded
   pub report : IsReport (seen sharing recorded.rows) asked output

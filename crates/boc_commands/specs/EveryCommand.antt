@@ -10,6 +10,7 @@ use Rattle.boc_words.specs.declared.asked.RunFile.{RunFile}
 use Rattle.boc_words.specs.declared.asked.RunFile.TheVariants as files
 use Rattle.boc_commands.specs.declared.fault.Fault.{Fault}
 use Rattle.boc_commands.specs.Answers.{IsCheckAnswer, IsCurveAnswer, IsSweepAnswer}
+use Rattle.boc_commands.specs.BestAnswers.{IsBestAnswer}
 use Rattle.boc_commands.specs.Commands.{AnswersInput, RefusesNothing, RefusesProgram, RefusesRecord, RefusesRun}
 use Rattle.boc_commands.specs.Beside.{IsCheckAgainstAnswer, RefusesAgainst, RefusesValuesAfter}
 use Rattle.boc_commands.specs.NamedRuns.{RefusesNamedRun}
@@ -33,7 +34,7 @@ run_path (files.Names path) = string_bytes path
 abbrev pub file_of : Command → Option (List ℕ)
 file_of (commands.Values record_path quiet) = option_map string_bytes record_path
 file_of (commands.Check program_path) = option_map string_bytes program_path
-file_of (commands.WhatIf cowns edits workers sharing names short) = option_map names_path names
+file_of (commands.WhatIf cowns edits plans sharing names short) = option_map names_path names
 file_of (commands.Why schedule workers sharing file all quiet) = option_map run_path file
 file_of (commands.Cowns schedule sharing file top quiet) = option_map run_path file
 file_of _ = None
@@ -48,14 +49,15 @@ AnswersCommand (commands.Values (Some path) quiet) beside notes before after tex
 AnswersCommand (commands.Check None) beside notes before after text = AnswersInput IsCheckAnswer before after text
 AnswersCommand (commands.Check (Some path)) beside notes before after text = AnswersInput (IsCheckAgainstAnswer beside) before after text
 AnswersCommand (commands.Run schedule quiet) beside notes before after text = AnswersInput (TellsRun schedule quiet notes) before after text
-AnswersCommand (commands.Profile workers sharing quiet) beside notes before after text =
-    AnswersInput (TellsProfile sharing workers quiet notes) before after text
-AnswersCommand (commands.Time schedule workers sharing quiet) beside notes before after text =
-    AnswersInput (TellsTime schedule sharing workers quiet notes) before after text
-AnswersCommand (commands.WhatIf cowns edits workers sharing names short) beside notes before after text =
-    AnswersInput (IsWhatIfAnswer names beside cowns.items edits.items sharing workers short) before after text
+AnswersCommand (commands.Profile plans sharing quiet) beside notes before after text =
+    AnswersInput (TellsProfile sharing plans quiet notes) before after text
+AnswersCommand (commands.Time schedule plans sharing quiet) beside notes before after text =
+    AnswersInput (TellsTime schedule sharing plans quiet notes) before after text
+AnswersCommand (commands.WhatIf cowns edits plans sharing names short) beside notes before after text =
+    AnswersInput (IsWhatIfAnswer names beside cowns.items edits.items sharing plans short) before after text
 AnswersCommand (commands.Curve most sharing) beside notes before after text = AnswersInput (IsCurveAnswer sharing most) before after text
-AnswersCommand (commands.Sweep over sharing) beside notes before after text = AnswersInput (IsSweepAnswer sharing over) before after text
+AnswersCommand (commands.Sweep over sharing None) beside notes before after text = AnswersInput (IsSweepAnswer sharing over) before after text
+AnswersCommand (commands.Sweep over sharing (Some most)) beside notes before after text = AnswersInput (IsBestAnswer sharing over most) before after text
 AnswersCommand (commands.Why schedule workers sharing file all quiet) beside notes before after text =
     AnswersInput (TellsWhy schedule sharing workers all quiet file beside notes) before after text
 AnswersCommand (commands.Cowns schedule sharing file top quiet) beside notes before after text =
@@ -68,8 +70,8 @@ AnswersCommand commands.Version beside notes before after text = (text ≡ VERSI
 abbrev pub NotesNothing : Command → List ℕ → Type 0
 NotesNothing (commands.Values record_path quiet) notes = Unit {0}
 NotesNothing (commands.Run schedule quiet) notes = Unit {0}
-NotesNothing (commands.Profile workers sharing quiet) notes = Unit {0}
-NotesNothing (commands.Time schedule workers sharing quiet) notes = Unit {0}
+NotesNothing (commands.Profile plans sharing quiet) notes = Unit {0}
+NotesNothing (commands.Time schedule plans sharing quiet) notes = Unit {0}
 NotesNothing (commands.Why schedule workers sharing file all quiet) notes = Unit {0}
 NotesNothing (commands.Cowns schedule sharing file top quiet) notes = Unit {0}
 NotesNothing _ notes = notes ≡ []
@@ -81,12 +83,12 @@ RefusesCommand always_on (commands.Values (Some path) quiet) beside result befor
 RefusesCommand always_on (commands.Check None) beside result before after = RefusesRecord result before
 RefusesCommand always_on (commands.Check (Some path)) beside result before after = RefusesAgainst beside result before
 RefusesCommand always_on (commands.Run schedule quiet) beside result before after = RefusesRun always_on result before after
-RefusesCommand always_on (commands.Profile workers sharing quiet) beside result before after = RefusesRecord result before
-RefusesCommand always_on (commands.Time schedule workers sharing quiet) beside result before after = RefusesRun always_on result before after
-RefusesCommand always_on (commands.WhatIf cowns edits workers sharing names short) beside result before after =
+RefusesCommand always_on (commands.Profile plans sharing quiet) beside result before after = RefusesRecord result before
+RefusesCommand always_on (commands.Time schedule plans sharing quiet) beside result before after = RefusesRun always_on result before after
+RefusesCommand always_on (commands.WhatIf cowns edits plans sharing names short) beside result before after =
     RefusesWhatIf names beside cowns.items edits.items result before
 RefusesCommand always_on (commands.Curve most sharing) beside result before after = RefusesRecord result before
-RefusesCommand always_on (commands.Sweep over sharing) beside result before after = RefusesRecord result before
+RefusesCommand always_on (commands.Sweep over sharing best) beside result before after = RefusesRecord result before
 RefusesCommand always_on (commands.Why schedule workers sharing file all quiet) beside result before after =
     RefusesNamedRun always_on schedule file beside result before after
 RefusesCommand always_on (commands.Cowns schedule sharing file top quiet) beside result before after =

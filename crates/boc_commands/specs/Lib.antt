@@ -1,5 +1,6 @@
 pub mod CheckTexts
 pub mod Answers
+pub mod BestAnswers
 pub mod Faults
 pub mod Promises
 pub mod Commands

@@ -10,6 +10,7 @@ use Rattle.boc_plans.specs.declared.sharing.Sharing.{Sharing}
 use Rattle.boc_names.specs.declared.names.Names.{Names}
 use Rattle.boc_names.specs.Names.{Text, named_cowns, texts_of}
 use Rattle.boc_notes.specs.Notes.{faulted_rows, note_of_behaviour, note_of_row, notes_text}
+use Rattle.boc_words.specs.declared.asked.AskedPlans.{AskedPlans}
 use Rattle.boc_words.specs.declared.asked.RunFile.{RunFile}
 use Rattle.boc_commands.specs.Answers.{IsProfileAnswer, IsValuesAnswer}
 use Rattle.boc_commands.specs.Beside.{IsValuesAfterAnswer}
@@ -67,13 +68,13 @@ pub record TellsRun (schedule : Schedule) (quiet : Bool) (notes input output : T
   pub noted : AreWanted quiet (AreNamedNotes (IsRunNamed input answer.recorded) answer.recorded.rows) notes
 
 -- the report on such a run, and the same notes on it
-pub record TellsTime (schedule : Schedule) (sharing : Sharing) (asked : Option ℕ) (quiet : Bool) (notes input output : Text) : Type 0 where
+pub record TellsTime (schedule : Schedule) (sharing : Sharing) (asked : AskedPlans) (quiet : Bool) (notes input output : Text) : Type 0 where
   pub answer : IsTimeAnswer sharing asked input output
   pub scheduled : IsScheduledText input schedule answer.recorded
   pub noted : AreWanted quiet (AreNamedNotes (IsRunNamed input answer.recorded) answer.recorded.rows) notes
 
 -- the report on a record, and the notes on its rows, which have no names
-pub record TellsProfile (sharing : Sharing) (asked : Option ℕ) (quiet : Bool) (notes input output : Text) : Type 0 where
+pub record TellsProfile (sharing : Sharing) (asked : AskedPlans) (quiet : Bool) (notes input output : Text) : Type 0 where
   pub answer : IsProfileAnswer sharing asked input output
   pub noted : AreWanted quiet (λ told. told ≡ notes_of_rows [] answer.recorded.rows) notes
 

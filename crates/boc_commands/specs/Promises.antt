@@ -1,5 +1,5 @@
 -- What is promised of a run of a program, and of the plans of its rows.
-use Rattle.std.specs.Prelude.{◌≡◌, ℕ, ◌+◌, ◌/◌, ◌<◌, ◌≤◌, List, length, Option, Some, None}
+use Rattle.std.specs.Prelude.{◌≡◌, ℕ, ◌+◌, ◌/◌, ◌<◌, ◌≤◌, Bool, List, length, Option, Some, None}
 use Rattle.boc_plans.specs.declared.chain.ChainStep.{ChainStep}
 use Rattle.boc_program.specs.declared.program.Program.{Program}
 use Rattle.boc_runs.specs.declared.rows.Row.{Row}
@@ -12,7 +12,8 @@ use Rattle.boc_runs.specs.machine.AlongRows.{EndsSerially}
 use Rattle.boc_plans.specs.Plans.{Keeps, IsEnd, NoneEndsBefore, start_of, work_of}
 use Rattle.boc_plans.specs.Chains.{IsChain, weight_of}
 use Rattle.boc_plans.specs.Greedy.{IsForWorkers, IsSpan}
-use Rattle.boc_commands.specs.Answers.{IsReport, IsAskedPart}
+use Rattle.boc_commands.specs.Answers.{IsReport, IsPartFor}
+use Rattle.boc_words.specs.declared.asked.AskedPlans.{AskedPlans}
 
 -- ---- the run
 
@@ -54,15 +55,15 @@ pub record IsWithinBound (rows : List Row) (p : ℕ) (plan workers : List ℕ) (
   pub within : (span : ℕ) → IsSpan rows span → last ≤ work_of rows / p + span
 
 -- the greedy part of a report is so, where it was asked for
-abbrev pub PartIsWithinBound : (rows : List Row) (asked : Option ℕ) (part : List ℕ) → IsAskedPart rows asked part → Type 0
-PartIsWithinBound rows None part none = Unit {0}
-PartIsWithinBound rows (Some p) part greedy = IsWithinBound rows p greedy.starts greedy.workers greedy.last
+abbrev pub PartIsWithinBound : (rows : List Row) (unplanned : Bool) (workers : Option ℕ) (part : List ℕ) → IsPartFor rows unplanned workers part → Type 0
+PartIsWithinBound rows unplanned None part none = Unit {0}
+PartIsWithinBound rows unplanned (Some p) part greedy = IsWithinBound rows p greedy.starts greedy.workers greedy.last
 
 -- the report on some rows: its plan, its chain and its span are the best, and its greedy plan ends within its bound
-pub record IsTrueReport (rows : List Row) (asked : Option ℕ) (output : List ℕ) : Type 0 where
+pub record IsTrueReport (rows : List Row) (asked : AskedPlans) (output : List ℕ) : Type 0 where
   pub report : IsReport rows asked output
   pub best : IsBest rows report.starts report.steps report.span
-  pub greedy : PartIsWithinBound rows asked report.part report.part_is
+  pub greedy : PartIsWithinBound rows asked.unplanned asked.workers report.part report.part_is
 
 -- ---- both
 
@@ -70,7 +71,7 @@ pub record IsTrueReport (rows : List Row) (asked : Option ℕ) (output : List �
 -- cowns are exclusive; and the output is the report on its rows, as they share cowns in the way that was asked for. The plan that is reported
 -- keeps the run's spawn points and cown orders, and every plan that keeps them starts no row earlier and ends no sooner; its end, the span that is
 -- reported and the reported chain's ticks are one number; and the greedy plan for p workers ends within the work divided by p, and the span.
-pub record IsTimeAnswer (sharing : Sharing) (asked : Option ℕ) (input output : List ℕ) : Type 0 where
+pub record IsTimeAnswer (sharing : Sharing) (asked : AskedPlans) (input output : List ℕ) : Type 0 where
   pub recorded : Recorded
   pub run : IsRunOfText input recorded
   pub report : IsTrueReport (seen sharing recorded.rows) asked output

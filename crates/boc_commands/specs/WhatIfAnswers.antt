@@ -16,6 +16,7 @@ use Rattle.boc_why_report.specs.declared.short.Outcome.{Outcome}
 use Rattle.boc_why_report.specs.ShortTexts.{short_text}
 use Rattle.boc_words.specs.declared.asked.AskedCown.{AskedCown}
 use Rattle.boc_words.specs.declared.asked.AskedEdit.{AskedEdit}
+use Rattle.boc_words.specs.declared.asked.AskedPlans.{AskedPlans}
 use Rattle.boc_words.specs.declared.asked.NamesFrom.{NamesFrom}
 use Rattle.boc_commands.specs.declared.fault.Fault.{Fault}
 use Rattle.boc_commands.specs.declared.fault.Fault.TheVariants as faults
@@ -53,9 +54,9 @@ pub record IsShortReport (names : Names) (sharing : Sharing) (workers : Option �
   pub text : output ≡ short_text names was now
 
 -- the output is the report on rows after they change, or what is told in short of them before and after
-abbrev pub IsReportAfter : Bool → Names → Sharing → Option ℕ → List Row → List Row → List ℕ → Type 0
-IsReportAfter false names sharing workers before after output = IsReport (seen sharing after) workers output
-IsReportAfter true names sharing workers before after output = IsShortReport names sharing workers before after output
+abbrev pub IsReportAfter : Bool → Names → Sharing → AskedPlans → List Row → List Row → List ℕ → Type 0
+IsReportAfter false names sharing plans before after output = IsReport (seen sharing after) plans output
+IsReportAfter true names sharing plans before after output = IsShortReport names sharing plans.workers before after output
 
 -- Every cown that is asked for means some in these names. Without all of these cowns the rows take all edits that are asked for, one after the other, of which
 -- each means some, and these are the rows after all of that.
@@ -71,11 +72,11 @@ pub record IsShortAnswer (names : Names) (cowns : List AskedCown) (edits : List 
   pub told : IsShortReport names sharing workers rows after text
 
 -- the output tells of the rows after these changes
-pub record IsWhatIfReport (names : Names) (cowns : List AskedCown) (edits : List AskedEdit) (sharing : Sharing) (workers : Option ℕ) (short : Bool)
+pub record IsWhatIfReport (names : Names) (cowns : List AskedCown) (edits : List AskedEdit) (sharing : Sharing) (plans : AskedPlans) (short : Bool)
     (rows : List Row) (output : List ℕ) : Type 0 where
   pub after : List Row
   pub changed : AreChangedSo names cowns edits rows after
-  pub told : IsReportAfter short names sharing workers rows after output
+  pub told : IsReportAfter short names sharing plans rows after output
 
 -- ---- what is refused
 
@@ -99,11 +100,11 @@ RefusesAsked names cowns edits rows (Err fault) = IsOfAsked names cowns edits ro
 -- the input is the text of a record, whose rows and cowns have names from the file beside it, if there is one, and the output tells of its rows after these
 -- changes
 pub record IsWhatIfAnswer (file : Option NamesFrom) (bytes : List ℕ) (cowns : List AskedCown) (edits : List AskedEdit) (sharing : Sharing)
-    (workers : Option ℕ) (short : Bool) (input output : List ℕ) : Type 0 where
+    (plans : AskedPlans) (short : Bool) (input output : List ℕ) : Type 0 where
   pub recorded : Recorded
   pub names : Names
   pub named : IsNamedRecord file bytes input recorded names
-  pub report : IsWhatIfReport names cowns edits sharing workers short recorded.rows output
+  pub report : IsWhatIfReport names cowns edits sharing plans short recorded.rows output
 
 -- the source told the text of a record, if it told any, and what is asked for is refused with this fault, in the names that the record has
 pub record RefusesSupposed (file : Option NamesFrom) (bytes : List ℕ) (cowns : List AskedCown) (edits : List AskedEdit) (fault : Fault)

@@ -4,6 +4,7 @@ ghost use Rattle.std.specs.Prelude.{◌≡◌, ℕ, List, Option, None, Some, fa
 ghost use Rattle.boc_words.specs.declared.asked.AskedCown.{AskedCown};
 ghost use Rattle.boc_words.specs.declared.asked.AskedDraws.{AskedDraws};
 ghost use Rattle.boc_words.specs.declared.asked.AskedEdit.{AskedEdit};
+ghost use Rattle.boc_words.specs.declared.asked.AskedPlans.{AskedPlans};
 ghost use Rattle.boc_program.specs.declared.program.Program.{Program};
 ghost use Rattle.boc_runs.specs.declared.rows.Row.{Row};
 ghost use Rattle.boc_plans.specs.declared.sharing.Sharing.{Sharing};
@@ -17,6 +18,7 @@ ghost use Rattle.boc_commands.specs.Schedules.{IsDrawnBy, IsScheduledText};
 ghost use Rattle.boc_plans.specs.Seen.{seen};
 ghost use Rattle.boc_reader.specs.Spells.{Spells};
 ghost use Rattle.boc_commands.specs.Answers.{IsReport, IsValuesAnswer, IsCheckAnswer, IsProfileAnswer, IsCurveAnswer, IsSweepAnswer};
+ghost use Rattle.boc_commands.specs.BestAnswers.{IsBestAnswer};
 ghost use Rattle.boc_commands.specs.Beside.{IsCheckAgainstAnswer, IsValuesAfterAnswer};
 ghost use Rattle.boc_commands.specs.OutcomesAnswers.{IsOutcomesAnswer};
 ghost use Rattle.boc_commands.specs.WhatIfAnswers.{IsWhatIfAnswer};
@@ -37,13 +39,13 @@ pub fn answers_are_true()
 
 /// Every report on the rows of a record is true, however they share cowns.
 pub fn reports_are_true()
-    ensures { (rows : List Row) (sharing : Sharing) (asked : Option ℕ) (text : List ℕ) → IsRows rows → IsReport (seen sharing rows) asked text
+    ensures { (rows : List Row) (sharing : Sharing) (asked : AskedPlans) (text : List ℕ) → IsRows rows → IsReport (seen sharing rows) asked text
         → IsTrueReport (seen sharing rows) asked text }
 {}
 
-/// Rows have one report at most, however many workers are asked for.
+/// Rows have one report at most, whatever plans are asked for.
 pub fn rows_have_one_report()
-    ensures { (rows : List Row) (asked : Option ℕ) (output other : List ℕ) → IsRows rows → IsReport rows asked output → IsReport rows asked other
+    ensures { (rows : List Row) (asked : AskedPlans) (output other : List ℕ) → IsRows rows → IsReport rows asked output → IsReport rows asked other
         → output ≡ other }
 {}
 
@@ -57,15 +59,17 @@ pub fn input_has_one_answer()
         → output ≡ other }
     ensures values_after { (beside input output other : List ℕ) → IsValuesAfterAnswer beside input output → IsValuesAfterAnswer beside input other
         → output ≡ other }
-    ensures profile { (sharing : Sharing) (asked : Option ℕ) (input output other : List ℕ) → IsProfileAnswer sharing asked input output
+    ensures profile { (sharing : Sharing) (asked : AskedPlans) (input output other : List ℕ) → IsProfileAnswer sharing asked input output
         → IsProfileAnswer sharing asked input other → output ≡ other }
-    ensures whatif { (cowns : List AskedCown) (edits : List AskedEdit) (sharing : Sharing) (asked : Option ℕ) (bytes input output other : List ℕ)
+    ensures whatif { (cowns : List AskedCown) (edits : List AskedEdit) (sharing : Sharing) (asked : AskedPlans) (bytes input output other : List ℕ)
         → IsWhatIfAnswer None bytes cowns edits sharing asked false input output → IsWhatIfAnswer None bytes cowns edits sharing asked false input other
         → output ≡ other }
     ensures curve { (sharing : Sharing) (most : ℕ) (input output other : List ℕ) → IsCurveAnswer sharing most input output
         → IsCurveAnswer sharing most input other → output ≡ other }
     ensures sweep { (sharing : Sharing) (over : Sweep) (input output other : List ℕ) → IsSweepAnswer sharing over input output
         → IsSweepAnswer sharing over input other → output ≡ other }
+    ensures best { (sharing : Sharing) (over : Sweep) (most : ℕ) (input output other : List ℕ) → IsBestAnswer sharing over most input output
+        → IsBestAnswer sharing over most input other → output ≡ other }
     ensures outcomes { (draws : AskedDraws) (input output other : List ℕ) → IsOutcomesAnswer draws input output → IsOutcomesAnswer draws input other
         → output ≡ other }
 {}

@@ -7,6 +7,7 @@ ghost use Rattle.boc_plans.specs.declared.sharing.Sharing.{Sharing};
 ghost use Rattle.boc_record.specs.RecordTexts.{IsTextOf};
 ghost use Rattle.boc_words.specs.declared.asked.AskedCown.{AskedCown};
 ghost use Rattle.boc_words.specs.declared.asked.AskedEdit.{AskedEdit};
+ghost use Rattle.boc_words.specs.declared.asked.AskedPlans.{AskedPlans};
 ghost use Rattle.boc_words.specs.declared.asked.NamesFrom.{NamesFrom};
 ghost use Rattle.boc_words.specs.declared.asked.RunFile.{RunFile};
 ghost use Rattle.boc_words.specs.declared.asked.RunFile.TheVariants as run_files;
@@ -55,7 +56,7 @@ pub fn run_in_a_file_has_one_answer()
 
 /// What is supposed of a record has one answer of `whatif` at most, at length or in short, with a program, with a file of names, or by numbers.
 pub fn changed_record_has_one_answer()
-    ensures { (file : Option NamesFrom) (bytes : List ℕ) (cowns : List AskedCown) (edits : List AskedEdit) (sharing : Sharing) (workers : Option ℕ)
-        (short : Bool) (input output other : List ℕ) → IsWhatIfAnswer file bytes cowns edits sharing workers short input output
-        → IsWhatIfAnswer file bytes cowns edits sharing workers short input other → output ≡ other }
+    ensures { (file : Option NamesFrom) (bytes : List ℕ) (cowns : List AskedCown) (edits : List AskedEdit) (sharing : Sharing) (plans : AskedPlans)
+        (short : Bool) (input output other : List ℕ) → IsWhatIfAnswer file bytes cowns edits sharing plans short input output
+        → IsWhatIfAnswer file bytes cowns edits sharing plans short input other → output ≡ other }
 {}

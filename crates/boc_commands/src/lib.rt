@@ -2,6 +2,7 @@
 #![tactic(auto)]
 
 mod beside;
+mod best;
 mod check;
 mod check_against;
 mod command;
@@ -24,6 +25,7 @@ mod values_after;
 mod whatif;
 mod why;
 
+pub use best::best_cmd;
 pub use check::check_cmd;
 pub use check_against::check_against_cmd;
 pub use command::{file_named, run_command};
@@ -45,6 +47,6 @@ pub use why::why_cmd;
 pub use boc_whatif::{Progress, Silent};
 // What the words of a command line ask for.
 pub use boc_words::{
-    AskedCown, AskedDraws, AskedEdit, Command, NamesFrom, RunFile, Runners, Runs, Schedule,
-    VERSION, WordsFault, not_text, read_words,
+    AskedCown, AskedDraws, AskedEdit, AskedPlans, Command, CommandLine, NamesFrom, RunFile,
+    Runners, Runs, Schedule, VERSION, WordsFault, not_text, read_words,
 };

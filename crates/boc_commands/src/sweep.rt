@@ -49,8 +49,8 @@ pub fn sweep_cmd<R: Threads + Sync, P: Progress, S: Source, W: Sink>(
     Ok(())
 }
 
-// The number of the first line: main is spawned by no row.
-fn first_number(over: &Sweep) -> u32
+/// The number of the first line: main is spawned by no row.
+pub(crate) fn first_number(over: &Sweep) -> u32
     ensures { result ≡ first_of over.now }
 {
     match over {
@@ -59,8 +59,8 @@ fn first_number(over: &Sweep) -> u32
     }
 }
 
-// The ends of plans in which each row, each of so many cowns or each spawn in turn is changed.
-fn ends_of<R: Threads + Sync, P: Progress>(
+/// The ends of plans in which each row, each of so many cowns or each spawn in turn is changed.
+pub(crate) fn ends_of<R: Threads + Sync, P: Progress>(
     rt: &R,
     alloc: Global,
     over: &Sweep,

@@ -11,10 +11,9 @@ use crate::report::report_on;
 use crate::run::noted_run;
 use crate::values::MOST_TAKEN;
 use boc_plans::sharing::Sharing;
-use boc_plans::workers::Workers;
 use boc_runs::rows::Rows;
 use boc_text::{Sink, Source, read_all};
-use boc_words::Schedule;
+use boc_words::{AskedPlans, Schedule};
 use boc_workers::Gate;
 use std::alloc::Global;
 use std::sync::Wait;
@@ -33,7 +32,7 @@ pub fn time_cmd<R: Threads + Wait + Sync, G: Gate, S: Source, W: Sink>(
     rt: &R,
     alloc: Global,
     schedule: Schedule,
-    workers: Option<Workers>,
+    plans: AskedPlans,
     sharing: Sharing,
     quiet: bool,
     gate: &G,
@@ -43,7 +42,7 @@ pub fn time_cmd<R: Threads + Wait + Sync, G: Gate, S: Source, W: Sink>(
 ) -> Result<(), Fault>
     requires source { S.failures source.old < u64.MAX }
     requires sink { W.failures sink.old < u64.MAX }
-    ensures written { Leaves (AnswersInput (TellsTime schedule sharing workers quiet notes.new.items) (S.remaining source.old) (S.remaining source.new)) result
+    ensures written { Leaves (AnswersInput (TellsTime schedule sharing plans quiet notes.new.items) (S.remaining source.old) (S.remaining source.new)) result
         (W.written sink.old) (W.written sink.new) }
     ensures refused { RefusesRun G.always_on result (S.remaining source.old) (S.remaining source.new) }
     ensures source { CountsSource result (S.failures source.old) (S.failures source.new) }
@@ -52,24 +51,24 @@ pub fn time_cmd<R: Threads + Wait + Sync, G: Gate, S: Source, W: Sink>(
     let text = read_all(alloc, source, MOST_TAKEN)?;
     let noted = noted_run(rt, alloc, &text, schedule, quiet, gate)?;
     *notes = noted.notes;
-    true_report(alloc, workers, noted.record.into_rows(), sharing, sink)
+    true_report(alloc, plans, noted.record.into_rows(), sharing, sink)
 }
 
 // Writes the report on some rows, with what its plans promise.
 fn true_report<W: Sink>(
     alloc: Global,
-    workers: Option<Workers>,
+    plans: AskedPlans,
     rows: Rows,
     sharing: Sharing,
     sink: &mut W,
 ) -> Result<(), Fault>
     requires { W.failures sink.old < u64.MAX }
-    ensures written { Leaves (IsTrueReport (seen sharing rows) workers) result (W.written sink.old) (W.written sink.new) }
+    ensures written { Leaves (IsTrueReport (seen sharing rows) plans) result (W.written sink.old) (W.written sink.new) }
     ensures refused { RefusesNothing result }
     ensures source { (count : ℕ) → CountsSource result count count }
     ensures sink { CountsSink result (W.failures sink.old) (W.failures sink.new) }
 {
     // For the proof alone, and free: that they have the shape of rows.
     let _shape = rows.as_slice();
-    report_on(alloc, workers, rows, sharing, sink)
+    report_on(alloc, plans, rows, sharing, sink)
 }

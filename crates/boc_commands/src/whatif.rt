@@ -21,7 +21,7 @@ use boc_text::{Sink, Source, put_out};
 use boc_whatif::{Unfit, WhatIf};
 use boc_why::{shares_by_def, without_all};
 use boc_why_report::{Outcome, short_text};
-use boc_words::{AskedCown, AskedEdit, NamesFrom};
+use boc_words::{AskedCown, AskedEdit, AskedPlans, NamesFrom};
 use std::alloc::{AllocError, Global};
 
 /// What is supposed of a run, and how it is told what becomes of it.
@@ -31,8 +31,8 @@ pub struct Supposed<'a> {
     pub cowns: &'a [AskedCown],
     /// How rows change.
     pub edits: &'a [AskedEdit],
-    /// For how many workers a greedy plan is made, if one is.
-    pub workers: Option<Workers>,
+    /// Which plans are told.
+    pub plans: AskedPlans,
     /// How rows share cowns.
     pub sharing: Sharing,
     /// Whether it is told in short.
@@ -53,7 +53,7 @@ pub fn whatif_report<W: Sink>(
     requires few { AreFew run.rows run.names }
     requires sink { W.failures sink.old < u64.MAX }
     ensures written { Leaves
-        (IsWhatIfReport run.names asked.now.cowns.now asked.now.edits.now asked.now.sharing asked.now.workers asked.now.short run.rows)
+        (IsWhatIfReport run.names asked.now.cowns.now asked.now.edits.now asked.now.sharing asked.now.plans asked.now.short run.rows)
         result (W.written sink.old) (W.written sink.new) }
     ensures refused { RefusesAsked run.names asked.now.cowns.now asked.now.edits.now run.rows result }
     ensures source { (count : ℕ) → CountsSource result count count }
@@ -66,7 +66,7 @@ pub fn whatif_report<W: Sink>(
         Ok(())
     } else {
         let after = changed(alloc, &names, asked, rows)?;
-        report_after(alloc, asked.workers, after, sink)
+        report_after(alloc, asked.plans, after, sink)
     }
 }
 
@@ -79,13 +79,13 @@ fn short_answer(
 ) -> Result<Vec<u8>, Fault>
     requires { AreFew rows names.now }
     ensures { MatchResult result
-        (λ text. IsShortAnswer names.now asked.now.cowns.now asked.now.edits.now asked.now.sharing asked.now.workers rows text.items)
+        (λ text. IsShortAnswer names.now asked.now.cowns.now asked.now.edits.now asked.now.sharing asked.now.plans.workers rows text.items)
         (IsOfAsked names.now asked.now.cowns.now asked.now.edits.now rows) }
 {
     let before = WhatIf::new(alloc, &rows, asked.sharing)?;
-    let was = outcome_of(alloc, &names.defs, asked.workers, &before)?;
+    let was = outcome_of(alloc, &names.defs, asked.plans.workers, &before)?;
     let after = changed(alloc, names, asked, rows)?;
-    let now = outcome_of(alloc, &names.defs, asked.workers, &after)?;
+    let now = outcome_of(alloc, &names.defs, asked.plans.workers, &after)?;
     Ok(short_text(alloc, names, &was, &now)?)
 }
 
@@ -181,7 +181,7 @@ pub fn whatif_cmd<S: Source, W: Sink>(
 ) -> Result<(), Fault>
     requires source { S.failures source.old < u64.MAX }
     requires sink { W.failures sink.old < u64.MAX }
-    ensures written { Leaves (AnswersInput (IsWhatIfAnswer file.now bytes.now asked.now.cowns.now asked.now.edits.now asked.now.sharing asked.now.workers
+    ensures written { Leaves (AnswersInput (IsWhatIfAnswer file.now bytes.now asked.now.cowns.now asked.now.edits.now asked.now.sharing asked.now.plans
         asked.now.short) (S.remaining source.old) (S.remaining source.new)) result (W.written sink.old) (W.written sink.new) }
     ensures refused { RefusesWhatIf file.now bytes.now asked.now.cowns.now asked.now.edits.now result (S.remaining source.old) }
     ensures source { CountsSource result (S.failures source.old) (S.failures source.new) }

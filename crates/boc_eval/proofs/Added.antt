@@ -1,5 +1,5 @@
 -- One more row, and the rows that are there.
-use Rattle.std.proofs.Common.{◌≡◌, ℕ, zero, suc, ◌+◌, ◌-◌, ◌<◌, ◌≤◌, List, [], ◌∷◌, ◌++◌, map, length, refl, ap, ◌∙◌, arith, ℤ, length-append}
+use Rattle.std.proofs.Common.{◌≡◌, ℕ, zero, suc, ◌+◌, ◌<◌, ◌≤◌, List, [], ◌∷◌, ◌++◌, map, length, refl, ap, ◌∙◌, arith, ℤ, length-append}
 use Rattle.std.specs.Prelude.{slice_range, slice_index_or}
 use Rattle.std.proofs.lemmas.List.{map-append, length-map}
 use Rattle.boc_program.specs.Meaning.{Wish}

@@ -1,7 +1,5 @@
 -- The rows of a serial run that ended by a fault.
 use Rattle.std.specs.Prelude.{◌≡◌, ◌≤◌, ℕ, suc, List, [], ◌∷◌, ◌++◌, map, length, ℤ}
-use Rattle.std.specs.declared.vec.Vec.{Vec}
-use Rattle.std.specs.Global.{Global}
 use Rattle.boc_program.specs.declared.limits.TheConstants.{MOST_ROWS}
 use Rattle.boc_program.specs.declared.body.EndStatus.{EndStatus}
 use Rattle.boc_program.specs.declared.body.EndStatus.TheVariants.{Done}

@@ -13,7 +13,7 @@ use std::alloc::Global;
 use std::thread::Threads;
 
 // After so many draws, which threads share out, what they came to is added to the tally, and it is told how far the draws are.
-const ROUND: u32 = 256;
+const ROUND: u32 = 2_048;
 
 /// The ends that a program comes to in so many draws: the most frequent first, and of those that are as frequent the one that came first.
 /// After each round of draws it is told how many of them are done. Where a draw has no room for a behaviour, that is the answer.

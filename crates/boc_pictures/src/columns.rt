@@ -76,6 +76,43 @@ pub(crate) fn percent(part: u64, whole: u64) -> u64 {
     part.saturating_mul(100) / whole.max(1)
 }
 
+// How many blanks the rest of a folded line begins with.
+const INDENT: usize = 2;
+
+/// Puts a line of words in so many columns: where they don't fit, it goes on in a further line. A word that is too long stands there whole.
+pub(crate) fn put_folded(text: &mut String, line: &str, width: usize) -> Result<(), AllocError> {
+    let mut column: usize = 0;
+    let mut blanks: usize = 0;
+    for word in line.split(' ') {
+        if word.is_empty() {
+            blanks = blanks.saturating_add(1);
+            continue;
+        }
+        let gap = if column == 0 {
+            0
+        } else {
+            blanks.saturating_add(1)
+        };
+        let past = column.saturating_add(gap).saturating_add(word.len());
+        if column > 0 && past > width {
+            text.push('\n')?;
+            column = INDENT;
+            for _ in 0..INDENT {
+                text.push(' ')?;
+            }
+        } else {
+            column = column.saturating_add(gap);
+            for _ in 0..gap {
+                text.push(' ')?;
+            }
+        }
+        text.push_str(word)?;
+        column = column.saturating_add(word.len());
+        blanks = 0;
+    }
+    text.push('\n')
+}
+
 /// Puts a line of cells between bars.
 pub(crate) fn put_line(text: &mut String, line: &[u8]) -> Result<(), AllocError> {
     text.push('|')?;

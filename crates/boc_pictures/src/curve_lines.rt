@@ -1,11 +1,48 @@
 // The ends of greedy plans in text.
 
-use crate::columns::percent;
+use crate::columns::{percent, put_folded};
 use boc_greedy::CurvePoint;
 use std::alloc::{AllocError, Global};
 
-// How many marks the greatest speed-up takes.
-const MOST_MARKS: u64 = 40;
+// How many marks the greatest speed-up takes at the most.
+const MOST_MARKS: usize = 40;
+
+// How many columns stand before the marks, and how many are left where the bounds are left out. That is done where marks would have fewer than ten.
+const FULL: usize = 54;
+
+const NARROW: usize = 32;
+
+const LEAST_MARKS: usize = 10;
+
+/// The columns of the table.
+#[derive(Clone, Copy)]
+struct Shape {
+    // Whether the bounds stand there.
+    full: bool,
+    // How many marks the greatest speed-up takes.
+    marks: usize,
+}
+
+impl Shape {
+    // The table in so many columns.
+    fn within(width: usize) -> Shape {
+        let full = width >= FULL + LEAST_MARKS;
+        let taken = if full { FULL } else { NARROW };
+        Shape {
+            full,
+            marks: width.saturating_sub(taken).min(MOST_MARKS),
+        }
+    }
+
+    // The table's head.
+    fn head(self) -> &'static str {
+        if self.full {
+            "  p        end      least      bound  speed-up  busy\n"
+        } else {
+            "  p        end  speed-up  busy\n"
+        }
+    }
+}
 
 /// The number of workers from which on none ends sooner: the first one with the least end.
 pub(crate) fn enough(points: &[CurvePoint]) -> u32 {
@@ -26,17 +63,21 @@ pub(crate) fn speed_up(work: u64, end: u64) -> u64 {
 }
 
 /// What each number of workers makes of some rows: when their greedy plan ends, how much sooner that is than for one worker, and how busy they are. Of
-/// all numbers those stand here that are powers of two, and the one from which on none ends sooner.
+/// all numbers those stand here that are powers of two, and the one from which on none ends sooner. It takes so many columns; in a narrow table the bounds
+/// are left out.
 pub fn curve_text(
     alloc: Global,
     work: u64,
     span: u64,
     points: &[CurvePoint],
+    width: usize,
 ) -> Result<String, AllocError> {
     let enough = enough(points);
-    let mut text = format!(in alloc;
-        "work {work}   span {span}\n  p        end      least      bound  speed-up  busy\n"
-    )?;
+    let shape = Shape::within(width);
+    let mut text = String::new(alloc);
+    let head = format!(in alloc; "work {work}   span {span}")?;
+    put_folded(&mut text, head.as_str(), width)?;
+    text.push_str(shape.head())?;
     let most = points
         .iter()
         .map(|point| speed_up(work, point.end))
@@ -44,10 +85,11 @@ pub fn curve_text(
         .unwrap_or(1);
     for point in points {
         if point.workers.is_power_of_two() || point.workers == enough {
-            put_point(&mut text, work, point, most)?;
+            put_point(&mut text, work, point, most, shape)?;
         }
     }
-    put_enough(&mut text, span, points)?;
+    let gain = gain_of(alloc, span, points)?;
+    put_folded(&mut text, gain.as_str(), width)?;
     Ok(text)
 }
 
@@ -57,25 +99,26 @@ fn put_point(
     work: u64,
     point: &CurvePoint,
     most: u64,
+    shape: Shape,
 ) -> Result<(), AllocError> {
     let speed_up = speed_up(work, point.end);
     let busy = percent(work, point.end.saturating_mul(point.workers as u64));
     let whole = speed_up / 100;
     let hundredths = speed_up % 100;
-    write!(
-        text,
-        "{:>3} {:>10} {:>10} {:>10} {whole:>6}.{hundredths:02} {busy:>4}%  ",
-        point.workers, point.end, point.low, point.bound
-    )?;
-    for _ in 0..speed_up.saturating_mul(MOST_MARKS) / most.max(1) {
+    write!(text, "{:>3} {:>10} ", point.workers, point.end)?;
+    if shape.full {
+        write!(text, "{:>10} {:>10} ", point.low, point.bound)?;
+    }
+    write!(text, "{whole:>6}.{hundredths:02} {busy:>4}%  ")?;
+    for _ in 0..speed_up.saturating_mul(shape.marks as u64) / most.max(1) {
         text.push('*')?;
     }
     text.push('\n')
 }
 
-// Puts from which number of workers on none gains anything, where that is known: where their plan ends at the span. Else it says of which of these
+// From which number of workers on none gains anything, where that is known: where their plan ends at the span. Else of which of these
 // numbers the plan ends soonest.
-fn put_enough(text: &mut String, span: u64, points: &[CurvePoint]) -> Result<(), AllocError> {
+fn gain_of(alloc: Global, span: u64, points: &[CurvePoint]) -> Result<String, AllocError> {
     let enough = enough(points);
     let least = points.iter().map(|point| point.end).min().unwrap_or(0);
     if least == span {
@@ -84,15 +127,8 @@ fn put_enough(text: &mut String, span: u64, points: &[CurvePoint]) -> Result<(),
         } else {
             "workers gain"
         };
-        writeln!(
-            text,
-            "more than {enough} {gain} nothing: the plan ends at the span"
-        )
+        format!(in alloc; "more than {enough} {gain} nothing: the plan ends at the span")
     } else {
-        writeln!(
-            text,
-            "of 1 to {} workers, {enough} end soonest",
-            points.len()
-        )
+        format!(in alloc; "of 1 to {} workers, {enough} end soonest", points.len())
     }
 }

@@ -15,7 +15,7 @@ text.small{font-size:11px;fill:#555}
 .chain path{fill:#c2410c;stroke:#fff;stroke-width:.4}
 .rest path{fill:#f0a880}
 .links path{fill:none;stroke:#c2410c;stroke-width:2}
-.links text{font-size:11px;fill:#a33408}
+.links text{font-size:11px;fill:#a33408;stroke:#fff;stroke-width:3px;paint-order:stroke}
 .thin path{stroke-width:1;opacity:.5}
 .waits{fill:none;stroke:#999;stroke-width:1;stroke-dasharray:2 2}
 .spawns{fill:none;stroke:#222;stroke-width:1.2}
@@ -34,7 +34,7 @@ text.small,.axis text{fill:#aaa}
 .chain path{fill:#f97316;stroke:#16181d}
 .rest path{fill:#8a4a20}
 .links path{stroke:#f97316}
-.links text{fill:#fb9a55}
+.links text{fill:#fb9a55;stroke:#16181d}
 .waits{stroke:#777}
 .spawns,.end{stroke:#e8e8e8}
 .bound{stroke:#aaa}

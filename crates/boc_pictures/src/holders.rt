@@ -1,6 +1,6 @@
 // Who holds what, in text.
 
-use crate::columns::{Columns, percent, put_line, put_padded};
+use crate::columns::{Columns, percent, put_folded, put_line, put_padded};
 use crate::letters::{letters, mark_of, put_key};
 use crate::plan_lines::MOST_LINES;
 use crate::spelling::Spelling;
@@ -9,8 +9,10 @@ use boc_names::text_at;
 use std::alloc::{AllocError, Global};
 use std::cmp::Reverse;
 
-// The most columns that a name takes.
+// The most columns that a name takes, and the least that are left for the bars.
 const MOST_LABEL: usize = 24;
+
+const LEAST_BARS: usize = 20;
 
 // How long a cown is held.
 #[derive(Clone, Copy)]
@@ -28,14 +30,18 @@ pub fn cowns_text(alloc: Global, subject: &Subject, width: usize) -> Result<Stri
     held.truncate(MOST_LINES);
     held.sort_unstable_by_key(|held| held.cown);
     let letters = letters(alloc, &subject.names.def_names)?;
-    let label = label_width(subject, &held);
+    let label = label_width(subject, &held).min(width.saturating_sub(LEAST_BARS + 9));
     let columns = Columns::new(
         subject.span,
-        width.saturating_sub(label.saturating_add(9)).max(20),
+        width
+            .saturating_sub(label.saturating_add(9))
+            .max(LEAST_BARS),
     );
-    let mut text = format!(in alloc; "who holds what: ")?;
-    columns.put_scale(&mut text)?;
-    put_key(alloc, &mut text, subject, &letters)?;
+    let mut head = format!(in alloc; "who holds what: ")?;
+    columns.put_scale(&mut head)?;
+    put_key(alloc, &mut head, subject, &letters)?;
+    let mut text = String::new(alloc);
+    put_folded(&mut text, head.as_str(), width)?;
     for held in &held {
         put_cown(alloc, &mut text, subject, *held, &letters, columns, label)?;
     }

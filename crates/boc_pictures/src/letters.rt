@@ -66,7 +66,7 @@ pub(crate) fn put_key(
     letters: &[u8],
 ) -> Result<(), AllocError> {
     if letters.is_empty() {
-        return text.push_str("; # on the chain, = other rows\n");
+        return text.push_str("; # on the chain, = other rows");
     }
     let mut first = true;
     for (letter, name) in letters.iter().zip(&subject.names.def_names) {
@@ -75,5 +75,5 @@ pub(crate) fn put_key(
         write!(text, "{} {name}", char::from(*letter))?;
         first = false;
     }
-    text.push('\n')
+    Ok(())
 }

@@ -1,4 +1,4 @@
-// What each page has: its style and its script. A page is read without the script too, which sorts tables, zooms and lights up what belongs together.
+// What each page has: its style and its script. A page is read without the script too, which sorts tables, zooms, lights up what belongs together and tells what a pointer is over.
 
 /// The style of a page.
 pub(crate) const STYLE: &str = "<style>
@@ -18,6 +18,7 @@ pre{font:12px/1.5 ui-monospace,Menlo,Consolas,monospace;margin:0}
 .share i{display:block;height:1.1em;background:#c2410c}
 .share b{float:right;font:11px ui-monospace,monospace;padding-right:.3em}
 .lit{stroke:#111!important;stroke-width:2!important}
+#told{position:fixed;max-width:48em;padding:.2em .6em;border-radius:3px;font:12px/1.5 ui-monospace,Menlo,Consolas,monospace;background:#222;color:#fff;pointer-events:none}
 a{color:#1f6fb2}
 @media (prefers-color-scheme:dark){
 body{background:#16181d;color:#e8e8e8}
@@ -25,6 +26,7 @@ th,td{border-color:#333}
 .picture{border-color:#333}
 .share i{background:#f97316}
 .lit{stroke:#fff!important}
+#told{background:#e8e8e8;color:#16181d}
 a{color:#6ab0ea}
 }
 </style>
@@ -60,6 +62,34 @@ for (const row of document.querySelectorAll('tr[data-row]')) {
     row.addEventListener('mouseenter', () => bar.classList.add('lit'));
     row.addEventListener('mouseleave', () => bar.classList.remove('lit'));
   }
+}
+// A pointer over a bar or a link is shown at once what its title says, in a box beside it. The title is empty meanwhile, so that the browser doesn't show it too.
+const told = document.body.appendChild(document.createElement('div'));
+told.id = 'told';
+told.hidden = true;
+let title = null;
+const hide = () => {
+  if (title) title.textContent = told.textContent;
+  title = null;
+  told.hidden = true;
+};
+for (const picture of document.querySelectorAll('.picture')) {
+  picture.addEventListener('mousemove', event => {
+    const under = event.target.querySelector(':scope > title');
+    if (under !== title) {
+      hide();
+      title = under;
+      if (!title) return;
+      told.textContent = title.textContent;
+      title.textContent = '';
+    }
+    if (!title) return;
+    told.hidden = false;
+    told.style.left = Math.max(0, Math.min(event.clientX + 12, innerWidth - told.offsetWidth - 4)) + 'px';
+    const below = event.clientY + 16 + told.offsetHeight < innerHeight;
+    told.style.top = (below ? event.clientY + 16 : Math.max(0, event.clientY - 8 - told.offsetHeight)) + 'px';
+  });
+  picture.addEventListener('mouseleave', hide);
 }
 // The wheel with the control key held makes a picture larger or smaller.
 for (const picture of document.querySelectorAll('.picture')) {

@@ -1,6 +1,6 @@
 // The earliest plan in text.
 
-use crate::columns::{Columns, put_line, put_padded, up};
+use crate::columns::{Columns, put_folded, put_line, put_padded, up};
 use crate::spelling::Spelling;
 use crate::subject::{Shown, Subject};
 use boc_bars::{Bar, Stretch, lane_count, packed};
@@ -9,18 +9,23 @@ use std::alloc::{AllocError, Global};
 /// The most lines that are drawn.
 pub(crate) const MOST_LINES: usize = 60;
 
-// The most columns that a label takes.
+// The most columns that a label takes, and the least that are left for the bars.
 const MOST_LABEL: usize = 36;
+
+const LEAST_BARS: usize = 20;
 
 /// The earliest plan, a line for each row, in so many columns. Where there are more than 60 rows, those that don't overlap share lines, and
 /// where that takes more than 60 lines too, a line tells of a def how many of its rows run.
 pub fn plan_text(alloc: Global, subject: &Subject, width: usize) -> Result<String, AllocError> {
-    let mut text = format!(in alloc;
-        "rows {}   work {}   span {}\n\n",
+    let head = format!(in alloc;
+        "rows {}   work {}   span {}",
         subject.count(),
         subject.work,
         subject.span
     )?;
+    let mut text = String::new(alloc);
+    put_folded(&mut text, head.as_str(), width)?;
+    text.push('\n')?;
     if subject.count() <= MOST_LINES {
         put_rows(alloc, &mut text, subject, width)?;
         return Ok(text);
@@ -48,13 +53,20 @@ pub(crate) fn stretches_of(alloc: Global, subject: &Subject) -> Result<Vec<Stret
 }
 
 // Puts what marks say, and how many ticks a column takes.
-fn put_legend(text: &mut String, columns: Columns, waits: bool) -> Result<(), AllocError> {
-    columns.put_scale(text)?;
-    text.push_str("; # runs, and the chain goes through it; = runs")?;
+fn put_legend(
+    alloc: Global,
+    text: &mut String,
+    columns: Columns,
+    width: usize,
+    waits: bool,
+) -> Result<(), AllocError> {
+    let mut head = String::new(alloc);
+    columns.put_scale(&mut head)?;
+    head.push_str("; # runs, and the chain goes through it; = runs")?;
     if waits {
-        text.push_str("; . waits for a cown")?;
+        head.push_str("; . waits for a cown")?;
     }
-    text.push('\n')
+    put_folded(text, head.as_str(), width)
 }
 
 // Paints when a row waits and runs.
@@ -76,12 +88,14 @@ fn put_rows(
     subject: &Subject,
     width: usize,
 ) -> Result<(), AllocError> {
-    let label = label_width(subject);
+    let label = label_width(subject).min(width.saturating_sub(LEAST_BARS + 7));
     let columns = Columns::new(
         subject.span,
-        width.saturating_sub(label.saturating_add(7)).max(20),
+        width
+            .saturating_sub(label.saturating_add(7))
+            .max(LEAST_BARS),
     );
-    put_legend(text, columns, true)?;
+    put_legend(alloc, text, columns, width, true)?;
     for row in &subject.shown {
         let mut line = columns.line(alloc)?;
         paint(&mut line, columns, row, true);
@@ -113,13 +127,13 @@ fn put_lanes(
     bars: &[Bar],
     lanes: u64,
 ) -> Result<(), AllocError> {
-    let columns = Columns::new(subject.span, width.saturating_sub(2).max(20));
-    writeln!(
-        text,
+    let columns = Columns::new(subject.span, width.saturating_sub(2).max(LEAST_BARS));
+    let head = format!(in alloc;
         "{} rows in {lanes} lines: those in one line follow each other",
         subject.count()
     )?;
-    put_legend(text, columns, false)?;
+    put_folded(text, head.as_str(), width)?;
+    put_legend(alloc, text, columns, width, false)?;
     for lane in 0..lanes {
         let mut line = columns.line(alloc)?;
         for bar in bars {
@@ -153,15 +167,16 @@ fn put_sums(
     width: usize,
 ) -> Result<(), AllocError> {
     let defs = subject.names.def_names.as_slice();
-    let columns = Columns::new(subject.span, width.saturating_sub(19).max(20));
+    let columns = Columns::new(subject.span, width.saturating_sub(19).max(LEAST_BARS));
     let all = counts(alloc, subject, columns, None)?;
     let most = all.iter().copied().max().unwrap_or(1);
-    write!(text, "{} rows, summed up: ", subject.count())?;
-    columns.put_scale(text)?;
-    writeln!(
-        text,
+    let mut head = format!(in alloc; "{} rows, summed up: ", subject.count())?;
+    columns.put_scale(&mut head)?;
+    write!(
+        head,
         "; a digit is how many of them run in a column, in ninths of {most}"
     )?;
+    put_folded(text, head.as_str(), width)?;
     put_sum(alloc, text, b"all", &all, most)?;
     if defs.len() <= MOST_LINES {
         for (def, name) in defs.iter().enumerate() {

@@ -28,6 +28,9 @@ const ALL_LANES: u64 = 16_000;
 
 const LEAST_LANE: u64 = 3;
 
+// How wide a letter of a link's text is.
+const LETTER: u64 = 66;
+
 // The most bytes of a name beside a bar, and of one that a mouse shows.
 const LABEL_BYTES: usize = 28;
 
@@ -378,26 +381,38 @@ fn put_link(
     if !layout.named {
         return Ok(());
     }
+    let mut words = String::new(alloc);
+    put_cause(alloc, &mut words, subject, step, to.row)?;
     let y = Tenths(layout.middle(to.lane).saturating_add(40));
-    if layout.axis.end.saturating_sub(to.end) < to.start {
-        let left = subject
-            .shown
-            .get(to.row as usize)
-            .map_or(to.start, |row| row.spawned.min(row.start));
-        write!(
+    let length = LETTER.saturating_mul(words.len() as u64);
+    let right = layout.axis.at(to.end).0.saturating_add(60);
+    if right.saturating_add(length) < WIDTH {
+        return writeln!(
             text,
-            "<text text-anchor=\"end\" x=\"{}\" y=\"{y}\">",
-            Tenths(layout.axis.at(left).0.saturating_sub(60))
-        )?;
-    } else {
-        write!(
-            text,
-            "<text x=\"{}\" y=\"{y}\">",
-            Tenths(layout.axis.at(to.end).0.saturating_add(60))
-        )?;
+            "<text x=\"{}\" y=\"{y}\">{words}</text>",
+            Tenths(right)
+        );
     }
-    put_cause(alloc, text, subject, step, to.row)?;
-    text.push_str("</text>\n")
+    let left = left_of(subject, layout, to, length);
+    writeln!(
+        text,
+        "<text text-anchor=\"end\" x=\"{}\" y=\"{y}\">{words}</text>",
+        Tenths(left)
+    )
+}
+
+// Where a text of this length ends that stands to the left of a bar: before the line that tells how long its row waits, if there is room, else over it.
+fn left_of(subject: &Subject, layout: Layout, bar: &Bar, length: u64) -> u64 {
+    let spawned = subject
+        .shown
+        .get(bar.row as usize)
+        .map_or(bar.start, |row| row.spawned.min(row.start));
+    let before = layout.axis.at(spawned).0.saturating_sub(60);
+    if before < length.saturating_add(layout.axis.from) {
+        layout.axis.at(bar.start).0.saturating_sub(60)
+    } else {
+        before
+    }
 }
 
 // Puts what leads on from a row of the chain to the next one.
@@ -567,12 +582,12 @@ fn put_legend(text: &mut String, greedy: bool, y: u64) -> Result<(), AllocError>
     if greedy {
         writeln!(
             text,
-            "<path class=\"end\" d=\"M965 {}v12\"/><path class=\"bound\" d=\"M1035 {}v12\"/>",
+            "<path class=\"end\" d=\"M965 {}v12\"/><path class=\"bound\" d=\"M1060 {}v12\"/>",
             Tenths(top),
             Tenths(top)
         )?;
         put_text(text, "small", 9_720, y, "greedy end")?;
-        put_text(text, "small", 10_420, y, "bound")?;
+        put_text(text, "small", 10_680, y, "bound")?;
     }
     Ok(())
 }

@@ -1,6 +1,6 @@
 // The greedy plan in text.
 
-use crate::columns::{Columns, percent, put_line};
+use crate::columns::{Columns, percent, put_folded, put_line};
 use crate::letters::{letters, mark_of, put_key};
 use crate::subject::Subject;
 use boc_greedy::Greedy;
@@ -15,12 +15,14 @@ pub fn workers_text(
 ) -> Result<String, AllocError> {
     let letters = letters(alloc, &subject.names.def_names)?;
     let columns = Columns::new(plan.ends_at, width.saturating_sub(18).max(20));
-    let mut text = format!(in alloc;
+    let mut head = format!(in alloc;
         "the greedy plan for {} workers, end {}, bound {}: ",
         plan.p, plan.ends_at, plan.bound
     )?;
-    columns.put_scale(&mut text)?;
-    put_key(alloc, &mut text, subject, &letters)?;
+    columns.put_scale(&mut head)?;
+    put_key(alloc, &mut head, subject, &letters)?;
+    let mut text = String::new(alloc);
+    put_folded(&mut text, head.as_str(), width)?;
     for worker in 0..plan.p {
         put_worker(alloc, &mut text, subject, plan, worker, &letters, columns)?;
     }

@@ -44,19 +44,18 @@ SaysOf kinds.WrongCount text = HasNoNames text
 SaysOf kinds.TooLong text = MOST_TEXT < length text
 SaysOf kinds.Memory text = Unit {0}
 
--- a line of a text: that of one of its bytes, or of its end
-pub record IsLineIn (line : ℕ) (text : List ℕ) : Type 0 where
-  pub at : ℕ
-  pub within : at ≤ length text
-  pub line_is : line ≡ line_after (take at text)
+-- the fault stands at one of the bytes of the text, or at its end, and its line is the one of that place
+pub record StandsIn (fault : ReadFault) (text : List ℕ) : Type 0 where
+  pub within : fault.at ≤ length text
+  pub line_is : fault.line ≡ line_after (take fault.at text)
 
--- The line that is told with a kind of fault: that of the first byte too many where the text is too long, none where memory was refused, and otherwise one of
--- the text.
-abbrev pub TellsLine : ReadFaultKind → ℕ → List ℕ → Type 0
-TellsLine kinds.TooLong line text = line ≡ line_after (take MOST_TEXT text)
-TellsLine kinds.Memory line text = line ≡ 0
-TellsLine kind line text = IsLineIn line text
+-- The place that is told with a kind of fault: that of the first byte too many where the text is too long, none where memory was refused, and otherwise
+-- one of the text.
+abbrev pub TellsPlace : ReadFaultKind → ReadFault → List ℕ → Type 0
+TellsPlace kinds.TooLong fault text = (fault.at ≡ MOST_TEXT) × (fault.line ≡ line_after (take MOST_TEXT text))
+TellsPlace kinds.Memory fault text = (fault.at ≡ 0) × (fault.line ≡ 0)
+TellsPlace kind fault text = StandsIn fault text
 
 -- what a fault says of the text that is refused for it: what is wrong with it, and where
 abbrev pub IsRefusalOf : ReadFault → List ℕ → Type 0
-IsRefusalOf fault text = SaysOf fault.kind text × TellsLine fault.kind fault.line text
+IsRefusalOf fault text = SaysOf fault.kind text × TellsPlace fault.kind fault text

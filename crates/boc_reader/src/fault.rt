@@ -106,10 +106,11 @@ impl ReadFaultKind {
     }
 }
 
-/// Why a text was refused, and in which line, counted from 1.
+/// Why a text was refused, in which line, counted from 1, and at which byte of the text, counted from 0. Where memory was refused, both are 0.
 #[derive(Clone, Copy, PartialEq, Eq, Debug, Error)]
 #[error("line {line}: {kind}")]
 pub struct ReadFault {
     pub line: u32,
+    pub at: u32,
     pub kind: ReadFaultKind,
 }

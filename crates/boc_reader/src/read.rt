@@ -14,7 +14,7 @@ ghost use Rattle.boc_reader.specs.Views.{block_of, tree_of};
 
 use crate::fault::{Fault, NameFault, ReadFault, ReadFaultKind, ShapeFault, TokenFault};
 use crate::lex::tokens;
-use crate::lines::{line_after, line_at};
+use crate::lines::{fault_at, line_after};
 use crate::listing::{DefListing, list_defs};
 use crate::names::resolve_program;
 use crate::parse::parse_tree;
@@ -26,12 +26,13 @@ use std::alloc::{AllocError, Global};
 
 const NO_MEMORY: ReadFault = ReadFault {
     line: 0,
+    at: 0,
     kind: ReadFaultKind::Memory,
 };
 
 /// The program that a text spells. A text that is too long is refused for that. Any other goes
 /// through three passes, for its tokens, its shape and its names: the first pass that finds a fault
-/// tells the first one in the text. The line is that of the fault, that of the first byte too many, or 0 for want of memory.
+/// tells the first one in the text. The place and its line are those of the fault, of the first byte too many, or 0 for want of memory.
 pub fn read_program(alloc: Global, text: &[u8]) -> Result<Program, ReadFault>
     ensures { MatchResult result (Spells text.now) (λ f. IsRefusalOf f text.now) }
 {
@@ -71,6 +72,7 @@ fn read_whole(alloc: Global, text: &[u8]) -> Result<Whole<'_>, ReadFault>
     if text.len() > MOST_TEXT {
         return Err(ReadFault {
             line: line_after(text.split_at(MOST_TEXT).0),
+            at: MOST_TEXT as u32,
             kind: ReadFaultKind::TooLong,
         });
     }
@@ -104,10 +106,7 @@ fn no_tokens(text: &[u8], fault: Fault<TokenFault>) -> ReadFault
         Fault::At(TokenFault::BadToken, at) => (ReadFaultKind::BadToken, at),
         Fault::At(TokenFault::NumberTooLarge, at) => (ReadFaultKind::NumberTooLarge, at),
     };
-    ReadFault {
-        line: line_at(text, at),
-        kind,
-    }
+    fault_at(text, kind, at)
 }
 
 // A fault of the second pass.
@@ -121,10 +120,7 @@ fn no_shape(text: &[u8], fault: Fault<ShapeFault>) -> ReadFault
         Fault::At(ShapeFault::Unexpected, at) => (ReadFaultKind::Unexpected, at),
         Fault::At(ShapeFault::TooMany, at) => (ReadFaultKind::TooMany, at),
     };
-    ReadFault {
-        line: line_at(text, at),
-        kind,
-    }
+    fault_at(text, kind, at)
 }
 
 // A fault of the third pass.
@@ -139,10 +135,7 @@ fn no_names(text: &[u8], fault: Fault<NameFault>) -> ReadFault
         Fault::At(NameFault::NameTaken, at) => (ReadFaultKind::NameTaken, at),
         Fault::At(NameFault::WrongCount, at) => (ReadFaultKind::WrongCount, at),
     };
-    ReadFault {
-        line: line_at(text, at),
-        kind,
-    }
+    fault_at(text, kind, at)
 }
 
 /// A text of which a fault is told, but for want of memory, spells no program, and a text spells one

@@ -1,5 +1,5 @@
 -- The greedy part of a report.
-use Rattle.std.specs.Prelude.{◌≡◌, ℕ, List, [], length, Option, Some, None}
+use Rattle.std.specs.Prelude.{◌≡◌, ℕ, Bool, List, [], length, Option, Some, None}
 use Rattle.boc_greedy.specs.declared.plan.Greedy.{Greedy}
 use Rattle.boc_report.specs.Texts.{greedy_text}
 
@@ -8,7 +8,7 @@ pub record IsWhole (greedy : Greedy) : Type 0 where
   pub ends : length greedy.starts.items ≡ length greedy.ends.items
   pub workers : length greedy.starts.items ≡ length greedy.workers.items
 
--- the part that a greedy plan adds to a report; without a plan there is none
-abbrev pub part_of : Option Greedy → List ℕ
-part_of None = []
-part_of (Some g) = greedy_text g.p g.starts.items g.ends.items g.workers.items g.ends_at g.bound
+-- the part that a greedy plan adds to a report, without its rows or with them; without a greedy plan there is none
+abbrev pub part_of : Bool → Option Greedy → List ℕ
+part_of unplanned None = []
+part_of unplanned (Some g) = greedy_text unplanned g.p g.starts.items g.ends.items g.workers.items g.ends_at g.bound

@@ -1,5 +1,5 @@
 -- The texts of reports, of curves and of sweeps.
-use Rattle.std.specs.Prelude.{ℕ, suc, List, [], ◌∷◌, ◌++◌, length, codes, decimal}
+use Rattle.std.specs.Prelude.{ℕ, suc, Bool, true, false, List, [], ◌∷◌, ◌++◌, length, codes, decimal}
 use Rattle.boc_plans.specs.declared.chain.ChainStep.{ChainStep}
 use Rattle.boc_plans.specs.declared.chain.Via.{Via}
 use Rattle.boc_plans.specs.declared.chain.Via.TheVariants.{Spawn, Order, Last}
@@ -38,10 +38,15 @@ number_line word n = word ++ decimal n ++ codes "\n"
 abbrev pub report_head : ℕ → ℕ → ℕ → List ℕ
 report_head rows work span = number_line (codes "rows ") rows ++ number_line (codes "work ") work ++ number_line (codes "span ") span
 
--- a report: the numbers, the chain, and the plan
-abbrev pub report_text : ℕ → ℕ → List ChainStep → List ℕ → List ℕ → List ℕ
-report_text work span steps starts ends =
-    report_head (length starts) work span ++ codes "chain\n" ++ step_lines steps ++ codes "plan\n" ++ plan_lines 0 starts ends
+-- the plan of a report; where a report is wanted without its plans, there is none
+abbrev pub plan_text : Bool → List ℕ → List ℕ → List ℕ
+plan_text true starts ends = []
+plan_text false starts ends = codes "plan\n" ++ plan_lines 0 starts ends
+
+-- a report, without its plan or with it: the numbers, the chain, and the plan
+abbrev pub report_text : Bool → ℕ → ℕ → List ChainStep → List ℕ → List ℕ → List ℕ
+report_text unplanned work span steps starts ends =
+    report_head (length starts) work span ++ codes "chain\n" ++ step_lines steps ++ plan_text unplanned starts ends
 
 -- the line of a row in a greedy plan: its number, its start, its end and its worker
 abbrev pub served_line : ℕ → ℕ → ℕ → ℕ → List ℕ
@@ -56,14 +61,19 @@ served_lines r (start ∷ starts) (end ∷ ends) [] = []
 served_lines r (start ∷ starts) (end ∷ ends) (worker ∷ workers) =
     served_line r start end worker ++ served_lines (suc r) starts ends workers
 
+-- the rows of a greedy plan; where a report is wanted without its plans, there are none
+abbrev pub served_text : Bool → List ℕ → List ℕ → List ℕ → List ℕ
+served_text true starts ends workers = []
+served_text false starts ends workers = served_lines 0 starts ends workers
+
 -- the line of the end of a greedy plan, and of the tick by which it has ended
 abbrev pub bound_line : ℕ → ℕ → List ℕ
 bound_line last bound = codes "end " ++ decimal last ++ codes " bound " ++ decimal bound ++ codes "\n"
 
--- the greedy part of a report: the number of workers, the rows, and the end with its bound
-abbrev pub greedy_text : ℕ → List ℕ → List ℕ → List ℕ → ℕ → ℕ → List ℕ
-greedy_text p starts ends workers last bound =
-    number_line (codes "greedy ") p ++ served_lines 0 starts ends workers ++ bound_line last bound
+-- the greedy part of a report, without its rows or with them: the number of workers, the rows, and the end with its bound
+abbrev pub greedy_text : Bool → ℕ → List ℕ → List ℕ → List ℕ → ℕ → ℕ → List ℕ
+greedy_text unplanned p starts ends workers last bound =
+    number_line (codes "greedy ") p ++ served_text unplanned starts ends workers ++ bound_line last bound
 
 -- the line of a point of a curve: the number of workers, the end of their greedy plan, the tick before which no plan of theirs ends, and the
 -- tick by which the greedy one has ended

@@ -1,7 +1,7 @@
 // The greedy part of a report.
 
 ghost use Rattle.std.specs.Prelude.{◌≡◌, ◌++◌, ◌+◌, ◌*◌, ◌<◌, ◌≤◌, ◌^◌, Some, codes, drop, length, OnOk};
-ghost use Rattle.boc_report.specs.Texts.{bound_line, number_line, served_line, served_lines};
+ghost use Rattle.boc_report.specs.Texts.{bound_line, number_line, served_line, served_lines, served_text};
 ghost use Rattle.boc_text.specs.Outgoing.{Puts, size};
 ghost use Rattle.boc_text.specs.Streams.{CountsFailure};
 ghost use Rattle.boc_report.specs.Parts.{IsWhole, part_of};
@@ -18,26 +18,49 @@ const MOST_FRAME: usize = 2 * MOST_FIELD + 10;
 /// The most bytes of the line of a row.
 const MOST_SERVED: usize = 4 * MOST_FIELD;
 
-/// The greedy part of a report: the number of workers, each row with its worker, and the end with its bound.
+/// The greedy part of a report: the number of workers, each row with its worker, unless it is wanted without rows, and the end with its bound.
 pub(crate) fn put_greedy<W: Sink>(
     out: &mut Outgoing,
     greedy: &Greedy,
+    unplanned: bool,
     sink: &mut W,
 ) -> Result<(), Stopped>
     requires whole { IsWhole greedy.now }
     requires few { length greedy.now.starts.items ≤ MOST_LINES }
     requires size { size out.old ≤ MOST_PART }
     requires failures { W.failures sink.old < u64.MAX }
-    ensures goes_on { Puts (part_of (Some greedy.now)) result out.old out.new (W.written sink.old) (W.written sink.new) }
+    ensures goes_on { Puts (part_of unplanned (Some greedy.now)) result out.old out.new (W.written sink.old) (W.written sink.new) }
     ensures size { OnOk result (size out.new ≤ size out.old + MOST_PART) }
     ensures failures { CountsFailure result (W.failures sink.old) (W.failures sink.new) }
 {
     let mut room = [0; MOST_FRAME];
     let begin = workers_before(&mut room, greedy.p);
     out.put(&room[begin..], sink)?;
-    put_served(out, &greedy.starts, &greedy.ends, &greedy.workers, sink)?;
+    put_rows(out, greedy, unplanned, sink)?;
     let begin = bound_before(&mut room, greedy.ends_at, greedy.bound);
     out.put(&room[begin..], sink)
+}
+
+// The rows of a greedy plan, unless they are not wanted.
+fn put_rows<W: Sink>(
+    out: &mut Outgoing,
+    greedy: &Greedy,
+    unplanned: bool,
+    sink: &mut W,
+) -> Result<(), Stopped>
+    requires whole { IsWhole greedy.now }
+    requires few { length greedy.now.starts.items ≤ MOST_LINES }
+    requires size { size out.old ≤ 2 * MOST_PART }
+    requires failures { W.failures sink.old < u64.MAX }
+    ensures goes_on { Puts (served_text unplanned greedy.now.starts.items greedy.now.ends.items greedy.now.workers.items) result out.old out.new
+        (W.written sink.old) (W.written sink.new) }
+    ensures size { OnOk result (size out.new ≤ size out.old + MOST_SERVED * length greedy.now.starts.items) }
+    ensures failures { CountsFailure result (W.failures sink.old) (W.failures sink.new) }
+{
+    if unplanned {
+        return Ok(());
+    }
+    put_served(out, &greedy.starts, &greedy.ends, &greedy.workers, sink)
 }
 
 // The lines of the rows of a greedy plan.

@@ -1,8 +1,8 @@
 // The report on the rows of a record.
 
-ghost use Rattle.std.specs.Prelude.{◌≡◌, ◌∷◌, ◌++◌, ◌+◌, ◌*◌, ◌<◌, ◌≤◌, ◌^◌, codes, drop, length, option_map, OnOk, IfOk, IfSome, MatchResult};
+ghost use Rattle.std.specs.Prelude.{◌≡◌, ◌∷◌, ◌++◌, ◌+◌, ◌*◌, ◌<◌, ◌≤◌, ◌^◌, codes, drop, false, length, option_map, OnOk, IfOk, IfSome, MatchResult};
 ghost use Rattle.std.specs.Io.KnownBytes.{Appends};
-ghost use Rattle.boc_report.specs.Texts.{report_head, report_text, step_line, step_lines, plan_line, plan_lines, via_word};
+ghost use Rattle.boc_report.specs.Texts.{report_head, report_text, step_line, step_lines, plan_line, plan_lines, plan_text, via_word};
 ghost use Rattle.boc_text.specs.Outgoing.{IsUnused, Puts, size};
 ghost use Rattle.boc_text.specs.Streams.{CountsFailure, StopsAt};
 ghost use Rattle.boc_text.specs.Writing.{CountsWrite, Writes};
@@ -28,12 +28,14 @@ const MOST_STEP: usize = 2 * MOST_FIELD + 6;
 const MOST_ROW: usize = 3 * MOST_FIELD;
 
 /// Writes the report on a profile: how many rows, their work and the span, the chain, and the plan with each row's start and end, a
-/// line each. Where there is a greedy plan, its part follows. The text goes out in parts while it is formed; after a failing write a
+/// line each. Where there is a greedy plan, its part follows. Where a report is wanted without its plans, the rows of both are left out. The text goes out in
+/// parts while it is formed; after a failing write a
 /// beginning of it went out. All memory is taken before the first part goes out.
 pub fn write_report<W: Sink>(
     alloc: Global,
     profile: &Profile,
     greedy: Option<&Greedy>,
+    unplanned: bool,
     sink: &mut W,
 ) -> Result<(), WriteFault>
     requires plan { length profile.now.starts.items ≡ length profile.now.ends.items }
@@ -43,12 +45,12 @@ pub fn write_report<W: Sink>(
     requires few_served { IfSome greedy (λ g. length g.now.starts.items ≤ MOST_LINES) }
     requires failures { W.failures sink.old < u64.MAX }
     ensures written { Writes
-        (report_text profile.now.work profile.now.span profile.now.chain.steps.items profile.now.starts.items profile.now.ends.items
-        ++ part_of (option_map (λ g. g.now) greedy.entry)) result (W.written sink.old) (W.written sink.new) }
+        (report_text unplanned profile.now.work profile.now.span profile.now.chain.steps.items profile.now.starts.items profile.now.ends.items
+        ++ part_of unplanned (option_map (λ g. g.now) greedy.entry)) result (W.written sink.old) (W.written sink.new) }
     ensures failures { CountsWrite result (W.failures sink.old) (W.failures sink.new) }
 {
     let mut out = Outgoing::new(alloc)?;
-    send_report(&mut out, profile, greedy, sink)?;
+    send_report(&mut out, profile, greedy, unplanned, sink)?;
     Ok(())
 }
 
@@ -64,11 +66,11 @@ pub fn profile_text(
     requires few_rows { length profile.now.starts.items ≤ MOST_LINES }
     requires few_served { IfSome greedy (λ g. length g.now.starts.items ≤ MOST_LINES) }
     ensures { IfOk result (λ text. text.items
-        ≡ report_text profile.now.work profile.now.span profile.now.chain.steps.items profile.now.starts.items profile.now.ends.items
-        ++ part_of (option_map (λ g. g.now) greedy.entry)) }
+        ≡ report_text false profile.now.work profile.now.span profile.now.chain.steps.items profile.now.starts.items profile.now.ends.items
+        ++ part_of false (option_map (λ g. g.now) greedy.entry)) }
 {
     let mut text = Bytes::new(Vec::new(alloc));
-    match write_report(alloc, profile, greedy, &mut text) {
+    match write_report(alloc, profile, greedy, false, &mut text) {
         Ok(()) => Ok(text.bytes),
         Err(_) => Err(AllocError),
     }
@@ -79,6 +81,7 @@ fn send_report<W: Sink>(
     out: &mut Outgoing,
     profile: &Profile,
     greedy: Option<&Greedy>,
+    unplanned: bool,
     sink: &mut W,
 ) -> Result<(), Stopped>
     requires plan { length profile.now.starts.items ≡ length profile.now.ends.items }
@@ -91,15 +94,15 @@ fn send_report<W: Sink>(
     requires failures { W.failures sink.old < u64.MAX }
     ensures sent { MatchResult result
         (λ _. Appends (W.written sink.old) (W.written sink.new)
-        (report_text profile.now.work profile.now.span profile.now.chain.steps.items profile.now.starts.items profile.now.ends.items
-        ++ part_of (option_map (λ g. g.now) greedy.entry)))
+        (report_text unplanned profile.now.work profile.now.span profile.now.chain.steps.items profile.now.starts.items profile.now.ends.items
+        ++ part_of unplanned (option_map (λ g. g.now) greedy.entry)))
         (λ s. StopsAt s.gone
-        (report_text profile.now.work profile.now.span profile.now.chain.steps.items profile.now.starts.items profile.now.ends.items
-        ++ part_of (option_map (λ g. g.now) greedy.entry)) (W.written sink.old) (W.written sink.new)) }
+        (report_text unplanned profile.now.work profile.now.span profile.now.chain.steps.items profile.now.starts.items profile.now.ends.items
+        ++ part_of unplanned (option_map (λ g. g.now) greedy.entry)) (W.written sink.old) (W.written sink.new)) }
     ensures failures { CountsFailure result (W.failures sink.old) (W.failures sink.new) }
 {
-    put_profile(out, profile, sink)?;
-    put_part(out, greedy, sink)?;
+    put_profile(out, profile, unplanned, sink)?;
+    put_part(out, greedy, unplanned, sink)?;
     out.send(sink)
 }
 
@@ -107,31 +110,37 @@ fn send_report<W: Sink>(
 fn put_part<W: Sink>(
     out: &mut Outgoing,
     greedy: Option<&Greedy>,
+    unplanned: bool,
     sink: &mut W,
 ) -> Result<(), Stopped>
     requires whole { IfSome greedy (λ g. IsWhole g.now) }
     requires few { IfSome greedy (λ g. length g.now.starts.items ≤ MOST_LINES) }
     requires size { size out.old ≤ MOST_PART }
     requires failures { W.failures sink.old < u64.MAX }
-    ensures goes_on { Puts (part_of (option_map (λ g. g.now) greedy.entry)) result out.old out.new (W.written sink.old) (W.written sink.new) }
+    ensures goes_on { Puts (part_of unplanned (option_map (λ g. g.now) greedy.entry)) result out.old out.new (W.written sink.old) (W.written sink.new) }
     ensures size { OnOk result (size out.new ≤ size out.old + MOST_PART) }
     ensures failures { CountsFailure result (W.failures sink.old) (W.failures sink.new) }
 {
     match greedy {
-        Some(greedy) => put_greedy(out, greedy, sink),
+        Some(greedy) => put_greedy(out, greedy, unplanned, sink),
         None => Ok(()),
     }
 }
 
 // The report without a greedy part.
-fn put_profile<W: Sink>(out: &mut Outgoing, profile: &Profile, sink: &mut W) -> Result<(), Stopped>
+fn put_profile<W: Sink>(
+    out: &mut Outgoing,
+    profile: &Profile,
+    unplanned: bool,
+    sink: &mut W,
+) -> Result<(), Stopped>
     requires plan { length profile.now.starts.items ≡ length profile.now.ends.items }
     requires few_steps { length profile.now.chain.steps.items ≤ MOST_LINES }
     requires few_rows { length profile.now.starts.items ≤ MOST_LINES }
     requires size { size out.old ≡ 0 }
     requires failures { W.failures sink.old < u64.MAX }
     ensures goes_on { Puts
-        (report_text profile.now.work profile.now.span profile.now.chain.steps.items profile.now.starts.items profile.now.ends.items)
+        (report_text unplanned profile.now.work profile.now.span profile.now.chain.steps.items profile.now.starts.items profile.now.ends.items)
         result out.old out.new (W.written sink.old) (W.written sink.new) }
     ensures size { OnOk result (size out.new ≤ MOST_PART) }
     ensures failures { CountsFailure result (W.failures sink.old) (W.failures sink.new) }
@@ -140,8 +149,30 @@ fn put_profile<W: Sink>(out: &mut Outgoing, profile: &Profile, sink: &mut W) -> 
     let begin = head_before(&mut room, profile);
     out.put(&room[begin..], sink)?;
     put_steps(out, &profile.chain.steps, sink)?;
+    put_rows(out, &profile.starts, &profile.ends, unplanned, sink)
+}
+
+// The plan of a report, unless it is wanted without.
+fn put_rows<W: Sink>(
+    out: &mut Outgoing,
+    starts: &[u64],
+    ends: &[u64],
+    unplanned: bool,
+    sink: &mut W,
+) -> Result<(), Stopped>
+    requires lengths { length starts.now ≡ length ends.now }
+    requires few { length starts.now ≤ MOST_LINES }
+    requires size { size out.old + 5 ≤ MOST_PART }
+    requires failures { W.failures sink.old < u64.MAX }
+    ensures goes_on { Puts (plan_text unplanned starts.now ends.now) result out.old out.new (W.written sink.old) (W.written sink.new) }
+    ensures size { OnOk result (size out.new ≤ size out.old + 5 + MOST_ROW * length starts.now) }
+    ensures failures { CountsFailure result (W.failures sink.old) (W.failures sink.new) }
+{
+    if unplanned {
+        return Ok(());
+    }
     out.put(b"plan\n", sink)?;
-    put_plan(out, &profile.starts, &profile.ends, sink)
+    put_plan(out, starts, ends, sink)
 }
 
 // Forms the numbers of a report and the line before its chain at the end of a room, and says where they begin.

@@ -68,7 +68,7 @@ fn drawn<R: Threads + Sync>(
             let plan = plan_for(alloc, wanted, run)?;
             plan_drawing(alloc, &subject, plan.as_ref())
         }
-        Picture::Curve => curve_of(rt, alloc, wanted, run, false),
+        Picture::Curve => curve_of(rt, alloc, wanted, run, None),
         Picture::Page => page_of(rt, alloc, wanted, run, &subject, program),
         Picture::Trace => {
             let plan = plan_for(alloc, wanted, run)?;
@@ -85,13 +85,13 @@ fn plan_for(alloc: Global, wanted: &Wanted, run: &NamedRun) -> Result<Option<Gre
     }
 }
 
-// The curve of a run, as lines or as a drawing.
+// The curve of a run, as lines in so many columns, or as a drawing.
 fn curve_of<R: Threads + Sync>(
     rt: &R,
     alloc: Global,
     wanted: &Wanted,
     run: &NamedRun,
-    in_lines: bool,
+    columns: Option<usize>,
 ) -> Result<String, AllocError> {
     let question = WhatIf::new(alloc, &run.rows, wanted.sharing)?;
     let most = match wanted.workers {
@@ -99,10 +99,9 @@ fn curve_of<R: Threads + Sync>(
         None => Workers::new(MOST_WORKERS).unwrap(),
     };
     let points = question.curve(rt, alloc, most)?;
-    if in_lines {
-        curve_text(alloc, question.work(), question.span(), &points)
-    } else {
-        curve_drawing(alloc, question.work(), question.span(), &points)
+    match columns {
+        Some(width) => curve_text(alloc, question.work(), question.span(), &points, width),
+        None => curve_drawing(alloc, question.work(), question.span(), &points),
     }
 }
 
@@ -133,7 +132,7 @@ fn lines<R: Threads + Sync>(
         text.push_str(workers_text(alloc, subject, plan, width)?.as_str())?;
     }
     if curve {
-        text.push_str(curve_of(rt, alloc, wanted, run, true)?.as_str())?;
+        text.push_str(curve_of(rt, alloc, wanted, run, Some(width))?.as_str())?;
     }
     Ok(text)
 }
@@ -149,7 +148,7 @@ fn page_of<R: Threads + Sync>(
 ) -> Result<String, AllocError> {
     let greedy = plan_for(alloc, wanted, run)?;
     let plan = plan_drawing(alloc, subject, greedy.as_ref())?;
-    let curve = curve_of(rt, alloc, wanted, run, false)?;
+    let curve = curve_of(rt, alloc, wanted, run, None)?;
     let spans = WhatIf::new(alloc, &run.rows, wanted.sharing)?.sweep(rt, alloc)?;
     let count = run.names.cowns.len().min(MOST_COWNS) as u32;
     let hot = hot_cowns(rt, alloc, &run.rows, wanted.sharing, count)?;

@@ -1,4 +1,4 @@
-//! The program `boc-view`: pictures of a run, from a program or a record on standard input to standard output.
+//! The program `boc-view`: pictures of a run, from a program or a record in a file or on standard input to standard output.
 #![tactic(auto)]
 
 mod answer;
@@ -9,7 +9,7 @@ use crate::answer::pictured;
 use crate::wanted::Wanted;
 use crate::words::{Asked, read_words};
 use boc_commands::{Fault, RunFile, Want, WordsFault, not_text};
-use boc_text::{Counted, put_out};
+use boc_text::{Bytes, Counted, put_out};
 use std::alloc::AllocError;
 use std::process::ExitCode;
 use std::sync::Wait;
@@ -27,7 +27,7 @@ const COLUMNS: usize = 100;
 enum Stop {
     // The words, the input or the run were refused, or a device failed.
     Fault(Fault),
-    // The file beside the input can't be read.
+    // The input's file, or the one beside the input, can't be read.
     File { path: String, error: io::Error },
 }
 
@@ -78,8 +78,16 @@ fn run(rt: HostRuntime, threads: &(impl Threads + Wait + Sync)) -> Result<(), St
         Asked::Picture(wanted) => {
             let beside = file_beside(rt, &wanted)?;
             let width = columns(rt, &wanted);
-            let mut input = Counted::new(rt.stdin());
-            pictured(threads, rt.alloc(), &wanted, beside, width, &mut input)?
+            match &wanted.input {
+                Some(path) => {
+                    let mut input = Bytes::new(bytes_of(rt, path.as_str())?);
+                    pictured(threads, rt.alloc(), &wanted, beside, width, &mut input)?
+                }
+                None => {
+                    let mut input = Counted::new(rt.stdin());
+                    pictured(threads, rt.alloc(), &wanted, beside, width, &mut input)?
+                }
+            }
         }
     };
     let mut output = Counted::new(rt.stdout());
@@ -108,16 +116,20 @@ fn file_beside(rt: HostRuntime, wanted: &Wanted) -> Result<Vec<u8>, Stop> {
     let Some(file) = &wanted.file else {
         return Ok(Vec::new(rt.alloc()));
     };
-    let path = match file {
-        RunFile::Record(path) | RunFile::Names(path) => path,
-    };
-    match fs::read(&rt, path.as_str()) {
+    match file {
+        RunFile::Record(path) | RunFile::Names(path) => bytes_of(rt, path.as_str()),
+    }
+}
+
+// The bytes of a file.
+fn bytes_of(rt: HostRuntime, path: &str) -> Result<Vec<u8>, Stop> {
+    match fs::read(&rt, path) {
         Ok(bytes) => Ok(bytes),
         Err(error) if error.kind() == io::ErrorKind::OutOfMemory => {
             Err(Stop::Fault(Fault::Means(Want::Memory)))
         }
         Err(error) => {
-            let path = String::from_str(rt.alloc(), path.as_str())?;
+            let path = String::from_str(rt.alloc(), path)?;
             Err(Stop::File { path, error })
         }
     }

@@ -28,6 +28,8 @@ pub(crate) struct Wanted {
     /// For how many workers there is a greedy plan.
     pub workers: Option<Workers>,
     pub sharing: Sharing,
+    /// The path of the file that the input is in, where it isn't standard input.
+    pub input: Option<String>,
     /// The file beside the input.
     pub file: Option<RunFile>,
     /// How many columns a text has, where that is given.

@@ -17,13 +17,13 @@ const MOST_COLUMNS: i64 = 1_000;
 
 // What holds of every picture.
 const COMMON: &str =
-    "A program, or the record of a run (its first word is `boc`), comes from standard input, and the picture goes to standard output. A program is
+    "A program, or the record of a run (its first word is `boc`), comes from FILE, or from standard input, and the picture goes to standard output. A program is
 run first, by one thread unless --workers or --seed says otherwise. What is drawn is the earliest plan of the run: each behaviour starts
 as soon as it is spawned and has its cowns. The chain is what holds the run back: its ticks add up to the span.
 
 The statuses are those of `boc`: 0 done, 2 wrong words, 3 a wrong input, 4 too many behaviours or no threads, 5 memory, a file or a device.
 
-Examples: boc-view text < program.boc; boc-view plan --p 4 < program.boc > plan.svg; boc run < program.boc | boc-view trace > trace.json";
+Examples: boc-view text program.boc; boc-view plan -p 4 program.boc > plan.svg; boc run < program.boc | boc-view trace > trace.json";
 
 /// What the words ask for.
 #[derive(Drop)]
@@ -129,16 +129,22 @@ fn file<'a>(alloc: Global, name: &'static str, help: &'static str) -> Arg<'a> {
         .help(help)
 }
 
-// A command with the options that all have.
+// A command with the operand and the options that all have.
 fn with_common<'a>(alloc: Global, command: Command<'a>) -> Result<Command<'a>, AllocError> {
     command
+        .arg(
+            Arg::new(alloc, "input").value_name("FILE").help(
+                "The program or the record; standard input if not given, or if it is `-`",
+            ),
+        )?
         .arg(number(
             alloc,
             "workers",
             "N",
             MOST_RUNNERS as u32,
             "Runs a program by N threads, 1 to 16; 1 if not given",
-        ))?
+        )
+        .short('w'))?
         .arg(
             Arg::new(alloc, "seed")
                 .long("seed")
@@ -161,7 +167,8 @@ fn with_common<'a>(alloc: Global, command: Command<'a>) -> Result<Command<'a>, A
             "P",
             MOST_WORKERS,
             "Shows the greedy plan for P workers, 1 to 64",
-        ))?
+        )
+        .short('p'))?
         .arg(flag(
             alloc,
             "shared-reads",
@@ -227,6 +234,7 @@ fn asked_of(alloc: Global, matches: &ArgMatches) -> Result<Asked, Fault> {
             Sharing::Exclusive
         },
         file,
+        input: input_at(alloc, matches)?,
         width: number_at(matches, "width"),
     }))
 }
@@ -276,4 +284,12 @@ fn text_at(alloc: Global, matches: &ArgMatches, id: &str) -> Result<Option<Strin
         Some(text) => Ok(Some(String::from_str(alloc, text)?)),
         None => Ok(None),
     }
+}
+
+// The path of the file that is read in place of standard input.
+fn input_at(alloc: Global, matches: &ArgMatches) -> Result<Option<String>, AllocError> {
+    if matches.get_str("input") == Some("-") {
+        return Ok(None);
+    }
+    text_at(alloc, matches, "input")
 }

@@ -1,5 +1,6 @@
 -- Of what is tried there is one list of candidates: one span is left with each remedy, and spans have one order.
-use Rattle.std.proofs.Common.{◌≡◌, ◌∙◌, ℕ, ◌<◌, ⊎_elim, Bool, true, false, List, [], ◌∷◌, ◌++◌, length, get_or, ap, arith, eqb, refl, subst, sym, Some}
+use Rattle.std.proofs.Common.{suc, ◌≡◌, ◌∙◌, ℕ, ◌<◌, ⊎_elim, Bool, true, false, List, [], ◌∷◌, ◌++◌, length, get_or, map, ap, ap₂, arith, eqb, refl, subst, sym}
+use Rattle.std.proofs.Common.{Some}
 use Rattle.std.specs.Prelude.{slice_get, slice_index}
 use Rattle.std.specs.List.{Contains, IsDistinct, list_any}
 use Rattle.std.proofs.lemmas.Bool.{ne_eqb}
@@ -22,9 +23,11 @@ use Rattle.boc_plans.specs.Greedy.{IsSpan}
 use Rattle.boc_plans.specs.Seen.{seen}
 use Rattle.boc_order.proofs.Alone.{one_span}
 use Rattle.boc_why.specs.declared.remedies.Candidate.{Candidate}
+use Rattle.boc_why.specs.declared.remedies.Placed.{Placed}
 use Rattle.boc_why.specs.declared.remedies.Remedy.{Remedy}
 use Rattle.boc_why.specs.declared.remedies.Remedy.TheVariants.{HalfCost, NoOrder, EarlySpawns}
 use Rattle.boc_why.specs.Causes.{def_edits, half, without_all}
+use Rattle.boc_why.specs.RemedySteps.{AreRanked}
 use Rattle.boc_why.specs.Remedies.{AreCandidates, IsRanking, IsSpanAfter, RanksBefore, members_of}
 use Rattle.boc_why.proofs.EarlySpawns.{one_early}
 use Rattle.boc_why.proofs.ShareLaws.{Ranked, ranked_from_places, same_ranked}
@@ -113,6 +116,26 @@ module _ (spans : List ℕ) where
   one_ranking places others a b = same_ranked (RanksBefore spans) ranks_once places others (ranked places a) (ranked others b)
       (λ place stands. all_places others b place (place_below places a place stands))
       (λ place stands. all_places places a place (place_below others b place stands))
+
+-- ---- spans with their places
+
+-- spans at the same places are the same
+same_placed : (spans : List ℕ) (xs ys : List Placed) → map (λ p. p.place) xs ≡ map (λ p. p.place) ys
+    → ((i : ℕ) (p : Placed) → slice_get xs i ≡ Some p → p.span ≡ slice_index spans p.place)
+    → ((i : ℕ) (p : Placed) → slice_get ys i ≡ Some p → p.span ≡ slice_index spans p.place) → xs ≡ ys
+same_placed spans [] [] same a b = refl
+same_placed spans [] (y ∷ ys) same a b = cc
+same_placed spans (x ∷ xs) [] same a b = cc
+same_placed spans (x ∷ xs) (y ∷ ys) same a b =
+    let place : x.place ≡ y.place = cc in
+    let rest : map (λ (p : Placed). p.place) xs ≡ map (λ (p : Placed). p.place) ys = cc in
+    let span : x.span ≡ y.span = a 0 x refl ∙ ap (slice_index spans) place ∙ sym (b 0 y refl) in
+    let first : x ≡ y = λ i. record { span = span i; place = place i } in
+    ap₂ ◌∷◌ first (same_placed spans xs ys rest (λ i p h. a (suc i) p h) (λ i p h. b (suc i) p h))
+
+-- and all spans have one order with their places
+pub one_ranked : (spans : List ℕ) (placed others : List Placed) → AreRanked spans placed → AreRanked spans others → placed ≡ others
+one_ranked spans placed others a b = same_placed spans placed others (one_ranking spans _ _ a.ranking b.ranking) a.each b.each
 
 -- ---- candidates
 

@@ -13,6 +13,6 @@ mod why;
 pub use causes::{Cause, def_edits, spans_with, spawn_early, without_all};
 pub use least::{Busiest, Least, least_end};
 pub use links::{Link, firsts, handed, links_of};
-pub use remedies::{Candidate, Remedy};
+pub use remedies::{Candidate, Placed, Remedy, ranked};
 pub use shares::{Share, defs_of, shares_of};
 pub use why::{Why, shares_by_def, why_of};

@@ -173,11 +173,11 @@ pub(crate) fn tried(
         .collect(alloc)
 }
 
-// A span, and the place at which it stands.
-#[derive(Clone, Copy)]
-struct Placed {
-    span: u64,
-    place: usize,
+/// A span, and the place at which it stands.
+#[derive(Clone, Copy, PartialEq, Eq, Debug)]
+pub struct Placed {
+    pub span: u64,
+    pub place: usize,
 }
 
 // All spans with their places. `AllocError` says that memory was refused.
@@ -191,9 +191,10 @@ fn placed_spans(alloc: Global, spans: &[u64]) -> Result<Vec<Placed>, AllocError>
     Ok(placed)
 }
 
-// All spans with their places, the least span first, and of equal ones the first. `AllocError` says that memory was refused.
-fn ranked(alloc: Global, spans: &[u64]) -> Result<Vec<Placed>, AllocError>
-    ensures { IfOk result (λ placed. AreRanked spans.now placed.items) }
+/// All spans with their places, the least span first, and of equal ones the first. `AllocError` says that memory was refused.
+pub fn ranked(alloc: Global, spans: &[u64]) -> Result<Vec<Placed>, AllocError>
+    ensures ranked { IfOk result (λ placed. AreRanked spans.now placed.items) }
+    ensures below { IfOk result (λ placed. All (λ p. p.place < length spans.now) placed.items) }
 {
     let mut placed = placed_spans(alloc, spans)?;
     placed.sort_unstable_by_key(|own| (own.span, own.place));

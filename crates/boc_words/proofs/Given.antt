@@ -1,6 +1,7 @@
 -- What was found for an argument.
 use Rattle.std.proofs.Common.{zero, suc, ◌≡◌, ◌∙◌, ◌+◌, ◌<◌, ◌≤◌, ℕ, List, [], ◌∷◌, ◌++◌, map, take, drop, length, get_or, Option, Some, None, Bool}
-use Rattle.std.proofs.Common.{false, sym, ap, refl, subst, arith, Bor}
+use Rattle.std.proofs.Common.{false, String, sym, ap, refl, subst, arith, Bor}
+use Rattle.std.specs.Global.{Global}
 use Rattle.std.specs.Prelude.{option_map, unwrap_or, ◌==◌, ◌↔◌, IsTrue}
 use Rattle.std.specs.Str.{bytes_eq}
 use Rattle.std.proofs.lemmas.Slice.Eq.{bytes_eq-Decides}
@@ -13,7 +14,7 @@ use Rattle.boc_words.specs.Commands.{IsNumberOf, NumberOption}
 use Rattle.boc_words.specs.declared.asked.AskedCown.{AskedCown}
 use Rattle.boc_words.specs.declared.asked.AskedEdit.{AskedEdit}
 use Rattle.boc_words.specs.EditWords.{IsEditWord, IsWritable, edit_word}
-use Rattle.boc_words.specs.Words.{HasNoNumber, IsCownText, IsFirstMisspelt, IsGiven, values_at}
+use Rattle.boc_words.specs.Words.{HasNoNumber, IsCownText, IsFirstMisspelt, IsGiven, IsPathOf, values_at}
 
 -- the texts behind what was found, or none
 pub read : (found : Option (Bor (List (Bor (List ℕ))))) (r : Bor (List (Bor (List ℕ)))) (IsDefault : Bor (List (Bor (List ℕ))) → Type 0)
@@ -124,3 +125,8 @@ one_text_is (text ∷ []) d word r some one is = (
   (λ same. (let e : text.now ≡ word = cc in is ∙ (bytes_eq-Decides text.now word).1 e)),
 )
 one_text_is (text ∷ more ∷ texts) d word r some one is = absurd (omega (arith, one))
+
+-- one path at most is no two
+pub one_path : (paths : List (List ℕ)) (path : Option (String Global)) → IsPathOf paths path → 2 ≤ length paths → ⊥
+one_path paths None none two = let e : length paths ≡ 0 = ap length none in omega (arith, two, e)
+one_path paths (Some path) is two = let e : length paths ≡ 1 = ap length is in omega (arith, two, e)

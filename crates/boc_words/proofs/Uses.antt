@@ -1,5 +1,5 @@
 -- What each use of an argument keeps: at most one number for each option.
-use Rattle.std.proofs.Common.{suc, ◌≡◌, ◌∙◌, ◌&&◌, ◌==◌, ◌++◌, ℕ, Bool, true, false, not, List, [], ◌∷◌, Some, None, refl, ap}
+use Rattle.std.proofs.Common.{suc, ◌≡◌, ◌∙◌, ◌&&◌, ◌==◌, ◌++◌, ℕ, Bool, true, false, not, List, [], ◌∷◌, Option, Some, None, refl, ap}
 use Rattle.std.proofs.Common.{ap₂, sym, subst, length, codes, eqb-true, arith}
 use Rattle.std.specs.Prelude.{if◌then◌else◌}
 use Rattle.std.specs.List.{list_all}
@@ -19,7 +19,7 @@ use Rattle.clap.specs.declared.parser.matches.ValueSource.{ValueSource}
 use Rattle.clap.specs.declared.parser.matches.ValueSource.TheVariants.{CommandLine, DefaultValue}
 use Rattle.boc_words.specs.declared.arguments.Numbers.{Numbers}
 use Rattle.boc_words.specs.declared.arguments.Numbers.TheVariants.{UpTo, Every}
-use Rattle.boc_words.specs.Commands.{Argument, NumberOption, flag, number, operands, parser_of, repeated, rule_at}
+use Rattle.boc_words.specs.Commands.{Argument, NumberOption, flag, number, operand, operands, parser_of, repeated, rule_at}
 use Rattle.boc_words.proofs.Numbers.{HasOne, HaveOne, IsOne, other_rows, row_added, row_passed, row_read}
 use Rattle.boc_words.proofs.Walks.{Fine, KeepsDefault, bare, neither}
 
@@ -154,6 +154,31 @@ keep_flag i id other differs rows good = go (has_row id rows) refl
         subst (HasOne other) (sym (row_added id (more_values DefaultValue (codes "false" ∷ [])) (row ∷ []) rows is))
         (row_kept other rows row differs good)
 
+-- ---- one word
+
+-- the row of the word
+abbrev row_of_operand : ℕ → Text → List Text → Row
+row_of_operand i id values =
+    record { id = id; values = values; count = None; source = Some CommandLine; reading = reading_by (built_at i (operand id)) }
+
+-- a use of it adds a row
+used_operand : (i : ℕ) (id : Text) (values : List Text) (rows : List Row) → has_row id rows ≡ false
+    → used (built_at i (operand id)) values rows
+    ≡ rows ++ (row_of_operand i id (values_or_missing (built_at i (operand id)) values) ∷ [])
+used_operand i id values rows clear =
+    let texts : List Text = values_or_missing (built_at i (operand id)) values in
+    let row : Row = row_of_operand i id texts in
+    ap (at_row id (more_values CommandLine texts) (row ∷ [])) (row_added id (λ _. []) [] rows clear ∙ append-nil rows)
+    ∙ row_added id (more_values CommandLine texts) (row ∷ []) rows clear
+
+fine_operand : (i : ℕ) (id : Text) (other : NumberOption) → bytes_eq id other.id ≡ false → Fine (HasOne other) false (built_at i (operand id))
+fine_operand i id other differs values rows none good =
+    let texts : List Text = values_or_missing (built_at i (operand id)) values in
+    let set = neither (range_kinds 1 1 (length values)) (set_fault false (built_at i (operand id)) texts rows) none in
+    let once = neither (repeat_fault false id rows) (values_fault (built_at i (operand id)) texts) set.1 in
+    subst (HasOne other) (sym (used_operand i id values rows (not_there id rows once.0)))
+    (row_kept other rows (row_of_operand i id texts) differs good)
+
 -- ---- texts and words
 
 -- each use of the argument adds texts to its row
@@ -196,16 +221,35 @@ same_numbers-is Every Every same = refl
 same_numbers-is (UpTo a) Every same = cc
 same_numbers-is Every (UpTo b) same = cc
 
-same_option : (a b : NumberOption) → a.id ≡ b.id → a.numbers ≡ b.numbers → a ≡ b
-same_option a b ids numbers =
-    let make : Text → Numbers → NumberOption = λ id n. record { id = id; numbers = n } in
-    ap₂ make ids numbers
+abbrev pub same_letter : Option ℕ → Option ℕ → Bool
+same_letter None None = true
+same_letter (Some a) (Some b) = a == b
+same_letter None (Some b) = false
+same_letter (Some a) None = false
+
+same_letter-is : (a b : Option ℕ) → same_letter a b ≡ true → a ≡ b
+same_letter-is None None same = refl
+same_letter-is (Some a) (Some b) same = ap Some (eqb-true a b same)
+same_letter-is None (Some b) same = cc
+same_letter-is (Some a) None same = cc
+
+-- options that are alike but for their names
+abbrev pub alike : NumberOption → NumberOption → Bool
+alike a b = same_letter a.letter b.letter && same_numbers a.numbers b.numbers
+
+same_option : (a b : NumberOption) → a.id ≡ b.id → alike a b ≡ true → a ≡ b
+same_option a b ids same =
+    let both = and_parts (same_letter a.letter b.letter) (same_numbers a.numbers b.numbers) same in
+    let make : Text → Option ℕ → Numbers → NumberOption = λ id l n. record { id = id; letter = l; numbers = n } in
+    ap (λ id. make id a.letter a.numbers) ids
+    ∙ ap₂ (make b.id) (same_letter-is a.letter b.letter both.0) (same_numbers-is a.numbers b.numbers both.1)
 
 -- an option's number stays one: the argument has another name, or is the option
 abbrev pub keeps : Argument → NumberOption → Bool
-keeps (number option) other = if bytes_eq option.id other.id then same_numbers option.numbers other.numbers else true
+keeps (number option) other = if bytes_eq option.id other.id then alike option other else true
 keeps (flag id) other = not (bytes_eq id other.id)
 keeps (repeated id) other = not (bytes_eq id other.id)
+keeps (operand id) other = not (bytes_eq id other.id)
 keeps (operands id) other = not (bytes_eq id other.id)
 
 not_true : (b : Bool) → not b ≡ true → b ≡ false
@@ -215,16 +259,17 @@ not_true false is = refl
 fine_at : (a : Argument) (i : ℕ) (other : NumberOption) → keeps a other ≡ true → Fine (HasOne other) false (built_at i a)
 fine_at (number option) i other keep = go (bytes_eq option.id other.id) refl keep
   where
-    go : (b : Bool) → bytes_eq option.id other.id ≡ b → (if b then same_numbers option.numbers other.numbers else true) ≡ true
+    go : (b : Bool) → bytes_eq option.id other.id ≡ b → (if b then alike option other else true) ≡ true
         → Fine (HasOne other) false (built_at i (number option))
     go true same fits =
         let ids : option.id ≡ other.id = (bytes_eq-Decides option.id other.id).0 same in
-        let is : option ≡ other = same_option option other ids (same_numbers-is option.numbers other.numbers fits) in
+        let is : option ≡ other = same_option option other ids fits in
         subst (λ (o : NumberOption). Fine (HasOne o) false (built_at i (number option))) is (fine_own i option)
     go false differs fits = fine_other i option other differs
 fine_at (flag id) i other keep = fine_flag i id other (not_true (bytes_eq id other.id) keep)
 fine_at (repeated id) i other keep =
     fine_texts id (built_at i (repeated id)) other (not_true (bytes_eq id other.id) keep) (λ values rows. refl)
+fine_at (operand id) i other keep = fine_operand i id other (not_true (bytes_eq id other.id) keep)
 fine_at (operands id) i other keep =
     fine_texts id (built_at i (operands id)) other (not_true (bytes_eq id other.id) keep) (λ values rows. refl)
 
@@ -232,6 +277,7 @@ keep_at : (a : Argument) (i : ℕ) (other : NumberOption) → keeps a other ≡ 
 keep_at (number option) i other keep = bare (HasOne other) (built_at i (number option)) refl
 keep_at (flag id) i other keep = keep_flag i id other (not_true (bytes_eq id other.id) keep)
 keep_at (repeated id) i other keep = bare (HasOne other) (built_at i (repeated id)) refl
+keep_at (operand id) i other keep = bare (HasOne other) (built_at i (operand id)) refl
 keep_at (operands id) i other keep = bare (HasOne other) (built_at i (operands id)) refl
 
 -- and so do the numbers of all options

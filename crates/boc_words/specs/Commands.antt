@@ -1,12 +1,13 @@
 -- The commands, and which arguments each takes.
-use Rattle.std.specs.Prelude.{◌<◌, ◌≤◌, ◌-◌, ◌^◌, ℕ, List, [], ◌∷◌, Some, map, pos, codes}
+use Rattle.std.specs.Prelude.{◌<◌, ◌≤◌, ◌-◌, ◌^◌, ℕ, List, [], ◌∷◌, Option, Some, None, map, pos, codes}
+use Rattle.std.specs.Str.{byte}
 use Rattle.clap.specs.Lexer.{usize_max}
 use Rattle.clap.specs.Simple.{new_shape}
 use Rattle.clap.specs.Words.{App, Rule, Shape, Text, new_rule}
 use Rattle.clap.specs.declared.builder.action.ArgAction.TheVariants as actions
 use Rattle.clap.specs.declared.builder.value_parser.ValueParser.{ValueParser}
 use Rattle.clap.specs.declared.builder.value_parser.ValueParser.TheVariants as parsers
-use Rattle.boc_program.specs.declared.limits.TheConstants.{MOST_COWNS, MOST_RUNNERS, MOST_WORKERS}
+use Rattle.boc_program.specs.declared.limits.TheConstants.{MOST_COWNS, MOST_ROWS, MOST_RUNNERS, MOST_WORKERS}
 use Rattle.boc_draws.specs.declared.way.TheConstants.{MOST_DEPTH}
 use Rattle.boc_outcomes.specs.declared.asked.TheConstants.{MOST_RUNS}
 use Rattle.boc_words.specs.declared.arguments.Numbers.{Numbers}
@@ -16,45 +17,52 @@ use Rattle.boc_words.specs.declared.commands.Kind.TheVariants as kinds
 
 -- ---- what a command may take
 
--- an option with a number, `--ID NUMBER`, and which numbers it takes
+-- an option with a number, `--ID NUMBER` or with a letter too `-LETTER NUMBER`, and which numbers it takes
 pub record NumberOption : Type 0 where
   pub id : Text
+  pub letter : Option ℕ
   pub numbers : Numbers
 
--- an argument: an option with a number; a flag, `--ID`; an option with a text, `--ID TEXT`, that may be given many times; or any number of words
+-- an argument: an option with a number; a flag, `--ID`; an option with a text, `--ID TEXT`, that may be given many times; one word; or any number
+-- of words
 pub data Argument : Type 0 where
   number : NumberOption → Argument
   flag : Text → Argument
   repeated : Text → Argument
+  operand : Text → Argument
   operands : Text → Argument
 
--- `--workers N`, of so many threads that run a program
+-- `--workers N` or `-w N`, of so many threads that run a program
 abbrev pub runners_option : NumberOption
-runners_option = record { id = codes "workers"; numbers = UpTo MOST_RUNNERS }
+runners_option = record { id = codes "workers"; letter = Some (byte "w"); numbers = UpTo MOST_RUNNERS }
 
--- `--p P`, of so many workers of a greedy plan, or of up to so many
+-- `--p P` or `-p P`, of so many workers of a greedy plan, or of up to so many
 abbrev pub workers_option : NumberOption
-workers_option = record { id = codes "p"; numbers = UpTo MOST_WORKERS }
+workers_option = record { id = codes "p"; letter = Some (byte "p"); numbers = UpTo MOST_WORKERS }
 
 -- `--seed S`, by which the worker that moves next is picked
 abbrev pub seed_option : NumberOption
-seed_option = record { id = codes "seed"; numbers = Every }
+seed_option = record { id = codes "seed"; letter = None; numbers = Every }
 
 -- `--top K`, of so many cowns at the most
 abbrev pub top_option : NumberOption
-top_option = record { id = codes "top"; numbers = UpTo MOST_COWNS }
+top_option = record { id = codes "top"; letter = None; numbers = UpTo MOST_COWNS }
 
 -- `--depth D`, of priorities with so many points less one at which the worker that would move falls to the last
 abbrev pub depth_option : NumberOption
-depth_option = record { id = codes "depth"; numbers = UpTo MOST_DEPTH }
+depth_option = record { id = codes "depth"; letter = None; numbers = UpTo MOST_DEPTH }
 
 -- `--runs K`, of so many runs that are drawn
 abbrev pub runs_option : NumberOption
-runs_option = record { id = codes "runs"; numbers = UpTo MOST_RUNS }
+runs_option = record { id = codes "runs"; letter = None; numbers = UpTo MOST_RUNS }
+
+-- `--best K`, of so many lines of a sweep at the most
+abbrev pub best_option : NumberOption
+best_option = record { id = codes "best"; letter = None; numbers = UpTo MOST_ROWS }
 
 -- every option with a number
 abbrev pub number_options : List NumberOption
-number_options = runners_option ∷ seed_option ∷ workers_option ∷ top_option ∷ depth_option ∷ runs_option ∷ []
+number_options = runners_option ∷ seed_option ∷ workers_option ∷ top_option ∷ depth_option ∷ runs_option ∷ best_option ∷ []
 
 -- `--shared-reads`
 abbrev pub sharing_flag : Argument
@@ -76,6 +84,10 @@ all_flag = flag (codes "all")
 abbrev pub quiet_flag : Argument
 quiet_flag = flag (codes "quiet")
 
+-- `--no-plan`, by which the rows of plans are left out
+abbrev pub no_plan_flag : Argument
+no_plan_flag = flag (codes "no-plan")
+
 -- `--without COWN`, as often as one likes
 abbrev pub without_option : Argument
 without_option = repeated (codes "without")
@@ -96,7 +108,11 @@ record_file = codes "record"
 abbrev pub names_file : Text
 names_file = codes "names"
 
--- the words of edits
+-- the file that the input is read from
+abbrev pub input_operand : Argument
+input_operand = operand (codes "file")
+
+-- the words of edits, and the one of the file that the input is read from
 abbrev pub edits_operands : Argument
 edits_operands = operands (codes "edits")
 
@@ -104,32 +120,37 @@ edits_operands = operands (codes "edits")
 
 -- the name of a command, and which arguments it takes
 abbrev pub signature_of : Kind → Text × List Argument
-signature_of kinds.Values = (codes "values", repeated record_file ∷ quiet_flag ∷ [])
-signature_of kinds.Check = (codes "check", repeated program_file ∷ [])
-signature_of kinds.Run = (codes "run", number runners_option ∷ number seed_option ∷ number depth_option ∷ quiet_flag ∷ [])
-signature_of kinds.Profile = (codes "profile", number workers_option ∷ sharing_flag ∷ quiet_flag ∷ [])
+signature_of kinds.Values = (codes "values", repeated record_file ∷ quiet_flag ∷ input_operand ∷ [])
+signature_of kinds.Check = (codes "check", repeated program_file ∷ input_operand ∷ [])
+signature_of kinds.Run =
+    (codes "run", number runners_option ∷ number seed_option ∷ number depth_option ∷ quiet_flag ∷ input_operand ∷ [])
+signature_of kinds.Profile =
+    (codes "profile", number workers_option ∷ sharing_flag ∷ no_plan_flag ∷ quiet_flag ∷ input_operand ∷ [])
 signature_of kinds.Time = (
   codes "time",
-  number runners_option ∷ number seed_option ∷ number depth_option ∷ number workers_option ∷ sharing_flag ∷ quiet_flag ∷ [],
+  number runners_option ∷ number seed_option ∷ number depth_option ∷ number workers_option ∷ sharing_flag ∷ no_plan_flag ∷ quiet_flag
+      ∷ input_operand ∷ [],
 )
 signature_of kinds.WhatIf = (
   codes "whatif",
-  number workers_option ∷ sharing_flag ∷ without_option ∷ repeated program_file ∷ repeated names_file ∷ short_flag ∷ edits_operands ∷ [],
+  number workers_option ∷ sharing_flag ∷ without_option ∷ repeated program_file ∷ repeated names_file ∷ short_flag ∷ no_plan_flag
+      ∷ edits_operands ∷ [],
 )
-signature_of kinds.Curve = (codes "curve", number workers_option ∷ sharing_flag ∷ [])
-signature_of kinds.Sweep = (codes "sweep", number workers_option ∷ cowns_flag ∷ spawns_flag ∷ sharing_flag ∷ [])
+signature_of kinds.Curve = (codes "curve", number workers_option ∷ sharing_flag ∷ input_operand ∷ [])
+signature_of kinds.Sweep =
+    (codes "sweep", number workers_option ∷ cowns_flag ∷ spawns_flag ∷ sharing_flag ∷ number best_option ∷ input_operand ∷ [])
 signature_of kinds.Why = (
   codes "why",
   number runners_option ∷ number seed_option ∷ number depth_option ∷ number workers_option ∷ sharing_flag ∷ repeated record_file
-      ∷ repeated names_file ∷ all_flag ∷ quiet_flag ∷ [],
+      ∷ repeated names_file ∷ all_flag ∷ quiet_flag ∷ input_operand ∷ [],
 )
 signature_of kinds.Cowns = (
   codes "cowns",
   number runners_option ∷ number seed_option ∷ number depth_option ∷ sharing_flag ∷ repeated record_file ∷ repeated names_file
-      ∷ number top_option ∷ quiet_flag ∷ [],
+      ∷ number top_option ∷ quiet_flag ∷ input_operand ∷ [],
 )
 signature_of kinds.Outcomes =
-    (codes "outcomes", number runs_option ∷ number seed_option ∷ number runners_option ∷ number depth_option ∷ [])
+    (codes "outcomes", number runs_option ∷ number seed_option ∷ number runners_option ∷ number depth_option ∷ input_operand ∷ [])
 
 -- the files that a command may read beside its input, of which it takes one
 abbrev pub files_of : Kind → List Text
@@ -165,6 +186,7 @@ parser_of Every = parsers.Unsigned 0 (2 ^ 64 - 1)
 abbrev pub rule_at : Argument → Rule
 rule_at (number option) = record (new_rule option.id) {
   long = Some option.id;
+  short = option.letter;
   value_names = 1;
   parser = Some (parser_of option.numbers);
 }
@@ -177,6 +199,7 @@ rule_at (repeated id) = record (new_rule id) {
   value_names = 1;
   action = Some actions.Append;
 }
+rule_at (operand id) = record (new_rule id) { value_names = 1 }
 rule_at (operands id) = record (new_rule id) {
   value_names = 1;
   range = Some (record { start_inclusive = 0; end_inclusive = usize_max });

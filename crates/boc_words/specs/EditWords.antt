@@ -1,5 +1,6 @@
 -- The words of edits.
-use Rattle.std.specs.Prelude.{◌≡◌, ◌≢◌, ◌<◌, ◌≤◌, ◌^◌, ◌++◌, ◌⊎◌, ℕ, List, length, get_or, codes, decimal, string_bytes}
+use Rattle.std.specs.Prelude.{◌≡◌, ◌≢◌, ◌<◌, ◌≤◌, ◌^◌, ◌++◌, ◌⊎◌, ◌==◌, ◌||◌, ℕ, Bool, List, length, get_or, codes, decimal, string_bytes}
+use Rattle.std.specs.List.{list_any}
 use Rattle.std.specs.Int.{IsInRange}
 use Rattle.boc_program.specs.declared.limits.TheConstants.{MOST_PART}
 use Rattle.boc_plans.specs.declared.edit.Change.{Change}
@@ -45,6 +46,14 @@ HasOther text = (i : ℕ) × (i < length text) × (IsInRange 48 57 (get_or text 
 -- an equals sign
 abbrev pub equals_sign : ℕ
 equals_sign = 61
+
+-- an at sign
+abbrev pub at_sign : ℕ
+at_sign = 64
+
+-- whether the word looks like an edit: it has an equals sign or an at sign
+abbrev pub is_edit : List ℕ → Bool
+is_edit word = list_any (λ b. (b == equals_sign) || (b == at_sign)) word
 
 -- the edit has only numbers that an edit can have; and a name has no equals sign, and is not of digits alone, as a row's number is
 abbrev pub IsWritable : AskedEdit → Type 0

@@ -1,8 +1,8 @@
 -- What the words of a command line ask for.
 use Rattle.std.specs.Prelude.{◌≡◌, ◌<◌, ◌≤◌, ◌+◌, ◌^◌, ◌++◌, ◌⊎◌, ◌≢◌, ℕ, List, [], ◌∷◌, Option, Some, None, Bool, true, false, String}
-use Rattle.std.specs.Prelude.{map, fold, unwrap_or, length, codes, string_bytes}
+use Rattle.std.specs.Prelude.{map, fold, not, unwrap_or, length, codes, string_bytes}
 use Rattle.std.specs.Global.{Global}
-use Rattle.std.specs.List.{All, AllZip, sum_by}
+use Rattle.std.specs.List.{All, AllZip, filter, sum_by}
 use Rattle.std.specs.Str.Parse.{IsNumeral, digits_value, without_leading_plus}
 use Rattle.clap.specs.Kinds.{IsAmong}
 use Rattle.clap.specs.Simple.{on_top}
@@ -21,16 +21,18 @@ use Rattle.boc_words.specs.declared.fault.WordsFault.{WordsFault}
 use Rattle.boc_words.specs.declared.fault.WordsFault.TheVariants as faults
 use Rattle.boc_words.specs.declared.words.Command.{Command}
 use Rattle.boc_words.specs.declared.words.Command.TheVariants as commands
+use Rattle.boc_words.specs.declared.words.CommandLine.{CommandLine}
 use Rattle.boc_words.specs.declared.commands.Kind.{Kind}
 use Rattle.boc_words.specs.declared.commands.Kind.TheVariants as called
 use Rattle.boc_words.specs.Commands.{Argument, IsNumberOf, NumberOption, commands_of_boc, number_options, shape_of_command, signature_of}
-use Rattle.boc_words.specs.Commands.{depth_option, files_of, names_file, program_file, record_file, runners_option, runs_option, seed_option}
+use Rattle.boc_words.specs.Commands.{best_option, depth_option, files_of, names_file, program_file, record_file, runners_option, runs_option, seed_option}
 use Rattle.boc_words.specs.Commands.{top_option, workers_option}
-use Rattle.boc_words.specs.EditWords.{IsEditWord, IsWritable, edit_word}
+use Rattle.boc_words.specs.EditWords.{IsEditWord, IsWritable, edit_word, is_edit}
 use Rattle.boc_words.specs.declared.asked.AskedCown.{AskedCown}
 use Rattle.boc_words.specs.declared.asked.AskedCown.TheVariants as cowns
 use Rattle.boc_words.specs.declared.asked.AskedDraws.{AskedDraws}
 use Rattle.boc_words.specs.declared.asked.AskedEdit.{AskedEdit}
+use Rattle.boc_words.specs.declared.asked.AskedPlans.{AskedPlans}
 use Rattle.boc_words.specs.declared.asked.NamesFrom.{NamesFrom}
 use Rattle.boc_words.specs.declared.asked.NamesFrom.TheVariants as named
 use Rattle.boc_words.specs.declared.asked.RunFile.{RunFile}
@@ -153,10 +155,27 @@ IsCownText text (cowns.Name name) = (string_bytes name ≡ text) × ((number : �
 abbrev pub AreCowns : List Row → List AskedCown → Type 0
 AreCowns rows cowns = AllZip IsCownText (values_at rows (codes "without")) cowns
 
+-- there is no such text, or it is this path
+abbrev pub IsPathOf : List Text → Option (String Global) → Type 0
+IsPathOf texts None = texts ≡ []
+IsPathOf texts (Some path) = texts ≡ string_bytes path ∷ []
+
 -- the file was not given, or it was, with this path
 abbrev pub GivesFile : List Row → Text → Option (String Global) → Type 0
-GivesFile rows file None = values_at rows file ≡ []
-GivesFile rows file (Some path) = values_at rows file ≡ string_bytes path ∷ []
+GivesFile rows file path = IsPathOf (values_at rows file) path
+
+-- the words that are given as edits: those that look like one
+abbrev pub edit_words : List Row → List Text
+edit_words rows = filter is_edit (values_at rows (codes "edits"))
+
+-- the words that name the file of the input, of which a command takes one: of `whatif` those that don't look like edits
+abbrev pub input_words : Kind → List Row → List Text
+input_words called.WhatIf rows = filter (λ word. not (is_edit word)) (values_at rows (codes "edits"))
+input_words _ rows = values_at rows (codes "file")
+
+-- the input comes from no file, or from this one
+abbrev pub ReadsFrom : Kind → List Row → Option (String Global) → Type 0
+ReadsFrom kind rows input = IsPathOf (input_words kind rows) input
 
 -- no file was given, or the one with the record of the run, or the one with the names
 abbrev pub IsRunFile : List Row → Option RunFile → Type 0
@@ -183,6 +202,15 @@ abbrev pub IsQuiet : List Row → Bool → Type 0
 IsQuiet rows true = IsSet rows (codes "quiet")
 IsQuiet rows false = IsUnset rows (codes "quiet")
 
+-- `--no-plan` was given, and the rows of plans are left out, or it was not
+abbrev pub IsUnplanned : List Row → Bool → Type 0
+IsUnplanned rows true = IsSet rows (codes "no-plan")
+IsUnplanned rows false = IsUnset rows (codes "no-plan")
+
+-- these plans were asked for: the greedy one by `--p`, and none of their rows by `--no-plan`
+abbrev pub ArePlans : List Row → AskedPlans → Type 0
+ArePlans rows plans = AreWorkers rows plans.workers × IsUnplanned rows plans.unplanned
+
 -- `--short` was given, and the numbers before and after are told, or it was not
 abbrev pub IsShort : List Row → Bool → Type 0
 IsShort rows true = IsSet rows (codes "short")
@@ -198,10 +226,14 @@ abbrev pub MissesNumber : List NumberOption → List Row → Type 0
 MissesNumber [] rows = ⊥
 MissesNumber (option ∷ more) rows = HasNoNumber option rows ⊎ MissesNumber more rows
 
--- the words given as edits are those of these edits, in their order, each with what such a word can have
-pub record AreEdits (rows : List Row) (edits : List AskedEdit) : Type 0 where
-  pub words : values_at rows (codes "edits") ≡ map edit_word edits
+-- the words are those of these edits, in their order, each with what such a word can have
+pub record AreEditsOf (words : List Text) (edits : List AskedEdit) : Type 0 where
+  pub words_are : words ≡ map edit_word edits
   pub writable : All IsWritable edits
+
+-- the words given as edits are those of these edits
+abbrev pub AreEdits : List Row → List AskedEdit → Type 0
+AreEdits rows edits = AreEditsOf (edit_words rows) edits
 
 -- of these words the one with this number, counted from 1, is the first that is no edit
 pub record IsFirstMisspelt (words : List (List ℕ)) (number : ℕ) : Type 0 where
@@ -225,11 +257,25 @@ IsOfNumber option rows (faults.Parser e) = HasNoNumber option rows
 IsOfNumber option rows faults.Memory = Unit {0}
 IsOfNumber option rows _ = ⊥
 
--- the fault names the first word that is no edit, or says that memory was refused
+-- the fault names the first of these words that is no edit, or says that memory was refused
+abbrev pub IsOfWords : List Text → WordsFault → Type 0
+IsOfWords words (faults.EditWord number) = IsFirstMisspelt words number
+IsOfWords words faults.Memory = Unit {0}
+IsOfWords words _ = ⊥
+
+-- and of the words given as edits
 abbrev pub IsOfEditWords : List Row → WordsFault → Type 0
-IsOfEditWords rows (faults.EditWord number) = IsFirstMisspelt (values_at rows (codes "edits")) number
-IsOfEditWords rows faults.Memory = Unit {0}
-IsOfEditWords rows _ = ⊥
+IsOfEditWords rows fault = IsOfWords (edit_words rows) fault
+
+-- the fault is a conflict of more paths than one, or says that memory was refused
+abbrev pub IsOfPaths : List Text → WordsFault → Type 0
+IsOfPaths paths (faults.Parser e) = (kind_of e ≡ kinds.ArgumentConflict) × (2 ≤ length paths)
+IsOfPaths paths faults.Memory = Unit {0}
+IsOfPaths paths _ = ⊥
+
+-- and of those of files to read the input from
+abbrev pub IsOfInput : Kind → List Row → WordsFault → Type 0
+IsOfInput kind rows fault = IsOfPaths (input_words kind rows) fault
 
 -- the fault is a conflict of options that are at odds, or says that the number behind `--p` cannot be read, or that memory was refused
 abbrev pub IsOfSweep : List Row → WordsFault → Type 0
@@ -269,15 +315,16 @@ abbrev pub Asks : Kind → List Row → Command → Type 0
 Asks kind rows (commands.Values record_path quiet) = (kind ≡ called.Values) × GivesFile rows record_file record_path × IsQuiet rows quiet
 Asks kind rows (commands.Check program_path) = (kind ≡ called.Check) × GivesFile rows program_file program_path
 Asks kind rows (commands.Run schedule quiet) = (kind ≡ called.Run) × IsSchedule rows schedule × IsQuiet rows quiet
-Asks kind rows (commands.Profile workers sharing quiet) =
-    (kind ≡ called.Profile) × AreWorkers rows workers × AreShared rows sharing × IsQuiet rows quiet
-Asks kind rows (commands.Time schedule workers sharing quiet) =
-    (kind ≡ called.Time) × IsSchedule rows schedule × AreWorkers rows workers × AreShared rows sharing × IsQuiet rows quiet
-Asks kind rows (commands.WhatIf cowns edits workers sharing names short) =
-    (kind ≡ called.WhatIf) × AreCowns rows cowns.items × AreEdits rows edits.items × AreWorkers rows workers × AreShared rows sharing
+Asks kind rows (commands.Profile plans sharing quiet) =
+    (kind ≡ called.Profile) × ArePlans rows plans × AreShared rows sharing × IsQuiet rows quiet
+Asks kind rows (commands.Time schedule plans sharing quiet) =
+    (kind ≡ called.Time) × IsSchedule rows schedule × ArePlans rows plans × AreShared rows sharing × IsQuiet rows quiet
+Asks kind rows (commands.WhatIf cowns edits plans sharing names short) =
+    (kind ≡ called.WhatIf) × AreCowns rows cowns.items × AreEdits rows edits.items × ArePlans rows plans × AreShared rows sharing
     × AreNamesFrom rows names × IsShort rows short
 Asks kind rows (commands.Curve most sharing) = (kind ≡ called.Curve) × AreUpTo rows most × AreShared rows sharing
-Asks kind rows (commands.Sweep over sharing) = (kind ≡ called.Sweep) × IsOver rows over × AreShared rows sharing
+Asks kind rows (commands.Sweep over sharing best) =
+    (kind ≡ called.Sweep) × IsOver rows over × AreShared rows sharing × GivesNumber best_option rows best
 Asks kind rows (commands.Why schedule workers sharing file all quiet) =
     (kind ≡ called.Why) × IsSchedule rows schedule × AreWorkers rows workers × AreShared rows sharing × IsRunFile rows file × IsAll rows all
     × IsQuiet rows quiet
@@ -288,9 +335,9 @@ Asks kind rows (commands.Outcomes draws) = (kind ≡ called.Outcomes) × AreDraw
 Asks kind rows (commands.Help text) = ⊥
 Asks kind rows commands.Version = ⊥
 
--- what was named asks for this
-abbrev pub IsNamed : Option (List ℕ × List Row) → Command → Type 0
-IsNamed named command = (kind : Kind) × Names named kind (λ rows. Asks kind rows command)
+-- what was named asks for this, with the input from there
+abbrev pub IsNamed : Option (List ℕ × List Row) → CommandLine → Type 0
+IsNamed named line = (kind : Kind) × Names named kind (λ rows. Asks kind rows line.command × ReadsFrom kind rows line.input)
 
 -- the name is that of none of these commands
 abbrev pub IsNoneOf : Text → List (Text × List Argument) → Type 0
@@ -309,19 +356,28 @@ HasNoNumbers named = (kind : Kind) × Names named kind (MissesNumber number_opti
 abbrev pub HasSchedule : Kind → Type 0
 HasSchedule kind = (kind ≡ called.Run) ⊎ ((kind ≡ called.Time) ⊎ ((kind ≡ called.Why) ⊎ (kind ≡ called.Cowns)))
 
+-- more than one file is given for the input
+abbrev pub HasInputs : Kind → List Row → Type 0
+HasInputs kind rows = 2 ≤ length (input_words kind rows)
+
 -- what the parser takes for this command does not fit, for a conflict: of a sweep, options that are at odds; of a command that runs a program by a
--- schedule, a depth without a seed; of any command, more files than one
+-- schedule, a depth without a seed; of any command, more files than one beside its input, or for it
 pub record IsUnfit (kind : Kind) (rows : List Row) (error : ErrorKind) : Type 0 where
   pub conflict : error ≡ kinds.ArgumentConflict
-  pub why : ((kind ≡ called.Sweep) × AreAtOdds rows) ⊎ ((HasSchedule kind × LacksSeed rows) ⊎ AreTooMany (files_of kind) rows)
+  pub why : ((kind ≡ called.Sweep) × AreAtOdds rows) ⊎ ((HasSchedule kind × LacksSeed rows)
+      ⊎ (AreTooMany (files_of kind) rows ⊎ HasInputs kind rows))
 
 -- a command was named, and what was found for it does not fit, for an error of this kind
 abbrev pub HasUnfit : Option (List ℕ × List Row) → ErrorKind → Type 0
 HasUnfit named error = (kind : Kind) × Names named kind (λ rows. IsUnfit kind rows error)
 
--- no more than one file was given, and of the edits the one with this number is the first that is misspelt
+-- no more than one file was given beside the input, and of the edits the one with this number is the first that is misspelt
 abbrev pub AreMisspelt : List Row → ℕ → Type 0
-AreMisspelt rows number = (AreTooMany (files_of called.WhatIf) rows → ⊥) × IsFirstMisspelt (values_at rows (codes "edits")) number
+AreMisspelt rows number = (AreTooMany (files_of called.WhatIf) rows → ⊥) × IsFirstMisspelt (edit_words rows) number
+
+-- and no more than one for the input
+abbrev pub IsMisspelling : List Row → ℕ → Type 0
+IsMisspelling rows number = AreMisspelt rows number × (HasInputs called.WhatIf rows → ⊥)
 
 -- of a command that was named an option has no number that can be read, or something does not fit, or of the edits the first is misspelt
 abbrev pub IsUnread : Kind → List Row → WordsFault → Type 0
@@ -332,7 +388,7 @@ IsUnread kind rows faults.Memory = Unit {0}
 -- what was named is no command that can be done
 abbrev pub IsMisnamed : Option (List ℕ × List Row) → WordsFault → Type 0
 IsMisnamed named (faults.Parser e) = IsUnknown named ⊎ (HasNoNumbers named ⊎ HasUnfit named (kind_of e))
-IsMisnamed named (faults.EditWord number) = Names named called.WhatIf (λ rows. AreMisspelt rows number)
+IsMisnamed named (faults.EditWord number) = Names named called.WhatIf (λ rows. IsMisspelling rows number)
 IsMisnamed named faults.Memory = Unit {0}
 
 -- ---- what a refusal of the parser comes to
@@ -363,11 +419,16 @@ IsOfNoText fault = IsOfKind kinds.ValueValidation fault
 abbrev pub AreTaken : List (List ℕ) → Type 0
 AreTaken words = fault_of command_line words ≡ []
 
--- the words ask for this: for help or for the version where the parser answers with it, and else for the command that they name
-abbrev pub IsAsked : List (List ℕ) → Command → Type 0
-IsAsked words (commands.Help text) = IsAmong kinds.DisplayHelp (fault_of command_line words)
-IsAsked words commands.Version = IsAmong kinds.DisplayVersion (fault_of command_line words)
-IsAsked words command = AreTaken words × IsNamed (subcommand_of command_line words) command
+-- the words ask for this command: for help or for the version where the parser answers with it, and then of no input, and else for the one that
+-- they name
+abbrev pub IsAskedAs : List (List ℕ) → CommandLine → Command → Type 0
+IsAskedAs words line (commands.Help text) = IsAmong kinds.DisplayHelp (fault_of command_line words) × (line.input ≡ None)
+IsAskedAs words line commands.Version = IsAmong kinds.DisplayVersion (fault_of command_line words) × (line.input ≡ None)
+IsAskedAs words line _ = AreTaken words × IsNamed (subcommand_of command_line words) line
+
+-- the words ask for this
+abbrev pub IsAsked : List (List ℕ) → CommandLine → Type 0
+IsAsked words line = IsAskedAs words line line.command
 
 -- the words are refused with this fault: the parser's, where it is not help or the version that it answers; or, where the parser takes them,
 -- for what does not fit, or of edits the first that is misspelt
@@ -375,5 +436,5 @@ abbrev pub IsRefused : List (List ℕ) → WordsFault → Type 0
 IsRefused words (faults.Parser e) = (IsAmong (kind_of e) (fault_of command_line words) × IsNoCall (kind_of e))
     ⊎ (AreTaken words × HasUnfit (subcommand_of command_line words) (kind_of e))
 IsRefused words (faults.EditWord number) =
-    AreTaken words × Names (subcommand_of command_line words) called.WhatIf (λ rows. AreMisspelt rows number)
+    AreTaken words × Names (subcommand_of command_line words) called.WhatIf (λ rows. IsMisspelling rows number)
 IsRefused words faults.Memory = Unit {0}

@@ -7,7 +7,7 @@ ghost use Rattle.boc_words.specs.Tables.{argument_of};
 
 use boc_draws::MOST_DEPTH;
 use boc_outcomes::MOST_RUNS;
-use boc_program::limits::{MOST_COWNS, MOST_RUNNERS, MOST_WORKERS};
+use boc_program::limits::{MOST_COWNS, MOST_ROWS, MOST_RUNNERS, MOST_WORKERS};
 use clap::builder::ValueParser;
 use clap::{Arg, ArgAction, value_parser};
 use std::alloc::Global;
@@ -21,12 +21,14 @@ pub(crate) enum Numbers {
     Every,
 }
 
-/// An option with a number: its name, what help calls the number, the numbers that it takes, and what help says of it.
+/// An option with a number: its name, the letter that stands for it, if any, what help calls the number, the numbers that it takes, and what
+/// help says of it.
 ///
 /// One more is a constant here and an entry of `number_options`; `number_asked` reads its number.
 #[derive(Clone, Copy)]
 pub(crate) struct NumberOption {
     pub(crate) id: &'static str,
+    pub(crate) letter: Option<char>,
     pub(crate) value_name: &'static str,
     pub(crate) numbers: Numbers,
     pub(crate) help: &'static str,
@@ -47,7 +49,7 @@ pub(crate) struct RepeatedOption {
     pub(crate) help: &'static str,
 }
 
-/// Any number of words: by what they are found, what help calls one, and what help says of them.
+/// Words that stand by themselves: by what they are found, what help calls one, and what help says of them.
 #[derive(Clone, Copy)]
 pub(crate) struct Operands {
     pub(crate) id: &'static str,
@@ -61,20 +63,25 @@ pub(crate) enum Argument {
     Number(NumberOption),
     Flag(FlagOption),
     Repeated(RepeatedOption),
+    /// One word.
+    Word(Operands),
+    /// Any number of words.
     Words(Operands),
 }
 
 /// How many threads run a program.
 pub(crate) const RUNNERS: NumberOption = NumberOption {
     id: "workers",
+    letter: Some('w'),
     value_name: "N",
     numbers: Numbers::UpTo(MOST_RUNNERS as u32),
-    help: "Runs the program by N threads, 1 to 16; 1 if not given",
+    help: "Runs the program by N threads, 1 to 16; 1 if not given. They run it; --p plans what has run",
 };
 
 /// By which seed the worker that moves next is picked.
 pub(crate) const SEED: NumberOption = NumberOption {
     id: "seed",
+    letter: None,
     value_name: "S",
     numbers: Numbers::Every,
     help: "Runs the program on one thread, as N workers of which one is picked at each turn, at random by the number S of 64 bits: \
@@ -84,6 +91,7 @@ pub(crate) const SEED: NumberOption = NumberOption {
 /// By priorities with how many points the worker that moves next is picked.
 pub(crate) const DEPTH: NumberOption = NumberOption {
     id: "depth",
+    letter: None,
     value_name: "D",
     numbers: Numbers::UpTo(MOST_DEPTH),
     help: "With --seed, D from 1 to 16: the workers stand in an order that is drawn, the first that can move does, and before D - 1 steps \
@@ -93,6 +101,7 @@ pub(crate) const DEPTH: NumberOption = NumberOption {
 /// How many runs are drawn.
 pub(crate) const RUNS: NumberOption = NumberOption {
     id: "runs",
+    letter: None,
     value_name: "K",
     numbers: Numbers::UpTo(MOST_RUNS),
     help: "Draws K runs, 1 to 1,000,000; 1,000 if not given",
@@ -120,9 +129,10 @@ pub(crate) const DRAWN_DEPTH: NumberOption = NumberOption {
 /// How many workers carry out a greedy plan.
 pub(crate) const WORKERS: NumberOption = NumberOption {
     id: "p",
+    letter: Some('p'),
     value_name: "P",
     numbers: Numbers::UpTo(MOST_WORKERS),
-    help: "Prints the greedy plan for P workers too, 1 to 64, with its end and its bound",
+    help: "Prints the greedy plan for P workers too, 1 to 64, with its end and its bound; no thread runs it",
 };
 
 /// Up to how many workers a curve goes.
@@ -173,6 +183,21 @@ pub(crate) const SHORT: FlagOption = FlagOption {
     help: "Prints work, span and chain before and after in place of the report",
 };
 
+/// Whether the rows of plans are left out.
+pub(crate) const NO_PLAN: FlagOption = FlagOption {
+    id: "no-plan",
+    help: "Leaves out the lines of the plan, and with --p those of the greedy plan's rows",
+};
+
+/// How many lines of a sweep are told.
+pub(crate) const BEST: NumberOption = NumberOption {
+    id: "best",
+    letter: None,
+    value_name: "K",
+    numbers: Numbers::UpTo(MOST_ROWS as u32),
+    help: "Prints the K best lines alone, 1 to 65,535, the best one first, each with what it brings behind it",
+};
+
 /// Whether notes are left out.
 pub(crate) const QUIET: FlagOption = FlagOption {
     id: "quiet",
@@ -182,6 +207,7 @@ pub(crate) const QUIET: FlagOption = FlagOption {
 /// How many cowns are told of.
 pub(crate) const TOP: NumberOption = NumberOption {
     id: "top",
+    letter: None,
     value_name: "K",
     numbers: Numbers::UpTo(MOST_COWNS as u32),
     help: "Prints the first K cowns alone, 1 to 256",
@@ -216,11 +242,19 @@ pub(crate) const NAMES: RepeatedOption = RepeatedOption {
         blank lines and those that begin with #; rows of one NAME are one def",
 };
 
-/// The edits of `whatif`.
+/// The file that the input is read from.
+pub(crate) const INPUT: Operands = Operands {
+    id: "file",
+    value_name: "FILE",
+    help: "Reads the input from FILE; from standard input where none is given, or where it is -",
+};
+
+/// The edits of `whatif`, and among them the file that the input is read from.
 pub(crate) const EDITS: Operands = Operands {
     id: "edits",
-    value_name: "EDIT",
-    help: "Changes a row: ROW=TICKS takes so many ticks, ROW@OFFSET is spawned at that tick of its parent, \
+    value_name: "FILE|EDIT",
+    help: "A word with neither = nor @ is the FILE with the record, as for the other commands; each other word is an edit and changes \
+        a row: ROW=TICKS takes so many ticks, ROW@OFFSET is spawned at that tick of its parent, \
         ROW=K/D costs that part and spawns its children so much sooner or later, DEF=K/D is the same for each row \
         of a def; edits are made in their order",
 };
@@ -236,6 +270,9 @@ const _: () = prove!(MOST_COWNS == 256);
 
 // So many are named in the help of `--depth`.
 const _: () = prove!(MOST_DEPTH == 16);
+
+// So many are named in the help of `--best`.
+const _: () = prove!(MOST_ROWS == 65_535);
 
 // So many are named in the help of `--runs`.
 const _: () = prove!(MOST_RUNS == 1_000_000);
@@ -269,11 +306,17 @@ impl Argument {
         ensures local { result.global ≡ false }
     {
         match *self {
-            Argument::Number(option) => Arg::new(alloc, option.id)
-                .long(option.id)
-                .value_name(option.value_name)
-                .value_parser(option.numbers.parser())
-                .help(option.help),
+            Argument::Number(option) => {
+                let arg = Arg::new(alloc, option.id)
+                    .long(option.id)
+                    .value_name(option.value_name)
+                    .value_parser(option.numbers.parser())
+                    .help(option.help);
+                match option.letter {
+                    Some(letter) => arg.short(letter),
+                    None => arg,
+                }
+            }
             Argument::Flag(option) => Arg::new(alloc, option.id)
                 .long(option.id)
                 .action(ArgAction::SetTrue)
@@ -283,6 +326,9 @@ impl Argument {
                 .value_name(option.value_name)
                 .action(ArgAction::Append)
                 .help(option.help),
+            Argument::Word(operand) => Arg::new(alloc, operand.id)
+                .value_name(operand.value_name)
+                .help(operand.help),
             Argument::Words(operands) => Arg::new(alloc, operands.id)
                 .value_name(operands.value_name)
                 .num_args(0..)

@@ -4,6 +4,7 @@ use crate::runners::Runners;
 use crate::runs::Runs;
 use boc_draws::Depth;
 use boc_plans::edit::{Edit, Part};
+use boc_plans::workers::Workers;
 use boc_program::short::CownNo;
 
 /// An edit that the words ask for.
@@ -22,6 +23,15 @@ pub enum AskedCown {
     Number(CownNo),
     /// Each one with this name, and those of the array with it.
     Name(String),
+}
+
+/// Which plans a report has.
+#[derive(Clone, Copy, PartialEq, Eq, Debug)]
+pub struct AskedPlans {
+    /// For how many workers it has the greedy plan too, where it has one.
+    pub workers: Option<Workers>,
+    /// Whether the rows of its plans are left out.
+    pub unplanned: bool,
 }
 
 /// A file beside an input that is a program or a record.

@@ -6,11 +6,11 @@ ghost use Rattle.boc_words.specs.Commands.{app_of_command, commands_of_boc, sign
 ghost use Rattle.boc_words.specs.Tables.{takes_of};
 ghost use Rattle.boc_words.specs.Words.{IsNoneOf, Told, command_line, without_commands};
 
-use crate::arguments::Argument::{Flag, Number, Repeated, Words};
+use crate::arguments::Argument::{Flag, Number, Repeated, Word, Words};
 use crate::arguments::{
-    ALL, Argument, CURVE_WORKERS, DEPTH, DRAWN_DEPTH, DRAWN_WORKERS, EDITS, FIRST_SEED, NAMES,
-    PROGRAM, QUIET, RECORD, RUNNERS, RUNS, SEED, SHARING, SHORT, SWEEP_COWNS, SWEEP_SPAWNS,
-    SWEEP_WORKERS, TOP, WHY_WORKERS, WITHOUT, WORKERS,
+    ALL, Argument, BEST, CURVE_WORKERS, DEPTH, DRAWN_DEPTH, DRAWN_WORKERS, EDITS, FIRST_SEED,
+    INPUT, NAMES, NO_PLAN, PROGRAM, QUIET, RECORD, RUNNERS, RUNS, SEED, SHARING, SHORT,
+    SWEEP_COWNS, SWEEP_SPAWNS, SWEEP_WORKERS, TOP, WHY_WORKERS, WITHOUT, WORKERS,
 };
 use crate::version::VERSION;
 use std::alloc::{AllocError, Global};
@@ -46,7 +46,7 @@ const RECORD_LINES: &str = "The first line is `boc 2 COWNS`, the last one `.`; b
   < ROW TICKS STATUS COWN..     it ends, and wrote these cowns
 Ticks are what a body's statements cost, and no time that passes.
 
-Examples: boc run --workers 4 < program.boc | boc why; boc run --workers 4 --seed 3 < program.boc | boc profile
+Examples: boc run --workers 4 program.boc | boc why; boc run --workers 4 --seed 3 program.boc | boc profile
 Statuses are told by `boc --help`.";
 
 // What the lines of a report say.
@@ -57,7 +57,7 @@ const REPORT_LINES: &str =
   ROW START END WORKER    a row of the greedy plan, and `end END bound BOUND` behind them
 All are ticks but the rows and the workers, which count from 0. The span is the end of the earliest plan.
 
-Examples: boc time --workers 4 < program.boc; boc run < program.boc | boc profile --p 2
+Examples: boc time --workers 4 program.boc; boc run program.boc | boc profile --p 2 --no-plan
 Statuses are told by `boc --help`.";
 
 // What the lines of a curve say.
@@ -69,7 +69,7 @@ each number of workers. The greedy plan gives the workers that are free at a tic
   BOUND    that greedy plan ends no later: the work divided by P, rounded down, plus the span
 All are ticks but P.
 
-Example: boc run < program.boc | boc curve --p 8
+Example: boc run program.boc | boc curve --p 8
 Statuses are told by `boc --help`.";
 
 // What the lines of a sweep say.
@@ -80,8 +80,9 @@ fewer ticks. With --cowns or --spawns the lines are others:
   COWN END    a cown of the record, and the tick at which the plan would end if that cown ordered nobody
   ROW SPAN    a row but main, and the span if that row alone were spawned as early as it can be, one tick after its elder sibling
               or at its parent's tick 1 (a program's first `when` stands at 2, so a line can be a tick below what a text reaches)
+With --best the lines have a third number, by how much sooner than now that is: NUMBER END LESS, those first that end soonest.
 
-Example: boc run < program.boc | boc sweep --cowns
+Example: boc run program.boc | boc sweep --cowns --best 3
 Statuses are told by `boc --help`.";
 
 // What `why` tells.
@@ -98,7 +99,7 @@ time that passes. Four or more rows of one def that follow each other stand in o
 lines. Cowns of an array that follow each other in a row may stand as a range: acct[0..5] are those from 0 to 5.
 With --record the input is a program, and the run is the one whose record is in FILE.
 
-Example: boc why --workers 4 < program.boc
+Example: boc why --workers 4 program.boc
 Statuses are told by `boc --help`.";
 
 // What `cowns` tells.
@@ -116,7 +117,7 @@ Below stand the span, what it would be if no cown ordered anybody, and how long 
   order    none is; what holds the run back is the order in which behaviours are spawned and get their cowns
 With --record the input is a program, and the run is the one whose record is in FILE.
 
-Example: boc cowns --top 3 < program.boc
+Example: boc cowns --top 3 program.boc
 Statuses are told by `boc --help`.";
 
 // What `whatif` prints.
@@ -126,7 +127,7 @@ const WHATIF_LINES: &str = "The lines are those of `profile`, or with --short:
 A def, and a cown that is left out by name, is one of the program in --program FILE or of the names in --names FILE; without them `row 2`
 is the def of row 2, and `cown 0` a cown. A number is always a row's or a cown's.
 
-Example: boc run < program.boc | boc whatif --program program.boc --short transfer=1/2
+Example: boc run program.boc | boc whatif --program program.boc --short transfer=1/2
 Statuses are told by `boc --help`.";
 
 // What `outcomes` prints.
@@ -142,20 +143,24 @@ the program has need be found, and more runs may find more. --depth finds ends t
 each turn is as likely as another; begin with --depth 2. A seed brings its run back beside the same --workers and --depth: `boc run
 --workers N --seed S`.
 
-Example: boc outcomes --runs 10000 < program.boc
+Example: boc outcomes --runs 10000 program.boc
 Statuses are told by `boc --help`.";
 
 // What holds of every command.
 const COMMON_LINES: &str =
-    "Programs and records come from standard input, and answers go to standard output, a whole one or none. On standard error a fault is
-told in one line, with the line of the input that it is about, and behaviours that ended by a fault are noted. The statuses:
+    "Programs and records come from FILE, or from standard input where none is named, and answers go to standard output, a whole one or none.
+On standard error a fault is told, first the line of the input that it is about, and then what is there; and behaviours that ended by a
+fault are noted. The statuses:
   0    done
   2    the words of the command line are wrong
   3    the input, or the file beside it, is wrong
   4    the program has too many behaviours, or threads can't be had
   5    memory is refused, or a file or a device fails
 
-Example: boc why < program.boc. `boc help why` tells what stands in its lines.";
+Examples:
+  boc values program.boc                what a program ends with
+  boc why --workers 4 program.boc       what holds it back; `boc help why` tells what stands in its lines
+  boc run program.boc | boc check       the record of its run, and whether that keeps the rules";
 
 // Every command, in the order of help.
 //
@@ -177,37 +182,49 @@ const EVERY_KIND: &[Kind] = &[
 
 const VALUES: Entry = Entry {
     about: "Reads a program, runs it serially, and prints the values of its cowns",
-    takes: &[Repeated(RECORD), Flag(QUIET)],
+    takes: &[Repeated(RECORD), Flag(QUIET), Word(INPUT)],
     lines: "A line is NAME VALUE, or NAME[INDEX] VALUE for a member of an array. The values are those of the serial run: others may end otherwise,
 see `boc outcomes`.
 With --record the values are those with which the run ended whose record is in FILE; it must be one of the program.
 
-Example: boc values < program.boc
+Example: boc values program.boc
 Statuses are told by `boc --help`.",
 };
 
 const CHECK: Entry = Entry {
     about: "Reads the record of a run, checks that it keeps the rules, and prints how many rows it has",
-    takes: &[Repeated(PROGRAM)],
+    takes: &[Repeated(PROGRAM), Word(INPUT)],
     lines: "The line is `ok ROWS`. With --program the record must be that of a run of the program in FILE too. Behind the
 fourteen faults of records these are told then, with the line of the record:
   15 OtherCowns     it has another number of cowns than the program
   16 NotNextSpawn   a row is spawned that is not what its parent spawns next
   17 NotItsEnd      a row ends otherwise than its behaviour does
 
-Example: boc run < program.boc | boc check --program program.boc
+Example: boc run program.boc | boc check --program program.boc
 Statuses are told by `boc --help`.",
 };
 
 const RUN: Entry = Entry {
     about: "Reads a program, runs it by several threads, and prints the record of the run",
-    takes: &[Number(RUNNERS), Number(SEED), Number(DEPTH), Flag(QUIET)],
+    takes: &[
+        Number(RUNNERS),
+        Number(SEED),
+        Number(DEPTH),
+        Flag(QUIET),
+        Word(INPUT),
+    ],
     lines: RECORD_LINES,
 };
 
 const PROFILE: Entry = Entry {
     about: "Reads the record of a run, and prints its work, its span, its costliest chain and its earliest plan",
-    takes: &[Number(WORKERS), Flag(SHARING), Flag(QUIET)],
+    takes: &[
+        Number(WORKERS),
+        Flag(SHARING),
+        Flag(NO_PLAN),
+        Flag(QUIET),
+        Word(INPUT),
+    ],
     lines: REPORT_LINES,
 };
 
@@ -219,7 +236,9 @@ const TIME: Entry = Entry {
         Number(DEPTH),
         Number(WORKERS),
         Flag(SHARING),
+        Flag(NO_PLAN),
         Flag(QUIET),
+        Word(INPUT),
     ],
     lines: REPORT_LINES,
 };
@@ -233,6 +252,7 @@ const WHATIF: Entry = Entry {
         Repeated(PROGRAM),
         Repeated(NAMES),
         Flag(SHORT),
+        Flag(NO_PLAN),
         Words(EDITS),
     ],
     lines: WHATIF_LINES,
@@ -240,7 +260,7 @@ const WHATIF: Entry = Entry {
 
 const CURVE: Entry = Entry {
     about: "Reads the record of a run, and prints when the greedy plans for 1, 2, 3 .. workers end",
-    takes: &[Number(CURVE_WORKERS), Flag(SHARING)],
+    takes: &[Number(CURVE_WORKERS), Flag(SHARING), Word(INPUT)],
     lines: CURVE_LINES,
 };
 
@@ -251,6 +271,8 @@ const SWEEP: Entry = Entry {
         Flag(SWEEP_COWNS),
         Flag(SWEEP_SPAWNS),
         Flag(SHARING),
+        Number(BEST),
+        Word(INPUT),
     ],
     lines: SWEEP_LINES,
 };
@@ -267,6 +289,7 @@ const WHY: Entry = Entry {
         Repeated(NAMES),
         Flag(ALL),
         Flag(QUIET),
+        Word(INPUT),
     ],
     lines: WHY_LINES,
 };
@@ -282,6 +305,7 @@ const COWNS: Entry = Entry {
         Repeated(NAMES),
         Number(TOP),
         Flag(QUIET),
+        Word(INPUT),
     ],
     lines: COWNS_LINES,
 };
@@ -293,6 +317,7 @@ const OUTCOMES: Entry = Entry {
         Number(FIRST_SEED),
         Number(DRAWN_WORKERS),
         Number(DRAWN_DEPTH),
+        Word(INPUT),
     ],
     lines: OUTCOMES_LINES,
 };

@@ -2,12 +2,21 @@
 
 ghost use Rattle.std.specs.Prelude.{◌≡◌, ◌<◌, ◌⊎◌, ◌↔◌, ◌∷◌, ◌++◌, ◌^◌, ℕ, List, IfNone, IfOk, IfSome, IsTrue, MatchOption, decimal};
 ghost use Rattle.boc_plans.specs.Fractions.{Fraction};
-ghost use Rattle.boc_words.specs.EditWords.{HasNone, HasOther, IsCostWord, IsEditWord, IsPart, IsWritable, cost_word, edit_word, equals_sign};
+ghost use Rattle.boc_words.specs.EditWords.{HasNone, HasOther, IsCostWord, IsEditWord, IsPart, IsWritable, cost_word, edit_word, equals_sign, is_edit};
 
 use crate::asked::AskedEdit;
 use boc_plans::edit::{Change, Edit, Part};
 use boc_text::read_number;
 use std::alloc::{AllocError, Global};
+
+// Whether a word looks like an edit: it has an equals sign or an at sign.
+pub(crate) fn is_edit(word: &str) -> bool
+    ensures { result ≡ is_edit word.now }
+{
+    word.as_bytes()
+        .iter()
+        .any(|byte| *byte == b'=' || *byte == b'@')
+}
 
 // The edit that a word is: `ROW=TICKS`, `ROW@OFFSET` or `ROW=K/D`, of plain decimals, K and D from 1 to 1,000 and the others up to
 // 4,294,967,295, or `DEF=K/D`, of a name that has no equals sign and is not of digits alone. No other word is an edit.

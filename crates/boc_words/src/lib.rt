@@ -12,10 +12,10 @@ mod schedule;
 mod version;
 mod words;
 
-pub use asked::{AskedCown, AskedDraws, AskedEdit, NamesFrom, RunFile};
+pub use asked::{AskedCown, AskedDraws, AskedEdit, AskedPlans, NamesFrom, RunFile};
 pub use fault::WordsFault;
 pub use runners::Runners;
 pub use runs::Runs;
 pub use schedule::Schedule;
 pub use version::VERSION;
-pub use words::{Command, not_text, read_words};
+pub use words::{Command, CommandLine, not_text, read_words};

@@ -1,24 +1,29 @@
 // The words of the command line.
 
-ghost use Rattle.boc_words.specs.Commands.{IsNumberOf, depth_option, names_file, program_file, record_file, runners_option, top_option, workers_option};
+ghost use Rattle.boc_words.specs.Commands.{IsNumberOf, best_option, depth_option, names_file, program_file, record_file, runners_option, top_option};
+ghost use Rattle.boc_words.specs.Commands.{workers_option};
+ghost use Rattle.boc_words.specs.EditWords.{is_edit};
 ghost use Rattle.boc_words.specs.Tables.{option_of};
 ghost use Rattle.boc_words.specs.Words.{AreCowns, AreEdits, AreNamesFrom, AreRunners, AreShared, AreTaken, AreUpTo, AreWorkers, Asks};
 ghost use Rattle.boc_words.specs.Words.{GivesFile, GivesNumber, IsAsked, IsCownText, IsGiven, IsMisnamed, IsNamed, IsOfEditWords, IsOfError};
 ghost use Rattle.boc_words.specs.Words.{IsOfFiles, IsOfKind, IsOfNoText, IsOfNumber, IsOfSweep, IsOver, IsRefused, IsRunFile, IsTextOfKind, IsUnread};
-ghost use Rattle.boc_words.specs.Words.{AreDraws, GivesOr, IsOfDraws, IsOfSchedule, IsSchedule};
+ghost use Rattle.boc_words.specs.Words.{AreDraws, AreEditsOf, GivesOr, IsOfDraws, IsOfInput, IsOfPaths, IsOfSchedule, IsOfWords, IsPathOf, IsSchedule};
+ghost use Rattle.boc_words.specs.Words.{ArePlans, ReadsFrom};
 ghost use Rattle.boc_words.specs.Words.{command_line, values_at};
+ghost use Rattle.std.specs.List.{filter};
 ghost use Rattle.clap.specs.Kinds.{HasKind};
 ghost use Rattle.clap.specs.declared.error.kind.ErrorKind.TheVariants.{ArgumentConflict, ValueValidation};
 ghost use Rattle.clap.specs.Words.{fault_of, found_of, kind_of, rows_of, subcommand_of, subcommand_rows_of};
-ghost use Rattle.std.specs.Prelude.{◌≡◌, ◌∷◌, ◌↔◌, [], ℕ, IfErr, IfNone, IfOk, IfSome, IsTrue, codes, map, string_bytes};
+ghost use Rattle.std.specs.Prelude.{◌≡◌, ◌∷◌, ◌<◌, ◌^◌, ◌↔◌, if◌then◌else◌, [], ℕ, IfErr, IfNone, IfOk, IfSome, IsTrue, codes, map, not, string_bytes};
 
 use crate::arguments::{
-    ALL, DEPTH, EDITS, NAMES, NumberOption, Numbers, PROGRAM, QUIET, RECORD, RUNNERS, RUNS,
-    RepeatedOption, SEED, SHARING, SHORT, SWEEP_COWNS, SWEEP_SPAWNS, TOP, WITHOUT, WORKERS,
+    ALL, BEST, DEPTH, EDITS, INPUT, NAMES, NO_PLAN, NumberOption, Numbers, PROGRAM, QUIET, RECORD,
+    RUNNERS, RUNS, RepeatedOption, SEED, SHARING, SHORT, SWEEP_COWNS, SWEEP_SPAWNS, TOP, WITHOUT,
+    WORKERS,
 };
-use crate::asked::{AskedCown, AskedDraws, AskedEdit, NamesFrom, RunFile};
+use crate::asked::{AskedCown, AskedDraws, AskedEdit, AskedPlans, NamesFrom, RunFile};
 use crate::commands::{Kind, kind_of, parser};
-use crate::edit_word::edit_of;
+use crate::edit_word::{edit_of, is_edit};
 use crate::fault::WordsFault;
 use crate::runners::Runners;
 use crate::runs::Runs;
@@ -33,7 +38,15 @@ use clap::ArgMatches;
 use clap::error::ErrorKind;
 use std::alloc::{AllocError, Global};
 
-/// What the words ask for. A text behind a file is its path. Notes on behaviours that ended by a fault are left out where `quiet` is so.
+/// What a command line asks for.
+#[derive(Debug, Drop)]
+pub struct CommandLine {
+    pub command: Command,
+    /// The path of the file that its input is read from; of standard input where there is none.
+    pub input: Option<String>,
+}
+
+/// What a command is to do. A text behind a file is its path. Notes on behaviours that ended by a fault are left out where `quiet` is so.
 #[derive(Debug, Drop)]
 pub enum Command {
     /// The values after the serial run of a program, or after the run that a record is of.
@@ -50,26 +63,25 @@ pub enum Command {
         schedule: Schedule,
         quiet: bool,
     },
-    /// The report on the rows of a record that share cowns in this way, with the greedy plan for so many workers where a
-    /// number is given.
+    /// The report on the rows of a record that share cowns in this way, with these plans.
     Profile {
-        workers: Option<Workers>,
+        plans: AskedPlans,
         sharing: Sharing,
         quiet: bool,
     },
-    /// The report on the rows of a run, as for `Run`, with the greedy plan as for a profile.
+    /// The report on the rows of a run, as for `Run`, with these plans.
     Time {
         schedule: Schedule,
-        workers: Option<Workers>,
+        plans: AskedPlans,
         sharing: Sharing,
         quiet: bool,
     },
-    /// The report on the rows of a record without these cowns and after these edits, with the greedy plan as for a profile; or, where that
-    /// is asked for, what they change in short.
+    /// The report on the rows of a record without these cowns and after these edits, with these plans; or, where that is asked for, what
+    /// they change in short.
     WhatIf {
         cowns: Vec<AskedCown>,
         edits: Vec<AskedEdit>,
-        workers: Option<Workers>,
+        plans: AskedPlans,
         sharing: Sharing,
         names: Option<NamesFrom>,
         short: bool,
@@ -80,10 +92,11 @@ pub enum Command {
         sharing: Sharing,
     },
     /// For each row, cown or spawn of a record, the span without what it costs; or the end of the greedy plan for so many
-    /// workers, where a number is given.
+    /// workers, where a number is given. Where so many best ones are asked for, these alone, with what each brings.
     Sweep {
         over: Sweep,
         sharing: Sharing,
+        best: Option<u32>,
     },
     /// Why the rows of a run of a program, by this schedule where the input is one, or of a record take as long as they do; each row of the
     /// chain on a line of its own where all are asked for, and the end of the greedy plan for so many workers where a number is given.
@@ -113,15 +126,19 @@ pub enum Command {
 
 /// What the words of a command line ask for, the program's own name first.
 ///
-/// Words that the parser refuses are a fault with its text, and so are options of `sweep` that exclude each other, and more than one file
-/// beside the input. Of words that should be edits and are none the fault names the first, where there is nothing else against the words.
-pub fn read_words(alloc: Global, words: &[String]) -> Result<Command, WordsFault>
+/// Words that the parser refuses are a fault with its text, and so are more files to read the input from than one, options of `sweep` that exclude
+/// each other, and more than one file beside the input. Of words that should be edits and are none the fault names the first, where there is
+/// nothing else against the words.
+pub fn read_words(alloc: Global, words: &[String]) -> Result<CommandLine, WordsFault>
     ensures asked { IfOk result (IsAsked (map string_bytes words.now)) }
     ensures refused { IfErr result (IsRefused (map string_bytes words.now)) }
 {
     match found(alloc, words) {
-        Ok(matches) => command_of(alloc, &matches),
-        Err(error) => refused(alloc, error),
+        Ok(matches) => line_of(alloc, &matches),
+        Err(error) => Ok(CommandLine {
+            command: refused(alloc, error)?,
+            input: None,
+        }),
     }
 }
 
@@ -160,16 +177,18 @@ fn found<'a>(alloc: Global, words: &'a [String]) -> Result<ArgMatches<'a>, clap:
     parser.try_get_matches_from_mut(words)
 }
 
-// The command that the parser has found. What the parser takes names one, with no numbers but those that its options
+// The command that the parser has found, and its input. What the parser takes names one, with no numbers but those that its options
 // take: the faults of words here and below are for other matches.
-fn command_of(alloc: Global, matches: &ArgMatches) -> Result<Command, WordsFault>
+fn line_of(alloc: Global, matches: &ArgMatches) -> Result<CommandLine, WordsFault>
     ensures named { IfOk result (IsNamed (subcommand_rows_of matches.now)) }
     ensures misnamed { IfErr result (IsMisnamed (subcommand_rows_of matches.now)) }
 {
     if let Some((name, matches)) = matches.subcommand()
         && let Some(kind) = kind_of(name)
     {
-        return asked(alloc, kind, matches);
+        let input = input_asked(alloc, kind, matches)?;
+        let command = asked(alloc, kind, matches)?;
+        return Ok(CommandLine { command, input });
     }
     Err(WordsFault::Parser(error_of_words(
         alloc,
@@ -196,13 +215,13 @@ fn asked(alloc: Global, kind: Kind, matches: &ArgMatches) -> Result<Command, Wor
             quiet: is_set(texts_at(matches, QUIET.id)),
         }),
         Kind::Profile => Ok(Command::Profile {
-            workers: workers_asked(alloc, matches)?,
+            plans: plans_asked(alloc, matches)?,
             sharing: sharing_asked(matches),
             quiet: is_set(texts_at(matches, QUIET.id)),
         }),
         Kind::Time => Ok(Command::Time {
             schedule: schedule_asked(alloc, matches)?,
-            workers: workers_asked(alloc, matches)?,
+            plans: plans_asked(alloc, matches)?,
             sharing: sharing_asked(matches),
             quiet: is_set(texts_at(matches, QUIET.id)),
         }),
@@ -210,7 +229,7 @@ fn asked(alloc: Global, kind: Kind, matches: &ArgMatches) -> Result<Command, Wor
             names: names_asked(alloc, matches)?,
             cowns: cowns_asked(alloc, matches)?,
             edits: edits_asked(alloc, matches)?,
-            workers: workers_asked(alloc, matches)?,
+            plans: plans_asked(alloc, matches)?,
             sharing: sharing_asked(matches),
             short: is_set(texts_at(matches, SHORT.id)),
         }),
@@ -221,6 +240,7 @@ fn asked(alloc: Global, kind: Kind, matches: &ArgMatches) -> Result<Command, Wor
         Kind::Sweep => Ok(Command::Sweep {
             over: over_asked(alloc, matches)?,
             sharing: sharing_asked(matches),
+            best: small_number_asked(alloc, matches, &BEST)?,
         }),
         Kind::Why => Ok(Command::Why {
             schedule: schedule_asked(alloc, matches)?,
@@ -234,7 +254,7 @@ fn asked(alloc: Global, kind: Kind, matches: &ArgMatches) -> Result<Command, Wor
             schedule: schedule_asked(alloc, matches)?,
             sharing: sharing_asked(matches),
             file: run_file_asked(alloc, matches)?,
-            top: top_asked(alloc, matches)?,
+            top: small_number_asked(alloc, matches, &TOP)?,
             quiet: is_set(texts_at(matches, QUIET.id)),
         }),
         Kind::Outcomes => Ok(Command::Outcomes(draws_asked(alloc, matches)?)),
@@ -298,6 +318,50 @@ fn file_asked(
     }
 }
 
+// The path of the file that the words have the input read from. Two of them are a fault.
+fn input_asked(
+    alloc: Global,
+    kind: Kind,
+    matches: &ArgMatches,
+) -> Result<Option<String>, WordsFault>
+    ensures asked { IfOk result (ReadsFrom kind (rows_of (found_of matches.now))) }
+    ensures refused { IfErr result (IsOfInput kind (rows_of (found_of matches.now))) }
+{
+    match kind {
+        Kind::WhatIf => {
+            let paths = words_that(alloc, texts_at(matches, EDITS.id), false)?;
+            one_input(alloc, &paths)
+        }
+        _ => one_input(alloc, texts_at(matches, INPUT.id)),
+    }
+}
+
+// The path that is given, if there is one. Two of them are a fault.
+fn one_input(alloc: Global, paths: &[&str]) -> Result<Option<String>, WordsFault>
+    ensures asked { IfOk result (IsPathOf (map (λ text. text.now) paths.now)) }
+    ensures refused { IfErr result (IsOfPaths (map (λ text. text.now) paths.now)) }
+{
+    match paths {
+        [] => Ok(None),
+        [path] => Ok(Some(String::from_str(alloc, path)?)),
+        _ => Err(at_odds(alloc, "the input cannot be read from more than one FILE")),
+    }
+}
+
+// Those of the words that look like edits, or those that don't.
+fn words_that<'w>(alloc: Global, words: &[&'w str], edits: bool) -> Result<Vec<&'w str>, AllocError>
+    ensures { IfOk result (λ some. map (λ text. text.now) some.items ≡ filter (λ word. if edits then is_edit word else not (is_edit word)) (map (λ text. text.now) words.now)) }
+{
+    let mut some = Vec::new(alloc);
+    for word in words {
+        let is_wanted = if edits { is_edit(word) } else { !is_edit(word) };
+        if is_wanted {
+            some.push(*word)?;
+        }
+    }
+    Ok(some)
+}
+
 // The file beside a program or a record that the words name. Two of them are a fault.
 fn run_file_asked(alloc: Global, matches: &ArgMatches) -> Result<Option<RunFile>, WordsFault>
     ensures asked { IfOk result (IsRunFile (rows_of (found_of matches.now))) }
@@ -355,12 +419,20 @@ fn cown_of(alloc: Global, text: &str) -> Result<AskedCown, AllocError>
     }
 }
 
-// The edits that the words of `whatif` name. The first word that is no edit is a fault.
+// The edits that the words of `whatif` name. The first word that looks like one and is none is a fault.
 fn edits_asked(alloc: Global, matches: &ArgMatches) -> Result<Vec<AskedEdit>, WordsFault>
     ensures asked { IfOk result (λ edits. AreEdits (rows_of (found_of matches.now)) edits.items) }
     ensures refused { IfErr result (IsOfEditWords (rows_of (found_of matches.now))) }
 {
-    let words = texts_at(matches, EDITS.id);
+    let words = words_that(alloc, texts_at(matches, EDITS.id), true)?;
+    edits_in(alloc, &words)
+}
+
+// The edits that these words are. The first one that is none is a fault.
+fn edits_in(alloc: Global, words: &[&str]) -> Result<Vec<AskedEdit>, WordsFault>
+    ensures asked { IfOk result (λ edits. AreEditsOf (map (λ text. text.now) words.now) edits.items) }
+    ensures refused { IfErr result (IsOfWords (map (λ text. text.now) words.now)) }
+{
     let mut edits = Vec::new(alloc);
     for (index, word) in words.iter().enumerate() {
         let found = edit_of(alloc, word)?;
@@ -467,6 +539,17 @@ fn workers_asked(alloc: Global, matches: &ArgMatches) -> Result<Option<Workers>,
     }
 }
 
+// The plans that the words ask for in a report.
+fn plans_asked(alloc: Global, matches: &ArgMatches) -> Result<AskedPlans, WordsFault>
+    ensures asked { IfOk result (ArePlans (rows_of (found_of matches.now))) }
+    ensures refused { IfErr result (IsOfNumber workers_option (rows_of (found_of matches.now))) }
+{
+    Ok(AskedPlans {
+        workers: workers_asked(alloc, matches)?,
+        unplanned: is_set(texts_at(matches, NO_PLAN.id)),
+    })
+}
+
 // Up to how many workers the words ask for plans, the most that may be where they have no `--p`.
 fn most_asked(alloc: Global, matches: &ArgMatches) -> Result<Workers, WordsFault>
     ensures asked { IfOk result (AreUpTo (rows_of (found_of matches.now))) }
@@ -478,12 +561,17 @@ fn most_asked(alloc: Global, matches: &ArgMatches) -> Result<Workers, WordsFault
     }
 }
 
-// How many cowns the words ask for at the most, where they have `--top`.
-fn top_asked(alloc: Global, matches: &ArgMatches) -> Result<Option<u32>, WordsFault>
-    ensures asked { IfOk result (GivesNumber top_option (rows_of (found_of matches.now))) }
-    ensures refused { IfErr result (IsOfNumber top_option (rows_of (found_of matches.now))) }
+// How many lines the words ask for at the most, where they have this option, whose numbers have 32 bits.
+fn small_number_asked(
+    alloc: Global,
+    matches: &ArgMatches,
+    option: &NumberOption,
+) -> Result<Option<u32>, WordsFault>
+    requires { (number : ℕ) → IsNumberOf option.now.numbers number → number < 2 ^ 32 }
+    ensures asked { IfOk result (GivesNumber (option_of option.now) (rows_of (found_of matches.now))) }
+    ensures refused { IfErr result (IsOfNumber (option_of option.now) (rows_of (found_of matches.now))) }
 {
-    match number_asked(alloc, matches, &TOP)? {
+    match number_asked(alloc, matches, option)? {
         Some(number) => Ok(Some(number as u32)),
         None => Ok(None),
     }

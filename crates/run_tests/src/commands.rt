@@ -2,8 +2,8 @@
 
 use crate::runs::{GREEDY, RECORD, REPORT, TRANSFER, bytes};
 use boc_commands::{
-    AskedDraws, AskedEdit, Command, Fault, Runners, Runs, Schedule, Silent, VERSION, Want,
-    run_command,
+    AskedDraws, AskedEdit, AskedPlans, Command, Fault, Runners, Runs, Schedule, Silent, VERSION,
+    Want, run_command,
 };
 use boc_plans::edit::{Change, Edit};
 use boc_plans::sharing::Sharing;
@@ -30,6 +30,17 @@ spans 9 9
 outcome 3 seed 7 span 9 9
 a 12
 b 4
+";
+
+// The report on the transfer's rows without their plan.
+const OUTLINE: &str = "rows 4
+work 11
+span 9
+chain
+0 spawn 2
+1 order 2
+2 order 3
+3 end 2
 ";
 
 // The report on the transfer's rows with one tick in row 2.
@@ -115,6 +126,14 @@ fn answered_beside(
     Ok(case)
 }
 
+// Both plans of a report, with their rows; the greedy one for so many workers, if any.
+fn with_plans(workers: Option<Workers>) -> AskedPlans {
+    AskedPlans {
+        workers,
+        unplanned: false,
+    }
+}
+
 // The command that reports on rows with one tick in row 2.
 fn shorter(alloc: Global, workers: Option<Workers>) -> Result<Command, AllocError> {
     let mut edits = Vec::new(alloc);
@@ -123,7 +142,7 @@ fn shorter(alloc: Global, workers: Option<Workers>) -> Result<Command, AllocErro
     Ok(Command::WhatIf {
         cowns: Vec::new(alloc),
         edits,
-        workers,
+        plans: with_plans(workers),
         sharing: Sharing::Exclusive,
         names: None,
         short: false,
@@ -141,7 +160,7 @@ fn of_programs(alloc: Global) -> Result<[Case; 5], AllocError> {
     };
     let timed = Command::Time {
         schedule,
-        workers: None,
+        plans: with_plans(None),
         sharing: Sharing::Exclusive,
         quiet,
     };
@@ -169,43 +188,54 @@ fn of_programs(alloc: Global) -> Result<[Case; 5], AllocError> {
     ])
 }
 
-// The sweep that changes this.
-fn swept(over: Sweep) -> Command {
+// The sweep that changes this, with its best lines alone where so many are wanted.
+fn swept(over: Sweep, best: Option<u32>) -> Command {
     Command::Sweep {
         over,
         sharing: Sharing::Exclusive,
+        best,
     }
 }
 
 // The sweeps of a record.
-fn sweeps(alloc: Global) -> Result<[Case; 5], AllocError> {
+fn sweeps(alloc: Global) -> Result<[Case; 6], AllocError> {
     let one = Workers::new(1);
-    let ticks = swept(Sweep::Ticks(None));
-    let ticks_by_one = swept(Sweep::Ticks(one));
-    let cowns = swept(Sweep::Cowns(None));
-    let cowns_by_one = swept(Sweep::Cowns(one));
-    let spawns = swept(Sweep::Spawns);
+    let ticks = swept(Sweep::Ticks(None), None);
+    let ticks_by_one = swept(Sweep::Ticks(one), None);
+    let cowns = swept(Sweep::Cowns(None), None);
+    let cowns_by_one = swept(Sweep::Cowns(one), None);
+    let spawns = swept(Sweep::Spawns, None);
+    let best = swept(Sweep::Ticks(None), Some(2));
     Ok([
         answered(alloc, ticks, RECORD, "0 9\n1 8\n2 7\n3 8\n", "")?,
         answered(alloc, ticks_by_one, RECORD, "0 11\n1 10\n2 9\n3 10\n", "")?,
         answered(alloc, cowns, RECORD, "0 8\n1 7\n", "")?,
         answered(alloc, cowns_by_one, RECORD, "0 11\n1 11\n", "")?,
         answered(alloc, spawns, RECORD, "1 8\n2 9\n3 9\n", "")?,
+        answered(alloc, best, RECORD, "2 7 2\n1 8 1\n", "")?,
     ])
 }
 
 // The commands that read a record, but for sweeps.
-fn of_records(alloc: Global) -> Result<[Case; 6], AllocError> {
+fn of_records(alloc: Global) -> Result<[Case; 7], AllocError> {
     let sharing = Sharing::Exclusive;
     let two = Workers::new(2);
     let check = Command::Check { program: None };
     let alone = Command::Profile {
-        workers: None,
+        plans: with_plans(None),
         sharing,
         quiet: false,
     };
     let by_two = Command::Profile {
-        workers: two,
+        plans: with_plans(two),
+        sharing,
+        quiet: false,
+    };
+    let outline = Command::Profile {
+        plans: AskedPlans {
+            workers: two,
+            unplanned: true,
+        },
         sharing,
         quiet: false,
     };
@@ -219,6 +249,13 @@ fn of_records(alloc: Global) -> Result<[Case; 6], AllocError> {
         answered(alloc, check, RECORD, "ok 4\n", "")?,
         answered(alloc, alone, RECORD, REPORT, "")?,
         answered(alloc, by_two, RECORD, REPORT, GREEDY)?,
+        answered(
+            alloc,
+            outline,
+            RECORD,
+            OUTLINE,
+            "greedy 2\nend 9 bound 14\n",
+        )?,
         answered(alloc, shorter_alone, RECORD, SHORTER, "")?,
         answered(alloc, shorter_by_two, RECORD, SHORTER, SHORTER_GREEDY)?,
         answered(

@@ -3,7 +3,9 @@
 ghost use Rattle.std.specs.Prelude.{◌≡◌, IfOk};
 
 use crate::gates::{Meeting, Place, StopsAtSecondBody, StopsAtSwap};
-use boc_commands::{Command, Fault, Runners, Schedule, Silent, run_cmd, run_command, time_cmd};
+use boc_commands::{
+    AskedPlans, Command, Fault, Runners, Schedule, Silent, run_cmd, run_command, time_cmd,
+};
 use boc_plans::sharing::Sharing;
 use boc_plans::workers::Workers;
 use boc_text::Bytes;
@@ -178,7 +180,10 @@ fn time_of<R: Threads + Wait + Sync, G: Gate>(
     gate: &G,
 ) -> Result<Answer, Fail> {
     let runners = Runners::new(runners).ok_or("there are 1 to 16 threads")?;
-    let workers = Workers::new(p);
+    let plans = AskedPlans {
+        workers: Workers::new(p),
+        unplanned: false,
+    };
     let mut source = bytes(alloc, text)?;
     let mut sink = bytes(alloc, "")?;
     let mut notes = Vec::new(alloc);
@@ -186,7 +191,7 @@ fn time_of<R: Threads + Wait + Sync, G: Gate>(
         rt,
         alloc,
         Schedule::Threads(runners),
-        workers,
+        plans,
         Sharing::Exclusive,
         false,
         gate,
@@ -304,7 +309,10 @@ fn as_many_threads_as_asked_for(rt: HostRuntime) -> Result<(), Fail> {
         },
         Command::Time {
             schedule: Schedule::Threads(two),
-            workers: None,
+            plans: AskedPlans {
+                workers: None,
+                unplanned: false,
+            },
             sharing: Sharing::Exclusive,
             quiet: false,
         },

@@ -249,7 +249,7 @@ pub no_runs : fault_of command_line (codes "boc" ∷ codes "outcomes" ∷ codes 
 unfolding clap_on_literals
 no_runs = refl
 
-pub word_too_many : fault_of command_line (codes "boc" ∷ codes "values" ∷ codes "more" ∷ []) ≡ kinds.UnknownArgument ∷ []
+pub word_too_many : fault_of command_line (codes "boc" ∷ codes "values" ∷ codes "program" ∷ codes "more" ∷ []) ≡ kinds.UnknownArgument ∷ []
 unfolding clap_on_literals
 word_too_many = refl
 

@@ -10,9 +10,6 @@ returns-in-WhatIf-clause-written g c = search rules
 pub returns-in-Curve-clause-written : goal.returns-in-Curve-clause-written
 returns-in-Curve-clause-written g c = search rules
 
-pub returns-in-Sweep-clause-written : goal.returns-in-Sweep-clause-written
-returns-in-Sweep-clause-written g c = search rules
-
 pub returns-in-Why-clause-written : goal.returns-in-Why-clause-written
 returns-in-Why-clause-written g c = search rules
 

@@ -1,5 +1,5 @@
 use Rattle.boc_commands.proofs.OneAnswer.{one_check_answer, one_curve_answer, one_profile_answer, one_sweep_answer, one_values_answer, one_whatif_answer}
-use Rattle.boc_commands.proofs.OneAnswer.{one_check_against_answer, one_outcomes_answer, one_values_after_answer}
+use Rattle.boc_commands.proofs.OneAnswer.{one_best_answer, one_check_against_answer, one_outcomes_answer, one_values_after_answer}
 use Rattle.boc_commands.proofs.laws.input_has_one_answer.Goals as goal
 
 pub returns : goal.returns
@@ -12,5 +12,6 @@ returns c = record {
   whatif = one_whatif_answer;
   curve = one_curve_answer;
   sweep = one_sweep_answer;
+  best = one_best_answer;
   outcomes = one_outcomes_answer;
 }

@@ -8,7 +8,7 @@ use Rattle.boc_commands.proofs.profile.profile_cmd.Goals as goal
 pub returns-clause-written : goal.returns-clause-written
 returns-clause-written g c =
     let asked = c.in_ok-rows.ensures.rows_or_fault in
-    leaves_read _ _ c.report_on.result _ _ _ _ asked.1 (λ text report. noted_report c.args.sharing c.args.workers c.args.quiet c.in_ok-noted.noted.items
+    leaves_read _ _ c.report_on.result _ _ _ _ asked.1 (λ text report. noted_report c.args.sharing c.args.plans c.args.quiet c.in_ok-noted.noted.items
     asked.1.text asked.0 c.in_ok-rows.rows text asked.1.text_of asked.2 report (search rules)) c.report_on.ensures.written
 
 pub returns-clause-refused : goal.returns-clause-refused

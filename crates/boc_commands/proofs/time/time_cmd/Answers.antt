@@ -16,14 +16,14 @@ returns-in_err-noted-clause-refused g c =
 pub returns-clause-written : goal.returns-clause-written
 returns-clause-written g c =
     let run = c.in_ok-noted.ensures in
-    leaves_as (IsTrueReport (seen c.args.sharing c.into_rows.result) c.args.workers) _ c.true_report.result _ _ (λ text report.
-    answers_text (TellsTime c.args.schedule c.args.sharing c.args.workers c.args.quiet c.in_ok-noted.noted.notes.items) _ _
+    leaves_as (IsTrueReport (seen c.args.sharing c.into_rows.result) c.args.plans) _ c.true_report.result _ _ (λ text report.
+    answers_text (TellsTime c.args.schedule c.args.sharing c.args.plans c.args.quiet c.in_ok-noted.noted.notes.items) _ _
     c.in_ok-text.text.items c.deref.result.now text text c.in_ok-text.ensures.text c.deref.ensures.value refl
     (record {
       answer = record {
         recorded = c.in_ok-noted.noted.record;
         run = run.0;
-        report = subst (λ (rows : List Row). IsTrueReport (seen c.args.sharing rows) c.args.workers text) c.into_rows.ensures.value report;
+        report = subst (λ (rows : List Row). IsTrueReport (seen c.args.sharing rows) c.args.plans text) c.into_rows.ensures.value report;
       };
       scheduled = run.1;
       noted = run.2;

@@ -6,5 +6,5 @@ use Rattle.boc_commands.proofs.time.true_report.Goals as goal
 
 pub returns-clause-written : goal.returns-clause-written
 returns-clause-written g c =
-    leaves_as _ _ c.report_on.result _ _ (λ text is. true_report (seen c.args.sharing c.args.rows) c.args.workers text
+    leaves_as _ _ c.report_on.result _ _ (λ text is. true_report (seen c.args.sharing c.args.rows) c.args.plans text
     (rows_seen c.args.sharing c.args.rows c.as_slice-shape.ensures.shape) is) c.report_on.ensures.written

@@ -19,10 +19,10 @@ pub returns : goal.returns
 returns c =
     let names = c.args.names.now in
     let asked = c.args.asked.now in
-    told_shortly names asked.cowns.now asked.edits.now asked.sharing asked.workers c.args.rows c.in_ok-after.after.rows c.in_ok-was.was' c.in_ok-now.now
+    told_shortly names asked.cowns.now asked.edits.now asked.sharing asked.plans.workers c.args.rows c.in_ok-after.after.rows c.in_ok-was.was' c.in_ok-now.now
     c.in_ok-short_text.field-0.items c.in_ok-after.ensures.rows
-    (outcome_as c.args.rows c.in_ok-before.before.rows asked.sharing c.in_ok-before.before.sharing names.defs.items c.deref.result.now asked.workers
+    (outcome_as c.args.rows c.in_ok-before.before.rows asked.sharing c.in_ok-before.before.sharing names.defs.items c.deref.result.now asked.plans.workers
     c.in_ok-was.was' c.in_ok-was.ensures c.in_ok-before.ensures.rows c.in_ok-before.ensures.sharing c.deref.ensures.value)
     (outcome_as c.in_ok-after.after.rows c.in_ok-after.after.rows asked.sharing c.in_ok-after.after.sharing names.defs.items c.deref-2.result.now
-    asked.workers c.in_ok-now.now c.in_ok-now.ensures refl c.in_ok-after.ensures.sharing c.deref-2.ensures.value)
+    asked.plans.workers c.in_ok-now.now c.in_ok-now.ensures refl c.in_ok-after.ensures.sharing c.deref-2.ensures.value)
     c.in_ok-short_text.ensures

@@ -6,5 +6,5 @@ use Rattle.boc_words.proofs.words.read_words.Goals as goal
 
 pub returns-in-Ok-clause-refused : goal.returns-in-Ok-clause-refused
 returns-in-Ok-clause-refused c =
-    IfErr-weaker c.command_of.result _ _ (λ fault h. misnamed (map string_bytes c.args.words.now) _ fault c.in-Ok.ensures.taken c.in-Ok.ensures.named h)
-    c.command_of.ensures.misnamed
+    IfErr-weaker c.line_of.result _ _ (λ fault h. misnamed (map string_bytes c.args.words.now) _ fault c.in-Ok.ensures.taken c.in-Ok.ensures.named h)
+    c.line_of.ensures.misnamed

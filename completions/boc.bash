@@ -1,0 +1,64 @@
+# Completion of `boc` for bash: its commands, the options of each, and files. Numbers and names of cowns are not completed.
+
+# The options of a command, or of none.
+_boc_options() {
+    case $1 in
+    '') echo -h --help -V --version ;;
+    values) echo -h --help --record --quiet ;;
+    check) echo -h --help --program ;;
+    run) echo -h --help -w --workers --seed --depth --quiet ;;
+    profile) echo -h --help -p --p --shared-reads --no-plan --quiet ;;
+    time) echo -h --help -w --workers --seed --depth -p --p --shared-reads --no-plan --quiet ;;
+    whatif) echo -h --help -p --p --shared-reads --without --program --names --short --no-plan ;;
+    curve) echo -h --help -p --p --shared-reads ;;
+    sweep) echo -h --help -p --p --cowns --spawns --shared-reads --best ;;
+    why) echo -h --help -w --workers --seed --depth -p --p --shared-reads --record --names --all --quiet ;;
+    cowns) echo -h --help -w --workers --seed --depth --shared-reads --record --names --top --quiet ;;
+    outcomes) echo -h --help --runs --seed -w --workers --depth ;;
+    esac
+}
+
+_boc_files() {
+    compopt -o filenames 2> /dev/null
+    mapfile -t COMPREPLY < <(compgen -f -- "$1")
+}
+
+_boc_words() {
+    mapfile -t COMPREPLY < <(compgen -W "$1" -- "$2")
+}
+
+_boc() {
+    local commands='values check run profile time whatif curve sweep why cowns outcomes help'
+    local current=${COMP_WORDS[COMP_CWORD]} option=${COMP_WORDS[COMP_CWORD - 1]} command='' are_options=yes at
+    COMPREPLY=()
+    for ((at = 1; at < COMP_CWORD; at++)); do
+        case ${COMP_WORDS[at]} in
+        --) are_options= ;;
+        -*) ;;
+        *) command=${command:-${COMP_WORDS[at]}} ;;
+        esac
+    done
+    # bash takes `--record=FILE` and `2=1` for three words.
+    if [[ $current == = ]]; then
+        current=
+        [[ $option == -* ]] || return
+    elif [[ $option == = ]]; then
+        option=${COMP_WORDS[COMP_CWORD - 2]}
+        [[ $option == -* ]] || return
+    fi
+    if [[ $are_options ]]; then
+        case $option in
+        --record | --program | --names) _boc_files "$current" && return ;;
+        -w | --workers | --seed | --depth | -p | --p | --runs | --top | --best | --without) return ;;
+        esac
+    fi
+    if [[ $current == -* && $are_options ]]; then
+        _boc_words "$(_boc_options "$command")" "$current"
+    elif [[ -z $command || $command == help ]]; then
+        _boc_words "$commands" "$current"
+    elif [[ " $commands " == *" $command "* ]]; then
+        _boc_files "$current"
+    fi
+}
+
+complete -F _boc boc

@@ -1,0 +1,285 @@
+// Edits that the rows of a record can't take, and cowns and defs that aren't there.
+
+use crate::declared::{Thing, top_names};
+use crate::formed::put_reason;
+use crate::place::Text;
+use crate::run::{Run, line_at};
+use crate::said::{Part, Said};
+use crate::tokens::words_of;
+use boc_plans::edit::{Change, Edit, EditFault, Part as Fraction};
+use boc_program::limits::MOST_TICKS;
+use boc_text::read_number;
+use std::alloc::{AllocError, Global};
+
+/// What is told of the last of these edits, which the rows of a record can't take as those before it have made them. Its word is beside them.
+pub fn explain_edit(
+    alloc: Global,
+    text: Text<'_>,
+    word: &str,
+    edits: &[Edit],
+    fault: EditFault,
+) -> Result<String, AllocError> {
+    let mut said = Said::new(alloc);
+    let Some((edit, before)) = edits.split_last() else {
+        return Ok(said.into_text());
+    };
+    if !text.whole {
+        return Ok(said.into_text());
+    }
+    let mut run = Run::before(alloc, text.bytes, u64::MAX)?;
+    for change in before {
+        apply(&mut run, *change);
+    }
+    put_edit(&mut said, word.as_bytes(), &run, *edit, fault)?;
+    Ok(said.into_text())
+}
+
+// Has a row change that can.
+fn apply(run: &mut Run, edit: Edit) {
+    let Edit { row, change } = edit;
+    match change {
+        Change::Ticks(ticks) => set_ticks(run, row, ticks),
+        Change::Offset(offset) => set_offset(run, row, offset),
+        Change::Cost(part) => apply_cost(run, row, part),
+    }
+}
+
+fn set_ticks(run: &mut Run, row: u32, ticks: u32) {
+    if let Some(row) = run.rows.get_mut(row as usize) {
+        row.ticks = ticks;
+    }
+}
+
+fn set_offset(run: &mut Run, row: u32, offset: u32) {
+    if let Some(row) = run.rows.get_mut(row as usize) {
+        row.offset = offset;
+    }
+}
+
+// Has a row cost a part of its ticks, and spawn its children so much sooner or later.
+fn apply_cost(run: &mut Run, number: u32, part: Fraction) {
+    let mut last: u32 = 0;
+    for row in run.rows.iter_mut().skip(1) {
+        if row.parent == number {
+            row.offset = part_of(row.offset, part).max(last.saturating_add(1));
+            last = row.offset;
+        }
+    }
+    if let Some(row) = run.rows.get_mut(number as usize) {
+        row.ticks = part_of(row.ticks, part).max(last).max(1);
+    }
+}
+
+// A part of so many ticks, rounded up.
+fn part_of(ticks: u32, part: Fraction) -> u32 {
+    let over = u64::from(ticks).saturating_mul(u64::from(part.over()));
+    let under = u64::from(part.under()).max(1);
+    u32::try_from(over.div_ceil(under)).unwrap_or(u32::MAX)
+}
+
+fn put_edit(
+    said: &mut Said,
+    word: &[u8],
+    run: &Run,
+    edit: Edit,
+    fault: EditFault,
+) -> Result<(), AllocError> {
+    match fault {
+        EditFault::NoRow => said.line(&[
+            Part::Quote(word),
+            Part::Words(": the record has rows 0 to "),
+            Part::Number((run.rows.len() as u64).saturating_sub(1)),
+        ]),
+        EditFault::NoParent => put_reason(said, word, "row 0 is main, which no row spawns"),
+        EditFault::TooManyTicks => put_many(said, word, run, edit),
+        EditFault::BelowSpawn => put_below(said, word, run, edit.row),
+        EditFault::NotBetween => put_between(said, word, run, edit.row),
+    }
+}
+
+// Tells how many ticks a row would take.
+fn put_many(said: &mut Said, word: &[u8], run: &Run, edit: Edit) -> Result<(), AllocError> {
+    let (Change::Cost(_), Some(row)) = (edit.change, run.row(edit.row)) else {
+        return put_reason(said, word, "a row takes at most 1000000 ticks");
+    };
+    said.line(&[
+        Part::Quote(word),
+        Part::Words(": row "),
+        Part::Number(u64::from(edit.row)),
+        Part::Words(" takes "),
+        Part::Many(u64::from(row.ticks), "tick"),
+        Part::Words(", and would take more than 1000000"),
+    ])
+}
+
+// Tells the least ticks that a row can take.
+fn put_below(said: &mut Said, word: &[u8], run: &Run, row: u32) -> Result<(), AllocError> {
+    let child = run.row(row).and_then(|row| row.last_child);
+    let Some(child) = child else {
+        return put_reason(said, word, "a row takes 1 tick at least");
+    };
+    let tick = run.row(child).map_or(0, |child| child.offset);
+    said.line(&[
+        Part::Quote(word),
+        Part::Words(": row "),
+        Part::Number(u64::from(row)),
+        Part::Words(" spawns row "),
+        Part::Number(u64::from(child)),
+        Part::Words(" at its tick "),
+        Part::Number(u64::from(tick)),
+        Part::Words(", so "),
+        Part::Number(u64::from(tick)),
+        Part::Words(" is the least"),
+    ])
+}
+
+// Tells between which ticks of its parent a row can be spawned.
+fn put_between(said: &mut Said, word: &[u8], run: &Run, number: u32) -> Result<(), AllocError> {
+    let Some(row) = run.row(number) else {
+        return Ok(());
+    };
+    let mut least: u32 = 1;
+    let mut most = run
+        .row(row.parent)
+        .map_or(MOST_TICKS, |parent| parent.ticks);
+    let mut sibling = false;
+    for (other, before) in run.rows.iter().enumerate().skip(1) {
+        if before.parent != row.parent || other == number as usize {
+            continue;
+        }
+        if other < number as usize {
+            least = before.offset.saturating_add(1);
+            sibling = true;
+        } else {
+            most = before.offset.saturating_sub(1);
+            sibling = true;
+            break;
+        }
+    }
+    put_window(said, word, number, row.parent, (least, most), sibling)
+}
+
+// Tells from which tick of its parent on a row can be spawned, and up to which.
+fn put_window(
+    said: &mut Said,
+    word: &[u8],
+    row: u32,
+    parent: u32,
+    ticks: (u32, u32),
+    sibling: bool,
+) -> Result<(), AllocError> {
+    let (least, most) = ticks;
+    let between = Part::Words(if sibling {
+        ", between its siblings,"
+    } else {
+        ""
+    });
+    let (to, last) = if least == most {
+        (Part::Words(" alone"), Part::Words(""))
+    } else {
+        (Part::Words(" to "), Part::Number(u64::from(most)))
+    };
+    said.line(&[
+        Part::Quote(word),
+        Part::Words(": row "),
+        Part::Number(u64::from(row)),
+        between,
+        Part::Words(" can be spawned at tick "),
+        Part::Number(u64::from(least)),
+        to,
+        last,
+        Part::Words(" of row "),
+        Part::Number(u64::from(parent)),
+    ])
+}
+
+/// What is told of a cown that a record doesn't have, called so. Where the cowns of a program have names, its text is given.
+pub fn explain_cown(
+    alloc: Global,
+    text: Text<'_>,
+    program: Option<&[u8]>,
+    name: &str,
+) -> Result<String, AllocError> {
+    let mut said = Said::new(alloc);
+    if let Some(program) = program
+        && read_number(name.as_bytes()).is_none()
+    {
+        put_names(alloc, &mut said, program, name.as_bytes(), false)?;
+        return Ok(said.into_text());
+    }
+    let header = line_at(text.bytes, 1).map_or(b"".as_slice(), |line| line.0);
+    let last = header.rsplit(|byte| *byte == b' ').next().unwrap_or(b"");
+    match read_number(last) {
+        None => {}
+        Some(0) => put_reason(&mut said, name.as_bytes(), "the record has no cowns")?,
+        Some(count) => said.line(&[
+            Part::Words("no cown is called "),
+            Part::Quote(name.as_bytes()),
+            Part::Words("; the record has cowns 0 to "),
+            Part::Number(u64::from(count).saturating_sub(1)),
+        ])?,
+    }
+    Ok(said.into_text())
+}
+
+/// What is told of a def that no row of a program's run is of.
+pub fn explain_def(
+    alloc: Global,
+    program: Option<&[u8]>,
+    name: &str,
+) -> Result<String, AllocError> {
+    let mut said = Said::new(alloc);
+    if let Some(program) = program {
+        put_names(alloc, &mut said, program, name.as_bytes(), true)?;
+    }
+    Ok(said.into_text())
+}
+
+// How many names are told at most.
+const MOST_NAMES: usize = 6;
+
+// Tells which cowns or which defs a program has.
+fn put_names(
+    alloc: Global,
+    said: &mut Said,
+    program: &[u8],
+    name: &[u8],
+    are_defs: bool,
+) -> Result<(), AllocError> {
+    let words = words_of(alloc, program)?;
+    let mut text: Vec<u8> = Vec::new(alloc);
+    let mut count: usize = 0;
+    for declared in top_names(alloc, &words)? {
+        let is_def = matches!(declared.thing, Thing::Def { .. });
+        if is_def == are_defs {
+            if count < MOST_NAMES {
+                let between: &[u8] = if count == 0 { b"" } else { b", " };
+                text.extend_from_slice(between)?;
+                text.extend_from_slice(declared.name.bytes)?;
+                let members: &[u8] = match declared.thing {
+                    Thing::Array => b"[*]",
+                    _ => b"",
+                };
+                text.extend_from_slice(members)?;
+            }
+            count = count.saturating_add(1);
+        }
+    }
+    if count > MOST_NAMES {
+        text.extend_from_slice(b", ..")?;
+    }
+    said.line(&[
+        Part::Words(if are_defs {
+            "no row is of a def "
+        } else {
+            "no cown is called "
+        }),
+        Part::Quote(name),
+        Part::Words(if are_defs {
+            "; the program's defs are "
+        } else {
+            "; the program's cowns are "
+        }),
+        Part::Bytes(&text),
+    ])
+}

@@ -1,0 +1,138 @@
+// Lines of a record that have none of its forms.
+
+use crate::said::{Part, Said};
+use boc_text::{MOST_LINE, read_number};
+use std::alloc::AllocError;
+
+/// Tells of a line what is wrong with it.
+pub(crate) fn put_reason<'a>(
+    said: &mut Said,
+    line: &'a [u8],
+    reason: &'a str,
+) -> Result<(), AllocError> {
+    said.line(&[Part::Quote(line), Part::Words(": "), Part::Words(reason)])
+}
+
+// What is wrong with any line that is so.
+fn common_reason(line: &[u8]) -> Option<&'static str> {
+    match line {
+        _ if line.len() > MOST_LINE => Some("a line has at most 80 bytes"),
+        [.., b'\r'] => Some("a carriage return at its end; a line ends with a line feed alone"),
+        [.., b' '] => Some("a blank at its end"),
+        _ => None,
+    }
+}
+
+/// Tells what is wrong with a first line.
+pub(crate) fn put_header(said: &mut Said, line: &[u8]) -> Result<(), AllocError> {
+    if let Some(reason) = common_reason(line) {
+        return put_reason(said, line, reason);
+    }
+    let mut fields = line.split(|byte| *byte == b' ');
+    let is_record = fields.next().is_some_and(|word| word == b"boc".as_slice());
+    let version = fields.next().and_then(read_number);
+    let cowns = fields.next().and_then(read_number);
+    match (version, cowns) {
+        _ if !is_record => put_reason(said, line, "the first line of a record is `boc 2 COWNS`"),
+        (Some(version), _) if version != 1 && version != 2 => said.line(&[
+            Part::Quote(line),
+            Part::Words(": version "),
+            Part::Number(u64::from(version)),
+            Part::Words(", and 1 and 2 are read"),
+        ]),
+        (Some(_), Some(cowns)) if cowns > 256 => said.line(&[
+            Part::Quote(line),
+            Part::Words(": "),
+            Part::Number(u64::from(cowns)),
+            Part::Words(" cowns, and there are at most 256"),
+        ]),
+        _ => put_reason(
+            said,
+            line,
+            "the first line of a record is `boc 2 COWNS`, in plain decimals",
+        ),
+    }
+}
+
+/// Tells what is wrong with another line; in the first version of records an end has no cowns.
+pub(crate) fn put_form(said: &mut Said, line: &[u8], is_first: bool) -> Result<(), AllocError> {
+    if let Some(reason) = common_reason(line) {
+        return put_reason(said, line, reason);
+    }
+    match line {
+        [] => said.line(&[Part::Words("an empty line")]),
+        [b'#', ..] => put_reason(said, line, "a record has no comments"),
+        [b'@' | b'=', ..] => put_reason(
+            said,
+            line,
+            "names stand in a file of their own, for --names",
+        ),
+        [b'.', ..] => put_reason(said, line, "the last line is `.` alone"),
+        [sign @ (b'+' | b'>' | b'<'), b' ', fields @ ..] => {
+            put_fields(said, line, *sign, fields, is_first)
+        }
+        [b'+' | b'>' | b'<', ..] => put_reason(said, line, "a blank stands behind the sign"),
+        _ => put_reason(
+            said,
+            line,
+            "a line begins with `+`, `>` or `<`, and the last one is `.`",
+        ),
+    }
+}
+
+// What is wrong with the fields of a line.
+fn put_fields(
+    said: &mut Said,
+    line: &[u8],
+    sign: u8,
+    fields: &[u8],
+    is_first: bool,
+) -> Result<(), AllocError> {
+    let mut count: u64 = 0;
+    let mut third = 0;
+    for field in fields.split(|byte| *byte == b' ') {
+        let Some(number) = read_number(field) else {
+            return put_field(said, line, field);
+        };
+        if count == 2 {
+            third = number;
+        }
+        count = count.saturating_add(1);
+    }
+    let (form, least, most) = match sign {
+        b'+' => ("`+ ROW PARENT OFFSET COWN ..`, with at most 8 cowns", 3, 11),
+        b'>' => ("`> ROW`", 1, 1),
+        _ if is_first => ("`< ROW TICKS STATUS`, in version 1 without cowns", 3, 3),
+        _ => ("`< ROW TICKS STATUS COWN ..`, with at most 8 cowns", 3, 11),
+    };
+    if count < least || count > most {
+        return said.line(&[
+            Part::Quote(line),
+            Part::Words(": "),
+            Part::Many(count, "number"),
+            Part::Words("; the form is "),
+            Part::Words(form),
+        ]);
+    }
+    if sign == b'<' && third > 6 {
+        return put_reason(said, line, "a status is 0 to 6");
+    }
+    Ok(())
+}
+
+// What is wrong with a field that is no number.
+fn put_field<'a>(said: &mut Said, line: &'a [u8], field: &'a [u8]) -> Result<(), AllocError> {
+    let reason = match field {
+        [] => return put_reason(said, line, "two blanks; a single one stands between fields"),
+        [b'-', ..] => " is negative, and numbers are plain decimals",
+        [b'0', ..] if field.iter().all(|byte| byte.is_ascii_digit()) => " begins with a 0",
+        _ if field.iter().all(|byte| byte.is_ascii_digit()) => " is above 4294967295",
+        _ => " is no plain decimal",
+    };
+    said.line(&[
+        Part::Quote(line),
+        Part::Words(": "),
+        Part::Quote(field),
+        Part::Words(reason),
+    ])
+}

@@ -1,0 +1,149 @@
+// Names that aren't in scope, and names that are taken.
+
+use crate::declared::{Declaration, Thing, body_names, declared_as, top_names};
+use crate::said::{Part, Said};
+use crate::tokens::Word;
+use crate::view::line_number;
+use std::alloc::{AllocError, Global};
+
+/// What a name stands for at a place.
+#[derive(Clone, Copy, PartialEq, Eq)]
+enum Use {
+    /// A def, behind `when`.
+    Def,
+    /// A cown of a `when`.
+    Cown,
+    /// A value.
+    Value,
+}
+
+/// Tells of a name that isn't in scope what it is elsewhere.
+pub(crate) fn put_unknown(
+    alloc: Global,
+    said: &mut Said,
+    text: &[u8],
+    words: &[Word<'_>],
+    at: usize,
+) -> Result<(), AllocError> {
+    let Some(word) = words.iter().find(|word| word.at == at) else {
+        return Ok(());
+    };
+    let wanted = use_of(words, at);
+    let top = top_names(alloc, words)?;
+    let body = body_names(alloc, words, at)?;
+    let other = declared_as(&top, word.bytes, at).or(declared_as(&body, word.bytes, at));
+    match other {
+        Some(other) => {
+            put_other(said, text, &other, at)?;
+            put_wanted(said, wanted, &other)
+        }
+        None => said.line(&[
+            Part::Words(match wanted {
+                Use::Def => "no def is called ",
+                Use::Cown => "no cown is called ",
+                Use::Value => "no parameter and no `let` is called ",
+            }),
+            Part::Quote(word.bytes),
+        ]),
+    }
+}
+
+// Tells what a name is declared as.
+fn put_other(
+    said: &mut Said,
+    text: &[u8],
+    other: &Declaration<'_>,
+    at: usize,
+) -> Result<(), AllocError> {
+    let behind = other.name.at > at && matches!(other.thing, Thing::Local);
+    said.line(&[
+        Part::Quote(other.name.bytes),
+        Part::Words(" is "),
+        Part::Words(other.thing.called()),
+        Part::Words(if behind {
+            ", declared only behind it, on line "
+        } else {
+            ", declared on line "
+        }),
+        Part::Number(line_number(text, other.name.at)),
+    ])
+}
+
+// Tells what is asked for in place of what a name is.
+fn put_wanted(said: &mut Said, wanted: Use, other: &Declaration<'_>) -> Result<(), AllocError> {
+    let words = match (wanted, other.thing) {
+        (Use::Def, _) => "behind `when` stands a def",
+        (Use::Cown, _) => "a cown of a `when` is a global one or a cown parameter",
+        (Use::Value, Thing::Cown | Thing::Array) => {
+            "a body reads and writes a cown by a parameter alone: name it in the `when` that spawns the body"
+        }
+        (Use::Value, Thing::Def { .. }) => "only a `when` names a def",
+        (Use::Value, _) => "a `let` is in scope from behind its statement to the end of its block",
+    };
+    said.line(&[Part::Words(words)])
+}
+
+// What the name at a place stands for. It is a cown of a `when` behind the semicolon in its parentheses.
+fn use_of(words: &[Word<'_>], at: usize) -> Use {
+    let mut before = words.iter().rev().skip_while(|word| word.at >= at);
+    let mut depth: usize = 0;
+    let mut behind = false;
+    let mut first = true;
+    while let Some(word) = before.next() {
+        match word.bytes {
+            b"when" if first => return Use::Def,
+            b")" | b"]" => depth = depth.saturating_add(1),
+            b";" if depth == 0 => behind = true,
+            b"[" if depth == 0 => return Use::Value,
+            b"(" if depth == 0 => {
+                let called = before.nth(1).is_some_and(|word| word.is(b"when"));
+                return if called && behind {
+                    Use::Cown
+                } else {
+                    Use::Value
+                };
+            }
+            b"(" | b"[" => depth = depth.saturating_sub(1),
+            b"{" | b"}" => return Use::Value,
+            _ => {}
+        }
+        first = false;
+    }
+    Use::Value
+}
+
+/// Tells of a name that is taken what has it.
+pub(crate) fn put_taken(
+    alloc: Global,
+    said: &mut Said,
+    text: &[u8],
+    words: &[Word<'_>],
+    at: usize,
+) -> Result<(), AllocError> {
+    let Some(word) = words.iter().find(|word| word.at == at) else {
+        return Ok(());
+    };
+    let before = words.iter().rev().find(|word| word.at < at);
+    let declared = match before {
+        Some(before) if before.is(b"cown") => "a cown",
+        Some(before) if before.is(b"def") => "a def",
+        Some(before) if before.is(b"let") => "a `let`",
+        _ => "a parameter",
+    };
+    let top = top_names(alloc, words)?;
+    let body = body_names(alloc, words, at)?;
+    let Some(other) = declared_as(&top, word.bytes, at).or(declared_as(&body, word.bytes, at))
+    else {
+        return Ok(());
+    };
+    said.line(&[
+        Part::Quote(word.bytes),
+        Part::Words(" is "),
+        Part::Words(other.thing.called()),
+        Part::Words(", declared on line "),
+        Part::Number(line_number(text, other.name.at)),
+        Part::Words("; "),
+        Part::Words(declared),
+        Part::Words(" can't have its name"),
+    ])
+}

@@ -1,0 +1,150 @@
+// Faults of program texts.
+
+use crate::counted::{put_too_many, put_wrong_count};
+use crate::named::{put_taken, put_unknown};
+use crate::place::{Place, Text, looks_like_record};
+use crate::said::{Part, Said};
+use crate::shaped::put_unexpected;
+use crate::tokens::{Word, run_len, words_of};
+use crate::view::put_place;
+use boc_reader::{ReadFault, ReadFaultKind};
+use std::alloc::{AllocError, Global};
+
+/// What is told of a program text behind the line of its fault. There is nothing to tell where the place of the fault wasn't kept.
+pub fn explain_program(
+    alloc: Global,
+    text: Text<'_>,
+    place: Place<'_>,
+    fault: ReadFault,
+) -> Result<String, AllocError> {
+    let mut said = Said::new(alloc);
+    let at = fault.at as usize;
+    if text.bytes.is_empty() && text.whole {
+        put_nothing(&mut said, place)?;
+    } else if looks_like_record(text.bytes) {
+        put_record(&mut said, place)?;
+    } else if at <= text.bytes.len() {
+        put_fault(alloc, &mut said, text.bytes, fault.kind, at)?;
+    }
+    Ok(said.into_text())
+}
+
+/// Tells that a text has no bytes.
+pub(crate) fn put_nothing(said: &mut Said, place: Place<'_>) -> Result<(), AllocError> {
+    match place {
+        Place::Input(_) => said.line(&[Part::Words(
+            "nothing came in; if a command stood before it, did that fail?",
+        )]),
+        Place::Beside(_) => said.line(&[Part::Words("the file is empty")]),
+    }
+}
+
+// Tells that a record stands where a program is wanted.
+fn put_record(said: &mut Said, place: Place<'_>) -> Result<(), AllocError> {
+    said.line(&[
+        Part::Words("this looks like a record; "),
+        Part::Words(place.reader()),
+        Part::Words(match place {
+            Place::Input(_) =>
+                " reads programs: check, profile, whatif, why and cowns read records",
+            Place::Beside(_) => " takes a program",
+        }),
+    ])
+}
+
+fn put_fault(
+    alloc: Global,
+    said: &mut Said,
+    text: &[u8],
+    kind: ReadFaultKind,
+    at: usize,
+) -> Result<(), AllocError> {
+    let (_, rest) = text.split_at(at.min(text.len()));
+    match kind {
+        ReadFaultKind::NotAscii => {
+            put_place(said, text, at)?;
+            put_not_ascii(said, rest)
+        }
+        ReadFaultKind::BadToken => {
+            put_place(said, text, at)?;
+            put_bad_token(said, rest)
+        }
+        ReadFaultKind::NumberTooLarge => {
+            put_place(said, text, at)?;
+            put_large(said, rest)
+        }
+        ReadFaultKind::TooLong => {
+            said.line(&[Part::Words("a program text has at most 65536 bytes")])
+        }
+        ReadFaultKind::Memory => Ok(()),
+        ReadFaultKind::Unexpected => put_unexpected(alloc, said, text, at),
+        ReadFaultKind::UnknownName
+        | ReadFaultKind::NameTaken
+        | ReadFaultKind::WrongCount
+        | ReadFaultKind::TooMany => {
+            put_place(said, text, at)?;
+            let words = words_of(alloc, text)?;
+            put_word(alloc, said, text, &words, kind, at)
+        }
+    }
+}
+
+// A fault of the word at a place.
+fn put_word(
+    alloc: Global,
+    said: &mut Said,
+    text: &[u8],
+    words: &[Word<'_>],
+    kind: ReadFaultKind,
+    at: usize,
+) -> Result<(), AllocError> {
+    match kind {
+        ReadFaultKind::UnknownName => put_unknown(alloc, said, text, words, at),
+        ReadFaultKind::NameTaken => put_taken(alloc, said, text, words, at),
+        ReadFaultKind::WrongCount => put_wrong_count(alloc, said, text, words, at),
+        _ => put_too_many(said, words, at),
+    }
+}
+
+fn put_not_ascii(said: &mut Said, rest: &[u8]) -> Result<(), AllocError> {
+    let byte = rest.first().copied().unwrap_or(0);
+    said.line(&[
+        Part::Words("the byte "),
+        Part::Hex(byte),
+        Part::Words(" is not ASCII; a program text is, its comments too"),
+    ])
+}
+
+fn put_large(said: &mut Said, rest: &[u8]) -> Result<(), AllocError> {
+    let (digits, _) = rest.split_at(run_len(rest).min(rest.len()));
+    said.line(&[
+        Part::Quote(digits),
+        Part::Words(" is above 9223372036854775807, the greatest number"),
+    ])
+}
+
+// Bytes that form no token: a number that is none, a name that is too long, or a sign that there isn't.
+fn put_bad_token(said: &mut Said, rest: &[u8]) -> Result<(), AllocError> {
+    let (run, _) = rest.split_at(run_len(rest).min(rest.len()));
+    match run {
+        [] => {
+            let (sign, _) = rest.split_at(rest.len().min(1));
+            said.line(&[Part::Quote(sign), Part::Words(" begins no token")])
+        }
+        [b'0', others @ ..] if others.iter().all(|byte| byte.is_ascii_digit()) => {
+            said.line(&[
+                Part::Quote(run),
+                Part::Words(": a number begins with no 0, but for 0 itself"),
+            ])
+        }
+        [first, ..] if first.is_ascii_digit() => said.line(&[
+            Part::Quote(run),
+            Part::Words(": what begins with a digit is a number, and has digits alone"),
+        ]),
+        _ => said.line(&[
+            Part::Quote(run),
+            Part::Words(": a name has at most 32 bytes, and this one "),
+            Part::Number(run.len() as u64),
+        ]),
+    }
+}

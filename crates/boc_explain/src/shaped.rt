@@ -1,0 +1,119 @@
+// A token that isn't allowed where it stands, or the end of a text.
+
+use crate::allowed::{Allowed, allowed_behind, told};
+use crate::said::{Part, Said};
+use crate::tokens::{Word, is_keyword, words_of};
+use crate::view::{line_number, put_place};
+use std::alloc::{AllocError, Global};
+
+// The most tokens that are told to be allowed.
+const MOST_TOLD: usize = 3;
+
+/// Tells what isn't allowed at a place, and what is.
+pub(crate) fn put_unexpected(
+    alloc: Global,
+    said: &mut Said,
+    text: &[u8],
+    at: usize,
+) -> Result<(), AllocError> {
+    let words = words_of(alloc, text)?;
+    let found = words.iter().find(|word| word.at == at).copied();
+    let before = words.iter().rev().find(|word| word.at < at).copied();
+    if is_size(&words, at) {
+        put_place(said, text, at)?;
+        return said.line(&[Part::Words("an array has 1 to 256 members")]);
+    }
+    let (front, _) = text.split_at(at.min(text.len()));
+    let bytes: &[u8] = match &found {
+        Some(word) => word.bytes,
+        None => b"",
+    };
+    let allowed = allowed_behind(alloc, front, bytes)?;
+    if let Some(before) = before
+        && allowed.semicolon
+        && line_number(text, before.at) < line_number(text, at)
+    {
+        put_place(said, text, before.end())?;
+        return said.line(&[
+            Part::Words("a `;` is missing behind "),
+            Part::Quote(before.bytes),
+            Part::Words(" on line "),
+            Part::Number(line_number(text, before.at)),
+        ]);
+    }
+    put_place(said, text, at)?;
+    put_found(said, text, found, before)?;
+    put_allowed(said, bytes, &allowed)
+}
+
+// The word is the size of an array, which is told only where it is 0.
+fn is_size(words: &[Word<'_>], at: usize) -> bool {
+    let mut before = words.iter().rev().skip_while(|word| word.at > at);
+    let zero = before
+        .next()
+        .is_some_and(|word| word.at == at && word.is(b"0"));
+    let bracket = before.next().is_some_and(|word| word.is(b"["));
+    let named = before.next().is_some_and(|word| word.is_name());
+    zero && bracket && named && before.next().is_some_and(|word| word.is(b"cown"))
+}
+
+// What was found, and behind what.
+fn put_found<'a>(
+    said: &mut Said,
+    text: &[u8],
+    found: Option<Word<'a>>,
+    before: Option<Word<'a>>,
+) -> Result<(), AllocError> {
+    let (what, quoted) = match found {
+        Some(word) => (Part::Quote(word.bytes), " is not allowed"),
+        None => (Part::Words("the text"), " can't end"),
+    };
+    match before {
+        Some(before) => said.line(&[
+            what,
+            Part::Words(quoted),
+            Part::Words(" behind "),
+            Part::Quote(before.bytes),
+            Part::Words(" on line "),
+            Part::Number(line_number(text, before.at)),
+        ]),
+        None => said.line(&[what, Part::Words(quoted), Part::Words(" at the beginning")]),
+    }
+}
+
+// What is allowed in place of these bytes.
+fn put_allowed(said: &mut Said, bytes: &[u8], allowed: &Allowed) -> Result<(), AllocError> {
+    if allowed.name && is_keyword(bytes) {
+        return said.line(&[
+            Part::Words("a name is allowed there, and "),
+            Part::Quote(bytes),
+            Part::Words(" is a keyword"),
+        ]);
+    }
+    let mut tokens = allowed.tokens.iter().copied();
+    let Some(first) = tokens.next() else {
+        return said.line(&[Part::Words(
+            "nothing is allowed there: a program ends with main's block",
+        )]);
+    };
+    let (second, comma) = part_of(tokens.next());
+    let (third, other_comma) = part_of(tokens.next());
+    let more = allowed.tokens.len() > MOST_TOLD;
+    said.line(&[
+        Part::Words("allowed there: "),
+        told(first),
+        comma,
+        second,
+        other_comma,
+        third,
+        Part::Words(if more { ", .." } else { "" }),
+    ])
+}
+
+// How a token is told that may be there, and what stands before it.
+fn part_of(token: Option<&'static [u8]>) -> (Part<'static>, Part<'static>) {
+    match token {
+        Some(token) => (told(token), Part::Words(", ")),
+        None => (Part::Words(""), Part::Words("")),
+    }
+}

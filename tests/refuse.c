@@ -1,6 +1,7 @@
 /*
  * Preloaded to a program, this refuses one of its requests for memory: the one whose number stands in the environment
- * as REFUSED_REQUEST, counted from 1. As it does so, it writes a byte to the file whose number is REFUSAL_NOTE, so that
+ * as REFUSED_REQUEST, counted from 1, or the start of a thread whose number among the starts stands there as
+ * REFUSED_START. As it does so, it writes a byte to the file whose number is REFUSAL_NOTE, so that
  * a test can tell whether the program made so many requests, and of what kind this one was: `t` for the start of a thread, `w` for a
  * request of a thread that was started, and `m` for one of the first thread. The start of a thread is a request too, since a thread has
  * memory of its own, which the C library takes from the system.
@@ -26,23 +27,33 @@ typedef int start_thread(pthread_t *thread, const pthread_attr_t *attributes, vo
 
 static start_thread *start;
 static long refused_request;
+static long refused_start;
 static long requests;
+static long starts;
 static int note;
 
 __attribute__((constructor)) static void begin_to_count(void)
 {
     const char *request = getenv("REFUSED_REQUEST");
+    const char *begun = getenv("REFUSED_START");
     const char *file = getenv("REFUSAL_NOTE");
     *(void **)&start = dlsym(RTLD_NEXT, "pthread_create");
-    if (request != NULL && file != NULL) {
+    if (file != NULL) {
         note = atoi(file);
-        refused_request = atol(request);
+        refused_request = request != NULL ? atol(request) : 0;
+        refused_start = begun != NULL ? atol(begun) : 0;
     }
+}
+
+/* Counts one more, and tells whether it is the one that is refused, which none is where that is 0. */
+static int is_due(long *count, long refused)
+{
+    return refused != 0 && __atomic_add_fetch(count, 1, __ATOMIC_SEQ_CST) == refused;
 }
 
 static int is_refused(int is_start)
 {
-    if (refused_request == 0 || __atomic_add_fetch(&requests, 1, __ATOMIC_SEQ_CST) != refused_request) {
+    if (!is_due(&requests, refused_request) && !(is_start && is_due(&starts, refused_start))) {
         return 0;
     }
     const char *kind = is_start ? "t" : syscall(SYS_gettid) == getpid() ? "m" : "w";

@@ -171,24 +171,14 @@ def fault_of_told(told, has_run):
 
 def fault_of_late_start(program, library):
     """Where the second thread can't be started, the first one ends, and what it would come to later is told by nobody."""
-    starts = 0
-    for request in range(1, MOST_REQUESTS):
-        answer, note = run_with_refusal(program, library, ["run", "--workers", "2"], FOREVER, request)
-        if note == b"t":
-            starts += 1
-            if fault_of(NO_THREAD, answer) is not None:
-                return f"with request {request} refused: {fault_of(NO_THREAD, answer)}"
-            if starts == 2:
-                return None
-        if not note:
-            return "no second thread was started"
-    return f"it makes more than {MOST_REQUESTS} requests"
+    answer, note = run_with_refusal(program, library, ["run", "--workers", "2"], FOREVER, 2, "REFUSED_START")
+    return fault_of(NO_THREAD, answer) if note == b"t" else "no second thread was started"
 
 
-def run_with_refusal(program, library, words, source, request):
-    """The answer where this request is refused, and of which kind it was, which is nothing where it was not made."""
+def run_with_refusal(program, library, words, source, number, counted="REFUSED_REQUEST"):
+    """The answer where the request, or the start, of this number is refused, and of which kind it was: nothing where it was not made."""
     reading, writing = os.pipe()
-    environment = dict(os.environ, LD_PRELOAD=library, REFUSED_REQUEST=str(request), REFUSAL_NOTE=str(writing))
+    environment = dict(os.environ, LD_PRELOAD=library, REFUSAL_NOTE=str(writing), **{counted: str(number)})
     try:
         answer = program.run(words, source, timeout=SECONDS, env=environment, pass_fds=[writing])
     finally:

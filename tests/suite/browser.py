@@ -1,19 +1,18 @@
-"""The pages and drawings in a browser without a window: where no Chromium is on the PATH, the packages of Debian bring one, if they can be had."""
+"""The pages and drawings in a browser without a window: where no Chromium is on the PATH, a package of Debian brings one, if that can be had."""
 import html
 import json
 import os
 import re
-import shutil
 import struct
 import subprocess
 import tempfile
 import zlib
 
+from .packages import command_of
 from .pictures import view_of
 from .why import rows_of
 
-# How long the packages may take, and how long a page.
-MINUTES = 300
+# How long a page may take.
 SECONDS = 60
 
 # Asks a page, once it stands, what a person would look at, and leaves the answers in its text.
@@ -57,20 +56,6 @@ window.addEventListener('load', () => {
 FAULTS = "<script>window.faults = []; window.onerror = text => { window.faults.push(text); };</script>"
 
 
-def chromium():
-    """The browser, which is taken from Debian's packages where there is none."""
-    for name in ("chromium", "chromium-browser", "google-chrome"):
-        if shutil.which(name):
-            return shutil.which(name)
-    if os.geteuid() == 0 and shutil.which("apt-get"):
-        try:
-            for command in (["apt-get", "update", "-qq"], ["apt-get", "install", "-y", "-qq", "--no-install-recommends", "chromium"]):
-                subprocess.run(command, capture_output=True, timeout=MINUTES, check=False)
-        except subprocess.TimeoutExpired:
-            pass
-    return shutil.which("chromium")
-
-
 def run(browser, words):
     """What the browser writes, nothing where it hangs. It reaches no other machine."""
     command = [browser, "--headless", "--no-sandbox", "--disable-gpu", "--disable-dev-shm-usage", "--hide-scrollbars",
@@ -82,7 +67,7 @@ def run(browser, words):
 
 
 def cases(program):
-    browser = chromium()
+    browser = command_of("chromium", "chromium", "chromium-browser", "google-chrome")
     if browser is None:
         print("note: no page was opened, since there is no Chromium and its package can't be had", flush=True)
         return

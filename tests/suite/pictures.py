@@ -5,20 +5,22 @@ import json
 import os
 import random
 import re
-import shutil
 import subprocess
 import tempfile
 import time
 import xml.etree.ElementTree as tree_of
+from concurrent.futures import ThreadPoolExecutor
 
 from . import memory, model, shipped
+from .packages import command_of
 from .plans import random_rows, record_of
 from .records import fan, fan_text
 from .running import DEVICE, Program, done, fault_of, refused
 from .why import rows_of
 
-# How many records are drawn at random.
+# How many records are drawn at random as text and as traces, and of how many every picture is drawn and read by xmllint.
 RANDOM = 60
+DRAWN = 200
 
 TRANSFER = b"""\
 rows 4   work 11   span 9
@@ -58,6 +60,36 @@ NAMES = b"""= 0 <start> & "go"
 @ 0 <c>
 """
 
+# What xmllint says of an element of a drawing, which HTML didn't have before its fifth version.
+OF_A_DRAWING = re.compile(r"Tag (circle|g|line|path|polyline|rect|svg|text) invalid$")
+
+# What is wrong with a drawing and with a page: what stands there, and what is put in its place. xmllint is to refuse each.
+BROKEN_DRAWINGS = [(b"</g>", b""), (b"row 0", b"row & 0"), (b'id="r0"', b'id="r0" id="r0"'), (b'id="r0"', b"id=r0"), (b"row 0", b"row < 0"),
+                   (b"</svg>", b"</svg><p/>"), (b"row 0", b"row \x01 0"), (b"row 0", b"row \xff 0")]
+BROKEN_PAGES = [(b"</div>", b""), (b"</table>", b""), (b"</h1>", b"</h2>"), (b"</script>", b""), (b"row 0", b"row & 0"), (b'id="r1"', b'id="r0"'),
+                (b"<td>", b"<cell>"), (b"row 0", b"row \x01 0")]
+
+
+class Pictures:
+    """Drawings and pages that are kept for xmllint, each with a name."""
+
+    def __init__(self):
+        self.drawings = []
+        self.pages = []
+
+    def keep_drawing(self, name, text):
+        self.drawings.append((name, text))
+
+    def keep_page(self, name, text):
+        self.pages.append((name, text))
+        for number, drawing in enumerate(drawings_of(text)):
+            self.keep_drawing(f"{name}, its drawing {number}", drawing)
+
+
+def drawings_of(page):
+    """The drawings in a page."""
+    return re.findall(rb"<svg.*?</svg>", page, re.DOTALL)
+
 
 def view_of(program):
     """The program that draws, built beside this one."""
@@ -70,10 +102,12 @@ def cases(program):
     if not os.access(view.path, os.X_OK):
         yield "the program", f"there is none at {view.path}"
         return
+    pictures = Pictures()
     yield from texts(program, view)
-    yield from drawings(program, view)
+    yield from drawings(program, view, pictures)
     yield from traces(view)
-    yield from names_that_mean_something(view)
+    yield from names_that_mean_something(view, pictures)
+    yield from read_by_xmllint(program, view, pictures)
     yield from words(view)
     yield from operands(view)
     yield from at_the_limit(view)
@@ -100,15 +134,15 @@ def texts(program, view):
                 output = view.run(["text", *command, "--width", str(width)], source).output
                 longest = max(map(len, output.splitlines()), default=0)
                 yield f"text: {command} in {width} columns", None if 0 < longest <= width else f"a line has {longest}"
-    for number, rows in enumerate(random_records(0)):
+    for number, rows in enumerate(random_records(0, RANDOM)):
         if len(rows) <= 60:
             yield f"text: {number}", fault_of_lines(view.run(["text", "--width", "1000"], record_of(rows)).output, rows)
 
 
-def random_records(seed):
-    """The rows of records by chance."""
+def random_records(seed, count):
+    """The rows of so many records by chance."""
     chance, found = random.Random(seed), []
-    while len(found) < RANDOM:
+    while len(found) < count:
         rows = random_rows(chance)
         if record_of(rows):
             found.append(rows)
@@ -221,26 +255,42 @@ def fault_of_drawing(svg, rows):
     return None
 
 
-def drawings(program, view):
+def drawings(program, view, pictures):
     chance = random.Random(5)
     many = fan(300, lambda number: (chance.randrange(4),), lambda number: chance.randrange(1, 30))
-    for number, rows in enumerate([*random_records(1), many]):
-        record = fan_text(4, rows) if rows is many else record_of(rows)
-        svg = view.run(["plan"], record).output
-        yield f"plan: {number}", fault_of_drawing(svg, rows)
-        yield f"plan: {number} for workers", fault_of_xml(view.run(["plan", "--p", "2"], record).output)
-        yield f"curve: {number}", fault_of_xml(view.run(["curve"], record).output)
-        yield f"page: {number}", fault_of_page(view.run(["page"], record).output, rows)
-    for name in sorted(os.listdir(program.examples)):
-        if name.endswith(".boc") and program.run(["run"], program.example(name)).status == 0:
-            drawn = [view.run(["plan", *words_], program.example(name)).output for words_ in ([], ["--p", "4"])]
-            yield f"plan: {name}", next(filter(None, map(fault_of_xml, drawn)), None)
-            yield f"plan: {name}: its texts are apart", next(filter(None, map(fault_of_texts, drawn)), None)
-            yield f"page: {name}", fault_of_page(view.run(["page"], program.example(name)).output, rows_of(program.run(["run"], program.example(name)).output)[0])
+    records = [(record_of(rows), rows) for rows in random_records(1, DRAWN)] + [(fan_text(4, many), many)]
+    for number, ((_, rows), drawn) in enumerate(zip(records, drawn_of(view, [record for record, _ in records], "2"))):
+        yield f"plan: {number}", fault_of_drawing(drawn[0], rows)
+        yield from pictures_of(str(number), drawn, rows, pictures)
+    examples = [(name, program.example(name)) for name in sorted(os.listdir(program.examples)) if name.endswith(".boc")]
+    examples = [(name, text) for name, text in examples if program.run(["run"], text).status == 0]
+    for (name, text), drawn in zip(examples, drawn_of(view, [text for _, text in examples], "4")):
+        yield f"plan: {name}", fault_of_xml(drawn[0])
+        yield f"plan: {name}: its texts are apart", next(filter(None, map(fault_of_texts, drawn[:2])), None)
+        yield from pictures_of(name, drawn, rows_of(program.run(["run"], text).output)[0], pictures)
     for path, command in (("docs/transfer.svg", ["plan"]), ("docs/pipeline.html", ["page"])):
         with open(os.path.join(shipped.TOP, path), "rb") as file:
             source = program.example("transfer.boc" if command == ["plan"] else "pipeline.boc")
             yield path, fault_of(done(file.read()), view.run(command, source))
+
+
+def drawn_of(view, sources, workers):
+    """Of each of these inputs the plan, the plan for so many workers, the curve and the page. They are drawn side by side."""
+    commands = [["plan"], ["plan", "--p", workers], ["curve"], ["page"]]
+    with ThreadPoolExecutor() as pool:
+        return list(pool.map(lambda source: [view.run(command, source).output for command in commands], sources))
+
+
+def pictures_of(name, drawn, rows, pictures):
+    """What is drawn of an input is looked at, and kept."""
+    plan, plan_for_workers, curve, page = drawn
+    yield f"plan: {name} for workers", fault_of_xml(plan_for_workers)
+    yield f"curve: {name}", fault_of_xml(curve)
+    yield f"page: {name}", fault_of_page(page, rows)
+    pictures.keep_drawing(f"plan: {name}", plan)
+    pictures.keep_drawing(f"plan: {name} for workers", plan_for_workers)
+    pictures.keep_drawing(f"curve: {name}", curve)
+    pictures.keep_page(f"page: {name}", page)
 
 
 def fault_of_texts(svg):
@@ -257,7 +307,7 @@ def fault_of_texts(svg):
 
 
 def fault_of_xml(text):
-    """It is one element, with no script, no font and no picture from outside; xmllint reads it too, where it is there."""
+    """It is one element, with no script, no font and no picture from outside."""
     try:
         tree_of.fromstring(text)
     except tree_of.ParseError as error:
@@ -265,18 +315,60 @@ def fault_of_xml(text):
     rest = text.replace(b"http://www.w3.org/2000/svg", b"")
     if b"http" in rest or b"url(" in rest or b"<script" in rest or b"@import" in rest:
         return "it takes something from outside, or has a script"
-    if shutil.which("xmllint"):
-        run = subprocess.run(["xmllint", "--noout", "-"], input=text, capture_output=True, check=False)
-        return None if run.returncode == 0 else f"xmllint says {run.stderr[:80]}"
     return None
+
+
+def read_by_xmllint(program, view, pictures):
+    """xmllint reads all drawings and all pages, in a few runs, and refuses each one that is broken."""
+    xmllint = command_of("libxml2-utils", "xmllint")
+    if xmllint is None:
+        print("note: no drawing and no page was read by xmllint, since there is none and its package can't be had", flush=True)
+        return
+    transfer = program.example("transfer.boc")
+    drawing, page = view.run(["plan"], transfer).output, view.run(["page"], transfer).output
+    for what, texts, faults_of, whole, changes in (("drawings", pictures.drawings, faults_of_drawings, drawing, BROKEN_DRAWINGS),
+                                                   ("pages", pictures.pages, faults_of_pages, page, BROKEN_PAGES)):
+        faults = faults_of(xmllint, [text for _, text in texts])
+        for (name, _), fault in zip(texts, faults):
+            if fault is not None:
+                yield f"xmllint: {name}", fault
+        yield f"xmllint: {len(texts)} {what}", None if len(texts) > DRAWN else "there are too few"
+        broken = [whole.replace(old, new, 1) for old, new in changes]
+        for change, text, fault in zip(changes, broken, faults_of(xmllint, broken)):
+            yield f"xmllint: {what} with {change}", "nothing stands there" if text == whole else "it was taken" if fault is None else None
+
+
+def faults_of_drawings(xmllint, texts):
+    """What xmllint says of each of these drawings."""
+    return said_by(xmllint, [], texts)
+
+
+def faults_of_pages(xmllint, texts):
+    """What xmllint says of each of these pages, as HTML, and as XML, which alone asks for an end of each element. A script has signs that XML doesn't take."""
+    bare = [re.sub(rb"(?<=<script>).*(?=</script>)", b"", text, flags=re.DOTALL) for text in texts]
+    return [one or other for one, other in zip(said_by(xmllint, ["--html"], texts), said_by(xmllint, [], bare))]
+
+
+def said_by(xmllint, options, texts):
+    """The first line of what xmllint says of each of these texts, which it reads in one run; None of one that it takes."""
+    with tempfile.TemporaryDirectory() as folder:
+        for number, text in enumerate(texts):
+            with open(os.path.join(folder, str(number)), "wb") as file:
+                file.write(text)
+        run = subprocess.run([xmllint, *options, "--noout", *map(str, range(len(texts)))], cwd=folder, capture_output=True, check=False)
+    said = [None] * len(texts)
+    for line in run.stderr.decode(errors="replace").splitlines():
+        found = re.match(r"(\d+):(\d+: .*)", line)
+        if found and not OF_A_DRAWING.search(line) and said[int(found.group(1))] is None:
+            said[int(found.group(1))] = f"line {found.group(2)}"
+    return said if any(said) or run.returncode == 0 else [f"xmllint ended with {run.returncode}: {run.stderr[:80]}"] * len(texts)
 
 
 def fault_of_page(text, rows):
     """Its drawings are XML, its tables have the sweep and the chain, and nothing comes from outside."""
-    drawings_in = re.findall(rb"<svg.*?</svg>", text, re.DOTALL)
-    if len(drawings_in) != 2:
-        return f"{len(drawings_in)} drawings"
-    faults = [fault_of_xml(it) for it in drawings_in]
+    if len(drawings_of(text)) != 2:
+        return f"{len(drawings_of(text))} drawings"
+    faults = [fault_of_xml(it) for it in drawings_of(text)]
     if any(faults):
         return next(filter(None, faults))
     if b"http" in text.replace(b"http://www.w3.org/2000/svg", b"") or b"src=" in text:
@@ -295,7 +387,7 @@ def fault_of_page(text, rows):
 
 
 def traces(view):
-    for number, rows in enumerate(random_records(2)):
+    for number, rows in enumerate(random_records(2, RANDOM)):
         yield f"trace: {number}", fault_of_trace(view.run(["trace", "--p", "3"], record_of(rows)).output, rows)
 
 
@@ -320,13 +412,15 @@ def fault_of_trace(text, rows):
     return None if len(arrows) == len(links) - 1 else f"{len(arrows)} arrows along a chain of {len(links)} rows"
 
 
-def names_that_mean_something(view):
+def names_that_mean_something(view, pictures):
     """What means something in XML or JSON is escaped."""
     record = record_of([model.Row(0, 0, (), 4), model.Row(0, 1, (0,), 2), model.Row(0, 2, (0,), 2)])
     for command in ("plan", "curve", "page"):
         output = view.run_beside([command], "--names", NAMES, record).output
-        for drawing in re.findall(rb"<svg.*?</svg>", output, re.DOTALL):
+        for drawing in drawings_of(output):
             yield f"{command}: names are escaped", fault_of_xml(drawing)
+        keep = pictures.keep_page if command == "page" else pictures.keep_drawing
+        keep(f"{command}: names are escaped", output)
         yield f"{command}: no raw name", "it stands there" if b"<start>" in output or b"<c>" in output else None
     events = json.loads(view.run_beside(["trace"], "--names", NAMES, record).output)["traceEvents"]
     names = {it["name"] for it in events if it["ph"] == "X"}

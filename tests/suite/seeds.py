@@ -1,13 +1,16 @@
 """Runs that a seed draws: each is one of the program, the same each time, and of several seeds several are drawn."""
 import random
+from concurrent.futures import ThreadPoolExecutor
 
-from .programs import Program, follow
+from .programs import follow
 from .random_programs import random_program
+from .record_reader import read_record
 from .running import done, fault_of, refused
 
-# Programs by chance, each from this seed and its number, and the seeds that draw their runs.
+# Programs by chance, each from this seed and its number; of how many all is compared that is told of a run; and the seeds that draw their runs.
 SEED = 20261128
-PROGRAMS = 100
+PROGRAMS = 500
+COMPARED = 100
 SEEDS = ["0", "1", "7", "4294967296", "18446744073709551615"]
 WORKERS = ["1", "2", "4", "16"]
 
@@ -23,12 +26,7 @@ ENDS = {b"a 4\nb 0\nc 0\n", b"a 3\nb 0\nc 0\n"}
 
 
 def cases(program):
-    for number in range(PROGRAMS):
-        chance = random.Random(f"{SEED} {number}")
-        model, text = random_program(chance)
-        seed, workers = chance.choice(SEEDS), chance.choice(WORKERS)
-        for name, fault in of_program(program, model, text, ["--workers", workers, "--seed", seed]):
-            yield f"random program {number}, {workers} workers, seed {seed}: {name}", fault
+    yield from random_programs(program)
     yield from race(program)
     for words in (["--seed", "-1"], ["--seed", "18446744073709551616"], ["--seed", "x"], ["--seed"], ["--seed", "1", "--seed", "2"]):
         for command in ("run", "time"):
@@ -38,6 +36,36 @@ def cases(program):
     yield "a wrong text", fault_of(refused(3, "boc: line 1: 2 BadToken"), program.run(["run", "--seed", "1"], b"main { ? }"))
     many = b"cown a = 0; def f(; x) { repeat 300 { when g(; a); } } def g(; x) { x = 1; } main { repeat 300 { when f(; a); } }"
     yield "too many behaviours", fault_of(refused(4, "boc: run: 2 Behaviours"), program.run(["run", "--workers", "3", "--seed", "5"], many))
+
+
+def random_programs(program):
+    """Of each program by chance a run by every seed, and of some all that is told of one of these runs."""
+    models, runs = [], []
+    for number in range(PROGRAMS):
+        chance = random.Random(f"{SEED} {number}")
+        model, text = random_program(chance)
+        seed, workers = chance.choice(SEEDS), chance.choice(WORKERS)
+        if number < COMPARED:
+            for name, fault in of_program(program, model, text, ["--workers", workers, "--seed", seed]):
+                yield f"random program {number}, {workers} workers, seed {seed}: {name}", fault
+        models.append(model)
+        runs += [(number, text, chance.choice(WORKERS), seed) for seed in SEEDS]
+    with ThreadPoolExecutor() as pool:
+        answers = pool.map(lambda run: program.run(["run", "--workers", run[2], "--seed", run[3]], run[1]), runs)
+        for (number, _, workers, seed), answer in zip(runs, answers):
+            yield f"random program {number}, {workers} workers, seed {seed}: its record", fault_of_record(models[number], answer)
+
+
+def fault_of_record(model, answer):
+    """The answer is a record that keeps the rules of runs, and is that of a run of the program."""
+    if answer is None or answer.status != 0:
+        return f"the answer {answer}"
+    try:
+        read_record(answer.output)
+        follow(model, answer.output)
+    except Exception as fault:
+        return f"the record is refused: {fault!r}"
+    return fault_of(done(answer.output), answer)
 
 
 def of_program(program, model, text, words):

@@ -13,8 +13,8 @@ pub(crate) fn put_reason<'a>(
     said.line(&[Part::Quote(line), Part::Words(": "), Part::Words(reason)])
 }
 
-// What is wrong with any line that is so.
-fn common_reason(line: &[u8]) -> Option<&'static str> {
+/// What is wrong with any line that is so.
+pub(crate) fn common_reason(line: &[u8]) -> Option<&'static str> {
     match line {
         _ if line.len() > MOST_LINE => Some("a line has at most 80 bytes"),
         [.., b'\r'] => Some("a carriage return at its end; a line ends with a line feed alone"),
@@ -122,17 +122,24 @@ fn put_fields(
 
 // What is wrong with a field that is no number.
 fn put_field<'a>(said: &mut Said, line: &'a [u8], field: &'a [u8]) -> Result<(), AllocError> {
-    let reason = match field {
-        [] => return put_reason(said, line, "two blanks; a single one stands between fields"),
-        [b'-', ..] => " is negative, and numbers are plain decimals",
-        [b'0', ..] if field.iter().all(|byte| byte.is_ascii_digit()) => " begins with a 0",
-        _ if field.iter().all(|byte| byte.is_ascii_digit()) => " is above 4294967295",
-        _ => " is no plain decimal",
-    };
+    if field.is_empty() {
+        return put_reason(said, line, "two blanks; a single one stands between fields");
+    }
     said.line(&[
         Part::Quote(line),
         Part::Words(": "),
         Part::Quote(field),
-        Part::Words(reason),
+        Part::Words(reason_of(field)),
     ])
+}
+
+/// Why a word is no number.
+pub(crate) fn reason_of(word: &[u8]) -> &'static str {
+    match word {
+        [] => " is no plain decimal",
+        [b'-', ..] => " is negative, and numbers are plain decimals",
+        [b'0', ..] if word.iter().all(|byte| byte.is_ascii_digit()) => " begins with a 0",
+        _ if word.iter().all(|byte| byte.is_ascii_digit()) => " is above 4294967295",
+        _ => " is no plain decimal",
+    }
 }

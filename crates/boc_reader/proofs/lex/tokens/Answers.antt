@@ -60,8 +60,10 @@ loop-first-preserved c =
 pub returns-in-Err-clause-tokens : goal.returns-in-Err-clause-tokens
 returns-in-Err-clause-tokens c =
     let text = c.args.text.now in
-    let rest = c.loop-first.rest.now in
-    (omega (arith, c.in-Some.ensures.cases.1), wrong_behind text rest (tokens_of c.loop-first.all.items) c.in-Err.kind c.loop-first.invariant.0 c.in-Err.ensures.read)
+    let rest = c.loop-first.rest.now in (
+      omega (arith, c.in-Some.ensures.cases.1),
+      wrong_behind text rest (tokens_of c.loop-first.all.items) c.in-Err.kind c.loop-first.invariant.0 c.in-Err.ensures.read,
+    )
 
 pub returns-clause-tokens : goal.returns-clause-tokens
 returns-clause-tokens c =

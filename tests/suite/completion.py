@@ -12,13 +12,15 @@ import subprocess
 import tempfile
 import threading
 import time
-from typing import NamedTuple
+from typing import Callable, NamedTuple
 
 from .pictures import view_of
 
 TOP = os.path.dirname(os.path.dirname(os.path.dirname(os.path.abspath(__file__))))
 FOLDER = os.path.join(TOP, "completions")
 PAGES = os.path.join(TOP, "man")
+
+PROGRAMS = ("boc", "boc-view")
 
 # What is tried, and the package of each.
 PACKAGES = {"bash": "bash", "zsh": "zsh", "fish": "fish", "man": "man-db"}
@@ -31,10 +33,8 @@ SECONDS = 30
 # What is in the folder in which files are completed.
 FILES = {"a.boc", "folder", "run.record"}
 
-# An edit that is begun. fish has files behind any equals sign, so it is not asked.
-EDIT = "boc whatif 2="
-
 OPTION = re.compile(r"(?<![\w-])--?[A-Za-z][a-z-]*")
+FUNCTION = re.compile(r"^(?:function ([\w-]+)|([\w-]+)\(\) \{)$", re.MULTILINE)
 HELP_OPTION = re.compile(r"^ {2,6}(?:(-\w)(?:, |  |$))?(--[\w-]+)?(?: <(\w+)>)?(?:  .*)?$")
 
 
@@ -83,8 +83,8 @@ def help_in(text):
 
 def in_bash(text):
     commands = re.search(r"commands='(.*)'", text).group(1).split()
-    arms = re.findall(r"^    ('')?(\w*)\) echo (.*) ;;$", text, re.MULTILINE)
-    return {**{name: set() for name in commands}, **{name: set(options.split()) for _, name, options in arms}}
+    arms = re.findall(r"^    (''|\w[\w |]*)\) echo (.*) ;;$", text, re.MULTILINE)
+    return {**{name: set() for name in commands}, **{name: set(options.split()) for arm, options in arms for name in arm.strip("'").split(" | ")}}
 
 
 def in_zsh(text):
@@ -92,22 +92,24 @@ def in_zsh(text):
     # A list of options that exclude this one, and what is said of it, name none.
     lists = {name: set(OPTION.findall(re.sub(r"'\([^)]*\)|\[[^\]]*\]", " ", specs)))
              for name, specs in re.findall(r"^    local -a (\w+)=\((.*)\)$", text, re.MULTILINE)}
-    arms = re.findall(r"^    (\w+)\) _arguments(?: -S)? (.*) ;;$", text, re.MULTILINE)
+    arms = re.findall(r"^    (\w[\w |]*)\) _arguments(?: -S)? (.*) ;;$", text, re.MULTILINE)
     arms.append(("", re.search(r"_arguments -S -C (.*) '", text).group(1)))
-    found = {name: set().union(*(lists[it] for it in re.findall(r"\$(\w+)", words))) for name, words in arms}
+    found = {name: set().union(*(lists[it] for it in re.findall(r"\$(\w+)", words))) for arm, words in arms for name in arm.split(" | ")}
     return {**{name: set() for name in commands}, **found}
 
 
 def in_fish(text):
     """A condition is that one of these commands stands on the line, or that none does, or all but that."""
-    commands = re.findall(r"^complete -c boc -n '__boc_is; or __boc_is help' -a (\w+) ", text, re.MULTILINE)
+    called = re.search(r"^complete -c (\S+) -f$", text, re.MULTILINE).group(1)
+    is_one = f"__{called.replace('-', '_')}_is"
+    commands = re.findall(rf"^complete -c {called} -n '{is_one}; or {is_one} help' -a (\w+) ", text, re.MULTILINE)
     found = {name: set() for name in ["", *commands]}
-    for plain, quoted, words in re.findall(r"^complete -c boc -n (?:(\w+)|'([^']*)') (.*)$", text, re.MULTILINE):
+    for plain, quoted, words in re.findall(rf"^complete -c {called} -n (?:(\w+)|'([^']*)') (.*)$", text, re.MULTILINE):
         condition = (plain or quoted).split()
         names = set(found) - set(condition[2:]) if condition[0] == "not" else set(condition[1:]) or {""}
         options = {"-" + it for it in re.findall(r"-s (\w)\b", words)} | {"--" + it for it in re.findall(r"-l ([\w-]+)", words)}
         if options:
-            for name in names:
+            for name in names & set(found):
                 found[name] |= options
     return found
 
@@ -159,21 +161,24 @@ def fault_of_page(helps, text, called):
 # The shells.
 
 class Wanted(NamedTuple):
-    """A line before the cursor, and what it may be completed to."""
+    """A line before the cursor, and what it may be completed to. fish has files behind any equals sign, and options behind any dash: it is not asked there."""
     line: str
     words: set
+    is_for_fish: bool = True
 
 
-def questions(helps):
+def questions(called, helps):
     commands = set(helps) - {""}
-    yield Wanted("boc ", commands)
-    yield Wanted("boc help ", commands)
-    yield Wanted("boc wh", {it for it in commands if it.startswith("wh")})
-    yield Wanted("boc what is ", set())
-    yield Wanted(EDIT, set())
-    yield Wanted("boc whatif 2=1 ", FILES)
+    yield Wanted(f"{called} ", commands)
+    yield Wanted(f"{called} help ", commands)
+    for begun in sorted({it[0] for it in commands}):
+        yield Wanted(f"{called} {begun}", {it for it in commands if it.startswith(begun)})
+    yield Wanted(f"{called} what is ", set())
+    if "whatif" in commands:
+        yield Wanted(f"{called} whatif 2=", set(), is_for_fish=False)
+        yield Wanted(f"{called} whatif 2=1 ", FILES)
     for name, entry in helps.items():
-        before = f"boc {name} " if name else "boc "
+        before = f"{called} {name} " if name else f"{called} "
         options = set(entry.options)
         if options:
             yield Wanted(before + "-", options)
@@ -185,24 +190,25 @@ def questions(helps):
             if value:
                 files = FILES if value == "FILE" else set()
                 yield Wanted(f"{before}{option} ", files)
+                yield Wanted(f"{before}{option} -", set(), is_for_fish=False)
                 if option.startswith("--"):
                     yield Wanted(f"{before}{option}=", files)
         if "FILE" in entry.operands:
             yield from (Wanted(f"{before}{option} 1 ", FILES) for option, value in entry.options.items() if value and value != "FILE")
 
 
-def ask_bash(lines, folder):
+def ask_bash(path, lines, folder):
     """What bash has for each line. It splits a line at equals signs too."""
-    script = [f"source {os.path.join(FOLDER, 'boc.bash')}", "found=$(complete -p boc)", "found=${found#*-F }", "found=${found%% *}",
-              'ask() { COMP_WORDS=("$@"); COMP_CWORD=$(($# - 1)); COMPREPLY=(); "$found"; printf "%s\\n" "${COMPREPLY[@]}" .; }']
+    script = [f"source {path}", 'ask() { found=$(complete -p "$1"); found=${found#*-F }; found=${found%% *}',
+              'COMP_WORDS=("$@"); COMP_CWORD=$(($# - 1)); COMPREPLY=(); "$found"; printf "%s\\n" "${COMPREPLY[@]}" .; }']
     for line in lines:
         words = re.findall(r"=|[^\s=]+", line) + ([""] if line[-1] in " =" else [])
         script.append("ask " + " ".join(f"'{word}'" for word in words))
     return shell(["bash", "--norc", "-c", "\n".join(script)], folder)
 
 
-def ask_fish(lines, folder):
-    script = [f"source {os.path.join(FOLDER, 'boc.fish')}"]
+def ask_fish(path, lines, folder):
+    script = [f"source {path}"]
     script += [f"complete -C '{line}' | string replace -r '\\t.*' ''; echo ." for line in lines]
     answers = shell(["fish", "--no-config", "-c", "\n".join(script)], folder)
     # What stands behind an equals sign is told with what stands before it.
@@ -251,11 +257,11 @@ print -r -- . >> $FOUND
 """
 
 
-def ask_zsh(lines, folder):
+def ask_zsh(path, lines, folder):
     """What zsh has for each line. It completes on a terminal alone."""
     found = os.path.join(folder, "found")
     with open(os.path.join(folder, ".zshrc"), "w", encoding="utf-8") as file:
-        file.write(ZSH % FOLDER)
+        file.write(ZSH % os.path.dirname(path))
     with open(found, "wb"):
         pass
     environment = {"PATH": os.environ["PATH"], "HOME": folder, "ZDOTDIR": folder, "FOUND": found, "TERM": "vt100", "LC_ALL": "C.UTF-8"}
@@ -291,7 +297,27 @@ def points_in(path, count):
         time.sleep(0.002)
 
 
-ASK = {"bash": ask_bash, "zsh": ask_zsh, "fish": ask_fish}
+class Shell(NamedTuple):
+    """What its file for a program is called, the line there that says for which one it is, what reads the file, and what asks the shell."""
+    file: str
+    line: str
+    read: Callable
+    ask: Callable
+
+
+SHELLS = {
+    "bash": Shell("{0}.bash", "complete -F _{1} {0}", in_bash, ask_bash),
+    "zsh": Shell("_{0}", "#compdef {0}", in_zsh, ask_zsh),
+    "fish": Shell("{0}.fish", "complete -c {0} -f", in_fish, ask_fish),
+}
+
+
+def path_of(name, called):
+    return os.path.join(FOLDER, SHELLS[name].file.format(called))
+
+
+def line_of(name, called):
+    return SHELLS[name].line.format(called, called.replace("-", "_"))
 
 
 def install_packages():
@@ -305,16 +331,16 @@ def install_packages():
 
 
 def cases(program):
-    helps, views = helps_of(program), helps_of(view_of(program))
-    for name, read in [("boc.bash", in_bash), ("_boc", in_zsh), ("boc.fish", in_fish)]:
-        yield f"{name}: its options", difference(helps, read(text_of(os.path.join(FOLDER, name))))
-    yield "boc.1", fault_of_page(helps, text_of(os.path.join(PAGES, "boc.1")), "boc")
-    yield "boc-view.1", fault_of_page(views, text_of(os.path.join(PAGES, "boc-view.1")), "boc-view")
+    helps = dict(zip(PROGRAMS, [helps_of(program), helps_of(view_of(program))]))
+    for name in SHELLS:
+        yield from of_files(name, helps)
+    for called in PROGRAMS:
+        yield f"{called}.1", fault_of_page(helps[called], text_of(os.path.join(PAGES, f"{called}.1")), called)
     install_packages()
-    wanted = list(questions(helps))
-    for name, ask in ASK.items():
+    for name in SHELLS:
         if shutil.which(name):
-            yield from of_shell(name, ask, [it for it in wanted if name != "fish" or it.line != EDIT])
+            for called in PROGRAMS:
+                yield from of_shell(name, called, [it for it in questions(called, helps[called]) if name != "fish" or it.is_for_fish])
         else:
             print(f"note: the completion of {name} was not tried, since there is no {name} and its package can't be had", flush=True)
     yield from of_bash_completion()
@@ -324,16 +350,28 @@ def cases(program):
         print("note: no man page was formatted, since there is no man and its package can't be had", flush=True)
 
 
-def of_shell(name, ask, wanted):
+def of_files(name, helps):
+    """What the files of a shell say, as they stand. It keeps the functions of all of them, so no two may be called the same."""
+    functions = []
+    for called in PROGRAMS:
+        path, line = path_of(name, called), line_of(name, called)
+        text, file = text_of(path), os.path.basename(path)
+        yield f"{file}: its program", None if line in text.splitlines() else f"it has no line {line!r}"
+        yield f"{file}: its options", difference(helps[called], SHELLS[name].read(text))
+        functions += [one or other for one, other in FUNCTION.findall(text)]
+    yield f"{name}: its functions", None if functions and len(functions) == len(set(functions)) else f"two are called the same: {sorted(functions)}"
+
+
+def of_shell(name, called, wanted):
     with tempfile.TemporaryDirectory() as folder:
         make_files(folder)
         try:
-            answers = ask([it.line for it in wanted], folder)
+            answers = SHELLS[name].ask(path_of(name, called), [it.line for it in wanted], folder)
         except (Failed, subprocess.TimeoutExpired) as failed:
-            yield name, str(failed)
+            yield f"{name}, {called}", str(failed)
             return
-    yield f"{name}: answers", None if len(answers) == len(wanted) else f"{len(answers)} in place of {len(wanted)}"
-    for (line, words), found in zip(wanted, answers):
+    yield f"{name}, {called}: answers", None if len(answers) == len(wanted) else f"{len(answers)} in place of {len(wanted)}"
+    for (line, words, _), found in zip(wanted, answers):
         yield f"{name}: {line!r}", None if found == words else f"it lacks {sorted(words - found)} and has {sorted(found - words)} more"
 
 
@@ -346,22 +384,24 @@ def make_files(folder):
 
 
 def of_bash_completion():
-    """Where it is put into PREFIX/share, bash finds it by itself."""
+    """Where they are put into PREFIX/share, bash finds them by itself."""
     if not shutil.which("bash") or not os.path.exists(BASH_COMPLETION):
-        print("note: bash was not asked to find its completion, since there is no bash-completion and its package can't be had", flush=True)
+        print("note: bash was not asked to find its completions, since there is no bash-completion and its package can't be had", flush=True)
         return
     with tempfile.TemporaryDirectory() as folder:
         os.makedirs(os.path.join(folder, "bash-completion", "completions"))
-        shutil.copy(os.path.join(FOLDER, "boc.bash"), os.path.join(folder, "bash-completion", "completions", "boc"))
-        script = f"source {BASH_COMPLETION}; _completion_loader boc; complete -p boc"
+        for called in PROGRAMS:
+            shutil.copy(path_of("bash", called), os.path.join(folder, "bash-completion", "completions", called))
         environment = {"PATH": os.environ["PATH"], "HOME": folder, "XDG_DATA_HOME": folder}
-        run = subprocess.run(["bash", "--norc", "-c", script], env=environment, capture_output=True, timeout=SECONDS, check=False)
-    yield "bash finds it", None if run.stdout == b"complete -F _boc boc\n" else f"it says {run}"
+        for called in PROGRAMS:
+            script = f"source {BASH_COMPLETION}; _completion_loader {called}; complete -p {called}"
+            run = subprocess.run(["bash", "--norc", "-c", script], env=environment, capture_output=True, timeout=SECONDS, check=False)
+            yield f"bash finds that of {called}", None if run.stdout.decode() == line_of("bash", called) + "\n" else f"it says {run}"
 
 
 def of_pages():
     """man formats each page without a warning, in a narrow window and in a wide one."""
-    for name in ("boc.1", "boc-view.1"):
+    for name in (f"{called}.1" for called in PROGRAMS):
         for width in ("60", "80", "160"):
             environment = {**os.environ, "MANWIDTH": width, "LC_ALL": "C.UTF-8", "MANPAGER": "cat"}
             run = subprocess.run(["man", "--warnings", "-l", os.path.join(PAGES, name)], env=environment, capture_output=True, timeout=SECONDS, check=False)

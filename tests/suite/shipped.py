@@ -29,8 +29,11 @@ SECONDS = 20
 # What install puts beside the programs.
 BESIDE = {
     "share/bash-completion/completions/boc": "completions/boc.bash",
+    "share/bash-completion/completions/boc-view": "completions/boc-view.bash",
     "share/zsh/site-functions/_boc": "completions/_boc",
+    "share/zsh/site-functions/_boc-view": "completions/_boc-view",
     "share/fish/vendor_completions.d/boc.fish": "completions/boc.fish",
+    "share/fish/vendor_completions.d/boc-view.fish": "completions/boc-view.fish",
     "share/man/man1/boc.1": "man/boc.1",
     "share/man/man1/boc-view.1": "man/boc-view.1",
 }

@@ -22,7 +22,7 @@ PRINTABLE = set(string.printable.encode()) - set(b"\t\r\x0b\x0c")
 # Program texts, the line of their fault, and the lines behind it.
 PROGRAMS = [
     (b"", "line 1: 3 Unexpected", ["nothing came in; if a command stood before it, did that fail?"]),
-    (b"boc 2 0\n", "line 1: 3 Unexpected", ["this looks like a record; values reads programs: check, profile, whatif, why and cowns read records"]),
+    (b"boc 2 0\n", "line 1: 3 Unexpected", ["this looks like a record; values reads programs: check, profile, whatif, curve, sweep, why and cowns read records"]),
     (b"main {\n\tlet a = 1; # \xc3\xa9\n}\n", "line 2: 1 NotAscii", [
         " let a = 1; # ??",
         "              ^",
@@ -43,6 +43,10 @@ PROGRAMS = [
         "main { work 1 & 2; }",
         "              ^",
         "`&` begins no token"]),
+    (b"main { work 1\x00; }", "line 1: 2 BadToken", [
+        "main { work 1?; }",
+        "             ^",
+        "the byte 0x00 begins no token"]),
     (b"cown a = 0\n\n# it begins\ndef f(; x) { }\nmain { }\n", "line 4: 3 Unexpected", [
         "cown a = 0",
         "          ^",
@@ -55,12 +59,22 @@ PROGRAMS = [
         "main { let x = (1 + 2; }",
         "                     ^",
         "`;` is not allowed behind `2` on line 1",
-        "allowed there: `)`"]),
+        "allowed there: `)`, `+`, `-`, .."]),
     (b"main { let if = 1; }\n", "line 1: 3 Unexpected", [
         "main { let if = 1; }",
         "           ^",
         "`if` is not allowed behind `let` on line 1",
         "a name is allowed there, and `if` is a keyword"]),
+    (b"def f(;) { } mian { }\n", "line 1: 3 Unexpected", [
+        "def f(;) { } mian { }",
+        "             ^",
+        "`mian` is not allowed behind `}` on line 1",
+        "allowed there: `def`, `main`"]),
+    (b"main { work ; }\n", "line 1: 3 Unexpected", [
+        "main { work ; }",
+        "            ^",
+        "`;` is not allowed behind `work` on line 1",
+        "allowed there: a name, a number, `(`, .."]),
     (b"main { let = 1; }\n", "line 1: 3 Unexpected", [
         "main { let = 1; }",
         "           ^",
@@ -205,9 +219,9 @@ PROGRAMS = [
 # Programs whose runs come to too many behaviours, and the line that says how.
 MANY = [
     (b"cown a = 0;\ndef f(; x) {\n    when f(; x);\n}\nmain { when f(; a); }\n",
-     "`f` spawns itself again, by the `when` on line 3: one behaviour more each time, until a condition ends that"),
+     "it may be by `f`, which spawns itself again, by the `when` on line 3: one behaviour more each time, until a condition ends that"),
     (b"cown a = 0;\ndef f(; x) { when g(; x); }\ndef g(; x) {\n    if x == 0 { when f(; x); }\n}\nmain { when g(; a); }\n",
-     "`f` spawns itself again by way of `g`, by the `when` on line 2: one behaviour more each time, until a condition ends that"),
+     "it may be by `f`, which spawns itself again by way of `g`, by the `when` on line 2: one behaviour more each time, until a condition ends that"),
     (b"cown a = 0;\ndef f(; x) { when f(; x); }\ndef g(; x) { x = 1; }\ndef h(; x) { repeat 300 { when g(; x); } }\nmain { repeat 300 { when h(; a); } }\n",
      "no def spawns itself again, so it is by `repeat`: a `when` in one spawns a behaviour in each turn"),
 ]
@@ -225,6 +239,8 @@ RECORDS = [
     (["boc 2 2 "], "line 1: 1 Header", ["`boc 2 2 `: a blank at its end"]),
     (["boc 2 02"], "line 1: 1 Header", ["`boc 2 02`: the first line of a record is `boc 2 COWNS`, in plain decimals"]),
     (["Boc 2 2"], "line 1: 1 Header", ["`Boc 2 2`: the first line of a record is `boc 2 COWNS`"]),
+    (["boc 2 \x00"], "line 1: 1 Header", ["`boc 2 ?`: the byte 0x00 is not printable ASCII, of which records are"]),
+    (MAIN_RUNS + ["<\t0 4 0"], "line 4: 2 Form", ["`< 0 4 0`: the byte 0x09 is not printable ASCII, of which records are"]),
     (MAIN_RUNS + ["# a note"], "line 4: 2 Form", ["`# a note`: a record has no comments"]),
     (MAIN_RUNS + ["@ 0 a"], "line 4: 2 Form", ["`@ 0 a`: names stand in a file of their own, for --names"]),
     (MAIN_RUNS + [""], "line 4: 2 Form", ["an empty line"]),

@@ -1,6 +1,6 @@
 // Faults of files of names.
 
-use crate::formed::{common_reason, put_reason, reason_of};
+use crate::formed::{common_reason, put_reason, put_unseen, reason_of, unseen_byte};
 use crate::place::{Text, is_first_word, looks_like_record};
 use crate::run::{Run, line_at};
 use crate::said::{Part, Said};
@@ -71,13 +71,8 @@ fn put_form(said: &mut Said, line: &[u8]) -> Result<(), AllocError> {
     if let Some(reason) = common_reason(line) {
         return put_reason(said, line, reason);
     }
-    if let Some(byte) = line.iter().find(|byte| !is_taken(**byte)) {
-        return said.line(&[
-            Part::Quote(line),
-            Part::Words(": the byte "),
-            Part::Hex(*byte),
-            Part::Words(" is not printable ASCII, of which names and arguments are"),
-        ]);
+    if let Some(byte) = unseen_byte(line) {
+        return put_unseen(said, line, byte, "names and arguments are");
     }
     match line {
         [sign @ (b'=' | b'@'), b' ', fields @ ..] => put_fields(said, line, *sign, fields),
@@ -88,11 +83,6 @@ fn put_form(said: &mut Said, line: &[u8]) -> Result<(), AllocError> {
             "a line is `@ COWN NAME`, `= ROW NAME [ARG ..]`, empty, or a comment from `#` on",
         ),
     }
-}
-
-// A byte that a line may have.
-fn is_taken(byte: u8) -> bool {
-    byte == b' ' || byte.is_ascii_graphic()
 }
 
 // What is wrong with the fields of a line.

@@ -47,7 +47,9 @@ fn put_record(said: &mut Said, place: Place<'_>) -> Result<(), AllocError> {
     said.line(&[
         Part::Words("this looks like a record; "),
         Part::Words(place.command),
-        Part::Words(" reads programs: check, profile, whatif, why and cowns read records"),
+        Part::Words(
+            " reads programs: check, profile, whatif, curve, sweep, why and cowns read records",
+        ),
     ])
 }
 
@@ -126,10 +128,7 @@ fn put_large(said: &mut Said, rest: &[u8]) -> Result<(), AllocError> {
 fn put_bad_token(said: &mut Said, rest: &[u8]) -> Result<(), AllocError> {
     let (run, _) = rest.split_at(run_len(rest).min(rest.len()));
     match run {
-        [] => {
-            let (sign, _) = rest.split_at(rest.len().min(1));
-            said.line(&[Part::Quote(sign), Part::Words(" begins no token")])
-        }
+        [] => put_no_token(said, rest),
         [b'0', others @ ..] if others.iter().all(|byte| byte.is_ascii_digit()) => {
             said.line(&[
                 Part::Quote(run),
@@ -145,5 +144,18 @@ fn put_bad_token(said: &mut Said, rest: &[u8]) -> Result<(), AllocError> {
             Part::Words(": a name has at most 32 bytes, and this one "),
             Part::Number(run.len() as u64),
         ]),
+    }
+}
+
+// Tells of the first byte, which is of no name and no number, that it begins no token.
+fn put_no_token(said: &mut Said, rest: &[u8]) -> Result<(), AllocError> {
+    let (sign, _) = rest.split_at(rest.len().min(1));
+    match sign {
+        [byte] if !byte.is_ascii_graphic() => said.line(&[
+            Part::Words("the byte "),
+            Part::Hex(*byte),
+            Part::Words(" begins no token"),
+        ]),
+        _ => said.line(&[Part::Quote(sign), Part::Words(" begins no token")]),
     }
 }

@@ -137,8 +137,9 @@ fn put_again(
         (Part::Words(" by way of "), Part::Quote(of))
     };
     said.line(&[
+        Part::Words("it may be by "),
         Part::Quote(by),
-        Part::Words(" spawns itself again"),
+        Part::Words(", which spawns itself again"),
         way,
         other,
         Part::Words(", by the `when` on line "),

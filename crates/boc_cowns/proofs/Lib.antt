@@ -1,6 +1,5 @@
 pub mod Added
 pub mod Handed
-pub mod Held
 pub mod Steps
 pub mod Sums
 pub mod One

@@ -118,7 +118,7 @@ fn put_cowns(alloc: Global, text: &mut String, page: &Page) -> Result<(), AllocE
         )?;
     }
     text.push_str(
-        "</tbody></table>\n<p>held: the ticks for which one row alone has it; waited: the ticks from a spawn to a start; without: the span if it ordered nobody.</p>\n",
+        "</tbody></table>\n<p>held: the ticks of the rows that have it; waited: the ticks from a spawn to a start; without: the span if it ordered nobody.</p>\n",
     )
 }
 

@@ -1,5 +1,4 @@
 pub mod Texts
-pub mod Reading
 pub mod Places
 pub mod Refused
 pub mod Operators

@@ -1,5 +1,4 @@
 pub mod Tokens
-pub mod WrongTokens
 pub mod Shape
 pub mod Names
 pub mod Spells

@@ -1,8 +1,11 @@
-"""What is told of a fault behind its line: the whole of standard error, for each kind of fault of programs, of records and of edits."""
+"""What is told of a fault behind its line: the whole of standard error, for each kind of fault of programs, of records, of names, of edits and of words."""
+import random
 import string
 from concurrent.futures import ThreadPoolExecutor
 
-from . import program_reader, record_reader
+from . import model, program_reader, record_reader
+from .pictures import random_records
+from .plans import random_edit, record_of
 from .records import TRANSFER, lines_text
 from .refusals import READER_KINDS, RECORD_KINDS
 from .replacements import fault_line, replaced
@@ -11,12 +14,15 @@ from .running import EXPLAINS
 # The most bytes of a line.
 MOST_WIDTH = 160
 
+# How many records are edited by chance.
+RANDOM = 100
+
 PRINTABLE = set(string.printable.encode()) - set(b"\t\r\x0b\x0c")
 
 # Program texts, the line of their fault, and the lines behind it.
 PROGRAMS = [
     (b"", "line 1: 3 Unexpected", ["nothing came in; if a command stood before it, did that fail?"]),
-    (b"boc 2 0\n", "line 1: 3 Unexpected", ["this looks like a record; values reads programs: check, profile, whatif, why and cowns read records"]),
+    (b"boc 2 0\n", "line 1: 3 Unexpected", ["this looks like a record; values reads programs: check, profile, whatif, curve, sweep, why and cowns read records"]),
     (b"main {\n\tlet a = 1; # \xc3\xa9\n}\n", "line 2: 1 NotAscii", [
         " let a = 1; # ??",
         "              ^",
@@ -37,6 +43,10 @@ PROGRAMS = [
         "main { work 1 & 2; }",
         "              ^",
         "`&` begins no token"]),
+    (b"main { work 1\x00; }", "line 1: 2 BadToken", [
+        "main { work 1?; }",
+        "             ^",
+        "the byte 0x00 begins no token"]),
     (b"cown a = 0\n\n# it begins\ndef f(; x) { }\nmain { }\n", "line 4: 3 Unexpected", [
         "cown a = 0",
         "          ^",
@@ -49,12 +59,22 @@ PROGRAMS = [
         "main { let x = (1 + 2; }",
         "                     ^",
         "`;` is not allowed behind `2` on line 1",
-        "allowed there: `)`"]),
+        "allowed there: `)`, `+`, `-`, .."]),
     (b"main { let if = 1; }\n", "line 1: 3 Unexpected", [
         "main { let if = 1; }",
         "           ^",
         "`if` is not allowed behind `let` on line 1",
         "a name is allowed there, and `if` is a keyword"]),
+    (b"def f(;) { } mian { }\n", "line 1: 3 Unexpected", [
+        "def f(;) { } mian { }",
+        "             ^",
+        "`mian` is not allowed behind `}` on line 1",
+        "allowed there: `def`, `main`"]),
+    (b"main { work ; }\n", "line 1: 3 Unexpected", [
+        "main { work ; }",
+        "            ^",
+        "`;` is not allowed behind `work` on line 1",
+        "allowed there: a name, a number, `(`, .."]),
     (b"main { let = 1; }\n", "line 1: 3 Unexpected", [
         "main { let = 1; }",
         "           ^",
@@ -74,7 +94,32 @@ PROGRAMS = [
         "main { work 1;",
         "              ^",
         "the text can't end behind `;` on line 1",
-        "allowed there: `}`"]),
+        "the block that begins on line 1 is not closed: a `}` is missing"]),
+    (b"main { work (1 + 2", "line 1: 3 Unexpected", [
+        "main { work (1 + 2",
+        "                  ^",
+        "the text can't end behind `2` on line 1",
+        "allowed there: `)`, `+`, `-`, .."]),
+    (b"cown a = 0;\ndef f(; x) {\n    x = 1;\nmain { when f(; a); }\n", "line 4: 3 Unexpected", [
+        "main { when f(; a); }",
+        "^",
+        "`main` is not allowed behind `;` on line 3",
+        "the block that begins on line 2 is not closed: a `}` is missing"]),
+    (b"def f(; x) {\n    if x {\n        x = 1;\n    }\ndef g(; x) { }\nmain { }\n", "line 5: 3 Unexpected", [
+        "def g(; x) { }",
+        "^",
+        "`def` is not allowed behind `}` on line 4",
+        "the block that begins on line 1 is not closed: a `}` is missing"]),
+    (b"def f(; x) {\n    if x {\n        repeat 2 {\n            x = 1;\nmain { }\n", "line 5: 3 Unexpected", [
+        "main { }",
+        "^",
+        "`main` is not allowed behind `;` on line 4",
+        "3 blocks are not closed: the innermost begins on line 3, the outermost on line 1"]),
+    (b"def f(; x) { } }\nmain { }\n", "line 1: 3 Unexpected", [
+        "def f(; x) { } }",
+        "               ^",
+        "`}` is not allowed behind `}` on line 1",
+        "allowed there: `def`, `main`"]),
     (b"cown a[0] = 0; main { }\n", "line 1: 3 Unexpected", [
         "cown a[0] = 0; main { }",
         "       ^",
@@ -171,6 +216,16 @@ PROGRAMS = [
         "`@` begins no token"]),
 ]
 
+# Programs whose runs come to too many behaviours, and the line that says how.
+MANY = [
+    (b"cown a = 0;\ndef f(; x) {\n    when f(; x);\n}\nmain { when f(; a); }\n",
+     "it may be by `f`, which spawns itself again, by the `when` on line 3: one behaviour more each time, until a condition ends that"),
+    (b"cown a = 0;\ndef f(; x) { when g(; x); }\ndef g(; x) {\n    if x == 0 { when f(; x); }\n}\nmain { when g(; a); }\n",
+     "it may be by `f`, which spawns itself again by way of `g`, by the `when` on line 2: one behaviour more each time, until a condition ends that"),
+    (b"cown a = 0;\ndef f(; x) { when f(; x); }\ndef g(; x) { x = 1; }\ndef h(; x) { repeat 300 { when g(; x); } }\nmain { repeat 300 { when h(; a); } }\n",
+     "no def spawns itself again, so it is by `repeat`: a `when` in one spawns a behaviour in each turn"),
+]
+
 MAIN_RUNS = ["boc 2 2", "+ 0 0 0", "> 0"]
 TWO_ROWS = MAIN_RUNS + ["+ 1 0 5 0", "+ 2 0 6 0 1"]
 
@@ -184,6 +239,8 @@ RECORDS = [
     (["boc 2 2 "], "line 1: 1 Header", ["`boc 2 2 `: a blank at its end"]),
     (["boc 2 02"], "line 1: 1 Header", ["`boc 2 02`: the first line of a record is `boc 2 COWNS`, in plain decimals"]),
     (["Boc 2 2"], "line 1: 1 Header", ["`Boc 2 2`: the first line of a record is `boc 2 COWNS`"]),
+    (["boc 2 \x00"], "line 1: 1 Header", ["`boc 2 ?`: the byte 0x00 is not printable ASCII, of which records are"]),
+    (MAIN_RUNS + ["<\t0 4 0"], "line 4: 2 Form", ["`< 0 4 0`: the byte 0x09 is not printable ASCII, of which records are"]),
     (MAIN_RUNS + ["# a note"], "line 4: 2 Form", ["`# a note`: a record has no comments"]),
     (MAIN_RUNS + ["@ 0 a"], "line 4: 2 Form", ["`@ 0 a`: names stand in a file of their own, for --names"]),
     (MAIN_RUNS + [""], "line 4: 2 Form", ["an empty line"]),
@@ -245,14 +302,135 @@ EDITS = [
     (["--without", "log"], "without 1: 6 NoCown", ["no cown is called `log`; the record has cowns 0 to 1"]),
 ]
 
+# Edits of defs, of the record of the transfer beside its program: row 0 is of main, rows 1 and 3 are of `add`, and row 2 is of `move`.
+DEF_EDITS = [
+    (["main=1/2", "0=1"], "edit 2: 2 BelowSpawn", ["`0=1`: row 0 spawns row 3 at its tick 3, so 3 is the least"]),
+    (["main=3/1", "3@8"], "edit 2: 5 NotBetween", ["`3@8`: row 3, between its siblings, can be spawned at tick 10 to 12 of row 0"]),
+    (["main=2/1", "3@9"], "edit 2: 5 NotBetween", ["`3@9`: row 3, between its siblings, can be spawned at tick 7 to 8 of row 0"]),
+    (["move=2/1", "9=1"], "edit 2: 1 NoRow", ["`9=1`: the record has rows 0 to 3"]),
+    (["move=900/1", "2=1000/2"], "edit 2: 3 TooManyTicks", ["`2=1000/2`: row 2 takes 2700 ticks, and would take more than 1000000"]),
+    (["1=900000", "add=3/2"], "edit 2: 3 TooManyTicks", ["`add=3/2`: row 1 takes 900000 ticks, and would take more than 1000000"]),
+    (["add=1000/1", "add=1000/1"], "edit 2: 3 TooManyTicks", ["`add=1000/1`: row 1 takes 2000 ticks, and would take more than 1000000"]),
+    (["1=1", "3=600000", "add=2/1"], "edit 3: 3 TooManyTicks", ["`add=2/1`: row 3 takes 600000 ticks, and would take more than 1000000"]),
+]
+
+IS_NAMES = "; --names takes lines `@ COWN NAME` and `= ROW NAME [ARG ..]`"
+
+# Files of names for the record of the transfer, the line of their fault, and the line behind it.
+NAMES = [
+    (b"= 0 main", "line 1: 1 Cut", "`= 0 main`: no line feed stands behind the last line"),
+    (b"# rows\n= 1 " + b"x" * 80 + b"\n", "line 2: 2 TooLong", "`= 1 " + "x" * 60 + "..`: a line has at most 80 bytes"),
+    (b"1 main\n", "line 1: 3 Form", "`1 main`: a line is `@ COWN NAME`, `= ROW NAME [ARG ..]`, empty, or a comment from `#` on"),
+    (b"=1 main\n", "line 1: 3 Form", "`=1 main`: a blank stands behind the sign"),
+    (b"= 0 main\n= 1 x\r\n", "line 2: 3 Form", "`= 1 x?`: a carriage return at its end; a line ends with a line feed alone"),
+    (b"= 1 main \n", "line 1: 3 Form", "`= 1 main `: a blank at its end"),
+    (b"= 1  main\n", "line 1: 3 Form", "`= 1  main`: two blanks; a single one stands between words"),
+    (b"= x main\n", "line 1: 3 Form", "`= x main`: `x` is no plain decimal"),
+    (b"= 01 main\n", "line 1: 3 Form", "`= 01 main`: `01` begins with a 0"),
+    (b"@ -1 a\n", "line 1: 3 Form", "`@ -1 a`: `-1` is negative, and numbers are plain decimals"),
+    (b"@ 4294967296 a\n", "line 1: 3 Form", "`@ 4294967296 a`: `4294967296` is above 4294967295"),
+    (b"@ 1\n", "line 1: 3 Form", "`@ 1`: no name; the form is `@ COWN NAME`"),
+    (b"= 1\n", "line 1: 3 Form", "`= 1`: no name; the form is `= ROW NAME [ARG ..]`"),
+    (b"@ 1 a b\n", "line 1: 3 Form", "`@ 1 a b`: words behind the name; the form is `@ COWN NAME`"),
+    (b"= 1 caf\xc3\xa9\n", "line 1: 3 Form", "`= 1 caf??`: the byte 0xC3 is not printable ASCII, of which names and arguments are"),
+    (b"= 1 a\tb\n", "line 1: 3 Form", "`= 1 a b`: the byte 0x09 is not printable ASCII, of which names and arguments are"),
+    (b"\n= 4 x\n", "line 2: 4 NoRow", "`= 4 x`: the record has rows 0 to 3"),
+    (b"@ 2 c\n", "line 1: 5 NoCown", "`@ 2 c`: the run has cowns 0 to 1"),
+    (b"= 1 x\n\n= 1 y 3\n", "line 3: 6 Twice", "`= 1 y 3`: line 1 names it already, `= 1 x`"),
+    (b"@ 1 x\n= 1 x\n@ 1 x\n", "line 3: 6 Twice", "`@ 1 x`: line 1 names it already, `@ 1 x`"),
+    (b"boc 2 2\n", "line 1: 3 Form", "this looks like a record" + IS_NAMES),
+    (b"# The accounts.\n\ncown a = 10;\n", "line 3: 3 Form", "this looks like a program" + IS_NAMES),
+    (b"# " + b"x" * 80 + b"\ncown a = 10;\n", "line 1: 2 TooLong", "this looks like a program" + IS_NAMES),
+]
+
+# Lines of the record of the transfer, by their numbers, that are put in place of others; the fault of the record that this makes, beside the program; and the
+# lines behind it.
+STRAYS = [
+    ({4: "+ 1 0 1 0"}, "line 4: 16 NotNextSpawn", [
+        "`+ 1 0 1 0`: in the program row 0 goes on with `+ 1 0 2 0`",
+        "row 0 is `main`, and next spawns `add(5; a)`",
+        "it spawns it at its tick 2, and the record has 1"]),
+    ({5: "+ 2 0 3 1", 11: "< 2 3 0 1"}, "line 5: 16 NotNextSpawn", [
+        "`+ 2 0 3 1`: in the program row 0 goes on with `+ 2 0 3 0 1`",
+        "row 0 is `main`, and next spawns `move(3; a, b)`",
+        "it spawns it over cowns 0 1, and the record has cown 1"]),
+    ({6: "+ 3 0 5", 7: "< 0 5 0", 13: "< 3 2 0"}, "line 6: 16 NotNextSpawn", [
+        "`+ 3 0 5`: in the program row 0 goes on with `+ 3 0 4 1`",
+        "row 0 is `main`, and next spawns `add(1; b)`",
+        "it spawns it at its tick 4, and the record has 5",
+        "it spawns it over cown 1, and the record has no cown"]),
+    ({9: "+ 4 1 1 0\n< 1 2 0 0", 13: "< 3 2 0 1\n> 4\n< 4 1 0"}, "line 9: 16 NotNextSpawn", [
+        "`+ 4 1 1 0`: in the program row 1 goes on with `< 1 2 0 0`",
+        "row 1 is `add(5; a)`, and ends with no other spawn"]),
+    ({7: "< 0 5 0"}, "line 7: 17 NotItsEnd", [
+        "`< 0 5 0`: in the program row 0 goes on with `< 0 4 0`",
+        "row 0 is `main`, and ends",
+        "its ticks are 4, and the record has 5"]),
+    ({9: "< 1 3 1"}, "line 9: 17 NotItsEnd", [
+        "`< 1 3 1`: in the program row 1 goes on with `< 1 2 0 0`",
+        "row 1 is `add(5; a)`, and ends",
+        "its ticks are 2, and the record has 3",
+        "its status is 0, and the record has 1",
+        "it writes cown 0, and the record has no cown"]),
+    ({11: "< 2 3 0 1"}, "line 11: 17 NotItsEnd", [
+        "`< 2 3 0 1`: in the program row 2 goes on with `< 2 3 0 0 1`",
+        "row 2 is `move(3; a, b)`, and ends",
+        "it writes cowns 0 1, and the record has cown 1"]),
+    ({6: "< 0 4 0", 7: "> 1", 8: "< 1 2 0 0", 9: "> 2", 10: "< 2 3 0 0 1", 11: ".", 12: None, 13: None, 14: None}, "line 6: 17 NotItsEnd", [
+        "`< 0 4 0`: in the program row 0 goes on with `+ 3 0 4 1`",
+        "row 0 is `main`, and before it ends it spawns `add(1; b)`"]),
+]
+
+# A program in which a behaviour writes one of its cowns, and the record of its run in version 1, in which there is no telling that.
+WRITES_ONE = b"cown a = 0; cown b = 0; def f(; x, y) { x = y; } main { when f(; a, b); }"
+WRITES_ALL = ["boc 1 2", "+ 0 0 0", "> 0", "+ 1 0 2 0 1", "< 0 2 0", "> 1", "< 1 2 0", "."]
+
+# Words that are no edits, the number of the first of them, and the line behind its fault.
+EDIT_WORDS = [
+    (["print=0.5"], 1, "`print=0.5`: `0.5` is no part K/D; half of what the rows of a def cost is `print=1/2`"),
+    (["print=5"], 1, "`print=5`: `5` is no part K/D; half of what the rows of a def cost is `print=1/2`"),
+    (["1=0.5"], 1, "`1=0.5`: `0.5` is neither ticks nor a part K/D; half of what the row costs is `1=1/2`"),
+    (["1=2=3"], 1, "`1=2=3`: `2=3` is neither ticks nor a part K/D; half of what the row costs is `1=1/2`"),
+    (["1=2", "2=01"], 2, "`2=01`: `01` begins with a 0"),
+    (["1=4294967296"], 1, "`1=4294967296`: `4294967296` is above 4294967295"),
+    (["01=2"], 1, "`01=2`: `01` begins with a 0"),
+    (["=2"], 1, "`=2`: in front of the `=` stands a row or a def"),
+    (["add="], 1, "`add=`: behind the `=` stand ticks, or a part K/D"),
+    (["1=1001/1"], 1, "`1=1001/1`: the numbers of a part K/D are 1 to 1000"),
+    (["add=1/0"], 1, "`add=1/0`: the numbers of a part K/D are 1 to 1000"),
+    (["add=1/x"], 1, "`add=1/x`: `x` is no plain decimal"),
+    (["add=/2"], 1, "`add=/2`: `` is no plain decimal"),
+    (["007=1/2"], 1, "`007=1/2`: `007` begins with a 0"),
+    (["@3"], 1, "`@3`: in front of the `@` stands a row"),
+    (["3@"], 1, "`3@`: behind the `@` stands a tick"),
+    (["add@3"], 1, "`add@3`: `add` is no plain decimal"),
+    (["1@x"], 1, "`1@x`: `x` is no plain decimal"),
+    (["1=2", "--without", "a=b", "-p", "2", "--names=x=y", "--short", "run.record", "2=z"], 2,
+     "`2=z`: `z` is neither ticks nor a part K/D; half of what the row costs is `2=1/2`"),
+    (["--", "--names", "1=2", "x=\x1b[1m\u00e9"], 2, "`x=?[1m??`: `?[1m??` is no part K/D; half of what the rows of a def cost is `x=1/2`"),
+]
+
+ONE_FILE = "are two FILEs, and the input is read from one"
+
+# Words with more than one file to read the input from, what the parser says of them, and the lines behind that.
+FILES = [
+    (["run", "a.boc", "b.boc"], "unexpected argument 'b.boc' found\n\nUsage: boc run [OPTIONS] [FILE]", [f"`a.boc` and `b.boc` {ONE_FILE}"]),
+    (["why", "--record", "r", "a.boc", "-w2", "--p", "3", "--quiet", "b.boc"], "unexpected argument 'b.boc' found\n\nUsage: boc why [OPTIONS] [FILE]",
+     [f"`a.boc` and `b.boc` {ONE_FILE}"]),
+    (["whatif", "a.record", "1=2", "b.record"], "the input cannot be read from more than one FILE\n\nUsage: boc <COMMAND>", [
+        f"`a.record` and `b.record` {ONE_FILE}",
+        "a word with neither = nor @ is a FILE, and each other one an edit"]),
+    (["run", "--frob", "a.boc", "b.boc"], None, []),
+]
+
 
 def told(fault, lines):
     """The whole of standard error."""
     return f"boc: {fault}\n".encode() + b"".join(EXPLAINS + line.encode() + b"\n" for line in lines)
 
 
-def difference(expected, answer):
-    if answer is None or answer.status != 3 or answer.output:
+def difference(expected, answer, status=3):
+    if answer is None or answer.status != status or answer.output:
         return f"the answer {answer}"
     return None if answer.errors == expected else f"{answer.errors.decode(errors='replace')!r} in place of {expected.decode()!r}"
 
@@ -268,7 +446,16 @@ def cases(program):
     yield "a cut line", difference(expected, program.run(["check"], cut))
     for words, fault, lines in EDITS:
         yield f"whatif {words}", difference(told(fault, lines), program.run(["whatif", *words], lines_text(TRANSFER)))
+    for source, line in MANY:
+        lines = ["a run has at most 65535 behaviours, main among them, and this one comes to more", line]
+        for command in (["values"], ["run"], ["run", "--seed", "1"], ["why"], ["outcomes", "--runs", "2"]):
+            yield f"{command} of {source[-40:]!r}", difference(told("run: 2 Behaviours", lines), program.run(command, source), 4)
     yield from beside(program)
+    yield from pairs(program)
+    yield from names(program)
+    yield from strays(program)
+    yield from words_refused(program)
+    yield from random_edits(program)
     yield from long_records(program)
     yield from replacements(program)
 
@@ -277,27 +464,129 @@ def beside(program):
     """Files beside the input, and what they name."""
     text, record = program.example("transfer.boc"), program.example("transfer.record")
     for name, words, option, content, source, fault, lines in [
-        ("a record for --program", ["check"], "--program", record, record, "program: line 14: 2 BadToken",
-         ["this looks like a record; --program takes a program"]),
         ("an empty program", ["check"], "--program", b"", record, "program: line 1: 3 Unexpected", ["the file is empty"]),
-        ("a program for --record", ["values"], "--record", text, text, "record: line 1: 1 Header",
-         ["this looks like a program; --record takes a record: boc run FILE > RECORD"]),
         ("other cowns", ["check"], "--program", b"cown a[3] = 0; main { }", record, "line 1: 15 OtherCowns", ["`boc 2 2`: the program has 3 cowns"]),
-        ("another spawn", ["check"], "--program", text, with_line_of(record, 4, "+ 1 0 1 0"), "line 4: 16 NotNextSpawn",
-         ["`+ 1 0 1 0`: in the program its parent spawns at another tick or over other cowns, or is done"]),
-        ("another end", ["check"], "--program", text, with_line_of(record, 7, "< 0 5 0"), "line 7: 17 NotItsEnd",
-         ["`< 0 5 0`: in the program it ends after other ticks, with other cowns written, or spawns first"]),
         ("a cown's name", ["whatif", "--without", "acct"], "--program", text, record, "without 1: 6 NoCown",
          ["no cown is called `acct`; the program's cowns are a, b"]),
         ("a def's name", ["whatif", "mov=1/2"], "--program", text, record, "edit 1: 7 NoDef",
          ["no row is of this def; names come with --program FILE or --names FILE", "no row is of a def `mov`; the program's defs are add, move"]),
+        ("a def of a file of names", ["whatif", "work=1000/1", "work=1000/1"], "--names", b"= 1 work\n= 2 work 7\n", record, "edit 2: 3 TooManyTicks",
+         ["`work=1000/1`: row 1 takes 2000 ticks, and would take more than 1000000"]),
     ]:
         yield name, difference(told(fault, lines), program.run_beside(words, option, content, source))
+    for words, fault, lines in DEF_EDITS:
+        yield f"whatif {words}", difference(told(fault, lines), program.run_beside(["whatif", *words], "--program", text, record))
+    lines = ["`row 1=1000/1`: row 1 takes 2000 ticks, and would take more than 1000000"]
+    yield "a row as a def", difference(told("edit 2: 3 TooManyTicks", lines), program.run(["whatif", "row 1=1000/1", "row 1=1000/1"], record))
 
 
-def with_line_of(record, number, line):
-    lines = record.decode().splitlines()
-    return lines_text(lines[:number - 1] + [line] + lines[number:])
+def pairs(program):
+    """A program and its record, each where the other is wanted."""
+    text, record = program.example("transfer.boc"), program.example("transfer.record")
+    swapped = "the other file looks like a program: the two stand the other way round"
+    for command in ("values", "why", "cowns"):
+        reads = f"this looks like a record; {command} reads the program, and --record its record: boc {command} --record RECORD PROGRAM"
+        takes = "this looks like a program; --record takes a record: boc run FILE > RECORD"
+        for content, source, fault, lines in ((text, record, "line 14: 2 BadToken", [reads, swapped]), (record, record, "line 14: 2 BadToken", [reads]),
+                                              (text, text, "record: line 1: 1 Header", [takes])):
+            yield f"{command}: {lines}", difference(told(fault, lines), program.run_beside([command], "--record", content, source))
+    for command in ("check", "whatif"):
+        reads = f"{command} reads the record, and --program its program: boc {command} --program PROGRAM RECORD"
+        for content, source, fault, lines in ((record, text, "program: line 14: 2 BadToken", [f"this looks like a record; {reads}"]),
+                                              (record, record, "program: line 14: 2 BadToken", [f"this looks like a record; {reads}"]),
+                                              (text, text, "line 1: 1 Header", [f"this looks like a program; {reads}"])):
+            yield f"{command}: {lines}", difference(told(fault, lines), program.run_beside([command], "--program", content, source))
+
+
+def names(program):
+    """Files of names, beside a record and beside a program."""
+    text, record = program.example("transfer.boc"), program.example("transfer.record")
+    without = lines_text(["boc 2 0", "+ 0 0 0", "> 0", "< 0 1 0", "."])
+    for content, fault, line in NAMES:
+        for words in (["why"], ["cowns"], ["whatif", "1=2"]):
+            answer = program.run_beside(words, "--names", content, record)
+            yield f"names {content[-40:]!r} for {words}", difference(told(f"names: {fault}", [line]), answer)
+    for content, source, fault, line in ((b"= 4 x\n", text, "line 1: 4 NoRow", "`= 4 x`: the run has no row with this number"),
+                                         (b"@ 2 c\n", text, "line 1: 5 NoCown", "`@ 2 c`: the run has cowns 0 to 1"),
+                                         (b"@ 0 c\n", without, "line 1: 5 NoCown", "`@ 0 c`: the run has no cowns")):
+        yield f"names {content!r}", difference(told(f"names: {fault}", [line]), program.run_beside(["why"], "--names", content, source))
+
+
+def strays(program):
+    """Records that stray from a program, as the input and as the file beside it."""
+    text, record = program.example("transfer.boc"), program.example("transfer.record")
+    for changes, fault, lines in STRAYS:
+        strayed = with_lines_of(record, changes)
+        yield f"check: {changes}", difference(told(fault, lines), program.run_beside(["check"], "--program", text, strayed))
+        for command in ("values", "why", "cowns"):
+            answer = program.run_beside([command], "--record", strayed, text)
+            yield f"{command}: {changes}", difference(told(f"record: {fault}", lines), answer)
+        yield f"whatif: {changes}", difference(told(fault, lines), program.run_beside(["whatif"], "--program", text, strayed))
+    lines = ["`< 1 2 0`: in the program row 1 goes on with `< 1 2 0 0`", "row 1 is `f(; a, b)`, and ends",
+             "it writes cown 0, and in version 1 a record says that it writes all its cowns"]
+    answer = program.run_beside(["check"], "--program", WRITES_ONE, lines_text(WRITES_ALL))
+    yield "version 1", difference(told("line 7: 17 NotItsEnd", lines), answer)
+    many = b"cown a = 0; def f(; x) { } main { repeat 60000 { when f(; a); } }"
+    strayed = with_lines_of(program.run(["run"], many).output, {4: "+ 1 0 2 0"})
+    lines = ["`+ 1 0 2 0`: in the program its parent spawns at another tick or over other cowns, or is done"]
+    yield "a record of more than a mebibyte", difference(told("line 4: 16 NotNextSpawn", lines), program.run_beside(["check"], "--program", many, strayed))
+
+
+def words_refused(program):
+    """Words of the command line that are no edits, and two files where one is read."""
+    for words, number, line in EDIT_WORDS:
+        lines = ["an edit is ROW=TICKS, ROW@OFFSET, ROW=K/D or DEF=K/D", line]
+        yield f"whatif {words}", difference(told(f"edit {number}: not ROW=TICKS", lines), program.run(["whatif", *words]), 2)
+    for words, fault, lines in FILES:
+        answer = program.run(words)
+        if fault is None:
+            yield f"{words}", None if EXPLAINS not in answer.errors else f"it told {answer.errors!r}"
+        else:
+            text = f"error: {fault}\n\nFor more information, try '--help'.\n".encode()
+            yield f"{words}", difference(text + b"".join(EXPLAINS + line.encode() + b"\n" for line in lines), answer, 2)
+
+
+def random_edits(program):
+    """Behind edits of rows and of a def by chance, an edit that doesn't fit is told with its bound."""
+    chance = random.Random(20261127)
+    for number, rows in enumerate(random_records(8, RANDOM)):
+        record = record_of(rows)
+        of_def = sorted(chance.sample(range(len(rows)), chance.randint(1, len(rows))))
+        words = []
+        for _ in range(3):
+            if chance.random() < 0.5:
+                over, under = chance.randint(1, 9), chance.randint(1, 9)
+                word = f"some={over}/{under}"
+                for row in of_def:
+                    rows = model.scaled(rows, row, over, under)
+            else:
+                word, rows = random_edit(chance, rows)
+            words.append(word)
+        word, fault, line = unfit_edit(chance, rows)
+        named = "".join(f"= {row} some\n" for row in of_def).encode()
+        answer = program.run_beside(["whatif", *words, word], "--names", named, record)
+        yield f"edits by chance {number}: {words}, {word}", difference(told(f"edit 4: {fault}", [f"`{word}`: {line}"]), answer)
+
+
+def unfit_edit(chance, rows):
+    """The word of an edit of a row that these rows can't take, its fault, and what is told of it behind the word."""
+    row = chance.randrange(len(rows))
+    parent = rows[row].parent
+    if row and chance.random() < 0.5:
+        least, most = model.least_offsets(rows)[row], model.most_offset(rows, row)
+        has_siblings = any(other != row and it.parent == parent for other, it in enumerate(rows) if other)
+        window = f"tick {least} alone" if least == most else f"tick {least} to {most}"
+        told_of = f"row {row}{', between its siblings,' if has_siblings else ''} can be spawned at {window} of row {parent}"
+        return f"{row}@{chance.choice([least - 1, most + 1])}", "5 NotBetween", told_of
+    least, last = model.least_ticks(rows)[row], max((child for child, it in enumerate(rows) if child and it.parent == row), default=None)
+    spawns = f"row {row} spawns row {last} at its tick {least}, so {least} is the least"
+    return f"{row}={least - 1}", "2 BelowSpawn", "a row takes 1 tick at least" if last is None else spawns
+
+
+def with_lines_of(record, changes):
+    """A record with other lines in the place of some, which are counted from 1. A line that is None is left out."""
+    lines = [changes.get(number, line) for number, line in enumerate(record.decode().splitlines(), 1)]
+    return lines_text(line for line in lines if line is not None)
 
 
 def long_records(program):

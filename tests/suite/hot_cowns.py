@@ -3,7 +3,7 @@ from typing import NamedTuple, Tuple
 
 from .why import table
 
-LOAD = 75
+MOST = 75
 HEADS = ["cown", "rows", "wrote", "held", "of span", "waited", "chain", "without"]
 
 
@@ -88,8 +88,8 @@ def span(rows):
 
 
 def hot_cowns(rows, count, shared):
-    """For each cown its number, how many rows have it and how many wrote it, how long it is held and waited for, the chain's ticks through it, and the
-    span without it; those that are held longest first."""
+    """For each cown its number, how many rows have it and how many wrote it, how long one row alone holds it and how long it is waited for, the chain's
+    ticks through it, and the span without it; those that are held longest first."""
     seen = rows if shared else exclusive(rows)
     plan = Earliest(seen)
     waited, through = [0] * count, [0] * count
@@ -104,20 +104,18 @@ def hot_cowns(rows, count, shared):
     for cown in range(count):
         own = [row for row in rows if cown in row.cowns]
         wrote = sum(cown in row.written for row in own)
-        hot.append((cown, len(own), wrote, sum(row.ticks for row in own), waited[cown], through[cown], span(freed(seen, cown))))
+        held = sum(row.ticks for row in own if cown in row.written or not shared)
+        hot.append((cown, len(own), wrote, held, waited[cown], through[cown], span(freed(seen, cown))))
     return sorted(hot, key=lambda cown: (-cown[3], cown[0]))
 
 
 def verdict(names, whole, spawns, hot):
-    if not hot:
-        return f"order: there is no cown; the spawns alone need {spawns} of {whole} ticks"
+    if not hot or spawns * 100 >= MOST * whole:
+        return f"spawns: they alone need {spawns} of {whole} ticks; spawn earlier, or do less"
     cown, _, _, held, _, _, _ = hot[0]
-    if held * 100 >= LOAD * whole:
+    if held * 100 >= MOST * whole:
         return f"load: {names[cown]} is held {held} of {whole} ticks; split it, or shorten what holds it"
-    least = f"order: no cown is held over {held * 100 // whole}% of the span; "
-    if spawns * 100 >= LOAD * whole:
-        return least + f"the spawns alone need {spawns} of {whole} ticks"
-    return least + "the order in which behaviours ask is what holds back"
+    return f"order: no cown is held over {held * 100 // whole}% of the span; the order in which behaviours ask is what holds back"
 
 
 def shared_reads(names, shared, hot):

@@ -37,7 +37,23 @@ cown      rows  wrote  held  of span  waited  chain  without
 node[20]     1      1    84      48%       0      0      174
 .. and 63 more cowns
 span 174; by spawns alone 141; busiest cown 84
-order: no cown is held over 48% of the span; the spawns alone need 141 of 174 ticks
+spawns: they alone need 141 of 174 ticks; spawn earlier, or do less
+"""
+
+# The cown is held for most of the span, and nobody waits for it: each behaviour spawns the next one as it ends.
+COUNTDOWN = """\
+cown  rows  wrote  held  of span  waited  chain  without
+a        3      3    11      84%       0      0       13
+span 13; by spawns alone 13; busiest cown 11
+spawns: they alone need 13 of 13 ticks; spawn earlier, or do less
+"""
+
+# Two read for 7 ticks side by side, and then the one that writes holds the cown alone, for 2.
+PEEKS_SHARED = """\
+cown  rows  wrote  held  of span  waited  chain  without
+a        3      1     2      16%       6      7       10
+span 12; by spawns alone 10; busiest cown 2
+spawns: they alone need 10 of 12 ticks; spawn earlier, or do less
 """
 
 
@@ -62,6 +78,9 @@ def cases(program):
     yield "pipeline.boc: cowns", fault_of(done(PIPELINE.encode()), program.run(["cowns"], program.example("pipeline.boc")))
     yield "scoreboard.boc: cowns", fault_of(done(SCOREBOARD.encode()), program.run(["cowns", "--top", "3"], program.example("scoreboard.boc")))
     yield "tree.boc: cowns", fault_of(done(TREE.encode()), program.run(["cowns", "--top", "1"], program.example("tree.boc")))
+    yield "countdown.boc: cowns", fault_of(done(COUNTDOWN.encode()), program.run(["cowns"], program.example("countdown.boc")))
+    yield "peeks.boc: cowns --shared-reads", fault_of(
+        done(PEEKS_SHARED.encode()), program.run(["cowns", "--shared-reads"], program.example("peeks.boc")))
     for name in EXAMPLES:
         yield from of_example(program, name, program.example(name))
     chance = random.Random(42424242)
@@ -110,8 +129,9 @@ def of_rows(program, chance, number):
     file = random_names(chance, len(rows), cowns)
     called = Called(*names_file.names_of(file, len(rows), cowns))
     yield f"random rows {number}: why with names", fault_of(done(why.why(rows, called)), program.run_beside(["why"], "--names", file, record))
-    yield f"random rows {number}: cowns with names", fault_of(
-        done(cowns_text(record.decode(), called.cowns).encode()), program.run_beside(["cowns"], "--names", file, record))
+    for words, shared in [([], False), (["--shared-reads"], True)]:
+        yield f"random rows {number}: cowns with names {' '.join(words)}", fault_of(
+            done(cowns_text(record.decode(), called.cowns, shared).encode()), program.run_beside(["cowns", *words], "--names", file, record))
 
 
 def faults(program):

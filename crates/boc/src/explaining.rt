@@ -1,12 +1,16 @@
 //! What is told of a fault behind its line.
 
 use crate::source::Kept;
-use boc_commands::{AskedCown, AskedEdit, Command, Fault, FileFault, InputFault, NamesFrom};
+use boc_commands::{
+    AskedCown, AskedEdit, Command, Fault, FileFault, InputFault, NamesFrom, RunFile, WordsFault,
+};
 use boc_explain::{
-    Place, Text, explain_cown, explain_def, explain_edit, explain_program, explain_record,
+    Asked, Beside, Naming, Place, Text, explain_behaviours, explain_cown, explain_def,
+    explain_edit, explain_edit_word, explain_files, explain_names, explain_program, explain_record,
     explain_stray,
 };
-use boc_plans::edit::{Change, Edit, EditFault};
+use boc_plans::edit::{Change, Edit, EditFault, Part};
+use boc_workers::RunFault;
 use std::alloc::{AllocError, Global};
 
 /// What a command read.
@@ -18,6 +22,22 @@ pub(crate) struct Texts {
     pub beside: Kept,
 }
 
+/// The lines behind the text of a fault of these words, each with its line feed. There may be none.
+pub(crate) fn explained_words(
+    alloc: Global,
+    words: &[String],
+    fault: &Fault,
+) -> Result<String, AllocError> {
+    match fault {
+        Fault::Words(WordsFault::EditWord { number }) => explain_edit_word(alloc, words, *number),
+        Fault::Words(WordsFault::Parser(_)) => {
+            let told = fault.line(alloc)?;
+            explain_files(alloc, words, &told)
+        }
+        _ => Ok(String::new(alloc)),
+    }
+}
+
 /// The lines behind that of a fault, each with its line feed. There may be none.
 pub(crate) fn explained(
     alloc: Global,
@@ -25,29 +45,96 @@ pub(crate) fn explained(
     command: &Command,
     texts: &Texts,
 ) -> Result<String, AllocError> {
-    let Fault::Input(fault) = fault else {
-        return Ok(String::new(alloc));
-    };
+    match fault {
+        Fault::Input(InputFault::Beside(fault)) => {
+            explained_beside(alloc, *fault, command, texts)
+        }
+        Fault::Input(fault) => explained_input(alloc, *fault, command, texts),
+        Fault::Run(RunFault::Behaviours) if texts.input.is_whole() => {
+            explain_behaviours(alloc, texts.input.as_slice())
+        }
+        _ => Ok(String::new(alloc)),
+    }
+}
+
+// The lines behind that of a fault of the input, or of what is asked of it.
+fn explained_input(
+    alloc: Global,
+    fault: InputFault,
+    command: &Command,
+    texts: &Texts,
+) -> Result<String, AllocError> {
+    let input = text_of(&texts.input);
+    let place = place_of(command, texts, false);
+    match fault {
+        InputFault::Program(fault) => explain_program(alloc, input, place, fault),
+        InputFault::Record(fault) => explain_record(alloc, input, place, fault),
+        InputFault::Stray(fault) => explain_stray(alloc, input, text_of(&texts.beside), fault),
+        InputFault::Cown { number } => missing_cown(alloc, command, texts, number),
+        InputFault::Edit { number, fault } => refused_edit(alloc, command, texts, number, fault),
+        InputFault::Def { number } => missing_def(alloc, command, texts, number),
+        InputFault::Beside(_) => Ok(String::new(alloc)),
+    }
+}
+
+// The lines behind that of a fault of the file beside the input.
+fn explained_beside(
+    alloc: Global,
+    fault: FileFault,
+    command: &Command,
+    texts: &Texts,
+) -> Result<String, AllocError> {
     let input = text_of(&texts.input);
     let beside = text_of(&texts.beside);
-    let place = Place::Input(name_of(command));
+    let place = place_of(command, texts, true);
     match fault {
-        InputFault::Program(fault) => explain_program(alloc, input, place, *fault),
-        InputFault::Record(fault) => explain_record(alloc, input, place, *fault),
-        InputFault::Stray(fault) => explain_stray(alloc, input, beside, *fault),
-        InputFault::Cown { number } => missing_cown(alloc, command, texts, *number),
-        InputFault::Edit { number, fault } => refused_edit(alloc, command, input, *number, *fault),
-        InputFault::Def { number } => missing_def(alloc, command, texts, *number),
-        InputFault::Beside(FileFault::Program(fault)) => {
-            explain_program(alloc, beside, Place::Beside("--program"), *fault)
+        FileFault::Program(fault) => explain_program(alloc, beside, place, fault),
+        FileFault::Record(fault) => explain_record(alloc, beside, place, fault),
+        FileFault::Stray(fault) => explain_stray(alloc, beside, input, fault),
+        FileFault::Names(fault) => explain_names(alloc, beside, input, fault),
+    }
+}
+
+// Where the input of a command comes from, or the file beside it.
+fn place_of<'a>(command: &Command, texts: &'a Texts, is_beside: bool) -> Place<'a> {
+    let other = if is_beside {
+        &texts.input
+    } else {
+        &texts.beside
+    };
+    Place {
+        command: name_of(command),
+        beside: beside_of(command),
+        is_beside,
+        other: other.as_slice(),
+    }
+}
+
+// What the file beside the input of a command is, if it has one.
+fn beside_of(command: &Command) -> Option<Beside> {
+    match command {
+        Command::Check { program: Some(_) }
+        | Command::WhatIf {
+            names: Some(NamesFrom::Program(_)),
+            ..
+        } => Some(Beside::Program),
+        Command::Values {
+            record: Some(_),
+            ..
+        } => Some(Beside::Record),
+        Command::WhatIf { names: Some(_), .. } => Some(Beside::Names),
+        Command::Why {
+            file: Some(file),
+            ..
         }
-        InputFault::Beside(FileFault::Record(fault)) => {
-            explain_record(alloc, beside, Place::Beside("--record"), *fault)
-        }
-        InputFault::Beside(FileFault::Stray(fault)) => {
-            explain_stray(alloc, beside, input, *fault)
-        }
-        InputFault::Beside(FileFault::Names(_)) => Ok(String::new(alloc)),
+        | Command::Cowns {
+            file: Some(file),
+            ..
+        } => Some(match file {
+            RunFile::Record(_) => Beside::Record,
+            RunFile::Names(_) => Beside::Names,
+        }),
+        _ => None,
     }
 }
 
@@ -91,43 +178,74 @@ fn missing_cown(
     }
 }
 
-// An edit that the rows can't take, counted from 1. Where an edit of a def stands before it, which rows it changed is not known here.
+// An edit that the rows can't take, counted from 1.
 fn refused_edit(
     alloc: Global,
     command: &Command,
-    input: Text<'_>,
+    texts: &Texts,
     number: usize,
     fault: EditFault,
 ) -> Result<String, AllocError> {
-    let Command::WhatIf { edits, .. } = command else {
+    let Command::WhatIf { edits, names, .. } = command else {
         return Ok(String::new(alloc));
     };
-    let mut rows = Vec::new(alloc);
-    for edit in edits.iter().take(number) {
+    if !texts.beside.is_whole() {
+        return Ok(String::new(alloc));
+    }
+    let word = match edits.get(number.saturating_sub(1)) {
+        Some(edit) => word_of(alloc, edit)?,
+        None => return Ok(String::new(alloc)),
+    };
+    let asked = asked_edits(alloc, edits, number)?;
+    let naming = match names {
+        Some(NamesFrom::Program(_)) => Naming::Program(texts.beside.as_slice()),
+        Some(NamesFrom::Names(_)) => Naming::Names(texts.beside.as_slice()),
+        None => Naming::Numbers,
+    };
+    explain_edit(alloc, text_of(&texts.input), naming, &word, &asked, fault)
+}
+
+// So many of the first edits that words ask for.
+fn asked_edits(alloc: Global, edits: &[AskedEdit], count: usize) -> Result<Vec<Asked>, AllocError> {
+    let mut asked = Vec::new(alloc);
+    for edit in edits.iter().take(count) {
         match edit {
-            AskedEdit::Row(edit) => rows.push(*edit)?,
-            AskedEdit::Def { .. } => return Ok(String::new(alloc)),
+            AskedEdit::Row(edit) => asked.push(Asked::Row(*edit))?,
+            AskedEdit::Def { name, part } => {
+                let name = String::from_str(alloc, name)?;
+                asked.push(Asked::Def { name, part: *part })?;
+            }
         }
     }
-    let word = match rows.last() {
-        Some(edit) => word_of(alloc, edit)?,
-        None => String::new(alloc),
-    };
-    explain_edit(alloc, input, &word, &rows, fault)
+    Ok(asked)
 }
 
 // The word of an edit.
-fn word_of(alloc: Global, edit: &Edit) -> Result<String, AllocError> {
+fn word_of(alloc: Global, edit: &AskedEdit) -> Result<String, AllocError> {
+    match edit {
+        AskedEdit::Row(edit) => row_word(alloc, edit),
+        AskedEdit::Def { name, part } => cost_word(alloc, name, *part),
+    }
+}
+
+// The word of an edit of a row.
+fn row_word(alloc: Global, edit: &Edit) -> Result<String, AllocError> {
     let row = edit.row;
     match edit.change {
         Change::Ticks(ticks) => format!(in alloc; "{row}={ticks}"),
         Change::Offset(offset) => format!(in alloc; "{row}@{offset}"),
-        Change::Cost(part) => cost_word(alloc, row, part.over(), part.under()),
+        Change::Cost(part) => {
+            let row = row.to_string(alloc)?;
+            cost_word(alloc, &row, part)
+        }
     }
 }
 
-fn cost_word(alloc: Global, row: u32, over: u32, under: u32) -> Result<String, AllocError> {
-    format!(in alloc; "{row}={over}/{under}")
+// The word of an edit that has a row or a def cost a part of what it did.
+fn cost_word(alloc: Global, subject: &str, part: Part) -> Result<String, AllocError> {
+    let over = part.over();
+    let under = part.under();
+    format!(in alloc; "{subject}={over}/{under}")
 }
 
 // An edit of a def that no row is of, counted from 1.

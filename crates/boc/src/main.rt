@@ -5,7 +5,7 @@ mod explaining;
 mod meter;
 mod source;
 
-use crate::explaining::{Texts, explained};
+use crate::explaining::{Texts, explained, explained_words};
 use crate::meter::Meter;
 use crate::source::{Input, Kept};
 use boc_commands::{
@@ -75,7 +75,7 @@ fn main(rt: HostRuntime) -> ExitCode {
 // Does what the words ask for. What runs in several threads is started by way of `threads`.
 fn run(rt: HostRuntime, threads: &(impl Threads + Wait + Sync)) -> Result<(), Stop> {
     let words = words_given(rt)?;
-    let line = read_words(rt.alloc(), &words)?;
+    let line = read_words(rt.alloc(), &words).or_else(|fault| words_stop(rt, &words, fault))?;
     let beside = file_beside(rt, &line.command)?;
     match &line.input {
         Some(path) if path.as_str() != "-" => {
@@ -140,6 +140,13 @@ fn file_beside(rt: HostRuntime, command: &Command) -> Result<Vec<u8>, Stop> {
         return Ok(Vec::new(rt.alloc()));
     };
     fs::read(&rt, path).or_else(|error| file_stop(rt, path, error))
+}
+
+// Why not all was done where the words are refused.
+fn words_stop<T>(rt: HostRuntime, words: &[String], fault: WordsFault) -> Result<T, Stop> {
+    let fault = Fault::from(fault);
+    let more = explained_words(rt.alloc(), words, &fault).ok();
+    Err(Stop::Fault { fault, more })
 }
 
 // Why a file with this path can't be read.

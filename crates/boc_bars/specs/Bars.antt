@@ -11,6 +11,7 @@ pub record Times : Type 0 where
   pub start : ℕ
   pub end : ℕ
 
+-- all of a bar but its lane
 abbrev pub times_of : Bar → Times
 times_of bar = record { row = bar.row; start = bar.start; end = bar.end }
 

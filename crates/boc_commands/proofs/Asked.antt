@@ -112,8 +112,8 @@ is_report rows asked profile made plan is part_is same = record {
 }
 
 -- the report on the rows of a record that was read
-pub reported : (sharing : Sharing) (asked : AskedPlans) (text : List ℕ) (r : Recorded) (rows : List Row) (made output : List ℕ) → IsTextOf text r → rows ≡ r.rows
-    → IsReport (seen sharing rows) asked made → output ≡ made → IsProfileAnswer sharing asked text output
+pub reported : (sharing : Sharing) (asked : AskedPlans) (text : List ℕ) (r : Recorded) (rows : List Row) (made output : List ℕ) → IsTextOf text r
+    → rows ≡ r.rows → IsReport (seen sharing rows) asked made → output ≡ made → IsProfileAnswer sharing asked text output
 reported sharing asked text r rows made output spells same report is = record {
   recorded = r;
   spells = spells;

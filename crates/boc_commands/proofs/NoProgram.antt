@@ -1,19 +1,24 @@
 -- The text of a record spells no program: it begins with a name, and a program with a keyword.
-use Rattle.std.proofs.Common.{◌≡◌, ◌∙◌, ℕ, List, [], ◌∷◌, Option, Some, None, refl, sym, ap}
+use Rattle.std.proofs.Common.{◌≡◌, ◌∙◌, ℕ, List, [], ◌∷◌, Option, Some, None, refl, sym, ap, arith}
 use Rattle.std.proofs.lemmas.Option.{same_Some}
 use Rattle.boc_program.specs.declared.program.Program.{Program}
 use Rattle.boc_reader.specs.declared.terminal.Keyword.TheVariants as keywords
 use Rattle.boc_reader.specs.Shape.{Block, Cown, Def, braced_tokens, cown_tokens, def_tokens, each_tokens}
 use Rattle.boc_reader.specs.Spells.{Spells}
-use Rattle.boc_reader.specs.Tokens.{Token, keyword, name, put, token_of_run, tokens_of_text}
-use Rattle.boc_reader.proofs.Texts.{run_read}
+use Rattle.boc_reader.specs.Tokens.{Token, run, keyword, name, put, token_of_run, tokens_of_text}
+use Rattle.boc_reader.proofs.Reading.{read_one, token_read}
+use Rattle.boc_reader.proofs.Texts.{run_at}
 use Rattle.boc_record.specs.RecordTexts.{IsTextOf}
 use Rattle.boc_runs.specs.Records.{Recorded}
 
 -- the word that a record begins with, with a blank behind it, is a name
 reads_word : (rest : List ℕ) → tokens_of_text (98 ∷ 111 ∷ 99 ∷ 32 ∷ rest) ≡ put (Some (name (98 ∷ 111 ∷ 99 ∷ []))) (tokens_of_text (32 ∷ rest))
 unfolding token_of_run
-reads_word rest = run_read 98 (111 ∷ 99 ∷ []) (32 ∷ rest) refl (refl, (refl, tt)) refl
+reads_word rest =
+    let text = 98 ∷ 111 ∷ 99 ∷ 32 ∷ rest in
+    let word = 98 ∷ 111 ∷ 99 ∷ [] in
+    token_read text (32 ∷ rest) (name word)
+    (read_one text (32 ∷ rest) (run word) (name word ∷ []) (run_at text 3 refl (omega arith)) refl (omega arith))
 
 first_of : (word : Token) (others : Option (List Token)) (tokens : List Token) → put (Some word) others ≡ Some tokens
     → (ws : List Token) × (tokens ≡ word ∷ ws)

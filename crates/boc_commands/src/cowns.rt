@@ -19,8 +19,8 @@ use std::sync::Wait;
 use std::thread::Threads;
 
 /// Reads a program, which it runs, or the text of a record, as its first word tells, and writes how long each cown of the run is held, waited for and handed
-/// on, and the span without it, those first that are held longest; so many where a number is given. Below that stands whether the load of a cown holds the run
-/// back, or order does. Plans see the rows as they share cowns in this way. The origin and the notes are as for `why`.
+/// on, and the span without it, those first that are held longest; so many where a number is given. Below that stands whether the spawns hold the run back, or
+/// the load of a cown, or order does. Plans see the rows as they share cowns in this way. The origin and the notes are as for `why`.
 ///
 /// A program is refused as by `run`, a record as by `profile`, and a file as its kind is. Nothing is written unless the whole answer stands. After a failing
 /// write a beginning of it went out. Plans are made in threads. The text of a record is taken into memory as a whole.

@@ -1,5 +1,6 @@
 pub mod Added
 pub mod Handed
+pub mod Held
 pub mod Steps
 pub mod Sums
 pub mod One

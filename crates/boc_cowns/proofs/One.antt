@@ -69,7 +69,7 @@ module _ (list : List Row) (sharing : Sharing) (hr : IsRows (seen sharing list))
       ap (λ (k : ℕ). made k a.rows a.wrote a.held a.waited a.chain a.without) e
       ∙ (ap (λ (k : ℕ). made b.cown k a.wrote a.held a.waited a.chain a.without) (ha.rows ∙ (ap (rows_with list) e ∙ sym hb.rows))
       ∙ (ap (λ (k : ℕ). made b.cown b.rows k a.held a.waited a.chain a.without) (ha.wrote ∙ (ap (rows_that_wrote list) e ∙ sym hb.wrote))
-      ∙ (ap (λ (k : ℕ). made b.cown b.rows b.wrote k a.waited a.chain a.without) (ha.held ∙ (ap (held_for list) e ∙ sym hb.held))
+      ∙ (ap (λ (k : ℕ). made b.cown b.rows b.wrote k a.waited a.chain a.without) (ha.held ∙ (ap (held_for (seen sharing list)) e ∙ sym hb.held))
       ∙ (ap (λ (k : ℕ). made b.cown b.rows b.wrote b.held k a.chain a.without)
       (ha.waited ∙ (ap (waited_for (seen sharing list) plan after) e
       ∙ (waited_same (seen sharing list) hr plan after others aw ow b.cown ∙ sym hb.waited)))

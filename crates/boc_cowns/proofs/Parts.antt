@@ -22,7 +22,7 @@ use Rattle.boc_cowns.specs.declared.columns.Columns.{Columns}
 use Rattle.boc_why.specs.Least.{without_cowns}
 use Rattle.boc_cowns.specs.declared.hot.HotCown.{HotCown}
 use Rattle.boc_cowns.specs.declared.hot.HotCowns.{HotCowns}
-use Rattle.boc_cowns.specs.Hot.{AreSorted, IsHotCowns, has_cown}
+use Rattle.boc_cowns.specs.Hot.{AreSorted, IsHotCowns, wrote_cown}
 use Rattle.boc_cowns.specs.Columns.{AreSums, HasColumns, TellColumns}
 use Rattle.boc_cowns.proofs.Telling.{awaited, column_tells}
 
@@ -35,10 +35,10 @@ pub span_some : (rows : List Row) → IsRows rows → (plan : List ℕ) (span : 
 span_some rows hr plan span end = omega (arith, end.none_later 0 hr.not_empty, hr.ticks_low 0 hr.not_empty)
 
 -- no cown is held for longer than all rows can take
-pub held_low : (list : List Row) (columns : Columns) (count : ℕ) (cowns : List HotCown) → count ≤ MOST_COWNS → length list ≤ MOST_ROWS
-    → AreSums (has_cown list) (ticks_of list) (length list) columns.held.items → TellColumns columns cowns → AreSorted count cowns
+pub held_low : (rows : List Row) (columns : Columns) (count : ℕ) (cowns : List HotCown) → count ≤ MOST_COWNS → length rows ≤ MOST_ROWS
+    → AreSums (wrote_cown rows) (ticks_of rows) (length rows) columns.held.items → TellColumns columns cowns → AreSorted count cowns
     → All (λ own. own.held < 2 ^ 56) cowns
-held_low list columns count cowns few few_rows so tell sorted k d h =
+held_low rows columns count cowns few few_rows so tell sorted k d h =
     let own : HotCown = get_or cowns k d in
     let there = slice_get-get_or cowns k d h in
     let is : own.held ≡ slice_index columns.held.items own.cown = ap (λ (hot : HotCown). hot.held) (tell k own there) in

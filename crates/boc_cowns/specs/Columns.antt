@@ -41,7 +41,7 @@ pub record HasColumns (list all : List Row) (plan : List ℕ) (after : List (Opt
     : Type 0 where
   pub with_it : AreSums (has_cown list) one (length list) columns.rows.items
   pub that_wrote : AreSums (wrote_cown list) one (length list) columns.wrote.items
-  pub for_ticks : AreSums (has_cown list) (ticks_of list) (length list) columns.held.items
+  pub for_ticks : AreSums (wrote_cown all) (ticks_of all) (length all) columns.held.items
   pub waits : AreSums (waits_over all after) (wait_of all plan) (length all) columns.waited.items
   pub through : AreSums (step_hands all steps) (weight_at steps) (length steps) columns.chain.items
   pub left : IsCownSweep all count columns.without.items

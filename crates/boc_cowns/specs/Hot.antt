@@ -47,9 +47,10 @@ rows_with rows cown = sum_where (has_cown rows cown) one (length rows)
 abbrev pub rows_that_wrote : List Row → ℕ → ℕ
 rows_that_wrote rows cown = sum_where (wrote_cown rows cown) one (length rows)
 
--- for how long it is held: the ticks of the rows that have it
+-- For how long it is held by one row alone: the ticks of the rows that wrote it, of which no two can be under way at once. (These are rows as plans
+-- see them: where cowns are exclusive, each row wrote all it has.)
 abbrev pub held_for : List Row → ℕ → ℕ
-held_for rows cown = sum_where (has_cown rows cown) (ticks_of rows) (length rows)
+held_for rows cown = sum_where (wrote_cown rows cown) (ticks_of rows) (length rows)
 
 -- ---- the rows that hand it on
 
@@ -97,11 +98,11 @@ chain_through rows steps cown = sum_where (step_hands rows steps cown) (weight_a
 -- ---- all cowns
 
 -- What is told of a cown of these rows, in this plan, in which each row waits for these, and in this chain. Which rows have it and which wrote it is as
--- the record has it; what is handed on is as plans see the rows.
+-- the record has it; for how long it is held, and what is handed on, is as plans see the rows.
 pub record IsHotCown (list : List Row) (sharing : Sharing) (plan : List ℕ) (after : List (Option ℕ)) (steps : List ChainStep) (hot : HotCown) : Type 0 where
   pub rows : hot.rows ≡ rows_with list hot.cown
   pub wrote : hot.wrote ≡ rows_that_wrote list hot.cown
-  pub held : hot.held ≡ held_for list hot.cown
+  pub held : hot.held ≡ held_for (seen sharing list) hot.cown
   pub waited : hot.waited ≡ waited_for (seen sharing list) plan after hot.cown
   pub chain : hot.chain ≡ chain_through (seen sharing list) steps hot.cown
   pub left : IsSpan (without hot.cown (seen sharing list)) hot.without

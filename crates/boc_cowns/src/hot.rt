@@ -33,7 +33,8 @@ pub struct HotCown {
     pub rows: u32,
     /// How many rows wrote it.
     pub wrote: u32,
-    /// How long the rows that have it take together.
+    /// How long it is held by one row alone: the ticks of the rows that wrote it. Where cowns are exclusive, these are all rows that have it; where
+    /// reads are shared, readers hold it together, and don't count.
     pub held: u64,
     /// How long rows wait for it: from the spawn of each to its start, where the row whose end it waits for hands it the cown. A wait for several
     /// cowns counts for each of them.
@@ -78,7 +79,7 @@ fn columns_of(
     Ok(Columns {
         rows: row_counts(alloc, list)?,
         wrote: writer_counts(alloc, list)?,
-        held: held_ticks(alloc, list)?,
+        held: held_ticks(alloc, seen)?,
         waited: waits_of(alloc, seen, plan)?,
         chain: chain_ticks(alloc, seen, steps)?,
         without: cown_sweep(rt, alloc, seen, count)?,
@@ -103,8 +104,8 @@ fn shared_span(alloc: Global, rows: &Rows) -> Result<u64, AllocError>
 }
 
 /// Which cowns hold some rows back: for each of so many cowns, those that are held longest first, how many rows have it and how many wrote it, for how
-/// long it is held and waited for, how much of the chain hands it on, and the span that would be left if it ordered nobody; and the span of the rows, as
-/// they are, without any cown, and where reads are shared. `AllocError` says that memory was refused.
+/// long it is held by one row alone and waited for, how much of the chain hands it on, and the span that would be left if it ordered nobody; and the
+/// span of the rows, as they are, without any cown, and where reads are shared. `AllocError` says that memory was refused.
 ///
 /// It takes time that grows with the number of rows and their cowns, once for each cown, and memory that grows with the number of rows. Threads share
 /// out the cowns.

@@ -1,6 +1,6 @@
-// Laws of hot cowns: a cown is handed where rows conflict, and there is one answer at most.
+// Laws of hot cowns: a cown is handed where rows conflict, there is one answer at most, and none is held for longer than the span.
 
-ghost use Rattle.std.specs.Prelude.{◌≡◌, ◌↔◌, ℕ, true, List};
+ghost use Rattle.std.specs.Prelude.{◌≡◌, ◌≤◌, ◌↔◌, ℕ, true, All, List};
 ghost use Rattle.boc_runs.specs.declared.rows.Row.{Row};
 ghost use Rattle.boc_plans.specs.Plans.{ConflictOn};
 ghost use Rattle.boc_plans.specs.declared.sharing.Sharing.{Sharing};
@@ -18,4 +18,10 @@ pub fn hot_cowns_are_one()
     ensures { (list : List Row) (sharing : Sharing) (count : ℕ) (hot other : HotCowns) → IsRows list → IsHotCowns list sharing count hot
         → IsHotCowns list sharing count other
         → (hot.span ≡ other.span) × (hot.spawns ≡ other.spawns) × (hot.shared ≡ other.shared) × (hot.cowns.items ≡ other.cowns.items) }
+{}
+
+/// Each cown that is told of is held by one row alone for as long as the rows take, at most.
+pub fn held_within_the_span()
+    ensures { (list : List Row) (sharing : Sharing) (count : ℕ) (hot : HotCowns) → IsRows list → IsHotCowns list sharing count hot
+        → All (λ own. own.held ≤ hot.span) hot.cowns.items }
 {}

@@ -50,14 +50,6 @@ fn written_at(rows: &[Row], row: usize) -> &[HeldCown]
     rows[row].written.as_slice()
 }
 
-// The ticks of a row.
-fn ticks_at(rows: &[Row], row: usize) -> u64
-    requires { row < length rows.now }
-    ensures { result ≡ ticks_of rows.now row }
-{
-    u64::from(rows[row].ticks)
-}
-
 // Counts the next row for each cown that it has.
 fn count_row(rows: &[Row], row: usize, totals: &mut [u64])
     requires shape { IsRows rows.now }
@@ -102,20 +94,25 @@ pub(crate) fn writer_counts(alloc: Global, rows: &[Row]) -> Result<Vec<u64>, All
     Ok(totals)
 }
 
-// Adds the ticks of the next row for each cown that it has.
-fn add_row(rows: &[Row], row: usize, totals: &mut [u64])
+// Adds the ticks of the next row for each cown that it wrote.
+fn add_row(rows: &SeenRows, row: usize, totals: &mut [u64])
     requires shape { IsRows rows.now }
     requires there { row < length rows.now }
-    requires sums { AreSums (has_cown rows.now) (ticks_of rows.now) row totals.old }
-    ensures { AreSums (has_cown rows.now) (ticks_of rows.now) (row + 1) totals.new }
+    requires sums { AreSums (wrote_cown rows.now) (ticks_of rows.now) row totals.old }
+    ensures { AreSums (wrote_cown rows.now) (ticks_of rows.now) (row + 1) totals.new }
 {
-    add(totals, cowns_at(rows, row), ticks_at(rows, row));
+    let ticks = u64::from(rows.ticks(row));
+    for own in rows.cowns(row) {
+        if rows.writes(row, *own) {
+            totals[*own as usize] += ticks;
+        }
+    }
 }
 
-/// For each cown the ticks of the rows that have it. `AllocError` says that memory was refused.
-pub(crate) fn held_ticks(alloc: Global, rows: &[Row]) -> Result<Vec<u64>, AllocError>
+/// For each cown the ticks of the rows that wrote it. `AllocError` says that memory was refused.
+pub(crate) fn held_ticks(alloc: Global, rows: &SeenRows) -> Result<Vec<u64>, AllocError>
     requires { IsRows rows.now }
-    ensures { IfOk result (λ totals. AreSums (has_cown rows.now) (ticks_of rows.now) (length rows.now) totals.items) }
+    ensures { IfOk result (λ totals. AreSums (wrote_cown rows.now) (ticks_of rows.now) (length rows.now) totals.items) }
 {
     let mut totals = vec![in alloc; 0; MOST_COWNS]?;
     for row in 0..rows.len() {

@@ -8,7 +8,7 @@ use Rattle.boc_names.specs.declared.names.Names.{Names}
 use Rattle.boc_names.specs.Names.{CallTheSame, text_at}
 use Rattle.boc_cowns.specs.declared.hot.HotCown.{HotCown}
 use Rattle.boc_cowns.specs.declared.hot.HotCowns.{HotCowns}
-use Rattle.boc_cowns_report.specs.CownsTexts.{busiest_text, cown_texts, cowns_head, cowns_sides, cowns_table, is_most, more_text, order_text, percent_text}
+use Rattle.boc_cowns_report.specs.CownsTexts.{busiest_text, by_cowns_text, cown_texts, cowns_head, cowns_sides, cowns_table, is_most, more_text, percent_text}
 use Rattle.boc_cowns_report.specs.CownsTexts.{readers_text, shared_text, span_text, spawns_text, told_of, verdict_text}
 
 module _ (a b : Names) (same : CallTheSame a b) (hot other : HotCowns) (span : hot.span ≡ other.span) (spawns : hot.spawns ≡ other.spawns)
@@ -32,17 +32,19 @@ module _ (a b : Names) (same : CallTheSame a b) (hot other : HotCowns) (span : h
   -- ---- the verdict
 
   spawns_same : spawns_text hot ≡ spawns_text other
-  spawns_same = λ i. codes "the spawns alone need " ++ decimal (spawns i) ++ codes " of " ++ decimal (span i) ++ codes " ticks"
+  spawns_same = λ i. codes "spawns: they alone need " ++ decimal (spawns i) ++ codes " of " ++ decimal (span i)
+      ++ codes " ticks; spawn earlier, or do less"
 
-  order_same : order_text hot ≡ order_text other
-  order_same = λ i. cond (is_most (spawns i) (span i)) (spawns_same i) (codes "the order in which behaviours ask is what holds back")
-
-  verdict_same : (list : List HotCown) → verdict_text a hot list ≡ verdict_text b other list
-  verdict_same [] = λ i. codes "order: there is no cown; " ++ spawns_same i
-  verdict_same (own ∷ list) = λ i. cond (is_most own.held (span i))
+  by_cowns_same : (own : HotCown) → by_cowns_text a hot own ≡ by_cowns_text b other own
+  by_cowns_same own = λ i. cond (is_most own.held (span i))
       (codes "load: " ++ text_at (same.cowns i) own.cown ++ codes " is held " ++ decimal own.held ++ codes " of " ++ decimal (span i)
       ++ codes " ticks; split it, or shorten what holds it")
-      (codes "order: no cown is held over " ++ percent_text own.held (span i) ++ codes " of the span; " ++ order_same i)
+      (codes "order: no cown is held over " ++ percent_text own.held (span i)
+      ++ codes " of the span; the order in which behaviours ask is what holds back")
+
+  verdict_same : (list : List HotCown) → verdict_text a hot list ≡ verdict_text b other list
+  verdict_same [] = spawns_same
+  verdict_same (own ∷ list) = λ i. cond (is_most (spawns i) (span i)) (spawns_same i) (by_cowns_same own i)
 
   -- ---- shared reads
 

@@ -3,6 +3,10 @@ use Rattle.std.proofs.Common.{◌≡◌, ◌≢◌, ℕ, zero, suc, ◌++◌, ap
 use Rattle.boc_names.specs.Names.{Text}
 use Rattle.boc_cowns_report.specs.CownsTexts.{many_text, more_text}
 
+-- five texts behind one
+pub regroup_five : (text a b c d e : Text) → ((((text ++ a) ++ b) ++ c) ++ d) ++ e ≡ text ++ (a ++ b ++ c ++ d ++ e)
+regroup_five text a b c d e = simp append_assoc
+
 -- four texts behind one
 pub regroup : (text a b c d : Text) → (((text ++ a) ++ b) ++ c) ++ d ≡ text ++ (a ++ b ++ c ++ d)
 regroup text a b c d = simp append_assoc

@@ -85,13 +85,11 @@ span_text hot =
 abbrev pub is_most : ℕ → ℕ → Bool
 is_most ticks span = not (nat_lt (ticks * 100) (span * 75))
 
--- what the spawns need
+-- the spawns, which need so long alone that no cown is to blame
 abbrev pub spawns_text : HotCowns → Text
-spawns_text hot = codes "the spawns alone need " ++ decimal hot.spawns ++ codes " of " ++ decimal hot.span ++ codes " ticks"
-
--- what holds the rows back where no cown is held for long: the spawns, or else the order
-abbrev pub order_text : HotCowns → Text
-order_text hot = cond (is_most hot.spawns hot.span) (spawns_text hot) (codes "the order in which behaviours ask is what holds back")
+spawns_text hot =
+    codes "spawns: they alone need " ++ decimal hot.spawns ++ codes " of " ++ decimal hot.span
+    ++ codes " ticks; spawn earlier, or do less"
 
 -- the cown that is held for long
 abbrev pub load_text : Names → HotCowns → HotCown → Text
@@ -99,15 +97,21 @@ load_text names hot own =
     codes "load: " ++ name_of names own ++ codes " is held " ++ decimal own.held ++ codes " of " ++ decimal hot.span
     ++ codes " ticks; split it, or shorten what holds it"
 
--- that no cown is held for longer than this one, and what holds the rows back then
-abbrev pub no_load_text : HotCowns → HotCown → Text
-no_load_text hot own =
-    codes "order: no cown is held over " ++ percent_text own.held hot.span ++ codes " of the span; " ++ order_text hot
+-- the order, where no cown is held for longer than this one
+abbrev pub order_text : HotCowns → HotCown → Text
+order_text hot own =
+    codes "order: no cown is held over " ++ percent_text own.held hot.span
+    ++ codes " of the span; the order in which behaviours ask is what holds back"
 
--- what holds the rows back, where these are the cowns, those that are held longest first
+-- what of the cowns holds the rows back, where this one is held longest: it, where it is held for most of the span, or else the order
+abbrev pub by_cowns_text : Names → HotCowns → HotCown → Text
+by_cowns_text names hot own = cond (is_most own.held hot.span) (load_text names hot own) (order_text hot own)
+
+-- What holds the rows back, where these are the cowns, those that are held longest first: the spawns, where there is no cown, or where they alone need
+-- most of the span; and else the cowns.
 abbrev pub verdict_text : Names → HotCowns → List HotCown → Text
-verdict_text names hot [] = codes "order: there is no cown; " ++ spawns_text hot
-verdict_text names hot (own ∷ cowns) = cond (is_most own.held hot.span) (load_text names hot own) (no_load_text hot own)
+verdict_text names hot [] = spawns_text hot
+verdict_text names hot (own ∷ cowns) = cond (is_most hot.spawns hot.span) (spawns_text hot) (by_cowns_text names hot own)
 
 -- how many of the rows of a cown only read it
 abbrev pub reads_text : Names → HotCown → Text

@@ -2,7 +2,7 @@
 
 ghost use Rattle.std.specs.Prelude.{◌≡◌, ◌++◌, ◌<◌, ◌^◌, All, OnOk};
 ghost use Rattle.boc_names.specs.Names.{texts_of};
-ghost use Rattle.boc_cowns_report.specs.CownsTexts.{is_most, load_text, no_load_text, order_text, readers_text, reads_text, shared_text};
+ghost use Rattle.boc_cowns_report.specs.CownsTexts.{by_cowns_text, is_most, load_text, order_text, readers_text, reads_text, shared_text};
 ghost use Rattle.boc_cowns_report.specs.CownsTexts.{span_with_text, spawns_text, verdict_text};
 
 use crate::lines::put_percent;
@@ -12,36 +12,26 @@ use boc_plans::sharing::Sharing;
 use boc_text::put_number;
 use std::alloc::AllocError;
 
-// A cown, or the spawns, are the load from so many of 100 ticks of the span on.
-const LOAD: u128 = 75;
+// The spawns, or a cown, are what holds the rows back from so many of 100 ticks of the span on.
+const MOST: u128 = 75;
 
 // Whether these are that many ticks of the span.
 fn is_most(ticks: u64, span: u64) -> bool
     ensures { result ≡ is_most ticks span }
 {
-    u128::from(ticks) * 100 >= u128::from(span) * LOAD
+    u128::from(ticks) * 100 >= u128::from(span) * MOST
 }
 
-// Puts what the spawns need behind a text.
+// Puts the spawns behind a text, which need so long alone that no cown is to blame.
 fn put_spawns(text: &mut Vec<u8>, hot: &HotCowns) -> Result<(), AllocError>
     ensures { OnOk result (text.new.items ≡ text.old.items ++ spawns_text hot.now) }
 {
-    text.extend_from_slice(b"the spawns alone need ")?;
+    text.extend_from_slice(b"spawns: they alone need ")?;
     put_number(text, hot.spawns)?;
     text.extend_from_slice(b" of ")?;
     put_number(text, hot.span)?;
-    text.extend_from_slice(b" ticks")
-}
-
-// Puts what holds the rows back where no cown is held for long behind a text.
-fn put_order(text: &mut Vec<u8>, hot: &HotCowns) -> Result<(), AllocError>
-    ensures { OnOk result (text.new.items ≡ text.old.items ++ order_text hot.now) }
-{
-    if is_most(hot.spawns, hot.span) {
-        put_spawns(text, hot)
-    } else {
-        text.extend_from_slice(b"the order in which behaviours ask is what holds back")
-    }
+    text.extend_from_slice(b" ticks; spawn earlier, or do less")?;
+    Ok(())
 }
 
 // Puts the cown that is held for long behind a text.
@@ -62,16 +52,33 @@ fn put_load(
     text.extend_from_slice(b" ticks; split it, or shorten what holds it")
 }
 
-// Puts that no cown is held for longer than this one behind a text, and what holds the rows back then.
-fn put_no_load(text: &mut Vec<u8>, hot: &HotCowns, own: HotCown) -> Result<(), AllocError>
+// Puts the order behind a text, where no cown is held for longer than this one.
+fn put_order(text: &mut Vec<u8>, hot: &HotCowns, own: HotCown) -> Result<(), AllocError>
     requires low { own.held < 2 ^ 56 }
     requires some { 0 < hot.now.span }
-    ensures { OnOk result (text.new.items ≡ text.old.items ++ no_load_text hot.now own) }
+    ensures { OnOk result (text.new.items ≡ text.old.items ++ order_text hot.now own) }
 {
     text.extend_from_slice(b"order: no cown is held over ")?;
     put_percent(text, own.held, hot.span)?;
-    text.extend_from_slice(b" of the span; ")?;
-    put_order(text, hot)
+    text.extend_from_slice(b" of the span; the order in which behaviours ask is what holds back")
+}
+
+// Puts what of the cowns holds the rows back behind a text, where this one is held longest.
+fn put_by_cowns(
+    text: &mut Vec<u8>,
+    names: &Names,
+    hot: &HotCowns,
+    own: HotCown,
+) -> Result<(), AllocError>
+    requires low { own.held < 2 ^ 56 }
+    requires some { 0 < hot.now.span }
+    ensures { OnOk result (text.new.items ≡ text.old.items ++ by_cowns_text names.now hot.now own) }
+{
+    if is_most(own.held, hot.span) {
+        put_load(text, names, hot, own)
+    } else {
+        put_order(text, hot, own)
+    }
 }
 
 /// Puts what holds the rows back behind a text.
@@ -85,15 +92,12 @@ pub(crate) fn put_verdict(
     ensures { OnOk result (text.new.items ≡ text.old.items ++ verdict_text names.now hot.now hot.now.cowns.items) }
 {
     match hot.cowns.as_slice() {
-        [] => {
-            text.extend_from_slice(b"order: there is no cown; ")?;
-            put_spawns(text, hot)
-        }
+        [] => put_spawns(text, hot),
         [own, ..] => {
-            if is_most(own.held, hot.span) {
-                put_load(text, names, hot, *own)
+            if is_most(hot.spawns, hot.span) {
+                put_spawns(text, hot)
             } else {
-                put_no_load(text, hot, *own)
+                put_by_cowns(text, names, hot, *own)
             }
         }
     }

@@ -251,7 +251,8 @@ module _ (u : Underway) (k : IsSound u.program u.state) where
     turns_leaving (inl m) = only_leaves m.state m.after m.takes m.steps
     turns_leaving (inr full) =
         let same : full.served ≡ row = (let f : Some row ≡ Some full.served = full.serves in cc) in
-        absurd (running_or_ended (state_of (members u.program s) row) (subst (λ (r : ℕ). state_of (members u.program s) r ≡ Some Running) same full.runs) has_ended)
+        absurd (running_or_ended (state_of (members u.program s) row)
+        (subst (λ (r : ℕ). state_of (members u.program s) r ≡ Some Running) same full.runs) has_ended)
 
     pub leaving_moves : (b : Bool) → IsTrue b ↔ CanLeave s row → IsTrue b ↔ CanTurn u (Some row)
     leaving_moves b says = (λ t. leaving_turns row (says.0 t), λ can. says.1 (turns_leaving can))

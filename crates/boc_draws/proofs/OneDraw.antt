@@ -24,7 +24,8 @@ some_same : (x y : ℕ) → Some x ≡ Some y → x ≡ y
 some_same x y e = cc
 
 -- one is picked
-pub same_pick : (p : Program) (d : Driven) (picker : Picker) (x y : ℕ) (on more : Picker) → Picks p d picker x on → Picks p d picker y more → (x ≡ y) × (on ≡ more)
+pub same_pick : (p : Program) (d : Driven) (picker : Picker) (x y : ℕ) (on more : Picker) → Picks p d picker x on → Picks p d picker y more
+    → (x ≡ y) × (on ≡ more)
 same_pick p d picker x y on more a b =
     let movers : a.movers ≡ b.movers = same_movers p d a.movers b.movers a.are b.are in
     let same : (Some x, on) ≡ (Some y, more) = sym a.pick ∙ ap (picked picker d.state.steps) movers ∙ b.pick in
@@ -71,11 +72,13 @@ over_or_full p d picker (x ∷ xs) (y ∷ ys) e f later more k a b over w on pic
     (subst (λ (z : Driven). PickedTurns p z a.1 ys f more) next (subst (λ (r : Picker). PickedTurns p b.0 r ys f more) (sym same.1) b.4)) over w on picks none
 
 -- two draws have one end
-pub one_drawn : (p : Program) (workers : ℕ) (way : Way) (seed : ℕ) (a b : Drawn) (x : IsDrawn p workers way seed a) (y : IsDrawn p workers way seed b) → x.end ≡ y.end
+pub one_drawn : (p : Program) (workers : ℕ) (way : Way) (seed : ℕ) (a b : Drawn) (x : IsDrawn p workers way seed a) (y : IsDrawn p workers way seed b)
+    → x.end ≡ y.end
 one_drawn p workers way seed a b x y =
-    one_end p (opening_driven p workers) (picker_of way workers seed) x.choices y.choices x.end y.end x.later y.later (opening_sound p) x.turns y.turns x.quiet y.quiet
+    one_end p (opening_driven p workers) (picker_of way workers seed) x.choices y.choices x.end y.end x.later y.later (opening_sound p)
+    x.turns y.turns x.quiet y.quiet
 
 pub drawn_or_full : (p : Program) (workers : ℕ) (way : Way) (seed : ℕ) (a : Drawn) → IsDrawn p workers way seed a → RunsOut p workers way seed → ⊥
 drawn_or_full p workers way seed a x y =
-    over_or_full p (opening_driven p workers) (picker_of way workers seed) x.choices y.choices x.end y.before x.later y.later (opening_sound p) x.turns y.turns x.quiet
-    y.worker y.on y.picks y.none
+    over_or_full p (opening_driven p workers) (picker_of way workers seed) x.choices y.choices x.end y.before x.later y.later (opening_sound p)
+    x.turns y.turns x.quiet y.worker y.on y.picks y.none

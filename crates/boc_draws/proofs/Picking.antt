@@ -190,7 +190,8 @@ pub words_picked : (picker : Picker) (generator : List ℕ) (steps : ℕ) (mover
 words_picked picker generator steps movers word later is some drawn =
     let place : ℕ = (plus_plus generator).0 % length movers in
     let few : 0 < length movers = subst (λ (q : Picker). Meets q movers) is some in
-    let there : slice_get movers place ≡ Some (get_or movers place 0) = slice_get-get_or movers place 0 (mod_below (plus_plus generator).0 (length movers) few) in
+    let there : slice_get movers place ≡ Some (get_or movers place 0) =
+    slice_get-get_or movers place 0 (mod_below (plus_plus generator).0 (length movers) few) in
     ap (λ (q : Picker). picked q steps movers) is
     ∙ ap (λ (o : Option ℕ). (o, pickers.Words (plus_plus generator).1)) there
     ∙ ap (λ (r : ℕ × List ℕ). (Some (get_or movers (r.0 % length movers) 0), pickers.Words r.1)) (sym drawn)

@@ -175,14 +175,14 @@ module _ (p : Program) (workers : ℕ) (way : Way) (seed : ℕ) (u : Underway) (
           (fits : HandFits v new.hand) where
         pub plays_next : PlaysOn p workers way seed v (slice_set crew chosen new) on
         plays_next =
-            let next = at_next p workers (xs ++ chosen ∷ []) (length xs) u crew (at_longer p workers xs chosen u crew g.at) chosen (last_item xs chosen) v old new
-            is turn same fits in
+            let next = at_next p workers (xs ++ chosen ∷ []) (length xs) u crew (at_longer p workers xs chosen u crew g.at) chosen
+            (last_item xs chosen) v old new is turn same fits in
             let count : suc (length xs) ≡ length (xs ++ chosen ∷ []) = omega (arith, length-append xs (chosen ∷ [])) in
             record {
               choices = xs ++ chosen ∷ [];
               at = subst (λ n. IsAt p workers (xs ++ chosen ∷ []) n v (slice_set crew chosen new)) count next;
-              turns = picked_more p (opening_driven p workers) (picker_of way workers seed) xs chosen (stands_at u crew) (stands_at v (slice_set crew chosen new))
-                  picker on g.turns picks_own (at_turn p workers xs (length xs) u crew g.at chosen v old new is turn);
+              turns = picked_more p (opening_driven p workers) (picker_of way workers seed) xs chosen (stands_at u crew)
+                  (stands_at v (slice_set crew chosen new)) picker on g.turns picks_own (at_turn p workers xs (length xs) u crew g.at chosen v old new is turn);
               all = all_next picker workers u.state.steps h.movers chosen on g.all h.pick;
             }
 

@@ -35,8 +35,9 @@ in_front p rows turn values n faulted h s =
     subst (λ (q : List Behaviour). HasReached p q values n faulted) (drop_more (behaviours_of rows) turn main_behaviour (omega (arith, rows_are rows))) s
 
 -- where the run stands with main's row alone
-pub first_row : (p : Program) (none rows : Rows) (values : List ℤ) (faulted : List FaultedRow) → none.rows.items ≡ [] → behaviours_of rows ≡ behaviours_of none ++ main_behaviour ∷ []
-    → values ≡ initial_values p.cowns → faulted ≡ [] → HasReached p (behaviours_of rows) values (length rows.rows.items) faulted
+pub first_row : (p : Program) (none rows : Rows) (values : List ℤ) (faulted : List FaultedRow) → none.rows.items ≡ []
+    → behaviours_of rows ≡ behaviours_of none ++ main_behaviour ∷ [] → values ≡ initial_values p.cowns → faulted ≡ []
+    → HasReached p (behaviours_of rows) values (length rows.rows.items) faulted
 first_row p none rows values faulted empty added v unfaulted =
     let alone : behaviours_of rows ≡ main_behaviour ∷ [] =
     added ∙ ap (λ rs. map (behaviour_in none.args.items none.cowns.items) rs ++ main_behaviour ∷ []) empty in

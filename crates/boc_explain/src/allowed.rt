@@ -41,7 +41,7 @@ enum Fit {
 /// What is allowed at a place.
 #[derive(Drop)]
 pub(crate) struct Allowed {
-    /// The tokens behind which what was found there is allowed too, or where there is none of them all that are allowed.
+    /// All tokens that are allowed there. Those behind which what was found there is allowed too come first.
     pub tokens: Vec<&'static [u8]>,
     /// `;` is allowed there.
     pub semicolon: bool,
@@ -69,9 +69,9 @@ pub(crate) fn allowed_behind(
         semicolon |= *candidate == b";".as_slice();
         name |= *candidate == NAME;
     }
-    let tokens = if before.is_empty() { alone } else { before };
+    before.extend_from_slice(&alone)?;
     Ok(Allowed {
-        tokens,
+        tokens: before,
         semicolon,
         name,
     })

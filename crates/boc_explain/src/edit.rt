@@ -1,6 +1,7 @@
 // Edits that the rows of a record can't take, and cowns and defs that aren't there.
 
 use crate::declared::{Thing, top_names};
+use crate::defs::{Asked, Defs, Naming};
 use crate::formed::put_reason;
 use crate::place::Text;
 use crate::run::{Run, line_at};
@@ -15,23 +16,63 @@ use std::alloc::{AllocError, Global};
 pub fn explain_edit(
     alloc: Global,
     text: Text<'_>,
+    naming: Naming<'_>,
     word: &str,
-    edits: &[Edit],
+    edits: &[Asked],
     fault: EditFault,
 ) -> Result<String, AllocError> {
     let mut said = Said::new(alloc);
-    let Some((edit, before)) = edits.split_last() else {
+    let Some((last, before)) = edits.split_last() else {
         return Ok(said.into_text());
     };
     if !text.whole {
         return Ok(said.into_text());
     }
     let mut run = Run::before(alloc, text.bytes, u64::MAX)?;
-    for change in before {
-        apply(&mut run, *change);
+    let mut defs = Defs::none(alloc);
+    if edits.iter().any(Asked::is_of_def) {
+        match Defs::of(alloc, text.bytes, run.rows.len(), naming)? {
+            Some(known) => defs = known,
+            None => return Ok(said.into_text()),
+        }
     }
-    put_edit(&mut said, word.as_bytes(), &run, *edit, fault)?;
+    for asked in before {
+        match asked {
+            Asked::Row(edit) => apply(&mut run, *edit),
+            Asked::Def { name, part } => {
+                for row in defs.rows_of(alloc, name)? {
+                    apply_cost(&mut run, row, *part);
+                }
+            }
+        }
+    }
+    match last {
+        Asked::Row(edit) => put_edit(&mut said, word.as_bytes(), &run, *edit, fault)?,
+        Asked::Def { name, part } => {
+            let rows = defs.rows_of(alloc, name)?;
+            put_def(&mut said, word.as_bytes(), &mut run, &rows, *part)?;
+        }
+    }
     Ok(said.into_text())
+}
+
+// Tells of the first of these rows that can't cost a part of its ticks. Those before it do.
+fn put_def(
+    said: &mut Said,
+    word: &[u8],
+    run: &mut Run,
+    rows: &[u32],
+    part: Fraction,
+) -> Result<(), AllocError> {
+    for row in rows {
+        let ticks = run.row(*row).map_or(0, |row| row.ticks);
+        if part_of(ticks, part) > MOST_TICKS {
+            let change = Change::Cost(part);
+            return put_many(said, word, run, Edit { row: *row, change });
+        }
+        apply_cost(run, *row, part);
+    }
+    Ok(())
 }
 
 // Has a row change that can.

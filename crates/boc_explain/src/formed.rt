@@ -4,6 +4,9 @@ use crate::said::{Part, Said};
 use boc_text::{MOST_LINE, read_number};
 use std::alloc::AllocError;
 
+// What is of printable ASCII in a record.
+const OF_RECORDS: &str = "records are";
+
 /// Tells of a line what is wrong with it.
 pub(crate) fn put_reason<'a>(
     said: &mut Said,
@@ -13,8 +16,8 @@ pub(crate) fn put_reason<'a>(
     said.line(&[Part::Quote(line), Part::Words(": "), Part::Words(reason)])
 }
 
-// What is wrong with any line that is so.
-fn common_reason(line: &[u8]) -> Option<&'static str> {
+/// What is wrong with any line that is so.
+pub(crate) fn common_reason(line: &[u8]) -> Option<&'static str> {
     match line {
         _ if line.len() > MOST_LINE => Some("a line has at most 80 bytes"),
         [.., b'\r'] => Some("a carriage return at its end; a line ends with a line feed alone"),
@@ -23,10 +26,36 @@ fn common_reason(line: &[u8]) -> Option<&'static str> {
     }
 }
 
+/// The first byte of a line that is not printable ASCII, if there is one.
+pub(crate) fn unseen_byte(line: &[u8]) -> Option<u8> {
+    line.iter()
+        .copied()
+        .find(|byte| *byte != b' ' && !byte.is_ascii_graphic())
+}
+
+/// Tells of a line that a byte of it can't be seen, and what the line is of.
+pub(crate) fn put_unseen(
+    said: &mut Said,
+    line: &[u8],
+    byte: u8,
+    of: &str,
+) -> Result<(), AllocError> {
+    said.line(&[
+        Part::Quote(line),
+        Part::Words(": the byte "),
+        Part::Hex(byte),
+        Part::Words(" is not printable ASCII, of which "),
+        Part::Words(of),
+    ])
+}
+
 /// Tells what is wrong with a first line.
 pub(crate) fn put_header(said: &mut Said, line: &[u8]) -> Result<(), AllocError> {
     if let Some(reason) = common_reason(line) {
         return put_reason(said, line, reason);
+    }
+    if let Some(byte) = unseen_byte(line) {
+        return put_unseen(said, line, byte, OF_RECORDS);
     }
     let mut fields = line.split(|byte| *byte == b' ');
     let is_record = fields.next().is_some_and(|word| word == b"boc".as_slice());
@@ -58,6 +87,9 @@ pub(crate) fn put_header(said: &mut Said, line: &[u8]) -> Result<(), AllocError>
 pub(crate) fn put_form(said: &mut Said, line: &[u8], is_first: bool) -> Result<(), AllocError> {
     if let Some(reason) = common_reason(line) {
         return put_reason(said, line, reason);
+    }
+    if let Some(byte) = unseen_byte(line) {
+        return put_unseen(said, line, byte, OF_RECORDS);
     }
     match line {
         [] => said.line(&[Part::Words("an empty line")]),
@@ -122,17 +154,24 @@ fn put_fields(
 
 // What is wrong with a field that is no number.
 fn put_field<'a>(said: &mut Said, line: &'a [u8], field: &'a [u8]) -> Result<(), AllocError> {
-    let reason = match field {
-        [] => return put_reason(said, line, "two blanks; a single one stands between fields"),
-        [b'-', ..] => " is negative, and numbers are plain decimals",
-        [b'0', ..] if field.iter().all(|byte| byte.is_ascii_digit()) => " begins with a 0",
-        _ if field.iter().all(|byte| byte.is_ascii_digit()) => " is above 4294967295",
-        _ => " is no plain decimal",
-    };
+    if field.is_empty() {
+        return put_reason(said, line, "two blanks; a single one stands between fields");
+    }
     said.line(&[
         Part::Quote(line),
         Part::Words(": "),
         Part::Quote(field),
-        Part::Words(reason),
+        Part::Words(reason_of(field)),
     ])
+}
+
+/// Why a word is no number.
+pub(crate) fn reason_of(word: &[u8]) -> &'static str {
+    match word {
+        [] => " is no plain decimal",
+        [b'-', ..] => " is negative, and numbers are plain decimals",
+        [b'0', ..] if word.iter().all(|byte| byte.is_ascii_digit()) => " begins with a 0",
+        _ if word.iter().all(|byte| byte.is_ascii_digit()) => " is above 4294967295",
+        _ => " is no plain decimal",
+    }
 }

@@ -6,21 +6,32 @@
 
 mod allowed;
 mod broken;
+mod command_words;
 mod counted;
 mod declared;
+mod defs;
 mod edit;
+mod followed;
 mod formed;
 mod named;
+mod names;
 mod place;
 mod program;
 mod record;
 mod run;
 mod said;
 mod shaped;
+mod spawning;
+mod stray;
 mod tokens;
 mod view;
 
+pub use command_words::{explain_edit_word, explain_files};
+pub use defs::{Asked, Naming};
 pub use edit::{explain_cown, explain_def, explain_edit};
-pub use place::{Place, Text};
+pub use names::explain_names;
+pub use place::{Beside, Place, Text};
 pub use program::explain_program;
-pub use record::{explain_record, explain_stray};
+pub use record::explain_record;
+pub use spawning::explain_behaviours;
+pub use stray::explain_stray;

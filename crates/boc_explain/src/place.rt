@@ -1,5 +1,8 @@
 // Which text a fault is in.
 
+use crate::said::{Part, Said};
+use std::alloc::AllocError;
+
 /// The bytes of a text, as far as they were kept.
 #[derive(Clone, Copy, Debug)]
 pub struct Text<'a> {
@@ -8,26 +11,95 @@ pub struct Text<'a> {
     pub whole: bool,
 }
 
-/// Where a text comes from.
+/// The file beside an input.
 #[derive(Clone, Copy, PartialEq, Eq, Debug)]
-pub enum Place<'a> {
-    /// It is the input of this command.
-    Input(&'a str),
-    /// It is the file behind this option.
-    Beside(&'a str),
+pub enum Beside {
+    /// A program, behind `--program`: the input is the record of a run of it.
+    Program,
+    /// A record, behind `--record`: it is of a run of the input.
+    Record,
+    /// Names, behind `--names`.
+    Names,
 }
 
-impl<'a> Place<'a> {
-    /// Who reads it.
-    pub(crate) fn reader(self) -> &'a str {
-        match self {
-            Place::Input(command) => command,
-            Place::Beside(option) => option,
-        }
+/// Where a text comes from.
+#[derive(Clone, Copy, Debug)]
+pub struct Place<'a> {
+    /// The command that reads it.
+    pub command: &'a str,
+    /// The file beside the input, where there is one.
+    pub beside: Option<Beside>,
+    /// The text is that of this file, and not the input.
+    pub is_beside: bool,
+    /// What is known of the other text of these two.
+    pub other: &'a [u8],
+}
+
+impl Place<'_> {
+    /// One of the two texts is a program, and the other its record.
+    pub(crate) fn is_of_pair(&self) -> bool {
+        matches!(self.beside, Some(Beside::Program | Beside::Record))
     }
+}
+
+/// Tells of a text that looks like one of a program and its record, and stands where the other is wanted, which of the two stands where.
+pub(crate) fn put_pair<'a>(
+    said: &mut Said,
+    place: Place<'a>,
+    found: &'a str,
+    wanted: &'a str,
+    swapped: bool,
+) -> Result<(), AllocError> {
+    let (both, words) = match place.beside {
+        Some(Beside::Program) => (
+            " reads the record, and --program its program: boc ",
+            " --program PROGRAM RECORD",
+        ),
+        _ => (
+            " reads the program, and --record its record: boc ",
+            " --record RECORD PROGRAM",
+        ),
+    };
+    said.line(&[
+        Part::Words("this looks like a "),
+        Part::Words(found),
+        Part::Words("; "),
+        Part::Words(place.command),
+        Part::Words(both),
+        Part::Words(place.command),
+        Part::Words(words),
+    ])?;
+    if !swapped {
+        return Ok(());
+    }
+    said.line(&[
+        Part::Words("the other file looks like a "),
+        Part::Words(wanted),
+        Part::Words(": the two stand the other way round"),
+    ])
 }
 
 /// A text begins as that of a record does.
 pub(crate) fn looks_like_record(text: &[u8]) -> bool {
     matches!(text, [b'b', b'o', b'c', b' ', ..])
+}
+
+/// The first line that says something is one of a program: a comment, or its first declaration.
+pub(crate) fn looks_like_program(text: &[u8]) -> bool {
+    let first = text
+        .split(|byte| matches!(*byte, b'\n' | b'\r' | b' ' | b'\t'))
+        .find(|word| !word.is_empty());
+    match first {
+        Some([b'#', ..]) => true,
+        Some(word) => is_first_word(word),
+        None => false,
+    }
+}
+
+/// A declaration of a program begins with this word.
+pub(crate) fn is_first_word(word: &[u8]) -> bool {
+    word == b"cown".as_slice()
+        || word == b"def".as_slice()
+        || word == b"main".as_slice()
+        || word == b"main{".as_slice()
 }

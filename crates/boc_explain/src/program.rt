@@ -2,7 +2,7 @@
 
 use crate::counted::{put_too_many, put_wrong_count};
 use crate::named::{put_taken, put_unknown};
-use crate::place::{Place, Text, looks_like_record};
+use crate::place::{Place, Text, looks_like_program, looks_like_record, put_pair};
 use crate::said::{Part, Said};
 use crate::shaped::put_unexpected;
 use crate::tokens::{Word, run_len, words_of};
@@ -31,24 +31,25 @@ pub fn explain_program(
 
 /// Tells that a text has no bytes.
 pub(crate) fn put_nothing(said: &mut Said, place: Place<'_>) -> Result<(), AllocError> {
-    match place {
-        Place::Input(_) => said.line(&[Part::Words(
-            "nothing came in; if a command stood before it, did that fail?",
-        )]),
-        Place::Beside(_) => said.line(&[Part::Words("the file is empty")]),
-    }
+    said.line(&[Part::Words(if place.is_beside {
+        "the file is empty"
+    } else {
+        "nothing came in; if a command stood before it, did that fail?"
+    })])
 }
 
 // Tells that a record stands where a program is wanted.
 fn put_record(said: &mut Said, place: Place<'_>) -> Result<(), AllocError> {
+    if place.is_of_pair() {
+        let swapped = looks_like_program(place.other);
+        return put_pair(said, place, "record", "program", swapped);
+    }
     said.line(&[
         Part::Words("this looks like a record; "),
-        Part::Words(place.reader()),
-        Part::Words(match place {
-            Place::Input(_) =>
-                " reads programs: check, profile, whatif, why and cowns read records",
-            Place::Beside(_) => " takes a program",
-        }),
+        Part::Words(place.command),
+        Part::Words(
+            " reads programs: check, profile, whatif, curve, sweep, why and cowns read records",
+        ),
     ])
 }
 
@@ -127,10 +128,7 @@ fn put_large(said: &mut Said, rest: &[u8]) -> Result<(), AllocError> {
 fn put_bad_token(said: &mut Said, rest: &[u8]) -> Result<(), AllocError> {
     let (run, _) = rest.split_at(run_len(rest).min(rest.len()));
     match run {
-        [] => {
-            let (sign, _) = rest.split_at(rest.len().min(1));
-            said.line(&[Part::Quote(sign), Part::Words(" begins no token")])
-        }
+        [] => put_no_token(said, rest),
         [b'0', others @ ..] if others.iter().all(|byte| byte.is_ascii_digit()) => {
             said.line(&[
                 Part::Quote(run),
@@ -146,5 +144,18 @@ fn put_bad_token(said: &mut Said, rest: &[u8]) -> Result<(), AllocError> {
             Part::Words(": a name has at most 32 bytes, and this one "),
             Part::Number(run.len() as u64),
         ]),
+    }
+}
+
+// Tells of the first byte, which is of no name and no number, that it begins no token.
+fn put_no_token(said: &mut Said, rest: &[u8]) -> Result<(), AllocError> {
+    let (sign, _) = rest.split_at(rest.len().min(1));
+    match sign {
+        [byte] if !byte.is_ascii_graphic() => said.line(&[
+            Part::Words("the byte "),
+            Part::Hex(*byte),
+            Part::Words(" begins no token"),
+        ]),
+        _ => said.line(&[Part::Quote(sign), Part::Words(" begins no token")]),
     }
 }

@@ -2,12 +2,10 @@
 
 use crate::broken::put_broken;
 use crate::formed::{put_form, put_header, put_reason};
-use crate::place::{Place, Text};
+use crate::place::{Beside, Place, Text, looks_like_program, looks_like_record, put_pair};
 use crate::program::put_nothing;
 use crate::run::{Life, Run, line_at};
 use crate::said::{Part, Said};
-use boc_follow::{StrayFault, StrayFaultKind};
-use boc_reader::read_program;
 use boc_record::{RecordFault, RecordFaultKind};
 use std::alloc::{AllocError, Global};
 
@@ -35,87 +33,23 @@ pub fn explain_record(
     Ok(said.into_text())
 }
 
-/// What is told behind the line of its fault of a record that strays from this program.
-pub fn explain_stray(
-    alloc: Global,
-    text: Text<'_>,
-    program: Text<'_>,
-    fault: StrayFault,
-) -> Result<String, AllocError> {
-    let mut said = Said::new(alloc);
-    let Some((line, true)) = line_at(text.bytes, fault.line) else {
-        return Ok(said.into_text());
-    };
-    match fault.kind {
-        StrayFaultKind::OtherCowns => put_other_cowns(alloc, &mut said, line, program.bytes)?,
-        StrayFaultKind::NotNextSpawn => put_reason(
-            &mut said,
-            line,
-            "in the program its parent spawns at another tick or over other cowns, or is done",
-        )?,
-        StrayFaultKind::NotItsEnd => put_reason(
-            &mut said,
-            line,
-            "in the program it ends after other ticks, with other cowns written, or spawns first",
-        )?,
-        StrayFaultKind::Memory => {}
+// Tells that a program stands where a record is wanted. Behind `--record` the input was taken, so it is the program.
+fn put_program(said: &mut Said, place: Place<'_>) -> Result<(), AllocError> {
+    if place.is_beside && place.beside == Some(Beside::Record) {
+        return said.line(&[Part::Words(
+            "this looks like a program; --record takes a record: boc run FILE > RECORD",
+        )]);
     }
-    Ok(said.into_text())
-}
-
-// Tells how many cowns a program has whose record has others.
-fn put_other_cowns(
-    alloc: Global,
-    said: &mut Said,
-    line: &[u8],
-    program: &[u8],
-) -> Result<(), AllocError> {
-    let Ok(program) = read_program(alloc, program) else {
-        return Ok(());
-    };
-    let mut count: u64 = 0;
-    for cown in program.cowns.as_slice() {
-        count = count.saturating_add(cown.members() as u64);
+    if place.is_of_pair() {
+        let swapped = looks_like_record(place.other);
+        return put_pair(said, place, "program", "record", swapped);
     }
     said.line(&[
-        Part::Quote(line),
-        Part::Words(": the program has "),
-        Part::Many(count, "cown"),
+        Part::Words("this looks like a program; "),
+        Part::Words(place.command),
+        Part::Words(" reads records: boc run FILE | boc "),
+        Part::Words(place.command),
     ])
-}
-
-// The first line that says something is one of a program: a comment, or its first declaration.
-fn looks_like_program(text: &[u8]) -> bool {
-    let first = text
-        .split(|byte| matches!(*byte, b'\n' | b'\r' | b' ' | b'\t'))
-        .find(|word| !word.is_empty());
-    match first {
-        Some([b'#', ..]) => true,
-        Some(word) => {
-            word == b"cown".as_slice()
-                || word == b"def".as_slice()
-                || word == b"main".as_slice()
-                || word == b"main{".as_slice()
-        }
-        None => false,
-    }
-}
-
-// Tells that a program stands where a record is wanted.
-fn put_program(said: &mut Said, place: Place<'_>) -> Result<(), AllocError> {
-    match place {
-        Place::Input(command) => said.line(&[
-            Part::Words("this looks like a program; "),
-            Part::Words(command),
-            Part::Words(" reads records: boc run FILE | boc "),
-            Part::Words(command),
-        ]),
-        Place::Beside(option) => said.line(&[
-            Part::Words("this looks like a program; "),
-            Part::Words(option),
-            Part::Words(" takes a record: boc run FILE > RECORD"),
-        ]),
-    }
 }
 
 fn put_fault(

@@ -1,6 +1,7 @@
 // A token that isn't allowed where it stands, or the end of a text.
 
 use crate::allowed::{Allowed, allowed_behind, told};
+use crate::place::is_first_word;
 use crate::said::{Part, Said};
 use crate::tokens::{Word, is_keyword, words_of};
 use crate::view::{line_number, put_place};
@@ -43,7 +44,61 @@ pub(crate) fn put_unexpected(
     }
     put_place(said, text, at)?;
     put_found(said, text, found, before)?;
+    let open = open_blocks(alloc, &words, at)?;
+    if let Some(innermost) = open.last()
+        && let Some(outermost) = open.first()
+        && ends_no_block(bytes)
+        && allowed.tokens.iter().any(|token| *token == b"}".as_slice())
+    {
+        let lines = [
+            line_number(text, innermost.at),
+            line_number(text, outermost.at),
+        ];
+        return put_open(said, open.len(), lines);
+    }
     put_allowed(said, bytes, &allowed)
+}
+
+// The braces in front of a place that begin a block, and that none closes.
+fn open_blocks<'a>(
+    alloc: Global,
+    words: &[Word<'a>],
+    at: usize,
+) -> Result<Vec<Word<'a>>, AllocError> {
+    let mut open = Vec::new(alloc);
+    for word in words.iter().take_while(|word| word.at < at) {
+        if word.is(b"{") {
+            open.push(*word)?;
+        }
+        if word.is(b"}") {
+            open.pop();
+        }
+    }
+    Ok(open)
+}
+
+// No block has this: the end of the text, or a word that begins a declaration.
+fn ends_no_block(found: &[u8]) -> bool {
+    found.is_empty() || is_first_word(found)
+}
+
+// Tells that blocks are not closed; the lines are those in which the innermost and the outermost of them begin.
+fn put_open(said: &mut Said, count: usize, lines: [u64; 2]) -> Result<(), AllocError> {
+    let [innermost, outermost] = lines;
+    if count == 1 {
+        return said.line(&[
+            Part::Words("the block that begins on line "),
+            Part::Number(innermost),
+            Part::Words(" is not closed: a `}` is missing"),
+        ]);
+    }
+    said.line(&[
+        Part::Number(count as u64),
+        Part::Words(" blocks are not closed: the innermost begins on line "),
+        Part::Number(innermost),
+        Part::Words(", the outermost on line "),
+        Part::Number(outermost),
+    ])
 }
 
 // The word is the size of an array, which is told only where it is 0.

@@ -52,7 +52,8 @@ so_far_more rows n i cowns room waits links none p q = record {
   sound = λ l h. elim (Contains-append_cases links more l h) [
     | inl before ↦ p.sound l before
     | inr new ↦ (let m = map_contains (link_to n (slice_index cowns i)) waits l new in
-        subst (λ (k : CownLink). (k.row < n + 1) × IsNearOn rows k.cown k.before k.row) m.2 (omega arith, q.sound m.0 (subst (λ (xs : List ℕ). Contains xs m.0) added m.1)))
+        subst (λ (k : CownLink). (k.row < n + 1) × IsNearOn rows k.cown k.before k.row) m.2
+        (omega arith, q.sound m.0 (subst (λ (xs : List ℕ). Contains xs m.0) added m.1)))
   ];
   complete = λ c a b h near. Contains-append_left links more (link_to b c a) (p.complete c a b h near);
   part = λ a j h near. elim (cases_eq j i) [

@@ -35,10 +35,11 @@ widened (Some bounds) n = record { least = min bounds.least n; most = max bounds
 abbrev pub Any : Sample → Type 0
 Any sample = Unit {0}
 
--- the bounds of the numbers of rows, and those of the spans
+-- the bounds of the numbers of rows
 abbrev pub AreRows : List Sample → Option Bounds → Type 0
 AreRows samples bounds = AreBoundsIfAny Any (λ s. s.rows) samples bounds
 
+-- the bounds of the spans
 abbrev pub AreSpans : List Sample → Option Bounds → Type 0
 AreSpans samples bounds = AreBoundsIfAny Any (λ s. s.span) samples bounds
 

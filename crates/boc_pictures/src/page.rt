@@ -101,7 +101,8 @@ fn put_rest(text: &mut String, count: usize) -> Result<(), AllocError> {
 fn put_cowns(alloc: Global, text: &mut String, page: &Page) -> Result<(), AllocError> {
     let subject = page.subject;
     text.push_str(
-        "<table class=\"sort\"><thead><tr><th class=\"word\">cown</th><th>rows</th><th>wrote</th><th>held</th><th>of span</th><th>waited</th><th>chain</th><th>without</th></tr></thead><tbody>\n",
+        "<table class=\"sort\"><thead><tr><th class=\"word\">cown</th><th>rows</th><th>wrote</th><th>held</th><th>of span</th>\
+         <th>waited</th><th>chain</th><th>without</th></tr></thead><tbody>\n",
     )?;
     for own in page.cowns {
         let name = Spelling::Xml.of(alloc, subject.cown_name(own.cown), NAME_BYTES)?;
@@ -118,7 +119,8 @@ fn put_cowns(alloc: Global, text: &mut String, page: &Page) -> Result<(), AllocE
         )?;
     }
     text.push_str(
-        "</tbody></table>\n<p>held: the ticks of the rows that have it; waited: the ticks from a spawn to a start; without: the span if it ordered nobody.</p>\n",
+        "</tbody></table>\n<p>held: the ticks for which one row alone has it; waited: the ticks from a spawn to a start; \
+         without: the span if it ordered nobody.</p>\n",
     )
 }
 
@@ -126,14 +128,16 @@ fn put_cowns(alloc: Global, text: &mut String, page: &Page) -> Result<(), AllocE
 fn put_rows(alloc: Global, text: &mut String, page: &Page) -> Result<(), AllocError> {
     let subject = page.subject;
     text.push_str(
-        "<table class=\"sort\" id=\"sweep\"><thead><tr><th>row</th><th class=\"word\">behaviour</th><th>start</th><th>end</th><th>ticks</th><th>least ticks leave</th></tr></thead><tbody>\n",
+        "<table class=\"sort\" id=\"sweep\"><thead><tr><th>row</th><th class=\"word\">behaviour</th><th>start</th><th>end</th>\
+         <th>ticks</th><th>least ticks leave</th></tr></thead><tbody>\n",
     )?;
     for (row, span) in subject.shown.iter().zip(page.spans).take(MOST_ROWS) {
         let number = row.row;
         let name = Spelling::Xml.of(alloc, subject.name(number), NAME_BYTES)?;
         writeln!(
             text,
-            "<tr data-row=\"{number}\"><td><a href=\"#r{number}\">{number}</a></td><td class=\"word\">{name}</td><td>{}</td><td>{}</td><td>{}</td><td>{span}</td></tr>",
+            "<tr data-row=\"{number}\"><td><a href=\"#r{number}\">{number}</a></td><td class=\"word\">{name}</td><td>{}</td><td>{}</td><td>{}</td>\
+             <td>{span}</td></tr>",
             row.start,
             row.end,
             row.end.saturating_sub(row.start)

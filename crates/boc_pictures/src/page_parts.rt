@@ -1,4 +1,5 @@
-// What each page has: its style and its script. A page is read without the script too, which sorts tables, zooms, lights up what belongs together and tells what a pointer is over.
+// What each page has: its style and its script. A page is read without the script too, which sorts tables, zooms, lights up what belongs
+// together and tells what a pointer is over.
 
 /// The style of a page.
 pub(crate) const STYLE: &str = "<style>
@@ -18,7 +19,8 @@ pre{font:12px/1.5 ui-monospace,Menlo,Consolas,monospace;margin:0}
 .share i{display:block;height:1.1em;background:#c2410c}
 .share b{float:right;font:11px ui-monospace,monospace;padding-right:.3em}
 .lit{stroke:#111!important;stroke-width:2!important}
-#told{position:fixed;max-width:48em;padding:.2em .6em;border-radius:3px;font:12px/1.5 ui-monospace,Menlo,Consolas,monospace;background:#222;color:#fff;pointer-events:none}
+#told{position:fixed;max-width:48em;padding:.2em .6em;border-radius:3px;font:12px/1.5 ui-monospace,Menlo,Consolas,monospace;
+background:#222;color:#fff;pointer-events:none}
 a{color:#1f6fb2}
 @media (prefers-color-scheme:dark){
 body{background:#16181d;color:#e8e8e8}
@@ -63,7 +65,8 @@ for (const row of document.querySelectorAll('tr[data-row]')) {
     row.addEventListener('mouseleave', () => bar.classList.remove('lit'));
   }
 }
-// A pointer over a bar or a link is shown at once what its title says, in a box beside it. The title is empty meanwhile, so that the browser doesn't show it too.
+// A pointer over a bar or a link is shown at once what its title says, in a box beside it. The title is empty meanwhile,
+// so that the browser doesn't show it too.
 const told = document.body.appendChild(document.createElement('div'));
 told.id = 'told';
 told.hidden = true;

@@ -1,4 +1,5 @@
 pub mod Texts
+pub mod Reading
 pub mod Places
 pub mod Refused
 pub mod Operators

@@ -63,14 +63,6 @@ one_more text rest after (q ∷ qs) p found at begins stand = (
   one_more text rest after qs p found at begins stand.2,
 )
 
--- with a token more those so far are in front of what is left
-pub tokens_more : (text rest after : List ℕ) (ps : List Placed) (p : Placed) → tokens_of_text text ≡ put_all (tokens_of ps) (tokens_of_text rest)
-    → tokens_of_text rest ≡ put (Some (token_of p.token)) (tokens_of_text after)
-    → tokens_of_text text ≡ put_all (tokens_of (ps ++ p ∷ [])) (tokens_of_text after)
-tokens_more text rest after ps p so_far found =
-    so_far ∙ ap (put_all (tokens_of ps)) found ∙ put_more (tokens_of ps) (token_of p.token) (tokens_of_text after)
-    ∙ ap (λ ws. put_all ws (tokens_of_text after)) (sym (map_push (λ x. token_of x.token) ps p))
-
 -- at the end of the text all are placed
 pub all_placed : (text : List ℕ) (ps : List Placed) → StandBefore text [] ps → ArePlaced text ps
 all_placed text [] stand = tt

@@ -1,4 +1,5 @@
 pub mod Tokens
+pub mod WrongTokens
 pub mod Shape
 pub mod Names
 pub mod Spells

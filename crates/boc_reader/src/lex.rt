@@ -6,9 +6,11 @@ ghost use Rattle.std.specs.Bool.{OnTrue};
 ghost use Rattle.std.specs.Char.{is_ascii_digit};
 ghost use Rattle.std.specs.List.{take_while, list_all};
 ghost use Rattle.std.specs.Str.{byte, IsAscii};
-ghost use Rattle.boc_reader.specs.Placed.{token_of, tokens_of, ArePlaced, IsEndOf, Refusal};
+ghost use Rattle.boc_reader.specs.Placed.{token_of, tokens_of, ArePlaced, IsEndOf};
+ghost use Rattle.boc_reader.specs.Tokens as the;
 ghost use Rattle.boc_reader.specs.Tokens.{sign, is_name_byte, is_blank, is_numeral, value_of, begins_with_digit, token_of_run, keyword_of, single_sign};
-ghost use Rattle.boc_reader.specs.Tokens.{pair_sign, put, tokens_of_text, IsApart};
+ghost use Rattle.boc_reader.specs.Tokens.{pair_sign, tokens_of_text, IsApart};
+ghost use Rattle.boc_reader.specs.WrongTokens.{pieces_of, HasRead, BeginsWrong, IsWrongPiece, IsFirstWrong};
 
 use crate::fault::{Fault, TokenFault};
 use crate::natural::Natural;
@@ -117,8 +119,9 @@ fn is_numeral(run: &[u8]) -> bool
 const LARGEST: u64 = 9_223_372_036_854_775_807;
 
 fn number_of(run: &[u8]) -> Result<Natural, TokenFault>
+    requires digit { begins_with_digit run.now ≡ true }
     ensures { MatchResult result (λ n. (is_numeral run.now ≡ true) × (value_of run.now < 2 ^ 63) × (n.value ≡ value_of run.now))
-        (λ _. (is_numeral run.now && nat_lt (value_of run.now) (2 ^ 63)) ≡ false) }
+        (λ fault. IsWrongPiece fault (the.run run.now)) }
 {
     if !is_numeral(run) {
         return Err(TokenFault::BadToken);
@@ -160,7 +163,7 @@ const LONGEST_NAME: usize = 32;
 #[tactic(auto, unfolding(crate::specs::Tokens::token_of_run))]
 fn token_of_run<'a>(run: &'a [u8]) -> Result<Token<'a>, TokenFault>
     requires { IsAscii run.now }
-    ensures { MatchResult result (λ t. token_of_run run.now ≡ Some (token_of t)) (λ _. token_of_run run.now ≡ None) }
+    ensures { MatchResult result (λ t. token_of_run run.now ≡ Some (token_of t)) (λ fault. IsWrongPiece fault (the.run run.now)) }
 {
     if begins_with_digit(run) {
         return Ok(Token::Number(number_of(run)?));
@@ -174,7 +177,7 @@ fn token_of_run<'a>(run: &'a [u8]) -> Result<Token<'a>, TokenFault>
 
 // What follows a comment: the line feed, the end, or a byte that no text may have.
 fn after_comment(text: &[u8]) -> &[u8]
-    ensures skipped { tokens_of_text (byte "#" ∷ text.now) ≡ tokens_of_text result.now }
+    ensures read { HasRead (byte "#" ∷ text.now) result.now [] }
     ensures shorter { length result.now ≤ length text.now }
     ensures end { IsEndOf result.now text.now }
 {
@@ -190,8 +193,9 @@ fn after_comment(text: &[u8]) -> &[u8]
 
 // The longest run of name bytes at the front, and what follows it.
 fn split_run(text: &[u8]) -> Option<(&[u8], &[u8])>
-    ensures tokens { MatchOption result ((b : ℕ) (bs : List ℕ) → text.now ≡ b ∷ bs → is_name_byte b ≡ false)
-        (λ x. tokens_of_text text.now ≡ put (token_of_run x.0.now) (tokens_of_text x.1.now)) }
+    ensures piece { MatchOption result ((b : ℕ) (bs : List ℕ) → text.now ≡ b ∷ bs → is_name_byte b ≡ false)
+        (λ x. pieces_of text.now ≡ the.run x.0.now ∷ pieces_of x.1.now) }
+    ensures whole { IfSome result (λ x. length x.0.now + length x.1.now ≡ length text.now) }
     ensures ascii { IfSome result (λ x. IsAscii x.0.now) }
     ensures shorter { IfSome result (λ x. length x.1.now < length text.now) }
     ensures end { IfSome result (λ x. IsEndOf x.1.now text.now) }
@@ -205,8 +209,7 @@ fn split_run(text: &[u8]) -> Option<(&[u8], &[u8])>
 
 // A sign of two bytes at the front, and what follows it.
 fn split_pair(first: u8, after: &[u8]) -> Option<(Sign, &[u8])>
-    ensures tokens { MatchOption result (IsApart first after.now)
-        (λ x. tokens_of_text (first ∷ after.now) ≡ put (Some (sign x.0)) (tokens_of_text x.1.now)) }
+    ensures read { MatchOption result (IsApart first after.now) (λ x. HasRead (first ∷ after.now) x.1.now (sign x.0 ∷ [])) }
     ensures shorter { IfSome result (λ x. length x.1.now < length after.now) }
     ensures end { IfSome result (λ x. IsEndOf x.1.now after.now) }
 {
@@ -224,9 +227,7 @@ fn split_sign(first: u8, after: &[u8]) -> Result<(Sign, &[u8]), TokenFault>
     requires no_name_byte { is_name_byte first ≡ false }
     requires no_blank { is_blank first ≡ false }
     requires no_comment { first ≢ byte "#" }
-    ensures tokens { MatchResult result
-        (λ x. tokens_of_text (first ∷ after.now) ≡ put (Some (sign x.0)) (tokens_of_text x.1.now))
-        (λ _. tokens_of_text (first ∷ after.now) ≡ None) }
+    ensures read { MatchResult result (λ x. HasRead (first ∷ after.now) x.1.now (sign x.0 ∷ [])) (λ fault. BeginsWrong fault (first ∷ after.now)) }
     ensures shorter { IfOk result (λ x. length x.1.now ≤ length after.now) }
     ensures end { IfOk result (λ x. IsEndOf x.1.now after.now) }
 {
@@ -244,9 +245,7 @@ fn split_sign(first: u8, after: &[u8]) -> Result<(Sign, &[u8]), TokenFault>
 fn split_token(text: &[u8]) -> Result<(Token<'_>, &[u8]), TokenFault>
     requires some { text.now ≢ [] }
     requires no_blank { (b : ℕ) (bs : List ℕ) → text.now ≡ b ∷ bs → (is_blank b ≡ false) × (b ≢ byte "#") }
-    ensures tokens { MatchResult result
-        (λ x. tokens_of_text text.now ≡ put (Some (token_of x.0)) (tokens_of_text x.1.now))
-        (λ _. tokens_of_text text.now ≡ None) }
+    ensures read { MatchResult result (λ x. HasRead text.now x.1.now (token_of x.0 ∷ [])) (λ fault. BeginsWrong fault text.now) }
     ensures shorter { IfOk result (λ x. length x.1.now < length text.now) }
     ensures end { IfOk result (λ x. IsEndOf x.1.now text.now) }
 {
@@ -260,10 +259,9 @@ fn split_token(text: &[u8]) -> Result<(Token<'_>, &[u8]), TokenFault>
     Ok((Token::Sign(sign), after))
 }
 
-/// The tokens of a text, each with its place.
+/// The tokens of a text, each with its place. A text that has none is refused for the first thing that is wrong with it, which begins at the byte that is told.
 pub fn tokens(alloc: Global, text: &[u8]) -> Result<Vec<Placed<'_>>, Fault<TokenFault>>
-    ensures tokens { MatchResult result (λ v. tokens_of_text text.now ≡ Some (tokens_of v.items))
-        (λ f. Refusal f (tokens_of_text text.now ≡ None)) }
+    ensures tokens { MatchResult result (λ v. tokens_of_text text.now ≡ Some (tokens_of v.items)) (λ fault. IsFirstWrong fault text.now) }
     ensures places { IfOk result (λ v. ArePlaced text.now v.items) }
 {
     let mut all = Vec::new(alloc);

@@ -11,6 +11,7 @@ use crate::fault::{ReadFault, ReadFaultKind};
 pub(crate) fn fault_at(text: &[u8], kind: ReadFaultKind, at: usize) -> ReadFault
     requires { length text.now ≤ MOST_TEXT }
     ensures kind { result.kind ≡ kind }
+    ensures at { at ≤ length text.now → result.at ≡ at }
     ensures stands { StandsIn result text.now }
 {
     let at = at.min(text.len());

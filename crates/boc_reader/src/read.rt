@@ -1,11 +1,13 @@
 // Program texts.
 
-ghost use Rattle.std.specs.Prelude.{◌≡◌, ◌≢◌, ◌≤◌, ℕ, List, length, IfOk, MatchResult};
+ghost use Rattle.std.specs.Prelude.{◌≡◌, ◌≢◌, ◌<◌, ◌≤◌, ℕ, List, length, IfOk, MatchResult};
 ghost use Rattle.boc_reader.specs.Spells.{Spells, plain_program};
 ghost use Rattle.boc_program.specs.declared.limits.TheConstants.{MOST_TEXT};
 ghost use Rattle.boc_program.specs.declared.program.Program.{Program};
 ghost use Rattle.boc_reader.specs.Placed.{ArePlaced, Refusal, tokens_of};
-ghost use Rattle.boc_reader.specs.FaultMeanings.{HasNoTokens, HasNoShape, HasNoNames, SaysOf, IsRefusalOf};
+ghost use Rattle.boc_reader.specs.WrongTokens.{IsFirstWrong, GoesWrong};
+ghost use Rattle.boc_reader.specs.FaultMeanings.{HasNoShape, HasNoNames, SaysOf, IsRefusalOf};
+ghost use Rattle.boc_reader.specs.declared.fault.TokenFault.{TokenFault};
 ghost use Rattle.boc_reader.specs.declared.fault.ReadFaultKind.{ReadFaultKind};
 ghost use Rattle.boc_reader.specs.Listed.{ListsDefs, SpellsBy};
 ghost use Rattle.boc_reader.specs.Listing.{AreLeft, main_tokens};
@@ -33,6 +35,7 @@ const NO_MEMORY: ReadFault = ReadFault {
 /// The program that a text spells. A text that is too long is refused for that. Any other goes
 /// through three passes, for its tokens, its shape and its names: the first pass that finds a fault
 /// tells the first one in the text. The place and its line are those of the fault, of the first byte too many, or 0 for want of memory.
+/// Of a fault among the tokens it is proved that it is the first, and of any other that the place is one of the text.
 pub fn read_program(alloc: Global, text: &[u8]) -> Result<Program, ReadFault>
     ensures { MatchResult result (Spells text.now) (λ f. IsRefusalOf f text.now) }
 {
@@ -97,16 +100,27 @@ fn read_whole(alloc: Global, text: &[u8]) -> Result<Whole<'_>, ReadFault>
 // A fault of the first pass.
 fn no_tokens(text: &[u8], fault: Fault<TokenFault>) -> ReadFault
     requires short { length text.now ≤ MOST_TEXT }
-    requires none { Refusal fault (HasNoTokens text.now) }
+    requires first { IsFirstWrong fault text.now }
     ensures { IsRefusalOf result text.now }
 {
-    let (kind, at) = match fault {
-        Fault::Memory => return NO_MEMORY,
-        Fault::At(TokenFault::NotAscii, at) => (ReadFaultKind::NotAscii, at),
-        Fault::At(TokenFault::BadToken, at) => (ReadFaultKind::BadToken, at),
-        Fault::At(TokenFault::NumberTooLarge, at) => (ReadFaultKind::NumberTooLarge, at),
-    };
-    fault_at(text, kind, at)
+    match fault {
+        Fault::Memory => NO_MEMORY,
+        Fault::At(wrong, at) => wrong_at(text, wrong, at),
+    }
+}
+
+// The first fault among the tokens, which begins at this byte.
+fn wrong_at(text: &[u8], wrong: TokenFault, at: usize) -> ReadFault
+    requires short { length text.now ≤ MOST_TEXT }
+    requires within { at < length text.now }
+    requires first { GoesWrong wrong text.now at }
+    ensures { IsRefusalOf result text.now }
+{
+    match wrong {
+        TokenFault::NotAscii => fault_at(text, ReadFaultKind::NotAscii, at),
+        TokenFault::BadToken => fault_at(text, ReadFaultKind::BadToken, at),
+        TokenFault::NumberTooLarge => fault_at(text, ReadFaultKind::NumberTooLarge, at),
+    }
 }
 
 // A fault of the second pass.
@@ -138,9 +152,11 @@ fn no_names(text: &[u8], fault: Fault<NameFault>) -> ReadFault
     fault_at(text, kind, at)
 }
 
-/// A text of which a fault is told, but for want of memory, spells no program, and a text spells one
-/// program at most.
+/// A text of which a fault is told, but for want of memory, spells no program, a text spells one program at most, and a text without tokens goes wrong
+/// first in one way and at one place.
 pub fn refused_is_none()
     ensures none { (kind : ReadFaultKind) (text : List ℕ) (p : Program) → kind ≢ ReadFaultKind.Memory → SaysOf kind text → Spells text p → ⊥ }
     ensures one { (text : List ℕ) (p q : Program) → Spells text p → Spells text q → plain_program p ≡ plain_program q }
+    ensures first { (fault other : TokenFault) → (text : List ℕ) → (at place : ℕ) → GoesWrong fault text at → GoesWrong other text place
+        → (fault ≡ other) × (at ≡ place) }
 {}

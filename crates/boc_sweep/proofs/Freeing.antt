@@ -2,7 +2,7 @@
 use Rattle.std.proofs.Common.{◌≡◌, ◌≢◌, ◌⊎◌, ℕ, zero, suc, ◌+◌, ◌*◌, ◌<◌, ◌≤◌, max, Bool, true, false, cond, not, List, [], ◌∷◌, ◌++◌, length, get_or, inl, inr}
 use Rattle.std.proofs.Common.{◌-◌, ◌↔◌, IsTrue, Some, take, drop, refl, ap, sym, ◌∙◌, subst, true≢false, arith}
 use Rattle.std.specs.Prelude.{slice_index, slice_index_or, slice_get, slice_set, ◌==◌, vec_capacity}
-use Rattle.std.specs.List.{AllZip, Contains, range_with_len}
+use Rattle.std.specs.List.{Contains}
 use Rattle.std.proofs.lemmas.List.Sums.{sum_by_more}
 use Rattle.std.proofs.lemmas.Option.{slice_get-get_or}
 use Rattle.std.proofs.lemmas.Bool.{cases_lt, cases_eq}
@@ -18,11 +18,12 @@ use Rattle.boc_runs.specs.Changes.{without}
 use Rattle.boc_runs.proofs.Freeing.{length-without, parent_of-without, offset_of-without, ticks_of-without, cowns_of-without, written_of-without}
 use Rattle.boc_plans.specs.Plans.{start_of, end_of, IsChild, ConflictOn, Ordered, Keeps, IsEarliest}
 use Rattle.boc_plans.specs.Greedy.{IsSpan}
-use Rattle.boc_plans.specs.Edits.{IsCownSweep}
-use Rattle.boc_plans.proofs.Numbered.{range_long, range_at}
 use Rattle.boc_order.proofs.Near.{writes_own}
 use Rattle.boc_sweep.specs.declared.freed.Placing.{Placing}
-use Rattle.boc_sweep.specs.Freed.{OrderedBut, IsStartBut, ArePlacedBut, IsLatestAmong, HasPlaced, AreRaised, cowns_before, TellsWritten, TellWritten}
+use Rattle.boc_sweep.specs.Freed.{OrderedBut, IsStartBut, ArePlacedBut, IsLatestAmong, AreHeldBut, IsPlacedIn, HasPlaced, HasWaited, AreRaised, IsFreed}
+use Rattle.boc_sweep.specs.Freed.{cowns_before, in_lane, TellsWritten, TellWritten}
+use Rattle.boc_sweep.specs.declared.lanes.TheConstants.{LANES}
+use Rattle.boc_sweep.proofs.Laning.{lane_long, lane_set}
 
 -- ---- the latest of some ends
 
@@ -61,14 +62,6 @@ latest_all rows starts n end old new there is new_is l =
     latest_more rows starts (λ a. a < length rows) n end old new is (omega (arith, new_is)) (λ h. omega (arith, new_is))
     (elim (cases_lt old end) [ inl lt ↦ inr (there, omega (arith, new_is, lt)) | inr ge ↦ inl (omega (arith, new_is, ge)) ]) l
 
--- and of those that have each cown, whose ticks are raised
-pub raised_latest : (rows : List Row) (starts : List ℕ) (of : List Row → ℕ → List ℕ) (n end : ℕ) (old new : List ℕ) → end ≡ end_of rows starts n
-    → AreRaised (Contains (of rows n)) end old new
-    → ((c : ℕ) → IsLatestAmong rows starts (λ a. Contains (of rows a) c) n (slice_index old c))
-    → (c : ℕ) → IsLatestAmong rows starts (λ a. Contains (of rows a) c) (n + 1) (slice_index new c)
-raised_latest rows starts of n end old new is r l c =
-    latest_more rows starts (λ a. Contains (of rows a) c) n end (slice_index old c) (slice_index new c) is (r.above c) (r.own c) (r.reached c) (l c)
-
 -- of the rows that conflict with row n on a cown: where it writes that cown, those that need it, else those that wrote it
 module _ (rows : List Row) (hr : IsRows rows) (starts : List ℕ) (n own latest : ℕ) (there : n < length rows) (mine : Contains (cowns_of rows n) own) where
   pub latest_writing : Contains (written_of rows n) own → IsLatestAmong rows starts (λ a. Contains (cowns_of rows a) own) n latest
@@ -101,14 +94,6 @@ module _ (rows : List Row) (hr : IsRows rows) (starts : List ℕ) (n own latest 
 
 -- ---- raising the ticks of a row's cowns
 
--- what a row leaves on one of its cowns: its end where it wrote that cown, else 0
-abbrev pub IsEndOf : Type 0 → ℕ → ℕ → Type 0
-IsEndOf Wrote end left = (Wrote × (left ≡ end)) ⊎ ((Wrote → ⊥) × (left ≡ 0))
-
-pub end_left : (b : Bool) (Wrote : Type 0) (end left : ℕ) → (IsTrue b ↔ Wrote) → left ≡ cond b end 0 → IsEndOf Wrote end left
-end_left true Wrote end left tells is = inl (tells.0 refl, is)
-end_left false Wrote end left tells is = inr (λ w. true≢false (sym (tells.1 w)), is)
-
 -- those of the first i are raised
 pub record SomeRaised (Own : ℕ → Type 0) (end : ℕ) (cowns : List ℕ) (i : ℕ) (old new : List ℕ) : Type 0 where
   pub whole : length new ≡ length old
@@ -124,65 +109,69 @@ raised_none Own end cowns old = record {
   reached = λ c. inl refl;
 }
 
-module _ (Own : ℕ → Type 0) (end : ℕ) (cowns : List ℕ) (i : ℕ) (old mid : List ℕ) (value new : ℕ) (r : SomeRaised Own end cowns i old mid)
-    (there : slice_index cowns i < length mid) (left : IsEndOf (Own (slice_index cowns i)) end value)
-    (is : new ≡ max value (slice_index mid (slice_index cowns i))) where
-  place : ℕ
-  place = slice_index cowns i
-
-  raised : List ℕ
-  raised = slice_set mid (slice_index cowns i) new
-
-  here : slice_index (slice_set mid (slice_index cowns i) new) (slice_index cowns i) ≡ new
-  here = get_or-set_same mid (slice_index cowns i) new 0 there
-
-  grown : (c : ℕ) → slice_index mid c ≤ slice_index (slice_set mid (slice_index cowns i) new) c
-  grown c = elim (cases_eq c (slice_index cowns i)) [
-    | inl e ↦ rw e (omega (arith, here, is))
-    | inr ne ↦ omega (arith, get_or-set_other mid (slice_index cowns i) c new 0 ne)
-  ]
-
-  own_now : Own (slice_index cowns i) → end ≤ new
-  own_now has = elim left [
-    | inl (w, e) ↦ omega (arith, is, e)
-    | inr (isnt, e) ↦ absurd (isnt has)
-  ]
-
-  mine : (new ≡ slice_index mid (slice_index cowns i)) ⊎ (Own (slice_index cowns i) × (new ≡ end))
-  mine = elim left [
-    | inl (w, e) ↦ elim (cases_lt (slice_index mid (slice_index cowns i)) value) [
-      | inl lt ↦ inr (w, omega (arith, is, e, lt))
-      | inr ge ↦ inl (omega (arith, is, ge))
-    ]
-    | inr (isnt, e) ↦ inl (omega (arith, is, e))
-  ]
-
-  reached_here : (slice_index (slice_set mid (slice_index cowns i) new) (slice_index cowns i) ≡ slice_index old (slice_index cowns i))
-      ⊎ (Own (slice_index cowns i) × (slice_index (slice_set mid (slice_index cowns i) new) (slice_index cowns i) ≡ end))
-  reached_here = elim mine [
-    | inl same ↦ elim (r.reached (slice_index cowns i)) [
-      | inl e ↦ inl (here ∙ same ∙ e)
-      | inr (has, e) ↦ inr (has, here ∙ same ∙ e)
-    ]
-    | inr (has, e) ↦ inr (has, here ∙ e)
-  ]
-
-  pub raised_more : SomeRaised Own end cowns (i + 1) old (slice_set mid (slice_index cowns i) new)
-  raised_more = record {
-    whole = length-set mid (slice_index cowns i) new ∙ r.whole;
-    above = λ c. omega (arith, r.above c, grown c);
+module _ (Own : ℕ → Type 0) (end : ℕ) (cowns : List ℕ) (i : ℕ) (old mid : List ℕ) (r : SomeRaised Own end cowns i old mid) where
+  -- one that is none of these stays
+  pub raised_skip : (Own (slice_index cowns i) → ⊥) → SomeRaised Own end cowns (i + 1) old mid
+  raised_skip other = record {
+    whole = r.whole;
+    above = r.above;
     own = λ j h has. elim (cases_eq j i) [
-      | inl e ↦ (let now : end ≤ new = own_now (subst (λ (k : ℕ). Own (slice_index cowns k)) e has) in rw e (omega (arith, here, now)))
-      | inr ne ↦ omega (arith, r.own j (omega arith) has, grown (slice_index cowns j))
+      | inl e ↦ absurd (other (subst (λ (k : ℕ). Own (slice_index cowns k)) e has))
+      | inr ne ↦ r.own j (omega arith) has
     ];
-    reached = λ c. elim (cases_eq c (slice_index cowns i)) [
-      | inl e ↦ subst (λ (k : ℕ). (slice_index (slice_set mid (slice_index cowns i) new) k ≡ slice_index old k)
-          ⊎ (Own k × (slice_index (slice_set mid (slice_index cowns i) new) k ≡ end))) (sym e) reached_here
-      | inr ne ↦ (
-          let same : slice_index (slice_set mid (slice_index cowns i) new) c ≡ slice_index mid c = get_or-set_other mid (slice_index cowns i) c new 0 ne in
-          elim (r.reached c) [ inl e ↦ inl (same ∙ e) | inr (has, e) ↦ inr (has, same ∙ e) ])
-    ];
+    reached = r.reached;
   }
+
+  -- what was not above the end is not above it now
+  pub raised_low : (c : ℕ) → slice_index old c ≤ end → slice_index mid c ≤ end
+  raised_low c low = elim (r.reached c) [ inl e ↦ omega (arith, e, low) | inr (has, e) ↦ omega (arith, e) ]
+
+  module _ (new : ℕ) (there : slice_index cowns i < length mid) (has : Own (slice_index cowns i))
+      (is : new ≡ max end (slice_index mid (slice_index cowns i))) where
+    here : slice_index (slice_set mid (slice_index cowns i) new) (slice_index cowns i) ≡ new
+    here = get_or-set_same mid (slice_index cowns i) new 0 there
+
+    grown : (c : ℕ) → slice_index mid c ≤ slice_index (slice_set mid (slice_index cowns i) new) c
+    grown c = elim (cases_eq c (slice_index cowns i)) [
+      | inl e ↦ rw e (omega (arith, here, is))
+      | inr ne ↦ omega (arith, get_or-set_other mid (slice_index cowns i) c new 0 ne)
+    ]
+
+    reached_here : (slice_index (slice_set mid (slice_index cowns i) new) (slice_index cowns i) ≡ slice_index old (slice_index cowns i))
+        ⊎ (Own (slice_index cowns i) × (slice_index (slice_set mid (slice_index cowns i) new) (slice_index cowns i) ≡ end))
+    reached_here = elim (cases_lt (slice_index mid (slice_index cowns i)) end) [
+      | inl lt ↦ inr (has, omega (arith, here, is, lt))
+      | inr ge ↦ elim (r.reached (slice_index cowns i)) [
+        | inl e ↦ inl (omega (arith, here, is, ge, e))
+        | inr (mine, e) ↦ inr (mine, omega (arith, here, is, ge, e))
+      ]
+    ]
+
+    pub raised_more : SomeRaised Own end cowns (i + 1) old (slice_set mid (slice_index cowns i) new)
+    raised_more = record {
+      whole = length-set mid (slice_index cowns i) new ∙ r.whole;
+      above = λ c. omega (arith, r.above c, grown c);
+      own = λ j h mine. elim (cases_eq j i) [
+        | inl e ↦ rw e (omega (arith, here, is))
+        | inr ne ↦ omega (arith, r.own j (omega arith) mine, grown (slice_index cowns j))
+      ];
+      reached = λ c. elim (cases_eq c (slice_index cowns i)) [
+        | inl e ↦ subst (λ (k : ℕ). (slice_index (slice_set mid (slice_index cowns i) new) k ≡ slice_index old k)
+            ⊎ (Own k × (slice_index (slice_set mid (slice_index cowns i) new) k ≡ end))) (sym e) reached_here
+        | inr ne ↦ (
+            let same : slice_index (slice_set mid (slice_index cowns i) new) c ≡ slice_index mid c = get_or-set_other mid (slice_index cowns i) c new 0 ne in
+            elim (r.reached c) [ inl e ↦ inl (same ∙ e) | inr (mine, e) ↦ inr (mine, same ∙ e) ])
+      ];
+    }
+
+-- the same in one of the lanes
+pub raised_in : (lane : ℕ) (Own : ℕ → Type 0) (end : ℕ) (cowns : List ℕ) (i : ℕ) (old mid : List (List ℕ)) (ticks : List ℕ)
+    → SomeRaised Own end cowns i (in_lane lane old) (in_lane lane mid) → slice_index cowns i < length mid → Own (slice_index cowns i)
+    → slice_index ticks lane ≡ max end (slice_index (in_lane lane mid) (slice_index cowns i))
+    → SomeRaised Own end cowns (i + 1) (in_lane lane old) (in_lane lane (slice_set mid (slice_index cowns i) ticks))
+raised_in lane Own end cowns i old mid ticks r there has is =
+    subst (SomeRaised Own end cowns (i + 1) (in_lane lane old)) (sym (lane_set lane mid (slice_index cowns i) ticks))
+    (raised_more Own end cowns i (in_lane lane old) (in_lane lane mid) r (slice_index ticks lane) (omega (arith, there, lane_long lane mid)) has is)
 
 -- all of them
 pub raised_all : (Own : ℕ → Type 0) (end : ℕ) (cowns : List ℕ) (i : ℕ) (old new : List ℕ) → length cowns ≤ i → ((c : ℕ) → Own c → Contains cowns c)
@@ -254,6 +243,30 @@ module _ (cown : ℕ) (rows : List Row) (starts : List ℕ) (n spawned : ℕ) wh
         ];
         tight = tight_take;
       }
+
+    module _ (hr : IsRows rows) (there : n < length rows) (below : i < length (cowns_of rows n)) (latest next : ℕ) (b : Bool) (held wrote : List ℕ)
+        (tells : IsTrue b ↔ Contains (written_of rows n) (slice_index (cowns_of rows n) i))
+        (latest_is : latest ≡ cond b (slice_index held (slice_index (cowns_of rows n) i)) (slice_index wrote (slice_index (cowns_of rows n) i)))
+        (needed : AreHeldBut cown rows cowns_of starts n held) (written : AreHeldBut cown rows written_of starts n wrote)
+        (is : next ≡ max latest start) where
+      freed_latest : (b : Bool) (latest held wrote : ℕ) → latest ≡ cond b held wrote → held ≡ 0 → wrote ≡ 0 → latest ≡ 0
+      freed_latest true latest held wrote e h w = e ∙ h
+      freed_latest false latest held wrote e h w = e ∙ w
+
+      -- the cown that orders nobody has been free all the time, and another one is waited for
+      pub start_next : StartSoFar cown rows starts n (i + 1) spawned next
+      start_next =
+          let own : ℕ = slice_index (cowns_of rows n) i in
+          elim (cases_eq (slice_index (cowns_of rows n) i) cown) [
+            | inl same ↦ (
+                let none : latest ≡ 0 = freed_latest b latest (slice_index held own) (slice_index wrote own) latest_is
+                (ap (slice_index held) same ∙ needed.freed) (ap (slice_index wrote) same ∙ written.freed) in
+                let stays : start ≡ next = omega (arith, is, none) in
+                subst (StartSoFar cown rows starts n (i + 1) spawned) stays (start_skip same))
+            | inr other ↦ start_take latest next other
+                (latest_either rows hr starts n own latest there (Contains-get_or (cowns_of rows n) i 0 below) b (slice_index held own) (slice_index wrote own)
+                tells latest_is (needed.others own other) (written.others own other)) is
+          ]
 
     pub start_all : n < length rows → length (cowns_of rows n) ≤ i → (n ≡ 0 → spawned ≡ 0)
         → (0 < n → spawned ≡ slice_index starts (parent_of rows n) + offset_of rows n) → IsStartBut cown rows starts n start
@@ -349,48 +362,105 @@ module _ (cown : ℕ) (rows : List Row) (hr : IsRows rows) (starts : List ℕ) w
     pub end_here : (end : ℕ) → end ≡ tick + ticks_of rows n → end ≡ end_of rows (starts ++ tick ∷ []) n
     end_here end e = omega (arith, e, start_here)
 
+-- a row that starts so was held up by each cown that it writes until that cown was free
+module _ (cown : ℕ) (rows : List Row) (hr : IsRows rows) (starts : List ℕ) (n tick : ℕ) (there : n < length rows) (s : IsStartBut cown rows starts n tick) where
+  waited_on : (c : ℕ) → Contains (written_of rows n) c → (of : List Row → ℕ → List ℕ)
+      → ((a : ℕ) → a < n → Contains (of rows a) c → Contains (cowns_of rows a) c) → (ends : List ℕ) → AreHeldBut cown rows of starts n ends
+      → slice_index ends c ≤ tick
+  waited_on c writes of among ends held = elim (cases_eq c cown) [
+    | inl same ↦ omega (arith, ap (slice_index ends) same, held.freed)
+    | inr other ↦ elim (held.others c other).reached [
+      | inl z ↦ omega (arith, z)
+      | inr (a, before, has, e) ↦ omega (
+        arith,
+        e,
+        s.in_order a
+            (record {
+              before = before;
+              shared = (c, other, record { first = among a before has; second = writes_own rows hr n c there writes; wrote = inr writes });
+            }),
+      )
+    ]
+  ]
+
+  pub has_waited : (end : ℕ) (held wrote : List ℕ) → tick ≤ end → AreHeldBut cown rows cowns_of starts n held → AreHeldBut cown rows written_of starts n wrote
+      → HasWaited rows n end held wrote
+  has_waited end held wrote later h w = record {
+    held_before = λ c writes. omega (arith, later, waited_on c writes cowns_of (λ a before has. has) held h);
+    wrote_before = λ c writes.
+        omega (arith, later, waited_on c writes written_of (λ a before has. writes_own rows hr a c (omega (arith, before, there)) has) wrote w);
+  }
+
+-- once the ticks of a row's cowns are raised to its end, and the cown that orders nobody is free again
+pub held_next : (cown : ℕ) (rows : List Row) (starts : List ℕ) (of : List Row → ℕ → List ℕ) (n end : ℕ) (old raised new : List ℕ) → end ≡ end_of rows starts n
+    → AreRaised (Contains (of rows n)) end old raised → IsFreed cown raised new
+    → ((c : ℕ) → c ≢ cown → IsLatestAmong rows starts (λ a. Contains (of rows a) c) n (slice_index old c))
+    → AreHeldBut cown rows of starts (n + 1) new
+held_next cown rows starts of n end old raised new is r free l = record {
+  others = λ c other. rw (free.others c other)
+      (latest_more rows starts (λ a. Contains (of rows a) c) n end (slice_index old c) (slice_index raised c) is (r.above c) (r.own c) (r.reached c)
+      (l c other));
+  freed = free.freed;
+}
+
 -- before the first row
-pub placed_none : (cown : ℕ) (rows : List Row) (placing : Placing) → length placing.starts.items ≡ 0 → length rows ≤ vec_capacity placing.starts
-    → length placing.held.items ≡ MOST_COWNS → length placing.wrote.items ≡ MOST_COWNS → ((c : ℕ) → slice_index placing.held.items c ≡ 0)
-    → ((c : ℕ) → slice_index placing.wrote.items c ≡ 0) → placing.latest ≡ 0 → placing.passed ≡ 0 → HasPlaced cown rows 0 placing
-placed_none cown rows placing none enough held_whole wrote_whole unheld unwritten e passed = record {
-  placed = record { whole = none; at = λ b h. absurd (omega (arith, h)) };
+pub placed_none : (rows : List Row) (placing : Placing) → length placing.starts.items ≡ 0 → length rows ≤ vec_capacity placing.starts
+    → length placing.held.items ≡ MOST_COWNS → length placing.wrote.items ≡ MOST_COWNS
+    → ((lane c : ℕ) → slice_index (in_lane lane placing.held.items) c ≡ 0) → ((lane c : ℕ) → slice_index (in_lane lane placing.wrote.items) c ≡ 0)
+    → ((lane : ℕ) → lane < LANES → slice_index placing.latest lane ≡ 0) → placing.passed ≡ 0 → HasPlaced rows 0 placing
+placed_none rows placing none enough held_whole wrote_whole unheld unwritten e passed = record {
+  in_lanes = λ lane low. (
+      let starts : List ℕ = in_lane lane placing.starts.items in
+      record {
+        placed = record { whole = lane_long lane placing.starts.items ∙ none; at = λ b h. absurd (omega (arith, h)) };
+        held_is = record {
+          others = λ c other. latest_none rows starts (λ a. Contains (cowns_of rows a) c) (slice_index (in_lane lane placing.held.items) c) (unheld lane c);
+          freed = unheld lane (slice_index placing.cowns lane);
+        };
+        wrote_is = record {
+          others = λ c other.
+              latest_none rows starts (λ a. Contains (written_of rows a) c) (slice_index (in_lane lane placing.wrote.items) c) (unwritten lane c);
+          freed = unwritten lane (slice_index placing.cowns lane);
+        };
+        latest_is = latest_none rows starts (λ a. a < length rows) (slice_index placing.latest lane) (e lane low);
+      });
   enough = enough;
-  busy = record {
-    held_whole = held_whole;
-    wrote_whole = wrote_whole;
-    held_is = λ c. latest_none rows placing.starts.items (λ a. Contains (cowns_of rows a) c) (slice_index placing.held.items c) (unheld c);
-    wrote_is = λ c. latest_none rows placing.starts.items (λ a. Contains (written_of rows a) c) (slice_index placing.wrote.items c) (unwritten c);
-  };
-  latest_is = latest_none rows placing.starts.items (λ a. a < length rows) placing.latest e;
+  held_whole = held_whole;
+  wrote_whole = wrote_whole;
   passed_is = passed;
 }
 
+-- what placing a row does in one of the lanes
+pub record IsNextIn (lane : ℕ) (rows : List Row) (n tick end : ℕ) (held wrote : List ℕ) (placing next : Placing) : Type 0 where
+  pub start : IsStartBut (slice_index placing.cowns lane) rows (in_lane lane placing.starts.items) n tick
+  pub end_is : end ≡ tick + ticks_of rows n
+  pub starts_are : in_lane lane next.starts.items ≡ in_lane lane placing.starts.items ++ tick ∷ []
+  pub cowns_stay : next.cowns ≡ placing.cowns
+  pub held_raised : AreRaised (Contains (cowns_of rows n)) end (in_lane lane placing.held.items) held
+  pub held_free : IsFreed (slice_index placing.cowns lane) held (in_lane lane next.held.items)
+  pub wrote_raised : AreRaised (Contains (written_of rows n)) end (in_lane lane placing.wrote.items) wrote
+  pub wrote_free : IsFreed (slice_index placing.cowns lane) wrote (in_lane lane next.wrote.items)
+  pub latest_is : slice_index next.latest lane ≡ max end (slice_index placing.latest lane)
+
 -- one row more
-pub placed_next : (cown : ℕ) (rows : List Row) → IsRows rows → (n : ℕ) → n < length rows → (placing next : Placing) (tick end : ℕ)
-    → HasPlaced cown rows n placing → IsStartBut cown rows placing.starts.items n tick → end ≡ tick + ticks_of rows n
-    → next.starts.items ≡ placing.starts.items ++ tick ∷ []
-    → length rows ≤ vec_capacity next.starts → AreRaised (Contains (cowns_of rows n)) end placing.held.items next.held.items
-    → AreRaised (Contains (written_of rows n)) end placing.wrote.items next.wrote.items → next.latest ≡ max end placing.latest
-    → next.passed ≡ cowns_before rows (n + 1) → HasPlaced cown rows (n + 1) next
-placed_next cown rows hr n there placing next tick end p s end_then items enough held wrote latest passed =
-    let starts : List ℕ = placing.starts.items in
+pub placed_next : (rows : List Row) → IsRows rows → (n lane tick end : ℕ) → n < length rows → (held wrote : List ℕ) (placing next : Placing)
+    → IsPlacedIn lane rows n placing → IsNextIn lane rows n tick end held wrote placing next → IsPlacedIn lane rows (n + 1) next
+placed_next rows hr n lane tick end there held wrote placing next p is =
+    let cown : ℕ = slice_index placing.cowns lane in
+    let starts : List ℕ = in_lane lane placing.starts.items in
     let more : List ℕ = starts ++ tick ∷ [] in
-    let ends : end ≡ end_of rows more n = end_here cown rows hr starts n tick there p.placed s end end_then in
-    let agree = latest_agrees cown rows hr starts n tick there p.placed s in
+    let ends : end ≡ end_of rows more n = end_here cown rows hr starts n tick there p.placed is.start end is.end_is in
+    let agree = latest_agrees cown rows hr starts n tick there p.placed is.start in
     record {
-      placed = rw items (placed_more cown rows hr starts n tick there p.placed s);
-      enough = enough;
-      busy = record {
-        held_whole = held.whole ∙ p.busy.held_whole;
-        wrote_whole = wrote.whole ∙ p.busy.wrote_whole;
-        held_is = rw items (raised_latest rows more cowns_of n end placing.held.items next.held.items ends held
-            (λ c. agree (λ a. Contains (cowns_of rows a) c) (slice_index placing.held.items c) (p.busy.held_is c)));
-        wrote_is = rw items (raised_latest rows more written_of n end placing.wrote.items next.wrote.items ends wrote
-            (λ c. agree (λ a. Contains (written_of rows a) c) (slice_index placing.wrote.items c) (p.busy.wrote_is c)));
-      };
-      latest_is = rw items (latest_all rows more n end placing.latest next.latest there ends latest (agree (λ a. a < length rows) placing.latest p.latest_is));
-      passed_is = passed;
+      placed = rw (is.cowns_stay, is.starts_are) (placed_more cown rows hr starts n tick there p.placed is.start);
+      held_is = rw (is.cowns_stay, is.starts_are) (held_next cown rows more cowns_of n end (in_lane lane placing.held.items) held
+          (in_lane lane next.held.items) ends is.held_raised is.held_free
+          (λ c other. agree (λ a. Contains (cowns_of rows a) c) (slice_index (in_lane lane placing.held.items) c) (p.held_is.others c other)));
+      wrote_is = rw (is.cowns_stay, is.starts_are) (held_next cown rows more written_of n end (in_lane lane placing.wrote.items) wrote
+          (in_lane lane next.wrote.items) ends is.wrote_raised is.wrote_free
+          (λ c other. agree (λ a. Contains (written_of rows a) c) (slice_index (in_lane lane placing.wrote.items) c) (p.wrote_is.others c other)));
+      latest_is = rw is.starts_are (latest_all rows more n end (slice_index placing.latest lane) (slice_index next.latest lane) there ends is.latest_is
+          (agree (λ a. a < length rows) (slice_index placing.latest lane) p.latest_is));
     }
 
 -- ---- what rows wrote
@@ -497,7 +567,7 @@ module _ (rows : List Row) where
 
 -- ---- the rows without the cown
 
-passes : (x cown : ℕ) → x ≢ cown → not (x == cown) ≡ true
+pub passes : (x cown : ℕ) → x ≢ cown → not (x == cown) ≡ true
 passes x cown ne = grind (arith, nat_tests)
 
 other_one : (x cown : ℕ) → not (x == cown) ≡ true → x ≢ cown
@@ -635,14 +705,4 @@ module _ (cown : ℕ) (rows : List Row) where
           | inr (a, h, there, e) ↦ (a, omega (arith, h, length-without cown rows), end_is a ∙ e)
         ];
       };
-    }
-
--- the spans, from the numbers of the cowns
-pub spans_of : (rows : List Row) (count : ℕ) (spans : List ℕ)
-    → AllZip (λ (cown span : ℕ). IsSpan (without cown rows) span) (range_with_len 0 count) spans → IsCownSweep rows count spans
-spans_of rows count spans z =
-    let P = λ (cown span : ℕ). IsSpan (without cown rows) span in
-    record {
-      whole = range_long P 0 count spans z;
-      at = λ cown h. (let e : 0 + cown ≡ cown = omega arith in subst (λ (c : ℕ). P c (slice_index spans cown)) e (range_at P 0 0 count spans z cown h));
     }

@@ -9,12 +9,14 @@
 //! With a row's spawn the cut lies just before the row's start: the row's own links are behind it, and the links to the
 //! row's start lead over it.
 //!
-//! The spans that the rows would have if one cown after another ordered nobody take a pass over the rows for each cown: a row is placed by
-//! the latest ends of those before it that need its other cowns.
+//! The spans that the rows would have if one cown after another ordered nobody take a pass over the rows for every four cowns: a row is placed
+//! by the latest ends of those before it that need its other cowns. Cowns that no row has have one span.
 #![tactic(auto)]
 
 mod freed;
+mod lanes;
 mod lasts;
+mod passes;
 mod spawns;
 mod sweeping;
 mod tails;

@@ -286,7 +286,8 @@ impl WhatIf {
 
     /// For each of so many cowns the span that the rows would have if that cown ordered nobody. `AllocError` says that memory was refused.
     ///
-    /// Each cown takes one pass over the rows and their cowns, and memory that grows with the number of rows. Threads share out the cowns.
+    /// One pass over the rows and their cowns serves some cowns at once, one serves all that no row has, and each takes memory that grows with
+    /// the number of rows. Threads share out the passes.
     pub fn cown_sweep(
         &self,
         rt: &(impl Threads + Sync),

@@ -107,14 +107,16 @@ const COWNS_LINES: &str =
     "The input is a program, which is run, or the record of a run, as its first word tells: `boc` begins a record. A line is a cown, those first
 that are held longest:
   rows, wrote      how many rows have it, and how many of them wrote it
-  held, of span    how many ticks these rows take together, and what part of the span that is
+  held, of span    for how many ticks one row alone has it, and what part of the span that is; with --shared-reads rows that only read it
+                   don't count
   waited           how many ticks rows wait for it between their spawn and their start; where a row waits for several, they count for each
   chain            how many ticks of the chain that holds the run back go by until it is handed on
   without          the span if it ordered nobody; where that is no less than the span, other cowns order the same behaviours: ask
                    `boc whatif --without A --without B`
 Below stand the span, what it would be if no cown ordered anybody, and how long the busiest cown is held; and a verdict:
-  load     a cown is held for at least 75 of 100 ticks of the span: split it, or shorten what holds it
-  order    none is; what holds the run back is the order in which behaviours are spawned and get their cowns
+  spawns   they alone need at least 75 of 100 ticks of the span, so no cown is to blame: spawn earlier, or do less
+  load     or else a cown is held for as much: split it, or shorten what holds it
+  order    or else it is the order in which behaviours are spawned and get their cowns that holds the run back
 With --record the input is a program, and the run is the one whose record is in FILE.
 
 Example: boc cowns --top 3 program.boc

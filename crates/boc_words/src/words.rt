@@ -350,7 +350,8 @@ fn one_input(alloc: Global, paths: &[&str]) -> Result<Option<String>, WordsFault
 
 // Those of the words that look like edits, or those that don't.
 fn words_that<'w>(alloc: Global, words: &[&'w str], edits: bool) -> Result<Vec<&'w str>, AllocError>
-    ensures { IfOk result (λ some. map (λ text. text.now) some.items ≡ filter (λ word. if edits then is_edit word else not (is_edit word)) (map (λ text. text.now) words.now)) }
+    ensures { IfOk result (λ some. map (λ text. text.now) some.items
+        ≡ filter (λ word. if edits then is_edit word else not (is_edit word)) (map (λ text. text.now) words.now)) }
 {
     let mut some = Vec::new(alloc);
     for word in words {

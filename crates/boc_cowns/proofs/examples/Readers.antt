@@ -32,13 +32,14 @@ first_written = refl
 pub with_third : rows_with rows 2 ≡ 0
 with_third = refl
 
-pub first_held : held_for rows 0 ≡ 10
+-- ---- each cown is held by one row at a time
+
+-- it is held while a row has it
+pub first_held : held_for (seen Exclusive rows) 0 ≡ 10
 first_held = refl
 
-pub second_held : held_for rows 1 ≡ 9
+pub second_held : held_for (seen Exclusive rows) 1 ≡ 9
 second_held = refl
-
--- ---- each cown is held by one row at a time
 
 -- row 1 starts at tick 1 and ends at 6, row 2 at 9, row 3 at 11, and row 4 at 15
 abbrev plan : List ℕ
@@ -89,6 +90,13 @@ readers_are_exclusive = refl
 
 pub writer_first : hands_cown (seen SharedReads rows) 0 1 3 ≡ true
 writer_first = refl
+
+-- it is held by one alone while a row has it that wrote it
+pub first_held_alone : held_for (seen SharedReads rows) 0 ≡ 5
+first_held_alone = refl
+
+pub second_held_alone : held_for (seen SharedReads rows) 1 ≡ 3
+second_held_alone = refl
 
 -- rows 2 and 3 wait for row 1, from ticks 2 and 3 to tick 6
 pub waits_shared : waited_for (seen SharedReads rows) (0 ∷ 1 ∷ 6 ∷ 6 ∷ 9 ∷ []) (None ∷ None ∷ Some 1 ∷ Some 1 ∷ Some 2 ∷ []) 0 ≡ 7

@@ -16,7 +16,7 @@ pricer = record { cown = 1; rows = 6; wrote = 6; held = 228; waited = 180; chain
 abbrev store : HotCown
 store = record { cown = 0; rows = 6; wrote = 4; held = 48; waited = 0; chain = 0; without = 279 }
 
--- 228 of 279 ticks are 81 percent and some more, and 75 of 100 are enough to be the load
+-- 228 of 279 ticks are 81 percent and some more, and 75 of 100 are most of them
 pub part : percent 228 279 ≡ 81
 part = refl
 
@@ -64,14 +64,14 @@ module _ (names : Names) (cowns : texts_of names.cowns.items ≡ codes "store" �
   -- the pricer is the load, and the store alone isn't
   pub text_of_load : verdict_text names hot (pricer ∷ store ∷ []) ≡ codes "load: pricer is held 228 of 279 ticks; split it, or shorten what holds it"
   unfolding digits
-  text_of_load = rw (span, cowns) refl
+  text_of_load = rw (span, spawns, cowns) refl
 
   pub text_of_order : verdict_text names hot (store ∷ [])
       ≡ codes "order: no cown is held over 17% of the span; the order in which behaviours ask is what holds back"
   unfolding digits
   text_of_order = rw (span, spawns) refl
 
-  pub text_of_none : verdict_text names hot [] ≡ codes "order: there is no cown; the spawns alone need 109 of 279 ticks"
+  pub text_of_none : verdict_text names hot [] ≡ codes "spawns: they alone need 109 of 279 ticks; spawn earlier, or do less"
   unfolding digits
   text_of_none = rw (span, spawns) refl
 
@@ -82,3 +82,9 @@ module _ (names : Names) (cowns : texts_of names.cowns.items ≡ codes "store" �
 
   pub text_where_shared : shared_text names SharedReads hot ≡ []
   text_where_shared = refl
+
+-- where the spawns alone need 210 of 279 ticks, the pricer isn't the load, nor is the order
+module _ (names : Names) (hot : HotCowns) (span : hot.span ≡ 279) (spawns : hot.spawns ≡ 210) where
+  pub text_of_spawns : verdict_text names hot (pricer ∷ store ∷ []) ≡ codes "spawns: they alone need 210 of 279 ticks; spawn earlier, or do less"
+  unfolding digits
+  text_of_spawns = rw (span, spawns) refl

@@ -31,6 +31,6 @@ returns-clause-some g c = span_some c.new-seen.result c.new-seen.ensures.shape c
     c.in_ok-profile.ensures.span
 
 pub returns-clause-low : goal.returns-clause-low
-returns-clause-low g c = held_low c.args.rows.now c.in_ok-columns.columns c.args.cowns c.in_ok-sorted.field-0.items c.requires
-    (rows_few c.args.rows.now c.args.sharing (rw c.new-seen.ensures.same at c.new-seen.ensures.shape)) c.in_ok-columns.ensures.for_ticks
+returns-clause-low g c = held_low c.new-seen.result c.in_ok-columns.columns c.args.cowns c.in_ok-sorted.field-0.items c.requires
+    c.new-seen.ensures.shape.not_many c.in_ok-columns.ensures.for_ticks
     c.in_ok-sorted.ensures.tell c.in_ok-sorted.ensures.sorted

@@ -60,7 +60,8 @@ take_turn-requires-clause-sound c =
 pub take_turn-requires-clause-fits : goal.take_turn-requires-clause-fits
 take_turn-requires-clause-fits c =
     fits_there c.args.program.now c.args.workers c.args.way c.args.seed c.turns.core c.turns.crew.items c.turns.picker c.turns.invariant
-    c.pick-worker.result c.index_mut.result.now (there (goal.at.take_turn-requires-clause-fits c).After-index_mut (own (goal.at.take_turn-requires-clause-fits c).After-pick-worker))
+    c.pick-worker.result c.index_mut.result.now
+    (there (goal.at.take_turn-requires-clause-fits c).After-index_mut (own (goal.at.take_turn-requires-clause-fits c).After-pick-worker))
 
 pub returns-in-Err : goal.returns-in-Err
 returns-in-Err c =

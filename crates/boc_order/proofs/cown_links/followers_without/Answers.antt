@@ -12,7 +12,8 @@ loop-row-preserved c =
       at = rw c.deref.ensures.value at c.in_ok-place.ensures.next;
       follow = rw (c.push_reserved-in-loop-row.ensures.items, c.in_ok-end_of.ensures, c.deref-in-loop-row.ensures.value)
           (first_more c.args.cown c.args.rows.now c.loop-row.row c.loop-row.first.items c.loop-row.list.items c.add_others.new.list.items adds.added adds.is
-          (others_follow c.args.cown c.args.rows.now c.args.links.now.list.items c.requires.links c.loop-row.row c.loop-row.list.items c.add_others.new.list.items adds)
+          (others_follow c.args.cown c.args.rows.now c.args.links.now.list.items c.requires.links c.loop-row.row c.loop-row.list.items
+          c.add_others.new.list.items adds)
           i.follow (omega (arith, ap length adds.is, length-append c.loop-row.list.items adds.added)));
     }
 

@@ -32,8 +32,8 @@ loop-cown-preserved c =
     record {
       uses = rw c.cowns-cown-items.ensures (halfway_more _ _ _ _ _ _ (cown_small _ c.requires.shape _ _ c.requires.there below) c.loop-cown.invariant.uses
           (rw c.cowns-cown-items.ensures at c.in_ok-note_use.ensures));
-      linked = rw (c.in_ok-put_links.ensures, c.deref.ensures.value, c.cowns-cown-items.ensures) (so_far_more _ _ _ _ _ _ _ c.clear.ensures.items c.loop-cown.invariant.linked
-          (rw c.cowns-cown-items.ensures at c.in_ok-add_waits.ensures));
+      linked = rw (c.in_ok-put_links.ensures, c.deref.ensures.value, c.cowns-cown-items.ensures) (so_far_more _ _ _ _ _ _ _ c.clear.ensures.items
+          c.loop-cown.invariant.linked (rw c.cowns-cown-items.ensures at c.in_ok-add_waits.ensures));
     }
 
 pub returns-clause-uses : goal.returns-clause-uses

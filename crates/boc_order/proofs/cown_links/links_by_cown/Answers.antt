@@ -14,7 +14,7 @@ loop-row-init c = record {
 pub returns : goal.returns
 returns c =
     sorted_links c.args.rows.now c.loop-row.list.items c.sort_unstable_by_key.new.self.items
-    (subst (λ (n : _). AreLinked c.args.rows.now n c.loop-row.list.items) (omega (arith, c.loop-row-test.false, c.len-row-end.ensures.count, c.loop-row.auto.row-end))
-    c.loop-row.invariant.linked)
+    (subst (λ (n : _). AreLinked c.args.rows.now n c.loop-row.list.items)
+    (omega (arith, c.loop-row-test.false, c.len-row-end.ensures.count, c.loop-row.auto.row-end)) c.loop-row.invariant.linked)
     c.sort_unstable_by_key.ensures.permutation
     (c.sort_unstable_by_key.ensures.sorted (λ (l : CownLink). l.before) (answers_always _ _ _ (λ f a r g h. search rules)))

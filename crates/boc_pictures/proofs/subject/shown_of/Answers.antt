@@ -24,8 +24,10 @@ loop-row-preserved c =
       through = c.unwrap_or.result;
     } in
     let items = c.in_ok-push.ensures.items in
-    let start_is = slice_get_read starts (length starts) row one.start refl (omega (arith, c.requires.earliest.keeps.whole, c.len-row-end.ensures.count, c.loop-row-test.true)) c.index.ensures in
-    let end_is = slice_get_read ends (length ends) row one.end refl (omega (arith, c.requires.ends.whole, c.len-row-end.ensures.count, c.loop-row-test.true)) c.index-in-loop-row.ensures in
+    let start_is = slice_get_read starts (length starts) row one.start refl
+    (omega (arith, c.requires.earliest.keeps.whole, c.len-row-end.ensures.count, c.loop-row-test.true)) c.index.ensures in
+    let end_is = slice_get_read ends (length ends) row one.end refl
+    (omega (arith, c.requires.ends.whole, c.len-row-end.ensures.count, c.loop-row-test.true)) c.index-in-loop-row.ensures in
     let new : IsShownAs starts ends (length before) one =
     record {
       number = sym size;

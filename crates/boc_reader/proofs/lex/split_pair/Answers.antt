@@ -1,9 +1,15 @@
-use Rattle.std.proofs.Common.{◌∷◌, sym, ap, ◌∙◌}
-use Rattle.boc_reader.specs.Tokens.{tokens_of_text}
+use Rattle.std.proofs.Common.{◌∷◌, [], sym, ap, ◌∙◌, subst, arith, refl}
+use Rattle.boc_reader.specs.Tokens.{pair, sign}
+use Rattle.boc_reader.specs.WrongTokens.{HasRead}
 use Rattle.boc_reader.proofs.Texts.{pair_at}
+use Rattle.boc_reader.proofs.Reading.{read_one}
 use Rattle.boc_reader.proofs.lex.split_pair.Goals as goal
 
-pub returns-in-Some-pair_sign-clause-tokens : goal.returns-in-Some-pair_sign-clause-tokens
-returns-in-Some-pair_sign-clause-tokens c =
-    ap (λ xs. tokens_of_text (c.args.first ∷ xs)) (c.in-Some.ensures.cases.0 ∙ ap (λ b. b ∷ c.in-Some.others.now) c.if-second-eq61.true)
-    ∙ pair_at c.args.first c.in-Some.others.now c.in-Some-pair_sign.sign (sym c.in-Some-pair_sign.ensures)
+pub returns-in-Some-pair_sign-clause-read : goal.returns-in-Some-pair_sign-clause-read
+returns-in-Some-pair_sign-clause-read c =
+    let others = c.in-Some.others.now in
+    let found = c.in-Some-pair_sign.ensures in
+    let behind = c.in-Some.ensures.cases.0 ∙ ap (λ b. b ∷ others) c.if-second-eq61.true in
+    subst (λ bs. HasRead (c.args.first ∷ bs) others (sign c.in-Some-pair_sign.sign ∷ [])) (sym behind)
+    (read_one (c.args.first ∷ 61 ∷ others) others (pair c.args.first) (sign c.in-Some-pair_sign.sign ∷ [])
+    (pair_at c.args.first others c.in-Some-pair_sign.sign (sym found)) (rw (sym found) refl) (omega arith))

@@ -1,4 +1,5 @@
 use Rattle.boc_reader.proofs.Spellings.{none_spelled, one_program}
+use Rattle.boc_reader.proofs.Reading.{one_fault}
 use Rattle.boc_reader.proofs.read.refused_is_none.Goals as goal
 
 pub returns-clause-none : goal.returns-clause-none
@@ -6,3 +7,6 @@ returns-clause-none c = none_spelled
 
 pub returns-clause-one : goal.returns-clause-one
 returns-clause-one c = one_program
+
+pub returns-clause-first : goal.returns-clause-first
+returns-clause-first c = one_fault

@@ -22,7 +22,8 @@ whole unplanned p = (head p ++ rows unplanned p) ++ last p
 
 pub returns-in_err-put-clause-goes_on : goal.returns-in_err-put-clause-goes_on
 returns-in_err-put-clause-goes_on g c =
-    put_stopped (whole c.args.unplanned c.args.greedy.now) c.from_residual.result _ c.args.out.now c.put.new.self _ _ c.in_err-put.ensures.goes_on c.from_residual.ensures.1
+    put_stopped (whole c.args.unplanned c.args.greedy.now) c.from_residual.result _ c.args.out.now c.put.new.self _ _
+    c.in_err-put.ensures.goes_on c.from_residual.ensures.1
 
 pub returns-in_err-put_rows-clause-goes_on : goal.returns-in_err-put_rows-clause-goes_on
 returns-in_err-put_rows-clause-goes_on g c =

@@ -16,16 +16,17 @@ returns-in_err-put_profile-clause-sent g c =
     let p = c.args.profile.now in
     let before = g.W.Sink.written c.args.sink.now in
     let part : List ℕ = part_of c.args.unplanned (option_map (λ x. x.now) c.args.greedy) in
-    stopped_so _ (λ s. StopsAt s.gone (report c.args.unplanned p ++ part) before (g.W.Sink.written c.put_profile.new.sink)) c.from_residual.result _ c.from_residual.ensures.1
-    (stops_before _ (report c.args.unplanned p) part before _ (c.in_err-put_profile.ensures.goes_on before [] (c.requires.unused before)))
+    stopped_so _ (λ s. StopsAt s.gone (report c.args.unplanned p ++ part) before (g.W.Sink.written c.put_profile.new.sink))
+    c.from_residual.result _ c.from_residual.ensures.1 (stops_before _ (report c.args.unplanned p) part before _
+    (c.in_err-put_profile.ensures.goes_on before [] (c.requires.unused before)))
 
 pub returns-in_err-put_part-clause-sent : goal.returns-in_err-put_part-clause-sent
 returns-in_err-put_part-clause-sent g c =
     let p = c.args.profile.now in
     let before = g.W.Sink.written c.args.sink.now in
     let part : List ℕ = part_of c.args.unplanned (option_map (λ x. x.now) c.args.greedy) in
-    stopped_so _ (λ s. StopsAt s.gone (report c.args.unplanned p ++ part) before (g.W.Sink.written c.put_part.new.sink)) c.from_residual-in_err-put_part.result _
-    c.from_residual-in_err-put_part.ensures.1
+    stopped_so _ (λ s. StopsAt s.gone (report c.args.unplanned p ++ part) before (g.W.Sink.written c.put_part.new.sink))
+    c.from_residual-in_err-put_part.result _ c.from_residual-in_err-put_part.ensures.1
     (c.in_err-put_part.ensures.goes_on before (report c.args.unplanned p) (c.in_ok-put_profile.ensures.goes_on before [] (c.requires.unused before)))
 
 pub returns-clause-sent : goal.returns-clause-sent
@@ -33,5 +34,5 @@ returns-clause-sent g c =
     let p = c.args.profile.now in
     let before = g.W.Sink.written c.args.sink.now in
     let part : List ℕ = part_of c.args.unplanned (option_map (λ x. x.now) c.args.greedy) in
-    c.send.ensures.sent before (report c.args.unplanned p ++ part) (c.in_ok-put_part.ensures.goes_on before (report c.args.unplanned p) (c.in_ok-put_profile.ensures.goes_on before []
-    (c.requires.unused before)))
+    c.send.ensures.sent before (report c.args.unplanned p ++ part)
+    (c.in_ok-put_part.ensures.goes_on before (report c.args.unplanned p) (c.in_ok-put_profile.ensures.goes_on before [] (c.requires.unused before)))

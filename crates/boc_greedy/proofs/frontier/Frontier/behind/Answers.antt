@@ -14,8 +14,8 @@ returns-clause-kept c =
     let main = main_waits (length c.args.rows.now) c.requires.shape.not_empty in
     let follow = c.requires.followers in (
       waits c.args.rows.now c.args.followers.now follow,
-      begun c.args.rows.now (waits c.args.rows.now c.args.followers.now follow) c.args.followers.now _ c.in_ok-unmet.unmet.items c.in_ok-ready.ready c.insert.new.self
-          (pred (length c.args.rows.now)) (rw states main.0) main.1 (are_waits c.args.rows.now c.args.followers.now follow)
+      begun c.args.rows.now (waits c.args.rows.now c.args.followers.now follow) c.args.followers.now _ c.in_ok-unmet.unmet.items c.in_ok-ready.ready
+          c.insert.new.self (pred (length c.args.rows.now)) (rw states main.0) main.1 (are_waits c.args.rows.now c.args.followers.now follow)
           (are_followers c.args.rows.now c.args.followers.now follow) (omega (arith, c.in_ok-unmet.ensures.whole, follow.whole))
           (λ r h. c.in_ok-unmet.ensures.each r (omega (arith, h, follow.whole)) ∙ counted_all c.args.rows.now c.args.followers.now follow r h)
           c.in_ok-ready.ensures.rows c.insert.ensures.set c.insert.ensures.rows,

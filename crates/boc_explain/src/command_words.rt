@@ -1,0 +1,216 @@
+// Words of a command line that are refused: one that is no edit, and two files where one is read.
+
+use crate::formed::{put_reason, reason_of};
+use crate::said::{Part, Said};
+use boc_program::limits::MOST_PART;
+use boc_text::read_number;
+use std::alloc::{AllocError, Global};
+
+// The options with a value, which is the word behind them.
+const WITH_VALUE: [&[u8]; 13] = [
+    b"--workers",
+    b"-w",
+    b"--seed",
+    b"--depth",
+    b"--runs",
+    b"--p",
+    b"-p",
+    b"--best",
+    b"--top",
+    b"--without",
+    b"--program",
+    b"--record",
+    b"--names",
+];
+
+// The command whose words are edits too.
+const WHATIF: &[u8] = b"whatif";
+
+/// What is told of a word that should be an edit and is none: that with this number among those that look like one, counted from 1.
+/// The program's own name is the first of the words.
+pub fn explain_edit_word(
+    alloc: Global,
+    words: &[String],
+    number: usize,
+) -> Result<String, AllocError> {
+    let mut said = Said::new(alloc);
+    let mut counted: usize = 0;
+    for word in operands(alloc, words)? {
+        if is_edit(word) {
+            counted = counted.saturating_add(1);
+            if counted == number {
+                put_no_edit(&mut said, word)?;
+            }
+        }
+    }
+    Ok(said.into_text())
+}
+
+/// What is told of words that name two files to read the input from, where the parser refuses them for that, with this text.
+pub fn explain_files(alloc: Global, words: &[String], told: &str) -> Result<String, AllocError> {
+    let mut said = Said::new(alloc);
+    let takes_edits = words.get(1).is_some_and(|word| word.as_bytes() == WHATIF);
+    let mut files: Vec<&[u8]> = Vec::new(alloc);
+    for word in operands(alloc, words)? {
+        if !takes_edits || !is_edit(word) {
+            files.push(word)?;
+        }
+    }
+    if let [first, second, ..] = files.as_slice()
+        && is_refusal_of(told.as_bytes(), second)
+    {
+        said.line(&[
+            Part::Quote(first),
+            Part::Words(" and "),
+            Part::Quote(second),
+            Part::Words(" are two FILEs, and the input is read from one"),
+        ])?;
+        if takes_edits {
+            said.line(&[Part::Words(
+                "a word with neither = nor @ is a FILE, and each other one an edit",
+            )])?;
+        }
+    }
+    Ok(said.into_text())
+}
+
+// The parser's text says that there is one FILE too many, this one.
+fn is_refusal_of(told: &[u8], second: &[u8]) -> bool {
+    let Some(rest) = behind(told, b"error: unexpected argument '") else {
+        return behind(
+            told,
+            b"error: the input cannot be read from more than one FILE",
+        )
+        .is_some();
+    };
+    behind(rest, second).is_some_and(|rest| rest.starts_with(b"' found"))
+}
+
+// What stands behind the front of a text.
+fn behind<'a>(text: &'a [u8], front: &[u8]) -> Option<&'a [u8]> {
+    if text.starts_with(front) {
+        Some(text.split_at(front.len().min(text.len())).1)
+    } else {
+        None
+    }
+}
+
+// The words behind the command's that are no options and no values of them.
+fn operands<'w>(alloc: Global, words: &'w [String]) -> Result<Vec<&'w [u8]>, AllocError> {
+    let mut found: Vec<&'w [u8]> = Vec::new(alloc);
+    let mut is_value = false;
+    let mut only_operands = false;
+    for word in words.iter().skip(2) {
+        let word = word.as_bytes();
+        let is_option = !only_operands && word.len() > 1 && word.starts_with(b"-");
+        if is_value {
+            is_value = false;
+        } else if is_option {
+            only_operands = word == b"--".as_slice();
+            is_value = WITH_VALUE.iter().any(|option| *option == word);
+        } else {
+            found.push(word)?;
+        }
+    }
+    Ok(found)
+}
+
+// A word looks like an edit.
+fn is_edit(word: &[u8]) -> bool {
+    word.iter().any(|byte| matches!(*byte, b'=' | b'@'))
+}
+
+// What stands in front of the first sign of this kind in a word, and behind it.
+fn around(word: &[u8], sign: u8) -> Option<(&[u8], &[u8])> {
+    let at = word.iter().position(|byte| *byte == sign)?;
+    let (front, rest) = word.split_at(at.min(word.len()));
+    let (_, back) = rest.split_at(rest.len().min(1));
+    Some((front, back))
+}
+
+// Tells why a word is no edit.
+fn put_no_edit(said: &mut Said, word: &[u8]) -> Result<(), AllocError> {
+    let Some((subject, change)) = around(word, b'=') else {
+        return put_no_offset(said, word);
+    };
+    if subject.is_empty() {
+        return put_reason(said, word, "in front of the `=` stands a row or a def");
+    }
+    if change.is_empty() {
+        return put_reason(said, word, "behind the `=` stand ticks, or a part K/D");
+    }
+    if let Some((over, under)) = around(change, b'/') {
+        return put_no_part(said, word, [over, under], subject);
+    }
+    let is_row = are_digits(subject);
+    if is_row && are_digits(change) {
+        return put_no_number(said, word, first_unread(subject, change));
+    }
+    said.line(&[
+        Part::Quote(word),
+        Part::Words(": "),
+        Part::Quote(change),
+        Part::Words(if is_row {
+            " is neither ticks nor a part K/D; half of what the row costs is `"
+        } else {
+            " is no part K/D; half of what the rows of a def cost is `"
+        }),
+        Part::Bytes(subject),
+        Part::Words("=1/2`"),
+    ])
+}
+
+// Tells why a word with an `@` is no edit.
+fn put_no_offset(said: &mut Said, word: &[u8]) -> Result<(), AllocError> {
+    let (row, offset) = around(word, b'@').unwrap_or((word, b""));
+    if row.is_empty() {
+        return put_reason(said, word, "in front of the `@` stands a row");
+    }
+    if offset.is_empty() {
+        return put_reason(said, word, "behind the `@` stands a tick");
+    }
+    put_no_number(said, word, first_unread(row, offset))
+}
+
+// A text has digits alone.
+fn are_digits(text: &[u8]) -> bool {
+    text.iter().all(|byte| byte.is_ascii_digit())
+}
+
+// The first of two texts where it is no number, and else the second.
+fn first_unread<'a>(first: &'a [u8], second: &'a [u8]) -> &'a [u8] {
+    if read_number(first).is_none() {
+        first
+    } else {
+        second
+    }
+}
+
+// Tells why a word is no edit that has two texts round a `/`.
+fn put_no_part(
+    said: &mut Said,
+    word: &[u8],
+    part: [&[u8]; 2],
+    subject: &[u8],
+) -> Result<(), AllocError> {
+    for number in &part {
+        match read_number(number) {
+            None => return put_no_number(said, word, number),
+            Some(1..=MOST_PART) => {}
+            Some(_) => {
+                return put_reason(said, word, "the numbers of a part K/D are 1 to 1000");
+            }
+        }
+    }
+    put_no_number(said, word, subject)
+}
+
+// Tells which part of a word is no number, and why.
+fn put_no_number<'a>(said: &mut Said, word: &'a [u8], part: &'a [u8]) -> Result<(), AllocError> {
+    said.line(&[
+        Part::Quote(word),
+        Part::Words(": "),
+        Part::Quote(part),
+        Part::Words(reason_of(part)),
+    ])
+}

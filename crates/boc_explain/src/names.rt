@@ -1,0 +1,213 @@
+// Faults of files of names.
+
+use crate::formed::{common_reason, put_reason, put_unseen, reason_of, unseen_byte};
+use crate::place::{Text, is_first_word, looks_like_record};
+use crate::run::{Run, line_at};
+use crate::said::{Part, Said};
+use boc_names::{NamesFault, NamesFaultKind};
+use boc_reader::read_program;
+use boc_text::read_number;
+use std::alloc::{AllocError, Global};
+
+/// What is told of a file of names behind the line of its fault. It names the rows and the cowns of the run that this input tells of.
+pub fn explain_names(
+    alloc: Global,
+    text: Text<'_>,
+    input: Text<'_>,
+    fault: NamesFault,
+) -> Result<String, AllocError> {
+    let mut said = Said::new(alloc);
+    let Some((line, is_ended)) = line_at(text.bytes, fault.line) else {
+        return Ok(said.into_text());
+    };
+    if !is_ended && !text.whole {
+        return Ok(said.into_text());
+    }
+    match fault.kind {
+        NamesFaultKind::TooLong | NamesFaultKind::Form if looks_like_record(text.bytes) => {
+            put_other_text(&mut said, "a record")?;
+        }
+        NamesFaultKind::TooLong | NamesFaultKind::Form if is_of_program(text.bytes) => {
+            put_other_text(&mut said, "a program")?;
+        }
+        NamesFaultKind::Cut => {
+            put_reason(&mut said, line, "no line feed stands behind the last line")?;
+        }
+        NamesFaultKind::TooLong => put_reason(&mut said, line, "a line has at most 80 bytes")?,
+        NamesFaultKind::Form => put_form(&mut said, line)?,
+        NamesFaultKind::NoRow => put_no_row(alloc, &mut said, line, input)?,
+        NamesFaultKind::NoCown => put_no_cown(alloc, &mut said, line, input)?,
+        NamesFaultKind::Twice => put_twice(&mut said, text.bytes, line, fault.line)?,
+        NamesFaultKind::Memory => {}
+    }
+    Ok(said.into_text())
+}
+
+// Tells that another text stands where names are wanted.
+fn put_other_text(said: &mut Said, found: &str) -> Result<(), AllocError> {
+    said.line(&[
+        Part::Words("this looks like "),
+        Part::Words(found),
+        Part::Words("; --names takes lines `@ COWN NAME` and `= ROW NAME [ARG ..]`"),
+    ])
+}
+
+// The first line that says something, and is no comment, is one of a program.
+fn is_of_program(text: &[u8]) -> bool {
+    let first = text
+        .split(|byte| *byte == b'\n')
+        .find(|line| !matches!(*line, [] | [b'#', ..]));
+    match first {
+        Some(line) => line
+            .split(|byte| *byte == b' ')
+            .next()
+            .is_some_and(is_first_word),
+        None => false,
+    }
+}
+
+// What is wrong with a line that has none of the forms.
+fn put_form(said: &mut Said, line: &[u8]) -> Result<(), AllocError> {
+    if let Some(reason) = common_reason(line) {
+        return put_reason(said, line, reason);
+    }
+    if let Some(byte) = unseen_byte(line) {
+        return put_unseen(said, line, byte, "names and arguments are");
+    }
+    match line {
+        [sign @ (b'=' | b'@'), b' ', fields @ ..] => put_fields(said, line, *sign, fields),
+        [b'=' | b'@', ..] => put_reason(said, line, "a blank stands behind the sign"),
+        _ => put_reason(
+            said,
+            line,
+            "a line is `@ COWN NAME`, `= ROW NAME [ARG ..]`, empty, or a comment from `#` on",
+        ),
+    }
+}
+
+// What is wrong with the fields of a line.
+fn put_fields<'a>(
+    said: &mut Said,
+    line: &'a [u8],
+    sign: u8,
+    fields: &'a [u8],
+) -> Result<(), AllocError> {
+    let mut count: u64 = 0;
+    for field in fields.split(|byte| *byte == b' ') {
+        if field.is_empty() {
+            return put_reason(said, line, "two blanks; a single one stands between words");
+        }
+        if count == 0 && read_number(field).is_none() {
+            return said.line(&[
+                Part::Quote(line),
+                Part::Words(": "),
+                Part::Quote(field),
+                Part::Words(reason_of(field)),
+            ]);
+        }
+        count = count.saturating_add(1);
+    }
+    let reason = match sign {
+        b'=' => "no name; the form is `= ROW NAME [ARG ..]`",
+        _ if count < 2 => "no name; the form is `@ COWN NAME`",
+        _ => "words behind the name; the form is `@ COWN NAME`",
+    };
+    put_reason(said, line, reason)
+}
+
+// The sign and the number of a line that has one of the forms.
+fn thing_of(line: &[u8]) -> Option<(u8, u32)> {
+    match line {
+        [sign @ (b'=' | b'@'), b' ', fields @ ..] => {
+            let number = read_number(fields.split(|byte| *byte == b' ').next()?)?;
+            Some((*sign, number))
+        }
+        _ => None,
+    }
+}
+
+// Tells which rows there are. How many a program has is known only as it runs.
+fn put_no_row(
+    alloc: Global,
+    said: &mut Said,
+    line: &[u8],
+    input: Text<'_>,
+) -> Result<(), AllocError> {
+    if !looks_like_record(input.bytes) || !input.whole {
+        return put_reason(said, line, "the run has no row with this number");
+    }
+    let run = Run::before(alloc, input.bytes, u64::MAX)?;
+    said.line(&[
+        Part::Quote(line),
+        Part::Words(": the record has rows 0 to "),
+        Part::Number((run.rows.len() as u64).saturating_sub(1)),
+    ])
+}
+
+// Tells which cowns there are.
+fn put_no_cown(
+    alloc: Global,
+    said: &mut Said,
+    line: &[u8],
+    input: Text<'_>,
+) -> Result<(), AllocError> {
+    let count = match record_cowns(input.bytes) {
+        Some(count) => u64::from(count),
+        None => match program_cowns(alloc, input.bytes)? {
+            Some(count) => count,
+            None => return Ok(()),
+        },
+    };
+    if count == 0 {
+        return put_reason(said, line, "the run has no cowns");
+    }
+    said.line(&[
+        Part::Quote(line),
+        Part::Words(": the run has cowns 0 to "),
+        Part::Number(count.saturating_sub(1)),
+    ])
+}
+
+/// How many cowns the first line of a record tells.
+pub(crate) fn record_cowns(text: &[u8]) -> Option<u32> {
+    if !looks_like_record(text) {
+        return None;
+    }
+    let (header, _) = line_at(text, 1)?;
+    read_number(header.rsplit(|byte| *byte == b' ').next()?)
+}
+
+/// How many cowns a program has, the members of arrays counted.
+pub(crate) fn program_cowns(alloc: Global, text: &[u8]) -> Result<Option<u64>, AllocError> {
+    let Ok(program) = read_program(alloc, text) else {
+        return Ok(None);
+    };
+    let mut count: u64 = 0;
+    for cown in program.cowns.as_slice() {
+        count = count.saturating_add(cown.members() as u64);
+    }
+    Ok(Some(count))
+}
+
+// Tells which line before this one names the same.
+fn put_twice<'a>(
+    said: &mut Said,
+    text: &'a [u8],
+    line: &'a [u8],
+    number: u64,
+) -> Result<(), AllocError> {
+    let mut counted: u64 = 0;
+    for other in text.split(|byte| *byte == b'\n') {
+        counted = counted.saturating_add(1);
+        if counted < number && thing_of(other) == thing_of(line) {
+            return said.line(&[
+                Part::Quote(line),
+                Part::Words(": line "),
+                Part::Number(counted),
+                Part::Words(" names it already, "),
+                Part::Quote(other),
+            ]);
+        }
+    }
+    Ok(())
+}

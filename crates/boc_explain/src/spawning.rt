@@ -1,0 +1,149 @@
+// Runs that come to more behaviours than there may be.
+
+use crate::said::{Part, Said};
+use crate::tokens::{Word, words_of};
+use crate::view::line_number;
+use boc_program::limits::MOST_ROWS;
+use std::alloc::{AllocError, Global};
+
+// A `when` of a text: the number of the body in which it stands, that of the def that it names, and where. Main has the number 0.
+#[derive(Clone, Copy)]
+struct Spawn {
+    by: usize,
+    of: usize,
+    at: usize,
+}
+
+/// What is told of a program whose run comes to more behaviours than there may be.
+pub fn explain_behaviours(alloc: Global, program: &[u8]) -> Result<String, AllocError> {
+    let mut said = Said::new(alloc);
+    said.line(&[
+        Part::Words("a run has at most "),
+        Part::Number(MOST_ROWS as u64),
+        Part::Words(" behaviours, main among them, and this one comes to more"),
+    ])?;
+    let words = words_of(alloc, program)?;
+    let names = def_names(alloc, &words)?;
+    let spawns = spawns_of(alloc, &words, &names)?;
+    match first_again(alloc, &names, &spawns)? {
+        Some(spawn) => put_again(&mut said, program, &names, spawn)?,
+        None => said.line(&[Part::Words(
+            "no def spawns itself again, so it is by `repeat`: a `when` in one spawns a behaviour in each turn",
+        )])?,
+    }
+    Ok(said.into_text())
+}
+
+// The names of main and of the defs.
+fn def_names<'a>(alloc: Global, words: &[Word<'a>]) -> Result<Vec<&'a [u8]>, AllocError> {
+    let mut names: Vec<&'a [u8]> = Vec::new(alloc);
+    names.push(b"main")?;
+    let mut is_name = false;
+    for word in words {
+        if is_name {
+            names.push(word.bytes)?;
+        }
+        is_name = word.is(b"def");
+    }
+    Ok(names)
+}
+
+// The `when`s of a text that name a def.
+fn spawns_of(alloc: Global, words: &[Word<'_>], names: &[&[u8]]) -> Result<Vec<Spawn>, AllocError> {
+    let mut spawns = Vec::new(alloc);
+    let mut by: usize = 0;
+    let mut begun: usize = 0;
+    let mut is_name = false;
+    for word in words {
+        if is_name && let Some(of) = names.iter().position(|name| word.is(name)) {
+            spawns.push(Spawn {
+                by,
+                of,
+                at: word.at,
+            })?;
+        }
+        is_name = word.is(b"when");
+        if word.is(b"def") {
+            begun = begun.saturating_add(1);
+            by = begun;
+        }
+        if word.is(b"main") {
+            by = 0;
+        }
+    }
+    Ok(spawns)
+}
+
+// The bodies that come about by this one, at whatever remove: for each whether it does.
+fn reached(
+    alloc: Global,
+    count: usize,
+    spawns: &[Spawn],
+    from: usize,
+) -> Result<Vec<bool>, AllocError> {
+    let mut is_reached = Vec::new(alloc);
+    is_reached.resize(count, false)?;
+    for _ in 0..count {
+        for spawn in spawns {
+            let counts = spawn.by == from || is_reached.get(spawn.by).copied().unwrap_or(false);
+            if counts && let Some(of) = is_reached.get_mut(spawn.of) {
+                *of = true;
+            }
+        }
+    }
+    Ok(is_reached)
+}
+
+// The first `when` that comes about from main on and leads back to the body in which it stands.
+fn first_again(
+    alloc: Global,
+    names: &[&[u8]],
+    spawns: &[Spawn],
+) -> Result<Option<Spawn>, AllocError> {
+    let mut onward: Vec<Vec<bool>> = Vec::new(alloc);
+    for body in 0..names.len() {
+        onward.push(reached(alloc, names.len(), spawns, body)?)?;
+    }
+    for spawn in spawns {
+        let comes = spawn.by == 0 || leads(&onward, 0, spawn.by);
+        if comes && (spawn.of == spawn.by || leads(&onward, spawn.of, spawn.by)) {
+            return Ok(Some(*spawn));
+        }
+    }
+    Ok(None)
+}
+
+// A body leads to another one.
+fn leads(onward: &[Vec<bool>], from: usize, to: usize) -> bool {
+    match onward.get(from) {
+        Some(reached) => reached.get(to).copied().unwrap_or(false),
+        None => false,
+    }
+}
+
+// Tells of a def that spawns itself again, at once or by way of another one.
+fn put_again(
+    said: &mut Said,
+    text: &[u8],
+    names: &[&[u8]],
+    spawn: Spawn,
+) -> Result<(), AllocError> {
+    let by: &[u8] = names.get(spawn.by).copied().unwrap_or(b"");
+    let of: &[u8] = names.get(spawn.of).copied().unwrap_or(b"");
+    let line = Part::Number(line_number(text, spawn.at));
+    let (way, other) = if spawn.by == spawn.of {
+        (Part::Words(""), Part::Words(""))
+    } else {
+        (Part::Words(" by way of "), Part::Quote(of))
+    };
+    said.line(&[
+        Part::Words("it may be by "),
+        Part::Quote(by),
+        Part::Words(", which spawns itself again"),
+        way,
+        other,
+        Part::Words(", by the `when` on line "),
+        line,
+        Part::Words(": one behaviour more each time, until a condition ends that"),
+    ])
+}

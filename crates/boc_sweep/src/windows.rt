@@ -1,8 +1,8 @@
 // For each place the greatest value of the stretches that hold it.
 
-ghost use Rattle.std.specs.Prelude.{◌≡◌, ℕ, ◌<◌, ◌≤◌, ◌+◌, ◌-◌, ◌/◌, max, Contains, length, IfOk, slice_index, slice_set};
+ghost use Rattle.std.specs.Prelude.{◌≡◌, ℕ, ◌<◌, ◌≤◌, ◌+◌, ◌-◌, ◌^◌, ◌∷◌, ◌++◌, [], max, Contains, List, length, replicate, IfOk, OnOk, slice_index, slice_set};
 ghost use Rattle.boc_sweep.specs.declared.windows.Stretch.{Stretch};
-ghost use Rattle.boc_sweep.specs.Tops.{AreWindows, AreTops};
+ghost use Rattle.boc_sweep.specs.Tops.{AreByLength, AreOfLength, AreTops, AreWindows, HasRaised, list_at, lists_of};
 
 use boc_program::limits::MOST_ROWS;
 use std::alloc::{AllocError, Global};
@@ -40,39 +40,76 @@ fn raise(values: &mut [u64], place: usize, value: u64)
     values[place] = value.max(values[place]);
 }
 
-// Windows of half the size, which cover stretches of half the length.
-fn cover(values: &mut [u64], stretches: &[Stretch], half: usize, size: usize)
+// Windows of this size are raised to the values of stretches that are no shorter, and less than twice as long: each by the window at its first place and
+// by the one that ends with it.
+fn cover(values: &mut [u64], stretches: &[Stretch], size: usize)
+    requires some { 0 < size }
     requires inside { (r : Stretch) → Contains stretches.now r → r.high ≤ length values.old }
-    requires some { 0 < half }
-    requires half { size ≤ half + half }
-    requires few { size ≤ MOST_ROWS + 1 }
-    requires less { half ≤ size }
-    requires windows { AreWindows stretches.now (length values.old) half size (slice_index values.old) }
+    requires long { (r : Stretch) → Contains stretches.now r → r.low + size ≤ r.high }
+    requires short { (r : Stretch) → Contains stretches.now r → r.high < r.low + (size + size) }
     ensures len { length values.new ≡ length values.old }
-    ensures windows { AreWindows stretches.now (length values.old) half half (slice_index values.new) }
+    ensures raised { HasRaised stretches.now size values.old (length stretches.now) values.new }
 {
     for stretch in stretches {
-        let low = stretch.low as usize;
-        let high = stretch.high as usize;
-        if low + half <= high {
-            raise(values, low, stretch.value);
-            raise(values, high - half, stretch.value);
-        }
+        raise(values, stretch.low as usize, stretch.value);
+        raise(values, stretch.high as usize - size, stretch.value);
     }
 }
 
-// Windows of half the size, rounded up.
+// Windows of this size in place of those that are twice as large, which cover the stretches of this length too.
 fn split(values: &mut [u64], stretches: &[Stretch], size: usize)
+    requires some { 0 < size }
     requires inside { (r : Stretch) → Contains stretches.now r → r.high ≤ length values.old }
-    requires some { 1 < size }
-    requires few { size ≤ MOST_ROWS + 1 }
-    requires windows { AreWindows stretches.now (length values.old) size size (slice_index values.old) }
+    requires long { (r : Stretch) → Contains stretches.now r → r.low + size ≤ r.high }
+    requires short { (r : Stretch) → Contains stretches.now r → r.high < r.low + (size + size) }
     ensures len { length values.new ≡ length values.old }
-    ensures windows { AreWindows stretches.now (length values.old) (size - size / 2) (size - size / 2) (slice_index values.new) }
+    ensures windows { (all : List Stretch) → ((r : Stretch) → Contains all r → r.high ≤ length values.old) → AreOfLength all stretches.now size
+        → AreWindows all (length values.old) (size + size) (size + size) (slice_index values.old)
+        → AreWindows all (length values.old) size size (slice_index values.new) }
 {
-    let step = size / 2;
-    halve(values, step);
-    cover(values, stretches, size - step, size);
+    halve(values, size);
+    cover(values, stretches, size);
+}
+
+// As many lists as there are lengths that differ by a factor of two: a stretch of all places has fewer than 2 ^ 16.
+const LENGTHS: usize = 16;
+
+const _: () = prove!(MOST_ROWS < 1 << LENGTHS);
+
+// Puts a stretch into the list at a place.
+fn put(lists: &mut [Vec<Stretch>], place: usize, stretch: Stretch) -> Result<(), AllocError>
+    requires { place < length lists.old }
+    ensures { OnOk result (lists_of lists.new ≡ slice_set (lists_of lists.old) place (list_at lists.old place ++ stretch ∷ [])) }
+{
+    lists[place].push(stretch)?;
+    Ok(())
+}
+
+// As many empty lists.
+fn no_lists(alloc: Global) -> Result<Vec<Vec<Stretch>>, AllocError>
+    ensures { IfOk result (λ lists. lists_of lists.items ≡ replicate LENGTHS []) }
+{
+    let mut lists = Vec::with_capacity(alloc, LENGTHS)?;
+    for _ in 0..LENGTHS {
+        lists.push_reserved(Vec::new(alloc));
+    }
+    Ok(lists)
+}
+
+// The stretches by their length: at place k those of 2 ^ k places and more, but of fewer than twice as many.
+fn by_length(alloc: Global, stretches: &[Stretch]) -> Result<Vec<Vec<Stretch>>, AllocError>
+    requires { (r : Stretch) → Contains stretches.now r → r.high ≤ MOST_ROWS }
+    ensures count { IfOk result (λ lists. length lists.items ≡ LENGTHS) }
+    ensures lists { IfOk result (λ lists. AreByLength stretches.now (list_at lists.items)) }
+{
+    let mut lists = no_lists(alloc)?;
+    for stretch in stretches {
+        if stretch.low < stretch.high {
+            let place = (stretch.high - stretch.low).ilog2() as usize;
+            put(&mut lists, place, *stretch)?;
+        }
+    }
+    Ok(lists)
 }
 
 /// For each of so many places the greatest value of the stretches that hold it, and 0 where there is none.
@@ -81,11 +118,14 @@ pub fn all_tops(alloc: Global, stretches: &[Stretch], count: usize) -> Result<Ve
     requires few { count ≤ MOST_ROWS }
     ensures { IfOk result (λ t. AreTops stretches.now count t.items) }
 {
+    let lists = by_length(alloc, stretches)?;
     let mut values = vec![in alloc; 0; count]?;
-    let mut size = count + 1;
-    while size > 1 {
-        split(&mut values, stretches, size);
-        size -= size / 2;
+    let mut place = LENGTHS;
+    let mut size = 1 << LENGTHS;
+    while place > 0 {
+        place -= 1;
+        size /= 2;
+        split(&mut values, &lists[place], size);
     }
     Ok(values)
 }

@@ -115,7 +115,7 @@ def verdict(names, whole, spawns, hot):
     cown, _, _, held, _, _, _ = hot[0]
     if held * 100 >= MOST * whole:
         return f"load: {names[cown]} is held {held} of {whole} ticks; split it, or shorten what holds it"
-    return f"order: no cown is held over {held * 100 // whole}% of the span; the order in which behaviours ask is what holds back"
+    return f"order: no cown is held for more than {held} of {whole} ticks; the order in which behaviours ask is what holds back"
 
 
 def shared_reads(names, shared, hot):

@@ -39,8 +39,8 @@ module _ (a b : Names) (same : CallTheSame a b) (hot other : HotCowns) (span : h
   by_cowns_same own = λ i. cond (is_most own.held (span i))
       (codes "load: " ++ text_at (same.cowns i) own.cown ++ codes " is held " ++ decimal own.held ++ codes " of " ++ decimal (span i)
       ++ codes " ticks; split it, or shorten what holds it")
-      (codes "order: no cown is held over " ++ percent_text own.held (span i)
-      ++ codes " of the span; the order in which behaviours ask is what holds back")
+      (codes "order: no cown is held for more than " ++ decimal own.held ++ codes " of " ++ decimal (span i)
+      ++ codes " ticks; the order in which behaviours ask is what holds back")
 
   verdict_same : (list : List HotCown) → verdict_text a hot list ≡ verdict_text b other list
   verdict_same [] = spawns_same

@@ -100,8 +100,8 @@ load_text names hot own =
 -- the order, where no cown is held for longer than this one
 abbrev pub order_text : HotCowns → HotCown → Text
 order_text hot own =
-    codes "order: no cown is held over " ++ percent_text own.held hot.span
-    ++ codes " of the span; the order in which behaviours ask is what holds back"
+    codes "order: no cown is held for more than " ++ decimal own.held ++ codes " of " ++ decimal hot.span
+    ++ codes " ticks; the order in which behaviours ask is what holds back"
 
 -- what of the cowns holds the rows back, where this one is held longest: it, where it is held for most of the span, or else the order
 abbrev pub by_cowns_text : Names → HotCowns → HotCown → Text

@@ -31,8 +31,8 @@ fn number(alloc: Global, number: u64) -> Result<Vec<u8>, AllocError>
     Ok(text)
 }
 
-/// Puts ticks in percent of the span behind a text, rounded down.
-pub(crate) fn put_percent(text: &mut Vec<u8>, ticks: u64, span: u64) -> Result<(), AllocError>
+// Puts ticks in percent of the span behind a text, rounded down.
+fn put_percent(text: &mut Vec<u8>, ticks: u64, span: u64) -> Result<(), AllocError>
     requires low { ticks < 2 ^ 56 }
     requires some { 0 < span }
     ensures { OnOk result (text.new.items ≡ text.old.items ++ percent_text ticks span) }

@@ -1,11 +1,10 @@
 // What holds the rows back.
 
-ghost use Rattle.std.specs.Prelude.{◌≡◌, ◌++◌, ◌<◌, ◌^◌, All, OnOk};
+ghost use Rattle.std.specs.Prelude.{◌≡◌, ◌++◌, ◌<◌, OnOk};
 ghost use Rattle.boc_names.specs.Names.{texts_of};
 ghost use Rattle.boc_cowns_report.specs.CownsTexts.{by_cowns_text, is_most, load_text, order_text, readers_text, reads_text, shared_text};
 ghost use Rattle.boc_cowns_report.specs.CownsTexts.{span_with_text, spawns_text, verdict_text};
 
-use crate::lines::put_percent;
 use boc_cowns::{HotCown, HotCowns};
 use boc_names::{Names, text_at};
 use boc_plans::sharing::Sharing;
@@ -54,13 +53,13 @@ fn put_load(
 
 // Puts the order behind a text, where no cown is held for longer than this one.
 fn put_order(text: &mut Vec<u8>, hot: &HotCowns, own: HotCown) -> Result<(), AllocError>
-    requires low { own.held < 2 ^ 56 }
-    requires some { 0 < hot.now.span }
     ensures { OnOk result (text.new.items ≡ text.old.items ++ order_text hot.now own) }
 {
-    text.extend_from_slice(b"order: no cown is held over ")?;
-    put_percent(text, own.held, hot.span)?;
-    text.extend_from_slice(b" of the span; the order in which behaviours ask is what holds back")
+    text.extend_from_slice(b"order: no cown is held for more than ")?;
+    put_number(text, own.held)?;
+    text.extend_from_slice(b" of ")?;
+    put_number(text, hot.span)?;
+    text.extend_from_slice(b" ticks; the order in which behaviours ask is what holds back")
 }
 
 // Puts what of the cowns holds the rows back behind a text, where this one is held longest.
@@ -70,8 +69,6 @@ fn put_by_cowns(
     hot: &HotCowns,
     own: HotCown,
 ) -> Result<(), AllocError>
-    requires low { own.held < 2 ^ 56 }
-    requires some { 0 < hot.now.span }
     ensures { OnOk result (text.new.items ≡ text.old.items ++ by_cowns_text names.now hot.now own) }
 {
     if is_most(own.held, hot.span) {
@@ -87,8 +84,6 @@ pub(crate) fn put_verdict(
     names: &Names,
     hot: &HotCowns,
 ) -> Result<(), AllocError>
-    requires low { All (λ c. c.held < 2 ^ 56) hot.now.cowns.items }
-    requires some { 0 < hot.now.span }
     ensures { OnOk result (text.new.items ≡ text.old.items ++ verdict_text names.now hot.now hot.now.cowns.items) }
 {
     match hot.cowns.as_slice() {

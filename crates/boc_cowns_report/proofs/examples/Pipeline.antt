@@ -67,7 +67,7 @@ module _ (names : Names) (cowns : texts_of names.cowns.items ≡ codes "store" �
   text_of_load = rw (span, spawns, cowns) refl
 
   pub text_of_order : verdict_text names hot (store ∷ [])
-      ≡ codes "order: no cown is held over 17% of the span; the order in which behaviours ask is what holds back"
+      ≡ codes "order: no cown is held for more than 48 of 279 ticks; the order in which behaviours ask is what holds back"
   unfolding digits
   text_of_order = rw (span, spawns) refl
 

@@ -28,4 +28,7 @@ pub mod ResolvingSlots
 pub mod ResolvingParameters
 pub mod ResolvingOrder
 pub mod ResolvingPrograms
+pub mod Filled
+pub mod Wanting
+pub mod Strays
 mod examples

@@ -12,8 +12,10 @@ mod natural;
 mod parse;
 mod read;
 mod shape;
+mod stray;
 mod terminal;
 mod token;
+mod wanted;
 
 pub use fault::{ReadFault, ReadFaultKind};
 pub use listing::{DefListing, one_listing};

@@ -1,0 +1,121 @@
+-- Where the shape of tokens goes wrong first, by what was wanted in front of it.
+use Rattle.std.proofs.Common.{◌≡◌, ◌≢◌, ℕ, suc, ◌+◌, ◌<◌, ◌≤◌, ◌⊎◌, inl, inr, List, [], ◌∷◌, ◌++◌, length, get_or, map, take, drop, Option, Some, None, refl, sym, ap}
+use Rattle.std.proofs.Common.{◌∙◌, subst, arith, add-one, append_assoc, reverse}
+use Rattle.std.proofs.lemmas.Bool.{cases_lt}
+use Rattle.std.proofs.lemmas.List.{length-map, length-reverse, map_more, nil_from_length, reverse-append, reverse-reverse, take-map, take_all, take-take, take-append-drop}
+use Rattle.boc_reader.specs.declared.token.Placed.{Placed}
+use Rattle.boc_reader.specs.declared.wanted.Wanted.{Wanted}
+use Rattle.boc_reader.specs.declared.wanted.Wanted.TheVariants.{Cowns}
+use Rattle.boc_reader.specs.Tokens.{Token}
+use Rattle.boc_reader.specs.Placed.{token_of, tokens_of}
+use Rattle.boc_reader.specs.Wanted.{wanted_behind, wanted_after}
+use Rattle.boc_reader.specs.WrongShape.{AreWhole, LeadOn, ShapeGoesWrong}
+use Rattle.boc_reader.proofs.Filled.{all_read, read_leads}
+use Rattle.boc_reader.proofs.Wanting.{whole_wanted, stray_leads_not}
+
+-- what is wanted first stands last in memory
+pub wanted_first : (old new then_wanted : List Wanted) → new ≡ old ++ reverse then_wanted → reverse new ≡ then_wanted ++ reverse old
+wanted_first old new then_wanted e =
+    ap reverse e ∙ reverse-append old (reverse then_wanted) ∙ ap (λ ws. ws ++ reverse old) (reverse-reverse then_wanted)
+
+behind_read : (ts more : List Token) (found : Option (List Wanted)) (vs : List Wanted)
+    → ((us : List Wanted) → wanted_after ts us ≡ Some vs → wanted_after (ts ++ more) us ≡ wanted_after more vs)
+    → (elim found [ Some us ↦ wanted_after ts us | None ↦ None ]) ≡ Some vs
+    → (elim found [ Some us ↦ wanted_after (ts ++ more) us | None ↦ None ]) ≡ wanted_after more vs
+behind_read ts more (Some us) vs deeper e = deeper us e
+behind_read ts more None vs deeper e = absurd cc
+
+-- tokens behind others
+after_append : (ts more : List Token) (ws vs : List Wanted) → wanted_after ts ws ≡ Some vs → wanted_after (ts ++ more) ws ≡ wanted_after more vs
+after_append [] more ws vs e = let same : ws ≡ vs = cc in ap (wanted_after more) same
+after_append (t ∷ ts) more ws vs e = behind_read ts more (wanted_behind t ws) vs (λ us d. after_append ts more us vs d) e
+
+found_read : (found : Option (List Wanted)) → (elim found [ Some us ↦ wanted_after [] us | None ↦ None ]) ≡ found
+found_read (Some us) = refl
+found_read None = refl
+
+-- one token more
+one_read : (ts : List Token) (t : Token) (ws : List Wanted) → wanted_after ts (Cowns ∷ []) ≡ Some ws
+    → wanted_after (ts ++ t ∷ []) (Cowns ∷ []) ≡ wanted_behind t ws
+one_read ts t ws e = after_append ts (t ∷ []) (Cowns ∷ []) ws e ∙ found_read (wanted_behind t ws)
+
+-- one more of the tokens that are placed
+pub placed_read : (ps : List Placed) (k : ℕ) (p : Placed) (ws : List Wanted) → k < length ps → p ≡ get_or ps k p
+    → wanted_after (take k (tokens_of ps)) (Cowns ∷ []) ≡ Some ws
+    → wanted_after (take (k + 1) (tokens_of ps)) (Cowns ∷ []) ≡ wanted_behind (token_of p.token) ws
+placed_read ps k p ws small is e =
+    let token : Placed → Token = λ p. token_of p.token in
+    let more : take (k + 1) (tokens_of ps) ≡ take k (tokens_of ps) ++ token_of p.token ∷ [] =
+    take-map token (k + 1) ps ∙ map_more token ps k p small
+    ∙ ap (λ (q : Placed). map token (take k ps) ++ token_of q.token ∷ []) (sym is)
+    ∙ ap (λ (ts : List Token). ts ++ token_of p.token ∷ []) (sym (take-map token k ps)) in
+    ap (λ (ts : List Token). wanted_after ts (Cowns ∷ [])) more ∙ one_read (take k (tokens_of ps)) (token_of p.token) ws e
+
+-- where a token can't stand the shape goes wrong
+pub wrong_at_token : (ps : List Placed) (k : ℕ) (p : Placed) (ws : List Wanted) → k < length ps → p ≡ get_or ps k p
+    → wanted_after (take k (tokens_of ps)) (Cowns ∷ []) ≡ Some ws → wanted_behind (token_of p.token) ws ≡ None → ShapeGoesWrong (tokens_of ps) k
+wrong_at_token ps k p ws small is e none =
+    let long = length-map ps (λ (p : Placed). token_of p.token) in
+    record {
+      within = omega (arith, long);
+      leads = read_leads (take k (tokens_of ps)) ws e;
+      strays = λ _ l. stray_leads_not (take (k + 1) (tokens_of ps)) (placed_read ps k p ws small is e ∙ none) l;
+      ends = λ same _. omega (arith, long, same);
+    }
+
+-- what was wanted behind all of them
+all_placed_read : (ps : List Placed) (k : ℕ) (ws : List Wanted) → length ps ≤ k → wanted_after (take k (tokens_of ps)) (Cowns ∷ []) ≡ Some ws
+    → wanted_after (tokens_of ps) (Cowns ∷ []) ≡ Some ws
+all_placed_read ps k ws most e =
+    let long = length-map ps (λ (p : Placed). token_of p.token) in
+    ap (λ (ts : List Token). wanted_after ts (Cowns ∷ [])) (sym (take_all k (tokens_of ps) (omega (arith, long)))) ∙ e
+
+-- where nothing is wanted behind all tokens they are those of a tree
+pub whole_at_end : (ps : List Placed) (k : ℕ) (items : List Wanted) → length ps ≤ k
+    → wanted_after (take k (tokens_of ps)) (Cowns ∷ []) ≡ Some (reverse items) → length items ≡ 0 → AreWhole (tokens_of ps)
+whole_at_end ps k items most e none =
+    all_read (tokens_of ps) (all_placed_read ps k (reverse items) most e ∙ ap (λ (ws : List Wanted). Some (reverse ws)) (nil_from_length items none))
+
+-- where more is wanted behind all tokens the shape goes wrong at their end
+pub wrong_at_end : (ps : List Placed) (k : ℕ) (items : List Wanted) → length ps ≤ k
+    → wanted_after (take k (tokens_of ps)) (Cowns ∷ []) ≡ Some (reverse items) → length items ≢ 0 → ShapeGoesWrong (tokens_of ps) (length ps)
+wrong_at_end ps k items most e some =
+    let long = length-map ps (λ (p : Placed). token_of p.token) in
+    let all = all_placed_read ps k (reverse items) most e in
+    record {
+      within = omega (arith, long);
+      leads = subst LeadOn (sym (take_all (length ps) (tokens_of ps) (omega (arith, long)))) (read_leads (tokens_of ps) (reverse items) all);
+      strays = λ small _. omega (arith, long, small);
+      ends = λ _ w.
+          let wanted_none = whole_wanted (tokens_of ps) w in
+          let none : reverse items ≡ [] = cc in
+          some (sym (length-reverse items) ∙ ap length none);
+    }
+
+-- a front of tokens that lead on leads on
+pub front_leads : (ts : List Token) (j k : ℕ) → j ≤ k → LeadOn (take k ts) → LeadOn (take j ts)
+front_leads ts j k le l =
+    let parts : take j ts ++ drop j (take k ts) ≡ take k ts = ap (λ (us : List Token). us ++ drop j (take k ts)) (sym (take-take j k ts le)) ∙ take-append-drop j (take k ts) in
+    record {
+      more = drop j (take k ts) ++ l.more;
+      whole = subst AreWhole (ap (λ (us : List Token). us ++ l.more) (sym parts) ∙ append_assoc (take j ts) (drop j (take k ts)) l.more) l.whole;
+    }
+
+pub whole_leads : (ts : List Token) (k : ℕ) → AreWhole ts → LeadOn (take k ts)
+whole_leads ts k w = record { more = drop k ts; whole = subst AreWhole (sym (take-append-drop k ts)) w }
+
+never_before : (ts : List Token) (j k : ℕ) → ShapeGoesWrong ts j → ShapeGoesWrong ts k → j < k → ⊥
+never_before ts j k one other less = one.strays (omega (arith, other.within)) (front_leads ts (j + 1) k (omega arith) other.leads)
+
+-- tokens go wrong at one place at most
+pub one_stray : (ts : List Token) (j k : ℕ) → ShapeGoesWrong ts j → ShapeGoesWrong ts k → j ≡ k
+one_stray ts j k one other =
+    elim (cases_lt j k) [
+      | inl less ↦ absurd (never_before ts j k one other less)
+      | inr most ↦ elim (cases_lt k j) [ inl less ↦ absurd (never_before ts k j other one less) | inr least ↦ omega arith ]
+    ]
+
+-- tokens of a tree go wrong nowhere
+pub whole_is_right : (ts : List Token) (k : ℕ) → AreWhole ts → ShapeGoesWrong ts k → ⊥
+whole_is_right ts k w g =
+    elim (cases_lt k (length ts)) [ inl less ↦ g.strays less (whole_leads ts (k + 1) w) | inr most ↦ g.ends (omega (arith, g.within)) w ]

@@ -14,10 +14,10 @@ use Rattle.boc_reader.specs.declared.wanted.Wanted.{Wanted}
 use Rattle.boc_reader.specs.declared.wanted.Wanted.TheVariants as the
 use Rattle.boc_reader.specs.Tokens.{Token, name, number, keyword, sign}
 use Rattle.boc_reader.specs.Shape.{comparison_sign, sum_sign, term_sign, Expr, plain, compared, expr_tokens, Sum, one_term, more_terms, sum_tokens, Term}
-use Rattle.boc_reader.specs.Shape.{one_factor, more_factors, term_tokens, Unary, negated, unsigned, unary_tokens, Atom, literal, variable, parens, NamedCown}
+use Rattle.boc_reader.specs.Shape.{one_factor, more_factors, term_tokens, Unary, negated, unsigned, unary_tokens, literal, variable, parens, NamedCown}
 use Rattle.boc_reader.specs.Shape.{alone, member, ref_tokens, Stmt, declare, assign, work, if_only, if_else, repeat, when, stmt_tokens, Block, done, next}
 use Rattle.boc_reader.specs.Shape.{block_tokens, braced_tokens, behind_commas, list_tokens, each_tokens, name_tokens, Cown, cown_tokens, HasMembers}
-use Rattle.boc_reader.specs.Shape.{HaveMembers, size_tokens, minus_tokens, Def, def_tokens, Tree, tree_tokens}
+use Rattle.boc_reader.specs.Shape.{HaveMembers, size_tokens, minus_tokens, Def, def_tokens}
 use Rattle.boc_reader.specs.Wanted.{behind, behind_name, behind_number, behind_size, behind_keyword, in_declaration, in_def, in_statement, in_else}
 use Rattle.boc_reader.specs.Wanted.{behind_sign, behind_operator, behind_comparison, behind_minus, behind_open, behind_close, behind_semicolon, behind_comma}
 use Rattle.boc_reader.specs.Wanted.{behind_open_index, behind_close_index, behind_open_block, behind_close_block, behind_assign, may_be_left_out}

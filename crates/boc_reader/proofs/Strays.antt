@@ -1,15 +1,20 @@
 -- Where the shape of tokens goes wrong first, by what was wanted in front of it.
-use Rattle.std.proofs.Common.{◌≡◌, ◌≢◌, ℕ, suc, ◌+◌, ◌<◌, ◌≤◌, ◌⊎◌, inl, inr, List, [], ◌∷◌, ◌++◌, length, get_or, map, take, drop, Option, Some, None, refl, sym, ap}
-use Rattle.std.proofs.Common.{◌∙◌, subst, arith, add-one, append_assoc, reverse}
+use Rattle.std.proofs.Common.{◌≡◌, ◌≢◌, ℕ, zero, suc, ◌+◌, ◌<◌, ◌≤◌, inl, inr, List, [], ◌∷◌, ◌++◌, length, get_or, map, take, drop, Option, Some, None, refl, sym, ap}
+use Rattle.std.proofs.Common.{◌∙◌, subst, arith, append_assoc, reverse}
+use Rattle.std.specs.Option.{IfSome, unwrap_or}
 use Rattle.std.proofs.lemmas.Bool.{cases_lt}
-use Rattle.std.proofs.lemmas.List.{length-map, length-reverse, map_more, nil_from_length, reverse-append, reverse-reverse, take-map, take_all, take-take, take-append-drop}
+use Rattle.std.proofs.lemmas.List.{drop_all, length-map, length-reverse, map_more, nil_from_length, reverse-append, reverse-reverse, take-map, take_all, take-take, take-append-drop}
 use Rattle.boc_reader.specs.declared.token.Placed.{Placed}
 use Rattle.boc_reader.specs.declared.wanted.Wanted.{Wanted}
 use Rattle.boc_reader.specs.declared.wanted.Wanted.TheVariants.{Cowns}
 use Rattle.boc_reader.specs.Tokens.{Token}
-use Rattle.boc_reader.specs.Placed.{token_of, tokens_of}
+use Rattle.boc_reader.specs.Placed.{ArePlaced, BeginsAt, BeginsToken, token_of, tokens_of}
 use Rattle.boc_reader.specs.Wanted.{wanted_behind, wanted_after}
-use Rattle.boc_reader.specs.WrongShape.{AreWhole, LeadOn, ShapeGoesWrong}
+use Rattle.boc_reader.specs.WrongShape.{AreWhole, LeadOn, LeadsPast, ShapeGoesWrong, ShapeGoesWrongAt, StandAt}
+use Rattle.boc_reader.specs.Shape.{Tree, HasShape}
+use Rattle.boc_reader.specs.FaultMeanings.{StandsIn, StandsFirstInShape}
+use Rattle.boc_reader.specs.declared.fault.ReadFault.{ReadFault}
+use Rattle.boc_reader.specs.declared.fault.ShapeFault.{ShapeFault}
 use Rattle.boc_reader.proofs.Filled.{all_read, read_leads}
 use Rattle.boc_reader.proofs.Wanting.{whole_wanted, stray_leads_not}
 
@@ -104,6 +109,23 @@ front_leads ts j k le l =
 pub whole_leads : (ts : List Token) (k : ℕ) → AreWhole ts → LeadOn (take k ts)
 whole_leads ts k w = record { more = drop k ts; whole = subst AreWhole (sym (take-append-drop k ts)) w }
 
+-- a token in front of the first that is stray
+pub before_stray : (ts : List Token) (over k : ℕ) → ShapeGoesWrong ts k → over < k → LeadsPast ts over
+before_stray ts over k g less = record { within = omega (arith, g.within); leads = front_leads ts (over + 1) k (omega arith) g.leads }
+
+-- one of the tokens of a tree
+pub in_whole : (ts : List Token) (over : ℕ) → AreWhole ts → over < length ts → LeadsPast ts over
+in_whole ts over w less = record { within = less; leads = whole_leads ts (over + 1) w }
+
+-- a tree has tokens
+pub some_in_whole : (ts : List Token) → AreWhole ts → 0 < length ts
+some_in_whole [] w = let none = whole_wanted [] w in absurd cc
+some_in_whole (t ∷ ts) w = omega arith
+
+pub found_or_first : (found : Option ℕ) (n : ℕ) → IfSome found (λ k. k < n) → 0 < n → unwrap_or found 0 < n
+found_or_first (Some k) n within some = within
+found_or_first None n within some = some
+
 never_before : (ts : List Token) (j k : ℕ) → ShapeGoesWrong ts j → ShapeGoesWrong ts k → j < k → ⊥
 never_before ts j k one other less = one.strays (omega (arith, other.within)) (front_leads ts (j + 1) k (omega arith) other.leads)
 
@@ -119,3 +141,26 @@ one_stray ts j k one other =
 pub whole_is_right : (ts : List Token) (k : ℕ) → AreWhole ts → ShapeGoesWrong ts k → ⊥
 whole_is_right ts k w g =
     elim (cases_lt k (length ts)) [ inl less ↦ g.strays less (whole_leads ts (k + 1) w) | inr most ↦ g.ends (omega (arith, g.within)) w ]
+
+-- the place of a token
+pub stands_at : (text : List ℕ) (ps : List Placed) (k : ℕ) (p : Placed) → ArePlaced text ps → k < length ps → p ≡ get_or ps k p
+    → StandAt text p.at (drop k (tokens_of ps))
+stands_at text [] k p placed small is = absurd (omega arith)
+stands_at text (q ∷ ps) zero p placed small is = subst (λ (x : Placed). BeginsAt text x.at (tokens_of (q ∷ ps))) (sym is) placed.0
+stands_at text (q ∷ ps) (suc k) p placed small is = stands_at text ps k p placed.1 (omega arith) is
+
+-- a token begins at a byte of the text, or the text ends
+pub place_within : (text : List ℕ) (at : ℕ) (ts : List Token) → StandAt text at ts → at ≤ length text
+place_within text at [] stand = omega (arith, stand)
+place_within text at (t ∷ ts) stand =
+    elim (cases_lt (length text) at) [ inl less ↦ absurd (subst BeginsToken (drop_all at text (omega arith)) stand.begins) | inr within ↦ within ]
+
+-- what is told of a text whose shape goes wrong there
+pub tells_shape : (wrong : ShapeFault) (text : List ℕ) (at : ℕ) (told : ReadFault) → ShapeGoesWrongAt wrong text at
+    → (at ≤ length text → told.at ≡ at) → StandsIn told text → StandsFirstInShape wrong told text
+tells_shape wrong text at told first there stands =
+    (stands, subst (ShapeGoesWrongAt wrong text) (sym (there (place_within text at (drop first.before first.tokens) first.place))) first)
+
+-- a tree within the limits is one whatever they are
+pub shaped_is_right : (ts : List Token) (t : Tree) (k : ℕ) → HasShape ts t → ShapeGoesWrong ts k → ⊥
+shaped_is_right ts t k s = whole_is_right ts k (record { tree = t; arrays = s.limits.arrays; tokens_are = s.tokens_are })

@@ -1,5 +1,5 @@
 -- The tokens of a tree are what is wanted of a text, one after the other.
-use Rattle.std.proofs.Common.{◌≡◌, ◌≢◌, ℕ, zero, suc, ◌≤◌, Bool, true, false, List, [], ◌∷◌, ◌++◌, Option, Some, None, refl, sym, ap, ◌∙◌, subst, arith}
+use Rattle.std.proofs.Common.{◌≡◌, ℕ, zero, suc, Bool, true, false, List, [], ◌∷◌, ◌++◌, Option, Some, None, refl, ap, ◌∙◌, arith}
 use Rattle.boc_reader.specs.declared.terminal.Keyword.TheVariants as keywords
 use Rattle.boc_reader.specs.declared.terminal.Sign.TheVariants as signs
 use Rattle.boc_reader.specs.declared.level.SumOperator.{SumOperator}
@@ -15,7 +15,7 @@ use Rattle.boc_reader.specs.Shape.{comparison_sign, sum_sign, term_sign, Expr, p
 use Rattle.boc_reader.specs.Shape.{one_factor, more_factors, term_tokens, Unary, negated, unsigned, unary_tokens, Atom, literal, variable, parens, atom_tokens}
 use Rattle.boc_reader.specs.Shape.{NamedCown, alone, member, ref_tokens, Stmt, declare, assign, work, if_only, if_else, repeat, when, stmt_tokens, Block, done}
 use Rattle.boc_reader.specs.Shape.{next, block_tokens, braced_tokens, behind_commas, list_tokens, each_tokens, name_tokens, Cown, cown_tokens, HasMembers}
-use Rattle.boc_reader.specs.Shape.{HaveMembers, size_tokens, minus_tokens, Def, def_tokens, Tree, tree_tokens}
+use Rattle.boc_reader.specs.Shape.{HaveMembers, size_tokens, minus_tokens, Def, def_tokens}
 use Rattle.boc_reader.specs.Wanted.{behind, wanted_behind, wanted_after}
 use Rattle.boc_reader.specs.WrongShape.{AreWhole, LeadOn}
 

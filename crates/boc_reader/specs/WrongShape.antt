@@ -3,6 +3,8 @@ use Rattle.std.specs.Prelude.{◌≡◌, ℕ, ◌+◌, ◌<◌, ◌≤◌, List,
 use Rattle.boc_reader.specs.Tokens.{Token, tokens_of_text}
 use Rattle.boc_reader.specs.Shape.{Tree, tree_tokens, HaveMembers}
 use Rattle.boc_reader.specs.Placed.{BeginsAt}
+use Rattle.boc_reader.specs.declared.fault.ShapeFault.{ShapeFault}
+use Rattle.boc_reader.specs.declared.fault.ShapeFault.TheVariants as faults
 
 -- the tokens are all those of a tree whose arrays have members, be there as many nodes, cowns, defs and others as there may
 pub record AreWhole (tokens : List Token) : Type 0 where
@@ -23,24 +25,25 @@ pub record ShapeGoesWrong (tokens : List Token) (before : ℕ) : Type 0 where
   pub strays : before < length tokens → LeadOn (take (before + 1) tokens) → ⊥
   pub ends : before ≡ length tokens → AreWhole tokens → ⊥
 
+-- There is a token behind so many of these, and it leads on with them: so far nothing is wrong but the numbers.
+pub record LeadsPast (tokens : List Token) (before : ℕ) : Type 0 where
+  pub within : before < length tokens
+  pub leads : LeadOn (take (before + 1) tokens)
+
+-- what a fault of the shape says of the tokens, where so many of them stand before it
+abbrev pub IsWrongBehind : ShapeFault → List Token → ℕ → Type 0
+IsWrongBehind faults.Unexpected tokens before = ShapeGoesWrong tokens before
+IsWrongBehind faults.TooMany tokens before = LeadsPast tokens before
+
 -- the place of the last tokens of a text: the byte at which the first of them begins, or the end of the text where there is none
 abbrev pub StandAt : List ℕ → ℕ → List Token → Type 0
 StandAt text at [] = at ≡ length text
 StandAt text at (t ∷ ts) = BeginsAt text at (t ∷ ts)
 
--- the text has tokens, and this is the place at which their shape goes wrong first
-pub record IsFirstStray (text : List ℕ) (at : ℕ) : Type 0 where
+-- the text has tokens, and this is the place of the first fault of their shape
+pub record ShapeGoesWrongAt (fault : ShapeFault) (text : List ℕ) (at : ℕ) : Type 0 where
   pub tokens : List Token
   pub has_tokens : tokens_of_text text ≡ Some tokens
   pub before : ℕ
-  pub goes_wrong : ShapeGoesWrong tokens before
+  pub is_wrong : IsWrongBehind fault tokens before
   pub place : StandAt text at (drop before tokens)
-
--- the text has tokens, and at this byte one of them begins that leads on, with all before it
-pub record LeadsOnAt (text : List ℕ) (at : ℕ) : Type 0 where
-  pub tokens : List Token
-  pub has_tokens : tokens_of_text text ≡ Some tokens
-  pub before : ℕ
-  pub within : before < length tokens
-  pub leads : LeadOn (take (before + 1) tokens)
-  pub place : BeginsAt text at (drop before tokens)

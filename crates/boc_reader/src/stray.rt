@@ -1,17 +1,75 @@
 // Where the tokens of a text go wrong first that are those of no tree.
 
-ghost use Rattle.std.specs.Prelude.{◌≡◌, ◌++◌, reverse, IfOk, OnOk, MatchBool, MatchOption, Some, None};
-ghost use Rattle.boc_reader.specs.Placed.{token_of, tokens_of};
+ghost use Rattle.std.specs.Prelude.{◌≡◌, ◌<◌, ◌++◌, drop, length, reverse, IfOk, IfSome, OnOk, MatchBool, MatchOption, Some, None};
+ghost use Rattle.boc_reader.specs.Placed.{ArePlaced, token_of, tokens_of};
 ghost use Rattle.boc_reader.specs.Wanted.{wanted_behind};
-ghost use Rattle.boc_reader.specs.WrongShape.{AreWhole, ShapeGoesWrong};
+ghost use Rattle.boc_reader.specs.WrongShape.{AreWhole, ShapeGoesWrong, IsWrongBehind, ShapeGoesWrongAt, StandAt};
+ghost use Rattle.boc_reader.specs.Tokens.{tokens_of_text};
 
+use crate::fault::ShapeFault;
 use crate::token::{Placed, Token};
 use crate::wanted::{Wanted, behind};
 use std::alloc::{AllocError, Global};
 
-/// How many of these tokens stand in front of the first that can't stand where it does, or all of them where others are wanted behind them. It is none
-/// where they are all those of a tree, whatever its numbers.
-pub(crate) fn first_stray(alloc: Global, tokens: &[Placed<'_>]) -> Result<Option<usize>, AllocError>
+/// The first fault of the shape of a text that has these tokens, and its place, where such a fault was found at this byte. That the numbers are too large
+/// is told there if a token begins there that can stand where it does, with all before it; otherwise the first token is told that can't, or the end.
+pub(crate) fn first_fault(
+    alloc: Global,
+    text: &[u8],
+    tokens: &[Placed<'_>],
+    fault: ShapeFault,
+    at: usize,
+) -> Result<(ShapeFault, usize), AllocError>
+    requires has_tokens { tokens_of_text text.now ≡ Some (tokens_of tokens.now) }
+    requires placed { ArePlaced text.now tokens.now }
+    ensures { IfOk result (λ found. ShapeGoesWrongAt found.0 text.now found.1) }
+{
+    let stray = first_stray(alloc, tokens)?;
+    let (fault, before) = judged(tokens, fault, at, stray);
+    Ok((fault, place_of(text, tokens, before)))
+}
+
+// Which fault is told, and how many tokens stand before it, where one was found at this byte, and so many tokens stand in front of the first stray one.
+fn judged(
+    tokens: &[Placed<'_>],
+    fault: ShapeFault,
+    at: usize,
+    stray: Option<usize>,
+) -> (ShapeFault, usize)
+    requires { MatchOption stray (AreWhole (tokens_of tokens.now)) (ShapeGoesWrong (tokens_of tokens.now)) }
+    ensures { IsWrongBehind result.0 (tokens_of tokens.now) result.1 }
+{
+    let Some(before) = stray else {
+        // Nothing strays, so that no more than the numbers can be wrong.
+        return (ShapeFault::TooMany, before_place(tokens, at).unwrap_or(0));
+    };
+    match (fault, before_place(&tokens[..before], at)) {
+        (ShapeFault::TooMany, Some(before)) => (ShapeFault::TooMany, before),
+        _ => (ShapeFault::Unexpected, before),
+    }
+}
+
+// How many of these tokens stand before the one that begins at this byte, if one does.
+fn before_place(tokens: &[Placed<'_>], at: usize) -> Option<usize>
+    ensures { IfSome result (λ before. before < length tokens.now) }
+{
+    tokens.iter().position(|token| token.at == at)
+}
+
+// The byte at which the token begins that stands behind so many, or the end of the text behind all of them.
+fn place_of(text: &[u8], tokens: &[Placed<'_>], before: usize) -> usize
+    requires { ArePlaced text.now tokens.now }
+    ensures { StandAt text.now result (drop before (tokens_of tokens.now)) }
+{
+    match tokens.get(before) {
+        Some(token) => token.at,
+        None => text.len(),
+    }
+}
+
+// How many of these tokens stand in front of the first that can't stand where it does, or all of them where others are wanted behind them. It is none
+// where they are all those of a tree, whatever its numbers.
+fn first_stray(alloc: Global, tokens: &[Placed<'_>]) -> Result<Option<usize>, AllocError>
     ensures { IfOk result (λ found. MatchOption found (AreWhole (tokens_of tokens.now)) (ShapeGoesWrong (tokens_of tokens.now))) }
 {
     let mut wanted = Vec::new(alloc);

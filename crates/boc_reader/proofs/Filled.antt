@@ -22,7 +22,7 @@ use Rattle.boc_reader.specs.Wanted.{behind, behind_name, behind_number, behind_s
 use Rattle.boc_reader.specs.Wanted.{behind_sign, behind_operator, behind_comparison, behind_minus, behind_open, behind_close, behind_semicolon, behind_comma}
 use Rattle.boc_reader.specs.Wanted.{behind_open_index, behind_close_index, behind_open_block, behind_close_block, behind_assign, may_be_left_out}
 use Rattle.boc_reader.specs.Wanted.{wanted_behind, wanted_after}
-use Rattle.boc_reader.specs.WrongShape.{AreWhole, LeadOn}
+use Rattle.boc_reader.specs.WrongShape.{AreWhole, BeginTree}
 
 -- what is wanted stands in front of the rest
 abbrev pub Fills : Wanted → List Token → List Token → Type 0
@@ -349,9 +349,9 @@ all_whole ts (rest, (cs, ds, b, arrays, is), none) =
       tokens_are = is ∙ ap (λ (r : List Token). each_tokens cown_tokens cs (each_tokens def_tokens ds (keyword keywords.Main ∷ braced_tokens b r))) none;
     }
 
--- what was read without a stray token leads on
-pub read_leads : (ts : List Token) (vs : List Wanted) → wanted_after ts (the.Cowns ∷ []) ≡ Some vs → LeadOn ts
-read_leads ts vs e =
+-- a tree begins with tokens that were read, none of which was stray
+pub read_begins : (ts : List Token) (vs : List Wanted) → wanted_after ts (the.Cowns ∷ []) ≡ Some vs → BeginTree ts
+read_begins ts vs e =
     let after = all_fillable vs in
     record { more = after.0; whole = all_whole (ts ++ after.0) (tokens_fill ts (the.Cowns ∷ []) vs e after.0 after.1) }
 

@@ -10,13 +10,13 @@ use Rattle.boc_reader.specs.declared.wanted.Wanted.TheVariants.{Cowns}
 use Rattle.boc_reader.specs.Tokens.{Token}
 use Rattle.boc_reader.specs.Placed.{ArePlaced, BeginsAt, BeginsToken, token_of, tokens_of}
 use Rattle.boc_reader.specs.Wanted.{wanted_behind, wanted_after}
-use Rattle.boc_reader.specs.WrongShape.{AreWhole, LeadOn, LeadsPast, ShapeGoesWrong, ShapeGoesWrongAt, StandAt}
+use Rattle.boc_reader.specs.WrongShape.{AreWhole, BeginTree, MayStand, ShapeGoesWrong, ShapeFaultStandsAt, StandAt}
 use Rattle.boc_reader.specs.Shape.{Tree, HasShape}
-use Rattle.boc_reader.specs.FaultMeanings.{StandsIn, StandsFirstInShape}
+use Rattle.boc_reader.specs.FaultMeanings.{StandsIn, StandsInShape}
 use Rattle.boc_reader.specs.declared.fault.ReadFault.{ReadFault}
 use Rattle.boc_reader.specs.declared.fault.ShapeFault.{ShapeFault}
-use Rattle.boc_reader.proofs.Filled.{all_read, read_leads}
-use Rattle.boc_reader.proofs.Wanting.{whole_wanted, stray_leads_not}
+use Rattle.boc_reader.proofs.Filled.{all_read, read_begins}
+use Rattle.boc_reader.proofs.Wanting.{whole_wanted, stray_begins_none}
 
 -- what is wanted first stands last in memory
 pub wanted_first : (old new then_wanted : List Wanted) → new ≡ old ++ reverse then_wanted → reverse new ≡ then_wanted ++ reverse old
@@ -63,8 +63,8 @@ wrong_at_token ps k p ws small is e none =
     let long = length-map ps (λ (p : Placed). token_of p.token) in
     record {
       within = omega (arith, long);
-      leads = read_leads (take k (tokens_of ps)) ws e;
-      strays = λ _ l. stray_leads_not (take (k + 1) (tokens_of ps)) (placed_read ps k p ws small is e ∙ none) l;
+      begins = read_begins (take k (tokens_of ps)) ws e;
+      strays = λ _ l. stray_begins_none (take (k + 1) (tokens_of ps)) (placed_read ps k p ws small is e ∙ none) l;
       ends = λ same _. omega (arith, long, same);
     }
 
@@ -89,7 +89,7 @@ wrong_at_end ps k items most e some =
     let all = all_placed_read ps k (reverse items) most e in
     record {
       within = omega (arith, long);
-      leads = subst LeadOn (sym (take_all (length ps) (tokens_of ps) (omega (arith, long)))) (read_leads (tokens_of ps) (reverse items) all);
+      begins = subst BeginTree (sym (take_all (length ps) (tokens_of ps) (omega (arith, long)))) (read_begins (tokens_of ps) (reverse items) all);
       strays = λ small _. omega (arith, long, small);
       ends = λ _ w.
           let wanted_none = whole_wanted (tokens_of ps) w in
@@ -97,25 +97,25 @@ wrong_at_end ps k items most e some =
           some (sym (length-reverse items) ∙ ap length none);
     }
 
--- a front of tokens that lead on leads on
-pub front_leads : (ts : List Token) (j k : ℕ) → j ≤ k → LeadOn (take k ts) → LeadOn (take j ts)
-front_leads ts j k le l =
+-- a tree that begins with tokens begins with a front of them
+pub front_begins : (ts : List Token) (j k : ℕ) → j ≤ k → BeginTree (take k ts) → BeginTree (take j ts)
+front_begins ts j k le l =
     let parts : take j ts ++ drop j (take k ts) ≡ take k ts = ap (λ (us : List Token). us ++ drop j (take k ts)) (sym (take-take j k ts le)) ∙ take-append-drop j (take k ts) in
     record {
       more = drop j (take k ts) ++ l.more;
       whole = subst AreWhole (ap (λ (us : List Token). us ++ l.more) (sym parts) ∙ append_assoc (take j ts) (drop j (take k ts)) l.more) l.whole;
     }
 
-pub whole_leads : (ts : List Token) (k : ℕ) → AreWhole ts → LeadOn (take k ts)
-whole_leads ts k w = record { more = drop k ts; whole = subst AreWhole (sym (take-append-drop k ts)) w }
+pub whole_begins : (ts : List Token) (k : ℕ) → AreWhole ts → BeginTree (take k ts)
+whole_begins ts k w = record { more = drop k ts; whole = subst AreWhole (sym (take-append-drop k ts)) w }
 
 -- a token in front of the first that is stray
-pub before_stray : (ts : List Token) (over k : ℕ) → ShapeGoesWrong ts k → over < k → LeadsPast ts over
-before_stray ts over k g less = record { within = omega (arith, g.within); leads = front_leads ts (over + 1) k (omega arith) g.leads }
+pub before_stray : (ts : List Token) (over k : ℕ) → ShapeGoesWrong ts k → over < k → MayStand ts over
+before_stray ts over k g less = record { within = omega (arith, g.within); begins = front_begins ts (over + 1) k (omega arith) g.begins }
 
 -- one of the tokens of a tree
-pub in_whole : (ts : List Token) (over : ℕ) → AreWhole ts → over < length ts → LeadsPast ts over
-in_whole ts over w less = record { within = less; leads = whole_leads ts (over + 1) w }
+pub in_whole : (ts : List Token) (over : ℕ) → AreWhole ts → over < length ts → MayStand ts over
+in_whole ts over w less = record { within = less; begins = whole_begins ts (over + 1) w }
 
 -- a tree has tokens
 pub some_in_whole : (ts : List Token) → AreWhole ts → 0 < length ts
@@ -127,7 +127,7 @@ found_or_first (Some k) n within some = within
 found_or_first None n within some = some
 
 never_before : (ts : List Token) (j k : ℕ) → ShapeGoesWrong ts j → ShapeGoesWrong ts k → j < k → ⊥
-never_before ts j k one other less = one.strays (omega (arith, other.within)) (front_leads ts (j + 1) k (omega arith) other.leads)
+never_before ts j k one other less = one.strays (omega (arith, other.within)) (front_begins ts (j + 1) k (omega arith) other.begins)
 
 -- tokens go wrong at one place at most
 pub one_stray : (ts : List Token) (j k : ℕ) → ShapeGoesWrong ts j → ShapeGoesWrong ts k → j ≡ k
@@ -140,7 +140,7 @@ one_stray ts j k one other =
 -- tokens of a tree go wrong nowhere
 pub whole_is_right : (ts : List Token) (k : ℕ) → AreWhole ts → ShapeGoesWrong ts k → ⊥
 whole_is_right ts k w g =
-    elim (cases_lt k (length ts)) [ inl less ↦ g.strays less (whole_leads ts (k + 1) w) | inr most ↦ g.ends (omega (arith, g.within)) w ]
+    elim (cases_lt k (length ts)) [ inl less ↦ g.strays less (whole_begins ts (k + 1) w) | inr most ↦ g.ends (omega (arith, g.within)) w ]
 
 -- the place of a token
 pub stands_at : (text : List ℕ) (ps : List Placed) (k : ℕ) (p : Placed) → ArePlaced text ps → k < length ps → p ≡ get_or ps k p
@@ -156,10 +156,10 @@ place_within text at (t ∷ ts) stand =
     elim (cases_lt (length text) at) [ inl less ↦ absurd (subst BeginsToken (drop_all at text (omega arith)) stand.begins) | inr within ↦ within ]
 
 -- what is told of a text whose shape goes wrong there
-pub tells_shape : (wrong : ShapeFault) (text : List ℕ) (at : ℕ) (told : ReadFault) → ShapeGoesWrongAt wrong text at
-    → (at ≤ length text → told.at ≡ at) → StandsIn told text → StandsFirstInShape wrong told text
+pub tells_shape : (wrong : ShapeFault) (text : List ℕ) (at : ℕ) (told : ReadFault) → ShapeFaultStandsAt wrong text at
+    → (at ≤ length text → told.at ≡ at) → StandsIn told text → StandsInShape wrong told text
 tells_shape wrong text at told first there stands =
-    (stands, subst (ShapeGoesWrongAt wrong text) (sym (there (place_within text at (drop first.before first.tokens) first.place))) first)
+    (stands, subst (ShapeFaultStandsAt wrong text) (sym (there (place_within text at (drop first.before first.tokens) first.place))) first)
 
 -- a tree within the limits is one whatever they are
 pub shaped_is_right : (ts : List Token) (t : Tree) (k : ℕ) → HasShape ts t → ShapeGoesWrong ts k → ⊥

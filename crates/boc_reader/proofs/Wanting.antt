@@ -17,7 +17,7 @@ use Rattle.boc_reader.specs.Shape.{NamedCown, alone, member, ref_tokens, Stmt, d
 use Rattle.boc_reader.specs.Shape.{next, block_tokens, braced_tokens, behind_commas, list_tokens, each_tokens, name_tokens, Cown, cown_tokens, HasMembers}
 use Rattle.boc_reader.specs.Shape.{HaveMembers, size_tokens, minus_tokens, Def, def_tokens}
 use Rattle.boc_reader.specs.Wanted.{behind, wanted_behind, wanted_after}
-use Rattle.boc_reader.specs.WrongShape.{AreWhole, LeadOn}
+use Rattle.boc_reader.specs.WrongShape.{AreWhole, BeginTree}
 
 -- an operand where an expression is wanted, or a side of a comparison; and behind it
 abbrev operand : Bool → Wanted
@@ -312,9 +312,9 @@ strays_on : (ts more : List Token) (ws : List Wanted) → wanted_after ts ws ≡
 strays_on [] more ws e = absurd cc
 strays_on (t ∷ ts) more ws e = stray_on ts more (wanted_behind t ws) (λ us d. strays_on ts more us d) e
 
--- tokens with a stray one among them don't lead on
-pub stray_leads_not : (ts : List Token) → wanted_after ts (the.Cowns ∷ []) ≡ None → LeadOn ts → ⊥
-stray_leads_not ts e l =
+-- no tree begins with tokens of which one is stray
+pub stray_begins_none : (ts : List Token) → wanted_after ts (the.Cowns ∷ []) ≡ None → BeginTree ts → ⊥
+stray_begins_none ts e l =
     let none = strays_on ts l.more (the.Cowns ∷ []) e in
     let all = whole_wanted (ts ++ l.more) l.whole in
     cc

@@ -12,38 +12,39 @@ pub record AreWhole (tokens : List Token) : Type 0 where
   pub arrays : HaveMembers tree.cowns
   pub tokens_are : tokens ≡ tree_tokens tree
 
--- with some tokens behind them, the tokens are all those of such a tree
-pub record LeadOn (tokens : List Token) : Type 0 where
+-- such a tree begins with these tokens: with some behind them they are all of its tokens
+pub record BeginTree (tokens : List Token) : Type 0 where
   pub more : List Token
   pub whole : AreWhole (tokens ++ more)
 
--- The shape of these tokens goes wrong first behind so many of them: these lead on, and with the next one they don't; or there is no next one, and the
--- tokens aren't whole.
+-- The shape of these tokens goes wrong first behind so many of them: a tree begins with these, and none with the next one too; or there is no next one,
+-- and the tokens aren't all those of a tree.
 pub record ShapeGoesWrong (tokens : List Token) (before : ℕ) : Type 0 where
   pub within : before ≤ length tokens
-  pub leads : LeadOn (take before tokens)
-  pub strays : before < length tokens → LeadOn (take (before + 1) tokens) → ⊥
+  pub begins : BeginTree (take before tokens)
+  pub strays : before < length tokens → BeginTree (take (before + 1) tokens) → ⊥
   pub ends : before ≡ length tokens → AreWhole tokens → ⊥
 
--- There is a token behind so many of these, and it leads on with them: so far nothing is wrong but the numbers.
-pub record LeadsPast (tokens : List Token) (before : ℕ) : Type 0 where
+-- There is a token behind so many of these, and a tree begins with these and that one: no more than the numbers can be wrong so far.
+pub record MayStand (tokens : List Token) (before : ℕ) : Type 0 where
   pub within : before < length tokens
-  pub leads : LeadOn (take (before + 1) tokens)
+  pub begins : BeginTree (take (before + 1) tokens)
 
--- what a fault of the shape says of the tokens, where so many of them stand before it
-abbrev pub IsWrongBehind : ShapeFault → List Token → ℕ → Type 0
-IsWrongBehind faults.Unexpected tokens before = ShapeGoesWrong tokens before
-IsWrongBehind faults.TooMany tokens before = LeadsPast tokens before
+-- What a fault of the shape says of the tokens, where so many of them stand before it: that their shape goes wrong first there; or, where there are too
+-- many of something, that the token may stand there.
+abbrev pub ShapeFaultSays : ShapeFault → List Token → ℕ → Type 0
+ShapeFaultSays faults.Unexpected tokens before = ShapeGoesWrong tokens before
+ShapeFaultSays faults.TooMany tokens before = MayStand tokens before
 
 -- the place of the last tokens of a text: the byte at which the first of them begins, or the end of the text where there is none
 abbrev pub StandAt : List ℕ → ℕ → List Token → Type 0
 StandAt text at [] = at ≡ length text
 StandAt text at (t ∷ ts) = BeginsAt text at (t ∷ ts)
 
--- the text has tokens, and this is the place of the first fault of their shape
-pub record ShapeGoesWrongAt (fault : ShapeFault) (text : List ℕ) (at : ℕ) : Type 0 where
+-- the text has tokens, and the fault of their shape stands at this place
+pub record ShapeFaultStandsAt (fault : ShapeFault) (text : List ℕ) (at : ℕ) : Type 0 where
   pub tokens : List Token
   pub has_tokens : tokens_of_text text ≡ Some tokens
   pub before : ℕ
-  pub is_wrong : IsWrongBehind fault tokens before
+  pub says : ShapeFaultSays fault tokens before
   pub place : StandAt text at (drop before tokens)

@@ -8,7 +8,7 @@ ghost use Rattle.boc_reader.specs.Placed.{ArePlaced, Refusal, tokens_of};
 ghost use Rattle.boc_reader.specs.Tokens.{Token, tokens_of_text};
 ghost use Rattle.boc_reader.specs.Grammar.{NoShape};
 ghost use Rattle.boc_reader.specs.WrongTokens.{IsFirstWrong, GoesWrong};
-ghost use Rattle.boc_reader.specs.WrongShape.{ShapeGoesWrong, ShapeGoesWrongAt};
+ghost use Rattle.boc_reader.specs.WrongShape.{ShapeGoesWrong, ShapeFaultStandsAt};
 ghost use Rattle.boc_reader.specs.FaultMeanings.{HasNoShape, HasNoNames, SaysOf, IsRefusalOf};
 ghost use Rattle.boc_reader.specs.declared.fault.TokenFault.{TokenFault};
 ghost use Rattle.boc_reader.specs.declared.fault.ReadFaultKind.{ReadFaultKind};
@@ -39,7 +39,8 @@ const NO_MEMORY: ReadFault = ReadFault {
 /// The program that a text spells. A text that is too long is refused for that. Any other goes
 /// through three passes, for its tokens, its shape and its names: the first pass that finds a fault
 /// tells the first one in the text. The place and its line are those of the fault, of the first byte too many, or 0 for want of memory.
-/// Of a fault among the tokens, and of one of the shape, it is proved that it is the first, and of any other that the place is one of the text.
+/// Of a fault among the tokens, and of a token or an end that the grammar doesn't allow, it is proved that it is the first; where there are too many of
+/// something, that the grammar allows all tokens up to the one that is told; and of any other fault that the place is one of the text.
 pub fn read_program(alloc: Global, text: &[u8]) -> Result<Program, ReadFault>
     ensures { MatchResult result (Spells text.now) (λ f. IsRefusalOf f text.now) }
 {
@@ -150,10 +151,10 @@ fn no_shape(
     }
 }
 
-// The first fault of the shape, which stands there.
+// A fault of the shape, which stands there.
 fn shape_at(text: &[u8], wrong: ShapeFault, at: usize) -> ReadFault
     requires none { HasNoShape text.now }
-    requires first { ShapeGoesWrongAt wrong text.now at }
+    requires stands { ShapeFaultStandsAt wrong text.now at }
     ensures { IsRefusalOf result text.now }
 {
     match wrong {

@@ -1,9 +1,9 @@
-// Where the tokens of a text go wrong first that are those of no tree.
+// Where a fault of the shape of a text stands.
 
 ghost use Rattle.std.specs.Prelude.{◌≡◌, ◌<◌, ◌++◌, drop, length, reverse, IfOk, IfSome, OnOk, MatchBool, MatchOption, Some, None};
 ghost use Rattle.boc_reader.specs.Placed.{ArePlaced, token_of, tokens_of};
 ghost use Rattle.boc_reader.specs.Wanted.{wanted_behind};
-ghost use Rattle.boc_reader.specs.WrongShape.{AreWhole, ShapeGoesWrong, IsWrongBehind, ShapeGoesWrongAt, StandAt};
+ghost use Rattle.boc_reader.specs.WrongShape.{AreWhole, ShapeGoesWrong, ShapeFaultSays, ShapeFaultStandsAt, StandAt};
 ghost use Rattle.boc_reader.specs.Tokens.{tokens_of_text};
 
 use crate::fault::ShapeFault;
@@ -11,8 +11,8 @@ use crate::token::{Placed, Token};
 use crate::wanted::{Wanted, behind};
 use std::alloc::{AllocError, Global};
 
-/// The first fault of the shape of a text that has these tokens, and its place, where such a fault was found at this byte. That the numbers are too large
-/// is told there if a token begins there that can stand where it does, with all before it; otherwise the first token is told that can't, or the end.
+/// The fault of the shape that is told of a text that has these tokens, and its place, where one was found at this byte. Too many of something is told
+/// there, if the grammar allows the token that begins there and all before it; or else the first token that it doesn't allow, or the end.
 pub(crate) fn first_fault(
     alloc: Global,
     text: &[u8],
@@ -22,14 +22,14 @@ pub(crate) fn first_fault(
 ) -> Result<(ShapeFault, usize), AllocError>
     requires has_tokens { tokens_of_text text.now ≡ Some (tokens_of tokens.now) }
     requires placed { ArePlaced text.now tokens.now }
-    ensures { IfOk result (λ found. ShapeGoesWrongAt found.0 text.now found.1) }
+    ensures { IfOk result (λ found. ShapeFaultStandsAt found.0 text.now found.1) }
 {
     let stray = first_stray(alloc, tokens)?;
     let (fault, before) = judged(tokens, fault, at, stray);
     Ok((fault, place_of(text, tokens, before)))
 }
 
-// Which fault is told, and how many tokens stand before it, where one was found at this byte, and so many tokens stand in front of the first stray one.
+// Which fault is told, and how many tokens stand before it, where one was found at this byte, and so many tokens stand before the first stray one.
 fn judged(
     tokens: &[Placed<'_>],
     fault: ShapeFault,
@@ -37,10 +37,10 @@ fn judged(
     stray: Option<usize>,
 ) -> (ShapeFault, usize)
     requires { MatchOption stray (AreWhole (tokens_of tokens.now)) (ShapeGoesWrong (tokens_of tokens.now)) }
-    ensures { IsWrongBehind result.0 (tokens_of tokens.now) result.1 }
+    ensures { ShapeFaultSays result.0 (tokens_of tokens.now) result.1 }
 {
     let Some(before) = stray else {
-        // Nothing strays, so that no more than the numbers can be wrong.
+        // The grammar allows all of them, so that there are too many of something.
         return (ShapeFault::TooMany, before_place(tokens, at).unwrap_or(0));
     };
     match (fault, before_place(&tokens[..before], at)) {
@@ -67,8 +67,8 @@ fn place_of(text: &[u8], tokens: &[Placed<'_>], before: usize) -> usize
     }
 }
 
-// How many of these tokens stand in front of the first that can't stand where it does, or all of them where others are wanted behind them. It is none
-// where they are all those of a tree, whatever its numbers.
+// How many of these tokens stand before the first that the grammar doesn't allow, or all of them where others are wanted behind them. It is none where
+// they are all those of a tree, whatever its numbers.
 fn first_stray(alloc: Global, tokens: &[Placed<'_>]) -> Result<Option<usize>, AllocError>
     ensures { IfOk result (λ found. MatchOption found (AreWhole (tokens_of tokens.now)) (ShapeGoesWrong (tokens_of tokens.now))) }
 {

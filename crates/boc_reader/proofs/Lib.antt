@@ -30,5 +30,6 @@ pub mod ResolvingOrder
 pub mod ResolvingPrograms
 pub mod Filled
 pub mod Wanting
+pub mod Within
 pub mod Strays
 mod examples

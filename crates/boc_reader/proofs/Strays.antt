@@ -1,7 +1,6 @@
 -- Where the shape of tokens goes wrong first, by what was wanted in front of it.
-use Rattle.std.proofs.Common.{◌≡◌, ◌≢◌, ℕ, zero, suc, ◌+◌, ◌<◌, ◌≤◌, inl, inr, List, [], ◌∷◌, ◌++◌, length, get_or, map, take, drop, Option, Some, None, refl, sym, ap}
-use Rattle.std.proofs.Common.{◌∙◌, subst, arith, append_assoc, reverse}
-use Rattle.std.specs.Option.{IfSome, unwrap_or}
+use Rattle.std.proofs.Common.{◌≡◌, ◌≢◌, ℕ, zero, suc, ◌+◌, ◌-◌, ◌<◌, ◌≤◌, inl, inr, List, [], ◌∷◌, ◌++◌, length, get_or, map, take, drop, Option, Some, None, refl, sym, ap}
+use Rattle.std.proofs.Common.{◌∙◌, subst, arith, append-nil, append_assoc, reverse}
 use Rattle.std.proofs.lemmas.Bool.{cases_lt}
 use Rattle.std.proofs.lemmas.List.{drop_all, length-map, length-reverse, map_more, nil_from_length, reverse-append, reverse-reverse, take-map, take_all, take-take, take-append-drop}
 use Rattle.boc_reader.specs.declared.token.Placed.{Placed}
@@ -10,7 +9,11 @@ use Rattle.boc_reader.specs.declared.wanted.Wanted.TheVariants.{Cowns}
 use Rattle.boc_reader.specs.Tokens.{Token}
 use Rattle.boc_reader.specs.Placed.{ArePlaced, BeginsAt, BeginsToken, token_of, tokens_of}
 use Rattle.boc_reader.specs.Wanted.{wanted_behind, wanted_after}
-use Rattle.boc_reader.specs.WrongShape.{AreWhole, BeginTree, MayStand, ShapeGoesWrong, ShapeFaultStandsAt, StandAt}
+use Rattle.boc_reader.specs.Room.{Within, room_of_text, within_behind, within_after}
+use Rattle.boc_reader.specs.declared.room.Room.{Room}
+use Rattle.boc_reader.specs.Grammar.{NoShape}
+use Rattle.boc_reader.proofs.Within.{over_begins_none, still_over}
+use Rattle.boc_reader.specs.WrongShape.{AreWhole, BeginTree, PassesLimit, ShapeGoesWrong, ShapeFaultStandsAt, StandAt}
 use Rattle.boc_reader.specs.Shape.{Tree, HasShape}
 use Rattle.boc_reader.specs.FaultMeanings.{StandsIn, StandsInShape}
 use Rattle.boc_reader.specs.declared.fault.ReadFault.{ReadFault}
@@ -45,16 +48,53 @@ one_read : (ts : List Token) (t : Token) (ws : List Wanted) → wanted_after ts 
 one_read ts t ws e = after_append ts (t ∷ []) (Cowns ∷ []) ws e ∙ found_read (wanted_behind t ws)
 
 -- one more of the tokens that are placed
+one_placed : (ps : List Placed) (k : ℕ) (p : Placed) → k < length ps → p ≡ get_or ps k p
+    → take (k + 1) (tokens_of ps) ≡ take k (tokens_of ps) ++ token_of p.token ∷ []
+one_placed ps k p small is =
+    let token : Placed → Token = λ p. token_of p.token in
+    take-map token (k + 1) ps ∙ map_more token ps k p small
+    ∙ ap (λ (q : Placed). map token (take k ps) ++ token_of q.token ∷ []) (sym is)
+    ∙ ap (λ (ts : List Token). ts ++ token_of p.token ∷ []) (sym (take-map token k ps))
+
 pub placed_read : (ps : List Placed) (k : ℕ) (p : Placed) (ws : List Wanted) → k < length ps → p ≡ get_or ps k p
     → wanted_after (take k (tokens_of ps)) (Cowns ∷ []) ≡ Some ws
     → wanted_after (take (k + 1) (tokens_of ps)) (Cowns ∷ []) ≡ wanted_behind (token_of p.token) ws
 placed_read ps k p ws small is e =
-    let token : Placed → Token = λ p. token_of p.token in
-    let more : take (k + 1) (tokens_of ps) ≡ take k (tokens_of ps) ++ token_of p.token ∷ [] =
-    take-map token (k + 1) ps ∙ map_more token ps k p small
-    ∙ ap (λ (q : Placed). map token (take k ps) ++ token_of q.token ∷ []) (sym is)
-    ∙ ap (λ (ts : List Token). ts ++ token_of p.token ∷ []) (sym (take-map token k ps)) in
-    ap (λ (ts : List Token). wanted_after ts (Cowns ∷ [])) more ∙ one_read (take k (tokens_of ps)) (token_of p.token) ws e
+    ap (λ (ts : List Token). wanted_after ts (Cowns ∷ [])) (one_placed ps k p small is) ∙ one_read (take k (tokens_of ps)) (token_of p.token) ws e
+
+-- The same within the limits.
+behind_within : (ts more : List Token) (found : Option Within) (s : Within)
+    → ((q : Within) → within_after ts q.wanted q.room ≡ Some s → within_after (ts ++ more) q.wanted q.room ≡ within_after more s.wanted s.room)
+    → (elim found [ Some q ↦ within_after ts q.wanted q.room | None ↦ None ]) ≡ Some s
+    → (elim found [ Some q ↦ within_after (ts ++ more) q.wanted q.room | None ↦ None ]) ≡ within_after more s.wanted s.room
+behind_within ts more (Some q) s deeper e = deeper q e
+behind_within ts more None s deeper e = absurd cc
+
+within_append : (ts more : List Token) (ws : List Wanted) (r : Room) (s : Within) → within_after ts ws r ≡ Some s
+    → within_after (ts ++ more) ws r ≡ within_after more s.wanted s.room
+within_append [] more ws r s e =
+    let start : Within = record { wanted = ws; room = r } in
+    let same : start ≡ s = cc in
+    ap (λ (q : Within). within_after more q.wanted q.room) same
+within_append (t ∷ ts) more ws r s e = behind_within ts more (within_behind t ws r) s (λ q d. within_append ts more q.wanted q.room s d) e
+
+found_within : (found : Option Within) → (elim found [ Some q ↦ within_after [] q.wanted q.room | None ↦ None ]) ≡ found
+found_within (Some q) = refl
+found_within None = refl
+
+pub placed_within : (ps : List Placed) (k : ℕ) (p : Placed) (s : Within) → k < length ps → p ≡ get_or ps k p
+    → within_after (take k (tokens_of ps)) (Cowns ∷ []) room_of_text ≡ Some s
+    → within_after (take (k + 1) (tokens_of ps)) (Cowns ∷ []) room_of_text ≡ within_behind (token_of p.token) s.wanted s.room
+placed_within ps k p s small is e =
+    ap (λ (ts : List Token). within_after ts (Cowns ∷ []) room_of_text) (one_placed ps k p small is)
+    ∙ within_append (take k (tokens_of ps)) (token_of p.token ∷ []) (Cowns ∷ []) room_of_text s e
+    ∙ found_within (within_behind (token_of p.token) s.wanted s.room)
+
+-- where a front of tokens passes a limit, all of them do
+pub front_over : (ts : List Token) (k : ℕ) → within_after (take k ts) (Cowns ∷ []) room_of_text ≡ None → within_after ts (Cowns ∷ []) room_of_text ≡ None
+front_over ts k e =
+    ap (λ (us : List Token). within_after us (Cowns ∷ []) room_of_text) (sym (take-append-drop k ts))
+    ∙ still_over (take k ts) (drop k ts) (Cowns ∷ []) room_of_text e
 
 -- where a token can't stand the shape goes wrong
 pub wrong_at_token : (ps : List Placed) (k : ℕ) (p : Placed) (ws : List Wanted) → k < length ps → p ≡ get_or ps k p
@@ -109,22 +149,43 @@ front_begins ts j k le l =
 pub whole_begins : (ts : List Token) (k : ℕ) → AreWhole ts → BeginTree (take k ts)
 whole_begins ts k w = record { more = drop k ts; whole = subst AreWhole (sym (take-append-drop k ts)) w }
 
--- a token in front of the first that is stray
-pub before_stray : (ts : List Token) (over k : ℕ) → ShapeGoesWrong ts k → over < k → MayStand ts over
-before_stray ts over k g less = record { within = omega (arith, g.within); begins = front_begins ts (over + 1) k (omega arith) g.begins }
-
--- one of the tokens of a tree
-pub in_whole : (ts : List Token) (over : ℕ) → AreWhole ts → over < length ts → MayStand ts over
-in_whole ts over w less = record { within = less; begins = whole_begins ts (over + 1) w }
-
 -- a tree has tokens
 pub some_in_whole : (ts : List Token) → AreWhole ts → 0 < length ts
 some_in_whole [] w = let none = whole_wanted [] w in absurd cc
 some_in_whole (t ∷ ts) w = omega arith
 
-pub found_or_first : (found : Option ℕ) (n : ℕ) → IfSome found (λ k. k < n) → 0 < n → unwrap_or found 0 < n
-found_or_first (Some k) n within some = within
-found_or_first None n within some = some
+-- tokens that pass a limit, among those with which a tree begins
+pub passes_limit : (ts : List Token) (before allowed : ℕ) → before < allowed → allowed ≤ length ts → BeginTree (take allowed ts)
+    → within_after (take (before + 1) ts) (Cowns ∷ []) room_of_text ≡ None → PassesLimit ts before
+passes_limit ts before allowed less within begins over =
+    record {
+      within = omega arith;
+      begins = front_begins ts (before + 1) allowed (omega arith) begins;
+      none = λ t more s. over_begins_none (take (before + 1) ts) more t over s;
+    }
+
+-- nothing stands behind all tokens of a tree
+whole_ends : (ts more : List Token) → AreWhole ts → AreWhole (ts ++ more) → more ≡ []
+whole_ends ts [] w v = refl
+whole_ends ts (m ∷ more) w v =
+    let here = whole_wanted ts w in
+    let all = whole_wanted (ts ++ m ∷ more) v in
+    let on = after_append ts (m ∷ more) (Cowns ∷ []) [] here in
+    absurd cc
+
+-- where all tokens are those of a tree that isn't within the limits, they are passed with the last one at the latest
+pub whole_passes : (ts : List Token) (n : ℕ) → length ts ≡ n → AreWhole ts → NoShape ts → PassesLimit ts (n - 1)
+whole_passes ts n long w none =
+    let some = some_in_whole ts w in
+    let all : take (n - 1 + 1) ts ≡ ts = take_all (n - 1 + 1) ts (omega (arith, long, some)) in
+    record {
+      within = omega (arith, long, some);
+      begins = whole_begins ts (n - 1 + 1) w;
+      none = λ t more s.
+          let v : HasShape (ts ++ more) t = subst (λ (us : List Token). HasShape (us ++ more) t) all s in
+          let end = whole_ends ts more w (record { tree = t; arrays = v.limits.arrays; tokens_are = v.tokens_are }) in
+          none t (subst (λ (us : List Token). HasShape us t) (ap (λ (m : List Token). ts ++ m) end ∙ append-nil ts) v);
+    }
 
 never_before : (ts : List Token) (j k : ℕ) → ShapeGoesWrong ts j → ShapeGoesWrong ts k → j < k → ⊥
 never_before ts j k one other less = one.strays (omega (arith, other.within)) (front_begins ts (j + 1) k (omega arith) other.begins)

@@ -20,11 +20,11 @@ use Rattle.boc_reader.specs.Wanted.{behind, wanted_behind, wanted_after}
 use Rattle.boc_reader.specs.WrongShape.{AreWhole, BeginTree}
 
 -- an operand where an expression is wanted, or a side of a comparison; and behind it
-abbrev operand : Bool → Wanted
+abbrev pub operand : Bool → Wanted
 operand true = the.Sum
 operand false = the.Expr
 
-abbrev inside : Bool → Wanted
+abbrev pub inside : Bool → Wanted
 inside true = the.InSum
 inside false = the.InExpr
 
@@ -72,7 +72,7 @@ comparison_wanted comparisons.Greater ts ws = refl
 comparison_wanted comparisons.AtLeast ts ws = refl
 
 -- what is wanted behind an expression: an operator, a comparison only where there is none yet
-abbrev in_expr : Expr → Wanted
+abbrev pub in_expr : Expr → Wanted
 in_expr (plain s) = the.InExpr
 in_expr (compared s op t) = the.InSum
 
@@ -258,7 +258,7 @@ mutual
   block_wanted (next s b) ts ws = stmt_wanted s b ts ws ∙ block_wanted b ts ws
 
 -- the tokens of defs, and of main behind them
-abbrev defs_tokens : List Def → Block → List Token
+abbrev pub defs_tokens : List Def → Block → List Token
 defs_tokens ds b = each_tokens def_tokens ds (keyword keywords.Main ∷ braced_tokens b [])
 
 defs_wanted : (ds : List Def) (b : Block) → wanted_after (defs_tokens ds b) (the.Defs ∷ []) ≡ Some []

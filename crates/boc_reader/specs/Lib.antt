@@ -15,4 +15,5 @@ pub mod Resolves
 pub mod FaultMeanings
 pub mod FaultTexts
 pub mod Wanted
+pub mod Room
 pub mod WrongShape

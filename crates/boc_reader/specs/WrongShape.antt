@@ -1,7 +1,7 @@
 -- Where the tokens of a text go wrong first that are those of no tree, whatever its numbers.
 use Rattle.std.specs.Prelude.{◌≡◌, ℕ, ◌+◌, ◌<◌, ◌≤◌, List, [], ◌∷◌, ◌++◌, length, take, drop, Some}
 use Rattle.boc_reader.specs.Tokens.{Token, tokens_of_text}
-use Rattle.boc_reader.specs.Shape.{Tree, tree_tokens, HaveMembers}
+use Rattle.boc_reader.specs.Shape.{Tree, tree_tokens, HaveMembers, HasShape}
 use Rattle.boc_reader.specs.Placed.{BeginsAt}
 use Rattle.boc_reader.specs.declared.fault.ShapeFault.{ShapeFault}
 use Rattle.boc_reader.specs.declared.fault.ShapeFault.TheVariants as faults
@@ -25,16 +25,17 @@ pub record ShapeGoesWrong (tokens : List Token) (before : ℕ) : Type 0 where
   pub strays : before < length tokens → BeginTree (take (before + 1) tokens) → ⊥
   pub ends : before ≡ length tokens → AreWhole tokens → ⊥
 
--- There is a token behind so many of these, and a tree begins with these and that one: no more than the numbers can be wrong so far.
-pub record MayStand (tokens : List Token) (before : ℕ) : Type 0 where
+-- There is a token behind so many of these, and a tree begins with these and that one, but none within the limits.
+pub record PassesLimit (tokens : List Token) (before : ℕ) : Type 0 where
   pub within : before < length tokens
   pub begins : BeginTree (take (before + 1) tokens)
+  pub none : (t : Tree) (more : List Token) → HasShape (take (before + 1) tokens ++ more) t → ⊥
 
 -- What a fault of the shape says of the tokens, where so many of them stand before it: that their shape goes wrong first there; or, where there are too
--- many of something, that the token may stand there.
+-- many of something, that a limit is passed with the token there, or with one before it.
 abbrev pub ShapeFaultSays : ShapeFault → List Token → ℕ → Type 0
 ShapeFaultSays faults.Unexpected tokens before = ShapeGoesWrong tokens before
-ShapeFaultSays faults.TooMany tokens before = MayStand tokens before
+ShapeFaultSays faults.TooMany tokens before = PassesLimit tokens before
 
 -- the place of the last tokens of a text: the byte at which the first of them begins, or the end of the text where there is none
 abbrev pub StandAt : List ℕ → ℕ → List Token → Type 0

@@ -11,6 +11,7 @@ mod names;
 mod natural;
 mod parse;
 mod read;
+mod room;
 mod shape;
 mod stray;
 mod terminal;

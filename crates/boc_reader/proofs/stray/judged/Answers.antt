@@ -1,23 +1,18 @@
 use Rattle.std.proofs.Common.{length, arith}
-use Rattle.std.proofs.lemmas.List.{length-map, length-take-le}
+use Rattle.std.proofs.lemmas.List.{length-map}
 use Rattle.boc_reader.specs.Placed.{tokens_of, token_of}
-use Rattle.boc_reader.specs.WrongShape.{AreWhole, ShapeGoesWrong}
+use Rattle.boc_reader.specs.WrongShape.{AreWhole}
 use Rattle.boc_reader.specs.declared.token.Placed.{Placed}
-use Rattle.boc_reader.proofs.Strays.{before_stray, found_or_first, in_whole, some_in_whole}
+use Rattle.boc_reader.proofs.Strays.{some_in_whole, whole_passes}
 use Rattle.boc_reader.proofs.stray.judged.Goals as goal
 
-pub returns-in_default : goal.returns-in_default
-returns-in_default c =
+pub overflow_sub-result : goal.overflow_sub-result
+overflow_sub-result c =
     let ts = tokens_of c.args.tokens.now in
-    let long = length-map c.args.tokens.now (λ (p : Placed). token_of p.token) in
-    let whole : AreWhole ts = rw c.in_default.is at c.requires in
-    let found = found_or_first c.before_place.result (length c.args.tokens.now) c.before_place.ensures (omega (arith, long, some_in_whole ts whole)) in
-    in_whole ts c.unwrap_or.result whole (omega (arith, long, found, c.unwrap_or.ensures))
+    let whole : AreWhole ts = rw c.in-None-None.is-1 at c.requires.stray in
+    omega (arith, length-map c.args.tokens.now (λ (p : Placed). token_of p.token), some_in_whole ts whole)
 
-pub returns-in-TooMany-Some : goal.returns-in-TooMany-Some
-returns-in-TooMany-Some c =
-    let ts = tokens_of c.args.tokens.now in
+pub returns-in-None-None : goal.returns-in-None-None
+returns-in-None-None c =
     let long = length-map c.args.tokens.now (λ (p : Placed). token_of p.token) in
-    let wrong : ShapeGoesWrong ts c.in-Some.before = rw c.in-Some.is at c.requires in
-    let front = length-take-le c.in-Some.before c.args.tokens.now (omega (arith, long, wrong.within)) in
-    before_stray ts c.in-TooMany-Some.before c.in-Some.before wrong (omega (arith, front, c.in-TooMany-Some.ensures))
+    whole_passes (tokens_of c.args.tokens.now) (length c.args.tokens.now) long (rw c.in-None-None.is-1 at c.requires.stray) c.requires.none

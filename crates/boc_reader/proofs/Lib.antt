@@ -28,4 +28,8 @@ pub mod ResolvingSlots
 pub mod ResolvingParameters
 pub mod ResolvingOrder
 pub mod ResolvingPrograms
+pub mod Filled
+pub mod Wanting
+pub mod Within
+pub mod Strays
 mod examples

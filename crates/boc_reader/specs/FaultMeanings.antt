@@ -3,6 +3,7 @@ use Rattle.std.specs.Prelude.{◌≡◌, ℕ, ◌<◌, ◌≤◌, List, length, 
 use Rattle.boc_program.specs.declared.limits.TheConstants.{MOST_TEXT}
 use Rattle.boc_reader.specs.Tokens.{Token, tokens_of_text}
 use Rattle.boc_reader.specs.WrongTokens.{GoesWrong}
+use Rattle.boc_reader.specs.WrongShape.{ShapeFaultStandsAt}
 use Rattle.boc_reader.specs.Shape.{Tree, HasShape}
 use Rattle.boc_reader.specs.Names.{tree_names}
 use Rattle.boc_reader.specs.Grammar.{NoShape}
@@ -10,6 +11,8 @@ use Rattle.boc_reader.specs.Lines.{line_after}
 use Rattle.boc_reader.specs.declared.fault.ReadFault.{ReadFault}
 use Rattle.boc_reader.specs.declared.fault.TokenFault.{TokenFault}
 use Rattle.boc_reader.specs.declared.fault.TokenFault.TheVariants as token_faults
+use Rattle.boc_reader.specs.declared.fault.ShapeFault.{ShapeFault}
+use Rattle.boc_reader.specs.declared.fault.ShapeFault.TheVariants as shape_faults
 use Rattle.boc_reader.specs.declared.fault.ReadFaultKind.{ReadFaultKind}
 use Rattle.boc_reader.specs.declared.fault.ReadFaultKind.TheVariants as kinds
 
@@ -56,12 +59,19 @@ pub record StandsIn (fault : ReadFault) (text : List ℕ) : Type 0 where
 abbrev pub StandsFirst : TokenFault → ReadFault → List ℕ → Type 0
 StandsFirst wrong fault text = StandsIn fault text × GoesWrong wrong text fault.at
 
+-- the fault is one of the shape of the text, and stands at its place
+abbrev pub StandsInShape : ShapeFault → ReadFault → List ℕ → Type 0
+StandsInShape wrong fault text = StandsIn fault text × ShapeFaultStandsAt wrong text fault.at
+
 -- The place that is told with a kind of fault: that of the first byte too many where the text is too long, none where memory was refused, that of the
--- first byte of the first fault where the text has no tokens, and otherwise one of the text.
+-- first byte of the first fault where the text has no tokens, that of the first token, or the end, that the grammar doesn't allow, that of a token that it
+-- allows where there are too many of something, and otherwise one of the text.
 abbrev pub TellsPlace : ReadFaultKind → ReadFault → List ℕ → Type 0
 TellsPlace kinds.NotAscii fault text = StandsFirst token_faults.NotAscii fault text
 TellsPlace kinds.BadToken fault text = StandsFirst token_faults.BadToken fault text
 TellsPlace kinds.NumberTooLarge fault text = StandsFirst token_faults.NumberTooLarge fault text
+TellsPlace kinds.Unexpected fault text = StandsInShape shape_faults.Unexpected fault text
+TellsPlace kinds.TooMany fault text = StandsInShape shape_faults.TooMany fault text
 TellsPlace kinds.TooLong fault text = (fault.at ≡ MOST_TEXT) × (fault.line ≡ line_after (take MOST_TEXT text))
 TellsPlace kinds.Memory fault text = (fault.at ≡ 0) × (fault.line ≡ 0)
 TellsPlace kind fault text = StandsIn fault text

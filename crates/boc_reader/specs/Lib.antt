@@ -14,3 +14,6 @@ pub mod Resolving
 pub mod Resolves
 pub mod FaultMeanings
 pub mod FaultTexts
+pub mod Wanted
+pub mod Room
+pub mod WrongShape

@@ -11,9 +11,12 @@ mod names;
 mod natural;
 mod parse;
 mod read;
+mod room;
 mod shape;
+mod stray;
 mod terminal;
 mod token;
+mod wanted;
 
 pub use fault::{ReadFault, ReadFaultKind};
 pub use listing::{DefListing, one_listing};

@@ -29,7 +29,7 @@ use boc_program::limits::{MOST_ARGUMENTS, MOST_COWNS, MOST_DEFS, MOST_HELD, MOST
 use std::alloc::Global;
 
 // The most parameters of a kind, arguments and references.
-const MOST_LISTED: usize = MOST_ARGUMENTS;
+pub(crate) const MOST_LISTED: usize = MOST_ARGUMENTS;
 
 const _: () = prove!(MOST_LISTED == MOST_HELD);
 

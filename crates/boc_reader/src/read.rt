@@ -1,17 +1,20 @@
 // Program texts.
 
-ghost use Rattle.std.specs.Prelude.{◌≡◌, ◌≢◌, ◌<◌, ◌≤◌, ℕ, List, length, IfOk, MatchResult};
+ghost use Rattle.std.specs.Prelude.{◌≡◌, ◌≢◌, ◌<◌, ◌≤◌, ℕ, List, length, IfOk, MatchResult, Some};
 ghost use Rattle.boc_reader.specs.Spells.{Spells, plain_program};
 ghost use Rattle.boc_program.specs.declared.limits.TheConstants.{MOST_TEXT};
 ghost use Rattle.boc_program.specs.declared.program.Program.{Program};
 ghost use Rattle.boc_reader.specs.Placed.{ArePlaced, Refusal, tokens_of};
+ghost use Rattle.boc_reader.specs.Tokens.{Token, tokens_of_text};
+ghost use Rattle.boc_reader.specs.Grammar.{NoShape};
 ghost use Rattle.boc_reader.specs.WrongTokens.{IsFirstWrong, GoesWrong};
+ghost use Rattle.boc_reader.specs.WrongShape.{ShapeGoesWrong, ShapeFaultStandsAt};
 ghost use Rattle.boc_reader.specs.FaultMeanings.{HasNoShape, HasNoNames, SaysOf, IsRefusalOf};
 ghost use Rattle.boc_reader.specs.declared.fault.TokenFault.{TokenFault};
 ghost use Rattle.boc_reader.specs.declared.fault.ReadFaultKind.{ReadFaultKind};
 ghost use Rattle.boc_reader.specs.Listed.{ListsDefs, SpellsBy};
 ghost use Rattle.boc_reader.specs.Listing.{AreLeft, main_tokens};
-ghost use Rattle.boc_reader.specs.Shape.{HasShape};
+ghost use Rattle.boc_reader.specs.Shape.{Tree as ShapeTree, HasShape};
 ghost use Rattle.boc_reader.specs.Views.{block_of, tree_of};
 
 use crate::fault::{Fault, NameFault, ReadFault, ReadFaultKind, ShapeFault, TokenFault};
@@ -21,6 +24,7 @@ use crate::listing::{DefListing, list_defs};
 use crate::names::resolve_program;
 use crate::parse::parse_tree;
 use crate::shape::Tree;
+use crate::stray::first_fault;
 use crate::token::Placed;
 use boc_program::limits::MOST_TEXT;
 use boc_program::program::Program;
@@ -35,7 +39,8 @@ const NO_MEMORY: ReadFault = ReadFault {
 /// The program that a text spells. A text that is too long is refused for that. Any other goes
 /// through three passes, for its tokens, its shape and its names: the first pass that finds a fault
 /// tells the first one in the text. The place and its line are those of the fault, of the first byte too many, or 0 for want of memory.
-/// Of a fault among the tokens it is proved that it is the first, and of any other that the place is one of the text.
+/// Of a fault among the tokens, and of a token or an end that the grammar doesn't allow, it is proved that it is the first; where there are too many of
+/// something, that the grammar allows all tokens up to the one that is told; and of any other fault that the place is one of the text.
 pub fn read_program(alloc: Global, text: &[u8]) -> Result<Program, ReadFault>
     ensures { MatchResult result (Spells text.now) (λ f. IsRefusalOf f text.now) }
 {
@@ -85,7 +90,7 @@ fn read_whole(alloc: Global, text: &[u8]) -> Result<Whole<'_>, ReadFault>
     };
     let tree = match parse_tree(alloc, &tokens) {
         Ok(tree) => tree,
-        Err(fault) => return Err(no_shape(text, fault)),
+        Err(fault) => return Err(no_shape(alloc, text, &tokens, fault)),
     };
     match resolve_program(alloc, &tree) {
         Ok(program) => Ok(Whole {
@@ -123,18 +128,39 @@ fn wrong_at(text: &[u8], wrong: TokenFault, at: usize) -> ReadFault
     }
 }
 
-// A fault of the second pass.
-fn no_shape(text: &[u8], fault: Fault<ShapeFault>) -> ReadFault
+// A fault of the second pass, in a text that has these tokens.
+fn no_shape(
+    alloc: Global,
+    text: &[u8],
+    tokens: &[Placed<'_>],
+    fault: Fault<ShapeFault>,
+) -> ReadFault
     requires short { length text.now ≤ MOST_TEXT }
-    requires none { Refusal fault (HasNoShape text.now) }
+    requires has_tokens { tokens_of_text text.now ≡ Some (tokens_of tokens.now) }
+    requires placed { ArePlaced text.now tokens.now }
+    requires none { Refusal fault (NoShape (tokens_of tokens.now)) }
     ensures { IsRefusalOf result text.now }
 {
-    let (kind, at) = match fault {
+    let (wrong, at) = match fault {
         Fault::Memory => return NO_MEMORY,
-        Fault::At(ShapeFault::Unexpected, at) => (ReadFaultKind::Unexpected, at),
-        Fault::At(ShapeFault::TooMany, at) => (ReadFaultKind::TooMany, at),
+        Fault::At(wrong, at) => (wrong, at),
     };
-    fault_at(text, kind, at)
+    match first_fault(alloc, text, tokens, wrong, at) {
+        Ok((wrong, at)) => shape_at(text, wrong, at),
+        Err(AllocError) => NO_MEMORY,
+    }
+}
+
+// A fault of the shape, which stands there.
+fn shape_at(text: &[u8], wrong: ShapeFault, at: usize) -> ReadFault
+    requires none { HasNoShape text.now }
+    requires stands { ShapeFaultStandsAt wrong text.now at }
+    ensures { IsRefusalOf result text.now }
+{
+    match wrong {
+        ShapeFault::Unexpected => fault_at(text, ReadFaultKind::Unexpected, at),
+        ShapeFault::TooMany => fault_at(text, ReadFaultKind::TooMany, at),
+    }
 }
 
 // A fault of the third pass.
@@ -153,10 +179,12 @@ fn no_names(text: &[u8], fault: Fault<NameFault>) -> ReadFault
 }
 
 /// A text of which a fault is told, but for want of memory, spells no program, a text spells one program at most, and a text without tokens goes wrong
-/// first in one way and at one place.
+/// first in one way and at one place. The shape of tokens goes wrong at one place at most, and nowhere where they are those of a tree.
 pub fn refused_is_none()
     ensures none { (kind : ReadFaultKind) (text : List ℕ) (p : Program) → kind ≢ ReadFaultKind.Memory → SaysOf kind text → Spells text p → ⊥ }
     ensures one { (text : List ℕ) (p q : Program) → Spells text p → Spells text q → plain_program p ≡ plain_program q }
     ensures first { (fault other : TokenFault) → (text : List ℕ) → (at place : ℕ) → GoesWrong fault text at → GoesWrong other text place
         → (fault ≡ other) × (at ≡ place) }
+    ensures shape { (tokens : List Token) (before behind : ℕ) → ShapeGoesWrong tokens before → ShapeGoesWrong tokens behind → before ≡ behind }
+    ensures right { (tokens : List Token) (tree : ShapeTree) (before : ℕ) → HasShape tokens tree → ShapeGoesWrong tokens before → ⊥ }
 {}

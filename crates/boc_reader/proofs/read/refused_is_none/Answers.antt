@@ -1,5 +1,6 @@
 use Rattle.boc_reader.proofs.Spellings.{none_spelled, one_program}
 use Rattle.boc_reader.proofs.Reading.{one_fault}
+use Rattle.boc_reader.proofs.Strays.{one_stray, shaped_is_right}
 use Rattle.boc_reader.proofs.read.refused_is_none.Goals as goal
 
 pub returns-clause-none : goal.returns-clause-none
@@ -10,3 +11,9 @@ returns-clause-one c = one_program
 
 pub returns-clause-first : goal.returns-clause-first
 returns-clause-first c = one_fault
+
+pub returns-clause-shape : goal.returns-clause-shape
+returns-clause-shape c = one_stray
+
+pub returns-clause-right : goal.returns-clause-right
+returns-clause-right c = shaped_is_right

@@ -1,0 +1,101 @@
+-- The definitions of the first fault of the shape, tried on texts that have one, and on one that has none.
+use Rattle.std.proofs.Common.{◌≡◌, ℕ, List, [], ◌∷◌, Some, false, refl, codes, arith}
+use Rattle.boc_reader.specs.declared.terminal.Keyword.TheVariants as keywords
+use Rattle.boc_reader.specs.declared.terminal.Sign.TheVariants as signs
+use Rattle.boc_reader.specs.declared.fault.ShapeFault.TheVariants as faults
+use Rattle.boc_reader.specs.Tokens.{Token, name, number, keyword, sign, tokens_of_text, cut, token_of_run}
+use Rattle.boc_reader.specs.Shape.{plain, one_term, one_factor, unsigned, literal, declare, done, next, Tree, tree_tokens}
+use Rattle.boc_reader.specs.WrongShape.{BeginTree, ShapeGoesWrong, ShapeFaultStandsAt}
+use Rattle.boc_reader.proofs.Strays.{one_stray, whole_is_right}
+use Rattle.boc_reader.proofs.Wanting.{stray_begins_none, whole_wanted}
+
+-- a name is wanted where the number stands
+abbrev text : List ℕ
+text = codes "main { let 5 }"
+
+abbrev tokens : List Token
+tokens = keyword keywords.Main ∷ sign signs.OpenBlock ∷ keyword keywords.Let ∷ number 5 ∷ sign signs.CloseBlock ∷ []
+
+has_tokens : tokens_of_text text ≡ Some tokens
+unfolding tokens_of_text cut token_of_run
+has_tokens = refl
+
+-- a tree that begins as the text does
+abbrev tree : Tree
+tree = record { cowns = []; defs = []; main = next (declare (codes "x") (plain (one_term (one_factor (unsigned (literal 1)))))) done }
+
+let_begins : BeginTree (keyword keywords.Main ∷ sign signs.OpenBlock ∷ keyword keywords.Let ∷ [])
+let_begins = record {
+  more = name (codes "x") ∷ sign signs.Assign ∷ number 1 ∷ sign signs.Semicolon ∷ sign signs.CloseBlock ∷ [];
+  whole = record { tree = tree; arrays = tt; tokens_are = refl };
+}
+
+goes_wrong : ShapeGoesWrong tokens 3
+goes_wrong = record {
+  within = omega arith;
+  begins = let_begins;
+  strays = λ _ l. stray_begins_none (keyword keywords.Main ∷ sign signs.OpenBlock ∷ keyword keywords.Let ∷ number 5 ∷ []) refl l;
+  ends = λ same _. omega (arith, same);
+}
+
+-- it is told at the byte of the number
+pub told : ShapeFaultStandsAt faults.Unexpected text 11
+unfolding tokens_of_text cut token_of_run
+told = record {
+  tokens = tokens;
+  has_tokens = has_tokens;
+  before = 3;
+  says = goes_wrong;
+  place = record { begins = (refl, λ e. omega (arith, e)); has_tokens = refl };
+}
+
+-- and at no other token
+pub not_at_let : ShapeGoesWrong tokens 2 → ⊥
+not_at_let wrong = omega (arith, one_stray tokens 2 3 wrong goes_wrong)
+
+pub not_behind : ShapeGoesWrong tokens 4 → ⊥
+not_behind wrong = omega (arith, one_stray tokens 4 3 wrong goes_wrong)
+
+-- nothing may follow main's block
+pub no_brace : BeginTree (keyword keywords.Main ∷ sign signs.OpenBlock ∷ sign signs.CloseBlock ∷ sign signs.CloseBlock ∷ []) → ⊥
+no_brace l = stray_begins_none (keyword keywords.Main ∷ sign signs.OpenBlock ∷ sign signs.CloseBlock ∷ sign signs.CloseBlock ∷ []) refl l
+
+-- one comparison is all that an expression has
+pub no_second : BeginTree (keyword keywords.Main ∷ sign signs.OpenBlock ∷ keyword keywords.Work ∷ number 1 ∷ sign signs.Less ∷ number 2 ∷ sign signs.Less ∷ []) → ⊥
+no_second l = stray_begins_none
+    (keyword keywords.Main ∷ sign signs.OpenBlock ∷ keyword keywords.Work ∷ number 1 ∷ sign signs.Less ∷ number 2 ∷ sign signs.Less ∷ []) refl l
+
+-- an array has members, and of the most cowns the shape says nothing
+pub no_members : BeginTree (keyword keywords.Cown ∷ name (codes "a") ∷ sign signs.OpenIndex ∷ number 0 ∷ []) → ⊥
+no_members l = stray_begins_none (keyword keywords.Cown ∷ name (codes "a") ∷ sign signs.OpenIndex ∷ number 0 ∷ []) refl l
+
+pub many_members : BeginTree (keyword keywords.Cown ∷ name (codes "a") ∷ sign signs.OpenIndex ∷ number 300 ∷ [])
+many_members = record {
+  more = sign signs.CloseIndex ∷ sign signs.Assign ∷ number 0 ∷ sign signs.Semicolon ∷ keyword keywords.Main ∷ sign signs.OpenBlock ∷ sign signs.CloseBlock
+      ∷ [];
+  whole = record {
+    tree = record { cowns = record { name = codes "a"; size = Some 300; negative = false; value = 0 } ∷ []; defs = []; main = done };
+    arrays = (omega arith, tt);
+    tokens_are = refl;
+  };
+}
+
+-- a text that ends too soon goes wrong at its end
+abbrev cut_short : List Token
+cut_short = keyword keywords.Main ∷ sign signs.OpenBlock ∷ []
+
+pub ends_too_soon : ShapeGoesWrong cut_short 2
+ends_too_soon = record {
+  within = omega arith;
+  begins = record { more = sign signs.CloseBlock ∷ []; whole = record { tree = record { cowns = []; defs = []; main = done }; arrays = tt; tokens_are = refl } };
+  strays = λ less _. omega (arith, less);
+  ends = λ _ w. let all = whole_wanted cut_short w in cc;
+}
+
+pub ends_at_its_end : ShapeFaultStandsAt faults.Unexpected (codes "main {  ") 8
+unfolding tokens_of_text cut token_of_run
+ends_at_its_end = record { tokens = cut_short; has_tokens = refl; before = 2; says = ends_too_soon; place = refl }
+
+-- the tokens of a tree go wrong nowhere
+pub right : (before : ℕ) → ShapeGoesWrong (tree_tokens tree) before → ⊥
+right before = whole_is_right (tree_tokens tree) before (record { tree = tree; arrays = tt; tokens_are = refl })

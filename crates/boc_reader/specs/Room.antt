@@ -1,0 +1,132 @@
+-- How much more may stand in a text, token by token, until a limit is passed.
+use Rattle.std.specs.Prelude.{ℕ, zero, suc, ◌-◌, nat_le, if◌then◌else◌, List, [], ◌∷◌, ◌++◌, Option, Some, None}
+use Rattle.boc_program.specs.declared.limits.TheConstants.{MOST_COWNS, MOST_DEFS, MOST_NODES}
+use Rattle.boc_reader.specs.declared.parse.TheConstants.{MOST_LISTED}
+use Rattle.boc_reader.specs.declared.terminal.Keyword.TheVariants as keywords
+use Rattle.boc_reader.specs.declared.terminal.Sign.TheVariants as signs
+use Rattle.boc_reader.specs.declared.room.Room.{Room}
+use Rattle.boc_reader.specs.declared.wanted.Wanted.{Wanted}
+use Rattle.boc_reader.specs.declared.wanted.Wanted.TheVariants.{Cowns, Defs, Members, Params, MoreParams, Held, MoreHeld, Stmts, Args, MoreArgs, Refs, MoreRefs}
+use Rattle.boc_reader.specs.declared.wanted.Wanted.TheVariants.{Expr, InExpr, Sum, InSum}
+use Rattle.boc_reader.specs.Tokens.{Token, name, number, keyword, sign}
+use Rattle.boc_reader.specs.Wanted.{behind, may_be_left_out}
+
+-- the room of a whole text
+abbrev pub room_of_text : Room
+room_of_text = record { cowns = MOST_COWNS; defs = MOST_DEFS; nodes = 0; listed = 0 }
+
+-- a body begins
+abbrev pub with_body : Room → Room
+with_body r = record r { nodes = MOST_NODES }
+
+-- a list begins, or it ends
+abbrev pub with_list : Room → Room
+with_list r = record r { listed = MOST_LISTED }
+
+abbrev pub without_list : Room → Room
+without_list r = record r { listed = 0 }
+
+-- so many cowns more
+abbrev pub take_cowns : ℕ → Room → Option Room
+take_cowns n r = if nat_le n r.cowns then Some (record r { cowns = r.cowns - n }) else None
+
+-- a def more
+abbrev pub take_def : Room → Option Room
+take_def r = elim r.defs [ suc n ↦ Some (record r { defs = n }) | zero ↦ None ]
+
+-- a node more
+abbrev pub take_node : Room → Option Room
+take_node r = elim r.nodes [ suc n ↦ Some (record r { nodes = n }) | zero ↦ None ]
+
+-- one more of a list
+abbrev pub take_listed : Room → Option Room
+take_listed r = elim r.listed [ suc n ↦ Some (record r { listed = n }) | zero ↦ None ]
+
+-- one more of a list, which is a node
+abbrev pub take_node_listed : Room → Option Room
+take_node_listed r = elim (take_listed r) [ Some q ↦ take_node q | None ↦ None ]
+
+-- what is left behind a token where a def or main may begin
+abbrev pub left_in_defs : Token → Room → Option Room
+left_in_defs (keyword keywords.Def) r = take_def (with_body r)
+left_in_defs t r = Some (with_body r)
+
+-- where a declaration of cowns may begin too
+abbrev pub left_in_cowns : Token → Room → Option Room
+left_in_cowns (keyword keywords.Cown) r = take_cowns 1 r
+left_in_cowns t r = left_in_defs t r
+
+-- behind the size of an array, of which a cown is counted already
+abbrev pub left_in_size : Token → Room → Option Room
+left_in_size (number n) r = take_cowns (n - 1) r
+left_in_size t r = Some r
+
+-- where a statement or the brace behind it may stand
+abbrev pub left_in_stmts : Token → Room → Option Room
+left_in_stmts (sign s) r = Some r
+left_in_stmts t r = take_node r
+
+-- where the first of a list of names may stand, or the sign behind it
+abbrev pub left_in_names : Token → Room → Option Room
+left_in_names (name x) r = take_listed (with_list r)
+left_in_names t r = Some r
+
+-- where the first of a list of references may stand, or the sign behind it
+abbrev pub left_in_refs : Token → Room → Option Room
+left_in_refs (name x) r = take_node_listed (with_list r)
+left_in_refs t r = Some r
+
+-- where the first of a list of expressions may stand, or the sign behind it
+abbrev pub left_in_args : Token → Room → Option Room
+left_in_args (sign signs.Semicolon) r = Some r
+left_in_args t r = take_node_listed (with_list r)
+
+-- behind one of a list, where a comma or the sign behind it may stand
+abbrev pub left_in_list : Token → Room → Option Room
+left_in_list (sign signs.Comma) r = take_listed r
+left_in_list t r = Some (without_list r)
+
+-- the same where the next one is a node
+abbrev pub left_in_nodes : Token → Room → Option Room
+left_in_nodes (sign signs.Comma) r = take_node_listed r
+left_in_nodes t r = Some (without_list r)
+
+-- The room that is left behind a token which is what was wanted, or none where it passes a limit.
+abbrev pub left_behind : Token → Wanted → Room → Option Room
+left_behind t Cowns r = left_in_cowns t r
+left_behind t Defs r = left_in_defs t r
+left_behind t Members r = left_in_size t r
+left_behind t Stmts r = left_in_stmts t r
+left_behind t Params r = left_in_names t r
+left_behind t Held r = left_in_names t r
+left_behind t Args r = left_in_args t r
+left_behind t Refs r = left_in_refs t r
+left_behind t MoreParams r = left_in_list t r
+left_behind t MoreHeld r = left_in_list t r
+left_behind t MoreArgs r = left_in_list t r
+left_behind t MoreRefs r = left_in_nodes t r
+left_behind t Expr r = take_node r
+left_behind t InExpr r = take_node r
+left_behind t Sum r = take_node r
+left_behind t InSum r = take_node r
+left_behind t w r = Some r
+
+-- what is wanted of the rest of a text, and the room there
+pub record Within : Type 0 where
+  pub wanted : List Wanted
+  pub room : Room
+
+-- what is wanted behind a token, and the room there
+abbrev pub with_room : List Wanted → Option Room → Option Within
+with_room ws found = elim found [ Some q ↦ Some (record { wanted = ws; room = q }) | None ↦ None ]
+
+-- What is wanted of the rest of a text behind a token, and the room there. It is none where the token can't stand there, or passes a limit.
+abbrev pub within_behind : Token → List Wanted → Room → Option Within
+within_behind t [] r = None
+within_behind t (w ∷ ws) r =
+    elim (behind t w) [ Some all ↦ with_room (all ++ ws) (left_behind t w r) | None ↦ if may_be_left_out w then within_behind t ws r else None ]
+
+-- the same behind several tokens
+abbrev pub within_after : List Token → List Wanted → Room → Option Within
+within_after [] ws r = Some (record { wanted = ws; room = r })
+within_after (t ∷ ts) ws r = elim (within_behind t ws r) [ Some s ↦ within_after ts s.wanted s.room | None ↦ None ]

@@ -28,4 +28,7 @@ pub mod ResolvingSlots
 pub mod ResolvingParameters
 pub mod ResolvingOrder
 pub mod ResolvingPrograms
+pub mod Verdicts
+pub mod NameOrder
+pub mod RightNames
 mod examples

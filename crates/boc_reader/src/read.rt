@@ -1,6 +1,6 @@
 // Program texts.
 
-ghost use Rattle.std.specs.Prelude.{◌≡◌, ◌≢◌, ◌<◌, ◌≤◌, ℕ, List, length, IfOk, MatchResult};
+ghost use Rattle.std.specs.Prelude.{◌≡◌, ◌≢◌, ◌<◌, ◌≤◌, ℕ, List, map, length, IfOk, MatchResult};
 ghost use Rattle.boc_reader.specs.Spells.{Spells, plain_program};
 ghost use Rattle.boc_program.specs.declared.limits.TheConstants.{MOST_TEXT};
 ghost use Rattle.boc_program.specs.declared.program.Program.{Program};
@@ -8,10 +8,15 @@ ghost use Rattle.boc_reader.specs.Placed.{ArePlaced, Refusal, tokens_of};
 ghost use Rattle.boc_reader.specs.WrongTokens.{IsFirstWrong, GoesWrong};
 ghost use Rattle.boc_reader.specs.FaultMeanings.{HasNoShape, HasNoNames, SaysOf, IsRefusalOf};
 ghost use Rattle.boc_reader.specs.declared.fault.TokenFault.{TokenFault};
+ghost use Rattle.boc_reader.specs.declared.fault.NameFault.{NameFault};
+ghost use Rattle.boc_reader.specs.Names.{PlainProgram, tree_names};
+ghost use Rattle.boc_reader.specs.NameUses.{tree_uses};
+ghost use Rattle.boc_reader.specs.WrongNames.{names_of_tokens, right, verdict, wrong};
 ghost use Rattle.boc_reader.specs.declared.fault.ReadFaultKind.{ReadFaultKind};
 ghost use Rattle.boc_reader.specs.Listed.{ListsDefs, SpellsBy};
 ghost use Rattle.boc_reader.specs.Listing.{AreLeft, main_tokens};
-ghost use Rattle.boc_reader.specs.Shape.{HasShape};
+ghost use Rattle.boc_reader.specs.Shape as the;
+ghost use Rattle.boc_reader.specs.Shape.{HasShape, tree_tokens};
 ghost use Rattle.boc_reader.specs.Views.{block_of, tree_of};
 
 use crate::fault::{Fault, NameFault, ReadFault, ReadFaultKind, ShapeFault, TokenFault};
@@ -159,4 +164,11 @@ pub fn refused_is_none()
     ensures one { (text : List ℕ) (p q : Program) → Spells text p → Spells text q → plain_program p ≡ plain_program q }
     ensures first { (fault other : TokenFault) → (text : List ℕ) → (at place : ℕ) → GoesWrong fault text at → GoesWrong other text place
         → (fault ≡ other) × (at ≡ place) }
+{}
+
+/// The names of a tree in their order are the names among its tokens. All of them are right exactly where they resolve.
+pub fn names_are_judged()
+    ensures order { (t : the.Tree) → map (λ u. u.name) (tree_uses t) ≡ names_of_tokens (tree_tokens t) }
+    ensures right { (t : the.Tree) → (n : ℕ) → verdict 0 (tree_uses t) ≡ right n → (p : PlainProgram) × (tree_names t ≡ Some p) }
+    ensures wrong { (t : the.Tree) → (fault : NameFault) → (n : ℕ) → verdict 0 (tree_uses t) ≡ wrong fault n → tree_names t ≡ None }
 {}

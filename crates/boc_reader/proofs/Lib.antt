@@ -31,4 +31,6 @@ pub mod ResolvingPrograms
 pub mod Verdicts
 pub mod NameOrder
 pub mod RightNames
+pub mod JudgedTrees
+pub mod WrongPlaces
 mod examples

@@ -5,7 +5,10 @@ use Rattle.boc_reader.specs.Shape.{variable, parens, NamedCown, alone, member, S
 use Rattle.boc_reader.specs.Shape.{Def, Tree}
 use Rattle.boc_reader.specs.Names.{Named, Top, Outside, slot_of, global, callee}
 use Rattle.boc_reader.specs.NameUses.{variable_fault, alone_fault, member_fault, callee_fault, free_fault, new_fault, scope_behind, first_declared, declared_cowns}
-use Rattle.boc_reader.specs.WrongNames.{Verdict, right, wrong}
+use Rattle.boc_reader.specs.WrongNames.{Verdict, right, wrong, names_of_tokens}
+use Rattle.boc_reader.specs.Tokens.{name}
+use Rattle.boc_reader.specs.Placed.{token_of, tokens_of}
+use Rattle.boc_reader.specs.declared.token.Placed.{Placed}
 use Rattle.boc_reader.specs.declared.fault.Fault.{Fault}
 use Rattle.boc_reader.specs.declared.fault.Fault.TheVariants.{Memory, At}
 use Rattle.boc_reader.specs.declared.fault.NameFault.{NameFault}
@@ -113,3 +116,14 @@ bodies_verdict t top n = if_right (defs_verdict top (declared_cowns t) t.defs n)
 
 abbrev pub tree_verdict : Tree → Verdict
 tree_verdict t = if_right (cowns_verdict [] (declared_cowns t) 0) (bodies_verdict t (first_declared t))
+
+-- The name behind n others of these tokens begins at this byte.
+pub record IsNameAt (ps : List Placed) (n at : ℕ) : Type 0 where
+  pub before : List Placed
+  pub count : length (names_of_tokens (tokens_of before)) ≡ n
+  pub found : Placed
+  pub called : Named
+  pub is_name : token_of found.token ≡ name called
+  pub behind : List Placed
+  pub parts : ps ≡ before ++ found ∷ behind
+  pub place : at ≡ found.at

@@ -1,11 +1,10 @@
 -- Which name of a text is the first wrong one, and where it begins.
-use Rattle.std.specs.Prelude.{◌≡◌, ℕ, ◌+◌, List, [], ◌∷◌, length, drop, Option, Some, None}
-use Rattle.boc_reader.specs.Tokens.{Token, name, number, keyword, sign, tokens_of_text}
+use Rattle.std.specs.Prelude.{◌≡◌, ℕ, ◌+◌, List, [], ◌∷◌, ◌++◌, length, Option, Some, None}
+use Rattle.boc_reader.specs.Tokens.{Token, name, number, keyword, sign, Piece, run, token_of_run, tokens_of_pieces, tokens_of_text}
 use Rattle.boc_reader.specs.Shape.{Tree, HasShape}
 use Rattle.boc_reader.specs.Names.{Named}
 use Rattle.boc_reader.specs.NameUses.{Use, tree_uses}
-use Rattle.boc_reader.specs.Placed.{BeginsAt}
-use Rattle.boc_reader.specs.WrongTokens.{HasRead}
+use Rattle.boc_reader.specs.WrongTokens.{bytes_of, pieces_of}
 use Rattle.boc_reader.specs.declared.fault.NameFault.{NameFault}
 
 -- What is said of names in their order: there are so many, and all are right; or so many stand before the first wrong one, which is wrong in this way.
@@ -31,14 +30,17 @@ names_of_tokens (number n ∷ ts) = names_of_tokens ts
 names_of_tokens (keyword k ∷ ts) = names_of_tokens ts
 names_of_tokens (sign s ∷ ts) = names_of_tokens ts
 
--- The name behind n others of a text begins at this byte: up to there these tokens were read, and a name stands behind them.
+-- The name behind n others of a text begins at this byte: these pieces stand before it, and their tokens have so many names.
 pub record IsPlaceOfName (text : List ℕ) (n at : ℕ) : Type 0 where
-  pub before : List Token
-  pub has_read : HasRead text (drop at text) before
-  pub count : length (names_of_tokens before) ≡ n
+  pub before : List Piece
+  pub tokens : List Token
+  pub has_tokens : tokens_of_pieces before ≡ Some tokens
+  pub count : length (names_of_tokens tokens) ≡ n
   pub found : Named
-  pub behind : List Token
-  pub begins : BeginsAt text at (name found ∷ behind)
+  pub is_name : token_of_run found ≡ Some (name found)
+  pub behind : List Piece
+  pub parts : pieces_of text ≡ before ++ run found ∷ behind
+  pub place : at ≡ bytes_of before
 
 -- The first wrong name of a text is wrong in this way, and begins at this byte.
 pub record NameGoesWrong (fault : NameFault) (text : List ℕ) (at : ℕ) : Type 0 where

@@ -1,17 +1,19 @@
 // Program texts.
 
-ghost use Rattle.std.specs.Prelude.{◌≡◌, ◌≢◌, ◌<◌, ◌≤◌, ℕ, List, map, length, IfOk, MatchResult};
+ghost use Rattle.std.specs.Prelude.{◌≡◌, ◌≢◌, ◌<◌, ◌≤◌, ℕ, List, [], map, length, IfOk, MatchResult};
 ghost use Rattle.boc_reader.specs.Spells.{Spells, plain_program};
 ghost use Rattle.boc_program.specs.declared.limits.TheConstants.{MOST_TEXT};
 ghost use Rattle.boc_program.specs.declared.program.Program.{Program};
-ghost use Rattle.boc_reader.specs.Placed.{ArePlaced, Refusal, tokens_of};
+ghost use Rattle.boc_reader.specs.Placed.{ArePlaced, AreReached, Refusal, tokens_of};
+ghost use Rattle.boc_reader.specs.Tokens.{tokens_of_text};
+ghost use Rattle.boc_reader.specs.Judging.{IsNameAt};
 ghost use Rattle.boc_reader.specs.WrongTokens.{IsFirstWrong, GoesWrong};
 ghost use Rattle.boc_reader.specs.FaultMeanings.{HasNoShape, HasNoNames, SaysOf, IsRefusalOf};
 ghost use Rattle.boc_reader.specs.declared.fault.TokenFault.{TokenFault};
 ghost use Rattle.boc_reader.specs.declared.fault.NameFault.{NameFault};
 ghost use Rattle.boc_reader.specs.Names.{PlainProgram, tree_names};
 ghost use Rattle.boc_reader.specs.NameUses.{tree_uses};
-ghost use Rattle.boc_reader.specs.WrongNames.{names_of_tokens, right, verdict, wrong};
+ghost use Rattle.boc_reader.specs.WrongNames.{NameGoesWrong, names_of_tokens, right, verdict, wrong};
 ghost use Rattle.boc_reader.specs.declared.fault.ReadFaultKind.{ReadFaultKind};
 ghost use Rattle.boc_reader.specs.Listed.{ListsDefs, SpellsBy};
 ghost use Rattle.boc_reader.specs.Listing.{AreLeft, main_tokens};
@@ -23,10 +25,11 @@ use crate::fault::{Fault, NameFault, ReadFault, ReadFaultKind, ShapeFault, Token
 use crate::lex::tokens;
 use crate::lines::{fault_at, line_after};
 use crate::listing::{DefListing, list_defs};
+use crate::names::judge::judge_tree;
 use crate::names::resolve_program;
 use crate::parse::parse_tree;
 use crate::shape::Tree;
-use crate::token::Placed;
+use crate::token::{Placed, Token};
 use boc_program::limits::MOST_TEXT;
 use boc_program::program::Program;
 use std::alloc::{AllocError, Global};
@@ -40,7 +43,7 @@ const NO_MEMORY: ReadFault = ReadFault {
 /// The program that a text spells. A text that is too long is refused for that. Any other goes
 /// through three passes, for its tokens, its shape and its names: the first pass that finds a fault
 /// tells the first one in the text. The place and its line are those of the fault, of the first byte too many, or 0 for want of memory.
-/// Of a fault among the tokens it is proved that it is the first, and of any other that the place is one of the text.
+/// Of a fault among the tokens or the names it is proved that it is the first, and of any other that the place is one of the text.
 pub fn read_program(alloc: Global, text: &[u8]) -> Result<Program, ReadFault>
     ensures { MatchResult result (Spells text.now) (λ f. IsRefusalOf f text.now) }
 {
@@ -98,7 +101,8 @@ fn read_whole(alloc: Global, text: &[u8]) -> Result<Whole<'_>, ReadFault>
             tree,
             program,
         }),
-        Err(fault) => Err(no_names(text, fault)),
+        Err(Fault::Memory) => Err(NO_MEMORY),
+        Err(Fault::At(..)) => Err(no_names(alloc, text, &tokens, &tree)),
     }
 }
 
@@ -142,27 +146,63 @@ fn no_shape(text: &[u8], fault: Fault<ShapeFault>) -> ReadFault
     fault_at(text, kind, at)
 }
 
-// A fault of the third pass.
-fn no_names(text: &[u8], fault: Fault<NameFault>) -> ReadFault
+// A fault of the third pass: the first wrong name of the tree, which has these tokens.
+fn no_names(alloc: Global, text: &[u8], tokens: &[Placed<'_>], tree: &Tree<'_>) -> ReadFault
     requires short { length text.now ≤ MOST_TEXT }
-    requires none { Refusal fault (HasNoNames text.now) }
+    requires tokens { tokens_of_text text.now ≡ Some (tokens_of tokens.now) }
+    requires placed { ArePlaced text.now tokens.now }
+    requires reached { AreReached text.now [] tokens.now }
+    requires shape { HasShape (tokens_of tokens.now) (tree_of tree.now) }
+    requires none { tree_names (tree_of tree.now) ≡ None }
     ensures { IsRefusalOf result text.now }
 {
-    let (kind, at) = match fault {
-        Fault::Memory => return NO_MEMORY,
-        Fault::At(NameFault::UnknownName, at) => (ReadFaultKind::UnknownName, at),
-        Fault::At(NameFault::NameTaken, at) => (ReadFaultKind::NameTaken, at),
-        Fault::At(NameFault::WrongCount, at) => (ReadFaultKind::WrongCount, at),
-    };
-    fault_at(text, kind, at)
+    match judge_tree(alloc, tree) {
+        Ok(_) => unreachable!(),
+        Err(Fault::Memory) => NO_MEMORY,
+        Err(Fault::At(wrong, before)) => wrong_name(text, wrong, place_of_name(tokens, before)),
+    }
+}
+
+// The first wrong name, which begins at this byte.
+fn wrong_name(text: &[u8], wrong: NameFault, at: usize) -> ReadFault
+    requires short { length text.now ≤ MOST_TEXT }
+    requires within { at ≤ length text.now }
+    requires none { HasNoNames text.now }
+    requires first { NameGoesWrong wrong text.now at }
+    ensures { IsRefusalOf result text.now }
+{
+    match wrong {
+        NameFault::UnknownName => fault_at(text, ReadFaultKind::UnknownName, at),
+        NameFault::NameTaken => fault_at(text, ReadFaultKind::NameTaken, at),
+        NameFault::WrongCount => fault_at(text, ReadFaultKind::WrongCount, at),
+    }
+}
+
+// The byte at which the name behind so many others begins.
+fn place_of_name(tokens: &[Placed<'_>], before: usize) -> usize
+    requires { before < length (names_of_tokens (tokens_of tokens.now)) }
+    ensures { IsNameAt tokens.now before result }
+{
+    let mut left = before;
+    for placed in tokens {
+        if let Token::Name(_) = placed.token {
+            if left == 0 {
+                return placed.at;
+            }
+            left -= 1;
+        }
+    }
+    unreachable!()
 }
 
 /// A text of which a fault is told, but for want of memory, spells no program, a text spells one program at most, and a text without tokens goes wrong
-/// first in one way and at one place.
+/// first in one way and at one place, as does one whose names can't be resolved.
 pub fn refused_is_none()
     ensures none { (kind : ReadFaultKind) (text : List ℕ) (p : Program) → kind ≢ ReadFaultKind.Memory → SaysOf kind text → Spells text p → ⊥ }
     ensures one { (text : List ℕ) (p q : Program) → Spells text p → Spells text q → plain_program p ≡ plain_program q }
     ensures first { (fault other : TokenFault) → (text : List ℕ) → (at place : ℕ) → GoesWrong fault text at → GoesWrong other text place
+        → (fault ≡ other) × (at ≡ place) }
+    ensures first_name { (fault other : NameFault) → (text : List ℕ) → (at place : ℕ) → NameGoesWrong fault text at → NameGoesWrong other text place
         → (fault ≡ other) × (at ≡ place) }
 {}
 

@@ -1,5 +1,6 @@
 use Rattle.boc_reader.proofs.Spellings.{none_spelled, one_program}
 use Rattle.boc_reader.proofs.Reading.{one_fault}
+use Rattle.boc_reader.proofs.WrongPlaces.{one_wrong_name}
 use Rattle.boc_reader.proofs.read.refused_is_none.Goals as goal
 
 pub returns-clause-none : goal.returns-clause-none
@@ -10,3 +11,6 @@ returns-clause-one c = one_program
 
 pub returns-clause-first : goal.returns-clause-first
 returns-clause-first c = one_fault
+
+pub returns-clause-first_name : goal.returns-clause-first_name
+returns-clause-first_name c = one_wrong_name

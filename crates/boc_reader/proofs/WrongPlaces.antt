@@ -164,8 +164,7 @@ name_begins text ps n at placed reached named =
     let there = within_text text place begins.begins in
     let has : tokens_of_text (drop place text) ≡ Some (name named.called ∷ tokens_of named.behind) =
     begins.has_tokens ∙ ap (λ w. Some (w ∷ tokens_of named.behind)) named.is_name in
-    let found = name_behind text (drop place text) (tokens_of named.before) (tokens_of named.behind) named.called read begins.begins has in
-    (
+    let found = name_behind text (drop place text) (tokens_of named.before) (tokens_of named.behind) named.called read begins.begins has in (
       subst (IsPlaceOfName text n) (sym there.1 ∙ sym named.place)
           (subst (λ (k : ℕ). IsPlaceOfName text k (length text - length (drop place text))) named.count found),
       omega (arith, there.0, named.place),

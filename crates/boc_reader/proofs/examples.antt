@@ -1,1 +1,2 @@
 mod TransferText
+mod WrongNameTexts

@@ -37,7 +37,12 @@ fn member_fault(outside: &Outside<'_, '_>, name: &str) -> Option<NameFault>
     }
 }
 
-fn judge_ref(outside: &Outside<'_, '_>, scope: &[&str], reference: &NamedCown<'_>, count: usize) -> Verdict
+fn judge_ref(
+    outside: &Outside<'_, '_>,
+    scope: &[&str],
+    reference: &NamedCown<'_>,
+    count: usize,
+) -> Verdict
     ensures { Judges result (ref_verdict (outside_of outside.now) (names_of scope.now) (named_cown_of reference.now) count) }
 {
     match reference {
@@ -50,7 +55,12 @@ fn judge_ref(outside: &Outside<'_, '_>, scope: &[&str], reference: &NamedCown<'_
 }
 
 // Each of several references, in their order.
-fn judge_refs(outside: &Outside<'_, '_>, scope: &[&str], references: &[NamedCown<'_>], mut count: usize) -> Verdict
+fn judge_refs(
+    outside: &Outside<'_, '_>,
+    scope: &[&str],
+    references: &[NamedCown<'_>],
+    mut count: usize,
+) -> Verdict
     ensures { Judges result (refs_verdict (outside_of outside.now) (names_of scope.now) (map named_cown_of references.now) count) }
 {
     for reference in references {
@@ -141,7 +151,9 @@ fn judge_stmt<'a>(
             judge_block(outside, scope, other, count)
         }
         Stmt::Repeat(turns, block) => judge_guarded(outside, scope, turns, block, count),
-        Stmt::When(def, args, references) => judge_call(outside, scope, def, args, references, count),
+        Stmt::When(def, args, references) => judge_call(
+            outside, scope, def, args, references, count,
+        ),
     }
 }
 

@@ -32,4 +32,9 @@ pub mod Filled
 pub mod Wanting
 pub mod Within
 pub mod Strays
+pub mod Verdicts
+pub mod NameOrder
+pub mod RightNames
+pub mod JudgedTrees
+pub mod WrongPlaces
 mod examples

@@ -1,10 +1,11 @@
 -- Where the tokens of a text stand.
 use Rattle.std.proofs.Common.{◌≡◌, ℕ, ◌-◌, List, [], ◌∷◌, ◌++◌, length, drop, Option, Some, None, refl, sym, ap, ◌∙◌, subst, arith}
-use Rattle.std.proofs.Common.{append_assoc, length-drop}
+use Rattle.std.proofs.Common.{append_assoc, append-nil, length-drop}
 use Rattle.std.proofs.lemmas.List.{drop-drop, map_push}
 use Rattle.boc_reader.specs.Tokens as the
 use Rattle.boc_reader.specs.Tokens.{put, tokens_of_text}
-use Rattle.boc_reader.specs.Placed.{token_of, tokens_of, ArePlaced, BeginsToken, IsEndOf}
+use Rattle.boc_reader.specs.Placed.{token_of, tokens_of, ArePlaced, AreReached, BeginsToken, IsEndOf}
+use Rattle.boc_reader.specs.WrongTokens.{HasRead}
 use Rattle.boc_reader.specs.declared.token.Placed.{Placed}
 use Rattle.boc_reader.proofs.Texts.{put_all, no_tokens}
 
@@ -68,3 +69,13 @@ pub all_placed : (text : List ℕ) (ps : List Placed) → StandBefore text [] ps
 all_placed text [] stand = tt
 all_placed text (p ∷ ps) stand =
     (record { begins = stand.0; has_tokens = stand.1 ∙ no_tokens (tokens_of (p ∷ ps)) }, all_placed text ps stand.2)
+
+-- a token more, up to which the text was read
+pub reached_more : (text : List ℕ) (before : List the.Token) (ps : List Placed) (p : Placed) → AreReached text before ps
+    → HasRead text (drop p.at text) (before ++ tokens_of ps) → AreReached text before (ps ++ p ∷ [])
+reached_more text before [] p reached read = (subst (HasRead text (drop p.at text)) (append-nil before) read, tt)
+reached_more text before (q ∷ qs) p reached read = (
+  reached.0,
+  reached_more text (before ++ token_of q.token ∷ []) qs p reached.1
+      (subst (HasRead text (drop p.at text)) (sym (append_assoc before (token_of q.token ∷ []) (tokens_of qs))) read),
+)

@@ -243,7 +243,7 @@ none_or_some : (found : Option (List Token)) → (found ≡ None) ⊎ ((ws : Lis
 none_or_some None = inl refl
 none_or_some (Some ws) = inr (ws, refl)
 
-some_behind : (p : Piece) (ps : List Piece) (ws : List Token) → tokens_of_pieces (p ∷ ps) ≡ Some ws
+pub some_behind : (p : Piece) (ps : List Piece) (ws : List Token) → tokens_of_pieces (p ∷ ps) ≡ Some ws
     → (vs : List Token) × (tokens_of_pieces ps ≡ Some vs)
 some_behind p ps ws e =
     elim (none_or_some (tokens_of_pieces ps)) [

@@ -79,7 +79,7 @@ names_of_shapes cs = map (λ c. c.name) cs
 abbrev pub names_of_defs : List Def → List Named
 names_of_defs ds = map (λ d. d.name) ds
 
-cowns_behind-all : (before : List Global) (n : ℕ) (cs : List Cown)
+pub cowns_behind-all : (before : List Global) (n : ℕ) (cs : List Cown)
     → cowns_behind before n cs ≡ (if are_new (cown_names before) (names_of_shapes cs) then Some (before ++ globals n cs) else None)
 cowns_behind-all before n [] = ap Some (sym (append-nil before))
 cowns_behind-all before n (c ∷ cs) =
@@ -135,7 +135,7 @@ bodies_behind-all top before (d ∷ ds) =
     body_behind (among before d.name) (are_new (before ++ d.name ∷ []) (names_of_defs ds)) (def_names top d) (bodies_behind top (before ++ d.name ∷ []) ds)
     (all_names (def_names top) ds) (bodies_behind-all top (before ++ d.name ∷ []) ds)
 
-cown_names-globals : (n : ℕ) (cs : List Cown) → cown_names (globals n cs) ≡ names_of_shapes cs
+pub cown_names-globals : (n : ℕ) (cs : List Cown) → cown_names (globals n cs) ≡ names_of_shapes cs
 cown_names-globals n [] = refl
 cown_names-globals n (c ∷ cs) = ap (λ ns. c.name ∷ ns) (cown_names-globals (n + members c.size) cs)
 
@@ -185,12 +185,12 @@ abbrev pub whole_at : Tree → Top → Option PlainProgram
 whole_at t top =
     option_and_then (λ defs. option_map (λ main. plain_of t main defs) (body_names top [] [] t.main)) (bodies_behind top (cown_names top.cowns) t.defs)
 
-no_cowns : (t : Tree) → cowns_new t ≡ false → program_in_order t ≡ None
+pub no_cowns : (t : Tree) → cowns_new t ≡ false → program_in_order t ≡ None
 no_cowns t h =
     ap (λ o. option_and_then (whole_at t) (option_map (λ gs. with_defs gs (defs_behind gs [] t.defs)) o))
     (cowns_behind-all [] 0 t.cowns ∙ ap (λ b. if b then Some (globals 0 t.cowns) else None) h)
 
-at_cowns : (t : Tree) → cowns_new t ≡ true → program_in_order t ≡ whole_at t (with_defs (globals 0 t.cowns) (defs_behind (globals 0 t.cowns) [] t.defs))
+pub at_cowns : (t : Tree) → cowns_new t ≡ true → program_in_order t ≡ whole_at t (with_defs (globals 0 t.cowns) (defs_behind (globals 0 t.cowns) [] t.defs))
 at_cowns t h =
     ap (λ o. option_and_then (whole_at t) (option_map (λ gs. with_defs gs (defs_behind gs [] t.defs)) o))
     (cowns_behind-all [] 0 t.cowns ∙ ap (λ b. if b then Some (globals 0 t.cowns) else None) h)

@@ -24,7 +24,7 @@ pub and_assoc : (a b c : Bool) → (a && (b && c)) ≡ ((a && b) && c)
 and_assoc true b c = refl
 and_assoc false b c = refl
 
-are_free-append : (top : Top) (scope xs ys : List Named) → are_free top scope (xs ++ ys) ≡ (are_free top scope xs && are_free top (scope ++ xs) ys)
+pub are_free-append : (top : Top) (scope xs ys : List Named) → are_free top scope (xs ++ ys) ≡ (are_free top scope xs && are_free top (scope ++ xs) ys)
 are_free-append top scope [] ys = ap (λ s. are_free top s ys) (sym (append-nil scope))
 are_free-append top scope (x ∷ xs) ys =
     ap (λ b. is_free top scope x && b) (are_free-append top (scope ++ x ∷ []) xs ys

@@ -1,2 +1,3 @@
 mod TransferText
 mod StrayTokens
+mod WrongNameTexts

@@ -13,6 +13,9 @@ use Rattle.boc_reader.specs.declared.fault.TokenFault.{TokenFault}
 use Rattle.boc_reader.specs.declared.fault.TokenFault.TheVariants as token_faults
 use Rattle.boc_reader.specs.declared.fault.ShapeFault.{ShapeFault}
 use Rattle.boc_reader.specs.declared.fault.ShapeFault.TheVariants as shape_faults
+use Rattle.boc_reader.specs.WrongNames.{NameGoesWrong}
+use Rattle.boc_reader.specs.declared.fault.NameFault.{NameFault}
+use Rattle.boc_reader.specs.declared.fault.NameFault.TheVariants as name_faults
 use Rattle.boc_reader.specs.declared.fault.ReadFaultKind.{ReadFaultKind}
 use Rattle.boc_reader.specs.declared.fault.ReadFaultKind.TheVariants as kinds
 
@@ -63,15 +66,22 @@ StandsFirst wrong fault text = StandsIn fault text × GoesWrong wrong text fault
 abbrev pub StandsInShape : ShapeFault → ReadFault → List ℕ → Type 0
 StandsInShape wrong fault text = StandsIn fault text × ShapeFaultStandsAt wrong text fault.at
 
+-- the fault is the first wrong name of the text, and begins at its place
+abbrev pub StandsAtName : NameFault → ReadFault → List ℕ → Type 0
+StandsAtName wrong fault text = StandsIn fault text × NameGoesWrong wrong text fault.at
+
 -- The place that is told with a kind of fault: that of the first byte too many where the text is too long, none where memory was refused, that of the
 -- first byte of the first fault where the text has no tokens, that of the first token, or the end, that the grammar doesn't allow, that of a token that it
--- allows where there are too many of something, and otherwise one of the text.
+-- allows where there are too many of something, and that of the first byte of the first wrong name where its names can't be resolved.
 abbrev pub TellsPlace : ReadFaultKind → ReadFault → List ℕ → Type 0
 TellsPlace kinds.NotAscii fault text = StandsFirst token_faults.NotAscii fault text
 TellsPlace kinds.BadToken fault text = StandsFirst token_faults.BadToken fault text
 TellsPlace kinds.NumberTooLarge fault text = StandsFirst token_faults.NumberTooLarge fault text
 TellsPlace kinds.Unexpected fault text = StandsInShape shape_faults.Unexpected fault text
 TellsPlace kinds.TooMany fault text = StandsInShape shape_faults.TooMany fault text
+TellsPlace kinds.UnknownName fault text = StandsAtName name_faults.UnknownName fault text
+TellsPlace kinds.NameTaken fault text = StandsAtName name_faults.NameTaken fault text
+TellsPlace kinds.WrongCount fault text = StandsAtName name_faults.WrongCount fault text
 TellsPlace kinds.TooLong fault text = (fault.at ≡ MOST_TEXT) × (fault.line ≡ line_after (take MOST_TEXT text))
 TellsPlace kinds.Memory fault text = (fault.at ≡ 0) × (fault.line ≡ 0)
 TellsPlace kind fault text = StandsIn fault text

@@ -12,6 +12,9 @@ pub mod Listing
 pub mod Listed
 pub mod Resolving
 pub mod Resolves
+pub mod NameUses
+pub mod WrongNames
+pub mod Judging
 pub mod FaultMeanings
 pub mod FaultTexts
 pub mod Wanted

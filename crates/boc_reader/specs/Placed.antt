@@ -1,8 +1,9 @@
 -- Tokens without where they stand, where the first of them stands, and what a fault says.
-use Rattle.std.specs.Prelude.{◌≡◌, ◌≢◌, ℕ, ◌-◌, List, [], ◌∷◌, map, length, drop, false, Some}
+use Rattle.std.specs.Prelude.{◌≡◌, ◌≢◌, ℕ, ◌-◌, List, [], ◌∷◌, ◌++◌, map, length, drop, false, Some}
 use Rattle.std.specs.Str.{byte}
 use Rattle.boc_reader.specs.Tokens as the
 use Rattle.boc_reader.specs.Tokens.{is_blank, tokens_of_text}
+use Rattle.boc_reader.specs.WrongTokens.{HasRead}
 use Rattle.boc_reader.specs.declared.token.Token.{Token}
 use Rattle.boc_reader.specs.declared.token.Token.TheVariants as tokens
 use Rattle.boc_reader.specs.declared.token.Placed.{Placed}
@@ -49,3 +50,8 @@ pub record BeginsAt (text : List ℕ) (at : ℕ) (tokens : List the.Token) : Typ
 abbrev pub ArePlaced : List ℕ → List Placed → Type 0
 ArePlaced text [] = Unit {0}
 ArePlaced text (p ∷ ps) = BeginsAt text p.at (tokens_of (p ∷ ps)) × ArePlaced text ps
+
+-- up to the place of each of these tokens the text was read, as those before it
+abbrev pub AreReached : List ℕ → List the.Token → List Placed → Type 0
+AreReached text before [] = Unit {0}
+AreReached text before (p ∷ ps) = HasRead text (drop p.at text) before × AreReached text (before ++ token_of p.token ∷ []) ps

@@ -4,7 +4,7 @@ use std::alloc::{AllocError, AllocFailed};
 use thiserror::Error;
 
 /// Why a pass over a text stopped: memory was refused, or there is a fault of this kind, whose first
-/// byte stands at this place.
+/// byte stands at this place. Where names are judged, the place is how many names stand before the wrong one.
 #[derive(Clone, Copy, PartialEq, Eq, Debug)]
 pub enum Fault<K> {
     Memory,

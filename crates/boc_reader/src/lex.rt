@@ -6,7 +6,7 @@ ghost use Rattle.std.specs.Bool.{OnTrue};
 ghost use Rattle.std.specs.Char.{is_ascii_digit};
 ghost use Rattle.std.specs.List.{take_while, list_all};
 ghost use Rattle.std.specs.Str.{byte, IsAscii};
-ghost use Rattle.boc_reader.specs.Placed.{token_of, tokens_of, ArePlaced, IsEndOf};
+ghost use Rattle.boc_reader.specs.Placed.{token_of, tokens_of, ArePlaced, AreReached, IsEndOf};
 ghost use Rattle.boc_reader.specs.Tokens as the;
 ghost use Rattle.boc_reader.specs.Tokens.{sign, is_name_byte, is_blank, is_numeral, value_of, begins_with_digit, token_of_run, keyword_of, single_sign};
 ghost use Rattle.boc_reader.specs.Tokens.{pair_sign, tokens_of_text, IsApart};
@@ -263,6 +263,7 @@ fn split_token(text: &[u8]) -> Result<(Token<'_>, &[u8]), TokenFault>
 pub fn tokens(alloc: Global, text: &[u8]) -> Result<Vec<Placed<'_>>, Fault<TokenFault>>
     ensures tokens { MatchResult result (λ v. tokens_of_text text.now ≡ Some (tokens_of v.items)) (λ fault. IsFirstWrong fault text.now) }
     ensures places { IfOk result (λ v. ArePlaced text.now v.items) }
+    ensures reached { IfOk result (λ v. AreReached text.now [] v.items) }
 {
     let mut all = Vec::new(alloc);
     let mut rest = text;

@@ -20,4 +20,4 @@ mod wanted;
 
 pub use fault::{ReadFault, ReadFaultKind};
 pub use listing::{DefListing, one_listing};
-pub use read::{read_listed, read_program, refused_is_none};
+pub use read::{names_are_judged, read_listed, read_program, refused_is_none};

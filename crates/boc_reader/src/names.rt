@@ -14,6 +14,7 @@ mod block;
 mod body;
 mod declare;
 mod expr;
+pub mod judge;
 mod top;
 
 use crate::fault::{Fault, NameFault};

@@ -1,31 +1,38 @@
 // Program texts.
 
-ghost use Rattle.std.specs.Prelude.{◌≡◌, ◌≢◌, ◌<◌, ◌≤◌, ℕ, List, length, IfOk, MatchResult, Some};
+ghost use Rattle.std.specs.Prelude.{◌≡◌, ◌≢◌, ◌<◌, ◌≤◌, ℕ, List, [], map, length, IfOk, MatchResult, Some};
 ghost use Rattle.boc_reader.specs.Spells.{Spells, plain_program};
 ghost use Rattle.boc_program.specs.declared.limits.TheConstants.{MOST_TEXT};
 ghost use Rattle.boc_program.specs.declared.program.Program.{Program};
-ghost use Rattle.boc_reader.specs.Placed.{ArePlaced, Refusal, tokens_of};
+ghost use Rattle.boc_reader.specs.Placed.{ArePlaced, AreReached, Refusal, tokens_of};
 ghost use Rattle.boc_reader.specs.Tokens.{Token, tokens_of_text};
 ghost use Rattle.boc_reader.specs.Grammar.{NoShape};
+ghost use Rattle.boc_reader.specs.Judging.{IsNameAt};
 ghost use Rattle.boc_reader.specs.WrongTokens.{IsFirstWrong, GoesWrong};
 ghost use Rattle.boc_reader.specs.WrongShape.{ShapeGoesWrong, ShapeFaultStandsAt};
 ghost use Rattle.boc_reader.specs.FaultMeanings.{HasNoShape, HasNoNames, SaysOf, IsRefusalOf};
 ghost use Rattle.boc_reader.specs.declared.fault.TokenFault.{TokenFault};
+ghost use Rattle.boc_reader.specs.declared.fault.NameFault.{NameFault};
+ghost use Rattle.boc_reader.specs.Names.{PlainProgram, tree_names};
+ghost use Rattle.boc_reader.specs.NameUses.{tree_uses};
+ghost use Rattle.boc_reader.specs.WrongNames.{NameGoesWrong, names_of_tokens, right, verdict, wrong};
 ghost use Rattle.boc_reader.specs.declared.fault.ReadFaultKind.{ReadFaultKind};
 ghost use Rattle.boc_reader.specs.Listed.{ListsDefs, SpellsBy};
 ghost use Rattle.boc_reader.specs.Listing.{AreLeft, main_tokens};
-ghost use Rattle.boc_reader.specs.Shape.{Tree as ShapeTree, HasShape};
+ghost use Rattle.boc_reader.specs.Shape as the;
+ghost use Rattle.boc_reader.specs.Shape.{HasShape, tree_tokens};
 ghost use Rattle.boc_reader.specs.Views.{block_of, tree_of};
 
 use crate::fault::{Fault, NameFault, ReadFault, ReadFaultKind, ShapeFault, TokenFault};
 use crate::lex::tokens;
 use crate::lines::{fault_at, line_after};
 use crate::listing::{DefListing, list_defs};
+use crate::names::judge::judge_tree;
 use crate::names::resolve_program;
 use crate::parse::parse_tree;
 use crate::shape::Tree;
 use crate::stray::first_fault;
-use crate::token::Placed;
+use crate::token::{self, Placed};
 use boc_program::limits::MOST_TEXT;
 use boc_program::program::Program;
 use std::alloc::{AllocError, Global};
@@ -39,8 +46,8 @@ const NO_MEMORY: ReadFault = ReadFault {
 /// The program that a text spells. A text that is too long is refused for that. Any other goes
 /// through three passes, for its tokens, its shape and its names: the first pass that finds a fault
 /// tells the first one in the text. The place and its line are those of the fault, of the first byte too many, or 0 for want of memory.
-/// Of a fault among the tokens, and of a token or an end that the grammar doesn't allow, it is proved that it is the first; where there are too many of
-/// something, that the grammar allows all tokens up to the one that is told; and of any other fault that the place is one of the text.
+/// Of a fault among the tokens, of a token or an end that the grammar doesn't allow, and of a wrong name it is proved that it is the first; and where there
+/// are too many of something, that the grammar allows all tokens up to the one that is told.
 pub fn read_program(alloc: Global, text: &[u8]) -> Result<Program, ReadFault>
     ensures { MatchResult result (Spells text.now) (λ f. IsRefusalOf f text.now) }
 {
@@ -98,7 +105,8 @@ fn read_whole(alloc: Global, text: &[u8]) -> Result<Whole<'_>, ReadFault>
             tree,
             program,
         }),
-        Err(fault) => Err(no_names(text, fault)),
+        Err(Fault::Memory) => Err(NO_MEMORY),
+        Err(Fault::At(..)) => Err(no_names(alloc, text, &tokens, &tree)),
     }
 }
 
@@ -163,28 +171,72 @@ fn shape_at(text: &[u8], wrong: ShapeFault, at: usize) -> ReadFault
     }
 }
 
-// A fault of the third pass.
-fn no_names(text: &[u8], fault: Fault<NameFault>) -> ReadFault
+// A fault of the third pass: the first wrong name of the tree, which has these tokens.
+fn no_names(alloc: Global, text: &[u8], tokens: &[Placed<'_>], tree: &Tree<'_>) -> ReadFault
     requires short { length text.now ≤ MOST_TEXT }
-    requires none { Refusal fault (HasNoNames text.now) }
+    requires tokens { tokens_of_text text.now ≡ Some (tokens_of tokens.now) }
+    requires placed { ArePlaced text.now tokens.now }
+    requires reached { AreReached text.now [] tokens.now }
+    requires shape { HasShape (tokens_of tokens.now) (tree_of tree.now) }
+    requires none { tree_names (tree_of tree.now) ≡ None }
     ensures { IsRefusalOf result text.now }
 {
-    let (kind, at) = match fault {
-        Fault::Memory => return NO_MEMORY,
-        Fault::At(NameFault::UnknownName, at) => (ReadFaultKind::UnknownName, at),
-        Fault::At(NameFault::NameTaken, at) => (ReadFaultKind::NameTaken, at),
-        Fault::At(NameFault::WrongCount, at) => (ReadFaultKind::WrongCount, at),
-    };
-    fault_at(text, kind, at)
+    match judge_tree(alloc, tree) {
+        Ok(_) => unreachable!(),
+        Err(Fault::Memory) => NO_MEMORY,
+        Err(Fault::At(wrong, before)) => wrong_name(text, wrong, place_of_name(tokens, before)),
+    }
+}
+
+// The first wrong name, which begins at this byte.
+fn wrong_name(text: &[u8], wrong: NameFault, at: usize) -> ReadFault
+    requires short { length text.now ≤ MOST_TEXT }
+    requires within { at ≤ length text.now }
+    requires none { HasNoNames text.now }
+    requires first { NameGoesWrong wrong text.now at }
+    ensures { IsRefusalOf result text.now }
+{
+    match wrong {
+        NameFault::UnknownName => fault_at(text, ReadFaultKind::UnknownName, at),
+        NameFault::NameTaken => fault_at(text, ReadFaultKind::NameTaken, at),
+        NameFault::WrongCount => fault_at(text, ReadFaultKind::WrongCount, at),
+    }
+}
+
+// The byte at which the name behind so many others begins.
+fn place_of_name(tokens: &[Placed<'_>], before: usize) -> usize
+    requires { before < length (names_of_tokens (tokens_of tokens.now)) }
+    ensures { IsNameAt tokens.now before result }
+{
+    let mut left = before;
+    for placed in tokens {
+        if let token::Token::Name(_) = placed.token {
+            if left == 0 {
+                return placed.at;
+            }
+            left -= 1;
+        }
+    }
+    unreachable!()
 }
 
 /// A text of which a fault is told, but for want of memory, spells no program, a text spells one program at most, and a text without tokens goes wrong
-/// first in one way and at one place. The shape of tokens goes wrong at one place at most, and nowhere where they are those of a tree.
+/// first in one way and at one place, as does one whose names can't be resolved. The shape of tokens goes wrong at one place at most, and nowhere where they
+/// are those of a tree.
 pub fn refused_is_none()
     ensures none { (kind : ReadFaultKind) (text : List ℕ) (p : Program) → kind ≢ ReadFaultKind.Memory → SaysOf kind text → Spells text p → ⊥ }
     ensures one { (text : List ℕ) (p q : Program) → Spells text p → Spells text q → plain_program p ≡ plain_program q }
     ensures first { (fault other : TokenFault) → (text : List ℕ) → (at place : ℕ) → GoesWrong fault text at → GoesWrong other text place
         → (fault ≡ other) × (at ≡ place) }
     ensures shape { (tokens : List Token) (before behind : ℕ) → ShapeGoesWrong tokens before → ShapeGoesWrong tokens behind → before ≡ behind }
-    ensures right { (tokens : List Token) (tree : ShapeTree) (before : ℕ) → HasShape tokens tree → ShapeGoesWrong tokens before → ⊥ }
+    ensures right { (tokens : List Token) (tree : the.Tree) (before : ℕ) → HasShape tokens tree → ShapeGoesWrong tokens before → ⊥ }
+    ensures first_name { (fault other : NameFault) → (text : List ℕ) → (at place : ℕ) → NameGoesWrong fault text at → NameGoesWrong other text place
+        → (fault ≡ other) × (at ≡ place) }
+{}
+
+/// The names of a tree in their order are the names among its tokens. All of them are right exactly where they resolve.
+pub fn names_are_judged()
+    ensures order { (t : the.Tree) → map (λ u. u.name) (tree_uses t) ≡ names_of_tokens (tree_tokens t) }
+    ensures right { (t : the.Tree) → (n : ℕ) → verdict 0 (tree_uses t) ≡ right n → (p : PlainProgram) × (tree_names t ≡ Some p) }
+    ensures wrong { (t : the.Tree) → (fault : NameFault) → (n : ℕ) → verdict 0 (tree_uses t) ≡ wrong fault n → tree_names t ≡ None }
 {}

@@ -5,7 +5,7 @@ use Rattle.boc_reader.specs.Tokens.{tokens_of_text}
 use Rattle.boc_reader.specs.WrongTokens.{HasRead}
 use Rattle.boc_reader.specs.declared.token.Placed.{Placed}
 use Rattle.boc_reader.proofs.Texts.{put_all, no_tokens}
-use Rattle.boc_reader.proofs.Places.{StandBefore, all_placed, end_more, end_next, one_more, still_before}
+use Rattle.boc_reader.proofs.Places.{StandBefore, all_placed, end_more, end_next, one_more, reached_more, still_before}
 use Rattle.boc_reader.proofs.Reading.{nothing_put, read_blank, read_more, read_on, token_read, tokens_read, wrong_behind}
 use Rattle.boc_reader.proofs.lex.tokens.Goals as goal
 
@@ -21,6 +21,7 @@ loop-first-preserved-then-is_blank c =
       omega (arith, parts.1),
       end_more after rest text c.loop-first.invariant.2 (end_next c.in-Some.first.now after rest parts.0),
       still_before text rest after c.loop-first.all.items (tokens_read rest after [] blank ∙ nothing_put (tokens_of_text after)) c.loop-first.invariant.3,
+      c.loop-first.invariant.4,
     )
 
 pub loop-first-preserved-then-first-eq35 : goal.loop-first-preserved-then-first-eq35
@@ -38,6 +39,7 @@ loop-first-preserved-then-first-eq35 c =
           (end_next c.in-Some.first.now c.in-Some.after.now rest parts.0) c.after_comment-rest.ensures.end),
       still_before text rest behind c.loop-first.all.items (tokens_read rest behind [] comment ∙ nothing_put (tokens_of_text behind))
           c.loop-first.invariant.3,
+      c.loop-first.invariant.4,
     )
 
 pub loop-first-preserved : goal.loop-first-preserved
@@ -55,6 +57,8 @@ loop-first-preserved c =
       omega (arith, c.in-Ok.ensures.shorter),
       end_more after rest text c.loop-first.invariant.2 c.in-Ok.ensures.end,
       one_more text rest after all token (token_read rest after (token_of c.in-Ok.token) read) c.loop-first.invariant.2 begins c.loop-first.invariant.3,
+      reached_more text [] all token c.loop-first.invariant.4
+          (subst (λ (r : List ℕ). HasRead text r (tokens_of all)) c.loop-first.invariant.2 c.loop-first.invariant.0),
     )
 
 pub returns-in-Err-clause-tokens : goal.returns-in-Err-clause-tokens

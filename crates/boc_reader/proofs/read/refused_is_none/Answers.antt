@@ -1,6 +1,7 @@
 use Rattle.boc_reader.proofs.Spellings.{none_spelled, one_program}
 use Rattle.boc_reader.proofs.Reading.{one_fault}
 use Rattle.boc_reader.proofs.Strays.{one_stray, shaped_is_right}
+use Rattle.boc_reader.proofs.WrongPlaces.{one_wrong_name}
 use Rattle.boc_reader.proofs.read.refused_is_none.Goals as goal
 
 pub returns-clause-none : goal.returns-clause-none
@@ -17,3 +18,6 @@ returns-clause-shape c = one_stray
 
 pub returns-clause-right : goal.returns-clause-right
 returns-clause-right c = shaped_is_right
+
+pub returns-clause-first_name : goal.returns-clause-first_name
+returns-clause-first_name c = one_wrong_name

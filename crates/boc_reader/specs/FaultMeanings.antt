@@ -84,7 +84,6 @@ TellsPlace kinds.NameTaken fault text = StandsAtName name_faults.NameTaken fault
 TellsPlace kinds.WrongCount fault text = StandsAtName name_faults.WrongCount fault text
 TellsPlace kinds.TooLong fault text = (fault.at ≡ MOST_TEXT) × (fault.line ≡ line_after (take MOST_TEXT text))
 TellsPlace kinds.Memory fault text = (fault.at ≡ 0) × (fault.line ≡ 0)
-TellsPlace kind fault text = StandsIn fault text
 
 -- what a fault says of the text that is refused for it: what is wrong with it, and where
 abbrev pub IsRefusalOf : ReadFault → List ℕ → Type 0

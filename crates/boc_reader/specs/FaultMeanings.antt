@@ -64,8 +64,8 @@ abbrev pub StandsInShape : ShapeFault → ReadFault → List ℕ → Type 0
 StandsInShape wrong fault text = StandsIn fault text × ShapeFaultStandsAt wrong text fault.at
 
 -- The place that is told with a kind of fault: that of the first byte too many where the text is too long, none where memory was refused, that of the
--- first byte of the first fault where the text has no tokens, that of the first token, or the end, that the grammar doesn't allow, that of a token that it
--- allows where there are too many of something, and otherwise one of the text.
+-- first byte of the first fault where the text has no tokens, that of the first token, or the end, that the grammar doesn't allow, that of a token with
+-- which, or before which, there are too many of something, and otherwise one of the text.
 abbrev pub TellsPlace : ReadFaultKind → ReadFault → List ℕ → Type 0
 TellsPlace kinds.NotAscii fault text = StandsFirst token_faults.NotAscii fault text
 TellsPlace kinds.BadToken fault text = StandsFirst token_faults.BadToken fault text

@@ -40,7 +40,8 @@ const NO_MEMORY: ReadFault = ReadFault {
 /// through three passes, for its tokens, its shape and its names: the first pass that finds a fault
 /// tells the first one in the text. The place and its line are those of the fault, of the first byte too many, or 0 for want of memory.
 /// Of a fault among the tokens, and of a token or an end that the grammar doesn't allow, it is proved that it is the first; where there are too many of
-/// something, that the grammar allows all tokens up to the one that is told; and of any other fault that the place is one of the text.
+/// something, that a tree begins with the tokens up to the one that is told, and none within the limits; and of any other fault that the place is one of
+/// the text.
 pub fn read_program(alloc: Global, text: &[u8]) -> Result<Program, ReadFault>
     ensures { MatchResult result (Spells text.now) (λ f. IsRefusalOf f text.now) }
 {

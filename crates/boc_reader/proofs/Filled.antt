@@ -1,5 +1,6 @@
 -- What is wanted of a text, as parts of a tree: what stands where a token was read stands in its place.
-use Rattle.std.proofs.Common.{◌≡◌, ℕ, zero, suc, ◌≤◌, Bool, true, false, if◌then◌else◌, List, [], ◌∷◌, ◌++◌, Option, Some, None, refl, sym, ap, ◌∙◌, subst, arith, append-nil}
+use Rattle.std.proofs.Common.{◌≡◌, ℕ, zero, suc, ◌≤◌, Bool, true, false, if◌then◌else◌, List, [], ◌∷◌, ◌++◌, Option, Some, None, refl, sym, ap, ◌∙◌, subst}
+use Rattle.std.proofs.Common.{arith, append-nil}
 use Rattle.boc_reader.specs.declared.terminal.Keyword.{Keyword}
 use Rattle.boc_reader.specs.declared.terminal.Keyword.TheVariants as keywords
 use Rattle.boc_reader.specs.declared.terminal.Sign.{Sign}
@@ -138,11 +139,13 @@ at_keyword k _ ws ts h = absurd h
 more_in_sum : (u : Unary) (op : SumOperator) (s : Sum) (r : List Token) → (t : Sum) × (unary_tokens u (sign (sum_sign op) ∷ sum_tokens s r) ≡ sum_tokens t r)
 more_in_sum u op s r = (more_terms (one_factor u) op s, refl)
 
-more_in_expr : (u : Unary) (op : SumOperator) (e : Expr) (r : List Token) → (f : Expr) × (unary_tokens u (sign (sum_sign op) ∷ expr_tokens e r) ≡ expr_tokens f r)
+more_in_expr : (u : Unary) (op : SumOperator) (e : Expr) (r : List Token)
+    → (f : Expr) × (unary_tokens u (sign (sum_sign op) ∷ expr_tokens e r) ≡ expr_tokens f r)
 more_in_expr u op (plain s) r = (plain (more_terms (one_factor u) op s), refl)
 more_in_expr u op (compared s o t) r = (compared (more_terms (one_factor u) op s) o t, refl)
 
-factor_in_sum : (u : Unary) (op : TermOperator) (s : Sum) (r : List Token) → (t : Sum) × (unary_tokens u (sign (term_sign op) ∷ sum_tokens s r) ≡ sum_tokens t r)
+factor_in_sum : (u : Unary) (op : TermOperator) (s : Sum) (r : List Token)
+    → (t : Sum) × (unary_tokens u (sign (term_sign op) ∷ sum_tokens s r) ≡ sum_tokens t r)
 factor_in_sum u op (one_term t) r = (one_term (more_factors u op t), refl)
 factor_in_sum u op (more_terms t o s) r = (more_terms (more_factors u op t) o s, refl)
 

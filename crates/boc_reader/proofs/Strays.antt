@@ -1,8 +1,10 @@
 -- Where the shape of tokens goes wrong first, by what was wanted in front of it.
-use Rattle.std.proofs.Common.{◌≡◌, ◌≢◌, ℕ, zero, suc, ◌+◌, ◌-◌, ◌<◌, ◌≤◌, inl, inr, List, [], ◌∷◌, ◌++◌, length, get_or, map, take, drop, Option, Some, None, refl, sym, ap}
+use Rattle.std.proofs.Common.{◌≡◌, ◌≢◌, ℕ, zero, suc, ◌+◌, ◌-◌, ◌<◌, ◌≤◌, inl, inr, List, [], ◌∷◌, ◌++◌, length, get_or, map, take, drop}
+use Rattle.std.proofs.Common.{Option, Some, None, refl, sym, ap}
 use Rattle.std.proofs.Common.{◌∙◌, subst, arith, append-nil, append_assoc, reverse}
 use Rattle.std.proofs.lemmas.Bool.{cases_lt}
-use Rattle.std.proofs.lemmas.List.{drop_all, length-map, length-reverse, map_more, nil_from_length, reverse-append, reverse-reverse, take-map, take_all, take-take, take-append-drop}
+use Rattle.std.proofs.lemmas.List.{drop_all, length-map, length-reverse, map_more, nil_from_length, reverse-append, reverse-reverse, take-map, take_all}
+use Rattle.std.proofs.lemmas.List.{take-take, take-append-drop}
 use Rattle.boc_reader.specs.declared.token.Placed.{Placed}
 use Rattle.boc_reader.specs.declared.wanted.Wanted.{Wanted}
 use Rattle.boc_reader.specs.declared.wanted.Wanted.TheVariants.{Cowns}
@@ -140,7 +142,8 @@ wrong_at_end ps k items most e some =
 -- a tree that begins with tokens begins with a front of them
 pub front_begins : (ts : List Token) (j k : ℕ) → j ≤ k → BeginTree (take k ts) → BeginTree (take j ts)
 front_begins ts j k le l =
-    let parts : take j ts ++ drop j (take k ts) ≡ take k ts = ap (λ (us : List Token). us ++ drop j (take k ts)) (sym (take-take j k ts le)) ∙ take-append-drop j (take k ts) in
+    let parts : take j ts ++ drop j (take k ts) ≡ take k ts =
+    ap (λ (us : List Token). us ++ drop j (take k ts)) (sym (take-take j k ts le)) ∙ take-append-drop j (take k ts) in
     record {
       more = drop j (take k ts) ++ l.more;
       whole = subst AreWhole (ap (λ (us : List Token). us ++ l.more) (sym parts) ∙ append_assoc (take j ts) (drop j (take k ts)) l.more) l.whole;

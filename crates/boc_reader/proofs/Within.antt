@@ -21,8 +21,8 @@ use Rattle.boc_reader.specs.Shape.{comparison_sign, sum_sign, term_sign, Expr, p
 use Rattle.boc_reader.specs.Shape.{sum_nodes, Term, one_factor, more_factors, term_tokens, term_nodes, Unary, negated, unsigned, unary_tokens, unary_nodes}
 use Rattle.boc_reader.specs.Shape.{Atom, literal, variable, parens, atom_tokens, atom_nodes, NamedCown, alone, member, ref_tokens, ref_nodes, list_nodes, Stmt}
 use Rattle.boc_reader.specs.Shape.{declare, assign, work, if_only, if_else, repeat, when, stmt_tokens, stmt_nodes, IsSmallStmt, Block, done, next, block_tokens}
-use Rattle.boc_reader.specs.Shape.{block_nodes, IsSmallBlock, IsSmallBody, braced_tokens, behind_commas, list_tokens, each_tokens, name_tokens, Cown, cown_tokens}
-use Rattle.boc_reader.specs.Shape.{HasMembers, HaveMembers, cowns_declared, size_tokens, minus_tokens, Def, AreSmallDefs, Tree}
+use Rattle.boc_reader.specs.Shape.{block_nodes, IsSmallBlock, IsSmallBody, braced_tokens, behind_commas, list_tokens, each_tokens, name_tokens, Cown}
+use Rattle.boc_reader.specs.Shape.{cown_tokens, HasMembers, HaveMembers, cowns_declared, size_tokens, minus_tokens, Def, AreSmallDefs, Tree}
 use Rattle.boc_reader.specs.Shape.{HasShape}
 use Rattle.boc_reader.specs.Wanted.{behind}
 use Rattle.boc_reader.specs.Room.{Within, room_of_text, take_cowns, left_behind, with_room, within_behind, within_after}
@@ -328,7 +328,8 @@ module _ (k d : ℕ) where
   one_ref (member x e) n l t ts ws none = ended k d l e n (sign signs.CloseIndex) (t ∷ ts) (the.CloseIndex ∷ ws) refl refl
 
   first_ref : (r : NamedCown) (n : ℕ) (ts : List Token) (ws : List Wanted)
-      → within_after (ref_tokens r ts) (the.Refs ∷ ws) (room k d (suc n) 0) ≡ within_after (ref_tokens r ts) (the.Name ∷ the.Index ∷ the.MoreRefs ∷ ws) (room k d n 7)
+      → within_after (ref_tokens r ts) (the.Refs ∷ ws) (room k d (suc n) 0)
+      ≡ within_after (ref_tokens r ts) (the.Name ∷ the.Index ∷ the.MoreRefs ∷ ws) (room k d n 7)
   first_ref (alone x) n ts ws = refl
   first_ref (member x e) n ts ws = refl
 

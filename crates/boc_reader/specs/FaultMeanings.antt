@@ -71,8 +71,8 @@ abbrev pub StandsAtName : NameFault → ReadFault → List ℕ → Type 0
 StandsAtName wrong fault text = StandsIn fault text × NameGoesWrong wrong text fault.at
 
 -- The place that is told with a kind of fault: that of the first byte too many where the text is too long, none where memory was refused, that of the
--- first byte of the first fault where the text has no tokens, that of the first token, or the end, that the grammar doesn't allow, that of a token that it
--- allows where there are too many of something, and that of the first byte of the first wrong name where its names can't be resolved.
+-- first byte of the first fault where the text has no tokens, that of the first token, or the end, that the grammar doesn't allow, that of a token with
+-- which, or before which, there are too many of something, and that of the first byte of the first wrong name where its names can't be resolved.
 abbrev pub TellsPlace : ReadFaultKind → ReadFault → List ℕ → Type 0
 TellsPlace kinds.NotAscii fault text = StandsFirst token_faults.NotAscii fault text
 TellsPlace kinds.BadToken fault text = StandsFirst token_faults.BadToken fault text

@@ -47,7 +47,7 @@ const NO_MEMORY: ReadFault = ReadFault {
 /// through three passes, for its tokens, its shape and its names: the first pass that finds a fault
 /// tells the first one in the text. The place and its line are those of the fault, of the first byte too many, or 0 for want of memory.
 /// Of a fault among the tokens, of a token or an end that the grammar doesn't allow, and of a wrong name it is proved that it is the first; and where there
-/// are too many of something, that the grammar allows all tokens up to the one that is told.
+/// are too many of something, that a tree begins with the tokens up to the one that is told, and none within the limits.
 pub fn read_program(alloc: Global, text: &[u8]) -> Result<Program, ReadFault>
     ensures { MatchResult result (Spells text.now) (λ f. IsRefusalOf f text.now) }
 {

@@ -3,9 +3,9 @@
 ghost use Rattle.std.specs.Prelude.{◌≡◌};
 ghost use Rattle.std.specs.Option.{option_map};
 ghost use Rattle.boc_reader.specs.Placed.{token_of};
-ghost use Rattle.boc_reader.specs.Wanted.{behind, behind_name, behind_number, behind_keyword, in_declaration, in_def, in_statement, behind_sign, behind_assign, behind_operator};
-ghost use Rattle.boc_reader.specs.Wanted.{behind_comparison, behind_minus, behind_open, behind_close, behind_open_block, behind_close_block, behind_open_index, behind_close_index};
-ghost use Rattle.boc_reader.specs.Wanted.{behind_semicolon, behind_comma, may_be_left_out};
+ghost use Rattle.boc_reader.specs.Wanted.{behind, behind_name, behind_number, behind_keyword, in_declaration, in_def, in_statement, behind_sign, behind_assign};
+ghost use Rattle.boc_reader.specs.Wanted.{behind_operator, behind_comparison, behind_minus, behind_open, behind_close, behind_open_block, behind_close_block};
+ghost use Rattle.boc_reader.specs.Wanted.{behind_open_index, behind_close_index, behind_semicolon, behind_comma, may_be_left_out};
 
 use self::Wanted::{
     Args, Assign, Close, CloseIndex, Cowns, Defs, Else, Expr, Held, InExpr, InSum, Index, Initial,
@@ -39,9 +39,11 @@ pub(crate) enum Wanted {
     Initial,
     /// Names, and the semicolon behind them.
     Params,
+    /// A comma and further names, or the semicolon.
     MoreParams,
     /// Names, and the parenthesis behind them.
     Held,
+    /// A comma and further names, or the parenthesis.
     MoreHeld,
     /// Statements, and the brace behind them.
     Stmts,
@@ -49,9 +51,11 @@ pub(crate) enum Wanted {
     Else,
     /// Expressions, and the semicolon behind them.
     Args,
+    /// A comma and further expressions, or the semicolon.
     MoreArgs,
     /// References, and the parenthesis behind them.
     Refs,
+    /// A comma and further references, or the parenthesis.
     MoreRefs,
     /// An index in its brackets, or nothing.
     Index,

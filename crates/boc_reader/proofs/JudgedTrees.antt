@@ -1,7 +1,7 @@
 -- What the pass that judges the names of a tree has found, part after part.
-use Rattle.std.proofs.Common.{◌≡◌, ℕ, List, [], ◌∷◌, ◌++◌, Bor, map, Option, Some, None, refl, sym, ap, ◌∙◌}
+use Rattle.std.proofs.Common.{◌≡◌, ℕ, List, [], ◌++◌, Bor, map, Option, Some, None, refl, sym, ap, ◌∙◌}
 use Rattle.std.specs.Option.{option_map}
-use Rattle.boc_reader.specs.Shape.{Cown, Tree}
+use Rattle.boc_reader.specs.Shape.{Tree}
 use Rattle.boc_reader.specs.Names.{Named, Global, Top}
 use Rattle.boc_reader.specs.Resolving.{names_of, cowns_behind, defs_behind, top_in_order}
 use Rattle.boc_reader.specs.NameUses.{tree_uses, first_declared, declared_cowns}

@@ -12,7 +12,8 @@ use Rattle.boc_reader.specs.Shape.{behind_commas, list_tokens, each_tokens, name
 use Rattle.boc_reader.specs.Shape.{call_tokens, written_tokens, comparison_sign, sum_sign, term_sign, tree_tokens}
 use Rattle.boc_reader.specs.Names.{Named, Top, Outside}
 use Rattle.boc_reader.specs.NameUses.{Use, judged, expr_uses, sum_uses, term_uses, unary_uses, atom_uses, all_uses, ref_uses, call_uses, stmt_uses, block_uses}
-use Rattle.boc_reader.specs.NameUses.{scope_behind, parameter_uses, body_uses, cown_uses, def_uses, tree_uses, first_declared, declared_cowns, variable_fault, new_fault}
+use Rattle.boc_reader.specs.NameUses.{scope_behind, parameter_uses, body_uses, cown_uses, def_uses, tree_uses, first_declared, declared_cowns}
+use Rattle.boc_reader.specs.NameUses.{variable_fault, new_fault}
 use Rattle.boc_reader.specs.WrongNames.{names_of_tokens}
 use Rattle.boc_reader.specs.declared.fault.NameFault.{NameFault}
 

@@ -10,9 +10,8 @@ use Rattle.boc_program.specs.Syntax.{Code}
 use Rattle.boc_reader.specs.Shape.{Block, IsSmallBody}
 use Rattle.boc_program.specs.Parts.{MakesBody}
 use Rattle.boc_reader.specs.Names.{Named, Top, PlainProgram, is_free, are_free, block_names, deepest}
-use Rattle.boc_reader.specs.declared.fault.Fault.{Fault}
-use Rattle.boc_reader.specs.declared.fault.Fault.TheVariants.{Memory, At}
-use Rattle.boc_reader.specs.declared.fault.NameFault.{NameFault}
+use Rattle.boc_reader.specs.declared.fault.Unresolved.{Unresolved}
+use Rattle.boc_reader.specs.declared.fault.Unresolved.TheVariants.{Memory, WrongName}
 use Rattle.boc_reader.specs.declared.shape.Spot.{Spot}
 use Rattle.boc_reader.specs.Views.{name_of}
 use Rattle.boc_reader.specs.Resolves.{Resolves}
@@ -47,22 +46,22 @@ scope_with-append top scope xs ys =
     (scope ++ (xs ++ ys)) (are_free-append top scope xs ys) (sym (append_assoc scope xs ys))
     ∙ sym (then_if (λ s. scope_with top s ys) (are_free top scope xs) (scope ++ xs))
 
-fault_on : {X X' Y Y' : Type 0} (view : Y → X) (view' : Y' → X') (fault : Fault NameFault) (o : Option X) (o' : Option X') → Yields view (Err fault) o
+fault_on : {X X' Y Y' : Type 0} (view : Y → X) (view' : Y' → X') (fault : Unresolved) (o : Option X) (o' : Option X') → Yields view (Err fault) o
     → (o ≡ None → o' ≡ None) → Yields view' (Err fault) o'
 fault_on view view' Memory o o' h f = tt
-fault_on view view' (At kind place) o o' h f = f h
+fault_on view view' WrongName o o' h f = f h
 
 -- a fault in a part is passed on: it is one of the whole
-pub passed_on : {X X' Y Y' : Type 0} (view : Y → X) (view' : Y' → X') (r : Result Y' (Fault NameFault)) (fault : Fault NameFault) (o : Option X)
+pub passed_on : {X X' Y Y' : Type 0} (view : Y → X) (view' : Y' → X') (r : Result Y' Unresolved) (fault : Unresolved) (o : Option X)
     (o' : Option X') → IsErrAnd r (λ f. f ≡ fault) → Yields view (Err fault) o → (o ≡ None → o' ≡ None) → Yields view' r o'
 passed_on view view' (Ok y) fault o o' is h f = absurd is
-passed_on view view' (Err e) fault o o' is h f = subst (λ (z : Fault NameFault). Yields view' (Err z) o') (sym is) (fault_on view view' fault o o' h f)
+passed_on view view' (Err e) fault o o' is h f = subst (λ (z : Unresolved). Yields view' (Err z) o') (sym is) (fault_on view view' fault o o' h f)
 
-pub resolves_fault : {X Y : Type 0} (view : Y → X) (r : Result Program (Fault NameFault)) (fault : Fault NameFault) (o : Option X) (o' : Option PlainProgram)
+pub resolves_fault : {X Y : Type 0} (view : Y → X) (r : Result Program Unresolved) (fault : Unresolved) (o : Option X) (o' : Option PlainProgram)
     → IsErrAnd r (λ f. f ≡ fault) → Yields view (Err fault) o → (o ≡ None → o' ≡ None) → Resolves r o'
 resolves_fault view (Ok p) fault o o' is h f = absurd is
 resolves_fault view (Err Memory) fault o o' is h f = tt
-resolves_fault view (Err (At kind place)) fault o o' is h f = f (subst (λ (z : Fault NameFault). Yields view (Err z) o) (sym is) h)
+resolves_fault view (Err WrongName) fault o o' is h f = f (subst (λ (z : Unresolved). Yields view (Err z) o) (sym is) h)
 
 opened_names : (top : Top) (xs : List Named) (scope : List Named) → scope_with top [] xs ≡ Some scope → xs ≡ scope
 opened_names top xs scope h = let t = test_made (are_free top [] xs) (Some xs) scope h in let e = t.1 in cc

@@ -1,21 +1,21 @@
 -- All names of a tree are right exactly where they resolve.
 use Rattle.std.proofs.Common.{◌≡◌, ℕ, ◌+◌, suc, Bool, true, false, List, [], ◌∷◌, ◌++◌, map, length, Option, Some, None, refl, sym, ap, ◌∙◌}
 use Rattle.std.proofs.Common.{cond, arith}
-use Rattle.std.specs.Prelude.{not, ◌&&◌, ◌||◌, if◌then◌else◌, is_some, nat_eq, nat_lt, position, find, slice_get}
+use Rattle.std.specs.Prelude.{not, ◌&&◌, ◌||◌, if◌then◌else◌, is_some, nat_eq, nat_lt, position, slice_get}
 use Rattle.std.specs.List.{list_any, position_or_len}
 use Rattle.std.proofs.lemmas.Bool.Decides.{nat_tests}
 use Rattle.std.specs.Option.{option_map, option_and_then}
 use Rattle.std.specs.Str.{bytes_eq}
-use Rattle.boc_program.specs.Syntax.{CownRef, Single, Member, SlotExpr, Slot, Negate, Binary, Code, Done}
-use Rattle.boc_program.specs.declared.body.Operator.{Operator}
+use Rattle.boc_program.specs.Syntax.{CownRef, Single, Member, SlotExpr, Slot, Negate, Binary, Done}
 use Rattle.boc_reader.specs.Shape.{Expr, plain, compared, Sum, one_term, more_terms, Term, one_factor, more_factors, Unary, negated, unsigned, Atom, literal}
 use Rattle.boc_reader.specs.Shape.{variable, parens, NamedCown, alone, member, Stmt, declare, assign, work, if_only, if_else, repeat, when, Block, done, next}
 use Rattle.boc_reader.specs.Shape.{Cown, Def, Tree}
-use Rattle.boc_reader.specs.Names.{Named, Left, Global, Callee, Top, Outside, PlainBody, PlainProgram, ResolvedStmt, Set, Choose, Loop, Spawn, then_code, among, slot_of, global, callee, kind_of}
+use Rattle.boc_reader.specs.Names.{Named, Left, Global, Callee, Top, Outside, PlainProgram, ResolvedStmt, Set, Choose, Loop, Spawn, then_code, among}
+use Rattle.boc_reader.specs.Names.{slot_of, global, callee, kind_of}
 use Rattle.boc_reader.specs.Names.{globals, is_free, are_free, joined, adds, multiplies, compares, expr_names, sum_names, term_names, unary_names, atom_names}
-use Rattle.boc_reader.specs.Names.{all_names, ref_names, held_or_single, single, member_of, takes, call_names, stmt_names, block_names, body_names, tree_names}
-use Rattle.boc_reader.specs.Resolving.{cowns_behind, cown_names, def_names, bodies_behind, program_at, program_in_order}
-use Rattle.boc_reader.specs.NameUses.{variable_fault, alone_fault, member_fault, callee_fault, free_fault, new_fault, scope_behind, first_declared, declared_cowns}
+use Rattle.boc_reader.specs.Names.{all_names, ref_names, held_or_single, member_of, takes, call_names, stmt_names, block_names, body_names, tree_names}
+use Rattle.boc_reader.specs.Resolving.{cowns_behind, def_names, bodies_behind}
+use Rattle.boc_reader.specs.NameUses.{variable_fault, alone_fault, member_fault, callee_fault, scope_behind, first_declared, declared_cowns}
 use Rattle.boc_reader.specs.NameUses.{tree_uses}
 use Rattle.boc_reader.specs.WrongNames.{Verdict, right, wrong, verdict}
 use Rattle.boc_reader.specs.Judging.{if_right, name_verdict, expr_verdict, sum_verdict, term_verdict, unary_verdict, atom_verdict, all_verdict, exprs_verdict}
@@ -26,7 +26,8 @@ use Rattle.boc_reader.specs.declared.fault.NameFault.TheVariants.{WrongCount, Na
 use Rattle.boc_reader.proofs.ResolvingLists.{find-position}
 use Rattle.boc_reader.proofs.ResolvingParameters.{are_free-append, and_assoc}
 use Rattle.boc_reader.proofs.ResolvingKeeps.{then_made, map_made, test_made}
-use Rattle.boc_reader.proofs.ResolvingOrder.{are_new, at_cowns, cown_names-globals, cowns_behind-all, cowns_new, no_cowns, plain_of, tree_names-in_order, whole_at}
+use Rattle.boc_reader.proofs.ResolvingOrder.{are_new, at_cowns, cown_names-globals, cowns_behind-all, cowns_new, no_cowns, plain_of, tree_names-in_order}
+use Rattle.boc_reader.proofs.ResolvingOrder.{whole_at}
 use Rattle.boc_reader.proofs.Verdicts.{tree_said}
 
 abbrev pub is_right : Verdict → Bool
@@ -246,7 +247,8 @@ mutual
       agree_both _ _ _ (λ v. block_names b outside scope) (λ v a. (Loop v a, scope)) (expr_agrees e scope n) (λ m v is. block_agrees b outside scope m)
   stmt_agrees (when f es rs) outside scope n = call_agrees outside scope f es rs n ∙ some_map _ (call_names outside scope f es rs)
 
-  block_agrees : (b : Block) (outside : Outside) (scope : List Named) (n : ℕ) → is_right (block_verdict b outside scope n) ≡ is_some (block_names b outside scope)
+  block_agrees : (b : Block) (outside : Outside) (scope : List Named) (n : ℕ)
+      → is_right (block_verdict b outside scope n) ≡ is_some (block_names b outside scope)
   block_agrees done outside scope n = refl
   block_agrees (next s b) outside scope n =
       agree_both _ _ _ (λ x. block_names b outside x.1) (λ x. then_code x.0) (stmt_agrees s outside scope n)

@@ -16,8 +16,8 @@ use Rattle.boc_reader.proofs.Declarations.{one_tree}
 same_tokens : (text : List ℕ) (ws vs : List Token) → tokens_of_text text ≡ Some ws → tokens_of_text text ≡ Some vs → ws ≡ vs
 same_tokens text ws vs e f = cc
 
-pub same_tree : (text : List ℕ) (ws vs : List Token) (t u : Tree) → tokens_of_text text ≡ Some ws → tokens_of_text text ≡ Some vs → HasShape ws t → HasShape vs u
-    → t ≡ u
+pub same_tree : (text : List ℕ) (ws vs : List Token) (t u : Tree) → tokens_of_text text ≡ Some ws → tokens_of_text text ≡ Some vs → HasShape ws t
+    → HasShape vs u → t ≡ u
 same_tree text ws vs t u e f h k = one_tree t u (sym h.tokens_are ∙ same_tokens text ws vs e f ∙ k.tokens_are)
 
 no_tokens : (text : List ℕ) (p : Program) → HasNoTokens text → Spells text p → ⊥

@@ -1,5 +1,6 @@
 -- The verdict on a part of a tree is the verdict on its names in their order.
-use Rattle.std.proofs.Common.{◌≡◌, ℕ, ◌+◌, List, [], ◌∷◌, ◌++◌, Option, Some, None, Result, Ok, Err, refl, sym, ap, ◌∙◌, subst, append_assoc, append-nil, length}
+use Rattle.std.proofs.Common.{◌≡◌, ℕ, ◌+◌, List, [], ◌∷◌, ◌++◌, Option, Some, None, Result, Ok, Err, refl, sym, ap, ◌∙◌, subst, length}
+use Rattle.std.proofs.Common.{append_assoc, append-nil}
 use Rattle.std.specs.Result.{IsErrAnd}
 use Rattle.boc_reader.specs.Shape.{Expr, plain, compared, Sum, one_term, more_terms, Term, one_factor, more_factors, Unary, negated, unsigned, Atom, literal}
 use Rattle.boc_reader.specs.Shape.{variable, parens, NamedCown, alone, member, Stmt, declare, assign, work, if_only, if_else, repeat, when, Block, done, next}
@@ -10,8 +11,8 @@ use Rattle.boc_reader.specs.NameUses.{scope_behind, parameter_uses, body_uses, c
 use Rattle.boc_reader.specs.NameUses.{variable_fault, alone_fault, member_fault, callee_fault, free_fault, new_fault}
 use Rattle.boc_reader.specs.WrongNames.{Verdict, right, wrong, one_verdict, verdict}
 use Rattle.boc_reader.specs.Judging.{Judges, if_right, name_verdict, expr_verdict, sum_verdict, term_verdict, unary_verdict, atom_verdict, all_verdict}
-use Rattle.boc_reader.specs.Judging.{ref_verdict, refs_verdict, exprs_verdict, call_verdict, stmt_verdict, block_verdict, parameters_verdict, body_verdict}
-use Rattle.boc_reader.specs.Judging.{cowns_verdict, defs_verdict, bodies_verdict, tree_verdict}
+use Rattle.boc_reader.specs.Judging.{ref_verdict, call_verdict, stmt_verdict, block_verdict, parameters_verdict, body_verdict}
+use Rattle.boc_reader.specs.Judging.{cowns_verdict, defs_verdict, tree_verdict}
 use Rattle.boc_reader.specs.declared.fault.Fault.{Fault}
 use Rattle.boc_reader.specs.declared.fault.Fault.TheVariants.{Memory, At}
 use Rattle.boc_reader.specs.declared.fault.NameFault.{NameFault}

@@ -1,8 +1,8 @@
 -- Where the first wrong name of a text begins.
-use Rattle.std.proofs.Common.{◌≡◌, ◌≢◌, ℕ, ◌+◌, ◌-◌, ◌<◌, ◌≤◌, Bool, true, false, List, [], ◌∷◌, ◌++◌, length, map, drop, Option, Some, None, refl, sym, ap}
-use Rattle.std.proofs.Common.{◌∙◌, subst, arith, append_assoc, append-nil, length-drop, inl, inr, cond}
+use Rattle.std.proofs.Common.{◌≡◌, ◌≢◌, ℕ, ◌+◌, ◌-◌, ◌<◌, ◌≤◌, Bool, true, false, List, [], ◌∷◌, ◌++◌, length, drop, Option, Some, None, refl, sym, ap}
+use Rattle.std.proofs.Common.{◌∙◌, subst, arith, append_assoc, append-nil, length-drop, inl, inr}
 use Rattle.std.proofs.Common.{◌^◌, eqb}
-use Rattle.std.specs.Prelude.{◌&&◌, find, nat_lt, nat_le, if◌then◌else◌}
+use Rattle.std.specs.Prelude.{◌&&◌, nat_lt, nat_le, if◌then◌else◌}
 use Rattle.std.proofs.lemmas.Bool.Decides.{nat_tests}
 use Rattle.std.specs.Option.{option_map, option_map_or}
 use Rattle.std.proofs.lemmas.Bool.{cases_Bool}
@@ -11,12 +11,12 @@ use Rattle.std.proofs.lemmas.List.{length-map, map_more, take-append-drop}
 use Rattle.boc_reader.specs.declared.terminal.Sign.{Sign}
 use Rattle.boc_reader.specs.declared.terminal.Keyword.{Keyword}
 use Rattle.boc_reader.specs.Tokens.{Token, name, number, keyword, sign, Piece, run, pair, single, join, in_front, cut, without_comments, is_blank, is_name_byte}
-use Rattle.boc_reader.specs.Tokens.{begins_pair, begins_with_digit, is_numeral, value_of, keyword_of, put, pair_sign, single_sign, token_of_run}
+use Rattle.boc_reader.specs.Tokens.{begins_with_digit, is_numeral, value_of, keyword_of, put, pair_sign, single_sign, token_of_run}
 use Rattle.boc_reader.specs.Tokens.{tokens_of_pieces, tokens_of_text}
-use Rattle.boc_reader.specs.Shape.{Tree, HasShape, tree_tokens}
+use Rattle.boc_reader.specs.Shape.{Tree, HasShape}
 use Rattle.boc_reader.specs.Names.{Named}
 use Rattle.boc_reader.specs.NameUses.{Use, tree_uses}
-use Rattle.boc_reader.specs.WrongNames.{Verdict, right, wrong, one_verdict, verdict, names_of_tokens, IsPlaceOfName, NameGoesWrong}
+use Rattle.boc_reader.specs.WrongNames.{wrong, one_verdict, verdict, names_of_tokens, IsPlaceOfName, NameGoesWrong}
 use Rattle.boc_reader.specs.WrongTokens.{piece_bytes, bytes_of, pieces_of, HasRead}
 use Rattle.boc_reader.specs.Placed.{token_of, tokens_of, ArePlaced, AreReached, BeginsAt, BeginsToken}
 use Rattle.boc_reader.specs.Judging.{IsNameAt}
@@ -132,7 +132,9 @@ name_behind text (b ∷ bs) ws vs x h begins has =
         parts = h.parts ∙ ap (λ ps. h.before ++ ps) (e ∙ first.parts ∙ ap (λ p. p ∷ first.behind) named.0);
         place = omega (arith, h.bytes);
       }
-      | inr high ↦ absurd (cc (ap tokens_of_pieces (ap pieces_of high.3 ∙ pieces_of_high high.0 high.1 high.5) ∙ none_high high.0 (pieces_of high.1) high.5, has))
+      | inr high ↦
+          let parts = ap pieces_of high.3 ∙ pieces_of_high high.0 high.1 high.5 in
+          absurd (cc (ap tokens_of_pieces parts ∙ none_high high.0 (pieces_of high.1) high.5, has))
     ]
 
 within_text : (text : List ℕ) (at : ℕ) → BeginsToken (drop at text) → (at ≤ length text) × (at ≡ length text - length (drop at text))

@@ -4,7 +4,8 @@ use Rattle.boc_reader.specs.Shape.{Expr, plain, compared, Sum, one_term, more_te
 use Rattle.boc_reader.specs.Shape.{variable, parens, NamedCown, alone, member, Stmt, declare, assign, work, if_only, if_else, repeat, when, Block, done, next}
 use Rattle.boc_reader.specs.Shape.{Def, Tree}
 use Rattle.boc_reader.specs.Names.{Named, Top, Outside, slot_of, global, callee}
-use Rattle.boc_reader.specs.NameUses.{variable_fault, alone_fault, member_fault, callee_fault, free_fault, new_fault, scope_behind, first_declared, declared_cowns}
+use Rattle.boc_reader.specs.NameUses.{variable_fault, alone_fault, member_fault, callee_fault, free_fault, new_fault, scope_behind, first_declared}
+use Rattle.boc_reader.specs.NameUses.{declared_cowns}
 use Rattle.boc_reader.specs.WrongNames.{Verdict, right, wrong, names_of_tokens}
 use Rattle.boc_reader.specs.Tokens.{name}
 use Rattle.boc_reader.specs.Placed.{token_of, tokens_of}
@@ -29,6 +30,7 @@ abbrev pub name_verdict : Option NameFault → ℕ → Verdict
 name_verdict None n = right (n + 1)
 name_verdict (Some fault) n = wrong fault n
 
+-- an expression
 abbrev mutual
   pub expr_verdict : Expr → List Named → ℕ → Verdict
   expr_verdict (plain s) scope n = sum_verdict s scope n
@@ -56,22 +58,27 @@ abbrev pub all_verdict : {X : Type 0} → (X → ℕ → Verdict) → List X →
 all_verdict said [] n = right n
 all_verdict said (x ∷ xs) n = if_right (said x n) (all_verdict said xs)
 
+-- arguments
 abbrev pub exprs_verdict : List Named → List Expr → ℕ → Verdict
 exprs_verdict scope es n = all_verdict (λ e. expr_verdict e scope) es n
 
+-- a reference
 abbrev pub ref_verdict : Outside → List Named → NamedCown → ℕ → Verdict
 ref_verdict outside scope (alone x) n = name_verdict (alone_fault (slot_of outside.held x) (global outside.top x)) n
 ref_verdict outside scope (member x e) n =
     if_right (name_verdict (member_fault (slot_of outside.held x) (global outside.top x)) n) (expr_verdict e scope)
 
+-- references
 abbrev pub refs_verdict : Outside → List Named → List NamedCown → ℕ → Verdict
 refs_verdict outside scope rs n = all_verdict (ref_verdict outside scope) rs n
 
+-- a `when`
 abbrev pub call_verdict : Outside → List Named → Named → List Expr → List NamedCown → ℕ → Verdict
 call_verdict outside scope f es rs n =
     if_right (name_verdict (callee_fault (callee outside.top f) (length es) (length rs)) n)
     (λ m. if_right (exprs_verdict scope es m) (refs_verdict outside scope rs))
 
+-- a statement, and a block
 abbrev mutual
   pub stmt_verdict : Stmt → Outside → List Named → ℕ → Verdict
   stmt_verdict (declare x e) outside scope n = if_right (name_verdict (free_fault outside.top scope x) n) (expr_verdict e scope)
@@ -91,19 +98,23 @@ abbrev mutual
 abbrev pub guarded_verdict : Expr → Block → Outside → List Named → ℕ → Verdict
 guarded_verdict e b outside scope n = if_right (expr_verdict e scope n) (block_verdict b outside scope)
 
+-- parameters
 abbrev pub parameters_verdict : Top → List Named → List Named → ℕ → Verdict
 parameters_verdict top scope [] n = right n
 parameters_verdict top scope (x ∷ xs) n = if_right (name_verdict (free_fault top scope x) n) (parameters_verdict top (scope ++ x ∷ []) xs)
 
+-- a body
 abbrev pub body_verdict : Top → List Named → List Named → Block → ℕ → Verdict
 body_verdict top params held block n =
     if_right (parameters_verdict top [] params n)
     (λ m. if_right (parameters_verdict top params held m) (block_verdict block (record { top = top; held = held }) (params ++ held)))
 
+-- the declarations of cowns
 abbrev pub cowns_verdict : List Named → List Named → ℕ → Verdict
 cowns_verdict before [] n = right n
 cowns_verdict before (x ∷ xs) n = if_right (name_verdict (new_fault before x) n) (cowns_verdict (before ++ x ∷ []) xs)
 
+-- defs
 abbrev pub defs_verdict : Top → List Named → List Def → ℕ → Verdict
 defs_verdict top before [] n = right n
 defs_verdict top before (d ∷ ds) n =
@@ -114,6 +125,7 @@ defs_verdict top before (d ∷ ds) n =
 abbrev pub bodies_verdict : Tree → Top → ℕ → Verdict
 bodies_verdict t top n = if_right (defs_verdict top (declared_cowns t) t.defs n) (body_verdict top [] [] t.main)
 
+-- a tree
 abbrev pub tree_verdict : Tree → Verdict
 tree_verdict t = if_right (cowns_verdict [] (declared_cowns t) 0) (bodies_verdict t (first_declared t))
 

@@ -2,7 +2,7 @@
 use Rattle.std.specs.Prelude.{ℕ, nat_eq, ◌&&◌, if◌then◌else◌, List, [], ◌∷◌, ◌++◌, length, map, is_some, Option, Some, None}
 use Rattle.boc_reader.specs.Shape.{Expr, plain, compared, Sum, one_term, more_terms, Term, one_factor, more_factors, Unary, negated, unsigned, Atom, literal}
 use Rattle.boc_reader.specs.Shape.{variable, parens, NamedCown, alone, member, Stmt, declare, assign, work, if_only, if_else, repeat, when, Block, done, next}
-use Rattle.boc_reader.specs.Shape.{Cown, Def, Tree}
+use Rattle.boc_reader.specs.Shape.{Def, Tree}
 use Rattle.boc_reader.specs.Names.{Named, Global, Callee, Top, Outside, among, slot_of, global, callee, globals, is_free}
 use Rattle.boc_reader.specs.Resolving.{defs_behind}
 use Rattle.boc_reader.specs.declared.fault.NameFault.{NameFault}
@@ -13,6 +13,7 @@ pub record Use : Type 0 where
   pub name : Named
   pub fault : Option NameFault
 
+-- a name with what is wrong with it
 abbrev pub judged : Named → Option NameFault → Use
 judged x fault = record { name = x; fault = fault }
 

@@ -12,26 +12,25 @@ use Rattle.boc_reader.specs.Shape as shape
 use Rattle.boc_reader.specs.Shape.{Block, Cown, Def, Tree}
 use Rattle.boc_reader.specs.Names.{Named, Left, ResolvedStmt, Set, Spend, Choose, Loop, Spawn, Global, Callee, Top, Outside, PlainBody, PlainProgram, among}
 use Rattle.boc_reader.specs.Names.{top_names, are_free, block_names, body_names, expr_names, plain_cown, slot_of}
-use Rattle.boc_reader.specs.declared.fault.Fault.{Fault}
-use Rattle.boc_reader.specs.declared.fault.Fault.TheVariants.{Memory, At}
-use Rattle.boc_reader.specs.declared.fault.NameFault.{NameFault}
+use Rattle.boc_reader.specs.declared.fault.Unresolved.{Unresolved}
+use Rattle.boc_reader.specs.declared.fault.Unresolved.TheVariants.{Memory, WrongName}
 use Rattle.boc_reader.specs.declared.names.top.Global.{Global as Global'}
 use Rattle.boc_reader.specs.declared.names.top.Callee.{Callee as Callee'}
 use Rattle.boc_reader.specs.declared.names.top.Top.{Top as Top'}
 use Rattle.boc_reader.specs.declared.names.top.Outside.{Outside as Outside'}
 use Rattle.boc_reader.specs.Views.{name_of}
 
--- what was resolved is what the names give, and a fault is told where they give nothing, unless memory was refused
-abbrev pub Yields : {X Y : Type 0} → (Y → X) → Result Y (Fault NameFault) → Option X → Type 0
+-- what was resolved is what the names give, and one of them is wrong where they give nothing, unless memory was refused
+abbrev pub Yields : {X Y : Type 0} → (Y → X) → Result Y Unresolved → Option X → Type 0
 Yields view (Ok y) found = found ≡ Some (view y)
 Yields view (Err Memory) found = Unit {0}
-Yields view (Err (At kind place)) found = found ≡ None
+Yields view (Err WrongName) found = found ≡ None
 
 -- the same of a statement, with the names in scope behind it
-abbrev pub YieldsIn : {X Y : Type 0} → (Y → X) → Result Y (Fault NameFault) → List Named → Option (X × List Named) → Type 0
+abbrev pub YieldsIn : {X Y : Type 0} → (Y → X) → Result Y Unresolved → List Named → Option (X × List Named) → Type 0
 YieldsIn view (Ok y) scope found = found ≡ Some (view y, scope)
 YieldsIn view (Err Memory) scope found = Unit {0}
-YieldsIn view (Err (At kind place)) scope found = found ≡ None
+YieldsIn view (Err WrongName) scope found = found ≡ None
 
 -- names that are lent
 abbrev pub names_of : List (Bor Named) → List Named
@@ -88,7 +87,7 @@ abbrev pub EndWithin : ℕ → List Global → Type 0
 EndWithin most [] = Unit {0}
 EndWithin most (g ∷ gs) = (g.first + members g.size ≤ most) × EndWithin most gs
 
--- The same names in the order of the text, where a fault is found at the first of its places.
+-- The same names in the order of the text, in which they are resolved.
 
 -- the names of cowns
 abbrev pub cown_names : List Global → List Named

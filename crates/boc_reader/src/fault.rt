@@ -33,6 +33,35 @@ impl<K, T: Drop> From<AllocFailed<T>> for Fault<K> {
     }
 }
 
+/// Why names don't resolve: memory was refused, or one of them is wrong.
+#[derive(Clone, Copy, PartialEq, Eq, Debug)]
+pub enum Unresolved {
+    Memory,
+    WrongName,
+}
+
+impl From<AllocError> for Unresolved {
+    ghost use Rattle.std.specs.Prelude.{◌≡◌};
+    ghost use Rattle.boc_reader.specs.declared.fault.Unresolved.TheVariants.{Memory};
+
+    ghost from_gives = { λ _ e. e ≡ Memory };
+
+    fn from(_error: AllocError) -> Unresolved {
+        Unresolved::Memory
+    }
+}
+
+impl<T: Drop> From<AllocFailed<T>> for Unresolved {
+    ghost use Rattle.std.specs.Prelude.{◌≡◌};
+    ghost use Rattle.boc_reader.specs.declared.fault.Unresolved.TheVariants.{Memory};
+
+    ghost from_gives = { λ _ e. e ≡ Memory };
+
+    fn from(_error: AllocFailed<T>) -> Unresolved {
+        Unresolved::Memory
+    }
+}
+
 /// What is wrong with a token.
 #[derive(Clone, Copy, PartialEq, Eq, Debug)]
 pub enum TokenFault {

@@ -17,7 +17,7 @@ mod expr;
 pub mod judge;
 mod top;
 
-use crate::fault::{Fault, NameFault};
+use crate::fault::Unresolved;
 use crate::names::body::resolve_body;
 use crate::names::declare::{declare_top, names_of_cowns, resolve_cowns};
 use crate::names::top::{Top, is_name};
@@ -34,7 +34,7 @@ fn resolve_defs<'a>(
     top: &Top<'a>,
     mut before: Vec<&'a str>,
     defs: &[DefShape<'a>],
-) -> Result<Vec<Body>, Fault<NameFault>>
+) -> Result<Vec<Body>, Unresolved>
     requires small { AreSmallDefs (map def_of defs.now) }
     requires cowns { EndWithin MOST_COWNS (declared_of top.now).cowns }
     ensures { Yields (λ v. map plain_body v.items) result (bodies_behind (declared_of top.now) (names_of before.entry.items) (map def_of defs.now)) }
@@ -42,7 +42,7 @@ fn resolve_defs<'a>(
     let mut bodies = Vec::new(alloc);
     for def in defs {
         if is_name(&before, def.name.name) {
-            return Err(Fault::At(NameFault::NameTaken, def.name.at));
+            return Err(Unresolved::WrongName);
         }
         let body = resolve_body(alloc, top, &def.params, &def.cowns, &def.block)?;
         bodies.push(body)?;
@@ -64,7 +64,7 @@ fn resolve_bodies<'a>(
     alloc: Global,
     top: &Top<'a>,
     tree: &Tree<'a>,
-) -> Result<Vec<Body>, Fault<NameFault>>
+) -> Result<Vec<Body>, Unresolved>
     requires limits { IsWithinLimits (tree_of tree.now) }
     requires cowns { EndWithin MOST_COWNS (declared_of top.now).cowns }
     ensures { Yields (λ bodies. let p : PlainProgram = record { cowns = map plain_cown (tree_of tree.now).cowns; bodies = map plain_body bodies.items } in p)
@@ -78,7 +78,7 @@ fn resolve_bodies<'a>(
 }
 
 // The cowns and the bodies of a tree, main's body first.
-fn resolve_parts(alloc: Global, tree: &Tree<'_>) -> Result<(Vec<Cown>, Vec<Body>), Fault<NameFault>>
+fn resolve_parts(alloc: Global, tree: &Tree<'_>) -> Result<(Vec<Cown>, Vec<Body>), Unresolved>
     requires { IsWithinLimits (tree_of tree.now) }
     ensures { Yields (λ parts. let p : PlainProgram = record { cowns = map plain_declared parts.0.items; bodies = map plain_body parts.1.items } in p) result
         (program_in_order (tree_of tree.now)) }
@@ -89,11 +89,9 @@ fn resolve_parts(alloc: Global, tree: &Tree<'_>) -> Result<(Vec<Cown>, Vec<Body>
     Ok((cowns, bodies))
 }
 
-/// The program of a tree within the limits, or the first fault of its names in the order of the text.
-///
-/// The names at the top are those of the whole text. Where one is declared twice, the first counts, and
-/// the fault stands at the second.
-pub fn resolve_program(alloc: Global, tree: &Tree<'_>) -> Result<Program, Fault<NameFault>>
+/// The program of a tree within the limits, where every name is declared once and used as what it is.
+/// The names at the top are those of the whole text.
+pub fn resolve_program(alloc: Global, tree: &Tree<'_>) -> Result<Program, Unresolved>
     requires { IsWithinLimits (tree_of tree.now) }
     ensures { Resolves result (tree_names (tree_of tree.now)) }
 {

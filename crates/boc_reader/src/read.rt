@@ -23,7 +23,9 @@ ghost use Rattle.boc_reader.specs.Shape as the;
 ghost use Rattle.boc_reader.specs.Shape.{HasShape, tree_tokens};
 ghost use Rattle.boc_reader.specs.Views.{block_of, tree_of};
 
-use crate::fault::{Fault, NameFault, ReadFault, ReadFaultKind, ShapeFault, TokenFault};
+use crate::fault::{
+    Fault, NameFault, ReadFault, ReadFaultKind, ShapeFault, TokenFault, Unresolved,
+};
 use crate::lex::tokens;
 use crate::lines::{fault_at, line_after};
 use crate::listing::{DefListing, list_defs};
@@ -105,8 +107,8 @@ fn read_whole(alloc: Global, text: &[u8]) -> Result<Whole<'_>, ReadFault>
             tree,
             program,
         }),
-        Err(Fault::Memory) => Err(NO_MEMORY),
-        Err(Fault::At(..)) => Err(no_names(alloc, text, &tokens, &tree)),
+        Err(Unresolved::Memory) => Err(NO_MEMORY),
+        Err(Unresolved::WrongName) => Err(no_names(alloc, text, &tokens, &tree)),
     }
 }
 

@@ -1,6 +1,6 @@
 -- The definitions of wrong names tried on texts: which name is the first wrong one, what is wrong with it, and where it begins.
-use Rattle.std.proofs.Common.{◌≡◌, ◌≢◌, ℕ, List, [], ◌∷◌, ◌++◌, Some, None, false, refl, codes, take, drop, lit≤, sym, subst}
-use Rattle.boc_reader.specs.Shape.{Expr, plain, one_term, one_factor, unsigned, literal, variable, NamedCown, alone, member, Block, declare, assign, when, done, next}
+use Rattle.std.proofs.Common.{◌≡◌, ℕ, List, [], ◌∷◌, Some, None, false, refl, codes, take, drop, lit≤}
+use Rattle.boc_reader.specs.Shape.{Expr, plain, one_term, one_factor, unsigned, literal, variable, alone, member, Block, declare, assign, when, done, next}
 use Rattle.boc_reader.specs.Shape.{if_only, Cown, Def, Tree, tree_tokens}
 use Rattle.boc_reader.specs.Tokens.{tokens_of_text, cut, token_of_run}
 use Rattle.boc_reader.specs.NameUses.{tree_uses}

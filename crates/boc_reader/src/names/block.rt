@@ -7,7 +7,7 @@ ghost use Rattle.boc_reader.specs.Names.{slot_of as slot_of_spec, global, held_o
 ghost use Rattle.boc_reader.specs.Views.{expr_of, named_cown_of, stmt_of, block_of};
 ghost use Rattle.boc_reader.specs.Resolving.{Yields, YieldsIn, assign_names, choice_names, loop_names, names_of, resolved_stmt_of, outside_of};
 
-use crate::fault::{Fault, NameFault};
+use crate::fault::Unresolved;
 use crate::names::expr::{resolve_expr, resolve_exprs, slot_of};
 use crate::names::top::{Outside, parameter_of};
 use crate::shape::{self, NamedCown, Spot};
@@ -15,7 +15,7 @@ use boc_program::body::{Block, CownRef, Stmt};
 use std::alloc::Global;
 
 // The cown that a name alone stands for: a cown parameter, or a single cown.
-fn resolve_alone(outside: &Outside<'_, '_>, spot: &Spot<'_>) -> Result<CownRef, Fault<NameFault>>
+fn resolve_alone(outside: &Outside<'_, '_>, spot: &Spot<'_>) -> Result<CownRef, Unresolved>
     ensures { Yields cown_ref_of result (held_or_single (slot_of_spec (outside_of outside.now).held spot.now.name.now)
         (global (outside_of outside.now).top spot.now.name.now)) }
 {
@@ -23,9 +23,8 @@ fn resolve_alone(outside: &Outside<'_, '_>, spot: &Spot<'_>) -> Result<CownRef, 
         return Ok(CownRef::Held(parameter));
     }
     match outside.top.cown(spot.name) {
-        None => Err(Fault::At(NameFault::UnknownName, spot.at)),
-        Some(cown) if cown.size.is_some() => Err(Fault::At(NameFault::WrongCount, spot.at)),
-        Some(cown) => Ok(CownRef::Single(cown.first)),
+        Some(cown) if cown.size.is_none() => Ok(CownRef::Single(cown.first)),
+        _ => Err(Unresolved::WrongName),
     }
 }
 
@@ -36,19 +35,14 @@ fn resolve_member(
     scope: &[&str],
     spot: &Spot<'_>,
     index: &shape::Expr<'_>,
-) -> Result<CownRef, Fault<NameFault>>
+) -> Result<CownRef, Unresolved>
     ensures { Yields cown_ref_of result (ref_names (outside_of outside.now) (names_of scope.now) (member spot.now.name.now (expr_of index.now))) }
 {
     let Some(cown) = outside.top.cown(spot.name) else {
-        let kind = if parameter_of(outside.held, spot.name).is_some() {
-            NameFault::WrongCount
-        } else {
-            NameFault::UnknownName
-        };
-        return Err(Fault::At(kind, spot.at));
+        return Err(Unresolved::WrongName);
     };
     let Some(size) = cown.size else {
-        return Err(Fault::At(NameFault::WrongCount, spot.at));
+        return Err(Unresolved::WrongName);
     };
     let index = resolve_expr(alloc, scope, index)?;
     Ok(CownRef::Member {
@@ -63,7 +57,7 @@ fn resolve_ref(
     outside: &Outside<'_, '_>,
     scope: &[&str],
     reference: &NamedCown<'_>,
-) -> Result<CownRef, Fault<NameFault>>
+) -> Result<CownRef, Unresolved>
     ensures { Yields cown_ref_of result (ref_names (outside_of outside.now) (names_of scope.now) (named_cown_of reference.now)) }
 {
     match reference {
@@ -78,7 +72,7 @@ fn resolve_refs(
     outside: &Outside<'_, '_>,
     scope: &[&str],
     references: &[NamedCown<'_>],
-) -> Result<Vec<CownRef>, Fault<NameFault>>
+) -> Result<Vec<CownRef>, Unresolved>
     ensures { Yields (λ v. map cown_ref_of v.items) result
         (all_names (ref_names (outside_of outside.now) (names_of scope.now)) (map named_cown_of references.now)) }
 {
@@ -98,15 +92,15 @@ fn resolve_call(
     def: &Spot<'_>,
     args: &[shape::Expr<'_>],
     references: &[NamedCown<'_>],
-) -> Result<Stmt, Fault<NameFault>>
+) -> Result<Stmt, Unresolved>
     ensures { Yields resolved_stmt_of result (call_names (outside_of outside.now) (names_of scope.now) def.now.name.now (map expr_of args.now)
         (map named_cown_of references.now)) }
 {
     let Some((kind, callee)) = outside.top.def(def.name) else {
-        return Err(Fault::At(NameFault::UnknownName, def.at));
+        return Err(Unresolved::WrongName);
     };
     if callee.args != args.len() || callee.cowns != references.len() {
-        return Err(Fault::At(NameFault::WrongCount, def.at));
+        return Err(Unresolved::WrongName);
     }
     let args = resolve_exprs(alloc, scope, args)?;
     let references = resolve_refs(alloc, outside, scope, references)?;
@@ -120,13 +114,13 @@ fn resolve_let<'a>(
     scope: &mut Vec<&'a str>,
     spot: &Spot<'a>,
     value: &shape::Expr<'a>,
-) -> Result<Stmt, Fault<NameFault>>
+) -> Result<Stmt, Unresolved>
     ensures names { YieldsIn resolved_stmt_of result (names_of scope.new.items)
         (stmt_names (declare spot.now.name.now (expr_of value.now)) (outside_of outside.now) (names_of scope.old.items)) }
     ensures grows { OnOk result (take (length scope.old.items) scope.new.items ≡ scope.old.items) }
 {
     if !outside.top.leaves_free(scope, spot.name) {
-        return Err(Fault::At(NameFault::NameTaken, spot.at));
+        return Err(Unresolved::WrongName);
     }
     let value = resolve_expr(alloc, scope, value)?;
     let slot = scope.len();
@@ -140,11 +134,11 @@ fn resolve_assign(
     scope: &[&str],
     spot: &Spot<'_>,
     value: &shape::Expr<'_>,
-) -> Result<Stmt, Fault<NameFault>>
+) -> Result<Stmt, Unresolved>
     ensures { Yields resolved_stmt_of result (assign_names spot.now.name.now (expr_of value.now) (names_of scope.now)) }
 {
     let Some(slot) = slot_of(scope, spot.name) else {
-        return Err(Fault::At(NameFault::UnknownName, spot.at));
+        return Err(Unresolved::WrongName);
     };
     let value = resolve_expr(alloc, scope, value)?;
     Ok(Stmt::Assign(slot, value))
@@ -157,7 +151,7 @@ fn resolve_stmt<'a>(
     outside: &Outside<'_, 'a>,
     scope: &mut Vec<&'a str>,
     stmt: &shape::Stmt<'a>,
-) -> Result<Stmt, Fault<NameFault>>
+) -> Result<Stmt, Unresolved>
     ensures names { YieldsIn resolved_stmt_of result (names_of scope.new.items)
         (stmt_names (stmt_of stmt.now) (outside_of outside.now) (names_of scope.old.items)) }
     ensures grows { OnOk result (take (length scope.old.items) scope.new.items ≡ scope.old.items) }
@@ -188,7 +182,7 @@ fn resolve_choice<'a>(
     condition: &shape::Expr<'a>,
     block: &[shape::Stmt<'a>],
     other: &[shape::Stmt<'a>],
-) -> Result<Stmt, Fault<NameFault>>
+) -> Result<Stmt, Unresolved>
     ensures names { Yields resolved_stmt_of result (choice_names (expr_of condition.now) (block_of block.now) (block_of other.now) (outside_of outside.now)
         (names_of scope.old.items)) }
     ensures scope { OnOk result (scope.new.items ≡ scope.old.items) }
@@ -207,7 +201,7 @@ fn resolve_repeat<'a>(
     scope: &mut Vec<&'a str>,
     turns: &shape::Expr<'a>,
     block: &[shape::Stmt<'a>],
-) -> Result<Stmt, Fault<NameFault>>
+) -> Result<Stmt, Unresolved>
     ensures names { Yields resolved_stmt_of result (loop_names (expr_of turns.now) (block_of block.now) (outside_of outside.now) (names_of scope.old.items)) }
     ensures scope { OnOk result (scope.new.items ≡ scope.old.items) }
 {
@@ -223,7 +217,7 @@ pub fn resolve_block<'a>(
     outside: &Outside<'_, 'a>,
     scope: &mut Vec<&'a str>,
     block: &[shape::Stmt<'a>],
-) -> Result<Block, Fault<NameFault>>
+) -> Result<Block, Unresolved>
     ensures names { Yields (λ code. code) result (block_names (block_of block.now) (outside_of outside.now) (names_of scope.old.items)) }
     ensures scope { OnOk result (scope.new.items ≡ scope.old.items) }
 {

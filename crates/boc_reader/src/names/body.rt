@@ -11,7 +11,7 @@ ghost use Rattle.boc_program.specs.Parts.{MakesBody};
 ghost use Rattle.boc_reader.specs.Views.{name_of, block_of};
 ghost use Rattle.boc_reader.specs.Resolving.{Yields, EndWithin, names_of, declared_of, scope_with};
 
-use crate::fault::{Fault, NameFault};
+use crate::fault::Unresolved;
 use crate::names::block::resolve_block;
 use crate::names::top::{Outside, Top};
 use crate::shape::{self, Spot};
@@ -57,12 +57,12 @@ fn declare<'a>(
     top: &Top<'a>,
     scope: &mut Vec<&'a str>,
     params: &[Spot<'a>],
-) -> Result<(), Fault<NameFault>>
+) -> Result<(), Unresolved>
     ensures { Yields (λ unit. names_of scope.new.items) result (scope_with (declared_of top.now) (names_of scope.old.items) (map name_of params.now)) }
 {
     for param in params {
         if !top.leaves_free(scope, param.name) {
-            return Err(Fault::At(NameFault::NameTaken, param.at));
+            return Err(Unresolved::WrongName);
         }
         scope.push(param.name)?;
     }
@@ -75,7 +75,7 @@ fn parameters<'a>(
     top: &Top<'a>,
     params: &[Spot<'a>],
     held: &[Spot<'a>],
-) -> Result<Vec<&'a str>, Fault<NameFault>>
+) -> Result<Vec<&'a str>, Unresolved>
     ensures { Yields (λ scope. names_of scope.items) result (scope_with (declared_of top.now) [] (map name_of params.now ++ map name_of held.now)) }
 {
     let mut scope = Vec::new(alloc);
@@ -107,7 +107,7 @@ pub fn resolve_body<'a>(
     params: &[Spot<'a>],
     held: &[Spot<'a>],
     block: &[shape::Stmt<'a>],
-) -> Result<Body, Fault<NameFault>>
+) -> Result<Body, Unresolved>
     requires few_params { length params.now ≤ MOST_ARGUMENTS }
     requires few_cowns { length held.now ≤ MOST_HELD }
     requires small { IsSmallBody (block_of block.now) }

@@ -11,7 +11,7 @@ ghost use Rattle.boc_reader.specs.Views.{cown_of, def_of, tree_of};
 ghost use Rattle.boc_reader.specs.Resolving.{Yields, EndWithin, global_of, callee_of, declared_of, names_of, cown_names, cowns_behind, defs_behind};
 ghost use Rattle.boc_reader.specs.Resolving.{top_in_order};
 
-use crate::fault::{Fault, NameFault};
+use crate::fault::Unresolved;
 use crate::names::top::{Callee, Global as TopCown, Top, is_cown_name, is_declared};
 use crate::shape::{CownShape, DefShape, Tree};
 use boc_program::cown::Cown;
@@ -37,10 +37,7 @@ fn members(size: Option<u32>) -> u32
 }
 
 // The cowns, each with the number of its first member. No name may stand twice.
-fn declare_cowns<'a>(
-    alloc: Global,
-    cowns: &[CownShape<'a>],
-) -> Result<Vec<TopCown<'a>>, Fault<NameFault>>
+fn declare_cowns<'a>(alloc: Global, cowns: &[CownShape<'a>]) -> Result<Vec<TopCown<'a>>, Unresolved>
     requires { cowns_declared (map cown_of cowns.now) ≤ MOST_COWNS }
     ensures { Yields (λ v. map global_of v.items) result (cowns_behind [] 0 (map cown_of cowns.now)) }
 {
@@ -48,7 +45,7 @@ fn declare_cowns<'a>(
     let mut first = 0;
     for cown in cowns {
         if is_cown_name(&declared, cown.name.name) {
-            return Err(Fault::At(NameFault::NameTaken, cown.name.at));
+            return Err(Unresolved::WrongName);
         }
         let size = array_size(cown);
         declared.push(TopCown {
@@ -83,7 +80,7 @@ fn declare_defs<'a>(
 }
 
 /// What is declared at the top of the whole text.
-pub fn declare_top<'a>(alloc: Global, tree: &Tree<'a>) -> Result<Top<'a>, Fault<NameFault>>
+pub fn declare_top<'a>(alloc: Global, tree: &Tree<'a>) -> Result<Top<'a>, Unresolved>
     requires { cowns_declared (tree_of tree.now).cowns ≤ MOST_COWNS }
     ensures top { Yields declared_of result (top_in_order (tree_of tree.now)) }
     ensures cowns { IfOk result (λ top. EndWithin MOST_COWNS (declared_of top).cowns) }

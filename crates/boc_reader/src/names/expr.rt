@@ -8,7 +8,7 @@ ghost use Rattle.boc_reader.specs.Names.{expr_names, sum_names, term_names, unar
 ghost use Rattle.boc_reader.specs.Views.{expr_of, sum_of, term_of, unary_of, atom_of};
 ghost use Rattle.boc_reader.specs.Resolving.{Yields, names_of, left_of};
 
-use crate::fault::{Fault, NameFault};
+use crate::fault::Unresolved;
 use crate::level::{Comparison, SumOperator, TermOperator};
 use crate::shape::{self, Atom, Sum, Term, Unary};
 use boc_program::body::{Expr, Operator};
@@ -80,7 +80,7 @@ pub fn resolve_expr(
     alloc: Global,
     scope: &[&str],
     expr: &shape::Expr<'_>,
-) -> Result<Expr, Fault<NameFault>>
+) -> Result<Expr, Unresolved>
     ensures { Yields slot_expr_of result (expr_names (expr_of expr.now) (names_of scope.now)) }
 {
     match expr {
@@ -99,7 +99,7 @@ fn resolve_sum(
     scope: &[&str],
     sum: &Sum<'_>,
     left: Option<(Expr, Operator)>,
-) -> Result<Expr, Fault<NameFault>>
+) -> Result<Expr, Unresolved>
     ensures { Yields slot_expr_of result (sum_names (sum_of sum.now) (names_of scope.now) (left_of left)) }
 {
     match sum {
@@ -121,7 +121,7 @@ fn resolve_term(
     scope: &[&str],
     term: &Term<'_>,
     left: Option<(Expr, Operator)>,
-) -> Result<Expr, Fault<NameFault>>
+) -> Result<Expr, Unresolved>
     ensures { Yields slot_expr_of result (term_names (term_of term.now) (names_of scope.now) (left_of left)) }
 {
     match term {
@@ -138,7 +138,7 @@ fn resolve_term(
 }
 
 #[cycle(names)]
-fn resolve_unary(alloc: Global, scope: &[&str], unary: &Unary<'_>) -> Result<Expr, Fault<NameFault>>
+fn resolve_unary(alloc: Global, scope: &[&str], unary: &Unary<'_>) -> Result<Expr, Unresolved>
     ensures { Yields slot_expr_of result (unary_names (unary_of unary.now) (names_of scope.now)) }
 {
     match unary {
@@ -151,14 +151,14 @@ fn resolve_unary(alloc: Global, scope: &[&str], unary: &Unary<'_>) -> Result<Exp
 }
 
 #[cycle(names)]
-fn resolve_atom(alloc: Global, scope: &[&str], atom: &Atom<'_>) -> Result<Expr, Fault<NameFault>>
+fn resolve_atom(alloc: Global, scope: &[&str], atom: &Atom<'_>) -> Result<Expr, Unresolved>
     ensures { Yields slot_expr_of result (atom_names (atom_of atom.now) (names_of scope.now)) }
 {
     match atom {
         Atom::Number(number) => Ok(Expr::Number(number.signed(false))),
         Atom::Name(spot) => match slot_of(scope, spot.name) {
             Some(slot) => Ok(Expr::Slot(slot)),
-            None => Err(Fault::At(NameFault::UnknownName, spot.at)),
+            None => Err(Unresolved::WrongName),
         },
         Atom::Parens(expr) => resolve_expr(alloc, scope, expr),
     }
@@ -169,7 +169,7 @@ pub fn resolve_exprs(
     alloc: Global,
     scope: &[&str],
     exprs: &[shape::Expr<'_>],
-) -> Result<Vec<Expr>, Fault<NameFault>>
+) -> Result<Vec<Expr>, Unresolved>
     ensures { Yields (λ v. map slot_expr_of v.items) result (all_names (λ e. expr_names e (names_of scope.now)) (map expr_of exprs.now)) }
 {
     let mut all = Vec::new(alloc);

@@ -12,7 +12,7 @@ ghost use Rattle.boc_reader.specs.Resolving.{names_of, declared_of};
 mod block;
 mod expr;
 
-use crate::fault::{Fault, NameFault};
+use crate::fault::{Fault, NameFault, Unresolved};
 use crate::names::declare::declare_top;
 use crate::names::judge::block::{free_fault, judge_block};
 use crate::names::judge::expr::judge_name;
@@ -107,8 +107,8 @@ pub fn judge_tree(alloc: Global, tree: &Tree<'_>) -> Verdict
     let count = judge_cowns(&mut before, &tree.cowns, 0)?;
     let top = match declare_top(alloc, tree) {
         Ok(top) => top,
-        Err(Fault::Memory) => return Err(Fault::Memory),
-        Err(Fault::At(..)) => unreachable!(),
+        Err(Unresolved::Memory) => return Err(Fault::Memory),
+        Err(Unresolved::WrongName) => unreachable!(),
     };
     let count = judge_defs(alloc, &top, before, &tree.defs, count)?;
     judge_body(alloc, &top, &[], &[], &tree.main, count)

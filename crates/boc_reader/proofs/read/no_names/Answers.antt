@@ -1,8 +1,5 @@
-use Rattle.std.proofs.Common.{◌≡◌, sym, ◌∙◌}
-use Rattle.boc_reader.specs.NameUses.{tree_uses}
 use Rattle.boc_reader.specs.Placed.{tokens_of}
 use Rattle.boc_reader.specs.Views.{tree_of}
-use Rattle.boc_reader.specs.WrongNames.{verdict, wrong}
 use Rattle.boc_reader.proofs.RightNames.{right_resolves}
 use Rattle.boc_reader.proofs.WrongPlaces.{name_begins, wrong_is_there}
 use Rattle.boc_reader.proofs.read.no_names.Goals as goal

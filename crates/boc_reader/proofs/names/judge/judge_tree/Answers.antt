@@ -10,23 +10,23 @@ use Rattle.boc_reader.proofs.names.judge.judge_tree.Goals as goal
 pub returns-in_err-count : goal.returns-in_err-count
 returns-in_err-count c =
     let t = tree_of c.args.tree.now in
+    let whole = at_cowns c.args.tree.now c.new-before.result.items c.deref.result.now c.new-before.ensures.items c.deref.ensures.value in
     judged_on _ _ _ _ c.from_residual.ensures.1 c.in_err-count.ensures.said
-    (λ kind n h. at_cowns c.args.tree.now c.new-before.result.items c.deref.result.now c.new-before.ensures.items c.deref.ensures.value
-    ∙ ap (λ v. if_right v (bodies_verdict t (first_declared t))) h)
+    (λ kind n h. whole ∙ ap (λ v. if_right v (bodies_verdict t (first_declared t))) h)
 
 pub unreachable-requires : goal.unreachable-requires
 unreachable-requires c =
-    let none = rw c.in-Err-At.field-0-is at c.in-Err-At.ensures in
+    let none = rw c.in-Err-WrongName.field-0-is at c.in-Err-WrongName.ensures in
     cowns_declare c.args.tree.now c.new-before.result.items c.deref.result.now c.in_ok-count.count c.new-before.ensures.items c.deref.ensures.value
     c.in_ok-count.ensures.said none.top
 
 pub returns-in_err-count-2 : goal.returns-in_err-count-2
 returns-in_err-count-2 c =
     let top = declared_of c.in-Ok.top in
+    let whole = at_defs c.args.tree.now c.new-before.result.items c.judge_cowns.new.before.items c.deref.result.now c.deref-2.result.now c.in_ok-count.count top
+    c.new-before.ensures.items c.deref.ensures.value c.deref-2.ensures.value c.in_ok-count.ensures.said c.in_ok-count.ensures.before c.in-Ok.ensures.top in
     judged_on _ _ _ _ c.from_residual-in_err-count-2.ensures.1 c.in_err-count-2.ensures
-    (λ kind n h. at_defs c.args.tree.now c.new-before.result.items c.judge_cowns.new.before.items c.deref.result.now c.deref-2.result.now c.in_ok-count.count top
-    c.new-before.ensures.items c.deref.ensures.value c.deref-2.ensures.value c.in_ok-count.ensures.said c.in_ok-count.ensures.before c.in-Ok.ensures.top
-    ∙ ap (λ v. if_right v (body_verdict top [] [] (tree_of c.args.tree.now).main)) h)
+    (λ kind n h. whole ∙ ap (λ v. if_right v (body_verdict top [] [] (tree_of c.args.tree.now).main)) h)
 
 pub returns : goal.returns
 returns c =

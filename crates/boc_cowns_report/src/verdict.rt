@@ -59,7 +59,8 @@ fn put_order(text: &mut Vec<u8>, hot: &HotCowns, own: HotCown) -> Result<(), All
     put_number(text, own.held)?;
     text.extend_from_slice(b" of ")?;
     put_number(text, hot.span)?;
-    text.extend_from_slice(b" ticks; the order in which behaviours ask is what holds back")
+    text.extend_from_slice(b" ticks; the order in which behaviours ask is what holds back")?;
+    Ok(())
 }
 
 // Puts what of the cowns holds the rows back behind a text, where this one is held longest.

@@ -34,11 +34,11 @@ pub(crate) fn unseen_byte(line: &[u8]) -> Option<u8> {
 }
 
 /// Tells of a line that a byte of it can't be seen, and what the line is of.
-pub(crate) fn put_unseen(
+pub(crate) fn put_unseen<'a>(
     said: &mut Said,
-    line: &[u8],
+    line: &'a [u8],
     byte: u8,
-    of: &str,
+    of: &'a str,
 ) -> Result<(), AllocError> {
     said.line(&[
         Part::Quote(line),

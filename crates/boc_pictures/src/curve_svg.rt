@@ -71,7 +71,9 @@ pub fn curve_drawing(
     points: &[CurvePoint],
 ) -> Result<String, AllocError> {
     let points = told(points);
-    let most = speed_up(work, span).max(100);
+    let most = speed_up(work, span)
+        .min((points.len() as u64).saturating_mul(100))
+        .max(100);
     let plot = Plot {
         across: Axis {
             end: points.len() as u64,

@@ -3,7 +3,8 @@
 use crate::axis::Tenths;
 use std::alloc::AllocError;
 
-// The colours of drawings. The chain's is told from the others' also by those who see no red or green, and in print by its darkness.
+// The colours of drawings. The chain's is told from the others' also by those who see no red or green, and in print by its darkness. The edges
+// of bars stay as thin where a drawing is made larger.
 const STYLE: &str = "<style>
 svg{background:#fff;color-scheme:light dark}
 text{font:12px ui-monospace,Menlo,Consolas,monospace;fill:#222}
@@ -11,14 +12,16 @@ text.title{font-size:15px;font-weight:bold}
 text.small{font-size:11px;fill:#555}
 .axis path{stroke:#ddd;stroke-width:1}
 .axis text{font-size:11px;fill:#555;text-anchor:middle}
-.bars path{fill:#8ab6dc;stroke:#fff;stroke-width:.4}
-.chain path{fill:#c2410c;stroke:#fff;stroke-width:.4}
+.bars{color:#8ab6dc}
+.chain{color:#c2410c}
+.bars,.chain{stroke:#fff;stroke-width:.4}
+.bars path,.chain path{fill:currentColor;vector-effect:non-scaling-stroke}
 .rest path{fill:#f0a880}
 .links path{fill:none;stroke:#c2410c;stroke-width:2}
 .links text{font-size:11px;fill:#a33408;stroke:#fff;stroke-width:3px;paint-order:stroke}
 .thin path{stroke-width:1;opacity:.5}
 .waits{fill:none;stroke:#999;stroke-width:1;stroke-dasharray:2 2}
-.spawns{fill:none;stroke:#222;stroke-width:1.2}
+.spawns{fill:none;stroke:#222;stroke-width:1.2;pointer-events:none}
 .end{fill:none;stroke:#222;stroke-width:1.2}
 .bound{fill:none;stroke:#666;stroke-width:1.2;stroke-dasharray:5 3}
 .greedy{fill:none;stroke:#1f6fb2;stroke-width:2}
@@ -30,8 +33,9 @@ svg{background:#16181d}
 text{fill:#e8e8e8}
 text.small,.axis text{fill:#aaa}
 .axis path{stroke:#333}
-.bars path{fill:#3f78a8;stroke:#16181d}
-.chain path{fill:#f97316;stroke:#16181d}
+.bars{color:#3f78a8}
+.chain{color:#f97316}
+.bars,.chain{stroke:#16181d}
 .rest path{fill:#8a4a20}
 .links path{stroke:#f97316}
 .links text{fill:#fb9a55;stroke:#16181d}
@@ -45,6 +49,9 @@ text.small,.axis text{fill:#aaa}
 }
 </style>
 ";
+
+// The edge of a bar that is less wide or high than this, in tenths of a pixel, has the bar's colour: another one would cover most of it.
+const LEAST_EDGED: u64 = 20;
 
 /// Begins a drawing of this width and height, in tenths of a pixel.
 pub(crate) fn open(text: &mut String, width: u64, height: u64) -> Result<(), AllocError> {
@@ -87,4 +94,19 @@ pub(crate) fn put_box(
 ) -> Result<(), AllocError> {
     let (width, height) = (Tenths(width.max(5)), Tenths(height));
     write!(text, "d=\"M{x} {}h{width}v{height}h-{width}z\"", Tenths(y))
+}
+
+/// Puts the shape of a bar that others may follow, with its edge.
+pub(crate) fn put_edged_box(
+    text: &mut String,
+    x: Tenths,
+    y: u64,
+    width: u64,
+    height: u64,
+) -> Result<(), AllocError> {
+    put_box(text, x, y, width, height)?;
+    if width < LEAST_EDGED || height < LEAST_EDGED {
+        text.push_str(" stroke=\"currentColor\"")?;
+    }
+    Ok(())
 }

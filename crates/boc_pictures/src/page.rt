@@ -2,15 +2,12 @@
 
 use crate::columns::percent;
 use crate::page_parts::{SCRIPT, STYLE};
-use crate::plan_svg::put_cause;
+use crate::plan_svg::{MOST_LISTED, put_cause};
 use crate::spelling::Spelling;
 use crate::subject::Subject;
 use boc_cowns::HotCown;
 use boc_names::text_at;
 use std::alloc::{AllocError, Global};
-
-// The most rows of a table.
-const MOST_ROWS: usize = 1_000;
 
 // The most bytes of a name.
 const NAME_BYTES: usize = 80;
@@ -68,7 +65,7 @@ fn put_chain(alloc: Global, text: &mut String, subject: &Subject) -> Result<(), 
         "<table><thead><tr><th>tick</th><th>ticks</th><th>row</th><th class=\"word\">behaviour</th><th class=\"word\">why then</th></tr></thead><tbody>\n",
     )?;
     let mut before = None;
-    for step in subject.chain.iter().take(MOST_ROWS) {
+    for step in subject.chain.iter().take(MOST_LISTED) {
         let start = match subject.shown.get(step.row as usize) {
             Some(row) => row.start,
             None => 0,
@@ -91,8 +88,8 @@ fn put_chain(alloc: Global, text: &mut String, subject: &Subject) -> Result<(), 
 
 // Says how many rows a table leaves out.
 fn put_rest(text: &mut String, count: usize) -> Result<(), AllocError> {
-    if count > MOST_ROWS {
-        writeln!(text, "<p>and {} more</p>", count - MOST_ROWS)?;
+    if count > MOST_LISTED {
+        writeln!(text, "<p>and {} more</p>", count - MOST_LISTED)?;
     }
     Ok(())
 }
@@ -131,7 +128,7 @@ fn put_rows(alloc: Global, text: &mut String, page: &Page) -> Result<(), AllocEr
         "<table class=\"sort\" id=\"sweep\"><thead><tr><th>row</th><th class=\"word\">behaviour</th><th>start</th><th>end</th>\
          <th>ticks</th><th>least ticks leave</th></tr></thead><tbody>\n",
     )?;
-    for (row, span) in subject.shown.iter().zip(page.spans).take(MOST_ROWS) {
+    for (row, span) in subject.shown.iter().zip(page.spans).take(MOST_LISTED) {
         let number = row.row;
         let name = Spelling::Xml.of(alloc, subject.name(number), NAME_BYTES)?;
         writeln!(

@@ -15,9 +15,11 @@ table.sort th:hover{text-decoration:underline}
 pre{font:12px/1.5 ui-monospace,Menlo,Consolas,monospace;margin:0}
 .picture{overflow:auto;border:1px solid #ddd;max-height:80vh}
 .line{display:flex}
-.share{flex:0 0 160px;margin-right:1em}
+.line pre{white-space:pre-wrap;overflow-wrap:anywhere;min-width:0}
+.share{flex:0 0 110px;position:relative;padding-right:50px;margin-right:1em}
 .share i{display:block;height:1.1em;background:#c2410c}
-.share b{float:right;font:11px ui-monospace,monospace;padding-right:.3em}
+.share b{position:absolute;right:.3em;font:11px ui-monospace,monospace}
+.near .bars path,.near .chain path{stroke:#fff}
 .lit{stroke:#111!important;stroke-width:2!important}
 #told{position:fixed;max-width:48em;padding:.2em .6em;border-radius:3px;font:12px/1.5 ui-monospace,Menlo,Consolas,monospace;
 background:#222;color:#fff;pointer-events:none}
@@ -27,6 +29,7 @@ body{background:#16181d;color:#e8e8e8}
 th,td{border-color:#333}
 .picture{border-color:#333}
 .share i{background:#f97316}
+.near .bars path,.near .chain path{stroke:#16181d}
 .lit{stroke:#fff!important}
 #told{background:#e8e8e8;color:#16181d}
 a{color:#6ab0ea}
@@ -94,7 +97,7 @@ for (const picture of document.querySelectorAll('.picture')) {
   });
   picture.addEventListener('mouseleave', hide);
 }
-// The wheel with the control key held makes a picture larger or smaller.
+// The wheel with the control key held makes a picture larger or smaller. Where it is large, thin bars have edges as the others do.
 for (const picture of document.querySelectorAll('.picture')) {
   const drawing = picture.querySelector('svg');
   const width = parseFloat(drawing.getAttribute('width'));
@@ -106,6 +109,7 @@ for (const picture of document.querySelectorAll('.picture')) {
     zoom = Math.min(20, Math.max(0.2, zoom * (event.deltaY < 0 ? 1.2 : 1 / 1.2)));
     drawing.setAttribute('width', width * zoom);
     drawing.setAttribute('height', height * zoom);
+    picture.classList.toggle('near', zoom > 4);
   }, {passive: false});
 }
 </script>

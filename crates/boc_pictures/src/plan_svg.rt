@@ -1,7 +1,7 @@
 // The earliest plan as a drawing.
 
 use crate::axis::{Axis, Tenths, put_axis};
-use crate::drawing::{close, open, put_box, put_text};
+use crate::drawing::{close, open, put_box, put_edged_box, put_text};
 use crate::plan_lines::{MOST_LINES, stretches_of};
 use crate::spelling::Spelling;
 use crate::subject::Subject;
@@ -39,8 +39,11 @@ const TITLE_BYTES: usize = 80;
 // With more rows than this a mouse is shown less, and nothing at the bars of the greedy plan.
 const MOST_TITLES: usize = 20_000;
 
-// With more rows than this only the bars of the chain have a name that a link leads to.
+// With more rows than this only the bars of the chain, and of the rows that a page lists, have a name that a link leads to.
 const MOST_IDS: usize = 5_000;
+
+/// The most rows that a table of a page lists.
+pub(crate) const MOST_LISTED: usize = 1_000;
 
 /// Where the bars of a plan stand.
 #[derive(Clone, Copy)]
@@ -194,6 +197,11 @@ fn put_bars(
     text.push_str("</g>\n")
 }
 
+// Whether the bar of a row has a name that a link leads to.
+fn is_led_to(subject: &Subject, row: u32) -> bool {
+    subject.count() <= MOST_IDS || (row as usize) < MOST_LISTED || subject.is_on_chain(row)
+}
+
 // Puts a bar with what a mouse shows.
 fn put_bar(
     alloc: Global,
@@ -202,13 +210,13 @@ fn put_bar(
     layout: Layout,
     bar: &Bar,
 ) -> Result<(), AllocError> {
-    if subject.count() <= MOST_IDS || subject.is_on_chain(bar.row) {
+    if is_led_to(subject, bar.row) {
         write!(text, "<path id=\"r{}\" ", bar.row)?;
     } else {
         text.push_str("<path ")?;
     }
     let width = layout.axis.long(bar.end.saturating_sub(bar.start));
-    put_box(
+    put_edged_box(
         text,
         layout.axis.at(bar.start),
         layout.top(bar.lane),
@@ -518,7 +526,7 @@ fn put_share(
     y: u64,
 ) -> Result<(), AllocError> {
     text.push_str("<path ")?;
-    put_box(
+    put_edged_box(
         text,
         layout.axis.at(start),
         y,

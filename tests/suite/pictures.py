@@ -302,7 +302,8 @@ def fault_of_texts(svg):
         begin = float(x) - length if is_end else float(x)
         if y in names and (begin < names[y] - 1 or begin + length > 1201):
             return f"{words_!r} goes from {begin} on, and is {length} long"
-    legend = [(float(x), len(html.unescape(words_)) * LINK_LETTER) for x, words_ in re.findall(r'<text class="small" x="([\d.]+)" y="[\d.]+">(.*?)</text>', text)]
+    legend = re.findall(r'<text class="small" x="([\d.]+)" y="[\d.]+">(.*?)</text>', text)
+    legend = [(float(x), len(html.unescape(words_)) * LINK_LETTER) for x, words_ in legend]
     return "texts of the legend meet" if any(x + length > other - 8 for (x, length), (other, _) in zip(legend, legend[1:])) else None
 
 
@@ -463,11 +464,16 @@ def operands(view):
     yield "help names the file", None if b"[FILE]" in help_ and b"-w, --workers" in help_ and b"-p, --p" in help_ else f"it is {help_}"
 
 
-def at_the_limit(view):
-    """As many rows as there may be: within ten megabytes, and two seconds on a machine that does nothing else."""
+def the_most_rows():
+    """As many rows as there may be, and their record."""
     chance = random.Random(7)
     rows = fan(65_535, lambda number: (chance.randrange(256),), lambda number: chance.randrange(1, 1000))
-    record = fan_text(256, rows)
+    return rows, fan_text(256, rows)
+
+
+def at_the_limit(view):
+    """As many rows as there may be: within ten megabytes, and two seconds on a machine that does nothing else."""
+    rows, record = the_most_rows()
     begun = time.monotonic()
     output = view.run(["plan"], record).output
     seconds = time.monotonic() - begun

@@ -19,10 +19,11 @@ room_of_text = record { cowns = MOST_COWNS; defs = MOST_DEFS; nodes = 0; listed 
 abbrev pub with_body : Room → Room
 with_body r = record r { nodes = MOST_NODES }
 
--- a list begins, or it ends
+-- a list begins
 abbrev pub with_list : Room → Room
 with_list r = record r { listed = MOST_LISTED }
 
+-- a list ends
 abbrev pub without_list : Room → Room
 without_list r = record r { listed = 0 }
 

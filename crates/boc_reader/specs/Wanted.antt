@@ -89,6 +89,7 @@ behind_minus Expr = Some (Expr ∷ [])
 behind_minus Sum = Some (Sum ∷ [])
 behind_minus w = behind_operator w
 
+-- what is wanted behind a `(`: what it holds, and its `)`, where one may stand
 abbrev pub behind_open : Wanted → Option (List Wanted)
 behind_open Open = Some []
 behind_open Args = Some (Expr ∷ Close ∷ InExpr ∷ MoreArgs ∷ [])
@@ -96,6 +97,7 @@ behind_open Expr = Some (Expr ∷ Close ∷ InExpr ∷ [])
 behind_open Sum = Some (Expr ∷ Close ∷ InSum ∷ [])
 behind_open w = None
 
+-- behind a `)`: it ends a list, or is what was wanted
 abbrev pub behind_close : Wanted → Option (List Wanted)
 behind_close Close = Some []
 behind_close Held = Some []
@@ -104,6 +106,7 @@ behind_close Refs = Some []
 behind_close MoreRefs = Some []
 behind_close w = None
 
+-- behind a `;`
 abbrev pub behind_semicolon : Wanted → Option (List Wanted)
 behind_semicolon Semicolon = Some []
 behind_semicolon Params = Some []
@@ -112,6 +115,7 @@ behind_semicolon Args = Some []
 behind_semicolon MoreArgs = Some []
 behind_semicolon w = None
 
+-- behind a `,`: the list's next
 abbrev pub behind_comma : Wanted → Option (List Wanted)
 behind_comma MoreParams = Some (Name ∷ MoreParams ∷ [])
 behind_comma MoreHeld = Some (Name ∷ MoreHeld ∷ [])
@@ -119,23 +123,28 @@ behind_comma MoreArgs = Some (Expr ∷ MoreArgs ∷ [])
 behind_comma MoreRefs = Some (Name ∷ Index ∷ MoreRefs ∷ [])
 behind_comma w = None
 
+-- behind a `[`: a size, or an index, and its `]`
 abbrev pub behind_open_index : Wanted → Option (List Wanted)
 behind_open_index Size = Some (Members ∷ CloseIndex ∷ [])
 behind_open_index Index = Some (Expr ∷ CloseIndex ∷ [])
 behind_open_index w = None
 
+-- behind a `]`
 abbrev pub behind_close_index : Wanted → Option (List Wanted)
 behind_close_index CloseIndex = Some []
 behind_close_index w = None
 
+-- behind a `{`
 abbrev pub behind_open_block : Wanted → Option (List Wanted)
 behind_open_block OpenBlock = Some []
 behind_open_block w = None
 
+-- behind a `}`: it ends the statements of a block
 abbrev pub behind_close_block : Wanted → Option (List Wanted)
 behind_close_block Stmts = Some []
 behind_close_block w = None
 
+-- behind a `=`
 abbrev pub behind_assign : Wanted → Option (List Wanted)
 behind_assign Assign = Some []
 behind_assign w = None

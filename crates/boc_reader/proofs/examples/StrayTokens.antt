@@ -79,7 +79,9 @@ abbrev with_array : ℕ → Tree
 with_array n = record { cowns = record { name = codes "a"; size = Some n; negative = false; value = 0 } ∷ []; defs = []; main = done }
 
 abbrev behind_size : List Token
-behind_size = sign signs.CloseIndex ∷ sign signs.Assign ∷ number 0 ∷ sign signs.Semicolon ∷ keyword keywords.Main ∷ sign signs.OpenBlock ∷ sign signs.CloseBlock ∷ []
+behind_size =
+    sign signs.CloseIndex ∷ sign signs.Assign ∷ number 0 ∷ sign signs.Semicolon
+    ∷ keyword keywords.Main ∷ sign signs.OpenBlock ∷ sign signs.CloseBlock ∷ []
 
 -- it has members
 pub no_members : BeginTree (array_of 0) → ⊥

@@ -1,7 +1,8 @@
-//! The input: a reader whose bytes are kept as they come, for who explains a fault in them.
+// The input: a reader whose bytes are kept as they come, for who explains a fault in them.
 
 ghost use Rattle.std.specs.Prelude.{◌≡◌};
 
+use crate::place::{Text, looks_like_record};
 use boc_text::{Failed, Source};
 use std::alloc::Global;
 use std::io::{self, Read};
@@ -11,14 +12,14 @@ const MOST_KEPT: usize = 1024 * 1024;
 
 /// Bytes that are kept, as far as they are few enough, and memory was there for them.
 #[derive(Drop)]
-pub(crate) struct Kept {
+pub struct Kept {
     bytes: Vec<u8>,
     is_whole: bool,
 }
 
 impl Kept {
     /// No bytes yet.
-    pub(crate) fn new(alloc: Global) -> Kept {
+    pub fn new(alloc: Global) -> Kept {
         Kept {
             bytes: Vec::new(alloc),
             is_whole: true,
@@ -26,17 +27,25 @@ impl Kept {
     }
 
     /// The bytes.
-    pub(crate) fn as_slice(&self) -> &[u8] {
+    pub fn as_slice(&self) -> &[u8] {
         &self.bytes
     }
 
+    /// The bytes as a text.
+    pub fn text(&self) -> Text<'_> {
+        Text {
+            bytes: &self.bytes,
+            whole: self.is_whole,
+        }
+    }
+
     /// These are all that were to be kept.
-    pub(crate) fn is_whole(&self) -> bool {
+    pub fn is_whole(&self) -> bool {
         self.is_whole
     }
 
     /// Puts bytes behind the others. From where some are left out, none are kept any more.
-    pub(crate) fn keep(&mut self, bytes: &[u8]) {
+    pub fn keep(&mut self, bytes: &[u8]) {
         let room = MOST_KEPT.saturating_sub(self.bytes.len());
         let (front, _) = bytes.split_at(room.min(bytes.len()));
         if self.is_whole && self.bytes.extend_from_slice(front).is_err() {
@@ -50,16 +59,16 @@ impl Kept {
 
 /// A reader as a source, with a count of its failures, what it gave, and the error of the last failure.
 #[derive(Drop)]
-pub(crate) struct Input<T> {
-    inner: T,
-    failures: u64,
+pub struct Input<T> {
+    pub inner: T,
+    pub failures: u64,
     kept: Kept,
     error: Option<io::Error>,
 }
 
 impl<T> Input<T> {
     /// A reader that has not been read yet, and has not failed.
-    pub(crate) fn new(alloc: Global, inner: T) -> Input<T>
+    pub fn new(alloc: Global, inner: T) -> Input<T>
         ensures inner { result.inner ≡ inner }
         ensures failures { result.failures ≡ 0 }
     {
@@ -73,8 +82,13 @@ impl<T> Input<T> {
 }
 
 impl<T: Drop> Input<T> {
+    /// What was given begins as the text of a record does.
+    pub fn is_of_record(&self) -> bool {
+        looks_like_record(self.kept.as_slice())
+    }
+
     /// What was given, and the error of the last failure, if there was one.
-    pub(crate) fn into_parts(self) -> (Kept, Option<io::Error>) {
+    pub fn into_parts(self) -> (Kept, Option<io::Error>) {
         (self.kept, self.error)
     }
 }

@@ -1,7 +1,7 @@
 use Rattle.std.proofs.Common.{◌≡◌, ℕ, ◌+◌, ◌<◌, length, arith}
 use Rattle.boc_runs.specs.Rows.{ticks_of}
-use Rattle.boc_why.proofs.LeastSpawns.{spawned_next, spawned_span}
-use Rattle.boc_why.proofs.least.spawn_span.Goals as goal
+use Rattle.boc_why.proofs.LeastSpawns.{spawned_next, spawned_plan}
+use Rattle.boc_why.proofs.least.spawn_plan.Goals as goal
 
 pub loop-row-preserved : goal.loop-row-preserved
 loop-row-preserved c =
@@ -21,4 +21,4 @@ pub returns : goal.returns
 returns c =
     let rows = c.args.rows.now in
     let all : c.loop-row.row ≡ length rows = omega (arith, c.loop-row-test.false, c.loop-row.auto.row-end, c.len-row-end.ensures.count) in
-    spawned_span rows c.requires c.loop-row.starts.items c.loop-row.row c.loop-row.latest all c.loop-row.invariant.spawned
+    spawned_plan rows c.requires c.loop-row.starts.items c.loop-row.row c.loop-row.latest all c.loop-row.invariant.spawned

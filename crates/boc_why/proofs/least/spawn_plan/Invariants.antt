@@ -1,7 +1,7 @@
 use Rattle.std.proofs.Common.{◌≤◌, length}
 use Rattle.std.specs.Prelude.{vec_capacity}
 use Rattle.boc_why.proofs.LeastSpawns.{AreSpawned}
-use Rattle.boc_why.proofs.least.spawn_span.Given as goal
+use Rattle.boc_why.proofs.least.spawn_plan.Given as goal
 
 -- the rows so far start at their spawns
 abbrev pub invariant-loop-row : goal.invariant-loop-row

@@ -37,4 +37,5 @@ pub mod NameOrder
 pub mod RightNames
 pub mod JudgedTrees
 pub mod WrongPlaces
+pub mod TokenPlaces
 mod examples

@@ -1,5 +1,5 @@
 -- Where the shape of tokens goes wrong first, by what was wanted in front of it.
-use Rattle.std.proofs.Common.{◌≡◌, ◌≢◌, ℕ, zero, suc, ◌+◌, ◌-◌, ◌<◌, ◌≤◌, inl, inr, List, [], ◌∷◌, ◌++◌, length, get_or, map, take, drop}
+use Rattle.std.proofs.Common.{◌≡◌, ◌≢◌, ℕ, ◌+◌, ◌-◌, ◌<◌, ◌≤◌, inl, inr, List, [], ◌∷◌, ◌++◌, length, get_or, map, take, drop}
 use Rattle.std.proofs.Common.{Option, Some, None, refl, sym, ap}
 use Rattle.std.proofs.Common.{◌∙◌, subst, arith, append-nil, append_assoc, reverse}
 use Rattle.std.proofs.lemmas.Bool.{cases_lt}
@@ -9,7 +9,7 @@ use Rattle.boc_reader.specs.declared.token.Placed.{Placed}
 use Rattle.boc_reader.specs.declared.wanted.Wanted.{Wanted}
 use Rattle.boc_reader.specs.declared.wanted.Wanted.TheVariants.{Cowns}
 use Rattle.boc_reader.specs.Tokens.{Token}
-use Rattle.boc_reader.specs.Placed.{ArePlaced, BeginsAt, BeginsToken, token_of, tokens_of}
+use Rattle.boc_reader.specs.Placed.{BeginsToken, token_of, tokens_of}
 use Rattle.boc_reader.specs.Wanted.{wanted_behind, wanted_after}
 use Rattle.boc_reader.specs.Room.{Within, room_of_text, within_behind, within_after}
 use Rattle.boc_reader.specs.declared.room.Room.{Room}
@@ -20,6 +20,8 @@ use Rattle.boc_reader.specs.Shape.{Tree, HasShape}
 use Rattle.boc_reader.specs.FaultMeanings.{StandsIn, StandsInShape}
 use Rattle.boc_reader.specs.declared.fault.ReadFault.{ReadFault}
 use Rattle.boc_reader.specs.declared.fault.ShapeFault.{ShapeFault}
+use Rattle.boc_reader.specs.declared.fault.ShapeFault.TheVariants as faults
+use Rattle.boc_reader.proofs.TokenPlaces.{one_stand}
 use Rattle.boc_reader.proofs.Filled.{all_read, read_begins}
 use Rattle.boc_reader.proofs.Wanting.{whole_wanted, stray_begins_none}
 
@@ -206,25 +208,29 @@ pub whole_is_right : (ts : List Token) (k : ℕ) → AreWhole ts → ShapeGoesWr
 whole_is_right ts k w g =
     elim (cases_lt k (length ts)) [ inl less ↦ g.strays less (whole_begins ts (k + 1) w) | inr most ↦ g.ends (omega (arith, g.within)) w ]
 
--- the place of a token
-pub stands_at : (text : List ℕ) (ps : List Placed) (k : ℕ) (p : Placed) → ArePlaced text ps → k < length ps → p ≡ get_or ps k p
-    → StandAt text p.at (drop k (tokens_of ps))
-stands_at text [] k p placed small is = absurd (omega arith)
-stands_at text (q ∷ ps) zero p placed small is = subst (λ (x : Placed). BeginsAt text x.at (tokens_of (q ∷ ps))) (sym is) placed.0
-stands_at text (q ∷ ps) (suc k) p placed small is = stands_at text ps k p placed.1 (omega arith) is
-
 -- a token begins at a byte of the text, or the text ends
-pub place_within : (text : List ℕ) (at : ℕ) (ts : List Token) → StandAt text at ts → at ≤ length text
-place_within text at [] stand = omega (arith, stand)
-place_within text at (t ∷ ts) stand =
-    elim (cases_lt (length text) at) [ inl less ↦ absurd (subst BeginsToken (drop_all at text (omega arith)) stand.begins) | inr within ↦ within ]
+pub place_within : (text : List ℕ) (at : ℕ) (passed left : List Token) → StandAt text at passed left → at ≤ length text
+place_within text at passed [] stand = omega (arith, stand)
+place_within text at passed (t ∷ ts) stand =
+    elim (cases_lt (length text) at) [ inl less ↦ absurd (subst BeginsToken (drop_all at text (omega arith)) stand.1.begins) | inr within ↦ within ]
 
 -- what is told of a text whose shape goes wrong there
 pub tells_shape : (wrong : ShapeFault) (text : List ℕ) (at : ℕ) (told : ReadFault) → ShapeFaultStandsAt wrong text at
     → (at ≤ length text → told.at ≡ at) → StandsIn told text → StandsInShape wrong told text
 tells_shape wrong text at told first there stands =
-    (stands, subst (ShapeFaultStandsAt wrong text) (sym (there (place_within text at (drop first.before first.tokens) first.place))) first)
+    (stands, subst (ShapeFaultStandsAt wrong text) (sym (there (place_within text at (take first.before first.tokens) (drop first.before first.tokens) first.place))) first)
 
 -- a tree within the limits is one whatever they are
 pub shaped_is_right : (ts : List Token) (t : Tree) (k : ℕ) → HasShape ts t → ShapeGoesWrong ts k → ⊥
 shaped_is_right ts t k s = whole_is_right ts k (record { tree = t; arrays = s.limits.arrays; tokens_are = s.tokens_are })
+
+-- a token that the grammar doesn't allow, or an end, is told of a text at one place at most
+pub one_shape_place : (text : List ℕ) (at place : ℕ) → ShapeFaultStandsAt faults.Unexpected text at → ShapeFaultStandsAt faults.Unexpected text place
+    → at ≡ place
+one_shape_place text at place a b =
+    let found : Some a.tokens ≡ Some b.tokens = sym a.has_tokens ∙ b.has_tokens in
+    let same : a.tokens ≡ b.tokens = cc found in
+    let before : a.before ≡ b.before = one_stray b.tokens a.before b.before (subst (λ (ts : List Token). ShapeGoesWrong ts a.before) same a.says) b.says in
+    one_stand text at place (take b.before b.tokens) (drop b.before b.tokens)
+    (subst (λ (k : ℕ). StandAt text at (take k b.tokens) (drop k b.tokens)) before
+    (subst (λ (ts : List Token). StandAt text at (take a.before ts) (drop a.before ts)) same a.place)) b.place

@@ -1,8 +1,9 @@
 -- Where the tokens of a text go wrong first that are those of no tree, whatever its numbers.
 use Rattle.std.specs.Prelude.{◌≡◌, ℕ, ◌+◌, ◌<◌, ◌≤◌, List, [], ◌∷◌, ◌++◌, length, take, drop, Some}
-use Rattle.boc_reader.specs.Tokens.{Token, tokens_of_text}
+use Rattle.boc_reader.specs.Tokens.{Token, Piece, tokens_of_pieces, tokens_of_text}
 use Rattle.boc_reader.specs.Shape.{Tree, tree_tokens, HaveMembers, HasShape}
 use Rattle.boc_reader.specs.Placed.{BeginsAt}
+use Rattle.boc_reader.specs.WrongTokens.{bytes_of, pieces_of}
 use Rattle.boc_reader.specs.declared.fault.ShapeFault.{ShapeFault}
 use Rattle.boc_reader.specs.declared.fault.ShapeFault.TheVariants as faults
 
@@ -37,10 +38,21 @@ abbrev pub ShapeFaultSays : ShapeFault → List Token → ℕ → Type 0
 ShapeFaultSays faults.Unexpected tokens before = ShapeGoesWrong tokens before
 ShapeFaultSays faults.TooMany tokens before = PassesLimit tokens before
 
--- the place of the last tokens of a text: the byte at which the first of them begins, or the end of the text where there is none
-abbrev pub StandAt : List ℕ → ℕ → List Token → Type 0
-StandAt text at [] = at ≡ length text
-StandAt text at (t ∷ ts) = BeginsAt text at (t ∷ ts)
+-- The token behind these of a text begins at this byte: the pieces before it are these tokens and blanks, and the piece there is that token.
+pub record IsPlaceOfToken (text : List ℕ) (at : ℕ) (passed : List Token) (token : Token) : Type 0 where
+  pub before : List Piece
+  pub has_tokens : tokens_of_pieces before ≡ Some passed
+  pub found : Piece
+  pub is_token : tokens_of_pieces (found ∷ []) ≡ Some (token ∷ [])
+  pub behind : List Piece
+  pub parts : pieces_of text ≡ before ++ found ∷ behind
+  pub place : at ≡ bytes_of before
+
+-- The place behind so many tokens of a text, of the tokens that are left: the byte at which the first of these begins, from which on the text has them;
+-- or the end of the text where none is left.
+abbrev pub StandAt : List ℕ → ℕ → List Token → List Token → Type 0
+StandAt text at passed [] = at ≡ length text
+StandAt text at passed (t ∷ ts) = IsPlaceOfToken text at passed t × BeginsAt text at (t ∷ ts)
 
 -- the text has tokens, and the fault of their shape stands at this place
 pub record ShapeFaultStandsAt (fault : ShapeFault) (text : List ℕ) (at : ℕ) : Type 0 where
@@ -48,4 +60,4 @@ pub record ShapeFaultStandsAt (fault : ShapeFault) (text : List ℕ) (at : ℕ) 
   pub has_tokens : tokens_of_text text ≡ Some tokens
   pub before : ℕ
   pub says : ShapeFaultSays fault tokens before
-  pub place : StandAt text at (drop before tokens)
+  pub place : StandAt text at (take before tokens) (drop before tokens)

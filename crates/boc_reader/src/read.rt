@@ -148,6 +148,7 @@ fn no_shape(
     requires short { length text.now ≤ MOST_TEXT }
     requires has_tokens { tokens_of_text text.now ≡ Some (tokens_of tokens.now) }
     requires placed { ArePlaced text.now tokens.now }
+    requires reached { AreReached text.now [] tokens.now }
     requires none { Refusal fault (NoShape (tokens_of tokens.now)) }
     ensures { IsRefusalOf result text.now }
 {
@@ -224,13 +225,15 @@ fn place_of_name(tokens: &[Placed<'_>], before: usize) -> usize
 
 /// A text of which a fault is told, but for want of memory, spells no program, a text spells one program at most, and a text without tokens goes wrong
 /// first in one way and at one place, as does one whose names can't be resolved. The shape of tokens goes wrong at one place at most, and nowhere where they
-/// are those of a tree.
+/// are those of a tree; and that is told of a text at one byte at most.
 pub fn refused_is_none()
     ensures none { (kind : ReadFaultKind) (text : List ℕ) (p : Program) → kind ≢ ReadFaultKind.Memory → SaysOf kind text → Spells text p → ⊥ }
     ensures one { (text : List ℕ) (p q : Program) → Spells text p → Spells text q → plain_program p ≡ plain_program q }
     ensures first { (fault other : TokenFault) → (text : List ℕ) → (at place : ℕ) → GoesWrong fault text at → GoesWrong other text place
         → (fault ≡ other) × (at ≡ place) }
     ensures shape { (tokens : List Token) (before behind : ℕ) → ShapeGoesWrong tokens before → ShapeGoesWrong tokens behind → before ≡ behind }
+    ensures place { (text : List ℕ) (at place : ℕ) → ShapeFaultStandsAt ShapeFault.Unexpected text at → ShapeFaultStandsAt ShapeFault.Unexpected text place
+        → at ≡ place }
     ensures right { (tokens : List Token) (tree : the.Tree) (before : ℕ) → HasShape tokens tree → ShapeGoesWrong tokens before → ⊥ }
     ensures first_name { (fault other : NameFault) → (text : List ℕ) → (at place : ℕ) → NameGoesWrong fault text at → NameGoesWrong other text place
         → (fault ≡ other) × (at ≡ place) }

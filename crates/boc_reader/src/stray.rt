@@ -2,7 +2,7 @@
 
 ghost use Rattle.std.specs.Prelude.{◌≡◌, ◌<◌, ◌≤◌, ◌++◌, [], ◌∷◌, drop, take, length, reverse, IfOk, IfSome, OnOk, MatchBool, MatchOption, Some, None};
 ghost use Rattle.std.specs.Bool.{OnTrue};
-ghost use Rattle.boc_reader.specs.Placed.{ArePlaced, token_of, tokens_of};
+ghost use Rattle.boc_reader.specs.Placed.{ArePlaced, AreReached, token_of, tokens_of};
 ghost use Rattle.boc_reader.specs.Wanted.{wanted_behind};
 ghost use Rattle.boc_reader.specs.Room.{room_of_text, within_behind, within_after};
 ghost use Rattle.boc_reader.specs.Grammar.{NoShape};
@@ -28,6 +28,7 @@ pub(crate) fn first_fault(
 ) -> Result<(ShapeFault, usize), AllocError>
     requires has_tokens { tokens_of_text text.now ≡ Some (tokens_of tokens.now) }
     requires placed { ArePlaced text.now tokens.now }
+    requires reached { AreReached text.now [] tokens.now }
     requires none { NoShape (tokens_of tokens.now) }
     ensures { IfOk result (λ found. ShapeFaultStandsAt found.0 text.now found.1) }
 {
@@ -85,8 +86,9 @@ fn before_place(tokens: &[Placed<'_>], at: usize) -> Option<usize>
 
 // The byte at which the token begins that stands behind so many, or the end of the text behind all of them.
 fn place_of(text: &[u8], tokens: &[Placed<'_>], before: usize) -> usize
-    requires { ArePlaced text.now tokens.now }
-    ensures { StandAt text.now result (drop before (tokens_of tokens.now)) }
+    requires placed { ArePlaced text.now tokens.now }
+    requires reached { AreReached text.now [] tokens.now }
+    ensures { StandAt text.now result (take before (tokens_of tokens.now)) (drop before (tokens_of tokens.now)) }
 {
     match tokens.get(before) {
         Some(token) => token.at,

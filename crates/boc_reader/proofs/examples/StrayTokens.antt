@@ -1,12 +1,14 @@
 -- The definitions of the first fault of the shape, tried on texts that have one, and on one that has none.
-use Rattle.std.proofs.Common.{◌≡◌, ℕ, List, [], ◌∷◌, Some, false, refl, codes, arith}
+use Rattle.std.proofs.Common.{◌≡◌, ℕ, List, [], ◌∷◌, Some, false, refl, codes, arith, take, drop}
 use Rattle.boc_reader.specs.declared.terminal.Keyword.TheVariants as keywords
 use Rattle.boc_reader.specs.declared.terminal.Sign.TheVariants as signs
 use Rattle.boc_reader.specs.declared.fault.ShapeFault.TheVariants as faults
-use Rattle.boc_reader.specs.Tokens.{Token, name, number, keyword, sign, tokens_of_text, cut, token_of_run}
+use Rattle.boc_reader.specs.Tokens.{Token, name, number, keyword, sign, run, tokens_of_text, cut, token_of_run}
+use Rattle.boc_reader.specs.WrongTokens.{pieces_of}
+use Rattle.boc_reader.specs.Placed.{BeginsAt}
 use Rattle.boc_reader.specs.Shape.{plain, one_term, one_factor, unsigned, literal, declare, done, next, Tree, tree_tokens}
 use Rattle.boc_reader.specs.WrongShape.{BeginTree, PassesLimit, ShapeGoesWrong, ShapeFaultStandsAt}
-use Rattle.boc_reader.proofs.Strays.{one_stray, whole_is_right}
+use Rattle.boc_reader.proofs.Strays.{one_shape_place, one_stray, whole_is_right}
 use Rattle.boc_reader.proofs.Within.{over_begins_none}
 use Rattle.boc_reader.proofs.Wanting.{stray_begins_none, whole_wanted}
 
@@ -47,7 +49,18 @@ told = record {
   has_tokens = has_tokens;
   before = 3;
   says = goes_wrong;
-  place = record { begins = (refl, λ e. omega (arith, e)); has_tokens = refl };
+  place = (
+    record {
+      before = take 6 (pieces_of text);
+      has_tokens = refl;
+      found = run (codes "5");
+      is_token = refl;
+      behind = drop 7 (pieces_of text);
+      parts = refl;
+      place = refl;
+    },
+    record { begins = (refl, λ e. omega (arith, e)); has_tokens = refl },
+  );
 }
 
 -- and at no other token
@@ -142,3 +155,37 @@ ends_at_its_end = record { tokens = cut_short; has_tokens = refl; before = 2; sa
 -- the tokens of a tree go wrong nowhere
 pub right : (before : ℕ) → ShapeGoesWrong (tree_tokens tree) before → ⊥
 right before = whole_is_right (tree_tokens tree) before (record { tree = tree; arrays = tt; tokens_are = refl })
+
+-- A comment behind the number spells it too, so that the text has the same tokens from there on.
+
+abbrev with_comment : List ℕ
+with_comment = codes "main { let 5 # 5\n}"
+
+from_comment : BeginsAt with_comment 15 (number 5 ∷ sign signs.CloseBlock ∷ [])
+unfolding tokens_of_text cut token_of_run
+from_comment = record { begins = (refl, λ e. omega (arith, e)); has_tokens = refl }
+
+pub told_before_comment : ShapeFaultStandsAt faults.Unexpected with_comment 11
+unfolding tokens_of_text cut token_of_run
+told_before_comment = record {
+  tokens = tokens;
+  has_tokens = refl;
+  before = 3;
+  says = goes_wrong;
+  place = (
+    record {
+      before = take 6 (pieces_of with_comment);
+      has_tokens = refl;
+      found = run (codes "5");
+      is_token = refl;
+      behind = drop 7 (pieces_of with_comment);
+      parts = refl;
+      place = refl;
+    },
+    record { begins = (refl, λ e. omega (arith, e)); has_tokens = refl },
+  );
+}
+
+-- yet the fault doesn't stand in the comment
+pub not_in_the_comment : ShapeFaultStandsAt faults.Unexpected with_comment 15 → ⊥
+not_in_the_comment h = let e : 15 ≡ 11 = one_shape_place with_comment 15 11 h told_before_comment in absurd (cc e)

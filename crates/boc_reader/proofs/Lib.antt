@@ -31,6 +31,7 @@ pub mod ResolvingPrograms
 pub mod Filled
 pub mod Wanting
 pub mod Within
+pub mod Fits
 pub mod Strays
 pub mod Verdicts
 pub mod NameOrder

@@ -1,6 +1,6 @@
 use Rattle.boc_reader.proofs.Spellings.{none_spelled, one_program}
 use Rattle.boc_reader.proofs.Reading.{one_fault}
-use Rattle.boc_reader.proofs.Strays.{one_shape_place, one_stray, shaped_is_right}
+use Rattle.boc_reader.proofs.Strays.{one_shape_fault, one_stray, shaped_is_right}
 use Rattle.boc_reader.proofs.WrongPlaces.{one_wrong_name}
 use Rattle.boc_reader.proofs.read.refused_is_none.Goals as goal
 
@@ -14,10 +14,10 @@ pub returns-clause-first : goal.returns-clause-first
 returns-clause-first c = one_fault
 
 pub returns-clause-shape : goal.returns-clause-shape
-returns-clause-shape c = one_stray
+returns-clause-shape c = one_shape_fault
 
-pub returns-clause-place : goal.returns-clause-place
-returns-clause-place c = one_shape_place
+pub returns-clause-stray : goal.returns-clause-stray
+returns-clause-stray c = one_stray
 
 pub returns-clause-right : goal.returns-clause-right
 returns-clause-right c = shaped_is_right

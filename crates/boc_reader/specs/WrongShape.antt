@@ -1,4 +1,4 @@
--- Where the tokens of a text go wrong first that are those of no tree, whatever its numbers.
+-- Where the shape of the tokens of a text goes wrong first: they are those of no tree, whatever its numbers, or they pass a limit.
 use Rattle.std.specs.Prelude.{◌≡◌, ◌≢◌, ℕ, ◌+◌, ◌<◌, ◌≤◌, List, [], ◌∷◌, ◌++◌, length, take, drop, Some, None}
 use Rattle.boc_reader.specs.Tokens.{Token, Piece, tokens_of_pieces, tokens_of_text}
 use Rattle.boc_reader.specs.Shape.{Tree, tree_tokens, HaveMembers, HasShape}

@@ -230,9 +230,9 @@ pub fn refused_is_none()
     ensures one { (text : List ℕ) (p q : Program) → Spells text p → Spells text q → plain_program p ≡ plain_program q }
     ensures first { (fault other : TokenFault) → (text : List ℕ) → (at place : ℕ) → GoesWrong fault text at → GoesWrong other text place
         → (fault ≡ other) × (at ≡ place) }
-    ensures shape { (fault other : ShapeFault) → (text : List ℕ) → (at place : ℕ) → ShapeFaultStandsAt fault text at → ShapeFaultStandsAt other text place
+    ensures first_shape { (fault other : ShapeFault) → (text : List ℕ) → (at place : ℕ) → ShapeFaultStandsAt fault text at → ShapeFaultStandsAt other text place
         → (fault ≡ other) × (at ≡ place) }
-    ensures stray { (tokens : List Token) (before behind : ℕ) → ShapeGoesWrong tokens before → ShapeGoesWrong tokens behind → before ≡ behind }
+    ensures shape { (tokens : List Token) (before behind : ℕ) → ShapeGoesWrong tokens before → ShapeGoesWrong tokens behind → before ≡ behind }
     ensures right { (tokens : List Token) (tree : the.Tree) (before : ℕ) → HasShape tokens tree → ShapeGoesWrong tokens before → ⊥ }
     ensures first_name { (fault other : NameFault) → (text : List ℕ) → (at place : ℕ) → NameGoesWrong fault text at → NameGoesWrong other text place
         → (fault ≡ other) × (at ≡ place) }

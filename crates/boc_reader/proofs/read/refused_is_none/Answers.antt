@@ -13,11 +13,11 @@ returns-clause-one c = one_program
 pub returns-clause-first : goal.returns-clause-first
 returns-clause-first c = one_fault
 
-pub returns-clause-shape : goal.returns-clause-shape
-returns-clause-shape c = one_shape_fault
+pub returns-clause-first_shape : goal.returns-clause-first_shape
+returns-clause-first_shape c = one_shape_fault
 
-pub returns-clause-stray : goal.returns-clause-stray
-returns-clause-stray c = one_stray
+pub returns-clause-shape : goal.returns-clause-shape
+returns-clause-shape c = one_stray
 
 pub returns-clause-right : goal.returns-clause-right
 returns-clause-right c = shaped_is_right

@@ -24,7 +24,8 @@ use std::{env, fs, io};
 const NO_FILE: u8 = 5;
 
 // What is told where the words say how a program is run, and a record came in.
-const NOT_RUN: &[u8] = b"boc: note: the input is a record, which is not run again: --workers and --seed say nothing of it\n";
+const NOT_RUN: &[u8] =
+    b"boc: note: the input is a record, which is not run again: --workers and --seed say nothing of it\n";
 
 // Why not all was done that the words ask for.
 #[derive(Drop)]

@@ -83,7 +83,9 @@ fn run(rt: HostRuntime, threads: &(impl Threads + Wait + Sync)) -> Result<(), St
         Asked::Picture(wanted) => {
             match &wanted.input {
                 Some(path) => {
-                    let file = File::open(&rt, path.as_str()).or_else(|error| file_stop(rt, path, error))?;
+                    let file = File::open(&rt, path.as_str()).or_else(|error| file_stop(
+                        rt, path, error,
+                    ))?;
                     drawn(rt, threads, &wanted, file)?
                 }
                 None => drawn(rt, threads, &wanted, rt.stdin())?,

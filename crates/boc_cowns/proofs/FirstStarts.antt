@@ -90,21 +90,21 @@ module _ (rows : List Row) (n start : ℕ) (old : List (Option ℕ)) where
 module _ (passes : ℕ → Bool) (plan : List ℕ) (n start : ℕ) (is : start ≡ start_of plan n) where
   -- the next row passes
   first_with : (o : Option ℕ) → passes n ≡ true → IsFirstStart passes plan n o → IsFirstStart passes plan (n + 1) (Some (sooner o start))
-  first_with None yes none = record {
+  first_with None is_one none = record {
     row = n;
     below = omega arith;
-    is_one = yes;
+    is_one = is_one;
     starts = sym is;
     none_sooner = λ r h p. elim (cases_eq r n) [
       | inl e ↦ omega (arith, is, ap (start_of plan) e)
       | inr ne ↦ absurd (true≢false (sym p ∙ none r (omega arith)))
     ];
   }
-  first_with (Some first) yes s = elim (cases_lt start first) [
+  first_with (Some first) is_one s = elim (cases_lt start first) [
     | inl less ↦ record {
       row = n;
       below = omega arith;
-      is_one = yes;
+      is_one = is_one;
       starts = omega (arith, is, less);
       none_sooner = λ r h p. elim (cases_eq r n) [
         | inl e ↦ omega (arith, is, ap (start_of plan) e)
@@ -125,14 +125,14 @@ module _ (passes : ℕ → Bool) (plan : List ℕ) (n start : ℕ) (is : start �
 
   -- the next row doesn't pass
   first_without : (o : Option ℕ) → passes n ≡ false → IsFirstStart passes plan n o → IsFirstStart passes plan (n + 1) o
-  first_without None no none = λ r h. elim (cases_eq r n) [ inl e ↦ ap passes e ∙ no | inr ne ↦ none r (omega arith) ]
-  first_without (Some first) no s = record {
+  first_without None fails none = λ r h. elim (cases_eq r n) [ inl e ↦ ap passes e ∙ fails | inr ne ↦ none r (omega arith) ]
+  first_without (Some first) fails s = record {
     row = s.row;
     below = omega (arith, s.below);
     is_one = s.is_one;
     starts = s.starts;
     none_sooner = λ r h p. elim (cases_eq r n) [
-      | inl e ↦ absurd (true≢false (sym p ∙ (ap passes e ∙ no)))
+      | inl e ↦ absurd (true≢false (sym p ∙ (ap passes e ∙ fails)))
       | inr ne ↦ s.none_sooner r (omega arith) p
     ];
   }

@@ -116,7 +116,7 @@ module _ (rows : List Row) (hr : IsRows rows) (spawned plan : List ℕ) (last sp
   no_sooner r there = alone.earliest.least plan (keeps_bare rows plan keeps) r (omega (arith, there, length-bare rows))
 
   busy_from : (cown : ℕ) (first : Option ℕ) → IsHeldFrom rows spawned cown first → option_map_or (λ f. f) first 0 + load_of rows cown ≤ last
-  busy_from cown None none = load_ends rows hr plan last cown kept end
+  busy_from cown None none = omega (arith, load_ends rows hr plan last cown kept end)
   busy_from cown (Some f) is =
       load_ends_from rows hr plan last cown kept end f
       (omega (arith, is.starts, no_sooner is.row is.below, end.none_later is.row is.below, hr.ticks_low is.row is.below))

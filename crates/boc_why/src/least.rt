@@ -134,8 +134,11 @@ pub fn least_end(alloc: Global, rows: &SeenRows, count: usize) -> Result<Least, 
     requires few { count ≤ MOST_COWNS }
     ensures { IfOk result (λ least. IsSpan (without_cowns rows.now) least.spawns × IsBusiestOf rows.now count least.busiest) }
 {
-    let spawns = spawn_plan(alloc, rows)?.span;
+    let plan = spawn_plan(alloc, rows)?;
     let loads = loads_of(alloc, rows)?;
     let busiest = busiest_of(&loads, count);
-    Ok(Least { spawns, busiest })
+    Ok(Least {
+        spawns: plan.span,
+        busiest,
+    })
 }

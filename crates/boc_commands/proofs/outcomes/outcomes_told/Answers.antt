@@ -8,24 +8,26 @@ pub returns-in_err-way : goal.returns-in_err-way
 returns-in_err-way g c =
     passed_on _ (IsOfDraws c.args.draws c.args.text.now) _ _ c.from_residual-in_err-way.ensures.1
     (refused_way c.args.draws c.args.text.now c.in_ok-program.program c.number-workers.result c.in_err-way.field-0.0 c.in_ok-program.ensures.0
-    c.number-workers.ensures.value c.in_err-way.ensures)
+    c.number-workers.ensures.value (rw c.in_ok-compiled.ensures at c.in_err-way.ensures))
 
 pub returns-in_err-outcomes : goal.returns-in_err-outcomes
 returns-in_err-outcomes g c =
     passed_on _ (IsOfDraws c.args.draws c.args.text.now) _ _ c.from_residual-in_err-outcomes.ensures.1
     (refused_ends c.args.draws c.args.text.now c.in_ok-program.program c.in_ok-way.way c.number.result c.number-workers.result c.in_err-outcomes.field-0.0
-    c.in_ok-program.ensures.0 c.number.ensures.value c.number-workers.ensures.value c.in_ok-way.ensures c.in_err-outcomes.ensures)
+    c.in_ok-program.ensures.0 c.number.ensures.value c.number-workers.ensures.value (rw c.in_ok-compiled.ensures at c.in_ok-way.ensures)
+    (rw c.in_ok-compiled.ensures at c.in_err-outcomes.ensures))
 
 pub outcomes_text-requires : goal.outcomes_text-requires
 outcomes_text-requires g c =
     let asked : Asked = record { runs = c.number.result; seed = c.args.draws.seed; workers = c.number-workers.result; way = c.in_ok-way.way } in
-    all_values c.in_ok-program.program c.as_slice.result.now asked c.in_ok-outcomes.outcomes c.as_slice.ensures c.in_ok-outcomes.ensures
+    all_values c.in_ok-program.program c.as_slice.result.now asked c.in_ok-outcomes.outcomes c.as_slice.ensures
+    (rw c.in_ok-compiled.ensures at c.in_ok-outcomes.ensures)
 
 pub returns : goal.returns
 returns g c =
     let spelled = c.in_ok-program.ensures.0 in (
       told_ends c.args.draws c.args.text.now c.in_ok-program.program c.as_slice.result.now c.in_ok-way.way c.number.result c.number-workers.result
           c.in_ok-outcomes.outcomes c.in_ok-answer.answer.items spelled c.number.ensures.value c.number-workers.ensures.value c.as_slice.ensures
-          c.in_ok-way.ensures c.in_ok-outcomes.ensures c.in_ok-answer.ensures,
+          (rw c.in_ok-compiled.ensures at c.in_ok-way.ensures) (rw c.in_ok-compiled.ensures at c.in_ok-outcomes.ensures) c.in_ok-answer.ensures,
       spelled.short,
     )

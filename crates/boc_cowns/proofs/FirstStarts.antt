@@ -45,10 +45,13 @@ module _ (rows : List Row) (n start : ℕ) (old : List (Option ℕ)) where
       whole = s.whole;
       each = λ c. elim (s.each c) [
         | inl (j, less, at, w, is) ↦ inl (j, omega (arith, less), at, w, is)
-        | inr (none, same) ↦ inr (λ j less at w. elim (cases_eq j i) [
-          | inl e ↦ not (subst (Contains (written_of rows n)) (sym at ∙ ap (slice_index (cowns_of rows n)) e) w)
-          | inr ne ↦ none j (omega arith) at w
-        ], same)
+        | inr (none, same) ↦ inr (
+          λ j less at w. elim (cases_eq j i) [
+            | inl e ↦ not (subst (Contains (written_of rows n)) (sym at ∙ ap (slice_index (cowns_of rows n)) e) w)
+            | inr ne ↦ none j (omega arith) at w
+          ],
+          same,
+        )
       ];
     }
 
@@ -70,17 +73,25 @@ module _ (rows : List Row) (n start : ℕ) (old : List (Option ℕ)) where
         record {
           whole = length-set new cown (Some first) ∙ s.whole;
           each = λ c. elim (cases_eq c cown) [
-            | inl e ↦ inl (i, omega arith, sym e, subst (Contains (written_of rows n)) (sym e) w,
-                ap (first_at (slice_set new cown (Some first))) e ∙ (get_or-set_same new cown (Some first) None inside
-                ∙ (ap (λ (k : ℕ). Some k) (is ∙ note before) ∙ ap (λ (k : ℕ). Some (sooner (first_at old k) start)) (sym e))))
+            | inl e ↦ inl (
+              i,
+              omega arith,
+              sym e,
+              subst (Contains (written_of rows n)) (sym e) w,
+              ap (first_at (slice_set new cown (Some first))) e ∙ (get_or-set_same new cown (Some first) None inside
+                  ∙ (ap (λ (k : ℕ). Some k) (is ∙ note before) ∙ ap (λ (k : ℕ). Some (sooner (first_at old k) start)) (sym e))),
+            )
             | inr ne ↦ (
                 let other : first_at (slice_set new cown (Some first)) c ≡ first_at new c = get_or-set_other new cown c (Some first) None ne in
                 elim (s.each c) [
                   | inl (j, less, at, wrote, same) ↦ inl (j, omega (arith, less), at, wrote, other ∙ same)
-                  | inr (none, same) ↦ inr (λ j less at wrote. elim (cases_eq j i) [
-                    | inl e ↦ ne (sym at ∙ ap (slice_index (cowns_of rows n)) e)
-                    | inr nj ↦ none j (omega arith) at wrote
-                  ], other ∙ same)
+                  | inr (none, same) ↦ inr (
+                    λ j less at wrote. elim (cases_eq j i) [
+                      | inl e ↦ ne (sym at ∙ ap (slice_index (cowns_of rows n)) e)
+                      | inr nj ↦ none j (omega arith) at wrote
+                    ],
+                    other ∙ same,
+                  )
                 ])
           ];
         }

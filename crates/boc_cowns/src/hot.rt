@@ -125,16 +125,7 @@ pub fn hot_cowns(
     let profile = plan.profile(alloc, &seen)?;
     let alone = spawn_plan(alloc, &seen)?;
     let steps = profile.chain.steps.as_slice();
-    let columns = columns_of(
-        rt,
-        alloc,
-        rows,
-        &seen,
-        &plan,
-        &alone,
-        steps,
-        cowns as usize,
-    )?;
+    let columns = columns_of(rt, alloc, rows, &seen, &plan, &alone, steps, cowns as usize)?;
     Ok(HotCowns {
         span: profile.span,
         spawns: alone.span,

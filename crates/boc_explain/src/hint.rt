@@ -13,18 +13,23 @@ struct Round<'a> {
     behind: &'a [u8],
 }
 
+// The bytes of a word, if there is one.
+fn bytes_of(word: Option<Word<'_>>) -> &[u8] {
+    match word {
+        Some(word) => word.bytes,
+        None => b"",
+    }
+}
+
 // The words round a place of a text.
 fn words_round<'a>(words: &[Word<'a>], at: usize) -> Round<'a> {
-    let none: &'static [u8] = b"";
-    let mut later = words.iter().skip_while(|word| word.at < at);
+    let before = words.iter().rev().find(|word| word.at < at).copied();
+    let found = words.iter().find(|word| word.at == at).copied();
+    let behind = words.iter().find(|word| word.at > at).copied();
     Round {
-        before: words
-            .iter()
-            .rev()
-            .find(|word| word.at < at)
-            .map_or(none, |word| word.bytes),
-        found: later.next().map_or(none, |word| word.bytes),
-        behind: later.next().map_or(none, |word| word.bytes),
+        before: bytes_of(before),
+        found: bytes_of(found),
+        behind: bytes_of(behind),
     }
 }
 

@@ -14,7 +14,7 @@ struct Round<'a> {
 }
 
 // The bytes of a word, if there is one.
-fn bytes_of(word: Option<Word<'_>>) -> &[u8] {
+fn bytes_of<'a>(word: Option<Word<'a>>) -> &'a [u8] {
     match word {
         Some(word) => word.bytes,
         None => b"",

@@ -38,7 +38,7 @@ module _ (a b : Names) (same : CallTheSame a b) (hot other : HotCowns) (span : h
 
   by_last_same : (own last : HotCown) → by_last_text a hot own last ≡ by_last_text b other own last
   by_last_same own last = λ i. cond (is_most (busy_until last) (span i))
-      (codes "load: " ++ text_at (same.cowns i) last.cown ++ codes " is held " ++ decimal last.held ++ codes " of " ++ decimal (span i)
+      ((codes "load: " ++ text_at (same.cowns i) last.cown ++ codes " is held " ++ decimal last.held ++ codes " of " ++ decimal (span i))
       ++ codes " ticks, none of them before tick " ++ decimal (held_from last) ++ codes "; spawn earlier, split it, or shorten what holds it")
       (codes "order: no cown is held for more than " ++ decimal own.held ++ codes " of " ++ decimal (span i)
       ++ codes " ticks; the order in which behaviours ask is what holds back")

@@ -104,11 +104,16 @@ order_text hot own =
     codes "order: no cown is held for more than " ++ decimal own.held ++ codes " of " ++ decimal hot.span
     ++ codes " ticks; the order in which behaviours ask is what holds back"
 
+-- for how much of the span a cown is held
+abbrev pub part_text : Names → HotCowns → HotCown → Text
+part_text names hot own =
+    codes "load: " ++ name_of names own ++ codes " is held " ++ decimal own.held ++ codes " of " ++ decimal hot.span
+
 -- the cown that is held for long behind a tick before which nobody can hold it
 abbrev pub late_text : Names → HotCowns → HotCown → Text
 late_text names hot own =
-    codes "load: " ++ name_of names own ++ codes " is held " ++ decimal own.held ++ codes " of " ++ decimal hot.span
-    ++ codes " ticks, none of them before tick " ++ decimal (held_from own) ++ codes "; spawn earlier, split it, or shorten what holds it"
+    part_text names hot own ++ codes " ticks, none of them before tick " ++ decimal (held_from own)
+    ++ codes "; spawn earlier, split it, or shorten what holds it"
 
 -- of a cown and some others the one that is busy until the latest tick, and of several the first
 abbrev pub busiest_last : HotCown → List HotCown → HotCown

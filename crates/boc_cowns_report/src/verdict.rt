@@ -3,8 +3,8 @@
 ghost use Rattle.std.specs.Prelude.{◌≡◌, ◌++◌, ◌<◌, ◌^◌, OnOk};
 ghost use Rattle.boc_names.specs.Names.{texts_of};
 ghost use Rattle.boc_cowns.specs.Hot.{busy_until, held_from};
-ghost use Rattle.boc_cowns_report.specs.CownsTexts.{busiest_last, by_cowns_text, by_last_text, is_most, late_text, load_text, order_text, readers_text};
-ghost use Rattle.boc_cowns_report.specs.CownsTexts.{reads_text, shared_text, span_with_text, spawns_text, verdict_text};
+ghost use Rattle.boc_cowns_report.specs.CownsTexts.{busiest_last, by_cowns_text, by_last_text, is_most, late_text, load_text, order_text, part_text};
+ghost use Rattle.boc_cowns_report.specs.CownsTexts.{readers_text, reads_text, shared_text, span_with_text, spawns_text, verdict_text};
 
 use boc_cowns::{HotCown, HotCowns};
 use boc_names::{Names, text_at};
@@ -16,7 +16,14 @@ use std::alloc::AllocError;
 const MOST: u128 = 75;
 
 // Whether these are that many ticks of the span.
-fn is_most(ticks: u128, span: u64) -> bool
+fn is_most(ticks: u64, span: u64) -> bool
+    ensures { result ≡ is_most ticks span }
+{
+    u128::from(ticks) * 100 >= u128::from(span) * MOST
+}
+
+// The same of the sum of two numbers of ticks.
+fn are_most(ticks: u128, span: u64) -> bool
     requires { ticks < 2 ^ 65 }
     ensures { result ≡ is_most ticks span }
 {
@@ -97,6 +104,23 @@ fn put_order(text: &mut Vec<u8>, hot: &HotCowns, own: HotCown) -> Result<(), All
     Ok(())
 }
 
+// Puts for how much of the span a cown is held behind a text.
+fn put_part(
+    text: &mut Vec<u8>,
+    names: &Names,
+    hot: &HotCowns,
+    own: HotCown,
+) -> Result<(), AllocError>
+    ensures { OnOk result (text.new.items ≡ text.old.items ++ part_text names.now hot.now own) }
+{
+    text.extend_from_slice(b"load: ")?;
+    text.extend_from_slice(text_at(&names.cowns, own.cown as usize))?;
+    text.extend_from_slice(b" is held ")?;
+    put_number(text, own.held)?;
+    text.extend_from_slice(b" of ")?;
+    put_number(text, hot.span)
+}
+
 // Puts the cown that is held for long behind a text, and the tick before which nobody can hold it.
 fn put_late(
     text: &mut Vec<u8>,
@@ -106,15 +130,11 @@ fn put_late(
 ) -> Result<(), AllocError>
     ensures { OnOk result (text.new.items ≡ text.old.items ++ late_text names.now hot.now own) }
 {
-    text.extend_from_slice(b"load: ")?;
-    text.extend_from_slice(text_at(&names.cowns, own.cown as usize))?;
-    text.extend_from_slice(b" is held ")?;
-    put_number(text, own.held)?;
-    text.extend_from_slice(b" of ")?;
-    put_number(text, hot.span)?;
+    put_part(text, names, hot, own)?;
     text.extend_from_slice(b" ticks, none of them before tick ")?;
     put_number(text, held_from(&own))?;
-    text.extend_from_slice(b"; spawn earlier, split it, or shorten what holds it")
+    text.extend_from_slice(b"; spawn earlier, split it, or shorten what holds it")?;
+    Ok(())
 }
 
 // Puts what of the cowns holds the rows back behind a text, where the one is held longest, and the other busy until the latest tick.
@@ -127,7 +147,7 @@ fn put_by_last(
 ) -> Result<(), AllocError>
     ensures { OnOk result (text.new.items ≡ text.old.items ++ by_last_text names.now hot.now own last) }
 {
-    if is_most(busy_until(&last), hot.span) {
+    if are_most(busy_until(&last), hot.span) {
         put_late(text, names, hot, last)
     } else {
         put_order(text, hot, own)
@@ -144,7 +164,7 @@ fn put_by_cowns(
 ) -> Result<(), AllocError>
     ensures { OnOk result (text.new.items ≡ text.old.items ++ by_cowns_text names.now hot.now own others.now) }
 {
-    if is_most(u128::from(own.held), hot.span) {
+    if is_most(own.held, hot.span) {
         put_load(text, names, hot, own)
     } else {
         put_by_last(text, names, hot, own, busiest_last(own, others))
@@ -162,7 +182,7 @@ pub(crate) fn put_verdict(
     match hot.cowns.as_slice() {
         [] => put_spawns(text, hot),
         [own, others @ ..] => {
-            if is_most(u128::from(hot.spawns), hot.span) {
+            if is_most(hot.spawns, hot.span) {
                 put_spawns(text, hot)
             } else {
                 put_by_cowns(text, names, hot, *own, others)

@@ -10,7 +10,6 @@ use boc_program::program::Program;
 use boc_program::short::{CownNo, Cowns, Input, Inputs};
 use boc_reader::{DefListing, read_listed};
 use boc_record::read_record;
-use boc_registers::compiled::CompiledProgram;
 use boc_runs::event::Event;
 use boc_runs::record::Record;
 use boc_text::{Bytes, put_number};
@@ -104,8 +103,7 @@ fn course_of(
         Event::Spawn { parent, .. } => *parent,
         Event::Start { row } | Event::End { row, .. } => *row,
     };
-    let compiled = CompiledProgram::new(alloc, &named.program)?;
-    let Some((follower, made)) = followed_to(alloc, &compiled, record, place, row)? else {
+    let Some((follower, made)) = followed_to(alloc, &named.program, record, place, row)? else {
         return Ok(None);
     };
     let Some(is) = follower.named(row) else {
@@ -117,7 +115,7 @@ fn course_of(
     }
     let cowns = CownNames::of(alloc, declared)?;
     let name = behaviour_text(alloc, &named.defs, &cowns, is.kind, is.args, is.cowns)?;
-    let Some(next) = next_of(alloc, &compiled, follower.values(), is, made)? else {
+    let Some(next) = next_of(alloc, &named.program, follower.values(), is, made)? else {
         return Ok(None);
     };
     let deed = match next {
@@ -146,7 +144,7 @@ enum Next {
 // The run of a program up to a place of its record, and how many behaviours a row has spawned there.
 fn followed_to<'a>(
     alloc: Global,
-    program: &'a CompiledProgram<'a>,
+    program: &'a Program,
     record: &Record,
     place: usize,
     row: u32,
@@ -178,21 +176,19 @@ fn followed_to<'a>(
 // What a behaviour does once it has spawned so many, where its cowns have these values at its start.
 fn next_of(
     alloc: Global,
-    program: &CompiledProgram<'_>,
+    program: &Program,
     values: &[i64],
     is: Named<'_>,
     made: u32,
 ) -> Result<Option<Next>, AllocError> {
-    if is.kind >= program.program().bodies.as_slice().len() {
+    let Some(body) = program.bodies.as_slice().get(is.kind) else {
         return Ok(None);
-    }
-    let compiled = program.body(is.kind);
-    let body = compiled.body();
+    };
     let inputs = inputs_of(is.cowns, values);
     if is.args.len() != body.params || inputs.len() != body.cown_params {
         return Ok(None);
     }
-    let mut frame = Frame::renewed(alloc, &mut Spare::default(), compiled, is.args, &inputs)?;
+    let mut frame = Frame::renewed(alloc, &mut Spare::default(), body, is.args, &inputs)?;
     for _ in 0..made {
         frame.go_on();
     }

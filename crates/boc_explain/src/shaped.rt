@@ -1,7 +1,6 @@
 // A token that isn't allowed where it stands, or the end of a text.
 
 use crate::allowed::{Allowed, allowed_behind, told};
-use crate::hint::put_hint;
 use crate::place::is_first_word;
 use crate::said::{Part, Said};
 use crate::tokens::{Word, is_keyword, words_of};
@@ -49,7 +48,7 @@ pub(crate) fn put_unexpected(
     if let Some(innermost) = open.last()
         && let Some(outermost) = open.first()
         && ends_no_block(bytes)
-        && allowed.has(b"}")
+        && allowed.tokens.iter().any(|token| *token == b"}".as_slice())
     {
         let lines = [
             line_number(text, innermost.at),
@@ -57,8 +56,7 @@ pub(crate) fn put_unexpected(
         ];
         return put_open(said, open.len(), lines);
     }
-    put_allowed(said, bytes, &allowed)?;
-    put_hint(said, &words, at, &allowed)
+    put_allowed(said, bytes, &allowed)
 }
 
 // The braces in front of a place that begin a block, and that none closes.

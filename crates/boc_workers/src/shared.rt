@@ -14,7 +14,6 @@ use crate::gate::Gate;
 use crate::made::Made;
 use boc_dispatch::{Dispatcher, OpenFault, Refusal, Turn, Worker};
 use boc_program::program::Program;
-use boc_registers::compiled::CompiledProgram;
 use std::alloc::{AllocError, Global};
 use std::marker::PhantomData;
 use std::sync::ledger::{Book, Ledger, Share};
@@ -37,7 +36,7 @@ impl<'a, 'g, L: Ledger, G: Gate> Shared<'a, 'g, L, G> {
     /// that memory was refused.
     pub fn new(
         alloc: Global,
-        program: &'a CompiledProgram<'a>,
+        program: &'a Program,
         book: Book<L>,
     ) -> Result<Shared<'a, 'g, L, G>, AllocError>
         requires { book.total ≡ 0 }

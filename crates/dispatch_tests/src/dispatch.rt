@@ -8,7 +8,6 @@ use boc_program::program::Program;
 use boc_program::short::{Args, Input, Inputs};
 use boc_reader::read_program;
 use boc_record::put_events;
-use boc_registers::compiled::CompiledProgram;
 use std::alloc::Global;
 use std::test::*;
 
@@ -28,11 +27,10 @@ fn transfer(alloc: Global) -> Result<Program, Fail> {
 fn frame_of<'a>(alloc: Global, job: &Job<'a>) -> Result<Frame<'a>, Fail> {
     let args = Args::try_from(job.args.as_slice()).unwrap();
     let inputs = Inputs::try_from(job.inputs.as_slice()).unwrap();
-    let body = job.body.body();
-    if args.len() != body.params || inputs.len() != body.cown_params {
+    if args.len() != job.body.params || inputs.len() != job.body.cown_params {
         return Err("a body is started with what it takes".into());
     }
-    Ok(Frame::new(alloc, job.body.duplicate(), args, inputs)?)
+    Ok(Frame::new(alloc, job.body, args, inputs)?)
 }
 
 // Enqueues the frame's last wish.
@@ -89,8 +87,7 @@ const LINES: &str =
 fn transfer_by_one_worker(rt: HostRuntime) -> Result<(), Fail> {
     let alloc = rt.alloc();
     let program = transfer(alloc)?;
-    let compiled = CompiledProgram::new(alloc, &program)?;
-    let mut core = Dispatcher::new(alloc, &compiled)?;
+    let mut core = Dispatcher::new(alloc, &program)?;
     assert!(rt; !core.is_quiet());
     for _ in 0..4 {
         let Started::Job(job) = core.start() else {
@@ -118,16 +115,14 @@ fn transfer_by_one_worker(rt: HostRuntime) -> Result<(), Fail> {
 // The outcome of the program's body of a kind, of whose wishes none is spawned.
 fn outcome<'a>(
     alloc: Global,
-    program: &'a CompiledProgram<'a>,
+    program: &'a Program,
     kind: usize,
     args: &[i64],
     inputs: &[Input],
 ) -> Result<Outcome<'a>, Fail> {
-    if kind >= program.program().bodies.as_slice().len() {
+    let Some(body) = program.bodies.as_slice().get(kind) else {
         return Err("the body is there".into());
-    }
-    let compiled = program.body(kind);
-    let body = compiled.body();
+    };
     let mut given = Args::new();
     for value in args {
         if !given.is_full() {
@@ -143,7 +138,7 @@ fn outcome<'a>(
     if given.len() != body.params || held.len() != body.cown_params {
         return Err("the body takes these".into());
     }
-    let mut frame = Frame::new(alloc, compiled, given, held)?;
+    let mut frame = Frame::new(alloc, body, given, held)?;
     for _ in 0..100 {
         if matches!(frame.run(), Stop::Ended) {
             break;
@@ -168,10 +163,7 @@ fn refused<'a>(
 }
 
 // A dispatcher that has handed main out, and main.
-fn with_main<'a>(
-    alloc: Global,
-    program: &'a CompiledProgram<'a>,
-) -> Result<(Dispatcher<'a>, Job<'a>), Fail> {
+fn with_main<'a>(alloc: Global, program: &'a Program) -> Result<(Dispatcher<'a>, Job<'a>), Fail> {
     let mut core = Dispatcher::new(alloc, program)?;
     match core.start() {
         Started::Job(job) => Ok((core, job)),
@@ -202,8 +194,7 @@ fn what_is_shown(alloc: Global, core: &Dispatcher<'_>) -> Result<String, Fail> {
 fn outcomes_of_strangers_end_nothing(rt: HostRuntime) -> Result<(), Fail> {
     let alloc = rt.alloc();
     let program = transfer(alloc)?;
-    let compiled = CompiledProgram::new(alloc, &program)?;
-    let (mut core, _) = with_main(alloc, &compiled)?;
+    let (mut core, _) = with_main(alloc, &program)?;
     let held = [Input { cown: 0, value: 10 }];
     let cases: [(u32, usize, &[i64], &[Input], FinishFault, u32); 3] = [
         (1, 0, &[], &[], FinishFault::Stranger, 4),
@@ -212,7 +203,7 @@ fn outcomes_of_strangers_end_nothing(rt: HostRuntime) -> Result<(), Fail> {
     ];
     for (row, kind, args, inputs, fault, ticks) in cases {
         let before = what_is_shown(alloc, &core)?;
-        let outcome = outcome(alloc, &compiled, kind, args, inputs)?;
+        let outcome = outcome(alloc, &program, kind, args, inputs)?;
         assert_eq!(rt; refused(&mut core, row, outcome), Some((fault, ticks)));
         let after = what_is_shown(alloc, &core)?;
         assert_eq!(rt; after.as_str(), before.as_str());
@@ -225,8 +216,7 @@ fn outcomes_of_strangers_end_nothing(rt: HostRuntime) -> Result<(), Fail> {
 fn frames_of_strangers_open_nothing(rt: HostRuntime) -> Result<(), Fail> {
     let alloc = rt.alloc();
     let program = transfer(alloc)?;
-    let compiled = CompiledProgram::new(alloc, &program)?;
-    let (mut core, job) = with_main(alloc, &compiled)?;
+    let (mut core, job) = with_main(alloc, &program)?;
     for (wishes, row, fault) in [
         (0, 0, OpenFault::OutOfTurn),
         (2, 0, OpenFault::OutOfTurn),
@@ -246,8 +236,7 @@ fn frames_of_strangers_open_nothing(rt: HostRuntime) -> Result<(), Fail> {
 fn spent_token_is_unknown(rt: HostRuntime) -> Result<(), Fail> {
     let alloc = rt.alloc();
     let program = transfer(alloc)?;
-    let compiled = CompiledProgram::new(alloc, &program)?;
-    let (mut core, job) = with_main(alloc, &compiled)?;
+    let (mut core, job) = with_main(alloc, &program)?;
     let frame = frame_after(alloc, &job, 1)?;
     let Ok(child) = core.open(&frame, 0) else {
         return Err("the first wish is opened".into());

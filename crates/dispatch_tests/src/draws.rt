@@ -4,7 +4,6 @@ use boc_draws::{Depth, Drawn, Way, draw};
 use boc_program::program::Program;
 use boc_reader::read_program;
 use boc_record::put_events;
-use boc_registers::compiled::CompiledProgram;
 use std::alloc::Global;
 use std::test::*;
 
@@ -27,7 +26,7 @@ fn program(alloc: Global, text: &[u8]) -> Result<Program, Fail> {
 // The run of this seed by so many workers, who are picked in this way.
 fn drawn(
     alloc: Global,
-    program: &CompiledProgram<'_>,
+    program: &Program,
     workers: u32,
     way: Way,
     seed: u64,
@@ -59,9 +58,8 @@ fn of_depth(depth: u32, steps: u64) -> Result<Way, Fail> {
 #[test]
 fn seed_has_one_run(rt: HostRuntime) -> Result<(), Fail> {
     let program = program(rt.alloc(), RACE)?;
-    let compiled = CompiledProgram::new(rt.alloc(), &program)?;
-    let one = drawn(rt.alloc(), &compiled, 4, Way::Uniform, 7)?;
-    let again = drawn(rt.alloc(), &compiled, 4, Way::Uniform, 7)?;
+    let one = drawn(rt.alloc(), &program, 4, Way::Uniform, 7)?;
+    let again = drawn(rt.alloc(), &program, 4, Way::Uniform, 7)?;
     assert_eq!(rt;
         (one.values.as_slice(), one.steps),
         (again.values.as_slice(), again.steps)
@@ -73,11 +71,10 @@ fn seed_has_one_run(rt: HostRuntime) -> Result<(), Fail> {
 #[test]
 fn one_worker_runs_serially(rt: HostRuntime) -> Result<(), Fail> {
     let program = program(rt.alloc(), RACE)?;
-    let compiled = CompiledProgram::new(rt.alloc(), &program)?;
-    let first = drawn(rt.alloc(), &compiled, 1, Way::Uniform, 0)?;
+    let first = drawn(rt.alloc(), &program, 1, Way::Uniform, 0)?;
     let other = drawn(
         rt.alloc(),
-        &compiled,
+        &program,
         1,
         of_depth(16, first.steps)?,
         u64::MAX,

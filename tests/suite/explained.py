@@ -42,7 +42,7 @@ PROGRAMS = [
     (b"main { work 1 & 2; }", "line 1: 2 BadToken", [
         "main { work 1 & 2; }",
         "              ^",
-        "`&` begins no token"]),
+        "`&` begins no token: both of two conditions hold where their product does, `(x == 1) * (y == 2)`"]),
     (b"main { work 1\x00; }", "line 1: 2 BadToken", [
         "main { work 1?; }",
         "             ^",
@@ -209,6 +209,66 @@ PROGRAMS = [
         "^",
         "a program has at most 64 defs"]),
     (b" " * 65537, "line 1: 9 TooLong", ["a program text has at most 65536 bytes"]),
+    # What other languages write.
+    (b"cown a = 0; // it counts\nmain { }\n", "line 1: 3 Unexpected", [
+        "cown a = 0; // it counts",
+        "            ^",
+        "`/` is not allowed behind `;` on line 1",
+        "allowed there: `cown`, `def`, `main`",
+        "a comment begins with `#`, and ends with its line"]),
+    (b"def f(;) { }\nmain { f(;); }\n", "line 2: 3 Unexpected", [
+        "main { f(;); }",
+        "        ^",
+        "`(` is not allowed behind `f` on line 2",
+        "allowed there: `=`",
+        "a behaviour is spawned by `when f(values; cowns);`"]),
+    (b"main {\n    if 1 { } else if 2 { }\n}\n", "line 2: 3 Unexpected", [
+        "    if 1 { } else if 2 { }",
+        "                  ^",
+        "`if` is not allowed behind `else` on line 2",
+        "allowed there: `{`",
+        "behind `else` stands a block: `else { if .. { .. } }`"]),
+    (b"def f(c) { }\nmain { }\n", "line 1: 3 Unexpected", [
+        "def f(c) { }",
+        "       ^",
+        "`)` is not allowed behind `c` on line 1",
+        "allowed there: `;`, `,`",
+        "values stand first, then a `;`, then cowns: `(x, y; a, b)`; where there are no values `(; a, b)`"]),
+    (b"def f(; c) { c += 2; }\nmain { }\n", "line 1: 3 Unexpected", [
+        "def f(; c) { c += 2; }",
+        "               ^",
+        "`+` is not allowed behind `c` on line 1",
+        "allowed there: `=`",
+        "what changes is written out: `c = c + ..;`"]),
+    (b"def f(; c) { c--; }\nmain { }\n", "line 1: 3 Unexpected", [
+        "def f(; c) { c--; }",
+        "              ^",
+        "`-` is not allowed behind `c` on line 1",
+        "allowed there: `=`",
+        "what changes is written out: `c = c - 1;`"]),
+    (b"def f(; c) { while c { } }\nmain { }\n", "line 1: 3 Unexpected", [
+        "def f(; c) { while c { } }",
+        "                   ^",
+        "`c` is not allowed behind `while` on line 1",
+        "allowed there: `=`",
+        "the one loop there is: `repeat N { .. }`"]),
+    (b"def f(; c) { if c = 1 { } }\nmain { }\n", "line 1: 3 Unexpected", [
+        "def f(; c) { if c = 1 { } }",
+        "                  ^",
+        "`=` is not allowed behind `c` on line 1",
+        "allowed there: `{`, `+`, `-`, ..",
+        "two values are compared by `==`"]),
+    (b"fn f(; c) { }\nmain { }\n", "line 1: 3 Unexpected", [
+        "fn f(; c) { }",
+        "^",
+        "`fn` is not allowed at the beginning",
+        "allowed there: `cown`, `def`, `main`",
+        "a behaviour is declared by `def`"]),
+    (b"main { work !1; }", "line 1: 2 BadToken", [
+        "main { work !1; }",
+        "            ^",
+        "`!` begins no token: `x == 0` is 1 where x is 0, and 0 elsewhere"]),
+    (b"@ 0 store\n= 1 put 4\n", "line 1: 2 BadToken", ["this looks like a file of names, which stands behind --names, beside a program or a record"]),
     # A line is cut round the place.
     (b"main { " + b"work 1; " * 20 + b"@ " + b"work 2; " * 20 + b"}", "line 1: 2 BadToken", [
         ".." + ("work 1; " * 20)[-68:] + "@ " + ("work 2; " * 20)[:46] + "..",

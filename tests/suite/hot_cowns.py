@@ -36,6 +36,11 @@ def exclusive(rows):
     return [row._replace(written=row.cowns) for row in rows]
 
 
+def bare(rows):
+    """The rows as if none had a cown."""
+    return [row._replace(cowns=(), written=()) for row in rows]
+
+
 def freed(rows, cown):
     """The rows of which none has the cown."""
     return [row._replace(cowns=tuple(own for own in row.cowns if own != cown), written=tuple(own for own in row.written if own != cown))
@@ -89,9 +94,10 @@ def span(rows):
 
 def hot_cowns(rows, count, shared):
     """For each cown its number, how many rows have it and how many wrote it, how long one row alone holds it and how long it is waited for, the chain's
-    ticks through it, and the span without it; those that are held longest first."""
+    ticks through it, the span without it, and the first tick at which it can be held; those that are held longest first."""
     seen = rows if shared else exclusive(rows)
     plan = Earliest(seen)
+    alone = Earliest(bare(seen)).starts
     waited, through = [0] * count, [0] * count
     for number, after in enumerate(plan.after):
         if after is not None:
@@ -105,16 +111,21 @@ def hot_cowns(rows, count, shared):
         own = [row for row in rows if cown in row.cowns]
         wrote = sum(cown in row.written for row in own)
         held = sum(row.ticks for row in own if cown in row.written or not shared)
-        hot.append((cown, len(own), wrote, held, waited[cown], through[cown], span(freed(seen, cown))))
+        first = min((alone[number] for number, row in enumerate(seen) if cown in row.written), default=0)
+        hot.append((cown, len(own), wrote, held, waited[cown], through[cown], span(freed(seen, cown)), first))
     return sorted(hot, key=lambda cown: (-cown[3], cown[0]))
 
 
 def verdict(names, whole, spawns, hot):
     if not hot or spawns * 100 >= MOST * whole:
         return f"spawns: they alone need {spawns} of {whole} ticks; spawn earlier, or do less"
-    cown, _, _, held, _, _, _ = hot[0]
+    cown, held = hot[0][0], hot[0][3]
     if held * 100 >= MOST * whole:
         return f"load: {names[cown]} is held {held} of {whole} ticks; split it, or shorten what holds it"
+    last = max(hot, key=lambda own: own[3] + own[7])
+    if (last[3] + last[7]) * 100 >= MOST * whole:
+        return (f"load: {names[last[0]]} is held {last[3]} of {whole} ticks, none of them before tick {last[7]}; "
+                "spawn earlier, split it, or shorten what holds it")
     return f"order: no cown is held for more than {held} of {whole} ticks; the order in which behaviours ask is what holds back"
 
 
@@ -132,10 +143,10 @@ def cowns_text(record, names=None, shared=False, top=None):
     names = [f"cown {number}" for number in range(count)] if names is None else names
     seen = rows if shared else exclusive(rows)
     hot = hot_cowns(rows, count, shared)
-    whole, spawns, reads = span(seen), span([row._replace(cowns=(), written=()) for row in seen]), span(rows)
+    whole, spawns, reads = span(seen), span(bare(seen)), span(rows)
     told = hot if top is None else hot[:top]
     lines = [HEADS]
-    for cown, having, wrote, held, waited, through, left in told:
+    for cown, having, wrote, held, waited, through, left, _ in told:
         lines.append([names[cown], str(having), str(wrote), str(held), f"{held * 100 // whole}%", str(waited), str(through), str(left)])
     lines = table("lrrrrrrr", lines)
     more = count - len(told)

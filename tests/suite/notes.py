@@ -75,6 +75,9 @@ RECORD_NOTED = b"".join(b"boc: note: row %d ended by %d %s at its tick %d\n" % (
 OF_PROGRAMS = ["values", "run", "time", "why", "cowns"]
 OF_RECORDS = ["profile", "why", "cowns"]
 
+# What is noted where words say how a program is run, and a record came in.
+NOT_RUN = b"boc: note: the input is a record, which is not run again: --workers and --seed say nothing of it\n"
+
 
 def cases(program):
     for name, text, noted in [("each fault", FAULTS, NOTED), ("main", MAIN, MAIN_NOTED), ("twelve", MANY, MANY_NOTED)]:
@@ -86,6 +89,11 @@ def cases(program):
         yield f"a record: {command} notes nothing", fault_of_notes(program.run([command], RECORD), b"")
         refusal = program.run([command, "--quiet"], RECORD)
         yield f"{command} --quiet", None if refusal.status == 2 and not refusal.output else f"it was taken: {refusal}"
+    for words in (["why", "-w", "3"], ["cowns", "--seed", "1"]):
+        plain = program.run(words[:1], RECORD)
+        yield f"a record: {words}", fault_of(done(plain.output, RECORD_NOTED + NOT_RUN), program.run(words, RECORD))
+        yield f"a record: {words} --quiet", fault_of(done(plain.output, b""), program.run([*words, "--quiet"], RECORD))
+        yield f"a program: {words}", fault_of_notes(program.run(words, b"main { }"), b"")
     named = program.run_beside(["why"], "--names", b"= 2 second\n= 3 third 5 six\n", RECORD)
     noted = RECORD_NOTED.replace(b"row 2 ", b"row 2, second, ").replace(b"row 3 ", b"row 3, third(5, six), ")
     yield "a record with names: why", fault_of_notes(named, noted)

@@ -8,6 +8,7 @@ use boc_program::limits::MOST_COWNS;
 use boc_program::program::Program;
 use boc_reader::read_program;
 use boc_record::put_events;
+use boc_registers::compiled::CompiledProgram;
 use boc_rules::{RuleFault, Rules};
 use boc_runs::event::Event;
 use boc_runs::rows::Rows;
@@ -35,8 +36,16 @@ fn program(alloc: Global) -> Option<Program> {
     }
 }
 
+// The program with the code of its bodies, made once more where memory was refused.
+fn compiled(alloc: Global, program: &Program) -> Option<CompiledProgram<'_>> {
+    match CompiledProgram::new(alloc, program) {
+        Ok(compiled) => Some(compiled),
+        Err(_) => CompiledProgram::new(alloc, program).ok(),
+    }
+}
+
 // A dispatcher of the program, made once more where memory was refused.
-fn dispatcher(alloc: Global, program: &Program) -> Option<Dispatcher<'_>> {
+fn dispatcher<'a>(alloc: Global, program: &'a CompiledProgram<'a>) -> Option<Dispatcher<'a>> {
     match Dispatcher::new(alloc, program) {
         Ok(core) => Some(core),
         Err(_) => Dispatcher::new(alloc, program).ok(),
@@ -59,7 +68,7 @@ fn take_turn<'a>(
 }
 
 // The dispatcher after the turns of two workers, one after the other, until all is over.
-fn driven(alloc: Global, program: &Program) -> Option<Dispatcher<'_>> {
+fn driven<'a>(alloc: Global, program: &'a CompiledProgram<'a>) -> Option<Dispatcher<'a>> {
     let mut core = dispatcher(alloc, program)?;
     let (mut first, mut second) = (Worker::new(0), Worker::new(1));
     for _ in 0..MOST_TURNS {
@@ -112,7 +121,8 @@ fn lines(alloc: Global, core: &Dispatcher<'_>) -> Option<Vec<u8>> {
 // What is told of the run: its log, its steps and the span of its rows.
 fn told(alloc: Global) -> Option<(Vec<u8>, u64, u64)> {
     let program = program(alloc)?;
-    let core = driven(alloc, &program)?;
+    let compiled = compiled(alloc, &program)?;
+    let core = driven(alloc, &compiled)?;
     let (text, steps) = (lines(alloc, &core)?, core.steps());
     let mut rules = rules(alloc, 8)?;
     let log = core.log();

@@ -1,11 +1,10 @@
 //! What is told of a fault behind its line.
 
-use crate::source::Kept;
 use boc_commands::{
     AskedCown, AskedEdit, Command, Fault, FileFault, InputFault, NamesFrom, RunFile, WordsFault,
 };
 use boc_explain::{
-    Asked, Beside, Naming, Place, Text, explain_behaviours, explain_cown, explain_def,
+    Asked, Beside, Kept, Naming, Place, explain_behaviours, explain_cown, explain_def,
     explain_edit, explain_edit_word, explain_files, explain_names, explain_program, explain_record,
     explain_stray,
 };
@@ -64,12 +63,12 @@ fn explained_input(
     command: &Command,
     texts: &Texts,
 ) -> Result<String, AllocError> {
-    let input = text_of(&texts.input);
+    let input = texts.input.text();
     let place = place_of(command, texts, false);
     match fault {
         InputFault::Program(fault) => explain_program(alloc, input, place, fault),
         InputFault::Record(fault) => explain_record(alloc, input, place, fault),
-        InputFault::Stray(fault) => explain_stray(alloc, input, text_of(&texts.beside), fault),
+        InputFault::Stray(fault) => explain_stray(alloc, input, texts.beside.text(), fault),
         InputFault::Cown { number } => missing_cown(alloc, command, texts, number),
         InputFault::Edit { number, fault } => refused_edit(alloc, command, texts, number, fault),
         InputFault::Def { number } => missing_def(alloc, command, texts, number),
@@ -84,8 +83,8 @@ fn explained_beside(
     command: &Command,
     texts: &Texts,
 ) -> Result<String, AllocError> {
-    let input = text_of(&texts.input);
-    let beside = text_of(&texts.beside);
+    let input = texts.input.text();
+    let beside = texts.beside.text();
     let place = place_of(command, texts, true);
     match fault {
         FileFault::Program(fault) => explain_program(alloc, beside, place, fault),
@@ -138,13 +137,6 @@ fn beside_of(command: &Command) -> Option<Beside> {
     }
 }
 
-fn text_of(kept: &Kept) -> Text<'_> {
-    Text {
-        bytes: kept.as_slice(),
-        whole: kept.is_whole(),
-    }
-}
-
 // The program beside a record, where its names are asked for.
 fn program_of<'a>(command: &Command, texts: &'a Texts) -> Option<&'a [u8]> {
     match command {
@@ -163,7 +155,7 @@ fn missing_cown(
     texts: &Texts,
     number: usize,
 ) -> Result<String, AllocError> {
-    let input = text_of(&texts.input);
+    let input = texts.input.text();
     let program = program_of(command, texts);
     let Command::WhatIf { cowns, .. } = command else {
         return Ok(String::new(alloc));
@@ -202,7 +194,7 @@ fn refused_edit(
         Some(NamesFrom::Names(_)) => Naming::Names(texts.beside.as_slice()),
         None => Naming::Numbers,
     };
-    explain_edit(alloc, text_of(&texts.input), naming, &word, &asked, fault)
+    explain_edit(alloc, texts.input.text(), naming, &word, &asked, fault)
 }
 
 // So many of the first edits that words ask for.

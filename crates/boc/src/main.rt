@@ -3,14 +3,13 @@
 
 mod explaining;
 mod meter;
-mod source;
 
 use crate::explaining::{Texts, explained, explained_words};
 use crate::meter::Meter;
-use crate::source::{Input, Kept};
 use boc_commands::{
-    Command, Fault, Want, WordsFault, file_named, not_text, read_words, run_command,
+    Command, Fault, Schedule, Want, WordsFault, file_named, not_text, read_words, run_command,
 };
+use boc_explain::{Input, Kept};
 use boc_text::Counted;
 use boc_workers::OpenGate;
 use std::alloc::AllocError;
@@ -23,6 +22,10 @@ use std::{env, fs, io};
 
 // The status where a file can't be read, as where a device fails.
 const NO_FILE: u8 = 5;
+
+// What is told where the words say how a program is run, and a record came in.
+const NOT_RUN: &[u8] =
+    b"boc: note: the input is a record, which is not run again: --workers and --seed say nothing of it\n";
 
 // Why not all was done that the words ask for.
 #[derive(Drop)]
@@ -115,6 +118,9 @@ fn answer<T: Read + Drop>(
     meter.wipe();
     let Err(fault) = done else {
         note(rt, &notes);
+        if input.is_of_record() && has_schedule(command) {
+            note(rt, NOT_RUN);
+        }
         return Ok(());
     };
     let (input, error) = input.into_parts();
@@ -129,7 +135,27 @@ fn answer<T: Read + Drop>(
     Err(Stop::Fault { fault, more })
 }
 
-// Writes the notes on behaviours that ended by a fault to standard error. There is nobody to tell that this failed.
+// The words of a command that reads a program or a record say how a program is run, otherwise than by one thread.
+fn has_schedule(command: &Command) -> bool {
+    match command {
+        Command::Why {
+            schedule,
+            quiet: false,
+            ..
+        }
+        | Command::Cowns {
+            schedule,
+            quiet: false,
+            ..
+        } => match schedule {
+            Schedule::Threads(workers) => workers.number() > 1,
+            Schedule::Drawn { .. } => true,
+        },
+        _ => false,
+    }
+}
+
+// Writes notes, as those on behaviours that ended by a fault, to standard error. There is nobody to tell that this failed.
 fn note(rt: HostRuntime, notes: &[u8]) {
     let _ = rt.stderr().write_all(notes);
 }

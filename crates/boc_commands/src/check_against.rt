@@ -11,6 +11,7 @@ use crate::fault::Fault;
 use boc_follow::follow_record;
 use boc_program::program::Program;
 use boc_record::read_record;
+use boc_registers::compiled::CompiledProgram;
 use boc_runs::record::Record;
 use boc_text::{Sink, Source, put_out};
 use std::alloc::Global;
@@ -46,6 +47,7 @@ pub fn check_against_cmd<S: Source, W: Sink>(
 fn followed(alloc: Global, program: &Program, recorded: &Record) -> Result<(), Fault>
     ensures { MatchResult result (λ _. IsRecordOf program.now recorded.now) (IsOfStray program.now recorded.now) }
 {
-    follow_record(alloc, program, recorded)?;
+    let compiled = CompiledProgram::new(alloc, program)?;
+    follow_record(alloc, &compiled, recorded)?;
     Ok(())
 }

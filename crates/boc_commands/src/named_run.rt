@@ -27,6 +27,7 @@ use boc_program::program::Program;
 use boc_program::text::Name;
 use boc_reader::{DefListing, read_listed};
 use boc_record::{RecordFault, RecordFaultKind, read_counted, read_record};
+use boc_registers::compiled::CompiledProgram;
 use boc_runs::record::Record;
 use boc_runs::rows::Rows;
 use boc_text::{Bytes, Source, TextFault, read_all};
@@ -201,7 +202,8 @@ fn followed_names(
         (λ fault. Tells program.now recorded.now fault.kind fault.line) }
 {
     let called = called(alloc, defs)?;
-    let followed = follow_record(alloc, program, recorded)?;
+    let compiled = CompiledProgram::new(alloc, program)?;
+    let followed = follow_record(alloc, &compiled, recorded)?;
     Ok(names_of_run(alloc, &followed, &called)?)
 }
 

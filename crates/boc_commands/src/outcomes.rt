@@ -11,6 +11,7 @@ use boc_draws::way_of;
 use boc_ends_report::outcomes_text;
 use boc_outcomes::{Asked, outcomes_of};
 use boc_reader::read_listed;
+use boc_registers::compiled::CompiledProgram;
 use boc_text::{Sink, Source, put_out, read_all};
 use boc_whatif::Progress;
 use boc_words::AskedDraws;
@@ -56,14 +57,15 @@ fn outcomes_told<R: Threads + Sync, P: Progress>(
 {
     let (program, _) = read_listed(alloc, text)?;
     let workers = draws.workers.number();
-    let way = way_of(alloc, &program, workers, draws.depth)?;
+    let compiled = CompiledProgram::new(alloc, &program)?;
+    let way = way_of(alloc, &compiled, workers, draws.depth)?;
     let asked = Asked {
         runs: draws.runs.number(),
         seed: draws.seed,
         workers,
         way,
     };
-    let outcomes = outcomes_of(rt, alloc, &program, &asked, progress)?;
+    let outcomes = outcomes_of(rt, alloc, &compiled, &asked, progress)?;
     let answer = outcomes_text(alloc, program.cowns.as_slice(), asked.runs, &outcomes)?;
     Ok(answer)
 }

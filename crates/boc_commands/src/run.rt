@@ -17,6 +17,7 @@ use boc_draws::{Depth, DrawFault, draw, way_of};
 use boc_program::program::Program;
 use boc_reader::read_listed;
 use boc_record::write_record;
+use boc_registers::compiled::CompiledProgram;
 use boc_runs::record::Record;
 use boc_text::{Sink, Source, read_all};
 use boc_words::{Runners, Schedule};
@@ -144,7 +145,8 @@ fn draw_at_depth(
     ensures drawn { IfOk result (λ r. IsDrawnBy program.now workers seed depth r) }
     ensures refused { IfErr result (λ fault. TellsOf fault program.now) }
 {
-    let way = way_of(alloc, program, workers, depth)?;
-    let drawn = draw(alloc, program, workers, way, seed)?;
+    let compiled = CompiledProgram::new(alloc, program)?;
+    let way = way_of(alloc, &compiled, workers, depth)?;
+    let drawn = draw(alloc, &compiled, workers, way, seed)?;
     Ok(drawn.record)
 }

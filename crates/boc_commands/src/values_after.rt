@@ -18,6 +18,7 @@ use boc_ends_report::values_text;
 use boc_follow::follow_record;
 use boc_program::program::Program;
 use boc_reader::{DefListing, read_listed};
+use boc_registers::compiled::CompiledProgram;
 use boc_runs::record::Record;
 use boc_text::{Sink, Source, put_out, read_all};
 use std::alloc::Global;
@@ -81,7 +82,8 @@ fn values_of_run(
         recorded.now.rows) told.notes.items)
         (IsOfStrayFile program.now recorded.now) }
 {
-    match follow_record(alloc, program, recorded) {
+    let compiled = CompiledProgram::new(alloc, program)?;
+    match follow_record(alloc, &compiled, recorded) {
         Ok(run) => {
             let text = values_text(alloc, program.cowns.as_slice(), run.values())?;
             let notes = notes_on_run(alloc, quiet, program, defs, recorded)?;

@@ -1,24 +1,26 @@
 -- For how long cowns are held by one row alone: as it is added up, and that it is no longer than the span.
-use Rattle.std.proofs.Common.{◌≡◌, inl, inr, ℕ, zero, suc, ◌+◌, ◌<◌, ◌≤◌, ◌^◌, Bool, true, false, cond, List, [], ◌∷◌, length, get_or}
+use Rattle.std.proofs.Common.{◌≡◌, inl, inr, ℕ, zero, suc, ◌+◌, ◌<◌, ◌≤◌, ◌^◌, Bool, true, false, cond, List, [], ◌∷◌, length, get_or, Option, Some, None}
 use Rattle.std.proofs.Common.{⊎_elim, refl, sym, ◌∙◌, subst, arith}
 use Rattle.std.specs.Prelude.{All, filter, nat_eq, slice_index}
 use Rattle.std.specs.List.{Contains, list_any, sum_by}
+use Rattle.std.specs.Option.{option_map_or}
 use Rattle.std.proofs.lemmas.Bool.{cases_lt}
 use Rattle.std.proofs.lemmas.List.{get_or_default}
 use Rattle.std.proofs.lemmas.List.Sums.{sum_by-cons}
 use Rattle.std.proofs.lemmas.Option.{slice_get-get_or}
 use Rattle.boc_runs.specs.declared.rows.Row.{Row}
 use Rattle.boc_runs.specs.Rows.{IsRows, cowns_of, ticks_of, written_of}
-use Rattle.boc_plans.specs.Plans.{ConflictOn, Keeps}
+use Rattle.boc_plans.specs.Plans.{ConflictOn, IsEnd, Keeps, start_of}
 use Rattle.boc_plans.specs.Seen.{seen}
 use Rattle.boc_plans.specs.declared.sharing.Sharing.{Sharing}
 use Rattle.boc_plans.proofs.Seeing.{rows_seen}
 use Rattle.boc_order.proofs.Near.{writes_own}
-use Rattle.boc_why.specs.Least.{KeepsApart, load_of, wrote}
-use Rattle.boc_why.proofs.LeastLoads.{SomeAdded, fresh, load_ends}
+use Rattle.boc_why.specs.Least.{IsSpawnPlan, KeepsApart, KeepsSpawns, load_of, wrote}
+use Rattle.boc_why.proofs.LeastLoads.{SomeAdded, fresh, load_ends, load_ends_from}
+use Rattle.boc_why.proofs.LeastSpawns.{keeps_bare, length-bare}
 use Rattle.boc_cowns.specs.declared.hot.HotCown.{HotCown}
 use Rattle.boc_cowns.specs.declared.hot.HotCowns.{HotCowns}
-use Rattle.boc_cowns.specs.Hot.{IsHotCowns, held_for, sum_where, wrote_cown}
+use Rattle.boc_cowns.specs.Hot.{IsHeldFrom, IsHotCowns, busy_until, held_for, sum_where, wrote_cown}
 use Rattle.boc_cowns.specs.Columns.{AreSums}
 use Rattle.boc_cowns.proofs.Handed.{among_tells}
 use Rattle.boc_cowns.proofs.Sums.{sums_more, sums_room}
@@ -79,6 +81,12 @@ conflict_back rows c a b h = record {
   wrote = ⊎_elim (λ (w : Contains (written_of rows a) c). inr w) (λ (w : Contains (written_of rows b) c). inl w) h.wrote;
 }
 
+writes_told : (rows : List Row) (c r : ℕ) → Contains (written_of rows r) c → wrote_cown rows c r ≡ true
+writes_told rows c r w = ⊎_elim
+    (λ (y : (list_any (nat_eq c) (written_of rows r) ≡ true) × Contains (written_of rows r) c). y.0)
+    (λ (no : (list_any (nat_eq c) (written_of rows r) ≡ false) × (Contains (written_of rows r) c → ⊥)). absurd (no.1 w))
+    (among_tells c (written_of rows r))
+
 -- a plan that keeps the order of the rows keeps them apart
 apart : (rows : List Row) (plan : List ℕ) → Keeps rows plan → KeepsApart rows plan
 apart rows plan keeps a b c other ha hb h = ⊎_elim
@@ -97,4 +105,34 @@ held_within list sharing count hot shape is k d h =
       (is.each k own (slice_get-get_or hot.cowns.items k d h)).held,
       held_load rows own.cown,
       load_ends rows (rows_seen sharing list shape) is.plan hot.span own.cown (apart rows is.plan is.earliest.keeps) is.ends,
+    )
+
+-- ---- busy in every order
+
+module _ (rows : List Row) (hr : IsRows rows) (spawned plan : List ℕ) (last spawns : ℕ) (alone : IsSpawnPlan rows spawned spawns)
+    (keeps : KeepsSpawns rows plan) (kept : KeepsApart rows plan) (end : IsEnd rows plan last) where
+  -- no row starts sooner than where only the spawns order the rows
+  no_sooner : (r : ℕ) → r < length rows → start_of spawned r ≤ start_of plan r
+  no_sooner r there = alone.earliest.least plan (keeps_bare rows plan keeps) r (omega (arith, there, length-bare rows))
+
+  busy_from : (cown : ℕ) (first : Option ℕ) → IsHeldFrom rows spawned cown first → option_map_or (λ f. f) first 0 + load_of rows cown ≤ last
+  busy_from cown None none = omega (arith, load_ends rows hr plan last cown kept end)
+  busy_from cown (Some f) is =
+      load_ends_from rows hr plan last cown kept end f
+      (omega (arith, is.starts, no_sooner is.row is.below, end.none_later is.row is.below, hr.ticks_low is.row is.below))
+      (λ r there w. omega (arith, is.none_sooner r there (writes_told rows cown r w), no_sooner r there))
+
+-- a cown that is told of is busy until no later tick than the end of any order
+pub busy_within : (list : List Row) (sharing : Sharing) (count : ℕ) (hot : HotCowns) (plan : List ℕ) (last : ℕ) → IsRows list
+    → IsHotCowns list sharing count hot → KeepsSpawns (seen sharing list) plan → KeepsApart (seen sharing list) plan
+    → IsEnd (seen sharing list) plan last → All (λ own. busy_until own ≤ last) hot.cowns.items
+busy_within list sharing count hot plan last shape is keeps kept end k d h =
+    let rows = seen sharing list in
+    let own : HotCown = get_or hot.cowns.items k d in
+    let one = is.each k own (slice_get-get_or hot.cowns.items k d h) in
+    omega (
+      arith,
+      one.held,
+      held_load rows own.cown,
+      busy_from rows (rows_seen sharing list shape) is.spawned plan last hot.spawns is.by_spawns keeps kept end own.cown own.from one.from,
     )

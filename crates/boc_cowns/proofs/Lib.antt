@@ -1,4 +1,5 @@
 pub mod Added
+pub mod FirstStarts
 pub mod Handed
 pub mod Held
 pub mod Steps

@@ -17,12 +17,14 @@ use Rattle.boc_plans.proofs.Seeing.{rows_seen}
 use Rattle.boc_order.specs.Placed.{IsTight}
 use Rattle.boc_order.proofs.Alone.{one_chain, one_end, one_plan, one_span}
 use Rattle.boc_why.specs.Least.{without_cowns}
+use Rattle.boc_why.proofs.LeastSpawns.{plan_span}
 use Rattle.boc_why.proofs.LinkLists.{contains_from_place, place_from_contains}
 use Rattle.boc_why.proofs.ShareLaws.{ranked_from_places, same_ranked}
 use Rattle.boc_cowns.specs.declared.hot.HotCown.{HotCown}
 use Rattle.boc_cowns.specs.declared.hot.HotCowns.{HotCowns}
-use Rattle.boc_cowns.specs.Hot.{AreAwaited, AreSorted, IsHotCown, IsHotCowns, IsHotter, chain_through, hands_cown, held_for, rows_that_wrote, rows_with}
-use Rattle.boc_cowns.specs.Hot.{sum_where, wait_of, waited_for, waits_over}
+use Rattle.boc_cowns.specs.Hot.{AreAwaited, AreSorted, IsHeldFrom, IsHotCown, IsHotCowns, IsHotter, chain_through, hands_cown, held_for, rows_that_wrote, rows_with}
+use Rattle.boc_cowns.specs.Hot.{sum_where, wait_of, waited_for, waits_over, wrote_cown}
+use Rattle.boc_cowns.proofs.FirstStarts.{one_first}
 use Rattle.boc_cowns.proofs.Waits.{main_waits}
 
 -- what passes the same tests adds up to the same
@@ -48,9 +50,9 @@ module _ (rows : List Row) (hr : IsRows rows) (plan : List ℕ) (after others : 
   waited_same : (cown : ℕ) → waited_for rows plan after cown ≡ waited_for rows plan others cown
   waited_same cown = sum_same (waits_over rows after cown) (waits_over rows others cown) (wait_of rows plan) (length rows) (waits_same cown)
 
-abbrev made : ℕ → ℕ → ℕ → ℕ → ℕ → ℕ → ℕ → HotCown
-made cown rows wrote held waited chain left =
-    record { cown = cown; rows = rows; wrote = wrote; held = held; waited = waited; chain = chain; without = left }
+abbrev made : ℕ → ℕ → ℕ → ℕ → Option ℕ → ℕ → ℕ → ℕ → HotCown
+made cown rows wrote held from waited chain left =
+    record { cown = cown; rows = rows; wrote = wrote; held = held; from = from; waited = waited; chain = chain; without = left }
 
 hotter_once : (a b : HotCown) → IsHotter a b → IsHotter b a → ⊥
 hotter_once a b h g = ⊎_elim
@@ -60,27 +62,32 @@ hotter_once a b h g = ⊎_elim
     h
 
 module _ (list : List Row) (sharing : Sharing) (hr : IsRows (seen sharing list)) (plan : List ℕ) (after others : List (Option ℕ))
-    (aw : AreAwaited (seen sharing list) plan after) (ow : AreAwaited (seen sharing list) plan others) (steps : List ChainStep) where
+    (aw : AreAwaited (seen sharing list) plan after) (ow : AreAwaited (seen sharing list) plan others) (spawned : List ℕ) (steps : List ChainStep) where
   -- of a cown one thing is told
-  one_cown : (a b : HotCown) → IsHotCown list sharing plan after steps a → IsHotCown list sharing plan others steps b → a.cown ≡ b.cown → a ≡ b
+  one_cown : (a b : HotCown) → IsHotCown list sharing plan after spawned steps a → IsHotCown list sharing plan others spawned steps b
+      → a.cown ≡ b.cown → a ≡ b
   one_cown a b ha hb e =
       let left : a.without ≡ b.without = one_span (without b.cown (seen sharing list)) a.without b.without
       (subst (λ (k : ℕ). IsSpan (without k (seen sharing list)) a.without) e ha.left) hb.left in
-      ap (λ (k : ℕ). made k a.rows a.wrote a.held a.waited a.chain a.without) e
-      ∙ (ap (λ (k : ℕ). made b.cown k a.wrote a.held a.waited a.chain a.without) (ha.rows ∙ (ap (rows_with list) e ∙ sym hb.rows))
-      ∙ (ap (λ (k : ℕ). made b.cown b.rows k a.held a.waited a.chain a.without) (ha.wrote ∙ (ap (rows_that_wrote list) e ∙ sym hb.wrote))
-      ∙ (ap (λ (k : ℕ). made b.cown b.rows b.wrote k a.waited a.chain a.without) (ha.held ∙ (ap (held_for (seen sharing list)) e ∙ sym hb.held))
-      ∙ (ap (λ (k : ℕ). made b.cown b.rows b.wrote b.held k a.chain a.without)
+      let from : a.from ≡ b.from = one_first (wrote_cown (seen sharing list) b.cown) spawned (length (seen sharing list)) a.from b.from
+      (subst (λ (k : ℕ). IsHeldFrom (seen sharing list) spawned k a.from) e ha.from) hb.from in
+      ap (λ (k : ℕ). made k a.rows a.wrote a.held a.from a.waited a.chain a.without) e
+      ∙ (ap (λ (k : ℕ). made b.cown k a.wrote a.held a.from a.waited a.chain a.without) (ha.rows ∙ (ap (rows_with list) e ∙ sym hb.rows))
+      ∙ (ap (λ (k : ℕ). made b.cown b.rows k a.held a.from a.waited a.chain a.without) (ha.wrote ∙ (ap (rows_that_wrote list) e ∙ sym hb.wrote))
+      ∙ (ap (λ (k : ℕ). made b.cown b.rows b.wrote k a.from a.waited a.chain a.without)
+      (ha.held ∙ (ap (held_for (seen sharing list)) e ∙ sym hb.held))
+      ∙ (ap (λ (o : Option ℕ). made b.cown b.rows b.wrote b.held o a.waited a.chain a.without) from
+      ∙ (ap (λ (k : ℕ). made b.cown b.rows b.wrote b.held b.from k a.chain a.without)
       (ha.waited ∙ (ap (waited_for (seen sharing list) plan after) e
       ∙ (waited_same (seen sharing list) hr plan after others aw ow b.cown ∙ sym hb.waited)))
-      ∙ (ap (λ (k : ℕ). made b.cown b.rows b.wrote b.held b.waited k a.without)
+      ∙ (ap (λ (k : ℕ). made b.cown b.rows b.wrote b.held b.from b.waited k a.without)
       (ha.chain ∙ (ap (chain_through (seen sharing list) steps) e ∙ sym hb.chain))
-      ∙ ap (λ (k : ℕ). made b.cown b.rows b.wrote b.held b.waited b.chain k) left)))))
+      ∙ ap (λ (k : ℕ). made b.cown b.rows b.wrote b.held b.from b.waited b.chain k) left))))))
 
   -- what stands in one list stands in the other
   cowns_there : (count : ℕ) (xs ys : List HotCown)
-      → ((i : ℕ) (own : HotCown) → slice_get xs i ≡ Some own → IsHotCown list sharing plan after steps own)
-      → ((i : ℕ) (own : HotCown) → slice_get ys i ≡ Some own → IsHotCown list sharing plan others steps own)
+      → ((i : ℕ) (own : HotCown) → slice_get xs i ≡ Some own → IsHotCown list sharing plan after spawned steps own)
+      → ((i : ℕ) (own : HotCown) → slice_get ys i ≡ Some own → IsHotCown list sharing plan others spawned steps own)
       → AreSorted count xs → AreSorted count ys → (own : HotCown) → Contains xs own → Contains ys own
   cowns_there count xs ys ex ey sx sy own stands =
       let at = place_from_contains xs own stands in
@@ -100,18 +107,22 @@ module _ (list : List Row) (rows : IsRows list) (sharing : Sharing) (count : ℕ
   awaited_too : AreAwaited (seen sharing list) h.plan o.after
   awaited_too = subst (λ (p : List ℕ). AreAwaited (seen sharing list) p o.after) plan_same o.awaited
 
-  each_too : (i : ℕ) (own : HotCown) → slice_get other.cowns.items i ≡ Some own → IsHotCown list sharing h.plan o.after h.steps own
-  each_too i own at = subst (λ (s : List ChainStep). IsHotCown list sharing h.plan o.after s own) steps_same
-      (subst (λ (p : List ℕ). IsHotCown list sharing p o.after o.steps own) plan_same (o.each i own at))
+  spawned_same : o.spawned ≡ h.spawned
+  spawned_same = one_plan (without_cowns (seen sharing list)) o.spawned h.spawned o.by_spawns.earliest h.by_spawns.earliest
+
+  each_too : (i : ℕ) (own : HotCown) → slice_get other.cowns.items i ≡ Some own → IsHotCown list sharing h.plan o.after h.spawned h.steps own
+  each_too i own at = subst (λ (s : List ChainStep). IsHotCown list sharing h.plan o.after h.spawned s own) steps_same
+      (subst (λ (q : List ℕ). IsHotCown list sharing h.plan o.after q o.steps own) spawned_same
+      (subst (λ (p : List ℕ). IsHotCown list sharing p o.after o.spawned o.steps own) plan_same (o.each i own at)))
 
   pub cowns_same : hot.cowns.items ≡ other.cowns.items
   cowns_same =
       let shape = rows_seen sharing list rows in
       same_ranked IsHotter hotter_once hot.cowns.items other.cowns.items
       (ranked_from_places IsHotter hot.cowns.items h.sorted.sorted) (ranked_from_places IsHotter other.cowns.items o.sorted.sorted)
-      (cowns_there list sharing shape h.plan h.after o.after h.awaited awaited_too h.steps count hot.cowns.items other.cowns.items h.each each_too
+      (cowns_there list sharing shape h.plan h.after o.after h.awaited awaited_too h.spawned h.steps count hot.cowns.items other.cowns.items h.each each_too
       h.sorted o.sorted)
-      (cowns_there list sharing shape h.plan o.after h.after awaited_too h.awaited h.steps count other.cowns.items hot.cowns.items each_too h.each
+      (cowns_there list sharing shape h.plan o.after h.after awaited_too h.awaited h.spawned h.steps count other.cowns.items hot.cowns.items each_too h.each
       o.sorted h.sorted)
 
   pub span_same : hot.span ≡ other.span
@@ -119,7 +130,8 @@ module _ (list : List Row) (rows : IsRows list) (sharing : Sharing) (count : ℕ
       (subst (λ (p : List ℕ). IsEnd (seen sharing list) p other.span) plan_same o.ends)
 
   pub spawns_same : hot.spawns ≡ other.spawns
-  spawns_same = one_span (without_cowns (seen sharing list)) hot.spawns other.spawns h.by_spawns o.by_spawns
+  spawns_same = one_span (without_cowns (seen sharing list)) hot.spawns other.spawns (plan_span (seen sharing list) h.spawned hot.spawns h.by_spawns)
+      (plan_span (seen sharing list) o.spawned other.spawns o.by_spawns)
 
   pub shared_same : hot.shared ≡ other.shared
   shared_same = one_span (seen SharedReads list) hot.shared other.shared h.by_shared_reads o.by_shared_reads

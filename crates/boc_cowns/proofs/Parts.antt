@@ -19,7 +19,7 @@ use Rattle.boc_order.specs.Standing.{IsPlanOf}
 use Rattle.boc_order.proofs.Alone.{one_plan}
 use Rattle.boc_order.proofs.Chaining.{placed_earliest}
 use Rattle.boc_cowns.specs.declared.columns.Columns.{Columns}
-use Rattle.boc_why.specs.Least.{without_cowns}
+use Rattle.boc_why.specs.Least.{IsSpawnPlan}
 use Rattle.boc_cowns.specs.declared.hot.HotCown.{HotCown}
 use Rattle.boc_cowns.specs.declared.hot.HotCowns.{HotCowns}
 use Rattle.boc_cowns.specs.Hot.{AreSorted, IsHotCowns, wrote_cown}
@@ -52,11 +52,11 @@ module _ (list : List Row) (sharing : Sharing) (hr : IsRows (seen sharing list))
       (placed_earliest (seen sharing list) hr plan.starts.items plan.ends.items plan.after.items placed)
 
   -- the answer, from its parts
-  pub hot_is : (count : ℕ) (columns : Columns) (cowns : List HotCown) (hot : HotCowns) → count ≤ MOST_COWNS
-      → HasColumns list (seen sharing list) plan.starts.items plan.after.items profile.chain.steps.items count columns
-      → TellColumns columns cowns → AreSorted count cowns → hot.span ≡ profile.span → IsSpan (without_cowns (seen sharing list)) hot.spawns
+  pub hot_is : (count : ℕ) (columns : Columns) (cowns : List HotCown) (spawned : List ℕ) (hot : HotCowns) → count ≤ MOST_COWNS
+      → HasColumns list (seen sharing list) plan.starts.items plan.after.items spawned profile.chain.steps.items count columns
+      → TellColumns columns cowns → AreSorted count cowns → hot.span ≡ profile.span → IsSpawnPlan (seen sharing list) spawned hot.spawns
       → IsSpan (seen SharedReads list) hot.shared → hot.cowns.items ≡ cowns → IsHotCowns list sharing count hot
-  hot_is count columns cowns hot few has tell sorted span by_spawns by_shared items = record {
+  hot_is count columns cowns spawned hot few has tell sorted span by_spawns by_shared items = record {
     plan = plan.starts.items;
     earliest = placed_earliest (seen sharing list) hr plan.starts.items plan.ends.items plan.after.items placed;
     after = plan.after.items;
@@ -64,11 +64,12 @@ module _ (list : List Row) (sharing : Sharing) (hr : IsRows (seen sharing list))
     steps = profile.chain.steps.items;
     picked = subst (λ (starts : List ℕ). IsPicked (seen sharing list) starts profile.chain.steps.items) starts_same is.picked;
     ends = rw span (subst (λ (starts : List ℕ). IsEnd (seen sharing list) starts profile.span) starts_same is.span);
+    spawned = spawned;
     by_spawns = by_spawns;
     by_shared_reads = by_shared;
     each = λ i own at.
         let there : slice_get cowns i ≡ Some own = subst (λ (l : List HotCown). slice_get l i ≡ Some own) items at in
-        column_tells list sharing plan.starts.items plan.after.items profile.chain.steps.items count columns few has own (tell i own there)
-        (sorted.below i own there);
+        column_tells list sharing plan.starts.items plan.after.items spawned profile.chain.steps.items count columns few has own
+        (tell i own there) (sorted.below i own there);
     sorted = subst (AreSorted count) (sym items) sorted;
   }

@@ -1,5 +1,5 @@
 -- Cowns in their order: those that are held longest first.
-use Rattle.std.proofs.Common.{◌≡◌, ◌≢◌, ℕ, ◌<◌, List, length, get_or, arith, sym, ap, ◌∙◌, refl, ⊎_elim, inl, inr, map, Some}
+use Rattle.std.proofs.Common.{◌≡◌, ◌≢◌, ℕ, ◌<◌, List, length, get_or, arith, sym, ap, ◌∙◌, refl, ⊎_elim, inl, inr, map, Some, None}
 use Rattle.std.proofs.Common.{false, true≢false, eqb, is_lt, Ordering, Less, Equal}
 use Rattle.std.specs.Prelude.{slice_get}
 use Rattle.std.specs.Cmp.{IsTotalOrder, nat_cmp_is}
@@ -46,7 +46,7 @@ abbrev numbers_of : List HotCown → List ℕ
 numbers_of list = map (λ (h : HotCown). h.cown) list
 
 abbrev none : HotCown
-none = record { cown = 0; rows = 0; wrote = 0; held = 0; waited = 0; chain = 0; without = 0 }
+none = record { cown = 0; rows = 0; wrote = 0; held = 0; from = None; waited = 0; chain = 0; without = 0 }
 
 -- the number at a place
 number_at : (list : List HotCown) (i d : ℕ) (a : HotCown) → slice_get list i ≡ Some a → get_or (numbers_of list) i d ≡ a.cown

@@ -1,5 +1,5 @@
 -- Which cowns hold some rows back.
-use Rattle.std.specs.Prelude.{◌≡◌, ℕ, zero, suc, ◌+◌, ◌-◌, ◌<◌, ◌⊎◌, Bool, false, ◌&&◌, ◌||◌, cond, List, length, nat_eq}
+use Rattle.std.specs.Prelude.{◌≡◌, ℕ, zero, suc, ◌+◌, ◌-◌, ◌<◌, ◌≤◌, ◌⊎◌, Bool, true, false, ◌&&◌, ◌||◌, cond, List, length, min, nat_eq}
 use Rattle.std.specs.Prelude.{Option, Some, None, slice_get, slice_index_or}
 use Rattle.std.specs.List.{list_any}
 use Rattle.std.specs.Option.{option_map_or}
@@ -16,7 +16,7 @@ use Rattle.boc_plans.specs.Plans.{start_of, IsEarliest, IsEnd}
 use Rattle.boc_plans.specs.Chains.{IsPicked}
 use Rattle.boc_plans.specs.Greedy.{IsSpan}
 use Rattle.boc_order.specs.Placed.{IsTight}
-use Rattle.boc_why.specs.Least.{without_cowns}
+use Rattle.boc_why.specs.Least.{IsSpawnPlan}
 use Rattle.boc_cowns.specs.declared.hot.HotCown.{HotCown}
 use Rattle.boc_cowns.specs.declared.hot.HotCowns.{HotCowns}
 
@@ -51,6 +51,29 @@ rows_that_wrote rows cown = sum_where (wrote_cown rows cown) one (length rows)
 -- see them: where cowns are exclusive, each row wrote all it has.)
 abbrev pub held_for : List Row → ℕ → ℕ
 held_for rows cown = sum_where (wrote_cown rows cown) (ticks_of rows) (length rows)
+
+-- the sooner of a start and the one before it, if there was one
+abbrev pub sooner : Option ℕ → ℕ → ℕ
+sooner None start = start
+sooner (Some first) start = min first start
+
+-- of the first n rows that pass a test one starts then, and none sooner
+pub record IsLeastStart (passes : ℕ → Bool) (plan : List ℕ) (n first : ℕ) : Type 0 where
+  pub row : ℕ
+  pub below : row < n
+  pub is_one : passes row ≡ true
+  pub starts : start_of plan row ≡ first
+  pub none_sooner : (r : ℕ) → r < n → passes r ≡ true → first ≤ start_of plan r
+
+-- the least start of those of the first n rows that pass a test, or none where no row does
+abbrev pub IsFirstStart : (ℕ → Bool) → List ℕ → ℕ → Option ℕ → Type 0
+IsFirstStart passes plan n None = (r : ℕ) → r < n → passes r ≡ false
+IsFirstStart passes plan n (Some first) = IsLeastStart passes plan n first
+
+-- From which tick on the cown can be held by one row alone, in whatever order: the least start of a row that wrote it, in this plan of the rows, in
+-- which only the spawns order them.
+abbrev pub IsHeldFrom : List Row → List ℕ → ℕ → Option ℕ → Type 0
+IsHeldFrom rows spawned cown first = IsFirstStart (wrote_cown rows cown) spawned (length rows) first
 
 -- ---- the rows that hand it on
 
@@ -97,15 +120,27 @@ chain_through rows steps cown = sum_where (step_hands rows steps cown) (weight_a
 
 -- ---- all cowns
 
--- What is told of a cown of these rows, in this plan, in which each row waits for these, and in this chain. Which rows have it and which wrote it is as
--- the record has it; for how long it is held, and what is handed on, is as plans see the rows.
-pub record IsHotCown (list : List Row) (sharing : Sharing) (plan : List ℕ) (after : List (Option ℕ)) (steps : List ChainStep) (hot : HotCown) : Type 0 where
+-- What is told of a cown of these rows, in this plan, in which each row waits for these, in the plan in which only spawns order the rows, and in this
+-- chain. Which rows have it and which wrote it is as the record has it; for how long it is held and from when on, and what is handed on, is as plans see
+-- the rows.
+pub record IsHotCown (list : List Row) (sharing : Sharing) (plan : List ℕ) (after : List (Option ℕ)) (spawned : List ℕ) (steps : List ChainStep)
+    (hot : HotCown) : Type 0 where
   pub rows : hot.rows ≡ rows_with list hot.cown
   pub wrote : hot.wrote ≡ rows_that_wrote list hot.cown
   pub held : hot.held ≡ held_for (seen sharing list) hot.cown
+  pub from : IsHeldFrom (seen sharing list) spawned hot.cown hot.from
   pub waited : hot.waited ≡ waited_for (seen sharing list) plan after hot.cown
   pub chain : hot.chain ≡ chain_through (seen sharing list) steps hot.cown
   pub left : IsSpan (without hot.cown (seen sharing list)) hot.without
+
+-- the first tick at which a cown can be held
+abbrev pub held_from : HotCown → ℕ
+held_from own = option_map_or (λ first. first) own.from 0
+
+-- The tick before which the rows that wrote a cown are not all done, in whatever order: they start no sooner than the first of them can, and hold it one
+-- at a time.
+abbrev pub busy_until : HotCown → ℕ
+busy_until own = held_from own + own.held
 
 -- the one is held longer, or as long and has the lesser number
 abbrev pub IsHotter : HotCown → HotCown → Type 0
@@ -128,7 +163,8 @@ pub record IsHotCowns (list : List Row) (sharing : Sharing) (count : ℕ) (hot :
   pub steps : List ChainStep
   pub picked : IsPicked (seen sharing list) plan steps
   pub ends : IsEnd (seen sharing list) plan hot.span
-  pub by_spawns : IsSpan (without_cowns (seen sharing list)) hot.spawns
+  pub spawned : List ℕ
+  pub by_spawns : IsSpawnPlan (seen sharing list) spawned hot.spawns
   pub by_shared_reads : IsSpan (seen SharedReads list) hot.shared
-  pub each : (i : ℕ) (own : HotCown) → slice_get hot.cowns.items i ≡ Some own → IsHotCown list sharing plan after steps own
+  pub each : (i : ℕ) (own : HotCown) → slice_get hot.cowns.items i ≡ Some own → IsHotCown list sharing plan after spawned steps own
   pub sorted : AreSorted count hot.cowns.items

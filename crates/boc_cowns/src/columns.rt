@@ -16,6 +16,7 @@ pub(crate) struct Columns {
     pub rows: Vec<u64>,
     pub wrote: Vec<u64>,
     pub held: Vec<u64>,
+    pub from: Vec<Option<u64>>,
     pub waited: Vec<u64>,
     pub chain: Vec<u64>,
     pub without: Vec<u64>,
@@ -31,6 +32,7 @@ pub(crate) fn listed(
     requires rows { length columns.now.rows.items ≡ MOST_COWNS }
     requires wrote { length columns.now.wrote.items ≡ MOST_COWNS }
     requires held { length columns.now.held.items ≡ MOST_COWNS }
+    requires from { length columns.now.from.items ≡ MOST_COWNS }
     requires waited { length columns.now.waited.items ≡ MOST_COWNS }
     requires chain { length columns.now.chain.items ≡ MOST_COWNS }
     requires without { length columns.now.without.items ≡ count }
@@ -45,6 +47,7 @@ pub(crate) fn listed(
             rows: columns.rows[cown] as u32,
             wrote: columns.wrote[cown] as u32,
             held: columns.held[cown],
+            from: columns.from[cown],
             waited: columns.waited[cown],
             chain: columns.chain[cown],
             without: columns.without[cown],
@@ -64,6 +67,7 @@ pub(crate) fn sorted(
     requires rows { length columns.now.rows.items ≡ MOST_COWNS }
     requires wrote { length columns.now.wrote.items ≡ MOST_COWNS }
     requires held { length columns.now.held.items ≡ MOST_COWNS }
+    requires from { length columns.now.from.items ≡ MOST_COWNS }
     requires waited { length columns.now.waited.items ≡ MOST_COWNS }
     requires chain { length columns.now.chain.items ≡ MOST_COWNS }
     requires without { length columns.now.without.items ≡ count }

@@ -8,11 +8,11 @@ ghost use Rattle.boc_plans.specs.Seen.{seen};
 ghost use Rattle.boc_plans.specs.declared.sharing.Sharing.TheVariants.{SharedReads};
 ghost use Rattle.boc_plans.specs.Chains.{IsChain};
 ghost use Rattle.boc_order.specs.Standing.{IsPlanOf};
-ghost use Rattle.boc_why.specs.Least.{without_cowns};
 ghost use Rattle.boc_cowns.specs.Hot.{IsHotCowns};
 ghost use Rattle.boc_cowns.specs.Columns.{HasColumns};
 
 use crate::columns::{Columns, sorted};
+use crate::firsts::first_starts;
 use crate::totals::{chain_ticks, held_ticks, row_counts, waits_of, writer_counts};
 use boc_order::{Earliest, waits_and_plan};
 use boc_plans::chain::ChainStep;
@@ -20,7 +20,7 @@ use boc_plans::sharing::{SeenRows, Sharing};
 use boc_program::short::HeldCown;
 use boc_runs::rows::Rows;
 use boc_sweep::cown_sweep;
-use boc_why::least_end;
+use boc_why::{SpawnPlan, spawn_plan};
 use std::alloc::{AllocError, Global};
 use std::thread::Threads;
 
@@ -36,6 +36,9 @@ pub struct HotCown {
     /// How long it is held by one row alone: the ticks of the rows that wrote it. Where cowns are exclusive, these are all rows that have it; where
     /// reads are shared, readers hold it together, and don't count.
     pub held: u64,
+    /// From which tick on it can be held so, in whatever order: the least start of a row that wrote it, where only the spawns order the rows. None where
+    /// no row wrote it.
+    pub from: Option<u64>,
     /// How long rows wait for it: from the spawn of each to its start, where the row whose end it waits for hands it the cown. A wait for several
     /// cowns counts for each of them.
     pub waited: u64,
@@ -58,40 +61,36 @@ pub struct HotCowns {
     pub cowns: Vec<HotCown>,
 }
 
-// The columns of so many cowns, for rows in their earliest plan and with their chain. `AllocError` says that memory was refused.
+// The columns of so many cowns, for rows in their earliest plan and with their chain, and in the plan in which only spawns order them. `AllocError` says
+// that memory was refused.
 fn columns_of(
     rt: &(impl Threads + Sync),
     alloc: Global,
     rows: &Rows,
     seen: &SeenRows,
     plan: &Earliest,
+    alone: &SpawnPlan,
     steps: &[ChainStep],
     count: usize,
 ) -> Result<Columns, AllocError>
     requires shape { IsRows seen.now }
     requires placed { IsPlanOf seen.now plan.now }
+    requires alone { length alone.now.starts.items ≡ length seen.now }
     requires chain { IsChain seen.now steps.now }
     requires few { length steps.now ≤ MOST_ROWS }
     requires count { count ≤ MOST_COWNS }
-    ensures { IfOk result (HasColumns rows.now seen.now plan.now.starts.items plan.now.after.items steps.now count) }
+    ensures { IfOk result (HasColumns rows.now seen.now plan.now.starts.items plan.now.after.items alone.now.starts.items steps.now count) }
 {
     let list = rows.as_slice();
     Ok(Columns {
         rows: row_counts(alloc, list)?,
         wrote: writer_counts(alloc, list)?,
         held: held_ticks(alloc, seen)?,
+        from: first_starts(alloc, seen, &alone.starts)?,
         waited: waits_of(alloc, seen, plan)?,
         chain: chain_ticks(alloc, seen, steps)?,
         without: cown_sweep(rt, alloc, seen, count)?,
     })
-}
-
-// The span of the rows if none had a cown. `AllocError` says that memory was refused.
-fn spawn_span(alloc: Global, seen: &SeenRows) -> Result<u64, AllocError>
-    requires { IsRows seen.now }
-    ensures { IfOk result (IsSpan (without_cowns seen.now)) }
-{
-    Ok(least_end(alloc, seen, 0)?.spawns)
 }
 
 // The span of the rows if reads were shared. `AllocError` says that memory was refused.
@@ -124,11 +123,12 @@ pub fn hot_cowns(
     let seen = SeenRows::new(rows, sharing);
     let (_, plan) = waits_and_plan(alloc, &seen)?;
     let profile = plan.profile(alloc, &seen)?;
+    let alone = spawn_plan(alloc, &seen)?;
     let steps = profile.chain.steps.as_slice();
-    let columns = columns_of(rt, alloc, rows, &seen, &plan, steps, cowns as usize)?;
+    let columns = columns_of(rt, alloc, rows, &seen, &plan, &alone, steps, cowns as usize)?;
     Ok(HotCowns {
         span: profile.span,
-        spawns: spawn_span(alloc, &seen)?,
+        spawns: alone.span,
         shared: shared_span(alloc, rows)?,
         cowns: sorted(alloc, &columns, cowns as usize)?,
     })

@@ -3,6 +3,7 @@
 #![tactic(auto)]
 
 mod columns;
+mod firsts;
 mod hot;
 pub mod laws;
 mod totals;

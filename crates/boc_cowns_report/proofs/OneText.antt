@@ -8,7 +8,8 @@ use Rattle.boc_names.specs.declared.names.Names.{Names}
 use Rattle.boc_names.specs.Names.{CallTheSame, text_at}
 use Rattle.boc_cowns.specs.declared.hot.HotCown.{HotCown}
 use Rattle.boc_cowns.specs.declared.hot.HotCowns.{HotCowns}
-use Rattle.boc_cowns_report.specs.CownsTexts.{busiest_text, by_cowns_text, cown_texts, cowns_head, cowns_sides, cowns_table, is_most, more_text, percent_text}
+use Rattle.boc_cowns.specs.Hot.{busy_until, held_from}
+use Rattle.boc_cowns_report.specs.CownsTexts.{busiest_last, busiest_text, by_cowns_text, by_last_text, cown_texts, cowns_head, cowns_sides, cowns_table, is_most, more_text, percent_text}
 use Rattle.boc_cowns_report.specs.CownsTexts.{readers_text, shared_text, span_text, spawns_text, told_of, verdict_text}
 
 module _ (a b : Names) (same : CallTheSame a b) (hot other : HotCowns) (span : hot.span ≡ other.span) (spawns : hot.spawns ≡ other.spawns)
@@ -35,16 +36,22 @@ module _ (a b : Names) (same : CallTheSame a b) (hot other : HotCowns) (span : h
   spawns_same = λ i. codes "spawns: they alone need " ++ decimal (spawns i) ++ codes " of " ++ decimal (span i)
       ++ codes " ticks; spawn earlier, or do less"
 
-  by_cowns_same : (own : HotCown) → by_cowns_text a hot own ≡ by_cowns_text b other own
-  by_cowns_same own = λ i. cond (is_most own.held (span i))
-      (codes "load: " ++ text_at (same.cowns i) own.cown ++ codes " is held " ++ decimal own.held ++ codes " of " ++ decimal (span i)
-      ++ codes " ticks; split it, or shorten what holds it")
+  by_last_same : (own last : HotCown) → by_last_text a hot own last ≡ by_last_text b other own last
+  by_last_same own last = λ i. cond (is_most (busy_until last) (span i))
+      ((codes "load: " ++ text_at (same.cowns i) last.cown ++ codes " is held " ++ decimal last.held ++ codes " of " ++ decimal (span i))
+      ++ codes " ticks, none of them before tick " ++ decimal (held_from last) ++ codes "; spawn earlier, split it, or shorten what holds it")
       (codes "order: no cown is held for more than " ++ decimal own.held ++ codes " of " ++ decimal (span i)
       ++ codes " ticks; the order in which behaviours ask is what holds back")
 
+  by_cowns_same : (own : HotCown) (others : List HotCown) → by_cowns_text a hot own others ≡ by_cowns_text b other own others
+  by_cowns_same own others = λ i. cond (is_most own.held (span i))
+      (codes "load: " ++ text_at (same.cowns i) own.cown ++ codes " is held " ++ decimal own.held ++ codes " of " ++ decimal (span i)
+      ++ codes " ticks; split it, or shorten what holds it")
+      (by_last_same own (busiest_last own others) i)
+
   verdict_same : (list : List HotCown) → verdict_text a hot list ≡ verdict_text b other list
   verdict_same [] = spawns_same
-  verdict_same (own ∷ list) = λ i. cond (is_most (spawns i) (span i)) (spawns_same i) (by_cowns_same own i)
+  verdict_same (own ∷ list) = λ i. cond (is_most (spawns i) (span i)) (spawns_same i) (by_cowns_same own list i)
 
   -- ---- shared reads
 

@@ -10,6 +10,7 @@ use Rattle.boc_names.specs.declared.names.Names.{Names}
 use Rattle.boc_names.specs.Names.{Text, text_at, texts_of}
 use Rattle.boc_cowns.specs.declared.hot.HotCown.{HotCown}
 use Rattle.boc_cowns.specs.declared.hot.HotCowns.{HotCowns}
+use Rattle.boc_cowns.specs.Hot.{busy_until, held_from}
 
 -- ---- the table
 
@@ -103,15 +104,38 @@ order_text hot own =
     codes "order: no cown is held for more than " ++ decimal own.held ++ codes " of " ++ decimal hot.span
     ++ codes " ticks; the order in which behaviours ask is what holds back"
 
--- what of the cowns holds the rows back, where this one is held longest: it, where it is held for most of the span, or else the order
-abbrev pub by_cowns_text : Names → HotCowns → HotCown → Text
-by_cowns_text names hot own = cond (is_most own.held hot.span) (load_text names hot own) (order_text hot own)
+-- for how much of the span a cown is held
+abbrev pub part_text : Names → HotCowns → HotCown → Text
+part_text names hot own =
+    codes "load: " ++ name_of names own ++ codes " is held " ++ decimal own.held ++ codes " of " ++ decimal hot.span
+
+-- the cown that is held for long behind a tick before which nobody can hold it
+abbrev pub late_text : Names → HotCowns → HotCown → Text
+late_text names hot own =
+    part_text names hot own ++ codes " ticks, none of them before tick " ++ decimal (held_from own)
+    ++ codes "; spawn earlier, split it, or shorten what holds it"
+
+-- of a cown and some others the one that is busy until the latest tick, and of several the first
+abbrev pub busiest_last : HotCown → List HotCown → HotCown
+busiest_last own [] = own
+busiest_last own (next ∷ others) = busiest_last (cond (nat_lt (busy_until own) (busy_until next)) next own) others
+
+-- what of the cowns holds the rows back, where this one is held longest, and that one is busy until the latest tick: that one, where this is most of the
+-- span; or else the order
+abbrev pub by_last_text : Names → HotCowns → HotCown → HotCown → Text
+by_last_text names hot own last = cond (is_most (busy_until last) hot.span) (late_text names hot last) (order_text hot own)
+
+-- What of the cowns holds the rows back, where this one is held longest, and these are the others: it, where it is held for most of the span; or one
+-- that is busy until then, whatever the order, since nobody can hold it sooner; or else the order.
+abbrev pub by_cowns_text : Names → HotCowns → HotCown → List HotCown → Text
+by_cowns_text names hot own others =
+    cond (is_most own.held hot.span) (load_text names hot own) (by_last_text names hot own (busiest_last own others))
 
 -- What holds the rows back, where these are the cowns, those that are held longest first: the spawns, where there is no cown, or where they alone need
 -- most of the span; and else the cowns.
 abbrev pub verdict_text : Names → HotCowns → List HotCown → Text
 verdict_text names hot [] = spawns_text hot
-verdict_text names hot (own ∷ cowns) = cond (is_most hot.spawns hot.span) (spawns_text hot) (by_cowns_text names hot own)
+verdict_text names hot (own ∷ cowns) = cond (is_most hot.spawns hot.span) (spawns_text hot) (by_cowns_text names hot own cowns)
 
 -- how many of the rows of a cown only read it
 abbrev pub reads_text : Names → HotCown → Text

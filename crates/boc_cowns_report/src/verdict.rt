@@ -1,9 +1,10 @@
 // What holds the rows back.
 
-ghost use Rattle.std.specs.Prelude.{◌≡◌, ◌++◌, ◌<◌, OnOk};
+ghost use Rattle.std.specs.Prelude.{◌≡◌, ◌++◌, ◌<◌, ◌^◌, OnOk};
 ghost use Rattle.boc_names.specs.Names.{texts_of};
-ghost use Rattle.boc_cowns_report.specs.CownsTexts.{by_cowns_text, is_most, load_text, order_text, readers_text, reads_text, shared_text};
-ghost use Rattle.boc_cowns_report.specs.CownsTexts.{span_with_text, spawns_text, verdict_text};
+ghost use Rattle.boc_cowns.specs.Hot.{busy_until, held_from};
+ghost use Rattle.boc_cowns_report.specs.CownsTexts.{busiest_last, by_cowns_text, by_last_text, is_most, late_text, load_text, order_text, part_text};
+ghost use Rattle.boc_cowns_report.specs.CownsTexts.{readers_text, reads_text, shared_text, span_with_text, spawns_text, verdict_text};
 
 use boc_cowns::{HotCown, HotCowns};
 use boc_names::{Names, text_at};
@@ -19,6 +20,46 @@ fn is_most(ticks: u64, span: u64) -> bool
     ensures { result ≡ is_most ticks span }
 {
     u128::from(ticks) * 100 >= u128::from(span) * MOST
+}
+
+// The same of the sum of two numbers of ticks.
+fn are_most(ticks: u128, span: u64) -> bool
+    requires { ticks < 2 ^ 65 }
+    ensures { result ≡ is_most ticks span }
+{
+    ticks * 100 >= u128::from(span) * MOST
+}
+
+// The first tick at which a cown can be held.
+fn held_from(own: &HotCown) -> u64
+    ensures { result ≡ held_from own.now }
+{
+    own.from.unwrap_or(0)
+}
+
+// The tick before which the rows that wrote a cown are not all done.
+fn busy_until(own: &HotCown) -> u128
+    ensures is { result ≡ busy_until own.now }
+    ensures low { result < 2 ^ 65 }
+{
+    u128::from(held_from(own)) + u128::from(own.held)
+}
+
+// Of a cown and some others the one that is busy until the latest tick, and of several the first.
+fn busiest_last(own: HotCown, others: &[HotCown]) -> HotCown
+    ensures { result ≡ busiest_last own others.now }
+{
+    match others {
+        [] => own,
+        [next, others @ ..] => {
+            let last = if busy_until(&own) < busy_until(next) {
+                *next
+            } else {
+                own
+            };
+            busiest_last(last, others)
+        }
+    }
 }
 
 // Puts the spawns behind a text, which need so long alone that no cown is to blame.
@@ -63,19 +104,70 @@ fn put_order(text: &mut Vec<u8>, hot: &HotCowns, own: HotCown) -> Result<(), All
     Ok(())
 }
 
-// Puts what of the cowns holds the rows back behind a text, where this one is held longest.
-fn put_by_cowns(
+// Puts for how much of the span a cown is held behind a text.
+fn put_part(
     text: &mut Vec<u8>,
     names: &Names,
     hot: &HotCowns,
     own: HotCown,
 ) -> Result<(), AllocError>
-    ensures { OnOk result (text.new.items ≡ text.old.items ++ by_cowns_text names.now hot.now own) }
+    ensures { OnOk result (text.new.items ≡ text.old.items ++ part_text names.now hot.now own) }
+{
+    text.extend_from_slice(b"load: ")?;
+    text.extend_from_slice(text_at(&names.cowns, own.cown as usize))?;
+    text.extend_from_slice(b" is held ")?;
+    put_number(text, own.held)?;
+    text.extend_from_slice(b" of ")?;
+    put_number(text, hot.span)
+}
+
+// Puts the cown that is held for long behind a text, and the tick before which nobody can hold it.
+fn put_late(
+    text: &mut Vec<u8>,
+    names: &Names,
+    hot: &HotCowns,
+    own: HotCown,
+) -> Result<(), AllocError>
+    ensures { OnOk result (text.new.items ≡ text.old.items ++ late_text names.now hot.now own) }
+{
+    put_part(text, names, hot, own)?;
+    text.extend_from_slice(b" ticks, none of them before tick ")?;
+    put_number(text, held_from(&own))?;
+    text.extend_from_slice(b"; spawn earlier, split it, or shorten what holds it")?;
+    Ok(())
+}
+
+// Puts what of the cowns holds the rows back behind a text, where the one is held longest, and the other busy until the latest tick.
+fn put_by_last(
+    text: &mut Vec<u8>,
+    names: &Names,
+    hot: &HotCowns,
+    own: HotCown,
+    last: HotCown,
+) -> Result<(), AllocError>
+    ensures { OnOk result (text.new.items ≡ text.old.items ++ by_last_text names.now hot.now own last) }
+{
+    if are_most(busy_until(&last), hot.span) {
+        put_late(text, names, hot, last)
+    } else {
+        put_order(text, hot, own)
+    }
+}
+
+// Puts what of the cowns holds the rows back behind a text, where this one is held longest, and these are the others.
+fn put_by_cowns(
+    text: &mut Vec<u8>,
+    names: &Names,
+    hot: &HotCowns,
+    own: HotCown,
+    others: &[HotCown],
+) -> Result<(), AllocError>
+    ensures { OnOk result (text.new.items ≡ text.old.items ++ by_cowns_text names.now hot.now own others.now) }
 {
     if is_most(own.held, hot.span) {
         put_load(text, names, hot, own)
     } else {
-        put_order(text, hot, own)
+        put_by_last(text, names, hot, own, busiest_last(own, others))
     }
 }
 
@@ -89,11 +181,11 @@ pub(crate) fn put_verdict(
 {
     match hot.cowns.as_slice() {
         [] => put_spawns(text, hot),
-        [own, ..] => {
+        [own, others @ ..] => {
             if is_most(hot.spawns, hot.span) {
                 put_spawns(text, hot)
             } else {
-                put_by_cowns(text, names, hot, *own)
+                put_by_cowns(text, names, hot, *own, others)
             }
         }
     }

@@ -16,8 +16,8 @@ use Rattle.boc_runs.specs.Lives.{Running, Ended}
 use Rattle.boc_runs.specs.Run.{Member, meaning_of, next_wish, wish_at, state_of}
 use Rattle.boc_runs.specs.machine.Stages.{OpenBehaviour, row_of, row_at, life, life_at, ready_row, ready_row_at}
 use Rattle.boc_runs.specs.machine.Queues.{times}
-use Rattle.boc_runs.specs.machine.Steps.{State, at, members, recorded, unrecorded, opened, stepped, noted, with_new, with_ready, with_stage, asking_on, leaving_on}
-use Rattle.boc_runs.specs.machine.Steps.{child, HasNoEnqueue, Starts, Opens, Finishes, Advances}
+use Rattle.boc_runs.specs.machine.Steps.{State, at, members, recorded, unrecorded, opened, stepped, noted, with_new, with_ready, with_stage}
+use Rattle.boc_runs.specs.machine.Steps.{asking_on, leaving_on, child, HasNoEnqueue, Starts, Opens, Finishes, Advances}
 use Rattle.boc_runs.specs.machine.Sound.{IsSound}
 use Rattle.boc_runs.specs.machine.Turns.{IsEnqueueOf, TakesTurn, Begins, NoneReady, Advanced, WaitsToSettle, Opened, Finished, Left, WaitsToLeave, unless_gone}
 use Rattle.boc_runs.specs.machine.Movers.{CanAdvance, CanGoOn, CanLeave, CanStart, SomebodyCanStep, Enqueue, Body as GoOn, Release, First}
@@ -293,7 +293,7 @@ module _ (u : Underway) (k : IsSound u.program u.state) where
       → ((l : Token) → h ≡ hands.Leaving l → ⊥) → CanTurn u (row_in h)
   other_moves hands.Nothing fits nothing framed leaving = absurd (nothing refl)
   other_moves (hands.Started job) fits nothing framed leaving =
-      handed_moves job.row job.body.now job.args.items job.inputs.items fits.handed fits.spawned.none_open
+      handed_moves job.row job.body job.args.items job.inputs.items fits.handed fits.spawned.none_open
   other_moves (hands.Framed row f due) fits nothing framed leaving = absurd (framed row f due refl)
   other_moves (hands.Done row o) fits nothing framed leaving = handed_moves row o.body o.args o.inputs fits.handed fits.spawned.none_open
   other_moves (hands.Leaving l) fits nothing framed leaving = absurd (leaving l refl)

@@ -204,7 +204,7 @@ leaving_lives u own row sound e l =
 -- the row of a hand that fits is under way
 pub served_lives : (u : Underway) (h : Hand) (row : ℕ) → IsSound u.program u.state → HandFits u h → row_in h ≡ Some row → IsUnderWay u row
 served_lives u hands.Nothing row sound fits e = absurd (let f : None ≡ Some row = e in cc)
-served_lives u (hands.Started job) row sound fits e = handed_lives u job.row row job.body.now job.args.items job.inputs.items e fits.handed
+served_lives u (hands.Started job) row sound fits e = handed_lives u job.row row job.body job.args.items job.inputs.items e fits.handed
 served_lives u (hands.Framed own f dues.Going) row sound fits e = handed_lives u own row f.body f.args f.inputs e fits.handed
 served_lives u (hands.Framed own f dues.Wishing) row sound fits e = handed_lives u own row f.body f.args f.inputs e fits.may.handed
 served_lives u (hands.Framed served f (dues.Enqueuing child)) row sound fits e = handed_lives u child.row row f.body f.args f.inputs e fits.handed

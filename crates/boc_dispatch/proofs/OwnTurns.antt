@@ -82,7 +82,7 @@ module _ (u : Underway) (sound : IsSound u.program u.state) (who row : ℕ) (t :
       let one : x ≡ started_on (values u.program s) waits.0 = cc in
       ap (λ z. z.spawned) one ∙ (all_fit u.program s.log sound.run row waits.0 waits.1).fresh waits.2
 
-  started_fits : (job : Job) → job.row ≡ row → IsHandedOut (in_state u t) job.row job.body.now job.args.items job.inputs.items
+  started_fits : (job : Job) → job.row ≡ row → IsHandedOut (in_state u t) job.row job.body job.args.items job.inputs.items
       → HandFits (in_state u t) (hands.Started job)
   started_fits job is h =
       let there : slice_get (members u.program t) row ≡ Some h.member = ap (slice_get (members u.program t)) (sym is) ∙ h.is in
@@ -99,7 +99,7 @@ module _ (u : Underway) (sound : IsSound u.program u.state) (who row : ℕ) (t :
 pub begins_fits : (u v : Underway) (job : Job) → IsSound u.program u.state → Begins u (started.Job job) v → HandFits v (hands.Started job)
 begins_fits u v job sound b =
     subst (λ (x : Underway). HandFits x (hands.Started job)) (sym b.3)
-    (started_fits u sound b.0 job.row b.1 b.2 job refl (subst (λ (x : Underway). IsHandedOut x job.row job.body.now job.args.items job.inputs.items) b.3 b.4))
+    (started_fits u sound b.0 job.row b.1 b.2 job refl (subst (λ (x : Underway). IsHandedOut x job.row job.body job.args.items job.inputs.items) b.3 b.4))
 
 -- ---- an enqueue goes on
 

@@ -49,7 +49,7 @@ pub record IsHandedOut (u : Underway) (row : ℕ) (body : Body) (args : List ℤ
 -- the first of the ready list started, and this is what its body is to be run on; or nothing is ready
 abbrev pub Begins : Underway → Started → Underway → Type 0
 Begins u (started.Job job) v =
-    (who : ℕ) × (t : State) × Starts u.state who job.row t × (v ≡ in_state u t) × IsHandedOut v job.row job.body.now job.args.items job.inputs.items
+    (who : ℕ) × (t : State) × Starts u.state who job.row t × (v ≡ in_state u t) × IsHandedOut v job.row job.body job.args.items job.inputs.items
 Begins u started.NoneReady v = (v ≡ u) × (u.state.ready ≡ []) × (IsQuiet u.state → ⊥)
 Begins u started.Quiet v = (v ≡ u) × IsQuiet u.state
 

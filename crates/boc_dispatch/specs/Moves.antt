@@ -92,7 +92,7 @@ pub record Puts (d : Parts) (parent slot : ℕ) (child this : Live) (e : Parts) 
 abbrev pub StartsJob : Parts → Option Job → Parts → Type 0
 StartsJob d None e = Stays d e × ((state d).ready ≡ [])
 StartsJob d (Some job) e =
-    (who : ℕ) × Starts (state d) who job.row (state e) × (e.program ≡ d.program) × IsHandedOut (underway e) job.row job.body.now job.args.items job.inputs.items
+    (who : ℕ) × Starts (state d) who job.row (state e) × (e.program ≡ d.program) × IsHandedOut (underway e) job.row job.body job.args.items job.inputs.items
 
 -- the next wish of a row is opened, under this token; or memory was refused, and nothing changed
 abbrev pub OpensChild : {A : Type 0} → Parts → ℕ → Result Child A → Parts → Type 0

@@ -119,7 +119,7 @@ HasGoneOn row f _ = ⊥
 
 -- the frame of a job at its start
 abbrev pub frame_of : Job → Framed
-frame_of job = record { body = job.body.now; args = job.args.items; inputs = job.inputs.items; made = 0; ended = false }
+frame_of job = record { body = job.body; args = job.args.items; inputs = job.inputs.items; made = 0; ended = false }
 
 -- a worker has thought; or memory was refused for the frame of a behaviour that was just started, and it has what it had
 abbrev pub HasThought : Hand → Result (Unit {0}) AllocError → Hand → Type 0

@@ -2,8 +2,8 @@
 
 ghost use Rattle.std.specs.Prelude.{◌≡◌, length};
 
-use boc_program::body::Body;
 use boc_program::short::{Args, Inputs};
+use boc_registers::compiled::CompiledBody;
 use boc_runs::step::Step;
 use thiserror::Error;
 
@@ -12,11 +12,11 @@ use thiserror::Error;
 pub struct Job<'a> {
     /// The number of its row.
     pub row: u32,
-    pub body: &'a Body,
+    pub body: CompiledBody<'a>,
     pub args: Args,
     pub inputs: Inputs,
-    pub ghost own_args: { length args.items ≡ body.now.params },
-    pub ghost own_inputs: { length inputs.items ≡ body.now.cown_params },
+    pub ghost own_args: { length args.items ≡ body.params },
+    pub ghost own_inputs: { length inputs.items ≡ body.cown_params },
 }
 
 /// What `start` answers.

@@ -10,6 +10,7 @@ use boc_chain::{Chains, LinkChains};
 use boc_eval::{Frame, Outcome};
 use boc_program::limits::MOST_ROWS;
 use boc_program::program::Program;
+use boc_registers::compiled::CompiledProgram;
 use boc_runs::events::Events;
 use boc_runs::record::Record;
 use boc_runs::stage::{Phase, Stage};
@@ -41,10 +42,13 @@ impl<'a> Core<'a, LinkChains> {
     ghost use Rattle.boc_runs.specs.machine.Steps.{opening_state};
 
     /// The opening state of a program: main is opened, its spawn is recorded, and it is ready.
-    pub fn new(alloc: Global, program: &'a Program) -> Result<Dispatcher<'a>, AllocError>
+    pub fn new(
+        alloc: Global,
+        program: &'a CompiledProgram<'a>,
+    ) -> Result<Dispatcher<'a>, AllocError>
         ensures { IfOk result (λ core. core ≡ record { program = program.now; state = opening_state program.now }) }
     {
-        let chains = LinkChains::new(alloc, cown_count(program))?;
+        let chains = LinkChains::new(alloc, cown_count(program.program()))?;
         Core::over(alloc, program, chains)
     }
 }
@@ -73,7 +77,11 @@ impl<'a, C: Chains + Drop> Core<'a, C> {
     ghost use Rattle.boc_dispatch.specs.Calls.{Begins, OpensWish, AdvancesChild, FinishesRow, with_outcome, LeavesCown, NamesMover, EndsAsRecord};
 
     /// The opening state over chains with no request: main is opened, its spawn is recorded, and it is ready.
-    pub fn over(alloc: Global, program: &'a Program, chains: C) -> Result<Core<'a, C>, AllocError>
+    pub fn over(
+        alloc: Global,
+        program: &'a CompiledProgram<'a>,
+        chains: C,
+    ) -> Result<Core<'a, C>, AllocError>
         requires empty { C.lists chains ≡ replicate (cown_count program.now.cowns) [] }
         requires none { (slot : ℕ) → C.place chains slot ≡ None }
         ensures { IfOk result (λ core. core ≡ record { program = program.now; state = opening_state program.now }) }
@@ -223,7 +231,7 @@ impl<'a, C: Chains + Drop> Core<'a, C> {
         ensures value { result.now ≡ self.now.program }
         ensures sound { IsSound self.now.program self.now.state }
     {
-        self.roster.program
+        self.roster.program.program()
     }
 
     /// The value of a cown, which changes only as behaviours end.

@@ -8,7 +8,7 @@ use crate::calls::{Mover, OpenFault};
 use crate::dispatcher::{Core, Dispatcher, cown_count};
 use crate::worker::{Refusal, Turn, Worker};
 use boc_chain::{Chains, LinkChains};
-use boc_program::program::Program;
+use boc_registers::compiled::CompiledProgram;
 use std::alloc::{AllocError, Global};
 use thiserror::Error;
 
@@ -48,20 +48,20 @@ ghost use Rattle.boc_dispatch.specs.Working.{row_in};
 /// thinks where that is due, and then makes one turn.
 pub fn drive<'a>(
     alloc: Global,
-    program: &'a Program,
+    program: &'a CompiledProgram<'a>,
     workers: u32,
     choices: &[u16],
 ) -> Result<Dispatcher<'a>, DriveFault>
     ensures { Drives program.now workers choices.now result }
 {
-    let chains = LinkChains::new(alloc, cown_count(program))?;
+    let chains = LinkChains::new(alloc, cown_count(program.program()))?;
     drive_over(alloc, program, chains, workers, choices)
 }
 
 /// The same over chains of either kind.
 pub fn drive_over<'a, C: Chains + Drop>(
     alloc: Global,
-    program: &'a Program,
+    program: &'a CompiledProgram<'a>,
     chains: C,
     workers: u32,
     choices: &[u16],
@@ -80,20 +80,20 @@ pub fn drive_over<'a, C: Chains + Drop>(
 /// serves whom `movable` names, and makes a step; a row that is to start is started by the first worker that serves none.
 pub fn drive_quiet<'a>(
     alloc: Global,
-    program: &'a Program,
+    program: &'a CompiledProgram<'a>,
     workers: u32,
     choices: &[u16],
 ) -> Result<Dispatcher<'a>, DriveFault>
     ensures { DrivesQuiet program.now workers choices.now result }
 {
-    let chains = LinkChains::new(alloc, cown_count(program))?;
+    let chains = LinkChains::new(alloc, cown_count(program.program()))?;
     drive_quiet_over(alloc, program, chains, workers, choices)
 }
 
 /// The same over chains of either kind.
 pub fn drive_quiet_over<'a, C: Chains + Drop>(
     alloc: Global,
-    program: &'a Program,
+    program: &'a CompiledProgram<'a>,
     chains: C,
     workers: u32,
     choices: &[u16],
@@ -120,7 +120,7 @@ pub fn drive_quiet_over<'a, C: Chains + Drop>(
 // The workers and the dispatcher after the turns of all choices.
 fn play<'a, C: Chains + Drop>(
     alloc: Global,
-    program: &'a Program,
+    program: &'a CompiledProgram<'a>,
     chains: C,
     workers: u32,
     choices: &[u16],

@@ -11,22 +11,22 @@ ghost use Rattle.boc_dispatch.specs.Places.{in_phase, begun, with_child, with_sp
 use crate::calls::Job;
 use crate::kept_stage::KeptStage;
 use crate::live::Live;
-use boc_program::program::Program;
 use boc_program::short::Args;
+use boc_registers::compiled::CompiledProgram;
 use boc_runs::event::Event;
 use boc_runs::stage::{Phase, Stage};
 use boc_runs::values::{inputs_of, write_outputs};
 
 impl Live {
     /// It starts on the current values. Answers what its body is to be run on.
-    pub fn begin<'a>(&mut self, program: &'a Program, values: &[i64]) -> Job<'a>
+    pub fn begin<'a>(&mut self, program: &'a CompiledProgram<'a>, values: &[i64]) -> Job<'a>
         requires recorded { IsSome (row_at self.old.stage) }
         requires counts { let signature = slice_get (map signature_of program.now.bodies) self.old.kind in
             CountsAre signature (length self.old.args.items) (length self.old.params.items) }
         requires below { AllBelow (length values.now) self.old.params.items }
         ensures started { self.new ≡ begun result.row self.old }
         ensures row { row_at self.old.stage ≡ Some result.row }
-        ensures body { slice_get program.now.bodies self.old.kind ≡ Some result.body.now }
+        ensures body { slice_get program.now.bodies self.old.kind ≡ Some result.body }
         ensures args { result.args.items ≡ self.old.args.items }
         ensures inputs { result.inputs.items ≡ inputs self.old.params.items values.now }
     {

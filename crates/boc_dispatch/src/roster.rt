@@ -11,8 +11,8 @@ use crate::live::{Live, main_behaviour};
 use boc_chain::{Chains, Released, Settled, Slot};
 use boc_eval::{Frame, Outcome, SpawnWish};
 use boc_program::body::Body;
-use boc_program::program::Program;
 use boc_program::short::{Cowns, Input};
+use boc_registers::compiled::CompiledProgram;
 use boc_rules::RunLog;
 use boc_runs::event::Event;
 use boc_runs::stage::{Phase, Stage};
@@ -25,7 +25,7 @@ use std::collections::VecDeque;
 /// The behaviours of a program under way, with their chains, and the log.
 #[derive(Drop)]
 pub struct Roster<'a, C: Chains + Drop> {
-    pub program: &'a Program,
+    pub program: &'a CompiledProgram<'a>,
     pub chains: C,
     /// The behaviours that aren't gone, each at the slot of its requests, which this slab gives.
     pub live: Slab<Live>,
@@ -111,7 +111,11 @@ impl<'a, C: Chains + Drop> Roster<'a, C> {
     ghost use Rattle.boc_dispatch.specs.Moves.{EndsBehaviour, ReleasesNext, IsFoundLeaving};
 
     /// Main is opened over chains with no request, its spawn is recorded, and it is ready.
-    pub fn over(alloc: Global, program: &'a Program, chains: C) -> Result<Roster<'a, C>, AllocError>
+    pub fn over(
+        alloc: Global,
+        program: &'a CompiledProgram<'a>,
+        chains: C,
+    ) -> Result<Roster<'a, C>, AllocError>
         requires empty { C.lists chains ≡ replicate (cown_count program.now.cowns) [] }
         requires none { (slot : ℕ) → C.place chains slot ≡ None }
         ensures sound { IfOk result (IsSoundRoster C.lists C.place) }
@@ -119,7 +123,7 @@ impl<'a, C: Chains + Drop> Roster<'a, C> {
         ensures program { IfOk result (λ m. m.program.now ≡ program.now) }
     {
         let mut chains = chains;
-        let values = initial_values(alloc, program.cowns.as_slice())?;
+        let values = initial_values(alloc, program.program().cowns.as_slice())?;
         let mut log = RunLog::new(alloc, values.len() as u32)?;
         log.make_room()?;
         let mut homes = Vec::with_capacity(alloc, 1)?;
@@ -190,7 +194,14 @@ impl<'a, C: Chains + Drop> Roster<'a, C> {
     {
         let slot = self.slot_of(row)?;
         let live = &self.live[slot];
-        if live.runs_on(self.program, &self.values, row, body, args, inputs) {
+        if live.runs_on(
+            self.program.program(),
+            &self.values,
+            row,
+            body,
+            args,
+            inputs,
+        ) {
             Some(slot)
         } else {
             None

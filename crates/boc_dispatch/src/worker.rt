@@ -88,7 +88,7 @@ fn frame_of<'a>(
 ) -> Result<Frame<'a>, AllocError>
     ensures { IfOk result (λ frame. frame ≡ frame_at_start job.now) }
 {
-    Frame::renewed(alloc, spare, job.body, &job.args, &job.inputs)
+    Frame::renewed(alloc, spare, job.body.duplicate(), &job.args, &job.inputs)
 }
 
 impl<'a> Worker<'a> {

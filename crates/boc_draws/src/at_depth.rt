@@ -7,7 +7,7 @@ ghost use Rattle.boc_draws.specs.Ways.{AnswersWay};
 use crate::drawing::draw;
 use crate::fault::DrawFault;
 use crate::way::{Depth, Way};
-use boc_program::program::Program;
+use boc_registers::compiled::CompiledProgram;
 use std::alloc::Global;
 
 /// The way in which so many workers of a program are picked: at random among all that can move; or, where a depth is given, by random
@@ -15,7 +15,7 @@ use std::alloc::Global;
 /// function of the program, the workers and the depth, and a seed brings its run back by them. Where that draw ends by a fault, that is the answer.
 pub fn way_of(
     alloc: Global,
-    program: &Program,
+    program: &CompiledProgram<'_>,
     workers: u32,
     depth: Option<Depth>,
 ) -> Result<Way, DrawFault>

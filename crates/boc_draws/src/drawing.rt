@@ -10,7 +10,7 @@ use crate::movers::movers_of;
 use crate::picker::Picker;
 use crate::way::Way;
 use boc_dispatch::{Dispatcher, DriveFault, idle_crew, take_turn};
-use boc_program::program::Program;
+use boc_registers::compiled::CompiledProgram;
 use boc_runs::record::Record;
 use std::alloc::Global;
 
@@ -27,7 +27,7 @@ pub struct Drawn {
 /// that is picked can't make its step, since there is no room for the next wish of its row, the draw ends by that fault.
 pub fn draw(
     alloc: Global,
-    program: &Program,
+    program: &CompiledProgram<'_>,
     workers: u32,
     way: Way,
     seed: u64,
@@ -55,7 +55,7 @@ pub fn draw(
 // The dispatcher where all is over, after the turns of all workers that are picked.
 fn play<'a>(
     alloc: Global,
-    program: &'a Program,
+    program: &'a CompiledProgram<'a>,
     workers: u32,
     way: Way,
     seed: u64,

@@ -1,9 +1,12 @@
 // What a body wishes for.
 
 ghost use Rattle.std.specs.Prelude.{◌≡◌};
+ghost use Rattle.boc_registers.specs.Steps.{wish_of as wish_asked};
 ghost use Rattle.boc_eval.specs.Wishes.{wish_of};
 
 use boc_program::short::{Args, Cowns};
+use boc_registers::step::Asked;
+use std::mem;
 
 /// A wish for a behaviour, made by a `when`.
 #[derive(Drop, Debug)]
@@ -27,6 +30,17 @@ impl SpawnWish {
             args: Args::new(),
             cowns: Cowns::new(),
         }
+    }
+
+    /// Takes over what a body asked for, and leaves there what was here.
+    #[inline(always)]
+    pub(crate) fn take_over(&mut self, asked: &mut Asked)
+        ensures { wish_of self.new ≡ wish_asked asked.old }
+    {
+        self.offset = asked.offset;
+        self.kind = asked.kind;
+        mem::swap(&mut self.args, &mut asked.args);
+        mem::swap(&mut self.cowns, &mut asked.cowns);
     }
 
     /// The same wish once more. It takes no memory.

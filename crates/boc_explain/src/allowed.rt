@@ -49,6 +49,18 @@ pub(crate) struct Allowed {
     pub name: bool,
 }
 
+impl Allowed {
+    /// This token is allowed there.
+    pub(crate) fn has(&self, token: &[u8]) -> bool {
+        self.tokens.iter().any(|allowed| *allowed == token)
+    }
+
+    /// Nothing is allowed there but the `=` of an assignment or of a declaration.
+    pub(crate) fn is_assignment(&self) -> bool {
+        self.tokens.len() == 1 && self.has(b"=")
+    }
+}
+
 /// What is allowed behind this beginning of a text, where these bytes were found, and not allowed.
 pub(crate) fn allowed_behind(
     alloc: Global,

@@ -8,6 +8,7 @@ use boc_program::limits::{MOST_COWNS, MOST_ROWS};
 use boc_program::text::Name;
 use boc_reader::{DefListing, read_listed};
 use boc_record::read_record;
+use boc_registers::compiled::CompiledProgram;
 use boc_text::Bytes;
 use std::alloc::{AllocError, Global};
 
@@ -99,7 +100,8 @@ fn names_by_program(
     let Ok(record) = read_record(alloc, &mut Bytes::new(Vec::from_slice(alloc, text)?)) else {
         return Ok(None);
     };
-    let Ok(follower) = follow_record(alloc, &program, &record) else {
+    let compiled = CompiledProgram::new(alloc, &program)?;
+    let Ok(follower) = follow_record(alloc, &compiled, &record) else {
         return Ok(None);
     };
     let mut names: Vec<Name> = Vec::new(alloc);

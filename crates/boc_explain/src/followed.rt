@@ -10,6 +10,7 @@ use boc_program::program::Program;
 use boc_program::short::{CownNo, Cowns, Input, Inputs};
 use boc_reader::{DefListing, read_listed};
 use boc_record::read_record;
+use boc_registers::compiled::CompiledProgram;
 use boc_runs::event::Event;
 use boc_runs::record::Record;
 use boc_text::{Bytes, put_number};
@@ -103,7 +104,8 @@ fn course_of(
         Event::Spawn { parent, .. } => *parent,
         Event::Start { row } | Event::End { row, .. } => *row,
     };
-    let Some((follower, made)) = followed_to(alloc, &named.program, record, place, row)? else {
+    let compiled = CompiledProgram::new(alloc, &named.program)?;
+    let Some((follower, made)) = followed_to(alloc, &compiled, record, place, row)? else {
         return Ok(None);
     };
     let Some(is) = follower.named(row) else {
@@ -115,7 +117,7 @@ fn course_of(
     }
     let cowns = CownNames::of(alloc, declared)?;
     let name = behaviour_text(alloc, &named.defs, &cowns, is.kind, is.args, is.cowns)?;
-    let Some(next) = next_of(alloc, &named.program, follower.values(), is, made)? else {
+    let Some(next) = next_of(alloc, &compiled, follower.values(), is, made)? else {
         return Ok(None);
     };
     let deed = match next {
@@ -144,7 +146,7 @@ enum Next {
 // The run of a program up to a place of its record, and how many behaviours a row has spawned there.
 fn followed_to<'a>(
     alloc: Global,
-    program: &'a Program,
+    program: &'a CompiledProgram<'a>,
     record: &Record,
     place: usize,
     row: u32,
@@ -176,19 +178,21 @@ fn followed_to<'a>(
 // What a behaviour does once it has spawned so many, where its cowns have these values at its start.
 fn next_of(
     alloc: Global,
-    program: &Program,
+    program: &CompiledProgram<'_>,
     values: &[i64],
     is: Named<'_>,
     made: u32,
 ) -> Result<Option<Next>, AllocError> {
-    let Some(body) = program.bodies.as_slice().get(is.kind) else {
+    if is.kind >= program.program().bodies.as_slice().len() {
         return Ok(None);
-    };
+    }
+    let compiled = program.body(is.kind);
+    let body = compiled.body();
     let inputs = inputs_of(is.cowns, values);
     if is.args.len() != body.params || inputs.len() != body.cown_params {
         return Ok(None);
     }
-    let mut frame = Frame::renewed(alloc, &mut Spare::default(), body, is.args, &inputs)?;
+    let mut frame = Frame::renewed(alloc, &mut Spare::default(), compiled, is.args, &inputs)?;
     for _ in 0..made {
         frame.go_on();
     }

@@ -96,6 +96,14 @@ pub(crate) fn looks_like_program(text: &[u8]) -> bool {
     }
 }
 
+/// The first line that says something is one of a names file.
+pub(crate) fn looks_like_names(text: &[u8]) -> bool {
+    let first = text
+        .split(|byte| matches!(*byte, b'\n' | b'\r'))
+        .find(|line| !line.is_empty() && !line.starts_with(b"#"));
+    matches!(first, Some([b'@' | b'=', b' ', ..]))
+}
+
 /// A declaration of a program begins with this word.
 pub(crate) fn is_first_word(word: &[u8]) -> bool {
     word == b"cown".as_slice()

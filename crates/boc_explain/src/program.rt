@@ -2,7 +2,9 @@
 
 use crate::counted::{put_too_many, put_wrong_count};
 use crate::named::{put_taken, put_unknown};
-use crate::place::{Place, Text, looks_like_program, looks_like_record, put_pair};
+use crate::place::{
+    Place, Text, looks_like_names, looks_like_program, looks_like_record, put_pair,
+};
 use crate::said::{Part, Said};
 use crate::shaped::put_unexpected;
 use crate::tokens::{Word, run_len, words_of};
@@ -23,6 +25,8 @@ pub fn explain_program(
         put_nothing(&mut said, place)?;
     } else if looks_like_record(text.bytes) {
         put_record(&mut said, place)?;
+    } else if looks_like_names(text.bytes) {
+        put_names_file(&mut said)?;
     } else if at <= text.bytes.len() {
         put_fault(alloc, &mut said, text.bytes, fault.kind, at)?;
     }
@@ -36,6 +40,13 @@ pub(crate) fn put_nothing(said: &mut Said, place: Place<'_>) -> Result<(), Alloc
     } else {
         "nothing came in; if a command stood before it, did that fail?"
     })])
+}
+
+/// Tells that names stand where a program or a record is wanted.
+pub(crate) fn put_names_file(said: &mut Said) -> Result<(), AllocError> {
+    said.line(&[Part::Words(
+        "this looks like a file of names, which stands behind --names, beside a program or a record",
+    )])
 }
 
 // Tells that a record stands where a program is wanted.
@@ -156,6 +167,22 @@ fn put_no_token(said: &mut Said, rest: &[u8]) -> Result<(), AllocError> {
             Part::Hex(*byte),
             Part::Words(" begins no token"),
         ]),
-        _ => said.line(&[Part::Quote(sign), Part::Words(" begins no token")]),
+        _ => said.line(&[
+            Part::Quote(sign),
+            Part::Words(" begins no token"),
+            Part::Words(other_words(sign)),
+        ]),
+    }
+}
+
+// What is written here in place of what a sign begins in other languages.
+fn other_words(sign: &[u8]) -> &'static str {
+    match sign {
+        b"&" => ": both of two conditions hold where their product does, `(x == 1) * (y == 2)`",
+        b"|" => ": one of two conditions holds where their sum does, `(x == 1) + (y == 2)`",
+        b"!" => ": `x == 0` is 1 where x is 0, and 0 elsewhere",
+        b"\"" | b"'" => ": there are no texts, and values are whole numbers",
+        b"." => ": values are whole numbers",
+        _ => "",
     }
 }

@@ -2,8 +2,10 @@
 
 use crate::broken::put_broken;
 use crate::formed::{put_form, put_header, put_reason};
-use crate::place::{Beside, Place, Text, looks_like_program, looks_like_record, put_pair};
-use crate::program::put_nothing;
+use crate::place::{
+    Beside, Place, Text, looks_like_names, looks_like_program, looks_like_record, put_pair,
+};
+use crate::program::{put_names_file, put_nothing};
 use crate::run::{Life, Run, line_at};
 use crate::said::{Part, Said};
 use boc_record::{RecordFault, RecordFaultKind};
@@ -19,6 +21,10 @@ pub fn explain_record(
     let mut said = Said::new(alloc);
     if text.bytes.is_empty() && text.whole {
         put_nothing(&mut said, place)?;
+        return Ok(said.into_text());
+    }
+    if fault.line == 1 && looks_like_names(text.bytes) {
+        put_names_file(&mut said)?;
         return Ok(said.into_text());
     }
     if fault.line == 1 && looks_like_program(text.bytes) {

@@ -1,6 +1,7 @@
 // A token that isn't allowed where it stands, or the end of a text.
 
 use crate::allowed::{Allowed, allowed_behind, told};
+use crate::hint::put_hint;
 use crate::place::is_first_word;
 use crate::said::{Part, Said};
 use crate::tokens::{Word, is_keyword, words_of};
@@ -48,7 +49,7 @@ pub(crate) fn put_unexpected(
     if let Some(innermost) = open.last()
         && let Some(outermost) = open.first()
         && ends_no_block(bytes)
-        && allowed.tokens.iter().any(|token| *token == b"}".as_slice())
+        && allowed.has(b"}")
     {
         let lines = [
             line_number(text, innermost.at),
@@ -56,7 +57,8 @@ pub(crate) fn put_unexpected(
         ];
         return put_open(said, open.len(), lines);
     }
-    put_allowed(said, bytes, &allowed)
+    put_allowed(said, bytes, &allowed)?;
+    put_hint(said, &words, at, &allowed)
 }
 
 // The braces in front of a place that begin a block, and that none closes.

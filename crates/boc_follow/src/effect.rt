@@ -8,9 +8,10 @@ ghost use Rattle.boc_follow.specs.Standings.{underway_in};
 
 use arrayvec::ArrayVec;
 use boc_eval::{Frame, Spare, SpawnWish, Stop};
-use boc_program::body::{Body, EndStatus};
+use boc_program::body::EndStatus;
 use boc_program::limits::MOST_HELD;
 use boc_program::short::{CownNo, Cowns, Input};
+use boc_registers::compiled::CompiledBody;
 use std::alloc::{AllocError, Global};
 
 /// The values of a body's cown parameters where it ends.
@@ -61,13 +62,13 @@ fn wishes_of(alloc: Global, frame: &mut Frame<'_>) -> Result<Vec<SpawnWish>, All
 pub fn effect_of<'a>(
     alloc: Global,
     spare: &mut Spare<'a>,
-    body: &'a Body,
+    body: CompiledBody<'a>,
     args: &[i64],
     inputs: &[Input],
 ) -> Result<Effect, AllocError>
-    requires args { length args.now ≡ body.now.params }
-    requires inputs { length inputs.now ≡ body.now.cown_params }
-    ensures { IfOk result (λ effect. underway_in effect ≡ record { means = meaning body.now args.now inputs.now; spawned = 0 }) }
+    requires args { length args.now ≡ body.params }
+    requires inputs { length inputs.now ≡ body.cown_params }
+    ensures { IfOk result (λ effect. underway_in effect ≡ record { means = meaning body.entry args.now inputs.now; spawned = 0 }) }
 {
     let mut frame = Frame::renewed(alloc, spare, body, args, inputs)?;
     let wishes = wishes_of(alloc, &mut frame)?;

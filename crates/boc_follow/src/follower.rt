@@ -8,6 +8,7 @@ use boc_eval::Spare;
 use boc_program::body::EndStatus;
 use boc_program::program::Program;
 use boc_program::short::{CownNo, Cowns};
+use boc_registers::compiled::CompiledProgram;
 use boc_rules::Rules;
 use boc_runs::event::Event;
 use boc_runs::events::Events;
@@ -39,7 +40,7 @@ impl From<AllocError> for TakeFault {
 /// values of the cowns.
 #[derive(Drop)]
 pub struct Follower<'a> {
-    program: &'a Program,
+    program: &'a CompiledProgram<'a>,
     rules: Rules,
     rows: Vec<FollowedRow>,
     values: Vec<i64>,
@@ -96,10 +97,10 @@ impl<'a> Follower<'a> {
     ghost use Rattle.boc_follow.specs.Takes.{Takes, IsSpawn, IsNamed};
 
     /// A run of a program with no events yet.
-    pub fn new(alloc: Global, program: &'a Program) -> Result<Follower<'a>, AllocError>
+    pub fn new(alloc: Global, program: &'a CompiledProgram<'a>) -> Result<Follower<'a>, AllocError>
         ensures { IfOk result (λ f. f ≡ record { program = program.now; log = [] }) }
     {
-        let values = initial_values(alloc, program.cowns.as_slice())?;
+        let values = initial_values(alloc, program.program().cowns.as_slice())?;
         let rules = Rules::new(alloc, values.len() as u32)?;
         Ok(Follower {
             program,
@@ -207,7 +208,7 @@ impl<'a> Follower<'a> {
         ensures value { result.now ≡ self.now.program }
         ensures run { IsRun self.now.program self.now.log }
     {
-        self.program
+        self.program.program()
     }
 
     /// How many cowns the program has.

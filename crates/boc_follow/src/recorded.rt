@@ -7,7 +7,7 @@ ghost use Rattle.boc_follow.specs.Strays.{Follows, FollowsAll, IsToldAs};
 
 use crate::follower::{Follower, TakeFault};
 use crate::stray::{StrayFault, StrayFaultKind};
-use boc_program::program::Program;
+use boc_registers::compiled::CompiledProgram;
 use boc_runs::event::Event;
 use boc_runs::record::Record;
 use std::alloc::{AllocError, Global};
@@ -52,7 +52,7 @@ fn follow_all(follower: &mut Follower<'_>, recorded: &Record) -> Result<(), Stra
 /// with line 0, which says nothing of the record.
 pub fn follow_record<'a>(
     alloc: Global,
-    program: &'a Program,
+    program: &'a CompiledProgram<'a>,
     recorded: &Record,
 ) -> Result<Follower<'a>, StrayFault>
     ensures { Follows program.now recorded.now result }

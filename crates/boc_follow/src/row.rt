@@ -14,8 +14,8 @@ use crate::effect::{Effect, effect_of};
 use boc_eval::{Spare, SpawnWish};
 use boc_program::body::EndStatus;
 use boc_program::cowns::rising_cowns;
-use boc_program::program::Program;
 use boc_program::short::{Args, CownNo, Cowns};
+use boc_registers::compiled::CompiledProgram;
 use boc_runs::values::{inputs_of, write_outputs};
 use std::alloc::{AllocError, Global};
 
@@ -80,7 +80,7 @@ impl FollowedRow {
         &mut self,
         alloc: Global,
         spare: &mut Spare<'a>,
-        program: &'a Program,
+        program: &'a CompiledProgram<'a>,
         values: &[i64],
     ) -> Result<(), AllocError>
         requires { CanStart program.now (length values.now) (standing_in self.old) }
@@ -171,7 +171,7 @@ pub fn put_child(rows: &mut Vec<FollowedRow>, parent: u32, child: FollowedRow)
 pub fn start_row<'a>(
     alloc: Global,
     spare: &mut Spare<'a>,
-    program: &'a Program,
+    program: &'a CompiledProgram<'a>,
     rows: &mut [FollowedRow],
     row: u32,
     values: &[i64],

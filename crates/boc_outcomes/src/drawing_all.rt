@@ -7,7 +7,7 @@ use crate::asked::Asked;
 use crate::sampling::sampled_between;
 use crate::tally::{Outcomes, Tally};
 use boc_draws::DrawFault;
-use boc_program::program::Program;
+use boc_registers::compiled::CompiledProgram;
 use boc_whatif::Progress;
 use std::alloc::Global;
 use std::thread::Threads;
@@ -22,7 +22,7 @@ const ROUND: u32 = 2_048;
 pub fn outcomes_of(
     rt: &(impl Threads + Sync),
     alloc: Global,
-    program: &Program,
+    program: &CompiledProgram<'_>,
     asked: &Asked,
     progress: &mut impl Progress,
 ) -> Result<Outcomes, DrawFault>

@@ -7,7 +7,7 @@ use crate::asked::Asked;
 use boc_draws::{DrawFault, draw};
 use boc_order::waits_and_plan;
 use boc_plans::sharing::{SeenRows, Sharing};
-use boc_program::program::Program;
+use boc_registers::compiled::CompiledProgram;
 use rayon::prelude::*;
 use std::alloc::Global;
 use std::thread::Threads;
@@ -26,7 +26,7 @@ pub(crate) struct Sampled {
 // What the draw of this number comes to.
 fn draw_sample(
     alloc: Global,
-    program: &Program,
+    program: &CompiledProgram<'_>,
     asked: &Asked,
     number: u32,
 ) -> Result<Sampled, DrawFault>
@@ -53,7 +53,7 @@ fn draw_sample(
 pub(crate) fn sampled_between(
     rt: &(impl Threads + Sync),
     alloc: Global,
-    program: &Program,
+    program: &CompiledProgram<'_>,
     asked: &Asked,
     from: u32,
     to: u32,

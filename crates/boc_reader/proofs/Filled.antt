@@ -57,6 +57,10 @@ Fills the.Expr ts rest = (e : Expr) × (ts ≡ expr_tokens e rest)
 Fills the.InExpr ts rest = (u : Unary) → (e : Expr) × (unary_tokens u ts ≡ expr_tokens e rest)
 Fills the.Sum ts rest = (s : Sum) × (ts ≡ sum_tokens s rest)
 Fills the.InSum ts rest = (u : Unary) → (s : Sum) × (unary_tokens u ts ≡ sum_tokens s rest)
+Fills the.CownName ts rest = (x : List ℕ) × (n : Option ℕ) × HasMembers n × (ts ≡ name x ∷ size_tokens n rest)
+Fills the.NextName ts rest = (x : List ℕ) × (ts ≡ name x ∷ rest)
+Fills the.NextArg ts rest = (e : Expr) × (ts ≡ expr_tokens e rest)
+Fills the.NextRef ts rest = (r : NamedCown) × (ts ≡ ref_tokens r rest)
 
 -- all that is wanted stands there, one behind the other, and nothing else
 abbrev pub FillAll : List Wanted → List Token → Type 0
@@ -81,6 +85,10 @@ at_name x the.Args ws ts (r, e, (s, more, h)) = let first = e (unsigned (variabl
 at_name x the.Refs ws ts (r, i, (s, more, h)) = let first = i x in (s, (first.0 ∷ more.0, cc), h)
 at_name x the.Expr ws ts (r, e, h) = (r, e (unsigned (variable x)), h)
 at_name x the.Sum ws ts (r, e, h) = (r, e (unsigned (variable x)), h)
+at_name x the.CownName ws ts (r, n, h) = (r, (x, n.0, n.1, cc), h)
+at_name x the.NextName ws ts h = (ts, (x, refl), h)
+at_name x the.NextArg ws ts (r, e, h) = (r, e (unsigned (variable x)), h)
+at_name x the.NextRef ws ts (r, i, h) = (r, i x, h)
 at_name x _ ws ts h = absurd h
 
 at_size : (n : ℕ) → Behind (number n) the.Members (behind_size n)
@@ -94,6 +102,7 @@ at_number n the.Initial ws ts h = (ts, (false, n, refl), h)
 at_number n the.Args ws ts (r, e, (s, more, h)) = let first = e (unsigned (literal n)) in (s, (first.0 ∷ more.0, cc), h)
 at_number n the.Expr ws ts (r, e, h) = (r, e (unsigned (literal n)), h)
 at_number n the.Sum ws ts (r, e, h) = (r, e (unsigned (literal n)), h)
+at_number n the.NextArg ws ts (r, e, h) = (r, e (unsigned (literal n)), h)
 at_number n _ ws ts h = absurd h
 
 at_statement : (k : Keyword) → Behind (keyword k) the.Stmts (in_statement k)
@@ -119,9 +128,9 @@ no_cowns k None at ws ts h = absurd h
 no_cowns k (Some all) at ws ts h = let found = at ws ts h in (found.0, ([], found.1.0, found.1.1, tt, found.1.2), found.2)
 
 at_declaration : (k : Keyword) → Behind (keyword k) the.Cowns (in_declaration k)
-at_declaration keywords.Cown ws ts (p, x, (q, n, (r, a, (s, v, (t, c, (u, all, h)))))) =
-    let d : Cown = record { name = x.0; size = n.0; negative = v.0; value = v.1 } in
-    (u, (d ∷ all.0, all.1, all.2, (n.1, all.3), cc), h)
+at_declaration keywords.Cown ws ts (q, n, (r, a, (s, v, (t, c, (u, all, h))))) =
+    let d : Cown = record { name = n.0; size = n.1; negative = v.0; value = v.1 } in
+    (u, (d ∷ all.0, all.1, all.2, (n.2, all.3), cc), h)
 at_declaration k ws ts h = no_cowns k (in_def k) (at_def k) ws ts h
 
 at_else : (k : Keyword) → Behind (keyword k) the.Else (in_else k)
@@ -186,6 +195,7 @@ at_minus the.Initial ws ts (r, n, h) = (r, (true, n.0, cc), h)
 at_minus the.Args ws ts (r, e, (s, more, h)) = let m = minus_expr e.0 r in (s, (m.0 ∷ more.0, cc), h)
 at_minus the.Expr ws ts (r, e, h) = let m = minus_expr e.0 r in (r, (m.0, cc), h)
 at_minus the.Sum ws ts (r, s, h) = let m = minus_sum s.0 r in (r, (m.0, cc), h)
+at_minus the.NextArg ws ts (r, e, h) = let m = minus_expr e.0 r in (r, (m.0, cc), h)
 at_minus w ws ts h = at_sum_sign sums.Subtract w ws ts h
 
 at_open : (w : Wanted) → Behind (sign signs.Open) w (behind_open w)
@@ -193,6 +203,7 @@ at_open the.Open ws ts h = (ts, refl, h)
 at_open the.Args ws ts (q, e, (r, c, (s, all, (t, more, h)))) = let first = all (unsigned (parens e.0)) in (t, (first.0 ∷ more.0, cc), h)
 at_open the.Expr ws ts (q, e, (r, c, (s, all, h))) = let whole = all (unsigned (parens e.0)) in (s, (whole.0, cc), h)
 at_open the.Sum ws ts (q, e, (r, c, (s, all, h))) = let whole = all (unsigned (parens e.0)) in (s, (whole.0, cc), h)
+at_open the.NextArg ws ts (q, e, (r, c, (s, all, h))) = let whole = all (unsigned (parens e.0)) in (s, (whole.0, cc), h)
 at_open _ ws ts h = absurd h
 
 at_close : (w : Wanted) → Behind (sign signs.Close) w (behind_close w)
@@ -215,7 +226,7 @@ at_comma : (w : Wanted) → Behind (sign signs.Comma) w (behind_comma w)
 at_comma the.MoreParams ws ts (r, x, (s, more, h)) = (s, (x.0 ∷ more.0, cc), h)
 at_comma the.MoreHeld ws ts (r, x, (s, more, h)) = (s, (x.0 ∷ more.0, cc), h)
 at_comma the.MoreArgs ws ts (r, e, (s, more, h)) = (s, (e.0 ∷ more.0, cc), h)
-at_comma the.MoreRefs ws ts (q, x, (r, i, (s, more, h))) = let named = i x.0 in (s, (named.0 ∷ more.0, cc), h)
+at_comma the.MoreRefs ws ts (r, named, (s, more, h)) = (s, (named.0 ∷ more.0, cc), h)
 at_comma _ ws ts h = absurd h
 
 at_open_index : (w : Wanted) → Behind (sign signs.OpenIndex) w (behind_open_index w)
@@ -338,6 +349,10 @@ fillable the.Expr rest = (number 0 ∷ rest, (plain (one_term (one_factor (unsig
 fillable the.InExpr rest = (rest, left_out the.InExpr refl rest)
 fillable the.Sum rest = (number 0 ∷ rest, (one_term (one_factor (unsigned (literal 0))), refl))
 fillable the.InSum rest = (rest, left_out the.InSum refl rest)
+fillable the.CownName rest = (name [] ∷ rest, ([], None, tt, refl))
+fillable the.NextName rest = (name [] ∷ rest, ([], refl))
+fillable the.NextArg rest = (number 0 ∷ rest, (plain (one_term (one_factor (unsigned (literal 0)))), refl))
+fillable the.NextRef rest = (name [] ∷ rest, (alone [], refl))
 
 all_fillable : (ws : List Wanted) → (ts : List Token) × FillAll ws ts
 all_fillable [] = ([], refl)

@@ -31,10 +31,12 @@ pub mod ResolvingPrograms
 pub mod Filled
 pub mod Wanting
 pub mod Within
+pub mod Fits
 pub mod Strays
 pub mod Verdicts
 pub mod NameOrder
 pub mod RightNames
 pub mod JudgedTrees
 pub mod WrongPlaces
+pub mod TokenPlaces
 mod examples

@@ -1,27 +1,30 @@
 -- Where the shape of tokens goes wrong first, by what was wanted in front of it.
-use Rattle.std.proofs.Common.{◌≡◌, ◌≢◌, ℕ, zero, suc, ◌+◌, ◌-◌, ◌<◌, ◌≤◌, inl, inr, List, [], ◌∷◌, ◌++◌, length, get_or, map, take, drop}
-use Rattle.std.proofs.Common.{Option, Some, None, refl, sym, ap}
-use Rattle.std.proofs.Common.{◌∙◌, subst, arith, append-nil, append_assoc, reverse}
+use Rattle.std.proofs.Common.{◌≡◌, ◌≢◌, ℕ, ◌+◌, ◌-◌, ◌<◌, ◌≤◌, inl, inr, List, [], ◌∷◌, ◌++◌, length, get_or, map, take, drop, Option, Some, None, refl}
+use Rattle.std.proofs.Common.{sym, ap, ◌∙◌, subst, arith, append_assoc, length-drop, reverse}
 use Rattle.std.proofs.lemmas.Bool.{cases_lt}
-use Rattle.std.proofs.lemmas.List.{drop_all, length-map, length-reverse, map_more, nil_from_length, reverse-append, reverse-reverse, take-map, take_all}
-use Rattle.std.proofs.lemmas.List.{take-take, take-append-drop}
+use Rattle.std.proofs.lemmas.List.{drop_all, drop-drop, drop-map, drop-take, length-map, length-reverse, map_more, nil_from_length, reverse-append}
+use Rattle.std.proofs.lemmas.List.{reverse-reverse, take-map, take_all, take-take, take-append-drop}
 use Rattle.boc_reader.specs.declared.token.Placed.{Placed}
 use Rattle.boc_reader.specs.declared.wanted.Wanted.{Wanted}
 use Rattle.boc_reader.specs.declared.wanted.Wanted.TheVariants.{Cowns}
 use Rattle.boc_reader.specs.Tokens.{Token}
-use Rattle.boc_reader.specs.Placed.{ArePlaced, BeginsAt, BeginsToken, token_of, tokens_of}
+use Rattle.boc_reader.specs.Placed.{BeginsToken, token_of, tokens_of}
 use Rattle.boc_reader.specs.Wanted.{wanted_behind, wanted_after}
 use Rattle.boc_reader.specs.Room.{Within, room_of_text, within_behind, within_after}
-use Rattle.boc_reader.specs.declared.room.Room.{Room}
 use Rattle.boc_reader.specs.Grammar.{NoShape}
-use Rattle.boc_reader.proofs.Within.{over_begins_none, still_over}
-use Rattle.boc_reader.specs.WrongShape.{AreWhole, BeginTree, PassesLimit, ShapeGoesWrong, ShapeFaultStandsAt, StandAt}
+use Rattle.boc_reader.specs.WrongShape.{AreWhole, BeginTree, IsWrongThere, PassNoLimit, PassesLimit, ShapeFaultSays, ShapeGoesWrong, ShapeFaultStandsAt}
+use Rattle.boc_reader.specs.WrongShape.{StandAt}
 use Rattle.boc_reader.specs.Shape.{Tree, HasShape}
 use Rattle.boc_reader.specs.FaultMeanings.{StandsIn, StandsInShape}
 use Rattle.boc_reader.specs.declared.fault.ReadFault.{ReadFault}
 use Rattle.boc_reader.specs.declared.fault.ShapeFault.{ShapeFault}
+use Rattle.boc_reader.specs.declared.fault.ShapeFault.TheVariants as faults
 use Rattle.boc_reader.proofs.Filled.{all_read, read_begins}
+use Rattle.boc_reader.proofs.Fits.{whole_fits}
+use Rattle.boc_reader.proofs.ResolvingFront.{next_at}
+use Rattle.boc_reader.proofs.TokenPlaces.{one_stand}
 use Rattle.boc_reader.proofs.Wanting.{whole_wanted, stray_begins_none}
+use Rattle.boc_reader.proofs.Within.{over_begins_none, still_over, within_append}
 
 -- what is wanted first stands last in memory
 pub wanted_first : (old new then_wanted : List Wanted) → new ≡ old ++ reverse then_wanted → reverse new ≡ then_wanted ++ reverse old
@@ -64,39 +67,60 @@ pub placed_read : (ps : List Placed) (k : ℕ) (p : Placed) (ws : List Wanted) �
 placed_read ps k p ws small is e =
     ap (λ (ts : List Token). wanted_after ts (Cowns ∷ [])) (one_placed ps k p small is) ∙ one_read (take k (tokens_of ps)) (token_of p.token) ws e
 
+-- what stands behind so many tokens
+one_dropped : (ps : List Placed) (k : ℕ) (p : Placed) → k < length ps → p ≡ get_or ps k p
+    → drop k (tokens_of ps) ≡ token_of p.token ∷ drop (k + 1) (tokens_of ps)
+one_dropped ps k p small is =
+    let token : Placed → Token = λ p. token_of p.token in
+    drop-map token k ps ∙ ap tokens_of (next_at ps k p small is) ∙ ap (λ (ts : List Token). token_of p.token ∷ ts) (sym (drop-map token (k + 1) ps))
+
+-- the tokens behind one, as a slice has them
+pub after_is : (ps : List Placed) (k : ℕ) → tokens_of (take (length ps - (k + 1)) (drop (k + 1) ps)) ≡ drop (k + 1) (tokens_of ps)
+after_is ps k =
+    let long = length-drop (k + 1) ps in
+    ap tokens_of (take_all (length ps - (k + 1)) (drop (k + 1) ps) (omega (arith, long))) ∙ sym (drop-map (λ (p : Placed). token_of p.token) (k + 1) ps)
+
 -- The same within the limits.
-behind_within : (ts more : List Token) (found : Option Within) (s : Within)
-    → ((q : Within) → within_after ts q.wanted q.room ≡ Some s → within_after (ts ++ more) q.wanted q.room ≡ within_after more s.wanted s.room)
-    → (elim found [ Some q ↦ within_after ts q.wanted q.room | None ↦ None ]) ≡ Some s
-    → (elim found [ Some q ↦ within_after (ts ++ more) q.wanted q.room | None ↦ None ]) ≡ within_after more s.wanted s.room
-behind_within ts more (Some q) s deeper e = deeper q e
-behind_within ts more None s deeper e = absurd cc
+found_within : (found : Option Within) (after : List Token)
+    → (elim found [ Some q ↦ within_after [] after q.wanted q.room | None ↦ None ]) ≡ found
+found_within (Some q) after = refl
+found_within None after = refl
 
-within_append : (ts more : List Token) (ws : List Wanted) (r : Room) (s : Within) → within_after ts ws r ≡ Some s
-    → within_after (ts ++ more) ws r ≡ within_after more s.wanted s.room
-within_append [] more ws r s e =
-    let start : Within = record { wanted = ws; room = r } in
-    let same : start ≡ s = cc in
-    ap (λ (q : Within). within_after more q.wanted q.room) same
-within_append (t ∷ ts) more ws r s e = behind_within ts more (within_behind t ws r) s (λ q d. within_append ts more q.wanted q.room s d) e
+-- so many tokens of a text, in front of the others
+abbrev pub front_within : List Token → ℕ → Option Within
+front_within ts k = within_after (take k ts) (drop k ts) (Cowns ∷ []) room_of_text
 
-found_within : (found : Option Within) → (elim found [ Some q ↦ within_after [] q.wanted q.room | None ↦ None ]) ≡ found
-found_within (Some q) = refl
-found_within None = refl
-
-pub placed_within : (ps : List Placed) (k : ℕ) (p : Placed) (s : Within) → k < length ps → p ≡ get_or ps k p
-    → within_after (take k (tokens_of ps)) (Cowns ∷ []) room_of_text ≡ Some s
-    → within_after (take (k + 1) (tokens_of ps)) (Cowns ∷ []) room_of_text ≡ within_behind (token_of p.token) s.wanted s.room
+pub placed_within : (ps : List Placed) (k : ℕ) (p : Placed) (s : Within) → k < length ps → p ≡ get_or ps k p → front_within (tokens_of ps) k ≡ Some s
+    → front_within (tokens_of ps) (k + 1) ≡ within_behind (token_of p.token) (drop (k + 1) (tokens_of ps)) s.wanted s.room
 placed_within ps k p s small is e =
-    ap (λ (ts : List Token). within_after ts (Cowns ∷ []) room_of_text) (one_placed ps k p small is)
-    ∙ within_append (take k (tokens_of ps)) (token_of p.token ∷ []) (Cowns ∷ []) room_of_text s e
-    ∙ found_within (within_behind (token_of p.token) s.wanted s.room)
+    let ts = tokens_of ps in
+    let t = token_of p.token in
+    let after = drop (k + 1) ts in
+    let before : within_after (take k ts) (t ∷ after) (Cowns ∷ []) room_of_text ≡ Some s =
+    ap (λ (us : List Token). within_after (take k ts) us (Cowns ∷ []) room_of_text) (sym (one_dropped ps k p small is)) ∙ e in
+    ap (λ (us : List Token). within_after us after (Cowns ∷ []) room_of_text) (one_placed ps k p small is)
+    ∙ within_append (take k ts) (t ∷ []) after (Cowns ∷ []) room_of_text s before
+    ∙ found_within (within_behind t after s.wanted s.room) after
 
--- where a front of tokens passes a limit, all of them do
-pub front_over : (ts : List Token) (k : ℕ) → within_after (take k ts) (Cowns ∷ []) room_of_text ≡ None → within_after ts (Cowns ∷ []) room_of_text ≡ None
-front_over ts k e =
-    ap (λ (us : List Token). within_after us (Cowns ∷ []) room_of_text) (sym (take-append-drop k ts))
-    ∙ still_over (take k ts) (drop k ts) (Cowns ∷ []) room_of_text e
+middle_behind : (ts : List Token) (j k : ℕ) → j ≤ k → drop j (take k ts) ++ drop k ts ≡ drop j ts
+middle_behind ts j k le =
+    let m = k - j in
+    let all : j + m ≡ k = omega (arith, le) in
+    let last : drop m (drop j ts) ≡ drop (j + m) ts = drop-drop m j ts in
+    subst (λ (n : ℕ). drop j (take n ts) ++ drop n ts ≡ drop j ts) all
+    (ap (λ (us : List Token). us ++ drop (j + m) ts) (drop-take j m ts) ∙ ap (λ (us : List Token). take m (drop j ts) ++ us) (sym last)
+    ∙ take-append-drop m (drop j ts))
+
+-- where fewer tokens pass a limit, more of them do
+pub front_over : (ts : List Token) (j k : ℕ) → j ≤ k → front_within ts j ≡ None → front_within ts k ≡ None
+front_over ts j k le e =
+    let middle = drop j (take k ts) in
+    let parts : take j ts ++ middle ≡ take k ts =
+    ap (λ (us : List Token). us ++ middle) (sym (take-take j k ts le)) ∙ take-append-drop j (take k ts) in
+    let behind : middle ++ drop k ts ≡ drop j ts = middle_behind ts j k le in
+    ap (λ (us : List Token). within_after us (drop k ts) (Cowns ∷ []) room_of_text) (sym parts)
+    ∙ still_over (take j ts) middle (drop k ts) (Cowns ∷ []) room_of_text
+    (ap (λ (us : List Token). within_after (take j ts) us (Cowns ∷ []) room_of_text) behind ∙ e)
 
 -- where a token can't stand the shape goes wrong
 pub wrong_at_token : (ps : List Placed) (k : ℕ) (p : Placed) (ws : List Wanted) → k < length ps → p ≡ get_or ps k p
@@ -152,43 +176,56 @@ front_begins ts j k le l =
 pub whole_begins : (ts : List Token) (k : ℕ) → AreWhole ts → BeginTree (take k ts)
 whole_begins ts k w = record { more = drop k ts; whole = subst AreWhole (sym (take-append-drop k ts)) w }
 
--- a tree has tokens
-pub some_in_whole : (ts : List Token) → AreWhole ts → 0 < length ts
-some_in_whole [] w = let none = whole_wanted [] w in absurd cc
-some_in_whole (t ∷ ts) w = omega arith
+some_found : {X : Type 0} (found : Option X) → found ≢ None → (x : X) × (found ≡ Some x)
+some_found None some = absurd (some refl)
+some_found (Some x) some = (x, refl)
 
--- tokens that pass a limit, among those with which a tree begins
-pub passes_limit : (ts : List Token) (before allowed : ℕ) → before < allowed → allowed ≤ length ts → BeginTree (take allowed ts)
-    → within_after (take (before + 1) ts) (Cowns ∷ []) room_of_text ≡ None → PassesLimit ts before
-passes_limit ts before allowed less within begins over =
+-- a token with which a limit is passed
+passes_limit : (ps : List Placed) (k : ℕ) (p : Placed) (s : Within) → k < length ps → p ≡ get_or ps k p
+    → wanted_after (take k (tokens_of ps)) (Cowns ∷ []) ≡ Some s.wanted → front_within (tokens_of ps) k ≡ Some s
+    → IsWrongThere faults.TooMany (token_of p.token) (drop (k + 1) (tokens_of ps)) s.wanted s.room → PassesLimit (tokens_of ps) k
+passes_limit ps k p s small is e w over =
+    let ts = tokens_of ps in
+    let t = token_of p.token in
+    let long = length-map ps (λ (p : Placed). token_of p.token) in
+    let found = some_found (wanted_behind t s.wanted) over.0 in
+    let front = one_placed ps k p small is in
+    let before : within_after (take k ts) (t ∷ drop (k + 1) ts) (Cowns ∷ []) room_of_text ≡ Some s =
+    ap (λ (us : List Token). within_after (take k ts) us (Cowns ∷ []) room_of_text) (sym (one_dropped ps k p small is)) ∙ w in
     record {
-      within = omega arith;
-      begins = front_begins ts (before + 1) allowed (omega arith) begins;
-      none = λ t more s. over_begins_none (take (before + 1) ts) more t over s;
+      within = omega (arith, long);
+      first = λ none. absurd (cc (w, none));
+      passes = λ some. some (placed_within ps k p s small is w ∙ over.1);
+      begins = read_begins (take (k + 1) ts) found.0 (placed_read ps k p s.wanted small is e ∙ found.1);
+      none = λ tree more shape. over_begins_none (take k ts) (drop (k + 1) ts) more t s tree before over.1
+          (subst (λ (us : List Token). HasShape (us ++ more) tree) front shape);
     }
 
--- nothing stands behind all tokens of a tree
-whole_ends : (ts more : List Token) → AreWhole ts → AreWhole (ts ++ more) → more ≡ []
-whole_ends ts [] w v = refl
-whole_ends ts (m ∷ more) w v =
-    let here = whole_wanted ts w in
-    let all = whole_wanted (ts ++ m ∷ more) v in
-    let on = after_append ts (m ∷ more) (Cowns ∷ []) [] here in
-    absurd cc
+-- what is wrong with a token is what is said of it
+pub says_at : (fault : ShapeFault) (ps : List Placed) (k : ℕ) (p : Placed) (s : Within) → k < length ps → p ≡ get_or ps k p
+    → wanted_after (take k (tokens_of ps)) (Cowns ∷ []) ≡ Some s.wanted → front_within (tokens_of ps) k ≡ Some s
+    → IsWrongThere fault (token_of p.token) (drop (k + 1) (tokens_of ps)) s.wanted s.room → ShapeFaultSays fault (tokens_of ps) k
+says_at faults.Unexpected ps k p s small is e w wrong = (wrong_at_token ps k p s.wanted small is e wrong, λ none. absurd (cc (w, none)))
+says_at faults.TooMany ps k p s small is e w wrong = passes_limit ps k p s small is e w wrong
 
--- where all tokens are those of a tree that isn't within the limits, they are passed with the last one at the latest
-pub whole_passes : (ts : List Token) (n : ℕ) → length ts ≡ n → AreWhole ts → NoShape ts → PassesLimit ts (n - 1)
-whole_passes ts n long w none =
-    let some = some_in_whole ts w in
-    let all : take (n - 1 + 1) ts ≡ ts = take_all (n - 1 + 1) ts (omega (arith, long, some)) in
-    record {
-      within = omega (arith, long, some);
-      begins = whole_begins ts (n - 1 + 1) w;
-      none = λ t more s.
-          let v : HasShape (ts ++ more) t = subst (λ (us : List Token). HasShape (us ++ more) t) all s in
-          let end = whole_ends ts more w (record { tree = t; arrays = v.limits.arrays; tokens_are = v.tokens_are }) in
-          none t (subst (λ (us : List Token). HasShape us t) (ap (λ (m : List Token). ts ++ m) end ∙ append-nil ts) v);
-    }
+-- so many tokens are all
+all_within : (ps : List Placed) (k : ℕ) → length ps ≤ k → front_within (tokens_of ps) k ≡ within_after (tokens_of ps) [] (Cowns ∷ []) room_of_text
+all_within ps k most =
+    let ts = tokens_of ps in
+    let long = length-map ps (λ (p : Placed). token_of p.token) in
+    ap (λ (us : List Token). within_after us (drop k ts) (Cowns ∷ []) room_of_text) (take_all k ts (omega (arith, long)))
+    ∙ ap (λ (us : List Token). within_after ts us (Cowns ∷ []) room_of_text) (drop_all k ts (omega (arith, long)))
+
+-- at the end nothing has passed a limit
+pub none_at_end : (ps : List Placed) (k : ℕ) (s : Within) → length ps ≤ k → front_within (tokens_of ps) k ≡ Some s → PassNoLimit (tokens_of ps) (length ps)
+none_at_end ps k s most e none =
+    let same : front_within (tokens_of ps) k ≡ None = all_within ps k most ∙ sym (all_within ps (length ps) (omega arith)) ∙ none in
+    absurd (cc (e, same))
+
+-- tokens of a tree that pass no limit have a shape
+pub shape_at_end : (ps : List Placed) (k : ℕ) (s : Within) → length ps ≤ k → front_within (tokens_of ps) k ≡ Some s → AreWhole (tokens_of ps)
+    → NoShape (tokens_of ps) → ⊥
+shape_at_end ps k s most e w none = none w.tree (whole_fits (tokens_of ps) w s (sym (all_within ps k most) ∙ e))
 
 never_before : (ts : List Token) (j k : ℕ) → ShapeGoesWrong ts j → ShapeGoesWrong ts k → j < k → ⊥
 never_before ts j k one other less = one.strays (omega (arith, other.within)) (front_begins ts (j + 1) k (omega arith) other.begins)
@@ -206,25 +243,52 @@ pub whole_is_right : (ts : List Token) (k : ℕ) → AreWhole ts → ShapeGoesWr
 whole_is_right ts k w g =
     elim (cases_lt k (length ts)) [ inl less ↦ g.strays less (whole_begins ts (k + 1) w) | inr most ↦ g.ends (omega (arith, g.within)) w ]
 
--- the place of a token
-pub stands_at : (text : List ℕ) (ps : List Placed) (k : ℕ) (p : Placed) → ArePlaced text ps → k < length ps → p ≡ get_or ps k p
-    → StandAt text p.at (drop k (tokens_of ps))
-stands_at text [] k p placed small is = absurd (omega arith)
-stands_at text (q ∷ ps) zero p placed small is = subst (λ (x : Placed). BeginsAt text x.at (tokens_of (q ∷ ps))) (sym is) placed.0
-stands_at text (q ∷ ps) (suc k) p placed small is = stands_at text ps k p placed.1 (omega arith) is
-
 -- a token begins at a byte of the text, or the text ends
-pub place_within : (text : List ℕ) (at : ℕ) (ts : List Token) → StandAt text at ts → at ≤ length text
-place_within text at [] stand = omega (arith, stand)
-place_within text at (t ∷ ts) stand =
-    elim (cases_lt (length text) at) [ inl less ↦ absurd (subst BeginsToken (drop_all at text (omega arith)) stand.begins) | inr within ↦ within ]
+pub place_within : (text : List ℕ) (at : ℕ) (passed left : List Token) → StandAt text at passed left → at ≤ length text
+place_within text at passed [] stand = omega (arith, stand)
+place_within text at passed (t ∷ ts) stand =
+    elim (cases_lt (length text) at) [ inl less ↦ absurd (subst BeginsToken (drop_all at text (omega arith)) stand.1.begins) | inr within ↦ within ]
 
 -- what is told of a text whose shape goes wrong there
 pub tells_shape : (wrong : ShapeFault) (text : List ℕ) (at : ℕ) (told : ReadFault) → ShapeFaultStandsAt wrong text at
     → (at ≤ length text → told.at ≡ at) → StandsIn told text → StandsInShape wrong told text
 tells_shape wrong text at told first there stands =
-    (stands, subst (ShapeFaultStandsAt wrong text) (sym (there (place_within text at (drop first.before first.tokens) first.place))) first)
+    let within = place_within text at (take first.before first.tokens) (drop first.before first.tokens) first.place in
+    (stands, subst (ShapeFaultStandsAt wrong text) (sym (there within)) first)
 
 -- a tree within the limits is one whatever they are
 pub shaped_is_right : (ts : List Token) (t : Tree) (k : ℕ) → HasShape ts t → ShapeGoesWrong ts k → ⊥
 shaped_is_right ts t k s = whole_is_right ts k (record { tree = t; arrays = s.limits.arrays; tokens_are = s.tokens_are })
+
+-- no limit is passed before the first token with which one is
+pub passed_first : (ts : List Token) (j k : ℕ) → PassesLimit ts j → PassNoLimit ts k → k ≤ j
+passed_first ts j k one other =
+    elim (cases_lt j k) [ inl less ↦ absurd (one.passes (λ none. other (front_over ts (j + 1) k (omega arith) none))) | inr most ↦ most ]
+
+-- no limit is passed at a token that can't stand there, or behind it
+never_both : (ts : List Token) (j k : ℕ) → PassesLimit ts j → ShapeGoesWrong ts k → PassNoLimit ts k → ⊥
+never_both ts j k one other first =
+    let before = passed_first ts j k one first in
+    other.strays (omega (arith, before, one.within)) (front_begins ts (k + 1) (j + 1) (omega (arith, before)) one.begins)
+
+-- tokens have one first fault of their shape
+pub one_of_shape : (fault other : ShapeFault) (ts : List Token) (j k : ℕ) → ShapeFaultSays fault ts j → ShapeFaultSays other ts k → (fault ≡ other) × (j ≡ k)
+one_of_shape faults.Unexpected faults.Unexpected ts j k a b = (refl, one_stray ts j k a.0 b.0)
+one_of_shape faults.TooMany faults.TooMany ts j k a b =
+    let least = passed_first ts j k a b.first in
+    let most = passed_first ts k j b a.first in
+    (refl, omega (arith, least, most))
+one_of_shape faults.Unexpected faults.TooMany ts j k a b = absurd (never_both ts k j b a.0 a.1)
+one_of_shape faults.TooMany faults.Unexpected ts j k a b = absurd (never_both ts j k a b.0 b.1)
+
+-- a text has one first fault of its shape, at one place
+pub one_shape_fault : (fault other : ShapeFault) (text : List ℕ) (at place : ℕ) → ShapeFaultStandsAt fault text at → ShapeFaultStandsAt other text place
+    → (fault ≡ other) × (at ≡ place)
+one_shape_fault fault other text at place a b =
+    let found : Some a.tokens ≡ Some b.tokens = sym a.has_tokens ∙ b.has_tokens in
+    let same : a.tokens ≡ b.tokens = cc found in
+    let one = one_of_shape fault other b.tokens a.before b.before (subst (λ (ts : List Token). ShapeFaultSays fault ts a.before) same a.says) b.says in
+    let stand : StandAt text at (take b.before b.tokens) (drop b.before b.tokens) =
+    subst (λ (k : ℕ). StandAt text at (take k b.tokens) (drop k b.tokens)) one.1
+    (subst (λ (ts : List Token). StandAt text at (take a.before ts) (drop a.before ts)) same a.place) in
+    (one.0, one_stand text at place (take b.before b.tokens) (drop b.before b.tokens) stand b.place)

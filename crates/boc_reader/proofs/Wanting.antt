@@ -173,12 +173,35 @@ first_expr : (e : Expr) (ts : List Token) (ws : List Wanted)
 first_expr (plain s) ts ws = first_sum s ts ws
 first_expr (compared s op t) ts ws = first_sum s (sign (comparison_sign op) ∷ sum_tokens t ts) ws
 
+-- so does one behind a comma
+next_unary : (u : Unary) (ts : List Token) (ws : List Wanted)
+    → wanted_after (unary_tokens u ts) (the.NextArg ∷ ws) ≡ wanted_after (unary_tokens u ts) (the.Expr ∷ ws)
+next_unary (negated u) ts ws = refl
+next_unary (unsigned (literal n)) ts ws = refl
+next_unary (unsigned (variable x)) ts ws = refl
+next_unary (unsigned (parens e)) ts ws = refl
+
+next_term : (t : Term) (ts : List Token) (ws : List Wanted)
+    → wanted_after (term_tokens t ts) (the.NextArg ∷ ws) ≡ wanted_after (term_tokens t ts) (the.Expr ∷ ws)
+next_term (one_factor u) ts ws = next_unary u ts ws
+next_term (more_factors u op t) ts ws = next_unary u (sign (term_sign op) ∷ term_tokens t ts) ws
+
+next_sum : (s : Sum) (ts : List Token) (ws : List Wanted)
+    → wanted_after (sum_tokens s ts) (the.NextArg ∷ ws) ≡ wanted_after (sum_tokens s ts) (the.Expr ∷ ws)
+next_sum (one_term t) ts ws = next_term t ts ws
+next_sum (more_terms t op s) ts ws = next_term t (sign (sum_sign op) ∷ sum_tokens s ts) ws
+
+next_expr : (e : Expr) (ts : List Token) (ws : List Wanted)
+    → wanted_after (expr_tokens e ts) (the.NextArg ∷ ws) ≡ wanted_after (expr_tokens e ts) (the.Expr ∷ ws)
+next_expr (plain s) ts ws = next_sum s ts ws
+next_expr (compared s op t) ts ws = next_sum s (sign (comparison_sign op) ∷ sum_tokens t ts) ws
+
 more_args : (e : Expr) (es : List Expr) (ts : List Token) (ws : List Wanted)
     → wanted_after (expr_tokens e (behind_commas expr_tokens es (sign signs.Semicolon ∷ ts))) (the.Expr ∷ the.MoreArgs ∷ ws) ≡ wanted_after ts ws
 more_args e [] ts ws = ended e (sign signs.Semicolon) ts (the.MoreArgs ∷ ws) refl refl
 more_args e (f ∷ fs) ts ws =
-    ended e (sign signs.Comma) (expr_tokens f (behind_commas expr_tokens fs (sign signs.Semicolon ∷ ts))) (the.MoreArgs ∷ ws) refl refl
-    ∙ more_args f fs ts ws
+    let rest = behind_commas expr_tokens fs (sign signs.Semicolon ∷ ts) in
+    ended e (sign signs.Comma) (expr_tokens f rest) (the.MoreArgs ∷ ws) refl refl ∙ next_expr f rest (the.MoreArgs ∷ ws) ∙ more_args f fs ts ws
 
 args : (es : List Expr) (ts : List Token) (ws : List Wanted)
     → wanted_after (list_tokens expr_tokens es (sign signs.Semicolon ∷ ts)) (the.Args ∷ ws) ≡ wanted_after ts ws
@@ -187,17 +210,17 @@ args (e ∷ es) ts ws = first_expr e (behind_commas expr_tokens es (sign signs.S
 
 -- a reference, and a token behind it that begins no index
 one_ref : (r : NamedCown) (t : Token) (ts : List Token) (ws : List Wanted) → behind t the.Index ≡ None
-    → wanted_after (ref_tokens r (t ∷ ts)) (the.Name ∷ the.Index ∷ ws) ≡ wanted_after (t ∷ ts) ws
+    → wanted_after (ref_tokens r (t ∷ ts)) (the.NextRef ∷ ws) ≡ wanted_after (t ∷ ts) ws
 one_ref (alone x) t ts ws none = ap (read_by t ts ws) none
 one_ref (member x e) t ts ws none = ended e (sign signs.CloseIndex) (t ∷ ts) (the.CloseIndex ∷ ws) refl refl
 
 first_ref : (r : NamedCown) (ts : List Token) (ws : List Wanted)
-    → wanted_after (ref_tokens r ts) (the.Refs ∷ ws) ≡ wanted_after (ref_tokens r ts) (the.Name ∷ the.Index ∷ the.MoreRefs ∷ ws)
+    → wanted_after (ref_tokens r ts) (the.Refs ∷ ws) ≡ wanted_after (ref_tokens r ts) (the.NextRef ∷ the.MoreRefs ∷ ws)
 first_ref (alone x) ts ws = refl
 first_ref (member x e) ts ws = refl
 
 more_refs : (r : NamedCown) (rs : List NamedCown) (ts : List Token) (ws : List Wanted)
-    → wanted_after (ref_tokens r (behind_commas ref_tokens rs (sign signs.Close ∷ ts))) (the.Name ∷ the.Index ∷ the.MoreRefs ∷ ws) ≡ wanted_after ts ws
+    → wanted_after (ref_tokens r (behind_commas ref_tokens rs (sign signs.Close ∷ ts))) (the.NextRef ∷ the.MoreRefs ∷ ws) ≡ wanted_after ts ws
 more_refs r [] ts ws = one_ref r (sign signs.Close) ts (the.MoreRefs ∷ ws) refl
 more_refs r (q ∷ qs) ts ws =
     one_ref r (sign signs.Comma) (ref_tokens q (behind_commas ref_tokens qs (sign signs.Close ∷ ts))) (the.MoreRefs ∷ ws) refl ∙ more_refs q qs ts ws

@@ -32,16 +32,16 @@ use Rattle.boc_reader.proofs.Texts.{none_high, pieces_of_high}
 
 -- The first piece of a text that begins with a token.
 
-abbrev IsNoBlank : Piece → Type 0
+abbrev pub IsNoBlank : Piece → Type 0
 IsNoBlank (run bs) = Unit {0}
 IsNoBlank (pair b) = Unit {0}
 IsNoBlank (single b) = is_blank b ≡ false
 
-record BeginsWith (ps : List Piece) : Type 0 where
-  piece : Piece
-  behind : List Piece
-  parts : ps ≡ piece ∷ behind
-  no_blank : IsNoBlank piece
+pub record BeginsWith (ps : List Piece) : Type 0 where
+  pub piece : Piece
+  pub behind : List Piece
+  pub parts : ps ≡ piece ∷ behind
+  pub no_blank : IsNoBlank piece
 
 join_begins : (b : ℕ) (ps : List Piece) → BeginsWith (join b ps)
 join_begins b [] = record { piece = run (b ∷ []); behind = []; parts = refl; no_blank = tt }
@@ -65,12 +65,12 @@ cut_begins b (c ∷ bs) h = either _
     either true = record { piece = pair b; behind = cut bs; parts = refl; no_blank = tt }
     either false = front_begins b (cut (c ∷ bs)) h
 
-text_begins : (b : ℕ) (bs : List ℕ) → is_blank b ≡ false → b ≢ 35 → BeginsWith (pieces_of (b ∷ bs))
+pub text_begins : (b : ℕ) (bs : List ℕ) → is_blank b ≡ false → b ≢ 35 → BeginsWith (pieces_of (b ∷ bs))
 text_begins b bs h n = let e : eqb b 35 ≡ false = grind (arith, nat_tests) in rw e (cut_begins b (without_comments false bs) h)
 
 -- A piece that is the token of a name.
 
-put_first : (o : Option Token) (found : Option (List Token)) (w : Token) (ws : List Token) → put o found ≡ Some (w ∷ ws) → o ≡ Some w
+pub put_first : (o : Option Token) (found : Option (List Token)) (w : Token) (ws : List Token) → put o found ≡ Some (w ∷ ws) → o ≡ Some w
 put_first None found w ws h = absurd cc
 put_first (Some v) None w ws h = absurd cc
 put_first (Some v) (Some vs) w ws h = cc
@@ -137,7 +137,7 @@ name_behind text (b ∷ bs) ws vs x h begins has =
           absurd (cc (ap tokens_of_pieces parts ∙ none_high high.0 (pieces_of high.1) high.5, has))
     ]
 
-within_text : (text : List ℕ) (at : ℕ) → BeginsToken (drop at text) → (at ≤ length text) × (at ≡ length text - length (drop at text))
+pub within_text : (text : List ℕ) (at : ℕ) → BeginsToken (drop at text) → (at ≤ length text) × (at ≡ length text - length (drop at text))
 within_text text at begins = by (drop at text) refl begins
   where
     by : (rest : List ℕ) → drop at text ≡ rest → BeginsToken rest → (at ≤ length text) × (at ≡ length text - length (drop at text))

@@ -62,7 +62,7 @@ pub record StandsIn (fault : ReadFault) (text : List ℕ) : Type 0 where
 abbrev pub StandsFirst : TokenFault → ReadFault → List ℕ → Type 0
 StandsFirst wrong fault text = StandsIn fault text × GoesWrong wrong text fault.at
 
--- the fault is one of the shape of the text, and stands at its place
+-- the fault is the first one of the shape of the text, and stands at its place
 abbrev pub StandsInShape : ShapeFault → ReadFault → List ℕ → Type 0
 StandsInShape wrong fault text = StandsIn fault text × ShapeFaultStandsAt wrong text fault.at
 
@@ -71,8 +71,8 @@ abbrev pub StandsAtName : NameFault → ReadFault → List ℕ → Type 0
 StandsAtName wrong fault text = StandsIn fault text × NameGoesWrong wrong text fault.at
 
 -- The place that is told with a kind of fault: that of the first byte too many where the text is too long, none where memory was refused, that of the
--- first byte of the first fault where the text has no tokens, that of the first token, or the end, that the grammar doesn't allow, that of a token with
--- which, or before which, there are too many of something, and that of the first byte of the first wrong name where its names can't be resolved.
+-- first byte of the first fault where the text has no tokens, that of the first token, or the end, that the grammar doesn't allow, that of the first token
+-- with which a limit is passed, and that of the first byte of the first wrong name where its names can't be resolved.
 abbrev pub TellsPlace : ReadFaultKind → ReadFault → List ℕ → Type 0
 TellsPlace kinds.NotAscii fault text = StandsFirst token_faults.NotAscii fault text
 TellsPlace kinds.BadToken fault text = StandsFirst token_faults.BadToken fault text

@@ -7,7 +7,7 @@ use Rattle.boc_reader.specs.declared.terminal.Sign.TheVariants as signs
 use Rattle.boc_reader.specs.declared.room.Room.{Room}
 use Rattle.boc_reader.specs.declared.wanted.Wanted.{Wanted}
 use Rattle.boc_reader.specs.declared.wanted.Wanted.TheVariants.{Cowns, Defs, Members, Params, MoreParams, Held, MoreHeld, Stmts, Args, MoreArgs, Refs, MoreRefs}
-use Rattle.boc_reader.specs.declared.wanted.Wanted.TheVariants.{Expr, InExpr, Sum, InSum}
+use Rattle.boc_reader.specs.declared.wanted.Wanted.TheVariants.{Expr, InExpr, Sum, InSum, CownName, NextName, NextArg, NextRef}
 use Rattle.boc_reader.specs.Tokens.{Token, name, number, keyword, sign}
 use Rattle.boc_reader.specs.Wanted.{behind, may_be_left_out}
 
@@ -19,10 +19,11 @@ room_of_text = record { cowns = MOST_COWNS; defs = MOST_DEFS; nodes = 0; listed 
 abbrev pub with_body : Room → Room
 with_body r = record r { nodes = MOST_NODES }
 
--- a list begins, or it ends
+-- a list begins
 abbrev pub with_list : Room → Room
 with_list r = record r { listed = MOST_LISTED }
 
+-- a list ends
 abbrev pub without_list : Room → Room
 without_list r = record r { listed = 0 }
 
@@ -53,12 +54,17 @@ left_in_defs t r = Some (with_body r)
 
 -- where a declaration of cowns may begin too
 abbrev pub left_in_cowns : Token → Room → Option Room
-left_in_cowns (keyword keywords.Cown) r = take_cowns 1 r
+left_in_cowns (keyword keywords.Cown) r = Some r
 left_in_cowns t r = left_in_defs t r
 
--- behind the size of an array, of which a cown is counted already
+-- Behind the name of a cown, in front of these tokens: it is a cown more, but that of an array, whose size tells how many there are.
+abbrev pub left_in_cown : List Token → Room → Option Room
+left_in_cown (sign signs.OpenIndex ∷ ts) r = Some r
+left_in_cown ts r = take_cowns 1 r
+
+-- behind the size of an array: so many cowns more
 abbrev pub left_in_size : Token → Room → Option Room
-left_in_size (number n) r = take_cowns (n - 1) r
+left_in_size (number n) r = take_cowns n r
 left_in_size t r = Some r
 
 -- where a statement or the brace behind it may stand
@@ -81,35 +87,34 @@ abbrev pub left_in_args : Token → Room → Option Room
 left_in_args (sign signs.Semicolon) r = Some r
 left_in_args t r = take_node_listed (with_list r)
 
--- behind one of a list, where a comma or the sign behind it may stand
+-- behind one of a list, where a comma or the sign behind it may stand: what follows a comma counts where it begins
 abbrev pub left_in_list : Token → Room → Option Room
-left_in_list (sign signs.Comma) r = take_listed r
+left_in_list (sign signs.Comma) r = Some r
 left_in_list t r = Some (without_list r)
 
--- the same where the next one is a node
-abbrev pub left_in_nodes : Token → Room → Option Room
-left_in_nodes (sign signs.Comma) r = take_node_listed r
-left_in_nodes t r = Some (without_list r)
-
--- The room that is left behind a token which is what was wanted, or none where it passes a limit.
-abbrev pub left_behind : Token → Wanted → Room → Option Room
-left_behind t Cowns r = left_in_cowns t r
-left_behind t Defs r = left_in_defs t r
-left_behind t Members r = left_in_size t r
-left_behind t Stmts r = left_in_stmts t r
-left_behind t Params r = left_in_names t r
-left_behind t Held r = left_in_names t r
-left_behind t Args r = left_in_args t r
-left_behind t Refs r = left_in_refs t r
-left_behind t MoreParams r = left_in_list t r
-left_behind t MoreHeld r = left_in_list t r
-left_behind t MoreArgs r = left_in_list t r
-left_behind t MoreRefs r = left_in_nodes t r
-left_behind t Expr r = take_node r
-left_behind t InExpr r = take_node r
-left_behind t Sum r = take_node r
-left_behind t InSum r = take_node r
-left_behind t w r = Some r
+-- The room that is left behind a token which is what was wanted, in front of these tokens, or none where it passes a limit.
+abbrev pub left_behind : Token → List Token → Wanted → Room → Option Room
+left_behind t after Cowns r = left_in_cowns t r
+left_behind t after Defs r = left_in_defs t r
+left_behind t after Members r = left_in_size t r
+left_behind t after Stmts r = left_in_stmts t r
+left_behind t after Params r = left_in_names t r
+left_behind t after Held r = left_in_names t r
+left_behind t after Args r = left_in_args t r
+left_behind t after Refs r = left_in_refs t r
+left_behind t after MoreParams r = left_in_list t r
+left_behind t after MoreHeld r = left_in_list t r
+left_behind t after MoreArgs r = left_in_list t r
+left_behind t after MoreRefs r = left_in_list t r
+left_behind t after CownName r = left_in_cown after r
+left_behind t after NextName r = take_listed r
+left_behind t after NextArg r = take_node_listed r
+left_behind t after NextRef r = take_node_listed r
+left_behind t after Expr r = take_node r
+left_behind t after InExpr r = take_node r
+left_behind t after Sum r = take_node r
+left_behind t after InSum r = take_node r
+left_behind t after w r = Some r
 
 -- what is wanted of the rest of a text, and the room there
 pub record Within : Type 0 where
@@ -120,13 +125,14 @@ pub record Within : Type 0 where
 abbrev pub with_room : List Wanted → Option Room → Option Within
 with_room ws found = elim found [ Some q ↦ Some (record { wanted = ws; room = q }) | None ↦ None ]
 
--- What is wanted of the rest of a text behind a token, and the room there. It is none where the token can't stand there, or passes a limit.
-abbrev pub within_behind : Token → List Wanted → Room → Option Within
-within_behind t [] r = None
-within_behind t (w ∷ ws) r =
-    elim (behind t w) [ Some all ↦ with_room (all ++ ws) (left_behind t w r) | None ↦ if may_be_left_out w then within_behind t ws r else None ]
+-- What is wanted of the rest of a text behind a token, in front of these tokens, and the room there. It is none where the token can't stand there, or
+-- passes a limit.
+abbrev pub within_behind : Token → List Token → List Wanted → Room → Option Within
+within_behind t after [] r = None
+within_behind t after (w ∷ ws) r =
+    elim (behind t w) [ Some all ↦ with_room (all ++ ws) (left_behind t after w r) | None ↦ if may_be_left_out w then within_behind t after ws r else None ]
 
--- the same behind several tokens
-abbrev pub within_after : List Token → List Wanted → Room → Option Within
-within_after [] ws r = Some (record { wanted = ws; room = r })
-within_after (t ∷ ts) ws r = elim (within_behind t ws r) [ Some s ↦ within_after ts s.wanted s.room | None ↦ None ]
+-- the same behind several tokens, in front of these
+abbrev pub within_after : List Token → List Token → List Wanted → Room → Option Within
+within_after [] after ws r = Some (record { wanted = ws; room = r })
+within_after (t ∷ ts) after ws r = elim (within_behind t (ts ++ after) ws r) [ Some s ↦ within_after ts after s.wanted s.room | None ↦ None ]

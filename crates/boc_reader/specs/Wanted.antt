@@ -8,7 +8,7 @@ use Rattle.boc_reader.specs.declared.terminal.Sign.TheVariants as signs
 use Rattle.boc_reader.specs.declared.wanted.Wanted.{Wanted}
 use Rattle.boc_reader.specs.declared.wanted.Wanted.TheVariants.{Cowns, Defs, Name, Number, Assign, Semicolon, Open, Close, OpenBlock, CloseIndex, Size, Members}
 use Rattle.boc_reader.specs.declared.wanted.Wanted.TheVariants.{Initial, Params, MoreParams, Held, MoreHeld, Stmts, Else, Args, MoreArgs, Refs, MoreRefs, Index}
-use Rattle.boc_reader.specs.declared.wanted.Wanted.TheVariants.{Expr, InExpr, Sum, InSum}
+use Rattle.boc_reader.specs.declared.wanted.Wanted.TheVariants.{Expr, InExpr, Sum, InSum, CownName, NextName, NextArg, NextRef}
 
 -- what is wanted behind a name, in place of what was wanted where it stands
 abbrev pub behind_name : Wanted → Option (List Wanted)
@@ -20,6 +20,10 @@ behind_name Args = Some (InExpr ∷ MoreArgs ∷ [])
 behind_name Refs = Some (Index ∷ MoreRefs ∷ [])
 behind_name Expr = Some (InExpr ∷ [])
 behind_name Sum = Some (InSum ∷ [])
+behind_name CownName = Some (Size ∷ [])
+behind_name NextName = Some []
+behind_name NextArg = Some (InExpr ∷ [])
+behind_name NextRef = Some (Index ∷ [])
 behind_name w = None
 
 -- an array has members
@@ -35,6 +39,7 @@ behind_number n Initial = Some []
 behind_number n Args = Some (InExpr ∷ MoreArgs ∷ [])
 behind_number n Expr = Some (InExpr ∷ [])
 behind_number n Sum = Some (InSum ∷ [])
+behind_number n NextArg = Some (InExpr ∷ [])
 behind_number n w = None
 
 -- what is wanted behind a keyword that begins a statement
@@ -54,7 +59,7 @@ in_def k = None
 
 -- what is wanted behind a keyword that begins a declaration of cowns, a def or main
 abbrev pub in_declaration : Keyword → Option (List Wanted)
-in_declaration keywords.Cown = Some (Name ∷ Size ∷ Assign ∷ Initial ∷ Semicolon ∷ Cowns ∷ [])
+in_declaration keywords.Cown = Some (CownName ∷ Assign ∷ Initial ∷ Semicolon ∷ Cowns ∷ [])
 in_declaration k = in_def k
 
 -- what is wanted behind `else`
@@ -87,15 +92,19 @@ behind_minus Initial = Some (Number ∷ [])
 behind_minus Args = Some (Expr ∷ MoreArgs ∷ [])
 behind_minus Expr = Some (Expr ∷ [])
 behind_minus Sum = Some (Sum ∷ [])
+behind_minus NextArg = Some (Expr ∷ [])
 behind_minus w = behind_operator w
 
+-- what is wanted behind a `(`: what it holds, and its `)`, where one may stand
 abbrev pub behind_open : Wanted → Option (List Wanted)
 behind_open Open = Some []
 behind_open Args = Some (Expr ∷ Close ∷ InExpr ∷ MoreArgs ∷ [])
 behind_open Expr = Some (Expr ∷ Close ∷ InExpr ∷ [])
 behind_open Sum = Some (Expr ∷ Close ∷ InSum ∷ [])
+behind_open NextArg = Some (Expr ∷ Close ∷ InExpr ∷ [])
 behind_open w = None
 
+-- behind a `)`: it ends a list, or is what was wanted
 abbrev pub behind_close : Wanted → Option (List Wanted)
 behind_close Close = Some []
 behind_close Held = Some []
@@ -104,6 +113,7 @@ behind_close Refs = Some []
 behind_close MoreRefs = Some []
 behind_close w = None
 
+-- behind a `;`
 abbrev pub behind_semicolon : Wanted → Option (List Wanted)
 behind_semicolon Semicolon = Some []
 behind_semicolon Params = Some []
@@ -112,30 +122,36 @@ behind_semicolon Args = Some []
 behind_semicolon MoreArgs = Some []
 behind_semicolon w = None
 
+-- behind a `,`: the list's next
 abbrev pub behind_comma : Wanted → Option (List Wanted)
-behind_comma MoreParams = Some (Name ∷ MoreParams ∷ [])
-behind_comma MoreHeld = Some (Name ∷ MoreHeld ∷ [])
-behind_comma MoreArgs = Some (Expr ∷ MoreArgs ∷ [])
-behind_comma MoreRefs = Some (Name ∷ Index ∷ MoreRefs ∷ [])
+behind_comma MoreParams = Some (NextName ∷ MoreParams ∷ [])
+behind_comma MoreHeld = Some (NextName ∷ MoreHeld ∷ [])
+behind_comma MoreArgs = Some (NextArg ∷ MoreArgs ∷ [])
+behind_comma MoreRefs = Some (NextRef ∷ MoreRefs ∷ [])
 behind_comma w = None
 
+-- behind a `[`: a size, or an index, and its `]`
 abbrev pub behind_open_index : Wanted → Option (List Wanted)
 behind_open_index Size = Some (Members ∷ CloseIndex ∷ [])
 behind_open_index Index = Some (Expr ∷ CloseIndex ∷ [])
 behind_open_index w = None
 
+-- behind a `]`
 abbrev pub behind_close_index : Wanted → Option (List Wanted)
 behind_close_index CloseIndex = Some []
 behind_close_index w = None
 
+-- behind a `{`
 abbrev pub behind_open_block : Wanted → Option (List Wanted)
 behind_open_block OpenBlock = Some []
 behind_open_block w = None
 
+-- behind a `}`: it ends the statements of a block
 abbrev pub behind_close_block : Wanted → Option (List Wanted)
 behind_close_block Stmts = Some []
 behind_close_block w = None
 
+-- behind a `=`
 abbrev pub behind_assign : Wanted → Option (List Wanted)
 behind_assign Assign = Some []
 behind_assign w = None

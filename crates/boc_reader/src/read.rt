@@ -48,8 +48,8 @@ const NO_MEMORY: ReadFault = ReadFault {
 /// The program that a text spells. A text that is too long is refused for that. Any other goes
 /// through three passes, for its tokens, its shape and its names: the first pass that finds a fault
 /// tells the first one in the text. The place and its line are those of the fault, of the first byte too many, or 0 for want of memory.
-/// Of a fault among the tokens, of a token or an end that the grammar doesn't allow, and of a wrong name it is proved that it is the first; and where there
-/// are too many of something, that a tree begins with the tokens up to the one that is told, and none within the limits.
+/// It is proved to be the first one of its pass: among the tokens, of the shape, where it is the first token or the end that the grammar doesn't allow, or the
+/// first token with which a limit is passed, or among the names.
 pub fn read_program(alloc: Global, text: &[u8]) -> Result<Program, ReadFault>
     ensures { MatchResult result (Spells text.now) (λ f. IsRefusalOf f text.now) }
 {
@@ -148,14 +148,14 @@ fn no_shape(
     requires short { length text.now ≤ MOST_TEXT }
     requires has_tokens { tokens_of_text text.now ≡ Some (tokens_of tokens.now) }
     requires placed { ArePlaced text.now tokens.now }
+    requires reached { AreReached text.now [] tokens.now }
     requires none { Refusal fault (NoShape (tokens_of tokens.now)) }
     ensures { IsRefusalOf result text.now }
 {
-    let (wrong, at) = match fault {
-        Fault::Memory => return NO_MEMORY,
-        Fault::At(wrong, at) => (wrong, at),
-    };
-    match first_fault(alloc, text, tokens, wrong, at) {
+    if let Fault::Memory = fault {
+        return NO_MEMORY;
+    }
+    match first_fault(alloc, text, tokens) {
         Ok((wrong, at)) => shape_at(text, wrong, at),
         Err(AllocError) => NO_MEMORY,
     }
@@ -223,12 +223,14 @@ fn place_of_name(tokens: &[Placed<'_>], before: usize) -> usize
 }
 
 /// A text of which a fault is told, but for want of memory, spells no program, a text spells one program at most, and a text without tokens goes wrong
-/// first in one way and at one place, as does one whose names can't be resolved. The shape of tokens goes wrong at one place at most, and nowhere where they
-/// are those of a tree.
+/// first in one way and at one place, as does one whose tokens have no shape, and one whose names can't be resolved. The shape of tokens goes wrong at one
+/// place at most, and nowhere where they are those of a tree.
 pub fn refused_is_none()
     ensures none { (kind : ReadFaultKind) (text : List ℕ) (p : Program) → kind ≢ ReadFaultKind.Memory → SaysOf kind text → Spells text p → ⊥ }
     ensures one { (text : List ℕ) (p q : Program) → Spells text p → Spells text q → plain_program p ≡ plain_program q }
     ensures first { (fault other : TokenFault) → (text : List ℕ) → (at place : ℕ) → GoesWrong fault text at → GoesWrong other text place
+        → (fault ≡ other) × (at ≡ place) }
+    ensures first_shape { (fault other : ShapeFault) → (text : List ℕ) → (at place : ℕ) → ShapeFaultStandsAt fault text at → ShapeFaultStandsAt other text place
         → (fault ≡ other) × (at ≡ place) }
     ensures shape { (tokens : List Token) (before behind : ℕ) → ShapeGoesWrong tokens before → ShapeGoesWrong tokens behind → before ≡ behind }
     ensures right { (tokens : List Token) (tree : the.Tree) (before : ℕ) → HasShape tokens tree → ShapeGoesWrong tokens before → ⊥ }

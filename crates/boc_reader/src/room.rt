@@ -1,14 +1,14 @@
 // How much more may stand in a text, until a limit is passed.
 
 ghost use Rattle.std.specs.Prelude.{◌≡◌};
-ghost use Rattle.boc_reader.specs.Placed.{token_of};
+ghost use Rattle.boc_reader.specs.Placed.{token_of, tokens_of};
 ghost use Rattle.boc_reader.specs.Room.{room_of_text, with_body, take_cowns, take_def, take_node, take_listed, take_node_listed, left_in_defs};
-ghost use Rattle.boc_reader.specs.Room.{left_in_cowns, left_in_size, left_in_stmts, left_in_names, left_in_refs, left_in_args, left_in_list, left_in_nodes};
+ghost use Rattle.boc_reader.specs.Room.{left_in_cowns, left_in_cown, left_in_size, left_in_stmts, left_in_names, left_in_refs, left_in_args, left_in_list};
 ghost use Rattle.boc_reader.specs.Room.{left_behind, with_list, without_list};
 
 use crate::parse::MOST_LISTED;
 use crate::terminal::{Keyword, Sign};
-use crate::token::Token;
+use crate::token::{Placed, Token};
 use crate::wanted::Wanted;
 use boc_program::limits::{MOST_COWNS, MOST_DEFS, MOST_NODES};
 
@@ -34,9 +34,14 @@ impl Room {
         }
     }
 
-    /// What is left behind a token which is what was wanted, or nothing where it passes a limit.
-    pub(crate) fn left_behind(self, token: Token<'_>, wanted: Wanted) -> Option<Room>
-        ensures { result ≡ left_behind (token_of token.entry) wanted self }
+    /// What is left behind a token which is what was wanted, in front of these tokens, or nothing where it passes a limit.
+    pub(crate) fn left_behind(
+        self,
+        token: Token<'_>,
+        after: &[Placed<'_>],
+        wanted: Wanted,
+    ) -> Option<Room>
+        ensures { result ≡ left_behind (token_of token.entry) (tokens_of after.now) wanted self }
     {
         match wanted {
             Wanted::Cowns => self.left_in_cowns(token),
@@ -46,8 +51,12 @@ impl Room {
             Wanted::Params | Wanted::Held => self.left_in_names(token),
             Wanted::Args => self.left_in_args(token),
             Wanted::Refs => self.left_in_refs(token),
-            Wanted::MoreParams | Wanted::MoreHeld | Wanted::MoreArgs => self.left_in_list(token),
-            Wanted::MoreRefs => self.left_in_nodes(token),
+            Wanted::MoreParams | Wanted::MoreHeld | Wanted::MoreArgs | Wanted::MoreRefs => {
+                self.left_in_list(token)
+            }
+            Wanted::CownName => self.left_in_cown(after),
+            Wanted::NextName => self.take_listed(),
+            Wanted::NextArg | Wanted::NextRef => self.take_node_listed(),
             Wanted::Expr | Wanted::InExpr | Wanted::Sum | Wanted::InSum => self.take_node(),
             _ => Some(self),
         }
@@ -57,7 +66,7 @@ impl Room {
         ensures { result ≡ left_in_cowns (token_of token.entry) self }
     {
         match token {
-            Token::Keyword(Keyword::Cown) => self.take_cowns(1),
+            Token::Keyword(Keyword::Cown) => Some(self),
             _ => self.left_in_defs(token),
         }
     }
@@ -71,12 +80,22 @@ impl Room {
         }
     }
 
-    // Behind the size of an array, of which one cown is counted already.
+    // Behind the name of a cown, in front of these tokens: it is a cown more, but that of an array, whose size tells how many there are.
+    fn left_in_cown(self, after: &[Placed<'_>]) -> Option<Room>
+        ensures { result ≡ left_in_cown (tokens_of after.now) self }
+    {
+        match after.first() {
+            Some(next) if matches!(next.token, Token::Sign(Sign::OpenIndex)) => Some(self),
+            _ => self.take_cowns(1),
+        }
+    }
+
+    // Behind the size of an array.
     fn left_in_size(self, token: Token<'_>) -> Option<Room>
         ensures { result ≡ left_in_size (token_of token.entry) self }
     {
         match token {
-            Token::Number(n) => self.take_cowns(n.value.saturating_sub(1)),
+            Token::Number(n) => self.take_cowns(n.value),
             _ => Some(self),
         }
     }
@@ -121,16 +140,7 @@ impl Room {
         ensures { result ≡ left_in_list (token_of token.entry) self }
     {
         match token {
-            Token::Sign(Sign::Comma) => self.take_listed(),
-            _ => Some(self.without_list()),
-        }
-    }
-
-    fn left_in_nodes(self, token: Token<'_>) -> Option<Room>
-        ensures { result ≡ left_in_nodes (token_of token.entry) self }
-    {
-        match token {
-            Token::Sign(Sign::Comma) => self.take_node_listed(),
+            Token::Sign(Sign::Comma) => Some(self),
             _ => Some(self.without_list()),
         }
     }

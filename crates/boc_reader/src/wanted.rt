@@ -8,9 +8,9 @@ ghost use Rattle.boc_reader.specs.Wanted.{behind_operator, behind_comparison, be
 ghost use Rattle.boc_reader.specs.Wanted.{behind_open_index, behind_close_index, behind_semicolon, behind_comma, may_be_left_out};
 
 use self::Wanted::{
-    Args, Assign, Close, CloseIndex, Cowns, Defs, Else, Expr, Held, InExpr, InSum, Index, Initial,
-    Members, MoreArgs, MoreHeld, MoreParams, MoreRefs, Name, Number, Open, OpenBlock, Params, Refs,
-    Semicolon, Size, Stmts, Sum,
+    Args, Assign, Close, CloseIndex, CownName, Cowns, Defs, Else, Expr, Held, InExpr, InSum, Index,
+    Initial, Members, MoreArgs, MoreHeld, MoreParams, MoreRefs, Name, NextArg, NextName, NextRef,
+    Number, Open, OpenBlock, Params, Refs, Semicolon, Size, Stmts, Sum,
 };
 use crate::natural::Natural;
 use crate::terminal::{Keyword, Sign};
@@ -66,6 +66,14 @@ pub(crate) enum Wanted {
     Sum,
     /// Behind an operand of the right side of a comparison, an operator and what follows it, or nothing.
     InSum,
+    /// The name of a cown, and behind it the size of an array, or nothing.
+    CownName,
+    /// A name behind a comma.
+    NextName,
+    /// An argument behind a comma.
+    NextArg,
+    /// A reference behind a comma.
+    NextRef,
 }
 
 /// What is wanted behind a token, in place of what was wanted where it stands; nothing where it isn't what was wanted.
@@ -84,13 +92,15 @@ fn behind_name(wanted: Wanted) -> Option<&'static [Wanted]>
     ensures { option_map (λ all. all.now) result ≡ behind_name wanted }
 {
     match wanted {
-        Name => Some(&[]),
+        Name | NextName => Some(&[]),
+        CownName => Some(&[Size]),
         Params => Some(&[MoreParams]),
         Held => Some(&[MoreHeld]),
         Stmts => Some(&[Assign, Expr, Semicolon, Stmts]),
         Args => Some(&[InExpr, MoreArgs]),
         Refs => Some(&[Index, MoreRefs]),
-        Expr => Some(&[InExpr]),
+        NextRef => Some(&[Index]),
+        Expr | NextArg => Some(&[InExpr]),
         Sum => Some(&[InSum]),
         _ => None,
     }
@@ -103,7 +113,7 @@ fn behind_number(n: Natural, wanted: Wanted) -> Option<&'static [Wanted]>
         Number | Initial => Some(&[]),
         Members if n.value > 0 => Some(&[]),
         Args => Some(&[InExpr, MoreArgs]),
-        Expr => Some(&[InExpr]),
+        Expr | NextArg => Some(&[InExpr]),
         Sum => Some(&[InSum]),
         _ => None,
     }
@@ -125,7 +135,7 @@ fn in_declaration(keyword: Keyword) -> Option<&'static [Wanted]>
     ensures { option_map (λ all. all.now) result ≡ in_declaration keyword }
 {
     match keyword {
-        Keyword::Cown => Some(&[Name, Size, Assign, Initial, Semicolon, Cowns]),
+        Keyword::Cown => Some(&[CownName, Assign, Initial, Semicolon, Cowns]),
         _ => in_def(keyword),
     }
 }
@@ -207,7 +217,7 @@ fn behind_minus(wanted: Wanted) -> Option<&'static [Wanted]>
     match wanted {
         Initial => Some(&[Number]),
         Args => Some(&[Expr, MoreArgs]),
-        Expr => Some(&[Expr]),
+        Expr | NextArg => Some(&[Expr]),
         Sum => Some(&[Sum]),
         _ => behind_operator(wanted),
     }
@@ -219,7 +229,7 @@ fn behind_open(wanted: Wanted) -> Option<&'static [Wanted]>
     match wanted {
         Open => Some(&[]),
         Args => Some(&[Expr, Close, InExpr, MoreArgs]),
-        Expr => Some(&[Expr, Close, InExpr]),
+        Expr | NextArg => Some(&[Expr, Close, InExpr]),
         Sum => Some(&[Expr, Close, InSum]),
         _ => None,
     }
@@ -284,10 +294,10 @@ fn behind_comma(wanted: Wanted) -> Option<&'static [Wanted]>
     ensures { option_map (λ all. all.now) result ≡ behind_comma wanted }
 {
     match wanted {
-        MoreParams => Some(&[Name, MoreParams]),
-        MoreHeld => Some(&[Name, MoreHeld]),
-        MoreArgs => Some(&[Expr, MoreArgs]),
-        MoreRefs => Some(&[Name, Index, MoreRefs]),
+        MoreParams => Some(&[NextName, MoreParams]),
+        MoreHeld => Some(&[NextName, MoreHeld]),
+        MoreArgs => Some(&[NextArg, MoreArgs]),
+        MoreRefs => Some(&[NextRef, MoreRefs]),
         _ => None,
     }
 }

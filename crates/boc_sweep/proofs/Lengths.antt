@@ -19,7 +19,8 @@ use Rattle.boc_sweep.proofs.Topping.{among_next, among_before, among_last}
 
 -- the lists after a stretch was put behind the one at a place
 pub put_behind : (lists : List (Vec Stretch Global)) (place : ℕ) (new d : Vec Stretch Global) (x : Stretch) → place < length lists
-    → new.items ≡ (get_or lists place d).items ++ x ∷ [] → lists_of (slice_set lists place new) ≡ slice_set (lists_of lists) place (list_at lists place ++ x ∷ [])
+    → new.items ≡ (get_or lists place d).items ++ x ∷ []
+    → lists_of (slice_set lists place new) ≡ slice_set (lists_of lists) place (list_at lists place ++ x ∷ [])
 put_behind lists place new d x there is =
     map-set (λ (v : Vec Stretch Global). v.items) lists place new
     ∙ ap (slice_set (lists_of lists) place)
@@ -66,8 +67,9 @@ empty_at (suc count) (suc k) = empty_at count k
 -- no stretch was put anywhere
 pub by_length_none : (count : ℕ) (lists : List (List Stretch)) → lists ≡ replicate count [] → AreByLength [] (λ k. slice_index_or lists k [])
 by_length_none count lists are k =
+    let empty : slice_index_or lists k [] ≡ [] = ap (λ (ls : List (List Stretch)). slice_index_or ls k []) are ∙ empty_at count k in
     let none : (r : Stretch) → Contains (slice_index_or lists k []) r → ⊥ =
-    λ r c. absurd (omega (arith, (subst (λ (xs : List Stretch). Contains xs r) (ap (λ (ls : List (List Stretch)). slice_index_or ls k []) are ∙ empty_at count k) c).1)) in
+    λ r c. absurd (omega (arith, (subst (λ (xs : List Stretch). Contains xs r) empty c).1)) in
     record {
       sound = λ r c. absurd (none r c);
       long = λ r c. absurd (none r c);
@@ -89,8 +91,8 @@ by_length_skip stretches n lists x h is short c k = record {
 }
 
 -- a stretch is put into the list of its length
-module _ (stretches : List Stretch) (n : ℕ) (lists new : List (List Stretch)) (x : Stretch) (place : ℕ) (h : n < length stretches) (is : x ≡ get_or stretches n x)
-    (there : place < length lists) (puts : new ≡ slice_set lists place (slice_index_or lists place [] ++ x ∷ []))
+module _ (stretches : List Stretch) (n : ℕ) (lists new : List (List Stretch)) (x : Stretch) (place : ℕ) (h : n < length stretches)
+    (is : x ≡ get_or stretches n x) (there : place < length lists) (puts : new ≡ slice_set lists place (slice_index_or lists place [] ++ x ∷ []))
     (long : x.low + 2 ^ place ≤ x.high) (short : x.high < x.low + (2 ^ place + 2 ^ place))
     (c : AreByLength (take n stretches) (λ k. slice_index_or lists k [])) where
   here : slice_index_or new place [] ≡ slice_index_or lists place [] ++ x ∷ []

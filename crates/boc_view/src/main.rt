@@ -2,15 +2,20 @@
 #![tactic(auto)]
 
 mod answer;
+mod explaining;
 mod wanted;
 mod words;
 
 use crate::answer::pictured;
+use crate::explaining::explained;
 use crate::wanted::Wanted;
 use crate::words::{Asked, read_words};
 use boc_commands::{Fault, RunFile, Want, WordsFault, not_text};
-use boc_text::{Bytes, Counted, put_out};
+use boc_explain::{Input, Kept};
+use boc_text::{Counted, put_out};
 use std::alloc::AllocError;
+use std::fs::File;
+use std::io::Read;
 use std::process::ExitCode;
 use std::sync::Wait;
 use std::thread::Threads;
@@ -25,27 +30,27 @@ const COLUMNS: usize = 100;
 // Why nothing is drawn.
 #[derive(Drop)]
 enum Stop {
-    // The words, the input or the run were refused, or a device failed.
-    Fault(Fault),
+    // The words, the input or the run were refused, or a device failed. Lines may follow that explain it.
+    Fault { fault: Fault, more: Option<String> },
     // The input's file, or the one beside the input, can't be read.
     File { path: String, error: io::Error },
 }
 
 impl From<Fault> for Stop {
     fn from(fault: Fault) -> Stop {
-        Stop::Fault(fault)
+        Stop::Fault { fault, more: None }
     }
 }
 
 impl From<WordsFault> for Stop {
     fn from(fault: WordsFault) -> Stop {
-        Stop::Fault(Fault::from(fault))
+        Stop::from(Fault::from(fault))
     }
 }
 
 impl From<AllocError> for Stop {
     fn from(error: AllocError) -> Stop {
-        Stop::Fault(Fault::from(error))
+        Stop::from(Fault::from(error))
     }
 }
 
@@ -53,7 +58,7 @@ impl Stop {
     // The status of the program.
     fn status(&self) -> u8 {
         match self {
-            Stop::Fault(fault) => fault.status(),
+            Stop::Fault { fault, .. } => fault.status(),
             Stop::File { .. } => NO_FILE,
         }
     }
@@ -76,25 +81,46 @@ fn run(rt: HostRuntime, threads: &(impl Threads + Wait + Sync)) -> Result<(), St
     let text = match read_words(rt.alloc(), &words)? {
         Asked::Told(text) => text,
         Asked::Picture(wanted) => {
-            let beside = file_beside(rt, &wanted)?;
-            let width = columns(rt, &wanted);
             match &wanted.input {
                 Some(path) => {
-                    let mut input = Bytes::new(bytes_of(rt, path.as_str())?);
-                    pictured(threads, rt.alloc(), &wanted, beside, width, &mut input)?
+                    let file = File::open(&rt, path.as_str()).or_else(|error| file_stop(
+                        rt, path, error,
+                    ))?;
+                    drawn(rt, threads, &wanted, file)?
                 }
-                None => {
-                    let mut input = Counted::new(rt.stdin());
-                    pictured(threads, rt.alloc(), &wanted, beside, width, &mut input)?
-                }
+                None => drawn(rt, threads, &wanted, rt.stdin())?,
             }
         }
     };
     let mut output = Counted::new(rt.stdout());
     match put_out(&mut output, text.as_bytes()) {
         Ok(()) => Ok(()),
-        Err(stopped) => Err(Stop::Fault(Fault::from(stopped))),
+        Err(stopped) => Err(Stop::from(Fault::from(stopped))),
     }
+}
+
+// The picture of the run that an input tells of.
+fn drawn<T: Read + Drop>(
+    rt: HostRuntime,
+    threads: &(impl Threads + Wait + Sync),
+    wanted: &Wanted,
+    input: T,
+) -> Result<String, Stop> {
+    let bytes = file_beside(rt, wanted)?;
+    let mut beside = Kept::new(rt.alloc());
+    beside.keep(&bytes);
+    let width = columns(rt, wanted);
+    let mut input = Input::new(rt.alloc(), input);
+    let fault = match pictured(threads, rt.alloc(), wanted, bytes, width, &mut input) {
+        Ok(text) => return Ok(text),
+        Err(fault) => fault,
+    };
+    let (input, error) = input.into_parts();
+    if let (Fault::Means(Want::Source), Some(path), Some(error)) = (&fault, &wanted.input, error) {
+        return file_stop(rt, path, error);
+    }
+    let more = explained(rt.alloc(), &fault, wanted, &input, &beside).ok();
+    Err(Stop::Fault { fault, more })
 }
 
 // How many columns a text has: as many as the words say, or as the terminal has, which is told by COLUMNS.
@@ -117,22 +143,19 @@ fn file_beside(rt: HostRuntime, wanted: &Wanted) -> Result<Vec<u8>, Stop> {
         return Ok(Vec::new(rt.alloc()));
     };
     match file {
-        RunFile::Record(path) | RunFile::Names(path) => bytes_of(rt, path.as_str()),
+        RunFile::Record(path) | RunFile::Names(path) => {
+            fs::read(&rt, path.as_str()).or_else(|error| file_stop(rt, path, error))
+        }
     }
 }
 
-// The bytes of a file.
-fn bytes_of(rt: HostRuntime, path: &str) -> Result<Vec<u8>, Stop> {
-    match fs::read(&rt, path) {
-        Ok(bytes) => Ok(bytes),
-        Err(error) if error.kind() == io::ErrorKind::OutOfMemory => {
-            Err(Stop::Fault(Fault::Means(Want::Memory)))
-        }
-        Err(error) => {
-            let path = String::from_str(rt.alloc(), path)?;
-            Err(Stop::File { path, error })
-        }
+// Why a file with this path can't be read.
+fn file_stop<T>(rt: HostRuntime, path: &str, error: io::Error) -> Result<T, Stop> {
+    if error.kind() == io::ErrorKind::OutOfMemory {
+        return Err(Stop::from(Fault::Means(Want::Memory)));
     }
+    let path = String::from_str(rt.alloc(), path)?;
+    Err(Stop::File { path, error })
 }
 
 // The words of the command line, the program's own name first.
@@ -151,12 +174,19 @@ fn words_given(rt: HostRuntime) -> Result<Vec<String>, WordsFault> {
 
 // Writes to standard error why nothing was drawn. There is nobody to tell that this failed.
 fn tell(rt: HostRuntime, stop: &Stop) {
-    let _ = match stop {
-        Stop::File { path, error } => eprintln!(rt; "boc-view: {path}: {error}"),
-        Stop::Fault(fault) => match fault.own_line() {
-            Some(line) => eprintln!(rt; "{line}"),
-            // The parser's text ends its own lines.
-            None => eprint!(rt; "{fault}"),
-        },
-    };
+    match stop {
+        Stop::File { path, error } => {
+            let _ = eprintln!(rt; "boc-view: {path}: {error}");
+        }
+        Stop::Fault { fault, more } => {
+            let _ = match fault.own_line() {
+                Some(line) => eprintln!(rt; "{line}"),
+                // The parser's text ends its own lines.
+                None => eprint!(rt; "{fault}"),
+            };
+            if let Some(more) = more {
+                let _ = eprint!(rt; "{more}");
+            }
+        }
+    }
 }

@@ -19,6 +19,19 @@ pub(crate) enum Picture {
     Trace,
 }
 
+impl Picture {
+    /// The program and the command that draws it.
+    pub(crate) fn command(self) -> &'static str {
+        match self {
+            Picture::Text { .. } => "boc-view text",
+            Picture::Plan => "boc-view plan",
+            Picture::Curve => "boc-view curve",
+            Picture::Page => "boc-view page",
+            Picture::Trace => "boc-view trace",
+        }
+    }
+}
+
 /// What is asked for: a picture of a run.
 #[derive(Drop)]
 pub(crate) struct Wanted {

@@ -221,6 +221,19 @@ load_total : (rows : List Row) (c n : ℕ) → n ≤ length rows → load_of (ta
 load_total rows c zero h = refl
 load_total rows c (suc n) h = omega (arith, load_suc rows n c (omega (arith, h)), load_total rows c n (omega (arith, h)))
 
+-- nothing adds up to nothing
+total_none : (f : ℕ → ℕ) (n : ℕ) → ((k : ℕ) → k < n → f k ≡ 0) → total f n ≡ 0
+total_none f zero h = refl
+total_none f (suc n) h = omega (arith, total_none f n (λ k l. h k (omega (arith, l))), h n (omega arith))
+
+-- what is nothing up to a tick, and one at most from there on
+total_from : (f : ℕ → ℕ) (from last : ℕ) → from ≤ last → ((t : ℕ) → t < from → f t ≡ 0) → ((t : ℕ) → f t ≤ 1) → from + total f last ≤ last
+total_from f from zero low none few = omega (arith, low)
+total_from f from (suc last) low none few = elim (cases_eq from (suc last)) [
+  | inl e ↦ omega (arith, e, total_none f (suc last) (λ k l. none k (omega (arith, l, e))))
+  | inr ne ↦ omega (arith, total_from f from last (omega (arith, low, ne)) none few, few last)
+]
+
 module _ (rows : List Row) (hr : IsRows rows) (plan : List ℕ) (last cown : ℕ) (apart : KeepsApart rows plan) (end : IsEnd rows plan last) where
   -- 1 where row r, which wrote the cown, is under way at tick t
   abbrev on : ℕ → ℕ → ℕ
@@ -288,3 +301,23 @@ module _ (rows : List Row) (hr : IsRows rows) (plan : List ℕ) (last cown : ℕ
       let few : total (λ t. total (λ r. on r t) (length rows)) last ≤ last * 1 =
       total-most (λ t. total (λ r. on r t) (length rows)) 1 last (λ t h. one t) in
       omega (arith, all, rows_first, swap, few)
+
+  -- where no row that wrote the cown starts before a tick, none is under way before it
+  none_on : (from : ℕ) → ((r : ℕ) → r < length rows → Contains (written_of rows r) cown → from ≤ start_of plan r) → (t : ℕ) → t < from
+      → total (λ r. on r t) (length rows) ≡ 0
+  none_on from late t early = total_none (λ r. on r t) (length rows) (λ r there. elim (on_cases r t there) [
+    | inl y ↦ absurd (omega (arith, late r there y.1.writes, y.1.begun, early))
+    | inr z ↦ z
+  ])
+
+  -- and so they are done no sooner than their ticks after it
+  pub load_ends_from : (from : ℕ) → from ≤ last → ((r : ℕ) → r < length rows → Contains (written_of rows r) cown → from ≤ start_of plan r)
+      → from + load_of rows cown ≤ last
+  load_ends_from from low late =
+      let all : load_of rows cown ≡ total (own_load rows cown) (length rows) =
+      sym (ap (λ (l : List Row). load_of l cown) (take_all (length rows) rows (omega arith))) ∙ load_total rows cown (length rows) (omega arith) in
+      let rows_first : total (λ r. total (λ t. on r t) last) (length rows) ≡ total (own_load rows cown) (length rows) =
+      total-same (λ r. total (λ t. on r t) last) (own_load rows cown) (length rows) each in
+      let swap : total (λ r. total (λ t. on r t) last) (length rows) ≡ total (λ t. total (λ r. on r t) (length rows)) last =
+      total-swap (λ r t. on r t) (length rows) last in
+      omega (arith, all, rows_first, swap, total_from (λ t. total (λ r. on r t) (length rows)) from last low (none_on from late) one)

@@ -10,7 +10,7 @@ use Rattle.boc_runs.specs.declared.rows.Row.{Row}
 use Rattle.boc_runs.specs.Rows.{IsRows, parent_of, offset_of, ticks_of, cowns_of}
 use Rattle.boc_plans.specs.Plans.{start_of, end_of, IsChild, Ordered, Keeps, IsEnd}
 use Rattle.boc_plans.specs.Greedy.{IsSpan}
-use Rattle.boc_why.specs.Least.{bare_row, without_cowns, KeepsSpawns}
+use Rattle.boc_why.specs.Least.{bare_row, without_cowns, IsSpawnPlan, KeepsSpawns}
 
 -- ---- the rows without cowns
 
@@ -194,9 +194,8 @@ module _ (rows : List Row) (hr : IsRows rows) (starts : List ℕ) (n latest : �
         ))
   ]
 
-  pub spawned_span : IsSpan (without_cowns rows) latest
-  spawned_span = record {
-    plan = starts;
+  pub spawned_plan : IsSpawnPlan rows starts latest
+  spawned_plan = record {
     earliest = record {
       keeps = keeps;
       least = λ other kept b there. least_below other kept (suc b) b (omega arith) (omega (arith, there, length-bare rows));
@@ -209,3 +208,7 @@ module _ (rows : List Row) (hr : IsRows rows) (starts : List ℕ) (n latest : �
       ];
     };
   }
+
+-- the end of that plan is the span of the rows without cowns
+pub plan_span : (rows : List Row) (plan : List ℕ) (span : ℕ) → IsSpawnPlan rows plan span → IsSpan (without_cowns rows) span
+plan_span rows plan span is = record { plan = plan; earliest = is.earliest; ends = is.ends }

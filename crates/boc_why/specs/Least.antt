@@ -5,7 +5,7 @@ use Rattle.std.specs.Option.{option_map_or}
 use Rattle.boc_program.specs.declared.limits.TheConstants.{MOST_COWNS}
 use Rattle.boc_runs.specs.declared.rows.Row.{Row}
 use Rattle.boc_runs.specs.Rows.{offset_of}
-use Rattle.boc_plans.specs.Plans.{start_of, end_of, IsChild, ConflictOn}
+use Rattle.boc_plans.specs.Plans.{start_of, end_of, IsChild, ConflictOn, IsEarliest, IsEnd}
 use Rattle.boc_why.specs.declared.least.Busiest.{Busiest}
 use Rattle.boc_why.specs.declared.least.Least.{Least}
 
@@ -20,6 +20,11 @@ without_cowns rows = map bare_row rows
 -- whether a row wrote a cown
 abbrev pub wrote : ℕ → Row → Bool
 wrote cown x = list_any (nat_eq cown) x.written.items
+
+-- the earliest plan that the rows would have if none had a cown, and its end
+pub record IsSpawnPlan (rows : List Row) (plan : List ℕ) (span : ℕ) : Type 0 where
+  pub earliest : IsEarliest (without_cowns rows) plan
+  pub ends : IsEnd (without_cowns rows) plan span
 
 -- the ticks of the rows that wrote this cown, of which no two can be under way at once. (These are rows as plans see them: where cowns are exclusive,
 -- each row wrote all it has.)

@@ -3,7 +3,7 @@
 ghost use Rattle.std.specs.Prelude.{◌≡◌, ℕ, ◌<◌, ◌≤◌, ◌+◌, List, length, take, IfOk, slice_index};
 ghost use Rattle.boc_runs.specs.Rows.{IsRows};
 ghost use Rattle.boc_plans.specs.Greedy.{IsSpan};
-ghost use Rattle.boc_why.specs.Least.{AreLoads, IsBusiestOf, IsMost, IsMostOf, tick_of, without_cowns};
+ghost use Rattle.boc_why.specs.Least.{AreLoads, IsBusiestOf, IsMost, IsMostOf, IsSpawnPlan, tick_of, without_cowns};
 
 use boc_order::spawned_at;
 use boc_plans::sharing::SeenRows;
@@ -41,10 +41,19 @@ impl Least {
     }
 }
 
-// The span that the rows would have if none had a cown. `AllocError` says that memory was refused.
-fn spawn_span(alloc: Global, rows: &SeenRows) -> Result<u64, AllocError>
+/// The earliest plan that some rows would have if none had a cown. All times are ticks.
+#[derive(Drop, Debug)]
+pub struct SpawnPlan {
+    /// The start of each row.
+    pub starts: Vec<u64>,
+    /// The end of the plan.
+    pub span: u64,
+}
+
+/// The earliest plan that the rows would have if none had a cown: only their spawns order them. `AllocError` says that memory was refused.
+pub fn spawn_plan(alloc: Global, rows: &SeenRows) -> Result<SpawnPlan, AllocError>
     requires { IsRows rows.now }
-    ensures { IfOk result (IsSpan (without_cowns rows.now)) }
+    ensures { IfOk result (λ plan. IsSpawnPlan rows.now plan.starts.items plan.span) }
 {
     let mut starts = Vec::with_capacity(alloc, rows.len())?;
     let mut latest = 0;
@@ -53,7 +62,10 @@ fn spawn_span(alloc: Global, rows: &SeenRows) -> Result<u64, AllocError>
         starts.push_reserved(start);
         latest = (start + u64::from(rows.ticks(row))).max(latest);
     }
-    Ok(latest)
+    Ok(SpawnPlan {
+        starts,
+        span: latest,
+    })
 }
 
 // Adds the ticks of the next row to the load of each cown that it writes.
@@ -122,8 +134,11 @@ pub fn least_end(alloc: Global, rows: &SeenRows, count: usize) -> Result<Least, 
     requires few { count ≤ MOST_COWNS }
     ensures { IfOk result (λ least. IsSpan (without_cowns rows.now) least.spawns × IsBusiestOf rows.now count least.busiest) }
 {
-    let spawns = spawn_span(alloc, rows)?;
+    let plan = spawn_plan(alloc, rows)?;
     let loads = loads_of(alloc, rows)?;
     let busiest = busiest_of(&loads, count);
-    Ok(Least { spawns, busiest })
+    Ok(Least {
+        spawns: plan.span,
+        busiest,
+    })
 }

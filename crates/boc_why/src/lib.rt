@@ -11,7 +11,7 @@ mod shares;
 mod why;
 
 pub use causes::{Cause, def_edits, spans_with, spawn_early, without_all};
-pub use least::{Busiest, Least, least_end};
+pub use least::{Busiest, Least, SpawnPlan, least_end, spawn_plan};
 pub use links::{Link, firsts, handed, links_of};
 pub use remedies::{Candidate, Placed, Remedy, ranked};
 pub use shares::{Share, defs_of, shares_of};

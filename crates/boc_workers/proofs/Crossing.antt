@@ -19,7 +19,7 @@ use Rattle.boc_dispatch.proofs.live.Live.TheSendSync as live
 use Rattle.boc_workers.specs.contracts.crew.Hall as Hall
 use Rattle.boc_workers.specs.contracts.shared.Shared as Shared
 use Rattle.boc_workers.specs.declared.gate.Gate as gates
-use Rattle.boc_workers.proofs.Sharing.{program_sync}
+use Rattle.boc_workers.proofs.Sharing.{compiled_sync}
 
 place_send : IsSend (Option.the_row Live.the_row)
 place_send = search (sendable, live.the_field_send) depth 20
@@ -29,7 +29,7 @@ table_send = search (sendable, crosses, place_send) depth 20
 
 -- a dispatcher over linked chains
 core_send : (l : NamedLft) → IsSend (Core.the_row l LinkChains.the_row linked.ghosts)
-core_send l = search (sendable, crosses, program_sync, table_send, log.the_send, chains.the_send) depth 80 fits 10000
+core_send l = search (sendable, crosses, compiled_sync, table_send, log.the_send, chains.the_send) depth 80 fits 10000
 
 module _ (a g r : NamedLft) (L G R : RattleType) (gate : gates.Ghosts G.Denot) (ledger : ledgers.Ghosts L.Denot) where
   shared_send : IsSend L → IsSync G → IsSend (Shared.the_row a g L G gate ledger)

@@ -14,6 +14,7 @@ use crate::shared::Shared;
 use crate::waiters::{Call, Waiters};
 use boc_dispatch::{Step, Turn, Worker};
 use boc_program::program::Program;
+use boc_registers::compiled::CompiledProgram;
 use boc_runs::record::Record;
 use std::alloc::Global;
 use std::hint::spin_loop;
@@ -85,7 +86,10 @@ pub(crate) fn run_by<L: Ledger + Send + Sync, G: Gate, R: Threads + Wait + Sync>
     ensures behaviours { IfErr result (λ e. e ≡ faults.Behaviours → CanReachLimit program.now) }
 {
     let (book, rest) = blank.open::<L>();
-    let Ok(shared) = Shared::new(alloc, program, book) else {
+    let Ok(compiled) = CompiledProgram::new(alloc, program) else {
+        return Err(RunFault::Memory);
+    };
+    let Ok(shared) = Shared::new(alloc, &compiled, book) else {
         return Err(RunFault::Memory);
     };
     let hall = Hall {

@@ -14,6 +14,7 @@ use crate::gate::Gate;
 use crate::made::Made;
 use boc_dispatch::{Dispatcher, OpenFault, Refusal, Turn, Worker};
 use boc_program::program::Program;
+use boc_registers::compiled::CompiledProgram;
 use std::alloc::{AllocError, Global};
 use std::marker::PhantomData;
 use std::sync::ledger::{Book, Ledger, Share};
@@ -36,7 +37,7 @@ impl<'a, 'g, L: Ledger, G: Gate> Shared<'a, 'g, L, G> {
     /// that memory was refused.
     pub fn new(
         alloc: Global,
-        program: &'a Program,
+        program: &'a CompiledProgram<'a>,
         book: Book<L>,
     ) -> Result<Shared<'a, 'g, L, G>, AllocError>
         requires { book.total ≡ 0 }

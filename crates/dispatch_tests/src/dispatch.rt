@@ -8,6 +8,7 @@ use boc_program::program::Program;
 use boc_program::short::{Args, Input, Inputs};
 use boc_reader::read_program;
 use boc_record::put_events;
+use boc_registers::compiled::CompiledProgram;
 use std::alloc::Global;
 use std::test::*;
 
@@ -27,10 +28,11 @@ fn transfer(alloc: Global) -> Result<Program, Fail> {
 fn frame_of<'a>(alloc: Global, job: &Job<'a>) -> Result<Frame<'a>, Fail> {
     let args = Args::try_from(job.args.as_slice()).unwrap();
     let inputs = Inputs::try_from(job.inputs.as_slice()).unwrap();
-    if args.len() != job.body.params || inputs.len() != job.body.cown_params {
+    let body = job.body.body();
+    if args.len() != body.params || inputs.len() != body.cown_params {
         return Err("a body is started with what it takes".into());
     }
-    Ok(Frame::new(alloc, job.body, args, inputs)?)
+    Ok(Frame::new(alloc, job.body.duplicate(), args, inputs)?)
 }
 
 // Enqueues the frame's last wish.
@@ -87,7 +89,8 @@ const LINES: &str =
 fn transfer_by_one_worker(rt: HostRuntime) -> Result<(), Fail> {
     let alloc = rt.alloc();
     let program = transfer(alloc)?;
-    let mut core = Dispatcher::new(alloc, &program)?;
+    let compiled = CompiledProgram::new(alloc, &program)?;
+    let mut core = Dispatcher::new(alloc, &compiled)?;
     assert!(rt; !core.is_quiet());
     for _ in 0..4 {
         let Started::Job(job) = core.start() else {
@@ -115,14 +118,16 @@ fn transfer_by_one_worker(rt: HostRuntime) -> Result<(), Fail> {
 // The outcome of the program's body of a kind, of whose wishes none is spawned.
 fn outcome<'a>(
     alloc: Global,
-    program: &'a Program,
+    program: &'a CompiledProgram<'a>,
     kind: usize,
     args: &[i64],
     inputs: &[Input],
 ) -> Result<Outcome<'a>, Fail> {
-    let Some(body) = program.bodies.as_slice().get(kind) else {
+    if kind >= program.program().bodies.as_slice().len() {
         return Err("the body is there".into());
-    };
+    }
+    let compiled = program.body(kind);
+    let body = compiled.body();
     let mut given = Args::new();
     for value in args {
         if !given.is_full() {
@@ -138,7 +143,7 @@ fn outcome<'a>(
     if given.len() != body.params || held.len() != body.cown_params {
         return Err("the body takes these".into());
     }
-    let mut frame = Frame::new(alloc, body, given, held)?;
+    let mut frame = Frame::new(alloc, compiled, given, held)?;
     for _ in 0..100 {
         if matches!(frame.run(), Stop::Ended) {
             break;
@@ -163,7 +168,10 @@ fn refused<'a>(
 }
 
 // A dispatcher that has handed main out, and main.
-fn with_main<'a>(alloc: Global, program: &'a Program) -> Result<(Dispatcher<'a>, Job<'a>), Fail> {
+fn with_main<'a>(
+    alloc: Global,
+    program: &'a CompiledProgram<'a>,
+) -> Result<(Dispatcher<'a>, Job<'a>), Fail> {
     let mut core = Dispatcher::new(alloc, program)?;
     match core.start() {
         Started::Job(job) => Ok((core, job)),
@@ -194,7 +202,8 @@ fn what_is_shown(alloc: Global, core: &Dispatcher<'_>) -> Result<String, Fail> {
 fn outcomes_of_strangers_end_nothing(rt: HostRuntime) -> Result<(), Fail> {
     let alloc = rt.alloc();
     let program = transfer(alloc)?;
-    let (mut core, _) = with_main(alloc, &program)?;
+    let compiled = CompiledProgram::new(alloc, &program)?;
+    let (mut core, _) = with_main(alloc, &compiled)?;
     let held = [Input { cown: 0, value: 10 }];
     let cases: [(u32, usize, &[i64], &[Input], FinishFault, u32); 3] = [
         (1, 0, &[], &[], FinishFault::Stranger, 4),
@@ -203,7 +212,7 @@ fn outcomes_of_strangers_end_nothing(rt: HostRuntime) -> Result<(), Fail> {
     ];
     for (row, kind, args, inputs, fault, ticks) in cases {
         let before = what_is_shown(alloc, &core)?;
-        let outcome = outcome(alloc, &program, kind, args, inputs)?;
+        let outcome = outcome(alloc, &compiled, kind, args, inputs)?;
         assert_eq!(rt; refused(&mut core, row, outcome), Some((fault, ticks)));
         let after = what_is_shown(alloc, &core)?;
         assert_eq!(rt; after.as_str(), before.as_str());
@@ -216,7 +225,8 @@ fn outcomes_of_strangers_end_nothing(rt: HostRuntime) -> Result<(), Fail> {
 fn frames_of_strangers_open_nothing(rt: HostRuntime) -> Result<(), Fail> {
     let alloc = rt.alloc();
     let program = transfer(alloc)?;
-    let (mut core, job) = with_main(alloc, &program)?;
+    let compiled = CompiledProgram::new(alloc, &program)?;
+    let (mut core, job) = with_main(alloc, &compiled)?;
     for (wishes, row, fault) in [
         (0, 0, OpenFault::OutOfTurn),
         (2, 0, OpenFault::OutOfTurn),
@@ -236,7 +246,8 @@ fn frames_of_strangers_open_nothing(rt: HostRuntime) -> Result<(), Fail> {
 fn spent_token_is_unknown(rt: HostRuntime) -> Result<(), Fail> {
     let alloc = rt.alloc();
     let program = transfer(alloc)?;
-    let (mut core, job) = with_main(alloc, &program)?;
+    let compiled = CompiledProgram::new(alloc, &program)?;
+    let (mut core, job) = with_main(alloc, &compiled)?;
     let frame = frame_after(alloc, &job, 1)?;
     let Ok(child) = core.open(&frame, 0) else {
         return Err("the first wish is opened".into());

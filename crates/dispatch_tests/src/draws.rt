@@ -4,6 +4,7 @@ use boc_draws::{Depth, Drawn, Way, draw};
 use boc_program::program::Program;
 use boc_reader::read_program;
 use boc_record::put_events;
+use boc_registers::compiled::CompiledProgram;
 use std::alloc::Global;
 use std::test::*;
 
@@ -26,7 +27,7 @@ fn program(alloc: Global, text: &[u8]) -> Result<Program, Fail> {
 // The run of this seed by so many workers, who are picked in this way.
 fn drawn(
     alloc: Global,
-    program: &Program,
+    program: &CompiledProgram<'_>,
     workers: u32,
     way: Way,
     seed: u64,
@@ -58,8 +59,9 @@ fn of_depth(depth: u32, steps: u64) -> Result<Way, Fail> {
 #[test]
 fn seed_has_one_run(rt: HostRuntime) -> Result<(), Fail> {
     let program = program(rt.alloc(), RACE)?;
-    let one = drawn(rt.alloc(), &program, 4, Way::Uniform, 7)?;
-    let again = drawn(rt.alloc(), &program, 4, Way::Uniform, 7)?;
+    let compiled = CompiledProgram::new(rt.alloc(), &program)?;
+    let one = drawn(rt.alloc(), &compiled, 4, Way::Uniform, 7)?;
+    let again = drawn(rt.alloc(), &compiled, 4, Way::Uniform, 7)?;
     assert_eq!(rt;
         (one.values.as_slice(), one.steps),
         (again.values.as_slice(), again.steps)
@@ -71,10 +73,11 @@ fn seed_has_one_run(rt: HostRuntime) -> Result<(), Fail> {
 #[test]
 fn one_worker_runs_serially(rt: HostRuntime) -> Result<(), Fail> {
     let program = program(rt.alloc(), RACE)?;
-    let first = drawn(rt.alloc(), &program, 1, Way::Uniform, 0)?;
+    let compiled = CompiledProgram::new(rt.alloc(), &program)?;
+    let first = drawn(rt.alloc(), &compiled, 1, Way::Uniform, 0)?;
     let other = drawn(
         rt.alloc(),
-        &program,
+        &compiled,
         1,
         of_depth(16, first.steps)?,
         u64::MAX,

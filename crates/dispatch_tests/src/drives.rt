@@ -3,6 +3,7 @@
 use boc_dispatch::{Dispatcher, drive};
 use boc_program::program::Program;
 use boc_reader::read_program;
+use boc_registers::compiled::CompiledProgram;
 use std::alloc::Global;
 use std::test::*;
 
@@ -37,7 +38,7 @@ fn program(alloc: Global, text: &[u8]) -> Result<Program, Fail> {
 // A drive by so many workers in which each choice has its turn.
 fn driven<'a>(
     alloc: Global,
-    program: &'a Program,
+    program: &'a CompiledProgram<'a>,
     workers: u32,
     choices: &[u16],
 ) -> Result<Dispatcher<'a>, Fail> {
@@ -50,7 +51,8 @@ fn driven<'a>(
 #[test]
 fn run_under_way_has_no_record(rt: HostRuntime) -> Result<(), Fail> {
     let program = program(rt.alloc(), TWO_ORDERS)?;
-    let core = driven(rt.alloc(), &program, 2, &UNDER_WAY)?;
+    let compiled = CompiledProgram::new(rt.alloc(), &program)?;
+    let core = driven(rt.alloc(), &compiled, 2, &UNDER_WAY)?;
     let Err(core) = core.into_record() else {
         return Err("a run under way has no record yet".into());
     };
@@ -64,7 +66,8 @@ fn quiet_run_has_a_record(rt: HostRuntime) -> Result<(), Fail> {
     let mut choices = Vec::new(rt.alloc());
     choices.extend_from_slice(&UNDER_WAY)?;
     choices.extend_from_slice(&TO_THE_END)?;
-    let core = driven(rt.alloc(), &program, 2, &choices)?;
+    let compiled = CompiledProgram::new(rt.alloc(), &program)?;
+    let core = driven(rt.alloc(), &compiled, 2, &choices)?;
     let Ok(record) = core.into_record() else {
         return Err("a quiet dispatcher has a record".into());
     };
@@ -76,7 +79,8 @@ fn quiet_run_has_a_record(rt: HostRuntime) -> Result<(), Fail> {
 fn few_slots_are_held_at_once(rt: HostRuntime) -> Result<(), Fail> {
     let program = program(rt.alloc(), LONG_COUNTDOWN)?;
     let choices = vec![in rt.alloc(); 0; 16_010]?;
-    let core = driven(rt.alloc(), &program, 1, &choices)?;
+    let compiled = CompiledProgram::new(rt.alloc(), &program)?;
+    let core = driven(rt.alloc(), &compiled, 1, &choices)?;
     assert_eq!(rt; (core.is_quiet(), core.steps()), (true, 16_010));
     assert_eq!(rt; core.value(0), Some(2_001_000));
     assert_eq!(rt; core.chains().peak(), 2);

@@ -5,6 +5,7 @@ use boc_eval::{Frame, Stop};
 use boc_program::body::EndStatus;
 use boc_program::short::{Args, Inputs};
 use boc_reader::read_program;
+use boc_registers::compiled::CompiledProgram;
 use std::test::*;
 
 #[test]
@@ -13,9 +14,14 @@ fn stops_at_each_wish(rt: HostRuntime) -> Result<(), Fail> {
     let Ok(program) = read_program(alloc, TRANSFER) else {
         return Err("the text spells a program".into());
     };
-    let main = program.bodies.as_slice().first().ok_or("main is there")?;
+    let compiled = CompiledProgram::new(alloc, &program)?;
+    if program.bodies.as_slice().is_empty() {
+        return Err("main is there".into());
+    }
+    let compiled = compiled.body(0);
+    let main = compiled.body();
     assert_eq!(rt; (main.params, main.cown_params), (0, 0));
-    let mut frame = Frame::new(alloc, main, Args::new(), Inputs::new())?;
+    let mut frame = Frame::new(alloc, compiled, Args::new(), Inputs::new())?;
     assert!(rt; frame.last_wish().is_none());
     let wishes: [(u32, usize, &[i64], &[u32]); 3] = [
         (2, 1, &[5], &[0]),

@@ -5,6 +5,7 @@ ghost use Rattle.std.specs.Prelude.{◌≡◌};
 use crate::runs::{NO_COWNS, TRANSFER};
 use crate::workers::program;
 use boc_program::program::Program;
+use boc_registers::compiled::CompiledProgram;
 use boc_workers::{OpenGate, RunAnswer, RunFault, Shared};
 use std::alloc::Global;
 use std::marker::Brand;
@@ -27,7 +28,10 @@ fn closed<L: Ledger + Send + Sync>(
     if made.push(0).is_err() {
         return Err(RunFault::Memory);
     }
-    let Ok(mut shared) = Shared::<L, OpenGate>::new(alloc, own, book) else {
+    let Ok(compiled) = CompiledProgram::new(alloc, own) else {
+        return Err(RunFault::Memory);
+    };
+    let Ok(mut shared) = Shared::<L, OpenGate>::new(alloc, &compiled, book) else {
         return Err(RunFault::Memory);
     };
     if noted {

@@ -3,10 +3,10 @@
 use crate::gates::{Counting, Meeting, Overtaking, Place};
 use crate::runs::{NO_COWNS, PEEK_AND_SET, TRANSFER};
 use boc_eval::{Frame, Stop};
-use boc_program::body::Body;
 use boc_program::program::Program;
 use boc_program::short::{Args, Input, Inputs};
 use boc_reader::read_program;
+use boc_registers::compiled::{CompiledBody, CompiledProgram};
 use boc_runs::rows::Row;
 use boc_workers::{OpenGate, RunAnswer, run};
 use std::alloc::Global;
@@ -36,7 +36,12 @@ fn two_orders(alloc: Global, second: &str) -> Result<Program, Fail> {
 
 // Runs a body that takes no values over the first cowns, of which there are as many as values are given, and gives them
 // what it leaves there.
-fn run_over(rt: &impl Abort, alloc: Global, body: &Body, values: &mut [i64]) -> Result<(), Fail> {
+fn run_over(
+    rt: &impl Abort,
+    alloc: Global,
+    compiled: CompiledBody<'_>,
+    values: &mut [i64],
+) -> Result<(), Fail> {
     let mut inputs = Inputs::new();
     for value in values.iter() {
         assert!(rt; inputs.len() < 8);
@@ -46,8 +51,9 @@ fn run_over(rt: &impl Abort, alloc: Global, body: &Body, values: &mut [i64]) -> 
             value: *value,
         });
     }
+    let body = compiled.body();
     assert!(rt; body.params == 0 && inputs.len() == body.cown_params);
-    let mut frame = Frame::new(alloc, body, Args::new(), inputs)?;
+    let mut frame = Frame::new(alloc, compiled, Args::new(), inputs)?;
     assert!(rt; matches!(frame.run(), Stop::Ended));
     assert!(rt; frame.is_ended());
     let outcome = frame.into_outcome();
@@ -64,15 +70,16 @@ fn values_after(
     program: &Program,
     rows: &[Row],
 ) -> Result<[i64; 2], Fail> {
-    let [_, one, two, ..] = program.bodies.as_slice() else {
+    if program.bodies.as_slice().len() < 3 {
         return Err("one and two are there".into());
-    };
+    }
+    let compiled = CompiledProgram::new(alloc, program)?;
     let mut values = [0; 2];
     for row in rows {
         if row.cowns.as_slice() == [0, 1].as_slice() {
-            run_over(rt, alloc, one, &mut values)?;
+            run_over(rt, alloc, compiled.body(1), &mut values)?;
         } else if row.cowns.as_slice() == [0].as_slice() {
-            run_over(rt, alloc, two, &mut values[..1])?;
+            run_over(rt, alloc, compiled.body(2), &mut values[..1])?;
         }
     }
     Ok(values)

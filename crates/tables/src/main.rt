@@ -26,9 +26,9 @@ use boc_order::profile;
 use boc_plans::sharing::Sharing;
 use boc_plans::workers::Workers;
 use boc_program::limits::MOST_COWNS;
-use boc_program::program::Program;
 use boc_reader::read_program;
 use boc_record::{RecordFault, WriteFault, put_events, read_record, write_record};
+use boc_registers::compiled::CompiledProgram;
 use boc_report::{MOST_LINES, profile_text, sweep_text};
 use boc_runs::record::Record;
 use boc_runs::rows::Rows;
@@ -358,7 +358,12 @@ fn tell_one(rt: HostRuntime, told: Result<Vec<u8>, DriveFault>) -> io::Result<()
 }
 
 // Writes where a program's run stands after these choices, or why there is no such run.
-fn tell_drive(rt: HostRuntime, program: &Program, workers: u32, choices: &[u16]) -> io::Result<()> {
+fn tell_drive(
+    rt: HostRuntime,
+    program: &CompiledProgram<'_>,
+    workers: u32,
+    choices: &[u16],
+) -> io::Result<()> {
     let alloc = rt.alloc();
     let linked = drive(alloc, program, workers, choices).and_then(|run| Ok(run_text(alloc, &run)?));
     let plain = plain_text(alloc, program, workers, choices, false);
@@ -368,12 +373,12 @@ fn tell_drive(rt: HostRuntime, program: &Program, workers: u32, choices: &[u16])
 // How a drive over plain chains stands after these choices, or once it went on from there until it is quiet.
 fn plain_text(
     alloc: Global,
-    program: &Program,
+    program: &CompiledProgram<'_>,
     workers: u32,
     choices: &[u16],
     until_quiet: bool,
 ) -> Result<Vec<u8>, DriveFault> {
-    let chains = ListChains::new(alloc, cown_count(program))?;
+    let chains = ListChains::new(alloc, cown_count(program.program()))?;
     if until_quiet {
         let run = drive_quiet_over(alloc, program, chains, workers, choices)?;
         Ok(end_text(alloc, &run)?)
@@ -384,7 +389,12 @@ fn plain_text(
 }
 
 // Writes who can step after these choices.
-fn tell_mover(rt: HostRuntime, program: &Program, workers: u32, choices: &[u16]) -> io::Result<()> {
+fn tell_mover(
+    rt: HostRuntime,
+    program: &CompiledProgram<'_>,
+    workers: u32,
+    choices: &[u16],
+) -> io::Result<()> {
     match drive(rt.alloc(), program, workers, choices) {
         Ok(run) => match run.movable() {
             Some(mover) => println!(rt; "{mover:?}"),
@@ -395,7 +405,12 @@ fn tell_mover(rt: HostRuntime, program: &Program, workers: u32, choices: &[u16])
 }
 
 // Writes where the run stands once it went on from these choices until it is quiet.
-fn tell_quiet(rt: HostRuntime, program: &Program, workers: u32, choices: &[u16]) -> io::Result<()> {
+fn tell_quiet(
+    rt: HostRuntime,
+    program: &CompiledProgram<'_>,
+    workers: u32,
+    choices: &[u16],
+) -> io::Result<()> {
     let alloc = rt.alloc();
     let linked = drive_quiet(alloc, program, workers, choices).and_then(|run| Ok(end_text(
         alloc, &run,
@@ -413,12 +428,13 @@ fn tell_driven(rt: HostRuntime, text: &[u8], workers: u32, until_quiet: bool) ->
         Ok(program) => program,
         Err(fault) => return println!(rt; "{fault}"),
     };
+    let compiled = CompiledProgram::new(rt.alloc(), &program)?;
     let choices = choices_of(rt.alloc(), letters)?;
     if until_quiet {
-        tell_mover(rt, &program, workers, &choices)?;
-        tell_quiet(rt, &program, workers, &choices)
+        tell_mover(rt, &compiled, workers, &choices)?;
+        tell_quiet(rt, &compiled, workers, &choices)
     } else {
-        tell_drive(rt, &program, workers, &choices)
+        tell_drive(rt, &compiled, workers, &choices)
     }
 }
 
@@ -450,7 +466,8 @@ fn tell_followed(rt: HostRuntime, text: &[u8], len: usize) -> io::Result<()> {
         Ok(record) => record,
         Err(fault) => return println!(rt; "{fault}"),
     };
-    match follow_record(rt.alloc(), &program, &record) {
+    let compiled = CompiledProgram::new(rt.alloc(), &program)?;
+    match follow_record(rt.alloc(), &compiled, &record) {
         Ok(run) => {
             let values = values_text(rt.alloc(), run.values())?;
             rt.stdout().write_all(&values)

@@ -1,12 +1,29 @@
+use Rattle.std.proofs.Common.{Ok, Err, refl, subst}
+use Rattle.boc_program.specs.declared.program.Program.{Program}
+use Rattle.boc_draws.specs.Draws.{IsDraw}
+use Rattle.boc_draws.specs.Ways.{AnswersWay}
 use Rattle.boc_commands.proofs.Seeding.{draw_out, passed_fault, way_out}
 use Rattle.boc_commands.proofs.run.draw_at_depth.Goals as goal
 
 pub returns-in_err-way-clause-refused : goal.returns-in_err-way-clause-refused
 returns-in_err-way-clause-refused c =
-    passed_fault c.args.program.now c.from_residual.result c.in_err-way.field-0.0 c.from_residual.ensures.1
-    (way_out c.args.program.now c.args.workers c.args.depth c.in_err-way.field-0.0 c.in_err-way.ensures)
+    passed_fault c.args.program.now c.from_residual-in_err-way.result c.in_err-way.field-0.0 c.from_residual-in_err-way.ensures.1
+    (way_out c.args.program.now c.args.workers c.args.depth c.in_err-way.field-0.0 (subst
+    (λ (p : Program). AnswersWay p c.args.workers c.args.depth (Err c.in_err-way.field-0.0)) c.in_ok-compiled.ensures c.in_err-way.ensures))
 
 pub returns-in_err-drawn-clause-refused : goal.returns-in_err-drawn-clause-refused
 returns-in_err-drawn-clause-refused c =
     passed_fault c.args.program.now c.from_residual-in_err-drawn.result c.in_err-drawn.field-0.0 c.from_residual-in_err-drawn.ensures.1
-    (draw_out c.args.program.now c.args.workers c.in_ok-way.way c.args.seed c.in_err-drawn.field-0.0 c.in_err-drawn.ensures)
+    (draw_out c.args.program.now c.args.workers c.in_ok-way.way c.args.seed c.in_err-drawn.field-0.0
+    (subst (λ (p : Program). IsDraw p c.args.workers c.in_ok-way.way c.args.seed (Err c.in_err-drawn.field-0.0)) c.in_ok-compiled.ensures
+    c.in_err-drawn.ensures))
+
+pub returns-clause-drawn : goal.returns-clause-drawn
+returns-clause-drawn c = record {
+  way = c.in_ok-way.way;
+  is_way = subst (λ (p : Program). AnswersWay p c.args.workers c.args.depth (Ok c.in_ok-way.way)) c.in_ok-compiled.ensures c.in_ok-way.ensures;
+  drawn = c.in_ok-drawn.drawn;
+  is = subst (λ (p : Program). IsDraw p c.args.workers c.in_ok-way.way c.args.seed (Ok c.in_ok-drawn.drawn)) c.in_ok-compiled.ensures
+      c.in_ok-drawn.ensures;
+  same = refl;
+}

@@ -17,14 +17,14 @@ returns-clause-hot g c =
     let shape = rw c.new-seen.ensures.same at c.new-seen.ensures.shape in
     hot_is c.args.rows.now c.args.sharing shape c.in_ok-plan.plan (rw c.new-seen.ensures.same at c.in_ok-plan.ensures.placed) c.in_ok-profile.profile
     (rw c.new-seen.ensures.same at c.in_ok-profile.ensures) c.args.cowns c.in_ok-columns.columns c.in_ok-sorted.field-0.items
-    (record {
+    c.in_ok-alone.alone.starts.items (record {
       span = c.in_ok-profile.profile.span;
-      spawns = c.in_ok-spawn_span.field-0;
+      spawns = c.in_ok-alone.alone.span;
       shared = c.in_ok-shared_span.field-0;
       cowns = c.in_ok-sorted.field-0;
     }) c.requires
     (rw (c.new-seen.ensures.same, c.as_slice-steps.ensures.value) at c.in_ok-columns.ensures) c.in_ok-sorted.ensures.tell c.in_ok-sorted.ensures.sorted refl
-    (rw c.new-seen.ensures.same at c.in_ok-spawn_span.ensures) c.in_ok-shared_span.ensures refl
+    (rw c.new-seen.ensures.same at c.in_ok-alone.ensures) c.in_ok-shared_span.ensures refl
 
 pub returns-clause-some : goal.returns-clause-some
 returns-clause-some g c = span_some c.new-seen.result c.new-seen.ensures.shape c.in_ok-profile.profile.starts.items c.in_ok-profile.profile.span

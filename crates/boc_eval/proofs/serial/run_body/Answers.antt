@@ -14,7 +14,7 @@ pub set_up-requires-clause-few : goal.set_up-requires-clause-few
 set_up-requires-clause-few c = omega (arith, ap length c.args-2.ensures, c.requires.args, c.requires.held, c.args.body.now.parameters_are_slots)
 
 pub set_up-requires-clause-room : goal.set_up-requires-clause-room
-set_up-requires-clause-room c = omega (arith, ap length c.deref.ensures.value, c.requires.code.few, c.requires.long, c.args.body.now.few_slots)
+set_up-requires-clause-room c = omega (arith, ap length c.deref.ensures.value, c.requires.code.room, c.requires.code.few, c.requires.long)
 
 pub returns-in_err-end-clause-fault : goal.returns-in_err-end-clause-fault
 returns-in_err-end-clause-fault c e =

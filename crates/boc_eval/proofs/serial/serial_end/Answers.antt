@@ -34,11 +34,15 @@ loop-turn-preserved c =
     let after : List ℤ = c.take_turn.new.values in
     let lent : c.deref_mut-in-loop-turn.result.now ≡ before = search rules in
     let there : c.loop-turn.turn < length old.rows.items = search rules in
+    let there_is : c.in_ok-compiled.compiled ≡ p = c.in_ok-compiled.ensures in
     let turned = subst (λ (v : List ℤ). Turned p b (drop (c.loop-turn.turn + 1) (behaviours_of old)) v
     (drop (c.loop-turn.turn + 1) (behaviours_of new)) after)
-    lent t.turn in
+    lent (subst (λ (q : Program). Turned q b (drop (c.loop-turn.turn + 1) (behaviours_of old)) c.deref_mut-in-loop-turn.result.now
+    (drop (c.loop-turn.turn + 1) (behaviours_of new)) after) there_is t.turn) in
     let noted : rows_of c.take_turn.new.faulted.items ≡ rows_of c.loop-turn.faulted.items ++ turn_fault p c.loop-turn.turn b before =
-    t.faulted ∙ ap (λ (v : List ℤ). rows_of c.loop-turn.faulted.items ++ turn_fault p c.loop-turn.turn b v) lent in
+    t.faulted
+    ∙ ap (λ (q : Program). rows_of c.loop-turn.faulted.items ++ turn_fault q c.loop-turn.turn b c.deref_mut-in-loop-turn.result.now) there_is
+    ∙ ap (λ (v : List ℤ). rows_of c.loop-turn.faulted.items ++ turn_fault p c.loop-turn.turn b v) lent in
     let len : length after ≡ length before = ap length turned.wrote
     ∙ length-after_outputs before b.cowns (meaning turned.body b.args (inputs_of b.cowns before)).outputs in
     let same = rewritten after before c.loop-turn.values.len len c.loop-turn.values.ok.0 in
@@ -63,7 +67,9 @@ returns-in_err-take_turn-clause-behaviours c e =
     let passed_on = err_from_is_err_and c.from_residual-in_err-take_turn.result c.from_residual-in_err-take_turn.ensures.1 in
     let is : c.in_err-take_turn.field-0.0 ≡ Behaviours = cc (e, passed_on.1, passed_on.2) in
     let many : 65535 < length (behaviours_of old) + turn_wishes p b before =
-    subst (λ (v : List ℤ). 65535 < length (behaviours_of old) + turn_wishes p b v) lent (c.in_err-take_turn.ensures.fault (ap Err is)) in
+    subst (λ (v : List ℤ). 65535 < length (behaviours_of old) + turn_wishes p b v) lent
+    (subst (λ (q : Program). 65535 < length (behaviours_of old) + turn_wishes q b c.deref_mut-in-loop-turn.result.now) c.in_ok-compiled.ensures
+    (c.in_err-take_turn.ensures.fault (ap Err is))) in
     reached_over p b (drop (c.loop-turn.turn + 1) (behaviours_of old)) before (length old.rows.items)
     (rows_of c.loop-turn.faulted.items) (in_front p old c.loop-turn.turn before (length old.rows.items)
     (rows_of c.loop-turn.faulted.items) there i.has_reached)

@@ -8,17 +8,17 @@ use Rattle.boc_draws.specs.declared.fault.DrawFault.{DrawFault}
 use Rattle.boc_outcomes.specs.declared.sampling.Sampled.{Sampled}
 use Rattle.boc_outcomes.specs.Samples.{IsSampled}
 use Rattle.boc_outcomes.proofs.Rounds.{round_of}
-use Rattle.boc_outcomes.proofs.Sharing.{program_sync}
+use Rattle.boc_outcomes.proofs.Sharing.{compiled_sync}
 use Rattle.boc_outcomes.proofs.sampling.sampled_between.Goals as goal
 
 pub map-requires-send-F : goal.map-requires-send-F
-map-requires-send-F g c κs within = search (sendable, crosses, program_sync) depth 60
+map-requires-send-F g c κs within = search (sendable, crosses, compiled_sync) depth 60
 
 pub map-requires-sync-F : goal.map-requires-sync-F
-map-requires-sync-F g c κs within = search (sendable, crosses, program_sync) depth 60
+map-requires-sync-F g c κs within = search (sendable, crosses, compiled_sync) depth 60
 
 pub collect-requires-send-Self : goal.collect-requires-send-Self
-collect-requires-send-Self g c κs within = search (sendable, crosses, program_sync) depth 60
+collect-requires-send-Self g c κs within = search (sendable, crosses, compiled_sync) depth 60
 
 -- the closure's `requires` at each draw
 pub collect-requires-clause-ready : goal.collect-requires-clause-ready
@@ -30,8 +30,9 @@ pub returns : goal.returns
 returns g c =
     let ends = c.into_par_iter.ensures in
     let h = c.in_ok-collect.ensures in
-    let chain = rw (c.map.ensures.base, c.map.ensures.f, c.with_min_len.ensures.base) at h.1 in
-    let numbers = chain.1 ∙ (λ i. nat_range (ends.0 i) (ends.1 i)) in
+    let numbers = rw (c.map.ensures.base, c.with_min_len.ensures.base) at h.1.1 in
+    let places = numbers ∙ (λ i. nat_range (ends.0 i) (ends.1 i)) in
+    let came = rw c.map.ensures.f at h.1.2 in
     let each = subst (λ (l : List ℕ). AllZip (λ (number : ℕ) (r : Result Sampled DrawFault). IsSampled c.args.program.now c.args.asked.now number r) l h.0)
-    numbers chain.2 in
+    places came in
     round_of c.args.program.now c.args.asked.now c.args.from c.args.to h.0 c.in_ok-collect.field-0 c.requires.order each h.2

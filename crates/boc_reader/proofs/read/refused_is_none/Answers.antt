@@ -1,6 +1,6 @@
 use Rattle.boc_reader.proofs.Spellings.{none_spelled, one_program}
 use Rattle.boc_reader.proofs.Reading.{one_fault}
-use Rattle.boc_reader.proofs.Strays.{one_stray, shaped_is_right}
+use Rattle.boc_reader.proofs.Strays.{one_shape_fault, one_stray, shaped_is_right}
 use Rattle.boc_reader.proofs.WrongPlaces.{one_wrong_name}
 use Rattle.boc_reader.proofs.read.refused_is_none.Goals as goal
 
@@ -12,6 +12,9 @@ returns-clause-one c = one_program
 
 pub returns-clause-first : goal.returns-clause-first
 returns-clause-first c = one_fault
+
+pub returns-clause-first_shape : goal.returns-clause-first_shape
+returns-clause-first_shape c = one_shape_fault
 
 pub returns-clause-shape : goal.returns-clause-shape
 returns-clause-shape c = one_stray

@@ -36,7 +36,13 @@ of_length c =
     (c.in_ok-lists.ensures.lists (c.loop-place.place - 1)))
 
 pub split-requires-clause-inside : goal.split-requires-clause-inside
-split-requires-clause-inside c = λ r m. omega (arith, c.requires.inside r ((of_length c).sound r m), c.deref_mut.ensures.len, c.loop-place.invariant.len, c.loop-place.values.ok.0)
+split-requires-clause-inside c = λ r m. omega (
+  arith,
+  c.requires.inside r ((of_length c).sound r m),
+  c.deref_mut.ensures.len,
+  c.loop-place.invariant.len,
+  c.loop-place.values.ok.0,
+)
 
 pub split-requires-clause-long : goal.split-requires-clause-long
 split-requires-clause-long c = (of_length c).long
@@ -47,8 +53,9 @@ split-requires-clause-short c = (of_length c).short
 pub loop-place-preserved : goal.loop-place-preserved
 loop-place-preserved c =
     let power = half_power c.loop-place.size c.loop-place.place c.loop-place.invariant.power c.loop-place-test.true in
-    let len : length c.split.new.values ≡ c.args.count = omega (arith, c.split.ensures.len, c.deref_mut.ensures.len, c.loop-place.invariant.len, c.loop-place.values.ok.0) in
-    let whole : length c.deref_mut.result.now ≡ c.args.count = omega (arith, c.deref_mut.ensures.len, c.loop-place.invariant.len, c.loop-place.values.ok.0) in
+    let whole : length c.deref_mut.result.now ≡ c.args.count =
+    omega (arith, c.deref_mut.ensures.len, c.loop-place.invariant.len, c.loop-place.values.ok.0) in
+    let len : length c.split.new.values ≡ c.args.count = omega (arith, c.split.ensures.len, whole) in
     let back = with_items_is c.loop-place.values c.split.new.values (omega (arith, len, c.loop-place.invariant.len, c.loop-place.values.ok.0)) in
     rw back (record {
       low = omega (arith, c.loop-place.invariant.low);

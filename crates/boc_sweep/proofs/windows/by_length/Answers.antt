@@ -32,7 +32,8 @@ loop-stretch-preserved c =
     elim c.if-stretch.branch [
       | then-stretch+in_ok-put w ↦ (
           let puts = rw w.deref_mut.ensures.value at w.in_ok-put.ensures in
-          let len : length w.put.new.lists ≡ length c.loop-stretch.lists.items = omega (arith, w.put.auto.lists, w.deref_mut.ensures.len, c.loop-stretch.lists.ok.0) in
+          let len : length w.put.new.lists ≡ length c.loop-stretch.lists.items =
+          omega (arith, w.put.auto.lists, w.deref_mut.ensures.len, c.loop-stretch.lists.ok.0) in
           let items = with_items_is c.loop-stretch.lists w.put.new.lists (omega (arith, len, c.loop-stretch.lists.ok.0)) in
           let low = has_a_list (x.high - x.low) w.ilog2-place.result w.ilog2-place.ensures.power_le
           (omega (arith, c.requires x (k, c.loop-stretch-test.true, sym is))) in
@@ -40,18 +41,22 @@ loop-stretch-preserved c =
             count = len ∙ c.loop-stretch.invariant.count;
             lists = rw add-one (by_length_put c.args.stretches.now k (lists_of c.loop-stretch.lists.items) (lists_of w.put.new.lists) x w.ilog2-place.result
                 c.loop-stretch-test.true is
-                (omega (arith, length-map c.loop-stretch.lists.items (λ (v : Vec Stretch Global). v.items), c.loop-stretch.invariant.count, low)) puts (omega (arith, w.ilog2-place.ensures.power_le, w.if-stretch.true)) (omega (arith, w.ilog2-place.ensures.next_power_gt, w.if-stretch.true))
+                (omega (arith, length-map c.loop-stretch.lists.items (λ (v : Vec Stretch Global). v.items), c.loop-stretch.invariant.count, low)) puts
+                (omega (arith, w.ilog2-place.ensures.power_le, w.if-stretch.true))
+                (omega (arith, w.ilog2-place.ensures.next_power_gt, w.if-stretch.true))
                 c.loop-stretch.invariant.lists);
           }))
       | else-stretch w ↦ rw w.lists-is (record {
         count = c.loop-stretch.invariant.count;
-        lists = rw add-one (by_length_skip c.args.stretches.now k _ x c.loop-stretch-test.true is (omega (arith, w.if-stretch.false)) c.loop-stretch.invariant.lists);
+        lists = rw add-one (by_length_skip c.args.stretches.now k _ x c.loop-stretch-test.true is
+            (omega (arith, w.if-stretch.false)) c.loop-stretch.invariant.lists);
       })
     ]
 
 pub loop-stretch-init : goal.loop-stretch-init
 loop-stretch-init c = record {
-  count = sym (length-map c.in_ok-lists.lists.items (λ (v : Vec Stretch Global). v.items)) ∙ ap length c.in_ok-lists.ensures ∙ length-replicate {A = List Stretch} LENGTHS [];
+  count = sym (length-map c.in_ok-lists.lists.items (λ (v : Vec Stretch Global). v.items)) ∙ ap length c.in_ok-lists.ensures
+      ∙ length-replicate {A = List Stretch} LENGTHS [];
   lists = by_length_none LENGTHS (lists_of c.in_ok-lists.lists.items) c.in_ok-lists.ensures;
 }
 

@@ -1,6 +1,7 @@
 use Rattle.std.proofs.Common.{◌≡◌, ◌≢◌, ◌∷◌, ◌++◌, [], ◌∙◌, ◌+◌, ◌^◌, ◌<◌, ◌≤◌, ℕ, set, List, ap, subst, sym, arith, length, length-set, replicate}
 use Rattle.std.specs.Prelude.{Option, Some, None, vec_capacity}
 use Rattle.std.specs.VecDeque.{deque_capacity}
+use Rattle.boc_program.specs.declared.program.Program.{Program}
 use Rattle.boc_program.specs.Programs.{cown_count, initial_values}
 use Rattle.boc_runs.proofs.Behaviours.{initial-length}
 use Rattle.boc_runs.specs.declared.event.Event.{Event}
@@ -15,11 +16,16 @@ use Rattle.boc_dispatch.proofs.roster.Roster.over.Given.{Over}
 use Rattle.boc_dispatch.proofs.roster.Roster.over.Goals.{After-len, After-put}
 use Rattle.boc_dispatch.proofs.roster.Roster.over.Goals as goal
 
--- the values are few
+-- the values are those that the cowns have at first
+first_values : (g : Over) (c : After-len g) → c.in_ok-values.values.items ≡ initial_values c.args.program.now.cowns
+first_values g c =
+    c.in_ok-values.ensures ∙ ap initial_values c.as_slice.ensures ∙ ap (λ (p : Program). initial_values p.cowns) c.program.ensures
+
+-- they are few
 few_values : (g : Over) (c : After-len g) → c.len.result ≡ cown_count c.args.program.now.cowns
 few_values g c =
     let few = c.args.program.now.few_cowns in
-    let values = ap length (c.in_ok-values.ensures ∙ ap initial_values c.as_slice.ensures) in
+    let values = ap length (first_values g c) in
     omega (arith, initial-length c.args.program.now.cowns, c.len.ensures, c.in_ok-values.values.ok.0)
 
 pub overflow_cast-len : goal.overflow_cast-len
@@ -101,7 +107,8 @@ made_is g c =
     let cowns = c.args.program.now.cowns in
     let slot : ℕ = c.in_ok-slot.slot in
     let lists_are : g.C.Chains.lists c.admit.new.self ≡ replicate (cown_count cowns) [] = c.in_ok-admit.ensures.lists ∙ c.requires.empty in
-    let values_are : c.in_ok-values.values.items ≡ initial_values cowns = c.in_ok-values.ensures ∙ ap initial_values c.as_slice.ensures in
+    let values_are : c.in_ok-values.values.items ≡ initial_values cowns =
+    c.in_ok-values.ensures ∙ ap initial_values c.as_slice.ensures ∙ ap (λ (p : Program). initial_values p.cowns) c.program.ensures in
     let many = ap length values_are in
     let count : c.len.result ≡ cown_count cowns = omega (arith, initial-length cowns, c.len.ensures, c.in_ok-values.values.ok.0) in
     let homes_were : c.in_ok-homes.homes.items ≡ [] = c.in_ok-homes.ensures.items in

@@ -93,15 +93,15 @@ returns-clause-starts g c =
     let e = started_parts d c.in_ok-slot.slot (Some (begun row l)) rest (grown d.log (Start row)) in
     let x : IsOfRow e c.in_ok-slot.slot row = record
     { this = begun row l; is = live_here d.live c.in_ok-slot.slot (Some (begun row l)) (live_there d.live c.in_ok-slot.slot l is); row_is = refl } in
-    let handed = hands_out e kept c.in_ok-slot.slot row x c.begin-job.result.body.now c.begin-job.result.args.items inputs.items refl c.begin-job.ensures.body
+    let handed = hands_out e kept c.in_ok-slot.slot row x c.begin-job.result.body c.begin-job.result.args.items inputs.items refl c.begin-job.ensures.body
     c.begin-job.ensures.args inputs_are in (
       l.number,
       subst (λ (r : Log). Starts (state d) l.number row (state (started_parts d c.in_ok-slot.slot (Some c.begin-job.new.self) rest r))) (sym c.put.ensures)
           (subst (λ (x : Live). Starts (state d) l.number row (state (started_parts d c.in_ok-slot.slot (Some x) rest (grown d.log (Start row))))) started
           made),
       refl,
-      subst (λ (r : Log). IsHandedOut (underway (started_parts d c.in_ok-slot.slot (Some c.begin-job.new.self) rest r)) row c.begin-job.result.body.now
+      subst (λ (r : Log). IsHandedOut (underway (started_parts d c.in_ok-slot.slot (Some c.begin-job.new.self) rest r)) row c.begin-job.result.body
           c.begin-job.result.args.items inputs.items) (sym c.put.ensures)
           (subst (λ (x : Live). IsHandedOut (underway (started_parts d c.in_ok-slot.slot (Some x) rest (grown d.log (Start row)))) row
-          c.begin-job.result.body.now c.begin-job.result.args.items inputs.items) started handed),
+          c.begin-job.result.body c.begin-job.result.args.items inputs.items) started handed),
     )

@@ -22,7 +22,8 @@ use Rattle.boc_why.proofs.LinkLists.{contains_from_place, place_from_contains}
 use Rattle.boc_why.proofs.ShareLaws.{ranked_from_places, same_ranked}
 use Rattle.boc_cowns.specs.declared.hot.HotCown.{HotCown}
 use Rattle.boc_cowns.specs.declared.hot.HotCowns.{HotCowns}
-use Rattle.boc_cowns.specs.Hot.{AreAwaited, AreSorted, IsHeldFrom, IsHotCown, IsHotCowns, IsHotter, chain_through, hands_cown, held_for, rows_that_wrote, rows_with}
+use Rattle.boc_cowns.specs.Hot.{AreAwaited, AreSorted, IsHeldFrom, IsHotCown, IsHotCowns, IsHotter, chain_through, hands_cown, held_for}
+use Rattle.boc_cowns.specs.Hot.{rows_that_wrote, rows_with}
 use Rattle.boc_cowns.specs.Hot.{sum_where, wait_of, waited_for, waits_over, wrote_cown}
 use Rattle.boc_cowns.proofs.FirstStarts.{one_first}
 use Rattle.boc_cowns.proofs.Waits.{main_waits}

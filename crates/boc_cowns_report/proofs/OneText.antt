@@ -9,7 +9,8 @@ use Rattle.boc_names.specs.Names.{CallTheSame, text_at}
 use Rattle.boc_cowns.specs.declared.hot.HotCown.{HotCown}
 use Rattle.boc_cowns.specs.declared.hot.HotCowns.{HotCowns}
 use Rattle.boc_cowns.specs.Hot.{busy_until, held_from}
-use Rattle.boc_cowns_report.specs.CownsTexts.{busiest_last, busiest_text, by_cowns_text, by_last_text, cown_texts, cowns_head, cowns_sides, cowns_table, is_most, more_text, percent_text}
+use Rattle.boc_cowns_report.specs.CownsTexts.{busiest_last, busiest_text, by_cowns_text, by_last_text, cown_texts, cowns_head, cowns_sides}
+use Rattle.boc_cowns_report.specs.CownsTexts.{cowns_table, is_most, more_text, percent_text}
 use Rattle.boc_cowns_report.specs.CownsTexts.{readers_text, shared_text, span_text, spawns_text, told_of, verdict_text}
 
 module _ (a b : Names) (same : CallTheSame a b) (hot other : HotCowns) (span : hot.span ≡ other.span) (spawns : hot.spawns ≡ other.spawns)

@@ -3,7 +3,8 @@ use Rattle.std.proofs.Common.{◌≡◌, ℕ, zero, suc, ◌+◌, ◌-◌, ◌<�
 use Rattle.std.proofs.Common.{Option, Some, None, refl, sym, ap, ◌∙◌, subst, arith, append_assoc, append-nil, inl, inr}
 use Rattle.std.specs.Option.{option_map}
 use Rattle.std.proofs.lemmas.Bool.{cases_Bool}
-use Rattle.boc_reader.specs.Tokens.{Token, sign, Piece, run, pair, single, is_blank, put, pair_sign, single_sign, token_of_run, tokens_of_pieces, tokens_of_text}
+use Rattle.boc_reader.specs.Tokens.{Token, sign, Piece, run, pair, single, is_blank, put, pair_sign, single_sign, token_of_run, tokens_of_pieces}
+use Rattle.boc_reader.specs.Tokens.{tokens_of_text}
 use Rattle.boc_reader.specs.WrongTokens.{piece_bytes, bytes_of, pieces_of, HasRead}
 use Rattle.boc_reader.specs.Placed.{token_of, tokens_of, ArePlaced, AreReached, BeginsToken}
 use Rattle.boc_reader.specs.WrongShape.{IsPlaceOfToken, StandAt}

@@ -41,7 +41,8 @@ returns g c =
     let spelled = c.in_ok-program.ensures.0 in (
       told_ends c.args.draws c.args.text.now c.in_ok-program.program c.as_slice.result.now c.in_ok-way.way c.number.result c.number-workers.result
           c.in_ok-outcomes.outcomes c.in_ok-answer.answer.items spelled c.number.ensures.value c.number-workers.ensures.value c.as_slice.ensures
-          (subst (λ (p : Program). AnswersWay p c.number-workers.result c.args.draws.depth (Ok c.in_ok-way.way)) c.in_ok-compiled.ensures c.in_ok-way.ensures) (subst (λ (p : Program). AnswersAsked p (asked_of c.number.result c.args.draws.seed c.number-workers.result c.in_ok-way.way)
+          (subst (λ (p : Program). AnswersWay p c.number-workers.result c.args.draws.depth (Ok c.in_ok-way.way)) c.in_ok-compiled.ensures c.in_ok-way.ensures)
+          (subst (λ (p : Program). AnswersAsked p (asked_of c.number.result c.args.draws.seed c.number-workers.result c.in_ok-way.way)
           (Ok c.in_ok-outcomes.outcomes)) c.in_ok-compiled.ensures c.in_ok-outcomes.ensures) c.in_ok-answer.ensures,
       spelled.short,
     )

@@ -94,7 +94,7 @@ def span(rows):
 
 def hot_cowns(rows, count, shared):
     """For each cown its number, how many rows have it and how many wrote it, how long one row alone holds it and how long it is waited for, the chain's
-    ticks through it, the span without it, and the first tick at which it can be held; those that are held longest first."""
+    ticks through it, the span without it, and a tick before which no row that wrote it starts; those that are held longest first."""
     seen = rows if shared else exclusive(rows)
     plan = Earliest(seen)
     alone = Earliest(bare(seen)).starts
@@ -123,7 +123,7 @@ def verdict(names, whole, spawns, hot):
     if held * 100 >= MOST * whole:
         return f"load: {names[cown]} is held {held} of {whole} ticks; split it, or shorten what holds it"
     last = max(hot, key=lambda own: own[3] + own[7])
-    if (last[3] + last[7]) * 100 >= MOST * whole:
+    if (last[3] + last[7]) * 100 >= MOST * whole + (100 - MOST) * spawns:
         return (f"load: {names[last[0]]} is held {last[3]} of {whole} ticks, none of them before tick {last[7]}; "
                 "spawn earlier, split it, or shorten what holds it")
     return f"order: no cown is held for more than {held} of {whole} ticks; the order in which behaviours ask is what holds back"

@@ -11,7 +11,7 @@ use Rattle.boc_runs.specs.Rows.{IsRows, cowns_of, written_of}
 use Rattle.boc_plans.specs.Plans.{start_of}
 use Rattle.boc_order.proofs.Near.{writes_own}
 use Rattle.boc_cowns.specs.Hot.{IsFirstStart, IsLeastStart, sooner, wrote_cown}
-use Rattle.boc_cowns.specs.Columns.{AreFirsts}
+use Rattle.boc_cowns.specs.Columns.{AreFirstStarts}
 use Rattle.boc_cowns.proofs.Handed.{among_tells}
 
 abbrev first_at : List (Option ℕ) → ℕ → Option ℕ
@@ -149,7 +149,7 @@ module _ (passes : ℕ → Bool) (plan : List ℕ) (n start : ℕ) (is : start �
   }
 
 module _ (rows : List Row) (hr : IsRows rows) (plan : List ℕ) (n : ℕ) (there : n < length rows) (old new : List (Option ℕ)) (start i : ℕ)
-    (is : start ≡ start_of plan n) (all : length (cowns_of rows n) ≤ i) (s : SomeNoted rows n start i old new) (f : AreFirsts rows plan n old) where
+    (is : start ≡ start_of plan n) (all : length (cowns_of rows n) ≤ i) (s : SomeNoted rows n start i old new) (f : AreFirstStarts rows plan n old) where
   first_next : (c : ℕ) → c < MOST_COWNS → IsFirstStart (wrote_cown rows c) plan (n + 1) (first_at new c)
   first_next c small = ⊎_elim
       (λ (y : (list_any (nat_eq c) (written_of rows n) ≡ true) × Contains (written_of rows n) c).
@@ -168,21 +168,21 @@ module _ (rows : List Row) (hr : IsRows rows) (plan : List ℕ) (n : ℕ) (there
       ])
       (among_tells c (written_of rows n))
 
-  pub firsts_more : AreFirsts rows plan (n + 1) new
+  pub firsts_more : AreFirstStarts rows plan (n + 1) new
   firsts_more = record { whole = s.whole ∙ f.whole; at = first_next }
 
 -- before the first row
-pub firsts_begin : (rows : List Row) (plan : List ℕ) (firsts : List (Option ℕ)) → firsts ≡ replicate MOST_COWNS None → AreFirsts rows plan 0 firsts
+pub firsts_begin : (rows : List Row) (plan : List ℕ) (firsts : List (Option ℕ)) → firsts ≡ replicate MOST_COWNS None → AreFirstStarts rows plan 0 firsts
 firsts_begin rows plan firsts is = rw is (record {
   whole = length-replicate {A = Option ℕ} MOST_COWNS None;
   at = λ c small. subst (IsFirstStart (wrote_cown rows c) plan 0) (sym (get_or-replicate {A = Option ℕ} MOST_COWNS c None None small))
       (λ r h. absurd (omega (arith, h)));
 })
 
-pub firsts_all : (rows : List Row) (plan : List ℕ) (n count : ℕ) (firsts : List (Option ℕ)) → count ≤ n → n ≤ count → AreFirsts rows plan n firsts
-    → AreFirsts rows plan count firsts
+pub firsts_all : (rows : List Row) (plan : List ℕ) (n count : ℕ) (firsts : List (Option ℕ)) → count ≤ n → n ≤ count → AreFirstStarts rows plan n firsts
+    → AreFirstStarts rows plan count firsts
 firsts_all rows plan n count firsts low high f =
-    subst (λ (k : ℕ). AreFirsts rows plan k firsts) (let e : n ≡ count = omega (arith, low, high) in e) f
+    subst (λ (k : ℕ). AreFirstStarts rows plan k firsts) (let e : n ≡ count = omega (arith, low, high) in e) f
 
 -- ---- there is one
 

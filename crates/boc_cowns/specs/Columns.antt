@@ -15,8 +15,8 @@ pub record AreSums (passes : ℕ → ℕ → Bool) (ticks : ℕ → ℕ) (n : �
   pub at : (cown : ℕ) → cown < MOST_COWNS → slice_index totals cown ≡ sum_where (passes cown) ticks n
   pub low : (cown : ℕ) → cown < MOST_COWNS → slice_index totals cown ≤ n * (MOST_ROWS * MOST_TICKS)
 
--- for each cown the least start of those of the first n rows that wrote it
-pub record AreFirsts (rows : List Row) (starts : List ℕ) (n : ℕ) (firsts : List (Option ℕ)) : Type 0 where
+-- for each cown the least start of those of the first n rows that wrote it, or none where no row did
+pub record AreFirstStarts (rows : List Row) (starts : List ℕ) (n : ℕ) (firsts : List (Option ℕ)) : Type 0 where
   pub whole : length firsts ≡ MOST_COWNS
   pub at : (cown : ℕ) → cown < MOST_COWNS → IsFirstStart (wrote_cown rows cown) starts n (slice_index_or firsts cown None)
 
@@ -49,7 +49,7 @@ pub record HasColumns (list all : List Row) (plan : List ℕ) (after : List (Opt
   pub with_it : AreSums (has_cown list) one (length list) columns.rows.items
   pub that_wrote : AreSums (wrote_cown list) one (length list) columns.wrote.items
   pub for_ticks : AreSums (wrote_cown all) (ticks_of all) (length all) columns.held.items
-  pub first : AreFirsts all spawned (length all) columns.from.items
+  pub first : AreFirstStarts all spawned (length all) columns.from.items
   pub waits : AreSums (waits_over all after) (wait_of all plan) (length all) columns.waited.items
   pub through : AreSums (step_hands all steps) (weight_at steps) (length steps) columns.chain.items
   pub left : IsCownSweep all count columns.without.items

@@ -57,7 +57,7 @@ abbrev pub sooner : Option ℕ → ℕ → ℕ
 sooner None start = start
 sooner (Some first) start = min first start
 
--- of the first n rows that pass a test one starts then, and none sooner
+-- of those of the first n rows that pass a test one starts then, and none sooner
 pub record IsLeastStart (passes : ℕ → Bool) (plan : List ℕ) (n first : ℕ) : Type 0 where
   pub row : ℕ
   pub below : row < n
@@ -70,8 +70,8 @@ abbrev pub IsFirstStart : (ℕ → Bool) → List ℕ → ℕ → Option ℕ →
 IsFirstStart passes plan n None = (r : ℕ) → r < n → passes r ≡ false
 IsFirstStart passes plan n (Some first) = IsLeastStart passes plan n first
 
--- From which tick on the cown can be held by one row alone, in whatever order: the least start of a row that wrote it, in this plan of the rows, in
--- which only the spawns order them.
+-- A tick before which no row that wrote the cown starts, in whatever order: the least start of one in this plan of the rows, in which only the spawns
+-- order them; none where no row wrote it.
 abbrev pub IsHeldFrom : List Row → List ℕ → ℕ → Option ℕ → Type 0
 IsHeldFrom rows spawned cown first = IsFirstStart (wrote_cown rows cown) spawned (length rows) first
 
@@ -133,7 +133,7 @@ pub record IsHotCown (list : List Row) (sharing : Sharing) (plan : List ℕ) (af
   pub chain : hot.chain ≡ chain_through (seen sharing list) steps hot.cown
   pub left : IsSpan (without hot.cown (seen sharing list)) hot.without
 
--- the first tick at which a cown can be held
+-- a tick before which no row that wrote a cown starts, in whatever order; 0 where no row wrote it
 abbrev pub held_from : HotCown → ℕ
 held_from own = option_map_or (λ first. first) own.from 0
 

@@ -1,9 +1,9 @@
-// From which tick on each cown can be held.
+// Before which tick no row that wrote a cown starts.
 
 ghost use Rattle.std.specs.Prelude.{◌≡◌, ◌+◌, ◌<◌, length, IfOk};
 ghost use Rattle.boc_runs.specs.Rows.{IsRows};
 ghost use Rattle.boc_cowns.specs.Hot.{sooner};
-ghost use Rattle.boc_cowns.specs.Columns.{AreFirsts};
+ghost use Rattle.boc_cowns.specs.Columns.{AreFirstStarts};
 
 use boc_plans::sharing::SeenRows;
 use boc_program::limits::MOST_COWNS;
@@ -24,8 +24,8 @@ fn note_start(rows: &SeenRows, starts: &[u64], row: usize, firsts: &mut [Option<
     requires shape { IsRows rows.now }
     requires whole { length starts.now ≡ length rows.now }
     requires there { row < length rows.now }
-    requires firsts { AreFirsts rows.now starts.now row firsts.old }
-    ensures { AreFirsts rows.now starts.now (row + 1) firsts.new }
+    requires firsts { AreFirstStarts rows.now starts.now row firsts.old }
+    ensures { AreFirstStarts rows.now starts.now (row + 1) firsts.new }
 {
     let start = starts[row];
     for own in rows.cowns(row) {
@@ -44,7 +44,7 @@ pub(crate) fn first_starts(
 ) -> Result<Vec<Option<u64>>, AllocError>
     requires shape { IsRows rows.now }
     requires whole { length starts.now ≡ length rows.now }
-    ensures { IfOk result (λ firsts. AreFirsts rows.now starts.now (length rows.now) firsts.items) }
+    ensures { IfOk result (λ firsts. AreFirstStarts rows.now starts.now (length rows.now) firsts.items) }
 {
     let mut firsts = vec![in alloc; None; MOST_COWNS]?;
     for row in 0..rows.len() {

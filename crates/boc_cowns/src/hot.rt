@@ -36,8 +36,8 @@ pub struct HotCown {
     /// How long it is held by one row alone: the ticks of the rows that wrote it. Where cowns are exclusive, these are all rows that have it; where
     /// reads are shared, readers hold it together, and don't count.
     pub held: u64,
-    /// From which tick on it can be held so, in whatever order: the least start of a row that wrote it, where only the spawns order the rows. None where
-    /// no row wrote it.
+    /// A tick before which no row that wrote it starts, in whatever order: the least start of one, where only the spawns order the rows. None where no
+    /// row wrote it.
     pub from: Option<u64>,
     /// How long rows wait for it: from the spawn of each to its start, where the row whose end it waits for hands it the cown. A wait for several
     /// cowns counts for each of them.

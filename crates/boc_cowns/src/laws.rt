@@ -24,7 +24,7 @@ pub fn hot_cowns_are_one()
 {}
 
 /// No plan that keeps the spawns of some rows, and keeps rows that conflict over a cown apart in whatever order, ends before the tick until which a cown
-/// that is told of is busy: the ticks for which it is held by one row alone, behind the first at which it can be held.
+/// that is told of is busy: the ticks for which it is held by one row alone, behind one before which no row that wrote it starts.
 pub fn busy_in_every_order()
     ensures { (list : List Row) (sharing : Sharing) (count : ℕ) (hot : HotCowns) (plan : List ℕ) (last : ℕ) → IsRows list
         → IsHotCowns list sharing count hot → KeepsSpawns (seen sharing list) plan → KeepsApart (seen sharing list) plan

@@ -9,8 +9,8 @@ use Rattle.boc_names.specs.Names.{CallTheSame, text_at}
 use Rattle.boc_cowns.specs.declared.hot.HotCown.{HotCown}
 use Rattle.boc_cowns.specs.declared.hot.HotCowns.{HotCowns}
 use Rattle.boc_cowns.specs.Hot.{busy_until, held_from}
-use Rattle.boc_cowns_report.specs.CownsTexts.{busiest_last, busiest_text, by_cowns_text, by_last_text, cown_texts, cowns_head, cowns_sides}
-use Rattle.boc_cowns_report.specs.CownsTexts.{cowns_table, is_most, more_text, percent_text}
+use Rattle.boc_cowns_report.specs.CownsTexts.{last_busy, busiest_text, by_cowns_text, by_last_text, cown_texts, cowns_head, cowns_sides}
+use Rattle.boc_cowns_report.specs.CownsTexts.{cowns_table, is_late, is_most, more_text, percent_text}
 use Rattle.boc_cowns_report.specs.CownsTexts.{readers_text, shared_text, span_text, spawns_text, told_of, verdict_text}
 
 module _ (a b : Names) (same : CallTheSame a b) (hot other : HotCowns) (span : hot.span ≡ other.span) (spawns : hot.spawns ≡ other.spawns)
@@ -38,7 +38,7 @@ module _ (a b : Names) (same : CallTheSame a b) (hot other : HotCowns) (span : h
       ++ codes " ticks; spawn earlier, or do less"
 
   by_last_same : (own last : HotCown) → by_last_text a hot own last ≡ by_last_text b other own last
-  by_last_same own last = λ i. cond (is_most (busy_until last) (span i))
+  by_last_same own last = λ i. cond (is_late (busy_until last) (spawns i) (span i))
       ((codes "load: " ++ text_at (same.cowns i) last.cown ++ codes " is held " ++ decimal last.held ++ codes " of " ++ decimal (span i))
       ++ codes " ticks, none of them before tick " ++ decimal (held_from last) ++ codes "; spawn earlier, split it, or shorten what holds it")
       (codes "order: no cown is held for more than " ++ decimal own.held ++ codes " of " ++ decimal (span i)
@@ -48,7 +48,7 @@ module _ (a b : Names) (same : CallTheSame a b) (hot other : HotCowns) (span : h
   by_cowns_same own others = λ i. cond (is_most own.held (span i))
       (codes "load: " ++ text_at (same.cowns i) own.cown ++ codes " is held " ++ decimal own.held ++ codes " of " ++ decimal (span i)
       ++ codes " ticks; split it, or shorten what holds it")
-      (by_last_same own (busiest_last own others) i)
+      (by_last_same own (last_busy own others) i)
 
   verdict_same : (list : List HotCown) → verdict_text a hot list ≡ verdict_text b other list
   verdict_same [] = spawns_same

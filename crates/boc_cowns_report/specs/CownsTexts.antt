@@ -1,5 +1,5 @@
 -- What is told of the cowns that hold some rows back.
-use Rattle.std.specs.Prelude.{◌≡◌, ℕ, zero, suc, ◌-◌, ◌*◌, ◌/◌, Bool, not, nat_lt, cond, List, [], ◌∷◌, ◌++◌, length, map, take, Option, Some, None}
+use Rattle.std.specs.Prelude.{◌≡◌, ℕ, zero, suc, ◌+◌, ◌-◌, ◌*◌, ◌/◌, Bool, not, nat_lt, cond, List, [], ◌∷◌, ◌++◌, length, map, take, Option, Some, None}
 use Rattle.std.specs.Prelude.{codes, decimal}
 use Rattle.boc_plans.specs.declared.sharing.Sharing.{Sharing}
 use Rattle.boc_plans.specs.declared.sharing.Sharing.TheVariants.{Exclusive, SharedReads}
@@ -109,27 +109,31 @@ abbrev pub part_text : Names → HotCowns → HotCown → Text
 part_text names hot own =
     codes "load: " ++ name_of names own ++ codes " is held " ++ decimal own.held ++ codes " of " ++ decimal hot.span
 
--- the cown that is held for long behind a tick before which nobody can hold it
+-- the cown that keeps every order from an end before late, since no row that wrote it starts before some tick
 abbrev pub late_text : Names → HotCowns → HotCown → Text
 late_text names hot own =
     part_text names hot own ++ codes " ticks, none of them before tick " ++ decimal (held_from own)
     ++ codes "; spawn earlier, split it, or shorten what holds it"
 
 -- of a cown and some others the one that is busy until the latest tick, and of several the first
-abbrev pub busiest_last : HotCown → List HotCown → HotCown
-busiest_last own [] = own
-busiest_last own (next ∷ others) = busiest_last (cond (nat_lt (busy_until own) (busy_until next)) next own) others
+abbrev pub last_busy : HotCown → List HotCown → HotCown
+last_busy own [] = own
+last_busy own (next ∷ others) = last_busy (cond (nat_lt (busy_until own) (busy_until next)) next own) others
 
--- what of the cowns holds the rows back, where this one is held longest, and that one is busy until the latest tick: that one, where this is most of the
--- span; or else the order
+-- whether at least 75 of 100 of the ticks by which the span is above what the spawns alone need are before a tick
+abbrev pub is_late : ℕ → ℕ → ℕ → Bool
+is_late tick spawns span = not (nat_lt (tick * 100) (span * 75 + spawns * 25))
+
+-- what of the cowns holds the rows back, where this one is held longest, and that one is busy until the latest tick: that one, where no order ends before
+-- a tick so late that most of what the cowns cost is before it; or else the order
 abbrev pub by_last_text : Names → HotCowns → HotCown → HotCown → Text
-by_last_text names hot own last = cond (is_most (busy_until last) hot.span) (late_text names hot last) (order_text hot own)
+by_last_text names hot own last = cond (is_late (busy_until last) hot.spawns hot.span) (late_text names hot last) (order_text hot own)
 
 -- What of the cowns holds the rows back, where this one is held longest, and these are the others: it, where it is held for most of the span; or one
--- that is busy until then, whatever the order, since nobody can hold it sooner; or else the order.
+-- that is busy until late, whatever the order, since no row that wrote it starts sooner; or else the order.
 abbrev pub by_cowns_text : Names → HotCowns → HotCown → List HotCown → Text
 by_cowns_text names hot own others =
-    cond (is_most own.held hot.span) (load_text names hot own) (by_last_text names hot own (busiest_last own others))
+    cond (is_most own.held hot.span) (load_text names hot own) (by_last_text names hot own (last_busy own others))
 
 -- What holds the rows back, where these are the cowns, those that are held longest first: the spawns, where there is no cown, or where they alone need
 -- most of the span; and else the cowns.

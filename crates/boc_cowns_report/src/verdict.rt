@@ -3,7 +3,7 @@
 ghost use Rattle.std.specs.Prelude.{◌≡◌, ◌++◌, ◌<◌, ◌^◌, OnOk};
 ghost use Rattle.boc_names.specs.Names.{texts_of};
 ghost use Rattle.boc_cowns.specs.Hot.{busy_until, held_from};
-ghost use Rattle.boc_cowns_report.specs.CownsTexts.{busiest_last, by_cowns_text, by_last_text, is_most, late_text, load_text, order_text, part_text};
+ghost use Rattle.boc_cowns_report.specs.CownsTexts.{by_cowns_text, by_last_text, is_late, is_most, last_busy, late_text, load_text, order_text, part_text};
 ghost use Rattle.boc_cowns_report.specs.CownsTexts.{readers_text, reads_text, shared_text, span_with_text, spawns_text, verdict_text};
 
 use boc_cowns::{HotCown, HotCowns};
@@ -22,22 +22,22 @@ fn is_most(ticks: u64, span: u64) -> bool
     u128::from(ticks) * 100 >= u128::from(span) * MOST
 }
 
-// The same of the sum of two numbers of ticks.
-fn are_most(ticks: u128, span: u64) -> bool
-    requires { ticks < 2 ^ 65 }
-    ensures { result ≡ is_most ticks span }
+// Whether so many of 100 of the ticks by which the span is above what the spawns alone need are before a tick.
+fn is_late(tick: u128, spawns: u64, span: u64) -> bool
+    requires { tick < 2 ^ 65 }
+    ensures { result ≡ is_late tick spawns span }
 {
-    ticks * 100 >= u128::from(span) * MOST
+    tick * 100 >= u128::from(span) * MOST + u128::from(spawns) * (100 - MOST)
 }
 
-// The first tick at which a cown can be held.
+// A tick before which no row that wrote a cown starts, in whatever order.
 fn held_from(own: &HotCown) -> u64
     ensures { result ≡ held_from own.now }
 {
     own.from.unwrap_or(0)
 }
 
-// The tick before which the rows that wrote a cown are not all done.
+// A tick before which the rows that wrote a cown are not all done, in whatever order.
 fn busy_until(own: &HotCown) -> u128
     ensures is { result ≡ busy_until own.now }
     ensures low { result < 2 ^ 65 }
@@ -46,8 +46,8 @@ fn busy_until(own: &HotCown) -> u128
 }
 
 // Of a cown and some others the one that is busy until the latest tick, and of several the first.
-fn busiest_last(own: HotCown, others: &[HotCown]) -> HotCown
-    ensures { result ≡ busiest_last own others.now }
+fn last_busy(own: HotCown, others: &[HotCown]) -> HotCown
+    ensures { result ≡ last_busy own others.now }
 {
     match others {
         [] => own,
@@ -57,7 +57,7 @@ fn busiest_last(own: HotCown, others: &[HotCown]) -> HotCown
             } else {
                 own
             };
-            busiest_last(last, others)
+            last_busy(last, others)
         }
     }
 }
@@ -121,7 +121,7 @@ fn put_part(
     put_number(text, hot.span)
 }
 
-// Puts the cown that is held for long behind a text, and the tick before which nobody can hold it.
+// Puts the cown that keeps every order from an end before late behind a text, and the tick before which no row that wrote it starts.
 fn put_late(
     text: &mut Vec<u8>,
     names: &Names,
@@ -147,7 +147,7 @@ fn put_by_last(
 ) -> Result<(), AllocError>
     ensures { OnOk result (text.new.items ≡ text.old.items ++ by_last_text names.now hot.now own last) }
 {
-    if are_most(busy_until(&last), hot.span) {
+    if is_late(busy_until(&last), hot.spawns, hot.span) {
         put_late(text, names, hot, last)
     } else {
         put_order(text, hot, own)
@@ -167,7 +167,7 @@ fn put_by_cowns(
     if is_most(own.held, hot.span) {
         put_load(text, names, hot, own)
     } else {
-        put_by_last(text, names, hot, own, busiest_last(own, others))
+        put_by_last(text, names, hot, own, last_busy(own, others))
     }
 }
 

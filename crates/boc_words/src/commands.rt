@@ -115,7 +115,8 @@ that are held longest:
                    `boc whatif --without A --without B`
 Below stand the span, what it would be if no cown ordered anybody, and how long the busiest cown is held; and a verdict:
   spawns   they alone need at least 75 of 100 ticks of the span, so no cown is to blame: spawn earlier, or do less
-  load     or else a cown is held for as much: split it, or shorten what holds it
+  load     or else a cown is held for as much; or it is held for less, and yet no order ends before most of what the cowns cost is over, since
+           no row that wrote it starts before the tick that is told: split it, shorten what holds it, or spawn earlier
   order    or else it is the order in which behaviours are spawned and get their cowns that holds the run back
 With --record the input is a program, and the run is the one whose record is in FILE.
 

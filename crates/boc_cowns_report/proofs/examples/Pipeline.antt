@@ -7,8 +7,8 @@ use Rattle.boc_names.specs.Names.{texts_of}
 use Rattle.boc_table.specs.Tables.{table_text}
 use Rattle.boc_cowns.specs.declared.hot.HotCown.{HotCown}
 use Rattle.boc_cowns.specs.declared.hot.HotCowns.{HotCowns}
-use Rattle.boc_cowns_report.specs.CownsTexts.{cown_lines, cowns_head, cowns_sides, is_most, more_text, percent, reads_text, span_text, shared_text, told_of}
-use Rattle.boc_cowns_report.specs.CownsTexts.{verdict_text}
+use Rattle.boc_cowns_report.specs.CownsTexts.{cown_lines, cowns_head, cowns_sides, is_late, is_most, more_text, percent, reads_text, span_text}
+use Rattle.boc_cowns_report.specs.CownsTexts.{shared_text, told_of, verdict_text}
 
 abbrev pricer : HotCown
 pricer = record { cown = 1; rows = 6; wrote = 6; held = 228; from = Some 4; waited = 180; chain = 190; without = 219 }
@@ -29,6 +29,13 @@ enough = refl
 
 pub too_few : is_most 74 100 ≡ false
 too_few = refl
+
+-- a span of 94 where the spawns alone need 54: the last row of a cown can't end before 94, or before 83
+pub most_of_the_cost : is_late 94 54 94 ≡ true
+most_of_the_cost = refl
+
+pub too_soon : is_late 83 54 94 ≡ false
+too_soon = refl
 
 -- the first so many are told, and how many more there are
 pub first_of_two : told_of (Some 1) (pricer ∷ store ∷ []) ≡ pricer ∷ []

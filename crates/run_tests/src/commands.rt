@@ -93,7 +93,7 @@ const COWNS: &str = "cown    rows  wrote  held  of span  waited  chain  without
 cown 0     2      2     5      55%       1      2        8
 cown 1     2      2     5      55%       3      3        7
 span 9; by spawns alone 6; busiest cown 5
-load: cown 1 is held 5 of 9 ticks, none of them before tick 3; spawn earlier, split it, or shorten what holds it
+order: no cown is held for more than 5 of 9 ticks; the order in which behaviours ask is what holds back
 ";
 
 // A case whose answer has two parts.

@@ -24,7 +24,7 @@ const WITH_VALUE: [&[u8]; 13] = [
 ];
 
 // The command whose words are edits too.
-const WHATIF: &[u8] = b"whatif";
+pub(crate) const WHATIF: &[u8] = b"whatif";
 
 /// What is told of a word that should be an edit and is none: that with this number among those that look like one, counted from 1.
 /// The program's own name is the first of the words.

@@ -1,6 +1,7 @@
 // Faults of records.
 
 use crate::broken::put_broken;
+use crate::command_words::WHATIF;
 use crate::formed::{put_form, put_header, put_reason};
 use crate::place::{
     Beside, Place, Text, looks_like_names, looks_like_program, looks_like_record, put_pair,
@@ -55,6 +56,11 @@ fn put_program(said: &mut Said, place: Place<'_>) -> Result<(), AllocError> {
         Part::Words(place.command),
         Part::Words(" reads records: boc run FILE | boc "),
         Part::Words(place.command),
+        Part::Words(if place.command.as_bytes() == WHATIF {
+            " --program FILE"
+        } else {
+            ""
+        }),
     ])
 }
 

@@ -114,10 +114,12 @@ that are held longest:
   without          the span if it ordered nobody; where that is no less than the span, other cowns order the same behaviours: ask
                    `boc whatif --without A --without B`
 Below stand the span, what it would be if no cown ordered anybody, and how long the busiest cown is held; and a verdict:
-  spawns   they alone need at least 75 of 100 ticks of the span, so no cown is to blame: spawn earlier, or do less
+  spawns   they alone need at least 75 of 100 ticks of the span, so cowns cost a quarter of it at most: spawn earlier, or do less; a cown
+           that is held for as much may be what holds back once they are sooner
   load     or else a cown is held for as much; or it is held for less, and yet no order ends before most of what the cowns cost is over, since
            no row that wrote it starts before the tick that is told: split it, shorten what holds it, or spawn earlier
-  order    or else it is the order in which behaviours are spawned and get their cowns that holds the run back
+  order    or else the order in which behaviours are spawned and get their cowns holds the run back, as far as each cown by itself tells:
+           where they have several cowns each, no order need be much better
 With --record the input is a program, and the run is the one whose record is in FILE.
 
 Example: boc cowns --top 3 program.boc

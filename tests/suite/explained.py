@@ -22,7 +22,8 @@ PRINTABLE = set(string.printable.encode()) - set(b"\t\r\x0b\x0c")
 # Program texts, the line of their fault, and the lines behind it.
 PROGRAMS = [
     (b"", "line 1: 3 Unexpected", ["nothing came in; if a command stood before it, did that fail?"]),
-    (b"boc 2 0\n", "line 1: 3 Unexpected", ["this looks like a record; values reads programs: check, profile, whatif, curve, sweep, why and cowns read records"]),
+    (b"boc 2 0\n", "line 1: 3 Unexpected", [
+        "this looks like a record; values reads programs: check, profile, whatif, curve, sweep, why and cowns read records"]),
     (b"main {\n\tlet a = 1; # \xc3\xa9\n}\n", "line 2: 1 NotAscii", [
         " let a = 1; # ??",
         "              ^",

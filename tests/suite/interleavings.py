@@ -65,7 +65,8 @@ OF_FIVE = {1: 1, 2: 16, 3: 54, 4: 96}
 
 # What the behaviours of racing programs do to one cown and to two, and which of them they spawn.
 ON_ONE = ["x = x * 2 + 1;", "x = x - 3;", "if x > 2 { x = x - 5; } else { x = x * 3; }", "x = x * x % 7;", "work 3; x = 4;"]
-ON_TWO = ["let t = x; x = y; y = t;", "x = x + y;", "if x > y { y = x; } else { x = x + 1; }", "if x < y { when one0(; x); } y = y * 2;", "when one1(; y); x = 9;"]
+ON_TWO = ["let t = x; x = y; y = t;", "x = x + y;", "if x > y { y = x; } else { x = x + 1; }", "if x < y { when one0(; x); } y = y * 2;",
+          "when one1(; y); x = 9;"]
 SPAWNS = ["when one0(; a);", "when one1(; a);", "when one0(; b);", "when two0(; a, b);", "when two0(; b, a);", "when two1(; a, b);"]
 
 # How far an open behaviour is. Asking, flagging and leaving are at one of its cowns, in rising order.

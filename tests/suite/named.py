@@ -8,7 +8,8 @@ from .plans import random_rows, record_of
 from .running import done, fault_of, refused
 
 EXAMPLES = ["transfer.boc", "pipeline.boc", "bank.boc", "scaling.boc", "accounts.boc", "four_squares.boc", "peeks.boc", "two_orders.boc", "overflow.boc",
-            "same_cown_twice.boc", "anomaly_cown.boc", "anomaly_two_workers.boc", "philosophers.boc", "scoreboard.boc", "tree.boc", "division.boc", "race.boc", "commute.boc"]
+            "same_cown_twice.boc", "anomaly_cown.boc", "anomaly_two_workers.boc", "philosophers.boc", "scoreboard.boc", "tree.boc",
+             "division.boc", "race.boc", "commute.boc"]
 
 # What is told of the cowns of these runs, by one thread.
 PIPELINE = """\

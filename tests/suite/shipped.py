@@ -56,7 +56,8 @@ class Copy:
         self.tools = os.path.join(room, "tools")
         self.kit = os.path.join(room, "kit")
         for part in ["bin", "completions", "crates", "dist", "man"]:
-            shutil.copytree(os.path.join(TOP, part), os.path.join(self.top, part), symlinks=True, ignore=shutil.ignore_patterns("out", "build.log", "__pycache__"))
+            shutil.copytree(os.path.join(TOP, part), os.path.join(self.top, part), symlinks=True,
+                            ignore=shutil.ignore_patterns("out", "build.log", "__pycache__"))
         for part in ["crates.txt", "HANDLES"]:
             shutil.copy(os.path.join(TOP, part), self.top)
         os.mkdir(self.tools)
@@ -302,7 +303,8 @@ def installs():
         yield "install into two folders", refusal(copy.run("a", "b", command="bin/install"), 2, "one folder")
         yield "install into no folder", refusal(copy.run("-p", command="bin/install"), 2, "bin/install [PREFIX]")
         answer = copy.run("--help", command="bin/install")
-        yield "help of install", None if answer.status == 0 and b"usage" in answer.output and not os.path.exists(copy.path("--help")) else f"it answered {answer}"
+        is_help = answer.status == 0 and b"usage" in answer.output and not os.path.exists(copy.path("--help"))
+        yield "help of install", None if is_help else f"it answered {answer}"
         with open(os.path.join(copy.room, "file"), "w"):
             pass
         yield "install below a file", refusal(copy.run(os.path.join(copy.room, "file"), command="bin/install"), 73, "can't be written to")

@@ -382,7 +382,8 @@ def cases(program):
     shared = program.run(["why", "--shared-reads"], program.example("peeks.boc"))
     yield "peeks.boc: why --shared-reads", fault_of(done(PEEKS_SHARED.encode()), shared)
     for name in ["transfer.boc", "pipeline.boc", "bank.boc", "scaling.boc", "accounts.boc", "four_squares.boc", "two_orders.boc", "overflow.boc",
-                 "same_cown_twice.boc", "anomaly_cown.boc", "anomaly_two_workers.boc", "philosophers.boc", "scoreboard.boc", "tree.boc", "division.boc", "race.boc", "commute.boc"]:
+                 "same_cown_twice.boc", "anomaly_cown.boc", "anomaly_two_workers.boc", "philosophers.boc", "scoreboard.boc", "tree.boc",
+                  "division.boc", "race.boc", "commute.boc"]:
         yield from of_record(program, f"the record of {name}", program.run(["run"], program.example(name)).output)
     yield from of_record(program, "a fan", fan_text(3, fan(60, lambda number: (number % 3,), lambda number: 1 + number % 5)))
     yield from of_record(program, "a tower", tower_text(tower(40)))

@@ -185,5 +185,5 @@ def refusals(program):
     yield "a wrong text", fault_of(refused(3, "boc: line 1: 2 BadToken"), program.run(["outcomes"], b"main { ? }"))
     many = b"cown a = 0; def f(; x) { repeat 300 { when g(; a); } } def g(; x) { x = 1; } main { repeat 300 { when f(; a); } }"
     yield "too many behaviours", fault_of(refused(4, "boc: run: 2 Behaviours"), program.run(["outcomes", "--runs", "2", "--workers", "3"], many))
-    told = done(b"runs 5\nrows 1 1\nspans 1 1\noutcome 5 seed 9 span 1 1\n")
-    yield "no cowns", fault_of(told, program.run(["outcomes", "--runs", "5", "--seed", "9"], b"main { }"))
+    no_cown = done(b"runs 5\nrows 1 1\nspans 1 1\noutcome 5 seed 9 span 1 1\n")
+    yield "no cowns", fault_of(no_cown, program.run(["outcomes", "--runs", "5", "--seed", "9"], b"main { }"))

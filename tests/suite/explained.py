@@ -252,7 +252,7 @@ PROGRAMS = [
         "def f(n; x) { x = f(n); }",
         "                   ^",
         "`(` is not allowed behind `f` on line 1",
-        "allowed there: `;`, `+`, `-`, ..",
+        "allowed there: `+`, `-`, `*`, ..",
         "a value is no call: a def is spawned by `when`, and gives no value"]),
     (b"main { let mut i = 0; }\n", "line 1: 3 Unexpected", [
         "main { let mut i = 0; }",

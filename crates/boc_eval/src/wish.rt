@@ -32,7 +32,7 @@ impl SpawnWish {
         }
     }
 
-    /// Takes over what a body asked for, and leaves there what was here.
+    /// Takes over what a body asked for. What is left there says nothing.
     #[inline(always)]
     pub(crate) fn take_over(&mut self, asked: &mut Asked)
         ensures { wish_of self.new ≡ wish_asked asked.old }

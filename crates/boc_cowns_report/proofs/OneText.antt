@@ -46,7 +46,7 @@ module _ (a b : Names) (same : CallTheSame a b) (hot other : HotCowns) (span : h
 
   by_cowns_same : (own : HotCown) (others : List HotCown) → by_cowns_text a hot own others ≡ by_cowns_text b other own others
   by_cowns_same own others = λ i. cond (is_most own.held (span i))
-      (codes "load: " ++ text_at (same.cowns i) own.cown ++ codes " is held " ++ decimal own.held ++ codes " of " ++ decimal (span i)
+      ((codes "load: " ++ text_at (same.cowns i) own.cown ++ codes " is held " ++ decimal own.held ++ codes " of " ++ decimal (span i))
       ++ codes " ticks; split it, or shorten what holds it")
       (by_last_same own (last_busy own others) i)
 

@@ -92,22 +92,20 @@ spawns_text hot =
     codes "spawns: they alone need " ++ decimal hot.spawns ++ codes " of " ++ decimal hot.span
     ++ codes " ticks; spawn earlier, or do less"
 
+-- for how much of the span a cown is held
+abbrev pub part_text : Names → HotCowns → HotCown → Text
+part_text names hot own =
+    codes "load: " ++ name_of names own ++ codes " is held " ++ decimal own.held ++ codes " of " ++ decimal hot.span
+
 -- the cown that is held for long
 abbrev pub load_text : Names → HotCowns → HotCown → Text
-load_text names hot own =
-    codes "load: " ++ name_of names own ++ codes " is held " ++ decimal own.held ++ codes " of " ++ decimal hot.span
-    ++ codes " ticks; split it, or shorten what holds it"
+load_text names hot own = part_text names hot own ++ codes " ticks; split it, or shorten what holds it"
 
 -- the order, where no cown is held for longer than this one
 abbrev pub order_text : HotCowns → HotCown → Text
 order_text hot own =
     codes "order: no cown is held for more than " ++ decimal own.held ++ codes " of " ++ decimal hot.span
     ++ codes " ticks; the order in which behaviours ask is what holds back"
-
--- for how much of the span a cown is held
-abbrev pub part_text : Names → HotCowns → HotCown → Text
-part_text names hot own =
-    codes "load: " ++ name_of names own ++ codes " is held " ++ decimal own.held ++ codes " of " ++ decimal hot.span
 
 -- the cown that keeps every order from an end before late, since no row that wrote it starts before some tick
 abbrev pub late_text : Names → HotCowns → HotCown → Text

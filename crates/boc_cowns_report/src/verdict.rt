@@ -74,36 +74,6 @@ fn put_spawns(text: &mut Vec<u8>, hot: &HotCowns) -> Result<(), AllocError>
     Ok(())
 }
 
-// Puts the cown that is held for long behind a text.
-fn put_load(
-    text: &mut Vec<u8>,
-    names: &Names,
-    hot: &HotCowns,
-    own: HotCown,
-) -> Result<(), AllocError>
-    ensures { OnOk result (text.new.items ≡ text.old.items ++ load_text names.now hot.now own) }
-{
-    text.extend_from_slice(b"load: ")?;
-    text.extend_from_slice(text_at(&names.cowns, own.cown as usize))?;
-    text.extend_from_slice(b" is held ")?;
-    put_number(text, own.held)?;
-    text.extend_from_slice(b" of ")?;
-    put_number(text, hot.span)?;
-    text.extend_from_slice(b" ticks; split it, or shorten what holds it")
-}
-
-// Puts the order behind a text, where no cown is held for longer than this one.
-fn put_order(text: &mut Vec<u8>, hot: &HotCowns, own: HotCown) -> Result<(), AllocError>
-    ensures { OnOk result (text.new.items ≡ text.old.items ++ order_text hot.now own) }
-{
-    text.extend_from_slice(b"order: no cown is held for more than ")?;
-    put_number(text, own.held)?;
-    text.extend_from_slice(b" of ")?;
-    put_number(text, hot.span)?;
-    text.extend_from_slice(b" ticks; the order in which behaviours ask is what holds back")?;
-    Ok(())
-}
-
 // Puts for how much of the span a cown is held behind a text.
 fn put_part(
     text: &mut Vec<u8>,
@@ -119,6 +89,32 @@ fn put_part(
     put_number(text, own.held)?;
     text.extend_from_slice(b" of ")?;
     put_number(text, hot.span)
+}
+
+// Puts the cown that is held for long behind a text.
+fn put_load(
+    text: &mut Vec<u8>,
+    names: &Names,
+    hot: &HotCowns,
+    own: HotCown,
+) -> Result<(), AllocError>
+    ensures { OnOk result (text.new.items ≡ text.old.items ++ load_text names.now hot.now own) }
+{
+    put_part(text, names, hot, own)?;
+    text.extend_from_slice(b" ticks; split it, or shorten what holds it")?;
+    Ok(())
+}
+
+// Puts the order behind a text, where no cown is held for longer than this one.
+fn put_order(text: &mut Vec<u8>, hot: &HotCowns, own: HotCown) -> Result<(), AllocError>
+    ensures { OnOk result (text.new.items ≡ text.old.items ++ order_text hot.now own) }
+{
+    text.extend_from_slice(b"order: no cown is held for more than ")?;
+    put_number(text, own.held)?;
+    text.extend_from_slice(b" of ")?;
+    put_number(text, hot.span)?;
+    text.extend_from_slice(b" ticks; the order in which behaviours ask is what holds back")?;
+    Ok(())
 }
 
 // Puts the cown that keeps every order from an end before late behind a text, and the tick before which no row that wrote it starts.

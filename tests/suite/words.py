@@ -244,6 +244,8 @@ def cases(program):
     record = program.example("transfer.record")
     for words in HELP:
         yield f"help by {words}", fault_of_help(program.run(words, record))
+    for command in commands_in(program.run(["--help"], b"").output.decode()):
+        yield f"what help says of the input of {command}", fault_of_input(program.run(["help", command], b"").output.decode())
     for words, text in TAKEN:
         yield f"taken {words}", fault_of(done(text.encode()), program.run(words, record))
     for words, text in RUNS:
@@ -259,6 +261,18 @@ def cases(program):
         for source in (record, b"no record"):
             answer = program.run(["whatif", *edits], source)
             yield f"misspelt {edits}", fault_of(expected, answer)
+
+
+def commands_in(text):
+    """The commands that a text of help names, but help itself."""
+    lines = text[text.index("Commands:\n"):].split("\n\n")[0].split("\n")[1:]
+    return [line.split()[0] for line in lines if line.split()[0] != "help"]
+
+
+def fault_of_input(text):
+    """The help of a command says that its input comes from FILE or from standard input, and has an example."""
+    lacking = [word for word in ("FILE", "standard input", "Example") if word not in text]
+    return f"it has no {lacking[0]!r}" if lacking else None
 
 
 def fault_of_help(answer):

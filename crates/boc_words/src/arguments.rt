@@ -253,8 +253,8 @@ pub(crate) const INPUT: Operands = Operands {
 pub(crate) const EDITS: Operands = Operands {
     id: "edits",
     value_name: "FILE|EDIT",
-    help: "A word with neither = nor @ is the FILE with the record, as for the other commands; each other word is an edit and changes \
-        a row: ROW=TICKS takes so many ticks, ROW@OFFSET is spawned at that tick of its parent, \
+    help: "A word with neither = nor @ is the FILE with the record, which is read from standard input where none is given, or where it is -; \
+        each other word is an edit and changes a row: ROW=TICKS takes so many ticks, ROW@OFFSET is spawned at that tick of its parent, \
         ROW=K/D costs that part and spawns its children so much sooner or later, DEF=K/D is the same for each row \
         of a def; edits are made in their order",
 };

@@ -45,6 +45,8 @@ pub(crate) struct Allowed {
     pub tokens: Vec<&'static [u8]>,
     /// `;` is allowed there.
     pub semicolon: bool,
+    /// And behind it what was found there.
+    pub semicolon_lacks: bool,
     /// A name is allowed there.
     pub name: bool,
 }
@@ -70,6 +72,7 @@ pub(crate) fn allowed_behind(
     let mut before = Vec::new(alloc);
     let mut alone = Vec::new(alloc);
     let mut semicolon = false;
+    let mut semicolon_lacks = false;
     let mut name = false;
     for candidate in &CANDIDATES {
         let fit = fit_of(alloc, front, candidate, found)?;
@@ -78,13 +81,16 @@ pub(crate) fn allowed_behind(
             Fit::Alone => alone.push(*candidate)?,
             Fit::Before => before.push(*candidate)?,
         }
-        semicolon |= *candidate == b";".as_slice();
+        let is_semicolon = *candidate == b";".as_slice();
+        semicolon |= is_semicolon;
+        semicolon_lacks |= is_semicolon && fit == Fit::Before;
         name |= *candidate == NAME;
     }
     before.extend_from_slice(&alone)?;
     Ok(Allowed {
         tokens: before,
         semicolon,
+        semicolon_lacks,
         name,
     })
 }

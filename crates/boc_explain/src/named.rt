@@ -37,14 +37,37 @@ pub(crate) fn put_unknown(
             put_other(said, text, &other, at)?;
             put_wanted(said, wanted, &other)
         }
-        None => said.line(&[
-            Part::Words(match wanted {
-                Use::Def => "no def is called ",
-                Use::Cown => "no cown is called ",
-                Use::Value => "no parameter and no `let` is called ",
-            }),
-            Part::Quote(word.bytes),
-        ]),
+        None => {
+            said.line(&[
+                Part::Words(match wanted {
+                    Use::Def => "no def is called ",
+                    Use::Cown => "no cown is called ",
+                    Use::Value => "no parameter and no `let` is called ",
+                }),
+                Part::Quote(word.bytes),
+            ])?;
+            put_undeclared(said, words, word)
+        }
+    }
+}
+
+// Tells of a name that isn't declared anywhere how a local is, where it is written, or what truth is.
+fn put_undeclared(said: &mut Said, words: &[Word<'_>], word: &Word<'_>) -> Result<(), AllocError> {
+    let before = words.iter().rev().find(|other| other.at < word.at);
+    let behind = words.iter().find(|other| other.at > word.at);
+    let begins = before.is_some_and(|word| word.is(b";") || word.is(b"{") || word.is(b"}"));
+    if begins && behind.is_some_and(|word| word.is(b"=")) {
+        return said.line(&[
+            Part::Words("a local is declared by `let "),
+            Part::Bytes(word.bytes),
+            Part::Words(" = ..;`"),
+        ]);
+    }
+    match word.bytes {
+        b"true" | b"false" | b"True" | b"False" => said.line(&[Part::Words(
+            "values are whole numbers: a comparison is 1 where it holds, and 0 elsewhere",
+        )]),
+        _ => Ok(()),
     }
 }
 

@@ -178,8 +178,13 @@ fn put_no_token(said: &mut Said, rest: &[u8]) -> Result<(), AllocError> {
 // What is written here in place of what a sign begins in other languages.
 fn other_words(sign: &[u8]) -> &'static str {
     match sign {
-        b"&" => ": both of two conditions hold where their product does, `(x == 1) * (y == 2)`",
-        b"|" => ": one of two conditions holds where their sum does, `(x == 1) + (y == 2)`",
+        b"&" => {
+            ": of two comparisons both hold where their product is 1, `(x == 1) * (y == 2)`, and both are worked out"
+        }
+        b"|" => {
+            ": of two comparisons one holds where their sum isn't 0, `(x == 1) + (y == 2)`, and both are worked out"
+        }
+        b":" => ": nothing has a type, all values are whole numbers",
         b"!" => ": `x == 0` is 1 where x is 0, and 0 elsewhere",
         b"\"" | b"'" => ": there are no texts, and values are whole numbers",
         b"." => ": values are whole numbers",

@@ -31,9 +31,11 @@ pub(crate) fn put_unexpected(
         None => b"",
     };
     let allowed = allowed_behind(alloc, front, bytes)?;
+    let on_later_line = before.is_some_and(|before| line_number(text, before.at)
+        < line_number(text, at));
     if let Some(before) = before
-        && allowed.semicolon
-        && line_number(text, before.at) < line_number(text, at)
+        && (allowed.semicolon && on_later_line
+            || allowed.semicolon_lacks && ends_statement(bytes))
     {
         put_place(said, text, before.end())?;
         return said.line(&[
@@ -77,6 +79,11 @@ fn open_blocks<'a>(
         }
     }
     Ok(open)
+}
+
+// A statement or a block ended in front of this.
+fn ends_statement(found: &[u8]) -> bool {
+    matches!(found, b"}") || is_keyword(found)
 }
 
 // No block has this: the end of the text, or a word that begins a declaration.

@@ -111,13 +111,13 @@ that are held longest:
                    don't count
   waited           how many ticks rows wait for it between their spawn and their start; where a row waits for several, they count for each
   chain            how many ticks of the chain that holds the run back go by until it is handed on
-  without          the span if it ordered nobody; where that is no less than the span, other cowns order the same behaviours: ask
-                   `boc whatif --without A --without B`
+  without          the span if it ordered nobody; where that is no less than the span, it orders no rows of the chain, or other cowns order the
+                   same rows too: ask `boc whatif --without A --without B`
 Below stand the span, what it would be if no cown ordered anybody, and how long the busiest cown is held; and a verdict:
-  spawns   they alone need at least 75 of 100 ticks of the span, so cowns cost a quarter of it at most: spawn earlier, or do less; a cown
-           that is held for as much may be what holds back once they are sooner
-  load     or else a cown is held for as much; or it is held for less, and yet no order ends before most of what the cowns cost is over, since
-           no row that wrote it starts before the tick that is told: split it, shorten what holds it, or spawn earlier
+  spawns   the spawns alone need at least 75 of 100 ticks of the span, so other orders of cowns save a quarter at most: spawn earlier, or do
+           less; once rows are spawned earlier, a cown that is held for long may be what holds back
+  load     or else one cown is held for at least 75 of 100 ticks of the span: split it, or shorten what holds it; or it is held for fewer, but
+           so late that in every order most of what the cowns cost is there: no row that wrote it starts before the tick that is told
   order    or else the order in which behaviours are spawned and get their cowns holds the run back, as far as each cown by itself tells:
            where they have several cowns each, no order need be much better
 With --record the input is a program, and the run is the one whose record is in FILE.

@@ -218,27 +218,32 @@ fn put_change(said: &mut Said, round: Round<'_>) -> Result<(), AllocError> {
     ])
 }
 
+// What is written in place of what stands behind a name at the front of a statement, where that is the same for all names.
+fn statement_hint(words: &[Word<'_>], round: Round<'_>) -> Option<&'static str> {
+    match (round.lead, round.before, round.found) {
+        (b"let", _, b";") => Some("a local begins with a value: `let NAME = 0;`"),
+        (_, b"while" | b"for" | b"loop", _) => Some("the one loop there is: `repeat N { .. }`"),
+        (_, b"break" | b"continue", _) => Some("a `repeat` goes all its rounds"),
+        (_, b"return", _) => Some("a body ends where its block ends"),
+        (_, b"elif", _) => Some(ELSE_IF),
+        (_, b"sleep" | b"wait", b"(") => Some("`work N;` takes N ticks"),
+        (_, b"print" | b"println" | b"printf" | b"echo", _)
+            if !declares(words, b"def", round.before) => { Some(PRINTED) }
+        _ => None,
+    }
+}
+
 // Tells what is written in place of what stands behind a name at the front of a statement.
 fn put_statement(said: &mut Said, words: &[Word<'_>], round: Round<'_>) -> Result<(), AllocError> {
-    let words_for = match (round.lead, round.before, round.found) {
-        (b"let", _, b";") => "a local begins with a value: `let NAME = 0;`",
-        (_, b"while" | b"for" | b"loop", _) => "the one loop there is: `repeat N { .. }`",
-        (_, b"break" | b"continue", _) => "a `repeat` goes all its rounds",
-        (_, b"return", _) => "a body ends where its block ends",
-        (_, b"elif", _) => ELSE_IF,
-        (_, b"sleep" | b"wait", b"(") => "`work N;` takes N ticks",
-        (_, b"print" | b"println" | b"printf" | b"echo", _)
-            if !declares(words, b"def", round.before) => { PRINTED }
-        (_, _, b"(") => return put_spawn(said, words, round.before),
-        (_, _, b"[") => return put_member(said, words, round.before),
-        (_, b"spawn" | b"When" | b"go" | b"async", _) => {
-            return put_spawn(said, words, round.found);
-        }
-        (_, b"mut" | b"int" | b"long" | b"var" | b"const" | b"auto", _) => {
-            return put_local(said, round);
-        }
-        (_, _, b"+" | b"-" | b"*" | b"/" | b"%") => return put_change(said, round),
-        _ => return Ok(()),
-    };
-    said.line(&[Part::Words(words_for)])
+    if let Some(hint) = statement_hint(words, round) {
+        return said.line(&[Part::Words(hint)]);
+    }
+    match (round.before, round.found) {
+        (_, b"(") => put_spawn(said, words, round.before),
+        (_, b"[") => put_member(said, words, round.before),
+        (b"spawn" | b"When" | b"go" | b"async", _) => put_spawn(said, words, round.found),
+        (b"mut" | b"int" | b"long" | b"var" | b"const" | b"auto", _) => put_local(said, round),
+        (_, b"+" | b"-" | b"*" | b"/" | b"%") => put_change(said, round),
+        _ => Ok(()),
+    }
 }

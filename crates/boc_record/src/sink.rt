@@ -48,7 +48,6 @@ impl EventSink for Judge {
         self
     }
 
-    #[inline(always)]
     fn hand_over(&mut self, event: Event) -> Result<(), RuleFault> {
         Judge::take(self, event)
     }

@@ -43,7 +43,43 @@ PROGRAMS = [
     (b"main { work 1 & 2; }", "line 1: 2 BadToken", [
         "main { work 1 & 2; }",
         "              ^",
+        "`&` begins no token"]),
+    (b"main { work 1 && 2; }", "line 1: 2 BadToken", [
+        "main { work 1 && 2; }",
+        "              ^",
         "`&` begins no token: of two comparisons both hold where their product is 1, `(x == 1) * (y == 2)`, and both are worked out"]),
+    (b"main { work 1 || 2; }", "line 1: 2 BadToken", [
+        "main { work 1 || 2; }",
+        "              ^",
+        "`|` begins no token: of two comparisons one holds where their sum isn't 0, `(x == 1) + (y == 2)`, and both are worked out"]),
+    (b"main { let x := 1; }", "line 1: 2 BadToken", [
+        "main { let x := 1; }",
+        "             ^",
+        "`:` begins no token: a local is declared by `let NAME = ..;`"]),
+    (b"main:\n    work 1\n", "line 1: 2 BadToken", [
+        "main:",
+        "    ^",
+        "`:` begins no token: a block is `{ .. }`"]),
+    (b"def f(; c) { c.x = 1; }\nmain { }\n", "line 1: 2 BadToken", [
+        "def f(; c) { c.x = 1; }",
+        "              ^",
+        "`.` begins no token: a name has no members"]),
+    (b"main { for i in 0..9 { } }", "line 1: 2 BadToken", [
+        "main { for i in 0..9 { } }",
+        "                 ^",
+        "`.` begins no token: the one loop there is: `repeat N { .. }`"]),
+    (b"main { work 1.5; }", "line 1: 2 BadToken", [
+        "main { work 1.5; }",
+        "             ^",
+        "`.` begins no token: values are whole numbers"]),
+    (b"main { let x = 1 ? 2 : 3; }", "line 1: 2 BadToken", [
+        "main { let x = 1 ? 2 : 3; }",
+        "                 ^",
+        "`?` begins no token: an `if` is a statement, and no value: `if .. { .. } else { .. }`"]),
+    (b"def f(; c) { c =! 1; }\nmain { }\n", "line 1: 2 BadToken", [
+        "def f(; c) { c =! 1; }",
+        "                ^",
+        "`!` begins no token: `x != y` is 1 where they differ"]),
     (b"main { work 1\x00; }", "line 1: 2 BadToken", [
         "main { work 1?; }",
         "             ^",
@@ -120,7 +156,8 @@ PROGRAMS = [
         "def f(; x) { } }",
         "               ^",
         "`}` is not allowed behind `}` on line 1",
-        "allowed there: `def`, `main`"]),
+        "allowed there: `def`, `main`",
+        "a `}` too many"]),
     (b"cown a[0] = 0; main { }\n", "line 1: 3 Unexpected", [
         "cown a[0] = 0; main { }",
         "       ^",
@@ -133,7 +170,7 @@ PROGRAMS = [
         "    log = 1;",
         "    ^",
         "`log` is a cown, declared on line 1",
-        "a body reads and writes a cown by a parameter alone: name it in the `when` that spawns the body"]),
+        "main has no cown: what reads and writes one is a def, which a `when` spawns over it"]),
     (b"cown a = 0;\nmain { when a(; a); }\n", "line 2: 5 UnknownName", [
         "main { when a(; a); }",
         "            ^",
@@ -247,13 +284,13 @@ PROGRAMS = [
         "      ^",
         "`;` is not allowed behind `a` on line 1",
         "allowed there: `=`, `[`",
-        "a cown begins with a number: `cown NAME = 0;`"]),
+        "each cown is declared by itself, with a number: `cown NAME = 0;`"]),
     (b"cown a, b = 0;\nmain { }\n", "line 1: 3 Unexpected", [
         "cown a, b = 0;",
         "      ^",
         "`,` is not allowed behind `a` on line 1",
         "allowed there: `=`, `[`",
-        "each cown is declared by itself: `cown NAME = 0;`"]),
+        "each cown is declared by itself, with a number: `cown NAME = 0;`"]),
     (b"x = 1;\nmain { }\n", "line 1: 3 Unexpected", [
         "x = 1;",
         "^",
@@ -386,7 +423,114 @@ PROGRAMS = [
         "main { if 1 work 2; }",
         "            ^",
         "`work` is not allowed behind `1` on line 1",
-        "allowed there: `{`, `+`, `-`, .."]),
+        "allowed there: `{`, `+`, `-`, ..",
+        "a block is `{ .. }`"]),
+    (b"main {\n    cown b = 0;\n}\n", "line 2: 3 Unexpected", [
+        "    cown b = 0;",
+        "    ^",
+        "`cown` is not allowed behind `{` on line 1",
+        "allowed there: `}`, a name, `let`, ..",
+        "cowns and defs stand outside all bodies, cowns first"]),
+    (b"main { main(); }\n", "line 1: 3 Unexpected", [
+        "main { main(); }",
+        "       ^",
+        "`main` is not allowed behind `{` on line 1",
+        "allowed there: `}`, a name, `let`, ..",
+        "`main` stands once, outside all other bodies, and nothing spawns it"]),
+    (b"def f(;) { }\nint main() { }\n", "line 2: 3 Unexpected", [
+        "int main() { }",
+        "^",
+        "`int` is not allowed behind `}` on line 1",
+        "allowed there: `def`, `main`",
+        "`main { .. }` stands by itself, behind the defs"]),
+    (b"def f(;) { }\nlet n = 3;\nmain { }\n", "line 2: 3 Unexpected", [
+        "let n = 3;",
+        "^",
+        "`let` is not allowed behind `}` on line 1",
+        "allowed there: `def`, `main`",
+        "cowns stand before the defs: `cown NAME = 0;`"]),
+    (b"def f(n;) { }\nmain { let x = 1; when f(x = 5;); }\n", "line 2: 3 Unexpected", [
+        "main { let x = 1; when f(x = 5;); }",
+        "                           ^",
+        "`=` is not allowed behind `x` on line 2",
+        "allowed there: `;`, `,`, `+`, .."]),
+    (b"main { if 1 => 1 { } }\n", "line 1: 3 Unexpected", [
+        "main { if 1 => 1 { } }",
+        "            ^",
+        "`=` is not allowed behind `1` on line 1",
+        "allowed there: `{`, `+`, `-`, ..",
+        "`x >= y` is 1 where x is at least y"]),
+    (b"main { work 1); }\n", "line 1: 3 Unexpected", [
+        "main { work 1); }",
+        "             ^",
+        "`)` is not allowed behind `1` on line 1",
+        "allowed there: `;`, `+`, `-`, ..",
+        "a `)` too many"]),
+    (b"cown a = 0);\nmain { }\n", "line 1: 3 Unexpected", [
+        "cown a = 0);",
+        "          ^",
+        "`)` is not allowed behind `0` on line 1",
+        "allowed there: `;`",
+        "a `)` too many"]),
+    (b"main { let x = 1 if 1 else 2; }\n", "line 1: 3 Unexpected", [
+        "main { let x = 1 if 1 else 2; }",
+        "                 ^",
+        "`if` is not allowed behind `1` on line 1",
+        "allowed there: `;`, `+`, `-`, ..",
+        "an `if` is a statement, and no value: `if .. { .. } else { .. }`"]),
+    (b"def f(;) { }\nmain { let x = when f(;); }\n", "line 2: 3 Unexpected", [
+        "main { let x = when f(;); }",
+        "               ^",
+        "`when` is not allowed behind `=` on line 2",
+        "allowed there: `(`, a name, a number, ..",
+        "a spawn gives no value: what a behaviour finds it writes to a cown"]),
+    (b"main { else { } }\n", "line 1: 3 Unexpected", [
+        "main { else { } }",
+        "       ^",
+        "`else` is not allowed behind `{` on line 1",
+        "allowed there: `}`, a name, `let`, ..",
+        "an `else` stands behind the `}` of its `if`"]),
+    (b"main { if 1 { }; }\n", "line 1: 3 Unexpected", [
+        "main { if 1 { }; }",
+        "               ^",
+        "`;` is not allowed behind `}` on line 1",
+        "allowed there: `}`, a name, `let`, ..",
+        "a `;` ends a statement, and none stands behind a block"]),
+    (b"def f(x; cown c) { }\nmain { }\n", "line 1: 3 Unexpected", [
+        "def f(x; cown c) { }",
+        "         ^",
+        "`cown` is not allowed behind `;` on line 1",
+        "a name is allowed there, and `cown` is a keyword",
+        "parameters are names alone: those behind the `;` are cowns"]),
+    (b"def f(;) -> int { }\nmain { }\n", "line 1: 3 Unexpected", [
+        "def f(;) -> int { }",
+        "         ^",
+        "`-` is not allowed behind `)` on line 1",
+        "allowed there: `{`",
+        "a def has no type, and gives no value"]),
+    (b"def f(;) { }\nmain { when f; }\n", "line 2: 3 Unexpected", [
+        "main { when f; }",
+        "             ^",
+        "`;` is not allowed behind `f` on line 2",
+        "allowed there: `(`",
+        "a spawn has a list, also where it is empty: `when NAME(values; cowns);`"]),
+    (b"cown a[2];\nmain { }\n", "line 1: 3 Unexpected", [
+        "cown a[2];",
+        "         ^",
+        "`;` is not allowed behind `]` on line 1",
+        "allowed there: `=`",
+        "the members of an array begin with one number: `cown NAME[N] = 0;`"]),
+    (b"main { return 3; }\n", "line 1: 3 Unexpected", [
+        "main { return 3; }",
+        "              ^",
+        "`3` is not allowed behind `return` on line 1",
+        "allowed there: `=`",
+        "a body ends where its block ends, and gives no value: what it finds it writes to a cown"]),
+    (b"cown a = 0;\ndef g(n; c) { }\ndef f(n; c) { when g(a; c); }\nmain { }\n", "line 3: 5 UnknownName", [
+        "def f(n; c) { when g(a; c); }",
+        "                     ^",
+        "`a` is a cown, declared on line 1",
+        "what stands before the `;` of a `when` is a number: a body reads a cown by its parameter"]),
     (b"main {\n    sleep(10);\n}\n", "line 2: 3 Unexpected", [
         "    sleep(10);",
         "         ^",

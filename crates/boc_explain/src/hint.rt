@@ -12,6 +12,10 @@ struct Round<'a> {
     before: &'a [u8],
     found: &'a [u8],
     behind: &'a [u8],
+    // It stands in the condition of an `if`.
+    is_condition: bool,
+    // A parenthesis that was opened before it isn't closed.
+    is_open: bool,
 }
 
 // How an `if` stands behind an `else`.
@@ -23,6 +27,28 @@ const COMMENT: &str = "a comment begins with `#`, and ends with its line";
 // Where the values and the cowns of a list stand.
 const COWNS_BEHIND: &str =
     "values stand first, then a `;`, then cowns: `(x, y; a, b)`; where there are no values `(; a, b)`";
+
+// What a list is that has nothing.
+const EMPTY: &str =
+    "a `;` stands before the cowns, also where there are none: `(x; a)`, `(; a)`, `(x;)`, `(;)`";
+
+// Where cowns are declared.
+const COWNS_FIRST: &str = "cowns stand before the defs: `cown NAME = 0;`";
+
+// How main stands.
+const MAIN_ALONE: &str = "`main { .. }` stands by itself, behind the defs";
+
+// How parameters are declared.
+const NAMES_ALONE: &str = "parameters are names alone: those behind the `;` are cowns";
+
+// What a spawn gives.
+const NO_VALUE: &str = "a spawn gives no value: what a behaviour finds it writes to a cown";
+
+// What an `if` is.
+const IF_STATEMENT: &str = "an `if` is a statement, and no value: `if .. { .. } else { .. }`";
+
+// What a block is.
+const BLOCK: &str = "a block is `{ .. }`";
 
 // What tells values.
 const PRINTED: &str = "a program prints nothing: `boc values` tells what its cowns end with";
@@ -52,7 +78,35 @@ fn words_round<'a>(words: &[Word<'a>], at: usize) -> Round<'a> {
         before: bytes_of(before),
         found: bytes_of(found),
         behind: bytes_of(behind),
+        is_condition: is_condition(words, at),
+        is_open: is_open(words, at),
     }
+}
+
+// The word at a place stands in the condition of an `if`.
+fn is_condition(words: &[Word<'_>], at: usize) -> bool {
+    for word in words.iter().rev().skip_while(|word| word.at >= at) {
+        match word.bytes {
+            b"if" => return true,
+            b";" | b"{" | b"}" | b"=" | b"let" | b"when" | b"work" | b"repeat" => return false,
+            _ => {}
+        }
+    }
+    false
+}
+
+// In front of a place more parentheses are opened than closed, behind the last brace.
+fn is_open(words: &[Word<'_>], at: usize) -> bool {
+    let mut depth: usize = 0;
+    for word in words.iter().take_while(|word| word.at < at) {
+        match word.bytes {
+            b"{" | b"}" => depth = 0,
+            b"(" => depth = depth.saturating_add(1),
+            b")" => depth = depth.saturating_sub(1),
+            _ => {}
+        }
+    }
+    depth > 0
 }
 
 /// Tells what is written here in place of what was found, where that is known from other languages.
@@ -69,31 +123,59 @@ pub(crate) fn put_hint(
     if is_bracket(round.found) && allowed.has(b"+") {
         return put_member(said, words, round.before);
     }
-    let hint = if allowed.has(b"main") {
-        declaration_hint(round)
-    } else if allowed.has(b"+") {
-        value_hint(round, allowed)
-    } else {
-        hint(round, allowed)
-    };
-    match hint {
+    match hint(round, allowed) {
         Some(hint) => said.line(&[Part::Words(hint)]),
         None => Ok(()),
     }
 }
 
-// What is written where a declaration may begin.
-fn declaration_hint(round: Round<'_>) -> Option<&'static str> {
+// What is written in place of what was found, by what may stand there.
+fn hint(round: Round<'_>, allowed: &Allowed) -> Option<&'static str> {
+    if allowed.has(b"main") {
+        declaration_hint(round, allowed.has(b"cown"))
+    } else if allowed.has(b"let") {
+        body_hint(round)
+    } else if allowed.has(b"+") {
+        value_hint(round, allowed)
+    } else if allowed.semicolon {
+        list_hint(round)
+    } else {
+        other_hint(round, allowed)
+    }
+}
+
+// What is written where a declaration may begin, one of a cown or not.
+fn declaration_hint(round: Round<'_>, is_of_cown: bool) -> Option<&'static str> {
     match (round.found, round.behind) {
         (b"/", b"/" | b"*") => Some(COMMENT),
+        (b"int" | b"void" | b"fn" | b"func" | b"function", b"main") => Some(MAIN_ALONE),
         (b"fn" | b"fun" | b"func" | b"function", _) => Some("a behaviour is declared by `def`"),
+        (b"cown", _) => Some(COWNS_FIRST),
         (b"let" | b"var" | b"int" | b"const" | b"global", _) | (_, b"=") => {
-            Some("outside the bodies stand cowns, each with a number: `cown NAME = 0;`")
+            Some(if is_of_cown {
+                "outside the bodies stand cowns, each with a number: `cown NAME = 0;`"
+            } else {
+                COWNS_FIRST
+            })
         }
         (b"work" | b"when" | b"if" | b"repeat", _) => {
             Some("statements stand in a body: that of a def, or of `main { .. }`")
         }
+        (b"}", _) => Some("a `}` too many"),
         (b"", _) => Some("a program ends with `main { .. }`"),
+        _ => None,
+    }
+}
+
+// What is written where a statement may begin.
+fn body_hint(round: Round<'_>) -> Option<&'static str> {
+    match (round.found, round.behind) {
+        (b"/", b"/" | b"*") => Some(COMMENT),
+        (b"cown" | b"def", _) => Some("cowns and defs stand outside all bodies, cowns first"),
+        (b"main", _) => Some("`main` stands once, outside all other bodies, and nothing spawns it"),
+        (b"else", _) => Some("an `else` stands behind the `}` of its `if`"),
+        (b";", _) => Some("a `;` ends a statement, and none stands behind a block"),
+        (b"+" | b"-", b"+" | b"-") => Some("what changes is written out: `x = x + 1;`"),
         _ => None,
     }
 }
@@ -106,8 +188,10 @@ fn value_hint(round: Round<'_>, allowed: &Allowed) -> Option<&'static str> {
     match (round.before, round.found, round.behind) {
         (_, b"/", b"/" | b"*") => Some(COMMENT),
         (b"not", _, _) => Some("`x == 0` is 1 where x is 0, and 0 elsewhere"),
+        (_, b")", _) if !round.is_open => Some("a `)` too many"),
         (_, b")", _) if allowed.semicolon => Some(COWNS_BEHIND),
-        (_, b"=", _) => Some("two values are compared by `==`"),
+        (_, b"=", b">") => Some("`x >= y` is 1 where x is at least y"),
+        (_, b"=", _) if round.is_condition => Some("two values are compared by `==`"),
         (_, b"(", _) => Some("a value is no call: a def is spawned by `when`, and gives no value"),
         (_, b"and", _) => Some(
             "of two comparisons both hold where their product is 1: `(x == 1) * (y == 2)`, and both are worked out",
@@ -115,35 +199,46 @@ fn value_hint(round: Round<'_>, allowed: &Allowed) -> Option<&'static str> {
         (_, b"or", _) => Some(
             "of two comparisons one holds where their sum isn't 0: `(x == 1) + (y == 2)`, and both are worked out",
         ),
+        (_, b"if", _) => Some(IF_STATEMENT),
+        _ if allowed.has(b"{") => Some(BLOCK),
+        _ => None,
+    }
+}
+
+// What is written where the values of a list, or a list of parameters, may end.
+fn list_hint(round: Round<'_>) -> Option<&'static str> {
+    match (round.before, round.found) {
+        (b"(", b")") => Some(EMPTY),
+        (_, b")") if !round.is_open => Some("a `)` too many"),
+        (_, b")") => Some(COWNS_BEHIND),
+        (b"int" | b"long" | b"mut" | b"var", _) => {
+            Some("parameters have no types: `(x, y; a, b)`")
+        }
+        (_, b"cown" | b"let") => Some(NAMES_ALONE),
         _ => None,
     }
 }
 
 // What is written elsewhere in place of a token that may not be there.
-fn hint(round: Round<'_>, allowed: &Allowed) -> Option<&'static str> {
+fn other_hint(round: Round<'_>, allowed: &Allowed) -> Option<&'static str> {
     match (round.before, round.found, round.behind) {
         (_, b"/", b"/" | b"*") => Some(COMMENT),
         (b"else", b"if", _) => Some(ELSE_IF),
-        (b"def", b"main", _) => Some("`main { .. }` stands by itself, behind the defs"),
+        (b"def", b"main", _) => Some(MAIN_ALONE),
         (b"main", b"(", _) => Some("`main` takes nothing: `main { .. }`"),
-        (b"(", b")", _) if allowed.semicolon => {
-            Some(
-                "a `;` stands before the cowns, also where there are none: `(x; a)`, `(; a)`, `(x;)`, `(;)`",
-            )
-        }
-        (_, b")", _) if allowed.semicolon => Some(COWNS_BEHIND),
-        (_, b";", _) if allowed.has(b"=") && allowed.has(b"[") => {
-            Some("a cown begins with a number: `cown NAME = 0;`")
-        }
-        (_, b",", _) if allowed.has(b"=") && allowed.has(b"[") => {
-            Some("each cown is declared by itself: `cown NAME = 0;`")
-        }
-        (b"int" | b"long" | b"mut" | b"var", _, _) if allowed.has(b",") => {
-            Some("parameters have no types: `(x, y; a, b)`")
+        (_, b";" | b",", _) if allowed.has(b"=") && allowed.has(b"[") => {
+            Some("each cown is declared by itself, with a number: `cown NAME = 0;`")
         }
         (b"when", b"(", _) => {
             Some("a behaviour is a def of the program: `when NAME(values; cowns);`")
         }
+        (_, b";" | b"{", _) if round.lead == b"when".as_slice() => {
+            Some("a spawn has a list, also where it is empty: `when NAME(values; cowns);`")
+        }
+        (b";" | b",", b"cown" | b"let", _) => Some(NAMES_ALONE),
+        (_, b"when", _) if allowed.has(b"1") => Some(NO_VALUE),
+        (_, b"if", _) if allowed.has(b"1") => Some(IF_STATEMENT),
+        (b")", _, _) if allowed.has(b"{") => Some("a def has no type, and gives no value"),
         _ => None,
     }
 }
@@ -222,11 +317,19 @@ fn put_change(said: &mut Said, round: Round<'_>) -> Result<(), AllocError> {
 fn statement_hint(words: &[Word<'_>], round: Round<'_>) -> Option<&'static str> {
     match (round.lead, round.before, round.found) {
         (b"let", _, b";") => Some("a local begins with a value: `let NAME = 0;`"),
-        (_, b"while" | b"for" | b"loop", _) => Some("the one loop there is: `repeat N { .. }`"),
+        (_, b"]", b";") => Some(
+            "the members of an array begin with one number: `cown NAME[N] = 0;`",
+        ),
+        (_, b"]", b"[") => Some("an array has one size"),
+        (_, b"while" | b"for" | b"loop" | b"do" | b"foreach" | b"until", _) => Some(
+            "the one loop there is: `repeat N { .. }`",
+        ),
         (_, b"break" | b"continue", _) => Some("a `repeat` goes all its rounds"),
-        (_, b"return", _) => Some("a body ends where its block ends"),
+        (_, b"return", _) => Some(
+            "a body ends where its block ends, and gives no value: what it finds it writes to a cown",
+        ),
         (_, b"elif", _) => Some(ELSE_IF),
-        (_, b"sleep" | b"wait", b"(") => Some("`work N;` takes N ticks"),
+        (_, b"sleep" | b"wait", _) => Some("`work N;` takes N ticks"),
         (_, b"print" | b"println" | b"printf" | b"echo", _)
             if !declares(words, b"def", round.before) => { Some(PRINTED) }
         _ => None,
@@ -243,7 +346,9 @@ fn put_statement(said: &mut Said, words: &[Word<'_>], round: Round<'_>) -> Resul
         (_, b"[") => put_member(said, words, round.before),
         (b"spawn" | b"When" | b"go" | b"async", _) => put_spawn(said, words, round.found),
         (b"mut" | b"int" | b"long" | b"var" | b"const" | b"auto", _) => put_local(said, round),
-        (_, b"+" | b"-" | b"*" | b"/" | b"%") => put_change(said, round),
+        (_, b"+" | b"-" | b"*" | b"/" | b"%") if round.behind != b">".as_slice() => put_change(
+            said, round,
+        ),
         _ => Ok(()),
     }
 }

@@ -13,7 +13,9 @@ enum Use {
     Def,
     /// A cown of a `when`.
     Cown,
-    /// A value.
+    /// A value of a `when`.
+    Argument,
+    /// A value elsewhere.
     Value,
 }
 
@@ -35,14 +37,14 @@ pub(crate) fn put_unknown(
     match other {
         Some(other) => {
             put_other(said, text, &other, at)?;
-            put_wanted(said, wanted, &other)
+            put_wanted(said, wanted, &other, is_in_main(words, at))
         }
         None => {
             said.line(&[
                 Part::Words(match wanted {
                     Use::Def => "no def is called ",
                     Use::Cown => "no cown is called ",
-                    Use::Value => "no parameter and no `let` is called ",
+                    Use::Argument | Use::Value => "no parameter and no `let` is called ",
                 }),
                 Part::Quote(word.bytes),
             ])?;
@@ -93,15 +95,27 @@ fn put_other(
 }
 
 // Tells what is asked for in place of what a name is.
-fn put_wanted(said: &mut Said, wanted: Use, other: &Declaration<'_>) -> Result<(), AllocError> {
+fn put_wanted(
+    said: &mut Said,
+    wanted: Use,
+    other: &Declaration<'_>,
+    is_main: bool,
+) -> Result<(), AllocError> {
     let words = match (wanted, other.thing) {
         (Use::Def, _) => "behind `when` stands a def",
         (Use::Cown, _) => "a cown of a `when` is a global one or a cown parameter",
+        (Use::Argument | Use::Value, Thing::Cown | Thing::Array) if is_main => {
+            "main has no cown: what reads and writes one is a def, which a `when` spawns over it"
+        }
+        (Use::Argument, Thing::Cown | Thing::Array) => {
+            "what stands before the `;` of a `when` is a number: a body reads a cown by its parameter"
+        }
         (Use::Value, Thing::Cown | Thing::Array) => {
             "a body reads and writes a cown by a parameter alone: name it in the `when` that spawns the body"
         }
-        (Use::Value, Thing::Def { .. }) => "only a `when` names a def",
-        (Use::Value, _) => "a `let` is in scope from behind its statement to the end of its block",
+        (Use::Argument | Use::Value, Thing::Def { .. }) => "only a `when` names a def",
+        (Use::Argument | Use::Value, _) =>
+            "a `let` is in scope from behind its statement to the end of its block",
     };
     said.line(&[Part::Words(words)])
 }
@@ -120,10 +134,10 @@ fn use_of(words: &[Word<'_>], at: usize) -> Use {
             b"[" if depth == 0 => return Use::Value,
             b"(" if depth == 0 => {
                 let called = before.nth(1).is_some_and(|word| word.is(b"when"));
-                return if called && behind {
-                    Use::Cown
-                } else {
-                    Use::Value
+                return match (called, behind) {
+                    (true, true) => Use::Cown,
+                    (true, false) => Use::Argument,
+                    _ => Use::Value,
                 };
             }
             b"(" | b"[" => depth = depth.saturating_sub(1),
@@ -133,6 +147,13 @@ fn use_of(words: &[Word<'_>], at: usize) -> Use {
         first = false;
     }
     Use::Value
+}
+
+// A place stands in the body of main.
+fn is_in_main(words: &[Word<'_>], at: usize) -> bool {
+    let begins = words.iter().rev().find(|word| word.at < at
+        && (word.is(b"def") || word.is(b"main")));
+    begins.is_some_and(|word| word.is(b"main"))
 }
 
 /// Tells of a name that is taken what has it.

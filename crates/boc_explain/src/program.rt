@@ -71,7 +71,7 @@ fn put_fault(
     kind: ReadFaultKind,
     at: usize,
 ) -> Result<(), AllocError> {
-    let (_, rest) = text.split_at(at.min(text.len()));
+    let (front, rest) = text.split_at(at.min(text.len()));
     match kind {
         ReadFaultKind::NotAscii => {
             put_place(said, text, at)?;
@@ -79,7 +79,7 @@ fn put_fault(
         }
         ReadFaultKind::BadToken => {
             put_place(said, text, at)?;
-            put_bad_token(said, rest)
+            put_bad_token(said, front, rest)
         }
         ReadFaultKind::NumberTooLarge => {
             put_place(said, text, at)?;
@@ -136,10 +136,10 @@ fn put_large(said: &mut Said, rest: &[u8]) -> Result<(), AllocError> {
 }
 
 // Bytes that form no token: a number that is none, a name that is too long, or a sign that there isn't.
-fn put_bad_token(said: &mut Said, rest: &[u8]) -> Result<(), AllocError> {
+fn put_bad_token(said: &mut Said, front: &[u8], rest: &[u8]) -> Result<(), AllocError> {
     let (run, _) = rest.split_at(run_len(rest).min(rest.len()));
     match run {
-        [] => put_no_token(said, rest),
+        [] => put_no_token(said, front, rest),
         [b'0', others @ ..] if others.iter().all(|byte| byte.is_ascii_digit()) => {
             said.line(&[
                 Part::Quote(run),
@@ -158,36 +158,56 @@ fn put_bad_token(said: &mut Said, rest: &[u8]) -> Result<(), AllocError> {
     }
 }
 
-// Tells of the first byte, which is of no name and no number, that it begins no token.
-fn put_no_token(said: &mut Said, rest: &[u8]) -> Result<(), AllocError> {
-    let (sign, _) = rest.split_at(rest.len().min(1));
+// Tells of the first byte behind this front, which is of no name and no number, that it begins no token.
+fn put_no_token(said: &mut Said, front: &[u8], rest: &[u8]) -> Result<(), AllocError> {
+    let (sign, behind) = rest.split_at(rest.len().min(1));
     match sign {
         [byte] if !byte.is_ascii_graphic() => said.line(&[
             Part::Words("the byte "),
             Part::Hex(*byte),
             Part::Words(" begins no token"),
         ]),
+        [b':', ..] => said.line(&[
+            Part::Quote(sign),
+            Part::Words(" begins no token"),
+            Part::Words(colon_words(behind)),
+        ]),
         _ => said.line(&[
             Part::Quote(sign),
             Part::Words(" begins no token"),
-            Part::Words(other_words(sign)),
+            Part::Words(other_words(front, rest)),
         ]),
     }
 }
 
-// What is written here in place of what a sign begins in other languages.
-fn other_words(sign: &[u8]) -> &'static str {
-    match sign {
-        b"&" => {
+// What is written here in place of what a colon in front of these bytes is in other languages.
+fn colon_words(behind: &[u8]) -> &'static str {
+    match behind {
+        [b'=', ..] => ": a local is declared by `let NAME = ..;`",
+        [b' ', next, ..] if next.is_ascii_alphabetic() => {
+            ": nothing has a type, all values are whole numbers"
+        }
+        [] | [b'\n' | b'\r' | b' ', ..] => ": a block is `{ .. }`",
+        _ => "",
+    }
+}
+
+// What is written here in place of what the sign between these bytes is in other languages.
+fn other_words(front: &[u8], rest: &[u8]) -> &'static str {
+    match (front, rest) {
+        (_, [b'&', b'&', ..]) => {
             ": of two comparisons both hold where their product is 1, `(x == 1) * (y == 2)`, and both are worked out"
         }
-        b"|" => {
+        (_, [b'|', b'|', ..]) => {
             ": of two comparisons one holds where their sum isn't 0, `(x == 1) + (y == 2)`, and both are worked out"
         }
-        b":" => ": nothing has a type, all values are whole numbers",
-        b"!" => ": `x == 0` is 1 where x is 0, and 0 elsewhere",
-        b"\"" | b"'" => ": there are no texts, and values are whole numbers",
-        b"." => ": values are whole numbers",
+        ([.., b'='], [b'!', ..]) => ": `x != y` is 1 where they differ",
+        (_, [b'!', ..]) => ": `x == 0` is 1 where x is 0, and 0 elsewhere",
+        (_, [b'"' | b'\'', ..]) => ": there are no texts, and values are whole numbers",
+        (_, [b'.', b'.', ..]) => ": the one loop there is: `repeat N { .. }`",
+        ([.., digit], [b'.', ..]) if digit.is_ascii_digit() => ": values are whole numbers",
+        (_, [b'.', ..]) => ": a name has no members",
+        (_, [b'?', ..]) => ": an `if` is a statement, and no value: `if .. { .. } else { .. }`",
         _ => "",
     }
 }

@@ -52,6 +52,7 @@ pub(crate) fn put_unexpected(
         && let Some(outermost) = open.first()
         && ends_no_block(bytes)
         && allowed.has(b"}")
+        && opens_more(&words)
     {
         let lines = [
             line_number(text, innermost.at),
@@ -81,9 +82,16 @@ fn open_blocks<'a>(
     Ok(open)
 }
 
-// A statement or a block ended in front of this.
+// A statement or a block ended in front of this. An `if` behind a value is rather meant as one.
 fn ends_statement(found: &[u8]) -> bool {
-    matches!(found, b"}") || is_keyword(found)
+    matches!(found, b"}") || is_keyword(found) && !matches!(found, b"if" | b"else")
+}
+
+// The text has more braces that begin a block than such as end one.
+fn opens_more(words: &[Word<'_>]) -> bool {
+    let begun = words.iter().filter(|word| word.is(b"{")).count();
+    let ended = words.iter().filter(|word| word.is(b"}")).count();
+    begun > ended
 }
 
 // No block has this: the end of the text, or a word that begins a declaration.
@@ -147,7 +155,7 @@ fn put_found<'a>(
 
 // What is allowed in place of these bytes.
 fn put_allowed(said: &mut Said, bytes: &[u8], allowed: &Allowed) -> Result<(), AllocError> {
-    if allowed.name && is_keyword(bytes) {
+    if allowed.name && is_keyword(bytes) && !allowed.has(b"1") && !allowed.has(b"let") {
         return said.line(&[
             Part::Words("a name is allowed there, and "),
             Part::Quote(bytes),

@@ -1,8 +1,10 @@
 -- The text of a record that goes out while it is formed.
-use Rattle.std.proofs.Common.{ℕ, ◌≤◌, ◌-◌, List, [], ◌∷◌, ◌++◌, Option, take, drop, length, length-drop, append_assoc, take-append-drop, refl, sym, ap, subst}
-use Rattle.std.proofs.Common.{◌∙◌, arith}
-use Rattle.std.specs.Prelude.{◌≡◌}
-use Rattle.std.proofs.lemmas.List.{take_all}
+use Rattle.std.proofs.Common.{ℕ, suc, ◌+◌, ◌≤◌, ◌-◌, List, [], ◌∷◌, ◌++◌, Option, take, drop, length, length-drop, append_assoc, take-append-drop}
+use Rattle.std.proofs.Common.{refl, sym, ap, subst, ◌∙◌, arith}
+use Rattle.std.specs.Prelude.{◌≡◌, slice_get, Some}
+use Rattle.std.proofs.Math.Seq.{take-add}
+use Rattle.std.proofs.lemmas.List.{drop_more, take_all}
+use Rattle.std.proofs.lemmas.Option.{slice_get_within, get_or_from_slice_get}
 use Rattle.boc_runs.specs.declared.event.Event.{Event}
 use Rattle.boc_runs.specs.Records.{Recorded, IsRecord}
 use Rattle.boc_record.specs.RecordTexts.{Version, Second, line, header, event_line, event_lines}
@@ -19,6 +21,30 @@ lines_append v [] more = refl
 lines_append v (event ∷ first) more =
     ap (λ xs. line (event_line v event) ++ xs) (lines_append v first more)
     ∙ sym (append_assoc (line (event_line v event)) (event_lines v first) (event_lines v more))
+
+-- the lines up to a place and the next ones are those up to a later place
+pub lines_on : (v : Version) (events : List Event) (first next : ℕ) → first ≤ next
+    → event_lines v (take first events) ++ event_lines v (take (next - first) (drop first events)) ≡ event_lines v (take next events)
+lines_on v events first next near =
+    sym (lines_append v (take first events) (take (next - first) (drop first events)))
+    ∙ ap (event_lines v) (sym (take-add first (next - first) events) ∙ ap (λ (n : ℕ). take n events) (omega (arith, near)))
+
+none_between : (n : ℕ) → 0 ≡ n - n
+none_between n = omega arith
+
+-- from a place on up to itself there is no line
+pub no_lines : (v : Version) (events : List Event) (n : ℕ) → [] ≡ event_lines v (take (n - n) (drop n events))
+no_lines v events n = ap (λ (m : ℕ). event_lines v (take m (drop n events))) (none_between n)
+
+-- the line of an event and those of the next ones
+pub line_in_front : (v : Version) (events : List Event) (place next all left : ℕ) (event : Event) → slice_get events place ≡ Some event
+    → next ≡ place + 1 → all ≡ suc left
+    → line (event_line v event) ++ event_lines v (take left (drop next events)) ≡ event_lines v (take all (drop place events))
+line_in_front v events place next all left event at one more =
+    ap (λ (n : ℕ). line (event_line v event) ++ event_lines v (take left (drop n events))) one
+    ∙ ap (λ (x : Event). event_lines v (take (suc left) (x ∷ drop (place + 1) events))) (sym (get_or_from_slice_get events place event event at))
+    ∙ ap (λ (xs : List Event). event_lines v (take (suc left) xs)) (sym (drop_more events place event (slice_get_within events place event at)))
+    ∙ ap (λ (n : ℕ). event_lines v (take n (drop place events))) (sym more)
 
 -- a text of which the first lines had come when it stopped has stopped as well where all were to come
 pub stops_within : (v : Version) (gone : ℕ) (before : List ℕ) (events : List Event) (i : ℕ) (old new : Option (List ℕ))

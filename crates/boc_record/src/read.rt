@@ -114,7 +114,8 @@ fn read_header<S: Source>(
     }
 }
 
-// Reads the next line, in this version and behind this run: an event, or `None` for the last line.
+// Reads the next line, in this version and behind this run: an event, or `None` for the last line. It is read where its caller keeps it.
+#[inline(always)]
 fn next_item<S: Source>(
     lines: &mut Lines,
     source: &mut S,

@@ -48,6 +48,7 @@ impl EventSink for Judge {
         self
     }
 
+    #[inline(always)]
     fn hand_over(&mut self, event: Event) -> Result<(), RuleFault> {
         Judge::take(self, event)
     }

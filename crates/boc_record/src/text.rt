@@ -1,6 +1,6 @@
 // From a record to its text.
 
-ghost use Rattle.std.specs.Prelude.{◌≡◌, ◌<◌, ◌≤◌, ◌+◌, ◌*◌, [], ◌∷◌, ◌++◌, ℕ, List, Option, suc, codes, length, drop, OnOk, OnErr, MatchResult};
+ghost use Rattle.std.specs.Prelude.{◌≡◌, ◌<◌, ◌≤◌, ◌+◌, ◌*◌, [], ◌∷◌, ◌++◌, ℕ, List, Option, suc, codes, length, drop, take, ◌-◌, OnOk, OnErr, MatchResult};
 ghost use Rattle.boc_record.specs.RecordTexts.{Second, field, fields, line, header, event_line, event_lines, record_text, status_number};
 ghost use Rattle.std.specs.Io.KnownBytes.{Appends};
 ghost use Rattle.boc_text.specs.Streams.{StopsAt};
@@ -26,6 +26,12 @@ const MOST_FIELD: usize = MOST_DIGITS + 1;
 
 // The most bytes of a line. It has a mark, at most eleven numbers, and a line feed.
 const MOST_BYTES: usize = 256;
+
+// How many lines are formed one in front of the other, and go out together.
+const TOGETHER: usize = 64;
+
+// The room in which they are formed.
+const ROOM: usize = TOGETHER * MOST_BYTES;
 
 // The most events of a record: three for each row.
 const MOST_EVENTS: usize = 3 * MOST_ROWS;
@@ -55,19 +61,17 @@ fn send_record<W: Sink>(text: &mut Outgoing, record: &Record, sink: &mut W) -> R
     let mut room = [b'\n'; MOST_BYTES];
     let begin = header_before(&mut room, record.cowns());
     text.put(&room[begin..], sink)?;
-    send_events(text, &mut room, &record.events(), sink)?;
+    send_events(text, &record.events(), sink)?;
     text.put(b".\n", sink)?;
     text.send(sink)
 }
 
-// Puts the lines of events behind a text that goes out. They are formed in a room that all lines share.
+// Puts the lines of events behind a text that goes out. Those that go out together are formed in a room that all share.
 fn send_events<W: Sink>(
     text: &mut Outgoing,
-    room: &mut [u8],
     events: &Events<'_>,
     sink: &mut W,
 ) -> Result<(), Stopped>
-    requires room { length room.old ≡ MOST_BYTES }
     requires few { length events.now ≤ MOST_EVENTS }
     requires size { size text.old ≤ MOST_BYTES }
     requires failures { W.failures sink.old < u64.MAX }
@@ -77,11 +81,34 @@ fn send_events<W: Sink>(
     ensures size { OnOk result (size text.new ≤ MOST_BYTES + MOST_BYTES * length events.now) }
     ensures failures { MatchResult result (λ _. W.failures sink.new ≡ W.failures sink.old) (λ _. W.failures sink.new ≡ W.failures sink.old + 1) }
 {
-    for place in 0..events.len() {
-        let begin = line_before(room, &events.get(place));
+    let mut room = [b'\n'; ROOM];
+    let mut first = 0;
+    while first < events.len() {
+        let behind = events.len().min(first + TOGETHER);
+        let begin = lines_before(&mut room, events, first, behind);
         text.put(&room[begin..], sink)?;
+        first = behind;
     }
     Ok(())
+}
+
+// Forms the lines of the events from a place on up to another at the end of a room, and says where they begin.
+fn lines_before(room: &mut [u8], events: &Events<'_>, first: usize, behind: usize) -> usize
+    requires room { length room.old ≡ ROOM }
+    requires ordered { first ≤ behind }
+    requires within { behind ≤ length events.now }
+    requires few { behind ≤ first + TOGETHER }
+    ensures written { drop result room.new ≡ event_lines Second (take (behind - first) (drop first events.now)) }
+    ensures near { (result ≤ ROOM) × (ROOM ≤ result + MOST_BYTES * (behind - first)) }
+    ensures long { length room.new ≡ ROOM }
+{
+    let mut place = behind;
+    let mut begin = ROOM;
+    while place > first {
+        place -= 1;
+        begin = line_before(room, begin, &events.get(place));
+    }
+    begin
 }
 
 /// Puts the lines of events behind a text, as the second version of records has them. `AllocError` says that memory was refused;
@@ -104,7 +131,7 @@ fn put_event(text: &mut Vec<u8>, room: &mut [u8], event: &Event) -> Result<(), A
     ensures ok { OnOk result (text.new.items ≡ text.old.items ++ line (event_line Second event.now)) }
     ensures err { OnErr result (text.new.items ≡ text.old.items) }
 {
-    let begin = line_before(room, event);
+    let begin = last_line_before(room, event);
     text.extend_from_slice(&room[begin..])
 }
 
@@ -123,12 +150,21 @@ fn header_before(room: &mut [u8], cowns: u32) -> usize
 }
 
 // Forms the line of an event at the end of a room, and says where it begins.
-fn line_before(room: &mut [u8], event: &Event) -> usize
+fn last_line_before(room: &mut [u8], event: &Event) -> usize
     requires { length room.old ≡ MOST_BYTES }
     ensures written { drop result room.new ≡ line (event_line Second event.now) }
     ensures within { result ≤ MOST_BYTES }
 {
-    let feed = end_line(room);
+    line_before(room, MOST_BYTES, event)
+}
+
+// Forms the line of an event in front of what a room has from a place on, and says where it begins.
+fn line_before(room: &mut [u8], place: usize, event: &Event) -> usize
+    requires room { (MOST_BYTES ≤ place) × (place ≤ length room.old) }
+    ensures written { drop result room.new ≡ line (event_line Second event.now) ++ drop place room.old }
+    ensures near { (result ≤ place) × (place ≤ result + MOST_BYTES) }
+{
+    let feed = mark_before(room, place, b'\n');
     match event {
         Event::Spawn {
             row,
@@ -166,10 +202,10 @@ fn end_line(room: &mut [u8]) -> usize
 
 // Puts cowns in front of the line feed of a line, and says where they begin.
 fn cowns_before(line: &mut [u8], feed: usize, cowns: &Cowns) -> usize
-    requires long { length line.old ≡ MOST_BYTES }
-    requires feed { suc feed ≡ MOST_BYTES }
+    requires room { (MOST_BYTES ≤ suc feed) × (feed < length line.old) }
     ensures written { drop result line.new ≡ fields cowns.now.items ++ drop feed line.old }
     ensures room { (4 * MOST_FIELD < result) × (result < length line.new) }
+    ensures near { (result ≤ feed) × (feed ≤ result + MOST_FIELD * MOST_HELD) }
 {
     let count = cowns.len();
     prove!(count <= MOST_HELD);
@@ -187,7 +223,7 @@ fn three_before(
 ) -> usize
     requires room { (4 * MOST_FIELD < place) × (place < length line.old) }
     ensures written { drop result line.new ≡ mark ∷ fields (first ∷ second ∷ third ∷ []) ++ drop place line.old }
-    ensures near { result ≤ place }
+    ensures near { (result ≤ place) × (place ≤ result + 4 * MOST_FIELD) }
 {
     let at = field_before(line, place, third);
     let at = field_before(line, at, second);

@@ -78,6 +78,13 @@ pub(crate) const RUNNERS: NumberOption = NumberOption {
     help: "Runs the program by N threads, 1 to 16; 1 if not given. They run it; --p plans what has run",
 };
 
+/// How many threads run a program, where no plan is asked for.
+pub(crate) const RUNNERS_ALONE: NumberOption = NumberOption {
+    help: "Runs the program by N threads, 1 to 16; 1 if not given. Ticks are counted and not timed: more threads change what is told \
+        where rows come in another order",
+    ..RUNNERS
+};
+
 /// By which seed the worker that moves next is picked.
 pub(crate) const SEED: NumberOption = NumberOption {
     id: "seed",

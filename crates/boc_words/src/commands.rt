@@ -9,8 +9,8 @@ ghost use Rattle.boc_words.specs.Words.{IsNoneOf, Told, command_line, without_co
 use crate::arguments::Argument::{Flag, Number, Repeated, Word, Words};
 use crate::arguments::{
     ALL, Argument, BEST, CURVE_WORKERS, DEPTH, DRAWN_DEPTH, DRAWN_WORKERS, EDITS, FIRST_SEED,
-    INPUT, NAMES, NO_PLAN, PROGRAM, QUIET, RECORD, RUNNERS, RUNS, SEED, SHARING, SHORT,
-    SWEEP_COWNS, SWEEP_SPAWNS, SWEEP_WORKERS, TOP, WHY_WORKERS, WITHOUT, WORKERS,
+    INPUT, NAMES, NO_PLAN, PROGRAM, QUIET, RECORD, RUNNERS, RUNNERS_ALONE, RUNS, SEED, SHARING,
+    SHORT, SWEEP_COWNS, SWEEP_SPAWNS, SWEEP_WORKERS, TOP, WHY_WORKERS, WITHOUT, WORKERS,
 };
 use crate::version::VERSION;
 use std::alloc::{AllocError, Global};
@@ -109,17 +109,17 @@ that are held longest:
   rows, wrote      how many rows have it, and how many of them wrote it
   held, of span    for how many ticks one row alone has it, and what part of the span that is; with --shared-reads rows that only read it
                    don't count
-  waited           how many ticks rows wait for it between their spawn and their start; where a row waits for several, they count for each
-  chain            how many ticks of the chain that holds the run back go by until it is handed on
-  without          the span if it ordered nobody; where that is no less than the span, it orders no rows of the chain, or other cowns order the
-                   same rows too: ask `boc whatif --without A --without B`
+  waited           how many ticks its rows wait for it between their spawn and their start, added up; where a row waits for several, for each
+  chain            how many ticks of the chain that holds the run back go by until it is handed on, added over the rows that hand it on there
+  without          the span if it ordered nobody; where that is no less than the span, to free it alone wins nothing: it orders no rows of the
+                   chain, or others order the same rows: ask `boc run P | boc whatif --program P --short --without A --without B`
 Below stand the span, what it would be if no cown ordered anybody, and how long the busiest cown is held; and a verdict:
   spawns   the spawns alone need at least 75 of 100 ticks of the span, so other orders of cowns save a quarter at most: spawn earlier, or do
            less; once rows are spawned earlier, a cown that is held for long may be what holds back
-  load     or else one cown is held for at least 75 of 100 ticks of the span: split it, or shorten what holds it; or it is held for fewer, but
-           so late that in every order most of what the cowns cost is there: no row that wrote it starts before the tick that is told
-  order    or else the order in which behaviours are spawned and get their cowns holds the run back, as far as each cown by itself tells:
-           where they have several cowns each, no order need be much better
+  load     or else one cown is held for at least 75 of 100 ticks of the span: split it, or shorten what holds it. Or it is held for fewer, but
+           in every order so late that most of what the cowns cost is there: then the line tells before which tick no row that wrote it starts
+  order    or else another order of the behaviours may end sooner, as far as each cown by itself tells; where they have several cowns each, it
+           need not
 With --record the input is a program, and the run is the one whose record is in FILE.
 
 Example: boc cowns --top 3 program.boc
@@ -212,7 +212,7 @@ Statuses are told by `boc --help`.",
 const RUN: Entry = Entry {
     about: "Reads a program, runs it by several threads, and prints the record of the run",
     takes: &[
-        Number(RUNNERS),
+        Number(RUNNERS_ALONE),
         Number(SEED),
         Number(DEPTH),
         Flag(QUIET),
@@ -302,7 +302,7 @@ const WHY: Entry = Entry {
 const COWNS: Entry = Entry {
     about: "Reads a program or the record of a run, and tells which cowns are held and waited for, and whether they hold the run back",
     takes: &[
-        Number(RUNNERS),
+        Number(RUNNERS_ALONE),
         Number(SEED),
         Number(DEPTH),
         Flag(SHARING),

@@ -5,10 +5,10 @@ ghost use Rattle.boc_report.specs.Texts.{bound_line, number_line, served_line, s
 ghost use Rattle.boc_text.specs.Outgoing.{Puts, size};
 ghost use Rattle.boc_text.specs.Streams.{CountsFailure};
 ghost use Rattle.boc_report.specs.Parts.{IsWhole, part_of};
-ghost use Rattle.boc_report.specs.declared.number_line.TheConstants.{MOST_LINES, MOST_PART};
-ghost use Rattle.boc_report.specs.declared.greedy_lines.TheConstants.{MOST_FRAME, MOST_SERVED};
+ghost use Rattle.boc_report.specs.declared.number_line.TheConstants.{MOST_LINES, MOST_PART, TOGETHER};
+ghost use Rattle.boc_report.specs.declared.greedy_lines.TheConstants.{MOST_FRAME, MOST_SERVED, SERVED_ROOM};
 
-use crate::number_line::{MOST_FIELD, number_before, word_before};
+use crate::number_line::{MOST_FIELD, TOGETHER, number_before, word_before};
 use boc_greedy::Greedy;
 use boc_text::{Outgoing, Sink, Stopped, write_before};
 
@@ -17,6 +17,9 @@ const MOST_FRAME: usize = 2 * MOST_FIELD + 10;
 
 /// The most bytes of the line of a row.
 const MOST_SERVED: usize = 4 * MOST_FIELD;
+
+/// The room in which lines of rows are formed that go out together.
+const SERVED_ROOM: usize = TOGETHER * MOST_SERVED;
 
 /// The greedy part of a report: the number of workers, each row with its worker, unless it is wanted without rows, and the end with its bound.
 pub(crate) fn put_greedy<W: Sink>(
@@ -63,7 +66,7 @@ fn put_rows<W: Sink>(
     put_served(out, &greedy.starts, &greedy.ends, &greedy.workers, sink)
 }
 
-// The lines of the rows of a greedy plan.
+// The lines of the rows of a greedy plan. Those that go out together are formed in a room that all share.
 fn put_served<W: Sink>(
     out: &mut Outgoing,
     starts: &[u64],
@@ -80,12 +83,48 @@ fn put_served<W: Sink>(
     ensures size { OnOk result (size out.new ≤ size out.old + MOST_SERVED * length starts.now) }
     ensures failures { CountsFailure result (W.failures sink.old) (W.failures sink.new) }
 {
-    let mut room = [0; MOST_SERVED];
-    for row in 0..starts.len() {
-        let begin = served_before(&mut room, row as u64, starts[row], ends[row], workers[row]);
+    let mut room = [0; SERVED_ROOM];
+    let mut first = 0;
+    while first < starts.len() {
+        let behind = starts.len().min(first + TOGETHER);
+        let begin = served_rows_before(
+            &mut room,
+            first,
+            &starts[first..behind],
+            &ends[first..behind],
+            &workers[first..behind],
+        );
         out.put(&room[begin..], sink)?;
+        first = behind;
     }
     Ok(())
+}
+
+// Forms the lines of rows of a greedy plan, of which the first has this number, at the end of a room, and says where they begin.
+fn served_rows_before(
+    room: &mut [u8],
+    first: usize,
+    starts: &[u64],
+    ends: &[u64],
+    workers: &[u32],
+) -> usize
+    requires room { length room.old ≡ SERVED_ROOM }
+    requires ends { length starts.now ≡ length ends.now }
+    requires workers { length starts.now ≡ length workers.now }
+    requires few { length starts.now ≤ TOGETHER }
+    requires numbers { first + length starts.now ≤ MOST_LINES }
+    ensures written { drop result room.new ≡ served_lines first starts.now ends.now workers.now }
+    ensures near { (result ≤ SERVED_ROOM) × (SERVED_ROOM ≤ result + MOST_SERVED * length starts.now) }
+    ensures long { length room.new ≡ SERVED_ROOM }
+{
+    let mut place = starts.len();
+    let mut begin = SERVED_ROOM;
+    while place > 0 {
+        place -= 1;
+        let row = (first + place) as u64;
+        begin = served_before(room, begin, row, starts[place], ends[place], workers[place]);
+    }
+    begin
 }
 
 // Forms the line of the number of workers at the end of a room, and says where it begins.
@@ -97,13 +136,13 @@ fn workers_before(room: &mut [u8], workers: u32) -> usize
     number_before(room, MOST_FRAME, b"greedy ", u64::from(workers))
 }
 
-// Forms the line of a row in a greedy plan at the end of a room, and says where it begins.
-fn served_before(room: &mut [u8], row: u64, start: u64, end: u64, worker: u32) -> usize
-    requires { length room.old ≡ MOST_SERVED }
-    ensures written { drop result room.new ≡ served_line row start end worker }
-    ensures within { result ≤ MOST_SERVED }
+// Forms the line of a row in a greedy plan in front of what a room has from a place on, and says where it begins.
+fn served_before(room: &mut [u8], place: usize, row: u64, start: u64, end: u64, worker: u32) -> usize
+    requires room { (MOST_SERVED ≤ place) × (place ≤ length room.old) }
+    ensures written { drop result room.new ≡ served_line row start end worker ++ drop place room.old }
+    ensures near { (result ≤ place) × (place ≤ result + MOST_SERVED) }
 {
-    let worker_at = write_before(room, MOST_SERVED, u64::from(worker), b'\n');
+    let worker_at = write_before(room, place, u64::from(worker), b'\n');
     let end_at = write_before(room, worker_at, end, b' ');
     let start_at = write_before(room, end_at, start, b' ');
     write_before(room, start_at, row, b' ')

@@ -9,6 +9,9 @@ use boc_text::{MOST_DIGITS, write_before};
 /// The most bytes of a number, and one behind it.
 pub(crate) const MOST_FIELD: usize = MOST_DIGITS + 1;
 
+/// How many lines of rows are formed one in front of the other, and go out together.
+pub(crate) const TOGETHER: usize = 64;
+
 /// The most lines of one kind that a report or a sweep can have. The bytes of so many can be counted.
 pub const MOST_LINES: usize = 1 << 32;
 

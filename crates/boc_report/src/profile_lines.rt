@@ -7,11 +7,11 @@ ghost use Rattle.boc_text.specs.Outgoing.{IsUnused, Puts, size};
 ghost use Rattle.boc_text.specs.Streams.{CountsFailure, StopsAt};
 ghost use Rattle.boc_text.specs.Writing.{CountsWrite, Writes};
 ghost use Rattle.boc_report.specs.Parts.{IsWhole, part_of};
-ghost use Rattle.boc_report.specs.declared.number_line.TheConstants.{MOST_LINES, MOST_PART};
-ghost use Rattle.boc_report.specs.declared.profile_lines.TheConstants.{MOST_HEAD, MOST_STEP, MOST_ROW};
+ghost use Rattle.boc_report.specs.declared.number_line.TheConstants.{MOST_LINES, MOST_PART, TOGETHER};
+ghost use Rattle.boc_report.specs.declared.profile_lines.TheConstants.{MOST_HEAD, MOST_STEP, MOST_ROW, ROWS_ROOM};
 
 use crate::greedy_lines::put_greedy;
-use crate::number_line::{MOST_FIELD, number_before, word_before};
+use crate::number_line::{MOST_FIELD, TOGETHER, number_before, word_before};
 use boc_greedy::Greedy;
 use boc_order::Profile;
 use boc_plans::chain::{ChainStep, Via};
@@ -26,6 +26,9 @@ const MOST_STEP: usize = 2 * MOST_FIELD + 6;
 
 /// The most bytes of the line of a row in a plan.
 const MOST_ROW: usize = 3 * MOST_FIELD;
+
+/// The room in which lines of rows are formed that go out together.
+const ROWS_ROOM: usize = TOGETHER * MOST_ROW;
 
 /// Writes the report on a profile: how many rows, their work and the span, the chain, and the plan with each row's start and end, a
 /// line each. Where there is a greedy plan, its part follows. Where a report is wanted without its plans, the rows of both are left out. The text goes out in
@@ -229,7 +232,7 @@ fn via_before(line: &mut [u8], place: usize, via: Via) -> usize
     }
 }
 
-// The lines of the rows of a plan.
+// The lines of the rows of a plan. Those that go out together are formed in a room that all share.
 fn put_plan<W: Sink>(
     out: &mut Outgoing,
     starts: &[u64],
@@ -244,21 +247,43 @@ fn put_plan<W: Sink>(
     ensures size { OnOk result (size out.new ≤ size out.old + MOST_ROW * length starts.now) }
     ensures failures { CountsFailure result (W.failures sink.old) (W.failures sink.new) }
 {
-    let mut room = [0; MOST_ROW];
-    for row in 0..starts.len() {
-        let begin = row_before(&mut room, row as u64, starts[row], ends[row]);
+    let mut room = [0; ROWS_ROOM];
+    let mut first = 0;
+    while first < starts.len() {
+        let behind = starts.len().min(first + TOGETHER);
+        let begin = rows_before(&mut room, first, &starts[first..behind], &ends[first..behind]);
         out.put(&room[begin..], sink)?;
+        first = behind;
     }
     Ok(())
 }
 
-// Forms the line of a row in a plan at the end of a room, and says where it begins.
-fn row_before(room: &mut [u8], row: u64, start: u64, end: u64) -> usize
-    requires { length room.old ≡ MOST_ROW }
-    ensures written { drop result room.new ≡ plan_line row start end }
-    ensures within { result ≤ MOST_ROW }
+// Forms the lines of rows of a plan, of which the first has this number, at the end of a room, and says where they begin.
+fn rows_before(room: &mut [u8], first: usize, starts: &[u64], ends: &[u64]) -> usize
+    requires room { length room.old ≡ ROWS_ROOM }
+    requires lengths { length starts.now ≡ length ends.now }
+    requires few { length starts.now ≤ TOGETHER }
+    requires numbers { first + length starts.now ≤ MOST_LINES }
+    ensures written { drop result room.new ≡ plan_lines first starts.now ends.now }
+    ensures near { (result ≤ ROWS_ROOM) × (ROWS_ROOM ≤ result + MOST_ROW * length starts.now) }
+    ensures long { length room.new ≡ ROWS_ROOM }
 {
-    let end_at = write_before(room, MOST_ROW, end, b'\n');
+    let mut place = starts.len();
+    let mut begin = ROWS_ROOM;
+    while place > 0 {
+        place -= 1;
+        begin = row_before(room, begin, (first + place) as u64, starts[place], ends[place]);
+    }
+    begin
+}
+
+// Forms the line of a row in a plan in front of what a room has from a place on, and says where it begins.
+fn row_before(room: &mut [u8], place: usize, row: u64, start: u64, end: u64) -> usize
+    requires room { (MOST_ROW ≤ place) × (place ≤ length room.old) }
+    ensures written { drop result room.new ≡ plan_line row start end ++ drop place room.old }
+    ensures near { (result ≤ place) × (place ≤ result + MOST_ROW) }
+{
+    let end_at = write_before(room, place, end, b'\n');
     let start_at = write_before(room, end_at, start, b' ');
     write_before(room, start_at, row, b' ')
 }

@@ -1,24 +1,26 @@
-use Rattle.std.proofs.Common.{◌∙◌, arith}
-use Rattle.boc_report.specs.declared.profile_lines.TheConstants.{MOST_ROW}
-use Rattle.boc_report.proofs.ByLines.{line_put, lines_stopped, lines_put}
-use Rattle.boc_report.proofs.Lines.{plan_by_line}
+use Rattle.std.proofs.Common.{◌∙◌, arith, rules}
+use Rattle.boc_report.specs.declared.profile_lines.TheConstants.{ROWS_ROOM}
+use Rattle.boc_report.proofs.ByLines.{block_put, blocks_put, blocks_stopped}
+use Rattle.boc_report.proofs.Lines.{plan_by_block}
 use Rattle.boc_report.proofs.profile_lines.put_plan.Goals as goal
 
 pub returns-in_err-put-clause-goes_on : goal.returns-in_err-put-clause-goes_on
 returns-in_err-put-clause-goes_on g c =
-    lines_stopped (plan_by_line c.args.starts.now c.args.ends.now c.requires.lengths) c.loop-row.row c.from_residual.result _ c.args.out.now c.loop-row.out _
-    (g.W.Sink.written c.args.sink.now) (g.W.Sink.written c.loop-row.sink) (g.W.Sink.written c.put.new.sink)
-    c.loop-row-test.true c.loop-row.invariant.came c.in_err-put.ensures.goes_on c.from_residual.ensures.1
+    blocks_stopped (plan_by_block c.args.starts.now c.args.ends.now c.requires.lengths) c.loop-first.first c.from_residual.result _ c.args.out.now
+    c.loop-first.out _ (g.W.Sink.written c.args.sink.now) (g.W.Sink.written c.loop-first.sink) (g.W.Sink.written c.put.new.sink)
+    c.loop-first.invariant.within c.loop-first.invariant.came c.in_err-put.ensures.goes_on c.from_residual.ensures.1
 
-pub loop-row-preserved : goal.loop-row-preserved
-loop-row-preserved g c = record {
-  came = line_put (plan_by_line c.args.starts.now c.args.ends.now c.requires.lengths) c.loop-row.row c.row_before-begin.new.room MOST_ROW
-      c.row_before-begin.result c.args.out.now c.loop-row.out c.put.new.self
-      _ _ _ c.loop-row-test.true c.loop-row.invariant.came (omega arith) c.row_before-begin.ensures.written c.in_ok-put.ensures.goes_on;
-  size = omega (arith, c.in_ok-put.ensures.size);
-  failures = c.in_ok-put.ensures.failures ∙ c.loop-row.invariant.failures;
+pub loop-first-preserved : goal.loop-first-preserved
+loop-first-preserved g c = record {
+  within = omega arith;
+  long = search rules;
+  came = block_put (plan_by_block c.args.starts.now c.args.ends.now c.requires.lengths) c.loop-first.first _ c.rows_before-begin.new.room ROWS_ROOM
+      c.rows_before-begin.result c.args.out.now c.loop-first.out c.put.new.self
+      _ _ _ (omega arith) (omega arith) c.loop-first.invariant.came (omega arith) c.rows_before-begin.ensures.written c.in_ok-put.ensures.goes_on;
+  size = omega (arith, c.in_ok-put.ensures.size, c.rows_before-begin.ensures.near.1);
+  failures = c.in_ok-put.ensures.failures ∙ c.loop-first.invariant.failures;
 }
 
 pub returns-clause-goes_on : goal.returns-clause-goes_on
-returns-clause-goes_on g c = lines_put (plan_by_line c.args.starts.now c.args.ends.now c.requires.lengths) c.loop-row.row _ _ _ _ (omega arith)
-    c.loop-row.invariant.came
+returns-clause-goes_on g c = blocks_put (plan_by_block c.args.starts.now c.args.ends.now c.requires.lengths) c.loop-first.first _ _ _ _ (omega arith)
+    c.loop-first.invariant.came

@@ -1,0 +1,26 @@
+use Rattle.std.proofs.Common.{List, ℕ, ◌++◌, ◌+◌, ◌∙◌, ap, arith, get_or, rules}
+use Rattle.std.proofs.lemmas.List.{drop_all}
+use Rattle.boc_report.specs.Texts.{sweep_line}
+use Rattle.boc_report.specs.declared.sweep_lines.TheConstants.{SWEPT_ROOM}
+use Rattle.boc_report.proofs.Lines.{swept_behind, swept_from, swept_in_front}
+use Rattle.boc_report.proofs.sweep_lines.sweep_lines_before.Goals as goal
+
+pub loop-place-init : goal.loop-place-init
+loop-place-init c = record {
+  within = omega arith;
+  long = c.requires.room;
+  written = drop_all SWEPT_ROOM c.args.room.now (omega (arith, c.requires.room)) ∙ swept_behind c.args.spans.now c.args.first;
+  near = (omega arith, omega arith);
+}
+
+pub loop-place-preserved : goal.loop-place-preserved
+loop-place-preserved c = let i = c.loop-place.invariant in record {
+  within = omega (arith, i.within);
+  long = search rules;
+  written = c.swept_before-begin.ensures.written ∙ ap (λ (xs : List ℕ). sweep_line _ (get_or c.args.spans.now _ 0) ++ xs) i.written
+      ∙ swept_in_front c.args.spans.now c.args.first _ c.loop-place.place (omega (arith, i.within)) (omega arith);
+  near = (omega (arith, i.near.0, c.swept_before-begin.ensures.near.0), omega (arith, i.near.1, i.within, c.swept_before-begin.ensures.near.1));
+}
+
+pub returns-clause-written : goal.returns-clause-written
+returns-clause-written c = c.loop-place.invariant.written ∙ swept_from c.args.spans.now c.args.first c.loop-place.place (omega arith)

@@ -21,7 +21,7 @@ PRINTABLE = set(string.printable.encode()) - set(b"\t\r\x0b\x0c")
 
 # Program texts, the line of their fault, and the lines behind it.
 PROGRAMS = [
-    (b"", "line 1: 3 Unexpected", ["nothing came in; if a command stood before it, did that fail?"]),
+    (b"", "line 1: 3 Unexpected", ["the input is empty; if a command stood before it, did that fail?"]),
     (b"boc 2 0\n", "line 1: 3 Unexpected", [
         "this looks like a record; values reads programs: check, profile, whatif, curve, sweep, why and cowns read records"]),
     (b"main {\n\tlet a = 1; # \xc3\xa9\n}\n", "line 2: 1 NotAscii", [
@@ -55,7 +55,7 @@ PROGRAMS = [
     (b"main { let x := 1; }", "line 1: 2 BadToken", [
         "main { let x := 1; }",
         "             ^",
-        "`:` begins no token: a local is declared by `let NAME = ..;`"]),
+        "`:` begins no token: a local is declared by `let NAME = ..;`, and changed by `NAME = ..;`"]),
     (b"main:\n    work 1\n", "line 1: 2 BadToken", [
         "main:",
         "    ^",
@@ -189,7 +189,7 @@ PROGRAMS = [
     (b"main { work n; }\n", "line 1: 5 UnknownName", [
         "main { work n; }",
         "            ^",
-        "no parameter and no `let` is called `n`"]),
+        "no parameter and no `let` of this body is called `n`"]),
     (b"main { when f(;); }\n", "line 1: 5 UnknownName", [
         "main { when f(;); }",
         "            ^",
@@ -324,12 +324,12 @@ PROGRAMS = [
     (b"main { y = 1; }\n", "line 1: 5 UnknownName", [
         "main { y = 1; }",
         "       ^",
-        "no parameter and no `let` is called `y`",
+        "no parameter and no `let` of this body is called `y`",
         "a local is declared by `let y = ..;`"]),
     (b"main { let x = true; }\n", "line 1: 5 UnknownName", [
         "main { let x = true; }",
         "               ^",
-        "no parameter and no `let` is called `true`",
+        "no parameter and no `let` of this body is called `true`",
         "values are whole numbers: a comparison is 1 where it holds, and 0 elsewhere"]),
     (b"def f() { }\nmain { }\n", "line 1: 3 Unexpected", [
         "def f() { }",
@@ -489,7 +489,7 @@ PROGRAMS = [
         "       ^",
         "`else` is not allowed behind `{` on line 1",
         "allowed there: `}`, a name, `let`, ..",
-        "an `else` stands behind the `}` of its `if`"]),
+        "an `else` stands behind the `}` of its `if`, and once"]),
     (b"main { if 1 { }; }\n", "line 1: 3 Unexpected", [
         "main { if 1 { }; }",
         "               ^",
@@ -637,6 +637,158 @@ PROGRAMS = [
         "main { work !1; }",
         "            ^",
         "`!` begins no token: `x == 0` is 1 where x is 0, and 0 elsewhere"]),
+    (b"cown a = 0;\ndef e(n; x) { x = n; }\nmain {\n  when e(1, a\n  when e(2; a);\n}\n", "line 5: 3 Unexpected", [
+        "  when e(2; a);",
+        "  ^",
+        "`when` is not allowed behind `a` on line 4",
+        "a list is `(values; cowns)`, and this one is not closed"]),
+    (b"cown a = 0;\ndef e(n; x) { x = n; }\nmain {\n  when e(1, a\n}\n", "line 5: 3 Unexpected", [
+        "}",
+        "^",
+        "`}` is not allowed behind `a` on line 4",
+        "a list is `(values; cowns)`, and this one is not closed"]),
+    (b"cown a = 0;\ndef e(n; x) { x = n; }\nmain {\n  let y = 1; y ** 2;\n}\n", "line 4: 3 Unexpected", [
+        "  let y = 1; y ** 2;",
+        "               ^",
+        "`*` is not allowed behind `y` on line 4",
+        "allowed there: `=`",
+        "there is no power: a product is written out, as `x * x`"]),
+    (b"cown a = 0;\ndef e(n; x) { x = n; }\nmain {\n  let y = 1; y // two\n}\n", "line 4: 3 Unexpected", [
+        "  let y = 1; y // two",
+        "               ^",
+        "`/` is not allowed behind `y` on line 4",
+        "allowed there: `=`",
+        "a comment begins with `#`, and ends with its line"]),
+    (b"cown a = 0;\ndef e(n; x) { x = n; }\nmain {\n  let y = 1; --y;\n}\n", "line 4: 3 Unexpected", [
+        "  let y = 1; --y;",
+        "             ^",
+        "`-` is not allowed behind `;` on line 4",
+        "allowed there: `work`, `if`, `repeat`, ..",
+        "what changes is written out: `x = x - 1;`"]),
+    (b"cown a = 0;\ndef e(n; x) { x = n; }\nmain {\n  work 1; -- five\n}\n", "line 4: 3 Unexpected", [
+        "  work 1; -- five",
+        "          ^",
+        "`-` is not allowed behind `;` on line 4",
+        "allowed there: `work`, `if`, `repeat`, ..",
+        "a comment begins with `#`, and ends with its line"]),
+    (b"cown a = 0;\ndef e(n; x) { x = n; }\nmain {\n  var work = 5;\n}\n", "line 4: 3 Unexpected", [
+        "  var work = 5;",
+        "      ^",
+        "`work` is not allowed behind `var` on line 4",
+        "allowed there: `=`",
+        "a local is declared by `let NAME = ..;`, and `work` is a keyword"]),
+    (b"cown a = 0;\ndef e(n; x) { x = n; }\nmain {\n  int a = 2;\n}\n", "line 4: 3 Unexpected", [
+        "  int a = 2;",
+        "      ^",
+        "`a` is not allowed behind `int` on line 4",
+        "allowed there: `=`",
+        "a local is declared by `let NAME = ..;`, and `a` is taken"]),
+    (b"cown a = 0;\ndef e(n; x) { x = n; }\nmain {\n  let x = 1; var x = 2;\n}\n", "line 4: 3 Unexpected", [
+        "  let x = 1; var x = 2;",
+        "                 ^",
+        "`x` is not allowed behind `var` on line 4",
+        "allowed there: `=`",
+        "a local is declared by `let x = ..;`, once, and changed without `let`"]),
+    (b"cown a = 0;\ndef e(n; x) { x = n; }\nmain {\n  const int y = 1;\n}\n", "line 4: 3 Unexpected", [
+        "  const int y = 1;",
+        "        ^",
+        "`int` is not allowed behind `const` on line 4",
+        "allowed there: `=`",
+        "a local is declared by `let y = ..;`"]),
+    (b"cown a = 0;\ndef e(n; x) { x = n; }\nmain {\n  let y += 1;\n}\n", "line 4: 3 Unexpected", [
+        "  let y += 1;",
+        "        ^",
+        "`+` is not allowed behind `y` on line 4",
+        "allowed there: `=`",
+        "a local begins with a value: `let NAME = 0;`"]),
+    (b"cown a = 0;\ndef e(n; x) { x = n; }\nmain {\n  e++;\n}\n", "line 4: 3 Unexpected", [
+        "  e++;",
+        "   ^",
+        "`+` is not allowed behind `e` on line 4",
+        "allowed there: `=`",
+        "only a `when` names a def"]),
+    (b"cown a = 0;\ndef e(n; x) { x = n; }\nmain {\n  a += 5;\n}\n", "line 4: 3 Unexpected", [
+        "  a += 5;",
+        "    ^",
+        "`+` is not allowed behind `a` on line 4",
+        "allowed there: `=`",
+        "a body reads and writes its parameters alone: a `when` hands it cowns"]),
+    (b"cown a = 0;\ndef e(n; x) { x = n; }\nmain {\n  if 1 < 2 < 3 { }\n}\n", "line 4: 3 Unexpected", [
+        "  if 1 < 2 < 3 { }",
+        "           ^",
+        "`<` is not allowed behind `2` on line 4",
+        "allowed there: `{`, `+`, `-`, ..",
+        "a value has one comparison at most: `(x < y) * (y < z)` is 1 where both hold"]),
+    (b"cown a = 0;\ndef e(n; x) { x = n; }\nmain {\n  if 1 =< 2 { }\n}\n", "line 4: 3 Unexpected", [
+        "  if 1 =< 2 { }",
+        "       ^",
+        "`=` is not allowed behind `1` on line 4",
+        "allowed there: `{`, `+`, `-`, ..",
+        "`x <= y` is 1 where x is at most y"]),
+    (b"cown a = 0;\ndef e(n; x) { x = n; }\nmain {\n  if 1 ( work 1; )\n}\n", "line 4: 3 Unexpected", [
+        "  if 1 ( work 1; )",
+        "       ^",
+        "`(` is not allowed behind `1` on line 4",
+        "allowed there: `+`, `-`, `*`, ..",
+        "a block is `{ .. }`"]),
+    (b"cown a = 0;\ndef e(n; x);\nmain { }\n", "line 2: 3 Unexpected", [
+        "def e(n; x);",
+        "           ^",
+        "`;` is not allowed behind `)` on line 2",
+        "allowed there: `{`",
+        "a block is `{ .. }`"]),
+    (b"cown a = 0;\ndef e(n; x) { x = n; }\nx = 2;\nmain { }\n", "line 3: 3 Unexpected", [
+        "x = 2;",
+        "^",
+        "`x` is not allowed behind `}` on line 2",
+        "allowed there: `def`, `main`",
+        "statements stand in a body: that of a def, or of `main { .. }`"]),
+    (b"cown a = 0;\ndef loop(n; x) { }\nmain {\n  loop(1; a);\n}\n", "line 4: 3 Unexpected", [
+        "  loop(1; a);",
+        "      ^",
+        "`(` is not allowed behind `loop` on line 4",
+        "allowed there: `=`",
+        "a behaviour is spawned by `when loop(values; cowns);`"]),
+    (b"cown a = 0;\ndef e(n; x) { x = n; }\nmain {\n  if 1 == 2: work 1;\n}\n", "line 4: 2 BadToken", [
+        "  if 1 == 2: work 1;",
+        "           ^",
+        "`:` begins no token: a block is `{ .. }`"]),
+    (b"cown a = 0;\ndef e(n; x) { x = n; }\nmain {\n  if 1 =:= 2 { }\n}\n", "line 4: 2 BadToken", [
+        "  if 1 =:= 2 { }",
+        "        ^",
+        "`:` begins no token: two values are compared by `==`"]),
+    (b"cown a = 0;\ndef e(n; x) { x = n; }\nmain {\n  when e(1: a);\n}\n", "line 4: 2 BadToken", [
+        "  when e(1: a);",
+        "          ^",
+        "`:` begins no token: a spawn is `when NAME(values; cowns);`"]),
+    (b"cown a = 0;\ndef e(n; x) { x = n; }\nmain {\n  let y = 1:\n}\n", "line 4: 2 BadToken", [
+        "  let y = 1:",
+        "           ^",
+        "`:` begins no token: a statement ends with `;`"]),
+    (b"def e(n: int; x) { }\nmain { }\n", "line 1: 2 BadToken", [
+        "def e(n: int; x) { }",
+        "       ^",
+        "`:` begins no token: nothing has a type, all values are whole numbers"]),
+    (b"def e(n; x): x = 1;\nmain { }\n", "line 1: 2 BadToken", [
+        "def e(n; x): x = 1;",
+        "           ^",
+        "`:` begins no token: a block is `{ .. }`"]),
+    (b"cown a = 0;\ndef e(n; x) { x = n; }\nmain {\n  when e(1; a).\n}\n", "line 4: 2 BadToken", [
+        "  when e(1; a).",
+        "              ^",
+        "`.` begins no token: a statement ends with `;`"]),
+    (b"cown a = 0;\ndef e(n; x) { x = n; }\nmain {\n  let y = .5;\n}\n", "line 4: 2 BadToken", [
+        "  let y = .5;",
+        "          ^",
+        "`.` begins no token: values are whole numbers"]),
+    (b"cown a = 0;\ndef e(n; x) { x = n; }\nmain {\n  let y = 1..5;\n}\n", "line 4: 2 BadToken", [
+        "  let y = 1..5;",
+        "           ^",
+        "`.` begins no token: values are whole numbers"]),
+    (b"cown a = 0;\ndef e(n; x) { x = n; }\nmain {\n  e!(1; a);\n}\n", "line 4: 2 BadToken", [
+        "  e!(1; a);",
+        "   ^",
+        "`!` begins no token"]),
     (b"@ 0 store\n= 1 put 4\n", "line 1: 2 BadToken", ["this looks like a file of names, which stands behind --names, beside a program or a record"]),
     # A line is cut round the place.
     (b"main { " + b"work 1; " * 20 + b"@ " + b"work 2; " * 20 + b"}", "line 1: 2 BadToken", [
@@ -660,7 +812,7 @@ TWO_ROWS = MAIN_RUNS + ["+ 1 0 5 0", "+ 2 0 6 0 1"]
 
 # Texts of records, the line of their fault, and the lines behind it.
 RECORDS = [
-    ([], "line 1: 11 Truncated", ["nothing came in; if a command stood before it, did that fail?"]),
+    ([], "line 1: 11 Truncated", ["the input is empty; if a command stood before it, did that fail?"]),
     (["# A bank.", "cown a = 0;"], "line 1: 1 Header", ["this looks like a program; check reads records: boc run FILE | boc check"]),
     (["boc 3 2"], "line 1: 1 Header", ["`boc 3 2`: version 3, and 1 and 2 are read"]),
     (["boc 2 303"], "line 1: 1 Header", ["`boc 2 303`: 303 cowns, and there are at most 256"]),
@@ -669,7 +821,7 @@ RECORDS = [
     (["boc 2 02"], "line 1: 1 Header", ["`boc 2 02`: the first line of a record is `boc 2 COWNS`, in plain decimals"]),
     (["Boc 2 2"], "line 1: 1 Header", ["`Boc 2 2`: the first line of a record is `boc 2 COWNS`"]),
     (["boc 2 \x00"], "line 1: 1 Header", ["`boc 2 ?`: the byte 0x00 is not printable ASCII, of which records are"]),
-    (MAIN_RUNS + ["<\t0 4 0"], "line 4: 2 Form", ["`< 0 4 0`: the byte 0x09 is not printable ASCII, of which records are"]),
+    (MAIN_RUNS + ["<\t0 4 0"], "line 4: 2 Form", ["`<?0 4 0`: the byte 0x09 is not printable ASCII, of which records are"]),
     (MAIN_RUNS + ["# a note"], "line 4: 2 Form", ["`# a note`: a record has no comments"]),
     (MAIN_RUNS + ["@ 0 a"], "line 4: 2 Form", ["`@ 0 a`: names stand in a file of their own, for --names"]),
     (MAIN_RUNS + [""], "line 4: 2 Form", ["an empty line"]),
@@ -680,6 +832,19 @@ RECORDS = [
     (MAIN_RUNS + ["< 0 4294967296 0"], "line 4: 2 Form", ["`< 0 4294967296 0`: `4294967296` is above 4294967295"]),
     (MAIN_RUNS + ["< 0 4 7"], "line 4: 2 Form", ["`< 0 4 7`: a status is 0 to 6"]),
     (MAIN_RUNS + ["< 0 4"], "line 4: 2 Form", ["`< 0 4`: 2 numbers; the form is `< ROW TICKS STATUS COWN ..`, with at most 8 cowns"]),
+    (MAIN_RUNS + ["< 0 4 -"], "line 4: 2 Form", ["`< 0 4 -`: `-` is no plain decimal"]),
+    (MAIN_RUNS + ["< 0 4 -0"], "line 4: 2 Form", ["`< 0 4 -0`: `-0` is no plain decimal"]),
+    (MAIN_RUNS + ["<0 4 0"], "line 4: 2 Form", ["`<0 4 0`: no blank behind the sign"]),
+    (MAIN_RUNS + ["<"], "line 4: 2 Form", ["`<`: no numbers behind the sign"]),
+    (MAIN_RUNS + [" < 0 4 0"], "line 4: 2 Form", ["` < 0 4 0`: a blank at its beginning"]),
+    (MAIN_RUNS + ["@x 0"], "line 4: 2 Form", ["`@x 0`: a line begins with `+`, `>` or `<`, and the last one is `.`"]),
+    (MAIN_RUNS + ["boc 2 2"], "line 4: 2 Form", ["`boc 2 2`: another record begins here, before the last line `.` of this one"]),
+    (["# a run"] + TRANSFER, "line 1: 1 Header", ["`# a run`: a record has no comments; its first line is `boc 2 COWNS`"]),
+    (["cown 3"] + TRANSFER[1:], "line 1: 1 Header", ["`cown 3`: the first line of a record is `boc 2 COWNS`"]),
+    (["boc 22"], "line 1: 1 Header", ["`boc 22`: the first line of a record is `boc 2 COWNS`, in plain decimals"]),
+    (["boc 2 2\r+ 0 0 0\r> 0\r+ 1 0 1 0\r> 1\r< 0 4 0\r< 1 3 0\r.\r" + "\r" * 40], "line 1: 1 Header", [
+        "`boc 2 2?+ 0 0 0?> 0?+ 1 0 1 0?> 1?< 0 4 0?< 1 3 0?.?????????????..`: "
+        "a line ends with a line feed, no carriage return, and has at most 80 bytes"]),
     (MAIN_RUNS + ["! 0"], "line 4: 2 Form", ["`! 0`: a line begins with `+`, `>` or `<`, and the last one is `.`"]),
     (["boc 1 2", "+ 0 0 0", "> 0", "< 0 1 0 0"], "line 4: 2 Form", ["`< 0 1 0 0`: 4 numbers; the form is `< ROW TICKS STATUS`, in version 1 without cowns"]),
     (MAIN_RUNS + ["+ 2 0 5"], "line 4: 3 NumberNotNext", ["`+ 2 0 5`: the next row is 1"]),
@@ -691,6 +856,8 @@ RECORDS = [
     (MAIN_RUNS + ["+ 1 0 0"], "line 4: 5 Offset", ["`+ 1 0 0`: an offset is 1 at least"]),
     (MAIN_RUNS + ["+ 1 0 1000001"], "line 4: 5 Offset", ["`+ 1 0 1000001`: an offset is at most 1000000"]),
     (MAIN_RUNS + ["+ 1 0 5", "+ 2 0 5"], "line 5: 5 Offset", ["`+ 2 0 5`: row 0 spawned row 1 at its tick 5, so 6 is the least"]),
+    (MAIN_RUNS + ["+ 1 0 1000000", "+ 2 0 1000000"], "line 5: 5 Offset",
+     ["`+ 2 0 1000000`: row 0 spawned row 1 at its tick 1000000, the greatest offset, and spawns no more"]),
     (["boc 2 2", "+ 0 0 0 0"], "line 2: 6 Cowns", ["`+ 0 0 0 0`: row 0 is main, which has no cowns"]),
     (MAIN_RUNS + ["+ 1 0 5 2"], "line 4: 6 Cowns", ["`+ 1 0 5 2`: there is no cown 2; the first line tells of 2 cowns, from 0 on"]),
     (MAIN_RUNS + ["+ 1 0 5 1 0"], "line 4: 6 Cowns", ["`+ 1 0 5 1 0`: cowns rise, each above the one before it"]),
@@ -701,14 +868,15 @@ RECORDS = [
     (MAIN_RUNS + ["< 0 4 0", "> 0"], "line 5: 7 StartNotAllowed", ["`> 0`: row 0 has ended already"]),
     (["boc 2 2", "+ 0 0 0", "< 0 4 0"], "line 3: 8 EndNotAllowed", ["`< 0 4 0`: row 0 hasn't started"]),
     (MAIN_RUNS + ["< 0 0 0"], "line 4: 8 EndNotAllowed", ["`< 0 0 0`: 0 ticks, and a row takes 1 at least"]),
+    (MAIN_RUNS + ["+ 1 0 4", "< 0 0 0"], "line 5: 8 EndNotAllowed", ["`< 0 0 0`: row 0 spawned row 1 at its tick 4, so it takes as many at least"]),
     (MAIN_RUNS + ["< 0 1100158 0 1"], "line 4: 8 EndNotAllowed", ["`< 0 1100158 0 1`: 1100158 ticks, above 1000000"]),
     (TWO_ROWS + ["< 0 5 0"], "line 6: 8 EndNotAllowed", ["`< 0 5 0`: row 0 spawned row 2 at its tick 6, so it takes as many at least"]),
     (TWO_ROWS + ["> 1", "< 1 2 0 1"], "line 7: 8 EndNotAllowed", ["`< 1 2 0 1`: row 1 doesn't have cown 1"]),
     (MAIN_RUNS + ["+ 1 0 5 0 1", "> 1", "< 1 2 0 1 0"], "line 6: 8 EndNotAllowed",
      ["`< 1 2 0 1 0`: the cowns that were written rise, each above the one before it"]),
-    (TWO_ROWS + ["> 1", "."], "line 7: 10 Unended", ["1 row not started, the first is row 2", "2 rows not ended, the first is row 0"]),
+    (TWO_ROWS + ["> 1", "."], "line 7: 10 Unended", ["1 row not started, the first is row 2", "2 rows started and not ended, the first is row 0"]),
     (["boc 2 2", "."], "line 2: 10 Unended", ["no row was spawned yet"]),
-    (MAIN_RUNS, "line 4: 11 Truncated", ["the text ends before the line `.`", "1 row not ended, the first is row 0"]),
+    (MAIN_RUNS, "line 4: 11 Truncated", ["the text ends before the line `.`", "1 row started and not ended, the first is row 0"]),
     (TRANSFER + ["", "more"], "line 15: 12 After", ["``: nothing stands behind the line `.`"]),
     (TRANSFER + ["more"], "line 15: 12 After", ["`more`: nothing stands behind the line `.`"]),
     (TRANSFER + TRANSFER, "line 15: 12 After", ["`boc 1 2`: another record begins here; a text is of one record"]),
@@ -724,9 +892,9 @@ EDITS = [
     (["1=1000001"], "edit 1: 3 TooManyTicks", ["`1=1000001`: a row takes at most 1000000 ticks"]),
     (["1=500001", "1=2/1"], "edit 2: 3 TooManyTicks", ["`1=2/1`: row 1 takes 500001 ticks, and would take more than 1000000"]),
     (["0@3"], "edit 1: 4 NoParent", ["`0@3`: row 0 is main, which no row spawns"]),
-    (["1@4"], "edit 1: 5 NotBetween", ["`1@4`: row 1, between its siblings, can be spawned at tick 1 to 2 of row 0"]),
+    (["1@4"], "edit 1: 5 NotBetween", ["`1@4`: row 1, before its younger sibling, can be spawned at tick 1 to 2 of row 0"]),
     (["2@4"], "edit 1: 5 NotBetween", ["`2@4`: row 2, between its siblings, can be spawned at tick 3 alone of row 0"]),
-    (["0=9", "3@10"], "edit 2: 5 NotBetween", ["`3@10`: row 3, between its siblings, can be spawned at tick 4 to 9 of row 0"]),
+    (["0=9", "3@10"], "edit 2: 5 NotBetween", ["`3@10`: row 3, behind its elder sibling, can be spawned at tick 4 to 9 of row 0"]),
     (["--without", "7"], "without 1: 6 NoCown", ["no cown is called `7`; the record has cowns 0 to 1"]),
     (["--without", "log"], "without 1: 6 NoCown", ["no cown is called `log`; the record has cowns 0 to 1"]),
 ]
@@ -734,8 +902,8 @@ EDITS = [
 # Edits of defs, of the record of the transfer beside its program: row 0 is of main, rows 1 and 3 are of `add`, and row 2 is of `move`.
 DEF_EDITS = [
     (["main=1/2", "0=1"], "edit 2: 2 BelowSpawn", ["`0=1`: row 0 spawns row 3 at its tick 3, so 3 is the least"]),
-    (["main=3/1", "3@8"], "edit 2: 5 NotBetween", ["`3@8`: row 3, between its siblings, can be spawned at tick 10 to 12 of row 0"]),
-    (["main=2/1", "3@9"], "edit 2: 5 NotBetween", ["`3@9`: row 3, between its siblings, can be spawned at tick 7 to 8 of row 0"]),
+    (["main=3/1", "3@8"], "edit 2: 5 NotBetween", ["`3@8`: row 3, behind its elder sibling, can be spawned at tick 10 to 12 of row 0"]),
+    (["main=2/1", "3@9"], "edit 2: 5 NotBetween", ["`3@9`: row 3, behind its elder sibling, can be spawned at tick 7 to 8 of row 0"]),
     (["move=2/1", "9=1"], "edit 2: 1 NoRow", ["`9=1`: the record has rows 0 to 3"]),
     (["move=900/1", "2=1000/2"], "edit 2: 3 TooManyTicks", ["`2=1000/2`: row 2 takes 2700 ticks, and would take more than 1000000"]),
     (["1=900000", "add=3/2"], "edit 2: 3 TooManyTicks", ["`add=3/2`: row 1 takes 900000 ticks, and would take more than 1000000"]),
@@ -750,7 +918,7 @@ NAMES = [
     (b"= 0 main", "line 1: 1 Cut", "`= 0 main`: no line feed stands behind the last line"),
     (b"# rows\n= 1 " + b"x" * 80 + b"\n", "line 2: 2 TooLong", "`= 1 " + "x" * 60 + "..`: a line has at most 80 bytes"),
     (b"1 main\n", "line 1: 3 Form", "`1 main`: a line is `@ COWN NAME`, `= ROW NAME [ARG ..]`, empty, or a comment from `#` on"),
-    (b"=1 main\n", "line 1: 3 Form", "`=1 main`: a blank stands behind the sign"),
+    (b"=1 main\n", "line 1: 3 Form", "`=1 main`: no blank behind the sign"),
     (b"= 0 main\n= 1 x\r\n", "line 2: 3 Form", "`= 1 x?`: a carriage return at its end; a line ends with a line feed alone"),
     (b"= 1 main \n", "line 1: 3 Form", "`= 1 main `: a blank at its end"),
     (b"= 1  main\n", "line 1: 3 Form", "`= 1  main`: two blanks; a single one stands between words"),
@@ -762,7 +930,7 @@ NAMES = [
     (b"= 1\n", "line 1: 3 Form", "`= 1`: no name; the form is `= ROW NAME [ARG ..]`"),
     (b"@ 1 a b\n", "line 1: 3 Form", "`@ 1 a b`: words behind the name; the form is `@ COWN NAME`"),
     (b"= 1 caf\xc3\xa9\n", "line 1: 3 Form", "`= 1 caf??`: the byte 0xC3 is not printable ASCII, of which names and arguments are"),
-    (b"= 1 a\tb\n", "line 1: 3 Form", "`= 1 a b`: the byte 0x09 is not printable ASCII, of which names and arguments are"),
+    (b"= 1 a\tb\n", "line 1: 3 Form", "`= 1 a?b`: the byte 0x09 is not printable ASCII, of which names and arguments are"),
     (b"\n= 4 x\n", "line 2: 4 NoRow", "`= 4 x`: the record has rows 0 to 3"),
     (b"@ 2 c\n", "line 1: 5 NoCown", "`@ 2 c`: the run has cowns 0 to 1"),
     (b"= 1 x\n\n= 1 y 3\n", "line 3: 6 Twice", "`= 1 y 3`: line 1 names it already, `= 1 x`"),
@@ -821,14 +989,19 @@ EDIT_WORDS = [
     (["1=0.5"], 1, "`1=0.5`: `0.5` is neither ticks nor a part K/D; half of what the row costs is `1=1/2`"),
     (["1=2=3"], 1, "`1=2=3`: `2=3` is neither ticks nor a part K/D; half of what the row costs is `1=1/2`"),
     (["1=2", "2=01"], 2, "`2=01`: `01` begins with a 0"),
-    (["1=4294967296"], 1, "`1=4294967296`: `4294967296` is above 4294967295"),
     (["01=2"], 1, "`01=2`: `01` begins with a 0"),
     (["=2"], 1, "`=2`: in front of the `=` stands a row or a def"),
     (["add="], 1, "`add=`: behind the `=` stand ticks, or a part K/D"),
     (["1=1001/1"], 1, "`1=1001/1`: the numbers of a part K/D are 1 to 1000"),
     (["add=1/0"], 1, "`add=1/0`: the numbers of a part K/D are 1 to 1000"),
     (["add=1/x"], 1, "`add=1/x`: `x` is no plain decimal"),
-    (["add=/2"], 1, "`add=/2`: `` is no plain decimal"),
+    (["add=/2"], 1, "`add=/2`: a number stands on both sides of the `/`"),
+    (["1=2/"], 1, "`1=2/`: a number stands on both sides of the `/`"),
+    (["1 = 2"], 1, "`1 = 2`: an edit has no blanks"),
+    (["row 1=2"], 1, "`row 1=2`: an edit has no blanks"),
+    (["+1=2"], 1, "`+1=2`: `+1` is no plain decimal"),
+    (["1=4294967296"], 1, "`1=4294967296`: a row takes at most 1000000 ticks"),
+    (["1@-"], 1, "`1@-`: `-` is no plain decimal"),
     (["007=1/2"], 1, "`007=1/2`: `007` begins with a 0"),
     (["@3"], 1, "`@3`: in front of the `@` stands a row"),
     (["3@"], 1, "`3@`: behind the `@` stands a tick"),
@@ -871,7 +1044,7 @@ def cases(program):
         source = lines_text(lines) if lines else b""
         yield f"{lines[-2:]}", difference(told(fault, more), program.run(["check"], source))
     cut = lines_text(MAIN_RUNS) + b"< 0 1"
-    expected = told("line 4: 11 Truncated", ["`< 0 1`: the text ends within this line", "1 row not ended, the first is row 0"])
+    expected = told("line 4: 11 Truncated", ["`< 0 1`: the text ends within this line", "1 row started and not ended, the first is row 0"])
     yield "a cut line", difference(expected, program.run(["check"], cut))
     for words, fault, lines in EDITS:
         yield f"whatif {words}", difference(told(fault, lines), program.run(["whatif", *words], lines_text(TRANSFER)))
@@ -898,7 +1071,7 @@ def beside(program):
         ("a cown's name", ["whatif", "--without", "acct"], "--program", text, record, "without 1: 6 NoCown",
          ["no cown is called `acct`; the program's cowns are a, b"]),
         ("a def's name", ["whatif", "mov=1/2"], "--program", text, record, "edit 1: 7 NoDef",
-         ["no row is of this def; names come with --program FILE or --names FILE", "no row is of a def `mov`; the program's defs are add, move"]),
+         ["no row is of this def; names come with --program FILE or --names FILE", "no row is of a def `mov`; the program's defs are add, move, beside main"]),
         ("a def of a file of names", ["whatif", "work=1000/1", "work=1000/1"], "--names", b"= 1 work\n= 2 work 7\n", record, "edit 2: 3 TooManyTicks",
          ["`work=1000/1`: row 1 takes 2000 ticks, and would take more than 1000000"]),
     ]:
@@ -951,10 +1124,16 @@ def strays(program):
             answer = program.run_beside([command], "--record", strayed, text)
             yield f"{command}: {changes}", difference(told(f"record: {fault}", lines), answer)
         yield f"whatif: {changes}", difference(told(fault, lines), program.run_beside(["whatif"], "--program", text, strayed))
-    lines = ["`< 1 2 0`: in the program row 1 goes on with `< 1 2 0 0`", "row 1 is `f(; a, b)`, and ends",
+    lines = ["`< 1 2 0`: version 1 can't tell how row 1 ends in the program; in version 2 it is `< 1 2 0 0`", "row 1 is `f(; a, b)`, and ends",
              "it writes cown 0, and in version 1 a record says that it writes all its cowns"]
     answer = program.run_beside(["check"], "--program", WRITES_ONE, lines_text(WRITES_ALL))
     yield "version 1", difference(told("line 7: 17 NotItsEnd", lines), answer)
+    # Version 1 says of each end that it writes all cowns of its row.
+    text = b"cown a = 3; def peek(; x) { let y = x; } main { when peek(; a); }"
+    peeks = lines_text(["boc 1 1", "+ 0 0 0", "> 0", "+ 1 0 2 0", "< 0 2 0", "> 1", "< 1 2 0", "."])
+    lines = ["`< 1 2 0`: version 1 can't tell how row 1 ends in the program; in version 2 it is `< 1 2 0`", "row 1 is `peek(; a)`, and ends",
+             "it writes no cown, and in version 1 a record says that it writes all its cowns"]
+    yield "version 1, of a read", difference(told("line 7: 17 NotItsEnd", lines), program.run_beside(["check"], "--program", text, peeks))
     many = b"cown a = 0; def f(; x) { } main { repeat 60000 { when f(; a); } }"
     strayed = with_lines_of(program.run(["run"], many).output, {4: "+ 1 0 2 0"})
     lines = ["`+ 1 0 2 0`: in the program its parent spawns at another tick or over other cowns, or is done"]
@@ -1003,9 +1182,10 @@ def unfit_edit(chance, rows):
     parent = rows[row].parent
     if row and chance.random() < 0.5:
         least, most = model.least_offsets(rows)[row], model.most_offset(rows, row)
-        has_siblings = any(other != row and it.parent == parent for other, it in enumerate(rows) if other)
+        elder, younger = (any(it.parent == parent for it in some) for some in (rows[1:row], rows[row + 1:]))
+        siblings = {(True, True): ", between its siblings,", (True, False): ", behind its elder sibling,", (False, True): ", before its younger sibling,"}
         window = f"tick {least} alone" if least == most else f"tick {least} to {most}"
-        told_of = f"row {row}{', between its siblings,' if has_siblings else ''} can be spawned at {window} of row {parent}"
+        told_of = f"row {row}{siblings.get((elder, younger), '')} can be spawned at {window} of row {parent}"
         return f"{row}@{chance.choice([least - 1, most + 1])}", "5 NotBetween", told_of
     least, last = model.least_ticks(rows)[row], max((child for child, it in enumerate(rows) if child and it.parent == row), default=None)
     spawns = f"row {row} spawns row {last} at its tick {least}, so {least} is the least"

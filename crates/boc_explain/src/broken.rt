@@ -3,7 +3,7 @@
 use crate::formed::put_reason;
 use crate::run::{Life, Row, Run, fields_of};
 use crate::said::{Part, Said};
-use boc_program::limits::MOST_TICKS;
+use boc_program::limits::{MOST_ROWS, MOST_TICKS};
 use boc_record::RecordFaultKind;
 use boc_text::read_number;
 use std::alloc::{AllocError, Global};
@@ -22,6 +22,9 @@ pub(crate) fn put_broken(
     };
     let run = Run::before(alloc, text, number)?;
     match (kind, fields.numbers.as_slice()) {
+        (RecordFaultKind::NumberNotNext, [_, ..]) if run.rows.len() >= MOST_ROWS => {
+            put_reason(said, line, "a run has at most 65535 rows, and all of them stand before")
+        }
         (RecordFaultKind::NumberNotNext, [_, ..]) => said.line(&[
             Part::Quote(line),
             Part::Words(": the next row is "),
@@ -94,6 +97,14 @@ fn put_offset(
         return put_reason(said, line, "an offset is at most 1000000");
     }
     match last_child(run, parent) {
+        Some((child, MOST_TICKS)) => said.line(&[
+            Part::Quote(line),
+            Part::Words(": row "),
+            Part::Number(u64::from(parent)),
+            Part::Words(" spawned row "),
+            Part::Number(u64::from(child)),
+            Part::Words(" at its tick 1000000, the greatest offset, and spawns no more"),
+        ]),
         Some((child, tick)) => said.line(&[
             Part::Quote(line),
             Part::Words(": row "),
@@ -220,9 +231,6 @@ fn put_end(
         Life::Ended => return put_row(said, line, number, " has ended already"),
         Life::Running => {}
     }
-    if ticks == 0 {
-        return put_reason(said, line, "0 ticks, and a row takes 1 at least");
-    }
     if ticks > MOST_TICKS {
         return said.line(&[
             Part::Quote(line),
@@ -235,6 +243,9 @@ fn put_end(
         && tick > ticks
     {
         return put_early(said, line, number, child, tick);
+    }
+    if ticks == 0 {
+        return put_reason(said, line, "0 ticks, and a row takes 1 at least");
     }
     match written.iter().find(|cown| !row.cowns.contains(*cown)) {
         Some(cown) => said.line(&[

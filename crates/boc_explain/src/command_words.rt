@@ -130,6 +130,9 @@ fn around(word: &[u8], sign: u8) -> Option<(&[u8], &[u8])> {
 
 // Tells why a word is no edit.
 fn put_no_edit(said: &mut Said, word: &[u8]) -> Result<(), AllocError> {
+    if word.contains(&b' ') {
+        return put_reason(said, word, "an edit has no blanks");
+    }
     let Some((subject, change)) = around(word, b'=') else {
         return put_no_offset(said, word);
     };
@@ -144,7 +147,12 @@ fn put_no_edit(said: &mut Said, word: &[u8]) -> Result<(), AllocError> {
     }
     let is_row = are_digits(subject);
     if is_row && are_digits(change) {
-        return put_no_number(said, word, first_unread(subject, change));
+        return put_no_ticks(said, word, subject, change);
+    }
+    if let [b'+' | b'-', digits @ ..] = subject
+        && are_digits(digits)
+    {
+        return put_no_number(said, word, subject);
     }
     said.line(&[
         Part::Quote(word),
@@ -158,6 +166,20 @@ fn put_no_edit(said: &mut Said, word: &[u8]) -> Result<(), AllocError> {
         Part::Bytes(subject),
         Part::Words("=1/2`"),
     ])
+}
+
+// Tells why a word of a row and ticks is no edit.
+fn put_no_ticks(
+    said: &mut Said,
+    word: &[u8],
+    row: &[u8],
+    ticks: &[u8],
+) -> Result<(), AllocError> {
+    let is_large = !ticks.starts_with(b"0") && read_number(ticks).is_none();
+    if read_number(row).is_some() && is_large {
+        return put_reason(said, word, "a row takes at most 1000000 ticks");
+    }
+    put_no_number(said, word, first_unread(row, ticks))
 }
 
 // Tells why a word with an `@` is no edit.
@@ -195,6 +217,9 @@ fn put_no_part(
 ) -> Result<(), AllocError> {
     for number in &part {
         match read_number(number) {
+            None if number.is_empty() => {
+                return put_reason(said, word, "a number stands on both sides of the `/`");
+            }
             None => return put_no_number(said, word, number),
             Some(1..=MOST_PART) => {}
             Some(_) => {

@@ -183,21 +183,28 @@ fn put_between(said: &mut Said, word: &[u8], run: &Run, number: u32) -> Result<(
     let mut most = run
         .row(row.parent)
         .map_or(MOST_TICKS, |parent| parent.ticks);
-    let mut sibling = false;
+    let mut elder = false;
+    let mut younger = false;
     for (other, before) in run.rows.iter().enumerate().skip(1) {
         if before.parent != row.parent || other == number as usize {
             continue;
         }
         if other < number as usize {
             least = before.offset.saturating_add(1);
-            sibling = true;
+            elder = true;
         } else {
             most = before.offset.saturating_sub(1);
-            sibling = true;
+            younger = true;
             break;
         }
     }
-    put_window(said, word, number, row.parent, (least, most), sibling)
+    let siblings = match (elder, younger) {
+        (true, true) => ", between its siblings,",
+        (true, false) => ", behind its elder sibling,",
+        (false, true) => ", before its younger sibling,",
+        (false, false) => "",
+    };
+    put_window(said, word, number, row.parent, (least, most), siblings)
 }
 
 // Tells from which tick of its parent on a row can be spawned, and up to which.
@@ -207,14 +214,9 @@ fn put_window(
     row: u32,
     parent: u32,
     ticks: (u32, u32),
-    sibling: bool,
+    siblings: &str,
 ) -> Result<(), AllocError> {
     let (least, most) = ticks;
-    let between = Part::Words(if sibling {
-        ", between its siblings,"
-    } else {
-        ""
-    });
     let (to, last) = if least == most {
         (Part::Words(" alone"), Part::Words(""))
     } else {
@@ -224,7 +226,7 @@ fn put_window(
         Part::Quote(word),
         Part::Words(": row "),
         Part::Number(u64::from(row)),
-        between,
+        Part::Words(siblings),
         Part::Words(" can be spawned at tick "),
         Part::Number(u64::from(least)),
         to,
@@ -309,18 +311,17 @@ fn put_names(
     if count > MOST_NAMES {
         text.extend_from_slice(b", ..")?;
     }
+    let (none, have, others) = match (are_defs, count) {
+        (true, 0) => ("no row is of a def ", "; the program has no def but main", ""),
+        (true, _) => ("no row is of a def ", "; the program's defs are ", ", beside main"),
+        (false, 0) => ("no cown is called ", "; the program has no cowns", ""),
+        (false, _) => ("no cown is called ", "; the program's cowns are ", ""),
+    };
     said.line(&[
-        Part::Words(if are_defs {
-            "no row is of a def "
-        } else {
-            "no cown is called "
-        }),
+        Part::Words(none),
         Part::Quote(name),
-        Part::Words(if are_defs {
-            "; the program's defs are "
-        } else {
-            "; the program's cowns are "
-        }),
+        Part::Words(have),
         Part::Bytes(&text),
+        Part::Words(others),
     ])
 }

@@ -239,8 +239,8 @@ fn spawns(
     })
 }
 
-// A deed and an event are ends with other cowns written.
-fn writes_others(deed: &Deed, event: &Event) -> bool {
+/// A deed and an event are ends with other cowns written.
+pub(crate) fn writes_others(deed: &Deed, event: &Event) -> bool {
     match (deed, event) {
         (Deed::Ends { written, .. }, Event::End { written: noted, .. }) => {
             written.as_slice() != noted.as_slice()

@@ -19,6 +19,9 @@ pub(crate) fn put_reason<'a>(
 /// What is wrong with any line that is so.
 pub(crate) fn common_reason(line: &[u8]) -> Option<&'static str> {
     match line {
+        _ if line.len() > MOST_LINE && line.contains(&b'\r') => {
+            Some("a line ends with a line feed, no carriage return, and has at most 80 bytes")
+        }
         _ if line.len() > MOST_LINE => Some("a line has at most 80 bytes"),
         [.., b'\r'] => Some("a carriage return at its end; a line ends with a line feed alone"),
         [.., b' '] => Some("a blank at its end"),
@@ -57,13 +60,20 @@ pub(crate) fn put_header(said: &mut Said, line: &[u8]) -> Result<(), AllocError>
     if let Some(byte) = unseen_byte(line) {
         return put_unseen(said, line, byte, OF_RECORDS);
     }
+    if line.starts_with(b"#") {
+        return put_reason(
+            said,
+            line,
+            "a record has no comments; its first line is `boc 2 COWNS`",
+        );
+    }
     let mut fields = line.split(|byte| *byte == b' ');
     let is_record = fields.next().is_some_and(|word| word == b"boc".as_slice());
     let version = fields.next().and_then(read_number);
     let cowns = fields.next().and_then(read_number);
     match (version, cowns) {
         _ if !is_record => put_reason(said, line, "the first line of a record is `boc 2 COWNS`"),
-        (Some(version), _) if version != 1 && version != 2 => said.line(&[
+        (Some(version), Some(_)) if version != 1 && version != 2 => said.line(&[
             Part::Quote(line),
             Part::Words(": version "),
             Part::Number(u64::from(version)),
@@ -94,7 +104,7 @@ pub(crate) fn put_form(said: &mut Said, line: &[u8], is_first: bool) -> Result<(
     match line {
         [] => said.line(&[Part::Words("an empty line")]),
         [b'#', ..] => put_reason(said, line, "a record has no comments"),
-        [b'@' | b'=', ..] => put_reason(
+        [b'@' | b'=', b' ', b'0'..=b'9', ..] => put_reason(
             said,
             line,
             "names stand in a file of their own, for --names",
@@ -103,7 +113,14 @@ pub(crate) fn put_form(said: &mut Said, line: &[u8], is_first: bool) -> Result<(
         [sign @ (b'+' | b'>' | b'<'), b' ', fields @ ..] => {
             put_fields(said, line, *sign, fields, is_first)
         }
-        [b'+' | b'>' | b'<', ..] => put_reason(said, line, "a blank stands behind the sign"),
+        [b'+' | b'>' | b'<'] => put_reason(said, line, "no numbers behind the sign"),
+        [b'+' | b'>' | b'<', ..] => put_reason(said, line, "no blank behind the sign"),
+        [b' ', ..] => put_reason(said, line, "a blank at its beginning"),
+        [b'b', b'o', b'c', b' ', ..] => put_reason(
+            said,
+            line,
+            "another record begins here, before the last line `.` of this one",
+        ),
         _ => put_reason(
             said,
             line,
@@ -169,7 +186,9 @@ fn put_field<'a>(said: &mut Said, line: &'a [u8], field: &'a [u8]) -> Result<(),
 pub(crate) fn reason_of(word: &[u8]) -> &'static str {
     match word {
         [] => " is no plain decimal",
-        [b'-', ..] => " is negative, and numbers are plain decimals",
+        [b'-', b'1'..=b'9', digits @ ..] if digits.iter().all(|byte| byte.is_ascii_digit()) => {
+            " is negative, and numbers are plain decimals"
+        }
         [b'0', ..] if word.iter().all(|byte| byte.is_ascii_digit()) => " begins with a 0",
         _ if word.iter().all(|byte| byte.is_ascii_digit()) => " is above 4294967295",
         _ => " is no plain decimal",

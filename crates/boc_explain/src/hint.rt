@@ -2,7 +2,7 @@
 
 use crate::allowed::Allowed;
 use crate::said::{Part, Said};
-use crate::tokens::Word;
+use crate::tokens::{Word, is_keyword};
 use std::alloc::AllocError;
 
 // The words round a place: what was found there, the two that stand before it, and what stands behind it. Where there is none it has no bytes.
@@ -12,6 +12,11 @@ struct Round<'a> {
     before: &'a [u8],
     found: &'a [u8],
     behind: &'a [u8],
+    // The two words behind that.
+    third: &'a [u8],
+    fourth: &'a [u8],
+    // A `{` stands behind the place before the statement ends.
+    opens: bool,
     // It stands in the condition of an `if`.
     is_condition: bool,
     // A parenthesis that was opened before it isn't closed.
@@ -47,6 +52,9 @@ const NO_VALUE: &str = "a spawn gives no value: what a behaviour finds it writes
 // What an `if` is.
 const IF_STATEMENT: &str = "an `if` is a statement, and no value: `if .. { .. } else { .. }`";
 
+// What a def has not.
+const NO_TYPE: &str = "a def has no type, and gives no value";
+
 // What a block is.
 const BLOCK: &str = "a block is `{ .. }`";
 
@@ -61,6 +69,11 @@ fn bytes_of<'a>(word: Option<Word<'a>>) -> &'a [u8] {
     }
 }
 
+// The word is a number.
+fn is_number(word: &[u8]) -> bool {
+    matches!(word, [b'0'..=b'9', ..])
+}
+
 // The word opens the brackets of an array.
 fn is_bracket(word: &[u8]) -> bool {
     matches!(word, b"[")
@@ -72,12 +85,18 @@ fn words_round<'a>(words: &[Word<'a>], at: usize) -> Round<'a> {
     let before = front.next();
     let lead = front.next();
     let found = words.iter().find(|word| word.at == at).copied();
-    let behind = words.iter().find(|word| word.at > at).copied();
+    let mut rest = words.iter().skip_while(|word| word.at <= at).copied();
+    let behind = rest.next();
+    let third = rest.next();
+    let fourth = rest.next();
     Round {
         lead: bytes_of(lead),
         before: bytes_of(before),
         found: bytes_of(found),
         behind: bytes_of(behind),
+        third: bytes_of(third),
+        fourth: bytes_of(fourth),
+        opens: opens_block(words, at),
         is_condition: is_condition(words, at),
         is_open: is_open(words, at),
     }
@@ -95,8 +114,15 @@ fn is_condition(words: &[Word<'_>], at: usize) -> bool {
     false
 }
 
-// In front of a place more parentheses are opened than closed, behind the last brace.
-fn is_open(words: &[Word<'_>], at: usize) -> bool {
+// A block begins behind a place, and no statement ends before it.
+fn opens_block(words: &[Word<'_>], at: usize) -> bool {
+    let mut rest = words.iter().skip_while(|word| word.at < at);
+    rest.find(|word| matches!(word.bytes, b"{" | b"}" | b";"))
+        .is_some_and(|word| word.is(b"{"))
+}
+
+/// In front of a place more parentheses are opened than closed, behind the last brace.
+pub(crate) fn is_open(words: &[Word<'_>], at: usize) -> bool {
     let mut depth: usize = 0;
     for word in words.iter().take_while(|word| word.at < at) {
         match word.bytes {
@@ -120,7 +146,7 @@ pub(crate) fn put_hint(
     if allowed.is_assignment() {
         return put_statement(said, words, round);
     }
-    if is_bracket(round.found) && allowed.has(b"+") {
+    if is_bracket(round.found) && allowed.has(b"+") && !is_number(round.before) {
         return put_member(said, words, round.before);
     }
     match hint(round, allowed) {
@@ -151,14 +177,11 @@ fn declaration_hint(round: Round<'_>, is_of_cown: bool) -> Option<&'static str> 
         (b"int" | b"void" | b"fn" | b"func" | b"function", b"main") => Some(MAIN_ALONE),
         (b"fn" | b"fun" | b"func" | b"function", _) => Some("a behaviour is declared by `def`"),
         (b"cown", _) => Some(COWNS_FIRST),
-        (b"let" | b"var" | b"int" | b"const" | b"global", _) | (_, b"=") => {
-            Some(if is_of_cown {
-                "outside the bodies stand cowns, each with a number: `cown NAME = 0;`"
-            } else {
-                COWNS_FIRST
-            })
+        (b"let" | b"var" | b"int" | b"const" | b"global", _) | (_, b"=") if is_of_cown => {
+            Some("outside the bodies stand cowns, each with a number: `cown NAME = 0;`")
         }
-        (b"work" | b"when" | b"if" | b"repeat", _) => {
+        (b"let" | b"var" | b"int" | b"const" | b"global", _) => Some(COWNS_FIRST),
+        (b"work" | b"when" | b"if" | b"repeat", _) | (_, b"=") => {
             Some("statements stand in a body: that of a def, or of `main { .. }`")
         }
         (b"}", _) => Some("a `}` too many"),
@@ -173,9 +196,13 @@ fn body_hint(round: Round<'_>) -> Option<&'static str> {
         (b"/", b"/" | b"*") => Some(COMMENT),
         (b"cown" | b"def", _) => Some("cowns and defs stand outside all bodies, cowns first"),
         (b"main", _) => Some("`main` stands once, outside all other bodies, and nothing spawns it"),
-        (b"else", _) => Some("an `else` stands behind the `}` of its `if`"),
+        (b"else", _) => Some("an `else` stands behind the `}` of its `if`, and once"),
         (b";", _) => Some("a `;` ends a statement, and none stands behind a block"),
-        (b"+" | b"-", b"+" | b"-") => Some("what changes is written out: `x = x + 1;`"),
+        (b"+", b"+") => Some("what changes is written out: `x = x + 1;`"),
+        (b"-", b"-") if round.fourth == b";".as_slice() => {
+            Some("what changes is written out: `x = x - 1;`")
+        }
+        (b"-", b"-") => Some(COMMENT),
         _ => None,
     }
 }
@@ -191,7 +218,12 @@ fn value_hint(round: Round<'_>, allowed: &Allowed) -> Option<&'static str> {
         (_, b")", _) if !round.is_open => Some("a `)` too many"),
         (_, b")", _) if allowed.semicolon => Some(COWNS_BEHIND),
         (_, b"=", b">") => Some("`x >= y` is 1 where x is at least y"),
+        (_, b"=", b"<") => Some("`x <= y` is 1 where x is at most y"),
         (_, b"=", _) if round.is_condition => Some("two values are compared by `==`"),
+        (_, b"==" | b"!=" | b"<" | b"<=" | b">" | b">=", _) => Some(
+            "a value has one comparison at most: `(x < y) * (y < z)` is 1 where both hold",
+        ),
+        (before, b"(" | b"[", _) if round.is_condition && is_number(before) => Some(BLOCK),
         (_, b"(", _) => Some("a value is no call: a def is spawned by `when`, and gives no value"),
         (_, b"and", _) => Some(
             "of two comparisons both hold where their product is 1: `(x == 1) * (y == 2)`, and both are worked out",
@@ -200,7 +232,7 @@ fn value_hint(round: Round<'_>, allowed: &Allowed) -> Option<&'static str> {
             "of two comparisons one holds where their sum isn't 0: `(x == 1) + (y == 2)`, and both are worked out",
         ),
         (_, b"if", _) => Some(IF_STATEMENT),
-        _ if allowed.has(b"{") => Some(BLOCK),
+        _ if allowed.has(b"{") && !round.opens => Some(BLOCK),
         _ => None,
     }
 }
@@ -238,7 +270,10 @@ fn other_hint(round: Round<'_>, allowed: &Allowed) -> Option<&'static str> {
         (b";" | b",", b"cown" | b"let", _) => Some(NAMES_ALONE),
         (_, b"when", _) if allowed.has(b"1") => Some(NO_VALUE),
         (_, b"if", _) if allowed.has(b"1") => Some(IF_STATEMENT),
-        (b")", _, _) if allowed.has(b"{") => Some("a def has no type, and gives no value"),
+        (b")", b")", _) => Some("a `)` too many"),
+        (b")", b"-" | b"=", _) if allowed.has(b"{") => Some(NO_TYPE),
+        (b")", word, b"{") if allowed.has(b"{") && word != b"main".as_slice() => Some(NO_TYPE),
+        (b")", _, _) if allowed.has(b"{") => Some(BLOCK),
         _ => None,
     }
 }
@@ -277,8 +312,38 @@ fn put_member(said: &mut Said, words: &[Word<'_>], name: &[u8]) -> Result<(), Al
     })])
 }
 
-// Tells how a local is declared that is declared here by a word of other languages.
-fn put_local(said: &mut Said, round: Round<'_>) -> Result<(), AllocError> {
+// Tells how a local is declared that is declared here by a word of other languages, or by two.
+fn put_local(said: &mut Said, words: &[Word<'_>], round: Round<'_>) -> Result<(), AllocError> {
+    if is_other_word(round.found) && round.third == b"=".as_slice() {
+        let mut named = round;
+        named.found = round.behind;
+        named.behind = round.third;
+        return put_local_of(said, words, named);
+    }
+    put_local_of(said, words, round)
+}
+
+// A word by which other languages declare locals.
+fn is_other_word(word: &[u8]) -> bool {
+    matches!(word, b"mut" | b"int" | b"long" | b"var" | b"const" | b"auto")
+}
+
+// Tells how a local is declared whose name was found.
+fn put_local_of(said: &mut Said, words: &[Word<'_>], round: Round<'_>) -> Result<(), AllocError> {
+    if is_keyword(round.found) {
+        return said.line(&[
+            Part::Words("a local is declared by `let NAME = ..;`, and "),
+            Part::Quote(round.found),
+            Part::Words(" is a keyword"),
+        ]);
+    }
+    if declares(words, b"cown", round.found) || declares(words, b"def", round.found) {
+        return said.line(&[
+            Part::Words("a local is declared by `let NAME = ..;`, and "),
+            Part::Quote(round.found),
+            Part::Words(" is taken"),
+        ]);
+    }
     if is_bracket(round.behind) {
         return said.line(&[
             Part::Words("arrays are of cowns, and stand before the defs: `cown "),
@@ -290,11 +355,24 @@ fn put_local(said: &mut Said, round: Round<'_>) -> Result<(), AllocError> {
         Part::Words("a local is declared by `let "),
         Part::Bytes(round.found),
         Part::Words(" = ..;`"),
+        Part::Words(if declares(words, b"let", round.found) {
+            ", once, and changed without `let`"
+        } else {
+            ""
+        }),
     ])
 }
 
 // Tells how a variable is changed by a sign that other languages write in front of `=`, or twice.
-fn put_change(said: &mut Said, round: Round<'_>) -> Result<(), AllocError> {
+fn put_change(said: &mut Said, words: &[Word<'_>], round: Round<'_>) -> Result<(), AllocError> {
+    if declares(words, b"def", round.before) {
+        return said.line(&[Part::Words("only a `when` names a def")]);
+    }
+    if declares(words, b"cown", round.before) {
+        return said.line(&[Part::Words(
+            "a body reads and writes its parameters alone: a `when` hands it cowns",
+        )]);
+    }
     let other: &[u8] = if round.behind == round.found {
         b"1"
     } else {
@@ -316,7 +394,9 @@ fn put_change(said: &mut Said, round: Round<'_>) -> Result<(), AllocError> {
 // What is written in place of what stands behind a name at the front of a statement, where that is the same for all names.
 fn statement_hint(words: &[Word<'_>], round: Round<'_>) -> Option<&'static str> {
     match (round.lead, round.before, round.found) {
-        (b"let", _, b";") => Some("a local begins with a value: `let NAME = 0;`"),
+        (b"let", _, b";" | b"+" | b"-" | b"*" | b"/" | b"%") => {
+            Some("a local begins with a value: `let NAME = 0;`")
+        }
         (_, b"]", b";") => Some(
             "the members of an array begin with one number: `cown NAME[N] = 0;`",
         ),
@@ -338,16 +418,23 @@ fn statement_hint(words: &[Word<'_>], round: Round<'_>) -> Option<&'static str> 
 
 // Tells what is written in place of what stands behind a name at the front of a statement.
 fn put_statement(said: &mut Said, words: &[Word<'_>], round: Round<'_>) -> Result<(), AllocError> {
+    if round.found == b"(".as_slice() && declares(words, b"def", round.before) {
+        return put_spawn(said, words, round.before);
+    }
     if let Some(hint) = statement_hint(words, round) {
         return said.line(&[Part::Words(hint)]);
     }
     match (round.before, round.found) {
         (_, b"(") => put_spawn(said, words, round.before),
         (_, b"[") => put_member(said, words, round.before),
+        (_, b"/") if matches!(round.behind, b"/" | b"*") => said.line(&[Part::Words(COMMENT)]),
+        (_, b"*") if round.behind == b"*".as_slice() => said.line(&[Part::Words(
+            "there is no power: a product is written out, as `x * x`",
+        )]),
         (b"spawn" | b"When" | b"go" | b"async", _) => put_spawn(said, words, round.found),
-        (b"mut" | b"int" | b"long" | b"var" | b"const" | b"auto", _) => put_local(said, round),
+        (word, _) if is_other_word(word) => put_local(said, words, round),
         (_, b"+" | b"-" | b"*" | b"/" | b"%") if round.behind != b">".as_slice() => put_change(
-            said, round,
+            said, words, round,
         ),
         _ => Ok(()),
     }

@@ -76,7 +76,8 @@ fn put_form(said: &mut Said, line: &[u8]) -> Result<(), AllocError> {
     }
     match line {
         [sign @ (b'=' | b'@'), b' ', fields @ ..] => put_fields(said, line, *sign, fields),
-        [b'=' | b'@', ..] => put_reason(said, line, "a blank stands behind the sign"),
+        [b'=' | b'@'] => put_reason(said, line, "no number and no name behind the sign"),
+        [b'=' | b'@', ..] => put_reason(said, line, "no blank behind the sign"),
         _ => put_reason(
             said,
             line,

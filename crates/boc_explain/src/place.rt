@@ -81,11 +81,35 @@ pub(crate) fn put_pair<'a>(
 
 /// A text begins as that of a record does.
 pub(crate) fn looks_like_record(text: &[u8]) -> bool {
-    matches!(text, [b'b', b'o', b'c', b' ', ..])
+    matches!(text, [b'b', b'o', b'c', b' ', b'0'..=b'9', ..])
 }
 
-/// The first line that says something is one of a program: a comment, or its first declaration.
+/// A line of a text is that of a start: a record has one for each of its rows, and hardly any program.
+pub(crate) fn has_start(text: &[u8]) -> bool {
+    text.split(|byte| *byte == b'\n').any(|line| match line {
+        [b'>', b' ', row @ ..] => is_number(without_return(row)),
+        _ => false,
+    })
+}
+
+// A word has digits, and nothing else.
+fn is_number(word: &[u8]) -> bool {
+    !word.is_empty() && word.iter().all(|byte| byte.is_ascii_digit())
+}
+
+// A line without the carriage return at its end.
+fn without_return(line: &[u8]) -> &[u8] {
+    match line {
+        [begin @ .., b'\r'] => begin,
+        _ => line,
+    }
+}
+
+/// The first line that says something is one of a program, a comment or its first declaration, and none is that of a start.
 pub(crate) fn looks_like_program(text: &[u8]) -> bool {
+    if has_start(text) {
+        return false;
+    }
     let first = text
         .split(|byte| matches!(*byte, b'\n' | b'\r' | b' ' | b'\t'))
         .find(|word| !word.is_empty());
@@ -101,7 +125,7 @@ pub(crate) fn looks_like_names(text: &[u8]) -> bool {
     let first = text
         .split(|byte| matches!(*byte, b'\n' | b'\r'))
         .find(|line| !line.is_empty() && !line.starts_with(b"#"));
-    matches!(first, Some([b'@' | b'=', b' ', ..]))
+    matches!(first, Some([b'@' | b'=', b' ', b'0'..=b'9', ..]))
 }
 
 /// A declaration of a program begins with this word.

@@ -3,12 +3,12 @@
 use crate::counted::{put_too_many, put_wrong_count};
 use crate::named::{put_taken, put_unknown};
 use crate::place::{
-    Place, Text, looks_like_names, looks_like_program, looks_like_record, put_pair,
+    Place, Text, has_start, looks_like_names, looks_like_program, looks_like_record, put_pair,
 };
 use crate::said::{Part, Said};
 use crate::shaped::put_unexpected;
-use crate::tokens::{Word, run_len, words_of};
-use crate::view::put_place;
+use crate::tokens::{Word, is_name_byte, run_len, words_of};
+use crate::view::{last_line, put_place};
 use boc_reader::{ReadFault, ReadFaultKind};
 use std::alloc::{AllocError, Global};
 
@@ -27,6 +27,10 @@ pub fn explain_program(
         put_record(&mut said, place)?;
     } else if looks_like_names(text.bytes) {
         put_names_file(&mut said)?;
+    } else if has_start(text.bytes) {
+        said.line(&[Part::Words(
+            "this looks like a record, but its first line is not `boc 2 COWNS`",
+        )])?;
     } else if at <= text.bytes.len() {
         put_fault(alloc, &mut said, text.bytes, fault.kind, at)?;
     }
@@ -38,7 +42,7 @@ pub(crate) fn put_nothing(said: &mut Said, place: Place<'_>) -> Result<(), Alloc
     said.line(&[Part::Words(if place.is_beside {
         "the file is empty"
     } else {
-        "nothing came in; if a command stood before it, did that fail?"
+        "the input is empty; if a command stood before it, did that fail?"
     })])
 }
 
@@ -170,7 +174,7 @@ fn put_no_token(said: &mut Said, front: &[u8], rest: &[u8]) -> Result<(), AllocE
         [b':', ..] => said.line(&[
             Part::Quote(sign),
             Part::Words(" begins no token"),
-            Part::Words(colon_words(behind)),
+            Part::Words(colon_words(front, behind)),
         ]),
         _ => said.line(&[
             Part::Quote(sign),
@@ -180,16 +184,45 @@ fn put_no_token(said: &mut Said, front: &[u8], rest: &[u8]) -> Result<(), AllocE
     }
 }
 
-// What is written here in place of what a colon in front of these bytes is in other languages.
-fn colon_words(behind: &[u8]) -> &'static str {
-    match behind {
-        [b'=', ..] => ": a local is declared by `let NAME = ..;`",
-        [b' ', next, ..] if next.is_ascii_alphabetic() => {
+// Behind such a word a block begins, here or in other languages.
+const OPENING: [&[u8]; 7] = [b"if", b"repeat", b"else", b"main", b"while", b"for", b"elif"];
+
+// What is written here in place of what a colon between these bytes is in other languages.
+fn colon_words(front: &[u8], behind: &[u8]) -> &'static str {
+    let line = in_block(last_line(front));
+    match (front, behind) {
+        ([.., b'='], [b'=', ..]) => ": two values are compared by `==`",
+        (_, [b'=', ..]) => {
+            ": a local is declared by `let NAME = ..;`, and changed by `NAME = ..;`"
+        }
+        _ if OPENING.iter().any(|word| has_word(line, *word)) => ": a block is `{ .. }`",
+        _ if has_word(line, b"when") && is_list_open(line) => ": a spawn is `when NAME(values; cowns);`",
+        _ if has_word(line, b"def") && line.contains(&b')') => ": a block is `{ .. }`",
+        (_, [] | [b'\n' | b'\r', ..]) => ": a statement ends with `;`",
+        (_, [b' ', next, ..]) if next.is_ascii_alphabetic() => {
             ": nothing has a type, all values are whole numbers"
         }
-        [] | [b'\n' | b'\r' | b' ', ..] => ": a block is `{ .. }`",
         _ => "",
     }
+}
+
+// What stands behind the last brace of a line.
+fn in_block(line: &[u8]) -> &[u8] {
+    match line.iter().rposition(|byte| matches!(*byte, b'{' | b'}')) {
+        Some(brace) => line.split_at(brace.min(line.len())).1,
+        None => line,
+    }
+}
+
+// The last parenthesis of a line is one that opens.
+fn is_list_open(line: &[u8]) -> bool {
+    let last = line.iter().rev().find(|byte| matches!(**byte, b'(' | b')'));
+    last == Some(&b'(')
+}
+
+// A line has this word.
+fn has_word(line: &[u8], word: &[u8]) -> bool {
+    line.split(|byte| !is_name_byte(*byte)).any(|found| found == word)
 }
 
 // What is written here in place of what the sign between these bytes is in other languages.
@@ -201,13 +234,29 @@ fn other_words(front: &[u8], rest: &[u8]) -> &'static str {
         (_, [b'|', b'|', ..]) => {
             ": of two comparisons one holds where their sum isn't 0, `(x == 1) + (y == 2)`, and both are worked out"
         }
+        (_, [b'.', ..]) => dot_words(front, rest),
         ([.., b'='], [b'!', ..]) => ": `x != y` is 1 where they differ",
-        (_, [b'!', ..]) => ": `x == 0` is 1 where x is 0, and 0 elsewhere",
+        ([.., last], [b'!' | b'?' | b'\'', ..]) if is_name_byte(*last) => "",
+        (_, [b'!', next, ..]) if is_name_byte(*next) || *next == b'(' => {
+            ": `x == 0` is 1 where x is 0, and 0 elsewhere"
+        }
         (_, [b'"' | b'\'', ..]) => ": there are no texts, and values are whole numbers",
-        (_, [b'.', b'.', ..]) => ": the one loop there is: `repeat N { .. }`",
-        ([.., digit], [b'.', ..]) if digit.is_ascii_digit() => ": values are whole numbers",
-        (_, [b'.', ..]) => ": a name has no members",
         (_, [b'?', ..]) => ": an `if` is a statement, and no value: `if .. { .. } else { .. }`",
+        _ => "",
+    }
+}
+
+// What is written here in place of what the dot between these bytes is in other languages.
+fn dot_words(front: &[u8], rest: &[u8]) -> &'static str {
+    let of_loop = has_word(last_line(front), b"for");
+    match (front, rest) {
+        (_, [_, b'.', ..]) if of_loop => ": the one loop there is: `repeat N { .. }`",
+        ([.., digit], _) if digit.is_ascii_digit() => ": values are whole numbers",
+        (_, [_, digit, ..]) if digit.is_ascii_digit() => ": values are whole numbers",
+        ([.., last], [_, next, ..]) if is_name_byte(*last) && is_name_byte(*next) => {
+            ": a name has no members"
+        }
+        (_, [_] | [_, b'\n' | b'\r', ..]) => ": a statement ends with `;`",
         _ => "",
     }
 }

@@ -107,7 +107,12 @@ fn put_left(alloc: Global, said: &mut Said, text: &[u8], line: u64) -> Result<()
         return said.line(&[Part::Words("no row was spawned yet")]);
     }
     put_rows(said, &run, Life::Pending, " not started, the first is row ")?;
-    put_rows(said, &run, Life::Running, " not ended, the first is row ")
+    put_rows(
+        said,
+        &run,
+        Life::Running,
+        " started and not ended, the first is row ",
+    )
 }
 
 // Tells how many rows have come so far, and which is the first of them.

@@ -93,7 +93,7 @@ impl Said {
     fn quote(&mut self, bytes: &[u8]) -> Result<(), AllocError> {
         self.byte(b'`')?;
         for byte in bytes.iter().take(MOST_QUOTE) {
-            self.byte(*byte)?;
+            self.byte(if *byte == b'\t' { b'?' } else { *byte })?;
         }
         if bytes.len() > MOST_QUOTE {
             self.bytes(b"..")?;
@@ -126,7 +126,7 @@ fn hex_digit(number: u8) -> u8 {
     }
 }
 
-// How a byte is shown: a tab as a blank, and what can't be printed as `?`.
+// How a byte is shown outside quotes: a tab as a blank, and what can't be printed as `?`.
 fn shown(byte: u8) -> char {
     match byte {
         b'\t' => ' ',

@@ -1,7 +1,7 @@
 // A token that isn't allowed where it stands, or the end of a text.
 
 use crate::allowed::{Allowed, allowed_behind, told};
-use crate::hint::put_hint;
+use crate::hint::{is_open, put_hint};
 use crate::place::is_first_word;
 use crate::said::{Part, Said};
 use crate::tokens::{Word, is_keyword, words_of};
@@ -33,6 +33,13 @@ pub(crate) fn put_unexpected(
     let allowed = allowed_behind(alloc, front, bytes)?;
     let on_later_line = before.is_some_and(|before| line_number(text, before.at)
         < line_number(text, at));
+    if allowed.semicolon && is_open(&words, at) && begins_statement(&words, at) {
+        put_place(said, text, at)?;
+        put_found(said, text, found, before)?;
+        return said.line(&[Part::Words(
+            "a list is `(values; cowns)`, and this one is not closed",
+        )]);
+    }
     if let Some(before) = before
         && (allowed.semicolon && on_later_line
             || allowed.semicolon_lacks && ends_statement(bytes))
@@ -80,6 +87,16 @@ fn open_blocks<'a>(
         }
     }
     Ok(open)
+}
+
+// The word at a place begins a statement, or ends a block.
+fn begins_statement(words: &[Word<'_>], at: usize) -> bool {
+    let mut rest = words.iter().skip_while(|word| word.at < at);
+    match rest.next() {
+        Some(word) if word.is_name() => rest.next().is_some_and(|next| next.is(b"=")),
+        Some(word) => word.is(b"}") || is_keyword(word.bytes),
+        None => false,
+    }
 }
 
 // A statement or a block ended in front of this. An `if` behind a value is rather meant as one.

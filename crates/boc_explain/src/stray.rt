@@ -1,6 +1,6 @@
 // Records that stray from a program: what the program does there, and what the record has.
 
-use crate::followed::{Course, Deed, deed_at};
+use crate::followed::{Course, Deed, deed_at, writes_others};
 use crate::formed::put_reason;
 use crate::names::program_cowns;
 use crate::place::Text;
@@ -92,11 +92,16 @@ fn put_course<'a>(
     course: &'a Course,
 ) -> Result<(), AllocError> {
     let row = Part::Number(u64::from(course.row));
+    let (begin, end) = if course.is_first_version && writes_others(&course.deed, &course.event) {
+        (": version 1 can't tell how row ", " ends in the program; in version 2 it is ")
+    } else {
+        (": in the program row ", " goes on with ")
+    };
     said.line(&[
         Part::Quote(line),
-        Part::Words(": in the program row "),
+        Part::Words(begin),
         row,
-        Part::Words(" goes on with "),
+        Part::Words(end),
         Part::Quote(&course.line),
     ])?;
     let is = [

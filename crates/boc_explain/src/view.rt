@@ -51,8 +51,8 @@ fn shown_back(back: &[u8]) -> (&[u8], &[u8]) {
     (begin, DOTS)
 }
 
-// What stands behind the last line feed.
-fn last_line(text: &[u8]) -> &[u8] {
+/// What stands behind the last line feed.
+pub(crate) fn last_line(text: &[u8]) -> &[u8] {
     match text.iter().rposition(|byte| *byte == b'\n') {
         Some(feed) => text.split_at(feed.saturating_add(1).min(text.len())).1,
         None => text,

@@ -17,7 +17,7 @@ const MOST_COLUMNS: i64 = 1_000;
 
 // What holds of every picture.
 const COMMON: &str =
-    "A program, or the record of a run (its first word is `boc`), comes from FILE, or from standard input, and the picture goes to standard output. A program is
+    "A program, or the record of a run (it begins with `boc`), comes from FILE, or from standard input, and the picture goes to standard output. A program is
 run first, by one thread unless --workers or --seed says otherwise. What is drawn is the earliest plan of the run: each behaviour starts
 as soon as it is spawned and has its cowns. The chain is what holds the run back: its ticks add up to the span.
 

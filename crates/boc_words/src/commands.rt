@@ -87,7 +87,7 @@ Statuses are told by `boc --help`.";
 
 // What `why` tells.
 const WHY_LINES: &str =
-    "The input is a program, which is run, or the record of a run, as its first word tells: `boc` begins a record. What comes out:
+    "The input is a program, which is run, or the record of a run, as its first bytes tell: `boc` begins a record. What comes out:
   chain            the rows that hold the run back: the tick at which each starts, how many ticks go by until the next one goes on, and what
                    it does then: it spawns it, or hands it the cowns that it waits for; where it hands on several, freeing one changes nothing
   chain by def     how many of the span's ticks go through the behaviours of a def, and through each kind of link
@@ -104,7 +104,7 @@ Statuses are told by `boc --help`.";
 
 // What `cowns` tells.
 const COWNS_LINES: &str =
-    "The input is a program, which is run, or the record of a run, as its first word tells: `boc` begins a record. A line is a cown, those first
+    "The input is a program, which is run, or the record of a run, as its first bytes tell: `boc` begins a record. A line is a cown, those first
 that are held longest:
   rows, wrote      how many rows have it, and how many of them wrote it
   held, of span    for how many ticks one row alone has it, and what part of the span that is; with --shared-reads rows that only read it

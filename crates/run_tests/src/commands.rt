@@ -283,7 +283,7 @@ fn of_files(alloc: Global) -> Result<[Case; 2], AllocError> {
     ])
 }
 
-// The commands that read a program or a record, as its first word tells.
+// The commands that read a program or a record, as its first bytes tell.
 fn of_either(alloc: Global) -> Result<[Case; 2], AllocError> {
     let why = Command::Why {
         schedule: Schedule::Threads(Runners::one()),

@@ -785,6 +785,32 @@ PROGRAMS = [
         "  let y = 1..5;",
         "           ^",
         "`.` begins no token: values are whole numbers"]),
+    (b"def e(cown x; n) { }\nmain { }\n", "line 1: 3 Unexpected", [
+        "def e(cown x; n) { }",
+        "      ^",
+        "`cown` is not allowed behind `(` on line 1",
+        "a name is allowed there, and `cown` is a keyword",
+        "parameters are names alone: those behind the `;` are cowns"]),
+    (b"def e(n; x) : int { }\nmain { }\n", "line 1: 2 BadToken", [
+        "def e(n; x) : int { }",
+        "            ^",
+        "`:` begins no token: nothing has a type, all values are whole numbers"]),
+    (b"cown r[2] = 0;\ndef e(n; x) { }\nmain { when e(1; r.0); }\n", "line 3: 2 BadToken", [
+        "main { when e(1; r.0); }",
+        "                  ^",
+        "`.` begins no token: a name has no members"]),
+    (b"main { let y = 1; y //= 2; }\n", "line 1: 3 Unexpected", [
+        "main { let y = 1; y //= 2; }",
+        "                    ^",
+        "`/` is not allowed behind `y` on line 1",
+        "allowed there: `=`",
+        "what changes is written out: `y = y / ..;`"]),
+    (b"main { if 1 then { } }\n", "line 1: 3 Unexpected", [
+        "main { if 1 then { } }",
+        "            ^",
+        "`then` is not allowed behind `1` on line 1",
+        "allowed there: `{`, `+`, `-`, ..",
+        "a block is `{ .. }`"]),
     (b"cown a = 0;\ndef e(n; x) { x = n; }\nmain {\n  e!(1; a);\n}\n", "line 4: 2 BadToken", [
         "  e!(1; a);",
         "   ^",

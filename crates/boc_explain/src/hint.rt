@@ -232,6 +232,7 @@ fn value_hint(round: Round<'_>, allowed: &Allowed) -> Option<&'static str> {
             "of two comparisons one holds where their sum isn't 0: `(x == 1) + (y == 2)`, and both are worked out",
         ),
         (_, b"if", _) => Some(IF_STATEMENT),
+        (_, b"then" | b"do", _) => Some(BLOCK),
         _ if allowed.has(b"{") && !round.opens => Some(BLOCK),
         _ => None,
     }
@@ -363,6 +364,16 @@ fn put_local_of(said: &mut Said, words: &[Word<'_>], round: Round<'_>) -> Result
     ])
 }
 
+// Two signs one behind the other, which step up or down in other languages.
+fn is_step(round: Round<'_>) -> bool {
+    matches!(round.found, b"+" | b"-") && round.behind == round.found
+}
+
+// What begins a comment in other languages, and no division that changes a variable.
+fn is_comment(round: Round<'_>) -> bool {
+    matches!(round.behind, b"/" | b"*") && round.third != b"=".as_slice()
+}
+
 // Tells how a variable is changed by a sign that other languages write in front of `=`, or twice.
 fn put_change(said: &mut Said, words: &[Word<'_>], round: Round<'_>) -> Result<(), AllocError> {
     if declares(words, b"def", round.before) {
@@ -373,7 +384,7 @@ fn put_change(said: &mut Said, words: &[Word<'_>], round: Round<'_>) -> Result<(
             "a body reads and writes its parameters alone: a `when` hands it cowns",
         )]);
     }
-    let other: &[u8] = if round.behind == round.found {
+    let other: &[u8] = if is_step(round) {
         b"1"
     } else {
         b".."
@@ -427,7 +438,7 @@ fn put_statement(said: &mut Said, words: &[Word<'_>], round: Round<'_>) -> Resul
     match (round.before, round.found) {
         (_, b"(") => put_spawn(said, words, round.before),
         (_, b"[") => put_member(said, words, round.before),
-        (_, b"/") if matches!(round.behind, b"/" | b"*") => said.line(&[Part::Words(COMMENT)]),
+        (_, b"/") if is_comment(round) => said.line(&[Part::Words(COMMENT)]),
         (_, b"*") if round.behind == b"*".as_slice() => said.line(&[Part::Words(
             "there is no power: a product is written out, as `x * x`",
         )]),

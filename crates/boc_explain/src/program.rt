@@ -8,7 +8,7 @@ use crate::place::{
 use crate::said::{Part, Said};
 use crate::shaped::put_unexpected;
 use crate::tokens::{Word, is_name_byte, run_len, words_of};
-use crate::view::{last_line, put_place};
+use crate::view::{first_line, last_line, put_place};
 use boc_reader::{ReadFault, ReadFaultKind};
 use std::alloc::{AllocError, Global};
 
@@ -197,7 +197,9 @@ fn colon_words(front: &[u8], behind: &[u8]) -> &'static str {
         }
         _ if OPENING.iter().any(|word| has_word(line, *word)) => ": a block is `{ .. }`",
         _ if has_word(line, b"when") && is_list_open(line) => ": a spawn is `when NAME(values; cowns);`",
-        _ if has_word(line, b"def") && line.contains(&b')') => ": a block is `{ .. }`",
+        _ if has_word(line, b"def") && line.contains(&b')') && !opens_block(behind) => {
+            ": a block is `{ .. }`"
+        }
         (_, [] | [b'\n' | b'\r', ..]) => ": a statement ends with `;`",
         (_, [b' ', next, ..]) if next.is_ascii_alphabetic() => {
             ": nothing has a type, all values are whole numbers"
@@ -212,6 +214,11 @@ fn in_block(line: &[u8]) -> &[u8] {
         Some(brace) => line.split_at(brace.min(line.len())).1,
         None => line,
     }
+}
+
+// A block begins on the line of which these bytes are the rest.
+fn opens_block(rest: &[u8]) -> bool {
+    first_line(rest).contains(&b'{')
 }
 
 // The last parenthesis of a line is one that opens.
@@ -252,10 +259,10 @@ fn dot_words(front: &[u8], rest: &[u8]) -> &'static str {
     match (front, rest) {
         (_, [_, b'.', ..]) if of_loop => ": the one loop there is: `repeat N { .. }`",
         ([.., digit], _) if digit.is_ascii_digit() => ": values are whole numbers",
-        (_, [_, digit, ..]) if digit.is_ascii_digit() => ": values are whole numbers",
         ([.., last], [_, next, ..]) if is_name_byte(*last) && is_name_byte(*next) => {
             ": a name has no members"
         }
+        (_, [_, digit, ..]) if digit.is_ascii_digit() => ": values are whole numbers",
         (_, [_] | [_, b'\n' | b'\r', ..]) => ": a statement ends with `;`",
         _ => "",
     }

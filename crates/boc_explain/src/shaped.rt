@@ -33,7 +33,11 @@ pub(crate) fn put_unexpected(
     let allowed = allowed_behind(alloc, front, bytes)?;
     let on_later_line = before.is_some_and(|before| line_number(text, before.at)
         < line_number(text, at));
-    if allowed.semicolon && is_open(&words, at) && begins_statement(&words, at) {
+    if allowed.semicolon
+        && on_later_line
+        && is_open(&words, at)
+        && begins_statement(&words, at)
+    {
         put_place(said, text, at)?;
         put_found(said, text, found, before)?;
         return said.line(&[Part::Words(

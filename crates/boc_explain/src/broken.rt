@@ -23,7 +23,11 @@ pub(crate) fn put_broken(
     let run = Run::before(alloc, text, number)?;
     match (kind, fields.numbers.as_slice()) {
         (RecordFaultKind::NumberNotNext, [_, ..]) if run.rows.len() >= MOST_ROWS => {
-            put_reason(said, line, "a run has at most 65535 rows, and all of them stand before")
+            put_reason(
+                said,
+                line,
+                "a run has at most 65535 rows, and all of them stand before",
+            )
         }
         (RecordFaultKind::NumberNotNext, [_, ..]) => said.line(&[
             Part::Quote(line),

@@ -169,12 +169,7 @@ fn put_no_edit(said: &mut Said, word: &[u8]) -> Result<(), AllocError> {
 }
 
 // Tells why a word of a row and ticks is no edit.
-fn put_no_ticks(
-    said: &mut Said,
-    word: &[u8],
-    row: &[u8],
-    ticks: &[u8],
-) -> Result<(), AllocError> {
+fn put_no_ticks(said: &mut Said, word: &[u8], row: &[u8], ticks: &[u8]) -> Result<(), AllocError> {
     let is_large = !ticks.starts_with(b"0") && read_number(ticks).is_none();
     if read_number(row).is_some() && is_large {
         return put_reason(said, word, "a row takes at most 1000000 ticks");

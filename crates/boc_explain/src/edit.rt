@@ -312,8 +312,16 @@ fn put_names(
         text.extend_from_slice(b", ..")?;
     }
     let (none, have, others) = match (are_defs, count) {
-        (true, 0) => ("no row is of a def ", "; the program has no def but main", ""),
-        (true, _) => ("no row is of a def ", "; the program's defs are ", ", beside main"),
+        (true, 0) => (
+            "no row is of a def ",
+            "; the program has no def but main",
+            "",
+        ),
+        (true, _) => (
+            "no row is of a def ",
+            "; the program's defs are ",
+            ", beside main",
+        ),
         (false, 0) => ("no cown is called ", "; the program has no cowns", ""),
         (false, _) => ("no cown is called ", "; the program's cowns are ", ""),
     };

@@ -326,7 +326,10 @@ fn put_local(said: &mut Said, words: &[Word<'_>], round: Round<'_>) -> Result<()
 
 // A word by which other languages declare locals.
 fn is_other_word(word: &[u8]) -> bool {
-    matches!(word, b"mut" | b"int" | b"long" | b"var" | b"const" | b"auto")
+    matches!(
+        word,
+        b"mut" | b"int" | b"long" | b"var" | b"const" | b"auto"
+    )
 }
 
 // Tells how a local is declared whose name was found.
@@ -384,11 +387,7 @@ fn put_change(said: &mut Said, words: &[Word<'_>], round: Round<'_>) -> Result<(
             "a body reads and writes its parameters alone: a `when` hands it cowns",
         )]);
     }
-    let other: &[u8] = if is_step(round) {
-        b"1"
-    } else {
-        b".."
-    };
+    let other: &[u8] = if is_step(round) { b"1" } else { b".." };
     said.line(&[
         Part::Words("what changes is written out: `"),
         Part::Bytes(round.before),

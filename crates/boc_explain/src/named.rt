@@ -44,7 +44,8 @@ pub(crate) fn put_unknown(
                 Part::Words(match wanted {
                     Use::Def => "no def is called ",
                     Use::Cown => "no cown is called ",
-                    Use::Argument | Use::Value => "no parameter and no `let` of this body is called ",
+                    Use::Argument | Use::Value =>
+                        "no parameter and no `let` of this body is called ",
                 }),
                 Part::Quote(word.bytes),
             ])?;

@@ -185,7 +185,9 @@ fn put_no_token(said: &mut Said, front: &[u8], rest: &[u8]) -> Result<(), AllocE
 }
 
 // Behind such a word a block begins, here or in other languages.
-const OPENING: [&[u8]; 7] = [b"if", b"repeat", b"else", b"main", b"while", b"for", b"elif"];
+const OPENING: [&[u8]; 7] = [
+    b"if", b"repeat", b"else", b"main", b"while", b"for", b"elif",
+];
 
 // What is written here in place of what a colon between these bytes is in other languages.
 fn colon_words(front: &[u8], behind: &[u8]) -> &'static str {
@@ -196,7 +198,8 @@ fn colon_words(front: &[u8], behind: &[u8]) -> &'static str {
             ": a local is declared by `let NAME = ..;`, and changed by `NAME = ..;`"
         }
         _ if OPENING.iter().any(|word| has_word(line, *word)) => ": a block is `{ .. }`",
-        _ if has_word(line, b"when") && is_list_open(line) => ": a spawn is `when NAME(values; cowns);`",
+        _ if has_word(line, b"when") && is_list_open(line) =>
+            ": a spawn is `when NAME(values; cowns);`",
         _ if has_word(line, b"def") && line.contains(&b')') && !opens_block(behind) => {
             ": a block is `{ .. }`"
         }
@@ -229,7 +232,8 @@ fn is_list_open(line: &[u8]) -> bool {
 
 // A line has this word.
 fn has_word(line: &[u8], word: &[u8]) -> bool {
-    line.split(|byte| !is_name_byte(*byte)).any(|found| found == word)
+    line.split(|byte| !is_name_byte(*byte))
+        .any(|found| found == word)
 }
 
 // What is written here in place of what the sign between these bytes is in other languages.

@@ -33,16 +33,10 @@ pub(crate) fn put_unexpected(
     let allowed = allowed_behind(alloc, front, bytes)?;
     let on_later_line = before.is_some_and(|before| line_number(text, before.at)
         < line_number(text, at));
-    if allowed.semicolon
-        && on_later_line
-        && is_open(&words, at)
-        && begins_statement(&words, at)
-    {
+    if allowed.semicolon && on_later_line && is_open(&words, at) && begins_statement(&words, at) {
         put_place(said, text, at)?;
         put_found(said, text, found, before)?;
-        return said.line(&[Part::Words(
-            "a list is `(values; cowns)`, and this one is not closed",
-        )]);
+        return said.line(&[Part::Words("a list is `(values; cowns)`, and this one is not closed")]);
     }
     if let Some(before) = before
         && (allowed.semicolon && on_later_line

@@ -93,7 +93,10 @@ fn put_course<'a>(
 ) -> Result<(), AllocError> {
     let row = Part::Number(u64::from(course.row));
     let (begin, end) = if course.is_first_version && writes_others(&course.deed, &course.event) {
-        (": version 1 can't tell how row ", " ends in the program; in version 2 it is ")
+        (
+            ": version 1 can't tell how row ",
+            " ends in the program; in version 2 it is ",
+        )
     } else {
         (": in the program row ", " goes on with ")
     };

@@ -137,7 +137,14 @@ fn workers_before(room: &mut [u8], workers: u32) -> usize
 }
 
 // Forms the line of a row in a greedy plan in front of what a room has from a place on, and says where it begins.
-fn served_before(room: &mut [u8], place: usize, row: u64, start: u64, end: u64, worker: u32) -> usize
+fn served_before(
+    room: &mut [u8],
+    place: usize,
+    row: u64,
+    start: u64,
+    end: u64,
+    worker: u32,
+) -> usize
     requires room { (MOST_SERVED ≤ place) × (place ≤ length room.old) }
     ensures written { drop result room.new ≡ served_line row start end worker ++ drop place room.old }
     ensures near { (result ≤ place) × (place ≤ result + MOST_SERVED) }

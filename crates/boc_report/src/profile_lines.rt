@@ -251,7 +251,12 @@ fn put_plan<W: Sink>(
     let mut first = 0;
     while first < starts.len() {
         let behind = starts.len().min(first + TOGETHER);
-        let begin = rows_before(&mut room, first, &starts[first..behind], &ends[first..behind]);
+        let begin = rows_before(
+            &mut room,
+            first,
+            &starts[first..behind],
+            &ends[first..behind],
+        );
         out.put(&room[begin..], sink)?;
         first = behind;
     }
@@ -272,7 +277,13 @@ fn rows_before(room: &mut [u8], first: usize, starts: &[u64], ends: &[u64]) -> u
     let mut begin = ROWS_ROOM;
     while place > 0 {
         place -= 1;
-        begin = row_before(room, begin, (first + place) as u64, starts[place], ends[place]);
+        begin = row_before(
+            room,
+            begin,
+            (first + place) as u64,
+            starts[place],
+            ends[place],
+        );
     }
     begin
 }

@@ -17,7 +17,8 @@ loop-first-preserved g c = record {
   long = search rules;
   came = block_put (served_by_block c.args.starts.now c.args.ends.now c.args.workers.now c.requires.ends c.requires.workers) c.loop-first.first _
       c.served_rows_before-begin.new.room SERVED_ROOM c.served_rows_before-begin.result c.args.out.now c.loop-first.out c.put.new.self
-      _ _ _ (omega arith) (omega arith) c.loop-first.invariant.came (omega arith) c.served_rows_before-begin.ensures.written c.in_ok-put.ensures.goes_on;
+      _ _ _ (omega arith) (omega arith) c.loop-first.invariant.came (omega arith)
+      c.served_rows_before-begin.ensures.written c.in_ok-put.ensures.goes_on;
   size = omega (arith, c.in_ok-put.ensures.size, c.served_rows_before-begin.ensures.near.1);
   failures = c.in_ok-put.ensures.failures ∙ c.loop-first.invariant.failures;
 }

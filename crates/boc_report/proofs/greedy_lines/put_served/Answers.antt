@@ -25,5 +25,5 @@ loop-first-preserved g c = record {
 
 pub returns-clause-goes_on : goal.returns-clause-goes_on
 returns-clause-goes_on g c =
-    blocks_put (served_by_block c.args.starts.now c.args.ends.now c.args.workers.now c.requires.ends c.requires.workers) c.loop-first.first _ _ _ _ (omega arith)
-    c.loop-first.invariant.came
+    blocks_put (served_by_block c.args.starts.now c.args.ends.now c.args.workers.now c.requires.ends c.requires.workers) c.loop-first.first
+    _ _ _ _ (omega arith) c.loop-first.invariant.came

@@ -50,6 +50,9 @@ up_to i j near = omega (arith, near)
 first_at : (r : ℕ) → r + 0 ≡ r
 first_at r = omega arith
 
+zero_more : (i : ℕ) → 0 + i ≡ i
+zero_more i = omega arith
+
 one_more : (first place next : ℕ) → next ≡ place + 1 → first + next ≡ suc (first + place)
 one_more first place next one = omega (arith, one)
 
@@ -108,8 +111,9 @@ plan_grows starts ends i j same near within =
     ∙ ap (plan_lines 0 (take i starts ++ take (j - i) (drop i starts))) (take-add i (j - i) ends)
     ∙ plan_append 0 (take i starts) (take (j - i) (drop i starts)) (take i ends) (take (j - i) (drop i ends))
     (length-take-le i starts (omega (arith, near, within)) ∙ sym (length-take-le i ends (omega (arith, near, within, same))))
-    ∙ ap (λ (n : ℕ). plan_to starts ends i ++ plan_lines n (take (j - i) (drop i starts)) (take (j - i) (drop i ends)))
+    ∙ ap (λ (n : ℕ). plan_to starts ends i ++ plan_lines (0 + n) (take (j - i) (drop i starts)) (take (j - i) (drop i ends)))
     (length-take-le i starts (omega (arith, near, within)))
+    ∙ ap (λ (n : ℕ). plan_to starts ends i ++ plan_lines n (take (j - i) (drop i starts)) (take (j - i) (drop i ends))) (zero_more i)
 
 plan_all : (starts ends : List ℕ) (i : ℕ) → length starts ≡ length ends → length starts ≤ i → plan_to starts ends i ≡ plan_lines 0 starts ends
 plan_all starts ends i same end = ap (λ xs. plan_lines 0 xs (take i ends)) (take_all i starts end)
@@ -179,7 +183,8 @@ served_grow starts ends workers i j e w near within =
     ∙ served_append 0 (take i starts) more (take i ends) others (take i workers) crew
     (length-take-le i starts (omega (arith, near, within)) ∙ sym (length-take-le i ends (omega (arith, near, within, e))))
     (length-take-le i starts (omega (arith, near, within)) ∙ sym (length-take-le i workers (omega (arith, near, within, w))))
-    ∙ ap (λ (n : ℕ). served_to starts ends workers i ++ served_lines n more others crew) (length-take-le i starts (omega (arith, near, within)))
+    ∙ ap (λ (n : ℕ). served_to starts ends workers i ++ served_lines (0 + n) more others crew) (length-take-le i starts (omega (arith, near, within)))
+    ∙ ap (λ (n : ℕ). served_to starts ends workers i ++ served_lines n more others crew) (zero_more i)
 
 served_all : (starts ends workers : List ℕ) (i : ℕ) → length starts ≡ length ends → length starts ≡ length workers → length starts ≤ i
     → served_to starts ends workers i ≡ served_lines 0 starts ends workers
@@ -252,6 +257,11 @@ sweep_all first spans i end = ap (sweep_lines first) (take_all i spans end)
 pub sweep_by_block : (first : ℕ) (spans : List ℕ)
     → IsOfBlocks (sweep_lines first spans) (swept_to first spans) (swept_between first spans) (length spans)
 sweep_by_block first spans = record { grows = sweep_grows first spans; all = sweep_all first spans }
+
+-- lines of a sweep whose first number is said in another way
+pub swept_same : (first given place : ℕ) (lines spans : List ℕ) → given ≡ first → lines ≡ sweep_lines (given + place) spans
+    → lines ≡ sweep_lines (first + place) spans
+swept_same first given place lines spans same is = is ∙ ap (λ (n : ℕ). sweep_lines (n + place) spans) same
 
 -- a line of a sweep in front of those behind it
 pub swept_in_front : (spans : List ℕ) (first place next : ℕ) → place < length spans → next ≡ place + 1

@@ -1,7 +1,7 @@
 use Rattle.std.proofs.Common.{ℕ, Bool, List, ◌++◌, codes, subst, arith}
 use Rattle.boc_report.specs.Texts.{bound_line, number_line, served_text}
 use Rattle.boc_text.specs.Outgoing.{Puts}
-use Rattle.boc_text.proofs.Sending.{HasPut, StopsIn, put_puts, puts_more, puts_then, puts_stopped, stops_after, stops_early, room_end}
+use Rattle.boc_text.proofs.Sending.{HasPut, put_puts, puts_more, puts_then, puts_stopped, stops_after, stops_early, room_end}
 use Rattle.boc_greedy.specs.declared.plan.Greedy.{Greedy}
 use Rattle.boc_report.specs.declared.greedy_lines.TheConstants.{MOST_FRAME}
 use Rattle.boc_report.proofs.ByLines.{room_put, put_stopped}

@@ -1,4 +1,4 @@
-use Rattle.std.proofs.Common.{◌++◌, Bool, codes, sym, subst}
+use Rattle.std.proofs.Common.{Bool, codes, sym, subst}
 use Rattle.boc_report.specs.Texts.{plan_lines, plan_text}
 use Rattle.boc_text.specs.Outgoing.{Puts}
 use Rattle.boc_text.proofs.Sending.{puts_then}

@@ -1,8 +1,7 @@
-use Rattle.std.proofs.Common.{◌+◌, ◌-◌, ◌∙◌, ℕ, ap, arith, drop, rules, take}
-use Rattle.boc_report.specs.Texts.{sweep_lines}
+use Rattle.std.proofs.Common.{◌∙◌, arith, rules}
 use Rattle.boc_report.specs.declared.sweep_lines.TheConstants.{SWEPT_ROOM}
 use Rattle.boc_report.proofs.ByLines.{block_put, blocks_put, blocks_stopped}
-use Rattle.boc_report.proofs.Lines.{sweep_by_block}
+use Rattle.boc_report.proofs.Lines.{sweep_by_block, swept_same}
 use Rattle.boc_report.proofs.sweep_lines.put_sweep.Goals as goal
 
 pub returns-in_err-put-clause-goes_on : goal.returns-in_err-put-clause-goes_on
@@ -18,8 +17,7 @@ loop-place-preserved g c = record {
   came = block_put (sweep_by_block c.args.first c.args.spans.now) c.loop-place.place _ c.sweep_lines_before-begin.new.room SWEPT_ROOM
       c.sweep_lines_before-begin.result c.args.out.now c.loop-place.out c.put.new.self
       _ _ _ (omega arith) (omega arith) c.loop-place.invariant.came (omega arith)
-      (c.sweep_lines_before-begin.ensures.written
-      ∙ ap (λ (n : ℕ). sweep_lines (n + c.loop-place.place) (take (_ - c.loop-place.place) (drop c.loop-place.place c.args.spans.now))) c.from.ensures)
+      (swept_same c.args.first c.from.result c.loop-place.place _ _ c.from.ensures c.sweep_lines_before-begin.ensures.written)
       c.in_ok-put.ensures.goes_on;
   size = omega (arith, c.in_ok-put.ensures.size, c.sweep_lines_before-begin.ensures.near.1);
   failures = c.in_ok-put.ensures.failures ∙ c.loop-place.invariant.failures;

@@ -1,4 +1,4 @@
-use Rattle.std.proofs.Common.{List, ℕ, ◌++◌, ◌+◌, ◌∙◌, ap, arith, get_or, rules}
+use Rattle.std.proofs.Common.{List, ℕ, ◌++◌, ◌+◌, ◌-◌, ◌∙◌, ap, arith, get_or, rules}
 use Rattle.std.proofs.lemmas.List.{drop_all}
 use Rattle.boc_report.specs.Texts.{sweep_line}
 use Rattle.boc_report.specs.declared.sweep_lines.TheConstants.{SWEPT_ROOM}
@@ -17,8 +17,12 @@ pub loop-place-preserved : goal.loop-place-preserved
 loop-place-preserved c = let i = c.loop-place.invariant in record {
   within = omega (arith, i.within);
   long = search rules;
-  written = c.swept_before-begin.ensures.written ∙ ap (λ (xs : List ℕ). sweep_line _ (get_or c.args.spans.now _ 0) ++ xs) i.written
-      ∙ swept_in_front c.args.spans.now c.args.first _ c.loop-place.place (omega (arith, i.within)) (omega arith);
+  written =
+      let place = c.loop-place.place - 1 in
+      let line = sweep_line (c.args.first + place) (get_or c.args.spans.now place 0) in
+      c.swept_before-begin.ensures.written ∙ ap (λ (xs : List ℕ). line ++ xs) i.written
+      ∙ swept_in_front c.args.spans.now c.args.first place c.loop-place.place (omega (arith, i.within, c.loop-place-test.true))
+      (omega (arith, c.loop-place-test.true));
   near = (omega (arith, i.near.0, c.swept_before-begin.ensures.near.0), omega (arith, i.near.1, i.within, c.swept_before-begin.ensures.near.1));
 }
 

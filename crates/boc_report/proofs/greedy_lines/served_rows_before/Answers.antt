@@ -21,7 +21,7 @@ loop-place-preserved c = let i = c.loop-place.invariant in record {
   written =
       let place = c.loop-place.place - 1 in
       let line =
-        served_line (c.args.first + place) (get_or c.args.starts.now place 0) (get_or c.args.ends.now place 0) (get_or c.args.workers.now place 0) in
+      served_line (c.args.first + place) (get_or c.args.starts.now place 0) (get_or c.args.ends.now place 0) (get_or c.args.workers.now place 0) in
       c.served_before-begin.ensures.written ∙ ap (λ (xs : List ℕ). line ++ xs) i.written
       ∙ served_in_front c.args.starts.now c.args.ends.now c.args.workers.now c.args.first place c.loop-place.place c.requires.ends c.requires.workers
       (omega (arith, i.within, c.loop-place-test.true)) (omega (arith, c.loop-place-test.true));

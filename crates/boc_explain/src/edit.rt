@@ -208,13 +208,13 @@ fn put_between(said: &mut Said, word: &[u8], run: &Run, number: u32) -> Result<(
 }
 
 // Tells from which tick of its parent on a row can be spawned, and up to which.
-fn put_window(
+fn put_window<'a>(
     said: &mut Said,
-    word: &[u8],
+    word: &'a [u8],
     row: u32,
     parent: u32,
     ticks: (u32, u32),
-    siblings: &str,
+    siblings: &'a str,
 ) -> Result<(), AllocError> {
     let (least, most) = ticks;
     let (to, last) = if least == most {
@@ -311,25 +311,29 @@ fn put_names(
     if count > MOST_NAMES {
         text.extend_from_slice(b", ..")?;
     }
-    let (none, have, others) = match (are_defs, count) {
-        (true, 0) => (
-            "no row is of a def ",
-            "; the program has no def but main",
-            "",
-        ),
-        (true, _) => (
-            "no row is of a def ",
-            "; the program's defs are ",
-            ", beside main",
-        ),
-        (false, 0) => ("no cown is called ", "; the program has no cowns", ""),
-        (false, _) => ("no cown is called ", "; the program's cowns are ", ""),
-    };
     said.line(&[
-        Part::Words(none),
+        Part::Words(if are_defs {
+            "no row is of a def "
+        } else {
+            "no cown is called "
+        }),
         Part::Quote(name),
-        Part::Words(have),
+        Part::Words(names_words(are_defs, count)),
         Part::Bytes(&text),
-        Part::Words(others),
+        Part::Words(if are_defs && count > 0 {
+            ", beside main"
+        } else {
+            ""
+        }),
     ])
+}
+
+// What stands before the names of a program's cowns or defs, of which there are so many.
+fn names_words(are_defs: bool, count: usize) -> &'static str {
+    match (are_defs, count) {
+        (true, 0) => "; the program has no def but main",
+        (true, _) => "; the program's defs are ",
+        (false, 0) => "; the program has no cowns",
+        (false, _) => "; the program's cowns are ",
+    }
 }

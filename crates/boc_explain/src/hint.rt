@@ -271,12 +271,25 @@ fn other_hint(round: Round<'_>, allowed: &Allowed) -> Option<&'static str> {
         (b";" | b",", b"cown" | b"let", _) => Some(NAMES_ALONE),
         (_, b"when", _) if allowed.has(b"1") => Some(NO_VALUE),
         (_, b"if", _) if allowed.has(b"1") => Some(IF_STATEMENT),
-        (b")", b")", _) => Some("a `)` too many"),
-        (b")", b"-" | b"=", _) if allowed.has(b"{") => Some(NO_TYPE),
-        (b")", word, b"{") if allowed.has(b"{") && word != b"main".as_slice() => Some(NO_TYPE),
-        (b")", _, _) if allowed.has(b"{") => Some(BLOCK),
+        (b")", _, _) => after_list_hint(round, allowed),
         _ => None,
     }
+}
+
+// What is written behind a list in place of a token that may not be there.
+fn after_list_hint(round: Round<'_>, allowed: &Allowed) -> Option<&'static str> {
+    if round.found == b")".as_slice() {
+        return Some("a `)` too many");
+    }
+    if !allowed.has(b"{") {
+        return None;
+    }
+    let is_typed = match round.found {
+        b"-" | b"=" => true,
+        b"main" => false,
+        _ => round.behind == b"{".as_slice(),
+    };
+    Some(if is_typed { NO_TYPE } else { BLOCK })
 }
 
 // The text declares this name behind this keyword.

@@ -320,11 +320,7 @@ fn put_names(
         Part::Quote(name),
         Part::Words(names_words(are_defs, count)),
         Part::Bytes(&text),
-        Part::Words(if are_defs && count > 0 {
-            ", beside main"
-        } else {
-            ""
-        }),
+        Part::Words(other_words(are_defs, count)),
     ])
 }
 
@@ -335,5 +331,13 @@ fn names_words(are_defs: bool, count: usize) -> &'static str {
         (true, _) => "; the program's defs are ",
         (false, 0) => "; the program has no cowns",
         (false, _) => "; the program's cowns are ",
+    }
+}
+
+// What stands behind them.
+fn other_words(are_defs: bool, count: usize) -> &'static str {
+    match (are_defs, count) {
+        (true, 1..) => ", beside main",
+        _ => "",
     }
 }

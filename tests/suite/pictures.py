@@ -434,7 +434,7 @@ def words(view):
         yield f"words: {words_}", None if answer.status == 2 and not answer.output and answer.errors else f"the answer {answer}"
     yield "a faulty program", fault_of(refused(3, "boc: line 1: 5 UnknownName"), view.run(["plan"], b"main { x = 1; }"))
     yield "a faulty record", fault_of(refused(3, "boc: line 1: 1 Header"), view.run(["text"], b"boc 9\n"))
-    told = b"     main { x = 1; }\n            ^\n     no parameter and no `let` is called `x`\n     a local is declared by `let x = ..;`\n"
+    told = b"     main { x = 1; }\n            ^\n     no parameter and no `let` of this body is called `x`\n     a local is declared by `let x = ..;`\n"
     for words_ in (["plan"], ["page"], ["text", "--cowns"]):
         answer = view.run(words_, b"main { x = 1; }")
         yield f"{words_}: what is told of a fault", None if answer.errors == b"boc: line 1: 5 UnknownName\n" + told else f"it is {answer.errors}"

@@ -66,6 +66,10 @@ MANY = b"cown a = 0; def f(n; x) { x = n / 0; } main { " + b"".join(b"when f(%d;
 MANY_NOTED = b"".join(b"boc: note: row %d, f(%d; a), ended by 2 ZeroDivisor at its tick 2\n" % (n + 1, n) for n in range(10)) \
     + b"boc: note: 2 more ended by a fault\n"
 
+# Forty behaviours end by a fault, those that come first after the longest work, so that they end in another order than that of their rows.
+LATE = b"cown c[40] = 0; def f(n; x) { work (40 - n) * 5000; x = n / 0; } def g(n; ) { when f(n; c[n]); } main { " \
+    + b"".join(b"when %s(%d; %s); " % ((b"f", n, b"c[%d]" % n) if n % 3 else (b"g", n, b"")) for n in range(40)) + b"}"
+
 # A record in which rows ended by each fault, without a program.
 RECORD = b"boc 2 1\n+ 0 0 0\n> 0\n+ 1 0 1 0\n+ 2 0 2\n+ 3 0 3\n+ 4 0 4\n+ 5 0 5\n+ 6 0 6\n< 0 7 0\n" \
     + b"".join(b"> %d\n< %d %d %d\n" % (row, row, 10 - row, row) for row in (3, 1, 2, 6, 5, 4)) + b".\n"
@@ -82,6 +86,8 @@ NOT_RUN = b"boc: note: the input is a record, which is not run again: --workers 
 def cases(program):
     for name, text, noted in [("each fault", FAULTS, NOTED), ("main", MAIN, MAIN_NOTED), ("twelve", MANY, MANY_NOTED)]:
         yield from of_program(program, name, text, noted)
+    for name, text in [("each fault", FAULTS), ("main", MAIN), ("twelve", MANY), ("late", LATE)]:
+        yield from of_runs(program, name, text)
     for command in OF_RECORDS:
         yield f"a record: {command}", fault_of_notes(program.run([command], RECORD), RECORD_NOTED)
         yield f"a record: {command} --quiet", fault_of_notes(program.run([command, "--quiet"], RECORD), b"")
@@ -113,6 +119,14 @@ def of_program(program, name, text, noted):
     for command in ["values", "why", "cowns"]:
         yield f"{name}: {command} --record", fault_of_notes(program.run_beside([command], "--record", record, text), told)
     yield f"{name}: profile", fault_of_notes(program.run(["profile"], record), notes_of(ends_of(record)))
+
+
+def of_runs(program, name, text):
+    """What is noted of runs by threads and of one that is drawn, from the record that came out beside the notes."""
+    for words in [["-w", "1"], ["-w", "2"], ["-w", "4"], ["-w", "16"], ["--seed", "7", "-w", "4"]]:
+        answer = program.run(["run", *words], text)
+        told = notes_of(ends_of(answer.output), RunNames(follow(Program(text), answer.output)).rows)
+        yield f"{name}: run {' '.join(words)}, by its own record", fault_of_notes(answer, told)
 
 
 def fault_of_notes(answer, noted):

@@ -22,4 +22,3 @@ pub mod RunNames
 pub mod TakenRuns
 pub mod GivenRuns
 pub mod examples
-pub mod ToldNames

@@ -10,4 +10,3 @@ pub mod Driving
 pub mod Stepping
 pub mod KeptArguments
 pub mod KeptStages
-pub mod Told

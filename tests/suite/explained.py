@@ -4,6 +4,7 @@ import string
 from concurrent.futures import ThreadPoolExecutor
 
 from . import model, program_reader, record_reader
+from .completion import helps_of
 from .pictures import random_records
 from .plans import random_edit, record_of
 from .records import TRANSFER, lines_text
@@ -1083,6 +1084,8 @@ def cases(program):
     yield from names(program)
     yield from strays(program)
     yield from words_refused(program)
+    yield from values_are_no_files(program)
+    yield from keywords(program)
     yield from random_edits(program)
     yield from long_records(program)
     yield from replacements(program)
@@ -1178,6 +1181,23 @@ def words_refused(program):
         else:
             text = f"error: {fault}\n\nFor more information, try '--help'.\n".encode()
             yield f"{words}", difference(text + b"".join(EXPLAINS + line.encode() + b"\n" for line in lines), answer, 2)
+
+
+def values_are_no_files(program):
+    """Whatever option with a value stands in front of two files, it is these that are told, and not its value."""
+    for command, said in helps_of(program).items():
+        for option, takes in said.options.items():
+            if takes and command:
+                told_files = f"`a.boc` and `b.boc` {ONE_FILE}".encode() in program.run([command, option, "2", "a.boc", "b.boc"]).errors
+                yield f"{command} {option} 2 and two files", None if told_files else "the files are not told"
+
+
+def keywords(program):
+    """Each keyword of the language is told as one where a name is allowed."""
+    for word in sorted(it.decode() for it in program_reader.KEYWORDS):
+        answer = program.run(["values"], f"cown {word} = 0; main {{ }}".encode())
+        is_told = f"a name is allowed there, and `{word}` is a keyword".encode() in answer.errors
+        yield f"the keyword {word}", None if is_told else f"{answer.errors!r}"
 
 
 def random_edits(program):

@@ -32,13 +32,11 @@ use Rattle.boc_commands.specs.declared.fault.FileFault.TheVariants as files
 use Rattle.boc_commands.specs.declared.fault.Want.TheVariants as wants
 use Rattle.boc_commands.specs.Beside.{IsCheckAgainstAnswer, IsOfProgramFile, IsOfRecordFile, IsOfStray, IsOfStrayFile, IsOfValuesAfter}
 use Rattle.boc_commands.specs.Beside.{RefusesAgainst, RefusesValuesAfter}
-use Rattle.boc_names.specs.Names.{AreNamesOf}
 use Rattle.boc_reader.specs.Listed.{ListsDefs}
 use Rattle.boc_reader.specs.declared.listing.DefListing.{DefListing}
 use Rattle.boc_commands.specs.declared.notes.Told.{Told}
-use Rattle.boc_commands.specs.NamedRuns.{IsRunGiven}
-use Rattle.boc_commands.specs.Notes.{AreNamedNotes, AreWanted, TellsValuesAfter}
-use Rattle.boc_commands.proofs.Noting.{named_as, wanted_as}
+use Rattle.boc_commands.specs.Notes.{AreRunNotes, AreWanted, TellsValuesAfter, notes_of_rows, run_names}
+use Rattle.boc_commands.proofs.Noting.{wanted_as}
 use Rattle.boc_commands.specs.Commands.{IsProgram, IsRecordRefusal}
 use Rattle.boc_commands.specs.Faults.{of_read_beside, of_record, of_record_beside, of_stray, of_stray_beside}
 use Rattle.boc_ends_report.specs.ValueTexts.{values_text}
@@ -179,23 +177,15 @@ refused_beside beside text _ program is = absurd is
 pub answered_after : (beside text : List ℕ) (program : Program) (defs : List DefListing) (quiet : Bool) (r : Recorded) (result : Result Told Fault)
     → Spells text program → ListsDefs text defs → IsTextOf beside r
     → MatchResult result (λ told. IsRecordOf program r × (told.text.items ≡ values_text program.cowns (config_of program r.events).values)
-    × AreWanted quiet (AreNamedNotes (AreNamesOf program (map (λ d. d.name) defs) (config_of program r.events).members) r.rows) told.notes.items)
+    × AreWanted quiet (λ text. text ≡ notes_of_rows (run_names program (map (λ d. d.name) defs) r.events) r.rows) told.notes.items)
     (IsOfStrayFile program r)
     → MatchResult result (λ told. TellsValuesAfter beside quiet told.notes.items text told.text.items × (length text ≤ MOST_TEXT))
     (IsOfValuesAfter beside text)
 answered_after beside text program defs quiet r (Ok told) spells lists tells is = (
   record {
     answer = record { program = program; recorded = r; of_run = record { spells = spells; tells = tells; run = is.0 }; text = is.1 };
-    noted = wanted_as quiet _ (AreNamedNotes (IsRunGiven text beside r) r.rows) told.notes.items
-        (named_as _ (IsRunGiven text beside r) r.rows (λ names are. record {
-          program = program;
-          spells = spells;
-          defs = defs;
-          lists = lists;
-          text_of = tells;
-          run = is.0;
-          names_are = are;
-        })) is.2;
+    noted = wanted_as quiet _ (AreRunNotes text r) told.notes.items
+        (λ notes are. record { program = program; spells = spells; defs = defs; lists = lists; notes_are = are }) is.2;
   },
   spells.short,
 )

@@ -22,3 +22,4 @@ pub mod RunNames
 pub mod TakenRuns
 pub mod GivenRuns
 pub mod examples
+pub mod ToldNames

@@ -1,7 +1,6 @@
 -- The notes that are wanted.
-use Rattle.std.proofs.Common.{◌≡◌, ℕ, inl, inr, Bool, true, false, true≢false, List, [], Option, Vec, ap, ◌∙◌, map, subst}
+use Rattle.std.proofs.Common.{◌≡◌, ℕ, Bool, true, false, true≢false, List, [], Vec, ap, ◌∙◌, map, subst}
 use Rattle.boc_runs.specs.declared.rows.Row.{Row}
-use Rattle.boc_names.specs.declared.names.Names.{Names}
 use Rattle.std.specs.Global.{Global}
 use Rattle.boc_names.specs.Names.{Text, texts_of}
 use Rattle.boc_notes.specs.Notes.{faulted_rows, note_of_row, notes_text}
@@ -11,7 +10,7 @@ use Rattle.boc_record.specs.RecordTexts.{IsTextOf}
 use Rattle.boc_runs.specs.Records.{Recorded}
 use Rattle.boc_words.specs.declared.asked.AskedPlans.{AskedPlans}
 use Rattle.boc_commands.specs.Answers.{IsReport}
-use Rattle.boc_commands.specs.Notes.{AreNamedNotes, AreWanted, TellsProfile, notes_of_rows}
+use Rattle.boc_commands.specs.Notes.{AreWanted, TellsProfile, notes_of_rows}
 
 -- notes of which something holds are notes of which what follows from it does
 pub wanted_as : (quiet : Bool) (Are Others : Text → Type 0) (notes : Text) → ((told : Text) → Are told → Others told) → AreWanted quiet Are notes
@@ -23,12 +22,6 @@ wanted_as false Are Others notes so are = so notes are
 pub loud : (quiet : Bool) (Are : Text → Type 0) (notes : Text) → quiet ≡ false → Are notes → AreWanted quiet Are notes
 loud true Are notes is are = absurd (true≢false is)
 loud false Are notes is are = are
-
--- notes by names of which something holds
-pub named_as : (Named Called : Names → Type 0) (rows : List Row) → ((names : Names) → Named names → Called names) → (told : Text)
-    → AreNamedNotes Named rows told → AreNamedNotes Called rows told
-named_as Named Called rows so told (inl none) = inl none
-named_as Named Called rows so told (inr some) = inr (some.0, so some.0 some.1, some.2)
 
 -- the notes on rows whose faults were found
 pub told_of_rows : (own rows : List Row) (seen faulted : List ℕ) (called names : List (Vec ℕ Global)) (told : Text) → rows ≡ own

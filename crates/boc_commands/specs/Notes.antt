@@ -1,5 +1,5 @@
 -- What is noted of behaviours that ended by a fault, beside what a command answers.
-use Rattle.std.specs.Prelude.{◌≡◌, ◌⊎◌, ℕ, ℤ, Bool, true, false, List, [], ◌∷◌, map, Option, codes}
+use Rattle.std.specs.Prelude.{◌≡◌, ℕ, ℤ, Bool, true, false, List, [], ◌∷◌, map, Option, codes}
 use Rattle.boc_program.specs.declared.program.Program.{Program}
 use Rattle.boc_eval.specs.Faulted.{EndsAs, FaultedRow}
 use Rattle.boc_reader.specs.Listed.{ListsDefs}
@@ -7,15 +7,18 @@ use Rattle.boc_reader.specs.Spells.{Spells}
 use Rattle.boc_reader.specs.declared.listing.DefListing.{DefListing}
 use Rattle.boc_runs.specs.declared.rows.Row.{Row}
 use Rattle.boc_plans.specs.declared.sharing.Sharing.{Sharing}
-use Rattle.boc_names.specs.declared.names.Names.{Names}
-use Rattle.boc_names.specs.Names.{Text, named_cowns, texts_of}
+use Rattle.boc_runs.specs.declared.event.Event.{Event}
+use Rattle.boc_runs.specs.Records.{Recorded}
+use Rattle.boc_runs.specs.Run.{config_of}
+use Rattle.boc_names.specs.Names.{NamedCowns, Text, behaviour_text, member_text, named_cowns, texts_of}
+use Rattle.boc_notes.specs.declared.named.NamedRow.{NamedRow}
 use Rattle.boc_notes.specs.Notes.{faulted_rows, note_of_behaviour, note_of_row, notes_text}
+use Rattle.boc_dispatch.specs.declared.calls.ToldRow.{ToldRow}
 use Rattle.boc_words.specs.declared.asked.AskedPlans.{AskedPlans}
 use Rattle.boc_words.specs.declared.asked.RunFile.{RunFile}
 use Rattle.boc_commands.specs.Answers.{IsProfileAnswer, IsValuesAnswer}
 use Rattle.boc_commands.specs.Beside.{IsValuesAfterAnswer}
 use Rattle.boc_commands.specs.CownsAnswers.{IsCownsAnswer}
-use Rattle.boc_commands.specs.NamedRuns.{IsRunGiven, IsRunNamed}
 use Rattle.boc_commands.specs.Promises.{IsRunAnswer, IsTimeAnswer}
 use Rattle.boc_commands.specs.Schedules.{IsScheduledText}
 use Rattle.boc_words.specs.declared.schedule.Schedule.{Schedule}
@@ -32,11 +35,30 @@ AreWanted false AreNotes notes = AreNotes notes
 abbrev pub notes_of_rows : List Text → List Row → Text
 notes_of_rows called rows = notes_text (map (note_of_row called rows) (faulted_rows rows))
 
--- the notes on the rows of a run, by such names; where no row ended by a fault there are none
-abbrev pub AreNamedNotes : (Names → Type 0) → List Row → Text → Type 0
-AreNamedNotes Named rows notes =
-    ((faulted_rows rows ≡ []) × (notes ≡ []))
-    ⊎ ((names : Names) × Named names × (notes ≡ notes_of_rows (texts_of names.rows.items) rows))
+-- what the rows of a run of a program are called, whose defs are called so
+abbrev pub run_names : Program → List Text → List Event → List Text
+run_names program defs events = map (member_text (codes "main" ∷ defs) (named_cowns program.cowns)) (config_of program events).members
+
+-- the notes on the run of the program that a text spells of which this is the record, its rows called as its behaviours are in the text
+pub record AreRunNotes (text : Text) (recorded : Recorded) (notes : Text) : Type 0 where
+  pub program : Program
+  pub spells : Spells text program
+  pub defs : List DefListing
+  pub lists : ListsDefs text defs
+  pub notes_are : notes ≡ notes_of_rows (run_names program (map (λ d. d.name) defs) recorded.events) recorded.rows
+
+-- a row, and what it is called
+pub record RowName : Type 0 where
+  pub row : ℕ
+  pub name : Text
+
+-- those of a row whose name is told
+abbrev pub row_name : NamedRow → RowName
+row_name n = record { row = n.row; name = n.name.items }
+
+-- those of a row of which it is told what it is, where defs and cowns are called so
+abbrev pub told_name : List Text → NamedCowns → ToldRow → RowName
+told_name defs cowns t = record { row = t.row; name = behaviour_text defs cowns t.kind t.args.items t.cowns.items }
 
 -- the notes on the behaviours of the serial run of the program that a text spells, called as in the text
 pub record AreSerialNotes (text notes : Text) : Type 0 where
@@ -58,20 +80,20 @@ TellsValues quiet notes input output = IsValuesAnswer input output × AreWanted 
 -- the values after the run whose record is in a file, and the notes on it, its rows called as in the program's text
 pub record TellsValuesAfter (beside : Text) (quiet : Bool) (notes input output : Text) : Type 0 where
   pub answer : IsValuesAfterAnswer beside input output
-  pub noted : AreWanted quiet (AreNamedNotes (IsRunGiven input beside answer.recorded) answer.recorded.rows) notes
+  pub noted : AreWanted quiet (AreRunNotes input answer.recorded) notes
 
 -- the record of a run by this schedule, which is that drawn by a seed where that was asked for, and the notes on it, its rows called as in the program's
 -- text
 pub record TellsRun (schedule : Schedule) (quiet : Bool) (notes input output : Text) : Type 0 where
   pub answer : IsRunAnswer input output
   pub scheduled : IsScheduledText input schedule answer.recorded
-  pub noted : AreWanted quiet (AreNamedNotes (IsRunNamed input answer.recorded) answer.recorded.rows) notes
+  pub noted : AreWanted quiet (AreRunNotes input answer.recorded) notes
 
 -- the report on such a run, and the same notes on it
 pub record TellsTime (schedule : Schedule) (sharing : Sharing) (asked : AskedPlans) (quiet : Bool) (notes input output : Text) : Type 0 where
   pub answer : IsTimeAnswer sharing asked input output
   pub scheduled : IsScheduledText input schedule answer.recorded
-  pub noted : AreWanted quiet (AreNamedNotes (IsRunNamed input answer.recorded) answer.recorded.rows) notes
+  pub noted : AreWanted quiet (AreRunNotes input answer.recorded) notes
 
 -- the report on a record, and the notes on its rows, which have no names
 pub record TellsProfile (sharing : Sharing) (asked : AskedPlans) (quiet : Bool) (notes input output : Text) : Type 0 where

@@ -163,30 +163,47 @@ fn program_run<R: Threads + Wait + Sync, G: Gate>(
 {
     let (program, defs) = read_listed(alloc, text)?;
     let record = recorded(rt, alloc, &program, schedule, gate)?;
-    let names = names_of(alloc, &program, defs, &record)?;
+    let defs = called(alloc, defs)?;
+    let names = names_of(alloc, &program, &defs, &record)?;
     let rows = record.into_rows();
     // For the proof alone, and free: that they have the shape of rows.
     let _shape = rows.as_slice();
     Ok(NamedRun { rows, names })
 }
 
-/// The names of a run of a program with these defs.
+/// The names of the run of a program that a record is of, where the program's defs are called so.
 pub(crate) fn names_of(
     alloc: Global,
     program: &Program,
-    defs: Vec<DefListing>,
+    defs: &[Name],
     recorded: &Record,
 ) -> Result<Names, AllocError>
     requires { IsRecordOf program.now recorded.now }
-    ensures { IfOk result (AreNamesOf program.now (map (λ d. d.name) defs.items) (config_of program.now recorded.now.events).members) }
+    ensures { IfOk result (AreNamesOf program.now defs.now (config_of program.now recorded.now.events).members) }
 {
-    match followed_names(alloc, program, defs, recorded) {
+    match names_by(alloc, program, defs, recorded) {
         Ok(names) => Ok(names),
         Err(StrayFault { kind, .. }) => match kind {
             StrayFaultKind::Memory => Err(AllocError),
             _ => unreachable!(),
         },
     }
+}
+
+// The names of the run of a program that a record is of, where the program's defs are called so, or how it strays.
+fn names_by(
+    alloc: Global,
+    program: &Program,
+    defs: &[Name],
+    recorded: &Record,
+) -> Result<Names, StrayFault>
+    ensures { MatchResult result
+        (λ names. IsRecordOf program.now recorded.now × AreNamesOf program.now defs.now (config_of program.now recorded.now.events).members names)
+        (λ fault. Tells program.now recorded.now fault.kind fault.line) }
+{
+    let compiled = CompiledProgram::new(alloc, program)?;
+    let followed = follow_record(alloc, &compiled, recorded)?;
+    Ok(names_of_run(alloc, &followed, defs)?)
 }
 
 // The names of the run of a program with these defs that a record is of, or how it strays.
@@ -201,10 +218,8 @@ fn followed_names(
         × AreNamesOf program.now (map (λ d. d.name) defs.items) (config_of program.now recorded.now.events).members names)
         (λ fault. Tells program.now recorded.now fault.kind fault.line) }
 {
-    let called = called(alloc, defs)?;
-    let compiled = CompiledProgram::new(alloc, program)?;
-    let followed = follow_record(alloc, &compiled, recorded)?;
-    Ok(names_of_run(alloc, &followed, &called)?)
+    let defs = called(alloc, defs)?;
+    names_by(alloc, program, &defs, recorded)
 }
 
 /// What defs are called.

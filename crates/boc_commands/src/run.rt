@@ -2,9 +2,10 @@
 
 ghost use Rattle.std.specs.Prelude.{◌≡◌, ◌≢◌, ◌<◌, ◌≤◌, length, IfErr, IfOk, MatchResult};
 ghost use Rattle.boc_program.specs.declared.limits.TheConstants.{MOST_RUNNERS, MOST_TEXT};
+ghost use Rattle.boc_runs.specs.Run.{config_of};
+ghost use Rattle.boc_workers.specs.Telling.{AreRight};
 ghost use Rattle.boc_commands.specs.Commands.{AnswersInput, Leaves, CountsSource, CountsSink, IsOfRun, RefusesRun};
-ghost use Rattle.boc_commands.specs.NamedRuns.{IsRunNamed};
-ghost use Rattle.boc_commands.specs.Notes.{AreNamedNotes, AreWanted, TellsRun};
+ghost use Rattle.boc_commands.specs.Notes.{AreRunNotes, AreWanted, TellsRun};
 ghost use Rattle.boc_commands.specs.Promises.{IsRunOf, IsRunOfText};
 ghost use Rattle.boc_commands.specs.Schedules.{IsDrawnBy, IsScheduled, IsScheduledText, TellsOf};
 ghost use Rattle.boc_workers.specs.Noting.{CanReachLimit};
@@ -13,6 +14,7 @@ ghost use Rattle.boc_workers.specs.declared.fault.RunFault.TheVariants as faults
 use crate::fault::Fault;
 use crate::notes::notes_on_run;
 use crate::values::MOST_TAKEN;
+use boc_dispatch::ToldRow;
 use boc_draws::{Depth, DrawFault, draw, way_of};
 use boc_program::program::Program;
 use boc_reader::read_listed;
@@ -75,13 +77,59 @@ pub(crate) fn noted_run<R: Threads + Wait + Sync, G: Gate>(
 ) -> Result<NotedRun, Fault>
     ensures { MatchResult result
         (λ noted. IsRunOfText text.now noted.record × IsScheduledText text.now schedule noted.record
-        × AreWanted quiet (AreNamedNotes (IsRunNamed text.now noted.record) noted.record.rows) noted.notes.items × (length text.now ≤ MOST_TEXT))
+        × AreWanted quiet (AreRunNotes text.now noted.record) noted.notes.items × (length text.now ≤ MOST_TEXT))
         (IsOfRun G.always_on text.now) }
 {
     let (program, defs) = read_listed(alloc, text)?;
-    let record = recorded(rt, alloc, &program, schedule, gate)?;
-    let notes = notes_on_run(alloc, quiet, &program, defs, &record)?;
-    Ok(NotedRun { record, notes })
+    let run = made_run(rt, alloc, &program, schedule, gate)?;
+    let notes = notes_on_run(alloc, quiet, &program, defs, &run.record, &run.told)?;
+    Ok(NotedRun {
+        record: run.record,
+        notes,
+    })
+}
+
+/// A run of a program: its record, and what is told of rows of it that ended by a fault.
+#[derive(Drop)]
+pub(crate) struct MadeRun {
+    pub(crate) record: Record,
+    pub(crate) told: Vec<ToldRow>,
+}
+
+/// A run of a program by this schedule. Of one that is drawn nothing is told.
+pub(crate) fn made_run<R: Threads + Wait + Sync, G: Gate>(
+    rt: &R,
+    alloc: Global,
+    program: &Program,
+    schedule: Schedule,
+    gate: &G,
+) -> Result<MadeRun, RunFault>
+    ensures run { IfOk result (λ r. IsRunOf program.now r.record) }
+    ensures scheduled { IfOk result (λ r. IsScheduled program.now schedule r.record) }
+    ensures told { IfOk result (λ r. AreRight (config_of program.now r.record.events).members r.told.items) }
+    ensures held { IfErr result (λ fault. G.always_on → fault ≢ faults.Held) }
+    ensures behaviours { IfErr result (λ fault. fault ≡ faults.Behaviours → CanReachLimit program.now) }
+{
+    match schedule {
+        Schedule::Threads(runners) => {
+            let answer = run(rt, alloc, program, runners.number(), gate)?;
+            // For the proof alone, and free: that the record's rows are those that its events tell.
+            let _rows = answer.record.rows();
+            Ok(MadeRun {
+                record: answer.record,
+                told: answer.told,
+            })
+        }
+        Schedule::Drawn {
+            workers,
+            seed,
+            depth,
+        } => {
+            let record = drawn(alloc, program, workers, seed, depth)?;
+            let told = Vec::new(alloc);
+            Ok(MadeRun { record, told })
+        }
+    }
 }
 
 /// The record of a run of a program by this schedule.
@@ -97,19 +145,8 @@ pub(crate) fn recorded<R: Threads + Wait + Sync, G: Gate>(
     ensures held { IfErr result (λ fault. G.always_on → fault ≢ faults.Held) }
     ensures behaviours { IfErr result (λ fault. fault ≡ faults.Behaviours → CanReachLimit program.now) }
 {
-    match schedule {
-        Schedule::Threads(runners) => {
-            let answer = run(rt, alloc, program, runners.number(), gate)?;
-            // For the proof alone, and free: that the record's rows are those that its events tell.
-            let _rows = answer.record.rows();
-            Ok(answer.record)
-        }
-        Schedule::Drawn {
-            workers,
-            seed,
-            depth,
-        } => drawn(alloc, program, workers, seed, depth),
-    }
+    let run = made_run(rt, alloc, program, schedule, gate)?;
+    Ok(run.record)
 }
 
 // The record of the run that a seed draws for so many workers, at this depth where there is one.

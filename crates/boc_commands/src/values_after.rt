@@ -6,8 +6,7 @@ ghost use Rattle.boc_runs.specs.Records.{IsRecordOf};
 ghost use Rattle.boc_runs.specs.Run.{config_of};
 ghost use Rattle.boc_commands.specs.Beside.{IsOfStrayFile, IsOfValuesAfter, RefusesValuesAfter};
 ghost use Rattle.boc_commands.specs.Commands.{AnswersInput, Leaves, CountsSource, CountsSink};
-ghost use Rattle.boc_commands.specs.Notes.{AreNamedNotes, AreWanted, TellsValuesAfter};
-ghost use Rattle.boc_names.specs.Names.{AreNamesOf};
+ghost use Rattle.boc_commands.specs.Notes.{AreWanted, TellsValuesAfter, notes_of_rows, run_names};
 ghost use Rattle.boc_ends_report.specs.ValueTexts.{values_text as values_text_spec};
 
 use crate::beside::{of_stray_beside, record_beside};
@@ -78,15 +77,15 @@ fn values_of_run(
     ensures { MatchResult result
         (λ told. IsRecordOf program.now recorded.now
         × (told.text.items ≡ values_text_spec program.now.cowns (config_of program.now recorded.now.events).values)
-        × AreWanted quiet (AreNamedNotes (AreNamesOf program.now (map (λ d. d.name) defs.items) (config_of program.now recorded.now.events).members)
-        recorded.now.rows) told.notes.items)
+        × AreWanted quiet (λ text. text ≡ notes_of_rows (run_names program.now (map (λ d. d.name) defs.items) recorded.now.events) recorded.now.rows)
+        told.notes.items)
         (IsOfStrayFile program.now recorded.now) }
 {
     let compiled = CompiledProgram::new(alloc, program)?;
     match follow_record(alloc, &compiled, recorded) {
         Ok(run) => {
             let text = values_text(alloc, program.cowns.as_slice(), run.values())?;
-            let notes = notes_on_run(alloc, quiet, program, defs, recorded)?;
+            let notes = notes_on_run(alloc, quiet, program, defs, recorded, &[])?;
             Ok(Told { text, notes })
         }
         Err(fault) => Err(of_stray_beside(fault)),

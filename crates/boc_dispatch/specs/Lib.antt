@@ -10,3 +10,4 @@ pub mod Driving
 pub mod Stepping
 pub mod KeptArguments
 pub mod KeptStages
+pub mod Told

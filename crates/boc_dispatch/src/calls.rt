@@ -2,7 +2,8 @@
 
 ghost use Rattle.std.specs.Prelude.{◌≡◌, length};
 
-use boc_program::short::{Args, Inputs};
+use boc_program::limits::MOST_ROWS;
+use boc_program::short::{Args, Cowns, Inputs};
 use boc_registers::compiled::CompiledBody;
 use boc_runs::step::Step;
 use thiserror::Error;
@@ -17,6 +18,19 @@ pub struct Job<'a> {
     pub inputs: Inputs,
     pub ghost own_args: { length args.items ≡ body.params },
     pub ghost own_inputs: { length inputs.items ≡ body.cown_params },
+}
+
+/// A row, and what its behaviour is.
+#[derive(Drop, Debug)]
+pub struct ToldRow {
+    /// The number of the row.
+    pub row: u32,
+    /// The place of its body among the program's bodies.
+    pub kind: usize,
+    /// The values of its value parameters.
+    pub args: Args,
+    /// Its cowns in the order of its cown parameters.
+    pub cowns: Cowns,
 }
 
 /// What `start` answers.
@@ -42,6 +56,9 @@ pub struct Child {
 pub struct Leaving {
     pub(crate) row: u32,
 }
+
+// So many are named in the text of a fault.
+const _: () = prove!(MOST_ROWS == 65_535);
 
 /// Why `open` refuses. Nothing has changed.
 #[derive(Clone, Copy, PartialEq, Eq, Debug, Error)]

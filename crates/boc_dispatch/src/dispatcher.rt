@@ -3,7 +3,9 @@
 ghost use Rattle.boc_program.specs.Programs.{cown_count as cowns_of};
 ghost use Rattle.std.specs.Prelude.{◌≡◌, ◌↔◌, ◌+◌, ◌^◌, ◌<◌, ℕ, [], None, IfOk, IsTrue, false, map, replicate, slice_get};
 
-use crate::calls::{Advanced, Child, FinishFault, Leaving, Left, Mover, OpenFault, Started};
+use crate::calls::{
+    Advanced, Child, FinishFault, Leaving, Left, Mover, OpenFault, Started, ToldRow,
+};
 use crate::live::wished_behaviour;
 use crate::roster::{Enqueue, Roster};
 use boc_chain::{Chains, LinkChains};
@@ -74,6 +76,7 @@ impl<'a, C: Chains + Drop> Core<'a, C> {
     ghost use Rattle.boc_runs.specs.machine.Steps.{IsQuiet, opening_state, values};
     ghost use Rattle.boc_runs.specs.machine.Movers.{CanAdvance, CanLeave};
     ghost use Rattle.boc_runs.specs.machine.Sound.{IsSound};
+    ghost use Rattle.boc_dispatch.specs.Told.{TellsRow};
     ghost use Rattle.boc_dispatch.specs.Calls.{Begins, OpensWish, AdvancesChild, FinishesRow, with_outcome, LeavesCown, NamesMover, EndsAsRecord};
 
     /// The opening state over chains with no request: main is opened, its spawn is recorded, and it is ready.
@@ -200,6 +203,19 @@ impl<'a, C: Chains + Drop> Core<'a, C> {
         } else {
             Ok(None)
         }
+    }
+
+    /// What the behaviour of a running row is whose body gave this.
+    pub fn told(&self, row: u32, outcome: &Outcome<'a>) -> Option<ToldRow>
+        ensures { TellsRow self.now row outcome.now result }
+    {
+        let running = self
+            .roster
+            .running(row, outcome.body(), outcome.args(), outcome.inputs());
+        let Some(slot) = running else {
+            return None;
+        };
+        Some(self.roster.told(slot, row))
     }
 
     /// Releases the next cown of a behaviour that has ended.

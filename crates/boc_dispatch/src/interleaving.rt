@@ -8,9 +8,13 @@ use crate::calls::{Mover, OpenFault};
 use crate::dispatcher::{Core, Dispatcher, cown_count};
 use crate::worker::{Refusal, Turn, Worker};
 use boc_chain::{Chains, LinkChains};
+use boc_program::limits::MOST_ROWS;
 use boc_registers::compiled::CompiledProgram;
 use std::alloc::{AllocError, Global};
 use thiserror::Error;
+
+// So many are named in the text of a fault.
+const _: () = prove!(MOST_ROWS == 65_535);
 
 /// Why a drive ends before its last choice.
 #[derive(Clone, Copy, PartialEq, Eq, Debug, Error)]

@@ -14,7 +14,9 @@ mod roster;
 mod worker;
 
 pub use boc_runs::step::Step;
-pub use calls::{Advanced, Child, FinishFault, Job, Leaving, Left, Mover, OpenFault, Started};
+pub use calls::{
+    Advanced, Child, FinishFault, Job, Leaving, Left, Mover, OpenFault, Started, ToldRow,
+};
 pub use dispatcher::{Core, Dispatcher, cown_count};
 pub use interleaving::{
     DriveFault, drive, drive_over, drive_quiet, drive_quiet_over, idle_crew, take_turn,

@@ -6,12 +6,12 @@ ghost use Rattle.slab.specs.Slab.{HasRoomFor};
 ghost use Rattle.std.specs.VecDeque.{deque_capacity};
 ghost use Rattle.boc_dispatch.specs.Inside.{live_at};
 
-use crate::calls::{Advanced, Child, Job, Left};
+use crate::calls::{Advanced, Child, Job, Left, ToldRow};
 use crate::live::{Live, main_behaviour};
 use boc_chain::{Chains, Released, Settled, Slot};
 use boc_eval::{Frame, Outcome, SpawnWish};
 use boc_program::body::Body;
-use boc_program::short::{Cowns, Input};
+use boc_program::short::{Args, Cowns, Input};
 use boc_registers::compiled::CompiledProgram;
 use boc_rules::RunLog;
 use boc_runs::event::Event;
@@ -98,12 +98,13 @@ impl<'a, C: Chains + Drop> Roster<'a, C> {
     ghost use Rattle.boc_runs.specs.declared.stage.Stage.TheVariants.{Asking, Recorded};
     ghost use Rattle.boc_runs.specs.declared.step.Step.TheVariants as steps;
     ghost use Rattle.boc_program.specs.Programs.{cown_count};
-    ghost use Rattle.boc_runs.specs.machine.Steps.{opening_state, Swaps, Flags, Owns};
+    ghost use Rattle.boc_runs.specs.machine.Steps.{opening_state, members, Swaps, Flags, Owns};
     ghost use Rattle.boc_runs.specs.machine.Turns.{IsEnqueueOf};
     ghost use Rattle.boc_eval.specs.Frames.{last_wish_of};
     ghost use Rattle.boc_eval.specs.Wishes.{wish_of};
     ghost use Rattle.boc_dispatch.specs.declared.calls.Advanced.TheVariants as advanced;
     ghost use Rattle.boc_dispatch.specs.Calls.{IsHandedOut, IsNextWish, HasSpawnedAll, IsLeaving};
+    ghost use Rattle.boc_dispatch.specs.Told.{IsTrueOf};
     ghost use Rattle.boc_chain.specs.Chain.{times, slots, list};
     ghost use Rattle.boc_dispatch.specs.Inside.{parts_of, state, underway, IsSoundRoster, IsAtStage, IsStageAt, IsOfRow, HasInHand, GoesOn, IsNew};
     ghost use Rattle.boc_dispatch.specs.Grants.{MayBeGranted, with_granted, IsRemoved, IsReleased, LeftAs};
@@ -417,6 +418,22 @@ impl<'a, C: Chains + Drop> Roster<'a, C> {
         ensures { IsTrue result ↔ HasSpawnedAll (underway (parts_of C.lists C.place self.now)) row wishes }
     {
         self.live[slot].has_spawned(wishes)
+    }
+
+    /// What the running behaviour of a row is, which is at a slot.
+    pub fn told(&self, slot: usize, row: u32) -> ToldRow
+        requires sound { IsSoundRoster C.lists C.place self.now }
+        requires runs { IsStageAt (parts_of C.lists C.place self.now) slot (Recorded row phases.Running) }
+        ensures row { result.row ≡ row }
+        ensures told { IsTrueOf (members self.now.program.now (state (parts_of C.lists C.place self.now))) result }
+    {
+        let live = &self.live[slot];
+        ToldRow {
+            row,
+            kind: live.kind as usize,
+            args: Args::try_from(live.args.as_slice()).unwrap(),
+            cowns: live.params.widened(),
+        }
     }
 
     /// Ends the running behaviour of a row, which is at a slot, as its body did. Answers whether it has cowns to release.

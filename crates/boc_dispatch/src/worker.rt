@@ -2,10 +2,11 @@
 
 ghost use Rattle.std.specs.Prelude.{◌≡◌, ◌↔◌, ℕ, false, IfOk, IsTrue, None, length};
 
-use crate::calls::{Advanced, Child, FinishFault, Job, Leaving, Left, OpenFault, Started};
+use crate::calls::{Advanced, Child, FinishFault, Job, Leaving, Left, OpenFault, Started, ToldRow};
 use crate::dispatcher::Core;
 use boc_chain::Chains;
 use boc_eval::{Frame, Outcome, Spare};
+use boc_program::body::EndStatus;
 use boc_runs::step::Step;
 use std::alloc::{AllocError, Global};
 
@@ -75,6 +76,7 @@ ghost use Rattle.boc_dispatch.specs.declared.worker.Hand.TheVariants as hands;
 ghost use Rattle.boc_runs.specs.machine.Sound.{IsSound};
 ghost use Rattle.boc_dispatch.specs.Driving.{HandFits, KeepsFitting};
 ghost use Rattle.boc_dispatch.specs.Stepping.{CanTurn};
+ghost use Rattle.boc_dispatch.specs.Told.{TellsEnding};
 ghost use Rattle.boc_dispatch.specs.Working.{row_in, frame_of as frame_at_start, Enqueues, Goes, HasGiven, HasGoneOn, HasThought, IsDone, IsEnded, IsStarted};
 ghost use Rattle.boc_dispatch.specs.Working.{Wishes, Works};
 ghost use Rattle.boc_dispatch.specs.declared.calls.Child.{Child};
@@ -157,6 +159,19 @@ impl<'a> Worker<'a> {
             },
             Hand::Leaving(leaving) => core.can_leave(leaving),
             _ => true,
+        }
+    }
+
+    /// What its row's behaviour is, where the row's end by a fault is due.
+    pub fn ending<C: Chains + Drop>(&self, core: &Core<'a, C>) -> Option<ToldRow>
+        ensures { TellsEnding core.now self.now.hand result }
+    {
+        match &self.hand {
+            Hand::Done(row, outcome) => match outcome.status() {
+                EndStatus::Done => None,
+                _ => core.told(*row, outcome),
+            },
+            _ => None,
         }
     }
 

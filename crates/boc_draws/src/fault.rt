@@ -2,8 +2,12 @@
 
 ghost use Rattle.std.specs.Prelude.{◌≡◌};
 
+use boc_program::limits::MOST_ROWS;
 use std::alloc::AllocError;
 use thiserror::Error;
+
+// So many are named in the text of a fault.
+const _: () = prove!(MOST_ROWS == 65_535);
 
 /// Why a draw gives no run.
 #[derive(Clone, Copy, PartialEq, Eq, Debug, Error)]

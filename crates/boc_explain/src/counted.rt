@@ -4,6 +4,7 @@ use crate::declared::{Thing, body_names, declared_as, top_names};
 use crate::said::{Part, Said};
 use crate::tokens::Word;
 use crate::view::line_number;
+use boc_program::limits::MOST_ARGUMENTS;
 use std::alloc::{AllocError, Global};
 
 /// Tells what a def takes and what it is given, or whether a cown takes an index.
@@ -121,8 +122,8 @@ pub(crate) fn put_too_many(
     said.line(&[Part::Words(told)])
 }
 
-// How many commas stand in a list in front of what is too much.
-const MOST_COMMAS: usize = 8;
+// How many commas stand in a list in front of what is too much; a behaviour has as many cowns as values.
+const MOST_COMMAS: usize = MOST_ARGUMENTS;
 
 // How many commas of its list stand in front of a place.
 fn commas_before(words: &[Word<'_>], at: usize) -> usize {

@@ -215,6 +215,7 @@ fn inputs_of(cowns: &[CownNo], values: &[i64]) -> Inputs {
     let mut inputs = Inputs::new();
     for cown in cowns {
         if let Some(value) = values.get(*cown as usize) {
+            // A behaviour has no more cowns than there is room for.
             let _ = inputs.try_push(Input {
                 cown: *cown,
                 value: *value,

@@ -1,6 +1,7 @@
 // Lines of a record that have none of its forms.
 
 use crate::said::{Part, Said};
+use boc_program::limits::MOST_COWNS;
 use boc_text::{MOST_LINE, read_number};
 use std::alloc::AllocError;
 
@@ -79,7 +80,7 @@ pub(crate) fn put_header(said: &mut Said, line: &[u8]) -> Result<(), AllocError>
             Part::Number(u64::from(version)),
             Part::Words(", and 1 and 2 are read"),
         ]),
-        (Some(_), Some(cowns)) if cowns > 256 => said.line(&[
+        (Some(_), Some(cowns)) if cowns as usize > MOST_COWNS => said.line(&[
             Part::Quote(line),
             Part::Words(": "),
             Part::Number(u64::from(cowns)),

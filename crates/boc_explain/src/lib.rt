@@ -28,6 +28,25 @@ mod stray;
 mod tokens;
 mod view;
 
+use boc_program::limits::{
+    MOST_ARGUMENTS, MOST_COWNS, MOST_DEFS, MOST_HELD, MOST_NODES, MOST_PART, MOST_ROWS,
+};
+
+// So many are named in the lines.
+const _: () = prove!(MOST_ARGUMENTS == 8);
+
+const _: () = prove!(MOST_COWNS == 256);
+
+const _: () = prove!(MOST_DEFS == 64);
+
+const _: () = prove!(MOST_HELD == 8);
+
+const _: () = prove!(MOST_NODES == 1_000);
+
+const _: () = prove!(MOST_PART == 1_000);
+
+const _: () = prove!(MOST_ROWS == 65_535);
+
 pub use command_words::{explain_edit_word, explain_files};
 pub use defs::{Asked, Naming};
 pub use edit::{explain_cown, explain_def, explain_edit};

@@ -1,4 +1,7 @@
 // The rows of a record in front of a line, as its lines tell them.
+//
+// The reader of records keeps of its rows what its rules ask for, and no more, so that it is quick. What is told of a faulty line is more than that (who is
+// in the way of a start, which reason refuses an end), and is found from the text once more, after the fact.
 
 use boc_text::read_number;
 use std::alloc::{AllocError, Global};

@@ -1,6 +1,6 @@
 -- What a simulation keeps, from one step to the next.
 use Rattle.std.specs.Prelude.{◌≡◌, ◌≢◌, ℕ, ◌+◌, ◌<◌, ◌≤◌, List, length, slice_index}
-use Rattle.boc_program.specs.declared.limits.TheConstants.{MOST_TICKS}
+use Rattle.boc_program.specs.declared.limits.TheConstants.{MOST_TICKS, MOST_WORKERS}
 use Rattle.std.specs.Int.{bit_at}
 use Rattle.std.specs.List.{sum_by}
 use Rattle.boc_runs.specs.declared.rows.Row.{Row}
@@ -49,7 +49,7 @@ pub record HaveStates (rows : List Row) (p end : ℕ) (starts workers : List ℕ
   pub workers_whole : length workers ≡ length rows
   pub states_whole : length states ≡ length rows
   pub first_whole : length first ≡ length rows
-  pub few : p ≤ 64
+  pub few : p ≤ MOST_WORKERS
   pub unspawned : (r : ℕ) → IsAt states r Unspawned → start_of starts r ≡ end
   pub not_main : IsAt states 0 Unspawned → ⊥
   pub waiting : (r : ℕ) → IsAt states r Waiting → start_of starts r ≡ end

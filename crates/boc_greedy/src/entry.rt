@@ -1,6 +1,7 @@
 // The greedy plan as a whole.
 
 ghost use Rattle.std.specs.Prelude.{◌≡◌, ℕ, ◌^◌, ◌<◌, ◌≤◌, ◌∷◌, length, pred, replicate, IfOk};
+ghost use Rattle.boc_program.specs.declared.limits.TheConstants.{MOST_WORKERS};
 ghost use Rattle.boc_runs.specs.Rows.{IsRows};
 ghost use Rattle.boc_plans.specs.Seen.{seen};
 ghost use Rattle.boc_plans.specs.Plans.{HasEnds, IsEnd, end_of, work_of};
@@ -67,7 +68,7 @@ pub fn finished<'a>(
     requires states { frontier.states.items ≡ Waiting ∷ replicate (pred (length rows.now)) Unspawned }
     requires family { IsFamilyOf rows.now family.now }
     requires some { 0 < p }
-    requires few { p ≤ 64 }
+    requires few { p ≤ MOST_WORKERS }
     ensures { IfOk result (IsDone rows.now p) }
 {
     let mut simulation = Simulation::new(alloc, rows, frontier, family, p)?;
@@ -90,7 +91,7 @@ fn simulated<'a>(
     requires followers { AreFollowers waits.now followers.now }
     requires family { IsFamilyOf rows.now family.now }
     requires some { 0 < p }
-    requires few { p ≤ 64 }
+    requires few { p ≤ MOST_WORKERS }
     ensures { IfOk result (IsDone rows.now p) }
 {
     let timed = TimedRows::all(rows);
@@ -112,7 +113,7 @@ pub fn end_for(
     requires followers { AreFollowers waits.now followers.now }
     requires family { IsFamilyOf rows.now family.now }
     requires some { 0 < p }
-    requires few { p ≤ 64 }
+    requires few { p ≤ MOST_WORKERS }
     ensures { IfOk result (IsGreedyEnd rows.now p) }
 {
     let simulation = simulated(alloc, rows, waits, followers, family, p)?;

@@ -1,6 +1,7 @@
 // The ends of greedy plans for one, two, three and more workers.
 
 ghost use Rattle.std.specs.Prelude.{◌≡◌, ℕ, ◌+◌, ◌<◌, ◌≤◌, IfOk};
+ghost use Rattle.boc_program.specs.declared.limits.TheConstants.{MOST_WORKERS};
 ghost use Rattle.boc_runs.specs.Rows.{IsRows};
 ghost use Rattle.boc_plans.specs.Seen.{seen};
 ghost use Rattle.boc_plans.specs.Plans.{work_of};
@@ -45,7 +46,7 @@ fn point_of(
 ) -> Result<CurvePoint, AllocError>
     requires known { IsKnown rows.now waits.now consequences.now work span }
     requires some { 0 < p }
-    requires few { p ≤ 64 }
+    requires few { p ≤ MOST_WORKERS }
     ensures { IfOk result (IsCurvePoint rows.now p) }
 {
     let followers = &consequences.followers;
@@ -85,7 +86,7 @@ pub fn curve_over(
         .with_min_len(1)
         .map(
             |p: u32| -> Result<CurvePoint, AllocError>
-                requires { (0 < p) × (p ≤ 64) × IsKnown rows.now waits.now consequences.now work span }
+                requires { (0 < p) × (p ≤ MOST_WORKERS) × IsKnown rows.now waits.now consequences.now work span }
                 ensures { IfOk result (IsCurvePoint rows.entry.now p) }
             { point_of(alloc, rows, waits, consequences, work, span, p) },
         )

@@ -2,6 +2,7 @@
 
 ghost use Rattle.std.specs.Prelude.{◌≡◌, ℕ, ◌+◌, ◌<◌, ◌≤◌, [], ◌∷◌, length, pred, replicate, IfOk, IfSome, IfNone, OnOk, true, false};
 ghost use Rattle.std.specs.BinaryHeap.{heap_items};
+ghost use Rattle.boc_program.specs.declared.limits.TheConstants.{MOST_WORKERS};
 ghost use Rattle.boc_runs.specs.Rows.{IsRows};
 ghost use Rattle.boc_greedy.specs.declared.frontier.RowState.TheVariants.{Unspawned, Waiting};
 ghost use Rattle.boc_greedy.specs.Done.{IsDone};
@@ -15,9 +16,13 @@ use crate::bits::{with_bit, without_bit};
 use crate::children::{Change, Family};
 use crate::frontier::Frontier;
 use crate::timed::TimedRows;
+use boc_program::limits::MOST_WORKERS;
 use std::alloc::{AllocError, Global};
 use std::cmp::Reverse;
 use std::collections::BinaryHeap;
+
+// The workers that are idle are the bits of one word.
+const _: () = prove!(MOST_WORKERS == 64);
 
 // A tick after every tick of a plan, at which rows stand that haven't started.
 const LATER: u64 = u64::MAX;
@@ -72,7 +77,7 @@ impl<'a> Simulation<'a> {
         requires states { frontier.states.items ≡ Waiting ∷ replicate (pred (length rows.now)) Unspawned }
         requires family { IsFamilyOf rows.now family.now }
         requires some { 0 < p }
-        requires few { p ≤ 64 }
+        requires few { p ≤ MOST_WORKERS }
         ensures workers { IfOk result (λ s. s.p ≡ p) }
         ensures giving { IfOk result (λ s. IsGiving rows.now s) }
     {

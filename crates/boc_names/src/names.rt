@@ -98,7 +98,7 @@ pub fn names_of_run(alloc: Global, run: &Follower<'_>, defs: &[Name]) -> Result<
 fn all_numbered(alloc: Global, word: &str, count: u32) -> Result<Vec<Vec<u8>>, AllocError>
     ensures { IfOk result (λ names. texts_of names.items ≡ numbered_from word.now 0 count) }
 {
-    let mut names = Vec::new(alloc);
+    let mut names = Vec::with_capacity(alloc, count as usize)?;
     for number in 0..count {
         names.push(numbered(alloc, word, u64::from(number))?)?;
     }
@@ -109,7 +109,7 @@ fn all_numbered(alloc: Global, word: &str, count: u32) -> Result<Vec<Vec<u8>>, A
 fn all_numbers(alloc: Global, count: u32) -> Result<Vec<u32>, AllocError>
     ensures { IfOk result (λ numbers. numbers.items ≡ numbers_from 0 count) }
 {
-    let mut numbers = Vec::new(alloc);
+    let mut numbers = Vec::with_capacity(alloc, count as usize)?;
     for number in 0..count {
         numbers.push(number)?;
     }

@@ -8,11 +8,14 @@ use boc_program::cown::Cown;
 use boc_text::put_number;
 use std::alloc::{AllocError, Global};
 
+// The room that a short word and a number of 32 bits need, so that it is asked for once.
+const NUMBERED_ROOM: usize = 16;
+
 /// A word and a number behind it.
 pub(crate) fn numbered(alloc: Global, word: &str, number: u64) -> Result<Vec<u8>, AllocError>
     ensures { IfOk result (λ text. text.items ≡ numbered word.now number) }
 {
-    let mut text = Vec::new(alloc);
+    let mut text = Vec::with_capacity(alloc, NUMBERED_ROOM)?;
     text.extend_from_slice(word.as_bytes())?;
     put_number(&mut text, number)?;
     Ok(text)

@@ -1,5 +1,6 @@
 -- The notes on rows that ended by a fault.
-use Rattle.std.specs.Prelude.{ℕ, zero, suc, ◌-◌, Bool, true, false, cond, List, [], ◌∷◌, ◌++◌, length, map, take, filter, slice_get, codes, decimal}
+use Rattle.std.specs.Prelude.{◌≡◌, ◌⊎◌, ℕ, zero, suc, ◌-◌, ◌==◌, Bool, true, false, cond, List, [], ◌∷◌, ◌++◌, length, take, filter, slice_get}
+use Rattle.std.specs.Prelude.{Option, Some, None, codes, decimal}
 use Rattle.std.specs.List.{range_with_len}
 use Rattle.std.specs.Option.{option_map_or}
 use Rattle.std.specs.Str.{bytes_eq}
@@ -9,6 +10,7 @@ use Rattle.boc_runs.specs.declared.rows.Row.{Row}
 use Rattle.boc_runs.specs.Rows.{ticks_of}
 use Rattle.boc_eval.specs.Faulted.{FaultedRow}
 use Rattle.boc_names.specs.Names.{NamedCowns, Text, behaviour_text, numbered, text_at}
+use Rattle.boc_notes.specs.declared.named.NamedRow.{NamedRow}
 use Rattle.boc_notes.specs.declared.note.Note.{Note}
 use Rattle.boc_notes.specs.declared.note.TheConstants.{MOST_NOTED}
 
@@ -48,13 +50,34 @@ has_fault rows r = is_fault (status_at rows r)
 abbrev pub faulted_rows : List Row → List ℕ
 faulted_rows rows = filter (has_fault rows) (range_with_len 0 (length rows))
 
--- what a row is called by these names, where that is more than its number
-abbrev pub name_of : List Text → ℕ → Text
-name_of called r = cond (bytes_eq (text_at called r) (numbered (codes "row ") r)) [] (text_at called r)
+-- what a row that is called so is called, where that is more than its number
+abbrev pub own_name : Text → ℕ → Text
+own_name name r = cond (bytes_eq name (numbered (codes "row ") r)) [] name
+
+-- what is noted of a row that is called so
+abbrev pub note_of_named : List Row → Text → ℕ → Noted
+note_of_named rows name r = record { row = r; called = own_name name r; ticks = ticks_of rows r; status = status_at rows r }
 
 -- what is noted of a row, by these names
 abbrev pub note_of_row : List Text → List Row → ℕ → Noted
-note_of_row called rows r = record { row = r; called = name_of called r; ticks = ticks_of rows r; status = status_at rows r }
+note_of_row called rows r = note_of_named rows (text_at called r) r
+
+-- ---- rows of which it is told one by one what they are called
+
+-- each of these rows is called so by a list of names
+abbrev pub AreCalled : List Text → List NamedRow → Type 0
+AreCalled called [] = Unit {0}
+AreCalled called (n ∷ named) = (text_at called n.row ≡ n.name.items) × AreCalled called named
+
+-- what a row is called, where that is told
+abbrev pub name_told : List NamedRow → ℕ → Option Text
+name_told [] r = None
+name_told (n ∷ named) r = cond (n.row == r) (Some n.name.items) (name_told named r)
+
+-- of some row it isn't told what it is called
+abbrev pub LacksName : List NamedRow → List ℕ → Type 0
+LacksName named [] = ⊥
+LacksName named (r ∷ rows) = (name_told named r ≡ None) ⊎ LacksName named rows
 
 -- ---- the behaviours of a serial run
 

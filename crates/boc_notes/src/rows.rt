@@ -2,7 +2,7 @@
 
 ghost use Rattle.std.specs.Prelude.{◌≡◌, ◌^◌, ◌<◌, ◌++◌, length, map, IfOk, OnOk};
 ghost use Rattle.boc_names.specs.Names.{texts_of};
-ghost use Rattle.boc_notes.specs.Notes.{faulted_rows, has_fault, name_of, note_of_row, noted, notes_text, status_at};
+ghost use Rattle.boc_notes.specs.Notes.{faulted_rows, has_fault, note_of_named, note_of_row, noted, notes_text, own_name, status_at};
 
 use crate::note::{Note, first_noted, text_of};
 use boc_names::text_at;
@@ -42,15 +42,14 @@ pub fn faulted_rows(alloc: Global, rows: &[Row]) -> Result<Vec<u32>, AllocError>
     Ok(faulted)
 }
 
-// What a row is called by these names, where that is more than its number.
-fn name_of(alloc: Global, called: &[Vec<u8>], row: u32) -> Result<Vec<u8>, AllocError>
-    ensures { IfOk result (λ name. name.items ≡ name_of (texts_of called.now) row) }
+// What a row that is called so is called, where that is more than its number.
+fn own_name(alloc: Global, name: &[u8], row: u32) -> Result<Vec<u8>, AllocError>
+    ensures { IfOk result (λ own. own.items ≡ own_name name.now row) }
 {
     let number = u64::from(row);
     let mut plain = Vec::new(alloc);
     plain.extend_from_slice(b"row ")?;
     put_number(&mut plain, number)?;
-    let name = text_at(called, row as usize);
     let mut own = Vec::new(alloc);
     if name != plain.as_slice() {
         own.extend_from_slice(name)?;
@@ -58,11 +57,16 @@ fn name_of(alloc: Global, called: &[Vec<u8>], row: u32) -> Result<Vec<u8>, Alloc
     Ok(own)
 }
 
-// What is noted of a row.
-fn note_of(alloc: Global, rows: &[Row], called: &[Vec<u8>], row: u32) -> Result<Note, AllocError>
-    ensures { IfOk result (λ note. noted note ≡ note_of_row (texts_of called.now) rows.now row) }
+/// What is noted of a row that is called so.
+pub(crate) fn note_of(
+    alloc: Global,
+    rows: &[Row],
+    name: &[u8],
+    row: u32,
+) -> Result<Note, AllocError>
+    ensures { IfOk result (λ note. noted note ≡ note_of_named rows.now name.now row) }
 {
-    let called = name_of(alloc, called, row)?;
+    let called = own_name(alloc, name, row)?;
     let (ticks, status) = match rows.get(row as usize) {
         Some(row) => (row.ticks, row.status),
         None => (0, EndStatus::Done),
@@ -88,7 +92,8 @@ fn put_notes(
     match faulted {
         [] => Ok(()),
         [first, others @ ..] => {
-            notes.push(note_of(alloc, rows, called, *first)?)?;
+            let name = text_at(called, *first as usize);
+            notes.push(note_of(alloc, rows, name, *first)?)?;
             put_notes(alloc, notes, rows, called, others)
         }
     }

@@ -148,6 +148,7 @@ pub fn plan_of(alloc: Global, rows: &SeenRows) -> Result<Earliest, AllocError>
     ensures placed { IfOk result (λ e. ArePlaced rows.now e.starts.items e.ends.items e.after.items (length rows.now)) }
     ensures room { IfOk result (λ e. HasRoom e (length rows.now)) }
 {
+    // A loop of its own beside that of `waits_and_plan`: no link is kept beyond its row, so one list serves all rows.
     let mut plan = Earliest::with_room(alloc, rows.len())?;
     let mut uses = unused(alloc)?;
     let mut list = Vec::new(alloc);

@@ -7,5 +7,5 @@ pub mod Rounds
 pub mod Alone
 pub mod AddingUp
 pub mod OneSample
-pub mod Examples
+mod examples
 pub mod Sharing

@@ -9,7 +9,7 @@ mod words;
 use crate::answer::pictured;
 use crate::explaining::explained;
 use crate::wanted::Wanted;
-use crate::words::{Asked, read_words};
+use crate::words::{Asked, LEAST_COLUMNS, MOST_COLUMNS, read_words};
 use boc_commands::{Fault, RunFile, Want, WordsFault, not_text};
 use boc_explain::{Input, Kept};
 use boc_text::{Counted, put_out};
@@ -130,7 +130,7 @@ fn columns(rt: HostRuntime, wanted: &Wanted) -> usize {
     }
     match env::var(&rt, "COLUMNS") {
         Ok(text) => match text.parse::<usize>() {
-            Ok(width) => width.clamp(40, 1_000),
+            Ok(width) => width.clamp(LEAST_COLUMNS as usize, MOST_COLUMNS as usize),
             Err(_) => COLUMNS,
         },
         Err(_) => COLUMNS,

@@ -11,9 +11,9 @@ use clap::{Arg, ArgAction, ArgMatches, Command, value_parser};
 use std::alloc::{AllocError, Global};
 
 // The fewest columns of a text, and the most.
-const LEAST_COLUMNS: i64 = 40;
+pub(crate) const LEAST_COLUMNS: i64 = 40;
 
-const MOST_COLUMNS: i64 = 1_000;
+pub(crate) const MOST_COLUMNS: i64 = 1_000;
 
 // What holds of every picture.
 const COMMON: &str =

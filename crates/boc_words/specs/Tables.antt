@@ -1,5 +1,6 @@
 -- What stands in the tables of the sources.
 use Rattle.std.specs.Prelude.{List, map}
+use Rattle.clap.specs.Words.{Text}
 use Rattle.boc_words.specs.declared.arguments.Argument.{Argument as Listed}
 use Rattle.boc_words.specs.declared.arguments.Argument.TheVariants as listed
 use Rattle.boc_words.specs.declared.arguments.NumberOption.{NumberOption as ListedOption}
@@ -18,6 +19,6 @@ argument_of (listed.Repeated option) = repeated option.id.now
 argument_of (listed.Word word) = operand word.id.now
 argument_of (listed.Words words) = operands words.id.now
 
--- which arguments the command that is listed takes
-abbrev pub takes_of : Entry → List Argument
-takes_of entry = map argument_of entry.takes.now
+-- the name of the command that is listed, and which arguments it takes
+abbrev pub listed_as : Entry → Text × List Argument
+listed_as entry = (entry.name.now, map argument_of entry.takes.now)

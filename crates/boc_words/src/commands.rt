@@ -3,7 +3,7 @@
 ghost use Rattle.std.specs.Prelude.{◌≡◌, IfNone, IfOk, IfSome};
 ghost use Rattle.clap.specs.Words.{app_of};
 ghost use Rattle.boc_words.specs.Commands.{app_of_command, commands_of_boc, signature_of};
-ghost use Rattle.boc_words.specs.Tables.{takes_of};
+ghost use Rattle.boc_words.specs.Tables.{listed_as};
 ghost use Rattle.boc_words.specs.Words.{IsNoneOf, Told, command_line, without_commands};
 
 use crate::arguments::Argument::{Flag, Number, Repeated, Word, Words};
@@ -31,9 +31,10 @@ pub(crate) enum Kind {
     Outcomes,
 }
 
-// What the parser is told of a command: what help says of it, which arguments it takes, and what help says of the lines that it prints.
+// What the parser is told of a command: its name, what help says of it, which arguments it takes, and what help says of the lines that it prints.
 #[derive(Clone, Copy)]
 struct Entry {
+    name: &'static str,
     about: &'static str,
     takes: &'static [Argument],
     lines: &'static str,
@@ -169,7 +170,7 @@ Examples:
 
 // Every command, in the order of help.
 //
-// One more is an entry here, a variant of `Kind` with its name and its entry, and its `signature_of` and a place in `every_kind`; a variant of
+// One more is a place here, a variant of `Kind` with its entry, and its `signature_of` and a place in `every_kind`; a variant of
 // `Command`; an arm of `asked`; and a line of `Asks`.
 const EVERY_KIND: &[Kind] = &[
     Kind::Values,
@@ -186,6 +187,7 @@ const EVERY_KIND: &[Kind] = &[
 ];
 
 const VALUES: Entry = Entry {
+    name: "values",
     about: "Reads a program, runs it serially, and prints the values of its cowns",
     takes: &[Repeated(RECORD), Flag(QUIET), Word(INPUT)],
     lines: "A line is NAME VALUE, or NAME[INDEX] VALUE for a member of an array. The values are those of the serial run: others may end otherwise,
@@ -197,6 +199,7 @@ Statuses are told by `boc --help`.",
 };
 
 const CHECK: Entry = Entry {
+    name: "check",
     about: "Reads the record of a run, checks that it keeps the rules, and prints how many rows it has",
     takes: &[Repeated(PROGRAM), Word(INPUT)],
     lines: "The line is `ok ROWS`. With --program the record must be that of a run of the program in FILE too. Behind the
@@ -210,6 +213,7 @@ Statuses are told by `boc --help`.",
 };
 
 const RUN: Entry = Entry {
+    name: "run",
     about: "Reads a program, runs it by several threads, and prints the record of the run",
     takes: &[
         Number(RUNNERS_ALONE),
@@ -222,6 +226,7 @@ const RUN: Entry = Entry {
 };
 
 const PROFILE: Entry = Entry {
+    name: "profile",
     about: "Reads the record of a run, and prints its work, its span, its costliest chain and its earliest plan",
     takes: &[
         Number(WORKERS),
@@ -234,6 +239,7 @@ const PROFILE: Entry = Entry {
 };
 
 const TIME: Entry = Entry {
+    name: "time",
     about: "Reads a program, runs it by several threads, and prints the profile of the run",
     takes: &[
         Number(RUNNERS),
@@ -249,6 +255,7 @@ const TIME: Entry = Entry {
 };
 
 const WHATIF: Entry = Entry {
+    name: "whatif",
     about: "Reads the record of a run, and prints the profile that it would have with other ticks, other spawns or without a cown",
     takes: &[
         Number(WORKERS),
@@ -264,12 +271,14 @@ const WHATIF: Entry = Entry {
 };
 
 const CURVE: Entry = Entry {
+    name: "curve",
     about: "Reads the record of a run, and prints when the greedy plans for 1, 2, 3 .. workers end",
     takes: &[Number(CURVE_WORKERS), Flag(SHARING), Word(INPUT)],
     lines: CURVE_LINES,
 };
 
 const SWEEP: Entry = Entry {
+    name: "sweep",
     about: "Reads the record of a run, and prints for each row, cown or spawn what the span would be without what it costs",
     takes: &[
         Number(SWEEP_WORKERS),
@@ -283,6 +292,7 @@ const SWEEP: Entry = Entry {
 };
 
 const WHY: Entry = Entry {
+    name: "why",
     about: "Reads a program or the record of a run, and tells which cowns, spawns and behaviours hold it back",
     takes: &[
         Number(RUNNERS),
@@ -300,6 +310,7 @@ const WHY: Entry = Entry {
 };
 
 const COWNS: Entry = Entry {
+    name: "cowns",
     about: "Reads a program or the record of a run, and tells which cowns are held and waited for, and whether they hold the run back",
     takes: &[
         Number(RUNNERS_ALONE),
@@ -316,6 +327,7 @@ const COWNS: Entry = Entry {
 };
 
 const OUTCOMES: Entry = Entry {
+    name: "outcomes",
     about: "Reads a program, draws many runs of it by seeds, and prints the ends that they come to, with how often and by which seed",
     takes: &[
         Number(RUNS),
@@ -328,28 +340,9 @@ const OUTCOMES: Entry = Entry {
 };
 
 impl Kind {
-    // The name of the command.
-    fn name(self) -> &'static str
-        ensures { result.now ≡ (signature_of self).0 }
-    {
-        match self {
-            Kind::Values => "values",
-            Kind::Check => "check",
-            Kind::Run => "run",
-            Kind::Profile => "profile",
-            Kind::Time => "time",
-            Kind::WhatIf => "whatif",
-            Kind::Curve => "curve",
-            Kind::Sweep => "sweep",
-            Kind::Why => "why",
-            Kind::Cowns => "cowns",
-            Kind::Outcomes => "outcomes",
-        }
-    }
-
     // What the parser is told of it.
     fn entry(self) -> Entry
-        ensures { takes_of result ≡ (signature_of self).1 }
+        ensures { listed_as result ≡ signature_of self }
     {
         match self {
             Kind::Values => VALUES,
@@ -370,7 +363,7 @@ impl Kind {
     fn command<'a>(self, alloc: Global) -> Result<clap::Command<'a>, AllocError>
         ensures { IfOk result (λ command. Told command (app_of_command (signature_of self))) }
     {
-        self.entry().command(alloc, self.name())
+        self.entry().command(alloc)
     }
 }
 
@@ -380,7 +373,7 @@ pub(crate) fn kind_of(name: &str) -> Option<Kind>
     ensures some { IfSome result (λ kind. name.now ≡ (signature_of kind).0) }
 {
     for kind in EVERY_KIND {
-        if kind.name() == name {
+        if kind.entry().name == name {
             return Some(*kind);
         }
     }
@@ -413,15 +406,11 @@ fn without_commands<'a>(alloc: Global) -> Result<clap::Command<'a>, AllocError>
 }
 
 impl Entry {
-    // The command of this name as the parser takes it.
-    fn command<'a>(
-        &self,
-        alloc: Global,
-        name: &'static str,
-    ) -> Result<clap::Command<'a>, AllocError>
-        ensures { IfOk result (λ command. Told command (app_of_command (name.now, takes_of self.now))) }
+    // The command as the parser takes it.
+    fn command<'a>(&self, alloc: Global) -> Result<clap::Command<'a>, AllocError>
+        ensures { IfOk result (λ command. Told command (app_of_command (listed_as self.now))) }
     {
-        let mut command = clap::Command::new(alloc, name)
+        let mut command = clap::Command::new(alloc, self.name)
             .about(self.about)
             .after_help(self.lines);
         for argument in self.takes {

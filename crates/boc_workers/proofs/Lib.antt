@@ -2,3 +2,7 @@ pub mod Crossing
 pub mod Ended
 pub mod Sharing
 pub mod Reached
+pub mod Growing
+pub mod Staying
+pub mod Telling
+pub mod LastRows

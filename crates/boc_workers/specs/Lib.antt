@@ -1,2 +1,3 @@
 pub mod Noting
 pub mod Calling
+pub mod Telling

@@ -3,8 +3,10 @@
 ghost use Rattle.std.specs.Prelude.{◌≡◌, ◌≢◌, ◌≤◌, IfOk, IfErr, sum, vec_len};
 ghost use Rattle.boc_program.specs.declared.limits.TheConstants.{MOST_RUNNERS};
 ghost use Rattle.boc_runs.specs.Records.{IsRecordOf};
+ghost use Rattle.boc_runs.specs.Run.{config_of};
 ghost use Rattle.boc_runs.specs.machine.AlongRows.{EndsSerially, cowns_of_rows, steps_of_rows};
 ghost use Rattle.boc_workers.specs.Noting.{CanReachLimit, MayNote};
+ghost use Rattle.boc_workers.specs.Telling.{AreRight};
 ghost use Rattle.boc_workers.specs.declared.fault.RunFault.TheVariants as faults;
 
 use crate::fault::RunFault;
@@ -12,7 +14,7 @@ use crate::gate::{Gate, Go};
 use crate::made::Made;
 use crate::shared::Shared;
 use crate::waiters::{Call, Waiters};
-use boc_dispatch::{Step, Turn, Worker};
+use boc_dispatch::{Step, ToldRow, Turn, Worker};
 use boc_program::program::Program;
 use boc_registers::compiled::CompiledProgram;
 use boc_runs::record::Record;
@@ -25,10 +27,13 @@ use std::sync::{Condvar, Mutex, MutexGuard, Wait};
 use std::thread;
 use std::thread::{Builder, Scope, Threads};
 
-/// The record of a run, and how many steps each worker made.
+/// The record of a run, what is told of rows that ended by a fault, and how many steps each worker made.
 #[derive(Drop)]
 pub struct RunAnswer {
     pub record: Record,
+    /// Of rows that ended by a fault, those with the least numbers, in no order. A clause says that each of them is what is told of it; which rows are told of
+    /// nothing else tells.
+    pub told: Vec<ToldRow>,
     /// The steps of each worker at the place of its number, by which the gate is asked. Clauses say how many workers there
     /// are, and what their steps come to together; which of them made which step nothing else tells.
     pub made: Vec<u64>,
@@ -56,6 +61,7 @@ pub fn run<R: Threads + Wait + Sync, G: Gate>(
     requires { (1 ≤ workers) × (workers ≤ MOST_RUNNERS) }
     ensures record { IfOk result (λ a. IsRecordOf program.now a.record) }
     ensures ends { IfOk result (λ a. EndsSerially program.now a.record.events) }
+    ensures told { IfOk result (λ a. AreRight (config_of program.now a.record.events).members a.told.items) }
     ensures workers { IfOk result (λ a. vec_len a.made ≡ workers) }
     ensures steps { IfOk result (λ a. sum a.made.items ≡ steps_of_rows (cowns_of_rows a.record.events)) }
     ensures held { IfErr result (λ e. G.always_on → e ≢ faults.Held) }
@@ -80,6 +86,7 @@ pub(crate) fn run_by<L: Ledger + Send + Sync, G: Gate, R: Threads + Wait + Sync>
     requires parts { (blank.parts ≡ L.parts) × (blank.parts ≡ workers) }
     ensures record { IfOk result (λ a. IsRecordOf program.now a.record) }
     ensures ends { IfOk result (λ a. EndsSerially program.now a.record.events) }
+    ensures told { IfOk result (λ a. AreRight (config_of program.now a.record.events).members a.told.items) }
     ensures workers { IfOk result (λ a. vec_len a.made ≡ workers) }
     ensures steps { IfOk result (λ a. sum a.made.items ≡ steps_of_rows (cowns_of_rows a.record.events)) }
     ensures held { IfErr result (λ e. G.always_on → e ≢ faults.Held) }

@@ -1,6 +1,10 @@
 // Why a run fails.
 
+use boc_program::limits::MOST_ROWS;
 use thiserror::Error;
+
+// So many are named in the text of a fault.
+const _: () = prove!(MOST_ROWS == 65_535);
 
 /// Why a run gives no record. The numbers 1 to 6 stand for these faults in this order.
 #[derive(Clone, Copy, PartialEq, Eq, Debug, Error)]

@@ -7,6 +7,7 @@ mod fault;
 mod gate;
 mod made;
 mod shared;
+mod told;
 mod waiters;
 
 pub use crew::{RunAnswer, run};
@@ -14,3 +15,4 @@ pub use fault::RunFault;
 pub use gate::{Gate, Go, OpenGate};
 pub use made::Made;
 pub use shared::Shared;
+pub use told::MOST_TOLD;

@@ -1,33 +1,40 @@
 // What lies under the lock.
 
-ghost use Rattle.std.specs.Prelude.{◌≡◌, ◌≢◌, ◌+◌, ◌↔◌, [], false, IfSome, IfNone, None, Some, IfOk, IfErr, IsOk, IsErrOf, sum, vec_len};
+ghost use Rattle.std.specs.Prelude.{◌≡◌, ◌≢◌, ◌+◌, ◌≤◌, ◌↔◌, [], false, IfSome, IfNone, None, Some, IfOk, IfErr, IsOk, IsErrOf, sum, vec_len, vec_capacity};
 ghost use Rattle.boc_runs.specs.Records.{IsRecordOf};
+ghost use Rattle.boc_runs.specs.Run.{config_of};
 ghost use Rattle.boc_runs.specs.machine.AlongRows.{EndsSerially, cowns_of_rows, steps_of_rows};
-ghost use Rattle.boc_runs.specs.machine.Steps.{opening_state};
+ghost use Rattle.boc_runs.specs.machine.Steps.{members, opening_state};
 ghost use Rattle.boc_dispatch.specs.Working.{Works};
 ghost use Rattle.boc_workers.specs.Noting.{CanReachLimit, IsAtLimit, IsReached, MayNote, fault_of, noted_after, steps_made};
+ghost use Rattle.boc_workers.specs.Telling.{AreRight, HasTold};
+ghost use Rattle.boc_workers.specs.declared.told.TheConstants.{MOST_TOLD};
 ghost use Rattle.boc_workers.specs.declared.fault.RunFault.TheVariants as faults;
 
 use crate::crew::RunAnswer;
 use crate::fault::RunFault;
 use crate::gate::Gate;
 use crate::made::Made;
-use boc_dispatch::{Dispatcher, OpenFault, Refusal, Turn, Worker};
+use crate::told::{MOST_TOLD, keep};
+use boc_dispatch::{Dispatcher, OpenFault, Refusal, ToldRow, Turn, Worker};
 use boc_program::program::Program;
 use boc_registers::compiled::CompiledProgram;
 use std::alloc::{AllocError, Global};
 use std::marker::PhantomData;
 use std::sync::ledger::{Book, Ledger, Share};
 
-/// A dispatcher, the book of its steps, and the first fault that was noted.
+/// A dispatcher, the book of its steps, what is told of rows that ended by a fault, and the first fault that was noted.
 #[derive(Drop)]
 pub struct Shared<'a, 'g, L: Ledger, G: Gate> {
     dispatcher: Dispatcher<'a>,
     book: Book<L>,
+    told: Vec<ToldRow>,
     fault: Option<RunFault>,
     gate: PhantomData<&'g G>,
     pub ghost reached: { IsReached dispatcher },
     pub ghost counted: { book.total ≡ dispatcher.state.steps },
+    pub ghost are_right: { AreRight (members dispatcher.program dispatcher.state) told.items },
+    pub ghost room: { MOST_TOLD ≤ vec_capacity told },
     pub ghost at_limit: { fault ≡ Some faults.Behaviours → IsAtLimit dispatcher },
     pub ghost not_held: { G.always_on → fault ≢ Some faults.Held },
 }
@@ -42,12 +49,15 @@ impl<'a, 'g, L: Ledger, G: Gate> Shared<'a, 'g, L, G> {
     ) -> Result<Shared<'a, 'g, L, G>, AllocError>
         requires { book.total ≡ 0 }
         ensures dispatcher { IfOk result (λ s. s.dispatcher ≡ record { program = program.now; state = opening_state program.now }) }
+        ensures told { IfOk result (λ s. s.told.items ≡ []) }
         ensures fault { IfOk result (λ s. s.fault ≡ None) }
     {
         let dispatcher = Dispatcher::new(alloc, program)?;
+        let told = Vec::with_capacity(alloc, MOST_TOLD)?;
         Ok(Shared {
             dispatcher,
             book,
+            told,
             fault: None,
             gate: PhantomData,
         })
@@ -58,9 +68,10 @@ impl<'a, 'g, L: Ledger, G: Gate> Shared<'a, 'g, L, G> {
         ensures works { IfSome result (λ t. Works self.old.dispatcher worker.old.hand t self.new.dispatcher worker.new.hand) }
         ensures number { worker.new.number ≡ worker.old.number }
         ensures counted { IfSome result (λ t. made.new.count ≡ made.old.count + steps_made t) }
+        ensures told { IfSome result (λ t. HasTold self.old.dispatcher worker.old.hand t self.old.told.items self.new.told.items) }
         ensures noted { IfSome result (λ t. (self.old.fault ≡ None) × (self.new.fault ≡ noted_after t)) }
         ensures none { IfNone result ((self.old.fault ≢ None) × (self.new.dispatcher ≡ self.old.dispatcher) × (self.new.fault ≡ self.old.fault)
-            × (worker.new ≡ worker.old) × (made.new.count ≡ made.old.count)) }
+            × (self.new.told.items ≡ self.old.told.items) × (worker.new ≡ worker.old) × (made.new.count ≡ made.old.count)) }
     {
         if self.fault.is_some() {
             return None;
@@ -68,12 +79,17 @@ impl<'a, 'g, L: Ledger, G: Gate> Shared<'a, 'g, L, G> {
         let Shared {
             dispatcher,
             book,
+            told,
             fault,
             gate: _,
         } = self;
+        let ending = worker.ending(dispatcher);
         let turn = worker.turn(dispatcher);
         match turn {
-            Turn::Moved(_) => made.enter(book),
+            Turn::Moved(_) => {
+                keep(told, ending);
+                made.enter(book);
+            }
             Turn::Refused(refusal) => *fault = Some(fault_of_refusal(refusal)),
             _ => {}
         }
@@ -93,6 +109,7 @@ impl<'a, 'g, L: Ledger, G: Gate> Shared<'a, 'g, L, G> {
         ensures first { self.old.fault ≢ None → self.new.fault ≡ self.old.fault }
         ensures noted { self.old.fault ≡ None → self.new.fault ≡ Some fault }
         ensures dispatcher { self.new.dispatcher ≡ self.old.dispatcher }
+        ensures told { self.new.told.items ≡ self.old.told.items }
         ensures book { self.new.book.total ≡ self.old.book.total }
     {
         if self.fault.is_none() {
@@ -116,6 +133,7 @@ impl<'a, 'g, L: Ledger, G: Gate> Shared<'a, 'g, L, G> {
         ensures noted { self.entry.dispatcher.program ≡ program.now → IfSome self.entry.fault (λ f. IsErrOf result f) }
         ensures record { IfOk result (λ a. IsRecordOf program.now a.record) }
         ensures ends { IfOk result (λ a. EndsSerially program.now a.record.events) }
+        ensures told { IfOk result (λ a. (a.told.items ≡ self.entry.told.items) × AreRight (config_of program.now a.record.events).members a.told.items) }
         ensures was_ok { IsOk result → IsOk crew }
         ensures made { IfOk result (λ a. IfOk crew (λ r. a.made ≡ r.0)) }
         ensures steps { IfOk result (λ a. sum a.made.items ≡ steps_of_rows (cowns_of_rows a.record.events)) }
@@ -125,6 +143,7 @@ impl<'a, 'g, L: Ledger, G: Gate> Shared<'a, 'g, L, G> {
         let Shared {
             dispatcher,
             mut book,
+            told,
             fault,
             gate: _,
         } = self;
@@ -138,7 +157,7 @@ impl<'a, 'g, L: Ledger, G: Gate> Shared<'a, 'g, L, G> {
         let (made, mut all) = crew?;
         book.audit(&mut all);
         match dispatcher.into_record() {
-            Ok(record) => Ok(RunAnswer { record, made }),
+            Ok(record) => Ok(RunAnswer { record, told, made }),
             Err(_) => Err(RunFault::Unfinished),
         }
     }

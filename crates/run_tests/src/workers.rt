@@ -112,6 +112,31 @@ fn workers_make_all_steps(rt: HostRuntime) -> Result<(), Fail> {
     Ok(())
 }
 
+// Forty behaviours, of which every third ends by a fault.
+const FAULTS: &str = "cown a = 0; def f(n; x) { x = 1 / (n % 3); }
+main { let n = 0; repeat 40 { when f(n; a); n = n + 1; } }";
+
+#[test]
+fn first_rows_that_ended_by_a_fault_are_told_of(rt: HostRuntime) -> Result<(), Fail> {
+    let program = program(rt.alloc(), FAULTS)?;
+    for workers in [1, 2, 16] {
+        let answer = run(&rt, rt.alloc(), &program, workers, &OpenGate)?;
+        let mut rows = Vec::new(rt.alloc());
+        for told in &answer.told {
+            assert_eq!(rt; told.kind, 1);
+            assert_eq!(rt; told.args.as_slice(), [i64::from(told.row) - 1].as_slice());
+            assert_eq!(rt; told.cowns.as_slice(), [0].as_slice());
+            rows.push(told.row)?;
+        }
+        rows.sort()?;
+        assert_eq!(rt;
+            rows.as_slice(),
+            [1, 4, 7, 10, 13, 16, 19, 22, 25, 28].as_slice()
+        );
+    }
+    Ok(())
+}
+
 #[test]
 fn each_worker_is_told_to_the_gate(rt: HostRuntime) -> Result<(), Fail> {
     for text in [TRANSFER, NO_COWNS, PEEK_AND_SET] {

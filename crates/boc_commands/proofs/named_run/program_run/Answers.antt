@@ -1,6 +1,8 @@
-use Rattle.std.proofs.Common.{List, subst, sym}
+use Rattle.std.proofs.Common.{◌∙◌, List, subst, sym}
 use Rattle.boc_runs.specs.declared.rows.Row.{Row}
 use Rattle.boc_runs.specs.Rows.{IsRows}
+use Rattle.boc_runs.specs.Run.{config_of}
+use Rattle.boc_names.specs.Names.{AreNamesOf, Text}
 use Rattle.boc_commands.specs.Commands.{IsOfRun}
 use Rattle.boc_commands.specs.NamedRuns.{AreFew}
 use Rattle.boc_commands.specs.Promises.{IsRunOf}
@@ -19,7 +21,10 @@ returns g c =
     let spelled = c.in_ok-program.ensures.0 in
     let run : IsRunOf c.in_ok-program.program c.in_ok-record.record = c.in_ok-record.ensures.run in
     let shape = subst IsRows c.into_rows-rows.ensures.value c.as_slice-shape.ensures.shape in
-    let few = named_few c.in_ok-program.program c.in_ok-record.record _ c.in_ok-names.names run.run run.whole shape c.in_ok-names.ensures in (
+    let named = subst (λ (called : List Text). AreNamesOf c.in_ok-program.program called
+    (config_of c.in_ok-program.program c.in_ok-record.record.events).members c.in_ok-names.names) (c.deref.ensures.value ∙ c.in_ok-defs.ensures)
+    c.in_ok-names.ensures in
+    let few = named_few c.in_ok-program.program c.in_ok-record.record _ c.in_ok-names.names run.run run.whole shape named in (
       record {
         recorded = c.in_ok-record.record;
         named = record {
@@ -29,7 +34,7 @@ returns g c =
             defs = c.in_ok-program.defs.items;
             lists = c.in_ok-program.ensures.1;
             run = run;
-            names_are = c.in_ok-names.ensures;
+            names_are = named;
           };
           scheduled = record { program = c.in_ok-program.program; spells = spelled; scheduled = c.in_ok-record.ensures.scheduled };
         };

@@ -1,18 +1,17 @@
-use Rattle.std.proofs.Common.{inr, map, rules}
+use Rattle.std.proofs.Common.{◌≡◌, ◌∙◌, map, ap, rules}
 use Rattle.std.proofs.lemmas.Result.{IfOk-weaker}
-use Rattle.boc_names.specs.Names.{AreNamesOf}
-use Rattle.boc_runs.specs.Run.{config_of}
-use Rattle.boc_commands.specs.Notes.{AreNamedNotes}
-use Rattle.boc_commands.proofs.Noting.{loud, told_of_rows}
+use Rattle.boc_notes.specs.Notes.{faulted_rows, note_of_row, notes_text}
+use Rattle.boc_commands.specs.Notes.{notes_of_rows, run_names}
+use Rattle.boc_commands.proofs.Noting.{loud}
 use Rattle.boc_commands.proofs.notes.notes_on_run.Goals as goal
 
 pub returns : goal.returns
 returns c =
-    IfOk-weaker c.notes_on_rows.result _ _ (λ notes is. loud c.args.quiet (AreNamedNotes (AreNamesOf c.args.program.now (map (λ d. d.name) c.args.defs.items)
-    (config_of c.args.program.now c.args.recorded.now.events).members) c.args.recorded.now.rows) notes.items c.if-quiet.false
-    (inr (
-      c.in_ok-names.names,
-      c.in_ok-names.ensures,
-      told_of_rows c.args.recorded.now.rows c.as_slice-rows.result.now c.deref.result.now c.in_ok-faulted.faulted.items c.deref-2.result.now
-          c.in_ok-names.names.rows.items notes.items (search rules) c.in_ok-faulted.ensures c.deref.ensures.value c.deref-2.ensures.value is,
-    ))) c.notes_on_rows.ensures
+    let defs = c.deref.ensures.value ∙ c.in_ok-defs.ensures in
+    let same_rows : c.as_slice.result.now ≡ c.args.recorded.now.rows = search rules in
+    let faulted = c.deref-2.ensures.value ∙ c.in_ok-faulted.ensures ∙ ap faulted_rows same_rows in
+    IfOk-weaker c.notes_on_faulted.result _ _ (λ notes is. loud c.args.quiet
+    (λ text. text ≡ notes_of_rows (run_names c.args.program.now (map (λ d. d.name) c.args.defs.items) c.args.recorded.now.events) c.args.recorded.now.rows)
+    notes.items c.if-quiet.false
+    (is ∙ (λ i. notes_text (map (note_of_row (run_names c.args.program.now (defs i) c.args.recorded.now.events) c.args.recorded.now.rows) (faulted i)))))
+    c.notes_on_faulted.ensures

@@ -1,7 +1,6 @@
 use Rattle.std.proofs.Common.{ℕ, Bool, List, refl, subst}
 use Rattle.boc_commands.specs.Commands.{IsOfRun}
-use Rattle.boc_commands.specs.NamedRuns.{IsRunNamed}
-use Rattle.boc_commands.specs.Notes.{AreNamedNotes, AreWanted, TellsRun}
+use Rattle.boc_commands.specs.Notes.{AreRunNotes, AreWanted, TellsRun}
 use Rattle.boc_commands.specs.Promises.{IsRunOfText}
 use Rattle.boc_commands.specs.Schedules.{IsScheduledText}
 use Rattle.boc_words.specs.declared.schedule.Schedule.{Schedule}
@@ -18,7 +17,7 @@ returns-in_err-noted-clause-refused g c =
 
 -- what was handed over to be written
 written : (schedule : Schedule) (quiet : Bool) (notes seen : List ℕ) (r : Recorded) → IsRunOfText seen r → IsScheduledText seen schedule r
-    → AreWanted quiet (AreNamedNotes (IsRunNamed seen r) r.rows) notes → TellsRun schedule quiet notes seen (record_text Second r.cowns r.events)
+    → AreWanted quiet (AreRunNotes seen r) notes → TellsRun schedule quiet notes seen (record_text Second r.cowns r.events)
 written schedule quiet notes seen r run scheduled noted =
     record { answer = record { recorded = r; run = run; text = refl }; scheduled = scheduled; noted = noted }
 

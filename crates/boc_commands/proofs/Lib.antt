@@ -23,3 +23,5 @@ pub mod TakenRuns
 pub mod GivenRuns
 pub mod examples
 pub mod ToldNames
+pub mod ByRows
+pub mod NumberedRuns

@@ -160,7 +160,7 @@ one_whatif_answer cowns edits sharing asked bytes input output other a b =
     let same : a.recorded ≡ b.recorded = one_record input a.recorded b.recorded a.named.spells b.named.spells in
     let own : AreNumbers (length b.recorded.rows) b.recorded.cowns a.names =
     subst (λ (r : Recorded). AreNumbers (length r.rows) r.cowns a.names) same a.named.names_are in
-    let meant : all_cowns a.names cowns ≡ all_cowns b.names cowns = same_cowns _ _ a.names b.names own b.named.names_are cowns in
+    let meant : all_cowns a.names cowns ≡ all_cowns b.names cowns = same_cowns _ _ _ a.names b.names own b.named.names_are cowns in
     let left : List Row = without_all (all_cowns b.names cowns) b.recorded.rows in
     let shape : IsRows left = rows_left (all_cowns b.names cowns) b.recorded.rows (rows_are b.recorded b.named.spells.record_is) in
     let edited : AreEdited left (all_edits b.names edits) a.report.after =

@@ -24,7 +24,7 @@ use Rattle.boc_commands.specs.NamedRuns.{AreFew}
 
 -- ---- numbers as names
 
-numbers_length : (i n : ℕ) → length (numbers_from i n) ≡ n
+pub numbers_length : (i n : ℕ) → length (numbers_from i n) ≡ n
 numbers_length i zero = refl
 numbers_length i (suc n) = ap suc (numbers_length (suc i) n)
 
@@ -33,7 +33,7 @@ numbers_below i zero most h k d l = absurd (omega arith)
 numbers_below i (suc n) most h zero d l = omega arith
 numbers_below i (suc n) most h (suc k) d l = numbers_below (suc i) n most (omega arith) k d (omega arith)
 
-numbered_length : (word : Text) (i n : ℕ) → length (numbered_from word i n) ≡ n
+pub numbered_length : (word : Text) (i n : ℕ) → length (numbered_from word i n) ≡ n
 numbered_length word i zero = refl
 numbered_length word i (suc n) = ap suc (numbered_length word (suc i) n)
 
@@ -54,6 +54,15 @@ numbers_few rows cowns names is few are = record {
   few_cowns = omega (arith, few, ap length are.families, numbers_length 0 cowns);
   few_families = subst (All (λ (f : ℕ). f < MOST_COWNS)) (sym are.families) (numbers_below 0 cowns MOST_COWNS (omega (arith, few)));
 }
+
+-- the numbers of cowns are counted
+pub numbers_counted : (rows cowns : ℕ) (names : Names) → AreNumbers rows cowns names
+    → (length names.cowns.items ≡ cowns) × (length names.families.items ≡ cowns) × (length names.defs.items ≡ rows)
+numbers_counted rows cowns names are = (
+  as_many names.cowns.items _ are.cowns ∙ numbered_length (codes "cown ") 0 cowns,
+  ap length are.families ∙ numbers_length 0 cowns,
+  ap length are.defs ∙ numbers_length 0 rows,
+)
 
 -- ---- the names of a run
 

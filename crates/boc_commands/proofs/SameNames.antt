@@ -18,7 +18,7 @@ as_many : (a b : List (Vec ℕ Global)) → texts_of a ≡ texts_of b → length
 as_many a b same =
     sym (length-map a (λ (t : Vec ℕ Global). t.items)) ∙ ap (λ (l : List Text). length l) same ∙ length-map b (λ (t : Vec ℕ Global). t.items)
 
-module _ (rows count : ℕ) (a b : Names) (one : AreNumbers rows count a) (other : AreNumbers rows count b) where
+module _ (rows others count : ℕ) (a b : Names) (one : AreNumbers rows count a) (other : AreNumbers others count b) where
   cowns_are : texts_of a.cowns.items ≡ texts_of b.cowns.items
   cowns_are = one.cowns ∙ sym other.cowns
 
@@ -28,16 +28,10 @@ module _ (rows count : ℕ) (a b : Names) (one : AreNumbers rows count a) (other
   family_names_are : texts_of a.family_names.items ≡ texts_of b.family_names.items
   family_names_are = one.family_names ∙ sym other.family_names
 
-  defs_are : a.defs.items ≡ b.defs.items
-  defs_are = one.defs ∙ sym other.defs
-
-  def_names_are : texts_of a.def_names.items ≡ texts_of b.def_names.items
-  def_names_are = one.def_names ∙ sym other.def_names
-
   count_is : length a.cowns.items ≡ length b.cowns.items
   count_is = as_many a.cowns.items b.cowns.items cowns_are
 
-  cowns_meant : (asked : AskedCown) → cowns_of a asked ≡ cowns_of b asked
+  pub cowns_meant : (asked : AskedCown) → cowns_of a asked ≡ cowns_of b asked
   cowns_meant (cowns.Number number) = λ i. cond (nat_lt number (count_is i)) (number ∷ []) []
   cowns_meant (cowns.Name name) = λ i. filter (λ cown. bytes_eq (text_at (cowns_are i) cown) (string_bytes name)
       || (bytes_eq (text_at (family_names_are i) (slice_index (families_are i) cown)) (string_bytes name)
@@ -46,6 +40,13 @@ module _ (rows count : ℕ) (a b : Names) (one : AreNumbers rows count a) (other
   pub same_cowns : (asked : List AskedCown) → all_cowns a asked ≡ all_cowns b asked
   same_cowns [] = refl
   same_cowns (x ∷ asked) = ap₂ ◌++◌ (cowns_meant x) (same_cowns asked)
+
+module _ (rows count : ℕ) (a b : Names) (one : AreNumbers rows count a) (other : AreNumbers rows count b) where
+  defs_are : a.defs.items ≡ b.defs.items
+  defs_are = one.defs ∙ sym other.defs
+
+  def_names_are : texts_of a.def_names.items ≡ texts_of b.def_names.items
+  def_names_are = one.def_names ∙ sym other.def_names
 
   edits_meant : (asked : AskedEdit) → edits_of a asked ≡ edits_of b asked
   edits_meant (edits.Row edit) = refl

@@ -1,7 +1,7 @@
 -- What the words of a command line mean in the names of a run.
-use Rattle.std.specs.Prelude.{◌≡◌, ◌≢◌, ◌+◌, ◌<◌, ◌≤◌, ◌||◌, ℕ, Bool, List, [], ◌∷◌, ◌++◌, length, map, filter, flat_map, take, sum, All, cond, nat_lt, Some}
-use Rattle.std.specs.Prelude.{slice_get, slice_index, codes, string_bytes}
-use Rattle.std.specs.List.{range_with_len}
+use Rattle.std.specs.Prelude.{◌≡◌, ◌≢◌, ◌+◌, ◌<◌, ◌≤◌, ◌&&◌, ◌||◌, ℕ, Bool, true, false, not, List, [], ◌∷◌, ◌++◌, length, map, filter, flat_map}
+use Rattle.std.specs.Prelude.{take, sum, All, cond, nat_lt, Some, slice_get, slice_index, codes, string_bytes}
+use Rattle.std.specs.List.{list_all, range_with_len}
 use Rattle.std.specs.Str.{bytes_eq}
 use Rattle.boc_runs.specs.declared.rows.Row.{Row}
 use Rattle.boc_plans.specs.declared.edit.Edit.{Edit}
@@ -50,6 +50,15 @@ all_cowns names asked = flat_map (cowns_of names) asked
 -- a row is of the def with this name
 abbrev pub is_of : Names → Text → ℕ → Bool
 is_of names name row = bytes_eq (text_at (texts_of names.def_names.items) (slice_index names.defs.items row)) name
+
+-- an edit is that of one row, by its number
+abbrev pub is_of_row : AskedEdit → Bool
+is_of_row (edits.Row edit) = true
+is_of_row (edits.Def name part) = false
+
+-- no row is told by a name, in short, and none is meant by one
+abbrev pub names_no_row : Bool → List AskedEdit → Bool
+names_no_row short asked = not short && list_all is_of_row asked
 
 -- a row is to cost this part of what it did
 abbrev pub costs : Fraction → ℕ → Edit

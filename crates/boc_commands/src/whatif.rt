@@ -1,10 +1,15 @@
 // The command `whatif`.
 
-ghost use Rattle.std.specs.Prelude.{◌≡◌, ◌<◌, ◌≤◌, ℕ, All, IfOk, MatchResult, length};
-ghost use Rattle.boc_program.specs.declared.limits.TheConstants.{MOST_ROWS};
+ghost use Rattle.std.specs.Prelude.{◌≡◌, ◌<◌, ◌≤◌, ℕ, All, IfErr, IfOk, List, MatchResult, None, Ok, length, true};
+ghost use Rattle.std.specs.List.{list_all};
+ghost use Rattle.boc_program.specs.declared.limits.TheConstants.{MOST_COWNS, MOST_ROWS};
+ghost use Rattle.boc_names.specs.declared.names.Names.{Names};
+ghost use Rattle.boc_names.specs.Names.{AreNumbers};
 ghost use Rattle.boc_plans.specs.Seen.{seen};
-ghost use Rattle.boc_commands.specs.Asked.{AreAskedFor, IsOfEdits};
-ghost use Rattle.boc_commands.specs.Commands.{AnswersInput, Leaves, CountsSource, CountsSink};
+ghost use Rattle.boc_record.specs.Reading.{ReadsCounted};
+ghost use Rattle.boc_commands.specs.Asked.{AreAskedFor, IsOfEdits, is_of_row, names_no_row};
+ghost use Rattle.boc_commands.specs.Commands.{AnswersInput, Leaves, CountsSource, CountsSink, RefusesRecord};
+ghost use Rattle.boc_commands.specs.Faults.{gone_of};
 ghost use Rattle.boc_commands.specs.NamedRuns.{AreFew};
 ghost use Rattle.boc_commands.specs.WhatIfAnswers.{AreChangedSo, IsAskedEnd, IsOfAsked, IsOutcome, IsShortAnswer, IsWhatIfAnswer};
 ghost use Rattle.boc_commands.specs.WhatIfAnswers.{IsWhatIfReport, RefusesAsked, RefusesWhatIf};
@@ -13,9 +18,10 @@ use crate::fault::{Fault, InputFault};
 use crate::meant::{cowns_meant, edits_meant, owner_of};
 use crate::named_run::{NamedRun, named_record};
 use crate::report::report_after;
-use boc_names::Names;
+use boc_names::{Names, numbers_as_names};
 use boc_plans::sharing::Sharing;
 use boc_plans::workers::Workers;
+use boc_record::read_counted;
 use boc_runs::rows::Rows;
 use boc_text::{Sink, Source, put_out};
 use boc_whatif::{Unfit, WhatIf};
@@ -37,6 +43,32 @@ pub struct Supposed<'a> {
     pub sharing: Sharing,
     /// Whether it is told in short.
     pub short: bool,
+}
+
+impl Supposed<'_> {
+    // No row is meant or told by a name.
+    fn names_no_row(&self) -> bool
+        ensures { result ≡ names_no_row self.now.short self.now.edits.now }
+    {
+        !self.short && are_of_rows(self.edits)
+    }
+}
+
+// Whether each edit is that of one row, by its number.
+fn are_of_rows(edits: &[AskedEdit]) -> bool
+    ensures { result ≡ list_all is_of_row edits.now }
+{
+    edits.iter().all(|edit| is_of_row(edit))
+}
+
+// Whether an edit is that of one row, by its number.
+fn is_of_row(edit: &AskedEdit) -> bool
+    ensures { result ≡ is_of_row edit.now }
+{
+    match edit {
+        AskedEdit::Row(_) => true,
+        AskedEdit::Def { .. } => false,
+    }
 }
 
 /// Leaves cowns out of the rows of a run, so that they order nobody, has its rows change, edit by edit, and writes the report on them, as the command
@@ -123,9 +155,35 @@ fn end_for(
     }
 }
 
+// Writes the same report where no row is meant or told by a name: then none gets one. Cowns are called by their numbers, of which there are so many.
+fn numbered_report<W: Sink>(
+    alloc: Global,
+    asked: &Supposed<'_>,
+    rows: Rows,
+    cowns: u32,
+    sink: &mut W,
+) -> Result<(), Fault>
+    requires nameless { names_no_row asked.now.short asked.now.edits.now ≡ true }
+    requires few { cowns ≤ MOST_COWNS }
+    requires sink { W.failures sink.old < u64.MAX }
+    ensures written { (names : Names) → AreNumbers (length rows) cowns names → Leaves
+        (IsWhatIfReport names asked.now.cowns.now asked.now.edits.now asked.now.sharing asked.now.plans asked.now.short rows)
+        result (W.written sink.old) (W.written sink.new) }
+    ensures refused { (names : Names) → AreNumbers (length rows) cowns names
+        → RefusesAsked names asked.now.cowns.now asked.now.edits.now rows result }
+    ensures source { (count : ℕ) → CountsSource result count count }
+    ensures sink { CountsSink result (W.failures sink.old) (W.failures sink.new) }
+{
+    let names = numbers_as_names(alloc, 0, cowns)?;
+    let after = changed(alloc, &names, asked, rows)?;
+    report_after(alloc, asked.plans, after, sink)
+}
+
 // The rows with what is supposed of them.
 fn changed(alloc: Global, names: &Names, asked: &Supposed<'_>, rows: Rows) -> Result<WhatIf, Fault>
-    requires { AreFew rows names.now }
+    requires families { length names.now.cowns.items ≡ length names.now.families.items }
+    requires few_families { length names.now.families.items ≤ MOST_COWNS }
+    requires few_defs { length names.now.defs.items ≤ MOST_ROWS }
     ensures rows { MatchResult result
         (λ after. AreChangedSo names.now asked.now.cowns.now asked.now.edits.now rows after.rows)
         (IsOfAsked names.now asked.now.cowns.now asked.now.edits.now rows) }
@@ -165,6 +223,40 @@ fn edited(
     }
 }
 
+// The rows of a record whose text a source gives, and how many cowns it has.
+fn counted_record<S: Source>(alloc: Global, source: &mut S) -> Result<(Rows, u32), Fault>
+    requires { S.failures source.old < u64.MAX }
+    ensures read { IfOk result (λ read. ReadsCounted (Ok read) (S.remaining source.old) (S.remaining source.new)) }
+    ensures few { IfOk result (λ read. read.1 ≤ MOST_COWNS) }
+    ensures refused { RefusesRecord result (S.remaining source.old) }
+    ensures source { CountsSource result (S.failures source.old) (S.failures source.new) }
+    ensures kept { IfErr result (λ fault. gone_of fault ≡ None) }
+{
+    Ok(read_counted(alloc, source)?)
+}
+
+// Does the command where no file stands beside the record, and no row is meant or told by a name.
+fn numbered_whatif<S: Source, W: Sink>(
+    alloc: Global,
+    asked: &Supposed<'_>,
+    source: &mut S,
+    sink: &mut W,
+) -> Result<(), Fault>
+    requires nameless { names_no_row asked.now.short asked.now.edits.now ≡ true }
+    requires source { S.failures source.old < u64.MAX }
+    requires sink { W.failures sink.old < u64.MAX }
+    ensures written { (bytes : List ℕ) → Leaves (AnswersInput (IsWhatIfAnswer None bytes asked.now.cowns.now asked.now.edits.now asked.now.sharing
+        asked.now.plans asked.now.short) (S.remaining source.old) (S.remaining source.new)) result (W.written sink.old) (W.written sink.new) }
+    ensures refused { (bytes : List ℕ) → RefusesWhatIf None bytes asked.now.cowns.now asked.now.edits.now result (S.remaining source.old) }
+    ensures source { CountsSource result (S.failures source.old) (S.failures source.new) }
+    ensures sink { CountsSink result (W.failures sink.old) (W.failures sink.new) }
+{
+    let (rows, cowns) = counted_record(alloc, source)?;
+    // For the proof alone, and free: that they have the shape of rows.
+    let _shape = rows.as_slice();
+    numbered_report(alloc, asked, rows, cowns, sink)
+}
+
 /// Reads the text of a record, with the names that come from a file beside it, if there is one, leaves cowns out of its rows, so that they order nobody, has
 /// them change, edit by edit, and writes the report on them, as the command `profile` does; or, in short, what they come to before and after.
 ///
@@ -187,6 +279,9 @@ pub fn whatif_cmd<S: Source, W: Sink>(
     ensures source { CountsSource result (S.failures source.old) (S.failures source.new) }
     ensures sink { CountsSink result (W.failures sink.old) (W.failures sink.new) }
 {
+    if file.is_none() && asked.names_no_row() {
+        return numbered_whatif(alloc, asked, source, sink);
+    }
     let run = named_record(alloc, source, file, bytes)?;
     whatif_report(alloc, asked, run, sink)
 }

@@ -1,4 +1,4 @@
-//! What a driven run leaves. What drives do along lists of choices is in the table of `answers`.
+//! What a driven run leaves. What drives do along lists of choices is in the tables that `tables` works through.
 
 use boc_dispatch::{Dispatcher, drive};
 use boc_program::program::Program;

@@ -1,4 +1,4 @@
-// A body that stops at each of its wishes. What bodies do otherwise is in the table of `answers`.
+// A body that stops at each of its wishes. What bodies do otherwise is in the tables that `tables` works through.
 
 use crate::dispatch::TRANSFER;
 use boc_eval::{Frame, Stop};

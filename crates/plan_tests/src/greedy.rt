@@ -1,4 +1,4 @@
-//! The greedy plans of worked rows. Those of many other rows are in the table of `answers`.
+//! The greedy plans of worked rows. Those of many other rows are in the tables that `tables` works through.
 
 use crate::figures::are;
 use crate::worked_rows::{peek_and_set, row, rows_of, transfer};

@@ -1,4 +1,4 @@
-//! Chains of worked rows that are true or false. The profiles of worked rows are in the table of `answers`.
+//! Chains of worked rows that are true or false. The profiles of worked rows are in the tables that `tables` works through.
 
 use crate::worked_rows::{peek_and_set, transfer, waiting_for_both};
 use boc_order::check_chain;

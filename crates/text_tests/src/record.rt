@@ -1,4 +1,4 @@
-//! Records read and written. What becomes of each kind of faulty text is in the table of `answers`.
+//! Records read and written. What becomes of each kind of faulty text is in the tables that `tables` works through.
 
 use crate::text::bytes;
 use boc_record::{RecordFault, WriteFault, read_record, write_record};

@@ -1100,7 +1100,7 @@ def beside(program):
         ("a cown's name", ["whatif", "--without", "acct"], "--program", text, record, "without 1: 6 NoCown",
          ["no cown is called `acct`; the program's cowns are a, b"]),
         ("a def's name", ["whatif", "mov=1/2"], "--program", text, record, "edit 1: 7 NoDef",
-         ["no row is of this def; names come with --program FILE or --names FILE", "no row is of a def `mov`; the program's defs are add, move, beside main"]),
+         ["no row is of this def; names are those of --program FILE or --names FILE", "no row is of a def `mov`; the program's defs are add, move, beside main"]),
         ("a def of a file of names", ["whatif", "work=1000/1", "work=1000/1"], "--names", b"= 1 work\n= 2 work 7\n", record, "edit 2: 3 TooManyTicks",
          ["`work=1000/1`: row 1 takes 2000 ticks, and would take more than 1000000"]),
     ]:

@@ -22,7 +22,7 @@ span       9     8    -1
 chain    add 4, move 3, main 2   ->   main 3, move 3, add 2
 """
 
-NO_DEF = "boc: edit 1: 7 NoDef\n     no row is of this def; names come with --program FILE or --names FILE"
+NO_DEF = "boc: edit 1: 7 NoDef\n     no row is of this def; names are those of --program FILE or --names FILE"
 
 REFUSE = os.path.join(os.path.dirname(os.path.dirname(os.path.abspath(__file__))), "refuse.c")
 

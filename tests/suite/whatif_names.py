@@ -10,7 +10,7 @@ from .why import rows_of, shares, steps_of, table
 
 MOST_TICKS = 1_000_000
 NO_COWN = "6 NoCown"
-NO_DEF = "7 NoDef\n     no row is of this def; names come with --program FILE or --names FILE"
+NO_DEF = "7 NoDef\n     no row is of this def; names are those of --program FILE or --names FILE"
 NO_ROW, BELOW_SPAWN, TOO_MANY_TICKS = "1 NoRow", "2 BelowSpawn", "3 TooManyTicks"
 
 

@@ -164,7 +164,7 @@ input_line (inputs.Record r) = numbered (codes "boc: line ") r.line (kind_line r
 input_line (inputs.Cown number) = numbered (codes "boc: without ") number (codes "6 NoCown")
 input_line (inputs.Edit number fault) = numbered (codes "boc: edit ") number (edit_line fault)
 input_line (inputs.Def number) =
-    numbered (codes "boc: edit ") number (codes "7 NoDef\n     no row is of this def; names come with --program FILE or --names FILE")
+    numbered (codes "boc: edit ") number (codes "7 NoDef\n     no row is of this def; names are those of --program FILE or --names FILE")
 input_line (inputs.Stray r) = numbered (codes "boc: line ") r.line (stray_line r.kind)
 input_line (inputs.Beside f) = file_line f
 

@@ -24,7 +24,8 @@ use thiserror::Error;
 /// The most bytes of what the program says of a fault in its own words.
 pub const MOST_FAULT_LINE: usize = 128;
 
-/// What the program says of a fault in its own words, without the last line feed: one line, or for a word that is no edit two.
+/// What the program says of a fault in its own words, without the last line feed: one line, or two for a word that is no edit
+/// and for an edit of a def that no row is of.
 pub type Line = ArrayString<MOST_FAULT_LINE>;
 
 /// Why a command was refused or failed. Its text is the line for standard error.
@@ -157,7 +158,7 @@ fn input_text(fault: &InputFault) -> Line
         InputFault::Def { number } => numbered(
             "boc: edit ",
             *number as u64,
-            "7 NoDef\n     no row is of this def; names come with --program FILE or --names FILE",
+            "7 NoDef\n     no row is of this def; names are those of --program FILE or --names FILE",
         ),
         InputFault::Stray(fault) => numbered("boc: line ", fault.line, fault.kind_text()),
         InputFault::Beside(fault) => file_text(fault),

@@ -36,6 +36,11 @@ pub record TellsFault (u : Underway) (row : ℕ) (o : Ran) (told : Option ToldRo
   pub done : o.status ≡ Done → told ≡ None
   pub fault : o.status ≢ Done → TellsRow u row o told
 
+-- a worker has in hand the end of a row by a fault
+abbrev pub EndsByFault : Hand → Type 0
+EndsByFault (hands.Done row o) = o.status ≢ Done
+EndsByFault _ = ⊥
+
 -- what is told of the row whose end a worker has in hand; and nothing at other times
 abbrev pub TellsEnding : Underway → Hand → Option ToldRow → Type 0
 TellsEnding u (hands.Done row o) told = TellsFault u row o told

@@ -76,7 +76,7 @@ ghost use Rattle.boc_dispatch.specs.declared.worker.Hand.TheVariants as hands;
 ghost use Rattle.boc_runs.specs.machine.Sound.{IsSound};
 ghost use Rattle.boc_dispatch.specs.Driving.{HandFits, KeepsFitting};
 ghost use Rattle.boc_dispatch.specs.Stepping.{CanTurn};
-ghost use Rattle.boc_dispatch.specs.Told.{TellsEnding};
+ghost use Rattle.boc_dispatch.specs.Told.{EndsByFault, TellsEnding};
 ghost use Rattle.boc_dispatch.specs.Working.{row_in, frame_of as frame_at_start, Enqueues, Goes, HasGiven, HasGoneOn, HasThought, IsDone, IsEnded, IsStarted};
 ghost use Rattle.boc_dispatch.specs.Working.{Wishes, Works};
 ghost use Rattle.boc_dispatch.specs.declared.calls.Child.{Child};
@@ -159,6 +159,16 @@ impl<'a> Worker<'a> {
             },
             Hand::Leaving(leaving) => core.can_leave(leaving),
             _ => true,
+        }
+    }
+
+    /// Whether its row's end by a fault is due.
+    pub fn ends_by_fault(&self) -> bool
+        ensures { IsTrue result ↔ EndsByFault self.now.hand }
+    {
+        match &self.hand {
+            Hand::Done(_, outcome) => outcome.status() != EndStatus::Done,
+            _ => false,
         }
     }
 

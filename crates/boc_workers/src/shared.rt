@@ -39,6 +39,46 @@ pub struct Shared<'a, 'g, L: Ledger, G: Gate> {
     pub ghost not_held: { G.always_on → fault ≢ Some faults.Held },
 }
 
+// One turn of a worker. Where it makes a step, the row whose end by a fault the worker had in hand is told of beside others.
+#[inline(always)]
+fn told_turn<'a>(
+    dispatcher: &mut Dispatcher<'a>,
+    told: &mut Vec<ToldRow>,
+    worker: &mut Worker<'a>,
+) -> Turn
+    requires { MOST_TOLD ≤ vec_capacity told.old }
+    ensures works { Works dispatcher.old worker.old.hand result dispatcher.new worker.new.hand }
+    ensures number { worker.new.number ≡ worker.old.number }
+    ensures told { HasTold dispatcher.old worker.old.hand result told.old.items told.new.items }
+    ensures room { vec_capacity told.new ≡ vec_capacity told.old }
+{
+    if worker.ends_by_fault() {
+        return ending_turn(dispatcher, told, worker);
+    }
+    worker.turn(dispatcher)
+}
+
+// The same where such an end may be in hand. It stays out of its caller, which would clear room for what is told at each turn.
+#[inline(never)]
+fn ending_turn<'a>(
+    dispatcher: &mut Dispatcher<'a>,
+    told: &mut Vec<ToldRow>,
+    worker: &mut Worker<'a>,
+) -> Turn
+    requires { MOST_TOLD ≤ vec_capacity told.old }
+    ensures works { Works dispatcher.old worker.old.hand result dispatcher.new worker.new.hand }
+    ensures number { worker.new.number ≡ worker.old.number }
+    ensures told { HasTold dispatcher.old worker.old.hand result told.old.items told.new.items }
+    ensures room { vec_capacity told.new ≡ vec_capacity told.old }
+{
+    let ending = worker.ending(dispatcher);
+    let turn = worker.turn(dispatcher);
+    if let Turn::Moved(_) = turn {
+        keep(told, ending);
+    }
+    turn
+}
+
 impl<'a, 'g, L: Ledger, G: Gate> Shared<'a, 'g, L, G> {
     /// A dispatcher of the program in its opening state, with the book of its steps, and no fault noted. `AllocError` says
     /// that memory was refused.
@@ -83,13 +123,9 @@ impl<'a, 'g, L: Ledger, G: Gate> Shared<'a, 'g, L, G> {
             fault,
             gate: _,
         } = self;
-        let ending = worker.ending(dispatcher);
-        let turn = worker.turn(dispatcher);
+        let turn = told_turn(dispatcher, told, worker);
         match turn {
-            Turn::Moved(_) => {
-                keep(told, ending);
-                made.enter(book);
-            }
+            Turn::Moved(_) => made.enter(book),
             Turn::Refused(refusal) => *fault = Some(fault_of_refusal(refusal)),
             _ => {}
         }

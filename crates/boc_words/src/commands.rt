@@ -45,7 +45,7 @@ const RECORD_LINES: &str = "The first line is `boc 2 COWNS`, the last one `.`; b
   + ROW PARENT TICK COWN..      a row is spawned, at that tick of its parent
   > ROW                         it begins
   < ROW TICKS STATUS COWN..     it ends, and wrote these cowns
-A STATUS is 0 where a row came to its end, else the fault that ended it: 1 Overflow, 2 ZeroDivisor, 3 OutOfRange, 4 SameCown, 5 Negative,
+A STATUS is 0 where the body came to its end, else the fault that ended it: 1 Overflow, 2 ZeroDivisor, 3 OutOfRange, 4 SameCown, 5 Negative,
 6 TickCap. Ticks are what a body's statements cost, and no time that passes.
 
 Examples: boc run --workers 4 program.boc | boc why; boc run --workers 4 --seed 3 program.boc | boc profile
@@ -132,8 +132,8 @@ const WHATIF_LINES: &str = "The lines are those of `profile`, or with --short:
   work, span       before and after the edits, and by how much the span changes; with --p the same of the greedy plan's end
   chain            how many ticks go through which defs of the chain that holds the run back, before and after
 A def, and a cown that is left out by name, is one of the program in --program FILE or of the names in --names FILE; without them `row 2`
-is the def of row 2, and `cown 0` a cown. A number is always a row's or a cown's. No row takes fewer ticks than 1, or than the last of its
-children is spawned at: ROW=TICKS below that is refused as BelowSpawn.
+is the def of row 2, and `cown 0` a cown. A number is always a row's or a cown's. A row takes its least ticks at least, 1 or the
+offset of its last child: ROW=TICKS below that is refused as BelowSpawn.
 
 Example: boc run program.boc | boc whatif --program program.boc --short transfer=1/2
 Statuses are told by `boc --help`.";
@@ -157,8 +157,8 @@ Statuses are told by `boc --help`.";
 // What holds of every command.
 const COMMON_LINES: &str =
     "Programs and records come from FILE, or from standard input where none is named, and answers go to standard output, a whole one or none.
-On standard error a fault is told, first the line of the input or the edit that it is about, and then what is there; and behaviours that
-ended by a fault are noted. The statuses:
+On standard error a fault is told, first where it is, as the line of the input or the number of an edit, and then what is there; and
+behaviours that ended by a fault are noted. The statuses:
   0    done
   2    the words of the command line are wrong
   3    the input, or the file beside it, is wrong

@@ -39,7 +39,7 @@ pub struct Shared<'a, 'g, L: Ledger, G: Gate> {
     pub ghost not_held: { G.always_on → fault ≢ Some faults.Held },
 }
 
-// One turn of a worker. Where it makes a step, the row whose end by a fault the worker had in hand is told of beside others.
+// One turn of a worker. Where it makes a step, a row whose end by a fault the worker had in hand is told of beside others.
 #[inline(always)]
 fn told_turn<'a>(
     dispatcher: &mut Dispatcher<'a>,

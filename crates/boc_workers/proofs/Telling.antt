@@ -12,11 +12,13 @@ use Rattle.boc_eval.specs.Frames.{Ran}
 use Rattle.boc_dispatch.specs.declared.calls.ToldRow.{ToldRow}
 use Rattle.boc_dispatch.specs.declared.worker.Hand.{Hand}
 use Rattle.boc_dispatch.specs.declared.worker.Hand.TheVariants as hands
+use Rattle.boc_dispatch.specs.declared.worker.Turn.{Turn}
+use Rattle.boc_dispatch.specs.declared.worker.Turn.TheVariants as turns
 use Rattle.boc_dispatch.specs.Told.{AreTrueOf, IsTrueOf, TellsEnding, TellsFault}
 use Rattle.boc_dispatch.specs.Underway.{Underway}
-use Rattle.boc_dispatch.specs.Working.{MakesTurn}
+use Rattle.boc_dispatch.specs.Working.{MakesTurn, Works}
 use Rattle.boc_workers.specs.declared.told.TheConstants.{MOST_TOLD}
-use Rattle.boc_workers.specs.Telling.{AreRight, TellsBeside, TellsBesideIf}
+use Rattle.boc_workers.specs.Telling.{AreRight, KeepsAfter, TellsBeside, TellsBesideIf}
 use Rattle.boc_workers.proofs.Growing.{log_grows}
 use Rattle.boc_workers.proofs.Staying.{all_told_stay, told_stays}
 
@@ -79,3 +81,12 @@ pub right_after : (u v : Underway) (h k : Hand) (step : Step) (told : List ToldR
     → AreRight (members v.program v.state) after
 right_after u v h k step told ending after makes right tells keeps =
     ∥∥₁_elim right squash₁ (λ are. ∣ told_after u v h k step told ending after makes are tells keeps ∣₁)
+
+-- the same of any turn
+pub right_on : (u v : Underway) (h k : Hand) (t : Turn) (told : List ToldRow) (ending : Option ToldRow) (after : List ToldRow)
+    → Works u h t v k → AreRight (members u.program u.state) told → TellsEnding u h ending → KeepsAfter t ending told after
+    → AreRight (members v.program v.state) after
+right_on u v h k (turns.Moved step) told ending after works right tells keeps = right_after u v h k step told ending after works right tells keeps
+right_on u v h k _ told ending after works right tells keeps =
+    subst (AreRight (members v.program v.state)) (sym keeps)
+    (subst (λ (x : Underway). AreRight (members x.program x.state) told) (sym works.0) right)

@@ -36,6 +36,11 @@ abbrev pub TellsBesideIf : List ToldRow → Option ToldRow → List ToldRow → 
 TellsBesideIf told None after = after ≡ told
 TellsBesideIf told (Some row) after = TellsBeside told row after
 
+-- after a turn that made a step, the row that is to be told of, if there is one, is told of beside others; any other turn changes nothing
+abbrev pub KeepsAfter : Turn → Option ToldRow → List ToldRow → List ToldRow → Type 0
+KeepsAfter (turns.Moved step) ending told after = TellsBesideIf told ending after
+KeepsAfter _ ending told after = after ≡ told
+
 -- after a turn that made a step, the row whose end by a fault the worker had in hand is told of beside others; any other turn changes nothing
 abbrev pub HasTold : Underway → Hand → Turn → List ToldRow → List ToldRow → Type 0
 HasTold u h (turns.Moved step) told after = (ending : Option ToldRow) × TellsEnding u h ending × TellsBesideIf told ending after

@@ -7,7 +7,8 @@ ghost use Rattle.boc_runs.specs.machine.AlongRows.{EndsSerially, cowns_of_rows, 
 ghost use Rattle.boc_runs.specs.machine.Steps.{members, opening_state};
 ghost use Rattle.boc_dispatch.specs.Working.{Works};
 ghost use Rattle.boc_workers.specs.Noting.{CanReachLimit, IsAtLimit, IsReached, MayNote, fault_of, noted_after, steps_made};
-ghost use Rattle.boc_workers.specs.Telling.{AreRight, HasTold};
+ghost use Rattle.boc_dispatch.specs.Told.{TellsEnding};
+ghost use Rattle.boc_workers.specs.Telling.{AreRight, HasTold, KeepsAfter};
 ghost use Rattle.boc_workers.specs.declared.told.TheConstants.{MOST_TOLD};
 ghost use Rattle.boc_workers.specs.declared.fault.RunFault.TheVariants as faults;
 
@@ -29,54 +30,62 @@ pub struct Shared<'a, 'g, L: Ledger, G: Gate> {
     dispatcher: Dispatcher<'a>,
     book: Book<L>,
     told: Vec<ToldRow>,
+    // What is told of a row, while its end is made.
+    ending: Option<ToldRow>,
     fault: Option<RunFault>,
     gate: PhantomData<&'g G>,
     pub ghost reached: { IsReached dispatcher },
     pub ghost counted: { book.total ≡ dispatcher.state.steps },
     pub ghost are_right: { AreRight (members dispatcher.program dispatcher.state) told.items },
     pub ghost room: { MOST_TOLD ≤ vec_capacity told },
+    pub ghost between_turns: { ending ≡ None },
     pub ghost at_limit: { fault ≡ Some faults.Behaviours → IsAtLimit dispatcher },
     pub ghost not_held: { G.always_on → fault ≢ Some faults.Held },
 }
 
-// One turn of a worker. Where it makes a step, a row whose end by a fault the worker had in hand is told of beside others.
+// What the row is whose end by a fault a worker has in hand, where it has one. What is told takes much room, so the few functions that make and keep it are
+// not put into a turn, which would clear that room each time.
 #[inline(always)]
-fn told_turn<'a>(
-    dispatcher: &mut Dispatcher<'a>,
-    told: &mut Vec<ToldRow>,
-    worker: &mut Worker<'a>,
-) -> Turn
-    requires { MOST_TOLD ≤ vec_capacity told.old }
-    ensures works { Works dispatcher.old worker.old.hand result dispatcher.new worker.new.hand }
-    ensures number { worker.new.number ≡ worker.old.number }
-    ensures told { HasTold dispatcher.old worker.old.hand result told.old.items told.new.items }
-    ensures room { vec_capacity told.new ≡ vec_capacity told.old }
+fn look<'a>(ending: &mut Option<ToldRow>, dispatcher: &Dispatcher<'a>, worker: &Worker<'a>)
+    requires { ending.old ≡ None }
+    ensures { TellsEnding dispatcher.now worker.now.hand ending.new }
 {
     if worker.ends_by_fault() {
-        return ending_turn(dispatcher, told, worker);
+        look_closer(ending, dispatcher, worker);
     }
-    worker.turn(dispatcher)
 }
 
-// The same where such an end may be in hand. It stays out of its caller, which would clear room for what is told at each turn.
 #[inline(never)]
-fn ending_turn<'a>(
-    dispatcher: &mut Dispatcher<'a>,
-    told: &mut Vec<ToldRow>,
-    worker: &mut Worker<'a>,
-) -> Turn
+fn look_closer<'a>(ending: &mut Option<ToldRow>, dispatcher: &Dispatcher<'a>, worker: &Worker<'a>)
+    ensures { TellsEnding dispatcher.now worker.now.hand ending.new }
+{
+    *ending = worker.ending(dispatcher);
+}
+
+// After a turn that made a step, the row that is to be told of, if there is one, is told of beside others.
+#[inline(always)]
+fn keep_ending(told: &mut Vec<ToldRow>, ending: &mut Option<ToldRow>, turn: &Turn)
     requires { MOST_TOLD ≤ vec_capacity told.old }
-    ensures works { Works dispatcher.old worker.old.hand result dispatcher.new worker.new.hand }
-    ensures number { worker.new.number ≡ worker.old.number }
-    ensures told { HasTold dispatcher.old worker.old.hand result told.old.items told.new.items }
+    ensures none { ending.new ≡ None }
+    ensures keeps { KeepsAfter turn.now ending.old told.old.items told.new.items }
     ensures room { vec_capacity told.new ≡ vec_capacity told.old }
 {
-    let ending = worker.ending(dispatcher);
-    let turn = worker.turn(dispatcher);
-    if let Turn::Moved(_) = turn {
-        keep(told, ending);
+    if ending.is_some() {
+        keep_taken(told, ending, turn);
     }
-    turn
+}
+
+#[inline(never)]
+fn keep_taken(told: &mut Vec<ToldRow>, ending: &mut Option<ToldRow>, turn: &Turn)
+    requires { MOST_TOLD ≤ vec_capacity told.old }
+    ensures none { ending.new ≡ None }
+    ensures keeps { KeepsAfter turn.now ending.old told.old.items told.new.items }
+    ensures room { vec_capacity told.new ≡ vec_capacity told.old }
+{
+    let taken = ending.take();
+    if let Turn::Moved(_) = turn {
+        keep(told, taken);
+    }
 }
 
 impl<'a, 'g, L: Ledger, G: Gate> Shared<'a, 'g, L, G> {
@@ -98,6 +107,7 @@ impl<'a, 'g, L: Ledger, G: Gate> Shared<'a, 'g, L, G> {
             dispatcher,
             book,
             told,
+            ending: None,
             fault: None,
             gate: PhantomData,
         })
@@ -120,10 +130,13 @@ impl<'a, 'g, L: Ledger, G: Gate> Shared<'a, 'g, L, G> {
             dispatcher,
             book,
             told,
+            ending,
             fault,
             gate: _,
         } = self;
-        let turn = told_turn(dispatcher, told, worker);
+        look(ending, dispatcher, worker);
+        let turn = worker.turn(dispatcher);
+        keep_ending(told, ending, &turn);
         match turn {
             Turn::Moved(_) => made.enter(book),
             Turn::Refused(refusal) => *fault = Some(fault_of_refusal(refusal)),
@@ -180,6 +193,7 @@ impl<'a, 'g, L: Ledger, G: Gate> Shared<'a, 'g, L, G> {
             dispatcher,
             mut book,
             told,
+            ending: _,
             fault,
             gate: _,
         } = self;

@@ -42,7 +42,7 @@ use Rattle.boc_dispatch.specs.Places.{in_phase}
 use Rattle.boc_dispatch.proofs.Tables.{at_slot, live_same}
 use Rattle.boc_dispatch.proofs.Fits.{allowed_last}
 use Rattle.boc_dispatch.proofs.Homes.{row_at_slot, childless, fits_row, params_below}
-use Rattle.boc_dispatch.proofs.Outputs.{output_for_each}
+use Rattle.boc_program.proofs.Outputs.{output_for_each}
 use Rattle.boc_dispatch.proofs.Granting.{tied_of}
 use Rattle.boc_dispatch.proofs.Onward.{wished_still}
 use Rattle.boc_dispatch.proofs.Releasing.{leaving_same, gone_on, moved_state, moved_there, gone_state, gone_not_there}

@@ -14,7 +14,6 @@ pub mod Waking
 pub mod Releasing
 pub mod Fronts
 pub mod Departing
-pub mod Outputs
 pub mod Finishing
 pub mod Going
 pub mod Flagged

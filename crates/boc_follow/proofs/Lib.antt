@@ -1,5 +1,4 @@
 pub mod Changes
-pub mod Outputs
 pub mod Besides
 pub mod Nexts
 pub mod Wishing

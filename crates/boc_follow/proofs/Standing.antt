@@ -17,7 +17,7 @@ use Rattle.boc_follow.specs.Standings.{Underway, Standing, underway_if, standing
 use Rattle.boc_follow.specs.Standings.{over_in, next_if, next_of, next_at, EndsSo, CanStart, CanWrite}
 use Rattle.boc_follow.proofs.Changes.{map-changed}
 use Rattle.boc_machine_laws.proofs.Members.{MemberFits, AllFit}
-use Rattle.boc_follow.proofs.Outputs.{output_for_each}
+use Rattle.boc_program.proofs.Outputs.{output_for_each}
 
 -- ---- what is under way
 

@@ -8,4 +8,3 @@ pub mod Alone
 pub mod AddingUp
 pub mod OneSample
 mod examples
-pub mod Sharing

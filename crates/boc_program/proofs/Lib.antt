@@ -7,4 +7,5 @@ pub mod ChangedItems
 pub mod Fitting
 pub mod CellsLaw
 pub mod Freeing
+pub mod Outputs
 pub mod examples

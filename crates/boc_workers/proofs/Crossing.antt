@@ -19,7 +19,7 @@ use Rattle.boc_dispatch.proofs.live.Live.TheSendSync as live
 use Rattle.boc_workers.specs.contracts.crew.Hall as Hall
 use Rattle.boc_workers.specs.contracts.shared.Shared as Shared
 use Rattle.boc_workers.specs.declared.gate.Gate as gates
-use Rattle.boc_workers.proofs.Sharing.{compiled_sync}
+use Rattle.boc_registers.proofs.Crossing.{compiled_sync}
 
 place_send : IsSend (Option.the_row Live.the_row)
 place_send = search (sendable, live.the_field_send) depth 20

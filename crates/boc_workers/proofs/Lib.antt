@@ -1,6 +1,5 @@
 pub mod Crossing
 pub mod Ended
-pub mod Sharing
 pub mod Reached
 pub mod Growing
 pub mod Staying

@@ -8,7 +8,7 @@ use Rattle.boc_draws.specs.declared.fault.DrawFault.{DrawFault}
 use Rattle.boc_outcomes.specs.declared.sampling.Sampled.{Sampled}
 use Rattle.boc_outcomes.specs.Samples.{IsSampled}
 use Rattle.boc_outcomes.proofs.Rounds.{round_of}
-use Rattle.boc_outcomes.proofs.Sharing.{compiled_sync}
+use Rattle.boc_registers.proofs.Crossing.{compiled_sync}
 use Rattle.boc_outcomes.proofs.sampling.sampled_between.Goals as goal
 
 pub map-requires-send-F : goal.map-requires-send-F

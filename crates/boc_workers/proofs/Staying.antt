@@ -98,10 +98,6 @@ rows_stay u v same grows =
     ∙ ap (λ (c : Config). c.members) (after_both u.program (opening u.program) u.state.log grows.0) in
     subst (Stay (members u.program u.state)) (sym log) (stay_events u.program (config_of u.program u.state.log) grows.0)
 
-pub told_stays : (u v : Underway) → v.program ≡ u.program → Grows u.state v.state → (t : ToldRow) → IsTrueOf (members u.program u.state) t
-    → IsTrueOf (members v.program v.state) t
-told_stays u v same grows = told_on (members u.program u.state) (members v.program v.state) (rows_stay u v same grows)
-
 pub all_told_stay : (u v : Underway) → v.program ≡ u.program → Grows u.state v.state → (told : List ToldRow) → AreTrueOf (members u.program u.state) told
     → AreTrueOf (members v.program v.state) told
 all_told_stay u v same grows = all_told_on (members u.program u.state) (members v.program v.state) (rows_stay u v same grows)

@@ -5,7 +5,6 @@ use Rattle.std.proofs.lemmas.Bool.{cases_lt}
 use Rattle.std.specs.Prelude.{slice_set}
 use Rattle.boc_program.specs.declared.body.EndStatus.{EndStatus}
 use Rattle.boc_program.specs.declared.body.EndStatus.TheVariants as statuses
-use Rattle.boc_runs.specs.declared.step.Step.{Step}
 use Rattle.boc_runs.specs.Run.{Member}
 use Rattle.boc_runs.specs.machine.Steps.{members}
 use Rattle.boc_eval.specs.Frames.{Ran}
@@ -16,11 +15,11 @@ use Rattle.boc_dispatch.specs.declared.worker.Turn.{Turn}
 use Rattle.boc_dispatch.specs.declared.worker.Turn.TheVariants as turns
 use Rattle.boc_dispatch.specs.Told.{AreTrueOf, IsTrueOf, TellsEnding, TellsFault}
 use Rattle.boc_dispatch.specs.Underway.{Underway}
-use Rattle.boc_dispatch.specs.Working.{MakesTurn, Works}
+use Rattle.boc_dispatch.specs.Working.{Works}
 use Rattle.boc_workers.specs.declared.told.TheConstants.{MOST_TOLD}
-use Rattle.boc_workers.specs.Telling.{AreRight, KeepsAfter, TellsBeside, TellsBesideIf}
+use Rattle.boc_workers.specs.Telling.{AreRight, HasTold, TellsBeside, TellsBesideIf}
 use Rattle.boc_workers.proofs.Growing.{log_grows}
-use Rattle.boc_workers.proofs.Staying.{all_told_stay, told_stays}
+use Rattle.boc_workers.proofs.Staying.{all_told_stay}
 
 -- ---- a row that is told of beside others
 
@@ -66,27 +65,17 @@ told_ending u _ t tells = absurd (let none : Some t ≡ None = tells in cc)
 
 -- ---- a turn
 
-told_after : (u v : Underway) (h k : Hand) (step : Step) (told : List ToldRow) (ending : Option ToldRow) (after : List ToldRow)
-    → MakesTurn u h step v k → AreTrueOf (members u.program u.state) told → TellsEnding u h ending → TellsBesideIf told ending after
-    → AreTrueOf (members v.program v.state) after
-told_after u v h k step told ending after makes are tells keeps =
-    let grows = log_grows u.program u.state v.state step makes.makes in
-    let now : AreTrueOf (members v.program v.state) told = all_told_stay u v makes.same grows told are in
-    told_kept_if (members v.program v.state) told ending after now
-    (λ t is. told_stays u v makes.same grows t (told_ending u h t (subst (TellsEnding u h) is tells))) keeps
+told_first : (u : Underway) (h : Hand) (told after : List ToldRow) → AreTrueOf (members u.program u.state) told → HasTold u h told after
+    → AreTrueOf (members u.program u.state) after
+told_first u h told after are tells =
+    told_kept_if (members u.program u.state) told tells.0 after are (λ t is. told_ending u h t (subst (TellsEnding u h) is tells.1)) tells.2
 
--- the same of what is known to be right
-pub right_after : (u v : Underway) (h k : Hand) (step : Step) (told : List ToldRow) (ending : Option ToldRow) (after : List ToldRow)
-    → MakesTurn u h step v k → AreRight (members u.program u.state) told → TellsEnding u h ending → TellsBesideIf told ending after
-    → AreRight (members v.program v.state) after
-right_after u v h k step told ending after makes right tells keeps =
-    ∥∥₁_elim right squash₁ (λ are. ∣ told_after u v h k step told ending after makes are tells keeps ∣₁)
-
--- the same of any turn
-pub right_on : (u v : Underway) (h k : Hand) (t : Turn) (told : List ToldRow) (ending : Option ToldRow) (after : List ToldRow)
-    → Works u h t v k → AreRight (members u.program u.state) told → TellsEnding u h ending → KeepsAfter t ending told after
-    → AreRight (members v.program v.state) after
-right_on u v h k (turns.Moved step) told ending after works right tells keeps = right_after u v h k step told ending after works right tells keeps
-right_on u v h k _ told ending after works right tells keeps =
-    subst (AreRight (members v.program v.state)) (sym keeps)
-    (subst (λ (x : Underway). AreRight (members x.program x.state) told) (sym works.0) right)
+-- what is told before a turn is right after it
+pub right_on : (u v : Underway) (h k : Hand) (t : Turn) (told after : List ToldRow) → Works u h t v k → AreRight (members u.program u.state) told
+    → HasTold u h told after → AreRight (members v.program v.state) after
+right_on u v h k (turns.Moved step) told after works right tells =
+    let grows = log_grows u.program u.state v.state step works.makes in
+    ∥∥₁_elim right squash₁ (λ are. ∣ all_told_stay u v works.same grows after (told_first u h told after are tells) ∣₁)
+right_on u v h k _ told after works right tells =
+    subst (λ (x : Underway). AreRight (members x.program x.state) after) (sym works.0)
+    (∥∥₁_elim right squash₁ (λ are. ∣ told_first u h told after are tells ∣₁))

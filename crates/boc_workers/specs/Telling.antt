@@ -3,8 +3,6 @@ use Rattle.std.specs.Prelude.{◌≡◌, ℕ, ◌<◌, ◌≤◌, List, [], ◌�
 use Rattle.boc_runs.specs.Run.{Member}
 use Rattle.boc_dispatch.specs.declared.calls.ToldRow.{ToldRow}
 use Rattle.boc_dispatch.specs.declared.worker.Hand.{Hand}
-use Rattle.boc_dispatch.specs.declared.worker.Turn.{Turn}
-use Rattle.boc_dispatch.specs.declared.worker.Turn.TheVariants as turns
 use Rattle.boc_dispatch.specs.Told.{AreTrueOf, TellsEnding}
 use Rattle.boc_dispatch.specs.Underway.{Underway}
 use Rattle.boc_workers.specs.declared.told.TheConstants.{MOST_TOLD}
@@ -36,12 +34,6 @@ abbrev pub TellsBesideIf : List ToldRow → Option ToldRow → List ToldRow → 
 TellsBesideIf told None after = after ≡ told
 TellsBesideIf told (Some row) after = TellsBeside told row after
 
--- after a turn that made a step, the row that is to be told of, if there is one, is told of beside others; any other turn changes nothing
-abbrev pub KeepsAfter : Turn → Option ToldRow → List ToldRow → List ToldRow → Type 0
-KeepsAfter (turns.Moved step) ending told after = TellsBesideIf told ending after
-KeepsAfter _ ending told after = after ≡ told
-
--- after a turn that made a step, the row whose end by a fault the worker had in hand is told of beside others; any other turn changes nothing
-abbrev pub HasTold : Underway → Hand → Turn → List ToldRow → List ToldRow → Type 0
-HasTold u h (turns.Moved step) told after = (ending : Option ToldRow) × TellsEnding u h ending × TellsBesideIf told ending after
-HasTold u h _ told after = after ≡ told
+-- the row whose end by a fault a worker has in hand, if it has one, is told of beside others
+abbrev pub HasTold : Underway → Hand → List ToldRow → List ToldRow → Type 0
+HasTold u h told after = (ending : Option ToldRow) × TellsEnding u h ending × TellsBesideIf told ending after

@@ -1,14 +1,13 @@
 // What lies under the lock.
 
-ghost use Rattle.std.specs.Prelude.{◌≡◌, ◌≢◌, ◌+◌, ◌≤◌, ◌↔◌, [], false, IfSome, IfNone, None, Some, IfOk, IfErr, IsOk, IsErrOf, sum, vec_len, vec_capacity};
+ghost use Rattle.std.specs.Prelude.{◌≡◌, ◌≢◌, ◌+◌, ◌≤◌, ◌↔◌, [], false, IfSome, IfNone, None, Some, IfOk, IfErr, IsOk, IsSome, IsErrOf, sum, vec_len, vec_capacity};
 ghost use Rattle.boc_runs.specs.Records.{IsRecordOf};
 ghost use Rattle.boc_runs.specs.Run.{config_of};
 ghost use Rattle.boc_runs.specs.machine.AlongRows.{EndsSerially, cowns_of_rows, steps_of_rows};
 ghost use Rattle.boc_runs.specs.machine.Steps.{members, opening_state};
 ghost use Rattle.boc_dispatch.specs.Working.{Works};
 ghost use Rattle.boc_workers.specs.Noting.{CanReachLimit, IsAtLimit, IsReached, MayNote, fault_of, noted_after, steps_made};
-ghost use Rattle.boc_dispatch.specs.Told.{TellsEnding};
-ghost use Rattle.boc_workers.specs.Telling.{AreRight, HasTold, KeepsAfter};
+ghost use Rattle.boc_workers.specs.Telling.{AreRight, HasTold};
 ghost use Rattle.boc_workers.specs.declared.told.TheConstants.{MOST_TOLD};
 ghost use Rattle.boc_workers.specs.declared.fault.RunFault.TheVariants as faults;
 
@@ -30,62 +29,36 @@ pub struct Shared<'a, 'g, L: Ledger, G: Gate> {
     dispatcher: Dispatcher<'a>,
     book: Book<L>,
     told: Vec<ToldRow>,
-    // What is told of a row, while its end is made.
-    ending: Option<ToldRow>,
     fault: Option<RunFault>,
     gate: PhantomData<&'g G>,
     pub ghost reached: { IsReached dispatcher },
     pub ghost counted: { book.total ≡ dispatcher.state.steps },
     pub ghost are_right: { AreRight (members dispatcher.program dispatcher.state) told.items },
     pub ghost room: { MOST_TOLD ≤ vec_capacity told },
-    pub ghost between_turns: { ending ≡ None },
     pub ghost at_limit: { fault ≡ Some faults.Behaviours → IsAtLimit dispatcher },
     pub ghost not_held: { G.always_on → fault ≢ Some faults.Held },
 }
 
-// What the row is whose end by a fault a worker has in hand, where it has one. What is told takes much room, so the few functions that make and keep it are
-// not put into a turn, which would clear that room each time.
+// The row whose end by a fault a worker has in hand, if it has one, is told of beside others. What is told takes much room, so the function that makes it
+// is not put into a turn, which would clear that room each time.
 #[inline(always)]
-fn look<'a>(ending: &mut Option<ToldRow>, dispatcher: &Dispatcher<'a>, worker: &Worker<'a>)
-    requires { ending.old ≡ None }
-    ensures { TellsEnding dispatcher.now worker.now.hand ending.new }
+fn tell<'a>(told: &mut Vec<ToldRow>, dispatcher: &Dispatcher<'a>, worker: &Worker<'a>)
+    requires { MOST_TOLD ≤ vec_capacity told.old }
+    ensures tells { HasTold dispatcher.now worker.now.hand told.old.items told.new.items }
+    ensures room { vec_capacity told.new ≡ vec_capacity told.old }
 {
     if worker.ends_by_fault() {
-        look_closer(ending, dispatcher, worker);
+        tell_row(told, dispatcher, worker);
     }
 }
 
 #[inline(never)]
-fn look_closer<'a>(ending: &mut Option<ToldRow>, dispatcher: &Dispatcher<'a>, worker: &Worker<'a>)
-    ensures { TellsEnding dispatcher.now worker.now.hand ending.new }
-{
-    *ending = worker.ending(dispatcher);
-}
-
-// After a turn that made a step, the row that is to be told of, if there is one, is told of beside others.
-#[inline(always)]
-fn keep_ending(told: &mut Vec<ToldRow>, ending: &mut Option<ToldRow>, turn: &Turn)
+fn tell_row<'a>(told: &mut Vec<ToldRow>, dispatcher: &Dispatcher<'a>, worker: &Worker<'a>)
     requires { MOST_TOLD ≤ vec_capacity told.old }
-    ensures none { ending.new ≡ None }
-    ensures keeps { KeepsAfter turn.now ending.old told.old.items told.new.items }
+    ensures tells { HasTold dispatcher.now worker.now.hand told.old.items told.new.items }
     ensures room { vec_capacity told.new ≡ vec_capacity told.old }
 {
-    if ending.is_some() {
-        keep_taken(told, ending, turn);
-    }
-}
-
-#[inline(never)]
-fn keep_taken(told: &mut Vec<ToldRow>, ending: &mut Option<ToldRow>, turn: &Turn)
-    requires { MOST_TOLD ≤ vec_capacity told.old }
-    ensures none { ending.new ≡ None }
-    ensures keeps { KeepsAfter turn.now ending.old told.old.items told.new.items }
-    ensures room { vec_capacity told.new ≡ vec_capacity told.old }
-{
-    let taken = ending.take();
-    if let Turn::Moved(_) = turn {
-        keep(told, taken);
-    }
+    keep(told, worker.ending(dispatcher));
 }
 
 impl<'a, 'g, L: Ledger, G: Gate> Shared<'a, 'g, L, G> {
@@ -107,18 +80,18 @@ impl<'a, 'g, L: Ledger, G: Gate> Shared<'a, 'g, L, G> {
             dispatcher,
             book,
             told,
-            ending: None,
             fault: None,
             gate: PhantomData,
         })
     }
 
-    /// One turn of a worker, unless a fault is noted. Where the call is refused, the fault is noted.
+    /// One turn of a worker, unless a fault is noted. First the row whose end by a fault it has in hand, if it has one, is told of beside others. Where the
+    /// call is refused, the fault is noted.
     pub fn turn(&mut self, worker: &mut Worker<'a>, made: &mut Made<L>) -> Option<Turn>
         ensures works { IfSome result (λ t. Works self.old.dispatcher worker.old.hand t self.new.dispatcher worker.new.hand) }
         ensures number { worker.new.number ≡ worker.old.number }
         ensures counted { IfSome result (λ t. made.new.count ≡ made.old.count + steps_made t) }
-        ensures told { IfSome result (λ t. HasTold self.old.dispatcher worker.old.hand t self.old.told.items self.new.told.items) }
+        ensures told { IsSome result → HasTold self.old.dispatcher worker.old.hand self.old.told.items self.new.told.items }
         ensures noted { IfSome result (λ t. (self.old.fault ≡ None) × (self.new.fault ≡ noted_after t)) }
         ensures none { IfNone result ((self.old.fault ≢ None) × (self.new.dispatcher ≡ self.old.dispatcher) × (self.new.fault ≡ self.old.fault)
             × (self.new.told.items ≡ self.old.told.items) × (worker.new ≡ worker.old) × (made.new.count ≡ made.old.count)) }
@@ -130,13 +103,11 @@ impl<'a, 'g, L: Ledger, G: Gate> Shared<'a, 'g, L, G> {
             dispatcher,
             book,
             told,
-            ending,
             fault,
             gate: _,
         } = self;
-        look(ending, dispatcher, worker);
+        tell(told, dispatcher, worker);
         let turn = worker.turn(dispatcher);
-        keep_ending(told, ending, &turn);
         match turn {
             Turn::Moved(_) => made.enter(book),
             Turn::Refused(refusal) => *fault = Some(fault_of_refusal(refusal)),
@@ -193,7 +164,6 @@ impl<'a, 'g, L: Ledger, G: Gate> Shared<'a, 'g, L, G> {
             dispatcher,
             mut book,
             told,
-            ending: _,
             fault,
             gate: _,
         } = self;

@@ -49,7 +49,7 @@ fn keep_row(told: &mut Vec<ToldRow>, row: ToldRow)
     }
 }
 
-/// The row that is told of after a step, if there is one, is told of beside others, for which there is room.
+/// The row whose end by a fault is due, if there is one, is told of beside others, for which there is room.
 pub fn keep(told: &mut Vec<ToldRow>, ending: Option<ToldRow>)
     requires { MOST_TOLD ≤ vec_capacity told.old }
     ensures keeps { TellsBesideIf told.old.items ending told.new.items }

@@ -238,7 +238,8 @@ PROGRAMS = [
     (b"def f(a, b, c, d, e, g, h, i,\nj;) { } main { }", "line 2: 8 TooMany", [
         "j;) { } main { }",
         "^",
-        "at most 8 parameters of each kind, value arguments of a `when` and cowns of a `when`"]),
+        "at most 8 parameters of each kind, value arguments of a `when` and cowns of a `when`",
+        "a body can hand values on to another behaviour that it spawns by `when`, which runs later, over cowns of its own"]),
     (b"main {\n" + b"work 1;\n" * 501 + b"}", "line 502: 8 TooMany", [
         "work 1;",
         "^",
@@ -1084,11 +1085,19 @@ def cases(program):
     yield from names(program)
     yield from strays(program)
     yield from words_refused(program)
+    yield from options_of_others(program)
     yield from values_are_no_files(program)
     yield from keywords(program)
     yield from random_edits(program)
     yield from long_records(program)
     yield from replacements(program)
+
+
+# What the line of a def that no row is of says of names.
+NAMES_ARE = "no row is of this def; names are those of --program FILE or --names FILE"
+
+# More of a file than is kept for explanations.
+LONG_COMMENTS = (b"#" * 79 + b"\n") * 13200
 
 
 def beside(program):
@@ -1100,11 +1109,28 @@ def beside(program):
         ("a cown's name", ["whatif", "--without", "acct"], "--program", text, record, "without 1: 6 NoCown",
          ["no cown is called `acct`; the program's cowns are a, b"]),
         ("a def's name", ["whatif", "mov=1/2"], "--program", text, record, "edit 1: 7 NoDef",
-         ["no row is of this def; names are those of --program FILE or --names FILE", "no row is of a def `mov`; the program's defs are add, move, beside main"]),
+         [NAMES_ARE, "no row is of a def `mov`; the program's defs are add, move, beside main"]),
+        ("a def that a file doesn't have", ["whatif", "mov=1/2"], "--names", b"= 1 work\n= 2 work 7\n= 3 rest\n", record, "edit 1: 7 NoDef",
+         [NAMES_ARE, "no row is of a def `mov`; the file's defs are work, rest"]),
+        ("a def where a file names no row", ["whatif", "mov=1/2"], "--names", b"@ 0 pot\n", record, "edit 1: 7 NoDef",
+         [NAMES_ARE, "no row is of a def `mov`; the file names no row"]),
+        ("a cown that a file doesn't have", ["whatif", "--without", "acct"], "--names", b"@ 0 pot\n", record, "without 1: 6 NoCown",
+         ["no cown is called `acct`; the file's cowns are pot"]),
+        ("an array of a file", ["whatif", "--without", "acct"], "--names", b"@ 0 pot[0]\n@ 1 pot[1]\n", record, "without 1: 6 NoCown",
+         ["no cown is called `acct`; the file's cowns are pot[*]"]),
+        ("long names of a file", ["whatif", "mov=1/2"], "--names", b"".join(b"= %d %s\n" % (row, bytes([97 + row]) * 30) for row in range(4)), record,
+         "edit 1: 7 NoDef", [NAMES_ARE, f"no row is of a def `mov`; the file's defs are {'a' * 30}, {'b' * 30}, .."]),
+        ("a def of a file that isn't kept whole", ["whatif", "mov=1/2"], "--names", LONG_COMMENTS + b"= 1 work\n", record, "edit 1: 7 NoDef", [NAMES_ARE]),
+        ("a cown of a file that isn't kept whole", ["whatif", "--without", "acct"], "--names", LONG_COMMENTS + b"@ 1 pot\n", record, "without 1: 6 NoCown",
+         ["no cown is called `acct`; the record has cowns 0 to 1"]),
+        ("a cown where a file names none", ["whatif", "--without", "acct"], "--names", b"= 1 work\n", record, "without 1: 6 NoCown",
+         ["no cown is called `acct`; the file names no cown"]),
         ("a def of a file of names", ["whatif", "work=1000/1", "work=1000/1"], "--names", b"= 1 work\n= 2 work 7\n", record, "edit 2: 3 TooManyTicks",
          ["`work=1000/1`: row 1 takes 2000 ticks, and would take more than 1000000"]),
     ]:
         yield name, difference(told(fault, lines), program.run_beside(words, option, content, source))
+    lines = [NAMES_ARE, "no row is of a def `mov`; neither file is given, and each row is a def of its own then, as `row 0`"]
+    yield "a def without names", difference(told("edit 1: 7 NoDef", lines), program.run(["whatif", "mov=1/2"], record))
     for words, fault, lines in DEF_EDITS:
         yield f"whatif {words}", difference(told(fault, lines), program.run_beside(["whatif", *words], "--program", text, record))
     lines = ["`row 1=1000/1`: row 1 takes 2000 ticks, and would take more than 1000000"]
@@ -1181,6 +1207,23 @@ def words_refused(program):
         else:
             text = f"error: {fault}\n\nFor more information, try '--help'.\n".encode()
             yield f"{words}", difference(text + b"".join(EXPLAINS + line.encode() + b"\n" for line in lines), answer, 2)
+
+
+def options_of_others(program):
+    """A command that reads a program says so where its input is named as others name it, and so does one that reads a record."""
+    for command in ("values", "why", "cowns", "check", "whatif"):
+        reads, beside = ("record", "program") if command in ("check", "whatif") else ("program", "record")
+        line = f"{command} reads the {reads}, and --{beside} its {beside}: boc {command} --{beside} {beside.upper()} {reads.upper()}"
+        answer = program.run([command, f"--{reads}", "a", "b"])
+        is_told = answer.status == 2 and answer.errors.endswith(EXPLAINS + line.encode() + b"\n")
+        yield f"{command} --{reads}", None if is_told else f"{answer.errors!r}"
+        answer = program.run([command, "--nothing", "a", "b"])
+        yield f"{command} --nothing", None if EXPLAINS not in answer.errors else f"it told {answer.errors!r}"
+    answer = program.run(["values", "--", "a", "--program"])
+    is_told = answer.errors.endswith(EXPLAINS + f"`a` and `--program` {ONE_FILE}\n".encode())
+    yield "values -- a --program", None if is_told else f"{answer.errors!r}"
+    answer = program.run(["profile", "--program", "a", "b"])
+    yield "profile --program", None if EXPLAINS not in answer.errors else f"it told {answer.errors!r}"
 
 
 def values_are_no_files(program):

@@ -37,6 +37,9 @@ AMONG_EDITS = [
     (["whatif", "--without", "1", "FILE", "2=1"], ["whatif", "--without", "1", "2=1"]),
 ]
 
+# What is told of a file of `whatif` that isn't there, since its word may be meant as an edit.
+WHY_FILE = "     a word with neither = nor @ is the FILE with the record; an edit is ROW=TICKS, ROW@OFFSET, ROW=K/D or DEF=K/D\n"
+
 
 def cases(program):
     with tempfile.TemporaryDirectory(prefix="boc-files-") as folder:
@@ -65,7 +68,8 @@ def inputs(program, words, source, path):
 def unreadable(program, folder):
     absent = os.path.join(folder, "absent")
     for words in [["values"], ["check"], ["whatif", "2=1"], ["why"]]:
-        told = Answer(5, b"", f"boc: {absent}: No such file or directory (os error 2)\n".encode())
+        more = WHY_FILE if words[0] == "whatif" else ""
+        told = Answer(5, b"", f"boc: {absent}: No such file or directory (os error 2)\n{more}".encode())
         yield f"{words}: no such file", same(told, program.run([*words, absent], RECORD))
         told = Answer(5, b"", f"boc: {folder}: Is a directory (os error 21)\n".encode())
         yield f"{words}: a folder", same(told, program.run([*words, folder], RECORD))

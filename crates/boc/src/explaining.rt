@@ -5,8 +5,8 @@ use boc_commands::{
 };
 use boc_explain::{
     Asked, Beside, Kept, Naming, Place, explain_behaviours, explain_cown, explain_def,
-    explain_edit, explain_edit_word, explain_files, explain_names, explain_program, explain_record,
-    explain_stray,
+    explain_edit, explain_edit_word, explain_names, explain_program, explain_record, explain_stray,
+    explain_words,
 };
 use boc_plans::edit::{Change, Edit, EditFault, Part};
 use boc_workers::RunFault;
@@ -31,7 +31,7 @@ pub(crate) fn explained_words(
         Fault::Words(WordsFault::EditWord { number }) => explain_edit_word(alloc, words, *number),
         Fault::Words(WordsFault::Parser(_)) => {
             let told = fault.line(alloc)?;
-            explain_files(alloc, words, &told)
+            explain_words(alloc, words, &told)
         }
         _ => Ok(String::new(alloc)),
     }
@@ -137,15 +137,16 @@ fn beside_of(command: &Command) -> Option<Beside> {
     }
 }
 
-// The program beside a record, where its names are asked for.
-fn program_of<'a>(command: &Command, texts: &'a Texts) -> Option<&'a [u8]> {
-    match command {
-        Command::WhatIf {
-            names: Some(NamesFrom::Program(_)),
-            ..
-        } => Some(texts.beside.as_slice()),
-        _ => None,
+// By what `whatif` calls rows and cowns, if all of the file that tells it is known.
+fn naming_of<'a>(names: &Option<NamesFrom>, texts: &'a Texts) -> Option<Naming<'a>> {
+    if !texts.beside.is_whole() {
+        return None;
     }
+    Some(match names {
+        Some(NamesFrom::Program(_)) => Naming::Program(texts.beside.as_slice()),
+        Some(NamesFrom::Names(_)) => Naming::Names(texts.beside.as_slice()),
+        None => Naming::Numbers,
+    })
 }
 
 // A cown that the record doesn't have, counted from 1.
@@ -155,17 +156,17 @@ fn missing_cown(
     texts: &Texts,
     number: usize,
 ) -> Result<String, AllocError> {
-    let input = texts.input.text();
-    let program = program_of(command, texts);
-    let Command::WhatIf { cowns, .. } = command else {
+    let Command::WhatIf { cowns, names, .. } = command else {
         return Ok(String::new(alloc));
     };
+    let input = texts.input.text();
+    let naming = naming_of(names, texts).unwrap_or(Naming::Numbers);
     match cowns.get(number.saturating_sub(1)) {
         Some(AskedCown::Number(cown)) => {
             let name = cown.to_string(alloc)?;
-            explain_cown(alloc, input, program, &name)
+            explain_cown(alloc, input, naming, &name)
         }
-        Some(AskedCown::Name(name)) => explain_cown(alloc, input, program, name),
+        Some(AskedCown::Name(name)) => explain_cown(alloc, input, naming, name),
         None => Ok(String::new(alloc)),
     }
 }
@@ -181,19 +182,14 @@ fn refused_edit(
     let Command::WhatIf { edits, names, .. } = command else {
         return Ok(String::new(alloc));
     };
-    if !texts.beside.is_whole() {
+    let Some(naming) = naming_of(names, texts) else {
         return Ok(String::new(alloc));
-    }
+    };
     let word = match edits.get(number.saturating_sub(1)) {
         Some(edit) => word_of(alloc, edit)?,
         None => return Ok(String::new(alloc)),
     };
     let asked = asked_edits(alloc, edits, number)?;
-    let naming = match names {
-        Some(NamesFrom::Program(_)) => Naming::Program(texts.beside.as_slice()),
-        Some(NamesFrom::Names(_)) => Naming::Names(texts.beside.as_slice()),
-        None => Naming::Numbers,
-    };
     explain_edit(alloc, texts.input.text(), naming, &word, &asked, fault)
 }
 
@@ -247,12 +243,12 @@ fn missing_def(
     texts: &Texts,
     number: usize,
 ) -> Result<String, AllocError> {
-    let Command::WhatIf { edits, .. } = command else {
+    let Command::WhatIf { edits, names, .. } = command else {
         return Ok(String::new(alloc));
     };
-    match edits.get(number.saturating_sub(1)) {
-        Some(AskedEdit::Def { name, .. }) => {
-            explain_def(alloc, program_of(command, texts), name)
+    match (edits.get(number.saturating_sub(1)), naming_of(names, texts)) {
+        (Some(AskedEdit::Def { name, .. }), Some(naming)) => {
+            explain_def(alloc, texts.input.text(), naming, name)
         }
         _ => Ok(String::new(alloc)),
     }

@@ -31,9 +31,16 @@ const NOT_RUN: &[u8] =
 #[derive(Drop)]
 enum Stop {
     // The command was refused, or it failed. Lines may follow that explain it.
-    Fault { fault: Fault, more: Option<String> },
-    // A file that the words name can't be read.
-    File { path: String, error: io::Error },
+    Fault {
+        fault: Fault,
+        more: Option<String>,
+    },
+    // A file that the words name can't be read. A line may follow that tells why it is one.
+    File {
+        path: String,
+        error: io::Error,
+        more: Option<&'static str>,
+    },
 }
 
 impl From<Fault> for Stop {
@@ -81,10 +88,10 @@ fn run(rt: HostRuntime, threads: &(impl Threads + Wait + Sync)) -> Result<(), St
     let line = read_words(rt.alloc(), &words).or_else(|fault| words_stop(rt, &words, fault))?;
     let beside = file_beside(rt, &line.command)?;
     match &line.input {
-        Some(path) if path.as_str() != "-" => {
-            let file = File::open(&rt, path.as_str()).or_else(|error| file_stop(rt, path, error))?;
-            answer(rt, threads, &line.command, beside, file, Some(path))
-        }
+        Some(path) if path.as_str() != "-" => match File::open(&rt, path.as_str()) {
+            Ok(file) => answer(rt, threads, &line.command, beside, file, Some(path)),
+            Err(error) => file_stop(rt, path, error, Some(&line.command)),
+        },
         _ => answer(rt, threads, &line.command, beside, rt.stdin(), None),
     }
 }
@@ -125,7 +132,7 @@ fn answer<T: Read + Drop>(
     };
     let (input, error) = input.into_parts();
     if let (Fault::Means(Want::Source), Some(path), Some(error)) = (&fault, path, error) {
-        return file_stop(rt, path, error);
+        return file_stop(rt, path, error, Some(command));
     }
     let texts = Texts {
         input,
@@ -165,7 +172,7 @@ fn file_beside(rt: HostRuntime, command: &Command) -> Result<Vec<u8>, Stop> {
     let Some(path) = file_named(command) else {
         return Ok(Vec::new(rt.alloc()));
     };
-    fs::read(&rt, path).or_else(|error| file_stop(rt, path, error))
+    fs::read(&rt, path).or_else(|error| file_stop(rt, path, error, None))
 }
 
 // Why not all was done where the words are refused.
@@ -175,13 +182,27 @@ fn words_stop<T>(rt: HostRuntime, words: &[String], fault: WordsFault) -> Result
     Err(Stop::Fault { fault, more })
 }
 
-// Why a file with this path can't be read.
-fn file_stop<T>(rt: HostRuntime, path: &str, error: io::Error) -> Result<T, Stop> {
-    if error.kind() == io::ErrorKind::OutOfMemory {
+// What is told of a file that isn't there, where its word may have been meant as an edit.
+const WHICH_FILE: &str =
+    "     a word with neither = nor @ is the FILE with the record; an edit is ROW=TICKS, ROW@OFFSET, ROW=K/D or DEF=K/D";
+
+// Why a file with this path can't be read: that with the input of a command, if one is given.
+fn file_stop<T>(
+    rt: HostRuntime,
+    path: &str,
+    error: io::Error,
+    reader: Option<&Command>,
+) -> Result<T, Stop> {
+    let kind = error.kind();
+    if kind == io::ErrorKind::OutOfMemory {
         return Err(Stop::from(Fault::Means(Want::Memory)));
     }
+    let more = match reader {
+        Some(Command::WhatIf { .. }) if kind == io::ErrorKind::NotFound => Some(WHICH_FILE),
+        _ => None,
+    };
     let path = String::from_str(rt.alloc(), path)?;
-    Err(Stop::File { path, error })
+    Err(Stop::File { path, error, more })
 }
 
 // The words of the command line, the program's own name first.
@@ -201,8 +222,11 @@ fn words_given(rt: HostRuntime) -> Result<Vec<String>, WordsFault> {
 // Writes to standard error why not all was done. There is nobody to tell that this failed.
 fn tell(rt: HostRuntime, stop: &Stop) {
     match stop {
-        Stop::File { path, error } => {
+        Stop::File { path, error, more } => {
             let _ = eprintln!(rt; "boc: {path}: {error}");
+            if let Some(more) = more {
+                let _ = eprintln!(rt; "{more}");
+            }
         }
         Stop::Fault { fault, more } => {
             let _ = match fault.own_line() {

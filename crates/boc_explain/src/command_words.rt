@@ -1,6 +1,7 @@
-// Words of a command line that are refused: one that is no edit, and two files where one is read.
+// Words of a command line that are refused: one that is no edit, two files where one is read, and an option of other commands.
 
 use crate::formed::{put_reason, reason_of};
+use crate::place::pair_words;
 use crate::said::{Part, Said};
 use boc_program::limits::MOST_PART;
 use boc_text::read_number;
@@ -46,37 +47,92 @@ pub fn explain_edit_word(
     Ok(said.into_text())
 }
 
-/// What is told of words that name two files to read the input from, where the parser refuses them for that, with this text.
-pub fn explain_files(alloc: Global, words: &[String], told: &str) -> Result<String, AllocError> {
+// The commands that read a program, and the record of a run of it from the file beside it.
+const OF_PROGRAMS: [&[u8]; 3] = [b"values", b"why", b"cowns"];
+
+// The commands that read a record, and its program from the file beside it.
+const OF_RECORDS: [&[u8]; 2] = [b"check", WHATIF];
+
+/// What is told of words that the parser refuses with this text: that they name two files to read the input from, or the program or the record by the
+/// option of other commands.
+pub fn explain_words(alloc: Global, words: &[String], told: &str) -> Result<String, AllocError> {
     let mut said = Said::new(alloc);
-    let takes_edits = words.get(1).is_some_and(|word| word.as_bytes() == WHATIF);
-    let mut files: Vec<&[u8]> = Vec::new(alloc);
-    for word in operands(alloc, words)? {
-        if !takes_edits || !is_edit(word) {
-            files.push(word)?;
-        }
-    }
-    if let [first, second, ..] = files.as_slice()
-        && is_refusal_of(told.as_bytes(), second)
-    {
-        said.line(&[
-            Part::Quote(first),
-            Part::Words(" and "),
-            Part::Quote(second),
-            Part::Words(" are two FILEs, and the input is read from one"),
-        ])?;
-        if takes_edits {
-            said.line(&[Part::Words(
-                "a word with neither = nor @ is a FILE, and each other one an edit",
-            )])?;
-        }
+    let command = words.get(1).map_or(b"".as_slice(), |word| word.as_bytes());
+    match refused_files(alloc, words, command, told.as_bytes())? {
+        Some(files) => put_files(&mut said, command, files)?,
+        None => put_option(&mut said, command, told.as_bytes())?,
     }
     Ok(said.into_text())
 }
 
+// The two files that words name, where this text refuses them for that.
+fn refused_files<'w>(
+    alloc: Global,
+    words: &'w [String],
+    command: &[u8],
+    told: &[u8],
+) -> Result<Option<(&'w [u8], &'w [u8])>, AllocError> {
+    let mut files: Vec<&'w [u8]> = Vec::new(alloc);
+    for word in operands(alloc, words)? {
+        if command != WHATIF || !is_edit(word) {
+            files.push(word)?;
+        }
+    }
+    Ok(match files.as_slice() {
+        [first, second, ..] if is_refusal_of(told, second) => Some((*first, *second)),
+        _ => None,
+    })
+}
+
+// Tells that two words name files.
+fn put_files<'w>(
+    said: &mut Said,
+    command: &[u8],
+    files: (&'w [u8], &'w [u8]),
+) -> Result<(), AllocError> {
+    let (first, second) = files;
+    said.line(&[
+        Part::Quote(first),
+        Part::Words(" and "),
+        Part::Quote(second),
+        Part::Words(" are two FILEs, and the input is read from one"),
+    ])?;
+    if command == WHATIF {
+        said.line(&[Part::Words(
+            "a word with neither = nor @ is a FILE, and each other one an edit",
+        )])?;
+    }
+    Ok(())
+}
+
+// Tells by which option a command takes the program or the record, where this text refuses that of other commands.
+fn put_option(said: &mut Said, command: &[u8], told: &[u8]) -> Result<(), AllocError> {
+    let (option, words): (&[u8], _) = if OF_PROGRAMS.iter().any(|name| *name == command) {
+        (b"--program'", pair_words(false))
+    } else if OF_RECORDS.iter().any(|name| *name == command) {
+        (b"--record'", pair_words(true))
+    } else {
+        return Ok(());
+    };
+    let is_refused = behind(told, UNEXPECTED).is_some_and(|word| word.starts_with(option));
+    if !is_refused {
+        return Ok(());
+    }
+    let (reads, takes) = words;
+    said.line(&[
+        Part::Bytes(command),
+        Part::Words(reads),
+        Part::Bytes(command),
+        Part::Words(takes),
+    ])
+}
+
+// What the parser says of a word that it doesn't expect begins so, the word behind it.
+const UNEXPECTED: &[u8] = b"error: unexpected argument '";
+
 // The parser's text says that there is one FILE too many, this one.
 fn is_refusal_of(told: &[u8], second: &[u8]) -> bool {
-    let Some(rest) = behind(told, b"error: unexpected argument '") else {
+    let Some(rest) = behind(told, UNEXPECTED) else {
         return behind(
             told,
             b"error: the input cannot be read from more than one FILE",

@@ -108,18 +108,33 @@ pub(crate) fn put_too_many(
     let here = before.next();
     let last = before.next();
     let last_but_one = before.nth(1);
-    let told = if here.is_some_and(|word| word.is(b"def")) {
-        "a program has at most 64 defs"
+    let (told, more) = if here.is_some_and(|word| word.is(b"def")) {
+        ("a program has at most 64 defs", None)
     } else if last.is_some_and(|word| word.is(b"cown"))
         || last_but_one.is_some_and(|word| word.is(b"cown"))
     {
-        "a program has at most 256 cowns, the members of arrays counted"
+        (
+            "a program has at most 256 cowns, the members of arrays counted",
+            None,
+        )
     } else if commas_before(words, at) == MOST_COMMAS {
-        "at most 8 parameters of each kind, value arguments of a `when` and cowns of a `when`"
+        (
+            "at most 8 parameters of each kind, value arguments of a `when` and cowns of a `when`",
+            Some(
+                "a body can hand values on to another behaviour that it spawns by `when`, which runs later, over cowns of its own",
+            ),
+        )
     } else {
-        "a body has at most 1000 nodes: statements, numbers, names, operators, parentheses and cowns of `when`s"
+        (
+            "a body has at most 1000 nodes: statements, numbers, names, operators, parentheses and cowns of `when`s",
+            None,
+        )
     };
-    said.line(&[Part::Words(told)])
+    said.line(&[Part::Words(told)])?;
+    match more {
+        Some(more) => said.line(&[Part::Words(more)]),
+        None => Ok(()),
+    }
 }
 
 // How many commas stand in a list in front of what is too much; a behaviour has as many cowns as values.

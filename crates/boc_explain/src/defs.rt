@@ -112,8 +112,8 @@ fn names_by_program(
     Ok(Some(names_of_run(alloc, &follower, &names)?))
 }
 
-// The names of the rows of a record as a file has them, and else their numbers.
-fn names_by_file(
+/// The names of the rows and the cowns of a record as a file has them, and else their numbers.
+pub(crate) fn names_by_file(
     alloc: Global,
     text: &[u8],
     rows: usize,

@@ -1,15 +1,12 @@
-// Edits that the rows of a record can't take, and cowns and defs that aren't there.
+// Edits that the rows of a record can't take.
 
-use crate::declared::{Thing, top_names};
 use crate::defs::{Asked, Defs, Naming};
 use crate::formed::put_reason;
 use crate::place::Text;
-use crate::run::{Run, line_at};
+use crate::run::Run;
 use crate::said::{Part, Said};
-use crate::tokens::words_of;
 use boc_plans::edit::{Change, Edit, EditFault, Part as Fraction};
 use boc_program::limits::MOST_TICKS;
-use boc_text::read_number;
 use std::alloc::{AllocError, Global};
 
 /// What is told of the last of these edits, which the rows of a record can't take as those before it have made them. Its word is beside them.
@@ -234,110 +231,4 @@ fn put_window<'a>(
         Part::Words(" of row "),
         Part::Number(u64::from(parent)),
     ])
-}
-
-/// What is told of a cown that a record doesn't have, called so. Where the cowns of a program have names, its text is given.
-pub fn explain_cown(
-    alloc: Global,
-    text: Text<'_>,
-    program: Option<&[u8]>,
-    name: &str,
-) -> Result<String, AllocError> {
-    let mut said = Said::new(alloc);
-    if let Some(program) = program
-        && read_number(name.as_bytes()).is_none()
-    {
-        put_names(alloc, &mut said, program, name.as_bytes(), false)?;
-        return Ok(said.into_text());
-    }
-    let header = line_at(text.bytes, 1).map_or(b"".as_slice(), |line| line.0);
-    let last = header.rsplit(|byte| *byte == b' ').next().unwrap_or(b"");
-    match read_number(last) {
-        None => {}
-        Some(0) => put_reason(&mut said, name.as_bytes(), "the record has no cowns")?,
-        Some(count) => said.line(&[
-            Part::Words("no cown is called "),
-            Part::Quote(name.as_bytes()),
-            Part::Words("; the record has cowns 0 to "),
-            Part::Number(u64::from(count).saturating_sub(1)),
-        ])?,
-    }
-    Ok(said.into_text())
-}
-
-/// What is told of a def that no row of a program's run is of.
-pub fn explain_def(
-    alloc: Global,
-    program: Option<&[u8]>,
-    name: &str,
-) -> Result<String, AllocError> {
-    let mut said = Said::new(alloc);
-    if let Some(program) = program {
-        put_names(alloc, &mut said, program, name.as_bytes(), true)?;
-    }
-    Ok(said.into_text())
-}
-
-// How many names are told at most.
-const MOST_NAMES: usize = 6;
-
-// Tells which cowns or which defs a program has.
-fn put_names(
-    alloc: Global,
-    said: &mut Said,
-    program: &[u8],
-    name: &[u8],
-    are_defs: bool,
-) -> Result<(), AllocError> {
-    let words = words_of(alloc, program)?;
-    let mut text: Vec<u8> = Vec::new(alloc);
-    let mut count: usize = 0;
-    for declared in top_names(alloc, &words)? {
-        let is_def = matches!(declared.thing, Thing::Def { .. });
-        if is_def == are_defs {
-            if count < MOST_NAMES {
-                let between: &[u8] = if count == 0 { b"" } else { b", " };
-                text.extend_from_slice(between)?;
-                text.extend_from_slice(declared.name.bytes)?;
-                let members: &[u8] = match declared.thing {
-                    Thing::Array => b"[*]",
-                    _ => b"",
-                };
-                text.extend_from_slice(members)?;
-            }
-            count = count.saturating_add(1);
-        }
-    }
-    if count > MOST_NAMES {
-        text.extend_from_slice(b", ..")?;
-    }
-    said.line(&[
-        Part::Words(if are_defs {
-            "no row is of a def "
-        } else {
-            "no cown is called "
-        }),
-        Part::Quote(name),
-        Part::Words(names_words(are_defs, count)),
-        Part::Bytes(&text),
-        Part::Words(other_words(are_defs, count)),
-    ])
-}
-
-// What stands before the names of a program's cowns or defs, of which there are so many.
-fn names_words(are_defs: bool, count: usize) -> &'static str {
-    match (are_defs, count) {
-        (true, 0) => "; the program has no def but main",
-        (true, _) => "; the program's defs are ",
-        (false, 0) => "; the program has no cowns",
-        (false, _) => "; the program's cowns are ",
-    }
-}
-
-// What stands behind them.
-fn other_words(are_defs: bool, count: usize) -> &'static str {
-    match (are_defs, count) {
-        (true, 1..) => ", beside main",
-        _ => "",
-    }
 }

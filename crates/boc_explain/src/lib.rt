@@ -15,6 +15,7 @@ mod followed;
 mod formed;
 mod hint;
 mod kept;
+mod missing;
 mod named;
 mod names;
 mod place;
@@ -47,10 +48,11 @@ const _: () = prove!(MOST_PART == 1_000);
 
 const _: () = prove!(MOST_ROWS == 65_535);
 
-pub use command_words::{explain_edit_word, explain_files};
+pub use command_words::{explain_edit_word, explain_words};
 pub use defs::{Asked, Naming};
-pub use edit::{explain_cown, explain_def, explain_edit};
+pub use edit::explain_edit;
 pub use kept::{Input, Kept};
+pub use missing::{explain_cown, explain_def};
 pub use names::explain_names;
 pub use place::{Beside, Place, Text};
 pub use program::explain_program;

@@ -42,6 +42,22 @@ impl Place<'_> {
     }
 }
 
+/// Where a command reads a program and its record from, where the program, or else the record, comes from the file beside the input: the words behind
+/// the command's name, each of the two times that it is told.
+pub(crate) fn pair_words(beside_is_program: bool) -> (&'static str, &'static str) {
+    if beside_is_program {
+        (
+            " reads the record, and --program its program: boc ",
+            " --program PROGRAM RECORD",
+        )
+    } else {
+        (
+            " reads the program, and --record its record: boc ",
+            " --record RECORD PROGRAM",
+        )
+    }
+}
+
 /// Tells of a text that looks like one of a program and its record, and stands where the other is wanted, which of the two stands where.
 pub(crate) fn put_pair<'a>(
     said: &mut Said,
@@ -50,16 +66,7 @@ pub(crate) fn put_pair<'a>(
     wanted: &'a str,
     swapped: bool,
 ) -> Result<(), AllocError> {
-    let (both, words) = match place.beside {
-        Some(Beside::Program) => (
-            " reads the record, and --program its program: boc ",
-            " --program PROGRAM RECORD",
-        ),
-        _ => (
-            " reads the program, and --record its record: boc ",
-            " --record RECORD PROGRAM",
-        ),
-    };
+    let (both, words) = pair_words(matches!(place.beside, Some(Beside::Program)));
     said.line(&[
         Part::Words("this looks like a "),
         Part::Words(found),

@@ -9,8 +9,8 @@ const INDENT: &str = "     ";
 // The most bytes of a line behind its indent, without its line feed.
 const MOST_WIDTH: usize = 155;
 
-// The most bytes of a text that are shown in quotes.
-const MOST_QUOTE: usize = 64;
+/// The most bytes of a text that are shown in quotes.
+pub(crate) const MOST_QUOTE: usize = 64;
 
 /// A part of a line.
 #[derive(Clone, Copy)]

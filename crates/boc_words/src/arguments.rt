@@ -80,8 +80,8 @@ pub(crate) const RUNNERS: NumberOption = NumberOption {
 
 /// How many threads run a program, where no plan is asked for.
 pub(crate) const RUNNERS_ALONE: NumberOption = NumberOption {
-    help: "Runs the program by N threads, 1 to 16; 1 if not given. Ticks are counted and not timed: more threads change what is told \
-        where rows come in another order",
+    help: "Runs the program by N threads, 1 to 16; 1 if not given. Ticks are counted, not timed: with more threads numbers change only where \
+        spawns or cowns come in another order",
     ..RUNNERS
 };
 
@@ -261,9 +261,7 @@ pub(crate) const EDITS: Operands = Operands {
     id: "edits",
     value_name: "FILE|EDIT",
     help: "A word with neither = nor @ is the FILE with the record, which is read from standard input where none is given, or where it is -; \
-        each other word is an edit and changes a row: ROW=TICKS takes so many ticks, ROW@OFFSET is spawned at that tick of its parent, \
-        ROW=K/D costs that part and spawns its children so much sooner or later, DEF=K/D is the same for each row \
-        of a def; edits are made in their order",
+        each other word is an edit",
 };
 
 // So many are named in the help of `--workers`.
@@ -272,7 +270,7 @@ const _: () = prove!(MOST_RUNNERS == 16);
 // So many are named in the help of `--p`.
 const _: () = prove!(MOST_WORKERS == 64);
 
-// So many are named in the help of `--top`.
+// So many are named in the help of `--top`, and of `boc` itself.
 const _: () = prove!(MOST_COWNS == 256);
 
 // So many are named in the help of `--depth`.

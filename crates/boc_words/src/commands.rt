@@ -13,6 +13,7 @@ use crate::arguments::{
     SHORT, SWEEP_COWNS, SWEEP_SPAWNS, SWEEP_WORKERS, TOP, WHY_WORKERS, WITHOUT, WORKERS,
 };
 use crate::version::VERSION;
+use boc_program::limits::{MOST_ARGUMENTS, MOST_HELD, MOST_TICKS};
 use std::alloc::{AllocError, Global};
 
 /// Which command is named.
@@ -49,7 +50,7 @@ A STATUS is 0 where the body came to its end, else the fault that ended it: 1 Ov
 6 TickCap. Ticks are what a body's statements cost, and no time that passes.
 
 Examples: boc run --workers 4 program.boc | boc why; boc run --workers 4 --seed 3 program.boc | boc profile
-Statuses are told by `boc --help`.";
+Exit statuses, and what such words as span and tick mean: `boc --help`.";
 
 // What the lines of a report say.
 const REPORT_LINES: &str =
@@ -60,32 +61,33 @@ const REPORT_LINES: &str =
 All are ticks but the rows and the workers, which count from 0. The span is the end of the earliest plan.
 
 Examples: boc time --workers 4 program.boc; boc run program.boc | boc profile --p 2 --no-plan
-Statuses are told by `boc --help`.";
+Exit statuses, and what such words as span and tick mean: `boc --help`.";
 
 // What the lines of a curve say.
 const CURVE_LINES: &str =
     "The numbers `work`, the ticks of all rows, and `span`, the end of the earliest plan, come first; then a line P END LOW BOUND for
-each number of workers. The greedy plan gives the workers that are free at a tick the least rows that can start:
+each number of workers. The greedy plan gives the workers that are free at a tick those rows that can start whose numbers are lowest:
   END      when the greedy plan for P workers ends; it need not fall as P grows
   LOW      no plan for P workers ends sooner: the span, or the work divided by P, rounded up, if that is greater
   BOUND    that greedy plan ends no later: the work divided by P, rounded down, plus the span
 All are ticks but P.
 
 Example: boc run program.boc | boc curve --p 8
-Statuses are told by `boc --help`.";
+Exit statuses, and what such words as span and tick mean: `boc --help`.";
 
 // What the lines of a sweep say.
 const SWEEP_LINES: &str =
     "A line is ROW END: a row, and the tick at which the plan would end if that row alone took its least ticks, 1 or the offset of its
 last child. It is the earliest plan, whose end is the span, or with --p the greedy plan, which may end later though a row takes
-fewer ticks. With --cowns or --spawns the lines are others:
+fewer ticks. The row's children are spawned at the ticks that they were: `boc whatif ROW=1/2` has them spawned sooner too, and may
+win more. With --cowns or --spawns the lines are others:
   COWN END    a cown of the record, and the tick at which the plan would end if that cown ordered nobody
   ROW SPAN    a row but main, and the span if that row alone were spawned as early as it can be, one tick after its elder sibling
               or at its parent's tick 1 (a program's first `when` stands at 2, so a line can be a tick below what a text reaches)
 With --best the lines have a third number, by how much sooner than now that is: NUMBER END LESS, those first that end soonest.
 
 Example: boc run program.boc | boc sweep --cowns --best 3
-Statuses are told by `boc --help`.";
+Exit statuses, and what such words as span and tick mean: `boc --help`.";
 
 // What `why` tells.
 const WHY_LINES: &str =
@@ -102,7 +104,7 @@ lines. Cowns of an array that follow each other in a row may stand as a range: a
 With --record the input is a program, and the run is the one whose record is in FILE.
 
 Example: boc why --workers 4 program.boc
-Statuses are told by `boc --help`.";
+Exit statuses, and what such words as span and tick mean: `boc --help`.";
 
 // What `cowns` tells.
 const COWNS_LINES: &str =
@@ -125,10 +127,15 @@ Below stand the span, what it would be if no cown ordered anybody, and how long 
 With --record the input is a program, and the run is the one whose record is in FILE.
 
 Example: boc cowns --top 3 program.boc
-Statuses are told by `boc --help`.";
+Exit statuses, and what such words as span and tick mean: `boc --help`.";
 
 // What `whatif` prints.
-const WHATIF_LINES: &str = "The lines are those of `profile`, or with --short:
+const WHATIF_LINES: &str = "Edits, which are made in their order:
+  ROW=TICKS        a row takes so many ticks; its children are spawned at the ticks that they were
+  ROW=K/D          it costs that part, rounded up, and its children are spawned so much sooner or later
+  DEF=K/D          the same for each row of a def
+  ROW@OFFSET       a row is spawned at that tick of its parent
+The lines are those of `profile`, or with --short:
   work, span       before and after the edits, and by how much the span changes; with --p the same of the greedy plan's end
   chain            how many ticks go through which defs of the chain that holds the run back, before and after
 A def, and a cown that is left out by name, is one of the program in --program FILE or of the names in --names FILE; without them `row 2`
@@ -136,7 +143,7 @@ is the def of row 2, and `cown 0` a cown. A number is always a row's or a cown's
 offset of its last child: ROW=TICKS below that is refused as BelowSpawn.
 
 Example: boc run program.boc | boc whatif --program program.boc --short transfer=1/2
-Statuses are told by `boc --help`.";
+Exit statuses, and what such words as span and tick mean: `boc --help`.";
 
 // What `outcomes` prints.
 const OUTCOMES_LINES: &str =
@@ -148,17 +155,34 @@ const OUTCOMES_LINES: &str =
   NAME VALUE                      a value, as `values` prints it
 The most frequent ends come first, of those that are as frequent the one that came first. These are ends with N workers; not all that
 the program has need be found, and more runs may find more. --depth finds ends that need few switches at the right places, which are rare where
-each turn is as likely as another; begin with --depth 2. A seed brings its run back beside the same --workers and --depth: `boc run
---workers N --seed S`.
+each turn is as likely as another; begin with --depth 2. A seed brings its run back beside the same --workers and --depth, and
+`boc run --workers N --seed S` notes the rows of it that ended by a fault, which are not noted here. The end that `boc values` prints need
+not be among these.
 
 Example: boc outcomes --runs 10000 program.boc
-Statuses are told by `boc --help`.";
+Exit statuses, and what such words as span and tick mean: `boc --help`.";
 
 // What holds of every command.
 const COMMON_LINES: &str =
-    "Programs and records come from FILE, or from standard input where none is named, and answers go to standard output, a whole one or none.
-On standard error a fault is told, first where it is, as the line of the input or the number of an edit, and then what is there; and
-behaviours that ended by a fault are noted. The statuses:
+    "A program declares cowns, defs of behaviours over values and cowns, and a main; `when` spawns a behaviour:
+  cown acct[8] = 100;
+  def transfer(n; from, to) { from = from - n; to = to + n; }
+  main { let i = 0; repeat 7 { when transfer(10; acct[i], acct[i + 1]); i = i + 1; } }
+A def has at most 8 values and 8 cowns, a program at most 256 cowns.
+
+  cown         a value that one behaviour holds at a time; behaviours get it in the order of their spawns
+  row          a behaviour by its number in the order of the spawns; main is row 0
+  tick         what the statements of a body cost by a rule of the language, and no time that passes; a body takes at most 1,000,000
+  work         the ticks of all rows
+  span         the end of the earliest plan: each row starts as soon as it is spawned and those before it have left its cowns; there is a
+               worker for each
+  chain        the rows that hold the run back: each spawns the next one, or hands it a cown; the ticks until then add up to the span
+  greedy plan  for P workers: those that are free at a tick take rows that can start, lowest numbers first
+
+Programs and records come from FILE, or from standard input where none is named, and answers go to standard output, a whole one or none.
+On standard error a fault is told, first where it is, as the line of the input or the number of an edit, and then what is there. Where
+behaviours end by a fault the command goes on, and the status is 0: `values`, `run`, `time`, `profile`, `why` and `cowns` note them there.
+The statuses:
   0    done
   2    the words of the command line are wrong
   3    the input, or the file beside it, is wrong
@@ -169,6 +193,13 @@ Examples:
   boc values program.boc                what a program ends with
   boc why --workers 4 program.boc       what holds it back; `boc help why` tells what stands in its lines
   boc run program.boc | boc check       the record of its run, and whether that keeps the rules";
+
+// So many are named there.
+const _: () = prove!(MOST_ARGUMENTS == 8);
+
+const _: () = prove!(MOST_HELD == 8);
+
+const _: () = prove!(MOST_TICKS == 1_000_000);
 
 // Every command, in the order of help.
 //
@@ -197,7 +228,7 @@ see `boc outcomes`.
 With --record the values are those with which the run ended whose record is in FILE; it must be one of the program.
 
 Example: boc values program.boc
-Statuses are told by `boc --help`.",
+Exit statuses, and what such words as span and tick mean: `boc --help`.",
 };
 
 const CHECK: Entry = Entry {
@@ -211,7 +242,7 @@ fourteen faults of records these are told then, with the line of the record:
   17 NotItsEnd      a row ends otherwise than its behaviour does
 
 Example: boc run program.boc | boc check --program program.boc
-Statuses are told by `boc --help`.",
+Exit statuses, and what such words as span and tick mean: `boc --help`.",
 };
 
 const RUN: Entry = Entry {

@@ -1,6 +1,6 @@
 // What lies under the lock.
 
-ghost use Rattle.std.specs.Prelude.{◌≡◌, ◌≢◌, ◌+◌, ◌≤◌, ◌↔◌, [], false, IfSome, IfNone, None, Some, IfOk, IfErr, IsOk, IsSome, IsErrOf, sum, vec_len, vec_capacity};
+ghost use Rattle.std.specs.Prelude.{◌≡◌, ◌≢◌, ◌+◌, ◌≤◌, ◌↔◌, [], false, IfSome, IfNone, None, Some, IfOk, IfErr, IsOk, IsSome, IsErrOf, sum, vec_capacity};
 ghost use Rattle.boc_runs.specs.Records.{IsRecordOf};
 ghost use Rattle.boc_runs.specs.Run.{config_of};
 ghost use Rattle.boc_runs.specs.machine.AlongRows.{EndsSerially, cowns_of_rows, steps_of_rows};

@@ -3,9 +3,9 @@ import os
 import stat
 import tempfile
 
+from .copies import NOBODY
 from .records import TRANSFER, lines_text
 from .running import Answer, fault_of, refused
-from .shipped import NOBODY
 
 RECORD = lines_text(TRANSFER)
 

@@ -3,128 +3,12 @@
 Each case has a copy of the tree as git would check it out, without anything that was built. On its PATH are a shell and the
 coreutils alone, unless it says otherwise.
 """
-import contextlib
 import os
 import shutil
-import stat
 import subprocess
-import sys
-import tempfile
 
-from .running import Answer, done, fault_of
-from .worked import VALUES
-
-TOP = os.path.dirname(os.path.dirname(os.path.dirname(os.path.abspath(__file__))))
-sys.path.insert(0, os.path.join(TOP, "bin", "lib"))
-
-import tree
-
-# What the scripts may use.
-COREUTILS = ["cat", "chmod", "cp", "cut", "dirname", "head", "mkdir", "mv", "readlink", "rm", "sha256sum", "sleep", "sort", "stat", "tail",
-             "tr", "uname", "wc"]
-
-# A first answer compares a thousand files; what takes longer than this proves or hangs.
-SECONDS = 20
-
-# What install puts beside the programs.
-BESIDE = {
-    "share/bash-completion/completions/boc": "completions/boc.bash",
-    "share/bash-completion/completions/boc-view": "completions/boc-view.bash",
-    "share/zsh/site-functions/_boc": "completions/_boc",
-    "share/zsh/site-functions/_boc-view": "completions/_boc-view",
-    "share/fish/vendor_completions.d/boc.fish": "completions/boc.fish",
-    "share/fish/vendor_completions.d/boc-view.fish": "completions/boc-view.fish",
-    "share/man/man1/boc.1": "man/boc.1",
-    "share/man/man1/boc-view.1": "man/boc-view.1",
-}
-
-# Whoever may not write to a folder of ours.
-NOBODY = 65534
-
-SOURCE = "crates/boc/src/main.rt"
-DEFINITION = "crates/boc_program/specs/Meaning.antt"
-PROOF = "crates/boc_order/proofs/Lib.antt"
-
-
-class Copy:
-    """A copy of the tree, and folders of programs for its PATH."""
-
-    def __init__(self, room):
-        self.room = room
-        self.top = os.path.join(room, "tree")
-        self.note = os.path.join(room, "note")
-        self.tools = os.path.join(room, "tools")
-        self.kit = os.path.join(room, "kit")
-        for part in ["bin", "completions", "crates", "dist", "man"]:
-            shutil.copytree(os.path.join(TOP, part), os.path.join(self.top, part), symlinks=True,
-                            ignore=shutil.ignore_patterns("out", "build.log", "__pycache__"))
-        for part in ["crates.txt", "HANDLES"]:
-            shutil.copy(os.path.join(TOP, part), self.top)
-        os.mkdir(self.tools)
-        os.mkdir(self.kit)
-        for name in ["sh", "env", *COREUTILS]:
-            os.symlink(shutil.which(name), os.path.join(self.tools, name))
-        os.symlink(sys.executable, os.path.join(self.kit, "python3"))
-        # It stands for the kit's command: it notes that it was called, and proves nothing.
-        with open(os.path.join(self.kit, "rt"), "w") as file:
-            file.write(f"#!/bin/sh\necho called >> {self.note}\nexit 1\n")
-        os.chmod(os.path.join(self.kit, "rt"), 0o755)
-        os.chmod(room, 0o777)
-
-    def path(self, name):
-        return os.path.join(self.top, name)
-
-    def run(self, *words, command="bin/boc", kit=False, source=b"", **options):
-        """The answer of a script, of bin/boc if none is named."""
-        found = f"{self.kit}:{self.tools}" if kit else self.tools
-        options.setdefault("cwd", self.room)
-        options.setdefault("env", {"PATH": found, "HOME": self.room})
-        path = command if os.path.isabs(command) else self.path(command)
-        try:
-            run = subprocess.run([path, *words], input=source, capture_output=True, timeout=SECONDS, **options)
-        except subprocess.TimeoutExpired:
-            return None
-        return Answer(run.returncode, run.stdout, run.stderr)
-
-    def transfer(self, **options):
-        """The answer to the values of the transfer program."""
-        with open(os.path.join(TOP, "examples", "transfer.boc"), "rb") as file:
-            return self.run("values", source=file.read(), **options)
-
-    def was_called(self):
-        return os.path.exists(self.note)
-
-
-ANSWER = done(VALUES["transfer.boc"].encode())
-
-
-@contextlib.contextmanager
-def copied():
-    with tempfile.TemporaryDirectory(prefix="boc-tree-") as room:
-        yield Copy(room)
-
-
-def change(copy, name, keep_date=False, at=2):
-    """Changes one byte of a file, which keeps its size; each text has a word of a comment there."""
-    path = copy.path(name)
-    was = os.stat(path)
-    with open(path, "r+b") as file:
-        data = bytearray(file.read())
-        data[at] ^= 1
-        file.seek(0)
-        file.write(data)
-    if keep_date:
-        os.utime(path, ns=(was.st_atime_ns, was.st_mtime_ns))
-
-
-def refusal(answer, status, *words):
-    """What is wrong with a refusal: it has this status and tells these words on standard error, and nothing goes out."""
-    if answer is None:
-        return "it did not end in time"
-    if (answer.status, answer.output) != (status, b""):
-        return f"the status {answer.status} and {answer.output!r} in place of the status {status} and nothing"
-    missing = [it for it in words if it.encode() not in answer.errors]
-    return f"{answer.errors!r} says nothing of {missing}" if missing else None
+from .copies import ANSWER, DEFINITION, NOBODY, PROOF, SECONDS, SOURCE, TOP, change, copied, fault_of_beside, fault_of_files, lay_built, refusal, tree
+from .running import done, fault_of
 
 
 def cases(program):
@@ -203,7 +87,7 @@ def changed_trees():
         yield "a changed byte behind a link", refusal(copy.transfer(), 127, f"first {SOURCE}")
     with copied() as copy, copied() as other:
         change(copy, SOURCE)
-        answer = copy.transfer(env={"PATH": copy.tools, "CDPATH": other.top}, cwd=copy.top, command="bin/boc")
+        answer = copy.answer(["bin/boc", "values"], env={"PATH": copy.tools, "CDPATH": other.top}, cwd=copy.top)
         yield "another tree on the way of cd", refusal(answer, 127, f"first {SOURCE}")
 
 
@@ -269,13 +153,7 @@ def built_here():
     """What was built here answers where its manifest is that of the tree, and not where it is half-written."""
     with copied() as copy:
         change(copy, DEFINITION)
-        for built, word in zip(tree.ALL_BUILT, ["here", "to view"]):
-            os.makedirs(os.path.dirname(copy.path(built)), exist_ok=True)
-            with open(copy.path(built), "w") as file:
-                file.write(f"#!/bin/sh\necho built {word}\n")
-            os.chmod(copy.path(built), 0o755)
-        text = tree.manifest(tree.BUILT_MANIFEST, tree.ALL_BUILT, "a kit", tree.sums(tree.sources(copy.top), copy.top), copy.top)
-        tree.write_whole(copy.path(tree.BUILT_MANIFEST), text.encode())
+        lay_built(copy)
         for _ in range(2):
             yield "the program that was built here", fault_of(done(b"built here\n"), copy.transfer())
             yield "the other program that was built here", fault_of(done(b"built to view\n"), copy.transfer(command="bin/boc-view"))
@@ -333,20 +211,3 @@ def installs():
     with copied() as copy:
         change(copy, SOURCE)
         yield "install of another tree", refusal(copy.run(copy.room, command="bin/install"), 70, SOURCE)
-
-
-def fault_of_beside(prefix):
-    """The programs and what goes with them are there, as they are in the tree, and nothing else."""
-    for name, source in BESIDE.items():
-        path = os.path.join(prefix, name)
-        if not os.path.isfile(path) or tree.sum_of(path) != tree.sum_of(os.path.join(TOP, source)):
-            return f"{name} is not {source}"
-        if stat.S_IMODE(os.stat(path).st_mode) != 0o644:
-            return f"{name} may be read or run by others than it should be"
-    return fault_of_files(prefix, {"bin/boc", "bin/boc-view", *BESIDE})
-
-
-def fault_of_files(prefix, wanted):
-    """These files are below a folder, and no others."""
-    found = {os.path.relpath(os.path.join(folder, name), prefix) for folder, _, names in os.walk(prefix) for name in names}
-    return None if found == wanted else f"{sorted(found)} are there in place of {sorted(wanted)}"

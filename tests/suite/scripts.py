@@ -147,6 +147,7 @@ def installs(_program):
         yield "install where PREFIX/bin is not on the PATH", of_status(off, 0, "not on the PATH")
         on = copy.run(prefix, command="bin/install", env={"PATH": f"{copy.tools}:{prefix}/bin", "HOME": copy.room})
         yield "install where PREFIX/bin is on the PATH", None if on.status == 0 and b"not on the PATH" not in on.output else f"{on}"
+        yield from checkouts(copy)
         copy.tool_does("cp", 'printf half > "$2"; exit 1')
         half = os.path.join(copy.room, "half")
         yield "install where a copy fails", refusal(copy.run(half, command="bin/install"), 73, "can't be written to")
@@ -158,6 +159,36 @@ def fault_of_relative(copy):
     if answer.status != 0 or os.path.exists(copy.path("beside")):
         return f"{answer}, or it is in the tree"
     return fault_of_beside(os.path.join(copy.room, "beside"))
+
+
+def checkouts(copy):
+    """The bin of a checkout is no place to install into, by whatever path."""
+    home, other = os.path.join(copy.room, "home"), os.path.join(copy.room, "other")
+    os.mkdir(home)
+    os.symlink(copy.top, os.path.join(home, ".local"))
+    os.mkdir(os.path.join(copy.room, "linked"))
+    os.symlink(copy.path("bin"), os.path.join(copy.room, "linked", "bin"))
+    shutil.copytree(copy.path("bin"), os.path.join(other, "bin"))
+    was = scripts_of(copy.top), scripts_of(other)
+    places = [
+        ("the checkout, by its whole path", [copy.top], {}),
+        ("the checkout, as the folder that it is called from", ["."], {"cwd": copy.top}),
+        ("the checkout, from a folder of it", [".."], {"cwd": copy.path("bin")}),
+        ("the checkout, out of a folder that is not there yet", ["new/.."], {"cwd": copy.top}),
+        ("the checkout, by a link", [os.path.join(home, ".local")], {}),
+        ("the checkout, as ~/.local", [], {"env": {**copy.environment(), "HOME": home}}),
+        ("a folder whose bin is a link to that of the checkout", ["linked"], {}),
+        ("another checkout", [other], {}),
+    ]
+    for name, words, options in places:
+        yield f"install into {name}", refusal(copy.run(*words, command="bin/install", **options), 73, "the bin of a checkout", "another folder")
+    yield "install into a checkout leaves it as it was", None if (scripts_of(copy.top), scripts_of(other)) == was else "bin has changed, or share is there"
+
+
+def scripts_of(top):
+    """What stands in a checkout's bin, by name, and whether share is beside it."""
+    bin_ = os.path.join(top, "bin")
+    return {name: tree.sum_of(os.path.join(bin_, name)) for name in os.listdir(bin_) if name != "lib"}, "share" in os.listdir(top)
 
 
 # bin/ship, bin/build and bin/reproduce.

@@ -5,7 +5,7 @@ import shutil
 import subprocess
 import tempfile
 
-from . import shipped
+from .copies import TOP, tree
 from .pictures import view_of
 from .running import SECONDS, Program, difference
 
@@ -52,11 +52,11 @@ def fault_of_lines(wanted, got):
 
 
 def cases(program):
-    with open(os.path.join(shipped.TOP, HANDBOOK)) as file:
+    with open(os.path.join(TOP, HANDBOOK)) as file:
         text = file.read()
     long = [number for number, line in enumerate(text.splitlines(), start=1) if len(line) > MOST_COLUMNS]
     yield "columns", f"lines {long} have more than {MOST_COLUMNS}" if long else None
-    lost = [link for link in LINK.findall(text) if not os.path.exists(os.path.join(shipped.TOP, "docs", link))]
+    lost = [link for link in LINK.findall(text) if not os.path.exists(os.path.join(TOP, "docs", link))]
     yield "links", f"{lost} lead nowhere" if lost else None
     programs, commands = blocks_of(text)
     yield "programs and commands", None if programs and commands else "there are none"
@@ -64,7 +64,7 @@ def cases(program):
     yield "fences", None if fences == 2 * len(FENCE.findall(text)) else f"{fences}, and they are not by twos"
     view = view_of(program)
     if not os.access(view.path, os.X_OK):
-        view = Program(os.path.join(shipped.TOP, shipped.tree.SHIPPED_VIEW), program.examples)
+        view = Program(os.path.join(TOP, tree.SHIPPED_VIEW), program.examples)
     with tempfile.TemporaryDirectory() as folder:
         prepare(folder, program, view, programs)
         for line, wanted in commands:

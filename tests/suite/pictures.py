@@ -11,7 +11,8 @@ import time
 import xml.etree.ElementTree as tree_of
 from concurrent.futures import ThreadPoolExecutor
 
-from . import memory, model, shipped
+from . import memory, model
+from .copies import TOP, tree
 from .packages import command_of
 from .plans import random_rows, record_of
 from .records import fan, fan_text
@@ -92,9 +93,13 @@ def drawings_of(page):
 
 
 def view_of(program):
-    """The program that draws, built beside this one."""
-    is_shipped = os.path.basename(program.path) == os.path.basename(shipped.tree.SHIPPED)
-    return Program(os.path.join(shipped.TOP, shipped.tree.SHIPPED_VIEW if is_shipped else shipped.tree.BUILT_VIEW), program.examples)
+    """The program that draws: the boc-view beside a boc, if there is one; else that of dist/ where this one is of dist/, and the built one."""
+    folder, name = os.path.split(program.path)
+    path = os.path.join(folder, "boc-view")
+    if name != "boc" or not os.access(path, os.X_OK):
+        is_shipped = name == os.path.basename(tree.SHIPPED)
+        path = os.path.join(TOP, tree.SHIPPED_VIEW if is_shipped else tree.BUILT_VIEW)
+    return Program(path, program.examples)
 
 
 def cases(program):
@@ -269,7 +274,7 @@ def drawings(program, view, pictures):
         yield f"plan: {name}: its texts are apart", next(filter(None, map(fault_of_texts, drawn[:2])), None)
         yield from pictures_of(name, drawn, rows_of(program.run(["run"], text).output)[0], pictures)
     for path, command in (("docs/transfer.svg", ["plan"]), ("docs/pipeline.html", ["page"])):
-        with open(os.path.join(shipped.TOP, path), "rb") as file:
+        with open(os.path.join(TOP, path), "rb") as file:
             source = program.example("transfer.boc" if command == ["plan"] else "pipeline.boc")
             yield path, fault_of(done(file.read()), view.run(command, source))
 

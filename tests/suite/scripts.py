@@ -5,6 +5,7 @@ They are tried on copies of the tree with few crates, side by side.
 import fcntl
 import os
 import pty
+import re
 import shutil
 import stat
 import subprocess
@@ -15,7 +16,8 @@ from multiprocessing import get_context
 
 from .copies import ANSWER, KIT, SECONDS, SOURCE, TOP, change, copied_of_few, fault_of_beside, fault_of_files, lay_built, lay_manifest, refusal, tree
 from .copies import write_script
-from .running import Answer, done, fault_of
+from .pictures import view_of
+from .running import Answer, Program, done, fault_of
 
 TRANSFER = os.path.join(TOP, "examples", "transfer.boc")
 VERSION = done(("\n".join(tree.version()) + "\n").encode())
@@ -324,9 +326,46 @@ def benches(program):
 
 
 def bench(*words):
-    run = subprocess.run([os.path.join(TOP, "bin", "bench"), "--rows", "100", "--runs", "1", *words], capture_output=True, timeout=SECONDS, check=False)
+    return answer_of(os.path.join(TOP, "bin", "bench"), "--rows", "100", "--runs", "1", *words)
+
+
+# tests/program.
+
+def groups(program):
+    listed = suite("--list")
+    yield "tests/program lists its groups", None if listed.status == 0 and {b"worked", b"scripts"} < set(listed.output.split()) else f"{listed}"
+    yield "tests/program of a group that isn't there", refusal(suite("bogus"), 2, "no group 'bogus'", *listed.output.decode().split())
+    worked, both = suite("--program", program.path, "worked"), suite("worked", "--program", program.path, "files")
+    yield "tests/program of one group", None if count_of(worked) > 0 else f"{worked}"
+    yield "tests/program of two groups", None if count_of(both) > count_of(worked) else f"{both}"
+    yield "tests/program by the path of the program alone", None if suite(program.path, "worked") == worked else "it answers otherwise"
+    with tempfile.TemporaryDirectory(prefix="boc-groups-") as room:
+        path, view = os.path.join(room, "boc"), os.path.join(room, "boc-view")
+        yield "tests/program of a program that isn't there", of_status(suite("--program", path, "worked"), 1, "0 passed, 1 failed")
+        write_script(path, "exit 1")
+        last = suite("--program", path, "worked").output.splitlines()[-1]
+        yield "tests/program of a program that does nothing", f"it says {last!r}" if last.endswith(b" 0 failed") else None
+        is_elsewhere = os.path.dirname(view_of(Program(path, program.examples)).path) != room
+        yield "the other program where there is none beside", None if is_elsewhere else "it is looked for there"
+        write_script(view, "exit 1")
+        found = view_of(Program(path, program.examples)).path
+        yield "the other program where it is beside", None if found == view else f"{found}"
+
+
+def suite(*words):
+    return answer_of(os.path.join(TOP, "tests", "program"), *words)
+
+
+def count_of(answer):
+    """How many cases passed, where none failed."""
+    found = re.fullmatch(rb"(\d+) passed, 0 failed\n", answer.output)
+    return int(found.group(1)) if answer.status == 0 and found else 0
+
+
+def answer_of(*command):
+    run = subprocess.run(command, stdin=subprocess.DEVNULL, capture_output=True, timeout=SECONDS, check=False)
     return Answer(run.returncode, run.stdout, run.stderr)
 
 
 # The longest come first.
-PARTS = [reproductions, ships, installs, builds, edits, wrong_bodies, shipments_that_do_not_run, calls, totals, benches]
+PARTS = [installs, ships, reproductions, builds, groups, calls, wrong_bodies, edits, benches, totals, shipments_that_do_not_run]

@@ -323,6 +323,11 @@ def benches(program):
         told = bench("--program", slow, "--against", quick, *row)
         ratio = told.output.split()[-1] if told.status == 0 else b"0"
         yield "bench against a quicker program: the ratio is above 1", None if float(ratio) > 1 else f"{told}"
+    rows = ["pone why", "pone whatif --program P --short f=1/2", "pdefs why", "pdefs whatif --program P --short f1=1/2"]
+    told = bench("--program", program.path, *(word for row in rows for word in ("--row", row)))
+    # Behind a row's command stand two counts of bytes and three times.
+    measured = [b" ".join(line.split()[:-5]).decode() for line in told.output.splitlines()[1:]]
+    yield "bench of why and whatif on programs", None if told.status == 0 and measured == rows else f"{told}"
 
 
 def bench(*words):

@@ -315,7 +315,7 @@ def wrong_bodies(_program):
 def benches(program):
     with tempfile.TemporaryDirectory(prefix="boc-bench-") as room:
         slow, quick, failing = (os.path.join(room, name) for name in ("slow", "quick", "failing"))
-        write_script(slow, "sleep 0.2")
+        write_script(slow, "sleep 1")
         write_script(quick, ":")
         write_script(failing, "exit 1")
         row = ["--row", "wide check"]

@@ -93,7 +93,7 @@ Exit statuses, and what such words as span and tick mean: `boc --help`.";
 const WHY_LINES: &str =
     "The input is a program, which is run, or the record of a run, as its first bytes tell: `boc` begins a record. What comes out:
   chain            the rows that hold the run back: the tick at which each starts, how many ticks go by until the next one goes on, and what
-                   it does then: it spawns it, or hands it the cowns that it waits for; where it hands on several, freeing one changes nothing
+                   it does then: it spawns it, or hands it the cowns that it waits for; where it hands on several, freeing one may change nothing
   chain by def     how many of the span's ticks go through the behaviours of a def, and through each kind of link
   candidates       the span if one thing alone were changed, best first: a def's behaviours at half their ticks, those they spawn so much
                    sooner; a cown, or all of an array, that orders nobody; a def's behaviours that spawn one tick after the other
@@ -113,17 +113,18 @@ that are held longest:
   rows, wrote      how many rows have it, and how many of them wrote it
   held, of span    for how many ticks one row alone has it, and what part of the span that is; with --shared-reads rows that only read it
                    don't count
-  waited           how many ticks its rows wait for it between their spawn and their start, added up; where a row waits for several, for each
+  waited           how many ticks its rows wait for it between their spawn and their start, added up: a row waits for the least row that ends
+                   as it starts, and the wait counts for each cown that this row hands it
   chain            how many ticks of the chain that holds the run back go by until it is handed on, added over the rows that hand it on there
   without          the span if it ordered nobody; where that is no less than the span, to free it alone wins nothing: it orders no rows of the
-                   chain, or others order the same rows: ask `boc run P | boc whatif --program P --short --without A --without B`
+                   chain, or others order the same rows, or another chain is as long: ask
+                   `boc run P | boc whatif --program P --short --without A --without B`
 Below stand the span, what it would be if no cown ordered anybody, and how long the busiest cown is held; and a verdict:
-  spawns   the spawns alone need at least 75 of 100 ticks of the span, so other orders of cowns save a quarter at most: spawn earlier, or do
-           less; once rows are spawned earlier, a cown that is held for long may be what holds back
+  spawns   the spawns alone need at least 75 of 100 ticks of the span, so with the ticks that the rows took in this run other orders of cowns
+           save a quarter at most: spawn earlier, or do less; once rows are spawned earlier, a cown that is held for long may hold back
   load     or else one cown is held for at least 75 of 100 ticks of the span: split it, or shorten what holds it. Or it is held for fewer, but
            in every order so late that most of what the cowns cost is there: then the line tells before which tick no row that wrote it starts
-  order    or else another order of the behaviours may end sooner, as far as each cown by itself tells; where they have several cowns each, it
-           need not
+  order    or else: no cown by itself holds the rows back for so long, and another order of the behaviours may end sooner; it need not
 With --record the input is a program, and the run is the one whose record is in FILE.
 
 Example: boc cowns --top 3 program.boc

@@ -1,0 +1,116 @@
+"""Small programs that would break a sentence of help or of a document, if it promised more than is so.
+
+Each shows what the sentence has to leave open; what is expected is worked out by hand.
+"""
+import os
+import re
+
+TOP = os.path.dirname(os.path.dirname(os.path.dirname(os.path.abspath(__file__))))
+
+# One order alone is possible: `g` comes behind `f`, and `h` behind `g`. The span is 25, and 17 without the cown.
+ONE_ORDER = b"""cown a = 0;
+def h(;) { work 7; }
+def g(; x) { when h(;); }
+def f(; x) { when g(; x); work 8; }
+main { work 3; when f(; a); }
+"""
+
+# What `big` takes depends on who comes first: 12 ticks of 18, or 2 of 9.
+TICKS_BY_ORDER = b"""cown a = 0;
+def big(; x) { if x == 0 { work 10; } }
+def mark(; x) { x = 1; }
+def l(;) { when big(; a); }
+def r(;) { when mark(; a); }
+main { when l(;); when r(;); }
+"""
+
+# Two chains of 22 ticks, each over a cown of its own: to free one leaves the other.
+TWO_CHAINS = b"""cown a = 0; cown b = 0;
+def f(; x) { work 9; }
+def g(; x) { work 8; }
+main { when f(; a); when f(; a); when g(; b); when g(; b); }
+"""
+
+# The first `f` hands `a` and `b` on, and to free `a` alone brings 9 of 29 ticks.
+TWO_COWNS_HANDED_ON = b"""cown a = 0; cown b = 0;
+def f(; x, y) { work 8; }
+def g(; x) { work 8; }
+main { when f(; a, b); when f(; a, b); when g(; a); }
+"""
+
+# `g` is off the chain, which is that of `f`; more ticks of `g` move the end.
+OFF_THE_CHAIN = b"def f(;) { work 9; } def g(;) { work 3; } main { when f(;); when g(;); }"
+
+# What OUTCOMES says of its program of three behaviours: so many ends are found by so many runs of two workers.
+THREE = b"""cown a = 1; cown b = 0; cown c = 0; cown d = 0;
+def put(k; x) { x = x * 3 + k; }
+def go(k; y) { when put(k; a); }
+main { when go(0; b); when go(1; c); when go(2; d); }
+"""
+FOUND = {100: 2, 200: 3}
+
+
+def cases(program):
+    yield "the verdict order blames no order where there is one alone", order_is_not_blamed(program)
+    yield "the lower bound counts the ticks of the run at hand", bound_is_of_this_run(program)
+    yield "a cown without which the span stays may order rows of a chain as long", twin_chains(program)
+    yield "to free one of two cowns that are handed on may bring something", one_of_two(program)
+    yield "more ticks of a row off the chain may move the end", moved_end(program)
+    yield "OUTCOMES tells how many ends so many runs find", found_ends(program)
+
+
+def span_of(report):
+    """The span in a report."""
+    return int(re.search(rb"^span (\d+)$", report, re.M)[1])
+
+
+def line_that_begins(text, word):
+    return next((line for line in text.splitlines() if line.startswith(word)), None)
+
+
+def order_is_not_blamed(program):
+    said = line_that_begins(program.run(["cowns"], ONE_ORDER).output, b"order: ")
+    wanted = b"order: no cown is held for more than 12 of 25 ticks; another order of the behaviours may end sooner"
+    return None if said == wanted else f"it says {said!r}"
+
+
+def bound_is_of_this_run(program):
+    said = line_that_begins(program.run(["why"], TICKS_BY_ORDER).output, b"lower bound for any order: ")
+    if said != b"lower bound for any order: 16 (their spawns take that long)":
+        return f"it says {said!r}"
+    spans = {span_of(program.run(["time", "--workers", "2", "--seed", str(seed)], TICKS_BY_ORDER).output) for seed in range(20)}
+    return None if spans == {9, 18} else f"the runs have the spans {sorted(spans)}"
+
+
+def twin_chains(program):
+    lines = program.run(["cowns"], TWO_CHAINS).output.splitlines()
+    without = [int(line.split()[-1]) for line in lines if re.match(rb"[ab] ", line)]
+    return None if without == [22, 22] else f"without each cown the span is {without}"
+
+
+def one_of_two(program):
+    said = program.run(["why"], TWO_COWNS_HANDED_ON).output
+    if b"hands a and b to row 2" not in said:
+        return "it doesn't hand both on"
+    record = program.run(["run"], TWO_COWNS_HANDED_ON).output
+    spans = [span_of(program.run(["whatif", *words], record).output) for words in ([], ["--without", "0"], ["--without", "1"])]
+    return None if spans == [29, 20, 29] else f"the spans are {spans}"
+
+
+def moved_end(program):
+    record = program.run(["run"], OFF_THE_CHAIN).output
+    spans = [span_of(program.run(["whatif", *words], record).output) for words in ([], ["2=20"])]
+    return None if spans == [12, 23] else f"the spans are {spans}"
+
+
+def found_ends(program):
+    with open(os.path.join(TOP, "docs", "OUTCOMES.md"), encoding="utf-8") as file:
+        text = " ".join(file.read().split())
+    if "A hundred runs at random find 2 of them by two workers, and 200 find 3" not in text:
+        return "OUTCOMES says otherwise"
+    for runs, wanted in FOUND.items():
+        output = program.run(["outcomes", "--workers", "2", "--runs", str(runs)], THREE).output
+        found = sum(line.startswith(b"outcome ") for line in output.splitlines())
+        if found != wanted:
+            return f"{runs} runs find {found}"
+    return None

@@ -1,6 +1,7 @@
 """Which ends a program comes to: what is told is tallied anew from the runs of the seeds, and each end is one that the rules of runs allow."""
 import collections
 import random
+from typing import NamedTuple
 
 from . import model
 from .programs import Program, Run, follow
@@ -49,6 +50,15 @@ main { when one(; c); when two(; d); }""", 4),
 }
 
 
+# Nine behaviours write their digits into one cown, two times each, in whatever order. Before it stand 60 cowns that nobody writes.
+DIGITS = b"""cown o[60] = 0; cown r = 0; cown g[9] = 0;
+def put(k; x) { x = x * 10 + k; }
+def go(n, k; y) { when put(k; r); if n > 0 { when go(n - 1, k; y); } }
+main { let i = 0; repeat 9 { i = i + 1; when go(1, i; g[i - 1]); } }
+"""
+MANY_RUNS = 5_000
+PART = 250
+
 # What two workers come to in the race of three, of the six ends that there are: the third `go` waits for a worker until one of the first two has
 # spawned its `put`, so its own is never first.
 BY_TWO = {b"a %d\nb 0\nc 0\nd 0\n" % value for value in (32, 34, 38, 42)}
@@ -69,6 +79,8 @@ def cases(program):
     yield "race.boc: both ends", None if found == {b"a 4\nb 0\nc 0\n", b"a 3\nb 0\nc 0\n"} else f"its ends are {found}"
     found = found_ends(program.run(["outcomes", "--runs", "100000"], program.example("commute.boc")).output)
     yield "commute.boc: one end", None if found == {VALUES["commute.boc"].encode()} else f"its ends are {found}"
+    yield "nine digits: each run is the one of its seed", fault_of_tally(program, Program(DIGITS), DIGITS, 4, 0, None)
+    yield "nine digits: many ends", fault_of_many_ends(program)
     yield "without options", fault_of_defaults(program)
     yield from refusals(program)
 
@@ -155,6 +167,43 @@ def copied(run):
 def found_ends(output):
     """The ends that an answer tells of."""
     return {block.partition(b"\n")[2] for block in output.split(b"outcome ")[1:]}
+
+
+class End(NamedTuple):
+    """An end that an answer tells of: how many runs came to it, the seed of the first of them, and the least and the greatest of their spans."""
+    runs: int
+    seed: int
+    least: int
+    most: int
+
+
+def ends_of(program, text, runs, first):
+    """The ends of so many runs from this seed on, in the order in which they are told: the values of each, and what is told of it."""
+    output = program.run(["outcomes", "--runs", str(runs), "--seed", str(first)], text).output
+    blocks = [block.partition(b"\n") for block in output.split(b"outcome ")[1:]]
+    return [(values, End(*(int(word) for word in head.split() if word.isdigit()))) for head, _, values in blocks]
+
+
+def fault_of_many_ends(program):
+    """What is told of many runs at once is what is told of a few at a time, put together; and each end is one that the digits can come to."""
+    found = ends_of(program, DIGITS, MANY_RUNS, 0)
+    ends = {}
+    for first in range(0, MANY_RUNS, PART):
+        for values, end in ends_of(program, DIGITS, PART, first):
+            old = ends.get(values, End(0, end.seed, end.least, end.most))
+            ends[values] = End(old.runs + end.runs, old.seed, min(old.least, end.least), max(old.most, end.most))
+    wanted = sorted(ends.items(), key=lambda item: (-item[1].runs, item[1].seed))
+    if found != wanted:
+        return f"of {MANY_RUNS} runs it tells of {len(found)} ends, and of {len(wanted)} where {PART} runs at a time are put together"
+    if sum(end.runs for _, end in found) != MANY_RUNS or len(found) > MANY_RUNS:
+        return f"{sum(end.runs for _, end in found)} runs are counted"
+    if 2 * len(found) < MANY_RUNS:
+        return f"there are {len(found)} ends alone, which are not many"
+    for values, _ in found:
+        told_values = [line.split()[-1] for line in values.splitlines()]
+        if sorted(told_values.pop(60)) != sorted(b"112233445566778899") or set(told_values) != {b"0"}:
+            return f"no order of the digits ends so: {values}"
+    return None
 
 
 def fault_of_ends(program, text, workers):

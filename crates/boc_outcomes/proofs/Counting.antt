@@ -1,17 +1,16 @@
 -- How often values come, and where first, with one more sample.
-use Rattle.std.proofs.Common.{◌≡◌, ◌≢◌, ℕ, ◌+◌, ◌<◌, ◌≤◌, List, [], ◌∷◌, ◌++◌, length, cond, arith, refl, sym, ap, ◌∙◌, ⊎_elim, Some, ℤ, true, false}
+use Rattle.std.proofs.Common.{◌≡◌, ◌≢◌, ℕ, ◌+◌, ◌<◌, List, [], ◌∷◌, ◌++◌, length, cond, arith, refl, sym, ap, ◌∙◌, ⊎_elim, Some, ℤ, true, false}
 use Rattle.std.proofs.Common.{Decides, Bool}
 use Rattle.std.specs.Prelude.{slice_get}
 use Rattle.std.specs.Cmp.Lexicographic.{pointwise_decides}
 use Rattle.std.specs.List.{Contains}
-use Rattle.std.proofs.lemmas.Bool.{cond-true, cond-false, cases_lt, cases_order}
+use Rattle.std.proofs.lemmas.Bool.{cond-true, cond-false, cases_order}
 use Rattle.std.proofs.lemmas.Bool.Decides.{Decides-int_eq}
 use Rattle.std.proofs.lemmas.List.Elements.{Contains-append_right}
 use Rattle.std.proofs.lemmas.List.Sums.{sum_by-cons, sum_by_push}
 use Rattle.std.proofs.lemmas.Option.{slice_get_within, slice_get-get_or, get_or_from_slice_get}
 use Rattle.boc_program.proofs.ChangedItems.{front_item, last_item}
 use Rattle.boc_rules.proofs.Lists.{one_got}
-use Rattle.boc_outcomes.specs.declared.tally.Outcome.{Outcome}
 use Rattle.boc_outcomes.specs.Samples.{Sample}
 use Rattle.boc_outcomes.specs.Tallies.{IsFirstTo, comes_to, runs_to}
 
@@ -105,19 +104,3 @@ one_first values samples m n a b = ⊎_elim
 pub one_value : (v w : List ℤ) (samples : List Sample) (n : ℕ) → IsFirstTo v samples n → IsFirstTo w samples n → v ≡ w
 one_value v w samples n a b =
     sym a.same ∙ ap (λ (x : Sample). x.values) (one_got samples n a.sample b.sample a.there b.there) ∙ b.same
-
--- ---- where values stand
-
--- no outcome below this place has these values
-abbrev pub NoneBelow : List Outcome → List ℤ → ℕ → Type 0
-NoneBelow all values n = (place : ℕ) (o : Outcome) → place < n → slice_get all place ≡ Some o → o.values.items ≢ values
-
-pub none_next : (all : List Outcome) (values : List ℤ) (n : ℕ) (x : Outcome) → NoneBelow all values n → slice_get all n ≡ Some x → x.values.items ≢ values
-    → NoneBelow all values (n + 1)
-none_next all values n x none is ne place o l there = ⊎_elim
-    (λ (b : place < n). none place o b there)
-    (λ (g : n ≤ place).
-    let here : place ≡ n = omega (arith, l, g) in
-    let same : o ≡ x = one_got all n o x (ap (slice_get all) (sym here) ∙ there) is in
-    (λ (e : o.values.items ≡ values). ne (ap (λ (y : Outcome). y.values.items) (sym same) ∙ e)))
-    (cases_lt place n)

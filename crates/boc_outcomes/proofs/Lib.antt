@@ -1,6 +1,7 @@
 pub mod Bounding
 pub mod Counting
 pub mod Adding
+pub mod Placing
 pub mod Sorting
 pub mod Tallying
 pub mod Rounds

@@ -1,12 +1,12 @@
 -- Tallies of the samples of a round, one after the other.
 use Rattle.std.proofs.Common.{◌≡◌, ℕ, ◌+◌, ◌<◌, ◌≤◌, List, [], ◌∷◌, ◌++◌, length, map, take, get_or, arith, refl, sym, ap, subst, ◌∙◌, append-nil, append_assoc}
-use Rattle.std.specs.Prelude.{Option, Some}
+use Rattle.std.specs.Prelude.{Option, Some, Result, Ok, Err, OnOk}
 use Rattle.std.proofs.lemmas.List.{length-append, length-map, length-take-le, length_push, map-append, take_all, take_more}
 use Rattle.boc_outcomes.specs.declared.bounds.Bounds.{Bounds}
 use Rattle.boc_outcomes.specs.declared.sampling.Sampled.{Sampled}
 use Rattle.boc_outcomes.specs.declared.tally.Tally.{Tally}
 use Rattle.boc_outcomes.specs.Samples.{Sample, sample_of}
-use Rattle.boc_outcomes.specs.Tallies.{Any, AreRows, AreSpans, HasOutcomes, Tallies, widened}
+use Rattle.boc_outcomes.specs.Tallies.{Any, ArePlaces, AreRows, AreSpans, HasOutcomes, Tallies, widened}
 use Rattle.boc_outcomes.proofs.Bounding.{bounds_more}
 
 -- ---- one more sample
@@ -19,13 +19,20 @@ pub spans_more : (samples : List Sample) (s : Sample) (bounds : Option Bounds) �
     → AreSpans (samples ++ s ∷ []) (Some (widened bounds s.span))
 spans_more samples s bounds are = bounds_more Any (λ (x : Sample). x.span) samples s bounds are tt
 
+-- where two facts hold of what is fine, what follows from both does
+pub both_ok : {T E P Q R : Type 0} (r : Result T E) → (P → Q → R) → OnOk r P → OnOk r Q → OnOk r R
+both_ok (Ok x) f p q = f p q
+both_ok (Err e) f p q = tt
+
 -- a tally with one more sample, from its parts
 pub tally_more : (seed : ℕ) (samples : List Sample) (s : Sample) (old new : Tally) → new.rows ≡ Some (widened old.rows s.rows)
     → new.spans ≡ Some (widened old.spans s.span)
+    → ArePlaces new.all.items new.places
     → (HasOutcomes seed samples old.all.items → HasOutcomes seed (samples ++ s ∷ []) new.all.items)
     → Tallies seed samples old → Tallies seed (samples ++ s ∷ []) new
-tally_more seed samples s old new rows spans step so = record {
+tally_more seed samples s old new rows spans places step so = record {
   outcomes_are = step so.outcomes_are;
+  places_are = places;
   rows = subst (AreRows (samples ++ s ∷ [])) (sym rows) (rows_more samples s old.rows so.rows);
   spans = subst (AreSpans (samples ++ s ∷ [])) (sym spans) (spans_more samples s old.spans so.spans);
 }

@@ -1,8 +1,12 @@
 -- Which ends samples have, and how often.
-use Rattle.std.specs.Prelude.{◌≡◌, ◌≢◌, ◌⊎◌, ℕ, ◌<◌, ◌≤◌, min, max, ℤ, Bool, List, length, Option, Some, None, Result, Ok, Err, slice_get}
-use Rattle.std.specs.Cmp.Lexicographic.{pointwise}
+use Rattle.std.specs.Prelude.{◌≡◌, ◌≢◌, ◌⊎◌, ℕ, ◌<◌, ◌≤◌, min, max, ℤ, Bool, List, length, Option, Some, None, MatchOption, Result, Ok, Err, slice_get}
+use Rattle.std.specs.BTreeMap as tree
+use Rattle.std.specs.BTreeMap.{BTreeMap}
+use Rattle.std.specs.Cmp.Lexicographic.{pointwise, slice_cmp}
 use Rattle.std.specs.List.{Contains, count_by, sum_by}
-use Rattle.std.specs.Ordering.{int_eq}
+use Rattle.std.specs.Ordering.{int_cmp, int_eq}
+use Rattle.std.specs.declared.alloc.Global.{Global}
+use Rattle.std.specs.declared.vec.Vec.{Vec}
 use Rattle.boc_program.specs.declared.program.Program.{Program}
 use Rattle.boc_draws.specs.declared.fault.DrawFault.{DrawFault}
 use Rattle.boc_draws.specs.declared.fault.DrawFault.TheVariants as faults
@@ -96,9 +100,29 @@ pub record IsTally (seed : ℕ) (samples : List Sample) (outcomes : Outcomes) : 
   pub rows : AreRows samples (Some outcomes.rows)
   pub spans : AreSpans samples (Some outcomes.spans)
 
+-- no outcome has these values
+abbrev pub NoneHas : List Outcome → List ℤ → Type 0
+NoneHas outcomes values = (i : ℕ) (outcome : Outcome) → slice_get outcomes i ≡ Some outcome → outcome.values.items ≢ values
+
+-- the outcome at this place has these values
+pub record StandsAt (outcomes : List Outcome) (values : List ℤ) (place : ℕ) : Type 0 where
+  pub outcome : Outcome
+  pub there : slice_get outcomes place ≡ Some outcome
+  pub same : outcome.values.items ≡ values
+
+-- the place that is kept for these values
+abbrev pub kept_place : BTreeMap (Vec ℤ Global) ℕ → Vec ℤ Global → Option ℕ
+kept_place places values = tree.get (λ a b. slice_cmp int_cmp a.items b.items) places values
+
+-- for all values: the place that is kept is that of their outcome, and where none is kept they have no outcome
+abbrev pub ArePlaces : List Outcome → BTreeMap (Vec ℤ Global) ℕ → Type 0
+ArePlaces outcomes places = (values : Vec ℤ Global)
+    → MatchOption (kept_place places values) (NoneHas outcomes values.items) (StandsAt outcomes values.items)
+
 -- the tally so far
 pub record Tallies (seed : ℕ) (samples : List Sample) (tally : Tally) : Type 0 where
   pub outcomes_are : HasOutcomes seed samples tally.all.items
+  pub places_are : ArePlaces tally.all.items tally.places
   pub rows : AreRows samples tally.rows
   pub spans : AreSpans samples tally.spans
 

@@ -1,17 +1,18 @@
 //! Which ends samples have, and how often.
 
-ghost use Rattle.std.specs.Prelude.{◌≡◌, ◌≢◌, ℕ, ◌+◌, ◌<◌, ◌≤◌, ℤ, List, [], ◌∷◌, ◌++◌, length, map, Some, slice_get};
-ghost use Rattle.std.specs.Prelude.{IfNone, IfSome, IsSome, IsTrue, OnOk, ◌↔◌};
+ghost use Rattle.std.specs.Prelude.{◌≡◌, ℕ, ◌+◌, ◌<◌, ◌≤◌, List, [], ◌∷◌, ◌++◌, length, map, Some};
+ghost use Rattle.std.specs.Prelude.{IsSome, MatchOption, OnOk};
 ghost use Rattle.std.specs.List.{Contains};
 ghost use Rattle.boc_outcomes.specs.declared.asked.TheConstants.{MOST_RUNS};
 ghost use Rattle.boc_outcomes.specs.Samples.{Sample, sample_of};
-ghost use Rattle.boc_outcomes.specs.Tallies.{HasOutcomes, IsTally, Tallies, widened};
+ghost use Rattle.boc_outcomes.specs.Tallies.{ArePlaces, HasOutcomes, IsTally, NoneHas, StandsAt, Tallies, widened};
 
 use crate::asked::Asked;
 use crate::bounds::{Bounds, widen};
 use crate::sampling::Sampled;
 use std::alloc::{AllocError, Global};
 use std::cmp::Reverse;
+use std::collections::BTreeMap;
 
 /// An end that a program came to.
 #[derive(Drop, Debug)]
@@ -38,12 +39,13 @@ pub struct Outcomes {
     pub all: Vec<Outcome>,
 }
 
-/// The ends so far, in the order in which they came.
+/// The ends so far, in the order in which they came, and the place at which those with the same values stand.
 #[derive(Drop)]
 pub(crate) struct Tally {
     rows: Option<Bounds>,
     spans: Option<Bounds>,
     all: Vec<Outcome>,
+    places: BTreeMap<Vec<i64>, usize>,
 }
 
 impl Outcome {
@@ -57,27 +59,6 @@ impl Outcome {
     }
 }
 
-// These are the values of an outcome.
-fn has_values(outcome: &Outcome, values: &[i64]) -> bool
-    ensures { IsTrue result ↔ (outcome.now.values.items ≡ values.now) }
-{
-    outcome.values.as_slice() == values
-}
-
-// The place of the outcome that has these values, if there is one.
-fn place_of(all: &[Outcome], values: &[i64]) -> Option<usize>
-    ensures some { IfSome result (λ place. (place < length all.now) × ((outcome : Outcome) → slice_get all.now place ≡ Some outcome
-        → outcome.values.items ≡ values.now)) }
-    ensures none { IfNone result ((place : ℕ) (outcome : Outcome) → slice_get all.now place ≡ Some outcome → outcome.values.items ≢ values.now) }
-{
-    for (place, outcome) in all.iter().enumerate() {
-        if has_values(outcome, values) {
-            return Some(place);
-        }
-    }
-    None
-}
-
 impl Tally {
     /// No run is counted.
     pub fn new(alloc: Global) -> Tally
@@ -87,7 +68,16 @@ impl Tally {
             rows: None,
             spans: None,
             all: Vec::new(alloc),
+            places: BTreeMap::new(alloc),
         }
+    }
+
+    // The place of the outcome that has the values of this sample, if there is one.
+    fn place_of(&self, sampled: &Sampled) -> Option<usize>
+        requires { ArePlaces self.now.all.items self.now.places }
+        ensures { MatchOption result (NoneHas self.now.all.items sampled.now.values.items) (StandsAt self.now.all.items sampled.now.values.items) }
+    {
+        self.places.get(&sampled.values).copied()
     }
 
     // Counts the run of this number among those that ended as it did, or as the first that did.
@@ -100,17 +90,20 @@ impl Tally {
     ) -> Result<(), AllocError>
         requires few { number < MOST_RUNS }
         requires counted { (samples : List Sample) × (length samples ≡ number) × HasOutcomes asked.now.seed samples self.old.all.items }
+        requires placed { ArePlaces self.old.all.items self.old.places }
         ensures rows { self.new.rows ≡ self.old.rows }
         ensures spans { self.new.spans ≡ self.old.spans }
         ensures all { OnOk result ((samples : List Sample) → length samples ≡ number → HasOutcomes asked.now.seed samples self.old.all.items
             → HasOutcomes asked.now.seed (samples ++ sample_of sampled.now ∷ []) self.new.all.items) }
+        ensures placed { OnOk result (ArePlaces self.new.all.items self.new.places) }
     {
-        match place_of(&self.all, &sampled.values) {
+        match self.place_of(sampled) {
             Some(place) => {
                 self.all[place].count(sampled.span);
                 Ok(())
             }
             None => {
+                let place = self.all.len();
                 let values = Vec::from_slice(alloc, &sampled.values)?;
                 self.all.push(Outcome {
                     values,
@@ -119,6 +112,8 @@ impl Tally {
                     seed: asked.seed_of(number),
                     spans: Bounds::of(sampled.span),
                 })?;
+                let key = Vec::from_slice(alloc, &sampled.values)?;
+                self.places.insert(key, place)?;
                 Ok(())
             }
         }
@@ -171,6 +166,7 @@ impl Tally {
             rows,
             spans,
             mut all,
+            places: _,
         } = self;
         all.sort_unstable_by_key(|outcome| (Reverse(outcome.runs), outcome.first));
         Outcomes {

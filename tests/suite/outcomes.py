@@ -100,20 +100,26 @@ def told(runs):
     return "".join(f"{line}\n" for line in lines if line).encode()
 
 
-def fault_of_tally(program, plain, text, workers, first, depth):
-    """Each seed brings its run back, and what is told is what these runs come to."""
-    words = ["--workers", str(workers)] + (["--depth", str(depth)] if depth else [])
-    runs = []
-    for number in range(RUNS):
+def tally_by_seeds(program, plain, text, runs, words, first):
+    """What so many runs come to, the first by this seed and each other one by the next: what is told of them, and how the first that strays does."""
+    drawn = []
+    for number in range(runs):
         seed = (first + number) % 2 ** 64
         record = program.run(["run", *words, "--seed", str(seed)], text).output
         try:
             run = follow(plain, record)
         except Exception as strays:
-            return f"the record of seed {seed} strays: {strays}"
+            return None, f"the record of seed {seed} strays: {strays}"
         rows, _ = rows_of(record)
-        runs.append((seed, run.values_text(), len(rows), model.span(rows)))
-    return fault_of(done(told(runs)), program.run(["outcomes", "--runs", str(RUNS), *words, "--seed", str(first)], text))
+        drawn.append((seed, run.values_text(), len(rows), model.span(rows)))
+    return told(drawn), None
+
+
+def fault_of_tally(program, plain, text, workers, first, depth):
+    """Each seed brings its run back, and what is told is what these runs come to."""
+    words = ["--workers", str(workers)] + (["--depth", str(depth)] if depth else [])
+    wanted, strays = tally_by_seeds(program, plain, text, RUNS, words, first)
+    return strays or fault_of(done(wanted), program.run(["outcomes", "--runs", str(RUNS), *words, "--seed", str(first)], text))
 
 
 class TooMany(Exception):

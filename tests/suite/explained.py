@@ -20,6 +20,15 @@ RANDOM = 100
 
 PRINTABLE = set(string.printable.encode()) - set(b"\t\r\x0b\x0c")
 
+# What can be done about a program that is past a limit.
+FEWER_COWNS_DECLARED = "for the order of behaviours one cown can stand for several that are always held together"
+HANDED_ON = "a body can hand values on to another behaviour that it spawns by `when`, which runs later, over cowns of its own"
+
+# What can be done about a record that is past a limit.
+FEWER_ROWS = 'cut the run where only row 0 is pending or running, and begin a new record there; docs/RECORDING.md, "Limits", has the rules'
+FEWER_COWNS = 'leave out cowns that only one row has, or let one stand for several, in the program too; docs/RECORDING.md, "Limits", has the rules'
+COARSER_TICKS = 'count ticks in a coarser unit in the whole record, such as milliseconds; docs/RECORDING.md, "Ticks", has the rules'
+
 # Program texts, the line of their fault, and the lines behind it.
 PROGRAMS = [
     (b"", "line 1: 3 Unexpected", ["the input is empty; if a command stood before it, did that fail?"]),
@@ -230,24 +239,28 @@ PROGRAMS = [
     (b"cown c[257] = 0;\nmain { }\n", "line 1: 8 TooMany", [
         "cown c[257] = 0;",
         "       ^",
-        "a program has at most 256 cowns, the members of arrays counted"]),
+        "a program has at most 256 cowns, the members of arrays counted",
+        FEWER_COWNS_DECLARED]),
     (b"cown c[256] = 0;\ncown d = 0;\nmain { }\n", "line 2: 8 TooMany", [
         "cown d = 0;",
         "     ^",
-        "a program has at most 256 cowns, the members of arrays counted"]),
+        "a program has at most 256 cowns, the members of arrays counted",
+        FEWER_COWNS_DECLARED]),
     (b"def f(a, b, c, d, e, g, h, i,\nj;) { } main { }", "line 2: 8 TooMany", [
         "j;) { } main { }",
         "^",
         "at most 8 parameters of each kind, value arguments of a `when` and cowns of a `when`",
-        "a body can hand values on to another behaviour that it spawns by `when`, which runs later, over cowns of its own"]),
+        HANDED_ON]),
     (b"main {\n" + b"work 1;\n" * 501 + b"}", "line 502: 8 TooMany", [
         "work 1;",
         "^",
-        "a body has at most 1000 nodes: statements, numbers, names, operators, parentheses and cowns of `when`s"]),
+        "a body has at most 1000 nodes: statements, numbers, names, operators, parentheses and cowns of `when`s",
+        HANDED_ON]),
     (b"".join(b"def f%d(;) { }\n" % number for number in range(65)) + b"main { }", "line 65: 8 TooMany", [
         "def f64(;) { }",
         "^",
-        "a program has at most 64 defs"]),
+        "a program has at most 64 defs",
+        "one def can do what several do: a value says which of them, and `if` chooses"]),
     (b" " * 65537, "line 1: 9 TooLong", ["a program text has at most 65536 bytes"]),
     # What other languages write.
     (b"cown a = 0; // it counts\nmain { }\n", "line 1: 3 Unexpected", [
@@ -843,7 +856,8 @@ RECORDS = [
     ([], "line 1: 11 Truncated", ["the input is empty; if a command stood before it, did that fail?"]),
     (["# A bank.", "cown a = 0;"], "line 1: 1 Header", ["this looks like a program; check reads records: boc run FILE | boc check"]),
     (["boc 3 2"], "line 1: 1 Header", ["`boc 3 2`: version 3, and 1 and 2 are read"]),
-    (["boc 2 303"], "line 1: 1 Header", ["`boc 2 303`: 303 cowns, and there are at most 256"]),
+    (["boc 2 303"], "line 1: 1 Header", ["`boc 2 303`: 303 cowns, and there are at most 256", FEWER_COWNS]),
+    (["boc 1 257"], "line 1: 1 Header", ["`boc 1 257`: 257 cowns, and there are at most 256", FEWER_COWNS]),
     (["boc 2 2\r"], "line 1: 1 Header", ["`boc 2 2?`: a carriage return at its end; a line ends with a line feed alone"]),
     (["boc 2 2 "], "line 1: 1 Header", ["`boc 2 2 `: a blank at its end"]),
     (["boc 2 02"], "line 1: 1 Header", ["`boc 2 02`: the first line of a record is `boc 2 COWNS`, in plain decimals"]),
@@ -857,7 +871,11 @@ RECORDS = [
     (MAIN_RUNS + ["<  0 4 0"], "line 4: 2 Form", ["`<  0 4 0`: two blanks; a single one stands between fields"]),
     (MAIN_RUNS + ["< 0 4 -1"], "line 4: 2 Form", ["`< 0 4 -1`: `-1` is negative, and numbers are plain decimals"]),
     (MAIN_RUNS + ["< 0 04 0"], "line 4: 2 Form", ["`< 0 04 0`: `04` begins with a 0"]),
-    (MAIN_RUNS + ["< 0 4294967296 0"], "line 4: 2 Form", ["`< 0 4294967296 0`: `4294967296` is above 4294967295"]),
+    (MAIN_RUNS + ["< 0 4294967296 0"], "line 4: 2 Form", ["`< 0 4294967296 0`: `4294967296` is above 4294967295", COARSER_TICKS]),
+    (MAIN_RUNS + ["+ 1 0 4294967296 0"], "line 4: 2 Form", ["`+ 1 0 4294967296 0`: `4294967296` is above 4294967295", COARSER_TICKS]),
+    (MAIN_RUNS + ["+ 1 4294967296 1 0"], "line 4: 2 Form", ["`+ 1 4294967296 1 0`: `4294967296` is above 4294967295"]),
+    (MAIN_RUNS + ["< 4294967296 1 0"], "line 4: 2 Form", ["`< 4294967296 1 0`: `4294967296` is above 4294967295"]),
+    (MAIN_RUNS + ["< 0 01 0"], "line 4: 2 Form", ["`< 0 01 0`: `01` begins with a 0"]),
     (MAIN_RUNS + ["< 0 4 7"], "line 4: 2 Form", ["`< 0 4 7`: a status is 0 to 6"]),
     (MAIN_RUNS + ["< 0 4"], "line 4: 2 Form", ["`< 0 4`: 2 numbers; the form is `< ROW TICKS STATUS COWN ..`, with at most 8 cowns"]),
     (MAIN_RUNS + ["< 0 4 -"], "line 4: 2 Form", ["`< 0 4 -`: `-` is no plain decimal"]),
@@ -875,6 +893,18 @@ RECORDS = [
         "a line ends with a line feed, no carriage return, and has at most 80 bytes"]),
     (MAIN_RUNS + ["! 0"], "line 4: 2 Form", ["`! 0`: a line begins with `+`, `>` or `<`, and the last one is `.`"]),
     (["boc 1 2", "+ 0 0 0", "> 0", "< 0 1 0 0"], "line 4: 2 Form", ["`< 0 1 0 0`: 4 numbers; the form is `< ROW TICKS STATUS`, in version 1 without cowns"]),
+    # More cowns than a row can have. A line of more than 80 bytes is not read to its end, and its cowns are not counted.
+    (MAIN_RUNS + ["+ 1 0 5 0 1 2 3 4 5 6 7 8"], "line 4: 2 Form", ["`+ 1 0 5 0 1 2 3 4 5 6 7 8`: 9 cowns, and a row has at most 8", FEWER_COWNS]),
+    (MAIN_RUNS + ["+ 1 0 5 0 1 2 3 4 5 6 7 8 9 10 11 12 13 14 15 16"], "line 4: 2 Form",
+     ["`+ 1 0 5 0 1 2 3 4 5 6 7 8 9 10 11 12 13 14 15 16`: 17 cowns, and a row has at most 8", FEWER_COWNS]),
+    (MAIN_RUNS + ["< 0 5 0 0 1 2 3 4 5 6 7 8"], "line 4: 2 Form", ["`< 0 5 0 0 1 2 3 4 5 6 7 8`: 9 cowns, and a row has at most 8", FEWER_COWNS]),
+    (["boc 1 9", "+ 0 0 0", "> 0", "+ 1 0 5 0 1 2 3 4 5 6 7 8"], "line 4: 2 Form",
+     ["`+ 1 0 5 0 1 2 3 4 5 6 7 8`: 9 cowns, and a row has at most 8", FEWER_COWNS]),
+    (MAIN_RUNS + ["+ 1 0 5" + "".join(f" {cown}" for cown in range(100, 140))], "line 4: 2 Form",
+     ["`+ 1 0 5 100 101 102 103 104 105 106 107 108 109 110 111 112 113 ..`: more than 8 cowns, and a row has at most 8", FEWER_COWNS]),
+    (MAIN_RUNS + ["+ 1 0 5 1 2 3 4 5 6 7 8 " + "9" * 60], "line 4: 2 Form", [f"`+ 1 0 5 1 2 3 4 5 6 7 8 {'9' * 40}..`: a line has at most 80 bytes"]),
+    (MAIN_RUNS + ["+ 1 0 5 0 1 2 3 4 5 6 7 8 "], "line 4: 2 Form", ["`+ 1 0 5 0 1 2 3 4 5 6 7 8 `: a blank at its end"]),
+    (MAIN_RUNS + ["+ 1 0"], "line 4: 2 Form", ["`+ 1 0`: 2 numbers; the form is `+ ROW PARENT OFFSET COWN ..`, with at most 8 cowns"]),
     (MAIN_RUNS + ["+ 2 0 5"], "line 4: 3 NumberNotNext", ["`+ 2 0 5`: the next row is 1"]),
     (["boc 2 2", "+ 0 1 0"], "line 2: 4 ParentNotRunning", ["`+ 0 1 0`: row 0 is main, whose parent is written 0"]),
     (["boc 2 2", "+ 0 0 0", "+ 1 0 1"], "line 3: 4 ParentNotRunning", ["`+ 1 0 1`: row 0, its parent, hasn't started"]),
@@ -882,10 +912,10 @@ RECORDS = [
     (MAIN_RUNS + ["< 0 4 0", "+ 1 0 5"], "line 5: 4 ParentNotRunning", ["`+ 1 0 5`: row 0, its parent, has ended"]),
     (["boc 2 2", "+ 0 0 1"], "line 2: 5 Offset", ["`+ 0 0 1`: row 0 is main, whose offset is written 0"]),
     (MAIN_RUNS + ["+ 1 0 0"], "line 4: 5 Offset", ["`+ 1 0 0`: an offset is 1 at least"]),
-    (MAIN_RUNS + ["+ 1 0 1000001"], "line 4: 5 Offset", ["`+ 1 0 1000001`: an offset is at most 1000000"]),
+    (MAIN_RUNS + ["+ 1 0 1000001"], "line 4: 5 Offset", ["`+ 1 0 1000001`: an offset is at most 1000000", COARSER_TICKS]),
     (MAIN_RUNS + ["+ 1 0 5", "+ 2 0 5"], "line 5: 5 Offset", ["`+ 2 0 5`: row 0 spawned row 1 at its tick 5, so 6 is the least"]),
     (MAIN_RUNS + ["+ 1 0 1000000", "+ 2 0 1000000"], "line 5: 5 Offset",
-     ["`+ 2 0 1000000`: row 0 spawned row 1 at its tick 1000000, the greatest offset, and spawns no more"]),
+     ["`+ 2 0 1000000`: row 0 spawned row 1 at its tick 1000000, the greatest offset, and spawns no more", COARSER_TICKS]),
     (["boc 2 2", "+ 0 0 0 0"], "line 2: 6 Cowns", ["`+ 0 0 0 0`: row 0 is main, which has no cowns"]),
     (MAIN_RUNS + ["+ 1 0 5 2"], "line 4: 6 Cowns", ["`+ 1 0 5 2`: there is no cown 2; the first line tells of 2 cowns, from 0 on"]),
     (MAIN_RUNS + ["+ 1 0 5 1 0"], "line 4: 6 Cowns", ["`+ 1 0 5 1 0`: cowns rise, each above the one before it"]),
@@ -897,7 +927,7 @@ RECORDS = [
     (["boc 2 2", "+ 0 0 0", "< 0 4 0"], "line 3: 8 EndNotAllowed", ["`< 0 4 0`: row 0 hasn't started"]),
     (MAIN_RUNS + ["< 0 0 0"], "line 4: 8 EndNotAllowed", ["`< 0 0 0`: 0 ticks, and a row takes 1 at least"]),
     (MAIN_RUNS + ["+ 1 0 4", "< 0 0 0"], "line 5: 8 EndNotAllowed", ["`< 0 0 0`: row 0 spawned row 1 at its tick 4, so it takes as many at least"]),
-    (MAIN_RUNS + ["< 0 1100158 0 1"], "line 4: 8 EndNotAllowed", ["`< 0 1100158 0 1`: 1100158 ticks, above 1000000"]),
+    (MAIN_RUNS + ["< 0 1100158 0 1"], "line 4: 8 EndNotAllowed", ["`< 0 1100158 0 1`: 1100158 ticks, above 1000000", COARSER_TICKS]),
     (TWO_ROWS + ["< 0 5 0"], "line 6: 8 EndNotAllowed", ["`< 0 5 0`: row 0 spawned row 2 at its tick 6, so it takes as many at least"]),
     (TWO_ROWS + ["> 1", "< 1 2 0 1"], "line 7: 8 EndNotAllowed", ["`< 1 2 0 1`: row 1 doesn't have cown 1"]),
     (MAIN_RUNS + ["+ 1 0 5 0 1", "> 1", "< 1 2 0 1 0"], "line 6: 8 EndNotAllowed",

@@ -1,6 +1,7 @@
 // Events that break a rule of runs: which one, by what.
 
 use crate::formed::put_reason;
+use crate::limits::{put_coarser_ticks, put_fewer_rows};
 use crate::run::{Life, Row, Run, fields_of};
 use crate::said::{Part, Said};
 use boc_program::limits::{MOST_ROWS, MOST_TICKS};
@@ -27,14 +28,18 @@ pub(crate) fn put_broken(
                 said,
                 line,
                 "a run has at most 65535 rows, and all of them stand before",
-            )
+            )?;
+            put_fewer_rows(said)
         }
         (RecordFaultKind::NumberNotNext, [_, ..]) => said.line(&[
             Part::Quote(line),
             Part::Words(": the next row is "),
             Part::Number(run.rows.len() as u64),
         ]),
-        (RecordFaultKind::TooMany, _) => put_reason(said, line, "a run has at most 65535 rows"),
+        (RecordFaultKind::TooMany, _) => {
+            put_reason(said, line, "a run has at most 65535 rows")?;
+            put_fewer_rows(said)
+        }
         (RecordFaultKind::ParentNotRunning, [_, parent, ..]) => {
             put_parent(said, line, &run, *parent)
         }
@@ -98,17 +103,21 @@ fn put_offset(
         return put_reason(said, line, "row 0 is main, whose offset is written 0");
     }
     if offset > MOST_TICKS {
-        return put_reason(said, line, "an offset is at most 1000000");
+        put_reason(said, line, "an offset is at most 1000000")?;
+        return put_coarser_ticks(said);
     }
     match last_child(run, parent) {
-        Some((child, MOST_TICKS)) => said.line(&[
-            Part::Quote(line),
-            Part::Words(": row "),
-            Part::Number(u64::from(parent)),
-            Part::Words(" spawned row "),
-            Part::Number(u64::from(child)),
-            Part::Words(" at its tick 1000000, the greatest offset, and spawns no more"),
-        ]),
+        Some((child, MOST_TICKS)) => {
+            said.line(&[
+                Part::Quote(line),
+                Part::Words(": row "),
+                Part::Number(u64::from(parent)),
+                Part::Words(" spawned row "),
+                Part::Number(u64::from(child)),
+                Part::Words(" at its tick 1000000, the greatest offset, and spawns no more"),
+            ])?;
+            put_coarser_ticks(said)
+        }
         Some((child, tick)) => said.line(&[
             Part::Quote(line),
             Part::Words(": row "),
@@ -236,12 +245,13 @@ fn put_end(
         Life::Running => {}
     }
     if ticks > MOST_TICKS {
-        return said.line(&[
+        said.line(&[
             Part::Quote(line),
             Part::Words(": "),
             Part::Number(u64::from(ticks)),
             Part::Words(" ticks, above 1000000"),
-        ]);
+        ])?;
+        return put_coarser_ticks(said);
     }
     if let Some((child, tick)) = last_child(run, number)
         && tick > ticks

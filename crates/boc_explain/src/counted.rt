@@ -108,34 +108,36 @@ pub(crate) fn put_too_many(
     let here = before.next();
     let last = before.next();
     let last_but_one = before.nth(1);
-    let (told, more) = if here.is_some_and(|word| word.is(b"def")) {
-        ("a program has at most 64 defs", None)
+    let (told, way_out) = if here.is_some_and(|word| word.is(b"def")) {
+        (
+            "a program has at most 64 defs",
+            "one def can do what several do: a value says which of them, and `if` chooses",
+        )
     } else if last.is_some_and(|word| word.is(b"cown"))
         || last_but_one.is_some_and(|word| word.is(b"cown"))
     {
         (
             "a program has at most 256 cowns, the members of arrays counted",
-            None,
+            "for the order of behaviours one cown can stand for several that are always held together",
         )
     } else if commas_before(words, at) == MOST_COMMAS {
         (
             "at most 8 parameters of each kind, value arguments of a `when` and cowns of a `when`",
-            Some(
-                "a body can hand values on to another behaviour that it spawns by `when`, which runs later, over cowns of its own",
-            ),
+            HANDED_ON,
         )
     } else {
         (
             "a body has at most 1000 nodes: statements, numbers, names, operators, parentheses and cowns of `when`s",
-            None,
+            HANDED_ON,
         )
     };
     said.line(&[Part::Words(told)])?;
-    match more {
-        Some(more) => said.line(&[Part::Words(more)]),
-        None => Ok(()),
-    }
+    said.line(&[Part::Words(way_out)])
 }
+
+// What a body can do that has too many values, cowns or nodes.
+const HANDED_ON: &str =
+    "a body can hand values on to another behaviour that it spawns by `when`, which runs later, over cowns of its own";
 
 // How many commas stand in a list in front of what is too much; a behaviour has as many cowns as values.
 const MOST_COMMAS: usize = MOST_ARGUMENTS;

@@ -1,7 +1,8 @@
 // Lines of a record that have none of its forms.
 
+use crate::limits::{put_coarser_ticks, put_fewer_cowns};
 use crate::said::{Part, Said};
-use boc_program::limits::MOST_COWNS;
+use boc_program::limits::{MOST_COWNS, MOST_HELD};
 use boc_text::{MOST_LINE, read_number};
 use std::alloc::AllocError;
 
@@ -80,12 +81,15 @@ pub(crate) fn put_header(said: &mut Said, line: &[u8]) -> Result<(), AllocError>
             Part::Number(u64::from(version)),
             Part::Words(", and 1 and 2 are read"),
         ]),
-        (Some(_), Some(cowns)) if cowns as usize > MOST_COWNS => said.line(&[
-            Part::Quote(line),
-            Part::Words(": "),
-            Part::Number(u64::from(cowns)),
-            Part::Words(" cowns, and there are at most 256"),
-        ]),
+        (Some(_), Some(cowns)) if cowns as usize > MOST_COWNS => {
+            said.line(&[
+                Part::Quote(line),
+                Part::Words(": "),
+                Part::Number(u64::from(cowns)),
+                Part::Words(" cowns, and there are at most 256"),
+            ])?;
+            put_fewer_cowns(said)
+        }
         _ => put_reason(
             said,
             line,
@@ -96,6 +100,11 @@ pub(crate) fn put_header(said: &mut Said, line: &[u8]) -> Result<(), AllocError>
 
 /// Tells what is wrong with another line; in the first version of records an end has no cowns.
 pub(crate) fn put_form(said: &mut Said, line: &[u8], is_first: bool) -> Result<(), AllocError> {
+    if let Some(count) = cowns_of(line, is_first)
+        && count > MOST_HELD as u64
+    {
+        return put_many_cowns(said, line, count);
+    }
     if let Some(reason) = common_reason(line) {
         return put_reason(said, line, reason);
     }
@@ -130,6 +139,40 @@ pub(crate) fn put_form(said: &mut Said, line: &[u8], is_first: bool) -> Result<(
     }
 }
 
+// How many cowns the line of a spawn or of an end has, all of whose fields are numbers; in the first version of records an end has none.
+fn cowns_of(line: &[u8], is_first: bool) -> Option<u64> {
+    let fields = match line {
+        [b'+', b' ', fields @ ..] => fields,
+        [b'<', b' ', fields @ ..] if !is_first => fields,
+        _ => return None,
+    };
+    let mut count: u64 = 0;
+    for field in fields.split(|byte| *byte == b' ') {
+        read_number(field)?;
+        count = count.saturating_add(1);
+    }
+    count.checked_sub(NOT_COWNS)
+}
+
+// How many numbers of a spawn or of an end are no cowns.
+const NOT_COWNS: u64 = 3;
+
+// Tells of a line that it has so many cowns, which are too many. A line that is too long was not read to its end, and may have more.
+fn put_many_cowns(said: &mut Said, line: &[u8], count: u64) -> Result<(), AllocError> {
+    let told = if line.len() > MOST_LINE {
+        Part::Words("more than 8 cowns")
+    } else {
+        Part::Many(count, "cown")
+    };
+    said.line(&[
+        Part::Quote(line),
+        Part::Words(": "),
+        told,
+        Part::Words(", and a row has at most 8"),
+    ])?;
+    put_fewer_cowns(said)
+}
+
 // What is wrong with the fields of a line.
 fn put_fields(
     said: &mut Said,
@@ -142,7 +185,13 @@ fn put_fields(
     let mut third = 0;
     for field in fields.split(|byte| *byte == b' ') {
         let Some(number) = read_number(field) else {
-            return put_field(said, line, field);
+            put_field(said, line, field)?;
+            let is_of_ticks = matches!((sign, count), (b'+', 2) | (b'<', 1));
+            return if is_of_ticks && is_large(field) {
+                put_coarser_ticks(said)
+            } else {
+                Ok(())
+            };
         };
         if count == 2 {
             third = number;
@@ -181,6 +230,16 @@ fn put_field<'a>(said: &mut Said, line: &'a [u8], field: &'a [u8]) -> Result<(),
         Part::Quote(field),
         Part::Words(reason_of(field)),
     ])
+}
+
+// A word is a plain decimal, and is no number since it is too large.
+fn is_large(word: &[u8]) -> bool {
+    match word {
+        [b'1'..=b'9', digits @ ..] => {
+            digits.iter().all(|byte| byte.is_ascii_digit()) && read_number(word).is_none()
+        }
+        _ => false,
+    }
 }
 
 /// Why a word is no number.

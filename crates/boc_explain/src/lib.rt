@@ -15,6 +15,7 @@ mod followed;
 mod formed;
 mod hint;
 mod kept;
+mod limits;
 mod missing;
 mod named;
 mod names;

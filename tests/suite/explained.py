@@ -15,6 +15,8 @@ from .running import EXPLAINS
 # The most bytes of a line.
 MOST_WIDTH = 160
 
+MOST_ROWS = 65535
+
 # How many records are edited by chance.
 RANDOM = 100
 
@@ -1127,7 +1129,7 @@ def cases(program):
 NAMES_ARE = "no row is of this def; names are those of --program FILE or --names FILE"
 
 # More of a file than is kept for explanations.
-LONG_COMMENTS = (b"#" * 79 + b"\n") * 13200
+LONG_COMMENTS = (b"#" * 79 + b"\n") * 200000
 
 
 def beside(program):
@@ -1150,6 +1152,8 @@ def beside(program):
          ["no cown is called `acct`; the file's cowns are pot[*]"]),
         ("long names of a file", ["whatif", "mov=1/2"], "--names", b"".join(b"= %d %s\n" % (row, bytes([97 + row]) * 30) for row in range(4)), record,
          "edit 1: 7 NoDef", [NAMES_ARE, f"no row is of a def `mov`; the file's defs are {'a' * 30}, {'b' * 30}, .."]),
+        ("a def of a file of more than a mebibyte", ["whatif", "mov=1/2"], "--names", LONG_COMMENTS[:2_000_000] + b"= 1 work\n", record, "edit 1: 7 NoDef",
+         [NAMES_ARE, "no row is of a def `mov`; the file's defs are work"]),
         ("a def of a file that isn't kept whole", ["whatif", "mov=1/2"], "--names", LONG_COMMENTS + b"= 1 work\n", record, "edit 1: 7 NoDef", [NAMES_ARE]),
         ("a cown of a file that isn't kept whole", ["whatif", "--without", "acct"], "--names", LONG_COMMENTS + b"@ 1 pot\n", record, "without 1: 6 NoCown",
          ["no cown is called `acct`; the record has cowns 0 to 1"]),
@@ -1221,7 +1225,9 @@ def strays(program):
     yield "version 1, of a read", difference(told("line 7: 17 NotItsEnd", lines), program.run_beside(["check"], "--program", text, peeks))
     many = b"cown a = 0; def f(; x) { } main { repeat 60000 { when f(; a); } }"
     strayed = with_lines_of(program.run(["run"], many).output, {4: "+ 1 0 2 0"})
-    lines = ["`+ 1 0 2 0`: in the program its parent spawns at another tick or over other cowns, or is done"]
+    # A tick for the start of main, one for the `repeat`, one for its turn, and one for the `when`.
+    lines = ["`+ 1 0 2 0`: in the program row 0 goes on with `+ 1 0 4 0`", "row 0 is `main`, and next spawns `f(; a)`",
+             "it spawns it at its tick 4, and the record has 2"]
     yield "a record of more than a mebibyte", difference(told("line 4: 16 NotNextSpawn", lines), program.run_beside(["check"], "--program", many, strayed))
 
 
@@ -1318,15 +1324,36 @@ def with_lines_of(record, changes):
 
 
 def long_records(program):
-    """Of a text of which not all is kept, nothing is told but where the fault's line was kept."""
+    """A fault is told wherever in a record it is, also behind as many bytes as can stand before it."""
     rows = 60000
     spawns = [f"+ {row} 0 {row} 0 1" for row in range(1, rows)]
-    source = lines_text(MAIN_RUNS + spawns + ["> 9999999"])
-    expected = told(f"line {rows + 3}: 7 StartNotAllowed", [])
-    yield "a fault behind a mebibyte", difference(expected, program.run(["check"], source))
-    source = lines_text(MAIN_RUNS + spawns[:100] + ["> 999"] + spawns[100:])
-    expected = told("line 104: 7 StartNotAllowed", ["`> 999`: row 999 is not spawned yet"])
-    yield "a fault in the first mebibyte", difference(expected, program.run(["check"], source))
+    for name, lines, number, row in (("behind a mebibyte", spawns + ["> 9999999"], rows + 3, 9999999),
+                                     ("in the first mebibyte", spawns[:100] + ["> 999"] + spawns[100:], 104, 999)):
+        expected = told(f"line {number}: 7 StartNotAllowed", [f"`> {row}`: row {row} is not spawned yet"])
+        yield f"a fault {name}", difference(expected, program.run(["check"], lines_text(MAIN_RUNS + lines)))
+    full = full_record()
+    for changed, fault, lines in (([*full[:-2], "> 1"], f"line {len(full) - 1}: 7 StartNotAllowed", ["`> 1`: row 1 has ended already"]),
+                                  (full[:-2], f"line {len(full) - 1}: 11 Truncated", ["the text ends before the line `.`",
+                                                                                     "1 row started and not ended, the first is row 65534"]),
+                                  ([*full, "more"], f"line {len(full) + 1}: 12 After", ["`more`: nothing stands behind the line `.`"])):
+        source = lines_text(changed)
+        yield f"{fault}, behind {len(source)} bytes", difference(told(fault, lines), program.run(["check"], source))
+        # In 64 MiB, with the program's own code and its libraries.
+        answer = program.answer(["sh", "-c", 'ulimit -v 65536; exec "$0" check', program.path], input=source)
+        yield f"{fault}, in 64 MiB", difference(told(fault, lines), answer)
+    spawns = [f"+ {row} 0 {row}" for row in range(1, MOST_ROWS)]
+    for line, kind, reason in ((f"+ {MOST_ROWS} 0 {MOST_ROWS}", "9 TooMany", "a run has at most 65535 rows"),
+                               (f"+ {MOST_ROWS + 1} 0 {MOST_ROWS}", "3 NumberNotNext", "a run has at most 65535 rows, and all of them stand before")):
+        expected = told(f"line {MOST_ROWS + 3}: {kind}", [f"`{line}`: {reason}", FEWER_ROWS])
+        yield f"a row too many, {line}", difference(expected, program.run(["check"], lines_text(MAIN_RUNS + spawns + [line])))
+
+
+def full_record():
+    """The lines of a record with as many rows as there may be, of 8 cowns each, all of which they write, with the longest numbers."""
+    cowns = "".join(f" {cown}" for cown in range(248, 256))
+    spawns = [f"+ {row} 0 {934466 + row}{cowns}" for row in range(1, MOST_ROWS)]
+    ran = [line for row in range(1, MOST_ROWS) for line in (f"> {row}", f"< {row} 1000000 0{cowns}")]
+    return ["boc 2 256", "+ 0 0 0", "> 0", *spawns, "< 0 1000000 0", *ran, "."]
 
 
 # The examples, the command that reads them, the plain reader, the kinds of its faults, and the bytes that each place is given.

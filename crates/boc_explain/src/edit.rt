@@ -47,17 +47,17 @@ pub fn explain_edit(
         Asked::Row(edit) => put_edit(&mut said, word.as_bytes(), &run, *edit, fault)?,
         Asked::Def { name, part } => {
             let rows = defs.rows_of(alloc, name)?;
-            put_def(&mut said, word.as_bytes(), &mut run, &rows, *part)?;
+            put_def(&mut said, word.as_bytes(), &run, &rows, *part)?;
         }
     }
     Ok(said.into_text())
 }
 
-// Tells of the first of these rows that can't cost a part of its ticks. Those before it do.
+// Tells of the first of these rows that can't cost a part of its ticks.
 fn put_def(
     said: &mut Said,
     word: &[u8],
-    run: &mut Run,
+    run: &Run,
     rows: &[u32],
     part: Fraction,
 ) -> Result<(), AllocError> {
@@ -67,7 +67,6 @@ fn put_def(
             let change = Change::Cost(part);
             return put_many(said, word, run, Edit { row: *row, change });
         }
-        apply_cost(run, *row, part);
     }
     Ok(())
 }
@@ -97,10 +96,14 @@ fn set_offset(run: &mut Run, row: u32, offset: u32) {
 // Has a row cost a part of its ticks, and spawn its children so much sooner or later.
 fn apply_cost(run: &mut Run, number: u32, part: Fraction) {
     let mut last: u32 = 0;
-    for row in run.rows.iter_mut().skip(1) {
-        if row.parent == number {
+    let mut next = run.row(number).and_then(|row| row.first_child);
+    for _ in 0..run.rows.len() {
+        let Some(child) = next else { break };
+        next = None;
+        if let Some(row) = run.rows.get_mut(child as usize) {
             row.offset = part_of(row.offset, part).max(last.saturating_add(1));
             last = row.offset;
+            next = row.younger;
         }
     }
     if let Some(row) = run.rows.get_mut(number as usize) {

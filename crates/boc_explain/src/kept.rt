@@ -3,12 +3,17 @@
 ghost use Rattle.std.specs.Prelude.{◌≡◌};
 
 use crate::place::{Text, looks_like_record};
-use boc_text::{Failed, Source};
+use boc_program::limits::MOST_ROWS;
+use boc_text::{Failed, MOST_LINE, Source};
 use std::alloc::Global;
 use std::io::{self, Read};
 
-// How many bytes are kept at most.
-const MOST_KEPT: usize = 1024 * 1024;
+// The most lines of a record up to its first fault: the first line, the spawn, the start and the end of each row, the line `.`, and that of the fault.
+const MOST_LINES: usize = 3 * MOST_ROWS + 3;
+
+// How many bytes are kept at most: a record up to its first fault, each of its lines with a line feed. So all that is told of a fault in a record can be
+// found in what is kept, wherever it is.
+const MOST_KEPT: usize = MOST_LINES * (MOST_LINE + 1);
 
 /// Bytes that are kept, as far as they are few enough, and memory was there for them.
 #[derive(Drop)]

@@ -19,8 +19,11 @@ pub(crate) enum Life {
 pub(crate) struct Row {
     pub parent: u32,
     pub offset: u32,
-    /// Its last child; none where it has no child yet.
+    /// Its first and its last child; none where it has no child yet.
+    pub first_child: Option<u32>,
     pub last_child: Option<u32>,
+    /// The next child of its parent, if there is one.
+    pub younger: Option<u32>,
     pub ticks: u32,
     pub life: Life,
     pub cowns: Vec<u32>,
@@ -122,13 +125,23 @@ impl Run {
         offset: u32,
         cowns: &[u32],
     ) -> Result<(), AllocError> {
+        let mut elder = None;
         if let Some(parent) = self.rows.get_mut(parent as usize) {
+            elder = parent.last_child;
+            parent.first_child = parent.first_child.or(Some(row));
             parent.last_child = Some(row);
+        }
+        if let Some(elder) = elder
+            && let Some(elder) = self.rows.get_mut(elder as usize)
+        {
+            elder.younger = Some(row);
         }
         self.rows.push(Row {
             parent,
             offset,
+            first_child: None,
             last_child: None,
+            younger: None,
             ticks: 0,
             life: Life::Pending,
             cowns: Vec::from_slice(alloc, cowns)?,

@@ -1118,6 +1118,7 @@ def cases(program):
     yield from strays(program)
     yield from words_refused(program)
     yield from options_of_others(program)
+    yield from nearest_commands(program)
     yield from values_are_no_files(program)
     yield from keywords(program)
     yield from random_edits(program)
@@ -1260,6 +1261,31 @@ def options_of_others(program):
     yield "values -- a --program", None if is_told else f"{answer.errors!r}"
     answer = program.run(["profile", "--program", "a", "b"])
     yield "profile --program", None if EXPLAINS not in answer.errors else f"it told {answer.errors!r}"
+
+
+# Words that the parser finds like no command, and the command that is told; it is near by an edit, or by two where the word has six letters.
+NEAREST = [("wyh", "why"), ("wy", "why"), ("wya", None), ("rnu", "run"), ("un", "run"), ("x", None), ("xyz", None), ("hi", None), ("colcom", None),
+           ("a.boc", None), ("record", None)]
+
+
+def nearest_commands(program):
+    """A word that is no command is told with the name that is near to it, by the parser or below its text, and with none where none is near."""
+    usage = "Usage: boc <COMMAND>\n\nFor more information, try '--help'.\n"
+    for word, command in NEAREST:
+        for words in ([word], ["help", word], [word, "a.boc", "--quiet"]):
+            answer = program.run(words)
+            expected = f"error: unrecognized subcommand '{word}'\n\n{usage}".encode()
+            if command is not None:
+                expected += EXPLAINS + f"did you mean `{command}`?\n".encode()
+            yield f"{words}", difference(expected, answer, 2)
+    for command in [name for name in helps_of(program) if name] + ["help"]:
+        for at in range(len(command) - 1):
+            word = command[:at] + command[at + 1] + command[at] + command[at + 2:]
+            if word == command:
+                continue
+            errors = program.run([word]).errors.decode()
+            tips, lines = errors.count(f"exists: '{command}'") + errors.count("some similar subcommands exist: "), errors.count(f"did you mean `{command}`?")
+            yield f"the command {word}", None if tips + lines == 1 else f"it told {errors!r}"
 
 
 def values_are_no_files(program):

@@ -12,6 +12,12 @@ use boc_plans::edit::{Change, Edit, EditFault, Part};
 use boc_workers::RunFault;
 use std::alloc::{AllocError, Global};
 
+// The names of the commands.
+const COMMANDS: [&str; 12] = [
+    "values", "check", "run", "profile", "time", "whatif", "curve", "sweep", "why", "cowns",
+    "outcomes", "help",
+];
+
 /// What a command read.
 #[derive(Drop)]
 pub(crate) struct Texts {
@@ -31,7 +37,7 @@ pub(crate) fn explained_words(
         Fault::Words(WordsFault::EditWord { number }) => explain_edit_word(alloc, words, *number),
         Fault::Words(WordsFault::Parser(_)) => {
             let told = fault.line(alloc)?;
-            explain_words(alloc, words, &told)
+            explain_words(alloc, words, &COMMANDS, &told)
         }
         _ => Ok(String::new(alloc)),
     }

@@ -1,4 +1,4 @@
-// Words of a command line that are refused: one that is no edit, two files where one is read, and an option of other commands.
+// Words of a command line that are refused: one that is no edit, two files where one is read, an option of other commands, and one that is no command.
 
 use crate::formed::{put_reason, reason_of};
 use crate::place::pair_words;
@@ -6,6 +6,7 @@ use crate::said::{Part, Said};
 use boc_program::limits::MOST_PART;
 use boc_text::read_number;
 use std::alloc::{AllocError, Global};
+use strsim::osa_distance;
 
 // The options with a value, which is the word behind them.
 const WITH_VALUE: [&[u8]; 13] = [
@@ -54,15 +55,70 @@ const OF_PROGRAMS: [&[u8]; 3] = [b"values", b"why", b"cowns"];
 const OF_RECORDS: [&[u8]; 2] = [b"check", WHATIF];
 
 /// What is told of words that the parser refuses with this text: that they name two files to read the input from, or the program or the record by the
-/// option of other commands.
-pub fn explain_words(alloc: Global, words: &[String], told: &str) -> Result<String, AllocError> {
+/// option of other commands, or that a word which is no command is near to one of these.
+pub fn explain_words(
+    alloc: Global,
+    words: &[String],
+    commands: &[&str],
+    told: &str,
+) -> Result<String, AllocError> {
     let mut said = Said::new(alloc);
     let command = words.get(1).map_or(b"".as_slice(), |word| word.as_bytes());
+    if let Some(word) = no_command(words, told.as_bytes()) {
+        put_nearest(alloc, &mut said, commands, word)?;
+        return Ok(said.into_text());
+    }
     match refused_files(alloc, words, command, told.as_bytes())? {
         Some(files) => put_files(&mut said, command, files)?,
         None => put_option(&mut said, command, told.as_bytes())?,
     }
     Ok(said.into_text())
+}
+
+// What the parser says of a word that is no command begins so, the word behind it.
+const UNRECOGNIZED: &[u8] = b"error: unrecognized subcommand '";
+
+// What the parser says behind that word where it names no command that is like it.
+const WITHOUT_TIP: &[u8] = b"'\n\nUsage: ";
+
+// The word that the parser's text refuses as a command, where it names none that is like it.
+fn no_command<'w>(words: &'w [String], told: &[u8]) -> Option<&'w str> {
+    let rest = behind(told, UNRECOGNIZED)?;
+    words.iter().skip(1).map(|word| word.as_str()).find(|word| behind(
+        rest,
+        word.as_bytes(),
+    ).is_some_and(|rest| rest.starts_with(WITHOUT_TIP)))
+}
+
+// A word is near to a name where so many edits lead from the one to the other: a byte more, less or another one, or two that change places.
+const MOST_EDITS: usize = 2;
+
+// So many bytes of a word may have one edit.
+const BYTES_PER_EDIT: usize = 3;
+
+// Tells which of these commands a word is near to, if there is one.
+fn put_nearest(
+    alloc: Global,
+    said: &mut Said,
+    commands: &[&str],
+    word: &str,
+) -> Result<(), AllocError> {
+    let most = (word.len() / BYTES_PER_EDIT).clamp(1, MOST_EDITS);
+    let mut nearest: Option<(usize, &str)> = None;
+    for command in commands {
+        let edits = osa_distance(alloc, word, command)?;
+        if edits <= most && nearest.is_none_or(|(least, _)| edits < least) {
+            nearest = Some((edits, command));
+        }
+    }
+    match nearest {
+        Some((_, command)) => said.line(&[
+            Part::Words("did you mean "),
+            Part::Quote(command.as_bytes()),
+            Part::Words("?"),
+        ]),
+        None => Ok(()),
+    }
 }
 
 // The two files that words name, where this text refuses them for that.

@@ -1112,6 +1112,7 @@ def cases(program):
         lines = ["a run has at most 65535 behaviours, main among them, and this one comes to more", line]
         for command in (["values"], ["run"], ["run", "--seed", "1"], ["why"], ["outcomes", "--runs", "2"]):
             yield f"{command} of {source[-40:]!r}", difference(told("run: 2 Behaviours", lines), program.run(command, source), 4)
+    yield from counted_draws(program)
     yield from beside(program)
     yield from pairs(program)
     yield from names(program)
@@ -1170,6 +1171,41 @@ def beside(program):
         yield f"whatif {words}", difference(told(fault, lines), program.run_beside(["whatif", *words], "--program", text, record))
     lines = ["`row 1=1000/1`: row 1 takes 2000 ticks, and would take more than 1000000"]
     yield "a row as a def", difference(told("edit 2: 3 TooManyTicks", lines), program.run(["whatif", "row 1=1000/1", "row 1=1000/1"], record))
+
+
+# Whether the first body or the second one has `a` first is a matter of the schedule. One of them writes a 1, and the other spawns as many behaviours as
+# there may be where it finds none.
+RACE = """cown a = 0; cown b = 0; cown c = 0;
+def none(;) {{ }}
+def set(; x) {{ x = 1; }}
+def many(; x) {{ if x == 0 {{ repeat 65535 {{ when none(;); }} }} }}
+def first(; y) {{ when {}(; a); }}
+def second(; y) {{ when {}(; a); }}
+main {{ when first(; b); when second(; c); }}
+"""
+
+
+def counted_draws(program):
+    """Where steps are counted for --depth, it is told whether the draw that counts them has too many behaviours, or the one that was asked for."""
+    whole = "a run has at most 65535 behaviours, main among them, and this one comes to more"
+    by_repeat = "no def spawns itself again, so it is by `repeat`: a `when` in one spawns a behaviour in each turn"
+    counting = "for --depth a draw by seed 0 counts the steps: it is this draw that comes to more, and none at this depth was begun"
+    counted = "for --depth a draw by seed 0 counts the steps: that one doesn't come to more, and one at this depth does"
+    for text in (RACE.format("set", "many").encode(), RACE.format("many", "set").encode()):
+        # The draw that counts is the run that seed 0 draws at random.
+        count = program.run(["run", "--workers", "3", "--seed", "0"], text)
+        has_room = count.status == 0
+        yield f"the draw that counts, {has_room}", None if has_room else difference(told("run: 2 Behaviours", [whole, by_repeat]), count, 4)
+        expected = told("run: 2 Behaviours", [whole, counted if has_room else counting, by_repeat])
+        told_of = 0
+        for seed in range(16):
+            options = ["--workers", "3", "--seed", str(seed), "--depth", "5"]
+            for words in (["run"], ["time"], ["why"], ["cowns"], ["outcomes", "--runs", "1"]):
+                answer = program.run([*words, *options], text)
+                if not has_room or answer.status != 0:
+                    told_of += 1
+                    yield f"{words} {options}, where the draw that counts has {'' if has_room else 'no '}room", difference(expected, answer, 4)
+        yield "a draw that has no room", None if told_of else "there is none"
 
 
 def pairs(program):

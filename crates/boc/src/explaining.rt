@@ -1,10 +1,11 @@
 //! What is told of a fault behind its line.
 
 use boc_commands::{
-    AskedCown, AskedEdit, Command, Fault, FileFault, InputFault, NamesFrom, RunFile, WordsFault,
+    AskedCown, AskedEdit, Command, Fault, FileFault, InputFault, NamesFrom, RunFile, Schedule,
+    WordsFault,
 };
 use boc_explain::{
-    Asked, Beside, Kept, Naming, Place, explain_behaviours, explain_cown, explain_def,
+    Asked, AtDepth, Beside, Kept, Naming, Place, explain_behaviours, explain_cown, explain_def,
     explain_edit, explain_edit_word, explain_names, explain_program, explain_record, explain_stray,
     explain_words,
 };
@@ -56,10 +57,29 @@ pub(crate) fn explained(
         }
         Fault::Input(fault) => explained_input(alloc, *fault, command, texts),
         Fault::Run(RunFault::Behaviours) if texts.input.is_whole() => {
-            explain_behaviours(alloc, texts.input.as_slice())
+            explain_behaviours(alloc, texts.input.as_slice(), depth_of(command))
         }
         _ => Ok(String::new(alloc)),
     }
+}
+
+// How a command draws runs, if it does so at a depth.
+fn depth_of(command: &Command) -> Option<AtDepth> {
+    let (workers, depth) = match command {
+        Command::Run { schedule, .. }
+        | Command::Time { schedule, .. }
+        | Command::Why { schedule, .. }
+        | Command::Cowns { schedule, .. } => match schedule {
+            Schedule::Drawn { workers, depth, .. } => (*workers, *depth),
+            Schedule::Threads(_) => return None,
+        },
+        Command::Outcomes(draws) => (draws.workers, draws.depth),
+        _ => return None,
+    };
+    Some(AtDepth {
+        workers: workers.number(),
+        depth: depth?,
+    })
 }
 
 // The lines behind that of a fault of the input, or of what is asked of it.

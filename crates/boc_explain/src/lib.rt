@@ -58,5 +58,5 @@ pub use names::explain_names;
 pub use place::{Beside, Place, Text};
 pub use program::explain_program;
 pub use record::explain_record;
-pub use spawning::explain_behaviours;
+pub use spawning::{AtDepth, explain_behaviours};
 pub use stray::explain_stray;

@@ -3,7 +3,10 @@
 use crate::said::{Part, Said};
 use crate::tokens::{Word, words_of};
 use crate::view::line_number;
-use boc_program::limits::MOST_ROWS;
+use boc_draws::{Depth, DrawFault, way_of};
+use boc_program::limits::{MOST_ROWS, MOST_RUNNERS};
+use boc_reader::read_program;
+use boc_registers::compiled::CompiledProgram;
 use std::alloc::{AllocError, Global};
 
 // A `when` of a text: the number of the body in which it stands, that of the def that it names, and where. Main has the number 0.
@@ -14,14 +17,31 @@ struct Spawn {
     at: usize,
 }
 
-/// What is told of a program whose run comes to more behaviours than there may be.
-pub fn explain_behaviours(alloc: Global, program: &[u8]) -> Result<String, AllocError> {
+/// How a run is drawn for which the steps are counted first.
+#[derive(Clone, Copy, Debug)]
+pub struct AtDepth {
+    /// How many workers there are, from 1 to 16.
+    pub workers: u32,
+    /// The depth of the priorities by which they are picked.
+    pub depth: Depth,
+}
+
+/// What is told of a program whose run comes to more behaviours than there may be. Where the run is drawn at a depth, that may be the run which counts
+/// the steps for it, so that one is drawn again.
+pub fn explain_behaviours(
+    alloc: Global,
+    program: &[u8],
+    drawn: Option<AtDepth>,
+) -> Result<String, AllocError> {
     let mut said = Said::new(alloc);
     said.line(&[
         Part::Words("a run has at most "),
         Part::Number(MOST_ROWS as u64),
         Part::Words(" behaviours, main among them, and this one comes to more"),
     ])?;
+    if let Some(drawn) = drawn {
+        put_draw(alloc, &mut said, program, drawn)?;
+    }
     let words = words_of(alloc, program)?;
     let names = def_names(alloc, &words)?;
     let spawns = spawns_of(alloc, &words, &names)?;
@@ -32,6 +52,37 @@ pub fn explain_behaviours(alloc: Global, program: &[u8]) -> Result<String, Alloc
         )])?,
     }
     Ok(said.into_text())
+}
+
+// The draw that counts the steps comes to too many behaviours.
+const COUNTING: &str =
+    "for --depth a draw by seed 0 counts the steps: it is this draw that comes to more, and none at this depth was begun";
+
+// That one doesn't.
+const COUNTED: &str =
+    "for --depth a draw by seed 0 counts the steps: that one doesn't come to more, and one at this depth does";
+
+// Tells which draw comes to too many behaviours: that which counts the steps, or one at the depth for which they are counted.
+fn put_draw(
+    alloc: Global,
+    said: &mut Said,
+    program: &[u8],
+    drawn: AtDepth,
+) -> Result<(), AllocError> {
+    let AtDepth { workers, depth } = drawn;
+    let Ok(program) = read_program(alloc, program) else {
+        return Ok(());
+    };
+    if !(1..=MOST_RUNNERS as u32).contains(&workers) {
+        return Ok(());
+    }
+    let compiled = CompiledProgram::new(alloc, &program)?;
+    let told = match way_of(alloc, &compiled, workers, Some(depth)) {
+        Ok(_) => COUNTED,
+        Err(DrawFault::Behaviours) => COUNTING,
+        Err(DrawFault::Memory) => return Err(AllocError),
+    };
+    said.line(&[Part::Words(told)])
 }
 
 // The names of main and of the defs.

@@ -1,10 +1,10 @@
 // What is told of a fault behind its line.
 
 use crate::wanted::Wanted;
-use boc_commands::{Fault, FileFault, InputFault, RunFile};
+use boc_commands::{Fault, FileFault, InputFault, RunFile, Schedule};
 use boc_explain::{
-    Beside, Kept, Place, explain_behaviours, explain_names, explain_program, explain_record,
-    explain_stray,
+    AtDepth, Beside, Kept, Place, explain_behaviours, explain_names, explain_program,
+    explain_record, explain_stray,
 };
 use boc_workers::RunFault;
 use std::alloc::{AllocError, Global};
@@ -23,9 +23,24 @@ pub(crate) fn explained(
         }
         Fault::Input(fault) => explained_input(alloc, *fault, wanted, input, beside),
         Fault::Run(RunFault::Behaviours) if input.is_whole() => {
-            explain_behaviours(alloc, input.as_slice())
+            explain_behaviours(alloc, input.as_slice(), depth_of(wanted.schedule))
         }
         _ => Ok(String::new(alloc)),
+    }
+}
+
+// How a run is drawn, if it is drawn at a depth.
+fn depth_of(schedule: Schedule) -> Option<AtDepth> {
+    match schedule {
+        Schedule::Drawn {
+            workers,
+            depth: Some(depth),
+            ..
+        } => Some(AtDepth {
+            workers: workers.number(),
+            depth,
+        }),
+        _ => None,
     }
 }
 

@@ -1125,6 +1125,7 @@ def cases(program):
     yield from random_edits(program)
     yield from long_records(program)
     yield from replacements(program)
+    yield from random_bytes(program)
 
 
 # What the line of a def that no row is of says of names.
@@ -1457,3 +1458,47 @@ def fault_of_lines(first, answer):
     if any(not line.startswith(EXPLAINS) or len(line) > MOST_WIDTH for line in lines[:-1]):
         return f"a line that doesn't begin with five blanks, or is too long: {answer.errors!r}"
     return None if set(answer.errors) <= PRINTABLE else f"a byte that can't be printed: {answer.errors!r}"
+
+
+# How many byte strings of a kind there are.
+RANDOM_STRINGS = 300
+
+# What such strings are made of, beside bytes by chance.
+PIECES = [b"boc 2 9\n", b"boc 1 9\n", b"+ 0 0 0\n> 0\n", b"+ ", b"> ", b"< ", b"= 1 ", b"@ 0 ", b"cown ", b"a", b" = 0;\n", b"def f(; x) {", b"main { ",
+          b"work ", b"when f(; a);", b"}", b"1", b" ", b"\n", b".\n", b"#", b"\x1b[31m", b"\x9b31m", b"\x7f", b"\x00", b"\t", b"\r", b"\xc3\xa9", b"\xff" * 70, b"x" * 90]
+
+
+def random_bytes(program):
+    """Whatever a program, a record or a file of names has, nothing but printable ASCII comes to standard error."""
+    chance = random.Random(20261129)
+    text, record = program.example("transfer.boc"), program.example("transfer.record")
+    readers = {
+        "a program": lambda content: program.run(["values"], content),
+        "a record": lambda content: program.run(["check"], content),
+        "names": lambda content: program.run_beside(["why"], "--names", content, record),
+        "a program beside a record": lambda content: program.run_beside(["check"], "--program", content, record),
+        "a record beside a program": lambda content: program.run_beside(["values"], "--record", content, text),
+    }
+    strings = [random_string(chance, text, record) for _ in range(RANDOM_STRINGS)]
+    with ThreadPoolExecutor() as pool:
+        for name, read in readers.items():
+            told_of = 0
+            for content, answer in zip(strings, pool.map(read, strings)):
+                unseen = set(answer.errors + answer.notes) - PRINTABLE
+                told_of += answer.status == 3
+                if unseen or answer.status not in (0, 3):
+                    yield f"{name} {content!r}", f"status {answer.status}, {answer.errors!r}"
+            yield f"{name} by chance", None if told_of > RANDOM_STRINGS // 2 else f"only {told_of} are refused"
+
+
+def random_string(chance, text, record):
+    """A byte string by chance: of single bytes, of pieces of programs, records and names, or an example with pieces in it."""
+    kind = chance.randrange(3)
+    if kind == 0:
+        return bytes(chance.randrange(256) for _ in range(chance.randint(1, 200)))
+    pieces = [chance.choice(PIECES) if chance.random() < 0.8 else bytes([chance.randrange(256)]) for _ in range(chance.randint(1, 20))]
+    if kind == 1:
+        return b"".join(pieces)
+    whole = chance.choice([text, record])
+    place = chance.randrange(len(whole))
+    return whole[:place] + b"".join(pieces[:3]) + whole[place:]

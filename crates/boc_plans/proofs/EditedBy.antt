@@ -7,7 +7,7 @@ use Rattle.boc_plans.specs.declared.sharing.Sharing.{Sharing}
 use Rattle.boc_plans.specs.declared.sharing.Sharing.TheVariants.{Exclusive, SharedReads}
 use Rattle.boc_runs.specs.Rows.{parent_of, offset_of, ticks_of, cowns_of, written_of}
 use Rattle.boc_plans.specs.Seen.{edited_by, seen}
-use Rattle.boc_plans.proofs.Children.{row_read}
+use Rattle.boc_runs.proofs.Children.{row_read}
 use Rattle.boc_runs.proofs.Editing.{length-edited, parent_of-edited, offset_of-edited, cowns_of-edited, written_of-edited}
 use Rattle.boc_runs.proofs.Editing.{ticks_of-edited_same, ticks_of-edited_other}
 use Rattle.boc_plans.proofs.Seeing.{length-seen, parent_of-seen, offset_of-seen, ticks_of-seen, cowns_of-seen}

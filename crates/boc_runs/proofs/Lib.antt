@@ -1,6 +1,7 @@
 pub mod RunsAreLegal
 pub mod Behaviours
 pub mod OwnOrders
+pub mod Children
 pub mod Editing
 pub mod Moving
 pub mod Freeing

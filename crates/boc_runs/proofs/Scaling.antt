@@ -59,7 +59,7 @@ last_of_same rows others n p last parents offsets l = record {
   ];
 }
 
-up_to : (a n : ℕ) → a < n + 1 → (a ≡ n) ⊎ (a < n)
+pub up_to : (a n : ℕ) → a < n + 1 → (a ≡ n) ⊎ (a < n)
 up_to a n h = elim (cases_eq a n) [
   | inl e ↦ inl e
   | inr ne ↦ inr (grind (arith, h, ne))
@@ -121,7 +121,7 @@ last_after rows n p last l (inl z) is = (last, last_skips rows n p last (λ some
 last_after rows n p last l (inr some) (inl child) = pick_last rows n p last l some child (less_or_more (offset_of rows n) last)
 last_after rows n p last l (inr some) (inr not) = (last, last_skips rows n p last (λ some e. not e) l)
 
-is_zero : (r : ℕ) → (r ≡ 0) ⊎ (0 < r)
+pub is_zero : (r : ℕ) → (r ≡ 0) ⊎ (0 < r)
 is_zero zero = inl refl
 is_zero (suc r) = inr (omega arith)
 

@@ -6,6 +6,7 @@ pub mod events;
 pub mod laws;
 pub mod record;
 pub mod rows;
+pub mod shape;
 pub mod stage;
 pub mod step;
 pub mod values;

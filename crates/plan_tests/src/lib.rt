@@ -11,7 +11,6 @@ mod freed;
 mod greedy;
 #[cfg(test)]
 mod order;
-pub mod row_test;
 #[cfg(test)]
 mod sweep;
 #[cfg(test)]

@@ -1,10 +1,10 @@
 // Rows that several tests ask about.
 
-use crate::row_test::are_rows;
 use boc_program::body::EndStatus;
 use boc_program::held::HeldCowns;
 use boc_program::short::Cowns;
 use boc_runs::rows::{Row, Rows};
+use boc_runs::shape::are_rows;
 use std::alloc::Global;
 use std::process::Abort;
 

@@ -1,7 +1,7 @@
 use Rattle.std.proofs.Common.{◌≡◌, List, sym, ◌∙◌, ap, get_or}
 use Rattle.boc_runs.specs.declared.rows.Row.{Row}
 use Rattle.boc_runs.specs.Rows.{ticks_of}
-use Rattle.boc_plans.proofs.Children.{row_read}
+use Rattle.boc_runs.proofs.Children.{row_read}
 use Rattle.boc_whatif.proofs.Least.{end_now}
 use Rattle.boc_whatif.proofs.least_ends.fewer_ticks.Goals as goal
 

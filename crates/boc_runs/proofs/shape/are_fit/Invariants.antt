@@ -1,6 +1,6 @@
 use Rattle.std.proofs.Common.{◌≡◌, ◌<◌, ℕ, length, slice_index}
 use Rattle.boc_runs.specs.Rows.{IsFit, IsLast}
-use Rattle.plan_tests.proofs.row_test.are_fit.Given as goal
+use Rattle.boc_runs.proofs.shape.are_fit.Given as goal
 
 -- the rows so far are fit, and the table has their last children
 abbrev pub invariant-loop-number : goal.invariant-loop-number

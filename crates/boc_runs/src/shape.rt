@@ -1,11 +1,11 @@
-// The test of the shape of rows.
+// The shape of rows.
 
 ghost use Rattle.std.specs.Prelude.{◌≡◌, ◌<◌, ◌≤◌, ◌↔◌, ℕ, length, slice_index, IsTrue};
 ghost use Rattle.boc_runs.specs.Rows.{IsFit, IsFitChild, IsLast, IsRows};
 
+use crate::rows::Row;
 use boc_program::cowns::{are_among, are_cowns};
 use boc_program::limits::{MOST_COWNS, MOST_ROWS, MOST_TICKS};
-use boc_runs::rows::Row;
 
 /// Whether these have the shape of the rows of a finished run, main first. It takes no memory, and goes over the
 /// rows once.

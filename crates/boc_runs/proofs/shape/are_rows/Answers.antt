@@ -1,7 +1,7 @@
 use Rattle.std.proofs.Common.{◌<◌, length, arith}
 use Rattle.std.proofs.lemmas.Bool.Decides.{nat_tests}
-use Rattle.boc_plans.proofs.Children.{rows_fit, rows_of_fit, zeros}
-use Rattle.plan_tests.proofs.row_test.are_rows.Goals as goal
+use Rattle.boc_runs.proofs.Children.{rows_fit, rows_of_fit, zeros}
+use Rattle.boc_runs.proofs.shape.are_rows.Goals as goal
 
 pub are_fit-requires-clause-none : goal.are_fit-requires-clause-none
 are_fit-requires-clause-none c = λ p. zeros 65535 p

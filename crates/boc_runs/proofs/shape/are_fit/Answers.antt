@@ -1,8 +1,8 @@
 use Rattle.std.proofs.Common.{◌∙◌, refl, sym, arith}
 use Rattle.std.proofs.lemmas.List.{length-set}
 use Rattle.boc_runs.specs.Rows.{IsFit}
-use Rattle.boc_plans.proofs.Children.{row_read, parent_there, last_more, fit_more}
-use Rattle.plan_tests.proofs.row_test.are_fit.Goals as goal
+use Rattle.boc_runs.proofs.Children.{row_read, parent_there, last_more, fit_more}
+use Rattle.boc_runs.proofs.shape.are_fit.Goals as goal
 
 pub loop-number-preserved : goal.loop-number-preserved
 loop-number-preserved c =

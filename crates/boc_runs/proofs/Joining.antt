@@ -1,14 +1,14 @@
 -- Rows that are scaled one child after another.
-use Rattle.std.proofs.Common.{◌≡◌, ◌≢◌, inl, inr, ℕ, zero, suc, ◌+◌, ◌<◌, ◌≤◌, max, List, []}
+use Rattle.std.proofs.Common.{◌≡◌, inl, inr, ℕ, zero, suc, ◌+◌, ◌<◌, ◌≤◌, max, List, []}
 use Rattle.std.proofs.Common.{◌∷◌, length, take, drop, ◌++◌, Option, Some, None, refl, ap, sym, ◌∙◌, subst, arith}
 use Rattle.std.specs.Option.{option_map_or}
 use Rattle.std.specs.Prelude.{slice_get, slice_set}
 use Rattle.std.proofs.lemmas.Bool.{cases_eq}
 use Rattle.boc_runs.specs.declared.rows.Row.{Row}
 use Rattle.boc_runs.specs.Rows.{IsRows, IsLast, parent_of, offset_of, ticks_of, edited}
-use Rattle.boc_runs.specs.Changes.{IsSameBut, IsScaled, part_of}
+use Rattle.boc_runs.specs.Changes.{IsSameBut, IsChildOf, IsScaled, part_of}
 use Rattle.boc_runs.proofs.Editing.{length-edited, offset_of-edited, ticks_of-edited_same, ticks_of-edited_other}
-use Rattle.boc_runs.proofs.Scaling.{same_edited, same_parents, last_of_same, last_skips, last_takes, no_child_before}
+use Rattle.boc_runs.proofs.Scaling.{same_edited, same_parents, last_of_same, last_skips_to, last_takes, no_child_before}
 
 -- the first of some rows, and the others of other rows
 abbrev pub joined : ℕ → List Row → List Row → List Row
@@ -27,15 +27,6 @@ joined_put zero (a ∷ xs) (b ∷ ys) x whole there is = ap (λ (y : Row). y ∷
     some_of a x e = ap (λ (o : Option Row). option_map_or (λ (y : Row). y) o a) e
 joined_put (suc n) (a ∷ xs) (b ∷ ys) x whole there is =
     ap (λ (l : List Row). a ∷ l) (joined_put n xs ys x (omega (arith, whole)) (omega (arith, there)) is)
-
-pub joined_skip : (n : ℕ) (xs ys : List Row) → length xs ≡ length ys → slice_get xs n ≡ slice_get ys n → joined n xs ys ≡ joined (suc n) xs ys
-joined_skip zero [] [] whole is = refl
-joined_skip zero [] (b ∷ ys) whole is = absurd (omega (arith, whole))
-joined_skip zero (a ∷ xs) [] whole is = absurd (omega (arith, whole))
-joined_skip zero (a ∷ xs) (b ∷ ys) whole is = ap (λ (y : Row). y ∷ ys) (ap (λ (o : Option Row). option_map_or (λ (y : Row). y) o b) (sym is))
-joined_skip (suc n) [] ys whole is = refl
-joined_skip (suc n) (a ∷ xs) [] whole is = absurd (omega (arith, whole))
-joined_skip (suc n) (a ∷ xs) (b ∷ ys) whole is = ap (λ (l : List Row). a ∷ l) (joined_skip n xs ys (omega (arith, whole)) is)
 
 pub joined_read : (n : ℕ) (xs ys : List Row) → length xs ≡ length ys → slice_get (joined n xs ys) n ≡ slice_get ys n
 joined_read zero xs ys whole = refl
@@ -67,6 +58,17 @@ joined_first (suc n) (a ∷ xs) [] whole same = absurd (omega (arith, whole))
 joined_first (suc n) (a ∷ xs) (b ∷ ys) whole same =
     ap (λ (y : Row). y ∷ joined n xs ys) (ap (λ (o : Option Row). option_map_or (λ (y : Row). y) o b) (same 0 (omega arith)))
     ∙ ap (λ (l : List Row). b ∷ l) (joined_first n xs ys (omega (arith, whole)) (λ r below. same (suc r) (omega (arith, below))))
+
+-- more of the first, where both are the same
+pub joined_same : (n m : ℕ) (xs ys : List Row) → length xs ≡ length ys → n ≤ m → ((r : ℕ) → n ≤ r → r < m → slice_get xs r ≡ slice_get ys r)
+    → joined n xs ys ≡ joined m xs ys
+joined_same zero m xs ys whole low same = sym (joined_first m xs ys whole (λ r below. same r (omega arith) below))
+joined_same (suc n) zero xs ys whole low same = absurd (omega (arith, low))
+joined_same (suc n) (suc m) [] ys whole low same = refl
+joined_same (suc n) (suc m) (a ∷ xs) [] whole low same = refl
+joined_same (suc n) (suc m) (a ∷ xs) (b ∷ ys) whole low same =
+    ap (λ (l : List Row). a ∷ l) (joined_same n m xs ys (omega (arith, whole)) (omega (arith, low))
+    (λ r more below. same (suc r) (omega (arith, more)) (omega (arith, below))))
 
 -- a list that was written over as a whole
 pub written_back : (new items : List Row) (len : ℕ) → length new ≡ length items → len ≡ length items → take len (new ++ drop (length new) items) ≡ new
@@ -124,23 +126,22 @@ module _ (rows : List Row) (hr : IsRows rows) (row over under : ℕ) (there : ro
         last_of_same rows after (row + 1) row 0 (λ a below. parents a) same (no_child_before rows hr row over under 0 refl),
       )
 
+  -- rows that are no children stay
+  pub skips_to : (n m : ℕ) → n ≤ m → m ≤ length rows → ((c : ℕ) → n ≤ c → c < m → IsChildOf rows row c → ⊥) → (last : ℕ) (now : List Row)
+      → now ≡ joined n kept rows → IsLast after n row last → (now ≡ joined m kept rows) × IsLast after m row last
+  skips_to n m low within none last now is l = (
+    is ∙ joined_same n m kept rows kept_whole low (λ r more below. stays r (s.other_offsets r (none r more below))),
+    last_skips_to after n m row last low (λ a more below some same. none a more below (some, omega (arith, below, within), sym (parents a) ∙ same)) l,
+  )
+
   module _ (n : ℕ) (here : n < length rows) (some : 0 < n) (last : ℕ) (now : List Row) (is : now ≡ joined n kept rows) (l : IsLast after n row last) where
     one_more : joined (suc n) kept rows ≡ joined (n + 1) kept rows
     one_more =
         let e : suc n ≡ n + 1 = omega arith in
         ap (λ (k : ℕ). joined k kept rows) e
 
-    pub skips : parent_of rows n ≢ row → (now ≡ joined (n + 1) kept rows) × IsLast after (n + 1) row last
-    skips not = (
-      is ∙ joined_skip n kept rows kept_whole (stays n (s.other_offsets n (λ child. absurd (not child.2)))) ∙ one_more,
-      last_skips after n row last (λ above e. not (sym (parents n) ∙ e)) l,
-    )
-
     pub reads : slice_get now n ≡ slice_get rows n
     reads = ap (λ (list : List Row). slice_get list n) is ∙ joined_read n kept rows kept_whole
-
-    pub parent_is : (x : Row) → slice_get now n ≡ Some x → parent_of rows n ≡ x.parent
-    parent_is x at = ap (λ (o : Option Row). option_map_or (λ (y : Row). y.parent) o 0) (sym reads ∙ at)
 
     offset_is : (x : Row) → slice_get now n ≡ Some x → offset_of rows n ≡ x.offset
     offset_is x at = ap (λ (o : Option Row). option_map_or (λ (y : Row). y.offset) o 0) (sym reads ∙ at)
@@ -161,15 +162,14 @@ module _ (rows : List Row) (hr : IsRows rows) (row over under : ℕ) (there : ro
             (last_takes after n row last some (parents n ∙ child) (omega (arith, above, next)) l),
       )
 
-    -- a child that was read at its number three times gets its offset
-    pub put_next : (x y z : Row) → slice_get now n ≡ Some x → slice_get now n ≡ Some y → slice_get now n ≡ Some z → x.parent ≡ row → (offset : ℕ)
+    -- a child that was read at its number twice gets its offset
+    pub put_next : (y z : Row) → slice_get now n ≡ Some y → slice_get now n ≡ Some z → parent_of rows n ≡ row → (offset : ℕ)
         → offset ≡ max (part_of over under y.offset) (last + 1)
         → (slice_set now n (record z { offset = offset }) ≡ joined (n + 1) kept rows) × IsLast after (n + 1) row offset
-    put_next x y z first second third own offset e =
-        let child : parent_of rows n ≡ row = parent_is x first ∙ own in
+    put_next y z first second child offset e =
         let next : offset_of after n ≡ offset =
-        s.offsets n last (some, here, child) l ∙ ap (λ (k : ℕ). max (part_of over under k) (last + 1)) (offset_is y second) ∙ sym e in
-        takes z third child offset next (omega (arith, e))
+        s.offsets n last (some, here, child) l ∙ ap (λ (k : ℕ). max (part_of over under k) (last + 1)) (offset_is y first) ∙ sym e in
+        takes z second child offset next (omega (arith, e))
 
   -- in the end the row takes its new ticks
   pub finishes : (n : ℕ) → length rows ≤ n → (x : Row) (now : List Row) → now ≡ joined n kept rows → slice_get now row ≡ Some x

@@ -2,6 +2,7 @@ pub mod RunsAreLegal
 pub mod Behaviours
 pub mod OwnOrders
 pub mod Children
+pub mod NextChildren
 pub mod Editing
 pub mod Moving
 pub mod Freeing

@@ -59,6 +59,14 @@ last_of_same rows others n p last parents offsets l = record {
   ];
 }
 
+pub less_or_more : (a b : ℕ) → (a ≤ b) ⊎ (b < a)
+less_or_more zero b = inl (omega arith)
+less_or_more (suc a) zero = inr (omega arith)
+less_or_more (suc a) (suc b) = elim (less_or_more a b) [
+  | inl low ↦ inl (omega (arith, low))
+  | inr high ↦ inr (omega (arith, high))
+]
+
 pub up_to : (a n : ℕ) → a < n + 1 → (a ≡ n) ⊎ (a < n)
 up_to a n h = elim (cases_eq a n) [
   | inl e ↦ inl e
@@ -75,6 +83,20 @@ last_skips rows n p last not l = record {
   reached = elim l.reached [
     | inl e ↦ inl e
     | inr (a, some, below, same, is) ↦ inr (a, some, omega (arith, below), same, is)
+  ];
+}
+
+-- and so do several
+pub last_skips_to : (rows : List Row) (n m p last : ℕ) → n ≤ m → ((a : ℕ) → n ≤ a → a < m → 0 < a → parent_of rows a ≡ p → ⊥) → IsLast rows n p last
+    → IsLast rows m p last
+last_skips_to rows n m p last low none l = record {
+  none_above = λ a some below same. elim (less_or_more n a) [
+    | inl more ↦ absurd (none a more below some same)
+    | inr less ↦ l.none_above a some less same
+  ];
+  reached = elim l.reached [
+    | inl e ↦ inl e
+    | inr (a, some, below, same, is) ↦ inr (a, some, omega (arith, below, low), same, is)
   ];
 }
 
@@ -106,14 +128,6 @@ pick_last : (rows : List Row) (n p last : ℕ) → IsLast rows n p last → 0 < 
     → (next : ℕ) × IsLast rows (n + 1) p next
 pick_last rows n p last l some child (inl low) = (last, last_keeps rows n p last low l)
 pick_last rows n p last l some child (inr above) = (offset_of rows n, last_takes rows n p last some child above l)
-
-less_or_more : (a b : ℕ) → (a ≤ b) ⊎ (b < a)
-less_or_more zero b = inl (omega arith)
-less_or_more (suc a) zero = inr (omega arith)
-less_or_more (suc a) (suc b) = elim (less_or_more a b) [
-  | inl low ↦ inl (omega (arith, low))
-  | inr high ↦ inr (omega (arith, high))
-]
 
 last_after : (rows : List Row) (n p last : ℕ) → IsLast rows n p last → (n ≡ 0) ⊎ (0 < n) → (parent_of rows n ≡ p) ⊎ (parent_of rows n ≢ p)
     → (next : ℕ) × IsLast rows (n + 1) p next
@@ -181,22 +195,24 @@ module _ (rows : List Row) (hr : IsRows rows) (row over under : ℕ) where
     last_is = no_child_before 0 refl;
   }
 
-  module _ (n : ℕ) (there : n < length rows) (some : 0 < n) (after : List Row) (last : ℕ) (s : AreScaledTo rows row over under n after last) where
-    -- a row that is no child stays
-    pub skip_scaled : parent_of rows n ≢ row → AreScaledTo rows row over under (n + 1) after last
-    skip_scaled not = record {
-      whole = s.whole;
-      same = s.same;
-      offsets = λ b elder below child l. elim (up_to b n below) [
-        | inl e ↦ absurd (not (ap (parent_of rows) (sym e) ∙ child.2))
-        | inr less ↦ s.offsets b elder less child l
-      ];
-      behind = λ b h. s.behind b (omega (arith, h));
-      others = s.others;
-      ticks = s.ticks;
-      last_is = last_skips after n row last (λ some e. not (sym (same_parents rows after s.same n) ∙ e)) s.last_is;
-    }
+  -- rows that are no children stay
+  pub skips_scaled : (n m : ℕ) → n ≤ m → m ≤ length rows → ((c : ℕ) → n ≤ c → c < m → IsChildOf rows row c → ⊥) → (after : List Row) (last : ℕ)
+      → AreScaledTo rows row over under n after last → AreScaledTo rows row over under m after last
+  skips_scaled n m low within none after last s = record {
+    whole = s.whole;
+    same = s.same;
+    offsets = λ b elder below child l. elim (less_or_more n b) [
+      | inl more ↦ absurd (none b more below child)
+      | inr less ↦ s.offsets b elder less child l
+    ];
+    behind = λ b h. s.behind b (omega (arith, h, low));
+    others = s.others;
+    ticks = s.ticks;
+    last_is = last_skips_to after n m row last low
+        (λ a more below some same. none a more below (some, omega (arith, below, within), sym (same_parents rows after s.same a) ∙ same)) s.last_is;
+  }
 
+  module _ (n : ℕ) (there : n < length rows) (some : 0 < n) (after : List Row) (last : ℕ) (s : AreScaledTo rows row over under n after last) where
     module _ (child : parent_of rows n ≡ row) (offset : ℕ) (is : offset ≡ max (part_of over under (offset_of rows n)) (last + 1)) where
       abbrev next : List Row
       next = moved after n offset

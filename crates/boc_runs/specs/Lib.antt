@@ -1,6 +1,7 @@
 pub mod Lives
 pub mod Rows
 pub mod Changes
+pub mod Siblings
 pub mod Legal
 pub mod Serial
 pub mod OwnOrder

@@ -7,6 +7,7 @@ pub mod laws;
 pub mod record;
 pub mod rows;
 pub mod shape;
+pub mod siblings;
 pub mod stage;
 pub mod step;
 pub mod values;

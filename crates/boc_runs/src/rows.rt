@@ -5,7 +5,9 @@ ghost use Rattle.boc_program.specs.declared.limits.TheConstants.{MOST_TICKS};
 ghost use Rattle.boc_runs.specs.declared.rows.Row.{Row};
 ghost use Rattle.boc_runs.specs.Rows.{IsRows, ticks_of};
 ghost use Rattle.boc_runs.specs.Changes.{IsScaled, part_of};
+ghost use Rattle.boc_runs.specs.Siblings.{AreSiblings};
 
+use crate::siblings::Siblings;
 use boc_program::body::EndStatus;
 use boc_program::held::HeldCowns;
 use boc_program::limits::MOST_TICKS;
@@ -97,38 +99,40 @@ fn part(ticks: u32, over: u32, under: u32) -> u64
 }
 
 // The ticks of a row that costs `over / under` of what it did. Its children's offsets are that part of theirs, and rise.
-fn scaled_ticks(rows: &[Row], row: usize, over: u32, under: u32) -> u64
+fn scaled_ticks(rows: &[Row], row: usize, over: u32, under: u32, siblings: &Siblings) -> u64
     requires shape { IsRows rows.now }
     requires there { row < length rows.now }
     requires some { 0 < under }
+    requires siblings { AreSiblings rows.now siblings.now }
     ensures { (after : List Row) × IsScaled rows.now row over under after × (result ≡ ticks_of after row) }
 {
     let mut last = 0;
-    for child in row + 1..rows.len() {
-        if rows[child].parent as usize == row {
-            last = part(rows[child].offset, over, under).max(last + 1);
-        }
+    let mut child = siblings.first_child(row);
+    while child < rows.len() {
+        last = part(rows[child].offset, over, under).max(last + 1);
+        child = siblings.younger(child);
     }
     part(rows[row].ticks, over, under).max(last).max(1)
 }
 
 // A row costs `over / under` of what it did, and takes these ticks for it. Its children get their offsets.
-fn scale_rows(rows: &mut [Row], row: usize, over: u32, under: u32, ticks: u32)
+fn scale_rows(rows: &mut [Row], row: usize, over: u32, under: u32, ticks: u32, siblings: &Siblings)
     requires shape { IsRows rows.old }
     requires there { row < length rows.old }
     requires some { 0 < under }
+    requires siblings { AreSiblings rows.old siblings.now }
     requires few { ticks ≤ MOST_TICKS }
     requires ticks { (after : List Row) × IsScaled rows.old row over under after × (ticks ≡ ticks_of after row) }
     ensures scaled { IsScaled rows.old row over under rows.new }
     ensures ticks { ticks_of rows.new row ≡ ticks }
 {
     let mut last = 0;
-    for child in row + 1..rows.len() {
-        if rows[child].parent as usize == row {
-            let offset = part(rows[child].offset, over, under).max(last + 1);
-            rows[child].offset = offset as u32;
-            last = offset;
-        }
+    let mut child = siblings.first_child(row);
+    while child < rows.len() {
+        let offset = part(rows[child].offset, over, under).max(last + 1);
+        rows[child].offset = offset as u32;
+        last = offset;
+        child = siblings.younger(child);
     }
     rows[row].ticks = ticks;
 }
@@ -184,19 +188,27 @@ impl Rows {
 
     /// Has a row cost `over / under` of what it did, rounded up, and spawn its children so much sooner or later: an offset is at least one
     /// above the elder sibling's, and the ticks are 1 at least and no fewer than the last child's offset. Answers whether the row can; where it
-    /// would take more than 1,000,000 ticks it can't, and nothing changes. It takes no memory.
-    pub fn scale(&mut self, row: u32, over: u32, under: u32) -> bool
+    /// would take more than 1,000,000 ticks it can't, and nothing changes. It takes no memory, and time that grows with the row's children.
+    pub fn scale(&mut self, row: u32, over: u32, under: u32, siblings: &Siblings) -> bool
         requires there { row < length self.old }
         requires some { 0 < under }
+        requires siblings { AreSiblings self.old siblings.now }
         ensures scaled { result ≡ true → IsScaled self.old row over under self.new × (ticks_of self.new row ≤ MOST_TICKS) }
         ensures too_many { result ≡ false → (after : List Row) × IsScaled self.old row over under after × (MOST_TICKS < ticks_of after row) }
         ensures stays { result ≡ false → self.new ≡ self.old }
     {
-        let ticks = scaled_ticks(&self.list, row as usize, over, under);
+        let ticks = scaled_ticks(&self.list, row as usize, over, under, siblings);
         if ticks > u64::from(MOST_TICKS) {
             return false;
         }
-        scale_rows(&mut self.list, row as usize, over, under, ticks as u32);
+        scale_rows(
+            &mut self.list,
+            row as usize,
+            over,
+            under,
+            ticks as u32,
+            siblings,
+        );
         true
     }
 

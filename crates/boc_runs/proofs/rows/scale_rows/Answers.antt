@@ -1,20 +1,31 @@
-use Rattle.std.proofs.Common.{◌≡◌, ◌<◌, ◌≤◌, ◌+◌, ℕ, max, length, ap, sym, ◌∙◌, arith}
+use Rattle.std.proofs.Common.{◌≡◌, ◌<◌, ◌≤◌, ◌+◌, ℕ, max, length, ap, sym, ◌∙◌, subst, arith}
 use Rattle.std.specs.Prelude.{slice_set}
 use Rattle.boc_program.specs.declared.limits.TheConstants.{MOST_TICKS}
 use Rattle.boc_runs.specs.declared.rows.Row.{Row}
 use Rattle.boc_runs.specs.Rows.{parent_of}
 use Rattle.boc_runs.specs.Changes.{part_of}
+use Rattle.boc_runs.specs.Siblings.{IsNextChild}
+use Rattle.boc_runs.proofs.NextChildren.{next_behind}
 use Rattle.boc_runs.proofs.Scaling.{row_read, last_below}
-use Rattle.boc_runs.proofs.Joining.{none_so_far, skips, put_next, parent_is, finishes}
-use Rattle.boc_runs.proofs.rows.scale_rows.Goals.{then-rows-child, else-rows-child}
+use Rattle.boc_runs.proofs.Joining.{none_so_far, skips_to, put_next, finishes}
 use Rattle.boc_runs.proofs.rows.scale_rows.Goals as goal
 
 pub loop-child-init : goal.loop-child-init
-loop-child-init c = record {
-  begun = omega arith;
-  within = omega (arith, c.requires.there);
-  so_far = λ after s. none_so_far c.args.rows.now c.requires.shape c.args.row c.args.over c.args.under c.requires.there after s;
-}
+loop-child-init c =
+    let rows = c.args.rows.now in
+    let row : ℕ = c.args.row in
+    let first : IsNextChild rows row 1 c.first_child-child.result =
+    subst (IsNextChild rows row 1) (sym c.first_child-child.ensures) (c.requires.siblings.down.first row c.requires.there) in
+    let begun = next_behind rows c.requires.shape row c.first_child-child.result c.requires.there first in
+    record {
+      begun = begun;
+      within = first.below;
+      child = λ there. (first.child there).2;
+      so_far = λ after s.
+          let none = none_so_far rows c.requires.shape row c.args.over c.args.under c.requires.there after s in
+          skips_to rows c.requires.shape row c.args.over c.args.under c.requires.there after s (row + 1) c.first_child-child.result
+          (omega (arith, begun)) first.below (λ b above below child. first.none_between b (omega (arith, above)) below child) 0 rows none.0 none.1;
+    }
 
 few_ticks : (ticks own : ℕ) → ticks ≡ own → ticks ≤ MOST_TICKS → own ≤ MOST_TICKS
 few_ticks ticks own is few = omega (arith, is, few)
@@ -30,24 +41,22 @@ overflow_add-last c =
           c.loop-child.invariant.within (c.loop-child.invariant.so_far h.0 h.1).1,
     )
 
-pub overflow_cast-rows-then-rows-child : goal.overflow_cast-rows-then-rows-child
-overflow_cast-rows-then-rows-child c =
+pub overflow_cast-rows : goal.overflow_cast-rows
+overflow_cast-rows c =
     let (after, s, is) = c.requires.ticks in
     let few = few_ticks _ _ is c.requires.few in
     let rows = c.args.rows.now in
     let n : ℕ = c.loop-child.child in
-    let here : n < length rows = c.loop-child-test.true in
+    let here : n < length rows = omega (arith, c.loop-child.auto.rows, c.loop-child-test.true) in
     let stands : n < length c.loop-child.rows = omega (arith, c.loop-child.auto.rows, here) in
-    let x : Row = c.index-rows-child.result in
-    let y : Row = c.index-rows-child-then-rows-child.result in
+    let before = c.loop-child.invariant.so_far after s in
+    let y : Row = c.index-rows-child.result in
+    let read = row_read c.loop-child.rows n y stands c.index-rows-child.is in
     let step = put_next rows c.requires.shape c.args.row c.args.over c.args.under c.requires.there after s n here
-    (omega (arith, c.loop-child.invariant.begun)) c.loop-child.last c.loop-child.rows (c.loop-child.invariant.so_far after s).0
-    (c.loop-child.invariant.so_far after s).1 x y y
-    (row_read c.loop-child.rows n x stands c.index-rows-child.is) (row_read c.loop-child.rows n y stands c.index-rows-child-then-rows-child.is)
-    (row_read c.loop-child.rows n y stands c.index-rows-child-then-rows-child.is)
-    (ap (λ (z : Row). z.parent) c.index-rows-child.is ∙ c.if-rows-child.true) c.max-offset.result
+    (omega (arith, c.loop-child.invariant.begun)) c.loop-child.last c.loop-child.rows before.0 before.1 y y read read
+    (c.loop-child.invariant.child here) c.max-offset.result
     (c.max-offset.ensures ∙ ap (λ (k : ℕ). max k (c.loop-child.last + 1)) (c.part.ensures
-    ∙ ap (λ (z : Row). part_of c.args.over c.args.under z.offset) (sym c.index-rows-child-then-rows-child.is))) in
+    ∙ ap (λ (z : Row). part_of c.args.over c.args.under z.offset) (sym c.index-rows-child.is))) in
     omega (
       arith,
       few,
@@ -58,40 +67,30 @@ overflow_cast-rows-then-rows-child c =
 pub loop-child-preserved : goal.loop-child-preserved
 loop-child-preserved c =
     let rows = c.args.rows.now in
+    let row : ℕ = c.args.row in
     let n : ℕ = c.loop-child.child in
+    let m : ℕ = c.younger-child.result in
     let some : 0 < n = omega (arith, c.loop-child.invariant.begun) in
-    let here : n < length rows = c.loop-child-test.true in
+    let here : n < length rows = omega (arith, c.loop-child.auto.rows, c.loop-child-test.true) in
     let stands : n < length c.loop-child.rows = omega (arith, c.loop-child.auto.rows, here) in
-    let x : Row = c.index-rows-child.result in
-    let read = row_read c.loop-child.rows n x stands c.index-rows-child.is in
+    let child : parent_of rows n ≡ row = c.loop-child.invariant.child here in
+    let next : IsNextChild rows row (n + 1) m = rw (child, sym c.younger-child.ensures) at (c.requires.siblings.down.younger n some here) in
+    let y : Row = c.index-rows-child.result in
+    let z : Row = c.index-rows-child-in-loop-child.result in
     record {
-      begun = omega (arith, c.loop-child.invariant.begun);
-      within = omega (arith, here);
+      begun = omega (arith, c.loop-child.invariant.begun, next.above);
+      within = next.below;
+      child = λ h. (next.child h).2;
       so_far = λ after s.
           let before = c.loop-child.invariant.so_far after s in
-          elim c.if-rows-child.branch [
-            | then-rows-child w ↦ (
-                let y : Row = w.index-rows-child-then-rows-child.result in
-                let z : Row = w.index-rows-child-then-rows-child-2.result in
-                let put = put_next rows c.requires.shape c.args.row c.args.over c.args.under c.requires.there after s n here some c.loop-child.last
-                c.loop-child.rows before.0 before.1 x y z read (row_read c.loop-child.rows n y stands w.index-rows-child-then-rows-child.is)
-                (row_read c.loop-child.rows n z stands w.index-rows-child-then-rows-child-2.is)
-                (ap (λ (z : Row). z.parent) c.index-rows-child.is ∙ w.if-rows-child.true) w.max-offset.result
-                (w.max-offset.ensures ∙ ap (λ (k : ℕ). max k (c.loop-child.last + 1)) (w.part.ensures
-                ∙ ap (λ (z : Row). part_of c.args.over c.args.under z.offset) (sym w.index-rows-child-then-rows-child.is))) in
-                rw (w.rows-is, w.last-is) (
-                  ap (λ (k : Row). slice_set c.loop-child.rows n (record k { offset = w.max-offset.result })) (sym w.index-rows-child-then-rows-child-2.is)
-                      ∙ put.0,
-                  put.1,
-                ))
-            | else-rows-child w ↦ rw (w.rows-is, w.last-is)
-                (skips rows c.requires.shape c.args.row c.args.over c.args.under c.requires.there after s n here some c.loop-child.last c.loop-child.rows
-                before.0 before.1
-                (λ (e : parent_of rows n ≡ c.args.row). absurd (w.if-rows-child.false
-                (sym (ap (λ (z : Row). z.parent) c.index-rows-child.is)
-                ∙ sym (parent_is rows c.requires.shape c.args.row c.args.over c.args.under c.requires.there after s n here some c.loop-child.last
-                c.loop-child.rows before.0 before.1 x read) ∙ e))))
-          ];
+          let put = put_next rows c.requires.shape row c.args.over c.args.under c.requires.there after s n here some c.loop-child.last
+          c.loop-child.rows before.0 before.1 y z (row_read c.loop-child.rows n y stands c.index-rows-child.is)
+          (row_read c.loop-child.rows n z stands c.index-rows-child-in-loop-child.is) child c.max-offset.result
+          (c.max-offset.ensures ∙ ap (λ (k : ℕ). max k (c.loop-child.last + 1)) (c.part.ensures
+          ∙ ap (λ (z : Row). part_of c.args.over c.args.under z.offset) (sym c.index-rows-child.is))) in
+          skips_to rows c.requires.shape row c.args.over c.args.under c.requires.there after s (n + 1) m next.above next.below next.none_between
+          c.max-offset.result _
+          (ap (λ (k : Row). slice_set c.loop-child.rows n (record k { offset = c.max-offset.result })) (sym c.index-rows-child-in-loop-child.is) ∙ put.0) put.1;
     }
 
 pub returns : goal.returns

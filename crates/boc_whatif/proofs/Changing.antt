@@ -5,10 +5,13 @@ use Rattle.std.specs.Prelude.{slice_set, slice_index, Result, Ok, Err, OnErr}
 use Rattle.std.proofs.lemmas.Bool.{cases_eq}
 use Rattle.std.proofs.lemmas.List.{get_or-set_same, get_or-set_other}
 use Rattle.boc_runs.specs.declared.rows.Row.{Row}
+use Rattle.boc_runs.specs.declared.siblings.Siblings.{Siblings}
 use Rattle.boc_runs.specs.Rows.{IsRows, IsLast, Fits, edited, parent_of, offset_of, ticks_of}
 use Rattle.boc_runs.specs.Changes.{FitsAt, IsScaled, IsChildOf, moved}
-use Rattle.boc_runs.proofs.Editing.{length-edited, rows_edited, one_last, last_edited}
+use Rattle.boc_runs.specs.Siblings.{AreSiblings}
+use Rattle.boc_runs.proofs.Editing.{length-edited, parent_of-edited, rows_edited, one_last, last_edited}
 use Rattle.boc_runs.proofs.Moving.{length-moved, parent_of-moved, ticks_of-moved, cowns_of-moved, written_of-moved, offset_of-moved_other, rows_moved}
+use Rattle.boc_runs.proofs.NextChildren.{siblings_stay}
 use Rattle.boc_runs.proofs.Scaling.{same_parents, same_cowns, same_written, rows_scaled, one_scaling}
 use Rattle.boc_plans.specs.declared.edit.Edit.{Edit}
 use Rattle.boc_plans.specs.declared.edit.EditFault.{EditFault}
@@ -40,6 +43,15 @@ pub changed_there : (rows : List Row) (row : ℕ) (change : Change) (after : Lis
 changed_there rows row (Ticks ticks) after h = h.0.there
 changed_there rows row (Offset offset) after h = h.0.there
 changed_there rows row (Cost part) after h = h.0
+
+-- and they have the same siblings
+pub siblings_changed : (rows : List Row) (siblings : Siblings) (row : ℕ) (change : Change) (after : List Row) → IsChanged rows row change after
+    → AreSiblings rows siblings → AreSiblings after siblings
+siblings_changed rows siblings row (Ticks ticks) after h are = siblings_stay rows after (changed_length rows row (Ticks ticks) after h)
+    (λ r. ap (λ (l : List Row). parent_of l r) h.1 ∙ parent_of-edited rows row ticks r) siblings are
+siblings_changed rows siblings row (Offset offset) after h are = siblings_stay rows after (changed_length rows row (Offset offset) after h)
+    (λ r. ap (λ (l : List Row). parent_of l r) h.1 ∙ parent_of-moved rows row offset r) siblings are
+siblings_changed rows siblings row (Cost part) after h are = siblings_stay rows after h.1.whole (same_parents rows after h.1.same) siblings are
 
 moved_same : (rows : List Row) (row offset : ℕ) → AreSameBefore row rows (moved rows row offset)
 moved_same rows row offset = record {

@@ -4,7 +4,9 @@ use Rattle.std.specs.Prelude.{min, Ok, Err, IfErr, Result, OnOk}
 use Rattle.std.proofs.lemmas.List.{take-take}
 use Rattle.boc_runs.specs.declared.rows.Row.{Row}
 use Rattle.boc_plans.specs.declared.sharing.Sharing.{Sharing}
+use Rattle.boc_runs.specs.declared.siblings.Siblings.{Siblings}
 use Rattle.boc_runs.specs.Rows.{IsLast, IsRows}
+use Rattle.boc_runs.specs.Siblings.{AreSiblings}
 use Rattle.boc_plans.specs.Seen.{seen}
 use Rattle.boc_plans.proofs.Seeing.{length-seen, parent_of-seen, offset_of-seen, rows_seen}
 use Rattle.boc_order.specs.declared.plan.Earliest.{Earliest}
@@ -19,7 +21,7 @@ use Rattle.boc_order.proofs.Replacing.{near_same, placed_first}
 use Rattle.boc_sweep.specs.Lasts.{HasLasts}
 use Rattle.boc_whatif.specs.Asked.{IsUpToDate, AreMade, HasMade, least_edited}
 use Rattle.boc_whatif.specs.declared.edits.Unfit.{Unfit}
-use Rattle.boc_whatif.proofs.Changing.{changed_rows, changed_length, changed_there, seen_same}
+use Rattle.boc_whatif.proofs.Changing.{changed_rows, changed_length, changed_there, seen_same, siblings_changed}
 
 -- a row has the same last child however the rows are seen
 last_seen : (s : Sharing) (rows : List Row) (n p last : ℕ) → IsLast rows n p last → IsLast (seen s rows) n p last
@@ -48,12 +50,13 @@ waits_same n rows others waits same are = record {
 }
 
 -- what is kept, before any edit
-pub begun : (rows list : List Row) (s : Sharing) (offsets : List ℕ) (waits : List (List ℕ)) (plan : Earliest) → IsRows rows → list ≡ seen s rows
-    → HasLasts rows offsets →
-    AreWaits list waits → IsPlanOf list plan → HasRoom plan (length list) → IsUpToDate rows s offsets waits plan
-begun rows list s offsets waits plan shape is lasts are placed room = record {
+pub begun : (rows list : List Row) (s : Sharing) (offsets : List ℕ) (siblings : Siblings) (waits : List (List ℕ)) (plan : Earliest) → IsRows rows
+    → list ≡ seen s rows → HasLasts rows offsets → AreSiblings rows siblings → AreWaits list waits → IsPlanOf list plan → HasRoom plan (length list)
+    → IsUpToDate rows s offsets siblings waits plan
+begun rows list s offsets siblings waits plan shape is lasts siblings_are are placed room = record {
   shape = shape;
   lasts = lasts;
+  siblings_are = siblings_are;
   waits_are = subst (λ (l : List Row). AreWaits l waits) is are;
   placed = subst (λ (l : List Row). IsPlanOf l plan) is placed;
   room = subst (HasRoom plan) (ap (length {A = Row}) is ∙ length-seen s rows) room;
@@ -73,9 +76,9 @@ same_before n rows =
     record { len = refl; parents = λ r. refl; offsets = λ r h. refl; cowns = λ r. refl; written = λ r. refl; ticks = λ r h. refl }
 
 -- before any edit all rows stand
-pub stands_whole : (rows : List Row) (s : Sharing) (offsets : List ℕ) (waits : List (List ℕ)) (plan : Earliest) → IsUpToDate rows s offsets waits plan
-    → Stands rows s waits plan (length rows)
-stands_whole rows s offsets waits plan k = record {
+pub stands_whole : (rows : List Row) (s : Sharing) (offsets : List ℕ) (siblings : Siblings) (waits : List (List ℕ)) (plan : Earliest)
+    → IsUpToDate rows s offsets siblings waits plan → Stands rows s waits plan (length rows)
+stands_whole rows s offsets siblings waits plan k = record {
   shape = k.shape;
   waits_are = k.waits_are;
   within = omega arith;
@@ -152,6 +155,13 @@ length-all_edited rows [] after made = ap (length {A = Row}) made
 length-all_edited rows (edit ∷ edits) after made =
     length-all_edited made.0 edits after made.2 ∙ changed_length rows edit.row edit.change made.0 made.1
 
+-- and the same are siblings
+siblings_all_edited : (rows : List Row) (siblings : Siblings) (edits : List Edit) (after : List Row) → AreEdited rows edits after → AreSiblings rows siblings
+    → AreSiblings after siblings
+siblings_all_edited rows siblings [] after made are = subst (λ (list : List Row). AreSiblings list siblings) (sym made) are
+siblings_all_edited rows siblings (edit ∷ edits) after made are =
+    siblings_all_edited made.0 siblings edits after made.2 (siblings_changed rows siblings edit.row edit.change made.0 made.1 are)
+
 -- so many rows are placed anew where all edits are made
 pub touched_made : (rows : List Row) (edits : List Edit) (after : List Row) (from : ℕ) (answer : Result (Unit {0}) Unfit) (count : ℕ)
     → HasMade rows edits after from answer → count + from ≡ length rows → OnOk answer (count + least_edited (length rows) edits ≡ length rows)
@@ -189,33 +199,40 @@ module _ (after list : List Row) (s : Sharing) (offsets : List ℕ) (waits : Lis
   pub first_standing : HasFirst list plan from
   first_standing = rw seen_is k.first
 
-  pub kept_standing : (anew : Earliest) → IsPlanOf list anew → HasRoom anew (length list) → IsUpToDate after s offsets waits anew
-  kept_standing anew placed room = record {
+  pub kept_standing : (siblings : Siblings) → AreSiblings after siblings → (anew : Earliest) → IsPlanOf list anew → HasRoom anew (length list)
+      → IsUpToDate after s offsets siblings waits anew
+  kept_standing siblings siblings_are anew placed room = record {
     shape = k.shape;
     lasts = lasts;
+    siblings_are = siblings_are;
     waits_are = k.waits_are;
     placed = subst (λ (l : List Row). IsPlanOf l anew) seen_is placed;
     room = subst (HasRoom anew) whole_standing room;
   }
 
 -- after one edit
-pub stands_changed : (rows : List Row) (s : Sharing) (offsets : List ℕ) (waits : List (List ℕ)) (plan : Earliest) (row : ℕ) (change : Change)
-    (after : List Row) → IsUpToDate rows s offsets waits plan → IsChanged rows row change after → Stands after s waits plan row
-stands_changed rows s offsets waits plan row change after k h =
+pub stands_changed : (rows : List Row) (s : Sharing) (offsets : List ℕ) (siblings : Siblings) (waits : List (List ℕ)) (plan : Earliest) (row : ℕ)
+    (change : Change) (after : List Row) → IsUpToDate rows s offsets siblings waits plan → IsChanged rows row change after → Stands after s waits plan row
+stands_changed rows s offsets siblings waits plan row change after k h =
     let least : min row (length rows) ≡ row = omega (arith, changed_there rows row change after h) in
     subst (Stands after s waits plan) least
-    (stands_more rows s waits plan (length rows) row change after (stands_whole rows s offsets waits plan k) h)
+    (stands_more rows s waits plan (length rows) row change after (stands_whole rows s offsets siblings waits plan k) h)
 
 -- after several edits
-module _ (rows after : List Row) (s : Sharing) (offsets : List ℕ) (waits : List (List ℕ)) (plan : Earliest) (edits : List Edit) (from : ℕ)
-    (answer : Result (Unit {0}) Unfit) (k : IsUpToDate rows s offsets waits plan) (m : HasMade rows edits after from answer) where
+module _ (rows after : List Row) (s : Sharing) (offsets : List ℕ) (siblings : Siblings) (waits : List (List ℕ)) (plan : Earliest) (edits : List Edit)
+    (from : ℕ) (answer : Result (Unit {0}) Unfit) (k : IsUpToDate rows s offsets siblings waits plan) (m : HasMade rows edits after from answer) where
   pub stands_made : Stands after s waits plan from
   stands_made =
       let made = some_made rows edits after from answer m in
       subst (Stands after s waits plan) (sym made.1.from_is)
-      (stands_all rows s waits plan (length rows) made.0 after (stands_whole rows s offsets waits plan k) made.1.edited)
+      (stands_all rows s waits plan (length rows) made.0 after (stands_whole rows s offsets siblings waits plan k) made.1.edited)
 
   pub count_made : length after ≡ length rows
   count_made =
       let made = some_made rows edits after from answer m in
       length-all_edited rows made.0 after made.1.edited
+
+  pub siblings_made : AreSiblings after siblings
+  siblings_made =
+      let made = some_made rows edits after from answer m in
+      siblings_all_edited rows siblings made.0 after made.1.edited k.siblings_are

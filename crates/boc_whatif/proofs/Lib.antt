@@ -1,4 +1,5 @@
 pub mod Changing
+pub mod Between
 pub mod Commuting
 pub mod Successive
 pub mod Keeping

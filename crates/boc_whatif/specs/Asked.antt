@@ -4,7 +4,9 @@ use Rattle.boc_runs.specs.declared.rows.Row.{Row}
 use Rattle.boc_plans.specs.declared.edit.Edit.{Edit}
 use Rattle.boc_plans.specs.declared.sharing.Sharing.{Sharing}
 use Rattle.boc_plans.specs.Edits.{AreEdited, IsFirstUnfit}
+use Rattle.boc_runs.specs.declared.siblings.Siblings.{Siblings}
 use Rattle.boc_runs.specs.Rows.{IsRows}
+use Rattle.boc_runs.specs.Siblings.{AreSiblings}
 use Rattle.boc_plans.specs.Seen.{seen}
 use Rattle.boc_order.specs.declared.plan.Earliest.{Earliest}
 use Rattle.boc_order.specs.Room.{HasRoom}
@@ -19,10 +21,13 @@ pub record Asked : Type 0 where
   pub sharing : Sharing
   pub touched : ℕ
 
--- what is kept beside the rows: the offset of each row's last child, the rows that each waits for, and the earliest plan with room for all rows
-pub record IsUpToDate (rows : List Row) (sharing : Sharing) (offsets : List ℕ) (waits : List (List ℕ)) (plan : Earliest) : Type 0 where
+-- what is kept beside the rows: the offset of each row's last child, who are siblings, the rows that each waits for, and the earliest plan with room
+-- for all rows
+pub record IsUpToDate (rows : List Row) (sharing : Sharing) (offsets : List ℕ) (siblings : Siblings) (waits : List (List ℕ)) (plan : Earliest)
+    : Type 0 where
   pub shape : IsRows rows
   pub lasts : HasLasts rows offsets
+  pub siblings_are : AreSiblings rows siblings
   pub waits_are : AreWaits (seen sharing rows) waits
   pub placed : IsPlanOf (seen sharing rows) plan
   pub room : HasRoom plan (length rows)

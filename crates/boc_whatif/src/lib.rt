@@ -6,10 +6,10 @@
 //! the span if it were spawned as early as it can be. All of these are of plans in which rows share cowns as was said at the start.
 //!
 //! An edit takes no memory, and time that grows with the number of rows behind its own: it computes its row and those
-//! after it again. Several edits that are made at once compute the least of their rows and those after it again, once. A
-//! sweep for spans computes no row again, and takes little more time than a plan. One for the ends of greedy plans
-//! makes for each row the rest of a plan: up to where the first of the rows that are left would be over their plans are the same, and that part
-//! is made once.
+//! after it again. Several edits that are made at once take time that grows with the children of their rows, and compute the
+//! least of their rows and those after it again, once. A sweep for spans computes no row again, and takes little more time than
+//! a plan. One for the ends of greedy plans makes for each row the rest of a plan: up to where the first of the rows that are
+//! left would be over their plans are the same, and that part is made once.
 #![tactic(auto)]
 
 mod cown_ends;

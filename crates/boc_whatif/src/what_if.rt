@@ -27,6 +27,7 @@ use boc_plans::workers::Workers;
 use boc_program::limits::MOST_ROWS;
 use boc_program::short::HeldCown;
 use boc_runs::rows::Rows;
+use boc_runs::siblings::Siblings;
 use boc_sweep::{cown_sweep, last_children, spawn_sweep, sweep};
 use std::alloc::{AllocError, Global};
 use std::marker::Model;
@@ -41,6 +42,8 @@ pub struct WhatIf {
     rows: Rows,
     sharing: Sharing,
     lasts: Vec<u32>,
+    // An edit changes no parent, so who are siblings is found once.
+    siblings: Siblings,
     // An edit changes no cown, so what each row waits for is found once.
     waits: Links,
     plan: Earliest,
@@ -54,7 +57,7 @@ impl Model for WhatIf {
 
     ghost view = { λ w. record { rows = w.rows; sharing = w.sharing; touched = w.touched } };
 
-    ghost invariant = { λ w. IsUpToDate w.rows w.sharing w.lasts.items w.waits w.plan };
+    ghost invariant = { λ w. IsUpToDate w.rows w.sharing w.lasts.items w.siblings w.waits w.plan };
 }
 
 impl WhatIf {
@@ -79,12 +82,14 @@ impl WhatIf {
         ensures touched { IfOk result (λ w. w.touched ≡ 0) }
     {
         let lasts = last_children(alloc, rows.as_slice())?;
+        let siblings = Siblings::of(alloc, rows.as_slice())?;
         let seen = SeenRows::new(&rows, sharing);
         let (waits, plan) = waits_and_plan(alloc, &seen)?;
         Ok(WhatIf {
             rows,
             sharing,
             lasts,
+            siblings,
             waits,
             plan,
             touched: 0,
@@ -119,7 +124,7 @@ impl WhatIf {
         ensures stays { OnErr result (self.new ≡ self.old) }
     {
         let number = edit.row as usize;
-        make(&mut self.rows, &mut self.lasts, edit)?;
+        make(&mut self.rows, &mut self.lasts, &self.siblings, edit)?;
         let rows = SeenRows::new(&self.rows, self.sharing);
         self.plan.place_from(&rows, &self.waits, number);
         self.touched = (rows.len() - number) as u64;
@@ -129,7 +134,8 @@ impl WhatIf {
     /// Has rows change, edit by edit, up to the first that they can't take as those before it have made them. Those before it
     /// are made.
     ///
-    /// It takes no memory. It computes the least row that is edited and those after it again, once for all edits.
+    /// It takes no memory. An edit takes time that grows with the children of its row. The least row that is edited and those after it are
+    /// computed again, once for all edits.
     pub fn edit_all(&mut self, edits: &[Edit]) -> Result<(), Unfit>
         ensures rows { OnOk result (AreEdited self.old.rows edits.now self.new.rows) }
         ensures touched { OnOk result (self.new.touched + least_edited (length self.old.rows) edits.now ≡ length self.old.rows) }
@@ -139,7 +145,7 @@ impl WhatIf {
             ≡ length self.old.rows) }
         ensures sharing { self.new.sharing ≡ self.old.sharing }
     {
-        let (from, answer) = make_all(&mut self.rows, &mut self.lasts, edits);
+        let (from, answer) = make_all(&mut self.rows, &mut self.lasts, &self.siblings, edits);
         let rows = SeenRows::new(&self.rows, self.sharing);
         self.plan.place_from(&rows, &self.waits, from);
         self.touched = (rows.len() - from) as u64;

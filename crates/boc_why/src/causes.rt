@@ -135,7 +135,8 @@ fn span_with(
 /// For each cause the span that is left where the def's behaviours cost half as much, the cowns order nobody, or the def's behaviours spawn as
 /// early as they can: the end of the earliest plan, in ticks. These are the defs of the rows. `AllocError` says that memory was refused.
 ///
-/// Each cause takes a copy of the rows, and memory and time that grow with the number of rows and their cowns. Threads share out the causes.
+/// Each cause takes a copy of the rows, and memory and time that grow with the number of rows and their cowns; where cowns order nobody, one such
+/// copy after the other for each of them. Threads share out the causes.
 pub fn spans_with(
     rt: &(impl Threads + Sync),
     alloc: Global,

@@ -219,7 +219,8 @@ fn chosen(alloc: Global, tried: &[Remedy], placed: &[Placed]) -> Result<Vec<Cand
 /// What is tried, each with the span that is left, the least span first. These are the defs of the rows, and each cown belongs to the family at its
 /// place. `AllocError` says that memory was refused.
 ///
-/// Each remedy takes a plan of its own, with memory and time that grow with the number of rows and their cowns. Threads share out the plans.
+/// Each remedy takes a plan of its own, with memory and time that grow with the number of rows and their cowns; to leave out an array takes a copy of
+/// the rows for each of its cowns. Threads share out the plans.
 pub(crate) fn candidates(
     rt: &(impl Threads + Sync),
     alloc: Global,

@@ -84,8 +84,8 @@ fn tried_for(
 /// would bring the end forward, best first, and the least that any order of the cowns could end at. These are the defs of the rows, and each cown
 /// belongs to the family at its place. `AllocError` says that memory was refused.
 ///
-/// Each remedy that is tried takes a plan of its own, with memory and time that grow with the number of rows and their cowns. Threads share out
-/// these plans.
+/// Each remedy that is tried takes a plan of its own, with memory and time that grow with the number of rows and their cowns; to leave out an array
+/// takes a copy of the rows for each of its cowns. Threads share out these plans.
 pub fn why_of(
     rt: &(impl Threads + Sync),
     alloc: Global,

@@ -3,6 +3,7 @@ use Rattle.std.specs.Prelude.{min}
 use Rattle.boc_plans.specs.declared.edit.Edit.{Edit}
 use Rattle.boc_plans.specs.Edits.{IsChanged, IsEditFault}
 use Rattle.boc_whatif.specs.Asked.{AreMade}
+use Rattle.boc_whatif.proofs.Changing.{siblings_changed}
 use Rattle.boc_whatif.proofs.Successive.{edited_next, first_unfit}
 use Rattle.boc_whatif.proofs.Keeping.{least_next}
 use Rattle.boc_whatif.proofs.edits.make_all.Goals as goal
@@ -19,6 +20,7 @@ returns-in-Err-clause-made c =
 pub loop-index-preserved : goal.loop-index-preserved
 loop-index-preserved c = record {
   lasts = c.make.ensures.lasts;
+  siblings = siblings_changed c.loop-index.rows c.args.siblings.now _ _ c.make.new.rows c.in_default.ensures.made c.loop-index.invariant.siblings;
   made = record {
     edited = edited_next c.args.rows.now c.loop-index.rows c.make.new.rows c.args.edits.now c.loop-index.index _ c.loop-index-test.true
         c.loop-index.invariant.made.edited

@@ -1,7 +1,7 @@
 """What `cowns` tells, computed plainly from the rows of a record and the names of its cowns."""
 from typing import NamedTuple, Tuple
 
-from .why import table
+from .why import bound_line, table
 
 MOST = 75
 HEADS = ["cown", "rows", "wrote", "held", "of span", "waited", "chain", "without"]
@@ -126,7 +126,7 @@ def verdict(names, whole, spawns, hot):
     if (last[3] + last[7]) * 100 >= MOST * whole + (100 - MOST) * spawns:
         return (f"load: {names[last[0]]} is held {last[3]} of {whole} ticks, none of them before tick {last[7]}; "
                 "spawn earlier, split it, or shorten what holds it")
-    return f"order: no cown is held for more than {held} of {whole} ticks; the order in which behaviours ask is what holds back"
+    return f"order: no cown is held for more than {held} of {whole} ticks; another order of the behaviours may end sooner"
 
 
 def shared_reads(names, shared, hot):
@@ -154,6 +154,7 @@ def cowns_text(record, names=None, shared=False, top=None):
         lines.append(f".. and {more} more cown" + ("s" if more > 1 else ""))
     lines.append(f"span {whole}; by spawns alone {spawns}" + (f"; busiest cown {hot[0][3]}" if hot else ""))
     lines.append(verdict(names, whole, spawns, hot))
+    lines.append(bound_line(spawns, [(own[3], own[7]) for own in sorted(hot)], names, shared))
     if not shared and reads < whole:
         lines.append(shared_reads(names, reads, hot))
     return "".join(line + "\n" for line in lines)

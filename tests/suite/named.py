@@ -20,6 +20,7 @@ checker    12     12   138      49%       0      0      279
 store       6      6    48      17%       0      0      279
 span 279; by spawns alone 109; busiest cown 228
 load: pricer is held 228 of 279 ticks; split it, or shorten what holds it
+lower bound for any order: 261 (pricer is held for 228 ticks, from tick 33 on)
 """
 
 SCOREBOARD = """\
@@ -30,6 +31,7 @@ player[1]     4      4   165      34%       0      0      478
 .. and 8 more cowns
 span 478; by spawns alone 207; busiest cown 472
 load: best is held 472 of 478 ticks; split it, or shorten what holds it
+lower bound for any order: 478 (best is held for 472 ticks, from tick 6 on)
 with --shared-reads the span is 236: 38 of the 50 rows of best only read it
 """
 
@@ -39,6 +41,7 @@ node[20]     1      1    84      48%       0      0      174
 .. and 63 more cowns
 span 174; by spawns alone 141; busiest cown 84
 spawns: they alone need 141 of 174 ticks; spawn earlier, or do less
+lower bound for any order: 141 (their spawns take that long)
 """
 
 # The cown is held for most of the span, and nobody waits for it: each behaviour spawns the next one as it ends.
@@ -47,6 +50,7 @@ cown  rows  wrote  held  of span  waited  chain  without
 a        3      3    11      84%       0      0       13
 span 13; by spawns alone 13; busiest cown 11
 spawns: they alone need 13 of 13 ticks; spawn earlier, or do less
+lower bound for any order: 13 (a is held for 11 ticks, from tick 2 on)
 """
 
 # Two read for 7 ticks side by side, and then the one that writes holds the cown alone, for 2.
@@ -55,6 +59,7 @@ cown  rows  wrote  held  of span  waited  chain  without
 a        3      1     2      16%       6      7       10
 span 12; by spawns alone 10; busiest cown 2
 spawns: they alone need 10 of 12 ticks; spawn earlier, or do less
+lower bound for any order: 10 (their spawns take that long)
 """
 
 

@@ -144,13 +144,25 @@ def candidates(rows, names, by_def, by_link, links):
     return sorted(((name, model.span(left)) for name, left in tried), key=lambda candidate: candidate[1])
 
 
+def bound_line(spawns, held, names, shared=False):
+    """The tick before which no order of the cowns ends: of each cown the ticks of the rows that write it, and the least start of one by the spawns alone."""
+    untils = [ticks + first for ticks, first in held]
+    if not untils or max(untils) < spawns:
+        return f"lower bound for any order: {spawns} (their spawns take that long)"
+    cown = untils.index(max(untils))
+    ticks, first = held[cown]
+    behind = f", from tick {first} on" if first else ""
+    return f"lower bound for any order: {untils[cown]} ({names[cown]} is {'written' if shared else 'held'} for {ticks} ticks{behind})"
+
+
 def least_line(rows, names):
-    spawns = model.span([row._replace(cowns=()) for row in rows])
-    loads = [sum(row.ticks for row in rows if cown in row.cowns) for cown in range(len(names.cowns))]
-    busiest = max(loads, default=0)
-    if not loads or busiest < spawns:
-        return f"no order of these behaviours ends before {spawns}: their spawns take so long"
-    return f"no order of these behaviours ends before {busiest}: {names.cowns[loads.index(busiest)]} is held so long"
+    alone = [row._replace(cowns=()) for row in rows]
+    starts = model.earliest_starts(alone)
+    held = []
+    for cown in range(len(names.cowns)):
+        own = [number for number, row in enumerate(rows) if cown in row.cowns]
+        held.append((sum(rows[number].ticks for number in own), min((starts[number] for number in own), default=0)))
+    return bound_line(model.span(alone), held, names.cowns)
 
 
 def why(rows, names, every=False):
@@ -198,7 +210,7 @@ candidates              span  less
   main at 1/2              8     1
   without a                8     1
   early spawns by main     8     1
-no order of these behaviours ends before 6: their spawns take so long
+lower bound for any order: 8 (b is held for 5 ticks, from tick 3 on)
 """
 
 PIPELINE = """\
@@ -234,7 +246,7 @@ candidates               span  less
   early spawns by main    275     4
   main at 1/2             277     2
   without parser          277     2
-no order of these behaviours ends before 228: pricer is held so long
+lower bound for any order: 261 (pricer is held for 228 ticks, from tick 33 on)
 """
 
 BANK = """\
@@ -270,7 +282,7 @@ candidates              span  less
   without total          791    36
   early spawns by main   817    10
   main at 1/2            822     5
-no order of these behaviours ends before 716: log is held so long
+lower bound for any order: 727 (log is held for 716 ticks, from tick 11 on)
 """
 
 # The meals hand on the count of all meals, each with another fork.
@@ -301,7 +313,7 @@ candidates               span  less
   main at 1/2             715     2
   without fork[*]         717     0
   without meals           717     0
-no order of these behaviours ends before 685: meals is held so long
+lower bound for any order: 717 (meals is held for 685 ticks, from tick 32 on)
 """
 
 # The chain of the tree: some of the joins hand on, each something else, and some spawn the next one.
@@ -354,7 +366,7 @@ candidates              span  less
   main at 1/2             11     1
   set at 1/2              11     1
   early spawns by main    11     1
-no order of these behaviours ends before 10: their spawns take so long
+lower bound for any order: 10 (their spawns take that long)
 """
 
 

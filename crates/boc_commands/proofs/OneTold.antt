@@ -18,7 +18,7 @@ use Rattle.boc_why.proofs.OneWhy.{one_why}
 use Rattle.boc_why_report.specs.WhyTexts.{greedy_line}
 use Rattle.boc_why_report.proofs.OneText.{one_text as one_why_text}
 use Rattle.boc_cowns.specs.Hot.{IsHotCowns}
-use Rattle.boc_cowns.proofs.One.{cowns_same, shared_same, span_same, spawns_same}
+use Rattle.boc_cowns.proofs.One.{cowns_same, least_same, shared_same, span_same}
 use Rattle.boc_cowns_report.proofs.OneText.{one_text as one_cowns_text}
 use Rattle.boc_words.specs.declared.asked.RunFile.{RunFile}
 use Rattle.boc_words.specs.declared.schedule.Schedule.{Schedule}
@@ -71,7 +71,7 @@ told_of_cowns rows hr names others same sharing top text other a b =
     subst (λ (families : List ℕ). IsHotCowns rows sharing (length families) a.hot) same.families a.is_hot in
     a.told.is
     ∙ one_cowns_text names others same a.hot b.hot (span_same rows hr sharing count a.hot b.hot hot b.is_hot)
-    (spawns_same rows hr sharing count a.hot b.hot hot b.is_hot) (shared_same rows hr sharing count a.hot b.hot hot b.is_hot)
+    (least_same rows hr sharing count a.hot b.hot hot b.is_hot) (shared_same rows hr sharing count a.hot b.hot hot b.is_hot)
     (cowns_same rows hr sharing count a.hot b.hot hot b.is_hot) sharing top
     ∙ sym b.told.is
 

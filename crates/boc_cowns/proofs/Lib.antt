@@ -1,5 +1,4 @@
 pub mod Added
-pub mod FirstStarts
 pub mod Handed
 pub mod Held
 pub mod Steps

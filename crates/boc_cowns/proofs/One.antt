@@ -16,16 +16,15 @@ use Rattle.boc_plans.specs.Seen.{seen}
 use Rattle.boc_plans.proofs.Seeing.{rows_seen}
 use Rattle.boc_order.specs.Placed.{IsTight}
 use Rattle.boc_order.proofs.Alone.{one_chain, one_end, one_plan, one_span}
-use Rattle.boc_why.specs.Least.{without_cowns}
-use Rattle.boc_why.proofs.LeastSpawns.{plan_span}
+use Rattle.boc_why.specs.Least.{IsHeldFrom, load_of, without_cowns, wrote_cown}
+use Rattle.boc_why.proofs.FirstStarts.{one_first}
+use Rattle.boc_why.proofs.OneLeast.{one_least}
 use Rattle.boc_why.proofs.LinkLists.{contains_from_place, place_from_contains}
 use Rattle.boc_why.proofs.ShareLaws.{ranked_from_places, same_ranked}
 use Rattle.boc_cowns.specs.declared.hot.HotCown.{HotCown}
 use Rattle.boc_cowns.specs.declared.hot.HotCowns.{HotCowns}
-use Rattle.boc_cowns.specs.Hot.{AreAwaited, AreSorted, IsHeldFrom, IsHotCown, IsHotCowns, IsHotter, chain_through, hands_cown, held_for}
-use Rattle.boc_cowns.specs.Hot.{rows_that_wrote, rows_with}
-use Rattle.boc_cowns.specs.Hot.{sum_where, wait_of, waited_for, waits_over, wrote_cown}
-use Rattle.boc_cowns.proofs.FirstStarts.{one_first}
+use Rattle.boc_cowns.specs.Hot.{AreAwaited, AreSorted, IsHotCown, IsHotCowns, IsHotter, chain_through, hands_cown, rows_that_wrote, rows_with}
+use Rattle.boc_cowns.specs.Hot.{sum_where, wait_of, waited_for, waits_over}
 use Rattle.boc_cowns.proofs.Waits.{main_waits}
 
 -- what passes the same tests adds up to the same
@@ -76,7 +75,7 @@ module _ (list : List Row) (sharing : Sharing) (hr : IsRows (seen sharing list))
       ∙ (ap (λ (k : ℕ). made b.cown k a.wrote a.held a.from a.waited a.chain a.without) (ha.rows ∙ (ap (rows_with list) e ∙ sym hb.rows))
       ∙ (ap (λ (k : ℕ). made b.cown b.rows k a.held a.from a.waited a.chain a.without) (ha.wrote ∙ (ap (rows_that_wrote list) e ∙ sym hb.wrote))
       ∙ (ap (λ (k : ℕ). made b.cown b.rows b.wrote k a.from a.waited a.chain a.without)
-      (ha.held ∙ (ap (held_for (seen sharing list)) e ∙ sym hb.held))
+      (ha.held ∙ (ap (load_of (seen sharing list)) e ∙ sym hb.held))
       ∙ (ap (λ (o : Option ℕ). made b.cown b.rows b.wrote b.held o a.waited a.chain a.without) from
       ∙ (ap (λ (k : ℕ). made b.cown b.rows b.wrote b.held b.from k a.chain a.without)
       (ha.waited ∙ (ap (waited_for (seen sharing list) plan after) e
@@ -108,31 +107,31 @@ module _ (list : List Row) (rows : IsRows list) (sharing : Sharing) (count : ℕ
   awaited_too : AreAwaited (seen sharing list) h.plan o.after
   awaited_too = subst (λ (p : List ℕ). AreAwaited (seen sharing list) p o.after) plan_same o.awaited
 
-  spawned_same : o.spawned ≡ h.spawned
-  spawned_same = one_plan (without_cowns (seen sharing list)) o.spawned h.spawned o.by_spawns.earliest h.by_spawns.earliest
+  spawned_same : o.least.spawned ≡ h.least.spawned
+  spawned_same = one_plan (without_cowns (seen sharing list)) o.least.spawned h.least.spawned o.least.by_spawns.earliest
+      h.least.by_spawns.earliest
 
-  each_too : (i : ℕ) (own : HotCown) → slice_get other.cowns.items i ≡ Some own → IsHotCown list sharing h.plan o.after h.spawned h.steps own
-  each_too i own at = subst (λ (s : List ChainStep). IsHotCown list sharing h.plan o.after h.spawned s own) steps_same
+  each_too : (i : ℕ) (own : HotCown) → slice_get other.cowns.items i ≡ Some own → IsHotCown list sharing h.plan o.after h.least.spawned h.steps own
+  each_too i own at = subst (λ (s : List ChainStep). IsHotCown list sharing h.plan o.after h.least.spawned s own) steps_same
       (subst (λ (q : List ℕ). IsHotCown list sharing h.plan o.after q o.steps own) spawned_same
-      (subst (λ (p : List ℕ). IsHotCown list sharing p o.after o.spawned o.steps own) plan_same (o.each i own at)))
+      (subst (λ (p : List ℕ). IsHotCown list sharing p o.after o.least.spawned o.steps own) plan_same (o.each i own at)))
 
   pub cowns_same : hot.cowns.items ≡ other.cowns.items
   cowns_same =
       let shape = rows_seen sharing list rows in
       same_ranked IsHotter hotter_once hot.cowns.items other.cowns.items
       (ranked_from_places IsHotter hot.cowns.items h.sorted.sorted) (ranked_from_places IsHotter other.cowns.items o.sorted.sorted)
-      (cowns_there list sharing shape h.plan h.after o.after h.awaited awaited_too h.spawned h.steps count hot.cowns.items other.cowns.items h.each each_too
+      (cowns_there list sharing shape h.plan h.after o.after h.awaited awaited_too h.least.spawned h.steps count hot.cowns.items other.cowns.items h.each each_too
       h.sorted o.sorted)
-      (cowns_there list sharing shape h.plan o.after h.after awaited_too h.awaited h.spawned h.steps count other.cowns.items hot.cowns.items each_too h.each
+      (cowns_there list sharing shape h.plan o.after h.after awaited_too h.awaited h.least.spawned h.steps count other.cowns.items hot.cowns.items each_too h.each
       o.sorted h.sorted)
 
   pub span_same : hot.span ≡ other.span
   span_same = one_end (seen sharing list) h.plan hot.span other.span h.ends
       (subst (λ (p : List ℕ). IsEnd (seen sharing list) p other.span) plan_same o.ends)
 
-  pub spawns_same : hot.spawns ≡ other.spawns
-  spawns_same = one_span (without_cowns (seen sharing list)) hot.spawns other.spawns (plan_span (seen sharing list) h.spawned hot.spawns h.by_spawns)
-      (plan_span (seen sharing list) o.spawned other.spawns o.by_spawns)
+  pub least_same : hot.least ≡ other.least
+  least_same = one_least (seen sharing list) count hot.least other.least h.least o.least
 
   pub shared_same : hot.shared ≡ other.shared
   shared_same = one_span (seen SharedReads list) hot.shared other.shared h.by_shared_reads o.by_shared_reads

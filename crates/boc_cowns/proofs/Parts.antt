@@ -4,7 +4,7 @@ use Rattle.std.specs.Prelude.{All, slice_get, slice_index}
 use Rattle.std.proofs.lemmas.Option.{slice_get-get_or}
 use Rattle.boc_program.specs.declared.limits.TheConstants.{MOST_COWNS, MOST_ROWS}
 use Rattle.boc_runs.specs.declared.rows.Row.{Row}
-use Rattle.boc_runs.specs.Rows.{IsRows, ticks_of}
+use Rattle.boc_runs.specs.Rows.{IsRows}
 use Rattle.boc_plans.specs.declared.sharing.Sharing.{Sharing}
 use Rattle.boc_plans.specs.Seen.{seen}
 use Rattle.boc_plans.specs.declared.sharing.Sharing.TheVariants.{SharedReads}
@@ -19,11 +19,12 @@ use Rattle.boc_order.specs.Standing.{IsPlanOf}
 use Rattle.boc_order.proofs.Alone.{one_plan}
 use Rattle.boc_order.proofs.Chaining.{placed_earliest}
 use Rattle.boc_cowns.specs.declared.columns.Columns.{Columns}
-use Rattle.boc_why.specs.Least.{IsSpawnPlan}
+use Rattle.boc_why.specs.Least.{AreLoads, IsBusiestOf, IsSpawnPlan}
+use Rattle.boc_why.proofs.LeastLoads.{all_low}
 use Rattle.boc_cowns.specs.declared.hot.HotCown.{HotCown}
 use Rattle.boc_cowns.specs.declared.hot.HotCowns.{HotCowns}
-use Rattle.boc_cowns.specs.Hot.{AreSorted, IsHotCowns, wrote_cown}
-use Rattle.boc_cowns.specs.Columns.{AreSums, HasColumns, TellColumns}
+use Rattle.boc_cowns.specs.Hot.{AreSorted, IsHotCowns}
+use Rattle.boc_cowns.specs.Columns.{HasColumns, TellColumns}
 use Rattle.boc_cowns.proofs.Telling.{awaited, column_tells}
 
 -- all columns count no more rows than there may be
@@ -35,14 +36,14 @@ pub span_some : (rows : List Row) → IsRows rows → (plan : List ℕ) (span : 
 span_some rows hr plan span end = omega (arith, end.none_later 0 hr.not_empty, hr.ticks_low 0 hr.not_empty)
 
 -- no cown is held for longer than all rows can take
-pub held_low : (rows : List Row) (columns : Columns) (count : ℕ) (cowns : List HotCown) → count ≤ MOST_COWNS → length rows ≤ MOST_ROWS
-    → AreSums (wrote_cown rows) (ticks_of rows) (length rows) columns.held.items → TellColumns columns cowns → AreSorted count cowns
+pub held_low : (rows : List Row) (columns : Columns) (count : ℕ) (cowns : List HotCown) → count ≤ MOST_COWNS → IsRows rows
+    → AreLoads rows columns.held.items → TellColumns columns cowns → AreSorted count cowns
     → All (λ own. own.held < 2 ^ 56) cowns
-held_low rows columns count cowns few few_rows so tell sorted k d h =
+held_low rows columns count cowns few shape loads tell sorted k d h =
     let own : HotCown = get_or cowns k d in
     let there = slice_get-get_or cowns k d h in
     let is : own.held ≡ slice_index columns.held.items own.cown = ap (λ (hot : HotCown). hot.held) (tell k own there) in
-    omega (arith, is, so.low own.cown (omega (arith, sorted.below k own there, few)), few_rows)
+    omega (arith, is, loads.at own.cown (omega (arith, sorted.below k own there, few)), all_low rows shape own.cown)
 
 module _ (list : List Row) (sharing : Sharing) (hr : IsRows (seen sharing list)) (plan : Earliest) (placed : IsPlanOf (seen sharing list) plan)
     (profile : Profile) (is : IsProfileOf (seen sharing list) profile) where
@@ -54,9 +55,9 @@ module _ (list : List Row) (sharing : Sharing) (hr : IsRows (seen sharing list))
   -- the answer, from its parts
   pub hot_is : (count : ℕ) (columns : Columns) (cowns : List HotCown) (spawned : List ℕ) (hot : HotCowns) → count ≤ MOST_COWNS
       → HasColumns list (seen sharing list) plan.starts.items plan.after.items spawned profile.chain.steps.items count columns
-      → TellColumns columns cowns → AreSorted count cowns → hot.span ≡ profile.span → IsSpawnPlan (seen sharing list) spawned hot.spawns
-      → IsSpan (seen SharedReads list) hot.shared → hot.cowns.items ≡ cowns → IsHotCowns list sharing count hot
-  hot_is count columns cowns spawned hot few has tell sorted span by_spawns by_shared items = record {
+      → TellColumns columns cowns → AreSorted count cowns → hot.span ≡ profile.span → IsSpawnPlan (seen sharing list) spawned hot.least.spawns
+      → IsBusiestOf (seen sharing list) spawned count hot.least.busiest → IsSpan (seen SharedReads list) hot.shared → hot.cowns.items ≡ cowns → IsHotCowns list sharing count hot
+  hot_is count columns cowns spawned hot few has tell sorted span by_spawns busiest by_shared items = record {
     plan = plan.starts.items;
     earliest = placed_earliest (seen sharing list) hr plan.starts.items plan.ends.items plan.after.items placed;
     after = plan.after.items;
@@ -64,8 +65,7 @@ module _ (list : List Row) (sharing : Sharing) (hr : IsRows (seen sharing list))
     steps = profile.chain.steps.items;
     picked = subst (λ (starts : List ℕ). IsPicked (seen sharing list) starts profile.chain.steps.items) starts_same is.picked;
     ends = rw span (subst (λ (starts : List ℕ). IsEnd (seen sharing list) starts profile.span) starts_same is.span);
-    spawned = spawned;
-    by_spawns = by_spawns;
+    least = record { spawned = spawned; by_spawns = by_spawns; busiest = busiest };
     by_shared_reads = by_shared;
     each = λ i own at.
         let there : slice_get cowns i ≡ Some own = subst (λ (l : List HotCown). slice_get l i ≡ Some own) items at in

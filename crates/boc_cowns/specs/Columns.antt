@@ -2,23 +2,18 @@
 use Rattle.std.specs.Prelude.{◌≡◌, ℕ, ◌*◌, ◌<◌, ◌≤◌, Bool, List, length, Option, Some, None, slice_get, slice_index, slice_index_or}
 use Rattle.boc_program.specs.declared.limits.TheConstants.{MOST_COWNS, MOST_ROWS, MOST_TICKS}
 use Rattle.boc_runs.specs.declared.rows.Row.{Row}
-use Rattle.boc_runs.specs.Rows.{ticks_of}
 use Rattle.boc_plans.specs.declared.chain.ChainStep.{ChainStep}
 use Rattle.boc_plans.specs.Edits.{IsCownSweep}
+use Rattle.boc_why.specs.Least.{AreFirstStarts, AreLoads, wrote_cown}
 use Rattle.boc_cowns.specs.declared.hot.HotCown.{HotCown}
 use Rattle.boc_cowns.specs.declared.columns.Columns.{Columns}
-use Rattle.boc_cowns.specs.Hot.{IsFirstStart, has_cown, one, step_hands, sum_where, wait_of, waits_over, weight_at, wrote_cown}
+use Rattle.boc_cowns.specs.Hot.{has_cown, one, step_hands, sum_where, wait_of, waits_over, weight_at}
 
 -- for each cown what the first n numbers that pass its test add up to, none of them with more ticks than all rows can take together
 pub record AreSums (passes : ℕ → ℕ → Bool) (ticks : ℕ → ℕ) (n : ℕ) (totals : List ℕ) : Type 0 where
   pub whole : length totals ≡ MOST_COWNS
   pub at : (cown : ℕ) → cown < MOST_COWNS → slice_index totals cown ≡ sum_where (passes cown) ticks n
   pub low : (cown : ℕ) → cown < MOST_COWNS → slice_index totals cown ≤ n * (MOST_ROWS * MOST_TICKS)
-
--- for each cown the least start of those of the first n rows that wrote it, or none where no row did
-pub record AreFirstStarts (rows : List Row) (starts : List ℕ) (n : ℕ) (firsts : List (Option ℕ)) : Type 0 where
-  pub whole : length firsts ≡ MOST_COWNS
-  pub at : (cown : ℕ) → cown < MOST_COWNS → IsFirstStart (wrote_cown rows cown) starts n (slice_index_or firsts cown None)
 
 -- what the columns have of a cown
 abbrev pub row_of : Columns → ℕ → HotCown
@@ -48,7 +43,7 @@ pub record HasColumns (list all : List Row) (plan : List ℕ) (after : List (Opt
     (columns : Columns) : Type 0 where
   pub with_it : AreSums (has_cown list) one (length list) columns.rows.items
   pub that_wrote : AreSums (wrote_cown list) one (length list) columns.wrote.items
-  pub for_ticks : AreSums (wrote_cown all) (ticks_of all) (length all) columns.held.items
+  pub for_ticks : AreLoads all columns.held.items
   pub first : AreFirstStarts all spawned (length all) columns.from.items
   pub waits : AreSums (waits_over all after) (wait_of all plan) (length all) columns.waited.items
   pub through : AreSums (step_hands all steps) (weight_at steps) (length steps) columns.chain.items

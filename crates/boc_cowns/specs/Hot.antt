@@ -1,10 +1,10 @@
 -- Which cowns hold some rows back.
-use Rattle.std.specs.Prelude.{◌≡◌, ℕ, zero, suc, ◌+◌, ◌-◌, ◌<◌, ◌≤◌, ◌⊎◌, Bool, true, false, ◌&&◌, ◌||◌, cond, List, length, min, nat_eq}
+use Rattle.std.specs.Prelude.{◌≡◌, ℕ, zero, suc, ◌+◌, ◌-◌, ◌<◌, ◌⊎◌, Bool, false, ◌&&◌, ◌||◌, cond, List, length, nat_eq}
 use Rattle.std.specs.Prelude.{Option, Some, None, slice_get, slice_index_or}
 use Rattle.std.specs.List.{list_any}
 use Rattle.std.specs.Option.{option_map_or}
 use Rattle.boc_runs.specs.declared.rows.Row.{Row}
-use Rattle.boc_runs.specs.Rows.{parent_of, offset_of, ticks_of, cowns_of, written_of}
+use Rattle.boc_runs.specs.Rows.{parent_of, offset_of, cowns_of}
 use Rattle.boc_runs.specs.Changes.{without}
 use Rattle.boc_plans.specs.declared.sharing.Sharing.{Sharing}
 use Rattle.boc_plans.specs.declared.sharing.Sharing.TheVariants.{SharedReads}
@@ -16,7 +16,7 @@ use Rattle.boc_plans.specs.Plans.{start_of, IsEarliest, IsEnd}
 use Rattle.boc_plans.specs.Chains.{IsPicked}
 use Rattle.boc_plans.specs.Greedy.{IsSpan}
 use Rattle.boc_order.specs.Placed.{IsTight}
-use Rattle.boc_why.specs.Least.{IsSpawnPlan}
+use Rattle.boc_why.specs.Least.{IsHeldFrom, IsLeast, load_of, start_or_0, wrote_cown}
 use Rattle.boc_cowns.specs.declared.hot.HotCown.{HotCown}
 use Rattle.boc_cowns.specs.declared.hot.HotCowns.{HotCowns}
 
@@ -25,10 +25,6 @@ use Rattle.boc_cowns.specs.declared.hot.HotCowns.{HotCowns}
 -- whether a row has a cown
 abbrev pub has_cown : List Row → ℕ → ℕ → Bool
 has_cown rows cown r = list_any (nat_eq cown) (cowns_of rows r)
-
--- whether a row wrote it
-abbrev pub wrote_cown : List Row → ℕ → ℕ → Bool
-wrote_cown rows cown r = list_any (nat_eq cown) (written_of rows r)
 
 -- the ticks of those of the first n numbers that pass a test, added up
 abbrev pub sum_where : (ℕ → Bool) → (ℕ → ℕ) → ℕ → ℕ
@@ -46,34 +42,6 @@ rows_with rows cown = sum_where (has_cown rows cown) one (length rows)
 -- how many rows wrote it
 abbrev pub rows_that_wrote : List Row → ℕ → ℕ
 rows_that_wrote rows cown = sum_where (wrote_cown rows cown) one (length rows)
-
--- For how long it is held by one row alone: the ticks of the rows that wrote it, of which no two can be under way at once. (These are rows as plans
--- see them: where cowns are exclusive, each row wrote all it has.)
-abbrev pub held_for : List Row → ℕ → ℕ
-held_for rows cown = sum_where (wrote_cown rows cown) (ticks_of rows) (length rows)
-
--- the sooner of a start and the one before it, if there was one
-abbrev pub sooner : Option ℕ → ℕ → ℕ
-sooner None start = start
-sooner (Some first) start = min first start
-
--- of those of the first n rows that pass a test one starts then, and none sooner
-pub record IsLeastStart (passes : ℕ → Bool) (plan : List ℕ) (n first : ℕ) : Type 0 where
-  pub row : ℕ
-  pub below : row < n
-  pub is_one : passes row ≡ true
-  pub starts : start_of plan row ≡ first
-  pub none_sooner : (r : ℕ) → r < n → passes r ≡ true → first ≤ start_of plan r
-
--- the least start of those of the first n rows that pass a test, or none where no row does
-abbrev pub IsFirstStart : (ℕ → Bool) → List ℕ → ℕ → Option ℕ → Type 0
-IsFirstStart passes plan n None = (r : ℕ) → r < n → passes r ≡ false
-IsFirstStart passes plan n (Some first) = IsLeastStart passes plan n first
-
--- A tick before which no row that wrote the cown starts, in whatever order: the least start of one in this plan of the rows, in which only the spawns
--- order them; none where no row wrote it.
-abbrev pub IsHeldFrom : List Row → List ℕ → ℕ → Option ℕ → Type 0
-IsHeldFrom rows spawned cown first = IsFirstStart (wrote_cown rows cown) spawned (length rows) first
 
 -- ---- the rows that hand it on
 
@@ -127,20 +95,16 @@ pub record IsHotCown (list : List Row) (sharing : Sharing) (plan : List ℕ) (af
     (hot : HotCown) : Type 0 where
   pub rows : hot.rows ≡ rows_with list hot.cown
   pub wrote : hot.wrote ≡ rows_that_wrote list hot.cown
-  pub held : hot.held ≡ held_for (seen sharing list) hot.cown
+  pub held : hot.held ≡ load_of (seen sharing list) hot.cown
   pub from : IsHeldFrom (seen sharing list) spawned hot.cown hot.from
   pub waited : hot.waited ≡ waited_for (seen sharing list) plan after hot.cown
   pub chain : hot.chain ≡ chain_through (seen sharing list) steps hot.cown
   pub left : IsSpan (without hot.cown (seen sharing list)) hot.without
 
--- a tick before which no row that wrote a cown starts, in whatever order; 0 where no row wrote it
-abbrev pub held_from : HotCown → ℕ
-held_from own = option_map_or (λ first. first) own.from 0
-
 -- The tick before which the rows that wrote a cown are not all done, in whatever order: they start no sooner than the first of them can, and hold it one
 -- at a time.
 abbrev pub busy_until : HotCown → ℕ
-busy_until own = held_from own + own.held
+busy_until own = start_or_0 own.from + own.held
 
 -- the one is held longer, or as long and has the lesser number
 abbrev pub IsHotter : HotCown → HotCown → Type 0
@@ -154,7 +118,7 @@ pub record AreSorted (count : ℕ) (cowns : List HotCown) : Type 0 where
   pub sorted : (i j : ℕ) (a b : HotCown) → i < j → slice_get cowns i ≡ Some a → slice_get cowns j ≡ Some b → IsHotter a b
 
 -- What is told of so many cowns of these rows: their earliest plan, with the row that each row waits for, and the chain that is picked in it; its end;
--- the span of the rows without any cown, and that where reads are shared; and each cown, those that are held longest first.
+-- when the rows end at the earliest in whatever order; the span where reads are shared; and each cown, those that are held longest first.
 pub record IsHotCowns (list : List Row) (sharing : Sharing) (count : ℕ) (hot : HotCowns) : Type 0 where
   pub plan : List ℕ
   pub earliest : IsEarliest (seen sharing list) plan
@@ -163,8 +127,7 @@ pub record IsHotCowns (list : List Row) (sharing : Sharing) (count : ℕ) (hot :
   pub steps : List ChainStep
   pub picked : IsPicked (seen sharing list) plan steps
   pub ends : IsEnd (seen sharing list) plan hot.span
-  pub spawned : List ℕ
-  pub by_spawns : IsSpawnPlan (seen sharing list) spawned hot.spawns
+  pub least : IsLeast (seen sharing list) count hot.least
   pub by_shared_reads : IsSpan (seen SharedReads list) hot.shared
-  pub each : (i : ℕ) (own : HotCown) → slice_get hot.cowns.items i ≡ Some own → IsHotCown list sharing plan after spawned steps own
+  pub each : (i : ℕ) (own : HotCown) → slice_get hot.cowns.items i ≡ Some own → IsHotCown list sharing plan after least.spawned steps own
   pub sorted : AreSorted count hot.cowns.items

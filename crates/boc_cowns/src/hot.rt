@@ -12,15 +12,14 @@ ghost use Rattle.boc_cowns.specs.Hot.{IsHotCowns};
 ghost use Rattle.boc_cowns.specs.Columns.{HasColumns};
 
 use crate::columns::{Columns, sorted};
-use crate::firsts::first_starts;
-use crate::totals::{chain_ticks, held_ticks, row_counts, waits_of, writer_counts};
+use crate::totals::{chain_ticks, row_counts, waits_of, writer_counts};
 use boc_order::{Earliest, waits_and_plan};
 use boc_plans::chain::ChainStep;
 use boc_plans::sharing::{SeenRows, Sharing};
 use boc_program::short::HeldCown;
 use boc_runs::rows::Rows;
 use boc_sweep::cown_sweep;
-use boc_why::{SpawnPlan, spawn_plan};
+use boc_why::{Least, SpawnPlan, busiest_of, first_starts, loads_of, spawn_plan};
 use std::alloc::{AllocError, Global};
 use std::thread::Threads;
 
@@ -53,8 +52,8 @@ pub struct HotCown {
 pub struct HotCowns {
     /// The span of the rows: the end of their earliest plan.
     pub span: u64,
-    /// The span that they would have if none had a cown.
-    pub spawns: u64,
+    /// When they end at the earliest, in whatever order they get their cowns.
+    pub least: Least,
     /// The span that they would have if reads were shared.
     pub shared: u64,
     /// The cowns, those that are held longest first, and of those that are held as long the least number first.
@@ -85,7 +84,7 @@ fn columns_of(
     Ok(Columns {
         rows: row_counts(alloc, list)?,
         wrote: writer_counts(alloc, list)?,
-        held: held_ticks(alloc, seen)?,
+        held: loads_of(alloc, seen)?,
         from: first_starts(alloc, seen, &alone.starts)?,
         waited: waits_of(alloc, seen, plan)?,
         chain: chain_ticks(alloc, seen, steps)?,
@@ -104,7 +103,8 @@ fn shared_span(alloc: Global, rows: &Rows) -> Result<u64, AllocError>
 
 /// Which cowns hold some rows back: for each of so many cowns, those that are held longest first, how many rows have it and how many wrote it, for how
 /// long it is held by one row alone and waited for, how much of the chain hands it on, and the span that would be left if it ordered nobody; and the
-/// span of the rows, as they are, without any cown, and where reads are shared. `AllocError` says that memory was refused.
+/// span of the rows, as they are, and where reads are shared, and when they end at the earliest in whatever order. `AllocError` says that memory was
+/// refused.
 ///
 /// It takes time that grows with the number of rows and their cowns, once for each cown, and memory that grows with the number of rows. Threads share
 /// out the cowns.
@@ -126,9 +126,13 @@ pub fn hot_cowns(
     let alone = spawn_plan(alloc, &seen)?;
     let steps = profile.chain.steps.as_slice();
     let columns = columns_of(rt, alloc, rows, &seen, &plan, &alone, steps, cowns as usize)?;
+    let least = Least {
+        spawns: alone.span,
+        busiest: busiest_of(&columns.held, &columns.from, cowns as usize),
+    };
     Ok(HotCowns {
         span: profile.span,
-        spawns: alone.span,
+        least,
         shared: shared_span(alloc, rows)?,
         cowns: sorted(alloc, &columns, cowns as usize)?,
     })

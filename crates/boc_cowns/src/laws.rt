@@ -20,7 +20,7 @@ pub fn handed_where_rows_conflict()
 pub fn hot_cowns_are_one()
     ensures { (list : List Row) (sharing : Sharing) (count : ℕ) (hot other : HotCowns) → IsRows list → IsHotCowns list sharing count hot
         → IsHotCowns list sharing count other
-        → (hot.span ≡ other.span) × (hot.spawns ≡ other.spawns) × (hot.shared ≡ other.shared) × (hot.cowns.items ≡ other.cowns.items) }
+        → (hot.span ≡ other.span) × (hot.least ≡ other.least) × (hot.shared ≡ other.shared) × (hot.cowns.items ≡ other.cowns.items) }
 {}
 
 /// No plan that keeps the spawns of some rows, and keeps rows that conflict over a cown apart in whatever order, ends before the tick until which a cown

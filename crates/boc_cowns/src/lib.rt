@@ -3,7 +3,6 @@
 #![tactic(auto)]
 
 mod columns;
-mod firsts;
 mod hot;
 pub mod laws;
 mod totals;

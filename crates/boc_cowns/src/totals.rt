@@ -4,10 +4,11 @@ ghost use Rattle.std.specs.Prelude.{◌≡◌, ℕ, ◌+◌, ◌*◌, ◌<◌, �
 ghost use Rattle.std.specs.List.{list_any};
 ghost use Rattle.std.specs.List.Sorted.{IsStrictlyIncreasing};
 ghost use Rattle.boc_program.specs.declared.limits.TheConstants.{MOST_COWNS, MOST_ROWS};
-ghost use Rattle.boc_runs.specs.Rows.{IsRows, cowns_of, written_of, ticks_of};
+ghost use Rattle.boc_runs.specs.Rows.{IsRows, cowns_of, written_of};
 ghost use Rattle.boc_plans.specs.Chains.{IsChain};
 ghost use Rattle.boc_order.specs.Standing.{IsPlanOf};
-ghost use Rattle.boc_cowns.specs.Hot.{has_cown, one, step_hands, wait_of, waits_over, weight_at, wrote_cown};
+ghost use Rattle.boc_why.specs.Least.{wrote_cown};
+ghost use Rattle.boc_cowns.specs.Hot.{has_cown, one, step_hands, wait_of, waits_over, weight_at};
 ghost use Rattle.boc_cowns.specs.Columns.{AreSums};
 
 use boc_order::{Earliest, spawned_at};
@@ -90,33 +91,6 @@ pub(crate) fn writer_counts(alloc: Global, rows: &[Row]) -> Result<Vec<u64>, All
     let mut totals = vec![in alloc; 0; MOST_COWNS]?;
     for row in 0..rows.len() {
         count_writer(rows, row, &mut totals);
-    }
-    Ok(totals)
-}
-
-// Adds the ticks of the next row for each cown that it wrote.
-fn add_row(rows: &SeenRows, row: usize, totals: &mut [u64])
-    requires shape { IsRows rows.now }
-    requires there { row < length rows.now }
-    requires sums { AreSums (wrote_cown rows.now) (ticks_of rows.now) row totals.old }
-    ensures { AreSums (wrote_cown rows.now) (ticks_of rows.now) (row + 1) totals.new }
-{
-    let ticks = u64::from(rows.ticks(row));
-    for own in rows.cowns(row) {
-        if rows.writes(row, *own) {
-            totals[*own as usize] += ticks;
-        }
-    }
-}
-
-/// For each cown the ticks of the rows that wrote it. `AllocError` says that memory was refused.
-pub(crate) fn held_ticks(alloc: Global, rows: &SeenRows) -> Result<Vec<u64>, AllocError>
-    requires { IsRows rows.now }
-    ensures { IfOk result (λ totals. AreSums (wrote_cown rows.now) (ticks_of rows.now) (length rows.now) totals.items) }
-{
-    let mut totals = vec![in alloc; 0; MOST_COWNS]?;
-    for row in 0..rows.len() {
-        add_row(rows, row, &mut totals);
     }
     Ok(totals)
 }

@@ -8,12 +8,15 @@ use Rattle.boc_names.specs.declared.names.Names.{Names}
 use Rattle.boc_names.specs.Names.{CallTheSame, text_at}
 use Rattle.boc_cowns.specs.declared.hot.HotCown.{HotCown}
 use Rattle.boc_cowns.specs.declared.hot.HotCowns.{HotCowns}
-use Rattle.boc_cowns.specs.Hot.{busy_until, held_from}
+use Rattle.boc_why.specs.Least.{start_or_0}
+use Rattle.boc_why_report.specs.WhyTexts.{least_text}
+use Rattle.boc_why_report.proofs.OneText.{least_text_same}
+use Rattle.boc_cowns.specs.Hot.{busy_until}
 use Rattle.boc_cowns_report.specs.CownsTexts.{last_busy, busiest_text, by_cowns_text, by_last_text, cown_texts, cowns_head, cowns_sides}
 use Rattle.boc_cowns_report.specs.CownsTexts.{cowns_table, is_late, is_most, more_text, percent_text}
 use Rattle.boc_cowns_report.specs.CownsTexts.{readers_text, shared_text, span_text, spawns_text, told_of, verdict_text}
 
-module _ (a b : Names) (same : CallTheSame a b) (hot other : HotCowns) (span : hot.span ≡ other.span) (spawns : hot.spawns ≡ other.spawns)
+module _ (a b : Names) (same : CallTheSame a b) (hot other : HotCowns) (span : hot.span ≡ other.span) (least : hot.least ≡ other.least)
     (shared : hot.shared ≡ other.shared) (cowns : hot.cowns.items ≡ other.cowns.items) where
   -- ---- the table
 
@@ -29,20 +32,20 @@ module _ (a b : Names) (same : CallTheSame a b) (hot other : HotCowns) (span : h
   more_same most = λ i. more_text (length (cowns i) - length (told_of most (cowns i)))
 
   span_same : span_text hot ≡ span_text other
-  span_same = λ i. codes "span " ++ decimal (span i) ++ codes "; by spawns alone " ++ decimal (spawns i) ++ busiest_text (cowns i) ++ codes "\n"
+  span_same = λ i. codes "span " ++ decimal (span i) ++ codes "; by spawns alone " ++ decimal (least i).spawns ++ busiest_text (cowns i) ++ codes "\n"
 
   -- ---- the verdict
 
   spawns_same : spawns_text hot ≡ spawns_text other
-  spawns_same = λ i. codes "spawns: they alone need " ++ decimal (spawns i) ++ codes " of " ++ decimal (span i)
+  spawns_same = λ i. codes "spawns: they alone need " ++ decimal (least i).spawns ++ codes " of " ++ decimal (span i)
       ++ codes " ticks; spawn earlier, or do less"
 
   by_last_same : (own last : HotCown) → by_last_text a hot own last ≡ by_last_text b other own last
-  by_last_same own last = λ i. cond (is_late (busy_until last) (spawns i) (span i))
+  by_last_same own last = λ i. cond (is_late (busy_until last) (least i).spawns (span i))
       ((codes "load: " ++ text_at (same.cowns i) last.cown ++ codes " is held " ++ decimal last.held ++ codes " of " ++ decimal (span i))
-      ++ codes " ticks, none of them before tick " ++ decimal (held_from last) ++ codes "; spawn earlier, split it, or shorten what holds it")
+      ++ codes " ticks, none of them before tick " ++ decimal (start_or_0 last.from) ++ codes "; spawn earlier, split it, or shorten what holds it")
       (codes "order: no cown is held for more than " ++ decimal own.held ++ codes " of " ++ decimal (span i)
-      ++ codes " ticks; the order in which behaviours ask is what holds back")
+      ++ codes " ticks; another order of the behaviours may end sooner")
 
   by_cowns_same : (own : HotCown) (others : List HotCown) → by_cowns_text a hot own others ≡ by_cowns_text b other own others
   by_cowns_same own others = λ i. cond (is_most own.held (span i))
@@ -52,7 +55,7 @@ module _ (a b : Names) (same : CallTheSame a b) (hot other : HotCowns) (span : h
 
   verdict_same : (list : List HotCown) → verdict_text a hot list ≡ verdict_text b other list
   verdict_same [] = spawns_same
-  verdict_same (own ∷ list) = λ i. cond (is_most (spawns i) (span i)) (spawns_same i) (by_cowns_same own list i)
+  verdict_same (own ∷ list) = λ i. cond (is_most (least i).spawns (span i)) (spawns_same i) (by_cowns_same own list i)
 
   -- ---- shared reads
 
@@ -69,7 +72,8 @@ module _ (a b : Names) (same : CallTheSame a b) (hot other : HotCowns) (span : h
 
   pub one_text : (sharing : Sharing) (most : Option ℕ)
       → cowns_table a most hot ++ more_text (length hot.cowns.items - length (told_of most hot.cowns.items)) ++ span_text hot
-      ++ verdict_text a hot hot.cowns.items ++ codes "\n" ++ shared_text a sharing hot
+      ++ verdict_text a hot hot.cowns.items ++ codes "\n" ++ least_text a sharing hot.least ++ shared_text a sharing hot
       ≡ cowns_table b most other ++ more_text (length other.cowns.items - length (told_of most other.cowns.items)) ++ span_text other
-      ++ verdict_text b other other.cowns.items ++ codes "\n" ++ shared_text b sharing other
-  one_text sharing most = λ i. table_same most i ++ more_same most i ++ span_same i ++ verdict_same (cowns i) i ++ codes "\n" ++ shared_same sharing i
+      ++ verdict_text b other other.cowns.items ++ codes "\n" ++ least_text b sharing other.least ++ shared_text b sharing other
+  one_text sharing most = λ i. table_same most i ++ more_same most i ++ span_same i ++ verdict_same (cowns i) i ++ codes "\n"
+      ++ least_text_same a b same sharing hot.least other.least least i ++ shared_same sharing i

@@ -10,7 +10,9 @@ use Rattle.boc_names.specs.declared.names.Names.{Names}
 use Rattle.boc_names.specs.Names.{Text, text_at, texts_of}
 use Rattle.boc_cowns.specs.declared.hot.HotCown.{HotCown}
 use Rattle.boc_cowns.specs.declared.hot.HotCowns.{HotCowns}
-use Rattle.boc_cowns.specs.Hot.{busy_until, held_from}
+use Rattle.boc_why.specs.Least.{start_or_0}
+use Rattle.boc_why_report.specs.WhyTexts.{least_text}
+use Rattle.boc_cowns.specs.Hot.{busy_until}
 
 -- ---- the table
 
@@ -78,7 +80,7 @@ busiest_text (own ∷ cowns) = held_text own
 -- the span, that of the rows without any cown, and how long the first cown is held
 abbrev pub span_text : HotCowns → Text
 span_text hot =
-    codes "span " ++ decimal hot.span ++ codes "; by spawns alone " ++ decimal hot.spawns ++ busiest_text hot.cowns.items ++ codes "\n"
+    codes "span " ++ decimal hot.span ++ codes "; by spawns alone " ++ decimal hot.least.spawns ++ busiest_text hot.cowns.items ++ codes "\n"
 
 -- ---- the verdict
 
@@ -89,7 +91,7 @@ is_most ticks span = not (nat_lt (ticks * 100) (span * 75))
 -- the spawns, which need so long alone that no cown is to blame
 abbrev pub spawns_text : HotCowns → Text
 spawns_text hot =
-    codes "spawns: they alone need " ++ decimal hot.spawns ++ codes " of " ++ decimal hot.span
+    codes "spawns: they alone need " ++ decimal hot.least.spawns ++ codes " of " ++ decimal hot.span
     ++ codes " ticks; spawn earlier, or do less"
 
 -- for how much of the span a cown is held
@@ -105,12 +107,12 @@ load_text names hot own = part_text names hot own ++ codes " ticks; split it, or
 abbrev pub order_text : HotCowns → HotCown → Text
 order_text hot own =
     codes "order: no cown is held for more than " ++ decimal own.held ++ codes " of " ++ decimal hot.span
-    ++ codes " ticks; the order in which behaviours ask is what holds back"
+    ++ codes " ticks; another order of the behaviours may end sooner"
 
 -- the cown that keeps every order from an end before late, since no row that wrote it starts before some tick
 abbrev pub late_text : Names → HotCowns → HotCown → Text
 late_text names hot own =
-    part_text names hot own ++ codes " ticks, none of them before tick " ++ decimal (held_from own)
+    part_text names hot own ++ codes " ticks, none of them before tick " ++ decimal (start_or_0 own.from)
     ++ codes "; spawn earlier, split it, or shorten what holds it"
 
 -- of a cown and some others the one that is busy until the latest tick, and of several the first
@@ -125,7 +127,7 @@ is_late tick spawns span = not (nat_lt (tick * 100) (span * 75 + spawns * 25))
 -- what of the cowns holds the rows back, where this one is held longest, and that one is busy until the latest tick: that one, where no order ends before
 -- a tick so late that most of what the cowns cost is before it; or else the order
 abbrev pub by_last_text : Names → HotCowns → HotCown → HotCown → Text
-by_last_text names hot own last = cond (is_late (busy_until last) hot.spawns hot.span) (late_text names hot last) (order_text hot own)
+by_last_text names hot own last = cond (is_late (busy_until last) hot.least.spawns hot.span) (late_text names hot last) (order_text hot own)
 
 -- What of the cowns holds the rows back, where this one is held longest, and these are the others: it, where it is held for most of the span; or one
 -- that is busy until late, whatever the order, since no row that wrote it starts sooner; or else the order.
@@ -137,7 +139,7 @@ by_cowns_text names hot own others =
 -- most of the span; and else the cowns.
 abbrev pub verdict_text : Names → HotCowns → List HotCown → Text
 verdict_text names hot [] = spawns_text hot
-verdict_text names hot (own ∷ cowns) = cond (is_most hot.spawns hot.span) (spawns_text hot) (by_cowns_text names hot own cowns)
+verdict_text names hot (own ∷ cowns) = cond (is_most hot.least.spawns hot.span) (spawns_text hot) (by_cowns_text names hot own cowns)
 
 -- how many of the rows of a cown only read it
 abbrev pub reads_text : Names → HotCown → Text
@@ -161,7 +163,8 @@ shared_text names SharedReads hot = []
 
 -- ---- all that is told
 
--- the table, how many more cowns there are than it tells, the span, what holds the rows back, and what shared reads would bring
+-- the table, how many more cowns there are than it tells, the span, what holds the rows back, the least that any order could end at, and what shared
+-- reads would bring
 pub record IsCownsText (names : Names) (sharing : Sharing) (most : Option ℕ) (hot : HotCowns) (text : Text) : Type 0 where
   pub is : text ≡ cowns_table names most hot ++ more_text (length hot.cowns.items - length (told_of most hot.cowns.items)) ++ span_text hot
-      ++ verdict_text names hot hot.cowns.items ++ codes "\n" ++ shared_text names sharing hot
+      ++ verdict_text names hot hot.cowns.items ++ codes "\n" ++ least_text names sharing hot.least ++ shared_text names sharing hot

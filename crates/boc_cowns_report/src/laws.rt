@@ -10,7 +10,7 @@ ghost use Rattle.boc_cowns_report.specs.CownsTexts.{IsCownsText};
 /// What is told of the same cowns has one text, in names that call everything the same.
 pub fn cowns_have_one_text()
     ensures { (names other_names : Names) (sharing : Sharing) (most : Option ℕ) (hot other : HotCowns) (text other_text : Text)
-        → CallTheSame names other_names → hot.span ≡ other.span → hot.spawns ≡ other.spawns → hot.shared ≡ other.shared
+        → CallTheSame names other_names → hot.span ≡ other.span → hot.least ≡ other.least → hot.shared ≡ other.shared
         → hot.cowns.items ≡ other.cowns.items → IsCownsText names sharing most hot text → IsCownsText other_names sharing most other other_text
         → text ≡ other_text }
 {}

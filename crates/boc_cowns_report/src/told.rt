@@ -9,6 +9,7 @@ use boc_cowns::{HotCown, HotCowns};
 use boc_names::Names;
 use boc_plans::sharing::Sharing;
 use boc_text::put_number;
+use boc_why_report::put_least;
 use std::alloc::{AllocError, Global};
 
 // Puts how many more cowns there are behind a text, where there are several.
@@ -58,14 +59,14 @@ fn put_span(text: &mut Vec<u8>, hot: &HotCowns) -> Result<(), AllocError>
     text.extend_from_slice(b"span ")?;
     put_number(text, hot.span)?;
     text.extend_from_slice(b"; by spawns alone ")?;
-    put_number(text, hot.spawns)?;
+    put_number(text, hot.least.spawns)?;
     put_busiest(text, &hot.cowns)?;
     text.extend_from_slice(b"\n")
 }
 
 /// What is told of the cowns that hold some rows back: a line for each, or for the first so many; the span, and what of it the spawns alone need;
-/// whether these are what holds the rows back, or else a cown that is held for so long that it is the load, or else the order; and, where reads aren't
-/// shared, what shared reads would bring. All times are ticks. `AllocError` says that memory was refused.
+/// whether these are what holds the rows back, or else a cown that is held for so long that it is the load, or else the order; the least that any order
+/// could end at; and, where reads aren't shared, what shared reads would bring. All times are ticks. `AllocError` says that memory was refused.
 pub fn cowns_text(
     alloc: Global,
     names: &Names,
@@ -84,6 +85,7 @@ pub fn cowns_text(
     put_span(&mut text, hot)?;
     put_verdict(&mut text, names, hot)?;
     text.extend_from_slice(b"\n")?;
+    put_least(&mut text, names, sharing, &hot.least)?;
     put_shared(&mut text, names, sharing, hot)?;
     Ok(text)
 }

@@ -2,7 +2,8 @@
 
 ghost use Rattle.std.specs.Prelude.{◌≡◌, ◌++◌, ◌<◌, ◌^◌, OnOk};
 ghost use Rattle.boc_names.specs.Names.{texts_of};
-ghost use Rattle.boc_cowns.specs.Hot.{busy_until, held_from};
+ghost use Rattle.boc_why.specs.Least.{start_or_0};
+ghost use Rattle.boc_cowns.specs.Hot.{busy_until};
 ghost use Rattle.boc_cowns_report.specs.CownsTexts.{by_cowns_text, by_last_text, is_late, is_most, last_busy, late_text, load_text, order_text, part_text};
 ghost use Rattle.boc_cowns_report.specs.CownsTexts.{readers_text, reads_text, shared_text, span_with_text, spawns_text, verdict_text};
 
@@ -32,7 +33,7 @@ fn is_late(tick: u128, spawns: u64, span: u64) -> bool
 
 // A tick before which no row that wrote a cown starts, in whatever order.
 fn held_from(own: &HotCown) -> u64
-    ensures { result ≡ held_from own.now }
+    ensures { result ≡ start_or_0 own.now.from }
 {
     own.from.unwrap_or(0)
 }
@@ -67,7 +68,7 @@ fn put_spawns(text: &mut Vec<u8>, hot: &HotCowns) -> Result<(), AllocError>
     ensures { OnOk result (text.new.items ≡ text.old.items ++ spawns_text hot.now) }
 {
     text.extend_from_slice(b"spawns: they alone need ")?;
-    put_number(text, hot.spawns)?;
+    put_number(text, hot.least.spawns)?;
     text.extend_from_slice(b" of ")?;
     put_number(text, hot.span)?;
     text.extend_from_slice(b" ticks; spawn earlier, or do less")?;
@@ -113,7 +114,7 @@ fn put_order(text: &mut Vec<u8>, hot: &HotCowns, own: HotCown) -> Result<(), All
     put_number(text, own.held)?;
     text.extend_from_slice(b" of ")?;
     put_number(text, hot.span)?;
-    text.extend_from_slice(b" ticks; the order in which behaviours ask is what holds back")?;
+    text.extend_from_slice(b" ticks; another order of the behaviours may end sooner")?;
     Ok(())
 }
 
@@ -143,7 +144,7 @@ fn put_by_last(
 ) -> Result<(), AllocError>
     ensures { OnOk result (text.new.items ≡ text.old.items ++ by_last_text names.now hot.now own last) }
 {
-    if is_late(busy_until(&last), hot.spawns, hot.span) {
+    if is_late(busy_until(&last), hot.least.spawns, hot.span) {
         put_late(text, names, hot, last)
     } else {
         put_order(text, hot, own)
@@ -178,7 +179,7 @@ pub(crate) fn put_verdict(
     match hot.cowns.as_slice() {
         [] => put_spawns(text, hot),
         [own, others @ ..] => {
-            if is_most(hot.spawns, hot.span) {
+            if is_most(hot.least.spawns, hot.span) {
                 put_spawns(text, hot)
             } else {
                 put_by_cowns(text, names, hot, *own, others)

@@ -1,11 +1,10 @@
 -- The ticks of the rows that wrote a cown: as they are added up, and that no order of the rows is done before them.
-use Rattle.std.proofs.Common.{◌≡◌, ◌≢◌, ◌⊎◌, inl, inr, ℕ, zero, suc, ◌+◌, ◌*◌, ◌<◌, ◌≤◌, ◌||◌, Bool, true, false, cond, true≢false}
-use Rattle.std.proofs.Common.{List, [], ◌∷◌, length, take, get_or, Option, Some, None, refl, ap, sym, ◌∙◌, subst, arith, length-set}
+use Rattle.std.proofs.Common.{◌≡◌, ◌≢◌, ◌⊎◌, inl, inr, ℕ, zero, suc, ◌+◌, ◌*◌, ◌<◌, ◌≤◌, ◌^◌, Bool, true, false, cond, true≢false}
+use Rattle.std.proofs.Common.{List, [], ◌∷◌, length, take, refl, ap, sym, ◌∙◌, subst, arith, length-set}
 use Rattle.std.specs.Option.{option_map_or}
-use Rattle.std.specs.Prelude.{filter, nat_eq, slice_get, slice_index, slice_set}
-use Rattle.std.specs.List.{Contains, list_any, sum_by}
+use Rattle.std.specs.Prelude.{filter, slice_get, slice_index, slice_set}
+use Rattle.std.specs.List.{Contains, sum_by}
 use Rattle.std.proofs.lemmas.Bool.{cases_eq}
-use Rattle.std.proofs.lemmas.Bool.Decides.{nat_tests}
 use Rattle.std.proofs.lemmas.List.{get_or_default, get_or-set_same, get_or-set_other, take_all}
 use Rattle.std.proofs.lemmas.List.Kept.{AllPairs-from_increasing}
 use Rattle.std.proofs.lemmas.List.Sums.{sum_by-cons}
@@ -15,28 +14,8 @@ use Rattle.boc_runs.specs.Rows.{IsRows, ticks_of, cowns_of, written_of}
 use Rattle.boc_plans.specs.Plans.{start_of, end_of, IsEnd, ConflictOn}
 use Rattle.boc_order.proofs.Near.{writes_own}
 use Rattle.boc_greedy.proofs.Totals.{total, total-same, total-most, total-swap, total-at_most_one, inside, inside_cases, total-inside}
-use Rattle.boc_why.specs.declared.least.Busiest.{Busiest}
-use Rattle.boc_why.specs.Least.{wrote, load_of, KeepsApart, AreLoads, IsMost, IsMostOf, IsBusiestOf}
-
--- ---- whether a row wrote a cown
-
-any_more : (c x : ℕ) (xs : List ℕ) (b : Bool) → nat_eq c x ≡ b → (b || list_any (nat_eq c) xs) ≡ true → (list_any (nat_eq c) xs ≡ true → Contains xs c)
-    → Contains (x ∷ xs) c
-any_more c x xs true is e more = (let same : x ≡ c = grind (arith, nat_tests) in (0, omega arith, same))
-any_more c x xs false is e more = (let (k, lt, at) = more e in (suc k, omega (arith, lt), at))
-
-any_has : (c : ℕ) (xs : List ℕ) → list_any (nat_eq c) xs ≡ true → Contains xs c
-any_has c [] e = absurd (true≢false (sym e))
-any_has c (x ∷ xs) e = any_more c x xs (nat_eq c x) refl e (any_has c xs)
-
-or_right : (a b : Bool) → b ≡ true → (a || b) ≡ true
-or_right true b e = refl
-or_right false b e = e
-
-has_at : (c : ℕ) (xs : List ℕ) (k : ℕ) → k < length xs → get_or xs k c ≡ c → list_any (nat_eq c) xs ≡ true
-has_at c [] k lt e = absurd (omega (arith, lt))
-has_at c (x ∷ xs) zero lt e = (let same : nat_eq c x ≡ true = grind (arith, nat_tests) in rw same refl)
-has_at c (x ∷ xs) (suc k) lt e = or_right (nat_eq c x) (list_any (nat_eq c) xs) (has_at c xs k (omega (arith, lt)) e)
+use Rattle.boc_why.specs.Least.{wrote, load_of, KeepsApart, AreLoads}
+use Rattle.boc_why.proofs.Found.{found, finds}
 
 -- ---- the load of some rows, row by row
 
@@ -62,8 +41,8 @@ load_more rows n c h = (let e : n + 1 ≡ suc n = omega arith in ap (λ (k : ℕ
 
 own_if : (x : Row) (c : ℕ) (b : Bool) → wrote c x ≡ b → (Contains x.written.items c × (cond b x.ticks 0 ≡ x.ticks))
     ⊎ ((Contains x.written.items c → ⊥) × (cond b x.ticks 0 ≡ 0))
-own_if x c true e = inl (any_has c x.written.items e, refl)
-own_if x c false e = inr (λ h. true≢false (sym (has_at c x.written.items h.0 h.1 h.2) ∙ e), refl)
+own_if x c true e = inl (found c x.written.items e, refl)
+own_if x c false e = inr (λ h. true≢false (sym (finds c x.written.items h) ∙ e), refl)
 
 -- it is all its ticks where it wrote the cown, else none
 pub own_cases : (rows : List Row) (c r : ℕ) → r < length rows → (Contains (written_of rows r) c × (own_load rows c r ≡ ticks_of rows r))
@@ -82,6 +61,13 @@ load_low rows hr (suc n) c h =
       | inl (w, is) ↦ omega (arith, before, more, is, hr.ticks_high n there)
       | inr (not, is) ↦ omega (arith, before, more, is)
     ]
+
+-- no cown has a greater load than all rows can take together
+pub all_low : (rows : List Row) → IsRows rows → (c : ℕ) → load_of rows c < 2 ^ 56
+all_low rows hr c =
+    let all : load_of (take (length rows) rows) c ≡ load_of rows c =
+    ap (λ (l : List Row). load_of l c) (take_all (length rows) rows (omega arith)) in
+    omega (arith, all, load_low rows hr (length rows) c (omega arith), hr.not_many)
 
 -- ---- the loads as the next row is added, cown by cown
 
@@ -169,51 +155,6 @@ no_loads rows loads whole none = record { whole = whole; at = λ c small. none c
 
 pub all_loads : (rows : List Row) (n : ℕ) (loads : List ℕ) → length rows ≤ n → AreLoads (take n rows) loads → AreLoads rows loads
 all_loads rows n loads all l = subst (λ (list : List Row). AreLoads list loads) (take_all n rows all) l
-
--- ---- the greatest of the loads
-
-module _ (loads : List ℕ) (n next : ℕ) (is : next ≡ slice_index loads n) where
-  pub most_first : n ≡ 0 → IsMost loads (n + 1) n next
-  most_first none = record {
-    below = omega arith;
-    is = is;
-    none_more = λ c h. (let e : c ≡ n = omega (arith, h, none) in omega (arith, is, ap (slice_index loads) e));
-    first = λ c h. absurd (omega (arith, h, none));
-  }
-
-  module _ (cown load : ℕ) (m : IsMost loads n cown load) where
-    pub most_stays : next ≤ load → IsMost loads (n + 1) cown load
-    most_stays less = record {
-      below = omega (arith, m.below);
-      is = m.is;
-      none_more = λ c h. elim (cases_eq c n) [
-        | inl e ↦ omega (arith, is, less, ap (slice_index loads) e)
-        | inr ne ↦ m.none_more c (omega arith)
-      ];
-      first = m.first;
-    }
-
-    pub most_moves : load < next → IsMost loads (n + 1) n next
-    most_moves more = record {
-      below = omega arith;
-      is = is;
-      none_more = λ c h. elim (cases_eq c n) [
-        | inl e ↦ omega (arith, is, ap (slice_index loads) e)
-        | inr ne ↦ (let low : slice_index loads c ≤ load = m.none_more c (omega arith) in omega (arith, low, more))
-      ];
-      first = λ c h. omega (arith, m.none_more c h, more);
-    }
-
--- the cown with the greatest load is the busiest
-pub busiest_is : (rows : List Row) (loads : List ℕ) (count : ℕ) (best : Option Busiest) → count ≤ MOST_COWNS → AreLoads rows loads
-    → IsMostOf loads count best → IsBusiestOf rows count best
-busiest_is rows loads count None few l none = none
-busiest_is rows loads count (Some b) few l m = record {
-  below = m.below;
-  is = m.is ∙ l.at b.cown (omega (arith, m.below, few));
-  none_more = λ c h. omega (arith, m.none_more c h, l.at c (omega (arith, h, few)));
-  first = λ c h. omega (arith, m.first c h, l.at c (omega (arith, h, m.below, few)));
-}
 
 -- ---- no order of the rows is done before the load of a cown
 

@@ -1,11 +1,11 @@
 -- Rows that only their spawns order, placed one after another: that is their earliest plan without cowns.
-use Rattle.std.proofs.Common.{◌≡◌, ◌⊎◌, inl, inr, ℕ, zero, suc, ◌+◌, ◌*◌, ◌<◌, ◌≤◌, max, List, [], ◌∷◌, ◌++◌, length}
+use Rattle.std.proofs.Common.{◌≡◌, ◌⊎◌, inl, inr, ℕ, zero, suc, ◌+◌, ◌*◌, ◌<◌, ◌≤◌, ◌^◌, max, List, [], ◌∷◌, ◌++◌, length}
 use Rattle.std.proofs.Common.{refl, ap, sym, ◌∙◌, subst, arith}
 use Rattle.std.specs.Option.{option_map_or}
-use Rattle.std.specs.Prelude.{slice_get, slice_index}
+use Rattle.std.specs.Prelude.{All, slice_get, slice_index}
 use Rattle.std.proofs.lemmas.Bool.{cases_eq, cases_lt}
-use Rattle.std.proofs.lemmas.List.{get_or_append_left, get_or_push, length_push, length-map}
-use Rattle.boc_program.specs.declared.limits.TheConstants.{MOST_TICKS}
+use Rattle.std.proofs.lemmas.List.{get_or_append_left, get_or_default, get_or_push, length_push, length-map}
+use Rattle.boc_program.specs.declared.limits.TheConstants.{MOST_ROWS, MOST_TICKS}
 use Rattle.boc_runs.specs.declared.rows.Row.{Row}
 use Rattle.boc_runs.specs.Rows.{IsRows, parent_of, offset_of, ticks_of, cowns_of}
 use Rattle.boc_plans.specs.Plans.{start_of, end_of, IsChild, Ordered, Keeps, IsEnd}
@@ -167,6 +167,13 @@ module _ (rows : List Row) (hr : IsRows rows) (starts : List ℕ) (n latest star
           ])
     ];
   }
+
+-- no row starts later than all rows can take together
+pub starts_low : (rows : List Row) (starts : List ℕ) (n latest : ℕ) → n ≤ MOST_ROWS → AreSpawned rows starts n latest
+    → All (λ start. start < 2 ^ 56) starts
+starts_low rows starts n latest few s k d h =
+    let there : k < n = omega (arith, h, s.whole) in
+    omega (arith, s.low k there, there, few, get_or_default starts k d 0 h)
 
 module _ (rows : List Row) (hr : IsRows rows) (starts : List ℕ) (n latest : ℕ) (all : n ≡ length rows) (s : AreSpawned rows starts n latest) where
   keeps : Keeps (without_cowns rows) starts

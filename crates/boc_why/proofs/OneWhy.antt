@@ -15,18 +15,17 @@ use Rattle.boc_plans.specs.declared.sharing.Sharing.{Sharing}
 use Rattle.boc_plans.specs.Chains.{IsPicked}
 use Rattle.boc_plans.specs.Plans.{HasEnds, IsEnd}
 use Rattle.boc_plans.specs.Seen.{seen}
-use Rattle.boc_order.proofs.Alone.{one_chain, one_end, one_list_of_ends, one_plan, one_span}
-use Rattle.boc_why.specs.declared.least.Busiest.{Busiest}
+use Rattle.boc_order.proofs.Alone.{one_chain, one_end, one_list_of_ends, one_plan}
 use Rattle.boc_why.specs.declared.links.Link.{Link}
 use Rattle.boc_why.specs.declared.links.Link.TheVariants.{SpawnBy, Hands, Ends}
 use Rattle.boc_why.specs.declared.remedies.Remedy.{Remedy}
 use Rattle.boc_why.specs.declared.shares.Share.{Share}
 use Rattle.boc_why.specs.declared.why.Why.{Why}
-use Rattle.boc_why.specs.Least.{IsBusiest, IsBusiestOf, without_cowns}
 use Rattle.boc_why.specs.Remedies.{AreCandidates, AreHandedFamilies, tried_of}
 use Rattle.boc_why.specs.Shares.{AreDefsOf, AreFirsts, AreHanded, AreLinks, AreShares, IsFirstLike, LinkSays}
 use Rattle.boc_why.specs.Why.{IsWhy, SayTheSame}
 use Rattle.boc_why.specs.WhySteps.{AreSharesByDef}
+use Rattle.boc_why.proofs.OneLeast.{one_least}
 use Rattle.boc_why.proofs.OneRemedy.{one_list as one_list_of_candidates}
 use Rattle.boc_why.proofs.ShareLaws.{Ranked, one_list as one_list_of_shares, ranked_from_places, same_ranked}
 
@@ -116,25 +115,6 @@ one_list_of_families : (links : List Link) (families handed others : List ℕ) �
 one_list_of_families links families handed others a b = one_rise handed others a.rise b.rise
     (λ family. (λ stands. (b.each family).1 ((a.each family).0 stands), λ stands. (a.each family).1 ((b.each family).0 stands)))
 
--- ---- the busiest cown
-
-module _ (rows : List Row) (count : ℕ) where
-  one_busy_cown : (a b s t : ℕ) → IsBusiest rows count a s → IsBusiest rows count b t → a ≡ b
-  one_busy_cown a b s t x y = ⊎_elim (λ (e : a ≡ b). e)
-      (⊎_elim
-      (λ (l : a < b). absurd (omega (arith, y.first a l, x.none_more b y.below, x.is, y.is)))
-      (λ (g : b < a). absurd (omega (arith, x.first b g, y.none_more a x.below, x.is, y.is))))
-      (cases_order a b)
-
-  one_busiest : (busiest other : Option Busiest) → IsBusiestOf rows count busiest → IsBusiestOf rows count other → busiest ≡ other
-  one_busiest None None a b = refl
-  one_busiest None (Some y) a b = absurd (omega (arith, a, b.below))
-  one_busiest (Some x) None a b = absurd (omega (arith, b, a.below))
-  one_busiest (Some x) (Some y) a b =
-      let cown : x.cown ≡ y.cown = one_busy_cown x.cown y.cown x.load y.load a b in
-      let load : x.load ≡ y.load = omega (arith, a.none_more y.cown b.below, b.none_more x.cown a.below, a.is, b.is) in
-      λ i. Some (record { cown = cown i; load = load i })
-
 -- ---- all of it
 
 module _ (list : List Row) (sharing : Sharing) (defs families : List ℕ) (count : ℕ) (why other : Why) (a : IsWhy list sharing defs families count why)
@@ -195,6 +175,5 @@ module _ (list : List Row) (sharing : Sharing) (defs families : List ℕ) (count
     by_def = by_def_same;
     by_link = by_link_same;
     candidates = candidates_same;
-    spawns = one_span (without_cowns rows) why.least.spawns other.least.spawns a.spawns b.spawns;
-    busiest = one_busiest rows count why.least.busiest other.least.busiest a.busiest b.busiest;
+    least = one_least rows count why.least other.least a.least b.least;
   }

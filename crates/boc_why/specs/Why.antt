@@ -2,11 +2,10 @@
 use Rattle.std.specs.Prelude.{◌≡◌, ℕ, List}
 use Rattle.boc_runs.specs.declared.rows.Row.{Row}
 use Rattle.boc_plans.specs.declared.sharing.Sharing.{Sharing}
-use Rattle.boc_plans.specs.Greedy.{IsSpan}
 use Rattle.boc_plans.specs.Seen.{seen}
 use Rattle.boc_order.specs.Profiles.{IsProfileOf}
 use Rattle.boc_why.specs.Shares.{AreDefsOf, AreFirsts, AreLinks, AreShares}
-use Rattle.boc_why.specs.Least.{IsBusiestOf, without_cowns}
+use Rattle.boc_why.specs.Least.{IsLeast}
 use Rattle.boc_why.specs.Remedies.{AreCandidates, AreHandedFamilies, tried_of}
 use Rattle.boc_why.specs.declared.why.Why.{Why}
 
@@ -24,8 +23,7 @@ pub record IsWhy (rows : List Row) (sharing : Sharing) (defs families : List ℕ
   pub handed : List ℕ
   pub handed_are : AreHandedFamilies why.links.items families handed
   pub candidates : AreCandidates rows sharing defs families (tried_of why.by_def.items why.by_link.items why.links.items handed) why.candidates.items
-  pub spawns : IsSpan (without_cowns (seen sharing rows)) why.least.spawns
-  pub busiest : IsBusiestOf (seen sharing rows) count why.least.busiest
+  pub least : IsLeast (seen sharing rows) count why.least
 
 -- two say the same: in all that is told of them they are alike
 pub record SayTheSame (why other : Why) : Type 0 where
@@ -38,5 +36,4 @@ pub record SayTheSame (why other : Why) : Type 0 where
   pub by_def : why.by_def.items ≡ other.by_def.items
   pub by_link : why.by_link.items ≡ other.by_link.items
   pub candidates : why.candidates.items ≡ other.candidates.items
-  pub spawns : why.least.spawns ≡ other.least.spawns
-  pub busiest : why.least.busiest ≡ other.least.busiest
+  pub least : why.least ≡ other.least

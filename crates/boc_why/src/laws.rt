@@ -18,7 +18,9 @@ ghost use Rattle.boc_why.specs.declared.why.Why.{Why};
 ghost use Rattle.boc_why.specs.Causes.{AreSpawnedEarly};
 ghost use Rattle.boc_why.specs.Remedies.{AreCandidates};
 ghost use Rattle.boc_why.specs.Why.{IsWhy, SayTheSame};
-ghost use Rattle.boc_why.specs.Least.{KeepsApart, KeepsSpawns, load_of, without_cowns};
+ghost use Rattle.boc_why.specs.declared.least.Busiest.{Busiest};
+ghost use Rattle.boc_why.specs.declared.least.Least.{Least};
+ghost use Rattle.boc_why.specs.Least.{IsBusy, IsLeast, IsSpawnPlan, KeepsApart, KeepsSpawns, load_of, tick_of, without_cowns};
 
 /// The shares of a chain of which each step has a key add up to its weight.
 pub fn shares_add_up()
@@ -51,11 +53,16 @@ pub fn rows_have_one_why()
         → IsWhy rows sharing defs families count other → SayTheSame why other }
 {}
 
-/// No plan that keeps the spawns of some rows, and keeps rows that conflict over a cown apart in whatever order, ends before the span of the rows
-/// without cowns, or before the ticks of the rows that wrote a cown.
+/// No plan that keeps the spawns of some rows, and keeps rows that conflict over a cown apart in whatever order, ends before the tick that is told; nor
+/// before the span of the rows without cowns, nor before the ticks of the rows that wrote a cown, nor before the tick until which that cown is busy: as
+/// many ticks after the least start of one of these rows where only the spawns order the rows.
 pub fn no_order_ends_before()
     ensures spawns { (rows : List Row) (plan : List ℕ) (last spawns : ℕ) → KeepsSpawns rows plan → KeepsApart rows plan → IsEnd rows plan last
         → IsSpan (without_cowns rows) spawns → spawns ≤ last }
     ensures load { (rows : List Row) (plan : List ℕ) (last cown : ℕ) → IsRows rows → KeepsSpawns rows plan → KeepsApart rows plan
         → IsEnd rows plan last → load_of rows cown ≤ last }
+    ensures until { (rows : List Row) (plan spawned : List ℕ) (last spawns : ℕ) (busy : Busiest) → IsRows rows → KeepsSpawns rows plan
+        → KeepsApart rows plan → IsEnd rows plan last → IsSpawnPlan rows spawned spawns → IsBusy rows spawned busy → busy.until ≤ last }
+    ensures told { (rows : List Row) (plan : List ℕ) (last count : ℕ) (least : Least) → IsRows rows → KeepsSpawns rows plan → KeepsApart rows plan
+        → IsEnd rows plan last → IsLeast rows count least → tick_of least ≤ last }
 {}

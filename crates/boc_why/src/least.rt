@@ -1,23 +1,28 @@
 // When the behaviours of some rows end at the earliest, in whatever order they get their cowns.
 
-ghost use Rattle.std.specs.Prelude.{◌≡◌, ℕ, ◌<◌, ◌≤◌, ◌+◌, List, length, take, IfOk, slice_index};
+ghost use Rattle.std.specs.Prelude.{◌≡◌, ℕ, ◌<◌, ◌≤◌, ◌+◌, ◌^◌, All, List, Option, length, take, IfOk};
 ghost use Rattle.boc_runs.specs.Rows.{IsRows};
-ghost use Rattle.boc_plans.specs.Greedy.{IsSpan};
-ghost use Rattle.boc_why.specs.Least.{AreLoads, IsBusiestOf, IsMost, IsMostOf, IsSpawnPlan, tick_of, without_cowns};
+ghost use Rattle.boc_why.specs.Least.{AreLoads, AreOf, IsLatest, IsLatestOf, IsLeast, IsSpawnPlan, start_or_0, tick_of, until_of};
 
+use crate::starts::first_starts;
 use boc_order::spawned_at;
 use boc_plans::sharing::SeenRows;
 use boc_program::limits::MOST_COWNS;
 use boc_program::short::HeldCown;
 use std::alloc::{AllocError, Global};
 
-/// A cown, and the ticks of the rows that write it.
+/// A cown, and until when it is busy in every order. All times are ticks.
 #[derive(Clone, Copy, PartialEq, Eq, Debug)]
 pub struct Busiest {
     /// The number of the cown.
     pub cown: HeldCown,
-    /// The ticks that the rows that write it take together.
+    /// How long it is held by one row alone: the ticks of the rows that write it.
     pub load: u64,
+    /// A tick before which none of these rows starts, in whatever order: the least start of one, where only the spawns order the rows. None where no
+    /// row writes it.
+    pub from: Option<u64>,
+    /// The tick before which these rows are not all done, in whatever order: `load` after `from`.
+    pub until: u64,
 }
 
 /// When the rows end at the earliest, in whatever order they get their cowns. All times are ticks.
@@ -25,17 +30,17 @@ pub struct Busiest {
 pub struct Least {
     /// The span that the rows would have if none had a cown.
     pub spawns: u64,
-    /// The cown whose rows take longest together, where there is a cown at all.
+    /// The cown that is busy until the latest tick, and of several the one of the least number, where there is a cown at all.
     pub busiest: Option<Busiest>,
 }
 
 impl Least {
-    /// The tick before which the rows don't end: the greater of the two.
+    /// The tick before which the rows don't end: the later of the two.
     pub fn tick(&self) -> u64
         ensures { result ≡ tick_of self.now }
     {
         match self.busiest {
-            Some(busiest) => busiest.load.max(self.spawns),
+            Some(busiest) => busiest.until.max(self.spawns),
             None => self.spawns,
         }
     }
@@ -53,7 +58,8 @@ pub struct SpawnPlan {
 /// The earliest plan that the rows would have if none had a cown: only their spawns order them. `AllocError` says that memory was refused.
 pub fn spawn_plan(alloc: Global, rows: &SeenRows) -> Result<SpawnPlan, AllocError>
     requires { IsRows rows.now }
-    ensures { IfOk result (λ plan. IsSpawnPlan rows.now plan.starts.items plan.span) }
+    ensures is { IfOk result (λ plan. IsSpawnPlan rows.now plan.starts.items plan.span) }
+    ensures low { IfOk result (λ plan. All (λ start. start < 2 ^ 56) plan.starts.items) }
 {
     let mut starts = Vec::with_capacity(alloc, rows.len())?;
     let mut latest = 0;
@@ -83,8 +89,8 @@ fn add_load(rows: &SeenRows, row: usize, loads: &mut [u64])
     }
 }
 
-// For each cown the ticks of the rows that write it. `AllocError` says that memory was refused.
-fn loads_of(alloc: Global, rows: &SeenRows) -> Result<Vec<u64>, AllocError>
+/// For each cown, at its number, the ticks of the rows that write it. `AllocError` says that memory was refused.
+pub fn loads_of(alloc: Global, rows: &SeenRows) -> Result<Vec<u64>, AllocError>
     requires { IsRows rows.now }
     ensures { IfOk result (λ loads. AreLoads rows.now loads.items) }
 {
@@ -95,48 +101,67 @@ fn loads_of(alloc: Global, rows: &SeenRows) -> Result<Vec<u64>, AllocError>
     Ok(loads)
 }
 
-// The busier of the busiest cown so far and the next one.
+// What the loads and the least starts have of a cown.
+fn busy_of(loads: &[u64], firsts: &[Option<u64>], cown: usize) -> Busiest
+    requires there { cown < MOST_COWNS }
+    requires loads { length loads.now ≡ MOST_COWNS }
+    requires firsts { length firsts.now ≡ MOST_COWNS }
+    requires low { until_of loads.now firsts.now cown < 2 ^ 64 }
+    ensures is { AreOf loads.now firsts.now result }
+    ensures cown { result.cown ≡ cown }
+{
+    let load = loads[cown];
+    let from = firsts[cown];
+    Busiest {
+        cown: cown as HeldCown,
+        load,
+        from,
+        until: from.unwrap_or(0) + load,
+    }
+}
+
+// Of the busiest cown so far and the next one the one that is busy until later, and of equal ones the first.
 fn busier(best: Option<Busiest>, next: Busiest) -> Busiest
-    ensures { (loads : List ℕ) → IsMostOf loads next.cown best → next.load ≡ slice_index loads next.cown
-        → IsMost loads (next.cown + 1) result.cown result.load }
+    ensures { (loads : List ℕ) (firsts : List (Option ℕ)) → IsLatestOf loads firsts next.cown best → AreOf loads firsts next
+        → IsLatest loads firsts (next.cown + 1) result }
 {
     match best {
-        Some(best) => { if next.load <= best.load { best } else { next } }
+        Some(best) => { if next.until <= best.until { best } else { next } }
         None => next,
     }
 }
 
-// Of so many cowns the one with the greatest load, and of several the first.
-fn busiest_of(loads: &[u64], count: usize) -> Option<Busiest>
+/// Of so many cowns the one that is busy until the latest tick, and of several the one of the least number, where these are the loads of the cowns, and
+/// these the least starts of the rows that write them.
+pub fn busiest_of(loads: &[u64], firsts: &[Option<u64>], count: usize) -> Option<Busiest>
     requires few { count ≤ MOST_COWNS }
-    requires whole { length loads.now ≡ MOST_COWNS }
-    ensures { IsMostOf loads.now count result }
+    requires loads { length loads.now ≡ MOST_COWNS }
+    requires firsts { length firsts.now ≡ MOST_COWNS }
+    requires low { (cown : ℕ) → cown < MOST_COWNS → until_of loads.now firsts.now cown < 2 ^ 64 }
+    ensures { IsLatestOf loads.now firsts.now count result }
 {
     let mut best = None;
     for cown in 0..count {
-        let load = loads[cown];
-        let next = Busiest {
-            cown: cown as HeldCown,
-            load,
-        };
-        best = Some(busier(best, next));
+        best = Some(busier(best, busy_of(loads, firsts, cown)));
     }
     best
 }
 
-/// When the rows end at the earliest, in whatever order they get their cowns, of which so many are looked at: by the spawns alone, and by the cown
-/// whose rows take longest together. `AllocError` says that memory was refused.
+/// When the rows end at the earliest, in whatever order they get their cowns, of which so many are looked at: by the spawns alone, and by the cown that
+/// is busy until the latest tick, since the rows that write it start no sooner than the first of them can, and hold it one at a time. `AllocError` says
+/// that memory was refused.
 ///
 /// Rows are as plans see them: where cowns are exclusive, a row writes each cown that it has. It takes time that grows with the number of rows and
 /// their cowns, and memory that grows with the number of rows.
 pub fn least_end(alloc: Global, rows: &SeenRows, count: usize) -> Result<Least, AllocError>
     requires shape { IsRows rows.now }
     requires few { count ≤ MOST_COWNS }
-    ensures { IfOk result (λ least. IsSpan (without_cowns rows.now) least.spawns × IsBusiestOf rows.now count least.busiest) }
+    ensures { IfOk result (IsLeast rows.now count) }
 {
     let plan = spawn_plan(alloc, rows)?;
     let loads = loads_of(alloc, rows)?;
-    let busiest = busiest_of(&loads, count);
+    let firsts = first_starts(alloc, rows, &plan.starts)?;
+    let busiest = busiest_of(&loads, &firsts, count);
     Ok(Least {
         spawns: plan.span,
         busiest,

@@ -8,11 +8,13 @@ mod least;
 mod links;
 mod remedies;
 mod shares;
+mod starts;
 mod why;
 
 pub use causes::{Cause, def_edits, spans_with, spawn_early, without_all};
-pub use least::{Busiest, Least, SpawnPlan, least_end, spawn_plan};
+pub use least::{Busiest, Least, SpawnPlan, busiest_of, least_end, loads_of, spawn_plan};
 pub use links::{Link, firsts, handed, links_of};
 pub use remedies::{Candidate, Placed, Remedy, ranked};
 pub use shares::{Share, defs_of, shares_of};
+pub use starts::first_starts;
 pub use why::{Why, shares_by_def, why_of};

@@ -1,8 +1,7 @@
 -- What is told of whys that say the same is the same, in names that call everything the same.
-use Rattle.std.proofs.Common.{◌≡◌, ◌-◌, ℕ, zero, suc, max, Bool, cond, List, [], ◌∷◌, ◌++◌, length, map, flat_map, refl, Option, Some, None}
+use Rattle.std.proofs.Common.{◌≡◌, ◌-◌, ℕ, zero, suc, Bool, cond, List, [], ◌∷◌, ◌++◌, length, map, flat_map, refl, Option, Some, None}
 use Rattle.std.specs.Prelude.{codes, decimal, nat_lt, slice_get, slice_index}
 use Rattle.std.specs.List.{count_by}
-use Rattle.std.specs.Option.{option_map_or}
 use Rattle.boc_plans.specs.declared.chain.ChainStep.{ChainStep}
 use Rattle.boc_plans.specs.declared.sharing.Sharing.{Sharing}
 use Rattle.boc_plans.specs.Chains.{weight_of}
@@ -11,6 +10,7 @@ use Rattle.boc_names.specs.declared.names.Names.{Names}
 use Rattle.boc_names.specs.Names.{CallTheSame, separated, text_at}
 use Rattle.boc_names.specs.Stretches.{stretches}
 use Rattle.boc_why.specs.declared.least.Busiest.{Busiest}
+use Rattle.boc_why.specs.declared.least.Least.{Least}
 use Rattle.boc_why.specs.declared.links.Link.{Link}
 use Rattle.boc_why.specs.declared.links.Link.TheVariants.{SpawnBy, Hands, Ends}
 use Rattle.boc_why.specs.declared.remedies.Candidate.{Candidate}
@@ -18,6 +18,7 @@ use Rattle.boc_why.specs.declared.remedies.Remedy.{Remedy}
 use Rattle.boc_why.specs.declared.remedies.Remedy.TheVariants.{HalfCost, NoOrder, EarlySpawns}
 use Rattle.boc_why.specs.declared.shares.Share.{Share}
 use Rattle.boc_why.specs.declared.why.Why.{Why}
+use Rattle.boc_why.specs.Least.{tick_of}
 use Rattle.boc_why.specs.Shares.{def_of}
 use Rattle.boc_why.specs.Why.{SayTheSame}
 use Rattle.boc_why_report.specs.declared.short.Outcome.{Outcome}
@@ -26,8 +27,8 @@ use Rattle.boc_why_report.specs.ChainTexts.{folded_text, handed_text, hands_text
 use Rattle.boc_why_report.specs.ChainTexts.{rows_text, spawns_texts, stretch_lines, stretch_texts, then_text, told_chain}
 use Rattle.boc_why_report.specs.ShortTexts.{ComeToTheSame, chain_line, end_texts, greedy_texts, heaviest_text, more_shares, share_text, short_head}
 use Rattle.boc_why_report.specs.ShortTexts.{short_lines, short_sides, short_text, work_texts}
-use Rattle.boc_why_report.specs.WhyTexts.{at_most, beside, busy_text, candidates_text, entry_texts, head_text, least_text, link_at, list_sides, reason_text}
-use Rattle.boc_why_report.specs.WhyTexts.{remedy_text, shares_head, shares_sides, shares_text, tick_text, told_with}
+use Rattle.boc_why_report.specs.WhyTexts.{at_most, beside, bound_text, busy_text, candidates_text, entry_texts, from_text, head_text, least_text}
+use Rattle.boc_why_report.specs.WhyTexts.{link_at, list_sides, reason_text, remedy_text, shares_head, shares_sides, shares_text, told_with}
 
 module _ (a b : Names) (same : CallTheSame a b) where
   -- ---- the chain
@@ -79,8 +80,12 @@ module _ (a b : Names) (same : CallTheSame a b) where
 
   reason_same : (sharing : Sharing) (spawns : ℕ) (busiest : Option Busiest) → reason_text a sharing spawns busiest ≡ reason_text b sharing spawns busiest
   reason_same sharing spawns None = refl
-  reason_same sharing spawns (Some own) =
-      λ i. cond (nat_lt own.load spawns) (codes "their spawns take so long") (text_at (same.cowns i) own.cown ++ busy_text sharing)
+  reason_same sharing spawns (Some own) = λ i. cond (nat_lt own.until spawns) (codes "their spawns take that long")
+      (text_at (same.cowns i) own.cown ++ busy_text sharing ++ decimal own.load ++ codes " ticks" ++ from_text own.from)
+
+  -- the least that any order could end at has one text
+  pub least_text_same : (sharing : Sharing) (least other : Least) → least ≡ other → least_text a sharing least ≡ least_text b sharing other
+  least_text_same sharing least other e = λ i. bound_text (tick_of (e i)) ++ reason_same sharing (e i).spawns (e i).busiest i ++ codes ")\n"
 
   module _ (sharing : Sharing) (why other : Why) (alike : SayTheSame why other) where
     chain_same : chain_text a why ≡ chain_text b other
@@ -111,8 +116,7 @@ module _ (a b : Names) (same : CallTheSame a b) where
         ++ decimal (alike.span i) ++ codes "\n"
 
     least_same : least_text a sharing why.least ≡ least_text b sharing other.least
-    least_same = λ i. tick_text (max (alike.spawns i) (option_map_or (λ (busiest : Busiest). busiest.load) (alike.busiest i) 0))
-        ++ reason_same sharing (alike.spawns i) (alike.busiest i) i ++ codes "\n"
+    least_same = least_text_same sharing why.least other.least alike.least
 
     pub one_text : (all : Bool) → told_with a sharing why (told_chain a all why) ≡ told_with b sharing other (told_chain b all other)
     one_text all = λ i. head_same i ++ codes "\n" ++ told_same all i ++ codes "\n" ++ shares_same i ++ candidates_same i ++ least_same i

@@ -1,4 +1,5 @@
 pub mod ChainText
 pub mod FoldedText
+pub mod LeastText
 pub mod Lists
 pub mod ShortText

@@ -1,5 +1,5 @@
 -- What is told of why some rows take as long as they do.
-use Rattle.std.specs.Prelude.{◌≡◌, ◌-◌, ℕ, List, [], ◌∷◌, ◌++◌, length, map, take, cond, nat_lt, Bool, Option, Some, None, slice_get, codes, decimal}
+use Rattle.std.specs.Prelude.{◌≡◌, ◌-◌, ℕ, zero, suc, List, [], ◌∷◌, ◌++◌, length, map, take, cond, nat_lt, Bool, Option, Some, None, slice_get, codes, decimal}
 use Rattle.boc_plans.specs.declared.sharing.Sharing.{Sharing}
 use Rattle.boc_plans.specs.declared.sharing.Sharing.TheVariants.{Exclusive, SharedReads}
 use Rattle.boc_table.specs.declared.side.Side.{Side}
@@ -114,22 +114,37 @@ head_text why =
 
 -- what a cown is busy with: being held, or, where reads are shared, being written
 abbrev pub busy_text : Sharing → Text
-busy_text Exclusive = codes " is held so long"
-busy_text SharedReads = codes " is written so long"
+busy_text Exclusive = codes " is held for "
+busy_text SharedReads = codes " is written for "
 
--- why no order ends sooner
+-- a tick from which on a cown is busy
+abbrev pub tick_text : ℕ → Text
+tick_text tick = codes ", from tick " ++ decimal tick ++ codes " on"
+
+-- the same, where the cown isn't busy from the start on
+abbrev pub from_text : Option ℕ → Text
+from_text None = []
+from_text (Some zero) = []
+from_text (Some (suc n)) = tick_text (suc n)
+
+-- for how long a cown is busy, and from when on
+abbrev pub load_text : Names → Sharing → Busiest → Text
+load_text names sharing busiest =
+    text_at (texts_of names.cowns.items) busiest.cown ++ busy_text sharing ++ decimal busiest.load ++ codes " ticks" ++ from_text busiest.from
+
+-- why no order ends sooner: the cown that is busy until the latest tick, or the spawns, where they alone take longer
 abbrev pub reason_text : Names → Sharing → ℕ → Option Busiest → Text
-reason_text names sharing spawns None = codes "their spawns take so long"
-reason_text names sharing spawns (Some b) =
-    cond (nat_lt b.load spawns) (codes "their spawns take so long") (text_at (texts_of names.cowns.items) b.cown ++ busy_text sharing)
+reason_text names sharing spawns None = codes "their spawns take that long"
+reason_text names sharing spawns (Some busiest) =
+    cond (nat_lt busiest.until spawns) (codes "their spawns take that long") (load_text names sharing busiest)
 
 -- the tick before which no order of the cowns ends
-abbrev pub tick_text : ℕ → Text
-tick_text tick = codes "no order of these behaviours ends before " ++ decimal tick ++ codes ": "
+abbrev pub bound_text : ℕ → Text
+bound_text tick = codes "lower bound for any order: " ++ decimal tick ++ codes " ("
 
--- the least that any order of the cowns could end at
+-- the least that any order of the cowns could end at, and why
 abbrev pub least_text : Names → Sharing → Least → Text
-least_text names sharing least = tick_text (tick_of least) ++ reason_text names sharing least.spawns least.busiest ++ codes "\n"
+least_text names sharing least = bound_text (tick_of least) ++ reason_text names sharing least.spawns least.busiest ++ codes ")\n"
 
 -- All that is told, with this chain
 abbrev pub told_with : Names → Sharing → Why → Text → Text

@@ -3,7 +3,8 @@
 ghost use Rattle.std.specs.Prelude.{◌≡◌, ◌++◌, ◌<◌, All, length, IfOk, OnOk};
 ghost use Rattle.boc_plans.specs.Chains.{weight_of};
 ghost use Rattle.boc_why_report.specs.ChainTexts.{told_chain};
-ghost use Rattle.boc_why_report.specs.WhyTexts.{busy_text, head_text, least_text, reason_text, tick_text, told_with, IsWhyText, greedy_line};
+ghost use Rattle.boc_why_report.specs.WhyTexts.{bound_text, busy_text, from_text, head_text, least_text, load_text, reason_text, tick_text, told_with};
+ghost use Rattle.boc_why_report.specs.WhyTexts.{IsWhyText, greedy_line};
 
 use crate::chain::chain_text;
 use crate::folded::folded_text;
@@ -33,9 +34,45 @@ fn busy_text(sharing: Sharing) -> &'static str
     ensures { result.now ≡ busy_text sharing }
 {
     match sharing {
-        Sharing::Exclusive => " is held so long",
-        Sharing::SharedReads => " is written so long",
+        Sharing::Exclusive => " is held for ",
+        Sharing::SharedReads => " is written for ",
     }
+}
+
+// Puts a tick from which on a cown is busy behind a text.
+fn put_tick(text: &mut Vec<u8>, tick: u64) -> Result<(), AllocError>
+    ensures { OnOk result (text.new.items ≡ text.old.items ++ tick_text tick) }
+{
+    text.extend_from_slice(b", from tick ")?;
+    put_number(text, tick)?;
+    text.extend_from_slice(b" on")?;
+    Ok(())
+}
+
+// Puts the tick from which on a cown is busy behind a text, where it isn't busy from the start on.
+fn put_from(text: &mut Vec<u8>, from: Option<u64>) -> Result<(), AllocError>
+    ensures { OnOk result (text.new.items ≡ text.old.items ++ from_text from) }
+{
+    match from {
+        None | Some(0) => Ok(()),
+        Some(tick) => put_tick(text, tick),
+    }
+}
+
+// Puts for how long a cown is busy behind a text, and from when on.
+fn put_busy(
+    text: &mut Vec<u8>,
+    names: &Names,
+    sharing: Sharing,
+    busiest: Busiest,
+) -> Result<(), AllocError>
+    ensures { OnOk result (text.new.items ≡ text.old.items ++ load_text names.now sharing busiest) }
+{
+    text.extend_from_slice(text_at(&names.cowns, busiest.cown as usize))?;
+    text.extend_from_slice(busy_text(sharing).as_bytes())?;
+    put_number(text, busiest.load)?;
+    text.extend_from_slice(b" ticks")?;
+    put_from(text, busiest.from)
 }
 
 // Puts why no order ends sooner behind a text.
@@ -49,26 +86,24 @@ fn put_reason(
     ensures { OnOk result (text.new.items ≡ text.old.items ++ reason_text names.now sharing spawns busiest) }
 {
     match busiest {
-        Some(busiest) if busiest.load >= spawns => {
-            text.extend_from_slice(text_at(&names.cowns, busiest.cown as usize))?;
-            text.extend_from_slice(busy_text(sharing).as_bytes())
-        }
-        _ => text.extend_from_slice(b"their spawns take so long"),
+        Some(busiest) if busiest.until >= spawns => put_busy(text, names, sharing, busiest),
+        _ => text.extend_from_slice(b"their spawns take that long"),
     }
 }
 
 // Puts the tick before which no order of the cowns ends behind a text.
-fn put_tick(text: &mut Vec<u8>, tick: u64) -> Result<(), AllocError>
-    ensures { OnOk result (text.new.items ≡ text.old.items ++ tick_text tick) }
+fn put_bound(text: &mut Vec<u8>, tick: u64) -> Result<(), AllocError>
+    ensures { OnOk result (text.new.items ≡ text.old.items ++ bound_text tick) }
 {
-    text.extend_from_slice(b"no order of these behaviours ends before ")?;
+    text.extend_from_slice(b"lower bound for any order: ")?;
     put_number(text, tick)?;
-    text.extend_from_slice(b": ")?;
+    text.extend_from_slice(b" (")?;
     Ok(())
 }
 
-// Puts the least that any order of the cowns could end at behind a text.
-fn put_least(
+/// Puts the line of the tick before which no order of the cowns ends behind a text: a lower bound, with the cown that is busy until then, or the spawns.
+/// `AllocError` says that memory was refused.
+pub fn put_least(
     text: &mut Vec<u8>,
     names: &Names,
     sharing: Sharing,
@@ -76,9 +111,9 @@ fn put_least(
 ) -> Result<(), AllocError>
     ensures { OnOk result (text.new.items ≡ text.old.items ++ least_text names.now sharing least.now) }
 {
-    put_tick(text, least.tick())?;
+    put_bound(text, least.tick())?;
     put_reason(text, names, sharing, least.spawns, least.busiest)?;
-    text.extend_from_slice(b"\n")
+    text.extend_from_slice(b")\n")
 }
 
 // The chain: all of its lines, or folded.

@@ -85,7 +85,7 @@ candidates              span  less
   main at 1/2              8     1
   without a                8     1
   early spawns by main     8     1
-no order of these behaviours ends before 6: their spawns take so long
+lower bound for any order: 8 (b is held for 5 ticks, from tick 3 on)
 ";
 
 // The cowns of its record.
@@ -93,7 +93,8 @@ const COWNS: &str = "cown    rows  wrote  held  of span  waited  chain  without
 cown 0     2      2     5      55%       1      2        8
 cown 1     2      2     5      55%       3      3        7
 span 9; by spawns alone 6; busiest cown 5
-order: no cown is held for more than 5 of 9 ticks; the order in which behaviours ask is what holds back
+order: no cown is held for more than 5 of 9 ticks; another order of the behaviours may end sooner
+lower bound for any order: 8 (cown 1 is held for 5 ticks, from tick 3 on)
 ";
 
 // A case whose answer has two parts.

@@ -7,7 +7,8 @@ use Rattle.boc_plans.specs.declared.chain.ChainStep.{ChainStep}
 use Rattle.boc_plans.specs.declared.chain.Via.TheVariants.{Spawn, Order, Last}
 use Rattle.boc_plans.specs.declared.sharing.Sharing.TheVariants.{Exclusive, SharedReads}
 use Rattle.boc_plans.specs.Seen.{seen}
-use Rattle.boc_cowns.specs.Hot.{chain_through, hands_cown, held_for, rows_that_wrote, rows_with, step_hands, wait_of, waited_for}
+use Rattle.boc_why.specs.Least.{load_of}
+use Rattle.boc_cowns.specs.Hot.{chain_through, hands_cown, rows_that_wrote, rows_with, step_hands, wait_of, waited_for}
 
 abbrev row : ℕ → List ℕ → List ℕ → ℕ → Row
 row offset cowns written ticks = record {
@@ -35,10 +36,10 @@ with_third = refl
 -- ---- each cown is held by one row at a time
 
 -- it is held while a row has it
-pub first_held : held_for (seen Exclusive rows) 0 ≡ 10
+pub first_held : load_of (seen Exclusive rows) 0 ≡ 10
 first_held = refl
 
-pub second_held : held_for (seen Exclusive rows) 1 ≡ 9
+pub second_held : load_of (seen Exclusive rows) 1 ≡ 9
 second_held = refl
 
 -- row 1 starts at tick 1 and ends at 6, row 2 at 9, row 3 at 11, and row 4 at 15
@@ -92,10 +93,10 @@ pub writer_first : hands_cown (seen SharedReads rows) 0 1 3 ≡ true
 writer_first = refl
 
 -- it is held by one alone while a row has it that wrote it
-pub first_held_alone : held_for (seen SharedReads rows) 0 ≡ 5
+pub first_held_alone : load_of (seen SharedReads rows) 0 ≡ 5
 first_held_alone = refl
 
-pub second_held_alone : held_for (seen SharedReads rows) 1 ≡ 3
+pub second_held_alone : load_of (seen SharedReads rows) 1 ≡ 3
 second_held_alone = refl
 
 -- rows 2 and 3 wait for row 1, from ticks 2 and 3 to tick 6

@@ -70,7 +70,7 @@ module _ (names : Names) (cowns : texts_of names.cowns.items ≡ codes "store" �
   text_of_reads = rw cowns refl
 
 module _ (names : Names) (cowns : texts_of names.cowns.items ≡ codes "store" ∷ codes "pricer" ∷ []) (hot : HotCowns) (span : hot.span ≡ 279)
-    (spawns : hot.spawns ≡ 109) (shared : hot.shared ≡ 235) (list : hot.cowns.items ≡ store ∷ []) where
+    (spawns : hot.least.spawns ≡ 109) (shared : hot.shared ≡ 235) (list : hot.cowns.items ≡ store ∷ []) where
   pub text_of_span : span_text hot ≡ codes "span 279; by spawns alone 109; busiest cown 48\n"
   unfolding digits
   text_of_span = rw (span, spawns, list) refl
@@ -81,7 +81,7 @@ module _ (names : Names) (cowns : texts_of names.cowns.items ≡ codes "store" �
   text_of_load = rw (span, spawns, cowns) refl
 
   pub text_of_order : verdict_text names hot (store ∷ [])
-      ≡ codes "order: no cown is held for more than 48 of 279 ticks; the order in which behaviours ask is what holds back"
+      ≡ codes "order: no cown is held for more than 48 of 279 ticks; another order of the behaviours may end sooner"
   unfolding digits
   text_of_order = rw (span, spawns) refl
 
@@ -92,7 +92,7 @@ module _ (names : Names) (cowns : texts_of names.cowns.items ≡ codes "store" �
   text_of_late = rw (span, spawns, cowns) refl
 
   pub text_of_sooner : verdict_text names hot (store ∷ sooner ∷ [])
-      ≡ codes "order: no cown is held for more than 48 of 279 ticks; the order in which behaviours ask is what holds back"
+      ≡ codes "order: no cown is held for more than 48 of 279 ticks; another order of the behaviours may end sooner"
   unfolding digits
   text_of_sooner = rw (span, spawns) refl
 
@@ -109,7 +109,7 @@ module _ (names : Names) (cowns : texts_of names.cowns.items ≡ codes "store" �
   text_where_shared = refl
 
 -- where the spawns alone need 210 of 279 ticks, the pricer isn't the load, nor is the order
-module _ (names : Names) (hot : HotCowns) (span : hot.span ≡ 279) (spawns : hot.spawns ≡ 210) where
+module _ (names : Names) (hot : HotCowns) (span : hot.span ≡ 279) (spawns : hot.least.spawns ≡ 210) where
   pub text_of_spawns : verdict_text names hot (pricer ∷ store ∷ []) ≡ codes "spawns: they alone need 210 of 279 ticks; spawn earlier, or do less"
   unfolding digits
   text_of_spawns = rw (span, spawns) refl

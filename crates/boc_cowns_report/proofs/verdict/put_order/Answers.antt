@@ -5,9 +5,9 @@ use Rattle.boc_cowns_report.proofs.verdict.put_order.Goals as goal
 pub returns : goal.returns
 returns c =
     c.in_ok-extend_from_slice-3.ensures.items
-    ∙ (ap (λ text. text ++ codes " ticks; the order in which behaviours ask is what holds back") (c.in_ok-put_number-2.ensures.ok
+    ∙ (ap (λ text. text ++ codes " ticks; another order of the behaviours may end sooner") (c.in_ok-put_number-2.ensures.ok
     ∙ ap (λ text. text ++ decimal c.args.hot.now.span) (c.in_ok-extend_from_slice-2.ensures.items
     ∙ ap (λ text. text ++ codes " of ") (c.in_ok-put_number.ensures.ok
     ∙ ap (λ text. text ++ decimal c.args.own.held) c.in_ok-extend_from_slice.ensures.items)))
     ∙ regroup_five c.args.text.now.items (codes "order: no cown is held for more than ") (decimal c.args.own.held) (codes " of ")
-    (decimal c.args.hot.now.span) (codes " ticks; the order in which behaviours ask is what holds back"))
+    (decimal c.args.hot.now.span) (codes " ticks; another order of the behaviours may end sooner"))

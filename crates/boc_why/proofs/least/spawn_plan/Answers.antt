@@ -1,6 +1,7 @@
-use Rattle.std.proofs.Common.{◌≡◌, ℕ, ◌+◌, ◌<◌, length, arith}
+use Rattle.std.proofs.Common.{◌≡◌, ℕ, ◌+◌, ◌<◌, ◌≤◌, length, arith}
 use Rattle.boc_runs.specs.Rows.{ticks_of}
-use Rattle.boc_why.proofs.LeastSpawns.{spawned_next, spawned_plan}
+use Rattle.boc_program.specs.declared.limits.TheConstants.{MOST_ROWS}
+use Rattle.boc_why.proofs.LeastSpawns.{spawned_next, spawned_plan, starts_low}
 use Rattle.boc_why.proofs.least.spawn_plan.Goals as goal
 
 pub loop-row-preserved : goal.loop-row-preserved
@@ -17,8 +18,14 @@ loop-row-preserved c =
       room = omega (arith, c.push_reserved.ensures.capacity, c.loop-row.invariant.room);
     }
 
-pub returns : goal.returns
-returns c =
+pub returns-clause-is : goal.returns-clause-is
+returns-clause-is c =
     let rows = c.args.rows.now in
     let all : c.loop-row.row ≡ length rows = omega (arith, c.loop-row-test.false, c.loop-row.auto.row-end, c.len-row-end.ensures.count) in
     spawned_plan rows c.requires c.loop-row.starts.items c.loop-row.row c.loop-row.latest all c.loop-row.invariant.spawned
+
+pub returns-clause-low : goal.returns-clause-low
+returns-clause-low c =
+    let rows = c.args.rows.now in
+    let few : c.loop-row.row ≤ MOST_ROWS = omega (arith, c.loop-row.auto.row-end, c.len-row-end.ensures.count, c.requires.not_many) in
+    starts_low rows c.loop-row.starts.items c.loop-row.row c.loop-row.latest few c.loop-row.invariant.spawned

@@ -2,9 +2,9 @@ use Rattle.std.proofs.Common.{◌≡◌, ℕ, ◌<◌, ◌≤◌, length, true�
 use Rattle.std.specs.Prelude.{slice_index}
 use Rattle.boc_program.specs.declared.limits.TheConstants.{MOST_COWNS}
 use Rattle.boc_runs.specs.Rows.{cowns_of}
-use Rattle.boc_cowns.proofs.FirstStarts.{firsts_more, noted_skips, noted_takes}
-use Rattle.boc_cowns.proofs.firsts.note_start.Goals.{then-writes, else-writes}
-use Rattle.boc_cowns.proofs.firsts.note_start.Goals as goal
+use Rattle.boc_why.proofs.FirstStarts.{firsts_more, noted_skips, noted_takes}
+use Rattle.boc_why.proofs.starts.note_start.Goals.{then-writes, else-writes}
+use Rattle.boc_why.proofs.starts.note_start.Goals as goal
 
 pub loop-own-preserved : goal.loop-own-preserved
 loop-own-preserved c =

@@ -1,5 +1,5 @@
-use Rattle.boc_cowns.specs.Columns.{AreFirstStarts}
-use Rattle.boc_cowns.proofs.firsts.first_starts.Given as goal
+use Rattle.boc_why.specs.Least.{AreFirstStarts}
+use Rattle.boc_why.proofs.starts.first_starts.Given as goal
 
 -- the rows so far
 abbrev pub invariant-loop-row : goal.invariant-loop-row

@@ -10,9 +10,8 @@ use Rattle.boc_runs.specs.declared.rows.Row.{Row}
 use Rattle.boc_runs.specs.Rows.{IsRows, cowns_of, written_of}
 use Rattle.boc_plans.specs.Plans.{start_of}
 use Rattle.boc_order.proofs.Near.{writes_own}
-use Rattle.boc_cowns.specs.Hot.{IsFirstStart, IsLeastStart, sooner, wrote_cown}
-use Rattle.boc_cowns.specs.Columns.{AreFirstStarts}
-use Rattle.boc_cowns.proofs.Handed.{among_tells}
+use Rattle.boc_why.specs.Least.{AreFirstStarts, IsFirstStart, IsLeastStart, sooner, wrote_cown}
+use Rattle.boc_why.proofs.Found.{among_tells}
 
 abbrev first_at : List (Option ℕ) → ℕ → Option ℕ
 first_at firsts c = slice_index_or firsts c None

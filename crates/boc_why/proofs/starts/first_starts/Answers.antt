@@ -1,6 +1,6 @@
 use Rattle.std.proofs.Common.{length, arith}
-use Rattle.boc_cowns.proofs.FirstStarts.{firsts_all}
-use Rattle.boc_cowns.proofs.firsts.first_starts.Goals as goal
+use Rattle.boc_why.proofs.FirstStarts.{firsts_all}
+use Rattle.boc_why.proofs.starts.first_starts.Goals as goal
 
 pub returns : goal.returns
 returns c = firsts_all c.args.rows.now c.args.starts.now c.loop-row.row (length c.args.rows.now) c.loop-row.firsts.items

@@ -1,6 +1,6 @@
 use Rattle.std.specs.Prelude.{slice_index}
-use Rattle.boc_cowns.proofs.FirstStarts.{SomeNoted}
-use Rattle.boc_cowns.proofs.firsts.note_start.Given as goal
+use Rattle.boc_why.proofs.FirstStarts.{SomeNoted}
+use Rattle.boc_why.proofs.starts.note_start.Given as goal
 
 -- the row's start is noted for the cowns so far
 abbrev pub invariant-loop-own : goal.invariant-loop-own

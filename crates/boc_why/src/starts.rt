@@ -2,8 +2,7 @@
 
 ghost use Rattle.std.specs.Prelude.{◌≡◌, ◌+◌, ◌<◌, length, IfOk};
 ghost use Rattle.boc_runs.specs.Rows.{IsRows};
-ghost use Rattle.boc_cowns.specs.Hot.{sooner};
-ghost use Rattle.boc_cowns.specs.Columns.{AreFirstStarts};
+ghost use Rattle.boc_why.specs.Least.{AreFirstStarts, sooner};
 
 use boc_plans::sharing::SeenRows;
 use boc_program::limits::MOST_COWNS;
@@ -37,7 +36,7 @@ fn note_start(rows: &SeenRows, starts: &[u64], row: usize, firsts: &mut [Option<
 }
 
 /// For each cown the least start of a row that wrote it, if any did, where the rows start so. `AllocError` says that memory was refused.
-pub(crate) fn first_starts(
+pub fn first_starts(
     alloc: Global,
     rows: &SeenRows,
     starts: &[u64],

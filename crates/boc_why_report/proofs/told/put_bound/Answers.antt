@@ -1,0 +1,9 @@
+use Rattle.std.proofs.Common.{◌++◌, ◌∙◌, ap, codes, decimal}
+use Rattle.boc_why_report.proofs.Regroup.{regroup_three}
+use Rattle.boc_why_report.proofs.told.put_bound.Goals as goal
+
+pub returns : goal.returns
+returns c =
+    c.in_ok-extend_from_slice-2.ensures.items ∙ ap (λ text. text ++ codes " (") (c.in_ok-put_number.ensures.ok
+    ∙ ap (λ text. text ++ decimal c.args.tick) c.in_ok-extend_from_slice.ensures.items)
+    ∙ regroup_three c.args.text.now.items (codes "lower bound for any order: ") (decimal c.args.tick) (codes " (")

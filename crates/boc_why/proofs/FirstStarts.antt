@@ -1,5 +1,5 @@
 -- The least starts of the rows that wrote each cown, row by row, and that none of these rows is done before them in any order.
-use Rattle.std.proofs.Common.{◌≡◌, inl, inr, ℕ, ◌+◌, ◌<◌, ◌≤◌, ◌⊎◌, min, Bool, true, false, true≢false, List, length, Option, Some, None}
+use Rattle.std.proofs.Common.{◌≡◌, inl, inr, ℕ, ◌+◌, ◌<◌, ◌≤◌, ◌⊎◌, Bool, true, false, true≢false, List, length, Option, Some, None}
 use Rattle.std.proofs.Common.{⊎_elim, refl, ap, sym, ◌∙◌, subst, arith, length-set}
 use Rattle.std.specs.Prelude.{nat_eq, replicate, slice_index, slice_index_or, slice_set}
 use Rattle.std.specs.List.{Contains, list_any}
@@ -10,7 +10,7 @@ use Rattle.boc_runs.specs.declared.rows.Row.{Row}
 use Rattle.boc_runs.specs.Rows.{IsRows, cowns_of, written_of}
 use Rattle.boc_plans.specs.Plans.{start_of}
 use Rattle.boc_order.proofs.Near.{writes_own}
-use Rattle.boc_why.specs.Least.{AreFirstStarts, IsFirstStart, IsLeastStart, sooner, wrote_cown}
+use Rattle.boc_why.specs.Least.{AreFirstStarts, IsFirstStart, sooner, wrote_cown}
 use Rattle.boc_why.proofs.Found.{among_tells}
 
 abbrev first_at : List (Option ℕ) → ℕ → Option ℕ

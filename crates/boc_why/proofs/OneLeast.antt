@@ -1,5 +1,5 @@
 -- When some rows end at the earliest is one tick, of one cown.
-use Rattle.std.proofs.Common.{◌≡◌, ℕ, ◌<◌, ◌+◌, ⊎_elim, List, length, refl, ap, subst, arith, Option, Some, None}
+use Rattle.std.proofs.Common.{◌≡◌, ℕ, ◌<◌, ⊎_elim, List, length, refl, ap, subst, arith, Option, Some, None}
 use Rattle.std.proofs.lemmas.Bool.{cases_order}
 use Rattle.boc_runs.specs.declared.rows.Row.{Row}
 use Rattle.boc_order.proofs.Alone.{one_plan, one_span}

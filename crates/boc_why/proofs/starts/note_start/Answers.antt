@@ -1,6 +1,5 @@
-use Rattle.std.proofs.Common.{◌≡◌, ℕ, ◌<◌, ◌≤◌, length, true≢false, refl, sym, ◌∙◌, arith}
+use Rattle.std.proofs.Common.{ℕ, ◌<◌, ◌≤◌, length, true≢false, refl, sym, ◌∙◌, arith}
 use Rattle.std.specs.Prelude.{slice_index}
-use Rattle.boc_program.specs.declared.limits.TheConstants.{MOST_COWNS}
 use Rattle.boc_runs.specs.Rows.{cowns_of}
 use Rattle.boc_why.proofs.FirstStarts.{firsts_more, noted_skips, noted_takes}
 use Rattle.boc_why.proofs.starts.note_start.Goals.{then-writes, else-writes}

@@ -1,5 +1,5 @@
 -- The definition of the last line tried on a few cowns.
-use Rattle.std.proofs.Common.{◌≡◌, ℕ, List, [], ◌∷◌, Some, None, codes, refl}
+use Rattle.std.proofs.Common.{◌≡◌, [], ◌∷◌, Some, None, codes, refl}
 use Rattle.std.specs.Fmt.{digits}
 use Rattle.boc_plans.specs.declared.sharing.Sharing.TheVariants.{Exclusive, SharedReads}
 use Rattle.boc_names.specs.declared.names.Names.{Names}

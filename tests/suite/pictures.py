@@ -23,6 +23,9 @@ from .why import rows_of
 RANDOM = 60
 DRAWN = 200
 
+# Of how many records the widths of all texts are looked at.
+WIDTHS = 60
+
 TRANSFER = b"""\
 rows 4   work 11   span 9
 
@@ -109,6 +112,8 @@ def cases(program):
         return
     pictures = Pictures()
     yield from texts(program, view)
+    yield from widths(view)
+    yield from options(program, view)
     yield from drawings(program, view, pictures)
     yield from traces(view)
     yield from names_that_mean_something(view, pictures)
@@ -142,6 +147,176 @@ def texts(program, view):
     for number, rows in enumerate(random_records(0, RANDOM)):
         if len(rows) <= 60:
             yield f"text: {number}", fault_of_lines(view.run(["text", "--width", "1000"], record_of(rows)).output, rows)
+
+
+def widths(view):
+    """No line of a text is wider than it was asked for, whatever its rows and cowns are called and however long they take."""
+    chance = random.Random(8)
+    for number in range(WIDTHS):
+        count = chance.choice((2, 5, 40, 60, 61, 90, 400))
+        most = chance.choice((3, 40, 1_000_000))
+        rows = fan(count, lambda _: sorted(chance.sample(range(4), chance.randrange(3))), lambda _: chance.randrange(1, most))
+        few = chance.randrange(1, 9)
+        names = [f"= {row} {long_name(row % few)}"[:80] for row in range(count)] + [f"@ {cown} {long_name(60 + cown).split()[0]}"[:80] for cown in range(4)]
+        record, names = fan_text(4, rows), "".join(f"{name}\n" for name in names).encode()
+        with tempfile.NamedTemporaryFile() as file:
+            file.write(names)
+            file.flush()
+            width = chance.choice((40, 41, 42, 43, 44, 63, 64, 65, 999, 1000, chance.randrange(40, 1001)))
+            for command in ([], ["--cowns"], ["--p", str(chance.randrange(1, 65))], ["--curve"], ["--cowns", "--p", "2"], ["--cowns", "--curve", "--p", "9"]):
+                command = [*command, *chance.choice(([], ["--shared-reads"])), "--width", str(width), "--names", file.name]
+                answer = view.run(["text", *command], record)
+                longest = max(map(len, answer.output.splitlines()), default=0)
+                yield f"text: {number} with {command[:-2]}", None if 0 < longest <= width else f"a line has {longest}: {answer.errors}"
+
+
+    longest_run = fan_text(1, fan(11_000, lambda _: (0,), lambda _: 1_000_000))
+    for width in (40, 41, 63, 64, 74, 75, 100):
+        longest = max(map(len, view.run(["text", "--curve", "--width", str(width)], longest_run).output.splitlines()), default=0)
+        yield f"text: ends of 11 digits in {width} columns", None if 0 < longest <= width else f"a line has {longest}"
+
+
+def long_name(number):
+    """A name, one and the same for each number: of one word, mostly a long one, or of two."""
+    chance = random.Random(number)
+    word = "".join(chance.choice("abcdefghijklmnopqrstuvwxyz<>&\"\\") for _ in range(chance.choice((3, 30, 80, 80))))
+    return f"n{number}{word}" + chance.choice(("", "", f" {number}"))
+
+
+# A program whose record depends on the seed, on the number of workers and on the depth, and whose span is lesser where reads are shared. One thread runs
+# its behaviours in one order alone.
+ORDERS = b"""\
+cown a = 1; cown b = 2; cown c = 3;
+def one(; x) { x = x + 1; work 3; }
+def two(; x, y) { x = x * 2; work 2; when one(; y); }
+def go(; x) { work 1; when two(; x, b); when one(; x); }
+def look(n; x, y) { work n; y = x; }
+main { when go(; a); when go(; c); when look(4; a, b); when look(2; a, c); when one(; b); when look(3; a, b); }
+"""
+
+# How the program is run.
+RUNS = [[], ["--workers", "4", "--seed", "1"], ["--workers", "4", "--seed", "2"], ["--workers", "4", "--seed", "2", "--depth", "2"],
+        ["--workers", "3", "--seed", "1"]]
+
+
+def options(program, view):
+    """What each picture shows is what `boc` answers with the same options: which run it is, and how its plans see the rows."""
+    records = [program.run(["run", *run], ORDERS).output for run in RUNS]
+    yield "options: each way to run it has a record of its own", None if len(set(records)) == len(RUNS) else "two are the same"
+    shares = [["--shared-reads"], []]
+    spans = [Report(program, records[1], share, "3").span for share in shares]
+    yield "options: reads that are shared make it shorter", None if spans[0] < spans[1] else f"{spans}"
+    for share in shares:
+        for run, record in zip(RUNS, records):
+            yield from shown_as(view, [*run, *share], Report(program, record, share, "3"), lambda words_: view.run(words_, ORDERS))
+            yield from shown_as(view, ["--record", *share], Report(program, record, share, "3"),
+                                lambda words_, text=record: view.run_beside([it for it in words_ if it != "--record"], "--record", text, ORDERS))
+            yield from shown_as(view, ["--names", *run, *share], Report(program, record, share, "3"),
+                                lambda words_: view.run_beside([it for it in words_ if it != "--names"], "--names", b"= 0 start\n", ORDERS), "start")
+
+
+class Report:
+    """What `boc` answers of a record: the plan, the chain, the greedy plan and the curve."""
+
+    def __init__(self, program, record, share, workers):
+        lines = [line.split() for line in program.run(["profile", *share, "--p", workers], record).output.decode().splitlines()]
+        plan, greedy = lines.index(["plan"]), lines.index(["greedy", workers])
+        self.work, self.span = int(lines[1][1]), int(lines[2][1])
+        self.chain = [int(line[0]) for line in lines[4:plan]]
+        self.plan = [tuple(map(int, line)) for line in lines[plan + 1:greedy]]
+        self.greedy = [tuple(map(int, line)) for line in lines[greedy + 1:-1]]
+        self.end, self.bound = int(lines[-1][1]), int(lines[-1][3])
+        self.curve = [tuple(map(int, line.split())) for line in program.run(["curve", *share, "--p", workers], record).output.decode().splitlines()[2:]]
+        self.sweep = [int(line.split()[1]) for line in program.run(["sweep", *share], record).output.decode().splitlines()]
+        self.rows, _ = rows_of(record)
+
+
+def shown_as(view, words_, report, answer, name="main"):
+    """Each picture with these words shows what the report says."""
+    for picture, fault_of_picture in (("text", fault_of_told_rows), ("text --p 3", fault_of_told_workers), ("text --cowns", fault_of_told_cowns),
+                                      ("text --curve --p 3", fault_of_told_curve), ("plan --p 3", fault_of_drawn_plans), ("curve --p 3", fault_of_drawn_curve),
+                                      ("page --p 3", fault_of_told_page), ("trace --p 3", fault_of_traced_plans)):
+        output = answer([*picture.split(), *words_, *(["--width", "1000"] if picture.startswith("text") else [])]).output.decode()
+        fault = fault_of_picture(output, report) if output else "there is none"
+        if fault is None and "curve" not in picture and "text -" not in picture and name not in output:
+            fault = f"it does not name {name}"
+        yield f"{picture} with {words_}", fault
+
+
+def ticks_of(cells):
+    """The ticks whose cells are not blank, where a column is a tick."""
+    return {tick for tick, cell in enumerate(cells) if cell not in " ."}
+
+
+def fault_of_told_rows(text, report):
+    lines = [line for line in text.splitlines() if line.endswith("|")]
+    found = [(int(line.split()[0]), ticks_of(line[line.index("|") + 1:-1])) for line in lines]
+    chain = [int(line.split()[0]) for line in lines if "#" in line]
+    if found != [(row, set(range(start, end))) for row, start, end in report.plan]:
+        return f"its rows are {found}"
+    return None if chain == report.chain else f"its chain is {chain}"
+
+
+def fault_of_told_workers(text, report):
+    found = [ticks_of(line[line.index("|") + 1:line.rindex("|")]) for line in text.splitlines() if line.startswith("worker ")]
+    wanted = [{tick for _, start, end, own in report.greedy if own == worker for tick in range(start, end)} for worker in range(3)]
+    return None if found == wanted and f"end {report.end}, bound {report.bound}:" in text else f"its workers are {found}"
+
+
+def fault_of_told_cowns(text, report):
+    found = [(ticks_of(line[line.index("|") + 1:line.rindex("|")]), int(line.split()[-1][:-1])) for line in text.splitlines() if line.endswith("%")]
+    wanted = []
+    for cown in range(3):
+        ticks = {tick for row, start, end in report.plan if cown in report.rows[row].cowns for tick in range(start, end)}
+        wanted.append((ticks, len(ticks) * 100 // report.span))
+    return None if found == wanted else f"its cowns are {found}"
+
+
+def fault_of_told_curve(text, report):
+    found = [tuple(map(int, line.split()[:4])) for line in text.splitlines()[2:-1]]
+    least = min(point[1] for point in report.curve)
+    enough = next(point[0] for point in report.curve if point[1] == least)
+    return None if found == [point for point in report.curve if point[0] in (1, 2, enough)] else f"its points are {found}"
+
+
+def fault_of_drawn_plans(svg, report):
+    svg = svg.encode()
+    if sorted(bar[:3] for bar in bars_of(svg)) != report.plan:
+        return "its bars are not those of the plan"
+    text = svg.decode()
+    if f"{len(report.plan)} rows, work {report.work}, span {report.span}<" not in text or f"for 3 workers: end {report.end}, bound {report.bound}<" not in text:
+        return "its headings are others"
+    shares = re.findall(r"M[\d.]+ ([\d.]+)h[^>]*><title>row (\d+) .*?: ticks (\d+) to (\d+)<", text)
+    tops = {float(y): worker for y, worker in re.findall(r'y="([\d.]+)">worker (\d+)<', text)}
+    found = sorted((int(row), int(start), int(end), int(tops[float(y) + 12])) for y, row, start, end in shares)
+    return None if found == report.greedy else f"its greedy plan is {found}"
+
+
+def fault_of_drawn_curve(svg, report):
+    found = [tuple(map(int, it)) for it in re.findall(r"<title>workers (\d+): end (\d+), no plan before (\d+), bound (\d+);", svg)]
+    return None if found == report.curve and f"work {report.work}, span {report.span}<" in svg else f"its points are {found}"
+
+
+def fault_of_told_page(page, report):
+    plan, curve = (drawing.decode() for drawing in drawings_of(page.encode()))
+    fault = fault_of_drawn_plans(plan, report) or fault_of_drawn_curve(curve, report)
+    if fault:
+        return fault
+    chain = [int(row) for row in re.findall(r'<tr data-row="(\d+)"', page[:page.index('id="sweep"')])]
+    rows = re.findall(r'<tr data-row="(\d+)">.*?<td>(\d+)</td><td>(\d+)</td><td>\d+</td><td>(\d+)</td></tr>', page[page.index('id="sweep"'):])
+    found = [tuple(map(int, row)) for row in rows]
+    if chain != report.chain or found != [(*row, span) for row, span in zip(report.plan, report.sweep)]:
+        return f"its chain is {chain}, and its rows are {found}"
+    return None if "<h2>The program</h2>" in page and "def look(n; x, y)" in page else "it lacks the program"
+
+
+def fault_of_traced_plans(text, report):
+    events = [it for it in json.loads(text)["traceEvents"] if it["ph"] == "X"]
+    found = [sorted((it["args"]["row"], it["ts"], it["ts"] + it["dur"], it["tid"]) for it in events if it["pid"] == process) for process in (1, 2)]
+    if [it[:3] for it in found[0]] != report.plan:
+        return "its earliest plan is another one"
+    on_chain = [it["args"]["row"] for it in sorted(events, key=lambda it: it["args"]["row"]) if it["pid"] == 1 and it["args"]["chain"]]
+    return None if found[1] == report.greedy and on_chain == report.chain else f"its greedy plan is {found[1]}, and its chain {on_chain}"
 
 
 def random_records(seed, count):

@@ -335,12 +335,15 @@ fn put_spawns(
     text.push_str("\"/>\n")
 }
 
-// The bar of a row.
-fn bar_of(bars: &[Bar], named: bool, row: u32) -> Option<Bar> {
-    if named {
-        return bars.get(row as usize).copied();
+// The bar of each row, at its number.
+fn by_row(alloc: Global, bars: &[Bar]) -> Result<Vec<Bar>, AllocError> {
+    let mut by_row = Vec::from_slice(alloc, bars)?;
+    for bar in bars {
+        if let Some(place) = by_row.get_mut(bar.row as usize) {
+            *place = *bar;
+        }
     }
-    bars.iter().find(|bar| bar.row == row).copied()
+    Ok(by_row)
 }
 
 // Puts the links of the chain.
@@ -356,12 +359,13 @@ fn put_links(
     } else {
         "<g class=\"links thin\">\n"
     })?;
+    let bars = by_row(alloc, bars)?;
     for (place, step) in subject.chain.iter().enumerate() {
         if let Some(next) = subject.chain.get(place.saturating_add(1))
-            && let Some(from) = bar_of(bars, layout.named, step.row)
-            && let Some(to) = bar_of(bars, layout.named, next.row)
+            && let Some(from) = bars.get(step.row as usize)
+            && let Some(to) = bars.get(next.row as usize)
         {
-            put_link(alloc, text, subject, layout, *step, &from, &to)?;
+            put_link(alloc, text, subject, layout, *step, from, to)?;
         }
     }
     text.push_str("</g>\n")

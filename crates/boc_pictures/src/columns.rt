@@ -79,7 +79,12 @@ pub(crate) fn percent(part: u64, whole: u64) -> u64 {
 // How many blanks the rest of a folded line begins with.
 const INDENT: usize = 2;
 
-/// Puts a line of words in so many columns: where they don't fit, it goes on in a further line. A word that is too long stands there whole.
+/// The most columns that a word of a folded line takes, where lines have so many.
+pub(crate) fn longest_word(width: usize) -> usize {
+    width.saturating_sub(INDENT)
+}
+
+/// Puts a line of words in so many columns: where they don't fit, it goes on in a further line. A word that is longer than `longest_word` stands there whole.
 pub(crate) fn put_folded(text: &mut String, line: &str, width: usize) -> Result<(), AllocError> {
     let mut column: usize = 0;
     let mut blanks: usize = 0;

@@ -14,6 +14,23 @@ const NARROW: usize = 32;
 
 const LEAST_MARKS: usize = 10;
 
+// How many digits an end has at the most, where the table's head stands right above it.
+const DIGITS: usize = 10;
+
+// How many digits a number has.
+fn digits(number: u64) -> usize {
+    let mut digits: usize = 1;
+    let mut rest = number / 10;
+    for _ in 0..20 {
+        if rest == 0 {
+            break;
+        }
+        digits = digits.saturating_add(1);
+        rest /= 10;
+    }
+    digits
+}
+
 /// The columns of the table.
 #[derive(Clone, Copy)]
 struct Shape {
@@ -24,10 +41,14 @@ struct Shape {
 }
 
 impl Shape {
-    // The table in so many columns.
-    fn within(width: usize) -> Shape {
+    // The table of these points in so many columns.
+    fn within(points: &[CurvePoint], width: usize) -> Shape {
         let full = width >= FULL + LEAST_MARKS;
-        let taken = if full { FULL } else { NARROW };
+        let (taken, numbers) = if full { (FULL, 3) } else { (NARROW, 1) };
+        // No end is greater than the bound of one worker.
+        let digits = points.iter().map(|point| digits(point.bound)).max();
+        let more = digits.unwrap_or(1).saturating_sub(DIGITS);
+        let taken = more.saturating_mul(numbers).saturating_add(taken);
         Shape {
             full,
             marks: width.saturating_sub(taken).min(MOST_MARKS),
@@ -73,7 +94,7 @@ pub fn curve_text(
     width: usize,
 ) -> Result<String, AllocError> {
     let enough = enough(points);
-    let shape = Shape::within(width);
+    let shape = Shape::within(points, width);
     let mut text = String::new(alloc);
     let head = format!(in alloc; "work {work}   span {span}")?;
     put_folded(&mut text, head.as_str(), width)?;

@@ -4,7 +4,7 @@ use crate::columns::{Columns, percent, put_folded, put_line, put_padded};
 use crate::letters::{letters, mark_of, put_key};
 use crate::plan_lines::MOST_LINES;
 use crate::spelling::Spelling;
-use crate::subject::Subject;
+use crate::subject::{Shown, Subject};
 use boc_names::text_at;
 use std::alloc::{AllocError, Global};
 use std::cmp::Reverse;
@@ -39,7 +39,7 @@ pub fn cowns_text(alloc: Global, subject: &Subject, width: usize) -> Result<Stri
     );
     let mut head = format!(in alloc; "who holds what: ")?;
     columns.put_scale(&mut head)?;
-    put_key(alloc, &mut head, subject, &letters)?;
+    put_key(alloc, &mut head, subject, &letters, width)?;
     let mut text = String::new(alloc);
     put_folded(&mut text, head.as_str(), width)?;
     for held in &held {
@@ -51,25 +51,48 @@ pub fn cowns_text(alloc: Global, subject: &Subject, width: usize) -> Result<Stri
     Ok(text)
 }
 
-// The cowns that some row has, and how long they are held.
-fn held_of(alloc: Global, subject: &Subject) -> Result<Vec<Held>, AllocError> {
-    let mut ticks = Vec::new(alloc);
-    for _ in 0..subject.names.cowns.len() {
-        ticks.push(0)?;
+// When a cown is held, of the rows so far.
+#[derive(Clone, Copy)]
+struct Holding {
+    // For how many ticks some row has it.
+    ticks: u64,
+    // The tick by which all of them have ended.
+    until: u64,
+}
+
+impl Holding {
+    // One more row has it from one tick on up to another one, and none of those so far starts later.
+    fn add(&mut self, start: u64, end: u64) {
+        let alone = end.saturating_sub(start.max(self.until));
+        self.ticks = self.ticks.saturating_add(alone);
+        self.until = self.until.max(end);
     }
-    for row in &subject.shown {
+}
+
+// The rows, those that start first in front.
+fn by_start(alloc: Global, subject: &Subject) -> Result<Vec<Shown>, AllocError> {
+    let mut rows = Vec::from_slice(alloc, &subject.shown)?;
+    rows.sort_unstable_by_key(|row| (row.start, row.row));
+    Ok(rows)
+}
+
+// The cowns that some row has, and for how many ticks: those at which several rows read one count once.
+fn held_of(alloc: Global, subject: &Subject) -> Result<Vec<Held>, AllocError> {
+    let none = Holding { ticks: 0, until: 0 };
+    let mut holdings = vec![in alloc; none; subject.names.cowns.len()]?;
+    for row in &by_start(alloc, subject)? {
         for cown in subject.cowns(row.row) {
-            if let Some(ticks) = ticks.get_mut(*cown as usize) {
-                *ticks = row.end.saturating_sub(row.start).saturating_add(*ticks);
+            if let Some(holding) = holdings.get_mut(*cown as usize) {
+                holding.add(row.start, row.end);
             }
         }
     }
     let mut held = Vec::new(alloc);
-    for (cown, ticks) in ticks.iter().enumerate() {
-        if *ticks > 0 {
+    for (cown, holding) in holdings.iter().enumerate() {
+        if holding.ticks > 0 {
             held.push(Held {
                 cown,
-                ticks: *ticks,
+                ticks: holding.ticks,
             })?;
         }
     }

@@ -1,11 +1,15 @@
 // A letter for each def.
 
+use crate::columns::longest_word;
 use crate::spelling::Spelling;
 use crate::subject::Subject;
 use std::alloc::{AllocError, Global};
 
 // The letters and digits that stand for defs whose own are taken.
 const OTHERS: &[u8] = b"abcdefghijklmnopqrstuvwxyzABCDEFGHIJKLMNOPQRSTUVWXYZ0123456789";
+
+// The most bytes of the name of a def.
+const MOST_NAME: usize = 40;
 
 // What stands for a letter where none is free.
 const NO_LETTER: u8 = b'*';
@@ -58,19 +62,22 @@ pub(crate) fn mark_of(letters: &[u8], subject: &Subject, row: u32) -> u8 {
     }
 }
 
-/// Puts what marks stand for.
+/// Puts what marks stand for, each name so that it fits into a line of so many columns.
 pub(crate) fn put_key(
     alloc: Global,
     text: &mut String,
     subject: &Subject,
     letters: &[u8],
+    width: usize,
 ) -> Result<(), AllocError> {
     if letters.is_empty() {
         return text.push_str("; # on the chain, = other rows");
     }
+    // A comma follows it.
+    let most = longest_word(width).saturating_sub(1).min(MOST_NAME);
     let mut first = true;
     for (letter, name) in letters.iter().zip(&subject.names.def_names) {
-        let name = Spelling::Text.of(alloc, name, 40)?;
+        let name = Spelling::Text.of(alloc, name, most)?;
         text.push_str(if first { "; " } else { ", " })?;
         write!(text, "{} {name}", char::from(*letter))?;
         first = false;

@@ -20,7 +20,7 @@ pub fn workers_text(
         plan.p, plan.ends_at, plan.bound
     )?;
     columns.put_scale(&mut head)?;
-    put_key(alloc, &mut head, subject, &letters)?;
+    put_key(alloc, &mut head, subject, &letters, width)?;
     let mut text = String::new(alloc);
     put_folded(&mut text, head.as_str(), width)?;
     for worker in 0..plan.p {

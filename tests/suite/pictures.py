@@ -15,7 +15,7 @@ from . import memory, model
 from .copies import TOP, tree
 from .packages import command_of
 from .plans import random_rows, record_of
-from .records import fan, fan_text
+from .records import fan, fan_text, tower, tower_text
 from .running import DEVICE, Program, done, fault_of, refused
 from .why import rows_of
 
@@ -667,6 +667,13 @@ def at_the_limit(view):
     for command in (["text"], ["text", "--cowns"], ["text", "--p", "4"], ["trace"], ["page"]):
         answer = view.run(command, record)
         yield f"{command}: 65,535 rows", None if answer and answer.status == 0 else f"it answered {answer and answer.errors}"
+    in_turn = fan_text(1, fan(65_535, lambda _: (0,), lambda _: 3))
+    for kind, chain in (("over one cown", in_turn), ("that spawn each other", tower_text(tower(65_535)))):
+        for command in (["plan"], ["plan", "--p", "4"], ["page"], ["trace"]):
+            begun = time.monotonic()
+            answer = view.run(command, chain)
+            seconds = time.monotonic() - begun
+            yield f"{command}: a chain of 65,535 rows {kind}", None if answer and answer.status == 0 and seconds < 3 else f"{seconds:.1f} s"
 
 
 def wants(view):

@@ -16,7 +16,7 @@ const NAME_BYTES: usize = 80;
 /// for a record.
 #[derive(Drop)]
 pub struct Page<'a> {
-    pub subject: &'a Subject<'a>,
+    pub subject: &'a Subject,
     pub plan: &'a str,
     pub curve: &'a str,
     pub spans: &'a [u64],

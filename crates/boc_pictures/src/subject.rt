@@ -1,13 +1,15 @@
 // What pictures are of.
 
-ghost use Rattle.std.specs.Prelude.{◌<◌, length, IfOk};
-ghost use Rattle.boc_plans.specs.Seen.{seen};
-ghost use Rattle.boc_order.specs.Profiles.{IsProfileOf};
-ghost use Rattle.boc_pictures.specs.Subjects.{AreShown, IsSubject};
+ghost use Rattle.std.specs.Prelude.{◌≡◌, ℕ, ◌<◌, List, length, IfOk, slice_index};
+ghost use Rattle.boc_runs.specs.Rows.{IsRows};
+ghost use Rattle.boc_plans.specs.Chains.{IsChain};
+ghost use Rattle.boc_plans.specs.declared.chain.ChainStep.{ChainStep};
+ghost use Rattle.boc_order.specs.Standing.{IsPlanOf};
+ghost use Rattle.boc_pictures.specs.Subjects.{AreShown, IsShownAs, IsSubject, through_of};
 
 use crate::spelling::Spelling;
 use boc_names::{Names, text_at};
-use boc_order::{Profile, waits_and_plan};
+use boc_order::{Earliest, spawned_at, waits_and_plan};
 use boc_plans::chain::ChainStep;
 use boc_plans::sharing::{SeenRows, Sharing};
 use boc_program::short::HeldCown;
@@ -31,9 +33,9 @@ pub struct Shown {
 
 /// A run with the names of its rows and cowns, its earliest plan, and the chain that holds it back. All times are ticks.
 #[derive(Drop)]
-pub struct Subject<'a> {
-    pub rows: &'a Rows,
-    pub names: &'a Names,
+pub struct Subject {
+    pub rows: Rows,
+    pub names: Names,
     /// What plans see of the rows.
     pub sharing: Sharing,
     pub work: u64,
@@ -43,21 +45,21 @@ pub struct Subject<'a> {
     pub chain: Vec<ChainStep>,
 }
 
-impl<'a> Subject<'a> {
-    /// These rows with these names, as plans see them. `AllocError` says that memory was refused.
+impl Subject {
+    /// These rows with these names, as plans see them. `AllocError` says that memory was refused, and then the rows and the names are gone.
     pub fn of(
         alloc: Global,
-        rows: &'a Rows,
-        names: &'a Names,
+        rows: Rows,
+        names: Names,
         sharing: Sharing,
-    ) -> Result<Subject<'a>, AllocError>
-        ensures { IfOk result (IsSubject (seen sharing rows.now)) }
+    ) -> Result<Subject, AllocError>
+        ensures { IfOk result (IsSubject rows names sharing) }
     {
-        let seen = SeenRows::new(rows, sharing);
+        let seen = SeenRows::new(&rows, sharing);
         let (_, plan) = waits_and_plan(alloc, &seen)?;
         let profile = plan.profile(alloc, &seen)?;
-        let through = through_of(alloc, seen.len(), &profile.chain.steps)?;
-        let shown = shown_of(alloc, &seen, &profile, &plan.after, &through)?;
+        let through = through_of(alloc, &seen, &profile.chain.steps)?;
+        let shown = shown_of(alloc, &seen, &plan, &profile.chain.steps, &through)?;
         Ok(Subject {
             rows,
             names,
@@ -117,7 +119,7 @@ impl<'a> Subject<'a> {
         from: u32,
         to: u32,
     ) -> Result<(), AllocError> {
-        let seen = SeenRows::new(self.rows, self.sharing);
+        let seen = SeenRows::new(&self.rows, self.sharing);
         if seen.len() <= from as usize || seen.len() <= to as usize {
             return Ok(());
         }
@@ -134,51 +136,53 @@ impl<'a> Subject<'a> {
     }
 }
 
-// The rows of a plan, of which each waits for the end of one of `after`, if any, and the chain goes through so many ticks.
+// A row as it stands in a plan, of which the chain goes through so many ticks.
+fn shown_at(rows: &SeenRows, plan: &Earliest, row: usize, through: u32) -> Shown
+    requires shape { IsRows rows.now }
+    requires placed { IsPlanOf rows.now plan.now }
+    requires there { row < length rows.now }
+    ensures { (steps : List ChainStep) → through ≡ through_of steps row → IsShownAs rows.now plan.now.starts.items steps row result }
+{
+    Shown {
+        row: row as u32,
+        start: plan.starts[row],
+        end: plan.ends[row],
+        spawned: spawned_at(rows, row, &plan.starts),
+        after: if row == 0 { None } else { plan.after[row] },
+        through,
+    }
+}
+
+// The rows of a plan, of each of which the chain goes through so many ticks.
 fn shown_of(
     alloc: Global,
     rows: &SeenRows,
-    profile: &Profile,
-    after: &[Option<u32>],
+    plan: &Earliest,
+    steps: &[ChainStep],
     through: &[u32],
 ) -> Result<Vec<Shown>, AllocError>
-    requires { IsProfileOf rows.now profile.now }
-    ensures { IfOk result (λ shown. AreShown profile.now.starts.items profile.now.ends.items shown.items) }
+    requires shape { IsRows rows.now }
+    requires placed { IsPlanOf rows.now plan.now }
+    requires whole { length through.now ≡ length rows.now }
+    requires through { (r : ℕ) → r < length rows.now → slice_index through.now r ≡ through_of steps.now r }
+    ensures { IfOk result (λ shown. AreShown rows.now plan.now.starts.items steps.now shown.items) }
 {
     let mut shown = Vec::with_capacity(alloc, rows.len())?;
     for row in 0..rows.len() {
-        shown.push(Shown {
-            row: row as u32,
-            start: profile.starts[row],
-            end: profile.ends[row],
-            spawned: spawned_at(rows, row, &profile.starts),
-            after: after.get(row).copied().flatten(),
-            through: through.get(row).copied().unwrap_or(0),
-        })?;
+        shown.push(shown_at(rows, plan, row, through[row]))?;
     }
     Ok(shown)
 }
 
-// When a row is spawned, where rows start at these ticks.
-fn spawned_at(rows: &SeenRows, row: usize, starts: &[u64]) -> u64
-    requires { row < length rows.now }
+// How many ticks of each row the chain goes through.
+fn through_of(alloc: Global, rows: &SeenRows, steps: &[ChainStep]) -> Result<Vec<u32>, AllocError>
+    requires { IsChain rows.now steps.now }
+    ensures whole { IfOk result (λ through. length through.items ≡ length rows.now) }
+    ensures each { IfOk result (λ through. (r : ℕ) → r < length rows.now → slice_index through.items r ≡ through_of steps.now r) }
 {
-    match starts.get(rows.parent(row) as usize) {
-        Some(start) => start.saturating_add(rows.offset(row) as u64),
-        None => 0,
-    }
-}
-
-// How many ticks of each of so many rows the chain goes through.
-fn through_of(alloc: Global, count: usize, chain: &[ChainStep]) -> Result<Vec<u32>, AllocError> {
-    let mut through = Vec::with_capacity(alloc, count)?;
-    for _ in 0..count {
-        through.push(0)?;
-    }
-    for step in chain {
-        if let Some(ticks) = through.get_mut(step.row as usize) {
-            *ticks = step.weight;
-        }
+    let mut through = vec![in alloc; 0u32; rows.len()]?;
+    for step in steps {
+        through[step.row as usize] = step.weight;
     }
     Ok(through)
 }

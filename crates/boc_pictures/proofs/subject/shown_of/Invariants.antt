@@ -8,4 +8,4 @@ use Rattle.boc_pictures.proofs.subject.shown_of.Given as goal
 abbrev pub invariant-loop-row : goal.invariant-loop-row
 invariant-loop-row l =
     (length l.shown.items ≡ l.row)
-    × ((row : ℕ) (one : Shown) → slice_get l.shown.items row ≡ Some one → IsShownAs l.profile.starts.items l.profile.ends.items row one)
+    × ((r : ℕ) (one : Shown) → slice_get l.shown.items r ≡ Some one → IsShownAs l.rows l.plan.starts.items l.steps r one)

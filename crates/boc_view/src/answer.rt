@@ -1,26 +1,26 @@
 // The picture that is asked for.
 
 ghost use Rattle.std.specs.Prelude.{◌<◌};
+ghost use Rattle.boc_commands.specs.Commands.{CountsSource};
+ghost use Rattle.boc_commands.specs.NamedRuns.{RefusesNamedRun};
 
+use crate::material::{Material, material_of};
 use crate::wanted::{Picture, Wanted};
-use boc_commands::named_run::{named_run, taken};
-use boc_commands::{Fault, NamedRun, Origin};
-use boc_cowns::hot_cowns;
-use boc_greedy::{Greedy, greedy};
+use boc_commands::Fault;
+use boc_commands::named_run::taken;
 use boc_pictures::{
-    Page, Subject, cowns_text, curve_drawing, curve_text, page_text, plan_drawing, plan_text,
-    trace_text, workers_text,
+    Page, cowns_text, curve_drawing, curve_text, page_text, plan_drawing, plan_text, trace_text,
+    workers_text,
 };
-use boc_plans::workers::Workers;
-use boc_program::limits::{MOST_COWNS, MOST_WORKERS};
 use boc_text::Source;
-use boc_whatif::WhatIf;
 use boc_workers::OpenGate;
 use std::alloc::{AllocError, Global};
 use std::sync::Wait;
 use std::thread::Threads;
 
-/// The picture of the run that an input tells of, in so many columns where it is a text.
+/// The picture of the run that an input tells of, in so many columns where it is a text. The file beside the input, if there is one, has these bytes.
+///
+/// An input and a file are refused as `boc why` refuses them.
 pub(crate) fn pictured<R: Threads + Wait + Sync, S: Source>(
     rt: &R,
     alloc: Global,
@@ -30,135 +30,79 @@ pub(crate) fn pictured<R: Threads + Wait + Sync, S: Source>(
     source: &mut S,
 ) -> Result<String, Fault>
     requires { S.failures source.old < u64.MAX }
+    ensures refused { RefusesNamedRun (Unit {0}) wanted.now.schedule wanted.now.file beside.items result (S.remaining source.old) (S.remaining source.new) }
+    ensures source { CountsSource result (S.failures source.old) (S.failures source.new) }
 {
     let text = taken(alloc, source)?;
-    let program = program_shown(alloc, wanted, &text)?;
-    let origin = Origin {
-        schedule: wanted.schedule,
-        file: &wanted.file,
-        bytes: beside,
-    };
-    let run = named_run(rt, alloc, text, origin, &OpenGate)?;
-    Ok(drawn(rt, alloc, wanted, &run, &program, width)?)
+    let material = material_of(rt, alloc, wanted, beside, text, &OpenGate)?;
+    Ok(drawn(alloc, wanted.picture, &material, width)?)
 }
 
-// The text of the program, where a page is to show it; no bytes else.
-fn program_shown(alloc: Global, wanted: &Wanted, text: &[u8]) -> Result<Vec<u8>, AllocError> {
-    if wanted.picture != Picture::Page || text.starts_with(b"boc") {
-        return Ok(Vec::new(alloc));
-    }
-    Vec::from_slice(alloc, text)
-}
-
-// The picture of a run.
-fn drawn<R: Threads + Sync>(
-    rt: &R,
+// The picture that is made of this.
+fn drawn(
     alloc: Global,
-    wanted: &Wanted,
-    run: &NamedRun,
-    program: &[u8],
+    picture: Picture,
+    material: &Material,
     width: usize,
 ) -> Result<String, AllocError> {
-    let subject = Subject::of(alloc, &run.rows, &run.names, wanted.sharing)?;
-    match wanted.picture {
-        Picture::Text { cowns, curve } => {
-            lines(rt, alloc, wanted, run, &subject, cowns, curve, width)
-        }
-        Picture::Plan => {
-            let plan = plan_for(alloc, wanted, run)?;
-            plan_drawing(alloc, &subject, plan.as_ref())
-        }
-        Picture::Curve => curve_of(rt, alloc, wanted, run, None),
-        Picture::Page => page_of(rt, alloc, wanted, run, &subject, program),
-        Picture::Trace => {
-            let plan = plan_for(alloc, wanted, run)?;
-            trace_text(alloc, &subject, plan.as_ref())
-        }
+    let subject = &material.subject;
+    match picture {
+        Picture::Text { cowns, .. } => lines(alloc, material, cowns, width),
+        Picture::Plan => plan_drawing(alloc, subject, material.greedy.as_ref()),
+        Picture::Curve => curve_of(alloc, material),
+        Picture::Page => page_of(alloc, material),
+        Picture::Trace => trace_text(alloc, subject, material.greedy.as_ref()),
     }
 }
 
-// The greedy plan, where one is asked for.
-fn plan_for(alloc: Global, wanted: &Wanted, run: &NamedRun) -> Result<Option<Greedy>, AllocError> {
-    match wanted.workers {
-        Some(workers) => Ok(Some(greedy(alloc, &run.rows, workers, wanted.sharing)?)),
-        None => Ok(None),
-    }
-}
-
-// The curve of a run, as lines in so many columns, or as a drawing.
-fn curve_of<R: Threads + Sync>(
-    rt: &R,
-    alloc: Global,
-    wanted: &Wanted,
-    run: &NamedRun,
-    columns: Option<usize>,
-) -> Result<String, AllocError> {
-    let question = WhatIf::new(alloc, &run.rows, wanted.sharing)?;
-    let most = match wanted.workers {
-        Some(workers) => workers,
-        None => Workers::new(MOST_WORKERS).unwrap(),
-    };
-    let points = question.curve(rt, alloc, most)?;
-    match columns {
-        Some(width) => curve_text(alloc, question.work(), question.span(), &points, width),
-        None => curve_drawing(alloc, question.work(), question.span(), &points),
+// The curve as a drawing.
+fn curve_of(alloc: Global, material: &Material) -> Result<String, AllocError> {
+    let subject = &material.subject;
+    match &material.points {
+        Some(points) => curve_drawing(alloc, subject.work, subject.span, points),
+        None => Ok(String::new(alloc)),
     }
 }
 
 // The lines that are asked for: the earliest plan where nothing else is.
-fn lines<R: Threads + Sync>(
-    rt: &R,
+fn lines(
     alloc: Global,
-    wanted: &Wanted,
-    run: &NamedRun,
-    subject: &Subject,
+    material: &Material,
     cowns: bool,
-    curve: bool,
     width: usize,
 ) -> Result<String, AllocError> {
-    let mut text = String::new(alloc);
-    let plan = if curve {
-        None
-    } else {
-        plan_for(alloc, wanted, run)?
-    };
-    if !cowns && !curve && plan.is_none() {
+    let subject = &material.subject;
+    if !cowns && material.points.is_none() && material.greedy.is_none() {
         return plan_text(alloc, subject, width);
     }
+    let mut text = String::new(alloc);
     if cowns {
         text.push_str(cowns_text(alloc, subject, width)?.as_str())?;
     }
-    if let Some(plan) = &plan {
+    if let Some(plan) = &material.greedy {
         text.push_str(workers_text(alloc, subject, plan, width)?.as_str())?;
     }
-    if curve {
-        text.push_str(curve_of(rt, alloc, wanted, run, Some(width))?.as_str())?;
+    if let Some(points) = &material.points {
+        let curve = curve_text(alloc, subject.work, subject.span, points, width)?;
+        text.push_str(curve.as_str())?;
     }
     Ok(text)
 }
 
-// The page of a run.
-fn page_of<R: Threads + Sync>(
-    rt: &R,
-    alloc: Global,
-    wanted: &Wanted,
-    run: &NamedRun,
-    subject: &Subject,
-    program: &[u8],
-) -> Result<String, AllocError> {
-    let greedy = plan_for(alloc, wanted, run)?;
-    let plan = plan_drawing(alloc, subject, greedy.as_ref())?;
-    let curve = curve_of(rt, alloc, wanted, run, None)?;
-    let spans = WhatIf::new(alloc, &run.rows, wanted.sharing)?.sweep(rt, alloc)?;
-    let count = run.names.cowns.len().min(MOST_COWNS) as u32;
-    let hot = hot_cowns(rt, alloc, &run.rows, wanted.sharing, count)?;
+// The page.
+fn page_of(alloc: Global, material: &Material) -> Result<String, AllocError> {
+    let plan = plan_drawing(alloc, &material.subject, material.greedy.as_ref())?;
+    let curve = curve_of(alloc, material)?;
+    let Some(costs) = &material.costs else {
+        return Ok(String::new(alloc));
+    };
     let page = Page {
-        subject,
+        subject: &material.subject,
         plan: plan.as_str(),
         curve: curve.as_str(),
-        spans: &spans,
-        cowns: &hot.cowns,
-        program,
+        spans: &costs.spans,
+        cowns: &costs.hot.cowns,
+        program: &material.program,
     };
     page_text(alloc, &page)
 }

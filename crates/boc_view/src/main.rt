@@ -3,6 +3,7 @@
 
 mod answer;
 mod explaining;
+mod material;
 mod wanted;
 mod words;
 

@@ -1,8 +1,12 @@
 // What is asked for.
 
+ghost use Rattle.std.specs.Prelude.{◌≡◌};
+ghost use Rattle.boc_view.specs.Materials.{most_of, shows_costs, shows_curve, shows_greedy, workers_shown};
+
 use boc_commands::{RunFile, Schedule};
 use boc_plans::sharing::Sharing;
 use boc_plans::workers::Workers;
+use boc_program::limits::MOST_WORKERS;
 
 /// A picture.
 #[derive(Clone, Copy, PartialEq, Eq, Debug)]
@@ -30,6 +34,35 @@ impl Picture {
             Picture::Trace => "boc-view trace",
         }
     }
+
+    // Whether it shows the greedy plan for the workers that are asked for.
+    fn shows_greedy(self) -> bool
+        ensures { result ≡ shows_greedy self }
+    {
+        match self {
+            Picture::Text { curve, .. } => !curve,
+            Picture::Plan | Picture::Page | Picture::Trace => true,
+            Picture::Curve => false,
+        }
+    }
+
+    /// Whether it shows when the greedy plans for 1, 2, 3 and more workers end.
+    pub(crate) fn shows_curve(self) -> bool
+        ensures { result ≡ shows_curve self }
+    {
+        match self {
+            Picture::Text { curve, .. } => curve,
+            Picture::Curve | Picture::Page => true,
+            Picture::Plan | Picture::Trace => false,
+        }
+    }
+
+    /// Whether it shows what each row and each cown costs, and the program.
+    pub(crate) fn shows_costs(self) -> bool
+        ensures { result ≡ shows_costs self }
+    {
+        self == Picture::Page
+    }
 }
 
 /// What is asked for: a picture of a run.
@@ -47,4 +80,27 @@ pub(crate) struct Wanted {
     pub file: Option<RunFile>,
     /// How many columns a text has, where that is given.
     pub width: Option<u32>,
+}
+
+impl Wanted {
+    /// The workers whose greedy plan is shown, if any.
+    pub(crate) fn workers_shown(&self) -> Option<Workers>
+        ensures { result ≡ workers_shown self.now }
+    {
+        if self.picture.shows_greedy() {
+            self.workers
+        } else {
+            None
+        }
+    }
+
+    /// The most workers of a curve: as many as are asked for, and 64 where no number is given.
+    pub(crate) fn most(&self) -> Workers
+        ensures { result ≡ most_of self.now.workers }
+    {
+        match self.workers {
+            Some(workers) => workers,
+            None => Workers::new(MOST_WORKERS).unwrap(),
+        }
+    }
 }

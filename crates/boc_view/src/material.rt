@@ -1,0 +1,158 @@
+// What the picture that is asked for is made of.
+
+ghost use Rattle.std.specs.Prelude.{◌≡◌, ◌≤◌, IfOk, MatchResult};
+ghost use Rattle.boc_program.specs.declared.limits.TheConstants.{MOST_COWNS};
+ghost use Rattle.boc_plans.specs.Seen.{seen};
+ghost use Rattle.boc_greedy.specs.Curves.{IsCurve};
+ghost use Rattle.boc_commands.specs.NamedRuns.{AreFew, IsOfNamedRun, IsShort};
+ghost use Rattle.boc_view.specs.Materials.{AreCosts, HasParts, IsMaterial, IsPlanFor, IsProgramShown, shows_costs};
+
+use crate::wanted::{Picture, Wanted};
+use boc_commands::named_run::named_run;
+use boc_commands::{Fault, NamedRun, Origin};
+use boc_cowns::{HotCowns, hot_cowns};
+use boc_greedy::{CurvePoint, Greedy, greedy};
+use boc_pictures::Subject;
+use boc_plans::sharing::Sharing;
+use boc_plans::workers::Workers;
+use boc_runs::rows::Rows;
+use boc_whatif::WhatIf;
+use boc_workers::Gate;
+use std::alloc::{AllocError, Global};
+use std::sync::Wait;
+use std::thread::Threads;
+
+/// What a picture of a run is made of. A part that it doesn't show is not there.
+#[derive(Drop)]
+pub(crate) struct Material {
+    pub subject: Subject,
+    /// The greedy plan, where one is asked for.
+    pub greedy: Option<Greedy>,
+    /// When the greedy plans for 1, 2, 3 and more workers end.
+    pub points: Option<Vec<CurvePoint>>,
+    pub costs: Option<Costs>,
+    /// The text of the program; no bytes where it isn't shown, or where the input is a record.
+    pub program: Vec<u8>,
+}
+
+/// What rows and cowns cost. All times are ticks.
+#[derive(Drop)]
+pub(crate) struct Costs {
+    /// For each row the span that it would leave if it took its least ticks.
+    pub spans: Vec<u64>,
+    pub hot: HotCowns,
+}
+
+/// What the picture that is wanted is made of: the run that a text tells of, which is that of a program or of a record, with the bytes of the file beside it,
+/// if there is one; and what its rows come to. A refusal is that of `named_run`, or memory was refused.
+#[tactic(auto, using(crate::proofs::Refused::memory_wanting))]
+pub(crate) fn material_of<R: Threads + Wait + Sync, G: Gate>(
+    rt: &R,
+    alloc: Global,
+    wanted: &Wanted,
+    beside: Vec<u8>,
+    text: Vec<u8>,
+    gate: &G,
+) -> Result<Material, Fault>
+    ensures { MatchResult result
+        (λ material. IsMaterial wanted.now beside.items text.items material × IsShort text.items)
+        (IsOfNamedRun G.always_on wanted.now.schedule wanted.now.file beside.items text.items) }
+{
+    let program = program_shown(alloc, wanted.picture, &text)?;
+    let origin = Origin {
+        schedule: wanted.schedule,
+        file: &wanted.file,
+        bytes: beside,
+    };
+    let run = named_run(rt, alloc, text, origin, gate)?;
+    Ok(parts_of(rt, alloc, wanted, run, program)?)
+}
+
+// What a picture is made of, of this run, with this text of a program.
+fn parts_of<R: Threads + Sync>(
+    rt: &R,
+    alloc: Global,
+    wanted: &Wanted,
+    run: NamedRun,
+    program: Vec<u8>,
+) -> Result<Material, AllocError>
+    requires { AreFew run.rows run.names }
+    ensures parts { IfOk result (HasParts wanted.now run) }
+    ensures program { IfOk result (λ material. material.program.items ≡ program.items) }
+{
+    let NamedRun { rows, names } = run;
+    let sharing = wanted.sharing;
+    let greedy = plan_for(alloc, &rows, sharing, wanted.workers_shown())?;
+    let points = if wanted.picture.shows_curve() {
+        Some(points_of(rt, alloc, &rows, sharing, wanted.most())?)
+    } else {
+        None
+    };
+    let costs = if wanted.picture.shows_costs() {
+        Some(costs_of(rt, alloc, &rows, sharing, names.cowns.len() as u32)?)
+    } else {
+        None
+    };
+    let subject = Subject::of(alloc, rows, names, sharing)?;
+    Ok(Material {
+        subject,
+        greedy,
+        points,
+        costs,
+        program,
+    })
+}
+
+// The text of the program, where the picture shows it; no bytes else.
+fn program_shown(alloc: Global, picture: Picture, text: &[u8]) -> Result<Vec<u8>, AllocError>
+    ensures { IfOk result (λ shown. IsProgramShown (shows_costs picture) text.now shown.items) }
+{
+    if !picture.shows_costs() || text.starts_with(b"boc") {
+        return Ok(Vec::new(alloc));
+    }
+    Vec::from_slice(alloc, text)
+}
+
+// The greedy plan of rows for so many workers, where a number is given.
+fn plan_for(
+    alloc: Global,
+    rows: &Rows,
+    sharing: Sharing,
+    workers: Option<Workers>,
+) -> Result<Option<Greedy>, AllocError>
+    ensures { IfOk result (IsPlanFor rows.now sharing workers) }
+{
+    match workers {
+        Some(workers) => Ok(Some(greedy(alloc, rows, workers, sharing)?)),
+        None => Ok(None),
+    }
+}
+
+// When the greedy plans of rows for 1, 2, 3 workers and so on up to the most end.
+fn points_of<R: Threads + Sync>(
+    rt: &R,
+    alloc: Global,
+    rows: &Rows,
+    sharing: Sharing,
+    most: Workers,
+) -> Result<Vec<CurvePoint>, AllocError>
+    ensures { IfOk result (λ points. IsCurve (seen sharing rows.now) most points.items) }
+{
+    WhatIf::new(alloc, rows, sharing)?.curve(rt, alloc, most)
+}
+
+// What rows and so many cowns cost.
+fn costs_of<R: Threads + Sync>(
+    rt: &R,
+    alloc: Global,
+    rows: &Rows,
+    sharing: Sharing,
+    cowns: u32,
+) -> Result<Costs, AllocError>
+    requires { cowns ≤ MOST_COWNS }
+    ensures { IfOk result (AreCosts rows.now sharing cowns) }
+{
+    let spans = WhatIf::new(alloc, rows, sharing)?.sweep(rt, alloc)?;
+    let hot = hot_cowns(rt, alloc, rows, sharing, cowns)?;
+    Ok(Costs { spans, hot })
+}

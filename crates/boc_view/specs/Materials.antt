@@ -1,5 +1,6 @@
 -- What the pictures of a run are made of.
-use Rattle.std.specs.Prelude.{◌≡◌, ℕ, Bool, true, false, not, List, [], length, Option, Some, None, if◌then◌else◌}
+use Rattle.std.specs.Prelude.{◌≡◌, ℕ, Bool, true, false, not, List, [], length, Option, Some, None, Vec, if◌then◌else◌}
+use Rattle.std.specs.Global.{Global}
 use Rattle.boc_program.specs.declared.limits.TheConstants.{MOST_WORKERS}
 use Rattle.boc_runs.specs.declared.rows.Row.{Row}
 use Rattle.boc_plans.specs.declared.sharing.Sharing.{Sharing}
@@ -12,7 +13,7 @@ use Rattle.boc_greedy.specs.Plans.{IsGreedyPlanOf}
 use Rattle.boc_cowns.specs.Hot.{IsHotCowns}
 use Rattle.boc_pictures.specs.Subjects.{IsSubject}
 use Rattle.boc_commands.specs.declared.named_run.NamedRun.{NamedRun}
-use Rattle.boc_commands.specs.NamedRuns.{BeginsRecord, HasRun, IsNamedRun, IsShort}
+use Rattle.boc_commands.specs.NamedRuns.{BeginsRecord, HasRun, IsNamedRun}
 use Rattle.boc_view.specs.declared.material.Costs.{Costs}
 use Rattle.boc_view.specs.declared.material.Material.{Material}
 use Rattle.boc_view.specs.declared.wanted.Picture.{Picture}
@@ -86,7 +87,8 @@ pub record IsProgramShown (is_wanted : Bool) (input shown : List ℕ) : Type 0 w
 pub record HasParts (wanted : Wanted) (run : NamedRun) (material : Material) : Type 0 where
   pub subject : IsSubject run.rows run.names wanted.sharing material.subject
   pub greedy : IsPlanFor run.rows wanted.sharing (workers_shown wanted) material.greedy
-  pub points : IsPart (shows_curve wanted.picture) (λ points. IsCurve (seen wanted.sharing run.rows) (most_of wanted.workers) points.items) material.points
+  pub points : IsPart (shows_curve wanted.picture) (λ (points : Vec CurvePoint Global). IsCurve (seen wanted.sharing run.rows) (most_of wanted.workers)
+      points.items) material.points
   pub costs : IsPart (shows_costs wanted.picture) (AreCosts run.rows wanted.sharing (length run.names.cowns.items)) material.costs
 
 -- What the picture that is wanted is made of: the run that the input tells of, as the words say it is run, with the file beside it; what is made of its

@@ -7,6 +7,7 @@ import re
 from typing import List, NamedTuple, Tuple, Union
 
 MOST_LINE = 80
+MOST_TEXT = 8 * 1024 * 1024
 ROW = re.compile(rb"= (0|[1-9][0-9]*)((?: [!-~]+)+)")
 COWN = re.compile(rb"@ (0|[1-9][0-9]*)( [!-~]+)")
 
@@ -34,12 +35,13 @@ def names_of(text: bytes, rows: int, cowns: int, base: Names = None) -> Union[Tu
     base = base or numbered(rows, cowns)
     names = Names(*(list(part) for part in base))
     named = set()
-    lines = text.split(b"\n")
+    lines, length = text.split(b"\n"), 0
     for number, line in enumerate(lines, 1):
         is_last = number == len(lines)
         if is_last and not line:
             break
-        kind = lay(line, is_last, rows, cowns, names, named)
+        length += len(line) + 1
+        kind = lay(line, is_last, rows, cowns, names, named) or (TOO_LONG if length > MOST_TEXT else None)
         if kind:
             return number, kind
     return names
@@ -112,6 +114,10 @@ WORKED = [
     (b"= 1 a\n", 1, 0, (1, NO_ROW)),
     (b"@ 1 a\n", 1, 1, (1, NO_COWN)),
     (b"= 0 a\n@ 0 b\n= 0 c 1\n", 1, 1, (3, TWICE)),
+    (b"# c\n" * (MOST_TEXT // 4), 1, 0, Names([b"row 0"], [b"row 0"], [], [])),
+    (b"# c\n" * (MOST_TEXT // 4) + b"\n", 1, 0, (MOST_TEXT // 4 + 1, TOO_LONG)),
+    (b"# c\n" * (MOST_TEXT // 4) + b"x\n", 1, 0, (MOST_TEXT // 4 + 1, FORM)),
+    (b"x\n" + b"# c\n" * (MOST_TEXT // 4), 1, 0, (1, FORM)),
 ]
 
 

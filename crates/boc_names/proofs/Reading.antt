@@ -1,6 +1,6 @@
 -- The lines of a file, one after another.
 use Rattle.std.proofs.Common.{◌≡◌, ◌∙◌, ℕ, suc, zero, ◌+◌, ◌<◌, ◌≤◌, ◌^◌, List, [], ◌∷◌, ◌++◌, length, append_assoc, refl}
-use Rattle.std.proofs.Common.{sym, ap, subst, arith, Option, Some, None}
+use Rattle.std.proofs.Common.{sym, ap, subst, arith, inl, Option, Some, None}
 use Rattle.std.proofs.Common.{true, false, zero-add}
 use Rattle.std.specs.Prelude.{Bool, map, slice_get, slice_set, IsSome, Vec}
 use Rattle.std.specs.Global.{Global}
@@ -12,6 +12,7 @@ use Rattle.std.proofs.lemmas.Grind.{flat_map-append}
 use Rattle.boc_names.specs.declared.fault.NamesFault.{NamesFault}
 use Rattle.boc_names.specs.declared.fault.NamesFaultKind.{NamesFaultKind}
 use Rattle.boc_names.specs.declared.fault.NamesFaultKind.TheVariants as kinds
+use Rattle.boc_names.specs.declared.file.TheConstants.{MOST_NAMES}
 use Rattle.boc_names.specs.declared.file.Things.{Things}
 use Rattle.boc_names.specs.declared.names.Names.{Names}
 use Rattle.boc_names.specs.declared.overlay.Thing.{Thing}
@@ -180,6 +181,7 @@ pub record HasTaken (text : Text) (old new : Things) (rest : Text) (number : ℕ
   pub laid_are : AreLaid lines old new
   pub number_is : number ≡ length lines + 1
   pub fits : number + length rest ≤ length text + 1
+  pub short : length text ≤ MOST_NAMES + length rest
 
 pub taken_none : (text : Text) (things : Things) → HasTaken text things things text 1
 taken_none text things = record {
@@ -192,6 +194,7 @@ taken_none text things = record {
   };
   number_is = refl;
   fits = omega arith;
+  short = omega arith;
 } where
   laid_nothing : (things : List Thing) → IsLaid [] things things
   laid_nothing things = record {
@@ -207,13 +210,14 @@ lines_text-push lines line rest =
     ∙ ap (λ (t : Text). lines_text lines ++ (t ++ rest)) (append-nil (fed (spelling line)))
 
 pub taken_more : (text : Text) (old mid new : Things) (rest after : Text) (number : ℕ) → StandsUnnamed old → HasTaken text old mid rest number
-    → TakesLine rest mid new after → HasTaken text old new after (number + 1)
-taken_more text old mid new rest after number none has takes = record {
+    → TakesLine rest mid new after → length text ≤ MOST_NAMES + length after → HasTaken text old new after (number + 1)
+taken_more text old mid new rest after number none has takes short = record {
   lines = has.lines ++ takes.line ∷ [];
   split = has.split ∙ ap (λ (t : Text). lines_text has.lines ++ t) takes.split ∙ sym (lines_text-push has.lines takes.line after);
   laid_are = more_laid has.lines takes.line old mid new none has.laid_are takes.is_line takes.lays;
   number_is = omega (arith, has.number_is, length_push has.lines takes.line);
   fits = omega (arith, has.fits, takes.less);
+  short = short;
 }
 
 -- where as many lines were taken as the text has bytes, nothing is left
@@ -221,7 +225,12 @@ pub none_left : (text : Text) (old new : Things) (rest : Text) (number : ℕ) �
 none_left text old new rest number has many = omega (arith, has.fits, many)
 
 pub taken_all : (text : Text) (old new : Things) (rest : Text) (number : ℕ) → HasTaken text old new rest number → length rest ≡ 0 → AreRead text old new
-taken_all text old new [] number has none = (has.lines, has.split ∙ append-nil (lines_text has.lines), has.laid_are)
+taken_all text old new [] number has none = record {
+  lines = has.lines;
+  is = has.split ∙ append-nil (lines_text has.lines);
+  fits = omega (arith, has.short);
+  laid_are = has.laid_are;
+}
 taken_all text old new (b ∷ rest) number has none = absurd (omega (arith, none))
 
 -- ---- the line that is wrong
@@ -247,7 +256,7 @@ taken_wrong text old mid rest number kinds.Memory none has wrong = tt
 taken_wrong text old mid rest number kinds.Cut none has wrong =
     record { lines = has.lines; good = has.laid_are.good; rest = rest; split = has.split; number_is = has.number_is; wrong = wrong }
 taken_wrong text old mid rest number kinds.TooLong none has wrong =
-    record { lines = has.lines; good = has.laid_are.good; rest = rest; split = has.split; number_is = has.number_is; wrong = wrong }
+    record { lines = has.lines; good = has.laid_are.good; rest = rest; split = has.split; number_is = has.number_is; wrong = inl wrong }
 taken_wrong text old mid rest number kinds.Form none has wrong =
     record { lines = has.lines; good = has.laid_are.good; rest = rest; split = has.split; number_is = has.number_is; wrong = wrong }
 taken_wrong text old mid rest number kinds.NoRow none has wrong = record {
@@ -290,16 +299,17 @@ many_cowns base things are = many_things base.cowns.items _ things.cowns.items a
 
 pub named_by : (text : Text) (base names : Names) (old new : Things) → AreOf base old → AreRead text old new → AreNamesIn new names → IsNamedBy text base names
 named_by text base names old new are read called = record {
-  lines = read.0;
-  good = rw (sym (many_rows base old are), sym (many_cowns base old are)) read.2.good;
-  is = read.1;
+  lines = read.lines;
+  good = rw (sym (many_rows base old are), sym (many_cowns base old are)) read.laid_are.good;
+  is = read.is;
+  fits = read.fits;
   laid_over = record {
-    rows = called.rows ∙ read.2.rows.texts_are ∙ ap (laid (λ call. call.text) (row_calls read.0) 0) are.rows.texts_are;
+    rows = called.rows ∙ read.laid_are.rows.texts_are ∙ ap (laid (λ call. call.text) (row_calls read.lines) 0) are.rows.texts_are;
     defs = subst (λ (ts : List Text). IsGrouping ts names.defs.items (texts_of names.def_names.items))
-        (read.2.rows.groups_are ∙ ap (laid (λ call. call.group) (row_calls read.0) 0) are.rows.groups_are) called.defs;
-    cowns = called.cowns ∙ read.2.cowns.texts_are ∙ ap (laid (λ call. call.text) (cown_calls read.0) 0) are.cowns.texts_are;
+        (read.laid_are.rows.groups_are ∙ ap (laid (λ call. call.group) (row_calls read.lines) 0) are.rows.groups_are) called.defs;
+    cowns = called.cowns ∙ read.laid_are.cowns.texts_are ∙ ap (laid (λ call. call.text) (cown_calls read.lines) 0) are.cowns.texts_are;
     families = subst (λ (ts : List Text). IsGrouping ts names.families.items (texts_of names.family_names.items))
-        (read.2.cowns.groups_are ∙ ap (laid (λ call. call.group) (cown_calls read.0) 0) are.cowns.groups_are) called.families;
+        (read.laid_are.cowns.groups_are ∙ ap (laid (λ call. call.group) (cown_calls read.lines) 0) are.cowns.groups_are) called.families;
   };
 }
 
@@ -324,23 +334,23 @@ whole texts numbers names old new calls count are grouped now is =
 pub each_row : (text : Text) (base names : Names) (old new : Things) → AreOf base old → AreRead text old new → AreNamesIn new names
     → AreWhole (length base.rows.items) names.rows.items names.defs.items
 each_row text base names old new are read called = whole names.rows.items names.defs.items (texts_of names.def_names.items) old.rows.items new.rows.items
-    (row_calls read.0) (length base.rows.items) called.rows called.defs read.2.rows (many_rows base old are)
+    (row_calls read.lines) (length base.rows.items) called.rows called.defs read.laid_are.rows (many_rows base old are)
 
 pub each_cown : (text : Text) (base names : Names) (old new : Things) → AreOf base old → AreRead text old new → AreNamesIn new names
     → AreWhole (length base.cowns.items) names.cowns.items names.families.items
 each_cown text base names old new are read called = whole names.cowns.items names.families.items (texts_of names.family_names.items) old.cowns.items
-    new.cowns.items (cown_calls read.0) (length base.cowns.items) called.cowns called.families read.2.cowns (many_cowns base old are)
+    new.cowns.items (cown_calls read.lines) (length base.cowns.items) called.cowns called.families read.laid_are.cowns (many_cowns base old are)
 
 -- no more are there once the lines are taken
 pub rows_fit : (text : Text) (base : Names) (old new : Things) → AreOf base old → AreRead text old new → length base.rows.items < 2 ^ 32
     → length new.rows.items < 2 ^ 32
 rows_fit text base old new are read few =
-    omega (arith, few, same_many (row_calls read.0) old.rows.items new.rows.items read.2.rows, many_rows base old are)
+    omega (arith, few, same_many (row_calls read.lines) old.rows.items new.rows.items read.laid_are.rows, many_rows base old are)
 
 pub cowns_fit : (text : Text) (base : Names) (old new : Things) → AreOf base old → AreRead text old new → length base.cowns.items < 2 ^ 32
     → length new.cowns.items < 2 ^ 32
 cowns_fit text base old new are read few =
-    omega (arith, few, same_many (cown_calls read.0) old.cowns.items new.cowns.items read.2.cowns, many_cowns base old are)
+    omega (arith, few, same_many (cown_calls read.lines) old.cowns.items new.cowns.items read.laid_are.cowns, many_cowns base old are)
 
 -- no row and no cown was named before the first line
 pub are_unnamed : (base : Names) (things : Things) → AreOf base things → StandsUnnamed things

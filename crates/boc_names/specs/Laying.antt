@@ -12,6 +12,7 @@ use Rattle.boc_names.specs.declared.entry.Said.TheVariants.{Nothing, OfRow, OfCo
 use Rattle.boc_names.specs.declared.fault.NamesFault.{NamesFault}
 use Rattle.boc_names.specs.declared.fault.NamesFaultKind.{NamesFaultKind}
 use Rattle.boc_names.specs.declared.fault.NamesFaultKind.TheVariants as kinds
+use Rattle.boc_names.specs.declared.file.TheConstants.{MOST_NAMES}
 use Rattle.boc_names.specs.declared.file.Things.{Things}
 use Rattle.boc_names.specs.declared.names.Names.{Names}
 use Rattle.boc_names.specs.declared.overlay.Thing.{Thing}
@@ -137,9 +138,12 @@ pub record AreOf (base : Names) (things : Things) : Type 0 where
   pub rows : AreUnnamed (texts_of base.rows.items) (names_at (texts_of base.def_names.items) base.defs.items) things.rows.items
   pub cowns : AreUnnamed (texts_of base.cowns.items) (names_at (texts_of base.family_names.items) base.families.items) things.cowns.items
 
--- a text is that of lines, and what they say is laid over things
-abbrev pub AreRead : Text → Things → Things → Type 0
-AreRead text old new = (lines : List Line) × (text ≡ lines_text lines) × AreLaid lines old new
+-- a text is that of lines, and not too long, and what they say is laid over things
+pub record AreRead (text : Text) (old new : Things) : Type 0 where
+  pub lines : List Line
+  pub is : text ≡ lines_text lines
+  pub fits : length text ≤ MOST_NAMES
+  pub laid_are : AreLaid lines old new
 
 -- a text has this fault first
 abbrev pub IsUnread : Text → Things → NamesFault → Type 0

@@ -1,5 +1,5 @@
 -- The text of a file of names, and what it has first wrong where it is none.
-use Rattle.std.specs.Prelude.{◌≡◌, ◌≢◌, ◌==◌, ℕ, suc, ◌+◌, ◌<◌, ◌≤◌, ◌^◌, if◌then◌else◌, List, [], ◌∷◌, ◌++◌, length, take, map, flat_map}
+use Rattle.std.specs.Prelude.{◌≡◌, ◌≢◌, ◌==◌, ℕ, suc, ◌+◌, ◌<◌, ◌≤◌, ◌^◌, ◌⊎◌, if◌then◌else◌, List, [], ◌∷◌, ◌++◌, length, take, map, flat_map}
 use Rattle.std.specs.Prelude.{All, Vec, IsTrue, Option, Some, None, IsSome, codes, decimal, position}
 use Rattle.std.specs.Option.{unwrap_or, option_map}
 use Rattle.std.specs.Global.{Global}
@@ -10,6 +10,7 @@ use Rattle.boc_names.specs.declared.names.Names.{Names}
 use Rattle.boc_names.specs.declared.fault.NamesFault.{NamesFault}
 use Rattle.boc_names.specs.declared.fault.NamesFaultKind.{NamesFaultKind}
 use Rattle.boc_names.specs.declared.fault.NamesFaultKind.TheVariants as kinds
+use Rattle.boc_names.specs.declared.file.TheConstants.{MOST_NAMES}
 use Rattle.boc_names.specs.Names.{Text, text_at, texts_of}
 use Rattle.boc_names.specs.Grouping.{IsGrouping}
 
@@ -160,11 +161,12 @@ pub record AreWhole (count : ℕ) (texts : List (Vec ℕ Global)) (numbers : Lis
   pub numbers_are : length numbers ≡ count
   pub below : All (λ number. number < count) numbers
 
--- a text is that of lines that may stand in a file, and the names are those of the base with what the lines say laid over them
+-- a text is that of lines that may stand in a file, and not too long, and the names are those of the base with what the lines say laid over them
 pub record IsNamedBy (text : Text) (base names : Names) : Type 0 where
   pub lines : List Line
   pub good : AreGood (length base.rows.items) (length base.cowns.items) lines
   pub is : text ≡ lines_text lines
+  pub fits : length text ≤ MOST_NAMES
   pub laid_over : AreLaidOver base lines names
 
 -- ---- faults
@@ -212,10 +214,16 @@ abbrev pub IsNoCown : ℕ → Line → Type 0
 IsNoCown cowns (NamesCown cown name) = cowns ≤ cown
 IsNoCown cowns line = ⊥
 
+-- a text that follows these lines begins with a line of a form, with which they are longer than the text of a file may be
+pub record GoesBeyond (lines : List Line) (text : Text) : Type 0 where
+  pub line : Line
+  pub first : StandsFirst text line
+  pub beyond : MOST_NAMES < length (lines_text (lines ++ line ∷ []))
+
 -- what is wrong with the first line of what follows these lines, over so many rows and cowns
 abbrev pub NextIs : ℕ → ℕ → List Line → Text → NamesFaultKind → Type 0
 NextIs rows cowns lines text kinds.Cut = IsCut text
-NextIs rows cowns lines text kinds.TooLong = BeginsLong text
+NextIs rows cowns lines text kinds.TooLong = BeginsLong text ⊎ GoesBeyond lines text
 NextIs rows cowns lines text kinds.Form = (line : Text) × (rest : Text) × BeginsWith text line rest × IsFormless line
 NextIs rows cowns lines text kinds.NoRow = (line : Line) × StandsFirst text line × IsNoRow rows line
 NextIs rows cowns lines text kinds.NoCown = (line : Line) × StandsFirst text line × IsNoCown cowns line

@@ -11,7 +11,7 @@ use thiserror::Error;
 pub enum NamesFaultKind {
     /// The text ends within the line: there is no line feed behind it.
     Cut,
-    /// The line is longer than 80 bytes.
+    /// The line is longer than 80 bytes, or the text is longer than it may be with this line.
     TooLong,
     /// The line isn't `@ COWN NAME` or `= ROW NAME [ARG ..]`, isn't empty and doesn't begin with `#`.
     Form,

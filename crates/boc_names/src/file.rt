@@ -12,6 +12,9 @@ use crate::names::Names;
 use crate::overlay::{Thing, call, parted, unnamed};
 use std::alloc::{AllocError, Global};
 
+/// The most bytes of the text of a file of names.
+pub const MOST_NAMES: usize = 8 * 1024 * 1024;
+
 /// The rows and the cowns, and what they are called.
 #[derive(Drop, Debug)]
 struct Things {
@@ -66,12 +69,14 @@ fn take_lines(alloc: Global, things: &mut Things, text: &[u8]) -> Result<(), Nam
         if rest.is_empty() {
             return Ok(());
         }
+        let line = taken as u64 + 1;
         match take_line(alloc, things, rest) {
-            Ok(after) => rest = after,
-            Err(kind) => {
-                let line = taken as u64 + 1;
+            Ok(after) if MOST_NAMES < text.len() - after.len() => {
+                let kind = NamesFaultKind::TooLong;
                 return Err(NamesFault { line, kind });
             }
+            Ok(after) => rest = after,
+            Err(kind) => return Err(NamesFault { line, kind }),
         }
     }
     Ok(())
@@ -103,7 +108,8 @@ fn names_of(alloc: Global, things: Things) -> Result<Names, AllocError>
 /// `NAME`. `@ COWN NAME` calls a cown `NAME`, and its family too, but a name `BASE[..]` is of the family `BASE[*]`. A line that is empty or begins
 /// with `#` says nothing. A single blank stands between words, which are printable ASCII, and numbers are decimal.
 ///
-/// A text with another line, one that names what `base` hasn't, or one that names a row or a cown again is refused for its first such line.
+/// A text with another line, one that names what `base` hasn't, one that names a row or a cown again, or one with which the text is longer than
+/// [`MOST_NAMES`] bytes is refused for its first such line.
 /// `Memory` says that memory was refused. The time grows with the length of the text and the number of rows and cowns, and little more.
 pub fn read_names(alloc: Global, text: &[u8], base: Names) -> Result<Names, NamesFault>
     requires rows { length base.defs.items ≡ length base.rows.items }

@@ -16,7 +16,7 @@ mod texts;
 
 pub use behaviours::behaviour_text;
 pub use fault::{NamesFault, NamesFaultKind};
-pub use file::read_names;
+pub use file::{MOST_NAMES, read_names};
 pub use held::CownNames;
 pub use laws::file_has_one_reading;
 pub use names::{Names, def_names, names_of_run, numbers_as_names};

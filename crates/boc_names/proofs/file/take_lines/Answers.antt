@@ -17,7 +17,7 @@ returns-then-is_empty c =
 
 pub loop-taken-preserved : goal.loop-taken-preserved
 loop-taken-preserved c = taken_more c.args.text.now c.args.things.now c.loop-taken.things c.take_line.new.things c.loop-taken.rest.now c.in-Ok.after.now
-    (c.loop-taken.taken + 1) c.requires c.loop-taken.invariant c.in-Ok.ensures
+    (c.loop-taken.taken + 1) c.requires c.loop-taken.invariant c.in-Ok.ensures (omega arith)
 
 pub returns : goal.returns
 returns c =

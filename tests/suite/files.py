@@ -1,11 +1,15 @@
-"""The file that a command reads its input from: a path, `-` or none, and what is told of one that can't be read."""
+"""The file that a command reads its input from: a path, `-` or none, what is told of one that can't be read, and files that never end."""
 import os
+import resource
 import stat
+import subprocess
 import tempfile
+import threading
 
 from .copies import NOBODY
+from .pictures import view_of
 from .records import TRANSFER, lines_text
-from .running import Answer, fault_of, refused
+from .running import Answer, fault_of, refused, told
 
 RECORD = lines_text(TRANSFER)
 
@@ -40,6 +44,63 @@ AMONG_EDITS = [
 # What is told of a file of `whatif` that isn't there, since its word may be meant as an edit.
 WHY_FILE = "     a word with neither = nor @ is the FILE with the record; an edit is ROW=TICKS, ROW@OFFSET, ROW=K/D or DEF=K/D\n"
 
+# How much of its memory a program may use at once where a file never ends, and what it may ask the system for in all, which is more: its threads have
+# stacks and heaps of which they use little. In kilobytes.
+MOST_MEMORY = 64 * 1024
+MOST_ASKED = 256 * 1024
+
+# A program that has read as much as it wants ends at once.
+SECONDS = 20
+
+# So long is a file of which no byte stands on a disk.
+SPARSE = 10 * 1024 ** 3
+
+# The most bytes of a file of names: so many lines of four bytes, and the next one goes beyond.
+MOST_NAMES = 8 * 1024 * 1024
+COMMENT = b"# c\n"
+BEYOND = "boc: names: line %d: 2 TooLong" % (MOST_NAMES // len(COMMENT) + 1)
+
+# Words that read a file beside the input, which they read as this option's, whether a program is the input, and whether `boc-view` takes them.
+BESIDE = [
+    (["why"], "--names", True, False),
+    (["cowns"], "--names", False, False),
+    (["whatif"], "--names", False, False),
+    (["whatif"], "--program", False, False),
+    (["check"], "--program", False, False),
+    (["values"], "--record", True, False),
+    (["why"], "--record", True, False),
+    (["cowns"], "--record", True, False),
+    (["text"], "--names", True, True),
+    (["page"], "--record", True, True),
+]
+
+# What is told of a file of zeros.
+OF_ZEROS = {
+    "--names": "boc: names: line 1: 2 TooLong",
+    "--program": "boc: program: line 1: 9 TooLong",
+    "--record": "boc: record: line 1: 1 Header",
+}
+
+# Files that never end, by what stands at their front and what they go on with, and what is told of them: of names, and of records.
+ENDLESS_NAMES = [
+    (b"", COMMENT, BEYOND),
+    (b"", b"\n", f"boc: names: line {MOST_NAMES + 1}: 2 TooLong"),
+    (b"= 0 main\n", COMMENT, "boc: names: line %d: 2 TooLong" % ((MOST_NAMES - 9) // len(COMMENT) + 2)),
+    (b"", b"= 9 nobody\n", "boc: names: line 1: 4 NoRow"),
+    (b"# c\n", b"c", "boc: names: line 2: 2 TooLong"),
+]
+ENDLESS_RECORDS = [
+    (b"boc ", b"\0", "line 1: 1 Header"),
+    (b"boc 1 0\n", b"\0", "line 2: 2 Form"),
+    (b"boc 1 0\n+ 0 0 0\n", b"> 0\n", "line 4: 7 StartNotAllowed"),
+    (RECORD, b"\n", f"line {len(TRANSFER) + 1}: 12 After"),
+]
+OF_RECORDS = ["check", "profile", "whatif", "curve", "sweep", "why", "cowns"]
+
+# Programs that never end, of which as many bytes are read as are too many.
+ENDLESS_PROGRAMS = [(b"", b"\0", "line 1: 9 TooLong"), (b"", b"\n", "line 65537: 9 TooLong"), (b"main { }\n", b"#", "line 2: 9 TooLong")]
+OF_PROGRAMS = ["values", "run", "time", "outcomes", "why", "cowns"]
+
 
 def cases(program):
     with tempfile.TemporaryDirectory(prefix="boc-files-") as folder:
@@ -54,6 +115,8 @@ def cases(program):
         yield from too_many(program, path[True])
         faulty = written(folder, "faulty.record", b"boc 3 2\n")
         yield "a faulty file", fault_of(refused(3, "boc: line 1: 1 Header"), program.run(["check", faulty]))
+        yield from long_names(program, folder, path[True])
+        yield from endless(program, folder, path)
 
 
 def inputs(program, words, source, path):
@@ -79,6 +142,75 @@ def unreadable(program, folder):
     told = Answer(5, b"", f"boc: {closed}: Permission denied (os error 13)\n".encode())
     who = {"user": NOBODY, "group": NOBODY, "extra_groups": []} if os.getuid() == 0 else {}
     yield "a file that may not be read", same(told, program.run(["check", closed], **who))
+
+
+def long_names(program, folder, path):
+    """A file of names may be as long as that, and no byte longer."""
+    longest = COMMENT * (MOST_NAMES // len(COMMENT))
+    for more, expected in ((b"", program.run(["cowns", path])), (b"\n", refused(3, BEYOND)), (b"x\n", refused(3, BEYOND.replace("2 TooLong", "3 Form")))):
+        yield f"a file of {len(longest + more)} bytes of names", fault_of(expected, program.run(["cowns", path, "--names", written(folder, "long", longest + more)]))
+
+
+def endless(program, folder, path):
+    """Files that never end, or are far longer than they may be, are refused after as many bytes as can matter, and take little memory."""
+    view, sparse = view_of(program), written(folder, "sparse", b"")
+    os.truncate(sparse, SPARSE)
+    for words, option, is_program, is_view in BESIDE:
+        command = [(view if is_view else program).path, *words, option]
+        for zeros in ("/dev/zero", sparse):
+            yield f"{words} {option} {zeros}", fault_of_bounded(OF_ZEROS[option], [*command, zeros, path[not is_program]])
+        known = {"--names": ENDLESS_NAMES, "--record": [(*given, f"boc: record: {fault}") for *given, fault in ENDLESS_RECORDS],
+                 "--program": [(*given, f"boc: program: {fault}") for *given, fault in ENDLESS_PROGRAMS]}
+        for front, more, line in known[option]:
+            with fed(folder, front, more) as pipe:
+                yield f"{words} {option} of {front} and {more} ..", fault_of_bounded(line, [*command, pipe, path[not is_program]])
+    for commands, files in ((OF_RECORDS, ENDLESS_RECORDS), (OF_PROGRAMS, ENDLESS_PROGRAMS)):
+        for front, more, line in files:
+            for command in [[program.path, word] for word in commands] + [[view.path, "text"]]:
+                with fed(folder, front, more) as pipe:
+                    yield f"{command[1:]} of {front[-20:]} and {more} ..", fault_of_bounded(f"boc: {line}", [*command, pipe])
+
+
+class fed:
+    """The path of a pipe that gives some bytes, and others over and over for as long as somebody reads."""
+
+    def __init__(self, folder, front, more):
+        self.path, self.front, self.more = os.path.join(folder, "pipe"), front, more * (65536 // len(more))
+
+    def __enter__(self):
+        os.mkfifo(self.path)
+        threading.Thread(target=self.feed, daemon=True).start()
+        return self.path
+
+    def __exit__(self, *_):
+        os.remove(self.path)
+
+    def feed(self):
+        try:
+            with open(self.path, "wb", buffering=0) as pipe:
+                pipe.write(self.front)
+                while True:
+                    pipe.write(self.more)
+        except BrokenPipeError:  # The reader has gone.
+            pass
+
+
+def fault_of_bounded(line, command):
+    """What is wrong where this command is to refuse its input or the file beside it by this line."""
+    limit = lambda: resource.setrlimit(resource.RLIMIT_AS, (MOST_ASKED * 1024, MOST_ASKED * 1024))
+    with tempfile.TemporaryFile() as output, tempfile.TemporaryFile() as errors:
+        child = subprocess.Popen(command, stdin=subprocess.DEVNULL, stdout=output, stderr=errors, preexec_fn=limit)
+        ending = threading.Timer(SECONDS, child.kill)
+        ending.start()
+        _, status, used = os.wait4(child.pid, 0)
+        ending.cancel()
+        child.returncode = os.waitstatus_to_exitcode(status)
+        output.seek(0)
+        errors.seek(0)
+        answer = Answer(child.returncode, output.read(), *told(errors.read()))
+    if used.ru_maxrss > MOST_MEMORY:
+        return f"it used {used.ru_maxrss} kilobytes"
+    return fault_of(refused(3, line), answer)
 
 
 def too_many(program, path):

@@ -135,8 +135,8 @@ fn place_of<'a>(command: &Command, texts: &'a Texts, is_beside: bool) -> Place<'
     }
 }
 
-// What the file beside the input of a command is, if it has one.
-fn beside_of(command: &Command) -> Option<Beside> {
+/// What the file beside the input of a command is, if it has one.
+pub(crate) fn beside_of(command: &Command) -> Option<Beside> {
     match command {
         Command::Check { program: Some(_) }
         | Command::WhatIf {

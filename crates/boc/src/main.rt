@@ -4,21 +4,21 @@
 mod explaining;
 mod meter;
 
-use crate::explaining::{Texts, explained, explained_words};
+use crate::explaining::{Texts, beside_of, explained, explained_words};
 use crate::meter::Meter;
 use boc_commands::{
-    Command, Fault, Schedule, Want, WordsFault, file_named, not_text, read_words, run_command,
+    Command, Fault, Schedule, Want, WordsFault, file_named, read_words, run_command,
 };
 use boc_explain::{Input, Kept};
+use boc_front::{MOST_INPUT, read_beside, words_given};
 use boc_text::Counted;
 use boc_workers::OpenGate;
 use std::alloc::AllocError;
 use std::fs::File;
-use std::io::{Read, Write};
+use std::io::{self, Read, Write};
 use std::process::ExitCode;
 use std::sync::Wait;
 use std::thread::Threads;
-use std::{env, fs, io};
 
 // The status where a file can't be read, as where a device fails.
 const NO_FILE: u8 = 5;
@@ -84,7 +84,7 @@ fn main(rt: HostRuntime) -> ExitCode {
 
 // Does what the words ask for. What runs in several threads is started by way of `threads`.
 fn run(rt: HostRuntime, threads: &(impl Threads + Wait + Sync)) -> Result<(), Stop> {
-    let words = words_given(rt)?;
+    let words = words_given(&rt)?;
     let line = read_words(rt.alloc(), &words).or_else(|fault| words_stop(rt, &words, fault))?;
     let beside = file_beside(rt, &line.command)?;
     match &line.input {
@@ -107,7 +107,7 @@ fn answer<T: Read + Drop>(
 ) -> Result<(), Stop> {
     let mut kept = Kept::new(rt.alloc());
     kept.keep(&beside);
-    let mut input = Input::new(rt.alloc(), input);
+    let mut input = Input::new(rt.alloc(), input.take(MOST_INPUT));
     let mut output = Counted::new(rt.stdout());
     let mut meter = Meter::new(rt);
     let mut notes = Vec::new(rt.alloc());
@@ -167,12 +167,14 @@ fn note(rt: HostRuntime, notes: &[u8]) {
     let _ = rt.stderr().write_all(notes);
 }
 
-// The bytes of the file that a command names beside its input, and no bytes where it names none.
+// The bytes of the file that a command names beside its input, as many as can matter, and no bytes where it names none.
 fn file_beside(rt: HostRuntime, command: &Command) -> Result<Vec<u8>, Stop> {
-    let Some(path) = file_named(command) else {
-        return Ok(Vec::new(rt.alloc()));
-    };
-    fs::read(&rt, path).or_else(|error| file_stop(rt, path, error, None))
+    match (file_named(command), beside_of(command)) {
+        (Some(path), Some(kind)) => {
+            read_beside(&rt, path, kind).or_else(|error| file_stop(rt, path, error, None))
+        }
+        _ => Ok(Vec::new(rt.alloc())),
+    }
 }
 
 // Why not all was done where the words are refused.
@@ -203,20 +205,6 @@ fn file_stop<T>(
     };
     let path = String::from_str(rt.alloc(), path)?;
     Err(Stop::File { path, error, more })
-}
-
-// The words of the command line, the program's own name first.
-fn words_given(rt: HostRuntime) -> Result<Vec<String>, WordsFault> {
-    let args = match env::args(&rt) {
-        Ok(args) => args,
-        Err(error) if error.kind() == io::ErrorKind::OutOfMemory => return Err(WordsFault::Memory),
-        Err(_) => return Err(not_text(rt.alloc())),
-    };
-    let mut words = Vec::new(rt.alloc());
-    for word in args {
-        words.push(word)?;
-    }
-    Ok(words)
 }
 
 // Writes to standard error why not all was done. There is nobody to tell that this failed.

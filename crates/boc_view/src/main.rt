@@ -11,8 +11,9 @@ use crate::answer::pictured;
 use crate::explaining::explained;
 use crate::wanted::Wanted;
 use crate::words::{Asked, LEAST_COLUMNS, MOST_COLUMNS, read_words};
-use boc_commands::{Fault, RunFile, Want, WordsFault, not_text};
-use boc_explain::{Input, Kept};
+use boc_commands::{Fault, RunFile, Want, WordsFault};
+use boc_explain::{Beside, Input, Kept};
+use boc_front::{MOST_INPUT, read_beside, words_given};
 use boc_text::{Counted, put_out};
 use std::alloc::AllocError;
 use std::fs::File;
@@ -20,7 +21,7 @@ use std::io::Read;
 use std::process::ExitCode;
 use std::sync::Wait;
 use std::thread::Threads;
-use std::{env, fs, io};
+use std::{env, io};
 
 // The status where a file can't be read, as where a device fails.
 const NO_FILE: u8 = 5;
@@ -78,21 +79,23 @@ fn main(rt: HostRuntime) -> ExitCode {
 
 // Draws what the words ask for. What runs in several threads is started by way of `threads`.
 fn run(rt: HostRuntime, threads: &(impl Threads + Wait + Sync)) -> Result<(), Stop> {
-    let words = words_given(rt)?;
-    let text = match read_words(rt.alloc(), &words)? {
-        Asked::Told(text) => text,
-        Asked::Picture(wanted) => {
-            match &wanted.input {
-                Some(path) => {
-                    let file = File::open(&rt, path.as_str()).or_else(|error| file_stop(
-                        rt, path, error,
-                    ))?;
-                    drawn(rt, threads, &wanted, file)?
-                }
-                None => drawn(rt, threads, &wanted, rt.stdin())?,
-            }
-        }
+    let words = words_given(&rt)?;
+    let asked = read_words(rt.alloc(), &words)?;
+    let wanted = match asked {
+        Asked::Told(text) => return put(rt, &text),
+        Asked::Picture(wanted) => wanted,
     };
+    match &wanted.input {
+        Some(path) => match File::open(&rt, path.as_str()) {
+            Ok(file) => draw(rt, threads, &wanted, file),
+            Err(error) => file_stop(rt, path, error),
+        },
+        None => draw(rt, threads, &wanted, rt.stdin()),
+    }
+}
+
+// Writes a text to standard output.
+fn put(rt: HostRuntime, text: &str) -> Result<(), Stop> {
     let mut output = Counted::new(rt.stdout());
     match put_out(&mut output, text.as_bytes()) {
         Ok(()) => Ok(()),
@@ -100,20 +103,20 @@ fn run(rt: HostRuntime, threads: &(impl Threads + Wait + Sync)) -> Result<(), St
     }
 }
 
-// The picture of the run that an input tells of.
-fn drawn<T: Read + Drop>(
+// Draws the run that an input tells of.
+fn draw<T: Read + Drop>(
     rt: HostRuntime,
     threads: &(impl Threads + Wait + Sync),
     wanted: &Wanted,
     input: T,
-) -> Result<String, Stop> {
+) -> Result<(), Stop> {
     let bytes = file_beside(rt, wanted)?;
     let mut beside = Kept::new(rt.alloc());
     beside.keep(&bytes);
     let width = columns(rt, wanted);
-    let mut input = Input::new(rt.alloc(), input);
+    let mut input = Input::new(rt.alloc(), input.take(MOST_INPUT));
     let fault = match pictured(threads, rt.alloc(), wanted, bytes, width, &mut input) {
-        Ok(text) => return Ok(text),
+        Ok(text) => return put(rt, &text),
         Err(fault) => fault,
     };
     let (input, error) = input.into_parts();
@@ -138,16 +141,14 @@ fn columns(rt: HostRuntime, wanted: &Wanted) -> usize {
     }
 }
 
-// The bytes of the file beside the input, and no bytes where none is named.
+// The bytes of the file beside the input, as many as can matter, and no bytes where none is named.
 fn file_beside(rt: HostRuntime, wanted: &Wanted) -> Result<Vec<u8>, Stop> {
-    let Some(file) = &wanted.file else {
-        return Ok(Vec::new(rt.alloc()));
+    let (path, kind) = match &wanted.file {
+        None => return Ok(Vec::new(rt.alloc())),
+        Some(RunFile::Record(path)) => (path, Beside::Record),
+        Some(RunFile::Names(path)) => (path, Beside::Names),
     };
-    match file {
-        RunFile::Record(path) | RunFile::Names(path) => {
-            fs::read(&rt, path.as_str()).or_else(|error| file_stop(rt, path, error))
-        }
-    }
+    read_beside(&rt, path, kind).or_else(|error| file_stop(rt, path, error))
 }
 
 // Why a file with this path can't be read.
@@ -157,20 +158,6 @@ fn file_stop<T>(rt: HostRuntime, path: &str, error: io::Error) -> Result<T, Stop
     }
     let path = String::from_str(rt.alloc(), path)?;
     Err(Stop::File { path, error })
-}
-
-// The words of the command line, the program's own name first.
-fn words_given(rt: HostRuntime) -> Result<Vec<String>, WordsFault> {
-    let args = match env::args(&rt) {
-        Ok(args) => args,
-        Err(error) if error.kind() == io::ErrorKind::OutOfMemory => return Err(WordsFault::Memory),
-        Err(_) => return Err(not_text(rt.alloc())),
-    };
-    let mut words = Vec::new(rt.alloc());
-    for word in args {
-        words.push(word)?;
-    }
-    Ok(words)
 }
 
 // Writes to standard error why nothing was drawn. There is nobody to tell that this failed.

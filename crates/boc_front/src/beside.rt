@@ -1,0 +1,43 @@
+// How many bytes of an input can matter, or of a file beside it.
+
+use boc_explain::Beside;
+use boc_names::MOST_NAMES;
+use boc_program::limits::{MOST_ROWS, MOST_TEXT};
+use boc_text::MOST_LINE;
+use std::fs::{File, Files};
+use std::io::{self, Read};
+
+// The most bytes of a line with its line feed.
+const MOST_FED: usize = MOST_LINE + 1;
+
+// The most bytes of a record: its first line, the spawn, the start and the end of each row, and its last line.
+const MOST_RECORD: usize = (3 * MOST_ROWS + 2) * MOST_FED;
+
+/// How many bytes of an input can matter: of a record, since it may be longer than a program. Whatever stands behind them, the answer is the same.
+///
+/// In front of a record's first faulty line stand lines that a record may have. So that line stands within as many bytes as a record may have, up to its
+/// line feed or its 81st byte, or it begins right behind them, and its first byte is too much.
+pub const MOST_INPUT: u64 = MOST_RECORD as u64 + 1;
+
+// The same of a file beside an input. A program that has one byte more than it may have is refused for that. The line of names that goes beyond as many
+// bytes as they may have begins within these or right behind them, and tells by 81 bytes what it is.
+fn most_beside(kind: Beside) -> u64 {
+    match kind {
+        Beside::Program => MOST_TEXT as u64 + 1,
+        Beside::Record => MOST_INPUT,
+        Beside::Names => (MOST_NAMES + MOST_FED) as u64,
+    }
+}
+
+/// The bytes of the file with this path, as many as can matter where it is read as this: what it has behind them stays unread.
+pub fn read_beside<R: Files + AllocGlobal>(
+    rt: &R,
+    path: &str,
+    kind: Beside,
+) -> io::Result<Vec<u8>> {
+    let mut bytes = Vec::new(rt.alloc());
+    File::open(rt, path)?
+        .take(most_beside(kind))
+        .read_to_end(&mut bytes)?;
+    Ok(bytes)
+}

@@ -2,9 +2,9 @@
  * Preloaded to a program, this refuses one of its requests for memory: the one whose number stands in the environment
  * as REFUSED_REQUEST, counted from 1, or the start of a thread whose number among the starts stands there as
  * REFUSED_START. As it does so, it writes a byte to the file whose number is REFUSAL_NOTE, so that
- * a test can tell whether the program made so many requests, and of what kind this one was: `t` for the start of a thread, `w` for a
- * request of a thread that was started, and `m` for one of the first thread. The start of a thread is a request too, since a thread has
- * memory of its own, which the C library takes from the system.
+ * a test can tell whether the program made so many requests, and of what kind this one was: `t` for the start of a thread, `m` for a
+ * request of the thread that does the work, which is the first one or the one that it starts for that, and `w` for one of any other.
+ * The start of a thread is a request too, since a thread has memory of its own, which the C library takes from the system.
  *
  * The count begins with the constructors of libraries, where main is about to begin: what the loader and the C library
  * ask for before is not the program's. All threads count together.
@@ -30,6 +30,7 @@ static long refused_request;
 static long refused_start;
 static long requests;
 static long starts;
+static long working;
 static int note;
 
 __attribute__((constructor)) static void begin_to_count(void)
@@ -51,12 +52,25 @@ static int is_due(long *count, long refused)
     return refused != 0 && __atomic_add_fetch(count, 1, __ATOMIC_SEQ_CST) == refused;
 }
 
+/* Tells whether this thread does the work. Besides the first thread that is the first other one that comes here: each other is started by it. */
+static int is_working(void)
+{
+    long self = syscall(SYS_gettid);
+    long none = 0;
+    if (self == getpid()) {
+        return 1;
+    }
+    __atomic_compare_exchange_n(&working, &none, self, 0, __ATOMIC_SEQ_CST, __ATOMIC_SEQ_CST);
+    return __atomic_load_n(&working, __ATOMIC_SEQ_CST) == self;
+}
+
 static int is_refused(int is_start)
 {
+    int works = is_working();
     if (!is_due(&requests, refused_request) && !(is_start && is_due(&starts, refused_start))) {
         return 0;
     }
-    const char *kind = is_start ? "t" : syscall(SYS_gettid) == getpid() ? "m" : "w";
+    const char *kind = is_start ? "t" : works ? "m" : "w";
     if (write(note, kind, 1) != 1) {
         _exit(99);
     }

@@ -128,6 +128,8 @@ def cases(program):
                 name = f"{' '.join(words)} of {len(source)} bytes"
                 yield name, fault_of_refusals(program, library, words, source, expected)
             yield "a second thread that can't be started is told before what comes later", fault_of_late_start(program, library)
+            for words in (["values"], ["run", "--workers", "4"], ["sweep", "--p", "2"], ["--help"]):
+                yield f"{words[0]}: the thread that does the work can't be started", fault_of_no_start(program, library, words)
 
 
 def build(library):
@@ -173,9 +175,15 @@ def fault_of_told(told, has_run):
 
 
 def fault_of_late_start(program, library):
-    """Where the second thread can't be started, the first one ends, and what it would come to later is told by nobody."""
-    answer, note = run_with_refusal(program, library, ["run", "--workers", "2"], FOREVER, 2, "REFUSED_START")
+    """Where the second thread of a run can't be started, the first one ends, and what it would come to later is told by nobody."""
+    answer, note = run_with_refusal(program, library, ["run", "--workers", "2"], FOREVER, 3, "REFUSED_START")
     return fault_of(NO_THREAD, answer) if note == b"t" else "no second thread was started"
+
+
+def fault_of_no_start(program, library, words):
+    """Where the thread that does the work can't be started nothing is done, and memory is wanting, since a thread has some of its own."""
+    answer, note = run_with_refusal(program, library, words, FOREVER, 1, "REFUSED_START")
+    return fault_of(MEMORY, answer) if note == b"t" else "no thread was started"
 
 
 def run_with_refusal(program, library, words, source, number, counted="REFUSED_REQUEST"):

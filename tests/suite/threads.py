@@ -1,10 +1,14 @@
-"""Runs by threads: at the limits of what a behaviour may have, with many that wait at once, and with bodies side by side.
+"""Runs by threads: at the limits of what a behaviour may have, with many that wait at once, with bodies side by side, and on little stack.
 
 In each program main alone spawns, or what is spawned doesn't depend on who comes first, so its rows are known; every run is to end
 within a minute.
 """
+import resource
+import tempfile
+
 from . import model
-from .running import done, fault_of
+from .running import done, fault_of, refused
+from .shipped import view_of
 
 # A run that takes longer hangs.
 SECONDS = 60
@@ -48,6 +52,35 @@ main { when long(; a); let k = 0; repeat 200 { when short(; c[k]); k = k + 1; } 
 # How often it may happen that no short body comes between the long one's start and its end.
 TRIES = 20
 
+# How much stack the system gives, in kilobytes: as little as there may be, and the usual.
+STACKS = [256, 512, 8192]
+
+# Bodies that nest as deep as they may, and the value that comes out.
+ONE = "cown a = 0; def f(; x) { %s } main { when f(; a); }"
+DEEP = [
+    ("998 parentheses", ONE % f"x = {'(' * 998}7{')' * 998};", 7),
+    ("997 signs", ONE % f"x = {'- ' * 997}7;", -7),
+    ("499 ifs", ONE % f"{'if 1 { ' * 499}x = 7;{' }' * 499}", 7),
+    ("499 loops", ONE % f"{'repeat 1 { ' * 499}x = 7;{' }' * 499}", 7),
+]
+
+# What is written over and over to the end of a text that is as long as it may be, and what is wrong on its first line.
+TOO_DEEP = [
+    ("main { work ", "(", "8 TooMany"),
+    ("main { work ", "-", "8 TooMany"),
+    ("main { work ", "[", "3 Unexpected"),
+    ("main { work ", "{", "3 Unexpected"),
+    ("main { ", "repeat 1 {", "8 TooMany"),
+    ("main { ", "if 1 {", "8 TooMany"),
+    ("main { ", "if 1 { } else {", "8 TooMany"),
+]
+MOST_TEXT = 65536
+
+# The commands that run a program, and those of `boc-view`.
+RUNS = [["run"], ["run", "-w", "4"], ["run", "-w", "16"], ["run", "-w", "3", "--seed", "1"], ["time", "-w", "2"], ["outcomes", "--runs", "2"], ["why"],
+        ["why", "-w", "4"], ["cowns"]]
+VIEWS = [["text"], ["plan", "-w", "4"], ["page"]]
+
 
 def cases(program):
     for name, text, rows in PROGRAMS:
@@ -60,6 +93,43 @@ def cases(program):
             yield f"{name}, a record of {workers} workers", fault_of(done(b"ok %d\n" % len(rows)), checked)
     for workers in (2, 4):
         yield f"a short body while a long one runs, {workers} workers", fault_of_bodies(program, workers)
+    for stack in STACKS:
+        yield from deep(program, view_of(program), stack)
+
+
+def deep(program, view, stack):
+    """However little stack the system gives, what nests deep is read, run and refused as it is where there is more."""
+    def limited():
+        resource.setrlimit(resource.RLIMIT_STACK, (stack * 1024, resource.getrlimit(resource.RLIMIT_STACK)[1]))
+
+    def runs(asked, words, text):
+        return asked.run(words, text, timeout=SECONDS, preexec_fn=limited)
+
+    for name, text, value in DEEP:
+        source, name = text.encode(), f"{name} on {stack} kilobytes"
+        yield f"{name}: values", fault_of(done(b"a %d\n" % value), runs(program, ["values"], source))
+        record = program.run(["run"], source).output
+        for asked, words in [(program, words) for words in RUNS] + [(view, words) for words in VIEWS]:
+            yield f"{name}: {words}", fault_of_done(runs(asked, words, source))
+        with tempfile.NamedTemporaryFile() as file:
+            file.write(source)
+            file.flush()
+            yield f"{name}: check", fault_of(done(b"ok 2\n"), runs(program, ["check", "--program", file.name], record))
+            yield f"{name}: whatif", fault_of_done(runs(program, ["whatif", "--program", file.name, "f=1/2", "--short"], record))
+    for front, more, kind in TOO_DEEP:
+        source, name = (front + more * MOST_TEXT)[:MOST_TEXT].encode(), f"{more} without end on {stack} kilobytes"
+        for asked, words in [(program, words) for words in [["values"]] + RUNS] + [(view, words) for words in VIEWS]:
+            yield f"{name}: {words}", fault_of(refused(3, f"boc: line 1: {kind}"), runs(asked, words, source))
+        with tempfile.NamedTemporaryFile() as file:
+            file.write(source)
+            file.flush()
+            answer = runs(program, ["check", "--program", file.name], program.example("transfer.record"))
+            yield f"{name}: check", fault_of(refused(3, f"boc: program: line 1: {kind}"), answer)
+
+
+def fault_of_done(answer):
+    """What is wrong where a command is to do what it is asked for, whatever it answers."""
+    return fault_of(done(answer.output), answer) if answer else "it did not end in time"
 
 
 def fault_of_bodies(program, workers):

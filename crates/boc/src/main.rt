@@ -10,7 +10,7 @@ use boc_commands::{
     Command, Fault, Schedule, Want, WordsFault, file_named, read_words, run_command,
 };
 use boc_explain::{Input, Kept};
-use boc_front::{MOST_INPUT, read_beside, words_given};
+use boc_front::{MOST_INPUT, STACK, read_beside, words_given};
 use boc_text::Counted;
 use boc_workers::OpenGate;
 use std::alloc::AllocError;
@@ -18,7 +18,7 @@ use std::fs::File;
 use std::io::{self, Read, Write};
 use std::process::ExitCode;
 use std::sync::Wait;
-use std::thread::Threads;
+use std::thread::{Builder, Threads};
 
 // The status where a file can't be read, as where a device fails.
 const NO_FILE: u8 = 5;
@@ -71,13 +71,25 @@ impl Stop {
     }
 }
 
+// All work is done on one thread, whose stack is as large as it has to be wherever the program is started.
 fn main(rt: HostRuntime) -> ExitCode {
-    match run(rt, &rt) {
-        Ok(()) => ExitCode::SUCCESS,
+    let working = Builder::new()
+        .stack_size(STACK)
+        .spawn(&rt, move || ended(rt, run(rt, &rt)));
+    let status = match working {
+        Ok(thread) => thread.join(&rt),
+        Err(_) => ended(rt, Err(Stop::from(AllocError))),
+    };
+    ExitCode::from(status)
+}
+
+// The status of the program. Why not all was done is told.
+fn ended(rt: HostRuntime, done: Result<(), Stop>) -> u8 {
+    match done {
+        Ok(()) => 0,
         Err(stop) => {
-            let status = stop.status();
             tell(rt, &stop);
-            ExitCode::from(status)
+            stop.status()
         }
     }
 }

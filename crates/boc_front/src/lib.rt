@@ -6,3 +6,7 @@ mod words;
 
 pub use beside::{MOST_INPUT, read_beside};
 pub use words::words_given;
+
+/// How many bytes of stack a program does its work on, so that none runs out where the system gives the first thread little: what is nested deepest takes
+/// less than 3 MB.
+pub const STACK: usize = 16 * 1024 * 1024;

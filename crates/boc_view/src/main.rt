@@ -13,14 +13,14 @@ use crate::wanted::Wanted;
 use crate::words::{Asked, LEAST_COLUMNS, MOST_COLUMNS, read_words};
 use boc_commands::{Fault, RunFile, Want, WordsFault};
 use boc_explain::{Beside, Input, Kept};
-use boc_front::{MOST_INPUT, read_beside, words_given};
+use boc_front::{MOST_INPUT, STACK, read_beside, words_given};
 use boc_text::{Counted, put_out};
 use std::alloc::AllocError;
 use std::fs::File;
 use std::io::Read;
 use std::process::ExitCode;
 use std::sync::Wait;
-use std::thread::Threads;
+use std::thread::{Builder, Threads};
 use std::{env, io};
 
 // The status where a file can't be read, as where a device fails.
@@ -66,13 +66,25 @@ impl Stop {
     }
 }
 
+// All work is done on one thread, whose stack is as large as it has to be wherever the program is started.
 fn main(rt: HostRuntime) -> ExitCode {
-    match run(rt, &rt) {
-        Ok(()) => ExitCode::SUCCESS,
+    let working = Builder::new()
+        .stack_size(STACK)
+        .spawn(&rt, move || ended(rt, run(rt, &rt)));
+    let status = match working {
+        Ok(thread) => thread.join(&rt),
+        Err(_) => ended(rt, Err(Stop::from(AllocError))),
+    };
+    ExitCode::from(status)
+}
+
+// The status of the program. Why nothing was drawn is told.
+fn ended(rt: HostRuntime, done: Result<(), Stop>) -> u8 {
+    match done {
+        Ok(()) => 0,
         Err(stop) => {
-            let status = stop.status();
             tell(rt, &stop);
-            ExitCode::from(status)
+            stop.status()
         }
     }
 }

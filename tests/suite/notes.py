@@ -1,6 +1,10 @@
 """The notes on behaviours that ended by a fault, worked out plainly from the ends of a record and the names of a program."""
+import os
+import tempfile
+
 from .programs import Program, RunNames, follow, serial_run
 from .running import done, fault_of, refused
+from .shipped import view_of
 
 STATUSES = ["Done", "Overflow", "ZeroDivisor", "OutOfRange", "SameCown", "Negative", "TickCap"]
 MOST = 10
@@ -82,6 +86,34 @@ OF_RECORDS = ["profile", "why", "cowns"]
 # What is noted where words say how a program is run, and a record came in.
 NOT_RUN = b"boc: note: the input is a record, which is not run again: --workers and --seed say nothing of it\n"
 
+# The same where a record stands beside the program, and where the words have one worker draw.
+OF_FILE = b"boc: note: the run is that of --record FILE, and the program is not run again: --workers and --seed say nothing of it\n"
+OF_ONE = b"boc: note: one worker leaves nothing to draw: --seed and --depth say nothing of it; give --workers at least 2\n"
+
+# Words that say how a program is run, and what is noted where it is run by them.
+SCHEDULES = [
+    (["-w", "1"], b""),
+    (["-w4"], b""),
+    (["-w=2"], b""),
+    (["--workers=16"], b""),
+    (["--seed", "3"], OF_ONE),
+    (["--seed=3", "-w", "1"], OF_ONE),
+    (["--workers", "1", "--depth=2", "--seed", "0"], OF_ONE),
+    (["--seed", "3", "-w", "2"], b""),
+    (["--depth", "1", "--seed", "3", "-w2"], b""),
+]
+
+# Words of `outcomes`, which draws by four workers if no word says how many, and what is noted.
+DRAWS = [
+    ([], b""),
+    (["-w", "1"], b""),
+    (["--seed", "7"], b""),
+    (["--depth", "2"], b""),
+    (["-w", "1", "--seed", "7"], OF_ONE),
+    (["-w1", "--depth=2"], OF_ONE),
+    (["-w", "2", "--seed", "7", "--depth", "3"], b""),
+]
+
 
 def cases(program):
     for name, text, noted in [("each fault", FAULTS, NOTED), ("main", MAIN, MAIN_NOTED), ("twelve", MANY, MANY_NOTED)]:
@@ -99,11 +131,38 @@ def cases(program):
         plain = program.run(words[:1], RECORD)
         yield f"a record: {words}", fault_of(done(plain.output, RECORD_NOTED + NOT_RUN), program.run(words, RECORD))
         yield f"a record: {words} --quiet", fault_of(done(plain.output, b""), program.run([*words, "--quiet"], RECORD))
-        yield f"a program: {words}", fault_of_notes(program.run(words, b"main { }"), b"")
+        yield f"a program: {words}", fault_of_notes(program.run(words, b"main { }"), OF_ONE if "--seed" in words else b"")
+    yield from idle_words(program)
     named = program.run_beside(["why"], "--names", b"= 2 second\n= 3 third 5 six\n", RECORD)
     noted = RECORD_NOTED.replace(b"row 2 ", b"row 2, second, ").replace(b"row 3 ", b"row 3, third(5, six), ")
     yield "a record with names: why", fault_of_notes(named, noted)
     yield "a fault of the input beside one of a row", fault_of(refused(3, "boc: line 24: 12 After"), program.run(["profile"], RECORD + b"\n"))
+
+
+def idle_words(program):
+    """Words that say how a program is run, and nothing of what is done, are noted, and change no answer."""
+    text, record = program.example("transfer.boc"), program.example("transfer.record")
+    view = view_of(program)
+    for words, noted in SCHEDULES:
+        for command in ["run", "time", "why", "cowns"]:
+            yield f"{command} {words}", fault_of_notes(program.run([command, *words], text), noted)
+            yield f"{command} {words} --quiet", fault_of_notes(program.run([command, *words, "--quiet"], text), b"")
+        yield f"boc-view text {words}", fault_of_notes(view.run(["text", *words], text), noted)
+        for asked, command in [(program, "why"), (program, "cowns"), (view, "text")]:
+            plain = asked.run([command], record)
+            yield f"{command} {words} of a record", fault_of(done(plain.output, NOT_RUN), asked.run([command, *words], record))
+            plain = asked.run_beside([command], "--record", record, text)
+            answer = asked.run_beside([command, *words], "--record", record, text)
+            yield f"{command} {words} --record", fault_of(done(plain.output, OF_FILE), answer)
+            yield f"{command} --record", fault_of_notes(plain, b"")
+        for command in ["why", "cowns"]:
+            yield f"{command} {words} --record --quiet", fault_of_notes(program.run_beside([command, *words, "--quiet"], "--record", record, text), b"")
+    for words, noted in DRAWS:
+        yield f"outcomes {words}", fault_of_notes(program.run(["outcomes", "--runs", "3", *words], text), noted)
+    with tempfile.TemporaryDirectory() as folder:
+        with open(os.path.join(folder, "--seed"), "wb") as file:
+            file.write(record)
+        yield "a file with the name of an option", fault_of_notes(program.run(["why", "--", "--seed"], cwd=folder), b"")
 
 
 def of_program(program, name, text, noted):

@@ -10,7 +10,7 @@ use boc_commands::{
     Command, Fault, Schedule, Want, WordsFault, file_named, read_words, run_command,
 };
 use boc_explain::{Input, Kept};
-use boc_front::{MOST_INPUT, STACK, read_beside, words_given};
+use boc_front::{Given, MOST_INPUT, STACK, idle_note, read_beside, words_given};
 use boc_text::Counted;
 use boc_workers::OpenGate;
 use std::alloc::AllocError;
@@ -22,10 +22,6 @@ use std::thread::{Builder, Threads};
 
 // The status where a file can't be read, as where a device fails.
 const NO_FILE: u8 = 5;
-
-// What is told where the words say how a program is run, and a record came in.
-const NOT_RUN: &[u8] =
-    b"boc: note: the input is a record, which is not run again: --workers and --seed say nothing of it\n";
 
 // Why not all was done that the words ask for.
 #[derive(Drop)]
@@ -98,13 +94,14 @@ fn ended(rt: HostRuntime, done: Result<(), Stop>) -> u8 {
 fn run(rt: HostRuntime, threads: &(impl Threads + Wait + Sync)) -> Result<(), Stop> {
     let words = words_given(&rt)?;
     let line = read_words(rt.alloc(), &words).or_else(|fault| words_stop(rt, &words, fault))?;
+    let given = Given::among(&words);
     let beside = file_beside(rt, &line.command)?;
     match &line.input {
         Some(path) if path.as_str() != "-" => match File::open(&rt, path.as_str()) {
-            Ok(file) => answer(rt, threads, &line.command, beside, file, Some(path)),
+            Ok(file) => answer(rt, threads, &line.command, given, beside, file, Some(path)),
             Err(error) => file_stop(rt, path, error, Some(&line.command)),
         },
-        _ => answer(rt, threads, &line.command, beside, rt.stdin(), None),
+        _ => answer(rt, threads, &line.command, given, beside, rt.stdin(), None),
     }
 }
 
@@ -113,6 +110,7 @@ fn answer<T: Read + Drop>(
     rt: HostRuntime,
     threads: &(impl Threads + Wait + Sync),
     command: &Command,
+    given: Given,
     beside: Vec<u8>,
     input: T,
     path: Option<&String>,
@@ -137,9 +135,7 @@ fn answer<T: Read + Drop>(
     meter.wipe();
     let Err(fault) = done else {
         note(rt, &notes);
-        if input.is_of_record() && has_schedule(command) {
-            note(rt, NOT_RUN);
-        }
+        note(rt, note_of(command, given, input.is_of_record()).as_bytes());
         return Ok(());
     };
     let (input, error) = input.into_parts();
@@ -154,23 +150,39 @@ fn answer<T: Read + Drop>(
     Err(Stop::Fault { fault, more })
 }
 
-// The words of a command that reads a program or a record say how a program is run, otherwise than by one thread.
-fn has_schedule(command: &Command) -> bool {
+// The note on words that say how a program is run, and nothing of what the command did; no text where there is nothing to note.
+fn note_of(command: &Command, given: Given, is_record: bool) -> &'static str {
     match command {
+        Command::Run {
+            schedule,
+            quiet: false,
+        }
+        | Command::Time {
+            schedule,
+            quiet: false,
+            ..
+        } => idle_note(*schedule, &None, given, false),
         Command::Why {
             schedule,
+            file,
             quiet: false,
             ..
         }
         | Command::Cowns {
             schedule,
+            file,
             quiet: false,
             ..
-        } => match schedule {
-            Schedule::Threads(workers) => workers.number() > 1,
-            Schedule::Drawn { .. } => true,
-        },
-        _ => false,
+        } => idle_note(*schedule, file, given, is_record),
+        Command::Outcomes(draws) => {
+            let schedule = Schedule::Drawn {
+                workers: draws.workers,
+                seed: draws.seed,
+                depth: draws.depth,
+            };
+            idle_note(schedule, &None, given, false)
+        }
+        _ => "",
     }
 }
 

@@ -1,10 +1,13 @@
-//! What the programs `boc` and `boc-view` do alike around a command: they take the words of a command line and a file beside an input.
+//! What the programs `boc` and `boc-view` do alike around a command: they take the words of a command line and a file beside an input, and note where
+//! words say nothing of what was done.
 #![tactic(auto)]
 
 mod beside;
+mod given;
 mod words;
 
 pub use beside::{MOST_INPUT, read_beside};
+pub use given::{Given, idle_note};
 pub use words::words_given;
 
 /// How many bytes of stack a program does its work on, so that none runs out where the system gives the first thread little: what is nested deepest takes

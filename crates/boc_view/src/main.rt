@@ -13,11 +13,11 @@ use crate::wanted::Wanted;
 use crate::words::{Asked, LEAST_COLUMNS, MOST_COLUMNS, read_words};
 use boc_commands::{Fault, RunFile, Want, WordsFault};
 use boc_explain::{Beside, Input, Kept};
-use boc_front::{MOST_INPUT, STACK, read_beside, words_given};
+use boc_front::{MOST_INPUT, STACK, idle_note, read_beside, words_given};
 use boc_text::{Counted, put_out};
 use std::alloc::AllocError;
 use std::fs::File;
-use std::io::Read;
+use std::io::{Read, Write};
 use std::process::ExitCode;
 use std::sync::Wait;
 use std::thread::{Builder, Threads};
@@ -128,7 +128,19 @@ fn draw<T: Read + Drop>(
     let width = columns(rt, wanted);
     let mut input = Input::new(rt.alloc(), input.take(MOST_INPUT));
     let fault = match pictured(threads, rt.alloc(), wanted, bytes, width, &mut input) {
-        Ok(text) => return put(rt, &text),
+        Ok(text) => {
+            put(rt, &text)?;
+            let Wanted {
+                schedule,
+                file,
+                given,
+                ..
+            } = wanted;
+            let note = idle_note(*schedule, file, *given, input.is_of_record());
+            // There is nobody to tell that this failed.
+            let _ = rt.stderr().write_all(note.as_bytes());
+            return Ok(());
+        }
         Err(fault) => fault,
     };
     let (input, error) = input.into_parts();

@@ -4,6 +4,7 @@ ghost use Rattle.std.specs.Prelude.{◌≡◌};
 ghost use Rattle.boc_view.specs.Materials.{most_of, shows_costs, shows_curve, shows_greedy, workers_shown};
 
 use boc_commands::{RunFile, Schedule};
+use boc_front::Given;
 use boc_plans::sharing::Sharing;
 use boc_plans::workers::Workers;
 use boc_program::limits::MOST_WORKERS;
@@ -71,6 +72,8 @@ pub(crate) struct Wanted {
     pub picture: Picture,
     /// How a program is run.
     pub schedule: Schedule,
+    /// Which words say so.
+    pub given: Given,
     /// For how many workers there is a greedy plan.
     pub workers: Option<Workers>,
     pub sharing: Sharing,

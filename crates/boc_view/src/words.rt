@@ -3,6 +3,7 @@
 use crate::wanted::{Picture, Wanted};
 use boc_commands::{Fault, RunFile, Runners, Schedule, VERSION, WordsFault};
 use boc_draws::{Depth, MOST_DEPTH};
+use boc_front::Given;
 use boc_plans::sharing::Sharing;
 use boc_plans::workers::Workers;
 use boc_program::limits::{MOST_RUNNERS, MOST_WORKERS};
@@ -201,6 +202,7 @@ fn asked_of(alloc: Global, matches: &ArgMatches) -> Result<Asked, Fault> {
             curve: is_set(matches, "curve"),
         },
     };
+    let runners = number_at(matches, "workers");
     let seed = seed_at(matches);
     let depth = number_at(matches, "depth");
     if depth.is_some() && seed.is_none() {
@@ -226,7 +228,12 @@ fn asked_of(alloc: Global, matches: &ArgMatches) -> Result<Asked, Fault> {
     };
     Ok(Asked::Picture(Wanted {
         picture,
-        schedule: schedule_of(number_at(matches, "workers"), seed, depth),
+        schedule: schedule_of(runners, seed, depth),
+        given: Given {
+            workers: runners.is_some(),
+            seed: seed.is_some(),
+            depth: depth.is_some(),
+        },
         workers: number_at(matches, "p").and_then(|number| Workers::new(number)),
         sharing: if is_set(matches, "shared-reads") {
             Sharing::SharedReads

@@ -1,0 +1,75 @@
+// Words that say how a program is run, and the note where they say nothing of what was done.
+
+use boc_commands::{RunFile, Schedule};
+
+// What is noted where a record came in.
+const OF_RECORD: &str =
+    "boc: note: the input is a record, which is not run again: --workers and --seed say nothing of it\n";
+
+// What is noted where a record stands beside the program.
+const OF_FILE: &str =
+    "boc: note: the run is that of --record FILE, and the program is not run again: --workers and --seed say nothing of it\n";
+
+// What is noted where there is one worker.
+const OF_ONE: &str =
+    "boc: note: one worker leaves nothing to draw: --seed and --depth say nothing of it; give --workers at least 2\n";
+
+/// Which of the words that say how a program is run stand on a command line.
+#[derive(Clone, Copy, PartialEq, Eq, Debug)]
+pub struct Given {
+    /// `--workers` or `-w`.
+    pub workers: bool,
+    /// `--seed`.
+    pub seed: bool,
+    /// `--depth`.
+    pub depth: bool,
+}
+
+impl Given {
+    /// Those that stand among words that the parser takes, the program's own name first. It takes no value that begins with `-`.
+    pub fn among(words: &[String]) -> Given {
+        let mut given = Given {
+            workers: false,
+            seed: false,
+            depth: false,
+        };
+        for word in words.iter().skip(1) {
+            match word.as_str() {
+                "--" => return given,
+                word if word.starts_with("-w") || is_option(word, "--workers") => {
+                    given.workers = true
+                }
+                word if is_option(word, "--seed") => given.seed = true,
+                word if is_option(word, "--depth") => given.depth = true,
+                _ => {}
+            }
+        }
+        given
+    }
+}
+
+// A word is this option, with its value behind a `=` or without.
+fn is_option(word: &str, option: &str) -> bool {
+    match word.strip_prefix(option) {
+        Some(behind) => behind.is_empty() || behind.starts_with("="),
+        None => false,
+    }
+}
+
+/// The note, with its line feed, on words that say how a program is run, where they say nothing of what was done; no text where all that were given say
+/// something of it. The run is by this schedule, or that of a record: the input, or this file beside it.
+pub fn idle_note(
+    schedule: Schedule,
+    file: &Option<RunFile>,
+    given: Given,
+    is_record: bool,
+) -> &'static str {
+    let is_drawn = given.seed || given.depth;
+    let is_given = given.workers || is_drawn;
+    match (file, schedule) {
+        _ if is_given && is_record => OF_RECORD,
+        (Some(RunFile::Record(_)), _) if is_given => OF_FILE,
+        (_, Schedule::Drawn { workers, .. }) if is_drawn && workers.number() == 1 => OF_ONE,
+        _ => "",
+    }
+}

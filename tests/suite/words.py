@@ -1,5 +1,9 @@
 """The words of the command line: calls for help, numbers of workers, cowns, edits, and words that are refused."""
+import os
+import tempfile
+
 from .running import Answer, done, fault_of, refused
+from .shipped import view_of
 from .worked import CURVE, GREEDY, PROFILE, SHORTER, SHORTER_GREEDY, WITHOUT_A
 
 HELP = [["--help"], ["-h"], ["values", "--help"], ["check", "--help"], ["run", "--help"], ["profile", "--help"],
@@ -239,6 +243,32 @@ NO_COWNS = ["", "a", "-1", "4294967296", "0,1", "1.0", " 1", "1=1", "cown", "cow
 
 MISSPELT_TEXT = b"boc: edit %d: not ROW=TICKS\n     an edit is ROW=TICKS, ROW@OFFSET, ROW=K/D or DEF=K/D\n"
 
+# A word with bytes by which a terminal sets its title, goes on elsewhere or begins a line, and how it is told: each such byte, and each of a letter that
+# isn't ASCII, as a `?`.
+RAW = "\033]0;x\007\r\n\x7f\t\u00e9\U0001f600"
+PRINTED = "?]0;x" + "?" * 11
+
+# Words with such a word, what the first line on standard error has of it, and the status. `whatif` takes a word with an `=` or an `@` for an edit.
+TOLD = [
+    (["RAW"], "unrecognized subcommand 'PRINTED'", 2),
+    (["values", "--RAW"], "unexpected argument '--PRINTED'", 2),
+    (["run", "--seed", "RAW"], "invalid value 'PRINTED'", 2),
+    (["profile", "-pRAW"], "invalid value 'PRINTED'", 2),
+    (["check", "RAW"], "boc: PRINTED: No such file or directory (os error 2)", 5),
+    (["whatif", "RAW"], "boc: PRINTED: No such file or directory (os error 2)", 5),
+    (["why", "--names", "RAW"], "boc: PRINTED: No such file or directory (os error 2)", 5),
+    (["whatif", "RAW=1"], "boc: edit 1: not ROW=TICKS", 2),
+    (["whatif", "RAW=1/0"], "boc: edit 1: not ROW=TICKS", 2),
+    (["whatif", "RAW=1/2"], "boc: edit 1: 7 NoDef", 3),
+    (["whatif", "--without", "RAW"], "boc: without 1: 6 NoCown", 3),
+]
+TOLD_BY_VIEW = [
+    (["RAW"], "unrecognized subcommand 'PRINTED'", 2),
+    (["text", "--width", "RAW"], "invalid value 'PRINTED'", 2),
+    (["text", "RAW"], "boc-view: PRINTED: No such file or directory (os error 2)", 5),
+    (["plan", "--record", "RAW"], "boc-view: PRINTED: No such file or directory (os error 2)", 5),
+]
+
 
 def cases(program):
     record = program.example("transfer.record")
@@ -261,6 +291,26 @@ def cases(program):
         for source in (record, b"no record"):
             answer = program.run(["whatif", *edits], source)
             yield f"misspelt {edits}", fault_of(expected, answer)
+    for asked, told in [(program, TOLD), (view_of(program), TOLD_BY_VIEW)]:
+        for words, line, status in told:
+            answer = asked.run([word.replace("RAW", RAW) for word in words], record)
+            yield f"told {os.path.basename(asked.path)} {words}", fault_of_told(answer, line.replace("PRINTED", PRINTED), status)
+    with tempfile.TemporaryDirectory() as folder:
+        path = os.path.join(folder, RAW)
+        with open(path, "wb") as file:
+            file.write(record)
+        yield "a file with such a name is read", fault_of(done(b"ok 4\n"), program.run(["check", path]))
+
+
+def fault_of_told(answer, line, status):
+    """What is wrong where words are refused by this line, or one that has it, and all that is told is printed."""
+    if answer is None or answer.status != status:
+        return f"the answer {answer}"
+    raw = [byte for byte in answer.errors if not (byte == 10 or 32 <= byte < 127)]
+    if raw:
+        return f"the bytes {raw} in {answer.errors!r}"
+    first = answer.errors.decode().split("\n")[0]
+    return None if line in first else f"it told {first!r} in place of {line!r}"
 
 
 def commands_in(text):

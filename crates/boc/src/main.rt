@@ -10,7 +10,9 @@ use boc_commands::{
     Command, Fault, Schedule, Want, WordsFault, file_named, read_words, run_command,
 };
 use boc_explain::{Input, Kept};
-use boc_front::{Given, MOST_INPUT, STACK, idle_note, read_beside, words_given};
+use boc_front::{
+    Given, MOST_INPUT, STACK, idle_note, printed, printed_words, read_beside, words_given,
+};
 use boc_text::Counted;
 use boc_workers::OpenGate;
 use std::alloc::AllocError;
@@ -31,7 +33,7 @@ enum Stop {
         fault: Fault,
         more: Option<String>,
     },
-    // A file that the words name can't be read. A line may follow that tells why it is one.
+    // A file that the words name can't be read. Its path stands as it is told, and a line may follow that tells why it is one.
     File {
         path: String,
         error: io::Error,
@@ -201,10 +203,11 @@ fn file_beside(rt: HostRuntime, command: &Command) -> Result<Vec<u8>, Stop> {
     }
 }
 
-// Why not all was done where the words are refused.
+// Why not all was done where the words are refused. They are refused as they are told, since the parser's text has words in it.
 fn words_stop<T>(rt: HostRuntime, words: &[String], fault: WordsFault) -> Result<T, Stop> {
-    let fault = Fault::from(fault);
-    let more = explained_words(rt.alloc(), words, &fault).ok();
+    let words = printed_words(rt.alloc(), words)?;
+    let fault = Fault::from(read_words(rt.alloc(), &words).err().unwrap_or(fault));
+    let more = explained_words(rt.alloc(), &words, &fault).ok();
     Err(Stop::Fault { fault, more })
 }
 
@@ -227,7 +230,7 @@ fn file_stop<T>(
         Some(Command::WhatIf { .. }) if kind == io::ErrorKind::NotFound => Some(WHICH_FILE),
         _ => None,
     };
-    let path = String::from_str(rt.alloc(), path)?;
+    let path = printed(rt.alloc(), path)?;
     Err(Stop::File { path, error, more })
 }
 

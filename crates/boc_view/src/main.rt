@@ -13,7 +13,7 @@ use crate::wanted::Wanted;
 use crate::words::{Asked, LEAST_COLUMNS, MOST_COLUMNS, read_words};
 use boc_commands::{Fault, RunFile, Want, WordsFault};
 use boc_explain::{Beside, Input, Kept};
-use boc_front::{MOST_INPUT, STACK, idle_note, read_beside, words_given};
+use boc_front::{MOST_INPUT, STACK, idle_note, printed, printed_words, read_beside, words_given};
 use boc_text::{Counted, put_out};
 use std::alloc::AllocError;
 use std::fs::File;
@@ -34,7 +34,7 @@ const COLUMNS: usize = 100;
 enum Stop {
     // The words, the input or the run were refused, or a device failed. Lines may follow that explain it.
     Fault { fault: Fault, more: Option<String> },
-    // The input's file, or the one beside the input, can't be read.
+    // The input's file, or the one beside the input, can't be read. Its path stands as it is told.
     File { path: String, error: io::Error },
 }
 
@@ -92,7 +92,7 @@ fn ended(rt: HostRuntime, done: Result<(), Stop>) -> u8 {
 // Draws what the words ask for. What runs in several threads is started by way of `threads`.
 fn run(rt: HostRuntime, threads: &(impl Threads + Wait + Sync)) -> Result<(), Stop> {
     let words = words_given(&rt)?;
-    let asked = read_words(rt.alloc(), &words)?;
+    let asked = read_words(rt.alloc(), &words).or_else(|fault| words_stop(rt, &words, fault))?;
     let wanted = match asked {
         Asked::Told(text) => return put(rt, &text),
         Asked::Picture(wanted) => wanted,
@@ -104,6 +104,13 @@ fn run(rt: HostRuntime, threads: &(impl Threads + Wait + Sync)) -> Result<(), St
         },
         None => draw(rt, threads, &wanted, rt.stdin()),
     }
+}
+
+// Why nothing is drawn where the words are refused. They are refused as they are told, since the parser's text has words in it.
+fn words_stop<T>(rt: HostRuntime, words: &[String], fault: Fault) -> Result<T, Stop> {
+    let words = printed_words(rt.alloc(), words)?;
+    let fault = read_words(rt.alloc(), &words).err().unwrap_or(fault);
+    Err(Stop::from(fault))
 }
 
 // Writes a text to standard output.
@@ -180,7 +187,7 @@ fn file_stop<T>(rt: HostRuntime, path: &str, error: io::Error) -> Result<T, Stop
     if error.kind() == io::ErrorKind::OutOfMemory {
         return Err(Stop::from(Fault::Means(Want::Memory)));
     }
-    let path = String::from_str(rt.alloc(), path)?;
+    let path = printed(rt.alloc(), path)?;
     Err(Stop::File { path, error })
 }
 

@@ -15,16 +15,17 @@ NO_ROW, BELOW_SPAWN, TOO_MANY_TICKS = "1 NoRow", "2 BelowSpawn", "3 TooManyTicks
 
 
 def cowns_meant(names, word):
-    """The cowns that a word leaves out: the one with a number, or all with a name, and those of an array."""
+    """The cowns that a word leaves out: the one with a number; or all with a name; or, where none has it, those of the array with it."""
     if word.isdecimal():
         return [int(word)] if int(word) < len(names.cowns) else []
     name = word.encode()
-    return [cown for cown, own in enumerate(names.cowns) if own == name or names.families[cown] in (name, name + b"[*]")]
+    named = [cown for cown, own in enumerate(names.cowns) if name in (own, names.families[cown])]
+    return named or [cown for cown, family in enumerate(names.families) if family == name + b"[*]"]
 
 
 def edits_meant(names, word):
     """The edits of a word, each a row and its ticks, or a row and the part of its ticks that it costs."""
-    subject, what = word.split("=")
+    subject, what = word.rsplit("=", 1)
     change = tuple(int(part) for part in what.split("/"))
     if subject.isdecimal():
         return [(int(subject), change)]
@@ -177,6 +178,13 @@ span      19    22    +3
 chain    ask 17, main 2   ->   ask 18, main 4
 """
 
+# A cown that is called as an array is, of which another one is a member, and defs with an equals sign. Rows 1 and 2 take 10 ticks each over `x`, rows 3 and 4
+# take 6 over `x[1]`; main spawns them from its tick 2 on. Row 2 ends at 22. Without `x` alone row 4 is the last, at 16; without `x[1]` alone row 2 is; with
+# `a=b` at half its ticks row 4 is the last, at 16, again.
+ALIKE = b"boc 1 2\n+ 0 0 0\n> 0\n+ 1 0 2 0\n+ 2 0 3 0\n+ 3 0 4 1\n+ 4 0 5 1\n< 0 5 0\n> 1\n< 1 10 0\n> 2\n< 2 10 0\n> 3\n< 3 6 0\n> 4\n< 4 6 0\n.\n"
+ALIKE_NAMES = b"@ 0 x\n@ 1 x[1]\n= 1 a=b\n= 2 a=b 1\n= 3 =c=\n= 4 5=6\n"
+ALIKE_SPANS = [(["--without", "x"], 16), (["--without", "x[*]"], 22), (["--without", "x[1]"], 22), (["a=b=1/2"], 16), (["=c==1/2", "5=6=1/2"], 22)]
+
 
 def cases(program):
     yield from of_programs(program)
@@ -209,7 +217,17 @@ def of_files(program):
             yield from of_names(program, "family", FAMILY, names, path, cowns, ["ask=2/1"])
         for edits in ([], ["main=1/2", "tell=3/1"], ["tell=1/7", "ask=1/2"], ["ask=1/2", "4=1"], ["1=4"], ["ask=1/2", "1=2"], ["row 1=1/2"]):
             yield from of_names(program, "family", FAMILY, names, path, ["seat[1]"], edits)
+        yield from of_alike(program, written(folder, "alike.names", ALIKE_NAMES))
         yield from random_cases(program, folder)
+
+
+def of_alike(program, path):
+    """What a name means to `whatif` it means among the candidates of `why`, too."""
+    for words, span in ALIKE_SPANS:
+        answer = program.run(["whatif", "--names", path, *words], ALIKE)
+        yield f"alike: whatif {' '.join(words)}", None if f"\nspan {span}\n".encode() in answer.output else f"it tells {answer}"
+    told = program.run(["why", "--names", path], ALIKE).output.split(b"candidates", 1)[-1]
+    yield "alike: why", None if b"  without x               16     6\n" in told else f"it tells {told!r}"
 
 
 def of_names(program, name, record, names, path, cowns, edits):

@@ -36,7 +36,7 @@ use Rattle.boc_words.specs.declared.asked.AskedCown.TheVariants as asked_cowns
 use Rattle.boc_words.specs.declared.asked.AskedEdit.{AskedEdit}
 use Rattle.boc_words.specs.declared.asked.AskedEdit.TheVariants as asked_edits
 use Rattle.boc_words.specs.declared.asked.NamesFrom.{NamesFrom}
-use Rattle.boc_commands.specs.Asked.{all_cowns, all_edits, costs, cowns_of, edits_of, starred}
+use Rattle.boc_commands.specs.Asked.{all_cowns, all_edits, costs, cowns_of, edits_of, first_some, named, starred}
 use Rattle.boc_words.specs.declared.asked.AskedPlans.{AskedPlans}
 use Rattle.boc_commands.specs.NamedRuns.{IsNamedRecord}
 use Rattle.boc_commands.specs.WhatIfAnswers.{AreChangedSo, IsAskedEnd, IsOutcome, IsReportAfter, IsShortReport, IsWhatIfAnswer}
@@ -54,11 +54,13 @@ module _ (a b : Names) (same : CallTheSame a b) where
   count_is : length a.cowns.items ≡ length b.cowns.items
   count_is = as_many a.cowns.items b.cowns.items same.cowns
 
+  all_named : (name : Text) → named a name ≡ named b name
+  all_named name = λ i. filter (λ cown. bytes_eq (text_at (same.cowns i) cown) name
+      || bytes_eq (text_at (same.family_names i) (slice_index (same.families i) cown)) name) (range_with_len 0 (count_is i))
+
   cowns_meant : (asked : AskedCown) → cowns_of a asked ≡ cowns_of b asked
   cowns_meant (asked_cowns.Number number) = λ i. cond (nat_lt number (count_is i)) (number ∷ []) []
-  cowns_meant (asked_cowns.Name name) = λ i. filter (λ cown. bytes_eq (text_at (same.cowns i) cown) (string_bytes name)
-      || (bytes_eq (text_at (same.family_names i) (slice_index (same.families i) cown)) (string_bytes name)
-      || bytes_eq (text_at (same.family_names i) (slice_index (same.families i) cown)) (starred (string_bytes name)))) (range_with_len 0 (count_is i))
+  cowns_meant (asked_cowns.Name name) = ap₂ first_some (all_named (string_bytes name)) (all_named (starred (string_bytes name)))
 
   same_cowns : (asked : List AskedCown) → all_cowns a asked ≡ all_cowns b asked
   same_cowns [] = refl

@@ -31,15 +31,27 @@ starred name = name ++ codes "[*]"
 abbrev pub family_of : Names → ℕ → Text
 family_of names cown = text_at (texts_of names.family_names.items) (slice_index names.families.items cown)
 
--- a cown has this name, or its family has it, or is the array with it
-abbrev pub is_called : Names → Text → ℕ → Bool
-is_called names name cown =
-    bytes_eq (text_at (texts_of names.cowns.items) cown) name || (bytes_eq (family_of names cown) name || bytes_eq (family_of names cown) (starred name))
+-- a cown has this name, or its family has it
+abbrev pub has_name : Names → Text → ℕ → Bool
+has_name names name cown = bytes_eq (text_at (texts_of names.cowns.items) cown) name || bytes_eq (family_of names cown) name
 
--- the cowns that are meant, rising: the one with a number, if there is one, or all with a name
+-- the cowns that have this name, or whose family has it, rising
+abbrev pub named : Names → Text → List ℕ
+named names name = filter (has_name names name) (range_with_len 0 (length names.cowns.items))
+
+-- the first list, or where that is empty the second
+abbrev pub first_some : List ℕ → List ℕ → List ℕ
+first_some [] others = others
+first_some (cown ∷ cowns) others = cown ∷ cowns
+
+-- the cowns that are called so: those with this name, or where there is none the members of the array with it
+abbrev pub called : Names → Text → List ℕ
+called names name = first_some (named names name) (named names (starred name))
+
+-- the cowns that are meant, rising: the one with a number, if there is one, or all that are called so
 abbrev pub cowns_of : Names → AskedCown → List ℕ
 cowns_of names (cowns.Number number) = cond (nat_lt number (length names.cowns.items)) (number ∷ []) []
-cowns_of names (cowns.Name name) = filter (is_called names (string_bytes name)) (range_with_len 0 (length names.cowns.items))
+cowns_of names (cowns.Name name) = called names (string_bytes name)
 
 -- all cowns that are meant, those of one asked cown after those of another
 abbrev pub all_cowns : Names → List AskedCown → List ℕ

@@ -3,7 +3,7 @@
 ghost use Rattle.std.specs.Prelude.{◌≡◌, ◌≢◌, ◌++◌, ◌<◌, ◌≤◌, [], All, filter, length, map, sum, IfOk, MatchResult, OnOk};
 ghost use Rattle.std.specs.List.{range_with_len};
 ghost use Rattle.boc_program.specs.declared.limits.TheConstants.{MOST_COWNS, MOST_ROWS};
-ghost use Rattle.boc_commands.specs.Asked.{all_cowns, cowns_of, edits_of, is_called, is_of, costs, starred};
+ghost use Rattle.boc_commands.specs.Asked.{all_cowns, called, cowns_of, edits_of, has_name, is_of, costs, named, starred};
 ghost use Rattle.boc_commands.specs.Asked.{AreMeant, IsOfCowns, IsOwner};
 
 use crate::fault::{Fault, InputFault};
@@ -32,17 +32,30 @@ fn starred(alloc: Global, name: &[u8]) -> Result<Vec<u8>, AllocError>
     Ok(text)
 }
 
-// Whether a cown has this name, or its family has it, or is the array with it.
-fn is_called(names: &Names, name: &[u8], array: &[u8], cown: usize) -> bool
-    requires array { array.now ≡ starred name.now }
+// Whether a cown has this name, or its family has it.
+fn has_name(names: &Names, name: &[u8], cown: usize) -> bool
     requires there { cown < length names.now.families.items }
-    ensures { result ≡ is_called names.now name.now cown }
+    ensures { result ≡ has_name names.now name.now cown }
 {
     let family = text_at(&names.family_names, names.families[cown] as usize);
-    text_at(&names.cowns, cown) == name || family == name || family == array
+    text_at(&names.cowns, cown) == name || family == name
 }
 
-// Puts all cowns with this name behind others.
+// Puts all cowns that have this name, or whose family has it, behind others.
+fn put_named(cowns: &mut Vec<HeldCown>, names: &Names, name: &[u8]) -> Result<(), AllocError>
+    requires families { length names.now.cowns.items ≡ length names.now.families.items }
+    requires few { length names.now.families.items ≤ MOST_COWNS }
+    ensures { OnOk result (cowns.new.items ≡ cowns.old.items ++ named names.now name.now) }
+{
+    for cown in 0..names.cowns.len() {
+        if has_name(names, name, cown) {
+            cowns.push(cown as HeldCown)?;
+        }
+    }
+    Ok(())
+}
+
+// Puts all cowns that are called so behind others: those with this name, or where there is none the members of the array with it.
 fn put_called(
     alloc: Global,
     cowns: &mut Vec<HeldCown>,
@@ -51,14 +64,13 @@ fn put_called(
 ) -> Result<(), AllocError>
     requires families { length names.now.cowns.items ≡ length names.now.families.items }
     requires few { length names.now.families.items ≤ MOST_COWNS }
-    ensures { OnOk result (cowns.new.items
-        ≡ cowns.old.items ++ filter (is_called names.now name.now) (range_with_len 0 (length names.now.cowns.items))) }
+    ensures { OnOk result (cowns.new.items ≡ cowns.old.items ++ called names.now name.now) }
 {
-    let array = starred(alloc, name)?;
-    for cown in 0..names.cowns.len() {
-        if is_called(names, name, &array, cown) {
-            cowns.push(cown as HeldCown)?;
-        }
+    let before = cowns.len();
+    put_named(cowns, names, name)?;
+    if cowns.len() == before {
+        let array = starred(alloc, name)?;
+        put_named(cowns, names, &array)?;
     }
     Ok(())
 }

@@ -5,7 +5,11 @@ use Rattle.std.specs.Int.{IsInRange}
 use Rattle.std.specs.Str.Parse.{digits_value}
 use Rattle.std.proofs.lemmas.Str.Parse.{IsNumeralModel, numerals_by_value, tells_by_index}
 use Rattle.std.proofs.lemmas.Fmt.{decimal_injective, digits_decimal}
-use Rattle.std.proofs.lemmas.Str.Pattern.{IsSplitOnceResult, split_parts, split_after}
+use Rattle.std.proofs.lemmas.Str.Pattern.{IsSplitOnceResult, NoCharPasses-char, drop_at_char, split_parts, split_after}
+use Rattle.std.specs.Str.Pattern.{RFindsChar}
+use Rattle.std.specs.Str.{NoCharPasses}
+use Rattle.std.specs.Option.{MatchOption}
+use Rattle.std.proofs.Common.{zero, ◌==◌, ◌+◌, ◌≤◌, take, drop, take-append-drop}
 use denote.Ref.{Bor}
 use Rattle.std.specs.Prelude.{string_bytes}
 use Rattle.boc_plans.specs.declared.edit.Change.{Change}
@@ -13,7 +17,7 @@ use Rattle.boc_plans.specs.declared.edit.Change.TheVariants.{Ticks, Offset, Cost
 use Rattle.boc_plans.specs.Fractions.{Fraction}
 use Rattle.boc_words.specs.declared.asked.AskedEdit.{AskedEdit}
 use Rattle.boc_words.specs.declared.asked.AskedEdit.TheVariants.{Row, Def}
-use Rattle.boc_words.specs.EditWords.{HasNone, HasOther, IsCostWord, IsEditWord, IsPart, IsSubject, IsWritable, IsWritableChange}
+use Rattle.boc_words.specs.EditWords.{HasOther, IsCostWord, IsEditWord, IsPart, IsSubject, IsWritable, IsWritableChange}
 use Rattle.boc_words.specs.EditWords.{change_word, cost_word, edit_word, equals_sign}
 
 abbrev AreDigits : List ℕ → Type 0
@@ -62,37 +66,91 @@ module _ (sign : ℕ) (ascii : sign < 128) (other : (sign < 48) ⊎ (57 < sign))
   both w x first second h left right =
       (split_parts sign w (Some x) h ascii).0 ∙ ap (λ l. l ++ (sign ∷ x.1.now)) left ∙ ap (λ l. first ++ (sign ∷ l)) right
 
--- a word with no equals sign has no subject before one
-pub no_subject : (w subject rest : List ℕ) → IsSplitOnceResult equals_sign w None → HasNone equals_sign subject → w ≡ subject ++ (equals_sign ∷ rest) → ⊥
-no_subject w subject rest h none e = split_after equals_sign w subject rest None h (omega arith) e none
+-- ---- round the last equals sign
 
--- what stands before its first one is the subject
-pub subject_sides : (w subject rest : List ℕ) (x : Bor (List ℕ) × Bor (List ℕ)) → IsSplitOnceResult equals_sign w (Some x) → HasNone equals_sign subject
-    → w ≡ subject ++ (equals_sign ∷ rest) → (x.0.now ≡ subject) × (x.1.now ≡ rest)
-subject_sides w subject rest x h none e = split_after equals_sign w subject rest (Some x) h (omega arith) e none
+-- the text has no such byte
+abbrev HasNone : ℕ → List ℕ → Type 0
+HasNone byte text = (i : ℕ) → i < length text → get_or text i 0 ≢ byte
 
--- digits have no equals sign
-none_in_digits : (n : ℕ) → n < 2 ^ 32 → HasNone equals_sign (decimal n)
-none_in_digits n few = no_sign equals_sign n (inr (omega arith)) few
+-- two texts without a byte have none together
+none_in_both : (byte : ℕ) (xs ys : List ℕ) → HasNone byte xs → HasNone byte ys → HasNone byte (xs ++ ys)
+none_in_both byte [] ys none clear = clear
+none_in_both byte (x ∷ xs) ys none clear zero lt = none 0 (omega arith)
+none_in_both byte (x ∷ xs) ys none clear (suc i) lt = none_in_both byte xs ys (λ k l. none (suc k) (omega (arith, l))) clear i (omega (arith, lt))
 
-none_in_subject : (subject : List ℕ) → IsSubject subject → HasNone equals_sign subject
-none_in_subject subject (inl (row, few, is)) = subst (HasNone equals_sign) (sym is) (none_in_digits row few)
-none_in_subject subject (inr (none, other)) = none
+-- a text that has a byte in its middle has it
+some_in_middle : (byte : ℕ) (xs ys : List ℕ) → HasNone byte (xs ++ (byte ∷ ys)) → ⊥
+some_in_middle byte [] ys none = none 0 (omega arith) refl
+some_in_middle byte (x ∷ xs) ys none = some_in_middle byte xs ys (λ k l. none (suc k) (omega (arith, l)))
+
+-- two lists round the last of a sign are the same lists
+round_last : (sign : ℕ) (xs ys us vs : List ℕ) → HasNone sign ys → HasNone sign vs → xs ++ (sign ∷ ys) ≡ us ++ (sign ∷ vs) → (xs ≡ us) × (ys ≡ vs)
+round_last sign [] ys [] vs none clear e = (refl, cc)
+round_last sign [] ys (u ∷ us) vs none clear e =
+    let rest : ys ≡ us ++ (sign ∷ vs) = cc in
+    absurd (some_in_middle sign us vs (subst (HasNone sign) rest none))
+round_last sign (x ∷ xs) ys [] vs none clear e =
+    let rest : xs ++ (sign ∷ ys) ≡ vs = cc in
+    absurd (some_in_middle sign xs ys (subst (HasNone sign) (sym rest) clear))
+round_last sign (x ∷ xs) ys (u ∷ us) vs none clear e =
+    let head : x ≡ u = cc in
+    let rest : xs ++ (sign ∷ ys) ≡ us ++ (sign ∷ vs) = cc in
+    let both = round_last sign xs ys us vs none clear rest in
+    (ap₂ (λ y ys. y ∷ ys) head both.0, both.1)
+
+-- the numbers of a part, behind the subject
+abbrev pub part_word : Fraction → List ℕ
+part_word part = decimal part.over ++ (47 ∷ decimal part.under)
+
+-- a part has no equals sign
+none_in_part : (part : Fraction) → IsPart part → HasNone equals_sign (part_word part)
+none_in_part part is =
+    none_in_both equals_sign (decimal part.over) (47 ∷ decimal part.under) (no_sign equals_sign part.over (inr (omega arith)) (omega (arith, is.1))) behind
+  where
+    behind : HasNone equals_sign (47 ∷ decimal part.under)
+    behind zero lt = λ e. let d : 47 ≡ 61 = e in omega (arith, d)
+    behind (suc i) lt = no_sign equals_sign part.under (inr (omega arith)) (omega (arith, is.3)) i (omega (arith, lt))
+
+-- what a split at the last of a character tells
+abbrev IsLastSplit : ℕ → List ℕ → Option (Bor (List ℕ) × Bor (List ℕ)) → Type 0
+IsLastSplit c bs r = MatchOption r (RFindsChar c bs None) (λ x. (i : ℕ) × (j : ℕ) × RFindsChar c bs (Some (i, j)) × (x.0.now ≡ take i bs)
+    × (x.1.now ≡ drop j bs) × (i ≤ j) × (length x.0.now ≡ i) × (length x.1.now + j ≡ length bs))
+
+-- the two sides make the word, and what stands behind has no such character
+pub last_split_parts : (c : ℕ) (bs : List ℕ) (r : Option (Bor (List ℕ) × Bor (List ℕ))) → IsLastSplit c bs r → c < 128
+    → MatchOption r (HasNone c bs) (λ x. (bs ≡ x.0.now ++ (c ∷ x.1.now)) × HasNone c x.1.now)
+last_split_parts c bs None h low = λ i. NoCharPasses-char c bs i h low
+last_split_parts c bs (Some x) h low = (
+  sym (take-append-drop h.0 bs) ∙ ap₂ (λ a b. a ++ b) (sym h.3) (drop_at_char c bs h.0 h.1 h.2.1 low ∙ ap (λ l. c ∷ l) (sym h.4)),
+  λ i. NoCharPasses-char c x.1.now i (subst (NoCharPasses (λ d. d == c)) (sym h.4) h.2.0) low,
+)
+
+-- a word with no equals sign has no part behind one
+pub no_subject : (w subject : List ℕ) (part : Fraction) → IsLastSplit equals_sign w None → w ≡ cost_word subject part → ⊥
+no_subject w subject part h e =
+    some_in_middle equals_sign subject (part_word part) (subst (HasNone equals_sign) e (last_split_parts equals_sign w None h (omega arith)))
+
+-- what stands before its last one is the subject, and what stands behind it the part
+pub subject_sides : (w subject : List ℕ) (part : Fraction) (x : Bor (List ℕ) × Bor (List ℕ)) → IsLastSplit equals_sign w (Some x) → IsPart part
+    → w ≡ cost_word subject part → (x.0.now ≡ subject) × (x.1.now ≡ part_word part)
+subject_sides w subject part x h is e =
+    let parts = last_split_parts equals_sign w (Some x) h (omega arith) in
+    round_last equals_sign x.0.now x.1.now subject (part_word part) parts.1 (none_in_part part is) (sym parts.0 ∙ e)
 
 -- a word that has no subject and no part is that of no cost
-pub no_cost : (w : List ℕ) → ((subject : List ℕ) (part : Fraction) → HasNone equals_sign subject → IsPart part → w ≡ cost_word subject part → ⊥)
-    → IsCostWord w → ⊥
-no_cost w none word = none word.subject word.part (none_in_subject word.subject word.named) word.is_part word.spells
+pub no_cost : (w : List ℕ) → ((subject : List ℕ) (part : Fraction) → IsPart part → w ≡ cost_word subject part → ⊥) → IsCostWord w → ⊥
+no_cost w none word = none word.subject word.part word.is_part word.spells
 
 -- and none is one whose subject is neither a row's number nor a name
-pub no_named_cost : (w subject : List ℕ) (part : Fraction) → HasNone equals_sign subject → w ≡ cost_word subject part
+pub no_named_cost : (w subject : List ℕ) (part : Fraction) → IsPart part → w ≡ cost_word subject part
     → ((n : ℕ) → n < 2 ^ 32 → subject ≡ decimal n → ⊥) → (HasOther subject → ⊥) → IsCostWord w → ⊥
-no_named_cost w subject part none is no_number no_name word =
+no_named_cost w subject part small is no_number no_name word =
     let same : subject ≡ word.subject =
-    (round_sign equals_sign subject _ word.subject _ none (none_in_subject word.subject word.named) (sym is ∙ word.spells)).0 in
+    (round_last equals_sign subject (part_word part) word.subject (part_word word.part) (none_in_part part small) (none_in_part word.part word.is_part)
+    (sym is ∙ word.spells)).0 in
     elim word.named [
       | inl row ↦ no_number row.0 row.1 (same ∙ row.2)
-      | inr name ↦ no_name (subst HasOther (sym same) name.1)
+      | inr name ↦ no_name (subst HasOther (sym same) name)
     ]
 
 -- the word of no ticks, no offset and no cost is that of no edit
@@ -111,7 +169,7 @@ no_edit w no_ticks no_offset no_cost word = go word.edit word.writable word.spel
     go (Def name part) writable is = no_cost (record {
       subject = string_bytes name;
       part = part;
-      named = inr (writable.0, writable.1);
-      is_part = writable.2;
+      named = inr writable.0;
+      is_part = writable.1;
       spells = is;
     })

@@ -35,10 +35,6 @@ IsWritableChange (Ticks ticks) = ticks < 2 ^ 32
 IsWritableChange (Offset offset) = offset < 2 ^ 32
 IsWritableChange (Cost part) = IsPart part
 
--- the text has no such byte
-abbrev pub HasNone : ℕ → List ℕ → Type 0
-HasNone byte text = (i : ℕ) → i < length text → get_or text i 0 ≢ byte
-
 -- some byte of the text is no digit
 abbrev pub HasOther : List ℕ → Type 0
 HasOther text = (i : ℕ) × (i < length text) × (IsInRange 48 57 (get_or text i 0) → ⊥)
@@ -55,14 +51,14 @@ at_sign = 64
 abbrev pub is_edit : List ℕ → Bool
 is_edit word = list_any (λ b. (b == equals_sign) || (b == at_sign)) word
 
--- the edit has only numbers that an edit can have; and a name has no equals sign, and is not of digits alone, as a row's number is
+-- the edit has only numbers that an edit can have; and a name is not of digits alone, as a row's number is
 abbrev pub IsWritable : AskedEdit → Type 0
 IsWritable (Row edit) = (edit.row < 2 ^ 32) × IsWritableChange edit.change
-IsWritable (Def name part) = HasNone equals_sign (string_bytes name) × HasOther (string_bytes name) × IsPart part
+IsWritable (Def name part) = HasOther (string_bytes name) × IsPart part
 
 -- a row's number, or a name
 abbrev pub IsSubject : List ℕ → Type 0
-IsSubject subject = ((row : ℕ) × (row < 2 ^ 32) × (subject ≡ decimal row)) ⊎ (HasNone equals_sign subject × HasOther subject)
+IsSubject subject = ((row : ℕ) × (row < 2 ^ 32) × (subject ≡ decimal row)) ⊎ HasOther subject
 
 -- the word is that of an edit
 pub record IsEditWord (word : List ℕ) : Type 0 where

@@ -2,7 +2,7 @@
 
 ghost use Rattle.std.specs.Prelude.{◌≡◌, ◌<◌, ◌⊎◌, ◌↔◌, ◌∷◌, ◌++◌, ◌^◌, ℕ, List, IfNone, IfOk, IfSome, IsTrue, MatchOption, decimal};
 ghost use Rattle.boc_plans.specs.Fractions.{Fraction};
-ghost use Rattle.boc_words.specs.EditWords.{HasNone, HasOther, IsCostWord, IsEditWord, IsPart, IsWritable, cost_word, edit_word, equals_sign, is_edit};
+ghost use Rattle.boc_words.specs.EditWords.{HasOther, IsCostWord, IsEditWord, IsPart, IsWritable, cost_word, edit_word, is_edit};
 
 use crate::asked::AskedEdit;
 use boc_plans::edit::{Change, Edit, Part};
@@ -19,7 +19,8 @@ pub(crate) fn is_edit(word: &str) -> bool
 }
 
 // The edit that a word is: `ROW=TICKS`, `ROW@OFFSET` or `ROW=K/D`, of plain decimals, K and D from 1 to 1,000 and the others up to
-// 4,294,967,295, or `DEF=K/D`, of a name that has no equals sign and is not of digits alone. No other word is an edit.
+// 4,294,967,295, or `DEF=K/D`, of a name that is not of digits alone. A name may have equals signs: the last one of the word parts it from the part. No other
+// word is an edit.
 pub(crate) fn edit_of(alloc: Global, word: &str) -> Result<Option<AskedEdit>, AllocError>
     ensures none { IfOk result (λ edit. IfNone edit (IsEditWord word.now → ⊥)) }
     ensures word { IfOk result (λ edit. IfSome edit (λ e. word.now ≡ edit_word e)) }
@@ -56,13 +57,13 @@ fn cost_edit(alloc: Global, word: &str) -> Result<Option<AskedEdit>, AllocError>
     Ok(Some(AskedEdit::Def { name, part }))
 }
 
-// What stands before the first equals sign of a word, and the part behind it, where the word is no more than that.
+// What stands before the last equals sign of a word, and the part behind it, where the word is no more than that.
 fn subject_and_part(word: &str) -> Option<(&str, Part)>
     ensures { MatchOption result
-        ((subject : List ℕ) (part : Fraction) → HasNone equals_sign subject → IsPart part → word.now ≡ cost_word subject part → ⊥)
-        (λ found. HasNone equals_sign found.0.now × IsPart found.1 × (word.now ≡ cost_word found.0.now found.1)) }
+        ((subject : List ℕ) (part : Fraction) → IsPart part → word.now ≡ cost_word subject part → ⊥)
+        (λ found. IsPart found.1 × (word.now ≡ cost_word found.0.now found.1)) }
 {
-    let (subject, part) = word.split_once('=')?;
+    let (subject, part) = word.rsplit_once('=')?;
     let (over, under) = numbers_around(part, '/')?;
     Some((subject, Part::new(over, under)?))
 }

@@ -1,25 +1,20 @@
 use Rattle.std.proofs.Common.{◌≡◌, ◌∙◌, false, true, ◌++◌, ◌∷◌, ◌<◌, ◌≤◌, ◌^◌, ℕ, List, arith, decimal, Some, ap, ap₂, refl, sym}
-use Rattle.std.proofs.lemmas.Str.Pattern.{split_parts}
 use Rattle.boc_plans.specs.Fractions.{Fraction}
 use Rattle.boc_program.specs.declared.limits.TheConstants.{MOST_PART}
 use Rattle.boc_words.specs.EditWords.{IsPart, equals_sign}
-use Rattle.boc_words.proofs.EditWord.{no_subject, same_numbers, subject_sides}
+use Rattle.boc_words.proofs.EditWord.{last_split_parts, no_subject, part_word, same_numbers, subject_sides}
 use Rattle.boc_words.proofs.edit_word.subject_and_part.Goals as goal
-
--- the numbers of a part, behind the subject
-abbrev part_word : Fraction → List ℕ
-part_word part = decimal part.over ++ (47 ∷ decimal part.under)
 
 pub returns-in_err-subject : goal.returns-in_err-subject
 returns-in_err-subject c =
     rw c.from_residual.ensures
-    (λ subject part none _ e. no_subject c.args.word.now subject (part_word part) c.in_err-subject.ensures.cases none e)
+    (λ subject part _ e. no_subject c.args.word.now subject part c.in_err-subject.ensures.cases e)
 
 pub returns-in_err-over : goal.returns-in_err-over
 returns-in_err-over c =
     rw c.from_residual-in_err-over.ensures
-    (λ subject part none is e. c.in_err-over.ensures part.over part.under (omega (arith, is.1)) (omega (arith, is.3))
-    (subject_sides c.args.word.now subject (part_word part) (c.in_ok-subject.subject, c.in_ok-subject.part) c.in_ok-subject.ensures.cases none e).1)
+    (λ subject part is e. c.in_err-over.ensures part.over part.under (omega (arith, is.1)) (omega (arith, is.3))
+    (subject_sides c.args.word.now subject part (c.in_ok-subject.subject, c.in_ok-subject.part) c.in_ok-subject.ensures.cases is e).1)
 
 -- the numbers that were read are those of the part
 is_part : (over under : ℕ) (part : Fraction) → over < 2 ^ 32 → under < 2 ^ 32 → IsPart part
@@ -34,19 +29,18 @@ absurd_true same = cc
 pub returns-in_err-new : goal.returns-in_err-new
 returns-in_err-new c =
     rw c.from_residual-in_err-new.ensures
-    (λ subject part none is e. absurd_true (c.in_err-new.ensures.valid.1 (is_part c.in_ok-over.over c.in_ok-over.under part (omega arith) (omega arith) is
-    (sym c.in_ok-over.ensures ∙ (subject_sides c.args.word.now subject (part_word part) (c.in_ok-subject.subject, c.in_ok-subject.part)
-    c.in_ok-subject.ensures.cases none e).1))))
+    (λ subject part is e. absurd_true (c.in_err-new.ensures.valid.1 (is_part c.in_ok-over.over c.in_ok-over.under part (omega arith) (omega arith) is
+    (sym c.in_ok-over.ensures ∙ (subject_sides c.args.word.now subject part (c.in_ok-subject.subject, c.in_ok-subject.part)
+    c.in_ok-subject.ensures.cases is e).1))))
 
 pub returns : goal.returns
 returns c =
     let part : Fraction = c.in_ok-new.field-0 in
-    let parts = split_parts equals_sign c.args.word.now (Some (c.in_ok-subject.subject, c.in_ok-subject.part)) c.in_ok-subject.ensures.cases (omega arith) in
+    let parts = last_split_parts equals_sign c.args.word.now (Some (c.in_ok-subject.subject, c.in_ok-subject.part)) c.in_ok-subject.ensures.cases (omega arith) in
     let valid = c.in_ok-new.ensures.valid.0 refl in
     let numbers : c.in_ok-subject.part.now ≡ part_word part =
     c.in_ok-over.ensures
     ∙ ap₂ (λ over under. decimal over ++ (47 ∷ decimal under)) (sym c.in_ok-new.ensures.over) (sym c.in_ok-new.ensures.under) in (
-      parts.1,
       (
         omega (arith, c.in_ok-new.ensures.over, valid.0),
         omega (arith, c.in_ok-new.ensures.over, valid.1),

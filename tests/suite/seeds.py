@@ -24,10 +24,23 @@ main { when left(; b); when right(; c); }
 """
 ENDS = {b"a 4\nb 0\nc 0\n", b"a 3\nb 0\nc 0\n"}
 
+# `big` spawns more behaviours than there may be where `mark` comes first at `a`, and else none. By two workers the seed 43 has `mark` first, and the seed 0
+# has `big` first; where main's two behaviours change places, it is the other way round.
+DEFS = b"""cown a = 0; cown b = 0; cown c = 0;
+def leaf(;) { }
+def big(; x) { if x == 1 { repeat 66000 { when leaf(;); } } x = 2; }
+def mark(; x) { x = 1; }
+def l(; y) { when big(; a); }
+def r(; y) { when mark(; a); }
+"""
+FULL_BY_43 = DEFS + b"main { when l(; b); when r(; c); }"
+FULL_BY_0 = DEFS + b"main { when r(; c); when l(; b); }"
+
 
 def cases(program):
     yield from random_programs(program)
     yield from race(program)
+    yield from refusals(program)
     for words in (["--seed", "-1"], ["--seed", "18446744073709551616"], ["--seed", "x"], ["--seed"], ["--seed", "1", "--seed", "2"]):
         for command in ("run", "time"):
             answer = program.run([command, *words], RACE)
@@ -91,3 +104,28 @@ def race(program):
             ends.add(program.run_beside(["values"], "--record", record, RACE).output)
         is_so = len(ends) == count and ends <= ENDS
         yield f"a race by {workers} workers", None if is_so else f"its ends are {ends}"
+
+
+def refusals(program):
+    """The commands that run a program refuse the run of a seed where that very draw has no room, or the one by seed 0 that counts the steps of a depth."""
+    full = refused(4, "boc: run: 2 Behaviours")
+    for name, text, by in (("43", FULL_BY_43, "0"), ("0", FULL_BY_0, "43")):
+        for command in ("run", "time", "why", "cowns"):
+            words = [command, "--workers", "2", "--seed", name]
+            yield f"a program that is full by {name}: {words}", fault_of(full, program.run(words, text))
+        yield from of_five_rows(program, f"a program that is full by {name}, by the seed {by}", text, ["--workers", "2", "--seed", by])
+    yield from of_five_rows(program, "a depth that is counted", FULL_BY_43, ["--workers", "2", "--seed", "43", "--depth", "2"])
+    for command in ("run", "time", "why", "cowns"):
+        words = [command, "--workers", "2", "--seed", "43", "--depth", "2"]
+        yield f"a depth that isn't counted: {words}", fault_of(full, program.run(words, FULL_BY_0))
+
+
+def of_five_rows(program, name, text, words):
+    """The run is of main, `l`, `r`, and `big` before `mark`, so `a` ends as 1; and the commands that tell of it tell of that run."""
+    record = program.run(["run", *words], text)
+    rows = record.output.count(b"+")
+    yield f"{name}: run", fault_of(done(record.output), record) or (None if rows == 5 else f"it has {rows} rows")
+    yield f"{name}: values", fault_of(done(b"a 1\nb 0\nc 0\n"), program.run_beside(["values"], "--record", record.output, text))
+    yield f"{name}: time", fault_of(program.run(["profile"], record.output), program.run(["time", *words], text))
+    for command in ("why", "cowns"):
+        yield f"{name}: {command}", fault_of(program.run_beside([command], "--record", record.output, text), program.run([command, *words], text))

@@ -103,7 +103,7 @@ renamed_as always_on schedule text bytes file run result asked named path is_ask
 
 -- a run with no file beside it
 pub own_as : (always_on : Type 0) (schedule : Schedule) (text bytes : List ℕ) (result : Result NamedRun Fault) (asked : Option RunFile) → asked ≡ None
-    → MatchResult result (λ run. HasRun (IsOwnRun schedule text) run × IsShort text) (IsOfOwn always_on text)
+    → MatchResult result (λ run. HasRun (IsOwnRun schedule text) run × IsShort text) (IsOfOwn always_on schedule text)
     → MatchResult result (λ run. HasRun (IsNamedRun schedule asked bytes text) run × IsShort text) (IsOfNamedRun always_on schedule asked bytes text)
 own_as always_on schedule text bytes result asked is h =
     subst (λ (o : Option RunFile). MatchResult result (λ run. HasRun (IsNamedRun schedule o bytes text) run × IsShort text)

@@ -1,5 +1,5 @@
 -- A fault that a part of a command passes on.
-use Rattle.std.proofs.Common.{◌≡◌, ◌≢◌, ◌+◌, ℕ, List, Option, Result, Ok, Err, MatchResult, refl, sym, subst}
+use Rattle.std.proofs.Common.{◌≡◌, ◌+◌, ℕ, List, Option, Result, Ok, Err, MatchResult, refl, sym, subst}
 use Rattle.std.specs.Result.{IsErrAnd}
 use Rattle.boc_text.specs.Streams.{ReadsWhole}
 use Rattle.boc_program.specs.declared.limits.TheConstants.{MOST_TEXT}
@@ -13,12 +13,13 @@ use Rattle.boc_program.specs.declared.program.Program.{Program}
 use Rattle.boc_reader.specs.Spells.{Spells}
 use Rattle.boc_workers.specs.declared.fault.RunFault.{RunFault}
 use Rattle.boc_workers.specs.declared.fault.RunFault.TheVariants as runs
-use Rattle.boc_workers.specs.Noting.{CanReachLimit}
+use Rattle.boc_words.specs.declared.schedule.Schedule.{Schedule}
 use Rattle.boc_reader.specs.FaultMeanings.{IsRefusalOf}
 use Rattle.boc_reader.specs.declared.fault.ReadFault.{ReadFault}
 use Rattle.boc_reader.specs.declared.fault.ReadFaultKind.{ReadFaultKind}
 use Rattle.boc_reader.specs.declared.fault.ReadFaultKind.TheVariants as kinds
 use Rattle.boc_commands.specs.Commands.{IsOfRun, IsWrongWith, RefusesNothing, RefusesRun}
+use Rattle.boc_commands.specs.Schedules.{Fails}
 
 -- where a result is a fault, what holds of that fault holds of it
 pub passed_on : {A : Type 0} (Is : A → Type 0) (IsWrong : Fault → Type 0) (result : Result A Fault) (fault : Fault)
@@ -35,15 +36,15 @@ refused_text IsWrong text r memory program is = go r.kind refl
     go kinds.Memory same = memory
     go _ same = program (is, λ other. cc)
 
--- a run by threads is refused for the text that was taken
-pub refused_run : (always_on : Type 0) (result : Result (Unit {0}) Fault) (fault : Fault) (text : List ℕ) (before after : Option (List ℕ))
-    → IsErrAnd result (λ f. f ≡ fault) → ReadsWhole before after text (MOST_TEXT + 1) → IsOfRun always_on text fault
-    → RefusesRun always_on result before after
-refused_run always_on (Ok done) fault text before after h reads is = absurd h
-refused_run always_on (Err f) fault text before after h reads is =
-    subst (λ (x : Fault). RefusesRun {A = Unit {0}} always_on (Err x) before after) (sym h) (go fault is)
+-- a run is refused for the text that was taken
+pub refused_run : (always_on : Type 0) (schedule : Schedule) (result : Result (Unit {0}) Fault) (fault : Fault) (text : List ℕ)
+    (before after : Option (List ℕ)) → IsErrAnd result (λ f. f ≡ fault) → ReadsWhole before after text (MOST_TEXT + 1)
+    → IsOfRun always_on schedule text fault → RefusesRun always_on schedule result before after
+refused_run always_on schedule (Ok done) fault text before after h reads is = absurd h
+refused_run always_on schedule (Err f) fault text before after h reads is =
+    subst (λ (x : Fault). RefusesRun {A = Unit {0}} always_on schedule (Err x) before after) (sym h) (go fault is)
   where
-    go : (x : Fault) → IsOfRun always_on text x → RefusesRun {A = Unit {0}} always_on (Err x) before after
+    go : (x : Fault) → IsOfRun always_on schedule text x → RefusesRun {A = Unit {0}} always_on schedule (Err x) before after
     go (faults.Means w) is = tt
     go _ is = record { input = text; taken = reads; known = is }
 
@@ -54,10 +55,8 @@ refuses_nothing Holds ok want (Ok done) h = ok
 refuses_nothing Holds ok want (Err (faults.Means w)) h = want w
 refuses_nothing Holds ok want (Err _) h = absurd h
 
--- what became of a run of the program that a text spells
-pub refused_course : (always_on : Type 0) (text : List ℕ) (program : Program) (fault : RunFault) → Spells text program → (always_on → fault ≢ runs.Held)
-    → (fault ≡ runs.Behaviours → CanReachLimit program) → IsOfRun always_on text (of_run fault)
-refused_course always_on text program runs.Memory spells held full = tt
-refused_course always_on text program runs.Behaviours spells held full = record { program = program; spells = spells; full = full refl }
-refused_course always_on text program runs.Held spells held full = ((program, spells), λ on. held on refl)
-refused_course always_on text program _ spells held full = (program, spells)
+-- what a run of the program that a text spells fails by
+pub refused_course : (always_on : Type 0) (schedule : Schedule) (text : List ℕ) (program : Program) (fault : RunFault) → Spells text program
+    → Fails always_on program schedule fault → IsOfRun always_on schedule text (of_run fault)
+refused_course always_on schedule text program runs.Memory spells failed = tt
+refused_course always_on schedule text program _ spells failed = record { program = program; spells = spells; fails = failed }

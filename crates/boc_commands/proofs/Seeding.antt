@@ -1,4 +1,4 @@
--- Where a draw runs out of room.
+-- What a run fails by.
 use Rattle.std.proofs.Common.{◌≡◌, ℕ, List, [], ◌∷◌, refl, sym, subst}
 use Rattle.boc_program.specs.declared.program.Program.{Program}
 use Rattle.boc_runs.specs.machine.Schedules.{Reaches, Here, Then}
@@ -12,14 +12,14 @@ use Rattle.boc_draws.specs.declared.drawing.Drawn.{Drawn}
 use Rattle.boc_draws.specs.declared.way.Way.{Way}
 use Rattle.boc_draws.specs.declared.way.Way.TheVariants.{Uniform}
 use Rattle.boc_commands.specs.Promises.{IsRunOf}
-use Rattle.boc_commands.specs.Schedules.{IsDrawnBy, IsScheduled, TellsOf}
+use Rattle.boc_commands.specs.Schedules.{IsDrawFault, IsDrawnBy, IsScheduled, counting, drawing}
 use Rattle.boc_runs.specs.Records.{Recorded}
 use Rattle.boc_words.specs.declared.schedule.Schedule.{Schedule}
 use Rattle.boc_words.specs.declared.schedule.Schedule.TheVariants.{Drawn as Draws}
 use Rattle.boc_draws.specs.Ways.{AnswersWay, IsWay}
-use Rattle.boc_draws.specs.declared.fault.DrawFault.{DrawFault}
 use Rattle.boc_draws.specs.declared.fault.DrawFault.TheVariants as faults
-use Rattle.boc_draws.proofs.OneDraw.{are_turns}
+use Rattle.boc_draws.proofs.OneDraw.{are_turns, drawn_or_full}
+use Rattle.boc_draws.proofs.OneWay.{one_way, way_or_full}
 use Rattle.boc_workers.specs.Noting.{CanReachLimit}
 use Rattle.std.specs.Prelude.{IfErr, Ok, Err, Option, Some, None, Result}
 use Rattle.std.specs.Result.{IsErrAnd}
@@ -62,21 +62,33 @@ drawn_by p workers seed depth way drawn is_way is = record {
   same = refl;
 }
 
--- what a draw's fault says
-pub draw_out : (p : Program) (workers : ℕ) (way : Way) (seed : ℕ) (fault : DrawFault) → IsDraw p workers way seed (Err fault) → TellsOf fault p
-draw_out p workers way seed faults.Behaviours out = runs_out p workers way seed out
-draw_out p workers way seed faults.Memory out = tt
+-- and so does the one that counts the steps of a way
+way_out : (p : Program) (workers : ℕ) (depth : Option ℕ) → AnswersWay p workers depth (Err faults.Behaviours) → CanReachLimit p
+way_out p workers None out = absurd out
+way_out p workers (Some depth) out = runs_out p workers Uniform 0 out
 
--- and that of the one that counts the steps of a way
-pub way_out : (p : Program) (workers : ℕ) (depth : Option ℕ) (fault : DrawFault) → AnswersWay p workers depth (Err fault) → TellsOf fault p
-way_out p workers None fault out = absurd out
-way_out p workers (Some depth) fault out = draw_out p workers Uniform 0 fault out
+-- what is drawn ends for want of room only of a program that can come to the limit
+pub full_draw : (p : Program) (workers seed : ℕ) (depth : Option ℕ) → IsDrawFault p workers seed depth faults.Behaviours → CanReachLimit p
+full_draw p workers seed depth (counting out) = way_out p workers depth out
+full_draw p workers seed depth (drawing way is_way out) = runs_out p workers way seed out
 
--- what is said of a fault is said of it where it is passed on
-pub passed_fault : {A : Type 0} (p : Program) (result : Result A DrawFault) (fault : DrawFault) → IsErrAnd result (λ f. f ≡ fault) → TellsOf fault p
-    → IfErr result (λ f. TellsOf f p)
-passed_fault p (Ok done) fault h tells = absurd h
-passed_fault p (Err f) fault h tells = subst (λ (x : DrawFault). TellsOf x p) (sym h) tells
+-- and not where there is a run that is drawn
+pub run_or_full : (p : Program) (workers seed : ℕ) (depth : Option ℕ) (r : Recorded) → IsDrawnBy p workers seed depth r
+    → IsDrawFault p workers seed depth faults.Behaviours → ⊥
+run_or_full p workers seed depth r by (counting out) = way_or_full p workers depth by.way by.is_way out
+run_or_full p workers seed depth r by (drawing way is_way out) =
+    let same : by.way ≡ way = one_way p workers depth by.way way by.is_way is_way in
+    drawn_or_full p workers way seed by.drawn (subst (λ (w : Way). IsDraw p workers w seed (Ok by.drawn)) same by.is) out
+
+-- each can end for want of memory
+pub no_memory : (p : Program) (workers seed : ℕ) (depth : Option ℕ) → IsDrawFault p workers seed depth faults.Memory
+no_memory p workers seed None = drawing Uniform refl tt
+no_memory p workers seed (Some depth) = counting tt
+
+-- what holds of a fault holds of it where it is passed on
+pub passed_fault : {A F : Type 0} (Is : F → Type 0) (result : Result A F) (fault : F) → IsErrAnd result (λ f. f ≡ fault) → Is fault → IfErr result Is
+passed_fault Is (Ok done) fault h is = absurd h
+passed_fault Is (Err f) fault h is = subst Is (sym h) is
 
 -- the run that a schedule of a seed draws
 pub scheduled_as : (p : Program) (schedule : Schedule) (workers seed : ℕ) (depth : Option ℕ) (recorded : Recorded) → schedule ≡ Draws workers seed depth

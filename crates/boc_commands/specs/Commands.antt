@@ -19,8 +19,9 @@ use Rattle.boc_record.specs.declared.verdict.RecordFaultKind.TheVariants as reco
 use Rattle.boc_reader.specs.Spells.{Spells}
 use Rattle.boc_record.specs.RecordTexts.{IsFirstFault}
 use Rattle.boc_runs.specs.OwnOrder.{HasTooMany}
-use Rattle.boc_workers.specs.Noting.{CanReachLimit}
 use Rattle.boc_text.specs.Streams.{StopsAt, ReadsWhole}
+use Rattle.boc_words.specs.declared.schedule.Schedule.{Schedule}
+use Rattle.boc_commands.specs.Schedules.{FailsText}
 
 -- ---- what goes out
 
@@ -104,28 +105,20 @@ RefusesProgram (Err fault) before after = IsWant fault
 abbrev pub IsProgram : List ℕ → Type 0
 IsProgram text = (program : Program) × Spells text program
 
--- the text spells a program that can come to as many behaviours as there may be, with one more due
-pub record CanRunOver (text : List ℕ) : Type 0 where
-  pub program : Program
-  pub spells : Spells text program
-  pub full : CanReachLimit program
+-- a fault of a run by this schedule: what is wrong with the program text and where, or what the run of its program fails by; want of memory is none of the
+-- run
+abbrev pub IsOfRun : Type 0 → Schedule → List ℕ → Fault → Type 0
+IsOfRun always_on schedule text (faults.Input (inputs.Program r)) = IsWrongWith text r
+IsOfRun always_on schedule text (faults.Run runs.Memory) = ⊥
+IsOfRun always_on schedule text (faults.Run r) = FailsText always_on schedule text r
+IsOfRun always_on schedule text (faults.Means wants.Memory) = Unit {0}
+IsOfRun always_on schedule text _ = ⊥
 
--- a fault of a run by threads: what is wrong with the program text and where, or what became of the run of its program; a gate that is always on
--- holds nobody
-abbrev pub IsOfRun : Type 0 → List ℕ → Fault → Type 0
-IsOfRun always_on text (faults.Input (inputs.Program r)) = IsWrongWith text r
-IsOfRun always_on text (faults.Run runs.Behaviours) = CanRunOver text
-IsOfRun always_on text (faults.Run runs.Held) = IsProgram text × (always_on → ⊥)
-IsOfRun always_on text (faults.Run runs.Memory) = ⊥
-IsOfRun always_on text (faults.Run r) = IsProgram text
-IsOfRun always_on text (faults.Means wants.Memory) = Unit {0}
-IsOfRun always_on text _ = ⊥
-
--- a run by threads is refused for what was taken of the source
-abbrev pub RefusesRun : {A : Type 0} → Type 0 → Result A Fault → Option (List ℕ) → Option (List ℕ) → Type 0
-RefusesRun always_on (Ok done) before after = Unit {0}
-RefusesRun always_on (Err (faults.Means w)) before after = Unit {0}
-RefusesRun always_on (Err fault) before after = TakesText (λ text. IsOfRun always_on text fault) before after
+-- a run by this schedule is refused for what was taken of the source
+abbrev pub RefusesRun : {A : Type 0} → Type 0 → Schedule → Result A Fault → Option (List ℕ) → Option (List ℕ) → Type 0
+RefusesRun always_on schedule (Ok done) before after = Unit {0}
+RefusesRun always_on schedule (Err (faults.Means w)) before after = Unit {0}
+RefusesRun always_on schedule (Err fault) before after = TakesText (λ text. IsOfRun always_on schedule text fault) before after
 
 -- the kind of a refusal is the first fault of the text, where the source told it; want of memory or of a device is no refusal
 abbrev pub IsRecordRefusal : RecordFault → RecordFaultKind → Option (List ℕ) → Type 0

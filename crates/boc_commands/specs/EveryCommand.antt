@@ -82,9 +82,10 @@ RefusesCommand always_on (commands.Values None quiet) beside result before after
 RefusesCommand always_on (commands.Values (Some path) quiet) beside result before after = RefusesValuesAfter beside result before after
 RefusesCommand always_on (commands.Check None) beside result before after = RefusesRecord result before
 RefusesCommand always_on (commands.Check (Some path)) beside result before after = RefusesAgainst beside result before
-RefusesCommand always_on (commands.Run schedule quiet) beside result before after = RefusesRun always_on result before after
+RefusesCommand always_on (commands.Run schedule quiet) beside result before after = RefusesRun always_on schedule result before after
 RefusesCommand always_on (commands.Profile plans sharing quiet) beside result before after = RefusesRecord result before
-RefusesCommand always_on (commands.Time schedule plans sharing quiet) beside result before after = RefusesRun always_on result before after
+RefusesCommand always_on (commands.Time schedule plans sharing quiet) beside result before after =
+    RefusesRun always_on schedule result before after
 RefusesCommand always_on (commands.WhatIf cowns edits plans sharing names short) beside result before after =
     RefusesWhatIf names beside cowns.items edits.items result before
 RefusesCommand always_on (commands.Curve most sharing) beside result before after = RefusesRecord result before

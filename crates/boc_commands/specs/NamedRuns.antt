@@ -158,9 +158,10 @@ IsOfRecord text (faults.Input (inputs.Record r)) = IsRecordRefusal r r.kind (Som
 IsOfRecord text (faults.Means wants.Memory) = Unit {0}
 IsOfRecord text _ = ⊥
 
--- a fault of the text of a record, where it begins as that of one does, and else of a run of the program that it spells
-abbrev pub IsOfOwn : Type 0 → List ℕ → Fault → Type 0
-IsOfOwn always_on text fault = (BeginsRecord text × IsOfRecord text fault) ⊎ ((BeginsRecord text → ⊥) × IsOfRun always_on text fault)
+-- a fault of the text of a record, where it begins as that of one does, and else of a run of the program that it spells, by this schedule
+abbrev pub IsOfOwn : Type 0 → Schedule → List ℕ → Fault → Type 0
+IsOfOwn always_on schedule text fault =
+    (BeginsRecord text × IsOfRecord text fault) ⊎ ((BeginsRecord text → ⊥) × IsOfRun always_on schedule text fault)
 
 -- a fault of a program text, of a file that should be the record of a run of it, or of that record
 abbrev pub IsOfGiven : List ℕ → List ℕ → Fault → Type 0
@@ -182,11 +183,11 @@ pub record IsOfNames (Named : Recorded → Names → Type 0) (file : List ℕ) (
 abbrev pub IsOfRenamed : Type 0 → Schedule → List ℕ → List ℕ → Fault → Type 0
 IsOfRenamed always_on schedule file text (faults.Input (inputs.Beside (files.Names r))) =
     IsOfNames (λ recorded base. IsOwnRun schedule text recorded base) file r
-IsOfRenamed always_on schedule file text fault = IsOfOwn always_on text fault
+IsOfRenamed always_on schedule file text fault = IsOfOwn always_on schedule text fault
 
 -- a fault of an input and of the file beside it, if there is one
 abbrev pub IsOfNamedRun : Type 0 → Schedule → Option RunFile → List ℕ → List ℕ → Fault → Type 0
-IsOfNamedRun always_on schedule None file text fault = IsOfOwn always_on text fault
+IsOfNamedRun always_on schedule None file text fault = IsOfOwn always_on schedule text fault
 IsOfNamedRun always_on schedule (Some (run_files.Record path)) file text fault = IsOfGiven text file fault
 IsOfNamedRun always_on schedule (Some (run_files.Names path)) file text fault = IsOfRenamed always_on schedule file text fault
 

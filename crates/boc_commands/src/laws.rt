@@ -14,7 +14,9 @@ ghost use Rattle.boc_runs.specs.Rows.{IsRows};
 ghost use Rattle.boc_runs.specs.Run.{config_of};
 ghost use Rattle.boc_outcomes.specs.declared.tally.Outcome.{Outcome};
 ghost use Rattle.boc_words.specs.declared.schedule.Schedule.TheVariants.{Drawn as Draws};
-ghost use Rattle.boc_commands.specs.Schedules.{IsDrawnBy, IsScheduledText};
+ghost use Rattle.boc_draws.specs.declared.fault.DrawFault.TheVariants.{Behaviours};
+ghost use Rattle.boc_workers.specs.Noting.{CanReachLimit};
+ghost use Rattle.boc_commands.specs.Schedules.{IsDrawFault, IsDrawnBy, IsScheduledText};
 ghost use Rattle.boc_plans.specs.Seen.{seen};
 ghost use Rattle.boc_reader.specs.Spells.{Spells};
 ghost use Rattle.boc_commands.specs.Answers.{IsReport, IsValuesAnswer, IsCheckAnswer, IsProfileAnswer, IsCurveAnswer, IsSweepAnswer};
@@ -82,6 +84,14 @@ pub fn seeds_bring_runs_back()
     ensures each { (draws : AskedDraws) (input output : List ℕ) (answer : IsOutcomesAnswer draws input output) (i : ℕ) (o : Outcome)
         → slice_get answer.outcomes.all.items i ≡ Some o → (r : Recorded) → IsScheduledText input (Draws draws.workers o.seed draws.depth) r
         → (config_of answer.program r.events).values ≡ o.values.items }
+{}
+
+/// Where there is a run that a seed draws, neither that draw nor the one that counts the steps of its depth has too many behaviours; and where one of them has,
+/// the program can come to as many as there may be, with one more due.
+pub fn draws_are_runs_or_refused()
+    ensures either { (p : Program) (workers seed : ℕ) (depth : Option ℕ) (r : Recorded) → IsDrawnBy p workers seed depth r
+        → IsDrawFault p workers seed depth Behaviours → ⊥ }
+    ensures full { (p : Program) (workers seed : ℕ) (depth : Option ℕ) → IsDrawFault p workers seed depth Behaviours → CanReachLimit p }
 {}
 
 /// A text spells one program at most.

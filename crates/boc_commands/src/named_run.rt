@@ -111,7 +111,7 @@ fn own_run<R: Threads + Wait + Sync, G: Gate>(
     schedule: Schedule,
     gate: &G,
 ) -> Result<NamedRun, Fault>
-    ensures { MatchResult result (λ run. HasRun (IsOwnRun schedule text.items) run × IsShort text.items) (IsOfOwn G.always_on text.items) }
+    ensures { MatchResult result (λ run. HasRun (IsOwnRun schedule text.items) run × IsShort text.items) (IsOfOwn G.always_on schedule text.items) }
 {
     if text.starts_with(RECORD_WORD) {
         record_run(alloc, text)
@@ -159,7 +159,7 @@ fn program_run<R: Threads + Wait + Sync, G: Gate>(
 ) -> Result<NamedRun, Fault>
     ensures { MatchResult result
         (λ named. HasRun (IsScheduledRun schedule text.now) named × (length text.now ≤ MOST_TEXT))
-        (IsOfRun G.always_on text.now) }
+        (IsOfRun G.always_on schedule text.now) }
 {
     let (program, defs) = read_listed(alloc, text)?;
     let record = recorded(rt, alloc, &program, schedule, gate)?;

@@ -1,15 +1,13 @@
 // The command `run`.
 
-ghost use Rattle.std.specs.Prelude.{◌≡◌, ◌≢◌, ◌<◌, ◌≤◌, length, IfErr, IfOk, MatchResult};
+ghost use Rattle.std.specs.Prelude.{◌≡◌, ◌<◌, ◌≤◌, length, IfErr, IfOk, MatchResult};
 ghost use Rattle.boc_program.specs.declared.limits.TheConstants.{MOST_RUNNERS, MOST_TEXT};
 ghost use Rattle.boc_runs.specs.Run.{config_of};
 ghost use Rattle.boc_workers.specs.Telling.{AreRight};
 ghost use Rattle.boc_commands.specs.Commands.{AnswersInput, Leaves, CountsSource, CountsSink, IsOfRun, RefusesRun};
 ghost use Rattle.boc_commands.specs.Notes.{AreRunNotes, AreWanted, TellsRun};
 ghost use Rattle.boc_commands.specs.Promises.{IsRunOf, IsRunOfText};
-ghost use Rattle.boc_commands.specs.Schedules.{IsDrawnBy, IsScheduled, IsScheduledText, TellsOf};
-ghost use Rattle.boc_workers.specs.Noting.{CanReachLimit};
-ghost use Rattle.boc_workers.specs.declared.fault.RunFault.TheVariants as faults;
+ghost use Rattle.boc_commands.specs.Schedules.{Fails, FailsDrawn, IsDrawFault, IsDrawnBy, IsScheduled, IsScheduledText};
 
 use crate::fault::Fault;
 use crate::notes::notes_on_run;
@@ -31,9 +29,10 @@ use std::thread::Threads;
 /// Reads a program, runs it as the schedule says, by threads or as a seed draws, and writes the record of the run. The notes are put in place of others, unless
 /// quiet is wanted.
 ///
-/// A program text is refused only where it spells no program, for what is wrong with it and where, and a run for having too
-/// many behaviours only where the program can come to as many as there may be. A gate that is always on holds nobody. Nothing
-/// is written unless the whole answer stands. After a failing write a beginning of it went out.
+/// A program text is refused only where it spells no program, for what is wrong with it and where. A run by threads is refused for having too many behaviours
+/// only where the program can come to as many as there may be, with one more due; a gate that is always on holds nobody. A run that a seed draws is refused
+/// only for having too many behaviours, and only where that very draw has, by these workers and at this depth, or the one by which the steps of the depth are
+/// counted. Nothing is written unless the whole answer stands. After a failing write a beginning of it went out.
 pub fn run_cmd<R: Threads + Wait + Sync, G: Gate, S: Source, W: Sink>(
     rt: &R,
     alloc: Global,
@@ -48,7 +47,7 @@ pub fn run_cmd<R: Threads + Wait + Sync, G: Gate, S: Source, W: Sink>(
     requires sink { W.failures sink.old < u64.MAX }
     ensures written { Leaves (AnswersInput (TellsRun schedule quiet notes.new.items) (S.remaining source.old) (S.remaining source.new)) result
         (W.written sink.old) (W.written sink.new) }
-    ensures refused { RefusesRun G.always_on result (S.remaining source.old) (S.remaining source.new) }
+    ensures refused { RefusesRun G.always_on schedule result (S.remaining source.old) (S.remaining source.new) }
     ensures source { CountsSource result (S.failures source.old) (S.failures source.new) }
     ensures sink { CountsSink result (W.failures sink.old) (W.failures sink.new) }
 {
@@ -78,7 +77,7 @@ pub(crate) fn noted_run<R: Threads + Wait + Sync, G: Gate>(
     ensures { MatchResult result
         (λ noted. IsRunOfText text.now noted.record × IsScheduledText text.now schedule noted.record
         × AreWanted quiet (AreRunNotes text.now noted.record) noted.notes.items × (length text.now ≤ MOST_TEXT))
-        (IsOfRun G.always_on text.now) }
+        (IsOfRun G.always_on schedule text.now) }
 {
     let (program, defs) = read_listed(alloc, text)?;
     let run = made_run(rt, alloc, &program, schedule, gate)?;
@@ -107,8 +106,7 @@ pub(crate) fn made_run<R: Threads + Wait + Sync, G: Gate>(
     ensures run { IfOk result (λ r. IsRunOf program.now r.record) }
     ensures scheduled { IfOk result (λ r. IsScheduled program.now schedule r.record) }
     ensures told { IfOk result (λ r. AreRight (config_of program.now r.record.events).members r.told.items) }
-    ensures held { IfErr result (λ fault. G.always_on → fault ≢ faults.Held) }
-    ensures behaviours { IfErr result (λ fault. fault ≡ faults.Behaviours → CanReachLimit program.now) }
+    ensures failed { IfErr result (Fails G.always_on program.now schedule) }
 {
     match schedule {
         Schedule::Threads(runners) => {
@@ -142,8 +140,7 @@ pub(crate) fn recorded<R: Threads + Wait + Sync, G: Gate>(
 ) -> Result<Record, RunFault>
     ensures run { IfOk result (λ r. IsRunOf program.now r) }
     ensures scheduled { IfOk result (λ r. IsScheduled program.now schedule r) }
-    ensures held { IfErr result (λ fault. G.always_on → fault ≢ faults.Held) }
-    ensures behaviours { IfErr result (λ fault. fault ≡ faults.Behaviours → CanReachLimit program.now) }
+    ensures failed { IfErr result (Fails G.always_on program.now schedule) }
 {
     let run = made_run(rt, alloc, program, schedule, gate)?;
     Ok(run.record)
@@ -159,8 +156,7 @@ fn drawn(
 ) -> Result<Record, RunFault>
     ensures run { IfOk result (λ r. IsRunOf program.now r) }
     ensures drawn { IfOk result (λ r. IsDrawnBy program.now workers seed depth r) }
-    ensures held { IfErr result (λ fault. fault ≢ faults.Held) }
-    ensures behaviours { IfErr result (λ fault. fault ≡ faults.Behaviours → CanReachLimit program.now) }
+    ensures failed { IfErr result (FailsDrawn program.now workers seed depth) }
 {
     match draw_at_depth(alloc, program, workers.number(), seed, depth) {
         Ok(record) => Ok(record),
@@ -180,7 +176,7 @@ fn draw_at_depth(
     requires { (1 ≤ workers) × (workers ≤ MOST_RUNNERS) }
     ensures run { IfOk result (λ r. IsRunOf program.now r) }
     ensures drawn { IfOk result (λ r. IsDrawnBy program.now workers seed depth r) }
-    ensures refused { IfErr result (λ fault. TellsOf fault program.now) }
+    ensures failed { IfErr result (IsDrawFault program.now workers seed depth) }
 {
     let compiled = CompiledProgram::new(alloc, program)?;
     let way = way_of(alloc, &compiled, workers, depth)?;

@@ -44,7 +44,7 @@ pub fn time_cmd<R: Threads + Wait + Sync, G: Gate, S: Source, W: Sink>(
     requires sink { W.failures sink.old < u64.MAX }
     ensures written { Leaves (AnswersInput (TellsTime schedule sharing plans quiet notes.new.items) (S.remaining source.old) (S.remaining source.new)) result
         (W.written sink.old) (W.written sink.new) }
-    ensures refused { RefusesRun G.always_on result (S.remaining source.old) (S.remaining source.new) }
+    ensures refused { RefusesRun G.always_on schedule result (S.remaining source.old) (S.remaining source.new) }
     ensures source { CountsSource result (S.failures source.old) (S.failures source.new) }
     ensures sink { CountsSink result (W.failures sink.old) (W.failures sink.new) }
 {

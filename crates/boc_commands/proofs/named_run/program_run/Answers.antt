@@ -12,9 +12,9 @@ use Rattle.boc_commands.proofs.named_run.program_run.Goals as goal
 
 pub returns-in_err-record : goal.returns-in_err-record
 returns-in_err-record g c =
-    passed_on _ (IsOfRun g.G.Gate.always_on c.args.text.now) _ _ c.from_residual-in_err-record.ensures.1
-    (refused_course g.G.Gate.always_on c.args.text.now c.in_ok-program.program c.in_err-record.field-0.0 c.in_ok-program.ensures.0
-    c.in_err-record.ensures.held c.in_err-record.ensures.behaviours)
+    passed_on _ (IsOfRun g.G.Gate.always_on c.args.schedule c.args.text.now) _ _ c.from_residual-in_err-record.ensures.1
+    (refused_course g.G.Gate.always_on c.args.schedule c.args.text.now c.in_ok-program.program c.in_err-record.field-0.0 c.in_ok-program.ensures.0
+    c.in_err-record.ensures.failed)
 
 pub returns : goal.returns
 returns g c =

@@ -1,20 +1,30 @@
 use Rattle.std.proofs.Common.{Ok, Err, refl, subst}
 use Rattle.boc_program.specs.declared.program.Program.{Program}
+use Rattle.boc_draws.specs.declared.fault.DrawFault.TheVariants as faults
 use Rattle.boc_draws.specs.Draws.{IsDraw}
 use Rattle.boc_draws.specs.Ways.{AnswersWay}
-use Rattle.boc_commands.proofs.Seeding.{draw_out, passed_fault, way_out}
+use Rattle.boc_commands.specs.Schedules.{IsDrawFault, counting, drawing}
+use Rattle.boc_commands.proofs.Seeding.{no_memory, passed_fault}
 use Rattle.boc_commands.proofs.run.draw_at_depth.Goals as goal
 
-pub returns-in_err-way-clause-refused : goal.returns-in_err-way-clause-refused
-returns-in_err-way-clause-refused c =
-    passed_fault c.args.program.now c.from_residual-in_err-way.result c.in_err-way.field-0.0 c.from_residual-in_err-way.ensures.1
-    (way_out c.args.program.now c.args.workers c.args.depth c.in_err-way.field-0.0 (subst
-    (λ (p : Program). AnswersWay p c.args.workers c.args.depth (Err c.in_err-way.field-0.0)) c.in_ok-compiled.ensures c.in_err-way.ensures))
+pub returns-in_err-compiled-clause-failed : goal.returns-in_err-compiled-clause-failed
+returns-in_err-compiled-clause-failed c =
+    passed_fault (IsDrawFault c.args.program.now c.args.workers c.args.seed c.args.depth) c.from_residual.result faults.Memory c.from_residual.ensures.1
+    (no_memory c.args.program.now c.args.workers c.args.seed c.args.depth)
 
-pub returns-in_err-drawn-clause-refused : goal.returns-in_err-drawn-clause-refused
-returns-in_err-drawn-clause-refused c =
-    passed_fault c.args.program.now c.from_residual-in_err-drawn.result c.in_err-drawn.field-0.0 c.from_residual-in_err-drawn.ensures.1
-    (draw_out c.args.program.now c.args.workers c.in_ok-way.way c.args.seed c.in_err-drawn.field-0.0
+pub returns-in_err-way-clause-failed : goal.returns-in_err-way-clause-failed
+returns-in_err-way-clause-failed c =
+    passed_fault (IsDrawFault c.args.program.now c.args.workers c.args.seed c.args.depth) c.from_residual-in_err-way.result c.in_err-way.field-0.0
+    c.from_residual-in_err-way.ensures.1
+    (counting (subst (λ (p : Program). AnswersWay p c.args.workers c.args.depth (Err c.in_err-way.field-0.0)) c.in_ok-compiled.ensures
+    c.in_err-way.ensures))
+
+pub returns-in_err-drawn-clause-failed : goal.returns-in_err-drawn-clause-failed
+returns-in_err-drawn-clause-failed c =
+    passed_fault (IsDrawFault c.args.program.now c.args.workers c.args.seed c.args.depth) c.from_residual-in_err-drawn.result c.in_err-drawn.field-0.0
+    c.from_residual-in_err-drawn.ensures.1
+    (drawing c.in_ok-way.way
+    (subst (λ (p : Program). AnswersWay p c.args.workers c.args.depth (Ok c.in_ok-way.way)) c.in_ok-compiled.ensures c.in_ok-way.ensures)
     (subst (λ (p : Program). IsDraw p c.args.workers c.in_ok-way.way c.args.seed (Err c.in_err-drawn.field-0.0)) c.in_ok-compiled.ensures
     c.in_err-drawn.ensures))
 

@@ -7,9 +7,9 @@ use Rattle.boc_commands.proofs.run.noted_run.Goals as goal
 
 pub returns-in_err-run : goal.returns-in_err-run
 returns-in_err-run g c =
-    passed_on _ (IsOfRun g.G.Gate.always_on c.args.text.now) _ _ c.from_residual-in_err-run.ensures.1
-    (refused_course g.G.Gate.always_on c.args.text.now c.in_ok-program.program c.in_err-run.field-0.0 c.in_ok-program.ensures.0 c.in_err-run.ensures.held
-    c.in_err-run.ensures.behaviours)
+    passed_on _ (IsOfRun g.G.Gate.always_on c.args.schedule c.args.text.now) _ _ c.from_residual-in_err-run.ensures.1
+    (refused_course g.G.Gate.always_on c.args.schedule c.args.text.now c.in_ok-program.program c.in_err-run.field-0.0 c.in_ok-program.ensures.0
+    c.in_err-run.ensures.failed)
 
 pub returns : goal.returns
 returns g c =

@@ -12,8 +12,8 @@ use Rattle.boc_commands.proofs.run.run_cmd.Goals as goal
 
 pub returns-in_err-noted-clause-refused : goal.returns-in_err-noted-clause-refused
 returns-in_err-noted-clause-refused g c =
-    refused_run _ _ _ c.in_ok-text.text.items _ _ c.from_residual-in_err-noted.ensures.1 c.in_ok-text.ensures.text
-    (subst (λ (t : List ℕ). IsOfRun g.G.Gate.always_on t c.in_err-noted.field-0.0) c.deref.ensures.value c.in_err-noted.ensures)
+    refused_run _ _ _ _ c.in_ok-text.text.items _ _ c.from_residual-in_err-noted.ensures.1 c.in_ok-text.ensures.text
+    (subst (λ (t : List ℕ). IsOfRun g.G.Gate.always_on c.args.schedule t c.in_err-noted.field-0.0) c.deref.ensures.value c.in_err-noted.ensures)
 
 -- what was handed over to be written
 written : (schedule : Schedule) (quiet : Bool) (notes seen : List ℕ) (r : Recorded) → IsRunOfText seen r → IsScheduledText seen schedule r

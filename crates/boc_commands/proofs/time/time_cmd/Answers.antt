@@ -10,8 +10,8 @@ use Rattle.boc_commands.proofs.time.time_cmd.Goals as goal
 
 pub returns-in_err-noted-clause-refused : goal.returns-in_err-noted-clause-refused
 returns-in_err-noted-clause-refused g c =
-    refused_run _ _ _ c.in_ok-text.text.items _ _ c.from_residual-in_err-noted.ensures.1 c.in_ok-text.ensures.text
-    (subst (λ (t : List ℕ). IsOfRun g.G.Gate.always_on t c.in_err-noted.field-0.0) c.deref.ensures.value c.in_err-noted.ensures)
+    refused_run _ _ _ _ c.in_ok-text.text.items _ _ c.from_residual-in_err-noted.ensures.1 c.in_ok-text.ensures.text
+    (subst (λ (t : List ℕ). IsOfRun g.G.Gate.always_on c.args.schedule t c.in_err-noted.field-0.0) c.deref.ensures.value c.in_err-noted.ensures)
 
 pub returns-clause-written : goal.returns-clause-written
 returns-clause-written g c =
@@ -32,7 +32,7 @@ returns-clause-written g c =
 pub returns-clause-refused : goal.returns-clause-refused
 returns-clause-refused g c =
     refuses_nothing
-    (λ r. RefusesRun g.G.Gate.always_on r (g.S.Source.remaining c.args.source.now) (g.S.Source.remaining c.read_all.new.source)) tt (λ w. tt)
+    (λ r. RefusesRun g.G.Gate.always_on c.args.schedule r (g.S.Source.remaining c.args.source.now) (g.S.Source.remaining c.read_all.new.source)) tt (λ w. tt)
     c.true_report.result c.true_report.ensures.refused
 
 pub returns-clause-source : goal.returns-clause-source

@@ -16,9 +16,10 @@ sorted-requires-clause-few_wrote g c = counts_few (wrote_cown c.args.rows.now) (
     c.in_ok-columns.ensures.that_wrote (rows_few c.args.rows.now c.args.sharing (rw c.new-seen.ensures.same at c.new-seen.ensures.shape))
 
 pub busiest_of-requires-clause-low : goal.busiest_of-requires-clause-low
-busiest_of-requires-clause-low g c = until_low c.new-seen.result c.in_ok-alone.alone.starts.items c.in_ok-columns.columns.held.items
+busiest_of-requires-clause-low g c =
+    rw (c.deref.ensures.value, c.deref-2.ensures.value) (until_low c.new-seen.result c.in_ok-alone.alone.starts.items c.in_ok-columns.columns.held.items
     c.in_ok-columns.columns.from.items c.in_ok-columns.ensures.for_ticks c.in_ok-columns.ensures.first c.new-seen.ensures.shape c.in_ok-alone.ensures.low
-    (c.in_ok-alone.ensures.is.earliest.keeps.whole ∙ length-bare c.new-seen.result)
+    (c.in_ok-alone.ensures.is.earliest.keeps.whole ∙ length-bare c.new-seen.result))
 
 pub returns-clause-hot : goal.returns-clause-hot
 returns-clause-hot g c =
@@ -35,7 +36,7 @@ returns-clause-hot g c =
     (rw c.new-seen.ensures.same at c.in_ok-alone.ensures.is)
     (rw c.new-seen.ensures.same at (busiest_is c.new-seen.result c.in_ok-alone.alone.starts.items c.in_ok-columns.columns.held.items
     c.in_ok-columns.columns.from.items c.in_ok-columns.ensures.for_ticks c.in_ok-columns.ensures.first c.args.cowns c.busiest_of.result c.requires
-    c.busiest_of.ensures)) c.in_ok-shared_span.ensures refl
+    (rw (c.deref.ensures.value, c.deref-2.ensures.value) at c.busiest_of.ensures))) c.in_ok-shared_span.ensures refl
 
 pub returns-clause-some : goal.returns-clause-some
 returns-clause-some g c = span_some c.new-seen.result c.new-seen.ensures.shape c.in_ok-profile.profile.starts.items c.in_ok-profile.profile.span

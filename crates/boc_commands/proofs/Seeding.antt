@@ -62,7 +62,7 @@ drawn_by p workers seed depth way drawn is_way is = record {
   same = refl;
 }
 
--- and so does the one that counts the steps of a way
+-- a draw that counts the steps of a way comes there too, where it runs out of room
 way_out : (p : Program) (workers : ℕ) (depth : Option ℕ) → AnswersWay p workers depth (Err faults.Behaviours) → CanReachLimit p
 way_out p workers None out = absurd out
 way_out p workers (Some depth) out = runs_out p workers Uniform 0 out

@@ -97,7 +97,7 @@ const WHY_LINES: &str =
   chain by def     how many of the span's ticks go through the behaviours of a def, and through each kind of link
   candidates       the span if one thing alone were changed, best first: a def's behaviours at half their ticks, those they spawn so much
                    sooner; a cown, or all of an array, that orders nobody; a def's behaviours that spawn one tick after the other
-  no order of ..   whatever order they get their cowns in, these behaviours end no sooner
+  lower bound ..   with the ticks that they took in this run, no order of these behaviours ends sooner
 Of a program names are those of its text; of a record each row and each cown has its number. Ticks are what a body's statements cost, and no
 time that passes. Four or more rows of one def that follow each other stand in one line, unless --all is given; the other lists end after 20
 lines. Cowns of an array that follow each other in a row may stand as a range: acct[0..5] are those from 0 to 5.
@@ -119,7 +119,7 @@ that are held longest:
   without          the span if it ordered nobody; where that is no less than the span, to free it alone wins nothing: it orders no rows of the
                    chain, or others order the same rows, or another chain is as long: ask
                    `boc run P | boc whatif --program P --short --without A --without B`
-Below stand the span, what it would be if no cown ordered anybody, and how long the busiest cown is held; and a verdict:
+Below stand the span, what it would be if no cown ordered anybody, and how long the busiest cown is held; a verdict, and a lower bound for any order:
   spawns   the spawns alone need at least 75 of 100 ticks of the span, so with the ticks that the rows took in this run other orders of cowns
            save a quarter at most: spawn earlier, or do less; once rows are spawned earlier, a cown that is held for long may hold back
   load     or else one cown is held for at least 75 of 100 ticks of the span: split it, or shorten what holds it. Or it is held for fewer, but

@@ -87,6 +87,7 @@ impl<'a, 'g, L: Ledger, G: Gate> Shared<'a, 'g, L, G> {
 
     /// One turn of a worker, unless a fault is noted. First the row whose end by a fault it has in hand, if it has one, is told of beside others. Where the
     /// call is refused, the fault is noted.
+    #[tactic(auto, using(crate::proofs::Reached::reached_on, crate::proofs::Reached::one_more_fits, crate::proofs::Telling::right_on))]
     pub fn turn(&mut self, worker: &mut Worker<'a>, made: &mut Made<L>) -> Option<Turn>
         ensures works { IfSome result (λ t. Works self.old.dispatcher worker.old.hand t self.new.dispatcher worker.new.hand) }
         ensures number { worker.new.number ≡ worker.old.number }

@@ -1,27 +1,7 @@
-use Rattle.std.proofs.Common.{arith}
-use Rattle.boc_workers.proofs.Reached.{reached_on, one_more_fits}
 use Rattle.boc_workers.proofs.Telling.{right_on}
 use Rattle.boc_workers.proofs.shared.Shared.turn.Goals as goal
-
-pub invariant_of-self-in-Moved-clause-reached : goal.invariant_of-self-in-Moved-clause-reached
-invariant_of-self-in-Moved-clause-reached g c =
-    reached_on c.args.self.now.dispatcher c.turn-turn.new.core c.args.worker.now.hand c.turn-turn.new.self.hand c.turn-turn.result c.turn-turn.ensures.works
-    c.args.self.now.reached
-
-pub invariant_of-self-in-Moved-clause-are_right : goal.invariant_of-self-in-Moved-clause-are_right
-invariant_of-self-in-Moved-clause-are_right g c =
-    right_on c.args.self.now.dispatcher c.turn-turn.new.core c.args.worker.now.hand c.turn-turn.new.self.hand c.turn-turn.result
-    c.args.self.now.told.items c.tell.new.told.items c.turn-turn.ensures.works c.args.self.now.are_right c.tell.ensures.tells
 
 pub invariant_of-self-in-Refused-clause-are_right : goal.invariant_of-self-in-Refused-clause-are_right
 invariant_of-self-in-Refused-clause-are_right g c =
     right_on c.args.self.now.dispatcher c.turn-turn.new.core c.args.worker.now.hand c.turn-turn.new.self.hand c.turn-turn.result
     c.args.self.now.told.items c.tell.new.told.items c.turn-turn.ensures.works c.args.self.now.are_right c.tell.ensures.tells
-
-pub invariant_of-self-in_default-clause-are_right : goal.invariant_of-self-in_default-clause-are_right
-invariant_of-self-in_default-clause-are_right g c =
-    right_on c.args.self.now.dispatcher c.turn-turn.new.core c.args.worker.now.hand c.turn-turn.new.self.hand c.turn-turn.result
-    c.args.self.now.told.items c.tell.new.told.items c.turn-turn.ensures.works c.args.self.now.are_right c.tell.ensures.tells
-
-pub enter-requires : goal.enter-requires
-enter-requires g c = omega (arith, one_more_fits c.args.self.now.dispatcher c.args.self.now.reached, c.args.self.now.counted)

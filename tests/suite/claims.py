@@ -15,7 +15,7 @@ def f(; x) { when g(; x); work 8; }
 main { work 3; when f(; a); }
 """
 
-# What `big` takes depends on who comes first: 12 ticks of 18, or 2 of 9.
+# What `big` takes depends on who comes first: 12 ticks of 18, or 2 of 9. `a` is held for 12 and 2 ticks, from tick 4 on, at which `l` has spawned `big`.
 TICKS_BY_ORDER = b"""cown a = 0;
 def big(; x) { if x == 0 { work 10; } }
 def mark(; x) { x = 1; }
@@ -76,7 +76,7 @@ def order_is_not_blamed(program):
 
 def bound_is_of_this_run(program):
     said = line_that_begins(program.run(["why"], TICKS_BY_ORDER).output, b"lower bound for any order: ")
-    if said != b"lower bound for any order: 16 (their spawns take that long)":
+    if said != b"lower bound for any order: 18 (a is held for 14 ticks, from tick 4 on)":
         return f"it says {said!r}"
     spans = {span_of(program.run(["time", "--workers", "2", "--seed", str(seed)], TICKS_BY_ORDER).output) for seed in range(20)}
     return None if spans == {9, 18} else f"the runs have the spans {sorted(spans)}"

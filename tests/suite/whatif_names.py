@@ -1,6 +1,7 @@
 """What `whatif` tells of cowns and defs by name, computed plainly from the rows of a record and their names, and worked examples of it."""
 import os
 import random
+import re
 import tempfile
 
 from . import model, names_file
@@ -227,7 +228,7 @@ def of_alike(program, path):
         answer = program.run(["whatif", "--names", path, *words], ALIKE)
         yield f"alike: whatif {' '.join(words)}", None if f"\nspan {span}\n".encode() in answer.output else f"it tells {answer}"
     told = program.run(["why", "--names", path], ALIKE).output.split(b"candidates", 1)[-1]
-    yield "alike: why", None if b"  without x               16     6\n" in told else f"it tells {told!r}"
+    yield "alike: why", None if re.search(rb"\n  without x +16 +6\n", told) else f"it tells {told!r}"
 
 
 def of_names(program, name, record, names, path, cowns, edits):

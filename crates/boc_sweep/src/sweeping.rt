@@ -44,8 +44,9 @@ struct Parts<'a> {
     latest: &'a [u64],
 }
 
-// The fewest rows that are worth a thread. A row's span is found so fast that even as many rows as there can be stay with one.
-const LEAST_PIECE: usize = MOST_ROWS + 1;
+// The fewest rows that a thread is started for. The span of a row is found fast, so that as many rows as there can be make at most four
+// pieces, and fewer than half as many stay in one.
+const LEAST_PIECE: usize = MOST_ROWS / 4;
 
 // The waits of a row with this tail, as stretches.
 fn push_waits(
@@ -163,7 +164,7 @@ fn span_of(rows: &SeenRows, parts: Parts<'_>, row: usize) -> u64
     own.max(tops[row]).max(latest[row])
 }
 
-// The spans. Threads share out the rows where there are enough for more than one piece.
+// The spans. Threads share out the rows where these are enough for two pieces.
 fn spans(
     rt: &(impl Threads + Sync),
     alloc: Global,
@@ -188,8 +189,8 @@ fn spans(
 /// For each row the span that the rows would have if that row alone took the least ticks that it can, from the earliest
 /// plan of the rows and the offsets of their last children. `AllocError` says that memory was refused.
 ///
-/// It takes memory that grows with the number of rows and their cowns, and that much time with its logarithm beside. The spans
-/// are found in threads, where there are rows enough to be worth them; what is answered is the same.
+/// It takes memory that grows with the number of rows and their cowns, and that much time with its logarithm beside. What the spans are read
+/// from is found by one thread; from 32,766 rows on, threads find the spans, at most four. What is answered is the same.
 pub fn sweep(
     rt: &(impl Threads + Sync),
     alloc: Global,

@@ -268,7 +268,7 @@ impl WhatIf {
     /// of its last child, and 1 at least. `AllocError` says that memory was refused.
     ///
     /// No row is placed again: it takes memory that grows with the number of rows and their cowns, and that much time
-    /// with its logarithm beside. Threads are started where there are rows enough to be worth them; the answer is the same.
+    /// with its logarithm beside. From 32,766 rows on, threads find the spans, at most four; the answer is the same.
     pub fn sweep(&self, rt: &(impl Threads + Sync), alloc: Global) -> Result<Vec<u64>, AllocError>
         ensures sweep { IfOk result (λ spans. IsSweep (seen self.now.sharing self.now.rows) spans.items) }
         ensures few { IfOk result (λ spans. length spans.items ≤ MOST_ROWS) }

@@ -34,8 +34,12 @@ NO_THREAD = refused(4, "boc: run: 4 NoThread")
 MOST_REQUESTS = 100000
 SECONDS = 30
 
-# Rows enough that a sweep takes several threads, each of which needs memory of its own.
+# Rows enough that a sweep for workers or over cowns takes several threads, each of which needs memory of its own.
 MANY = fan(400, lambda number: (number % 3,), lambda number: 1 + number % 4)
+
+# The fewest rows of which a sweep takes two threads, and as many as there may be, of which it takes more.
+TWO_PIECES = 32766
+MOST_ROWS = 65535
 
 # A behaviour with as many arguments and cowns as there may be, and behind it 300 that wait at once for a cown that the first one has.
 FULL = b"""cown c[8] = 1; cown d = 0;
@@ -79,6 +83,7 @@ def runs(program):
     yield ["curve", "--p", "5"], fan_text(3, MANY), done(model.curve(MANY, 5))
     yield ["sweep"], record, done(b"0 9\n1 8\n2 7\n3 8\n")
     yield ["sweep"], fan_text(3, MANY), done(model.sweep(MANY))
+    yield ["sweep"], fan_text(0, fan(TWO_PIECES)), done(model.sweep_of_apart(fan(TWO_PIECES)))
     yield ["sweep", "--p", "1"], record, done(b"0 11\n1 10\n2 9\n3 10\n")
     yield ["sweep", "--p", "2"], fan_text(3, MANY), done(model.greedy_sweep(MANY, 2))
     yield ["sweep", "--cowns"], record, done(b"0 8\n1 7\n")
@@ -130,6 +135,8 @@ def cases(program):
             yield "a second thread that can't be started is told before what comes later", fault_of_late_start(program, library)
             for words in (["values"], ["run", "--workers", "4"], ["sweep", "--p", "2"], ["--help"]):
                 yield f"{words[0]}: the thread that does the work can't be started", fault_of_no_start(program, library, words)
+            for count, starts in ((TWO_PIECES - 1, 0), (TWO_PIECES, 1), (MOST_ROWS, 1)):
+                yield f"a sweep of {count} rows starts {'a thread' if starts else 'none'}, and does without", fault_of_alone(program, library, count, starts)
 
 
 def build(library):
@@ -184,6 +191,15 @@ def fault_of_no_start(program, library, words):
     """Where the thread that does the work can't be started nothing is done, and memory is wanting, since a thread has some of its own."""
     answer, note = run_with_refusal(program, library, words, FOREVER, 1, "REFUSED_START")
     return fault_of(MEMORY, answer) if note == b"t" else "no thread was started"
+
+
+def fault_of_alone(program, library, count, starts):
+    """A sweep starts a thread or none beside the one that does the work, and where that can't be started, what it answers is the same."""
+    rows = fan(count)
+    answer, note = run_with_refusal(program, library, ["sweep"], fan_text(0, rows), 2, "REFUSED_START")
+    if note != b"t" * starts:
+        return f"{len(note)} threads were refused in place of {starts}"
+    return fault_of(done(model.sweep_of_apart(rows)), answer)
 
 
 def run_with_refusal(program, library, words, source, number, counted="REFUSED_REQUEST"):

@@ -4,10 +4,13 @@ use crate::formed::{common_reason, put_reason, put_unseen, reason_of, unseen_byt
 use crate::place::{Text, is_first_word, looks_like_record};
 use crate::run::{Run, line_at};
 use crate::said::{Part, Said};
-use boc_names::{NamesFault, NamesFaultKind};
+use boc_names::{MOST_NAMES, NamesFault, NamesFaultKind};
 use boc_reader::read_program;
-use boc_text::read_number;
+use boc_text::{MOST_LINE, read_number};
 use std::alloc::{AllocError, Global};
+
+// So many are named in the lines.
+const _: () = prove!(MOST_NAMES == 8 * 1024 * 1024);
 
 /// What is told of a file of names behind the line of its fault. It names the rows and the cowns of the run that this input tells of.
 pub fn explain_names(
@@ -33,7 +36,14 @@ pub fn explain_names(
         NamesFaultKind::Cut => {
             put_reason(&mut said, line, "no line feed stands behind the last line")?;
         }
-        NamesFaultKind::TooLong => put_reason(&mut said, line, "a line has at most 80 bytes")?,
+        NamesFaultKind::TooLong if line.len() > MOST_LINE => {
+            put_reason(&mut said, line, "a line has at most 80 bytes")?;
+        }
+        NamesFaultKind::TooLong => put_reason(
+            &mut said,
+            line,
+            "a file of names has at most 8 MiB",
+        )?,
         NamesFaultKind::Form => put_form(&mut said, line)?,
         NamesFaultKind::NoRow => put_no_row(alloc, &mut said, line, input)?,
         NamesFaultKind::NoCown => put_no_cown(alloc, &mut said, line, input)?,

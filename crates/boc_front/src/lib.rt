@@ -13,5 +13,5 @@ pub use printed::{printed, printed_words};
 pub use words::words_given;
 
 /// How many bytes of stack a program does its work on, so that none runs out where the system gives the first thread little: what is nested deepest takes
-/// less than 3 MB.
-pub const STACK: usize = 16 * 1024 * 1024;
+/// less than 2 MB.
+pub const STACK: usize = 4 * 1024 * 1024;

@@ -9,7 +9,7 @@ use Rattle.std.proofs.lemmas.Str.Pattern.{IsSplitOnceResult, NoCharPasses-char, 
 use Rattle.std.specs.Str.Pattern.{RFindsChar}
 use Rattle.std.specs.Str.{NoCharPasses}
 use Rattle.std.specs.Option.{MatchOption}
-use Rattle.std.proofs.Common.{zero, ◌==◌, ◌+◌, ◌≤◌, take, drop, take-append-drop}
+use Rattle.std.proofs.Common.{zero, ◌==◌, ◌+◌, ◌≤◌, take, drop, take-append-drop, Option}
 use denote.Ref.{Bor}
 use Rattle.std.specs.Prelude.{string_bytes}
 use Rattle.boc_plans.specs.declared.edit.Change.{Change}
@@ -73,8 +73,8 @@ abbrev HasNone : ℕ → List ℕ → Type 0
 HasNone byte text = (i : ℕ) → i < length text → get_or text i 0 ≢ byte
 
 -- two texts without a byte have none together
-none_in_both : (byte : ℕ) (xs ys : List ℕ) → HasNone byte xs → HasNone byte ys → HasNone byte (xs ++ ys)
-none_in_both byte [] ys none clear = clear
+none_in_both : (byte : ℕ) (xs ys : List ℕ) → HasNone byte xs → HasNone byte ys → (i : ℕ) → i < length (xs ++ ys) → get_or (xs ++ ys) i 0 ≢ byte
+none_in_both byte [] ys none clear i lt = clear i lt
 none_in_both byte (x ∷ xs) ys none clear zero lt = none 0 (omega arith)
 none_in_both byte (x ∷ xs) ys none clear (suc i) lt = none_in_both byte xs ys (λ k l. none (suc k) (omega (arith, l))) clear i (omega (arith, lt))
 

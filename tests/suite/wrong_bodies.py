@@ -6,10 +6,16 @@ TOP = os.path.dirname(os.path.dirname(os.path.dirname(os.path.abspath(__file__))
 
 
 def cases(_program):
+    for path, crate in paths():
+        yield name_of(path), fault_of_edit(path, crate)
+
+
+def paths():
+    """Each wrong body, and the crate that it is of."""
     for path in sorted(glob.glob(os.path.join(TOP, "crates", "*", "must-fail", "*"))):
-        yield name_of(path), fault_of_edit(path, path.split(os.sep)[-3])
+        yield path, path.split(os.sep)[-3]
     for path in sorted(glob.glob(os.path.join(TOP, "tests", "wrong-bodies", "*", "*"))):
-        yield name_of(path), fault_of_edit(path, path.split(os.sep)[-2])
+        yield path, path.split(os.sep)[-2]
 
 
 def name_of(path):

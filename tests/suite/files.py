@@ -1,8 +1,8 @@
 """The file that a command reads its input from: a path, `-` or none, what is told of one that can't be read, and files that never end."""
 import os
-import resource
 import stat
 import subprocess
+import sys
 import tempfile
 import threading
 
@@ -195,22 +195,33 @@ class fed:
             pass
 
 
+# Runs a command within these seconds and kilobytes, and writes to a pipe how many kilobytes it used. What a process uses counts from its fork on, so the
+# command is run by a process that itself uses little.
+MEASURE = """
+import os, resource, signal, sys
+pipe, seconds, asked = map(int, sys.argv[1:4])
+child = os.fork()
+if child == 0:
+    signal.alarm(seconds)
+    resource.setrlimit(resource.RLIMIT_AS, (asked * 1024, asked * 1024))
+    os.execv(sys.argv[4], sys.argv[4:])
+_, status, used = os.wait4(child, 0)
+os.write(pipe, b"%d" % used.ru_maxrss)
+sys.exit(os.waitstatus_to_exitcode(status) % 256)
+"""
+
+
 def fault_of_bounded(line, command):
     """What is wrong where this command is to refuse its input or the file beside it by this line."""
-    limit = lambda: resource.setrlimit(resource.RLIMIT_AS, (MOST_ASKED * 1024, MOST_ASKED * 1024))
-    with tempfile.TemporaryFile() as output, tempfile.TemporaryFile() as errors:
-        child = subprocess.Popen(command, stdin=subprocess.DEVNULL, stdout=output, stderr=errors, preexec_fn=limit)
-        ending = threading.Timer(SECONDS, child.kill)
-        ending.start()
-        _, status, used = os.wait4(child.pid, 0)
-        ending.cancel()
-        child.returncode = os.waitstatus_to_exitcode(status)
-        output.seek(0)
-        errors.seek(0)
-        answer = Answer(child.returncode, output.read(), *told(errors.read()))
-    if used.ru_maxrss > MOST_MEMORY:
-        return f"it used {used.ru_maxrss} kilobytes"
-    return fault_of(refused(3, line), answer)
+    reading, writing = os.pipe()
+    with os.fdopen(reading, "rb") as pipe:
+        measured = [sys.executable, "-S", "-c", MEASURE, *map(str, (writing, SECONDS, MOST_ASKED)), *command]
+        run = subprocess.run(measured, stdin=subprocess.DEVNULL, capture_output=True, pass_fds=[writing], check=False)
+        os.close(writing)
+        used = int(pipe.read() or b"0")
+    if used > MOST_MEMORY:
+        return f"it used {used} kilobytes"
+    return fault_of(refused(3, line), Answer(run.returncode, run.stdout, *told(run.stderr)))
 
 
 def too_many(program, path):

@@ -4,12 +4,12 @@
 
 mod beside;
 mod given;
-mod printed;
+mod printing;
 mod words;
 
 pub use beside::{MOST_INPUT, read_beside};
 pub use given::{Given, idle_note};
-pub use printed::{printed, printed_words};
+pub use printing::{printed, printed_words};
 pub use words::words_given;
 
 /// How many bytes of stack a program does its work on, so that none runs out where the system gives the first thread little: what is nested deepest takes

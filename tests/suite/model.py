@@ -1,4 +1,4 @@
-"""Plans, chains and reports as docs/RECORDS.md defines them, computed plainly from the rows of a record."""
+"""Plans, chains and reports as docs/COMMANDS.md defines them, computed plainly from the rows of a record."""
 import heapq
 from collections import deque
 from typing import NamedTuple, Tuple

@@ -18,13 +18,33 @@ pub(crate) const MOST_COLUMNS: i64 = 1_000;
 
 // What holds of every picture.
 const COMMON: &str =
-    "A program, or the record of a run (it begins with `boc`), comes from FILE, or from standard input, and the picture goes to standard output. A program is
-run first, by one thread unless --workers or --seed says otherwise. What is drawn is the earliest plan of the run: each behaviour starts
-as soon as it is spawned and has its cowns. The chain is what holds the run back: its ticks add up to the span.
+    "Input that begins with `boc` is the record of a run. Anything else is a program,
+which is run first, on one thread unless --workers or --seed says otherwise. A
+run with --seed is that of `boc run --seed`: the same each time; give it -w 2 or
+more. Input is read from FILE, or from standard input if FILE is missing or `-`.
+The picture goes to standard output.
 
-The statuses are those of `boc`: 0 done, 2 wrong words, 3 a wrong input, 4 too many behaviours or no threads, 5 memory, a file or a device.
+What is drawn is the earliest plan of the run: each behaviour (task) starts as
+soon as it is spawned and has its cowns. The chain is the critical path: its
+ticks add up to the span.
+  text   With --cowns, --p or --curve, prints what these show instead. --curve
+         shows the ends of greedy plans for 1, 2, 4 .. workers, up to P.
+  page   Has the plan, the curve, the chain, what each behaviour and each cown
+         costs, and the program.
 
-Examples: boc-view text program.boc; boc-view plan -p 4 program.boc > plan.svg; boc run < program.boc | boc-view trace > trace.json";
+Exit statuses, as those of boc:
+  0  Success
+  2  Invalid command-line arguments
+  3  Invalid input, or an invalid file given with it
+  4  Too many behaviours, or a thread could not be started
+  5  Out of memory, or an I/O error
+
+Examples:
+  boc-view text program.boc
+  boc-view plan -p 4 program.boc > plan.svg
+  boc run program.boc | boc-view trace > trace.json
+
+See also: boc --help, boc help run, boc help why.";
 
 /// What the words ask for.
 #[derive(Drop)]
@@ -51,7 +71,7 @@ pub(crate) fn read_words(alloc: Global, words: &[String]) -> Result<Asked, Fault
 // What the parser accepts.
 fn parser<'a>(alloc: Global) -> Result<Command<'a>, AllocError> {
     let mut parser = Command::new(alloc, "boc-view")
-        .about("Draws the plans of programs under behaviour-oriented concurrency")
+        .about("Draw the plans of programs under behaviour-oriented concurrency")
         .after_help(COMMON)
         .version(VERSION)
         .subcommand_required(true)
@@ -59,15 +79,15 @@ fn parser<'a>(alloc: Global) -> Result<Command<'a>, AllocError> {
         .bin_name("boc-view")?;
     parser = parser.subcommand(text_command(alloc)?)?;
     for (name, about) in [
-        ("plan", "Draws the earliest plan, as SVG"),
-        ("curve", "Draws how much faster more workers are, as SVG"),
+        ("plan", "Draw the earliest plan as SVG"),
+        ("curve", "Draw the speedup by number of workers as SVG"),
         (
             "page",
-            "Writes a page with the plan, the curve, the chain, what each behaviour and each cown costs, and the program",
+            "Write a page with plan, curve, chain, costs and program",
         ),
         (
             "trace",
-            "Writes the plans as a trace in JSON, for the viewers of such",
+            "Write the plans as a JSON trace, for trace viewers",
         ),
     ] {
         parser = parser.subcommand(with_common(alloc, Command::new(alloc, name).about(about))?)?;
@@ -78,23 +98,23 @@ fn parser<'a>(alloc: Global) -> Result<Command<'a>, AllocError> {
 // The command that writes text.
 fn text_command<'a>(alloc: Global) -> Result<Command<'a>, AllocError> {
     let command = Command::new(alloc, "text")
-        .about(
-            "Prints the earliest plan, a line for each behaviour; with --cowns, --p or --curve what these show in its place",
-        )
-        .arg(flag(alloc, "cowns", "Shows which behaviours hold which cown"))?
+        .about("Print the earliest plan as text, a line per behaviour")
+        .arg(flag(
+            alloc,
+            "cowns",
+            "Show instead which behaviours hold which cown",
+        ))?
         .arg(flag(
             alloc,
             "curve",
-            "Shows when the greedy plans for 1, 2, 4 .. workers end, up to P with --p",
+            "Show instead when plans for 1, 2, 4 .. workers end",
         ))?
         .arg(
             Arg::new(alloc, "width")
                 .long("width")
                 .value_name("COLUMNS")
                 .value_parser(value_parser!(u32).range(LEAST_COLUMNS..=MOST_COLUMNS))
-                .help(
-                    "Takes so many columns, 40 to 1000; as many as the terminal has if not given, or else 100",
-                ),
+                .help("Use 40 to 1000 columns [default: the terminal's or 100]"),
         )?;
     with_common(alloc, command)
 }
@@ -134,16 +154,16 @@ fn file<'a>(alloc: Global, name: &'static str, help: &'static str) -> Arg<'a> {
 fn with_common<'a>(alloc: Global, command: Command<'a>) -> Result<Command<'a>, AllocError> {
     command
         .arg(
-            Arg::new(alloc, "input").value_name("FILE").help(
-                "The program or the record; standard input if not given, or if it is `-`",
-            ),
+            Arg::new(alloc, "input")
+                .value_name("FILE")
+                .help("Program or record; `-` or nothing means standard input"),
         )?
         .arg(number(
             alloc,
             "workers",
             "N",
             MOST_RUNNERS as u32,
-            "Runs a program by N threads, 1 to 16; 1 if not given",
+            "Run the program on N threads, 1 to 16 [default: 1]",
         )
         .short('w'))?
         .arg(
@@ -151,40 +171,34 @@ fn with_common<'a>(alloc: Global, command: Command<'a>) -> Result<Command<'a>, A
                 .long("seed")
                 .value_name("S")
                 .value_parser(value_parser!(u64))
-                .help(
-                    "Runs a program as `boc run --seed S` does, the same run each time; give --workers at least 2",
-                ),
+                .help("Draw a random run of N workers, reproducible by seed S"),
         )?
         .arg(number(
             alloc,
             "depth",
             "D",
             MOST_DEPTH,
-            "Beside --seed, picks workers by random priorities of this depth, 1 to 16",
+            "With --seed, use random priorities of depth D, 1 to 16",
         ))?
         .arg(number(
             alloc,
             "p",
             "P",
             MOST_WORKERS,
-            "Shows the greedy plan for P workers, 1 to 64",
+            "Show the greedy plan for P workers, 1 to 64",
         )
         .short('p'))?
         .arg(flag(
             alloc,
             "shared-reads",
-            "Lets behaviours that only read a cown share it, in plans",
+            "In plans, let behaviours that only read a cown share it",
         ))?
         .arg(file(
             alloc,
             "record",
-            "Takes the run whose record is in FILE in place of a new one",
+            "Take the run recorded in FILE instead of a new one",
         ))?
-        .arg(file(
-            alloc,
-            "names",
-            "Reads from FILE what rows and cowns are called",
-        ))
+        .arg(file(alloc, "names", "Read the names of rows and cowns from FILE"))
 }
 
 // What was found in the words.
@@ -293,7 +307,7 @@ fn text_at(alloc: Global, matches: &ArgMatches, id: &str) -> Result<Option<Strin
     }
 }
 
-// The path of the file that is read in place of standard input.
+// The path of the file that is read instead of standard input.
 fn input_at(alloc: Global, matches: &ArgMatches) -> Result<Option<String>, AllocError> {
     if matches.get_str("input") == Some("-") {
         return Ok(None);

@@ -49,7 +49,7 @@ pub(crate) struct RepeatedOption {
     pub(crate) help: &'static str,
 }
 
-/// Words that stand by themselves: by what they are found, what help calls one, and what help says of them.
+/// Operands: their id, what help calls one, and what help says of them.
 #[derive(Clone, Copy)]
 pub(crate) struct Operands {
     pub(crate) id: &'static str,
@@ -75,13 +75,12 @@ pub(crate) const RUNNERS: NumberOption = NumberOption {
     letter: Some('w'),
     value_name: "N",
     numbers: Numbers::UpTo(MOST_RUNNERS as u32),
-    help: "Runs the program by N threads, 1 to 16; 1 if not given. They run it; --p plans what has run",
+    help: "Run the program on N threads, 1 to 16 [default: 1]",
 };
 
-/// How many threads run a program, where no plan is asked for.
+/// How many threads run a program, for commands without `--p`.
 pub(crate) const RUNNERS_ALONE: NumberOption = NumberOption {
-    help: "Runs the program by N threads, 1 to 16; 1 if not given. Ticks are counted, not timed: with more threads numbers change only where \
-        spawns or cowns come in another order",
+    help: "Run the program on N threads, 1 to 16 [default: 1]",
     ..RUNNERS
 };
 
@@ -91,8 +90,7 @@ pub(crate) const SEED: NumberOption = NumberOption {
     letter: None,
     value_name: "S",
     numbers: Numbers::Every,
-    help: "Runs the program on one thread, as N workers of which one is picked at each turn, at random by the number S of 64 bits: \
-        the same run each time, on every machine; one worker leaves nothing to draw, so give --workers at least 2",
+    help: "Draw a random run of N workers, reproducible by seed S",
 };
 
 /// By priorities with how many points the worker that moves next is picked.
@@ -101,8 +99,7 @@ pub(crate) const DEPTH: NumberOption = NumberOption {
     letter: None,
     value_name: "D",
     numbers: Numbers::UpTo(MOST_DEPTH),
-    help: "With --seed, D from 1 to 16: the workers stand in an order that is drawn, the first that can move does, and before D - 1 steps \
-        that are drawn it falls to the last",
+    help: "With --seed, use random priorities of depth D, 1 to 16",
 };
 
 /// How many runs are drawn.
@@ -111,25 +108,24 @@ pub(crate) const RUNS: NumberOption = NumberOption {
     letter: None,
     value_name: "K",
     numbers: Numbers::UpTo(MOST_RUNS),
-    help: "Draws K runs, 1 to 1,000,000; 1,000 if not given",
+    help: "Draw K runs, 1 to 1,000,000 [default: 1000]",
 };
 
 /// The seed of the first run that is drawn.
 pub(crate) const FIRST_SEED: NumberOption = NumberOption {
-    help: "Draws the first run by the number S of 64 bits, and each other one by the next number; 0 if not given",
+    help: "Draw the first run with S, the next with S + 1 [default: 0]",
     ..SEED
 };
 
 /// How many workers runs are drawn for.
 pub(crate) const DRAWN_WORKERS: NumberOption = NumberOption {
-    help: "Draws runs of N workers, 1 to 16; 4 if not given",
+    help: "Draw runs of N workers, 1 to 16 [default: 4]",
     ..RUNNERS
 };
 
 /// By priorities with how many points each run is drawn.
 pub(crate) const DRAWN_DEPTH: NumberOption = NumberOption {
-    help: "D from 1 to 16: in each run the workers stand in an order that is drawn, the first that can move does, and before D - 1 steps \
-        that are drawn it falls to the last",
+    help: "Use random priorities of depth D, 1 to 16 (see below)",
     ..DEPTH
 };
 
@@ -139,147 +135,145 @@ pub(crate) const WORKERS: NumberOption = NumberOption {
     letter: Some('p'),
     value_name: "P",
     numbers: Numbers::UpTo(MOST_WORKERS),
-    help: "Prints the greedy plan for P workers too, 1 to 64, with its end and its bound; no thread runs it",
+    help: "Also print the greedy plan for P workers, 1 to 64",
 };
 
 /// Up to how many workers a curve goes.
 pub(crate) const CURVE_WORKERS: NumberOption = NumberOption {
-    help: "Goes up to P workers, 1 to 64; 64 if not given",
+    help: "Go up to P workers, 1 to 64 [default: 64]",
     ..WORKERS
 };
 
 /// For how many workers a sweep plans, where not for as many as there are rows.
 pub(crate) const SWEEP_WORKERS: NumberOption = NumberOption {
-    help: "Prints the ends of the greedy plans for P workers, 1 to 64, in place of the spans",
+    help: "Print ends of greedy plans for P workers, 1 to 64",
     ..WORKERS
 };
 
-/// For how many workers `why` tells of a greedy plan.
+/// For how many workers `why` prints the end of a greedy plan.
 pub(crate) const WHY_WORKERS: NumberOption = NumberOption {
-    help: "Tells when the greedy plan for P workers ends too, 1 to 64",
+    help: "Also print the greedy plan's end for P workers, 1 to 64",
     ..WORKERS
 };
 
 /// Whether a sweep goes over the cowns.
 pub(crate) const SWEEP_COWNS: FlagOption = FlagOption {
     id: "cowns",
-    help: "Leaves out each cown in turn in place of lowering rows: a line is COWN END",
+    help: "Leave out each cown in turn; do not lower rows",
 };
 
 /// Whether a sweep goes over the spawns.
 pub(crate) const SWEEP_SPAWNS: FlagOption = FlagOption {
     id: "spawns",
-    help: "Spawns each row but main as early as it can be in place of lowering it",
+    help: "Spawn each row as early as it can be; do not lower it",
 };
 
-/// Whether all of a chain is told.
+/// Whether all rows of a chain are printed.
 pub(crate) const ALL: FlagOption = FlagOption {
     id: "all",
-    help: "Tells each row of the chain on a line of its own",
+    help: "Print every row of the chain; do not fold rows",
 };
 
 /// Whether plans share what was only read.
 pub(crate) const SHARING: FlagOption = FlagOption {
     id: "shared-reads",
-    help: "Lets behaviours that only read a cown share it, in plans",
+    help: "In plans, let behaviours that only read a cown share it",
 };
 
-/// Whether the numbers before and after are told in place of the report.
+/// Whether the numbers before and after are printed instead of the report.
 pub(crate) const SHORT: FlagOption = FlagOption {
     id: "short",
-    help: "Prints work, span and chain before and after in place of the report",
+    help: "Print only work, span and chain, before and after",
 };
 
 /// Whether the rows of plans are left out.
 pub(crate) const NO_PLAN: FlagOption = FlagOption {
     id: "no-plan",
-    help: "Leaves out the lines of the plan, and with --p those of the greedy plan's rows",
+    help: "Do not print the plan or the rows of the greedy plan",
 };
 
-/// How many lines of a sweep are told.
+/// How many lines of a sweep are printed.
 pub(crate) const BEST: NumberOption = NumberOption {
     id: "best",
     letter: None,
     value_name: "K",
     numbers: Numbers::UpTo(MOST_ROWS as u32),
-    help: "Prints the K best lines alone, 1 to 65,535, the best one first, each with what it brings behind it",
+    help: "Print the K best lines, 1 to 65,535, with their gain",
 };
 
 /// Whether notes are left out.
 pub(crate) const QUIET: FlagOption = FlagOption {
     id: "quiet",
-    help: "Leaves out the notes, on standard error, of behaviours that ended by a fault",
+    help: "Do not note behaviours that ended by a fault",
 };
 
-/// How many cowns are told of.
+/// How many cowns are printed.
 pub(crate) const TOP: NumberOption = NumberOption {
     id: "top",
     letter: None,
     value_name: "K",
     numbers: Numbers::UpTo(MOST_COWNS as u32),
-    help: "Prints the first K cowns alone, 1 to 256",
+    help: "Print only the first K cowns, 1 to 256",
 };
 
 /// The cowns that `whatif` leaves out.
 pub(crate) const WITHOUT: RepeatedOption = RepeatedOption {
     id: "without",
     value_name: "COWN",
-    help: "Leaves out a cown, by its number or by name, or all of an array: it orders nobody; as often as wanted",
+    help: "Leave out a cown, or an array; may be given repeatedly",
 };
 
 /// The file with the program that a record is of.
 pub(crate) const PROGRAM: RepeatedOption = RepeatedOption {
     id: "program",
     value_name: "FILE",
-    help: "Reads from FILE the program that the record is of a run of",
+    help: "Read the program of the recorded run from FILE",
 };
 
 /// The file with the record of the run of a program.
 pub(crate) const RECORD: RepeatedOption = RepeatedOption {
     id: "record",
     value_name: "FILE",
-    help: "Takes the run whose record is in FILE in place of a new one",
+    help: "Take the run recorded in FILE instead of a new one",
 };
 
 /// The file with the names of rows and cowns.
 pub(crate) const NAMES: RepeatedOption = RepeatedOption {
     id: "names",
     value_name: "FILE",
-    help: "Reads from FILE what rows and cowns are called: lines `@ COWN NAME` and `= ROW NAME [ARG ..]`, \
-        blank lines and those that begin with #; rows of one NAME are one def",
+    help: "Read the names of rows and cowns from FILE (see below)",
 };
 
 /// The file that the input is read from.
 pub(crate) const INPUT: Operands = Operands {
     id: "file",
     value_name: "FILE",
-    help: "Reads the input from FILE; from standard input where none is given, or where it is -",
+    help: "File to read; `-` or nothing means standard input",
 };
 
 /// The edits of `whatif`, and among them the file that the input is read from.
 pub(crate) const EDITS: Operands = Operands {
     id: "edits",
     value_name: "FILE|EDIT",
-    help: "A word with neither = nor @ is the FILE with the record, which is read from standard input where none is given, or where it is -; \
-        each other word is an edit",
+    help: "Record to read, and edits to make (see below)",
 };
 
-// So many are named in the help of `--workers`.
+// The limit that the help of `--workers` names.
 const _: () = prove!(MOST_RUNNERS == 16);
 
-// So many are named in the help of `--p`.
+// The limit that the help of `--p` names.
 const _: () = prove!(MOST_WORKERS == 64);
 
-// So many are named in the help of `--top`, and of `boc` itself.
+// The limit that the help of `--top` names, and that of `boc` itself.
 const _: () = prove!(MOST_COWNS == 256);
 
-// So many are named in the help of `--depth`.
+// The limit that the help of `--depth` names.
 const _: () = prove!(MOST_DEPTH == 16);
 
-// So many are named in the help of `--best`.
+// The limit that the help of `--best` names.
 const _: () = prove!(MOST_ROWS == 65_535);
 
-// So many are named in the help of `--runs`.
+// The limit that the help of `--runs` names.
 const _: () = prove!(MOST_RUNS == 1_000_000);
 
 impl Numbers {

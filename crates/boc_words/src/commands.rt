@@ -32,7 +32,7 @@ pub(crate) enum Kind {
     Outcomes,
 }
 
-// What the parser is told of a command: its name, what help says of it, which arguments it takes, and what help says of the lines that it prints.
+// What the parser knows of a command: its name, what help says of it, which arguments it takes, and what help says of the lines that it prints.
 #[derive(Clone, Copy)]
 struct Entry {
     name: &'static str,
@@ -42,160 +42,332 @@ struct Entry {
 }
 
 // What the lines of a record say.
-const RECORD_LINES: &str = "The first line is `boc 2 COWNS`, the last one `.`; between them are
-  + ROW PARENT TICK COWN..      a row is spawned, at that tick of its parent
-  > ROW                         it begins
-  < ROW TICKS STATUS COWN..     it ends, and wrote these cowns
-A STATUS is 0 where the body came to its end, else the fault that ended it: 1 Overflow, 2 ZeroDivisor, 3 OutOfRange, 4 SameCown, 5 Negative,
-6 TickCap. Ticks are what a body's statements cost, and no time that passes.
+const RECORD_LINES: &str =
+    "The input is a program. The output is the record of its run, one line per event:
+  boc 2 COWNS                First line: format version 2, number of cowns
+  + ROW PARENT TICK COWN..   PARENT spawns ROW over these cowns, at its own TICK
+  > ROW                      ROW starts
+  < ROW TICKS STATUS COWN..  ROW ends, took TICKS, and wrote these cowns
+  .                          Last line
+ROW and PARENT are rows: behaviours, numbered in spawn order. main is row 0.
+STATUS is 0 if the body reached its end, else the fault that ended it:
+1 Overflow, 2 ZeroDivisor, 3 OutOfRange, 4 SameCown, 5 Negative, 6 TickCap.
 
-Examples: boc run --workers 4 program.boc | boc why; boc run --workers 4 --seed 3 program.boc | boc profile
-Exit statuses, and what such words as span and tick mean: `boc --help`.";
+Ticks count the cost of statements. They are not time. With more threads the
+numbers change only if spawns or cowns come in another order.
+
+Seeds: --seed runs N simulated workers on one thread. At each turn, S, a number
+of 64 bits, picks at random the worker that moves. The same program, N, S and D
+give the same run on every machine. One worker leaves nothing to draw, so give
+-w 2 or more.
+
+Depth: with --depth, the workers are in a random order (random priorities, as in
+PCT). At each turn the first one that can move does. Before D - 1 of the steps,
+which are drawn too, the one that would move drops to the last place.
+
+Examples:
+  boc run -w 4 program.boc > run.record
+  boc run -w 4 --seed 3 program.boc | boc profile
+
+See also: boc help why, boc help check. Exit statuses and terms: boc --help.";
 
 // What the lines of a report say.
 const REPORT_LINES: &str =
-    "The numbers `rows`, `work` and `span` come first, then the lines of `chain`, of `plan` and, with --p, of `greedy P`:
-  ROW LINK TICKS          a row of the chain, how it holds back the next one (spawn or order; end for the last), and what it adds to the span
-  ROW START END           a row of the earliest plan
-  ROW START END WORKER    a row of the greedy plan, and `end END bound BOUND` behind them
-All are ticks but the rows and the workers, which count from 0. The span is the end of the earliest plan.
+    "`profile` reads the record of a run. `time` reads a program and runs it first.
 
-Examples: boc time --workers 4 program.boc; boc run program.boc | boc profile --p 2 --no-plan
-Exit statuses, and what such words as span and tick mean: `boc --help`.";
+Output:
+  rows, work, span        Number of rows, their ticks together, and the end of
+                          the earliest plan (a worker for every row)
+  chain
+  ROW LINK TICKS          A row of the critical path, how it holds back the next
+                          one (spawn or order; end for the last), and what it
+                          adds to the span
+  plan
+  ROW START END           A row of the earliest plan
+  greedy P
+  ROW START END WORKER    With --p, a row of the greedy plan (list schedule)
+  end END bound BOUND     The end of the greedy plan, and the tick by which it
+                          ends at the latest: work / P rounded down, plus span
+All numbers are ticks, except rows, workers and P. Rows and workers count from
+0. --p plans what has run: no thread executes a plan.
+
+Examples:
+  boc time -w 4 program.boc
+  boc run program.boc | boc profile --p 2 --no-plan
+
+See also: boc help curve. Seeds: boc help run. Statuses and terms: boc --help.";
 
 // What the lines of a curve say.
-const CURVE_LINES: &str =
-    "The numbers `work`, the ticks of all rows, and `span`, the end of the earliest plan, come first; then a line P END LOW BOUND for
-each number of workers. The greedy plan gives the workers that are free at a tick those rows that can start whose numbers are lowest:
-  END      when the greedy plan for P workers ends; it need not fall as P grows
-  LOW      no plan for P workers ends sooner: the span, or the work divided by P, rounded up, if that is greater
-  BOUND    that greedy plan ends no later: the work divided by P, rounded down, plus the span
-All are ticks but P.
+const CURVE_LINES: &str = "The input is the record of a run.
 
-Example: boc run program.boc | boc curve --p 8
-Exit statuses, and what such words as span and tick mean: `boc --help`.";
+Output: `work`, the ticks of all rows; `span`, the end of the earliest plan;
+then a line P END LOW BOUND for each number of workers.
+  END    End of the greedy plan (list schedule) for P workers: those that are
+         free at a tick take the rows that can start, lowest numbers first.
+         It need not fall as P grows.
+  LOW    No plan for P workers ends sooner: the span, or work / P rounded up, if
+         that is greater.
+  BOUND  That greedy plan ends no later (Graham, Brent): work / P rounded down,
+         plus span.
+All numbers are ticks, except P.
+
+Examples:
+  boc run program.boc | boc curve --p 8
+
+See also: boc help profile. Exit statuses and terms: boc --help.";
 
 // What the lines of a sweep say.
 const SWEEP_LINES: &str =
-    "A line is ROW END: a row, and the tick at which the plan would end if that row alone took its least ticks, 1 or the offset of its
-last child. It is the earliest plan, whose end is the span, or with --p the greedy plan, which may end later though a row takes
-fewer ticks. The row's children are spawned at the ticks that they were: `boc whatif ROW=1/2` has them spawned sooner too, and may
-win more. With --cowns or --spawns the lines are others:
-  COWN END    a cown of the record, and the tick at which the plan would end if that cown ordered nobody
-  ROW SPAN    a row but main, and the span if that row alone were spawned as early as it can be, one tick after its elder sibling
-              or at its parent's tick 1 (a program's first `when` stands at 2, so a line can be a tick below what a text reaches)
-With --best the lines have a third number, by how much sooner than now that is: NUMBER END LESS, those first that end soonest.
+    "The input is the record of a run. Each line changes one thing, and gives the end
+of the plan with only that change:
+  ROW END     The row takes as few ticks as it can: 1, or the offset of its last
+              child (the tick at which the row spawns it). Its children are
+              spawned at the same ticks as before. `boc whatif ROW=1/2` spawns
+              them sooner too, and may gain more.
+  COWN END    With --cowns: the cown imposes no order.
+  ROW SPAN    With --spawns: the row, any except main, is spawned as early as it
+              can be: one tick after its earlier sibling, or at its parent's
+              tick 1. The first `when` of a program is at tick 2, so a line can
+              be a tick below what a program can reach.
+The plan is the earliest plan, whose end is the span. With --p it is the greedy
+plan (list schedule) for P workers, which may end later although a row takes
+fewer ticks. --spawns goes with neither --cowns nor --p.
 
-Example: boc run program.boc | boc sweep --cowns --best 3
-Exit statuses, and what such words as span and tick mean: `boc --help`.";
+With --best, the lines that end soonest come first, and have a third number, the
+gain: NUMBER END LESS.
 
-// What `why` tells.
+Examples:
+  boc run program.boc | boc sweep
+  boc run program.boc | boc sweep --cowns --best 3
+
+See also: boc help whatif, boc help why. Exit statuses and terms: boc --help.";
+
+// What `why` prints.
 const WHY_LINES: &str =
-    "The input is a program, which is run, or the record of a run, as its first bytes tell: `boc` begins a record. What comes out:
-  chain            the rows that hold the run back: the tick at which each starts, how many ticks go by until the next one goes on, and what
-                   it does then: it spawns it, or hands it the cowns that it waits for; where it hands on several, freeing one may change nothing
-  chain by def     how many of the span's ticks go through the behaviours of a def, and through each kind of link
-  candidates       the span if one thing alone were changed, best first: a def's behaviours at half their ticks, those they spawn so much
-                   sooner; a cown, or all of an array, that orders nobody; a def's behaviours that spawn one tick after the other
-  lower bound ..   with the ticks that they took in this run, no order of these behaviours ends sooner
-Of a program names are those of its text; of a record each row and each cown has its number. Ticks are what a body's statements cost, and no
-time that passes. Four or more rows of one def that follow each other stand in one line, unless --all is given; the other lists end after 20
-lines. Cowns of an array that follow each other in a row may stand as a range: acct[0..5] are those from 0 to 5.
-With --record the input is a program, and the run is the one whose record is in FILE.
+    "Input that begins with `boc` is the record of a run. Anything else is a program,
+which is run first. With --record the input is a program, and FILE has its run.
+Ticks count the cost of statements. They are not time.
 
-Example: boc why --workers 4 program.boc
-Exit statuses, and what such words as span and tick mean: `boc --help`.";
+Output:
+  rows, work, span
+      Number of rows, their ticks together, and the end of the earliest plan (a
+      worker for every row).
+  chain
+      The critical path, from main to a row that ends last:
+        tick       When the row starts
+        ticks      Ticks until the next row of the chain can proceed
+        row        Its number in spawn order. 15..35 with `6 price` is a folded
+                   line: first and last row, number of rows, and their def.
+        behaviour  Its def, values and cowns; acct[0..5] are those from 0 to 5
+        then       What the row does for the next one: it spawns it, or hands it
+                   the cowns that it waits for. If it hands several, freeing
+                   only one may gain nothing.
+  chain by def, chain by link
+      The span, divided among the defs and among the kinds of link (dependency).
+  candidates
+      The span with one change, best first. `less` is the gain:
+        DEF at 1/2           Each behaviour of DEF takes half its ticks, rounded
+                             up, and spawns correspondingly sooner
+        without COWN         COWN, or array COWN[*], imposes no order
+        early spawns by DEF  Each behaviour of DEF spawns at its ticks 1, 2, ..
+  lower bound for any order: N
+      With the ticks that they took in this run, no order of these behaviours
+      ends before N. The best order may end later.
 
-// What `cowns` tells.
+Four or more consecutive rows of one def are folded into one line, unless --all
+is given. The other lists stop after 20 lines. Names are those of the program or
+of the file for --names. Without either, rows and cowns have their numbers.
+Lines of a file of names:
+  @ COWN NAME            The name of a cown
+  = ROW NAME [ARG ..]    The name of a row; rows of one NAME are one def
+The file may have blank lines and lines that begin with #.
+
+Threads run the program; --p plans what has run. -w, --seed and --depth have no
+effect on a run that comes from a record.
+
+Examples:
+  boc why program.boc
+  boc why -w 4 --seed 3 program.boc
+
+See also: boc help cowns, boc help whatif. Seeds and depth: boc help run. Exit
+statuses and terms: boc --help.";
+
+// What `cowns` prints.
 const COWNS_LINES: &str =
-    "The input is a program, which is run, or the record of a run, as its first bytes tell: `boc` begins a record. A line is a cown, those first
-that are held longest:
-  rows, wrote      how many rows have it, and how many of them wrote it
-  held, of span    for how many ticks one row alone has it, and what part of the span that is; with --shared-reads rows that only read it
-                   don't count
-  waited           how many ticks its rows wait for it between their spawn and their start, added up: a row waits for the least row that ends
-                   as it starts, and the wait counts for each cown that this row hands it
-  chain            how many ticks of the chain that holds the run back go by until it is handed on, added over the rows that hand it on there
-  without          the span if it ordered nobody; where that is no less than the span, to free it alone wins nothing: it orders no rows of the
-                   chain, or others order the same rows, or another chain is as long: ask
-                   `boc run P | boc whatif --program P --short --without A --without B`
-Below stand the span, what it would be if no cown ordered anybody, and how long the busiest cown is held; a verdict, and a lower bound for any order:
-  spawns   the spawns alone need at least 75 of 100 ticks of the span, so with the ticks that the rows took in this run other orders of cowns
-           save a quarter at most: spawn earlier, or do less; once rows are spawned earlier, a cown that is held for long may hold back
-  load     or else one cown is held for at least 75 of 100 ticks of the span: split it, or shorten what holds it. Or it is held for fewer, but
-           in every order so late that most of what the cowns cost is there: then the line tells before which tick no row that wrote it starts
-  order    or else: no cown by itself holds the rows back for so long, and another order of the behaviours may end sooner; it need not
-With --record the input is a program, and the run is the one whose record is in FILE.
+    "Input that begins with `boc` is the record of a run. Anything else is a program,
+which is run first. With --record the input is a program, and FILE has its run.
 
-Example: boc cowns --top 3 program.boc
-Exit statuses, and what such words as span and tick mean: `boc --help`.";
+Output, one line per cown, the longest held first:
+  rows      Rows that have the cown
+  wrote     Rows that wrote it
+  held      Ticks during which only one row has it. With --shared-reads, rows
+            that only read it do not count.
+  of span   `held` as a percentage of the span, rounded down
+  waited    Ticks that its rows wait for it between spawn and start, added up. A
+            row waits for one row: of those that end as it starts, the one with
+            the lowest number. The wait counts in full for each cown that this
+            row hands it.
+  chain     Ticks of the critical path in rows that hand this cown to the next
+            one
+  without   The span if the cown imposed no order. If that is not below the
+            span, freeing only this cown gains nothing: it orders no rows of the
+            chain, or others order the same rows, or another chain is as long.
+            Then try two at once:
+              boc run P | boc whatif --program P --short --without A --without B
+
+Below the table are the span, the span if no cown imposed any order, how long
+the busiest cown is held, and a verdict:
+  spawns  The spawns alone need at least 75 % of the span. With the ticks that
+          the rows took in this run, another order of the cowns saves at most a
+          quarter. Spawn earlier, or do less. Once rows are spawned earlier, a
+          cown that is held for long may be what limits the run.
+  load    Otherwise, one cown is held for at least 75 % of the span: split it,
+          or shorten what holds it. Or one is held for less, but in every order
+          so late that most of what the cowns cost remains. The line then gives
+          the tick before which no row that wrote it starts.
+  order   Neither. No single cown holds the rows back for that long. Another
+          order of the behaviours may end sooner, but there need not be one.
+Then comes a lower bound for any order, as in boc why, and the span with
+--shared-reads if that is smaller.
+
+Names are those of the program or of the file for --names, which boc help why
+describes. Without either, cowns have their numbers. -w, --seed and --depth have
+no effect on a run that comes from a record. With more threads the numbers
+change only if spawns or cowns come in another order.
+
+Examples:
+  boc cowns --top 3 program.boc
+  boc run -w 4 program.boc | boc cowns
+
+See also: boc help why, boc help whatif. Seeds and depth: boc help run. Exit
+statuses and terms: boc --help.";
 
 // What `whatif` prints.
-const WHATIF_LINES: &str = "Edits, which are made in their order:
-  ROW=TICKS        a row takes so many ticks; its children are spawned at the ticks that they were
-  ROW=K/D          it costs that part, rounded up, and its children are spawned so much sooner or later
-  DEF=K/D          the same for each row of a def
-  ROW@OFFSET       a row is spawned at that tick of its parent
-The lines are those of `profile`, or with --short:
-  work, span       before and after the edits, and by how much the span changes; with --p the same of the greedy plan's end
-  chain            how many ticks go through which defs of the chain that holds the run back, before and after
-A def, and a cown that is left out by name, is one of the program in --program FILE or of the names in --names FILE; without them `row 2`
-is the def of row 2, and `cown 0` a cown. A number is always a row's or a cown's. A row takes its least ticks at least, 1 or the
-offset of its last child: ROW=TICKS below that is refused as BelowSpawn.
+const WHATIF_LINES: &str =
+    "An argument with neither = nor @ is FILE, the record of a run. Without one, or
+if it is -, the record comes from standard input. Every other argument is an
+edit. Edits are made in the order given; K and D are 1 to 1,000:
+  ROW=TICKS     Set the ticks of a row. Its children are spawned at the same
+                ticks as before. TICKS below 1, or below the offset of the row's
+                last child (the tick that spawns it), is refused as BelowSpawn.
+  ROW=K/D       Scale the ticks of a row, and the offsets of its children, by
+                K/D, rounded up. A row keeps at least 1 tick, and at least the
+                offset of its last child.
+  DEF=K/D       Do this for each row of a def.
+  ROW@OFFSET    Spawn a row at this tick of its parent.
 
-Example: boc run program.boc | boc whatif --program program.boc --short transfer=1/2
-Exit statuses, and what such words as span and tick mean: `boc --help`.";
+--without takes the number or the name of a cown, or the name of an array. What
+is left out imposes no order.
+
+Output: the lines of boc profile, or with --short:
+  work, span    Before and after, and the change of the span. With --p also the
+                end of the greedy plan, before and after.
+  chain         Ticks of the critical path by def, before and after
+
+Names of defs and cowns are those of the program in --program FILE, or those in
+--names FILE. Without either, `row 2` is the def of row 2, and `cown 0` a cown.
+A number always means a row or a cown. Lines of a file of names:
+  @ COWN NAME            The name of a cown
+  = ROW NAME [ARG ..]    The name of a row; rows of one NAME are one def
+The file may have blank lines and lines that begin with #.
+
+Examples:
+  boc run program.boc | boc whatif --without 0
+  boc run program.boc | boc whatif --program program.boc --short transfer=1/2
+
+See also: boc help why, boc help sweep. Exit statuses and terms: boc --help.";
 
 // What `outcomes` prints.
 const OUTCOMES_LINES: &str =
-    "K runs are drawn, each on one thread, as N workers of which one is picked at each turn at random, by a seed of its own. What comes out:
-  runs K                          how many runs were drawn
-  rows LEAST MOST                 how many rows they have
-  spans LEAST MOST                their spans
-  outcome RUNS seed S span A B    so many runs ended with the values below, the first of them that of seed S, their spans from A to B
-  NAME VALUE                      a value, as `values` prints it
-The most frequent ends come first, of those that are as frequent the one that came first. These are ends with N workers; not all that
-the program has need be found, and more runs may find more. --depth finds ends that need few switches at the right places, which are rare where
-each turn is as likely as another; begin with --depth 2. A seed brings its run back beside the same --workers and --depth, and
-`boc run --workers N --seed S` notes the rows of it that ended by a fault, which are not noted here. The end that `boc values` prints need
-not be among these.
+    "The input is a program. Each run takes place on one thread, as N simulated
+workers. At each turn a seed of the run's own, a number of 64 bits, picks at
+random the worker that moves. The same program, workers, depth and seed give the
+same run on every machine.
 
-Example: boc outcomes --runs 10000 program.boc
-Exit statuses, and what such words as span and tick mean: `boc --help`.";
+Output:
+  runs K                        Number of runs
+  rows LEAST MOST               Fewest and most rows of a run
+  spans LEAST MOST              Shortest and longest span
+  outcome RUNS seed S span A B  RUNS runs ended in the state below. The first of
+                                them has seed S; their spans are A to B.
+  NAME VALUE                    Final value of a cown, as boc values prints it
+The most frequent outcome comes first. Of equally frequent ones, the one found
+first comes first.
+
+To look at an outcome, repeat its run with its seed and the same -w and --depth.
+boc run also notes the rows that ended by a fault; boc outcomes does not.
+  boc run -w 4 --seed S program.boc > run.record
+  boc why -w 4 --seed S program.boc
+
+What is not promised:
+  - That all final states of the program are found. More runs may find more.
+  - That N workers can reach all of them. More workers may reach more.
+  - That the values which boc values prints are among them.
+
+Depth: without --depth, each worker that can move is equally likely to be next,
+which finds common orders. With it, the workers are in a random order (random
+priorities, as in PCT). At each turn the first one that can move does. Before
+D - 1 of the steps, which are drawn too, the one that would move drops to the
+last place. That finds states that need few switches at the right places, which
+are rare without --depth. Begin with --depth 2.
+
+Examples:
+  boc outcomes program.boc
+  boc outcomes --runs 10000 --depth 2 program.boc
+
+See also: boc help run, boc help values. Exit statuses and terms: boc --help.";
 
 // What holds of every command.
 const COMMON_LINES: &str =
-    "A program declares cowns, defs of behaviours over values and cowns, and a main; `when` spawns a behaviour:
+    "A program declares cowns, defs of behaviours over values and cowns, and a main.
+`when` spawns a behaviour:
   cown acct[8] = 100;
   def transfer(n; from, to) { from = from - n; to = to + n; }
-  main { let i = 0; repeat 7 { when transfer(10; acct[i], acct[i + 1]); i = i + 1; } }
+  main {
+    let i = 0;
+    repeat 7 { when transfer(10; acct[i], acct[i + 1]); i = i + 1; }
+  }
 A def has at most 8 values and 8 cowns, a program at most 256 cowns.
 
-  cown         a value that one behaviour holds at a time; behaviours get it in the order of their spawns
-  row          a behaviour by its number in the order of the spawns; main is row 0
-  tick         what the statements of a body cost by a rule of the language, and no time that passes; a body takes at most 1,000,000
-  work         the ticks of all rows
-  span         the end of the earliest plan: each row starts as soon as it is spawned and those before it have left its cowns; there is a
-               worker for each
-  chain        the rows that hold the run back: each spawns the next one, or hands it a cown; the ticks until then add up to the span
-  greedy plan  for P workers: those that are free at a tick take rows that can start, lowest numbers first
+Terms:
+  behaviour    A task: a body that starts once it holds its cowns.
+  cown         Concurrent owner: a value that one behaviour holds at a time.
+               Behaviours get it in the order of their spawns.
+  row          A behaviour by its number in spawn order. main is row 0.
+  tick         The cost of statements, by a rule of the language. It is not
+               time. A body takes at most 1,000,000 ticks.
+  work         The ticks of all rows (T1).
+  span         The end of the earliest plan (T-infinity, or critical-path
+               length). In that plan there is a worker for each row. A row
+               starts as soon as it is spawned and the rows before it have left
+               its cowns.
+  chain        The critical path: each row spawns the next one, or hands it a
+               cown. The ticks until then add up to the span.
+  greedy plan  The list schedule for P workers: those that are free at a tick
+               take rows that can start, lowest numbers first.
 
-Programs and records come from FILE, or from standard input where none is named, and answers go to standard output, a whole one or none.
-On standard error a fault is told, first where it is, as the line of the input or the number of an edit, and then what is there. Where
-behaviours end by a fault the command goes on, and the status is 0: `values`, `run`, `time`, `profile`, `why` and `cowns` note them there.
-The statuses:
-  0    done
-  2    the words of the command line are wrong
-  3    the input, or the file beside it, is wrong
-  4    the program has too many behaviours, or threads can't be had
-  5    memory is refused, or a file or a device fails
+Input is read from FILE, or from standard input if FILE is missing or `-`. The
+answer goes to standard output, all of it or none, unless a write fails. Faults
+go to standard error: first where (a line of the input, or the number of an
+edit), then what is there. A behaviour that ends by a fault does not stop the
+command, and the status is 0: `values`, `run`, `time`, `profile`, `why` and
+`cowns` note such behaviours on standard error.
+
+Exit statuses:
+  0  Success
+  2  Invalid command-line arguments
+  3  Invalid input, or an invalid file, cown or edit given with it
+  4  Too many behaviours, or a thread could not be started
+  5  Out of memory, or an I/O error
 
 Examples:
-  boc values program.boc                what a program ends with
-  boc why --workers 4 program.boc       what holds it back; `boc help why` tells what stands in its lines
-  boc run program.boc | boc check       the record of its run, and whether that keeps the rules";
+  boc values program.boc             Print the values it ends with
+  boc why -w 4 program.boc           Show what limits a run on four threads
+  boc run program.boc | boc check    Record a run, and check the record
 
-// So many are named there.
+See also: boc help COMMAND, boc-view --help.";
+
+// The limits that it names.
 const _: () = prove!(MOST_ARGUMENTS == 8);
 
 const _: () = prove!(MOST_HELD == 8);
@@ -222,33 +394,46 @@ const EVERY_KIND: &[Kind] = &[
 
 const VALUES: Entry = Entry {
     name: "values",
-    about: "Reads a program, runs it serially, and prints the values of its cowns",
+    about: "Run a program serially and print the values of its cowns",
     takes: &[Repeated(RECORD), Flag(QUIET), Word(INPUT)],
-    lines: "A line is NAME VALUE, or NAME[INDEX] VALUE for a member of an array. The values are those of the serial run: others may end otherwise,
-see `boc outcomes`.
-With --record the values are those with which the run ended whose record is in FILE; it must be one of the program.
+    lines: "The input is a program. The output is one line per cown: NAME VALUE, or
+NAME[INDEX] VALUE for a member of an array. The values are those after the
+serial run. Other runs may end with others: see boc help outcomes.
 
-Example: boc values program.boc
-Exit statuses, and what such words as span and tick mean: `boc --help`.",
+With --record, the values are those with which the run recorded in FILE ended.
+It must be a run of the program.
+
+Examples:
+  boc values program.boc
+  boc run -w 4 program.boc > run.record
+  boc values --record run.record program.boc
+
+See also: boc help run, boc help outcomes. Statuses and terms: boc --help.",
 };
 
 const CHECK: Entry = Entry {
     name: "check",
-    about: "Reads the record of a run, checks that it keeps the rules, and prints how many rows it has",
+    about: "Check that the record of a run keeps the rules",
     takes: &[Repeated(PROGRAM), Word(INPUT)],
-    lines: "The line is `ok ROWS`. With --program the record must be that of a run of the program in FILE too. Behind the
-fourteen faults of records these are told then, with the line of the record:
-  15 OtherCowns     it has another number of cowns than the program
-  16 NotNextSpawn   a row is spawned that is not what its parent spawns next
-  17 NotItsEnd      a row ends otherwise than its behaviour does
+    lines: "The input is the record of a run. The output is `ok ROWS`, its number of rows.
 
-Example: boc run program.boc | boc check --program program.boc
-Exit statuses, and what such words as span and tick mean: `boc --help`.",
+With --program, it must also be the record of a run of the program in FILE.
+After the fourteen faults of records these are then reported, with the line of
+the record:
+  15 OtherCowns     It has another number of cowns than the program.
+  16 NotNextSpawn   A row is spawned that is not what its parent spawns next.
+  17 NotItsEnd      A row's end differs from that of its behaviour.
+
+Examples:
+  boc run program.boc | boc check
+  boc run -w 4 program.boc | boc check --program program.boc
+
+See also: boc help run. Exit statuses and terms: boc --help.",
 };
 
 const RUN: Entry = Entry {
     name: "run",
-    about: "Reads a program, runs it by several threads, and prints the record of the run",
+    about: "Run a program on threads and print the record of the run",
     takes: &[
         Number(RUNNERS_ALONE),
         Number(SEED),
@@ -261,7 +446,7 @@ const RUN: Entry = Entry {
 
 const PROFILE: Entry = Entry {
     name: "profile",
-    about: "Reads the record of a run, and prints its work, its span, its costliest chain and its earliest plan",
+    about: "Print the work, span, chain and plan of a recorded run",
     takes: &[
         Number(WORKERS),
         Flag(SHARING),
@@ -274,7 +459,7 @@ const PROFILE: Entry = Entry {
 
 const TIME: Entry = Entry {
     name: "time",
-    about: "Reads a program, runs it by several threads, and prints the profile of the run",
+    about: "Run a program on threads and print the profile of the run",
     takes: &[
         Number(RUNNERS),
         Number(SEED),
@@ -290,7 +475,7 @@ const TIME: Entry = Entry {
 
 const WHATIF: Entry = Entry {
     name: "whatif",
-    about: "Reads the record of a run, and prints the profile that it would have with other ticks, other spawns or without a cown",
+    about: "Profile a recorded run with ticks, spawns or cowns changed",
     takes: &[
         Number(WORKERS),
         Flag(SHARING),
@@ -306,14 +491,14 @@ const WHATIF: Entry = Entry {
 
 const CURVE: Entry = Entry {
     name: "curve",
-    about: "Reads the record of a run, and prints when the greedy plans for 1, 2, 3 .. workers end",
+    about: "Print when plans for 1, 2, 3 .. workers end",
     takes: &[Number(CURVE_WORKERS), Flag(SHARING), Word(INPUT)],
     lines: CURVE_LINES,
 };
 
 const SWEEP: Entry = Entry {
     name: "sweep",
-    about: "Reads the record of a run, and prints for each row, cown or spawn what the span would be without what it costs",
+    about: "Print the span with each row, cown or spawn changed in turn",
     takes: &[
         Number(SWEEP_WORKERS),
         Flag(SWEEP_COWNS),
@@ -327,7 +512,7 @@ const SWEEP: Entry = Entry {
 
 const WHY: Entry = Entry {
     name: "why",
-    about: "Reads a program or the record of a run, and tells which cowns, spawns and behaviours hold it back",
+    about: "Show what limits a run and what each change would gain",
     takes: &[
         Number(RUNNERS),
         Number(SEED),
@@ -345,7 +530,7 @@ const WHY: Entry = Entry {
 
 const COWNS: Entry = Entry {
     name: "cowns",
-    about: "Reads a program or the record of a run, and tells which cowns are held and waited for, and whether they hold the run back",
+    about: "Show how long cowns are held and whether they limit a run",
     takes: &[
         Number(RUNNERS_ALONE),
         Number(SEED),
@@ -362,7 +547,7 @@ const COWNS: Entry = Entry {
 
 const OUTCOMES: Entry = Entry {
     name: "outcomes",
-    about: "Reads a program, draws many runs of it by seeds, and prints the ends that they come to, with how often and by which seed",
+    about: "Draw many random runs and count the final states they reach",
     takes: &[
         Number(RUNS),
         Number(FIRST_SEED),
@@ -374,7 +559,7 @@ const OUTCOMES: Entry = Entry {
 };
 
 impl Kind {
-    // What the parser is told of it.
+    // What the parser knows of it.
     fn entry(self) -> Entry
         ensures { listed_as result ≡ signature_of self }
     {
@@ -431,7 +616,7 @@ fn without_commands<'a>(alloc: Global) -> Result<clap::Command<'a>, AllocError>
     ensures { IfOk result (λ parser. Told parser without_commands) }
 {
     clap::Command::new(alloc, "boc")
-        .about("Runs and profiles programs under behaviour-oriented concurrency")
+        .about("Run and profile programs under behaviour-oriented concurrency")
         .after_help(COMMON_LINES)
         .version(VERSION)
         .subcommand_required(true)

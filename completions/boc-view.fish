@@ -1,6 +1,6 @@
 # Completion of `boc-view` for fish: its commands, the options of each, and files. Numbers are not completed.
 
-# The command that stands on the line, if there is one: the first word that is no option.
+# The command on the line, if there is one: the first word that is no option.
 function __boc_view_command
     set -l words (commandline -opc)
     set -l plain (string match -v -- '-*' $words[2..-1])
@@ -21,23 +21,23 @@ complete -c boc-view -f
 complete -c boc-view -n __boc_view_is -s V -l version -d 'Print the version'
 complete -c boc-view -n 'not __boc_view_is help' -s h -l help -d 'Print help'
 
-complete -c boc-view -n '__boc_view_is; or __boc_view_is help' -a text -d 'Print the earliest plan, a line for each behaviour'
-complete -c boc-view -n '__boc_view_is; or __boc_view_is help' -a plan -d 'Draw the earliest plan, as SVG'
-complete -c boc-view -n '__boc_view_is; or __boc_view_is help' -a curve -d 'Draw how much faster more workers are, as SVG'
-complete -c boc-view -n '__boc_view_is; or __boc_view_is help' -a page -d 'Write a page with the plan, the curve, the chain, the costs and the program'
-complete -c boc-view -n '__boc_view_is; or __boc_view_is help' -a trace -d 'Write the plans as a trace in JSON'
-complete -c boc-view -n '__boc_view_is; or __boc_view_is help' -a help -d 'Tell what the words mean'
+complete -c boc-view -n '__boc_view_is; or __boc_view_is help' -a text -d 'Print the earliest plan as text, a line per behaviour'
+complete -c boc-view -n '__boc_view_is; or __boc_view_is help' -a plan -d 'Draw the earliest plan as SVG'
+complete -c boc-view -n '__boc_view_is; or __boc_view_is help' -a curve -d 'Draw the speedup by number of workers as SVG'
+complete -c boc-view -n '__boc_view_is; or __boc_view_is help' -a page -d 'Write a page with plan, curve, chain, costs and program'
+complete -c boc-view -n '__boc_view_is; or __boc_view_is help' -a trace -d 'Write the plans as a JSON trace, for trace viewers'
+complete -c boc-view -n '__boc_view_is; or __boc_view_is help' -a help -d 'Print help'
 
 # The file that the input is read from.
 complete -c boc-view -n '__boc_view_is text plan curve page trace' -F
 
-complete -c boc-view -n '__boc_view_is text' -l cowns -d 'Show which behaviours hold which cown'
-complete -c boc-view -n '__boc_view_is text' -l curve -d 'Show when the greedy plans for 1, 2, 4 .. workers end'
-complete -c boc-view -n '__boc_view_is text' -l width -x -d 'Take so many columns'
-complete -c boc-view -n '__boc_view_is text plan curve page trace' -s w -l workers -x -d 'How many threads run the program'
-complete -c boc-view -n '__boc_view_is text plan curve page trace' -l seed -x -d 'Draw the run by this number'
-complete -c boc-view -n '__boc_view_is text plan curve page trace' -l depth -x -d 'Draw it by random priorities'
-complete -c boc-view -n '__boc_view_is text plan curve page trace' -s p -l p -x -d 'For how many workers it is planned'
-complete -c boc-view -n '__boc_view_is text plan curve page trace' -l shared-reads -d 'Let behaviours that only read a cown share it'
-complete -c boc-view -n '__boc_view_is text plan curve page trace' -l record -r -F -d 'Take the run whose record is in a file'
-complete -c boc-view -n '__boc_view_is text plan curve page trace' -l names -r -F -d 'Read what rows and cowns are called from a file'
+complete -c boc-view -n '__boc_view_is text' -l cowns -d 'Show instead which behaviours hold which cown'
+complete -c boc-view -n '__boc_view_is text' -l curve -d 'Show instead when plans for 1, 2, 4 .. workers end'
+complete -c boc-view -n '__boc_view_is text' -l width -x -d 'Use 40 to 1000 columns'
+complete -c boc-view -n '__boc_view_is text plan curve page trace' -s w -l workers -x -d 'Run the program on N threads, 1 to 16'
+complete -c boc-view -n '__boc_view_is text plan curve page trace' -l seed -x -d 'Draw a random run, reproducible by this seed'
+complete -c boc-view -n '__boc_view_is text plan curve page trace' -l depth -x -d 'Use random priorities of depth D, 1 to 16'
+complete -c boc-view -n '__boc_view_is text plan curve page trace' -s p -l p -x -d 'Show the greedy plan for P workers, 1 to 64'
+complete -c boc-view -n '__boc_view_is text plan curve page trace' -l shared-reads -d 'In plans, let behaviours that only read a cown share it'
+complete -c boc-view -n '__boc_view_is text plan curve page trace' -l record -r -F -d 'Take the run recorded in a file instead of a new one'
+complete -c boc-view -n '__boc_view_is text plan curve page trace' -l names -r -F -d 'Read the names of rows and cowns from a file'

@@ -336,7 +336,7 @@ Terms:
   row          A behaviour by its number in spawn order. main is row 0.
   tick         The cost of statements, by a rule of the language. It is not
                time. A body takes at most 1,000,000 ticks.
-  work         The ticks of all rows (T1).
+  work         The ticks of all rows together.
   span         The end of the earliest plan (T-infinity, or critical-path
                length). In that plan there is a worker for each row. A row
                starts as soon as it is spawned and the rows before it have left

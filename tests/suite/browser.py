@@ -9,7 +9,8 @@ import tempfile
 from .chromium import Chromium, Lost, Tab
 from .packages import command_of
 from .painted import Place, places_in
-from .pictures import the_most_rows, view_of
+from .copies import view_of
+from .pictures import the_most_rows
 from .why import rows_of
 
 # How large the window is: all of a drawing has room in it.

@@ -14,7 +14,7 @@ import threading
 import time
 from typing import Callable, NamedTuple
 
-from .pictures import view_of
+from .copies import view_of
 
 TOP = os.path.dirname(os.path.dirname(os.path.dirname(os.path.abspath(__file__))))
 FOLDER = os.path.join(TOP, "completions")

@@ -12,7 +12,7 @@ import subprocess
 import sys
 import tempfile
 
-from .running import Answer, done
+from .running import Answer, Program, done
 from .worked import VALUES
 
 TOP = os.path.dirname(os.path.dirname(os.path.dirname(os.path.abspath(__file__))))
@@ -115,6 +115,16 @@ class Copy:
 
     def was_called(self):
         return os.path.exists(self.note)
+
+
+def view_of(program):
+    """The program that draws: the boc-view beside a boc, if there is one; else that of dist/ where this one is of dist/, and the built one."""
+    folder, name = os.path.split(program.path)
+    path = os.path.join(folder, "boc-view")
+    if name != "boc" or not os.access(path, os.X_OK):
+        is_shipped = name == os.path.basename(tree.SHIPPED)
+        path = os.path.join(TOP, tree.SHIPPED_VIEW if is_shipped else tree.BUILT_VIEW)
+    return Program(path, program.examples)
 
 
 ANSWER = done(VALUES["transfer.boc"].encode())

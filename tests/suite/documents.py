@@ -11,7 +11,7 @@ import tempfile
 
 from .copies import TOP, tree
 from .handbook import FENCE, MOST_COLUMNS, answer, blocks_of, fault_of_lines, prepare
-from .pictures import view_of
+from .copies import view_of
 from .running import Program
 from .words import commands_in
 

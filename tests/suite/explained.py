@@ -10,7 +10,7 @@ from .plans import random_edit, record_of
 from .records import TRANSFER, lines_text
 from .refusals import READER_KINDS, RECORD_KINDS
 from .replacements import fault_line, replaced
-from .running import EXPLAINS
+from .running import EXPLAINS, MOST_ASKED, MOST_MEMORY, measured
 
 # The most bytes of a line.
 MOST_WIDTH = 160
@@ -1400,9 +1400,8 @@ def long_records(program):
                                   ([*full, "more"], f"line {len(full) + 1}: 12 After", ["`more`: nothing stands behind the line `.`"])):
         source = lines_text(changed)
         yield f"{fault}, behind {len(source)} bytes", difference(told(fault, lines), program.run(["check"], source))
-        # In 64 MiB, with the program's own code and its libraries.
-        answer = program.answer(["sh", "-c", 'ulimit -v 65536; exec "$0" check', program.path], input=source)
-        yield f"{fault}, in 64 MiB", difference(told(fault, lines), answer)
+        answer, used = measured([program.path, "check"], 60, MOST_ASKED, source)
+        yield f"{fault}, within the memory", difference(told(fault, lines), answer) if used < MOST_MEMORY else f"it used {used} kilobytes"
     spawns = [f"+ {row} 0 {row}" for row in range(1, MOST_ROWS)]
     for line, kind, reason in ((f"+ {MOST_ROWS} 0 {MOST_ROWS}", "9 TooMany", "a run has at most 65535 rows"),
                                (f"+ {MOST_ROWS + 1} 0 {MOST_ROWS}", "3 NumberNotNext", "a run has at most 65535 rows, and all of them stand before")):

@@ -1,15 +1,13 @@
 """The file that a command reads its input from: a path, `-` or none, what is told of one that can't be read, and files that never end."""
 import os
 import stat
-import subprocess
-import sys
 import tempfile
 import threading
 
 from .copies import NOBODY
-from .pictures import view_of
+from .copies import view_of
 from .records import TRANSFER, lines_text
-from .running import Answer, fault_of, refused, told
+from .running import MOST_ASKED, MOST_MEMORY, fault_of, measured, refused
 
 RECORD = lines_text(TRANSFER)
 
@@ -43,11 +41,6 @@ AMONG_EDITS = [
 
 # What is told of a file of `whatif` that isn't there, since its word may be meant as an edit.
 WHY_FILE = "     a word with neither = nor @ is the FILE with the record; an edit is ROW=TICKS, ROW@OFFSET, ROW=K/D or DEF=K/D\n"
-
-# How much of its memory a program may use at once where a file never ends, and what it may ask the system for in all, which is more: its threads have
-# stacks and heaps of which they use little. In kilobytes.
-MOST_MEMORY = 64 * 1024
-MOST_ASKED = 256 * 1024
 
 # A program that has read as much as it wants ends at once.
 SECONDS = 20
@@ -195,33 +188,10 @@ class fed:
             pass
 
 
-# Runs a command within these seconds and kilobytes, and writes to a pipe how many kilobytes it used. What a process uses counts from its fork on, so the
-# command is run by a process that itself uses little.
-MEASURE = """
-import os, resource, signal, sys
-pipe, seconds, asked = map(int, sys.argv[1:4])
-child = os.fork()
-if child == 0:
-    signal.alarm(seconds)
-    resource.setrlimit(resource.RLIMIT_AS, (asked * 1024, asked * 1024))
-    os.execv(sys.argv[4], sys.argv[4:])
-_, status, used = os.wait4(child, 0)
-os.write(pipe, b"%d" % used.ru_maxrss)
-sys.exit(os.waitstatus_to_exitcode(status) % 256)
-"""
-
-
 def fault_of_bounded(line, command):
     """What is wrong where this command is to refuse its input or the file beside it by this line."""
-    reading, writing = os.pipe()
-    with os.fdopen(reading, "rb") as pipe:
-        measured = [sys.executable, "-S", "-c", MEASURE, *map(str, (writing, SECONDS, MOST_ASKED)), *command]
-        run = subprocess.run(measured, stdin=subprocess.DEVNULL, capture_output=True, pass_fds=[writing], check=False)
-        os.close(writing)
-        used = int(pipe.read() or b"0")
-    if used > MOST_MEMORY:
-        return f"it used {used} kilobytes"
-    return fault_of(refused(3, line), Answer(run.returncode, run.stdout, *told(run.stderr)))
+    answer, used = measured(command, SECONDS, MOST_ASKED)
+    return f"it used {used} kilobytes" if used > MOST_MEMORY else fault_of(refused(3, line), answer)
 
 
 def too_many(program, path):

@@ -6,7 +6,7 @@ import subprocess
 import tempfile
 
 from .copies import TOP, tree
-from .pictures import view_of
+from .copies import view_of
 from .running import SECONDS, Program, difference
 
 HANDBOOK = os.path.join("docs", "HANDBOOK.md")

@@ -4,7 +4,7 @@ import tempfile
 
 from .programs import Program, RunNames, follow, serial_run
 from .running import done, fault_of, refused
-from .pictures import view_of
+from .copies import view_of
 
 STATUSES = ["Done", "Overflow", "ZeroDivisor", "OutOfRange", "SameCown", "Negative", "TickCap"]
 MOST = 10

@@ -12,7 +12,7 @@ import xml.etree.ElementTree as tree_of
 from concurrent.futures import ThreadPoolExecutor
 
 from . import memory, model
-from .copies import TOP, tree
+from .copies import TOP, tree, view_of
 from .packages import command_of
 from .plans import random_rows, record_of
 from .records import fan, fan_text, tower, tower_text
@@ -93,16 +93,6 @@ class Pictures:
 def drawings_of(page):
     """The drawings in a page."""
     return re.findall(rb"<svg.*?</svg>", page, re.DOTALL)
-
-
-def view_of(program):
-    """The program that draws: the boc-view beside a boc, if there is one; else that of dist/ where this one is of dist/, and the built one."""
-    folder, name = os.path.split(program.path)
-    path = os.path.join(folder, "boc-view")
-    if name != "boc" or not os.access(path, os.X_OK):
-        is_shipped = name == os.path.basename(tree.SHIPPED)
-        path = os.path.join(TOP, tree.SHIPPED_VIEW if is_shipped else tree.BUILT_VIEW)
-    return Program(path, program.examples)
 
 
 def cases(program):

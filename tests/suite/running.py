@@ -4,6 +4,7 @@ A case is a name and a fault: None where it passed, else what was wrong.
 """
 import os
 import subprocess
+import sys
 import tempfile
 from typing import NamedTuple, Optional
 
@@ -16,6 +17,12 @@ NOTE = b"boc: note: "
 
 # How a line begins that explains the fault before it. What such lines say is a matter of explained.py alone.
 EXPLAINS = b"     "
+
+
+# How much of its memory a program may use at once where a file never ends, and what it may ask the system for in all, which is more: its threads have
+# stacks and heaps of which they use little. In kilobytes.
+MOST_MEMORY = 64 * 1024
+MOST_ASKED = 256 * 1024
 
 
 class Answer(NamedTuple):
@@ -83,6 +90,32 @@ class Program:
         except subprocess.TimeoutExpired:
             return None
         return Answer(run.returncode, run.stdout or b"", *told(run.stderr))
+
+
+# Runs a command within these seconds and kilobytes, and writes to a pipe how many kilobytes it used. What a process uses counts from its fork on, so the
+# command is run by a process that itself uses little.
+MEASURE = """
+import os, resource, signal, sys
+pipe, seconds, asked = map(int, sys.argv[1:4])
+child = os.fork()
+if child == 0:
+    signal.alarm(seconds)
+    resource.setrlimit(resource.RLIMIT_AS, (asked * 1024, asked * 1024))
+    os.execv(sys.argv[4], sys.argv[4:])
+_, status, used = os.wait4(child, 0)
+os.write(pipe, b"%d" % used.ru_maxrss)
+sys.exit(os.waitstatus_to_exitcode(status) % 256)
+"""
+
+
+def measured(command, seconds, asked, source=b""):
+    """The answer to a command within so many seconds and kilobytes of addresses, and how many kilobytes of memory it used at once."""
+    reading, writing = os.pipe()
+    with os.fdopen(reading, "rb") as pipe:
+        words = [sys.executable, "-S", "-c", MEASURE, *map(str, (writing, seconds, asked)), *command]
+        run = subprocess.run(words, input=source, capture_output=True, pass_fds=[writing], check=False)
+        os.close(writing)
+        return Answer(run.returncode, run.stdout, *told(run.stderr)), int(pipe.read() or b"0")
 
 
 def fault_of(expected, answer):

@@ -16,7 +16,7 @@ from multiprocessing import get_context
 
 from .copies import ANSWER, KIT, SECONDS, SOURCE, TOP, change, copied_of_few, fault_of_beside, fault_of_files, lay_built, lay_manifest, refusal, tree
 from .copies import write_script
-from .pictures import view_of
+from .copies import view_of
 from .running import Answer, Program, done, fault_of
 
 TRANSFER = os.path.join(TOP, "examples", "transfer.boc")

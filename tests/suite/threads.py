@@ -8,7 +8,7 @@ import tempfile
 
 from . import model
 from .running import done, fault_of, refused
-from .pictures import view_of
+from .copies import view_of
 
 # A run that takes longer hangs.
 SECONDS = 60

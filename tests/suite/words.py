@@ -3,7 +3,7 @@ import os
 import tempfile
 
 from .running import Answer, done, fault_of, refused
-from .pictures import view_of
+from .copies import view_of
 from .worked import CURVE, GREEDY, PROFILE, SHORTER, SHORTER_GREEDY, WITHOUT_A
 
 HELP = [["--help"], ["-h"], ["values", "--help"], ["check", "--help"], ["run", "--help"], ["profile", "--help"],

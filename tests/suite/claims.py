@@ -41,7 +41,7 @@ main { when f(; a, b); when f(; a, b); when g(; a); }
 # `g` is off the chain, which is that of `f`; more ticks of `g` move the end.
 OFF_THE_CHAIN = b"def f(;) { work 9; } def g(;) { work 3; } main { when f(;); when g(;); }"
 
-# What OUTCOMES says of its program of three behaviours: so many ends are found by so many runs of two workers.
+# What docs/OUTCOMES.md says of its program of three behaviours: how many final states that many runs of two workers find.
 THREE = b"""cown a = 1; cown b = 0; cown c = 0; cown d = 0;
 def put(k; x) { x = x * 3 + k; }
 def go(k; y) { when put(k; a); }
@@ -106,7 +106,7 @@ def moved_end(program):
 def found_ends(program):
     with open(os.path.join(TOP, "docs", "OUTCOMES.md"), encoding="utf-8") as file:
         text = " ".join(file.read().split())
-    if "A hundred runs at random find 2 of them by two workers, and 200 find 3" not in text:
+    if "With two workers, 100 random runs find 2 of the 4 final states, and 200 find 3" not in text:
         return "OUTCOMES says otherwise"
     for runs, wanted in FOUND.items():
         output = program.run(["outcomes", "--workers", "2", "--runs", str(runs)], THREE).output

@@ -1,7 +1,7 @@
 """The small runtimes of examples/runtimes: each record that they write is accepted, and what is wrong with planted copies of them is told.
 
 A copy is planted by replacing one place of its source. What is wrong with its record, and at which line, is worked out by record_reader.
-The records in docs/RECORDING.md are told what stands behind them there.
+`check` says of each record in docs/RECORDING.md what the line below it has.
 """
 import os
 import re
@@ -61,7 +61,19 @@ KNOWN_LINES = {"an end before the last spawn": 5}
 ROWS = {"philosophers.py": {"main", "think", "eat", "count"}, "bank.rs": {"main", "day", "transfer", "audit"}}
 COWNS = {"philosophers.py": {"fork", "eaten"}, "bank.rs": {"acct", "log", "total"}}
 
-PIECE = re.compile(r"^```\n(boc 2 .*?)^```\n\nIt tells `(boc: line \d+: \d+ \w+)`", re.DOTALL | re.MULTILINE)
+# What `check` cannot see, as docs/RECORDING.md says: a record of a run, and others of the same run with one thing changed that are accepted too.
+SEEN = "boc 2 2\n+ 0 0 0\n> 0\n+ 1 0 4 0\n+ 2 0 9 0 1\n< 0 12 0\n> 1\n+ 3 1 5 1\n< 1 20 0 0\n> 2\n< 2 20 0 0 1\n> 3\n< 3 8 0 1\n.\n"
+UNSEEN = [
+    ("a cown that the spawn does not list", "+ 2 0 9 0 1\n", "+ 2 0 9 0\n", "< 2 20 0 0 1\n", "< 2 20 0 0\n"),
+    ("wrong ticks", "< 1 20 0 0\n", "< 1 7 0 0\n"),
+    ("a wrong offset", "+ 3 1 5 1\n", "+ 3 1 17 1\n"),
+    ("wrong cowns written", "< 2 20 0 0 1\n", "< 2 20 0\n"),
+    ("a behaviour that was never numbered", "+ 3 1 5 1\n", "", "> 3\n", "", "< 3 8 0 1\n", ""),
+]
+# While two rows run that share no cown, either may be the parent.
+TWO_PARENTS = "boc 2 2\n+ 0 0 0\n> 0\n+ 1 0 4 0\n> 1\n+ 2 {} 9 1\n< 1 20 0 0\n< 0 12 0\n> 2\n< 2 8 0 1\n.\n"
+
+PIECE = re.compile(r"^```\n(boc 2 .*?)^```\n\n`boc check` prints `(boc: line \d+: \d+ \w+)`", re.DOTALL | re.MULTILINE)
 
 
 def cases(program):
@@ -69,6 +81,8 @@ def cases(program):
     yield "the guide has its five mistakes", None if len(pieces) == 5 else f"{len(pieces)} are found"
     for text, line in pieces:
         yield f"the guide: {line}", fault_of_refusal(line, program.run(["check"], text.encode()))
+    for name, text in unseen():
+        yield f"not seen: {name}", fault_of(done(b"ok %d\n" % text.count("+")), program.run(["check"], text.encode()))
     with tempfile.TemporaryDirectory() as folder:
         for name in PLANTS:
             if name.endswith(".rs") and not builds_rust(folder):
@@ -77,6 +91,50 @@ def cases(program):
             yield from of_runtime(program, name, folder)
             for plant in PLANTS[name]:
                 yield f"{name}: {plant[0]}", fault_of_plant(program, name, plant, folder)
+
+
+def unseen():
+    """The records in which `check` finds nothing, each with what is wrong with its run."""
+    yield "nothing is wrong", SEEN
+    for name, *changes in UNSEEN:
+        text = SEEN
+        for old, new in zip(changes[::2], changes[1::2]):
+            text = text.replace(old, new)
+        yield name, text
+    for parent in (0, 1):
+        yield f"the parent is {parent}", TWO_PARENTS.format(parent)
+
+
+def beginning(record, count):
+    """The record of the first rows, so many: spawns of others are not logged, and neither are their starts and ends."""
+    lines = [line for line in record.decode().splitlines() if line[0] not in "+><" or int(line.split()[1]) < count]
+    return "".join(f"{line}\n" for line in lines).encode()
+
+
+def window(record, first, after):
+    """The record of the rows from one on and before another one: a row 0 of its own stands for all before, and spawns what they would have spawned."""
+    head, *lines, _ = record.decode().splitlines()
+    text, offset = [head, "+ 0 0 0", "> 0"], 0
+    for sign, row, *rest in (line.split() for line in lines):
+        if first <= int(row) < after:
+            if sign == "+" and int(rest[0]) < first:
+                offset += 1
+                rest[:2] = ["0", str(offset)]
+            elif sign == "+":
+                rest[0] = str(int(rest[0]) - first + 1)
+            text.append(" ".join([sign, str(int(row) - first + 1), *rest]))
+    return "".join(f"{line}\n" for line in [*text, f"< 0 {max(1, offset)} 0", "."]).encode()
+
+
+def fault_of_parts(program, record):
+    """The first rows of a record are a record, and so are those of a window."""
+    rows = read_record(record)
+    for first in range(1, rows, 5):
+        for part, count in ((beginning(record, first), first), (window(record, first, rows), rows - first + 1), (window(record, 1, first + 1), first + 1)):
+            fault = fault_of(done(b"ok %d\n" % count), program.run(["check"], part))
+            if fault or read_record(part) != count:
+                return f"from row {first}: {fault}"
+    return None
 
 
 def fault_of_refusal(line, answer):
@@ -151,6 +209,8 @@ def of_runtime(program, name, folder):
             together += has_two_at_once(record)
             yield f"{name}: the record of run {number}", fault_of(done(b"ok %d\n" % read_record(record)), program.run(["check"], record))
             yield f"{name}: the names of run {number}", fault_of_names(program, name, record, text_of(names), told)
+            if number == 0:
+                yield f"{name}: parts of a record", fault_of_parts(program, record)
         except (Failed, Refused) as wrong:
             yield f"{name}: run {number}", str(wrong)
     yield f"{name}: two at once", None if together else "no two behaviours were ever under way at once"

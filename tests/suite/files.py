@@ -7,7 +7,7 @@ import threading
 from .copies import NOBODY
 from .copies import view_of
 from .records import TRANSFER, lines_text
-from .running import MOST_ASKED, MOST_MEMORY, fault_of, measured, refused
+from .running import MOST_ASKED, MOST_MEMORY, Answer, fault_of, measured, refused
 
 RECORD = lines_text(TRANSFER)
 

@@ -10,15 +10,15 @@ use Rattle.boc_words.specs.declared.schedule.Schedule.{Schedule}
 use Rattle.boc_commands.specs.NamedRuns.{IsOfNamedRun, IsOfOwn, IsTaken, RefusesNamedRun}
 use Rattle.boc_commands.proofs.TakenRuns.{begins_or_not}
 
-own_memory : (always_on : Type 0) (text : List ℕ) → IsOfOwn always_on text (faults.Means wants.Memory)
-own_memory always_on text = elim (begins_or_not text) [ inl begins ↦ inl (begins, tt) | inr none ↦ inr (none, tt) ]
+own_memory : (always_on : Type 0) (schedule : Schedule) (text : List ℕ) → IsOfOwn always_on schedule text (faults.Means wants.Memory)
+own_memory always_on schedule text = elim (begins_or_not text) [ inl begins ↦ inl (begins, tt) | inr none ↦ inr (none, tt) ]
 
 -- memory may be wanting, whatever the input and the file are
 pub memory_wanting : (always_on : Type 0) (schedule : Schedule) (file : Option RunFile) (bytes text : List ℕ)
     → IsOfNamedRun always_on schedule file bytes text (faults.Means wants.Memory)
-memory_wanting always_on schedule None bytes text = own_memory always_on text
+memory_wanting always_on schedule None bytes text = own_memory always_on schedule text
 memory_wanting always_on schedule (Some (run_files.Record path)) bytes text = tt
-memory_wanting always_on schedule (Some (run_files.Names path)) bytes text = own_memory always_on text
+memory_wanting always_on schedule (Some (run_files.Names path)) bytes text = own_memory always_on schedule text
 
 -- what was refused of a text that was taken is refused of what it was taken of
 pub refused_picture : {A : Type 0} (always_on : Type 0) (schedule : Schedule) (file : Option RunFile) (bytes : List ℕ) (result : Result A Fault)

@@ -1,11 +1,11 @@
 // What the picture that is asked for is made of.
 
-ghost use Rattle.std.specs.Prelude.{◌≡◌, ◌≤◌, IfOk, MatchResult};
+ghost use Rattle.std.specs.Prelude.{◌≡◌, ◌≤◌, true, IfOk, MatchResult};
 ghost use Rattle.boc_program.specs.declared.limits.TheConstants.{MOST_COWNS};
 ghost use Rattle.boc_plans.specs.Seen.{seen};
 ghost use Rattle.boc_greedy.specs.Curves.{IsCurve};
 ghost use Rattle.boc_commands.specs.NamedRuns.{AreFew, IsOfNamedRun, IsShort};
-ghost use Rattle.boc_view.specs.Materials.{AreCosts, HasParts, IsMaterial, IsPlanFor, IsProgramShown, shows_costs};
+ghost use Rattle.boc_view.specs.Materials.{AreCosts, HasParts, IsMaterial, IsPart, IsPlanFor, IsProgramShown, most_of, shows_costs, shows_curve};
 
 use crate::wanted::{Picture, Wanted};
 use boc_commands::named_run::named_run;
@@ -21,6 +21,9 @@ use boc_workers::Gate;
 use std::alloc::{AllocError, Global};
 use std::sync::Wait;
 use std::thread::Threads;
+
+// The word that the text of a record begins with. No program does.
+const RECORD_WORD: &[u8] = b"boc";
 
 /// What a picture of a run is made of. A part that it doesn't show is not there.
 #[derive(Drop)]
@@ -65,7 +68,8 @@ pub(crate) fn material_of<R: Threads + Wait + Sync, G: Gate>(
         bytes: beside,
     };
     let run = named_run(rt, alloc, text, origin, gate)?;
-    Ok(parts_of(rt, alloc, wanted, run, program)?)
+    let material = parts_of(rt, alloc, wanted, run, program)?;
+    Ok(material)
 }
 
 // What a picture is made of, of this run, with this text of a program.
@@ -81,19 +85,10 @@ fn parts_of<R: Threads + Sync>(
     ensures program { IfOk result (λ material. material.program.items ≡ program.items) }
 {
     let NamedRun { rows, names } = run;
-    let sharing = wanted.sharing;
-    let greedy = plan_for(alloc, &rows, sharing, wanted.workers_shown())?;
-    let points = if wanted.picture.shows_curve() {
-        Some(points_of(rt, alloc, &rows, sharing, wanted.most())?)
-    } else {
-        None
-    };
-    let costs = if wanted.picture.shows_costs() {
-        Some(costs_of(rt, alloc, &rows, sharing, names.cowns.len() as u32)?)
-    } else {
-        None
-    };
-    let subject = Subject::of(alloc, rows, names, sharing)?;
+    let greedy = plan_for(alloc, &rows, wanted.sharing, wanted.workers_shown())?;
+    let points = points_for(rt, alloc, &rows, wanted)?;
+    let costs = costs_for(rt, alloc, &rows, names.cowns.len() as u32, wanted)?;
+    let subject = Subject::of(alloc, rows, names, wanted.sharing)?;
     Ok(Material {
         subject,
         greedy,
@@ -107,7 +102,18 @@ fn parts_of<R: Threads + Sync>(
 fn program_shown(alloc: Global, picture: Picture, text: &[u8]) -> Result<Vec<u8>, AllocError>
     ensures { IfOk result (λ shown. IsProgramShown (shows_costs picture) text.now shown.items) }
 {
-    if !picture.shows_costs() || text.starts_with(b"boc") {
+    if picture.shows_costs() {
+        program_of(alloc, text)
+    } else {
+        Ok(Vec::new(alloc))
+    }
+}
+
+// The text of a program; no bytes where it is that of a record.
+fn program_of(alloc: Global, text: &[u8]) -> Result<Vec<u8>, AllocError>
+    ensures { IfOk result (λ shown. IsProgramShown true text.now shown.items) }
+{
+    if text.starts_with(RECORD_WORD) {
         return Ok(Vec::new(alloc));
     }
     Vec::from_slice(alloc, text)
@@ -128,6 +134,23 @@ fn plan_for(
     }
 }
 
+// The points of the curve of rows, where the picture shows it.
+fn points_for<R: Threads + Sync>(
+    rt: &R,
+    alloc: Global,
+    rows: &Rows,
+    wanted: &Wanted,
+) -> Result<Option<Vec<CurvePoint>>, AllocError>
+    ensures { IfOk result (IsPart (shows_curve wanted.now.picture)
+        (λ points. IsCurve (seen wanted.now.sharing rows.now) (most_of wanted.now.workers) points.items)) }
+{
+    if !wanted.picture.shows_curve() {
+        return Ok(None);
+    }
+    let points = points_of(rt, alloc, rows, wanted.sharing, wanted.most())?;
+    Ok(Some(points))
+}
+
 // When the greedy plans of rows for 1, 2, 3 workers and so on up to the most end.
 fn points_of<R: Threads + Sync>(
     rt: &R,
@@ -139,6 +162,24 @@ fn points_of<R: Threads + Sync>(
     ensures { IfOk result (λ points. IsCurve (seen sharing rows.now) most points.items) }
 {
     WhatIf::new(alloc, rows, sharing)?.curve(rt, alloc, most)
+}
+
+// What rows and so many cowns cost, where the picture shows it.
+fn costs_for<R: Threads + Sync>(
+    rt: &R,
+    alloc: Global,
+    rows: &Rows,
+    cowns: u32,
+    wanted: &Wanted,
+) -> Result<Option<Costs>, AllocError>
+    requires { cowns ≤ MOST_COWNS }
+    ensures { IfOk result (IsPart (shows_costs wanted.now.picture) (AreCosts rows.now wanted.now.sharing cowns)) }
+{
+    if !wanted.picture.shows_costs() {
+        return Ok(None);
+    }
+    let costs = costs_of(rt, alloc, rows, wanted.sharing, cowns)?;
+    Ok(Some(costs))
 }
 
 // What rows and so many cowns cost.

@@ -9,7 +9,7 @@ use Rattle.std.proofs.lemmas.Grind.{flat_map-append}
 use Rattle.boc_names.specs.declared.names.Names.{Names}
 use Rattle.boc_words.specs.declared.asked.AskedEdit.{AskedEdit}
 use Rattle.boc_commands.specs.declared.meant.MeantEdits.{MeantEdits}
-use Rattle.boc_commands.specs.Asked.{AreMeant, IsFirstUnmeant, IsOwner, all_edits, edits_of, first_some}
+use Rattle.boc_commands.specs.Asked.{AreMeant, IsFirstUnmeant, IsOwner, all_edits, edits_of}
 
 -- ---- those of some numbers of which something holds
 
@@ -52,18 +52,6 @@ made_without {A} f is n start now next before fails same =
     same ∙ before ∙ ap (λ (l : List A). start ++ l)
     (ap (map f) (sym (those_more is n ∙ ap (λ (b : Bool). filter is (range_with_len 0 n) ++ cond b (n ∷ []) []) fails
     ∙ append-nil (filter is (range_with_len 0 n)))))
-
--- ---- those of a name, or else those of an array
-
--- where the first list adds something, it is what is put
-pub called_first : (start xs ys next : List ℕ) → next ≡ start ++ xs → length next ≢ length start → next ≡ start ++ first_some xs ys
-called_first start [] ys next is other = absurd (other (ap length (is ∙ append-nil start)))
-called_first start (x ∷ xs) ys next is other = is
-
--- where it adds nothing, the second one is
-pub called_then : (start xs ys mid next : List ℕ) → mid ≡ start ++ xs → length mid ≡ length start → next ≡ mid ++ ys → next ≡ start ++ first_some xs ys
-called_then start [] ys mid next is same put = put ∙ ap (λ (l : List ℕ). l ++ ys) (is ∙ append-nil start)
-called_then start (x ∷ xs) ys mid next is same put = absurd (omega (arith, same, ap length is, length-append start (x ∷ xs)))
 
 -- ---- what all asked ones mean, one after the other
 

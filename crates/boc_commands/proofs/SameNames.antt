@@ -12,7 +12,7 @@ use Rattle.boc_words.specs.declared.asked.AskedCown.{AskedCown}
 use Rattle.boc_words.specs.declared.asked.AskedCown.TheVariants as cowns
 use Rattle.boc_words.specs.declared.asked.AskedEdit.{AskedEdit}
 use Rattle.boc_words.specs.declared.asked.AskedEdit.TheVariants as edits
-use Rattle.boc_commands.specs.Asked.{all_cowns, all_edits, costs, cowns_of, edits_of, starred}
+use Rattle.boc_commands.specs.Asked.{all_cowns, all_edits, costs, cowns_of, edits_of, first_some, named, starred}
 
 as_many : (a b : List (Vec ℕ Global)) → texts_of a ≡ texts_of b → length a ≡ length b
 as_many a b same =
@@ -31,11 +31,13 @@ module _ (rows others count : ℕ) (a b : Names) (one : AreNumbers rows count a)
   count_is : length a.cowns.items ≡ length b.cowns.items
   count_is = as_many a.cowns.items b.cowns.items cowns_are
 
+  all_named : (name : Text) → named a name ≡ named b name
+  all_named name = λ i. filter (λ cown. bytes_eq (text_at (cowns_are i) cown) name
+      || bytes_eq (text_at (family_names_are i) (slice_index (families_are i) cown)) name) (range_with_len 0 (count_is i))
+
   pub cowns_meant : (asked : AskedCown) → cowns_of a asked ≡ cowns_of b asked
   cowns_meant (cowns.Number number) = λ i. cond (nat_lt number (count_is i)) (number ∷ []) []
-  cowns_meant (cowns.Name name) = λ i. filter (λ cown. bytes_eq (text_at (cowns_are i) cown) (string_bytes name)
-      || (bytes_eq (text_at (family_names_are i) (slice_index (families_are i) cown)) (string_bytes name)
-      || bytes_eq (text_at (family_names_are i) (slice_index (families_are i) cown)) (starred (string_bytes name)))) (range_with_len 0 (count_is i))
+  cowns_meant (cowns.Name name) = ap₂ first_some (all_named (string_bytes name)) (all_named (starred (string_bytes name)))
 
   pub same_cowns : (asked : List AskedCown) → all_cowns a asked ≡ all_cowns b asked
   same_cowns [] = refl
